@@ -1,0 +1,88 @@
+ghost use Rattle.std.specs.Prelude.{◌≡◌, ◌<◌, ◌++◌, ◌∷◌, [], length, slice_get, slice_set, Some, IfOk};
+
+use crate::memory::NoMemory;
+use std::alloc::Global;
+use std::marker::Model;
+
+/// The balance of each account, from account 0 on, and the LSN at which its last commit ends.
+/// Contracts see the list of these pairs, and for how many accounts room was made.
+#[derive(Drop)]
+pub struct Balances {
+    rows: Vec<(u32, u32)>,
+    most: u32,
+}
+
+impl Model for Balances {
+    ghost use Rattle.std.specs.Prelude.{◌≤◌, length, vec_capacity};
+    ghost use Rattle.lsn_space.specs.Accounts.{Accounts};
+
+    ghost Value = { Accounts };
+
+    ghost view = { λ b. record { rows = b.rows.items; room = b.most } };
+
+    ghost invariant = { λ b. (b.most ≤ vec_capacity b.rows) × (length b.rows.items ≤ b.most) };
+}
+
+impl Balances {
+    /// No account, with room for `n`. No later call takes memory.
+    pub fn make(alloc: Global, n: u32) -> Result<Balances, NoMemory>
+        ensures empty { IfOk result (λ b. b.rows ≡ []) }
+        ensures room { IfOk result (λ b. b.room ≡ n) }
+    {
+        match Vec::with_capacity(alloc, n as usize) {
+            Ok(rows) => Ok(Balances { rows, most: n }),
+            Err(_) => Err(NoMemory),
+        }
+    }
+
+    /// Appends the next account, with the end LSN of its last commit (0 where it has none).
+    pub fn push(&mut self, balance: u32, mark: u32)
+        requires { length self.old.rows < self.old.room }
+        ensures { self.new ≡ record self.old { rows = self.old.rows ++ (balance, mark) ∷ [] } }
+    {
+        self.rows.push_reserved((balance, mark));
+    }
+
+    pub fn set(&mut self, account: u32, balance: u32, mark: u32)
+        requires { account < length self.old.rows }
+        ensures { self.new ≡ record self.old { rows = slice_set self.old.rows account (balance, mark) } }
+    {
+        self.rows[account as usize] = (balance, mark);
+    }
+
+    /// The balance of the account, and the end LSN of its last commit.
+    pub fn at(&self, account: u32) -> (u32, u32)
+        requires { account < length self.now.rows }
+        ensures { slice_get self.now.rows account ≡ Some result }
+    {
+        self.rows[account as usize]
+    }
+
+    /// The number of accounts.
+    pub fn count(&self) -> u32
+        ensures { result ≡ length self.now.rows }
+    {
+        let _most = self.most;
+        self.rows.len() as u32
+    }
+}
+
+#[cfg(test)]
+mod tests {
+    use super::*;
+    use std::test::Fail;
+
+    #[test]
+    fn keeps_what_was_put_in(rt: HostRuntime) -> Result<(), Fail> {
+        let Ok(mut balances) = Balances::make(rt.alloc(), 2) else {
+            return Err(Fail::new("no memory"));
+        };
+        balances.push(100, 0);
+        balances.push(0, 0);
+        balances.set(1, 30, 9);
+        assert_eq!(rt; balances.count(), 2);
+        assert_eq!(rt; balances.at(0), (100, 0));
+        assert_eq!(rt; balances.at(1), (30, 9));
+        Ok(())
+    }
+}

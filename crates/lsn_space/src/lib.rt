@@ -1,0 +1,17 @@
+//! Addresses in the log, units of eight bytes, numbers as text, and the small types that every
+//! other crate passes around: an LSN, a word of the command line, the accounts' balances.
+#![tactic(auto)]
+
+mod balances;
+mod lsn;
+mod memory;
+mod number;
+mod unit;
+mod word;
+
+pub use balances::Balances;
+pub use lsn::{LAST, Lsn, place};
+pub use memory::NoMemory;
+pub use number::decimal;
+pub use unit::{bytes_of, unit_bytes_inverse, unit_of};
+pub use word::Word;

@@ -1,0 +1,73 @@
+ghost use Rattle.std.specs.Prelude.{◌≡◌, ◌+◌, ◌%◌, ◌≤◌, ◌↔◌, IsSome, IfSome};
+ghost use Rattle.lsn_space.specs.declared.lsn.TheConstants.{LAST};
+
+use std::marker::Model;
+
+/// The greatest LSN, so a log has at most this many units.
+pub const LAST: u32 = u32::MAX;
+
+/// A log sequence number: the address of a unit in the log, counted in units of eight bytes.
+#[derive(Clone, Copy, Debug, PartialEq, Eq, PartialOrd, Ord, Hash)]
+pub struct Lsn(u32);
+
+impl Model for Lsn {
+    ghost use Rattle.std.specs.Prelude.{ℕ};
+
+    ghost Value = { ℕ };
+
+    ghost view = { λ lsn. lsn.0 };
+
+    ghost inverse = { λ n. record { 0 = n } };
+}
+
+impl Lsn {
+    pub fn new(units: u32) -> Lsn
+        ensures { result ≡ units }
+    {
+        Lsn(units)
+    }
+
+    /// The units before this address.
+    pub fn units(self) -> u32
+        ensures { result ≡ self }
+    {
+        self.0
+    }
+
+    /// The address `n` units on, or `None` where it would pass `LAST`.
+    pub fn plus(self, n: u32) -> Option<Lsn>
+        ensures fits { IsSome result ↔ (self + n ≤ LAST) }
+        ensures sum { IfSome result (λ end. end ≡ self + n) }
+    {
+        Some(Lsn(self.0.checked_add(n)?))
+    }
+}
+
+/// The index of an address in a ring of so many units.
+pub fn place(lsn: Lsn, ring: u32) -> usize
+    requires { 1 ≤ ring }
+    ensures { result ≡ lsn % ring }
+{
+    (lsn.0 % ring) as usize
+}
+
+#[cfg(test)]
+mod tests {
+    use super::*;
+
+    #[test]
+    fn adds_up_to_the_last(rt: HostRuntime) {
+        let cases = [
+            (0, 5, Some(5)),
+            (4, 0, Some(4)),
+            (LAST, 0, Some(LAST)),
+            (LAST, 1, None),
+            (1, LAST, None),
+        ];
+        for (at, n, want) in cases {
+            let got = Lsn::new(at).plus(n).map(|lsn| lsn.units());
+            assert_eq!(rt; got, want, "{at} plus {n}");
+        }
+        assert_eq!(rt; place(Lsn::new(1028), 1024), 4);
+    }
+}
