@@ -4,6 +4,7 @@ use Rattle.std.specs.List.{flat_map, AllByRecursion}
 use Rattle.std.proofs.lemmas.List.{append-nil}
 use Rattle.std.proofs.lemmas.List.Concat.{flat_map-append}
 use Rattle.std.proofs.Math.Seq.{drop-append_seam}
+use Rattle.lsn_space.specs.declared.lsn.TheConstants.{LAST}
 use Rattle.segment_file.specs.declared.layout.TheConstants.{OPEN}
 use Rattle.segment_file.specs.File.{magic, batch, gated, written, joined, IsCountedBatch, BeginsOpen, BeginsAsLog, HasNoBatch, IsBadBatchAt}
 
@@ -49,6 +50,7 @@ pub bad-first : (bytes body : List ℕ) (offset : ℕ) → bytes ≡ OPEN ∷ ma
 bad-first bytes body offset log place none = record {
   batches = [];
   each = tt;
+  total = omega arith;
   rest = bytes;
   whole = refl;
   place = place;
@@ -69,15 +71,16 @@ module _ (bytes rest body : List ℕ) (read : List (List ℕ)) (some : 0 < lengt
       cc
 
   -- a later batch is bad
-  pub bad-later : (offset : ℕ) → AllByRecursion IsCountedBatch read → 0 < length body → offset + length rest ≡ length bytes → BeginsAsLog bytes
+  pub bad-later : (offset : ℕ) → AllByRecursion IsCountedBatch read → length (joined read) ≤ LAST → 0 < length body → offset + length rest ≡ length bytes → BeginsAsLog bytes
       → HasNoBatch (length (joined read)) body → IsBadBatchAt bytes offset
-  bad-later offset each long place log none = record {
+  bad-later offset each total long place log none = record {
     batches = read;
     each = each;
+    total = total;
     rest = rest;
     whole = whole;
     place = omega (arith, ap length whole, length-append (written read) rest);
     log = log;
     opened = begins_open rest body gate long;
-    none = λ units more counted next total. none units more counted (body-next units more next) total;
+    none = λ units more counted next fits. none units more counted (body-next units more next) fits;
   }

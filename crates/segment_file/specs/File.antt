@@ -67,6 +67,7 @@ HasNoBatch before bytes = (units rest : List ℕ) → IsCountedBatch units → b
 pub record IsBadBatchAt (bytes : List ℕ) (offset : ℕ) : Type 0 where
   pub batches : List (List ℕ)
   pub each : AllByRecursion IsCountedBatch batches
+  pub total : length (joined batches) ≤ LAST
   pub rest : List ℕ
   pub whole : bytes ≡ written batches ++ rest
   pub place : offset ≡ length (written batches)

@@ -1,5 +1,5 @@
 ghost use Rattle.std.specs.Prelude.{◌≡◌, IfOk, IfErr, List, ℕ};
-ghost use Rattle.segment_file.specs.File.{HoldsUnits};
+ghost use Rattle.segment_file.specs.File.{HoldsUnits, BeginsAsLog, IsBadBatchAt};
 ghost use Rattle.segment_file.specs.Scan.{Scans, IsScanFaultOf};
 
 use crate::batch::{BatchFault, take_batch};
@@ -41,7 +41,11 @@ pub fn scan(alloc: Global, bytes: &[u8]) -> Result<Scan, ScanFault>
     })
 }
 
-/// A law: bytes hold one list of units at most.
+/// A law: what a scan answers, but for want of memory, is a function of the bytes. They hold one list of units at most, and
+/// then have none of the faults; a bad batch is the first one.
 pub fn one_reading()
-    ensures { (bytes us vs : List ℕ) → HoldsUnits bytes us → HoldsUnits bytes vs → us ≡ vs }
+    ensures units { (bytes us vs : List ℕ) → HoldsUnits bytes us → HoldsUnits bytes vs → us ≡ vs }
+    ensures log { (bytes us : List ℕ) → HoldsUnits bytes us → BeginsAsLog bytes }
+    ensures bad { (bytes us : List ℕ) (offset : ℕ) → HoldsUnits bytes us → IsBadBatchAt bytes offset → ⊥ }
+    ensures place { (bytes : List ℕ) (a b : ℕ) → IsBadBatchAt bytes a → IsBadBatchAt bytes b → a ≡ b }
 {}

@@ -1,4 +1,4 @@
-use Rattle.std.proofs.Common.{◌≡◌, ◌≤◌, ◌∙◌, ℕ, ◌+◌, ◌*◌, length, arith}
+use Rattle.std.proofs.Common.{◌≡◌, ◌∙◌, length, arith}
 use Rattle.segment_file.proofs.BatchLemmas.{count_at-batch, length-batch}
 use Rattle.segment_file.proofs.batch.split_batch.Goals as goal
 use Rattle.segment_file.proofs.batch.split_batch.Goals.{then-count-eq0-via-then-count-eq0, then-count-eq0-via-else-count-eq0+then-count-gt-MOST_UNITS, then-count-eq0-via-else-count-eq0+else-count-gt-MOST_UNITS+then-rest-count}

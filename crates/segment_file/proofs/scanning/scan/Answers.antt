@@ -14,7 +14,7 @@ returns-in-Err-Bad-take_batch-clause-fault c =
     let before = c.batches.invariant in
     let gate = c.in-Some-after_gate.ensures.some in
     let none = c.in-Err-Bad-take_batch.ensures.bad (cc) in
-    bad-later _ c.batches.rest.now _ before.read before.some before.whole gate.0 _ before.each gate.1
+    bad-later _ c.batches.rest.now _ before.read before.some before.whole gate.0 _ before.each before.total gate.1
     (omega (arith, ap length before.whole, length-append (written before.read) c.batches.rest.now))
     (c.in-Some.body.now, c.in-Some.ensures.some) (rw before.units at none)
 
