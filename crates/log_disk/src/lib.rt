@@ -3,6 +3,7 @@
 //! memory, of which all is known, and one over the system, which tells nothing of its bytes.
 #![tactic(auto)]
 
+mod disk;
 mod fault;
 mod memory_sink;
 mod memory_source;
@@ -10,6 +11,7 @@ mod sink;
 mod source;
 mod std_streams;
 
+pub use disk::LogDisk;
 pub use fault::Failed;
 pub use memory_sink::MemorySink;
 pub use memory_source::MemorySource;
