@@ -1,0 +1,4 @@
+pub mod AnswerLemmas
+pub mod LedgerLemmas
+pub mod ListLemmas
+pub mod TextLemmas
