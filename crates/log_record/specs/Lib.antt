@@ -1,0 +1,2 @@
+pub mod LogList
+pub mod Spelling
