@@ -1,5 +1,5 @@
 -- What a history says of the accounts: balances as sums over the committed transactions, and last Commits.
-use Rattle.std.specs.Prelude.{◌≡◌, ◌==◌, ◌&&◌, ℕ, ◌+◌, ◌-◌, ◌<◌, max, ℤ, if◌then◌else◌, Bool, true, List, [], ◌∷◌, length, slice_get, Some, Contains}
+use Rattle.std.specs.Prelude.{◌≡◌, ◌==◌, ◌&&◌, ℕ, zero, suc, ◌+◌, ◌-◌, ◌<◌, max, ℤ, if◌then◌else◌, Bool, true, List, [], ◌∷◌, length, slice_get, Some, Contains}
 use Rattle.log_record.specs.declared.rec.Entry.{Entry}
 use Rattle.log_record.specs.Spelling.{IsBalance}
 use Rattle.log_recovery.specs.declared.update.Change.{Change}
@@ -39,6 +39,11 @@ balance_of base h account = base.balance account + total gain account h - total 
 -- every account has a balance in its range
 abbrev pub AreInRange : BaseState → List Entry → Type 0
 AreInRange base h = (account : ℕ) → account < base.accounts → (balance : ℕ) × IsBalance balance × IsBalanceOf base h account balance
+
+-- the sum over the accounts below this one
+abbrev pub sum_below : ℕ → (ℕ → ℕ) → ℕ
+sum_below zero amount = 0
+sum_below (suc n) amount = sum_below n amount + amount n
 
 -- the end of the last Commit whose transaction has an Update of the account
 abbrev pub last_commit_of : BaseState → List Entry → ℕ → ℕ

@@ -1,0 +1,41 @@
+-- Every account of a lawful history has a balance, in its range.
+use Rattle.std.proofs.Common.{◌≡◌, ◌<◌, ◌≤◌, ℕ, ◌+◌, ◌-◌, ℤ, true, false, List, [], ◌∷◌, refl, sym, ap, ◌∙◌, arith}
+use Rattle.log_record.specs.declared.rec.Rec.{Rec}
+use Rattle.log_record.specs.declared.rec.Entry.{Entry}
+use Rattle.log_record.specs.declared.rec.Rec.TheVariants.{Genesis, Update, Commit, Short, Over, Note}
+use Rattle.log_record.specs.Spelling.{IsBalance}
+use Rattle.log_recovery.specs.Records.{gain, loss}
+use Rattle.log_recovery.specs.Transactions.{records_of}
+use Rattle.log_recovery.specs.Sums.{BaseState, total, IsBalanceOf, balance_of, AreInRange}
+use Rattle.log_recovery.proofs.Meeting.{MeetsTests, AreMet}
+use Rattle.log_recovery.proofs.OneMore.{has_commit-unended, total-plain, total-empty}
+
+pub balance_of-is : (base : BaseState) (h : List Entry) (account balance : ℕ) → IsBalanceOf base h account balance → balance_of base h account ≡ balance
+balance_of-is base h account balance is = omega arith
+
+pub is_balance-unique : (base : BaseState) (h : List Entry) (account x y : ℕ) → IsBalanceOf base h account x → IsBalanceOf base h account y → x ≡ y
+is_balance-unique base h account x y first second = omega arith
+
+pub in_range-same : (base : BaseState) (h h' : List Entry) → ((side : ℤ → ℕ) (a : ℕ) → total side a h' ≡ total side a h) → AreInRange base h → AreInRange base h'
+in_range-same base h h' same range account below =
+    let before = range account below in let gains = same gain account in let losses = same loss account in
+    let sum = before.2 in (before.0, before.1, omega arith)
+
+pub total-uncommitting : (base : BaseState) (h : List Entry) (rec : Rec) (end : ℕ) → MeetsTests base h (record { end = end; rec = rec })
+    → AreInRange base h → AreInRange base (record { end = end; rec = rec } ∷ h)
+total-uncommitting base h (Commit txn legs) end meets range = meets.balance refl
+total-uncommitting base h (Genesis account balance) end meets range =
+    in_range-same base h (record { end = end; rec = Genesis account balance } ∷ h) (λ side a. total-empty side a (record { end = end; rec = Genesis account balance }) h refl refl) range
+total-uncommitting base h (Update txn account delta prev) end meets range =
+    in_range-same base h (record { end = end; rec = Update txn account delta prev } ∷ h)
+    (λ side a. total-plain side a (record { end = end; rec = Update txn account delta prev }) h refl (has_commit-unended (records_of txn h) meets.ended)) range
+total-uncommitting base h (Short txn leg) end meets range =
+    in_range-same base h (record { end = end; rec = Short txn leg } ∷ h) (λ side a. total-empty side a (record { end = end; rec = Short txn leg }) h refl refl) range
+total-uncommitting base h (Over txn leg) end meets range =
+    in_range-same base h (record { end = end; rec = Over txn leg } ∷ h) (λ side a. total-empty side a (record { end = end; rec = Over txn leg }) h refl refl) range
+total-uncommitting base h (Note txn text) end meets range =
+    in_range-same base h (record { end = end; rec = Note txn text } ∷ h) (λ side a. total-empty side a (record { end = end; rec = Note txn text }) h refl refl) range
+
+pub in_range-met : (base : BaseState) (h : List Entry) → ((a : ℕ) → a < base.accounts → IsBalance (base.balance a)) → AreMet base h → AreInRange base h
+in_range-met base [] first met = λ account below. (base.balance account, first account below, refl)
+in_range-met base (entry ∷ h) first met = total-uncommitting base h entry.rec entry.end met.0 (in_range-met base h first met.1)
