@@ -1,17 +1,20 @@
 -- Committed transactions add in all what they take: the sum of all balances stays.
-use Rattle.std.proofs.Common.{◌≡◌, ◌≢◌, ◌<◌, ◌≤◌, ◌==◌, ℕ, zero, suc, ◌+◌, ◌*◌, cond, ℤ, Bool, true, false, true≢false, List, [], ◌∷◌, length, sym, refl, ap, ◌∙◌, arith, eq-eqb, ne_eqb}
+use Rattle.std.proofs.Common.{◌≡◌, ◌≢◌, ◌<◌, ◌≤◌, ◌==◌, ℕ, zero, suc, ◌+◌, ◌*◌, cond, ℤ, Bool, true, false, true≢false, List, [], ◌∷◌, length, sym, refl, ap, ◌∙◌, subst, arith, eq-eqb, ne_eqb}
 use Rattle.std.specs.List.{AllByRecursion}
 use mathlib.Core.Logic.{dite}
 use native.Mathlib.Decide.{ℕ_discrete}
 use Rattle.log_record.specs.declared.rec.Rec.{Rec}
 use Rattle.log_record.specs.declared.rec.Entry.{Entry}
 use Rattle.log_record.specs.declared.rec.Rec.TheVariants.{Genesis, Update, Commit, Short, Over, Note}
+use Rattle.log_record.specs.Spelling.{IsSpellable}
 use Rattle.log_recovery.specs.declared.update.Change.{Change}
 use Rattle.log_recovery.specs.Records.{txn_of, commits, changes_of, gain, loss}
 use Rattle.log_recovery.specs.Transactions.{records_of, updates_of, has_end, is_committed}
-use Rattle.log_recovery.specs.Sums.{BaseState, moved, total, IsBalanceOf, sum_below}
+use Rattle.log_recovery.specs.Sums.{BaseState, moved, total, IsBalanceOf, balance_of, sum_below}
 use Rattle.log_recovery.specs.Tests.{IsUnended, CountsLegs}
-use Rattle.log_recovery.proofs.Meeting.{MeetsTests, AreMet}
+use Rattle.log_recovery.specs.Lawful.{IsLawful, genesis_of}
+use Rattle.log_recovery.proofs.Meeting.{MeetsTests, AreMet, met-log}
+use Rattle.log_recovery.proofs.Ranging.{in_range-log, balance_of-is}
 use Rattle.log_recovery.proofs.OneMore.{has_commit-unended, total-plain, total-empty, total-commit}
 use Rattle.log_recovery.proofs.Pairing.{Fits, updates_of-fits, all_moved, all_moved-paired, owed, owed-even}
 
@@ -105,3 +108,9 @@ sum_below-balances base h balance met balances =
     let after = sum_below-add base.accounts base.balance (λ a. total gain a h) in
     let each = sum_below-same base.accounts (λ a. balance a + total loss a h) (λ a. base.balance a + total gain a h) balances in
     omega arith
+
+pub sum_below-log : (h : List Entry) → AllByRecursion (λ (entry : Entry). IsSpellable entry.rec) h → IsLawful h
+    → sum_below (genesis_of h).accounts (balance_of (genesis_of h) h) ≡ sum_below (genesis_of h).accounts (genesis_of h).balance
+sum_below-log h spellable lawful = sum_below-balances (genesis_of h) h (balance_of (genesis_of h) h) (met-log h lawful)
+    (λ a below. let found = in_range-log h spellable lawful a below in
+    subst (IsBalanceOf (genesis_of h) h a) (sym (balance_of-is (genesis_of h) h a found.0 found.2)) found.2)

@@ -1,4 +1,5 @@
 pub mod Conserving
+pub mod Fronts
 pub mod Meeting
 pub mod OneMore
 pub mod Pairing

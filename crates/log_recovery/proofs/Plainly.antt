@@ -1,5 +1,5 @@
 -- In a lawful history the plain words of the format say the same as the tests.
-use Rattle.std.proofs.Common.{◌≡◌, ◌≢◌, ℕ, ◌&&◌, ◌||◌, cond, Bool, true, false, true≢false, List, [], ◌∷◌, ◌++◌, length, sym, refl, ap, ◌∙◌}
+use Rattle.std.proofs.Common.{◌≡◌, ◌≢◌, ◌↔◌, ℕ, ◌&&◌, ◌||◌, cond, Bool, true, false, true≢false, List, [], ◌∷◌, ◌++◌, length, sym, refl, ap, ◌∙◌}
 use Rattle.std.specs.List.{AllByRecursion}
 use Rattle.std.specs.Prelude.{MatchBool}
 use mathlib.Core.Logic.{dite}
@@ -13,9 +13,10 @@ use Rattle.log_recovery.specs.Transactions.{of_transaction, recs_of, records_of,
 use Rattle.log_recovery.specs.Sums.{BaseState, last_commit_of}
 use Rattle.log_recovery.specs.Tests.{IsUnended, IsPaired, IsOpposite}
 use Rattle.log_recovery.specs.Plain.{last_commit_where, plain_last_commit, is_odd, IsOppositeOfNewest, IsPlainlyPaired}
-use Rattle.log_recovery.proofs.Meeting.{MeetsTests, AreMet}
+use Rattle.log_recovery.specs.Lawful.{IsLawful, genesis_of}
+use Rattle.log_recovery.proofs.Meeting.{MeetsTests, AreMet, met-log}
 use Rattle.log_recovery.proofs.OneMore.{of_transaction-same, of_transaction-other, updates_of-same, updates_of-other, changes_of-commit}
-use Rattle.log_recovery.proofs.Pairing.{ArePaired, newest_lowers, newest_lowers-parity}
+use Rattle.log_recovery.proofs.Pairing.{ArePaired, updates_of-fits, newest_lowers, newest_lowers-parity}
 
 commits-ends : (rec : Rec) → commits rec ≡ true → ends rec ≡ true
 commits-ends (Genesis account balance) is = absurd (true≢false (sym is))
@@ -131,3 +132,11 @@ plainly-paired (newest ∷ older) change are plain = by_case (lowers newest.delt
     by_case : (b : Bool) → lowers newest.delta ≡ b → MatchBool b (IsOpposite newest change) (lowers change.delta ≡ true)
     by_case true is = plain.even (sym (newest_lowers-parity (newest ∷ older) are) ∙ is)
     by_case false is = plain.odd (sym (newest_lowers-parity (newest ∷ older) are) ∙ is)
+
+pub last_commit_of-log : (h : List Entry) (account : ℕ) → IsLawful h → plain_last_commit (genesis_of h) h account ≡ last_commit_of (genesis_of h) h account
+last_commit_of-log h account lawful = last_commit_of-plainly (genesis_of h) h account (met-log h lawful)
+
+pub paired-log : (h : List Entry) (txn : ℕ) (change : Change) → IsLawful h → IsPaired (updates_of txn h) change ↔ IsPlainlyPaired (updates_of txn h) change
+paired-log h txn change lawful =
+    let fits = updates_of-fits (genesis_of h) h txn (met-log h lawful) in
+    (paired-plainly (updates_of txn h) change fits.paired, plainly-paired (updates_of txn h) change fits.paired)

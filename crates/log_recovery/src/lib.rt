@@ -2,8 +2,14 @@
 //! lawful, the balances that it leaves, and the judge that tells both.
 #![tactic(auto)]
 
+
+mod laws;
+mod own;
 mod reason;
+
 mod update;
 
+
+pub use laws::{balances_in_range, lawful_front, plain_words, sum_is_kept};
 pub use reason::Why;
 pub use update::Change;

@@ -8,3 +8,14 @@ pub struct Change {
     pub delta: i32,
     pub prev: Lsn,
 }
+
+/// No change.
+impl Default for Change {
+    fn default() -> Change {
+        Change {
+            account: 0,
+            delta: 0,
+            prev: Lsn::new(0),
+        }
+    }
+}
