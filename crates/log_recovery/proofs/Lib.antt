@@ -6,3 +6,4 @@ pub mod OwnLemmas
 pub mod Pairing
 pub mod Plainly
 pub mod Ranging
+pub mod SettlingLemmas

@@ -45,21 +45,3 @@ updates_of-room n entries i entry inside is same few =
 pub record Gathers (n : ℕ) (h : List Entry) (is_ended : Bool) (changes : List Change) : Type 0 where
   pub ended : is_ended ≡ has_end (records_of n h)
   pub updates : changes ≡ updates_of n h
-
-pub gathers-same : (n : ℕ) (entries : List Entry) (i : ℕ) (entry : Entry) (is_ended now_ended : Bool) (changes now : List Change)
-    → i < length entries → entry ≡ get_or entries i entry → txn_of entry.rec ≡ n → Gathers n (reverse (take i entries)) is_ended changes
-    → now_ended ≡ (ends entry.rec || is_ended) → now ≡ changes_of entry.rec ++ changes → Gathers n (reverse (take (i + 1) entries)) now_ended now
-gathers-same n entries i entry is_ended now_ended changes now inside is same before ended added =
-    subst (λ h. Gathers n h now_ended now) (sym (reverse-take_more entries i entry inside is)) (record {
-      ended = ended ∙ ap (λ b. ends entry.rec || b) before.ended ∙ sym (ap (λ l. has_end (recs_of l)) (of_transaction-same n entry (reverse (take i entries)) same));
-      updates = added ∙ ap (λ l. changes_of entry.rec ++ l) before.updates ∙ sym (updates_of-same n entry (reverse (take i entries)) same);
-    })
-
-pub gathers-other : (n : ℕ) (entries : List Entry) (i : ℕ) (entry : Entry) (is_ended : Bool) (changes : List Change)
-    → i < length entries → entry ≡ get_or entries i entry → txn_of entry.rec ≢ n → Gathers n (reverse (take i entries)) is_ended changes
-    → Gathers n (reverse (take (i + 1) entries)) is_ended changes
-gathers-other n entries i entry is_ended changes inside is other before =
-    subst (λ h. Gathers n h is_ended changes) (sym (reverse-take_more entries i entry inside is)) (record {
-      ended = before.ended ∙ sym (ap (λ l. has_end (recs_of l)) (of_transaction-other n entry (reverse (take i entries)) other));
-      updates = before.updates ∙ sym (updates_of-other n entry (reverse (take i entries)) other);
-    })

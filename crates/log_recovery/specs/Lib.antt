@@ -3,6 +3,7 @@ pub mod History
 pub mod Lawful
 pub mod Plain
 pub mod Records
+pub mod Settling
 pub mod Sums
 pub mod Tests
 pub mod Transactions

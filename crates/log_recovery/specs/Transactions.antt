@@ -1,5 +1,6 @@
 -- The records of one transaction, out of a history, newest first.
 use Rattle.std.specs.Prelude.{ℕ, ◌==◌, ◌||◌, if◌then◌else◌, Bool, false, List, [], ◌∷◌, ◌++◌}
+use Rattle.std.specs.List.{list_any}
 use Rattle.log_record.specs.declared.rec.Rec.{Rec}
 use Rattle.log_record.specs.declared.rec.Entry.{Entry}
 use Rattle.log_recovery.specs.declared.update.Change.{Change}
@@ -44,5 +45,4 @@ is_committed txn h = has_commit (records_of txn h)
 
 -- whether one of the changes is of this account
 abbrev pub touches : ℕ → List Change → Bool
-touches account [] = false
-touches account (change ∷ changes) = (change.account == account) || touches account changes
+touches account changes = list_any (λ change. change.account == account) changes

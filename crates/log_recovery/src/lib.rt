@@ -6,6 +6,7 @@
 mod laws;
 mod own;
 mod reason;
+mod settling;
 
 mod update;
 
