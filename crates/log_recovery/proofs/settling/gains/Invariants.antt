@@ -1,0 +1,10 @@
+use Rattle.std.proofs.Common.{◌≡◌, ◌≤◌, ◌*◌, take}
+use Rattle.log_recovery.specs.Records.{gain}
+use Rattle.log_recovery.specs.Sums.{moved}
+use Rattle.log_recovery.proofs.settling.gains.Given as goal
+
+abbrev pub invariant-loop-change : goal.invariant-loop-change
+invariant-loop-change l = record {
+  sum : l.sum ≡ moved gain l.account (take l.change-index l.changes);
+  bound : l.sum ≤ 4294967295 * l.change-index;
+}

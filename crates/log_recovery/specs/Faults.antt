@@ -1,0 +1,52 @@
+-- Where a list first goes wrong.
+use Rattle.std.specs.Prelude.{◌≡◌, ◌<◌, ℕ, List, [], ◌∷◌, ◌++◌, length}
+use Rattle.std.specs.List.{AllByRecursion}
+use Rattle.log_record.specs.declared.rec.Rec.{Rec}
+use Rattle.log_record.specs.declared.rec.Entry.{Entry}
+use Rattle.log_record.specs.LogList.{units_of, end_of}
+use Rattle.log_record.specs.Spelling.{IsSpellable, BeginsWith}
+use Rattle.log_recovery.specs.declared.reason.Why.{Why}
+use Rattle.log_recovery.specs.declared.reason.Why.TheVariants as why
+use Rattle.log_recovery.specs.History.{end_from}
+use Rattle.log_recovery.specs.Lawful.{Passes, IsLawful}
+
+-- the tests that are made before this one
+abbrev pub tests_before : Why → List Why
+tests_before why.Genesis = []
+tests_before why.Account = why.Genesis ∷ []
+tests_before why.Ended = why.Genesis ∷ why.Account ∷ []
+tests_before why.Legs = why.Genesis ∷ why.Account ∷ why.Ended ∷ []
+tests_before why.Pair = why.Genesis ∷ why.Account ∷ why.Ended ∷ why.Legs ∷ []
+tests_before why.Prev = why.Genesis ∷ why.Account ∷ why.Ended ∷ why.Legs ∷ why.Pair ∷ []
+tests_before why.Stale = why.Genesis ∷ why.Account ∷ why.Ended ∷ why.Legs ∷ why.Pair ∷ why.Prev ∷ []
+tests_before why.Balance = why.Genesis ∷ why.Account ∷ why.Ended ∷ why.Legs ∷ why.Pair ∷ why.Prev ∷ why.Stale ∷ []
+
+-- of the tests that are to pass, this is the first that doesn't
+pub record IsFirstFailing (Passes' : Why → Type 0) (test : Why) : Type 0 where
+  pub passes : AllByRecursion Passes' (tests_before test)
+  pub fails : Passes' test → ⊥
+
+-- the record that starts at this address is the first that fails a test, and this is the first test that it fails
+pub record IsUnlawfulAt (h : List Entry) (lsn : ℕ) (test : Why) : Type 0 where
+  pub later : List Entry
+  pub entry : Entry
+  pub front : List Entry
+  pub whole : h ≡ later ++ entry ∷ front
+  pub lawful : IsLawful front
+  pub place : lsn ≡ end_from 0 front
+  pub first : IsFirstFailing (Passes front entry) test
+
+-- these records are spelled by the units
+pub record IsListOf (units : List ℕ) (records : List Rec) : Type 0 where
+  pub each : AllByRecursion IsSpellable records
+  pub whole : units ≡ units_of records
+
+-- records lead to this address, and the units from there on begin with no record
+pub record IsBadRecAt (units : List ℕ) (lsn : ℕ) : Type 0 where
+  pub front : List Rec
+  pub each : AllByRecursion IsSpellable front
+  pub rest : List ℕ
+  pub whole : units ≡ units_of front ++ rest
+  pub place : lsn ≡ end_of front
+  pub some : 0 < length rest
+  pub none : (rec : Rec) → BeginsWith rest rec → ⊥

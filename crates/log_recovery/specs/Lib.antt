@@ -1,0 +1,9 @@
+pub mod Faults
+pub mod History
+pub mod Lawful
+pub mod Plain
+pub mod Records
+pub mod Settling
+pub mod Sums
+pub mod Tests
+pub mod Transactions

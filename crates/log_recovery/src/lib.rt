@@ -1,0 +1,16 @@
+//! What a list of records says, and how it is read back from a log: the tests that make a list
+//! lawful, the balances that it leaves, and the judge that tells both.
+#![tactic(auto)]
+
+
+mod laws;
+mod own;
+mod reason;
+mod settling;
+
+mod update;
+
+
+pub use laws::{balances_in_range, lawful_front, plain_words, sum_is_kept};
+pub use reason::Why;
+pub use update::Change;
