@@ -1,4 +1,1 @@
-pub mod AnswerLemmas
-pub mod LedgerLemmas
-pub mod ListLemmas
-pub mod TextLemmas
+pub mod GenesisLemmas

@@ -1,6 +1,3 @@
-pub mod Admits
 pub mod Answers
+pub mod Creation
 pub mod FaultText
-pub mod Ledger
-pub mod Recovery
-pub mod Text

@@ -1,6 +1,9 @@
 ghost use Rattle.std.specs.Prelude.{◌≡◌};
 ghost use Rattle.aether_cli.specs.Answers.{status_of};
 
+use log_recovery::Why;
+use lsn_space::Lsn;
+
 /// Why the program ends.
 #[derive(Clone, Copy, Debug, PartialEq, Eq)]
 pub enum Detail {
@@ -18,14 +21,23 @@ pub enum Detail {
     /// Standard output could not be written.
     Write,
 
-    /// The input is no log file, or holds no lawful list of records.
+    /// The input doesn't begin as a log.
     NotALog,
+
+    /// No batch stands behind the open gate at this byte.
+    BadBatch { offset: u64 },
+
+    /// The units from this LSN on begin with no record.
+    BadRec { lsn: Lsn },
+
+    /// The record that starts at this LSN is the first that fails a test, and this is the first that it fails.
+    Unlawful { lsn: Lsn, why: Why },
 }
 
 impl Detail {
     /// The exit status.
-    pub fn status(self) -> u8
-        ensures { result ≡ status_of self }
+    pub fn status(&self) -> u8
+        ensures { result ≡ status_of self.now }
     {
         match self {
             Detail::Fine => 0,
@@ -33,7 +45,10 @@ impl Detail {
             Detail::Usage => 2,
             Detail::Read => 4,
             Detail::Write => 5,
-            Detail::NotALog => 7,
+            Detail::NotALog
+            | Detail::BadBatch { .. }
+            | Detail::BadRec { .. }
+            | Detail::Unlawful { .. } => 7,
         }
     }
 }
@@ -50,9 +65,7 @@ impl Report {
         ensures status { result.status ≡ status_of detail }
         ensures detail { result.detail ≡ detail }
     {
-        Report {
-            status: detail.status(),
-            detail,
-        }
+        let status = detail.status();
+        Report { status, detail }
     }
 }

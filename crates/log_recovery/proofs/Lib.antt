@@ -7,3 +7,4 @@ pub mod Pairing
 pub mod Plainly
 pub mod Ranging
 pub mod SettlingLemmas
+pub mod TextLemmas

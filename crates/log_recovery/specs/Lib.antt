@@ -6,4 +6,5 @@ pub mod Records
 pub mod Settling
 pub mod Sums
 pub mod Tests
+pub mod Text
 pub mod Transactions

@@ -7,10 +7,12 @@ mod laws;
 mod own;
 mod reason;
 mod settling;
+mod texts;
 
 mod update;
 
 
 pub use laws::{balances_in_range, lawful_front, plain_words, sum_is_kept};
 pub use reason::Why;
+pub use texts::put_accounts;
 pub use update::Change;

@@ -1,8 +1,8 @@
 use Rattle.std.proofs.Common.{◌≤◌, ◌++◌}
 use Rattle.std.specs.Io.KnownBytes.{Appends}
-use Rattle.aether_cli.specs.Text.{lsn_line, account_lines}
-use Rattle.aether_cli.proofs.TextLemmas.{balance_in}
-use Rattle.aether_cli.proofs.texts.put_accounts.Given as goal
+use Rattle.log_recovery.specs.Text.{lsn_line, account_lines}
+use Rattle.log_recovery.proofs.TextLemmas.{balance_in}
+use Rattle.log_recovery.proofs.texts.put_accounts.Given as goal
 
 abbrev pub invariant-loop-account : goal.invariant-loop-account
 invariant-loop-account g l = record {

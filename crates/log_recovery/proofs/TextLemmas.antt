@@ -9,8 +9,10 @@ use Rattle.std.proofs.KnownBytes.{Appends-trans}
 use Rattle.log_disk.specs.Streams.{AppendsPrefix}
 use Rattle.log_record.specs.declared.rec.Rec.{Rec}
 use Rattle.log_record.specs.LogList.{end_of}
-use Rattle.aether_cli.specs.Ledger.{ShowsAccounts, account_count, balance_of}
-use Rattle.aether_cli.specs.Text.{account_line, numbers_below, account_lines, rows_text, accounts_text}
+use Rattle.log_recovery.specs.History.{history}
+use Rattle.log_recovery.specs.Lawful.{genesis_of}
+use Rattle.log_recovery.specs.Sums.{ShowsAccounts, balance_of, last_commit_of}
+use Rattle.log_recovery.specs.Text.{account_line, numbers_below, account_lines, rows_text, accounts_text}
 
 account_lines-suc : (balance : ℕ → ℕ) (n : ℕ) → account_lines balance (n + 1) ≡ account_lines balance n ++ account_line n (balance n)
 account_lines-suc balance n = rw (add-one, flat_map-append, append-nil) refl
@@ -76,9 +78,11 @@ account_lines-same one other (suc n) same =
     ) refl
 
 -- the accounts of a list have its text
-pub rows_text-shown : (lsn : ℕ) (rows : List (ℕ × ℕ)) (records : List Rec) → lsn ≡ end_of records → ShowsAccounts rows records
-    → rows_text lsn rows ≡ accounts_text records
+pub rows_text-shown : (lsn : ℕ) (rows : List (ℕ × ℕ)) (records : List Rec) → lsn ≡ end_of records
+    → ShowsAccounts rows (genesis_of (history records)) (history records) → rows_text lsn rows ≡ accounts_text records
 rows_text-shown lsn rows records end shows =
-    let same = account_lines-same (balance_in rows) (balance_of records) (account_count records)
-    (λ account below. balance_in-row rows account (balance_of records account, 0) (shows.each account below)) in
+    let h = history records in
+    let base = genesis_of h in
+    let same = account_lines-same (balance_in rows) (balance_of base h) base.accounts
+        (λ account below. balance_in-row rows account (balance_of base h account, last_commit_of base h account) (shows.each account below)) in
     rw (end, shows.count, same) refl

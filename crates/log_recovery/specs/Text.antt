@@ -4,7 +4,9 @@ use Rattle.std.specs.List.{flat_map}
 use Rattle.lsn_space.specs.Number.{number_text}
 use Rattle.log_record.specs.declared.rec.Rec.{Rec}
 use Rattle.log_record.specs.LogList.{end_of}
-use Rattle.aether_cli.specs.Ledger.{account_count, balance_of}
+use Rattle.log_recovery.specs.History.{history}
+use Rattle.log_recovery.specs.Sums.{balance_of}
+use Rattle.log_recovery.specs.Lawful.{genesis_of}
 
 unfoldable pub lsn_line : ℕ → List ℕ
 lsn_line lsn = codes "lsn " ++ number_text lsn ++ codes "\n"
@@ -23,7 +25,8 @@ account_lines balance count = flat_map (λ account. account_line account (balanc
 
 -- the text of a log list
 abbrev pub accounts_text : List Rec → List ℕ
-accounts_text records = lsn_line (end_of records) ++ account_lines (balance_of records) (account_count records)
+accounts_text records =
+    let h = history records in lsn_line (end_of records) ++ account_lines (balance_of (genesis_of h) h) (genesis_of h).accounts
 
 -- the text of accounts that are kept as a balance and a last commit each
 abbrev pub rows_text : ℕ → List (ℕ × ℕ) → List ℕ

@@ -2,7 +2,7 @@ ghost use Rattle.std.specs.Prelude.{◌≡◌, OnOk, OnErr};
 ghost use Rattle.std.specs.Io.KnownBytes.{Appends};
 ghost use Rattle.log_disk.specs.Faults.{HasCause};
 ghost use Rattle.log_disk.specs.Streams.{AppendsPrefix};
-ghost use Rattle.aether_cli.specs.Text.{lsn_line, account_line, rows_text};
+ghost use Rattle.log_recovery.specs.Text.{lsn_line, account_line, rows_text};
 
 use arrayvec::ArrayVec;
 use log_disk::{Sink, WriteFault, put_all};

@@ -1,8 +1,8 @@
 use Rattle.std.proofs.Common.{refl, arith}
 use Rattle.std.proofs.lemmas.Result.{err_from_is_err_and}
-use Rattle.aether_cli.specs.Text.{lsn_line}
-use Rattle.aether_cli.proofs.TextLemmas.{AppendsPrefix-first, Appends-line, AppendsPrefix-line}
-use Rattle.aether_cli.proofs.texts.put_accounts.Goals as goal
+use Rattle.log_recovery.specs.Text.{lsn_line}
+use Rattle.log_recovery.proofs.TextLemmas.{AppendsPrefix-first, Appends-line, AppendsPrefix-line}
+use Rattle.log_recovery.proofs.texts.put_accounts.Goals as goal
 
 pub returns-in_err-put_end-clause-prefix : goal.returns-in_err-put_end-clause-prefix
 returns-in_err-put_end-clause-prefix g c =
