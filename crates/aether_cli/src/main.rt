@@ -1,4 +1,5 @@
 #![tactic(auto)]
 mod faults;
+mod input;
 mod report;
 fn main(rt: HostRuntime) {}
