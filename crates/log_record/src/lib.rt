@@ -2,13 +2,17 @@
 #![tactic(auto)]
 
 mod header;
+mod laws;
 mod note;
 mod reading;
 mod rec;
+#[cfg(test)]
+mod tests;
 mod text;
 mod units;
 mod writing;
 
+pub use laws::{log_list_laws, one_spelling, spelling_bounds};
 pub use reading::{BadRec, read};
 pub use rec::{Entry, Rec};
 pub use text::{LONGEST_NOTE, Text};

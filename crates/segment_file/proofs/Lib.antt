@@ -1,3 +1,4 @@
 pub mod BatchLemmas
 pub mod FileLemmas
 pub mod OneReading
+pub mod PackingLemmas

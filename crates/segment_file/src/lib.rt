@@ -4,13 +4,17 @@
 
 mod batch;
 mod gate;
+mod gated_write;
 mod layout;
 mod scan_result;
 mod scanning;
+mod taking;
 #[cfg(test)]
 mod tests;
 mod units;
 
+pub use batch::Batch;
+pub use gated_write::DiskFault;
 pub use scan_result::{Scan, ScanFault, Tail};
 pub use scanning::{one_reading, scan};
 pub use units::LogUnits;

@@ -1,6 +1,6 @@
 use Rattle.std.proofs.Common.{◌≡◌, length, arith, ap, length-append}
 use Rattle.segment_file.proofs.BatchLemmas.{length-unit_bytes, batch-of_parts}
-use Rattle.segment_file.proofs.batch.take_batch.Goals as goal
+use Rattle.segment_file.proofs.taking.take_batch.Goals as goal
 
 pub returns-in-Ok-clause-taken : goal.returns-in-Ok-clause-taken
 returns-in-Ok-clause-taken c =
