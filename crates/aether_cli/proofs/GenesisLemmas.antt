@@ -1,19 +1,19 @@
 -- The list that `new` makes is lawful, and its accounts are those that were read.
-use Rattle.std.proofs.Common.{◌≡◌, ◌≤◌, ◌<◌, ◌∙◌, sym, ap, refl, ℕ, ◌+◌, zero, suc, List, [], ◌∷◌, ◌++◌, length, Some, slice_get, arith, append_assoc, length-append, ap₂, ◌*◌, add-zero, zero-add, Bool, ℤ, if◌then◌else◌, true, false}
+use Rattle.std.proofs.Common.{◌≡◌, ◌≤◌, ◌<◌, ◌∙◌, sym, ap, refl, ℕ, ◌+◌, zero, suc, List, [], ◌∷◌, ◌++◌, length, Some, slice_get, arith, append_assoc, length-append, ap₂, ◌*◌, add-zero, zero-add, take, length-take-le, Bool, ℤ, if◌then◌else◌, true, false}
 use Rattle.std.specs.List.{AllByRecursion}
 use Rattle.std.proofs.lemmas.Bool.{ne_eqb}
 use Rattle.log_record.specs.declared.rec.Rec.{Rec}
 use Rattle.log_record.specs.declared.rec.Entry.{Entry}
 use Rattle.log_record.specs.declared.rec.Rec.TheVariants.{Genesis, Update, Commit, Short, Over, Note}
 use Rattle.log_record.specs.LogList.{units_of, end_of}
-use Rattle.log_record.specs.Spelling.{IsSpellable, IsBalance}
+use Rattle.log_record.specs.Spelling.{IsSpellable, spelling}
 use Rattle.log_recovery.specs.History.{history, history_from, entry_at, end_from}
 use Rattle.log_recovery.specs.Records.{txn_of, commits, changes_of, gain, loss}
 use Rattle.log_recovery.specs.Sums.{BaseState, ShowsAccounts, balance_of, last_commit_of, moved, moved_by}
 use Rattle.log_recovery.specs.Transactions.{is_committed}
 use Rattle.log_recovery.specs.Tests.{IsGenesis}
 use Rattle.log_recovery.specs.Lawful.{IsLawful, genesis_of}
-use Rattle.aether_cli.specs.Creation.{genesis_from, genesis_list}
+use Rattle.aether_cli.specs.Creation.{genesis_from, genesis_list, AreNew}
 
 -- all entries are Genesis records
 abbrev AreGenesis : List Entry → Type 0
@@ -30,15 +30,11 @@ lawful-genesis h account (row ∷ rows) lawful genesis next =
 pub genesis_list-lawful : (rows : List (ℕ × ℕ)) → IsLawful (history (genesis_list rows))
 genesis_list-lawful rows = lawful-genesis [] 0 rows tt tt refl
 
--- every row has a balance in its range
-abbrev pub AreBalances : List (ℕ × ℕ) → Type 0
-AreBalances rows = AllByRecursion (λ (row : ℕ × ℕ). IsBalance row.0) rows
-
-pub genesis_from-spellable : (account : ℕ) (rows : List (ℕ × ℕ)) → account + length rows ≤ 4096 → AreBalances rows
+pub genesis_from-spellable : (account : ℕ) (rows : List (ℕ × ℕ)) → account + length rows ≤ 4096 → AreNew rows
     → AllByRecursion IsSpellable (genesis_from account rows)
-genesis_from-spellable account [] few balances = tt
-genesis_from-spellable account (row ∷ rows) few balances =
-    ((omega arith, balances.0), genesis_from-spellable (account + 1) rows (omega arith) balances.1)
+genesis_from-spellable account [] few new = tt
+genesis_from-spellable account (row ∷ rows) few new =
+    ((omega arith, new.0.0), genesis_from-spellable (account + 1) rows (omega arith) new.1)
 
 genesis_from-genesis : (h : List Entry) (account : ℕ) (rows : List (ℕ × ℕ)) → AreGenesis h → AreGenesis (history_from 0 h (genesis_from account rows))
 genesis_from-genesis h account [] genesis = genesis
@@ -107,17 +103,17 @@ row-kept [] i below = absurd (omega arith)
 row-kept (row ∷ rows) zero below = (row, refl)
 row-kept (row ∷ rows) (suc i) below = row-kept rows i (omega arith)
 
-row-unmarked : (rows : List (ℕ × ℕ)) (i : ℕ) (row : ℕ × ℕ) → AllByRecursion (λ (r : ℕ × ℕ). r.1 ≡ 0) rows → slice_get rows i ≡ Some row → row.1 ≡ 0
-row-unmarked [] i row unmarked kept = cc
-row-unmarked (first ∷ rows) zero row unmarked kept =
+row-unmarked : (rows : List (ℕ × ℕ)) (i : ℕ) (row : ℕ × ℕ) → AreNew rows → slice_get rows i ≡ Some row → row.1 ≡ 0
+row-unmarked [] i row new kept = cc
+row-unmarked (first ∷ rows) zero row new kept =
     let first_is : first ≡ row = cc in
-    sym (ap (λ (r : ℕ × ℕ). r.1) first_is) ∙ unmarked.0
-row-unmarked (first ∷ rows) (suc i) row unmarked kept = row-unmarked rows i row unmarked.1 kept
+    sym (ap (λ (r : ℕ × ℕ). r.1) first_is) ∙ new.0.1
+row-unmarked (first ∷ rows) (suc i) row new kept = row-unmarked rows i row new.1 kept
 
 -- the accounts that were read are those of the list
-pub genesis_list-shown : (rows : List (ℕ × ℕ)) → AllByRecursion (λ (row : ℕ × ℕ). row.1 ≡ 0) rows
+pub genesis_list-shown : (rows : List (ℕ × ℕ)) → AreNew rows
     → ShowsAccounts rows (genesis_of (history (genesis_list rows))) (history (genesis_list rows))
-genesis_list-shown rows unmarked =
+genesis_list-shown rows new =
     let h = history (genesis_list rows) in
     let base = genesis_of h in
     let genesis = genesis_from-genesis [] 0 rows tt in
@@ -131,10 +127,33 @@ genesis_list-shown rows unmarked =
           let lost = moved_by-genesis (λ txn. is_committed txn h) loss account h genesis in
           let balance : balance_of base h account ≡ kept.0.0 = omega (arith, gained, lost, opened) in
           let last : last_commit_of base h account ≡ 0 = last_commit_of-genesis base h account genesis ∙ last_commit-genesis [] 0 rows account in
-          let unmarked_row = row-unmarked rows account kept.0 unmarked kept.1 in
+          let unmarked_row = row-unmarked rows account kept.0 new kept.1 in
           kept.1 ∙ ap₂ (λ b m. Some (b, m)) (sym balance) (unmarked_row ∙ sym last);
     }
 
 pub end_of-genesis_list : (account : ℕ) (rows : List (ℕ × ℕ)) → end_of (genesis_from account rows) ≡ 2 * length rows
 end_of-genesis_list account [] = refl
 end_of-genesis_list account (row ∷ rows) = omega (arith, end_of-genesis_list (account + 1) rows)
+
+-- the units of one more account
+pub units_of-genesis : (account : ℕ) (rows : List (ℕ × ℕ)) (row : ℕ × ℕ)
+    → units_of (genesis_from account (rows ++ row ∷ [])) ≡ units_of (genesis_from account rows) ++ spelling (Genesis (account + length rows) row.0)
+units_of-genesis account [] row = rw (add-zero account) refl
+units_of-genesis account (first ∷ rows) row =
+    let further : account + length (first ∷ rows) ≡ (account + 1) + length rows = omega arith in
+    rw further (ap (λ units. spelling (Genesis account first.0) ++ units) (units_of-genesis (account + 1) rows row))
+
+-- one more of the rows
+take-row : (rows : List (ℕ × ℕ)) (i : ℕ) (row : ℕ × ℕ) → slice_get rows i ≡ Some row → take (i + 1) rows ≡ take i rows ++ row ∷ []
+take-row [] i row kept = cc
+take-row (first ∷ rows) zero row kept = cc
+take-row (first ∷ rows) (suc i) row kept =
+    let next : suc i + 1 ≡ suc (i + 1) = omega arith in
+    rw next (ap (λ taken. first ∷ taken) (take-row rows i row kept))
+
+-- the units of the first accounts, and of one more
+pub units_of-next : (rows : List (ℕ × ℕ)) (i : ℕ) (row : ℕ × ℕ) → slice_get rows i ≡ Some row → i ≤ length rows
+    → units_of (genesis_list (take (i + 1) rows)) ≡ units_of (genesis_list (take i rows)) ++ spelling (Genesis i row.0)
+units_of-next rows i row kept within =
+    let place : 0 + length (take i rows) ≡ i = rw (length-take-le) (zero-add i) in
+    rw (take-row rows i row kept, units_of-genesis 0 (take i rows) row, place) refl

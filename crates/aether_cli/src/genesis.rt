@@ -1,6 +1,7 @@
-ghost use Rattle.std.specs.Prelude.{◌≡◌, ◌≤◌, ◌<◌, ◌+◌, ◌*◌, length, IfOk};
+ghost use Rattle.std.specs.Prelude.{◌≡◌, ◌≤◌, ◌<◌, ◌+◌, ◌*◌, ◌++◌, length, IfOk};
 ghost use Rattle.log_record.specs.LogList.{units_of};
-ghost use Rattle.aether_cli.specs.Creation.{genesis_list, AreBalances};
+ghost use Rattle.log_record.specs.Spelling.{spelling, IsSpellable};
+ghost use Rattle.aether_cli.specs.Creation.{genesis_list, AreNew};
 
 use log_record::{Rec, spell};
 use lsn_space::{Balances, NoMemory};
@@ -10,7 +11,7 @@ use std::alloc::Global;
 /// The batch of the Genesis records of these accounts.
 pub fn genesis_batch(alloc: Global, accounts: &Balances) -> Result<Batch, NoMemory>
     requires few { length accounts.now.rows ≤ 4096 }
-    requires balances { AreBalances accounts.now.rows }
+    requires new { AreNew accounts.now.rows }
     ensures { IfOk result (λ batch. batch.units ≡ units_of (genesis_list accounts.now.rows)) }
 {
     let count = accounts.count();

@@ -1,5 +1,6 @@
 #![tactic(auto)]
 mod faults;
+mod genesis;
 mod input;
 mod report;
 fn main(rt: HostRuntime) {}
