@@ -29,6 +29,10 @@ pub record RingState : Type 0 where
   pub exposed : ℕ
   pub durable : ℕ
 
+-- the actor with this under way
+abbrev pub row_of : ℕ → Stage → Hand
+row_of actor stage = record { actor = actor; stage = stage }
+
 -- what the actor has under way; one that is not listed has nothing
 abbrev pub stage_of : ℕ → List Hand → Stage
 stage_of actor [] = Idle
@@ -36,9 +40,9 @@ stage_of actor (hand ∷ hands) = if hand.actor == actor then hand.stage else st
 
 -- the hands, but that the actor has this under way
 abbrev pub with_stage : ℕ → Stage → List Hand → List Hand
-with_stage actor stage [] = record { actor = actor; stage = stage } ∷ []
+with_stage actor stage [] = row_of actor stage ∷ []
 with_stage actor stage (hand ∷ hands) =
-    if hand.actor == actor then record { actor = actor; stage = stage } ∷ hands else hand ∷ with_stage actor stage hands
+    if hand.actor == actor then row_of actor stage ∷ hands else hand ∷ with_stage actor stage hands
 
 -- the reservation starts at this base
 abbrev pub is_at : ℕ → Reservation → Bool
