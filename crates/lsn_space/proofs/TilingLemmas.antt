@@ -1,7 +1,7 @@
 -- Ranges that follow one another: one more of them, the one at a base, and the places between them.
-use Rattle.std.proofs.Common.{◌≡◌, ◌≢◌, ◌⊎◌, inl, inr, ⊎_elim, ℕ, ◌+◌, ◌<◌, ◌≤◌, ◌==◌, cond, Bool, true, false, List, [], ◌∷◌, ◌++◌, map, Option, Some, None, refl, sym, ap, ◌∙◌, subst, arith, eq-eqb, eqb→eq, ne_eqb}
+use Rattle.std.proofs.Common.{◌≡◌, ◌⊎◌, inl, inr, ⊎_elim, ℕ, ◌+◌, ◌≤◌, ◌==◌, cond, Bool, true, false, List, [], ◌∷◌, ◌++◌, map, Some, refl, sym, ap, ◌∙◌, subst, arith, eq-eqb}
 use Rattle.std.specs.List.{AllByRecursion, find}
-use Rattle.std.specs.Option.{IsSomeAnd, option_map}
+use Rattle.std.specs.Option.{option_map}
 use Rattle.lsn_space.specs.Tiling.{IsTiling, IsBoundary}
 
 module _ {A : Type 0} where
@@ -27,9 +27,9 @@ module _ {A : Type 0} where
   pub find-append : (p : A → Bool) (xs ys : List A) (r : A) → find p xs ≡ Some r → find p (xs ++ ys) ≡ Some r
   find-append p [] ys r is = absurd (cc)
   find-append p (x ∷ xs) ys r is = ⊎_elim
-    (λ here. ap (λ b. cond b (Some x) (find p (xs ++ ys))) here.0 ∙ ap Some here.1)
-    (λ later. ap (λ b. cond b (Some x) (find p (xs ++ ys))) later.0 ∙ find-append p xs ys r later.1)
-    (found-cases p x xs r is)
+      (λ here. ap (λ b. cond b (Some x) (find p (xs ++ ys))) here.0 ∙ ap Some here.1)
+      (λ later. ap (λ b. cond b (Some x) (find p (xs ++ ys))) later.0 ∙ find-append p xs ys r later.1)
+      (found-cases p x xs r is)
 
   -- where none passes, the search goes on behind them
   pub find-none : (p : A → Bool) (xs ys : List A) → AllByRecursion (λ x. p x ≡ false) xs → find p (xs ++ ys) ≡ find p ys
@@ -74,7 +74,7 @@ module _ {A : Type 0} (size : A → ℕ) where
   pub boundary-map : (f : A → A) (from : ℕ) (xs : List A) (at : ℕ) → ((x : A) → size (f x) ≡ size x) → IsBoundary size from xs at → IsBoundary size from (map f xs) at
   boundary-map f from [] at sizes is = is
   boundary-map f from (x ∷ xs) at sizes is = ⊎_elim inl
-    (λ rest. inr (subst (λ n. IsBoundary size (from + n) (map f xs) at) (sym (sizes x)) (boundary-map f (from + size x) xs at sizes rest))) is
+      (λ rest. inr (subst (λ n. IsBoundary size (from + n) (map f xs) at) (sym (sizes x)) (boundary-map f (from + size x) xs at sizes rest))) is
 
 module _ {A : Type 0} (base : A → ℕ) (size : A → ℕ) where
   -- one range lies before the other
@@ -91,40 +91,45 @@ module _ {A : Type 0} (base : A → ℕ) (size : A → ℕ) where
 
   pub tiling-map : (f : A → A) (from : ℕ) (xs : List A) (to : ℕ) → ((x : A) → base (f x) ≡ base x) → ((x : A) → size (f x) ≡ size x) → IsTiling base size from xs to → IsTiling base size from (map f xs) to
   tiling-map f from [] to bases sizes tiles = tiles
-  tiling-map f from (x ∷ xs) to bases sizes tiles = (bases x ∙ tiles.0,
-    subst (λ n. IsTiling base size (from + n) (map f xs) to) (sym (sizes x)) (tiling-map f (from + size x) xs to bases sizes tiles.1))
+  tiling-map f from (x ∷ xs) to bases sizes tiles = (
+    bases x ∙ tiles.0,
+    subst (λ n. IsTiling base size (from + n) (map f xs) to) (sym (sizes x)) (tiling-map f (from + size x) xs to bases sizes tiles.1),
+  )
 
   -- each range lies between the first start and the last end
   pub tiling-within : (from : ℕ) (xs : List A) (to : ℕ) → IsTiling base size from xs to → AllByRecursion (λ x. (from ≤ base x) × (base x + size x ≤ to)) xs
   tiling-within from [] to tiles = tt
   tiling-within from (x ∷ xs) to tiles = let le = tiling-le (from + size x) xs to tiles.1 in
-    ((omega (arith, tiles.0), omega (arith, tiles.0)), all-weaker _ _ xs (λ y within. (omega arith, within.1)) (tiling-within (from + size x) xs to tiles.1))
+      ((omega (arith, tiles.0), omega (arith, tiles.0)), all-weaker _ _ xs (λ y within. (omega arith, within.1)) (tiling-within (from + size x) xs to tiles.1))
 
   -- each range is the one that is found, or apart from it
   pub tiling-apart : (from : ℕ) (xs : List A) (to : ℕ) (p : A → Bool) (r : A) → IsTiling base size from xs to → find p xs ≡ Some r → AllByRecursion (λ q. (q ≡ r) ⊎ IsApart r q) xs
   tiling-apart from [] to p r tiles is = tt
   tiling-apart from (x ∷ xs) to p r tiles is = let behind = tiling-within (from + size x) xs to tiles.1 in ⊎_elim
-    (λ here. (inl here.1, subst (λ z. AllByRecursion (λ q. (q ≡ z) ⊎ IsApart z q) xs) here.1
-        (all-weaker _ _ xs (λ y within. inr (inr (omega (arith, tiles.0, within.0)))) behind)))
-    (λ later. let within = found-has _ p xs r later.1 behind in
-        (inr (inl (omega (arith, tiles.0, within.0))), tiling-apart (from + size x) xs to p r tiles.1 later.1))
-    (found-cases p x xs r is)
+      (λ here. (
+        inl here.1,
+        subst (λ z. AllByRecursion (λ q. (q ≡ z) ⊎ IsApart z q) xs) here.1
+            (all-weaker _ _ xs (λ y within. inr (inr (omega (arith, tiles.0, within.0)))) behind),
+      ))
+      (λ later. let within = found-has _ p xs r later.1 behind in
+      (inr (inl (omega (arith, tiles.0, within.0))), tiling-apart (from + size x) xs to p r tiles.1 later.1))
+      (found-cases p x xs r is)
 
   -- the end of a range that is found is a boundary
   pub boundary-end : (from : ℕ) (xs : List A) (to : ℕ) (p : A → Bool) (r : A) → IsTiling base size from xs to → find p xs ≡ Some r → IsBoundary size from xs (base r + size r)
   boundary-end from [] to p r tiles is = absurd (cc)
   boundary-end from (x ∷ xs) to p r tiles is = ⊎_elim
-    (λ here. inr (subst (λ z. IsBoundary size (from + size x) xs z)
-        (ap (λ n. n + size x) (sym tiles.0) ∙ ap (λ z. base z + size z) here.1) (boundary-from size (from + size x) xs)))
-    (λ later. inr (boundary-end (from + size x) xs to p r tiles.1 later.1))
-    (found-cases p x xs r is)
+      (λ here. inr (subst (λ z. IsBoundary size (from + size x) xs z)
+      (ap (λ n. n + size x) (sym tiles.0) ∙ ap (λ z. base z + size z) here.1) (boundary-from size (from + size x) xs)))
+      (λ later. inr (boundary-end (from + size x) xs to p r tiles.1 later.1))
+      (found-cases p x xs r is)
 
   -- a boundary is the last end, or a range starts there
   pub boundary-starts : (from : ℕ) (xs : List A) (to : ℕ) (at : ℕ) → IsTiling base size from xs to → IsBoundary size from xs at → (at ≡ to) ⊎ ((r : A) × (find (λ x. base x == at) xs ≡ Some r))
   boundary-starts from [] to at tiles is = inl (is ∙ tiles)
   boundary-starts from (x ∷ xs) to at tiles is = ⊎_elim
-    (λ here. inr (x, ap (λ b. cond b (Some x) (find (λ y. base y == at) xs)) (eq-eqb (base x) at (tiles.0 ∙ sym here))))
-    (λ rest. ⊎_elim inl (λ found. inr (by_test (base x == at) found)) (boundary-starts (from + size x) xs to at tiles.1 rest)) is
+      (λ here. inr (x, ap (λ b. cond b (Some x) (find (λ y. base y == at) xs)) (eq-eqb (base x) at (tiles.0 ∙ sym here))))
+      (λ rest. ⊎_elim inl (λ found. inr (by_test (base x == at) found)) (boundary-starts (from + size x) xs to at tiles.1 rest)) is
     where
       by_test : (b : Bool) → (r : A) × (find (λ y. base y == at) xs ≡ Some r) → (r : A) × (cond b (Some x) (find (λ y. base y == at) xs) ≡ Some r)
       by_test true found = (x, refl)

@@ -1,13 +1,13 @@
 -- An event is enabled or not, so a run can always go on.
-use Rattle.std.proofs.Common.{◌≡◌, ◌⊎◌, inl, inr, ⊎_elim, ℕ, ◌+◌, ◌/◌, ◌<◌, ◌≤◌, Bool, true, false, List, [], ◌∷◌, Option, Some, None, refl, sym, ap, ◌∙◌, subst, arith}
+use Rattle.std.proofs.Common.{◌≡◌, ◌⊎◌, inl, inr, ⊎_elim, ℕ, ◌+◌, ◌/◌, ◌≤◌, Bool, true, false, List, [], ◌∷◌, Option, Some, None, refl, sym, ◌∙◌, subst, arith}
 use Rattle.std.proofs.lemmas.Bool.Decides.{eqb_tells, leb_tells}
 use Rattle.std.specs.Option.{IsSomeAnd}
 use Rattle.lsn_space.specs.declared.lsn.TheConstants.{LAST}
 use Rattle.lsn_space.specs.Tiling.{IsBoundary}
 use Rattle.ring_core.specs.declared.event.RingEvent.{RingEvent}
 use Rattle.ring_core.specs.declared.event.RingEvent.TheVariants.{Reserve, Fill, Turn, Flushed}
-use Rattle.ring_core.specs.State.{Reservation, Stage, Idle, Works, RingState, stage_of, in_hand}
-use Rattle.ring_core.specs.Machine.{MayReserve, MayFlush, IsEnabled, HasUnfilled, IsNext, state_after, RingStep, Run}
+use Rattle.ring_core.specs.State.{size_of, Reservation, Stage, Idle, Works, RingState, stage_of, in_hand}
+use Rattle.ring_core.specs.Machine.{MayReserve, MayFlush, IsEnabled, HasUnfilled, IsNext, state_after, RingStep, RunsRing}
 
 abbrev IsDecided : Type 0 → Type 0
 IsDecided A = A ⊎ (¬ A)
@@ -32,7 +32,7 @@ idle-decided : (stage : Stage) → IsDecided (stage ≡ Idle)
 idle-decided Idle = inl refl
 idle-decided (Works base) = inr (λ is. cc)
 
-boundary-decided : (from : ℕ) (rs : List Reservation) (to : ℕ) → IsDecided (IsBoundary (λ (r : Reservation). r.size) from rs to)
+boundary-decided : (from : ℕ) (rs : List Reservation) (to : ℕ) → IsDecided (IsBoundary size_of from rs to)
 boundary-decided from [] to = eq-decided to from
 boundary-decided from (r ∷ rs) to = decided-either (eq-decided to from) (boundary-decided (from + r.size) rs to)
 
@@ -45,8 +45,8 @@ reserve-decided s actor n = decided-same
     (λ all. record { idle = all.0; positive = all.1.0; quarter = all.1.1.0; within_log = all.1.1.1.0; within_ring = all.1.1.1.1 })
     (λ may. (may.idle, (may.positive, (may.quarter, (may.within_log, may.within_ring)))))
     (decided-both (idle-decided (stage_of actor s.hands))
-        (decided-both (le-decided 1 n) (decided-both (le-decided n (s.ring / 4))
-            (decided-both (le-decided (s.tail + n) LAST) (le-decided (s.tail + n) (s.durable + s.ring))))))
+    (decided-both (le-decided 1 n) (decided-both (le-decided n (s.ring / 4))
+    (decided-both (le-decided (s.tail + n) LAST) (le-decided (s.tail + n) (s.durable + s.ring))))))
 
 flush-decided : (s : RingState) (to : ℕ) → IsDecided (MayFlush s to)
 flush-decided s to = decided-same
@@ -65,7 +65,7 @@ pub step-exists : (old : RingState) (event : RingEvent) → (taken : Bool) × (n
 step-exists old event = ⊎_elim (λ enabled. (true, state_after old event, (enabled, refl))) (λ refused. (false, old, (refused, refl))) (enabled-decided old event)
 
 -- so does each list of events
-pub run-exists : (old : RingState) (events : List RingEvent) → (new : RingState) × Run old events new
+pub run-exists : (old : RingState) (events : List RingEvent) → (new : RingState) × RunsRing old events new
 run-exists old [] = (old, refl)
 run-exists old (event ∷ events) = let step = step-exists old event in let rest = run-exists step.1 events in (rest.0, (step.0, step.1, step.2, rest.1))
 
@@ -76,7 +76,7 @@ step-unique old event true false new new' step step' = absurd (step'.0 step.0)
 step-unique old event false true new new' step step' = absurd (step.0 step'.0)
 step-unique old event false false new new' step step' = step.1 ∙ sym step'.1
 
-pub run-unique : (old : RingState) (events : List RingEvent) (new new' : RingState) → Run old events new → Run old events new' → new ≡ new'
+pub run-unique : (old : RingState) (events : List RingEvent) (new new' : RingState) → RunsRing old events new → RunsRing old events new' → new ≡ new'
 run-unique old [] new new' run run' = run ∙ sym run'
 run-unique old (event ∷ events) new new' run run' = run-unique run.1 events new new' run.3
-    (subst (λ mid. Run mid events new') (step-unique old event run'.0 run.0 run'.1 run.1 run'.2 run.2) run'.3)
+    (subst (λ mid. RunsRing mid events new') (step-unique old event run'.0 run.0 run'.1 run.1 run'.2 run.2) run'.3)

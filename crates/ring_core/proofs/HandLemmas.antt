@@ -1,5 +1,5 @@
 -- What the actors have under way, after one of them changes it.
-use Rattle.std.proofs.Common.{◌≡◌, ◌≢◌, ◌⊎◌, inl, inr, ⊎_elim, ℕ, ◌==◌, cond, Bool, true, false, List, [], ◌∷◌, refl, sym, ap, ◌∙◌, subst, arith, eq-eqb, eqb-true, ne_eqb}
+use Rattle.std.proofs.Common.{◌≡◌, ◌≢◌, ◌⊎◌, inl, inr, ⊎_elim, ℕ, ◌==◌, cond, Bool, true, false, List, [], ◌∷◌, refl, sym, ap, ◌∙◌, eq-eqb, eqb-true, ne_eqb}
 use mathlib.Core.Logic.{dite}
 use native.Mathlib.Decide.{ℕ_discrete}
 use Rattle.ring_core.specs.State.{Stage, Idle, Works, Hand, stage_of, with_stage}
@@ -19,6 +19,7 @@ stage_of-with_other actor other stage (hand ∷ hands) differ = by_test (hand.ac
   where
     not_other : (n : ℕ) → (n == actor) ≡ true → (n == other) ≡ false
     not_other n is = ne_eqb n other (λ e. differ (sym e ∙ eqb-true n actor is))
+
     by_test : (b : Bool) → (hand.actor == actor) ≡ b → stage_of other (with_stage actor stage hands) ≡ stage_of other hands → stage_of other (cond b (record { actor = actor; stage = stage } ∷ hands) (hand ∷ with_stage actor stage hands)) ≡ cond (hand.actor == other) hand.stage (stage_of other hands)
     by_test true is rest = ap (λ b. cond b stage (stage_of other hands)) (ne_eqb actor other (λ e. differ (sym e))) ∙ sym (ap (λ b. cond b hand.stage (stage_of other hands)) (not_other hand.actor is))
     by_test false is rest = ap (λ l. cond (hand.actor == other) hand.stage l) rest

@@ -1,21 +1,15 @@
 -- Each event keeps the laws.
-use Rattle.std.proofs.Common.{◌≡◌, ◌≢◌, ◌⊎◌, inl, inr, ⊎_elim, ℕ, ◌+◌, ◌/◌, ◌<◌, ◌≤◌, ◌==◌, ◌↔◌, cond, Bool, true, false, List, [], ◌∷◌, ◌++◌, map, Option, Some, None, refl, sym, ap, ◌∙◌, subst, arith, eq-eqb, eqb-true, ne_eqb}
+use Rattle.std.proofs.Common.{◌≡◌, ◌≢◌, ◌⊎◌, ⊎_elim, ℕ, ◌+◌, ◌/◌, ◌<◌, ◌≤◌, ◌↔◌, cond, Bool, true, false, [], ◌∷◌, ◌++◌, map, Some, None, refl, sym, ap, ◌∙◌, subst, arith, eq-eqb, eqb-true, ne_eqb}
 use Rattle.std.specs.List.{AllByRecursion, find}
-use Rattle.std.specs.Option.{IsSomeAnd, option_map}
+use Rattle.std.specs.Option.{IsSomeAnd}
 use Rattle.lsn_space.specs.declared.lsn.TheConstants.{LAST}
-use Rattle.lsn_space.specs.Tiling.{IsTiling, IsBoundary}
+use Rattle.lsn_space.specs.Tiling.{IsBoundary}
 use Rattle.lsn_space.proofs.TilingLemmas.{found-passes, found-has, find-append, find-none, find-map, all-weaker, all-both, all-map, all-push, tiling-push, tiling-map, tiling-within, boundary-push, boundary-map, boundary-end, boundary-starts}
-use Rattle.ring_core.specs.State.{Reservation, Stage, Idle, Works, Hand, RingState, stage_of, with_stage, is_at, worked_on, in_hand}
+use Rattle.ring_core.specs.State.{base_of, size_of, Reservation, Idle, Works, RingState, stage_of, with_stage, is_at}
 use Rattle.ring_core.specs.Machine.{MayReserve, HasUnfilled, IsNext, MayFlush, fresh, filled_at, released_at, start_state, after_reserve, after_fill, after_turn}
 use Rattle.ring_core.specs.Laws.{HasOneOwner, TilesByOwner, NothingUnfilledExposed, IsAtRest, IsSound}
 use Rattle.ring_core.proofs.HandLemmas.{stage_of-with_same, stage_of-with_cases, one_owner-with_stage}
-use Rattle.ring_core.proofs.RangeLemmas.{IsBeside, found-beside, all-changed, filled_at-same, filled_at-other, released_at-same, released_at-other, some_and-map, some_and-some, worked_on-some}
-
-abbrev base_of : Reservation → ℕ
-base_of r = r.base
-
-abbrev size_of : Reservation → ℕ
-size_of r = r.size
+use Rattle.ring_core.proofs.RangeLemmas.{IsBeside, found-beside, all-changed, filled_at-same, filled_at-other, released_at-same, released_at-other, some_and-map, some_and-some}
 
 abbrev IsFull : Reservation → Type 0
 IsFull r = r.released ≡ true → r.filled ≡ r.size
@@ -69,10 +63,10 @@ reserve-tiles s actor n sound may = record {
   sizes = all-push _ s.reservations (fresh s.tail n) sound.tiles.sizes (may.positive, may.quarter);
   owned = all-push _ s.reservations (fresh s.tail n)
       (all-both _ _ _ s.reservations
-          (λ r below has unreleased. one_owner-with_stage actor r.base (Works s.tail) s.hands (has unreleased)
-              (λ works. let idle = may.idle in absurd (cc))
-              (λ same. let e : s.tail ≡ r.base = cc in omega (arith, below)))
-          (bases-below s sound) sound.tiles.owned)
+      (λ r below has unreleased. one_owner-with_stage actor r.base (Works s.tail) s.hands (has unreleased)
+      (λ works. let idle = may.idle in absurd (cc))
+      (λ same. let e : s.tail ≡ r.base = cc in omega (arith, below)))
+      (bases-below s sound) sound.tiles.owned)
       (λ unreleased. record {
         owner = actor;
         works = stage_of-with_same actor (Works s.tail) s.hands;
@@ -81,9 +75,9 @@ reserve-tiles s actor n sound may = record {
       });
   at_work = λ other base works. ⊎_elim
       (λ now. let e : s.tail ≡ base = cc in subst (λ b. IsSomeAnd (find (is_at b) (s.reservations ++ fresh s.tail n ∷ [])) (λ r. r.released ≡ false)) e
-          (subst (λ o. IsSomeAnd o (λ r. r.released ≡ false)) (sym (tail-found s n sound)) refl))
+      (subst (λ o. IsSomeAnd o (λ r. r.released ≡ false)) (sym (tail-found s n sound)) refl))
       (λ before. let found = some_and-some _ _ (sound.tiles.at_work other base before.1) in
-          subst (λ o. IsSomeAnd o (λ r. r.released ≡ false)) (sym (find-append (is_at base) s.reservations (fresh s.tail n ∷ []) found.0 found.1)) found.2)
+      subst (λ o. IsSomeAnd o (λ r. r.released ≡ false)) (sym (find-append (is_at base) s.reservations (fresh s.tail n ∷ []) found.0 found.1)) found.2)
       (stage_of-with_cases actor other (Works s.tail) (Works base) s.hands works);
 }
 
@@ -92,7 +86,7 @@ reserve-sound s actor n sound may =
     let tiles = reserve-tiles s actor n sound may in
     let full = all-push IsFull s.reservations (fresh s.tail n) sound.full (λ released. absurd (cc)) in
     let in_order = all-push (IsInOrder s.exposed) s.reservations (fresh s.tail n) sound.in_order
-        ((λ released. absurd (cc)), (λ below. absurd (omega (arith, below, sound.exposed)))) in
+    ((λ released. absurd (cc)), (λ below. absurd (omega (arith, below, sound.exposed)))) in
     let boundary = boundary-push size_of s.start s.reservations (fresh s.tail n) s.exposed sound.exposed_boundary in
     record {
       tiles = tiles;
@@ -135,8 +129,8 @@ fill-sound s r sound is unfilled open' =
     let tiles = fill-tiles s r sound in
     let beside = besides s r sound is in
     let full = all-changed IsFull IsFull (filled_at r.base) s.reservations r beside
-        (λ released. let closed : r.released ≡ true = released in absurd (cc))
-        (λ q side full. subst IsFull (sym (filled_at-other r.base q side.differs)) full) sound.full in
+    (λ released. let closed : r.released ≡ true = released in absurd (cc))
+    (λ q side full. subst IsFull (sym (filled_at-other r.base q side.differs)) full) sound.full in
     let in_order = all-map (IsInOrder s.exposed) (filled_at r.base) s.reservations sound.in_order in
     let boundary = boundary-map size_of (filled_at r.base) s.start s.reservations s.exposed (λ q. refl) sound.exposed_boundary in
     record {
@@ -163,21 +157,24 @@ turn-tiles s actor r sound works is = record {
   owned = all-changed IsOwned IsOwned' (released_at r.base) s.reservations r (besides s r sound is)
       (λ unreleased. let closed = ap (λ (q : Reservation). q.released) (released_at-same r.base r refl) in absurd (cc))
       (λ q side owned. subst IsOwned' (sym (released_at-other r.base q side.differs))
-          (λ unreleased. one_owner-with_stage actor q.base Idle s.hands (owned unreleased)
-              (λ works_there. side.differs (let e : Works r.base ≡ Works q.base = sym works ∙ works_there in cc)) (λ idle. absurd (cc))))
+      (λ unreleased. one_owner-with_stage actor q.base Idle s.hands (owned unreleased)
+      (λ works_there. side.differs (let e : Works r.base ≡ Works q.base = sym works ∙ works_there in cc)) (λ idle. absurd (cc))))
       sound.tiles.owned;
   at_work = λ other base works_there. ⊎_elim (λ now. absurd (cc))
       (λ before. subst (λ o. IsSomeAnd o IsOpen) (sym (find-map (is_at base) (released_at r.base) s.reservations (λ q. refl)))
-          (some_and-map IsOpen (released_at r.base) (find (is_at base) s.reservations) (stays-open other base before.0 before.1)))
+      (some_and-map IsOpen (released_at r.base) (find (is_at base) s.reservations) (stays-open other base before.0 before.1)))
       (stage_of-with_cases actor other Idle (Works base) s.hands works_there);
 }
   where
     IsOpen : Reservation → Type 0
     IsOpen q = q.released ≡ false
+
     IsOwned : Reservation → Type 0
     IsOwned q = q.released ≡ false → HasOneOwner s.hands q.base
+
     IsOwned' : Reservation → Type 0
     IsOwned' q = q.released ≡ false → HasOneOwner (with_stage actor Idle s.hands) q.base
+
     stays-open : (other base : ℕ) → other ≢ actor → stage_of other s.hands ≡ Works base → IsSomeAnd (find (is_at base) s.reservations) (λ q. (released_at r.base q).released ≡ false)
     stays-open other base differ works_there =
         let found = some_and-some _ _ (sound.tiles.at_work other base works_there) in
@@ -185,7 +182,7 @@ turn-tiles s actor r sound works is = record {
         let has = found-has _ (is_at r.base) s.reservations r is sound.tiles.owned (open-in_hand s actor r sound works is) in
         let differs : base ≢ r.base = λ same. differ (has.alone other (works_there ∙ ap Works same) ∙ sym (has.alone actor works)) in
         subst (λ o. IsSomeAnd o (λ q. (released_at r.base q).released ≡ false)) (sym found.1)
-            (ap (λ (q : Reservation). q.released) (released_at-other r.base found.0 (λ same. differs (sym at ∙ same))) ∙ found.2)
+        (ap (λ (q : Reservation). q.released) (released_at-other r.base found.0 (λ same. differs (sym at ∙ same))) ∙ found.2)
 
 pub turn-sound : (s : RingState) (actor : ℕ) (r : Reservation) → IsSound s → stage_of actor s.hands ≡ Works r.base → find (is_at r.base) s.reservations ≡ Some r → IsNext s.exposed r → IsSound (after_turn s actor (Some r))
 turn-sound s actor r sound works is next =
@@ -194,16 +191,17 @@ turn-sound s actor r sound works is next =
     let within = found-has _ (is_at r.base) s.reservations r is (tiling-within base_of size_of s.start s.reservations s.tail sound.tiles.tiles) in
     let size = found-has _ (is_at r.base) s.reservations r is sound.tiles.sizes in
     let full = all-changed IsFull IsFull (released_at r.base) s.reservations r beside
-        (λ released. next.0)
-        (λ q side full. subst IsFull (sym (released_at-other r.base q side.differs)) full) sound.full in
+    (λ released. next.0)
+    (λ q side full. subst IsFull (sym (released_at-other r.base q side.differs)) full) sound.full in
     let in_order = all-changed (IsInOrder s.exposed) (IsInOrder (r.base + r.size)) (released_at r.base) s.reservations r beside
-        (subst (IsInOrder (r.base + r.size)) (sym (released_at-same r.base r refl)) ((λ _. omega (arith, size.0)), (λ _. refl)))
-        (λ q side order. subst (IsInOrder (r.base + r.size)) (sym (released_at-other r.base q side.differs))
-            ((λ released. omega (arith, order.0 released, next.1)),
-             (λ below. order.1 (⊎_elim (λ before. omega (arith, before, next.1)) (λ behind. absurd (omega (arith, behind, below))) side.side))))
-        sound.in_order in
+    (subst (IsInOrder (r.base + r.size)) (sym (released_at-same r.base r refl)) ((λ _. omega (arith, size.0)), (λ _. refl)))
+    (λ q side order. subst (IsInOrder (r.base + r.size)) (sym (released_at-other r.base q side.differs)) (
+      (λ released. omega (arith, order.0 released, next.1)),
+      (λ below. order.1 (⊎_elim (λ before. omega (arith, before, next.1)) (λ behind. absurd (omega (arith, behind, below))) side.side)),
+    ))
+    sound.in_order in
     let boundary = boundary-map size_of (released_at r.base) s.start s.reservations (r.base + r.size) (λ q. refl)
-        (boundary-end base_of size_of s.start s.reservations s.tail (is_at r.base) r sound.tiles.tiles is) in
+    (boundary-end base_of size_of s.start s.reservations s.tail (is_at r.base) r sound.tiles.tiles is) in
     record {
       tiles = tiles;
       counted = all-map (λ q. q.filled ≤ q.size) (released_at r.base) s.reservations sound.counted;

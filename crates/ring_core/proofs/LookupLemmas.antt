@@ -1,6 +1,6 @@
 -- What is found at an index.
-use Rattle.std.proofs.Common.{◌≡◌, ◌≢◌, ◌⊎◌, inl, inr, ⊎_elim, ℕ, ◌+◌, ◌<◌, ◌≤◌, ◌==◌, nat_lt, ◌||◌, cond, not, true≢false, Bool, true, false, List, [], ◌∷◌, ◌++◌, length, get_or, set, map, Option, Some, None, zero, suc, refl, sym, ap, ap₂, ◌∙◌, subst, arith, eq-eqb, eqb-true, ne_eqb, ltb-true, ltb-false}
-use Rattle.std.specs.List.{AllByRecursion, find, position, position_or_len, prefix_len, slice_get, list_any}
+use Rattle.std.proofs.Common.{◌≡◌, ◌≢◌, inl, inr, ⊎_elim, ℕ, ◌+◌, ◌<◌, ◌≤◌, nat_lt, ◌||◌, cond, not, true≢false, Bool, true, false, List, [], ◌∷◌, ◌++◌, length, get_or, set, map, Some, None, zero, suc, refl, sym, ap, ap₂, ◌∙◌, subst, arith, eq-eqb, eqb-true, ltb-false}
+use Rattle.std.specs.List.{AllByRecursion, find, position, position_or_len, slice_get, list_any}
 use Rattle.std.specs.Option.{option_and_then}
 use Rattle.std.proofs.lemmas.List.Folds.{find_at}
 use Rattle.std.proofs.lemmas.List.Quantifiers.{position-Some}
@@ -8,7 +8,7 @@ use Rattle.std.proofs.lemmas.List.Recursion.{found_at}
 use Rattle.std.proofs.lemmas.Option.{slice_get_past}
 use Rattle.lsn_space.specs.Tiling.{IsTiling, IsBoundary}
 use Rattle.lsn_space.proofs.TilingLemmas.{all-weaker, tiling-within}
-use Rattle.ring_core.specs.State.{Reservation, Stage, Idle, Hand, row_of, stage_of, with_stage}
+use Rattle.ring_core.specs.State.{base_of, size_of, Reservation, Stage, Idle, Hand, row_of, stage_of, with_stage}
 use Rattle.ring_core.specs.Rows.{is_of, is_end}
 use Rattle.ring_core.proofs.RangeLemmas.{IsAllowed}
 
@@ -47,15 +47,15 @@ module _ {A : Type 0} where
   map-others P f (x ∷ xs) same all = ap₂ (λ y ys. y ∷ ys) (same x all.0) (map-others P f xs same all.1)
 
 -- a change of the one reservation at a base is a write at its index
-pub map-at_base : (from to most : ℕ) (f : Reservation → Reservation) (rs : List Reservation) (i : ℕ) (r : Reservation) → IsTiling (λ (q : Reservation). q.base) (λ q. q.size) from rs to → AllByRecursion (IsAllowed most) rs → slice_get rs i ≡ Some r → ((q : Reservation) → q.base ≢ r.base → f q ≡ q) → map f rs ≡ set rs i (f r)
+pub map-at_base : (from to most : ℕ) (f : Reservation → Reservation) (rs : List Reservation) (i : ℕ) (r : Reservation) → IsTiling base_of size_of from rs to → AllByRecursion (IsAllowed most) rs → slice_get rs i ≡ Some r → ((q : Reservation) → q.base ≢ r.base → f q ≡ q) → map f rs ≡ set rs i (f r)
 map-at_base from to most f [] i r tiles sizes is others = absurd (cc)
 map-at_base from to most f (q ∷ rs) zero r tiles sizes is others =
     let same : q ≡ r = cc in
     ap₂ (λ y ys. y ∷ ys) (ap f same) (map-others (λ x. from + q.size ≤ x.base) f rs
-        (λ x behind. others x (λ at. let bases = ap (λ (z : Reservation). z.base) same in omega (arith, at, behind, bases, tiles.0, sizes.0.0)))
-        (all-weaker _ _ rs (λ x within. within.0) (tiling-within (λ (z : Reservation). z.base) (λ z. z.size) (from + q.size) rs to tiles.1)))
+    (λ x behind. others x (λ at. let bases = ap (λ (z : Reservation). z.base) same in omega (arith, at, behind, bases, tiles.0, sizes.0.0)))
+    (all-weaker _ _ rs (λ x within. within.0) (tiling-within base_of size_of (from + q.size) rs to tiles.1)))
 map-at_base from to most f (q ∷ rs) (suc i) r tiles sizes is others =
-    let within = slice_get-has _ rs i r is (tiling-within (λ (z : Reservation). z.base) (λ z. z.size) (from + q.size) rs to tiles.1) in
+    let within = slice_get-has _ rs i r is (tiling-within base_of size_of (from + q.size) rs to tiles.1) in
     ap₂ (λ y ys. y ∷ ys) (others q (λ at. omega (arith, at, within.0, tiles.0, sizes.0.0))) (map-at_base (from + q.size) to most f rs i r tiles.1 sizes.1 is others)
 
 -- an actor with a row
@@ -85,18 +85,19 @@ with_stage-absent actor stage (hand ∷ hands) all =
     ap (λ b. cond b (row_of actor stage ∷ hands) (hand ∷ with_stage actor stage hands)) all.0 ∙ ap (λ l. hand ∷ l) (with_stage-absent actor stage hands all.1)
 
 -- a boundary is the start or an end
-pub boundary-end_from : (from to : ℕ) (rs : List Reservation) (place : ℕ) → IsTiling (λ (q : Reservation). q.base) (λ q. q.size) from rs to → list_any (is_end place) rs ≡ true → IsBoundary (λ (q : Reservation). q.size) from rs place
+pub boundary-end_from : (from to : ℕ) (rs : List Reservation) (place : ℕ) → IsTiling base_of size_of from rs to → list_any (is_end place) rs ≡ true → IsBoundary size_of from rs place
 boundary-end_from from to [] place tiles is = absurd (cc)
 boundary-end_from from to (r ∷ rs) place tiles is = by_test (is_end place r) refl is (λ later. boundary-end_from (from + r.size) to rs place tiles.1 later)
   where
-    start : (from : ℕ) (rs : List Reservation) → place ≡ from → IsBoundary (λ (q : Reservation). q.size) from rs place
+    start : (from : ℕ) (rs : List Reservation) → place ≡ from → IsBoundary size_of from rs place
     start from [] same = same
     start from (q ∷ qs) same = inl same
-    by_test : (b : Bool) → is_end place r ≡ b → (b || list_any (is_end place) rs) ≡ true → (list_any (is_end place) rs ≡ true → IsBoundary (λ (q : Reservation). q.size) (from + r.size) rs place) → IsBoundary (λ (q : Reservation). q.size) from (r ∷ rs) place
+
+    by_test : (b : Bool) → is_end place r ≡ b → (b || list_any (is_end place) rs) ≡ true → (list_any (is_end place) rs ≡ true → IsBoundary size_of (from + r.size) rs place) → IsBoundary size_of from (r ∷ rs) place
     by_test true ends is rest = let at = eqb-true (r.base + r.size) place ends in inr (start (from + r.size) rs (omega (arith, at, tiles.0)))
     by_test false ends is rest = inr (rest is)
 
-pub boundary-end_to : (from to : ℕ) (rs : List Reservation) (place : ℕ) → IsTiling (λ (q : Reservation). q.base) (λ q. q.size) from rs to → IsBoundary (λ (q : Reservation). q.size) from rs place → place ≢ from → list_any (is_end place) rs ≡ true
+pub boundary-end_to : (from to : ℕ) (rs : List Reservation) (place : ℕ) → IsTiling base_of size_of from rs to → IsBoundary size_of from rs place → place ≢ from → list_any (is_end place) rs ≡ true
 boundary-end_to from to [] place tiles is differs = absurd (differs is)
 boundary-end_to from to (r ∷ rs) place tiles is differs = ⊎_elim (λ here. absurd (differs here))
     (λ rest. by_test (is_end place r) refl (λ not_here. boundary-end_to (from + r.size) to rs place tiles.1 rest (λ same. not_here (omega (arith, same, tiles.0))))) is

@@ -1,10 +1,10 @@
 -- Changes of the one reservation at a base.
-use Rattle.std.proofs.Common.{◌≡◌, ◌≢◌, ◌⊎◌, inl, inr, ⊎_elim, ℕ, ◌+◌, ◌/◌, ◌<◌, ◌≤◌, ◌==◌, cond, Bool, true, false, List, [], ◌∷◌, map, Option, Some, None, refl, sym, ap, ◌∙◌, subst, arith, eq-eqb, eqb-true, ne_eqb}
+use Rattle.std.proofs.Common.{◌≡◌, ◌≢◌, ◌⊎◌, inl, inr, ⊎_elim, ℕ, ◌+◌, ◌<◌, ◌≤◌, cond, true, List, map, Option, Some, None, refl, sym, ap, subst, arith, eq-eqb, eqb-true, ne_eqb}
 use Rattle.std.specs.List.{AllByRecursion, find}
 use Rattle.std.specs.Option.{IsSomeAnd, option_map}
 use Rattle.lsn_space.specs.Tiling.{IsTiling}
-use Rattle.lsn_space.proofs.TilingLemmas.{IsApart, found-passes, found-has, all-both, all-map, tiling-apart}
-use Rattle.ring_core.specs.State.{Reservation, Stage, Idle, Works, stage_of, is_at, worked_on}
+use Rattle.lsn_space.proofs.TilingLemmas.{found-passes, found-has, all-both, all-map, tiling-apart}
+use Rattle.ring_core.specs.State.{base_of, size_of, Reservation, Stage, Idle, Works, is_at, worked_on}
 use Rattle.ring_core.specs.Machine.{filled_at, released_at}
 
 -- q lies before r or behind it
@@ -16,13 +16,13 @@ abbrev pub IsAllowed : ℕ → Reservation → Type 0
 IsAllowed most r = (1 ≤ r.size) × (r.size ≤ most)
 
 -- each reservation is the one that is found, or lies beside it
-pub found-beside : (from to most base : ℕ) (rs : List Reservation) (r : Reservation) → IsTiling (λ (q : Reservation). q.base) (λ q. q.size) from rs to → AllByRecursion (IsAllowed most) rs → find (is_at base) rs ≡ Some r → AllByRecursion (λ q. (q ≡ r) ⊎ IsBeside r q) rs
+pub found-beside : (from to most base : ℕ) (rs : List Reservation) (r : Reservation) → IsTiling base_of size_of from rs to → AllByRecursion (IsAllowed most) rs → find (is_at base) rs ≡ Some r → AllByRecursion (λ q. (q ≡ r) ⊎ IsBeside r q) rs
 found-beside from to most base rs r tiles sizes is =
     let positive = found-has (IsAllowed most) (is_at base) rs r is sizes in all-both _ _ _ rs
     (λ q size apart. ⊎_elim inl (λ sides. inr (⊎_elim
-        (λ before. record { differs = λ same. omega (arith, size.0); side = inl (omega (arith, size.0)) })
-        (λ behind. record { differs = λ same. omega (arith, positive.0); side = inr behind }) sides)) apart)
-    sizes (tiling-apart (λ (q : Reservation). q.base) (λ q. q.size) from rs to (is_at base) r tiles is)
+    (λ before. record { differs = λ same. omega (arith, size.0); side = inl (omega (arith, size.0)) })
+    (λ behind. record { differs = λ same. omega (arith, positive.0); side = inr behind }) sides)) apart)
+    sizes (tiling-apart base_of size_of from rs to (is_at base) r tiles is)
 
 -- the one that is found changes, and those beside it do not
 pub all-changed : (P Q : Reservation → Type 0) (f : Reservation → Reservation) (rs : List Reservation) (r : Reservation) → AllByRecursion (λ q. (q ≡ r) ⊎ IsBeside r q) rs → Q (f r) → ((q : Reservation) → IsBeside r q → P q → Q (f q)) → AllByRecursion P rs → AllByRecursion Q (map f rs)

@@ -2,8 +2,7 @@
 use Rattle.std.specs.Prelude.{◌≡◌, ℕ, ◌+◌, ◌/◌, ◌<◌, ◌≤◌, ◌==◌, if◌then◌else◌, Bool, true, false, List, [], ◌∷◌, ◌++◌, map, Option, Some, None}
 use Rattle.std.specs.Option.{IsSomeAnd}
 use Rattle.lsn_space.specs.declared.lsn.TheConstants.{LAST}
-use Rattle.lsn_space.specs.Tiling.{IsBoundary}
-use Rattle.ring_core.specs.State.{Reservation, Stage, Idle, Works, RingState, stage_of, with_stage, in_hand}
+use Rattle.ring_core.specs.State.{Reservation, Idle, Works, RingState, stage_of, with_stage, in_hand, IsRingBoundary}
 use Rattle.ring_core.specs.declared.event.RingEvent.{RingEvent}
 use Rattle.ring_core.specs.declared.event.RingEvent.TheVariants.{Reserve, Fill, Turn, Flushed}
 
@@ -32,7 +31,7 @@ IsNext exposed r = (r.filled ≡ r.size) × (r.base ≡ exposed)
 pub record MayFlush (s : RingState) (to : ℕ) : Type 0 where
   pub forward : s.durable ≤ to
   pub exposed : to ≤ s.exposed
-  pub boundary : IsBoundary (λ (r : Reservation). r.size) s.start s.reservations to
+  pub boundary : IsRingBoundary s to
 
 -- the event may happen now
 abbrev pub IsEnabled : RingState → RingEvent → Type 0
@@ -82,6 +81,6 @@ RingStep old event true new = IsEnabled old event × (new ≡ state_after old ev
 RingStep old event false new = (¬ IsEnabled old event) × (new ≡ old)
 
 -- the events, one after another, lead from old to new
-abbrev pub Run : RingState → List RingEvent → RingState → Type 0
-Run old [] new = new ≡ old
-Run old (event ∷ events) new = (taken : Bool) × (mid : RingState) × RingStep old event taken mid × Run mid events new
+abbrev pub RunsRing : RingState → List RingEvent → RingState → Type 0
+RunsRing old [] new = new ≡ old
+RunsRing old (event ∷ events) new = (taken : Bool) × (mid : RingState) × RingStep old event taken mid × RunsRing mid events new

@@ -1,6 +1,7 @@
 -- What the machine's state is made of. Places are LSNs, counted in units.
 use Rattle.std.specs.Prelude.{ℕ, ◌==◌, if◌then◌else◌, Bool, List, [], ◌∷◌, Option, None}
 use Rattle.std.specs.List.{find}
+use Rattle.lsn_space.specs.Tiling.{IsBoundary}
 
 -- a range of the log that was reserved, how many of its units are filled, and whether it is released
 pub record Reservation : Type 0 where
@@ -43,6 +44,16 @@ abbrev pub with_stage : ℕ → Stage → List Hand → List Hand
 with_stage actor stage [] = row_of actor stage ∷ []
 with_stage actor stage (hand ∷ hands) =
     if hand.actor == actor then row_of actor stage ∷ hands else hand ∷ with_stage actor stage hands
+
+abbrev pub base_of : Reservation → ℕ
+base_of r = r.base
+
+abbrev pub size_of : Reservation → ℕ
+size_of r = r.size
+
+-- the log starts at this place, or a reservation ends there
+abbrev pub IsRingBoundary : RingState → ℕ → Type 0
+IsRingBoundary s place = IsBoundary size_of s.start s.reservations place
 
 -- the reservation starts at this base
 abbrev pub is_at : ℕ → Reservation → Bool

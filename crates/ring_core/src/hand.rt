@@ -31,7 +31,7 @@ impl Hand {
 }
 
 /// The base of the reservation that the actor has under way, if any.
-pub fn base_of(hands: &[Hand], actor: u32) -> Option<u32>
+pub fn base_in_hand(hands: &[Hand], actor: u32) -> Option<u32>
     ensures { stage_at result ≡ stage_of actor hands.now }
 {
     let hand = &hands[index_of(hands, actor)?];

@@ -1,16 +1,15 @@
 ghost use Rattle.std.specs.Prelude.{◌≡◌, ◌<◌, ◌↔◌, length, IsTrue, Some, Ok, IfOk, IfSome, OnErr, slice_get, option_and_then};
-ghost use Rattle.lsn_space.specs.Tiling.{IsBoundary};
-ghost use Rattle.ring_core.specs.State.{Reservation, in_hand};
+ghost use Rattle.ring_core.specs.State.{IsRingBoundary, in_hand};
 ghost use Rattle.ring_core.specs.Machine.{MayReserve, RingStep, start_state};
+ghost use Rattle.ring_core.specs.Rows.{MayNeedMemory};
 ghost use Rattle.ring_core.specs.declared.event.RingEvent.TheVariants.{Reserve, Fill, Turn, Flushed};
 
+use crate::event::RingEvent;
+use crate::hand::{Hand, base_in_hand, lay_down, take_up};
+use crate::range::{Range, ends_at, index_at};
 use lsn_space::{LAST, Lsn, NoMemory};
 use std::alloc::Global;
 use std::marker::Model;
-
-use crate::event::RingEvent;
-use crate::hand::{Hand, base_of, lay_down, take_up};
-use crate::range::{Range, ends_at, index_at};
 
 /// One run of the machine. Contracts see the machine's state.
 #[derive(Drop)]
@@ -58,6 +57,8 @@ impl RingRun {
     pub fn apply(&mut self, event: RingEvent) -> Result<bool, NoMemory>
         ensures step { IfOk result (λ taken. RingStep self.old event taken self.new) }
         ensures err { OnErr result (self.new ≡ self.old) }
+        // Only a reservation that is enabled may need memory.
+        ensures memory { OnErr result (MayNeedMemory self.old event) }
     {
         match event {
             RingEvent::Reserve { by, n } => self.reserve(by, n),
@@ -117,6 +118,7 @@ impl RingRun {
     fn reserve(&mut self, by: u32, n: u32) -> Result<bool, NoMemory>
         ensures step { IfOk result (λ taken. RingStep self.old (Reserve by n) taken self.new) }
         ensures err { OnErr result (self.new ≡ self.old) }
+        ensures memory { OnErr result (MayReserve self.old by n) }
     {
         if !self.may_reserve(by, n) {
             return Ok(false);
@@ -134,7 +136,7 @@ impl RingRun {
         ensures { IsTrue result ↔ MayReserve self.now by n }
     {
         let end = u64::from(self.tail) + u64::from(n);
-        base_of(&self.hands, by).is_none()
+        base_in_hand(&self.hands, by).is_none()
             && 1 <= n
             && n <= self.ring / 4
             && end <= u64::from(LAST)
@@ -154,7 +156,7 @@ impl RingRun {
 
     /// Whether one of the reservations ends at `place`, or the first starts there.
     fn is_boundary(&self, place: u32) -> bool
-        ensures { IsTrue result ↔ IsBoundary (λ (r : Reservation). r.size) self.now.start self.now.reservations place }
+        ensures { IsTrue result ↔ IsRingBoundary self.now place }
     {
         place == self.start || ends_at(&self.ranges, place)
     }
@@ -164,6 +166,6 @@ impl RingRun {
         ensures within { IfSome result (λ at. at < length self.now.reservations) }
         ensures found { in_hand self.now by ≡ option_and_then (slice_get self.now.reservations) result }
     {
-        index_at(&self.ranges, base_of(&self.hands, by)?)
+        index_at(&self.ranges, base_in_hand(&self.hands, by)?)
     }
 }

@@ -1,9 +1,9 @@
-use Rattle.std.proofs.Common.{◌≡◌, ◌+◌, ◌∙◌, sym, ap, subst, true, true≢false, arith}
+use Rattle.std.proofs.Common.{◌+◌, ◌∙◌, sym, ap, subst, true, true≢false, arith}
 use Rattle.std.specs.Vec.{with_items}
 use Rattle.std.proofs.lemmas.List.{with_items_is}
 use Rattle.ring_core.specs.declared.event.RingEvent.TheVariants.{Turn}
 use Rattle.ring_core.specs.Laws.{IsSound}
-use Rattle.ring_core.specs.State.{Reservation, Idle, stage_of, with_stage}
+use Rattle.ring_core.specs.State.{size_of, Reservation, Idle, stage_of, with_stage}
 use Rattle.ring_core.specs.Run.{state_of}
 use Rattle.ring_core.proofs.RunLemmas.{turn-refused, turn-step, in_hand-works, end-fits}
 use Rattle.ring_core.proofs.Runs.{step-sound}
@@ -17,8 +17,8 @@ returns-then-not-is_next c = turn-refused c.args.self.now (state_of c.self.insid
 pub overflow_cast-self : goal.overflow_cast-self
 overflow_cast-self c =
     let fits = end-fits c.args.self.now (state_of c.self.inside) c.self.view_is c.self.invariant c.args.by c.in-Some.at
-        c.in-Some.ensures.found c.in-Some.ensures.within _ c.index_mut-range.ensures.value in
-    omega (arith, c.end.ensures, fits, ap (λ (r : Reservation). r.base) c.release.ensures, ap (λ (r : Reservation). r.size) c.release.ensures)
+    c.in-Some.ensures.found c.in-Some.ensures.within _ c.index_mut-range.ensures.value in
+    omega (arith, c.end.ensures, fits, ap (λ (r : Reservation). r.base) c.release.ensures, ap size_of c.release.ensures)
 
 pub lay_down-requires : goal.lay_down-requires
 lay_down-requires c = λ idle. in_hand-works c.args.self.now (state_of c.self.inside) c.self.view_is c.self.invariant c.args.by c.in-Some.at
