@@ -1,0 +1,141 @@
+ghost use Rattle.std.specs.Prelude.{◌≡◌, ◌≤◌, ◌+◌, [], length, vec_capacity};
+ghost use Rattle.log_disk.specs.Disk.{IsTorn, IsSettled};
+ghost use Rattle.log_disk.specs.History.{Images};
+ghost use Rattle.log_disk.specs.MemoryDisks.{file_of, ImagesOf, total_len, recorded};
+
+use crate::memory_disk::{MemoryDisk, place};
+use crate::step::Step;
+
+/// A number that is used up digit by digit, each with a base of its own.
+#[derive(Drop)]
+struct Digits {
+    left: u64,
+}
+
+impl Digits {
+    /// The next digit, from 0 to `most`. After the last one each is 0.
+    fn up_to(&mut self, most: usize) -> usize
+        ensures { result ≤ most }
+    {
+        let base = (most as u64).saturating_add(1);
+        let digit = self.left % base;
+        self.left /= base;
+        (digit as usize).min(most)
+    }
+}
+
+impl MemoryDisk {
+    /// What a crash leaves: one of the images, as a disk with nothing to lose. It goes on counting
+    /// calls, and has the room that was left.
+    ///
+    /// The digits of `pick` say of each write since the last sync, the oldest first, how many of its
+    /// first bytes landed (from none to all), how many of these hold noise, and which byte that is.
+    /// So a small pick is the number of bytes that landed of the first write, and later ones did not.
+    pub fn crash(self, pick: u64) -> MemoryDisk
+        ensures image { ImagesOf self (file_of result) }
+        ensures settled { IsSettled (file_of result) (ImagesOf result) }
+        ensures history { result.history ≡ [] }
+        ensures room { result.room ≡ self.room }
+        ensures failing { result.failing ≡ self.failing }
+        ensures calls { result.calls ≡ self.calls }
+        ensures count { result.written_count ≡ self.written_count }
+        ensures faults { result.faults ≡ self.faults }
+    {
+        let MemoryDisk {
+            mut first,
+            mut held,
+            mut steps,
+            mut log,
+            left,
+            refused,
+            call_count,
+            writes,
+            fault_count,
+        } = self;
+        replay(&mut first, &mut held, &steps, &log, pick);
+        copy_over(&mut held, &first);
+        steps.clear();
+        log.clear();
+        MemoryDisk {
+            first,
+            held,
+            steps,
+            log,
+            left,
+            refused,
+            call_count,
+            writes,
+            fault_count,
+        }
+    }
+}
+
+/// Goes through the steps again, and makes of the file at first what a crash leaves. What is read
+/// goes into `file`.
+fn replay(image: &mut Vec<u8>, file: &mut Vec<u8>, steps: &[Step], log: &[u8], pick: u64)
+    requires whole { total_len steps.now ≡ length log.now }
+    requires image_room { length image.old.items + length log.now ≤ vec_capacity image.old }
+    requires file_room { length image.old.items + length log.now ≤ vec_capacity file.old }
+    ensures image { Images image.old.items (recorded steps.now log.now []) image.new.items }
+    ensures length { length image.new.items ≤ length image.old.items + length log.now }
+    ensures image_capacity { vec_capacity image.old ≤ vec_capacity image.new }
+    ensures file_capacity { vec_capacity file.old ≤ vec_capacity file.new }
+{
+    copy_over(file, image);
+    let mut rest = log;
+    let mut digits = Digits { left: pick };
+    'steps: for step in steps {
+        match *step {
+            Step::Write { at, len } => {
+                let (bytes, after) = rest.split_at(len);
+                tear(image, at, bytes, &mut digits);
+                place(file, at, bytes);
+                rest = after;
+            }
+            Step::Sync => {
+                copy_over(image, file);
+                digits = Digits { left: pick };
+            }
+        }
+    }
+}
+
+/// Writes as a crash may leave it.
+fn tear(image: &mut Vec<u8>, at: usize, bytes: &[u8], digits: &mut Digits)
+    requires { length image.old.items + length bytes.now ≤ vec_capacity image.old }
+    ensures torn { IsTorn at (length bytes.now) image.old.items image.new.items }
+    ensures length { length image.new.items ≤ length image.old.items + length bytes.now }
+    ensures capacity { vec_capacity image.old ≤ vec_capacity image.new }
+{
+    // Behind the end of the image nothing can land: an earlier write that made the file grow is lost.
+    if at > image.len() {
+        return;
+    }
+    let landed = digits.up_to(bytes.len());
+    let noisy = digits.up_to(landed);
+    let noise = digits.up_to(255) as u8;
+    place(image, at, bytes.split_at(landed).0);
+    overwrite(image, at, noisy, noise);
+}
+
+/// Puts the same byte at each of so many places.
+fn overwrite(image: &mut Vec<u8>, at: usize, count: usize, byte: u8)
+    requires { at + count ≤ length image.old.items }
+    ensures torn { IsTorn at count image.old.items image.new.items }
+    ensures length { length image.new.items ≡ length image.old.items }
+    ensures capacity { vec_capacity image.old ≤ vec_capacity image.new }
+{
+    'places: for place in at..at + count {
+        image[place] = byte;
+    }
+}
+
+/// Makes a file the same as another.
+fn copy_over(to: &mut Vec<u8>, from: &Vec<u8>)
+    requires { length from.now.items ≤ vec_capacity to.old }
+    ensures same { to.new.items ≡ from.now.items }
+    ensures capacity { vec_capacity to.old ≤ vec_capacity to.new }
+{
+    to.clear();
+    to.extend_from_slice(from.as_slice()).unwrap();
+}
