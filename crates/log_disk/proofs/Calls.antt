@@ -1,7 +1,6 @@
 -- One more write or sync in the history of a disk in memory.
 use Rattle.std.proofs.Common.{◌≡◌, ◌≤◌, ⊎_elim, sym, subst, ℕ, List, ◌∷◌, length}
-use Rattle.log_disk.specs.Disk.{put, IsTorn, MayBeTorn}
-use Rattle.log_disk.specs.History.{Event, Images, file_after}
+use Rattle.log_disk.specs.Disk.{IsTorn, MayBeTorn}
 use Rattle.log_disk.specs.History.Event.{Wrote, Synced}
 use Rattle.log_disk.specs.Laws.{file-is-image}
 use Rattle.log_disk.specs.MemoryDisks.{DiskState, file_of, ImagesOf}

@@ -1,6 +1,6 @@
 -- One more step joins those that a disk in memory keeps.
-use Rattle.std.proofs.Common.{◌≡◌, ◌≤◌, ◌<◌, ◌∙◌, sym, ap, ap₂, refl, ℕ, ◌+◌, ◌-◌, ◌*◌, ◌^◌, List, [], ◌∷◌, ◌++◌, length, take, drop, arith, length-append}
-use Rattle.std.proofs.lemmas.List.{length-take-le, length-take, length-drop, take_all, take-append-le, drop-append-le, drop_at, take_at}
+use Rattle.std.proofs.Common.{◌≡◌, ◌≤◌, ◌∙◌, sym, ap, ap₂, refl, ℕ, ◌+◌, ◌-◌, List, [], ◌∷◌, ◌++◌, length, take, drop, arith, length-append}
+use Rattle.std.proofs.lemmas.List.{length-take, length-drop, take_all, take-append-le, drop-append-le}
 use Rattle.log_disk.specs.Disk.{put}
 use Rattle.log_disk.specs.History.{Event, file_after}
 use Rattle.log_disk.specs.History.Event.{Wrote, Synced}

@@ -1,5 +1,5 @@
 -- The steps of a disk in memory, gone through again.
-use Rattle.std.proofs.Common.{◌≡◌, ◌≤◌, inr, ◌∙◌, sym, ap, subst, ℕ, ◌+◌, ◌-◌, List, ◌∷◌, length, take, drop, arith}
+use Rattle.std.proofs.Common.{◌≡◌, inr, ◌∙◌, ap, ℕ, List, ◌∷◌, length, take, drop, arith}
 use Rattle.std.proofs.lemmas.List.{length-drop}
 use Rattle.log_disk.specs.Disk.{put, IsTorn}
 use Rattle.log_disk.specs.History.{Event, file_after, Images}

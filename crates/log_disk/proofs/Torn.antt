@@ -1,5 +1,5 @@
 -- Writes that were cut short.
-use Rattle.std.proofs.Common.{◌≡◌, ◌≤◌, ◌<◌, ◌∙◌, sym, ap, refl, subst, ℕ, ◌+◌, ◌-◌, max, List, ◌++◌, length, take, drop, set, arith, append_assoc, length-append}
+use Rattle.std.proofs.Common.{◌≡◌, ◌≤◌, ◌<◌, ◌∙◌, sym, ap, refl, subst, ℕ, ◌+◌, ◌-◌, List, ◌++◌, length, take, drop, set, arith, append_assoc, length-append}
 use Rattle.std.proofs.lemmas.List.{take-set-le, drop-set-lt, length-set, drop-drop, length-take-le, length-drop, take_at, drop_at}
 use Rattle.log_disk.specs.Disk.{put, IsTorn}
 

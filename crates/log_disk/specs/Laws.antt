@@ -1,5 +1,5 @@
 -- The laws of a disk in memory.
-use Rattle.std.proofs.Common.{◌≡◌, ◌≤◌, refl, inl, inr, ⊎_elim, ℕ, List, [], ◌∷◌, length, arith}
+use Rattle.std.proofs.Common.{◌≤◌, refl, inl, ⊎_elim, ℕ, List, [], ◌∷◌, length, arith}
 use Rattle.log_disk.specs.History.{Event, file_after, Images, ImagesSince}
 use Rattle.log_disk.specs.History.Event.{Wrote, Synced}
 

@@ -1,4 +1,4 @@
-ghost use Rattle.std.specs.Prelude.{◌≡◌, ◌≤◌, ◌+◌, [], length, vec_capacity};
+ghost use Rattle.std.specs.Prelude.{◌≡◌, ◌≤◌, ◌<◌, ◌+◌, [], length, vec_capacity};
 ghost use Rattle.log_disk.specs.Disk.{IsTorn, IsSettled};
 ghost use Rattle.log_disk.specs.History.{Images};
 ghost use Rattle.log_disk.specs.MemoryDisks.{file_of, ImagesOf, total_len, recorded};
@@ -15,12 +15,13 @@ struct Digits {
 impl Digits {
     /// The next digit, from 0 to `most`. After the last one each is 0.
     fn up_to(&mut self, most: usize) -> usize
+        requires { most < usize.MAX }
         ensures { result ≤ most }
     {
-        let base = (most as u64).saturating_add(1);
+        let base = most as u64 + 1;
         let digit = self.left % base;
         self.left /= base;
-        (digit as usize).min(most)
+        digit as usize
     }
 }
 

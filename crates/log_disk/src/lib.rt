@@ -6,6 +6,7 @@
 mod crash;
 mod disk;
 mod fault;
+mod file_disk;
 mod memory_disk;
 mod memory_sink;
 mod memory_source;
@@ -16,6 +17,7 @@ mod step;
 
 pub use disk::LogDisk;
 pub use fault::Failed;
+pub use file_disk::FileDisk;
 pub use memory_disk::{MemoryDisk, RECORD};
 pub use memory_sink::MemorySink;
 pub use memory_source::MemorySource;

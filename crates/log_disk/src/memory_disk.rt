@@ -59,6 +59,8 @@ impl MemoryDisk {
         room: usize,
         failing: &[u64],
     ) -> Result<MemoryDisk, NoMemory>
+        ensures settled { IfOk result (λ disk. IsSettled bytes.now (ImagesOf disk)) }
+        ensures reads { IfOk result (λ disk. file_of disk ≡ bytes.now) }
         ensures start { IfOk result (λ disk. disk.start ≡ bytes.now) }
         ensures history { IfOk result (λ disk. disk.history ≡ []) }
         ensures room { IfOk result (λ disk. disk.room ≡ room) }

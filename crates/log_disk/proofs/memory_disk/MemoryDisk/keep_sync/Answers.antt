@@ -1,7 +1,6 @@
-use Rattle.std.proofs.Common.{rules, ◌≡◌, ◌∷◌, [], ◌++◌, length, arith, ◌+◌}
+use Rattle.std.proofs.Common.{rules, ◌≡◌, ◌∷◌, []}
 use Rattle.log_disk.specs.History.Event.{Synced}
 use Rattle.log_disk.specs.MemoryDisks.{recorded}
-use Rattle.log_disk.specs.declared.step.Step.TheVariants.{Sync}
 use Rattle.log_disk.proofs.Recorded.{IsRecord-sync, recorded-sync, state-more}
 use Rattle.log_disk.proofs.memory_disk.MemoryDisk.keep_sync.Goals as goal
 

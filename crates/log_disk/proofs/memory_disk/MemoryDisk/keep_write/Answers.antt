@@ -1,7 +1,6 @@
 use Rattle.std.proofs.Common.{rules, ◌≡◌, if◌then◌else◌, ◌∷◌, [], ◌++◌, length, ◌+◌}
 use Rattle.log_disk.specs.History.Event.{Wrote}
 use Rattle.log_disk.specs.MemoryDisks.{recorded}
-use Rattle.log_disk.specs.declared.step.Step.TheVariants.{Write}
 use Rattle.log_disk.proofs.Recorded.{IsRecord-write, recorded-write, state-more}
 use Rattle.log_disk.proofs.memory_disk.MemoryDisk.keep_write.Goals as goal
 
