@@ -159,3 +159,39 @@ fn sync_of(file: &Option<File>) -> Option<()> {
         None => None,
     }
 }
+
+#[cfg(test)]
+mod tests {
+    use super::*;
+    use std::fs;
+    use std::test::Fail;
+
+    #[test]
+    fn keeps_a_real_file(rt: HostRuntime) -> Result<(), Fail> {
+        let Ok(name) = Word::make(rt.alloc(), "file_disk_test.log") else {
+            return Err(Fail::new("no memory"));
+        };
+        let _ = fs::remove_file(&rt, name.text());
+        let mut disk = FileDisk::make(rt);
+        assert_eq!(rt; disk.len(), Err(Failed));
+        assert_eq!(rt; disk.attach(&name, false), Err(Failed));
+        assert_eq!(rt; disk.faults(), 2);
+
+        assert_eq!(rt; disk.attach(&name, true), Ok(()));
+        assert_eq!(rt; disk.write_at(0, b"abc"), Ok(()));
+        assert_eq!(rt; disk.write_at(2, b"XYZ"), Ok(()));
+        assert_eq!(rt; disk.sync(), Ok(()));
+
+        let mut again = FileDisk::make(rt);
+        assert_eq!(rt; again.attach(&name, true), Ok(()));
+        assert_eq!(rt; again.len(), Ok(5));
+        let mut buf = [0; 4];
+        assert_eq!(rt; again.read_at(1, &mut buf), Ok(4));
+        assert_eq!(rt; &buf, b"bXYZ");
+        assert_eq!(rt; again.read_at(5, &mut buf), Ok(0));
+        assert_eq!(rt; disk.faults(), 2);
+        assert_eq!(rt; again.faults(), 0);
+        assert!(rt; fs::remove_file(&rt, name.text()).is_ok());
+        Ok(())
+    }
+}
