@@ -3,7 +3,8 @@ ghost use Rattle.log_disk.specs.Disk.{IsTorn, IsSettled};
 ghost use Rattle.log_disk.specs.History.{Images};
 ghost use Rattle.log_disk.specs.MemoryDisks.{file_of, ImagesOf, total_len, recorded};
 
-use crate::memory_disk::{MemoryDisk, place};
+use crate::contents::{copy_over, place};
+use crate::memory_disk::MemoryDisk;
 use crate::step::Step;
 
 /// A number that is used up digit by digit, each with a base of its own.
@@ -43,30 +44,30 @@ impl MemoryDisk {
         ensures faults { result.faults ≡ self.faults }
     {
         let MemoryDisk {
-            mut first,
+            mut start,
             mut held,
             mut steps,
             mut log,
-            left,
-            refused,
-            call_count,
-            writes,
-            fault_count,
+            room,
+            failing,
+            calls,
+            written_count,
+            faults,
         } = self;
-        replay(&mut first, &mut held, &steps, &log, pick);
-        copy_over(&mut held, &first);
+        replay(&mut start, &mut held, &steps, &log, pick);
+        copy_over(&mut held, &start);
         steps.clear();
         log.clear();
         MemoryDisk {
-            first,
+            start,
             held,
             steps,
             log,
-            left,
-            refused,
-            call_count,
-            writes,
-            fault_count,
+            room,
+            failing,
+            calls,
+            written_count,
+            faults,
         }
     }
 }
@@ -129,16 +130,6 @@ fn overwrite(image: &mut Vec<u8>, at: usize, count: usize, byte: u8)
     'places: for place in at..at + count {
         image[place] = byte;
     }
-}
-
-/// Makes a file the same as another.
-fn copy_over(to: &mut Vec<u8>, from: &Vec<u8>)
-    requires { length from.now.items ≤ vec_capacity to.old }
-    ensures same { to.new.items ≡ from.now.items }
-    ensures capacity { vec_capacity to.old ≤ vec_capacity to.new }
-{
-    to.clear();
-    to.extend_from_slice(from.as_slice()).unwrap();
 }
 
 #[cfg(test)]

@@ -14,33 +14,33 @@ use std::os::unix::fs::FileExt;
 pub struct FileDisk<R: Files<File = File> + Drop> {
     rt: R,
     file: Option<File>,
-    fault_count: u64,
+    faults: u64,
 }
 
 impl<R: Files<File = File> + Drop> FileDisk<R> {
     /// No file yet: until `attach` each other call is a fault.
     pub fn make(rt: R) -> Self
-        ensures { result.fault_count ≡ 0 }
+        ensures { result.faults ≡ 0 }
     {
         FileDisk {
             rt,
             file: None,
-            fault_count: 0,
+            faults: 0,
         }
     }
 
     /// How often a call has failed.
     pub fn faults(&self) -> u64
-        ensures { result ≡ self.now.fault_count }
+        ensures { result ≡ self.now.faults }
     {
-        self.fault_count
+        self.faults
     }
 
     fn fail(&mut self) -> Failed
-        ensures later { self.old.fault_count ≤ self.new.fault_count }
-        ensures rose { Rose self.old.fault_count self.new.fault_count }
+        ensures later { self.old.faults ≤ self.new.faults }
+        ensures rose { Rose self.old.faults self.new.faults }
     {
-        self.fault_count = self.fault_count.saturating_add(1);
+        self.faults = self.faults.saturating_add(1);
         Failed
     }
 }
@@ -60,7 +60,7 @@ impl<R: Files<File = File> + Drop> LogDisk for FileDisk<R> {
 
     ghost written_count = { λ _. 0 };
 
-    ghost faults = { λ disk. disk.fault_count };
+    ghost faults = { λ disk. disk.faults };
 
     ghost read_is_image = { λ _ _. tt };
 

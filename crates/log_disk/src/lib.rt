@@ -3,6 +3,7 @@
 //! memory, of which all is known, and one over the system, which tells nothing of its bytes.
 #![tactic(auto)]
 
+mod contents;
 mod crash;
 mod disk;
 mod fault;

@@ -4,6 +4,7 @@ ghost use Rattle.log_disk.specs.Faults.{HasCause, raised};
 ghost use Rattle.log_disk.specs.History.Event.{Wrote, Synced};
 ghost use Rattle.log_disk.specs.MemoryDisks.{file_of, ImagesOf, ImagesSinceOf, moment_of, written_count_of, CallFails, CountsCall};
 
+use crate::contents::{copy_from, place};
 use crate::step::Step;
 use crate::{Failed, LogDisk};
 use lsn_space::{NoMemory, Word};
@@ -16,15 +17,15 @@ pub const RECORD: usize = 16;
 /// A disk in memory, which keeps what was done to it, so that `crash` can leave any of its images.
 #[derive(Drop)]
 pub struct MemoryDisk {
-    pub(crate) first: Vec<u8>,
+    pub(crate) start: Vec<u8>,
     pub(crate) held: Vec<u8>,
     pub(crate) steps: Vec<Step>,
     pub(crate) log: Vec<u8>,
-    pub(crate) left: usize,
-    pub(crate) refused: Vec<u64>,
-    pub(crate) call_count: u64,
-    pub(crate) writes: u64,
-    pub(crate) fault_count: u64,
+    pub(crate) room: usize,
+    pub(crate) failing: Vec<u64>,
+    pub(crate) calls: u64,
+    pub(crate) written_count: u64,
+    pub(crate) faults: u64,
 }
 
 impl Model for MemoryDisk {
@@ -34,20 +35,20 @@ impl Model for MemoryDisk {
     ghost Value = { DiskState };
 
     ghost view = { λ d. record {
-      start = d.first.items;
+      start = d.start.items;
       history = recorded d.steps.items d.log.items [];
-      room = d.left;
-      failing = d.refused.items;
-      calls = d.call_count;
-      written_count = d.writes;
-      faults = d.fault_count;
+      room = d.room;
+      failing = d.failing.items;
+      calls = d.calls;
+      written_count = d.written_count;
+      faults = d.faults;
     } };
 
-    ghost invariant = { λ d. IsRecord d.first.items d.held.items d.log.items d.steps.items d.left d.writes
-        × (length d.first.items + length d.log.items + d.left ≤ vec_capacity d.first)
-        × (length d.first.items + length d.log.items + d.left ≤ vec_capacity d.held)
-        × (length d.log.items + d.left ≤ vec_capacity d.log)
-        × (16 * length d.steps.items + d.left ≤ 16 * vec_capacity d.steps) };
+    ghost invariant = { λ d. IsRecord d.start.items d.held.items d.log.items d.steps.items d.room d.written_count
+        × (length d.start.items + length d.log.items + d.room ≤ vec_capacity d.start)
+        × (length d.start.items + length d.log.items + d.room ≤ vec_capacity d.held)
+        × (length d.log.items + d.room ≤ vec_capacity d.log)
+        × (16 * length d.steps.items + d.room ≤ 16 * vec_capacity d.steps) };
 }
 
 impl MemoryDisk {
@@ -72,23 +73,23 @@ impl MemoryDisk {
         let Some(most) = bytes.len().checked_add(room) else {
             return Err(NoMemory);
         };
-        let mut first = Vec::with_capacity(alloc, most).map_err(|_| NoMemory)?;
-        first.extend_from_slice(bytes).unwrap();
+        let mut start = Vec::with_capacity(alloc, most).map_err(|_| NoMemory)?;
+        start.extend_from_slice(bytes).unwrap();
         let mut held = Vec::with_capacity(alloc, most).map_err(|_| NoMemory)?;
         held.extend_from_slice(bytes).unwrap();
         let steps = Vec::with_capacity(alloc, room / RECORD + 1).map_err(|_| NoMemory)?;
         let log = Vec::with_capacity(alloc, room).map_err(|_| NoMemory)?;
-        let refused = Vec::from_slice(alloc, failing).map_err(|_| NoMemory)?;
+        let failing = Vec::from_slice(alloc, failing).map_err(|_| NoMemory)?;
         Ok(MemoryDisk {
-            first,
+            start,
             held,
             steps,
             log,
-            left: room,
-            refused,
-            call_count: 0,
-            writes: 0,
-            fault_count: 0,
+            room,
+            failing,
+            calls: 0,
+            written_count: 0,
+            faults: 0,
         })
     }
 
@@ -108,9 +109,9 @@ impl MemoryDisk {
           faults = if is_ok result then self.old.faults else raised self.old.faults;
         } }
     {
-        self.call_count = self.call_count.saturating_add(1);
-        if self.left < cost || self.refused.contains(&self.call_count) {
-            self.fault_count = self.fault_count.saturating_add(1);
+        self.calls = self.calls.saturating_add(1);
+        if self.room < cost || self.failing.contains(&self.calls) {
+            self.faults = self.faults.saturating_add(1);
             return Err(Failed);
         }
         Ok(())
@@ -129,8 +130,8 @@ impl MemoryDisk {
         place(&mut self.held, at, bytes);
         self.log.extend_from_slice(bytes).unwrap();
         self.steps.push_reserved(Step::Write { at, len });
-        self.left -= RECORD + len;
-        self.writes += u64::from(succeeds);
+        self.room -= RECORD + len;
+        self.written_count += u64::from(succeeds);
     }
 
     fn keep_sync(&mut self)
@@ -142,8 +143,8 @@ impl MemoryDisk {
         } }
     {
         self.steps.push_reserved(Step::Sync);
-        self.left -= RECORD;
-        self.writes += 1;
+        self.room -= RECORD;
+        self.written_count += 1;
     }
 }
 
@@ -239,7 +240,7 @@ impl LogDisk for MemoryDisk {
                 Ok(())
             }
             Err(failed) => {
-                if cost <= self.left {
+                if cost <= self.room {
                     let half = bytes.split_at(bytes.len().div_ceil(2)).0;
                     self.keep_write(at as usize, half, false);
                 }
@@ -265,32 +266,6 @@ impl LogDisk for MemoryDisk {
         self.keep_sync();
         Ok(())
     }
-}
-
-/// Puts bytes at an offset, or at the end where that comes before it.
-pub(crate) fn place(file: &mut Vec<u8>, at: usize, bytes: &[u8])
-    requires { length file.old.items + length bytes.now ≤ vec_capacity file.old }
-    ensures put { file.new.items ≡ put at bytes.now file.old.items }
-    ensures length { length file.new.items ≤ length file.old.items + length bytes.now }
-    ensures capacity { vec_capacity file.old ≤ vec_capacity file.new }
-{
-    if at.saturating_add(bytes.len()) <= file.len() {
-        file[at..at + bytes.len()].copy_from_slice(bytes);
-    } else {
-        file.truncate(at);
-        file.extend_from_slice(bytes).unwrap();
-    }
-}
-
-/// Copies from an offset on into the front of the buffer, and tells how many bytes.
-fn copy_from(file: &[u8], at: usize, buf: &mut [u8]) -> usize
-    ensures count { result ≡ min (length buf.old) (length file.now - at) }
-    ensures bytes { take result buf.new ≡ take result (drop at file.now) }
-{
-    let rest = file.split_at(at.min(file.len())).1;
-    let count = rest.len().min(buf.len());
-    buf[..count].copy_from_slice(rest.split_at(count).0);
-    count
 }
 
 #[cfg(test)]
