@@ -1,13 +1,13 @@
 -- Units and the bytes that they stand for.
-use Rattle.std.proofs.Common.{rules, ◌≡◌, ◌∙◌, ◌+◌, ◌-◌, ◌*◌, ◌/◌, ◌<◌, ◌≤◌, ◌^◌, ℕ, zero, suc, List, [], ◌∷◌, ◌++◌, length, take, drop, get_or, map, replicate, All, refl, sym, ap, subst, arith, lit<, length-append, length-drop}
-use Rattle.std.proofs.lemmas.List.{length-replicate, length-take-le, take-append-drop, take_all, take-replicate, drop-replicate}
+use Rattle.std.proofs.Common.{◌≡◌, ◌∙◌, ◌+◌, ◌-◌, ◌*◌, ◌/◌, ◌<◌, ◌≤◌, ◌^◌, ℕ, zero, suc, List, [], ◌∷◌, ◌++◌, length, take, drop, get_or, map, replicate, All, refl, sym, ap, arith, lit<, length-append, length-drop}
+use Rattle.std.proofs.lemmas.List.{length-replicate, length-take-le, take-append-drop, take-replicate}
 use Rattle.std.proofs.lemmas.List.Elements.{All-append, All-take, All-drop, All-replicate}
 use Rattle.std.proofs.lemmas.Nat.{be_bytes_8, from_be_bytes-to_be_bytes_8}
 use Rattle.std.proofs.Math.Seq.{take-append_seam, drop-append_seam, take-append-add}
 use Rattle.std.specs.List.{flat_map}
 use Rattle.std.specs.Simd.{first_chunks}
 use Rattle.lsn_space.specs.Unit.{unit_value, unit_bytes}
-use Rattle.log_record.specs.Spelling.{units_for, units_from, padded, text_units, IsPrintable, IsNoteText}
+use Rattle.log_record.specs.Spelling.{units_for, units_from, padded, text_units, IsPrintable}
 
 abbrev pub IsByte : ℕ → Type 0
 IsByte byte = byte < 256
@@ -32,7 +32,7 @@ unit_bytes-units_from (suc n) bytes len small =
     let first : length (take 8 bytes) ≡ 8 = length-take-le 8 bytes (omega arith) in
     let rest : length (drop 8 bytes) ≡ 8 * n = omega (arith, length-drop 8 bytes) in
     let front : unit_bytes (unit_value (take 8 bytes)) ≡ take 8 bytes =
-        be_bytes_8 (take 8 bytes) _ first (small_at (take 8 bytes) (All-take IsByte 8 bytes small)) refl in
+    be_bytes_8 (take 8 bytes) _ first (small_at (take 8 bytes) (All-take IsByte 8 bytes small)) refl in
     ap (λ xs. xs ++ flat_map unit_bytes (units_from n (drop 8 bytes))) front
     ∙ ap (λ ys. take 8 bytes ++ ys) (unit_bytes-units_from n (drop 8 bytes) rest (All-drop IsByte 8 bytes small))
     ∙ take-append-drop 8 bytes
@@ -93,6 +93,6 @@ pub text_units-front : (units text padding : List ℕ) → All (λ unit. unit < 
 text_units-front units text padding below count is len zeros =
     let rest : length padding ≡ 8 * units_for (length text) - length text = omega (arith, ap length is, length-append text padding) in
     let whole : flat_map unit_bytes units ≡ padded text =
-        is ∙ ap (λ xs. text ++ xs) (all_zero padding zeros) ∙ ap (λ n. text ++ replicate n 0) rest in
+    is ∙ ap (λ xs. text ++ xs) (all_zero padding zeros) ∙ ap (λ n. text ++ replicate n 0) rest in
     sym (units_from-unit_bytes units below) ∙ ap (λ n. units_from n (flat_map unit_bytes units)) count
     ∙ ap (units_from (units_for (length text))) whole

@@ -2,10 +2,15 @@ ghost use Rattle.std.specs.Prelude.{◌≡◌};
 ghost use Rattle.log_record.specs.Spelling.{header};
 
 pub const GENESIS: u8 = 1;
+
 pub const UPDATE: u8 = 2;
+
 pub const COMMIT: u8 = 3;
+
 pub const SHORT: u8 = 4;
+
 pub const OVER: u8 = 5;
+
 pub const NOTE: u8 = 6;
 
 /// The first unit of a record, in its four parts.

@@ -7,8 +7,10 @@ mod reading;
 mod rec;
 mod text;
 mod units;
+mod writing;
 
 pub use reading::{BadRec, read};
 pub use rec::{Entry, Rec};
-pub use text::Text;
-pub use units::Units;
+pub use text::{LONGEST_NOTE, Text};
+pub use units::{MOST_UNITS, Units};
+pub use writing::spell;

@@ -1,10 +1,10 @@
 //! A record's units, read. The header says how many they are and of which kind.
 
-ghost use Rattle.std.specs.Prelude.{◌≡◌, ◌↔◌, ◌+◌, [], length, IsTrue, IfOk, OnErr};
+ghost use Rattle.std.specs.Prelude.{◌≡◌, ◌↔◌, ◌+◌, ℕ, List, [], ◌∷◌, ◌++◌, length, IsTrue, IfOk, OnErr, IfSome, IfNone};
 ghost use Rattle.log_record.specs.declared.rec.Rec.{Rec};
 ghost use Rattle.log_record.specs.Spelling.{spelling, IsTxn, IsLeg, BeginsWith};
 ghost use Rattle.log_record.specs.declared.header.TheConstants.{COMMIT, GENESIS, NOTE, OVER, SHORT, UPDATE};
-ghost use Rattle.log_record.specs.Reading.{Spells};
+ghost use Rattle.log_record.specs.Reading.{header_unit, Spells};
 
 use crate::header::{COMMIT, GENESIS, Header, NOTE, OVER, SHORT, UPDATE};
 use crate::note::{note_units, read_text};
@@ -21,16 +21,24 @@ pub fn read(units: &[u64]) -> Result<(Rec, usize), BadRec>
     ensures found { IfOk result (λ r. BeginsWith units.now r.0 × (r.1 ≡ length (spelling r.0))) }
     ensures bad { OnErr result ((r : Rec) → BeginsWith units.now r → ⊥) }
 {
-    let Some((first, rest)) = units.split_first() else {
+    let Some((header, body)) = split(units) else {
         return Err(BadRec);
     };
+    let rec = read_whole(header, body)?;
+    Ok((rec, 1 + body.len()))
+}
+
+/// The header that the units begin with, and the further units that it counts.
+fn split(units: &[u64]) -> Option<(Header, &[u64])>
+    ensures count { IfSome result (λ s. s.0.units ≡ 1 + length s.1.now) }
+    ensures front { IfSome result (λ s. (rest : List ℕ) × (units.now ≡ header_unit s.0 ∷ s.1.now ++ rest)) }
+    ensures cut { IfNone result ((r : Rec) → BeginsWith units.now r → ⊥) }
+{
+    let (first, rest) = units.split_first()?;
     let header = Header::of(*first);
-    let count = header.units as usize;
-    if count == 0 || rest.len() < count - 1 {
-        return Err(BadRec);
-    }
-    let rec = read_whole(header, &rest[..count - 1])?;
-    Ok((rec, count))
+    let count = (header.units as usize).checked_sub(1)?;
+    let (body, _) = rest.split_at_checked(count)?;
+    Some((header, body))
 }
 
 /// The record of these units.

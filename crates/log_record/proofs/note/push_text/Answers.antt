@@ -1,4 +1,4 @@
-use Rattle.std.proofs.Common.{rules, ◌≡◌, ◌∙◌, ◌*◌, ◌++◌, ap, ap₂, take, map, length, arith}
+use Rattle.std.proofs.Common.{◌∙◌, ◌*◌, ◌++◌, ap, ap₂, take, map}
 use Rattle.std.proofs.lemmas.List.{take_all}
 use Rattle.lsn_space.specs.Unit.{unit_value}
 use Rattle.log_record.proofs.TextLemmas.{text_units-first_chunks}

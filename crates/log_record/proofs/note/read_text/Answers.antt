@@ -1,4 +1,4 @@
-use Rattle.std.proofs.Common.{rules, ◌≡◌, ◌∙◌, ◌*◌, ◌≤◌, ◌<◌, ◌^◌, ◌++◌, sym, ap, subst, All, length, take, drop, arith}
+use Rattle.std.proofs.Common.{rules, ◌≡◌, ◌<◌, ◌^◌, ◌++◌, ap, All, length, take, drop, arith}
 use Rattle.std.proofs.lemmas.List.{take-append-drop}
 use Rattle.std.proofs.lemmas.List.Elements.{All-from_get_or}
 use Rattle.std.specs.List.{flat_map}
@@ -23,6 +23,6 @@ returns-else-is_printable-clause-bad c = λ text is len units.
     let same : c.split_at.result.0.now ≡ text = cc in
     let zeros : c.split_at.result.1.now ≡ drop (length text) (flat_map unit_bytes c.args.units.now) = cc in
     elim c.else-is_printable.branch [
-      else-is_printable-via-then-is_printable+else-is_zero w ↦ let all : All (λ byte. byte ≡ 0) c.split_at.result.1.now = rw zeros front.1 in search rules
-    | else-is_printable-via-else-is_printable w ↦ let all : All IsPrintable c.split_at.result.0.now = rw same is.2 in search rules
+      | else-is_printable-via-then-is_printable+else-is_zero w ↦ let all : All (λ byte. byte ≡ 0) c.split_at.result.1.now = rw zeros front.1 in search rules
+      | else-is_printable-via-else-is_printable w ↦ let all : All IsPrintable c.split_at.result.0.now = rw same is.2 in search rules
     ]
