@@ -1,2 +1,4 @@
+pub mod BoundLemmas
 pub mod Fronts
+pub mod SpellingLemmas
 pub mod TextLemmas

@@ -12,7 +12,7 @@ use Rattle.log_record.specs.Spelling.{units_for, units_from, padded, text_units,
 abbrev pub IsByte : ℕ → Type 0
 IsByte byte = byte < 256
 
-small_at : (bytes : List ℕ) → All IsByte bytes → (i : ℕ) → get_or bytes i 0 < 256
+pub small_at : (bytes : List ℕ) → All IsByte bytes → (i : ℕ) → get_or bytes i 0 < 256
 small_at [] small i = lit< tt
 small_at (b ∷ bytes) small zero = small 0 0 (omega arith)
 small_at (b ∷ bytes) small (suc i) = small_at bytes (All-drop IsByte 1 (b ∷ bytes) small) i
@@ -70,11 +70,13 @@ text_units-first_chunks text bytes chunks short front cut =
     ap (map unit_value) cut ∙ map-first_chunks (length bytes / 8) bytes
     ∙ ap (λ n. units_from n bytes) count ∙ ap (units_from (units_for (length text))) same
 
+pub padded-bytes : (text : List ℕ) → All IsPrintable text → All IsByte (padded text)
+padded-bytes text printable = All-append IsByte text _ (λ k d lt. omega (arith, printable k d lt)) (All-replicate IsByte _ 0 (lit< tt))
+
 -- the bytes of a text's units
 pub unit_bytes-text_units : (text : List ℕ) → All IsPrintable text → flat_map unit_bytes (text_units text) ≡ padded text
 unit_bytes-text_units text printable =
-    unit_bytes-units_from (units_for (length text)) (padded text) (length-padded text)
-    (All-append IsByte text _ (λ k d lt. omega (arith, printable k d lt)) (All-replicate IsByte _ 0 (lit< tt)))
+    unit_bytes-units_from (units_for (length text)) (padded text) (length-padded text) (padded-bytes text printable)
 
 -- a text is the front of its units' bytes, and zeros follow
 pub text-front : (units text : List ℕ) → All IsPrintable text → units ≡ text_units text

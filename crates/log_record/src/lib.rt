@@ -2,6 +2,7 @@
 #![tactic(auto)]
 
 mod header;
+mod laws;
 mod note;
 mod reading;
 mod rec;
@@ -9,6 +10,7 @@ mod text;
 mod units;
 mod writing;
 
+pub use laws::{one_spelling, spelling_bounds};
 pub use reading::{BadRec, read};
 pub use rec::{Entry, Rec};
 pub use text::{LONGEST_NOTE, Text};

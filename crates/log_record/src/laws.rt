@@ -1,0 +1,21 @@
+//! Laws of the definitions. The functions do nothing.
+
+ghost use Rattle.std.specs.Prelude.{◌≡◌, ◌<◌, ◌≤◌, ◌^◌, ◌++◌, ℕ, List, length, All};
+ghost use Rattle.log_record.specs.declared.rec.Rec.{Rec};
+ghost use Rattle.log_record.specs.LogList.{units_of};
+ghost use Rattle.log_record.specs.Spelling.{spelling, IsSpellable, BeginsWith};
+
+/// A law: no spelling is a front of another, and each record has one. So what was spelled is read
+/// back whatever follows it, and units determine the list of records that they spell.
+pub fn one_spelling()
+    ensures front { (r s : Rec) (x y : List ℕ) → IsSpellable r → IsSpellable s → spelling r ++ x ≡ spelling s ++ y → (r ≡ s) × (x ≡ y) }
+    ensures back { (r s : Rec) (x : List ℕ) → IsSpellable r → BeginsWith (spelling r ++ x) s → s ≡ r }
+    ensures list { (L M : List Rec) → All IsSpellable L → All IsSpellable M → units_of L ≡ units_of M → L ≡ M }
+{}
+
+/// A law: a spelling has 1 to 26 units, each of 64 bits.
+pub fn spelling_bounds()
+    ensures some { (r : Rec) → 1 ≤ length (spelling r) }
+    ensures short { (r : Rec) → IsSpellable r → length (spelling r) ≤ 26 }
+    ensures fits { (r : Rec) → IsSpellable r → All (λ unit. unit < 2 ^ 64) (spelling r) }
+{}
