@@ -10,7 +10,7 @@ mod text;
 mod units;
 mod writing;
 
-pub use laws::{one_spelling, spelling_bounds};
+pub use laws::{log_list_laws, one_spelling, spelling_bounds};
 pub use reading::{BadRec, read};
 pub use rec::{Entry, Rec};
 pub use text::{LONGEST_NOTE, Text};
