@@ -1,16 +1,16 @@
 -- Each record has one spelling, and no spelling is a front of another.
-use Rattle.std.proofs.Common.{rules, ◌≡◌, ◌∙◌, ◌+◌, ◌*◌, ◌<◌, ◌≤◌, ◌^◌, ℕ, zero, suc, ℤ, List, [], ◌∷◌, ◌++◌, length, take, drop, All, refl, sym, ap, ap₂, arith, length-append}
+use Rattle.std.proofs.Common.{rules, ◌≡◌, ◌∙◌, ◌+◌, ◌*◌, ◌^◌, ℕ, ℤ, List, [], ◌∷◌, ◌++◌, length, take, drop, All, refl, sym, ap, ap₂, arith, length-append}
 use Rattle.std.specs.Int.{w32, cast_unsigned, cast_signed}
 use Rattle.std.specs.List.{flat_map}
-use Rattle.std.proofs.lemmas.Int.{ints, to_z-of_z}
+use Rattle.std.proofs.lemmas.Int.{to_z-of_z}
 use Rattle.std.proofs.lemmas.List.Elements.{All-drop}
 use Rattle.std.proofs.Math.Seq.{take-append_seam, drop-append_seam}
 use Rattle.lsn_space.specs.Unit.{unit_bytes}
 use Rattle.log_record.specs.declared.rec.Rec.{Rec}
 use Rattle.log_record.specs.declared.rec.Rec.TheVariants.{Genesis, Update, Commit, Short, Over, Note}
 use Rattle.log_record.specs.LogList.{units_of}
-use Rattle.log_record.specs.Spelling.{header, spelling, text_units, IsDelta, IsNoteText, IsSpellable, BeginsWith}
-use Rattle.log_record.proofs.Fronts.{Parts, parts_of, parts_of-fit, parts_of-front, first_unit, spelling-parts_of, header-injective}
+use Rattle.log_record.specs.Spelling.{spelling, text_units, IsDelta, IsNoteText, IsSpellable}
+use Rattle.log_record.proofs.Fronts.{parts_of, parts_of-fit, parts_of-front, first_unit, spelling-parts_of, header-injective}
 use Rattle.log_record.proofs.TextLemmas.{text-front}
 
 -- parts whose first units are the same are the same but for their bodies
@@ -19,7 +19,7 @@ first_unit-injective : (r s : Rec) → IsSpellable r → IsSpellable s → first
 first_unit-injective r s r_ok s_ok same =
     let p = parts_of r in let q = parts_of s in let fits = parts_of-fit r r_ok in let holds = parts_of-fit s s_ok in
     let parts = header-injective p.kind (1 + length p.body) p.field p.txn q.kind (1 + length q.body) q.field q.txn
-        (omega (arith, fits.count)) (omega (arith, holds.count)) fits.field holds.field fits.txn holds.txn same in
+    (omega (arith, fits.count)) (omega (arith, holds.count)) fits.field holds.field fits.txn holds.txn same in
     (parts.2, parts.3)
 
 cast_unsigned-injective : (d e : ℤ) → IsDelta d → IsDelta e → cast_unsigned w32 d ≡ cast_unsigned w32 e → d ≡ e
@@ -59,7 +59,7 @@ spelling-append-injective r s x y r_ok s_ok same =
     let q = parts_of s in let fits = parts_of-fit s s_ok in
     let front : first_unit q ∷ q.body ++ y ≡ spelling r ++ x = ap (λ units. units ++ y) (sym (spelling-parts_of s)) ∙ sym same in
     let found = parts_of-front r q.kind (1 + length q.body) q.field q.txn (first_unit q) (q.body ++ y) x r_ok
-        (omega (arith, fits.count)) fits.field fits.txn refl front in
+    (omega (arith, fits.count)) fits.field fits.txn refl front in
     let len : length (spelling r) ≡ length (spelling s) = omega (arith, ap length (spelling-parts_of s)) in
     let split = append-injective (spelling r) x (spelling s) y len same in
     let whole : first_unit (parts_of r) ∷ (parts_of r).body ≡ first_unit q ∷ q.body = sym (spelling-parts_of r) ∙ split.0 ∙ spelling-parts_of s in
