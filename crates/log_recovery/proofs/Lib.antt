@@ -1,5 +1,7 @@
 pub mod Conserving
 pub mod Fronts
+pub mod KindLemmas
+pub mod ListLemmas
 pub mod Meeting
 pub mod OneMore
 pub mod OwnLemmas

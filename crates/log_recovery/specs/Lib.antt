@@ -1,5 +1,6 @@
 pub mod Faults
 pub mod History
+pub mod Judging
 pub mod Lawful
 pub mod Plain
 pub mod Records

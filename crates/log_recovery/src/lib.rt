@@ -3,6 +3,7 @@
 #![tactic(auto)]
 
 
+mod kinds;
 mod laws;
 mod own;
 mod reason;
