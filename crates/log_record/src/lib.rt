@@ -1,8 +1,18 @@
 //! Records of the log, and how they are spelled in units.
 #![tactic(auto)]
 
+mod header;
+mod laws;
+mod note;
+mod reading;
 mod rec;
 mod text;
+mod units;
+mod writing;
 
+pub use laws::{log_list_laws, one_spelling, spelling_bounds};
+pub use reading::{BadRec, read};
 pub use rec::{Entry, Rec};
-pub use text::Text;
+pub use text::{LONGEST_NOTE, Text};
+pub use units::{MOST_UNITS, Units};
+pub use writing::spell;

@@ -30,6 +30,15 @@ impl Text {
         }
     }
 
+    pub fn from_bytes(bytes: &[u8]) -> Text
+        requires { length bytes.now ≤ LONGEST_NOTE }
+        ensures { result ≡ bytes.now }
+    {
+        let mut text = ArrayVec::new();
+        text.try_extend_from_slice(bytes).unwrap();
+        Text { bytes: text }
+    }
+
     pub fn push(&mut self, byte: u8)
         requires { length self.old < LONGEST_NOTE }
         ensures { self.new ≡ self.old ++ byte ∷ [] }

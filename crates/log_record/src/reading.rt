@@ -1,0 +1,166 @@
+//! A record's units, read. The header says how many they are and of which kind.
+
+ghost use Rattle.std.specs.Prelude.{◌≡◌, ◌↔◌, ◌+◌, ℕ, List, [], ◌∷◌, ◌++◌, length, IsTrue, IfOk, OnErr, IfSome, IfNone};
+ghost use Rattle.log_record.specs.declared.rec.Rec.{Rec};
+ghost use Rattle.log_record.specs.Spelling.{spelling, IsTxn, IsLeg, BeginsWith};
+ghost use Rattle.log_record.specs.declared.header.TheConstants.{COMMIT, GENESIS, NOTE, OVER, SHORT, UPDATE};
+ghost use Rattle.log_record.specs.Reading.{header_unit, Spells};
+
+use crate::header::{COMMIT, GENESIS, Header, NOTE, OVER, SHORT, UPDATE};
+use crate::note::{note_units, read_text};
+use crate::rec::Rec;
+use crate::text::LONGEST_NOTE;
+use lsn_space::Lsn;
+
+/// The units begin with no record.
+#[derive(Clone, Copy, Debug, PartialEq, Eq)]
+pub struct BadRec;
+
+/// The record that the units begin with, and of how many units it is.
+pub fn read(units: &[u64]) -> Result<(Rec, usize), BadRec>
+    ensures found { IfOk result (λ r. BeginsWith units.now r.0 × (r.1 ≡ length (spelling r.0))) }
+    ensures bad { OnErr result ((r : Rec) → BeginsWith units.now r → ⊥) }
+{
+    let Some((header, body)) = split(units) else {
+        return Err(BadRec);
+    };
+    let rec = read_whole(header, body)?;
+    Ok((rec, 1 + body.len()))
+}
+
+/// The header that the units begin with, and the further units that it counts.
+fn split(units: &[u64]) -> Option<(Header, &[u64])>
+    ensures count { IfSome result (λ s. s.0.units ≡ 1 + length s.1.now) }
+    ensures front { IfSome result (λ s. (rest : List ℕ) × (units.now ≡ header_unit s.0 ∷ s.1.now ++ rest)) }
+    ensures cut { IfNone result ((r : Rec) → BeginsWith units.now r → ⊥) }
+{
+    let (first, rest) = units.split_first()?;
+    let header = Header::of(*first);
+    let count = (header.units as usize).checked_sub(1)?;
+    let (body, _) = rest.split_at_checked(count)?;
+    Some((header, body))
+}
+
+/// The record of these units.
+fn read_whole(header: Header, body: &[u64]) -> Result<Rec, BadRec>
+    requires { header.units ≡ 1 + length body.now }
+    ensures found { IfOk result (Spells header body.now) }
+    ensures bad { OnErr result ((r : Rec) → Spells header body.now r → ⊥) }
+{
+    match header.kind {
+        GENESIS => genesis(header, body),
+        UPDATE => update(header, body),
+        COMMIT => commit(header, body),
+        SHORT => short(header, body),
+        OVER => over(header, body),
+        NOTE => note(header, body),
+        _ => Err(BadRec),
+    }
+}
+
+fn genesis(header: Header, body: &[u64]) -> Result<Rec, BadRec>
+    requires kind { header.kind ≡ GENESIS }
+    requires count { header.units ≡ 1 + length body.now }
+    ensures found { IfOk result (Spells header body.now) }
+    ensures bad { OnErr result ((r : Rec) → Spells header body.now r → ⊥) }
+{
+    match body {
+        [balance] if header.txn == 0 && header.field < 4096 && *balance <= 0x7fff_ffff => {
+            Ok(Rec::Genesis {
+                account: header.field as u32,
+                balance: *balance as u32,
+            })
+        }
+        _ => Err(BadRec),
+    }
+}
+
+fn update(header: Header, body: &[u64]) -> Result<Rec, BadRec>
+    requires kind { header.kind ≡ UPDATE }
+    requires count { header.units ≡ 1 + length body.now }
+    ensures found { IfOk result (Spells header body.now) }
+    ensures bad { OnErr result ((r : Rec) → Spells header body.now r → ⊥) }
+{
+    let [unit] = body else {
+        return Err(BadRec);
+    };
+    let delta = ((*unit >> 32) as u32).cast_signed();
+    if header.txn == 0 || header.field >= 4096 || delta == 0 || delta == i32::MIN {
+        return Err(BadRec);
+    }
+    Ok(Rec::Update {
+        txn: header.txn,
+        account: header.field as u32,
+        delta,
+        prev: Lsn::new((*unit & 0xffff_ffff) as u32),
+    })
+}
+
+fn commit(header: Header, body: &[u64]) -> Result<Rec, BadRec>
+    requires kind { header.kind ≡ COMMIT }
+    requires count { header.units ≡ 1 + length body.now }
+    ensures found { IfOk result (Spells header body.now) }
+    ensures bad { OnErr result ((r : Rec) → Spells header body.now r → ⊥) }
+{
+    if !is_end(header, body) {
+        return Err(BadRec);
+    }
+    Ok(Rec::Commit {
+        txn: header.txn,
+        legs: header.field as u32,
+    })
+}
+
+fn short(header: Header, body: &[u64]) -> Result<Rec, BadRec>
+    requires kind { header.kind ≡ SHORT }
+    requires count { header.units ≡ 1 + length body.now }
+    ensures found { IfOk result (Spells header body.now) }
+    ensures bad { OnErr result ((r : Rec) → Spells header body.now r → ⊥) }
+{
+    if !is_end(header, body) {
+        return Err(BadRec);
+    }
+    Ok(Rec::Short {
+        txn: header.txn,
+        leg: header.field as u32,
+    })
+}
+
+fn over(header: Header, body: &[u64]) -> Result<Rec, BadRec>
+    requires kind { header.kind ≡ OVER }
+    requires count { header.units ≡ 1 + length body.now }
+    ensures found { IfOk result (Spells header body.now) }
+    ensures bad { OnErr result ((r : Rec) → Spells header body.now r → ⊥) }
+{
+    if !is_end(header, body) {
+        return Err(BadRec);
+    }
+    Ok(Rec::Over {
+        txn: header.txn,
+        leg: header.field as u32,
+    })
+}
+
+/// The header alone, of a transaction and with legs, or a leg, in its field.
+fn is_end(header: Header, body: &[u64]) -> bool
+    ensures { IsTrue result ↔ (IsTxn header.txn × IsLeg header.field × (body.now ≡ [])) }
+{
+    header.txn != 0 && matches!(header.field, 1..=8) && body.is_empty()
+}
+
+fn note(header: Header, body: &[u64]) -> Result<Rec, BadRec>
+    requires kind { header.kind ≡ NOTE }
+    requires count { header.units ≡ 1 + length body.now }
+    ensures found { IfOk result (Spells header body.now) }
+    ensures bad { OnErr result ((r : Rec) → Spells header body.now r → ⊥) }
+{
+    let len = header.field as usize;
+    if header.txn == 0 || len == 0 || len > LONGEST_NOTE || body.len() != note_units(len) {
+        return Err(BadRec);
+    }
+    let text = read_text(len, body)?;
+    Ok(Rec::Note {
+        txn: header.txn,
+        text,
+    })
+}
