@@ -1,0 +1,16 @@
+//! The log file: batches of units, each behind a gate byte. A batch counts where its gate is open.
+//! `scan` reads the units of a file's bytes by the grammar of `specs/File.antt`.
+#![tactic(auto)]
+
+mod batch;
+mod gate;
+mod layout;
+mod scan_result;
+mod scanning;
+#[cfg(test)]
+mod tests;
+mod units;
+
+pub use scan_result::{Scan, ScanFault, Tail};
+pub use scanning::{one_reading, scan};
+pub use units::LogUnits;
