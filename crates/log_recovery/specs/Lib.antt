@@ -2,8 +2,10 @@ pub mod Faults
 pub mod History
 pub mod Judging
 pub mod Lawful
+pub mod Listing
 pub mod Plain
 pub mod Records
+pub mod Recovery
 pub mod Settling
 pub mod Sums
 pub mod Tests

@@ -59,7 +59,7 @@ pub fn admit_genesis(accounts: &mut Balances, front: &[Entry], account: u32, bal
     requires account { IsAccount account }
     requires balance { IsBalance balance }
     ensures tests { (end : ℕ) → Judges (reverse front.now) (record { end = end; rec = Rec.Genesis account balance }) result }
-    ensures kept { OnOk result ((end : ℕ) → let h = record { end = end; rec = Rec.Genesis account balance } ∷ reverse front.now
+    ensures kept { (end : ℕ) → OnOk result (let h = record { end = end; rec = Rec.Genesis account balance } ∷ reverse front.now
         in (accounts.new.room ≡ MOST_ACCOUNTS) × KeepsRows accounts.new.rows (genesis_of h) h) }
 {
     if front.len() != accounts.count() as usize || account != accounts.count() {

@@ -3,8 +3,10 @@
 #![tactic(auto)]
 
 
+mod judging;
 mod kinds;
 mod laws;
+mod listing;
 mod own;
 mod reason;
 mod settling;
@@ -12,6 +14,8 @@ mod settling;
 mod update;
 
 
+pub use judging::{JudgeFault, judge};
 pub use laws::{balances_in_range, lawful_front, plain_words, sum_is_kept};
+pub use listing::{ListFault, records};
 pub use reason::Why;
 pub use update::Change;
