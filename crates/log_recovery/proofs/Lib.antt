@@ -1,3 +1,4 @@
+pub mod AnswerLemmas
 pub mod Conserving
 pub mod Fronts
 pub mod JudgingLemmas

@@ -9,6 +9,7 @@ mod laws;
 mod listing;
 mod own;
 mod reason;
+mod recovery;
 mod settling;
 
 mod update;
@@ -18,4 +19,5 @@ pub use judging::{JudgeFault, judge};
 pub use laws::{balances_in_range, lawful_front, plain_words, sum_is_kept};
 pub use listing::{ListFault, records};
 pub use reason::Why;
+pub use recovery::{RecoverFault, Recovered, one_answer, recover};
 pub use update::Change;

@@ -28,11 +28,11 @@ pub fn records(alloc: Global, units: &[u64]) -> Result<Vec<Entry>, ListFault>
             let lsn = Lsn::new((units.len() - rest.len()) as u32);
             return Err(ListFault::BadRec { lsn });
         };
-        rest = &rest[size..];
+        rest = rest.split_at(size).1;
         let end = Lsn::new((units.len() - rest.len()) as u32);
-        if entries.push(Entry { end, rec }).is_err() {
+        let Ok(()) = entries.push(Entry { end, rec }) else {
             return Err(ListFault::NoMemory);
-        }
+        };
     }
     Ok(entries)
 }
