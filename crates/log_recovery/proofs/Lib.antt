@@ -1,5 +1,10 @@
+pub mod AnswerLemmas
 pub mod Conserving
 pub mod Fronts
+pub mod JudgingLemmas
+pub mod KindLemmas
+pub mod ListLemmas
+pub mod ListingLemmas
 pub mod Meeting
 pub mod OneMore
 pub mod OwnLemmas

@@ -25,7 +25,7 @@ updates_of-longer n (entry ∷ later) h = let before = updates_of-longer n later
     (λ other. let equal = ap length (updates_of-other n entry (later ++ h) other) in omega arith)
 
 -- what stands behind this entry is part of the whole
-reverse-split : (entries : List Entry) (i : ℕ) (entry : Entry) → i < length entries → entry ≡ get_or entries i entry
+pub reverse-split : (entries : List Entry) (i : ℕ) (entry : Entry) → i < length entries → entry ≡ get_or entries i entry
     → reverse entries ≡ reverse (drop (i + 1) entries) ++ entry ∷ reverse (take i entries)
 reverse-split entries i entry inside is =
     ap reverse (sym (take-append-drop (i + 1) entries)) ∙ reverse-append (take (i + 1) entries) (drop (i + 1) entries)

@@ -1,10 +1,7 @@
 -- Where a list first goes wrong.
-use Rattle.std.specs.Prelude.{◌≡◌, ◌<◌, ℕ, List, [], ◌∷◌, ◌++◌, length}
+use Rattle.std.specs.Prelude.{◌≡◌, ℕ, List, [], ◌∷◌, ◌++◌}
 use Rattle.std.specs.List.{AllByRecursion}
-use Rattle.log_record.specs.declared.rec.Rec.{Rec}
 use Rattle.log_record.specs.declared.rec.Entry.{Entry}
-use Rattle.log_record.specs.LogList.{units_of, end_of}
-use Rattle.log_record.specs.Spelling.{IsSpellable, BeginsWith}
 use Rattle.log_recovery.specs.declared.reason.Why.{Why}
 use Rattle.log_recovery.specs.declared.reason.Why.TheVariants as why
 use Rattle.log_recovery.specs.History.{end_from}
@@ -35,18 +32,3 @@ pub record IsUnlawfulAt (h : List Entry) (lsn : ℕ) (test : Why) : Type 0 where
   pub lawful : IsLawful front
   pub place : lsn ≡ end_from 0 front
   pub first : IsFirstFailing (Passes front entry) test
-
--- these records are spelled by the units
-pub record IsListOf (units : List ℕ) (records : List Rec) : Type 0 where
-  pub each : AllByRecursion IsSpellable records
-  pub whole : units ≡ units_of records
-
--- records lead to this address, and the units from there on begin with no record
-pub record IsBadRecAt (units : List ℕ) (lsn : ℕ) : Type 0 where
-  pub front : List Rec
-  pub each : AllByRecursion IsSpellable front
-  pub rest : List ℕ
-  pub whole : units ≡ units_of front ++ rest
-  pub place : lsn ≡ end_of front
-  pub some : 0 < length rest
-  pub none : (rec : Rec) → BeginsWith rest rec → ⊥

@@ -1,0 +1,19 @@
+-- What holds of each element of a list.
+use Rattle.std.proofs.Common.{◌≡◌, ◌<◌, ℕ, zero, suc, ◌+◌, List, [], ◌∷◌, ◌++◌, length, take, get_or, sym, subst, arith}
+use Rattle.std.specs.List.{AllByRecursion}
+use Rattle.std.proofs.lemmas.List.{take_more}
+
+module _ {X : Type 0} (P : X → Type 0) where
+  pub all-append : (xs ys : List X) → AllByRecursion P xs → AllByRecursion P ys → AllByRecursion P (xs ++ ys)
+  all-append [] ys first second = second
+  all-append (x ∷ xs) ys first second = (first.0, all-append xs ys first.1 second)
+
+  pub all-at : (xs : List X) (i : ℕ) (x : X) → AllByRecursion P xs → i < length xs → x ≡ get_or xs i x → P x
+  all-at [] i x all inside is = absurd (omega arith)
+  all-at (y ∷ ys) zero x all inside is = subst P (sym is) all.0
+  all-at (y ∷ ys) (suc i) x all inside is = all-at ys i x all.1 (omega arith) is
+
+  pub all-take_more : (xs : List X) (i : ℕ) (x : X) → AllByRecursion P (take i xs) → i < length xs → x ≡ get_or xs i x → P x
+      → AllByRecursion P (take (i + 1) xs)
+  all-take_more xs i x all inside is here =
+      subst (AllByRecursion P) (sym (take_more xs i x inside)) (all-append (take i xs) (get_or xs i x ∷ []) all (subst P is here, tt))

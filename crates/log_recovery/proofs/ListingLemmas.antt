@@ -1,0 +1,76 @@
+-- How a list is read from units, record by record.
+use Rattle.std.proofs.Common.{◌≡◌, ◌<◌, ℕ, ◌+◌, List, [], ◌∷◌, ◌++◌, length, take, drop, reverse, refl, ap, ◌∙◌, sym, subst, arith, length-append, append_assoc}
+use Rattle.std.specs.List.{AllByRecursion, flat_map}
+use Rattle.std.proofs.lemmas.List.{reverse-append, append-nil}
+use Rattle.log_record.specs.declared.rec.Rec.{Rec}
+use Rattle.log_record.specs.declared.rec.Entry.{Entry}
+use Rattle.log_record.specs.LogList.{units_of, end_of}
+use Rattle.log_record.specs.Spelling.{spelling, IsSpellable, BeginsWith}
+use Rattle.log_recovery.specs.History.{end_from, entry_at, history_from, history}
+use Rattle.log_recovery.specs.Listing.{IsListOf, IsBadRecAt, Lists}
+use Rattle.log_recovery.proofs.Fronts.{history_from-append}
+use Rattle.log_recovery.proofs.ListLemmas.{all-append}
+
+pub units_of-append : (xs ys : List Rec) → units_of (xs ++ ys) ≡ units_of xs ++ units_of ys
+units_of-append [] ys = refl
+units_of-append (rec ∷ xs) ys = ap (λ units. spelling rec ++ units) (units_of-append xs ys) ∙ sym (append_assoc (spelling rec) (units_of xs) (units_of ys))
+
+pub end_from-history : (start : ℕ) (h : List Entry) (records : List Rec) → end_from start (history_from start h records) ≡ end_from start h + end_of records
+end_from-history start h [] = omega arith
+end_from-history start h (rec ∷ records) =
+    let more = end_from-history start (entry_at (end_from start h) rec ∷ h) records in
+    let parts = length-append (spelling rec) (units_of records) in omega arith
+
+-- the records read so far, and the units that are left
+pub record ReadsFront (units : List ℕ) (entries : List Entry) (rest : List ℕ) : Type 0 where
+  pub records : List Rec
+  pub each : AllByRecursion IsSpellable records
+  pub whole : units ≡ units_of records ++ rest
+  pub places : reverse entries ≡ history records
+
+pub reads-none : (units : List ℕ) → ReadsFront units [] units
+reads-none units = record { records = []; each = tt; whole = refl; places = refl }
+
+pub reads-more : (units : List ℕ) (entries : List Entry) (rest after : List ℕ) (rec : Rec) (end : ℕ) → ReadsFront units entries rest
+    → BeginsWith rest rec → after ≡ drop (length (spelling rec)) rest → end + length after ≡ length units
+    → ReadsFront units (entries ++ record { end = end; rec = rec } ∷ []) after
+reads-more units entries rest after rec end before begins dropped place =
+    let behind : List ℕ = begins.1 in
+    let is : after ≡ behind = dropped ∙ ap (drop (length (spelling rec))) begins.2 ∙ drop-front (spelling rec) behind in
+    let whole : units ≡ units_of (before.records ++ rec ∷ []) ++ after
+      = before.whole ∙ ap (λ l. units_of before.records ++ l) (begins.2 ∙ ap (λ l. spelling rec ++ l) (sym is))
+        ∙ sym (append_assoc (units_of before.records) (spelling rec) after)
+        ∙ ap (λ l. units_of before.records ++ l ++ after) (sym (append-nil (spelling rec)))
+        ∙ ap (λ l. l ++ after) (sym (units_of-append before.records (rec ∷ []))) in
+    let lengths = ap length whole in
+    let parts = length-append (units_of (before.records ++ rec ∷ [])) after in
+    let grown = ap length (units_of-append before.records (rec ∷ [])) in
+    let sum = length-append (units_of before.records) (units_of (rec ∷ [])) in
+    let last = length-append (spelling rec) [] in
+    let start = end_from-history 0 [] before.records in
+    let end_is : end ≡ end_from 0 (history before.records) + length (spelling rec) = omega arith in
+    record {
+      records = before.records ++ rec ∷ [];
+      each = all-append IsSpellable before.records (rec ∷ []) before.each (begins.0, tt);
+      whole = whole;
+      places = reverse-append entries (record { end = end; rec = rec } ∷ [])
+        ∙ (λ i. record { end = end_is i; rec = rec } ∷ before.places i)
+        ∙ sym (history_from-append 0 [] before.records (rec ∷ []));
+    }
+  where
+    drop-front : (xs ys : List ℕ) → drop (length xs) (xs ++ ys) ≡ ys
+    drop-front [] ys = refl
+    drop-front (x ∷ xs) ys = drop-front xs ys
+
+pub bad-front : (units : List ℕ) (entries : List Entry) (rest : List ℕ) (lsn : ℕ) → ReadsFront units entries rest → 0 < length rest
+    → lsn + length rest ≡ length units → ((rec : Rec) → BeginsWith rest rec → ⊥) → IsBadRecAt units lsn
+bad-front units entries rest lsn before some place none =
+    let lengths = ap length before.whole in let parts = length-append (units_of before.records) rest in
+    record { front = before.records; each = before.each; rest = rest; whole = before.whole; place = omega arith; some = some; none = none }
+
+pub lists-whole : (units : List ℕ) (entries : List Entry) (rest : List ℕ) → ReadsFront units entries rest → rest ≡ [] → Lists units entries
+lists-whole units entries rest before empty = record {
+  records = before.records;
+  list = record { each = before.each; whole = before.whole ∙ ap (λ l. units_of before.records ++ l) empty ∙ append-nil (units_of before.records) };
+  places = before.places;
+}

@@ -1,0 +1,10 @@
+use Rattle.std.proofs.Common.{◌≡◌, take, reverse}
+use Rattle.log_recovery.specs.History.{end_from}
+use Rattle.log_recovery.specs.Judging.{IsJudged}
+use Rattle.log_recovery.proofs.judging.judge.Given as goal
+
+abbrev pub invariant-entries : goal.invariant-entries
+invariant-entries l = record {
+  judged : IsJudged l.accounts (reverse (take l.i l.entries));
+  start : l.start ≡ end_from 0 (reverse (take l.i l.entries));
+}
