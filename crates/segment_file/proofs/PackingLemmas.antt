@@ -26,9 +26,18 @@ AreUnits-more : (units : List ℕ) (unit : ℕ) → AreUnits units → unit < 2 
 AreUnits-more [] unit each small = (small, tt)
 AreUnits-more (first ∷ units) unit each small = (each.0, AreUnits-more units unit each.1 small)
 
+pub length-sealed : (units : List ℕ) → length (sealed units) ≡ 5 + 8 * length units
+unfolding batch
+length-sealed units = omega (arith, length-append (batch units) (CLOSED ∷ []), length-unit_bytes units)
+
 -- the view of a batch whose bytes hold these units
 abbrev pub state : List ℕ → ℕ → BatchState
 state units room = record { units = units; room = room }
+
+-- the invariant, said of the view
+pub packed-view : (bytes units : List ℕ) (room capacity : ℕ) (now : BatchState) → IsPacked bytes units room capacity → state units room ≡ now
+    → IsPacked bytes now.units now.room capacity
+packed-view bytes units room capacity now packed view = subst (λ s. IsPacked bytes s.units s.room capacity) view packed
 
 module _ (bytes units : List ℕ) (room capacity : ℕ) (packed : IsPacked bytes units room capacity) where
   pub length-packed : length bytes ≡ 11 + 8 * length units
@@ -53,6 +62,9 @@ module _ (bytes units : List ℕ) (room capacity : ℕ) (packed : IsPacked bytes
   -- with the next gate behind
   pub packed-sealed : bytes ++ CLOSED ∷ [] ≡ magic ++ sealed units
   packed-sealed = ap (λ bs. bs ++ CLOSED ∷ []) packed.whole ∙ append_assoc magic (batch units) (CLOSED ∷ [])
+
+  pub packed-body : (full body : List ℕ) → full ≡ bytes ++ CLOSED ∷ [] → body ≡ drop 7 full → body ≡ sealed units
+  packed-body full body is back = back ∙ ap (drop 7) (is ∙ packed-sealed)
 
   pub packed-push : (unit now : ℕ) (new : List ℕ) → unit < 2 ^ 64 → length units < room → capacity ≤ now
       → new ≡ (take 7 bytes ++ to_be_bytes w32 (length units + 1) ++ drop 11 bytes) ++ unit_bytes unit → IsPacked new (units ++ unit ∷ []) room now

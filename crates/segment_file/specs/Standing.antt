@@ -1,5 +1,5 @@
 -- What a crash may leave of a log before, during and after a write.
-use Rattle.std.specs.Prelude.{◌≡◌, ◌≢◌, ◌⊎◌, ℕ, List, [], ◌∷◌, ◌++◌, length, drop, slice_get, Option, Some}
+use Rattle.std.specs.Prelude.{◌≡◌, ◌≢◌, ◌⊎◌, ℕ, ◌+◌, ◌*◌, List, [], ◌∷◌, ◌++◌, length, drop, slice_get, Option, Some}
 use Rattle.segment_file.specs.File.{written, joined, IsFile, HoldsUnits, BeginsAsLog, BeginsOpen}
 use Rattle.segment_file.specs.declared.layout.TheConstants.{OPEN}
 use Rattle.segment_file.specs.declared.scan_result.Tail.{Tail}
@@ -12,6 +12,10 @@ pub record StandsAt (tail : Tail) (units bytes : List ℕ) : Type 0 where
   pub units_are : units ≡ joined batches
   pub place : tail.at ≡ length (written batches)
   pub next : tail.next ≡ length units
+
+-- where a log goes on behind an appended batch, with a byte for the gate, four for the count and eight for each unit
+abbrev pub tail_after : Tail → List ℕ → Tail
+tail_after tail units = record { at = tail.at + (5 + 8 * length units); next = tail.next + length units }
 
 -- each image holds these units and goes on at this tail
 abbrev pub AllStand : Tail → List ℕ → (List ℕ → Type 0) → Type 0

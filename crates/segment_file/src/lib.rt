@@ -2,6 +2,7 @@
 //! `scan` reads the units of a file's bytes by the grammar of `specs/File.antt`.
 #![tactic(auto)]
 
+mod appending;
 mod batch;
 mod gate;
 mod gated_write;
@@ -13,6 +14,7 @@ mod taking;
 mod tests;
 mod units;
 
+pub use appending::append;
 pub use batch::Batch;
 pub use gated_write::DiskFault;
 pub use scan_result::{Scan, ScanFault, Tail};
