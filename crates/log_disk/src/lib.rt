@@ -3,16 +3,23 @@
 //! memory, of which all is known, and one over the system, which tells nothing of its bytes.
 #![tactic(auto)]
 
+mod contents;
+mod crash;
 mod disk;
 mod fault;
+mod file_disk;
+mod memory_disk;
 mod memory_sink;
 mod memory_source;
 mod sink;
 mod source;
 mod std_streams;
+mod step;
 
 pub use disk::LogDisk;
 pub use fault::Failed;
+pub use file_disk::FileDisk;
+pub use memory_disk::{MemoryDisk, RECORD};
 pub use memory_sink::MemorySink;
 pub use memory_source::MemorySource;
 pub use sink::{Sink, WriteFault, put_all};

@@ -12,10 +12,10 @@ use std::marker::Model;
 #[derive(Drop)]
 pub struct MemorySink {
     bytes: Vec<u8>,
-    most: usize,
+    room: usize,
     failing: Vec<u64>,
     calls: u64,
-    fault_count: u64,
+    faults: u64,
 }
 
 impl Model for MemorySink {
@@ -26,13 +26,13 @@ impl Model for MemorySink {
 
     ghost view = { λ s. record {
       held = s.bytes.items;
-      room = s.most;
+      room = s.room;
       failing = s.failing.items;
       calls = s.calls;
-      faults = s.fault_count;
+      faults = s.faults;
     } };
 
-    ghost invariant = { λ s. (s.most ≤ vec_capacity s.bytes) × (length s.bytes.items ≤ s.most) };
+    ghost invariant = { λ s. (s.room ≤ vec_capacity s.bytes) × (length s.bytes.items ≤ s.room) };
 }
 
 impl MemorySink {
@@ -49,10 +49,10 @@ impl MemorySink {
         let failing = Vec::from_slice(alloc, failing).map_err(|_| NoMemory)?;
         Ok(MemorySink {
             bytes,
-            most: room,
+            room,
             failing,
             calls: 0,
-            fault_count: 0,
+            faults: 0,
         })
     }
 
@@ -84,13 +84,42 @@ impl Sink for MemorySink {
         ensures failing { self.new.failing ≡ self.old.failing }
     {
         self.calls = self.calls.saturating_add(1);
-        let is_full = self.bytes.len() >= self.most;
+        let is_full = self.bytes.len() >= self.room;
         if is_full || self.failing.contains(&self.calls) {
-            self.fault_count = self.fault_count.saturating_add(1);
+            self.faults = self.faults.saturating_add(1);
             return Err(Failed);
         }
-        let count = piece.len().min(self.most - self.bytes.len());
+        let count = piece.len().min(self.room - self.bytes.len());
         self.bytes.extend_from_slice(&piece[..count]).unwrap();
         Ok(count)
+    }
+}
+
+#[cfg(test)]
+mod tests {
+    use super::*;
+    use crate::{WriteFault, put_all};
+    use std::test::Fail;
+
+    #[test]
+    fn holds_what_was_put_in(rt: HostRuntime) -> Result<(), Fail> {
+        let cases: [(usize, &[u64], Result<(), WriteFault>, &[u8]); 4] = [
+            (9, &[], Ok(()), b"lsn 4\n0 1"),
+            (8, &[], Err(WriteFault), b"lsn 4\n0 "),
+            (9, &[1], Err(WriteFault), b""),
+            (9, &[2], Err(WriteFault), b"lsn 4\n"),
+        ];
+        for (room, failing, want, held) in cases {
+            let Ok(mut sink) = MemorySink::make(rt.alloc(), room, failing) else {
+                return Err(Fail::new("no memory"));
+            };
+            let mut got = put_all(&mut sink, b"lsn 4\n");
+            if got.is_ok() {
+                got = put_all(&mut sink, b"0 1");
+            }
+            assert_eq!(rt; got, want, "room {room}");
+            assert_eq!(rt; sink.bytes(), held, "room {room}");
+        }
+        Ok(())
     }
 }

@@ -15,11 +15,11 @@ use std::marker::Model;
 pub struct MemorySource {
     bytes: Vec<u8>,
     at: usize,
-    most: usize,
+    piece: usize,
     failing: Vec<u64>,
     calls: u64,
-    allowance: u64,
-    fault_count: u64,
+    read_allowance: u64,
+    faults: u64,
 }
 
 impl Model for MemorySource {
@@ -30,14 +30,14 @@ impl Model for MemorySource {
 
     ghost view = { λ s. record {
       left = drop s.at s.bytes.items;
-      piece = s.most;
+      piece = s.piece;
       failing = s.failing.items;
       calls = s.calls;
-      read_allowance = s.allowance;
-      faults = s.fault_count;
+      read_allowance = s.read_allowance;
+      faults = s.faults;
     } };
 
-    ghost invariant = { λ s. (s.at ≤ length s.bytes.items) × (0 < s.most) };
+    ghost invariant = { λ s. (s.at ≤ length s.bytes.items) × (0 < s.piece) };
 }
 
 impl MemorySource {
@@ -62,11 +62,11 @@ impl MemorySource {
         Ok(MemorySource {
             bytes,
             at: 0,
-            most: piece,
+            piece,
             failing,
             calls: 0,
-            allowance: READ_ALLOWANCE,
-            fault_count: 0,
+            read_allowance: READ_ALLOWANCE,
+            faults: 0,
         })
     }
 }
@@ -95,13 +95,13 @@ impl Source for MemorySource {
         ensures failing { self.new.failing ≡ self.old.failing }
     {
         self.calls = self.calls.saturating_add(1);
-        if self.allowance == 0 || self.failing.contains(&self.calls) {
-            self.fault_count = self.fault_count.saturating_add(1);
+        if self.read_allowance == 0 || self.failing.contains(&self.calls) {
+            self.faults = self.faults.saturating_add(1);
             return Err(Failed);
         }
-        let count = give(buf, &self.bytes, self.at, self.most);
+        let count = give(buf, &self.bytes, self.at, self.piece);
         if count > 0 {
-            self.allowance -= 1;
+            self.read_allowance -= 1;
         }
         self.at += count;
         Ok(count)
@@ -119,4 +119,34 @@ fn give(buf: &mut [u8], bytes: &[u8], at: usize, most: usize) -> usize
     let count = rest.len().min(most).min(buf.len());
     buf[..count].copy_from_slice(rest.split_at(count).0);
     count
+}
+
+#[cfg(test)]
+mod tests {
+    use super::*;
+    use std::test::Fail;
+
+    #[test]
+    fn gives_pieces_and_fails_where_told(rt: HostRuntime) -> Result<(), Fail> {
+        let Ok(mut source) = MemorySource::make(rt.alloc(), b"abcde", 2, &[2, 5]) else {
+            return Err(Fail::new("no memory"));
+        };
+        let reads: [Option<&[u8]>; 6] = [
+            Some(b"ab"),
+            None,
+            Some(b"cd"),
+            Some(b"e"),
+            None,
+            Some(b""),
+        ];
+        for want in reads {
+            let mut buf = [0; 3];
+            let got = match source.read(&mut buf) {
+                Ok(count) => Some(&buf[..count]),
+                Err(Failed) => None,
+            };
+            assert_eq!(rt; got, want);
+        }
+        Ok(())
+    }
 }
