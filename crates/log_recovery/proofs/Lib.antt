@@ -11,4 +11,5 @@ pub mod OwnLemmas
 pub mod Pairing
 pub mod Plainly
 pub mod Ranging
+pub mod RecoveryLemmas
 pub mod SettlingLemmas

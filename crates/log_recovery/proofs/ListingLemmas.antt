@@ -9,7 +9,7 @@ use Rattle.log_record.specs.Spelling.{spelling, IsSpellable, BeginsWith}
 use Rattle.log_recovery.specs.History.{end_from, entry_at, history_from, history}
 use Rattle.log_recovery.specs.Listing.{IsListOf, IsBadRecAt, Lists}
 use Rattle.log_recovery.proofs.Fronts.{history_from-append}
-use Rattle.log_recovery.proofs.ListLemmas.{all-append}
+use Rattle.log_recovery.proofs.ListLemmas.{all-append, all-reverse}
 
 pub units_of-append : (xs ys : List Rec) → units_of (xs ++ ys) ≡ units_of xs ++ units_of ys
 units_of-append [] ys = refl
@@ -74,3 +74,14 @@ lists-whole units entries rest before empty = record {
   list = record { each = before.each; whole = before.whole ∙ ap (λ l. units_of before.records ++ l) empty ∙ append-nil (units_of before.records) };
   places = before.places;
 }
+
+spellable-history : (start : ℕ) (h : List Entry) (records : List Rec) → AllByRecursion (λ (entry : Entry). IsSpellable entry.rec) h
+    → AllByRecursion IsSpellable records → AllByRecursion (λ (entry : Entry). IsSpellable entry.rec) (history_from start h records)
+spellable-history start h [] all each = all
+spellable-history start h (rec ∷ records) all each = spellable-history start (entry_at (end_from start h) rec ∷ h) records (each.0, all) each.1
+
+-- the records that were read are spellable
+pub lists-spellable : (units : List ℕ) (entries : List Entry) → Lists units entries → AllByRecursion (λ (entry : Entry). IsSpellable entry.rec) entries
+lists-spellable units entries lists =
+    all-reverse (λ (entry : Entry). IsSpellable entry.rec) entries
+    (subst (AllByRecursion (λ (entry : Entry). IsSpellable entry.rec)) (sym lists.places) (spellable-history 0 [] lists.records tt lists.list.each))
