@@ -1,5 +1,5 @@
 -- What recovery answers is a function of the bytes.
-use Rattle.std.proofs.Common.{◌≡◌, ◌<◌, ℕ, ◌+◌, ◌⊎◌, inl, inr, List, [], ◌∷◌, ◌++◌, length, refl, ap, ◌∙◌, sym, subst, arith, length-append, append_assoc}
+use Rattle.std.proofs.Common.{◌≡◌, ◌<◌, ℕ, ◌⊎◌, inl, inr, List, [], ◌∷◌, ◌++◌, length, refl, ap, ◌∙◌, sym, subst, arith, append_assoc}
 use Rattle.std.specs.List.{AllByRecursion}
 use Rattle.std.proofs.lemmas.List.Elements.{All-from_recursion}
 use Rattle.log_record.specs.declared.rec.Rec.{Rec}
@@ -10,7 +10,7 @@ use Rattle.log_recovery.specs.declared.reason.Why.{Why}
 use Rattle.log_recovery.specs.declared.reason.Why.TheVariants as why
 use Rattle.log_recovery.specs.History.{end_from}
 use Rattle.log_recovery.specs.Lawful.{tests, Passes, IsLawful}
-use Rattle.log_recovery.specs.Faults.{tests_before, IsFirstFailing, IsUnlawfulAt}
+use Rattle.log_recovery.specs.Faults.{IsFirstFailing, IsUnlawfulAt}
 use Rattle.log_record.specs.declared.rec.Rec.TheVariants.{Genesis, Update, Commit, Short, Over, Note}
 use Rattle.log_record.proofs.SpellingLemmas.{spelling-append-injective, units_of-injective}
 use Rattle.segment_file.specs.File.{HoldsUnits}
@@ -63,10 +63,12 @@ one-first : (later later' : List Entry) (entry entry' : Entry) (front front' : L
     → later ++ entry ∷ front ≡ later' ++ entry' ∷ front' → IsLawful front → IsLawful front'
     → IsFirstFailing (Passes front entry) s → IsFirstFailing (Passes front' entry') t → (front ≡ front') × (s ≡ t)
 one-first [] [] entry entry' front front' s t same lawful lawful' first first' =
-    let fronts : front ≡ front' = cc same in let entries : entry ≡ entry' = cc same in
-    (fronts, one-fails (Passes front' entry') tests s t
-      (fails-in (Passes front' entry') s (subst (λ e. IsFirstFailing (Passes front' e) s) entries (subst (λ f. IsFirstFailing (Passes f entry) s) fronts first)))
-      (fails-in (Passes front' entry') t first'))
+    let fronts : front ≡ front' = cc same in let entries : entry ≡ entry' = cc same in (
+      fronts,
+      one-fails (Passes front' entry') tests s t
+          (fails-in (Passes front' entry') s (subst (λ e. IsFirstFailing (Passes front' e) s) entries (subst (λ f. IsFirstFailing (Passes f entry) s) fronts first)))
+          (fails-in (Passes front' entry') t first'),
+    )
 one-first [] (x ∷ later') entry entry' front front' s t same lawful lawful' first first' =
     let fronts : front ≡ later' ++ entry' ∷ front' = cc same in
     let passes = lawful-front later' (entry' ∷ front') (subst IsLawful fronts lawful) in
@@ -82,7 +84,7 @@ one-first (x ∷ later) (y ∷ later') entry entry' front front' s t same lawful
 pub one-unlawful : (h : List Entry) (x y : ℕ) (s t : Why) → IsUnlawfulAt h x s → IsUnlawfulAt h y t → (x ≡ y) × (s ≡ t)
 one-unlawful h x y s t first second =
     let both = one-first first.later second.later first.entry second.entry first.front second.front s t (sym first.whole ∙ second.whole)
-      first.lawful second.lawful first.first second.first in
+    first.lawful second.lawful first.first second.first in
     (first.place ∙ ap (end_from 0) both.0 ∙ sym second.place, both.1)
 
 -- a record has a unit
@@ -107,7 +109,7 @@ one-front (r ∷ xs) [] u v is_xs is_ys none_u none_v same =
     absurd (none_v r (is_xs.0, units_of xs ++ u, sym same ∙ append_assoc (spelling r) (units_of xs) u))
 one-front (r ∷ xs) (s ∷ ys) u v is_xs is_ys none_u none_v same =
     let head = spelling-append-injective r s (units_of xs ++ u) (units_of ys ++ v) is_xs.0 is_ys.0
-      (sym (append_assoc (spelling r) (units_of xs) u) ∙ same ∙ append_assoc (spelling s) (units_of ys) v) in
+    (sym (append_assoc (spelling r) (units_of xs) u) ∙ same ∙ append_assoc (spelling s) (units_of ys) v) in
     let rest = one-front xs ys u v is_xs.1 is_ys.1 none_u none_v head.1 in
     λ i. head.0 i ∷ rest i
 
@@ -142,7 +144,7 @@ lawful-fault bytes records (fault.BadBatch offset) held is = absurd (one_reading
 lawful-fault bytes records (fault.BadRec lsn) held is = absurd (bad-rec-listed bytes is.0 lsn records is.1 is.2 held.list)
 lawful-fault bytes records (fault.Unlawful lsn test) held is =
     absurd (lawful-unlawful (history records) lsn test held.lawful
-      (subst (λ l. IsUnlawfulAt (history l) lsn test) (one-list bytes is.0 records is.1 held.list) is.2))
+    (subst (λ l. IsUnlawfulAt (history l) lsn test) (one-list bytes is.0 records is.1 held.list) is.2))
 lawful-fault bytes records fault.NoMemory held is = refl
 
 abbrev pub IsSameOrNoMemory : RecoverFault → RecoverFault → Type 0
@@ -169,5 +171,5 @@ one-fault bytes (fault.Unlawful lsn test) (fault.BadBatch offset) is also = absu
 one-fault bytes (fault.Unlawful lsn test) (fault.BadRec other) is also = absurd (bad-rec-listed bytes also.0 other is.0 also.1 also.2 is.1)
 one-fault bytes (fault.Unlawful lsn test) (fault.Unlawful other test') is also =
     let both = one-unlawful (history also.0) lsn other test test'
-      (subst (λ l. IsUnlawfulAt (history l) lsn test) (one-list bytes is.0 also.0 is.1 also.1) is.2) also.2 in
+    (subst (λ l. IsUnlawfulAt (history l) lsn test) (one-list bytes is.0 also.0 is.1 also.1) is.2) also.2 in
     inl (λ i. fault.Unlawful (both.0 i) (both.1 i))

@@ -1,12 +1,11 @@
 -- From what a scan, a reading and a judge answer to what the bytes say.
 use Rattle.std.proofs.Common.{◌≡◌, ◌∙◌, ℕ, ◌+◌, List, length, reverse, sym, ap, subst}
 use Rattle.log_record.specs.declared.rec.Entry.{Entry}
-use Rattle.log_record.specs.LogList.{units_of, end_of}
+use Rattle.log_record.specs.LogList.{end_of}
 use Rattle.segment_file.specs.declared.scan_result.Scan.{Scan}
 use Rattle.segment_file.specs.Scan.{Scans}
 use Rattle.segment_file.specs.File.{HoldsUnits}
 use Rattle.log_recovery.specs.declared.recovery.Recovered.{Recovered}
-use Rattle.log_recovery.specs.History.{history}
 use Rattle.log_recovery.specs.Sums.{ShowsAccounts, greatest_txn}
 use Rattle.log_recovery.specs.Lawful.{IsLawful, genesis_of}
 use Rattle.log_recovery.specs.Listing.{Lists}

@@ -2,7 +2,6 @@
 //! lawful, the balances that it leaves, and the judge that tells both.
 #![tactic(auto)]
 
-
 mod judging;
 mod kinds;
 mod laws;
@@ -11,9 +10,7 @@ mod own;
 mod reason;
 mod recovery;
 mod settling;
-
 mod update;
-
 
 pub use judging::{JudgeFault, judge};
 pub use laws::{balances_in_range, lawful_front, plain_words, sum_is_kept};

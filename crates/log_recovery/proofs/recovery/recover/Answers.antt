@@ -1,6 +1,4 @@
-use Rattle.std.proofs.Common.{◌≡◌, ◌∙◌, sym, refl, subst, reverse, List, ℕ}
-use Rattle.log_record.specs.declared.rec.Entry.{Entry}
-use Rattle.log_recovery.specs.History.{history}
+use Rattle.std.proofs.Common.{sym, refl, subst}
 use Rattle.log_recovery.specs.Listing.{Lists}
 use Rattle.log_recovery.specs.Recovery.{IsJudgeFaultOf}
 use Rattle.log_recovery.proofs.ListingLemmas.{lists-spellable}
