@@ -18,3 +18,6 @@ pub use listing::{ListFault, records};
 pub use reason::Why;
 pub use recovery::{RecoverFault, Recovered, one_answer, recover};
 pub use update::Change;
+
+#[cfg(test)]
+mod tests;
