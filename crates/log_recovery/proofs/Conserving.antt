@@ -1,5 +1,5 @@
 -- Committed transactions add in all what they take: the sum of all balances stays.
-use Rattle.std.proofs.Common.{◌≡◌, ◌≢◌, ◌<◌, ◌≤◌, ◌==◌, ℕ, zero, suc, ◌+◌, ◌*◌, cond, ℤ, Bool, true, false, true≢false, List, [], ◌∷◌, length, sym, refl, ap, ◌∙◌, subst, arith, eq-eqb, ne_eqb}
+use Rattle.std.proofs.Common.{◌≡◌, ◌<◌, ◌≤◌, ◌==◌, ℕ, zero, suc, ◌+◌, ◌*◌, cond, ℤ, true, false, List, [], ◌∷◌, length, sym, refl, ap, ◌∙◌, subst, arith, eq-eqb, ne_eqb}
 use Rattle.std.specs.List.{AllByRecursion}
 use mathlib.Core.Logic.{dite}
 use native.Mathlib.Decide.{ℕ_discrete}
@@ -8,15 +8,14 @@ use Rattle.log_record.specs.declared.rec.Entry.{Entry}
 use Rattle.log_record.specs.declared.rec.Rec.TheVariants.{Genesis, Update, Commit, Short, Over, Note}
 use Rattle.log_record.specs.Spelling.{IsSpellable}
 use Rattle.log_recovery.specs.declared.update.Change.{Change}
-use Rattle.log_recovery.specs.Records.{txn_of, commits, changes_of, gain, loss}
-use Rattle.log_recovery.specs.Transactions.{records_of, updates_of, has_end, is_committed}
+use Rattle.log_recovery.specs.Records.{txn_of, commits, gain, loss}
+use Rattle.log_recovery.specs.Transactions.{records_of, updates_of, has_end}
 use Rattle.log_recovery.specs.Sums.{BaseState, moved, total, IsBalanceOf, balance_of, sum_below}
-use Rattle.log_recovery.specs.Tests.{IsUnended, CountsLegs}
 use Rattle.log_recovery.specs.Lawful.{IsLawful, genesis_of}
 use Rattle.log_recovery.proofs.Meeting.{MeetsTests, AreMet, met-log}
 use Rattle.log_recovery.proofs.Ranging.{in_range-log, balance_of-is}
 use Rattle.log_recovery.proofs.OneMore.{has_commit-unended, total-plain, total-empty, total-commit}
-use Rattle.log_recovery.proofs.Pairing.{Fits, updates_of-fits, all_moved, all_moved-paired, owed, owed-even}
+use Rattle.log_recovery.proofs.Pairing.{updates_of-fits, all_moved, all_moved-paired, owed-even}
 
 pub sum_below-add : (n : ℕ) (f g : ℕ → ℕ) → sum_below n (λ a. f a + g a) ≡ sum_below n f + sum_below n g
 sum_below-add zero f g = refl
@@ -42,11 +41,11 @@ sum_below-at : (n account amount : ℕ) → account < n → sum_below n (λ a. c
 sum_below-at zero account amount below = absurd (omega arith)
 sum_below-at (suc n) account amount below = dite (ℕ_discrete account n)
     (λ same.
-      let last : cond {A = ℕ} (account == n) amount 0 ≡ amount = ap (λ b. cond {A = ℕ} b amount 0) (eq-eqb account n same) in
-      let more = sum_below-past n account amount (omega arith) in omega arith)
+    let last : cond {A = ℕ} (account == n) amount 0 ≡ amount = ap (λ b. cond {A = ℕ} b amount 0) (eq-eqb account n same) in
+    let more = sum_below-past n account amount (omega arith) in omega arith)
     (λ other.
-      let last : cond {A = ℕ} (account == n) amount 0 ≡ 0 = ap (λ b. cond {A = ℕ} b amount 0) (ne_eqb account n other) in
-      let more = sum_below-at n account amount (omega arith) in omega arith)
+    let last : cond {A = ℕ} (account == n) amount 0 ≡ 0 = ap (λ b. cond {A = ℕ} b amount 0) (ne_eqb account n other) in
+    let more = sum_below-at n account amount (omega arith) in omega arith)
 
 sum_below-moved : (n : ℕ) (side : ℤ → ℕ) (changes : List Change) → AllByRecursion (λ (change : Change). change.account < n) changes
     → sum_below n (λ a. moved side a changes) ≡ all_moved side changes

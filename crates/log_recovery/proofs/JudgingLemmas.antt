@@ -1,6 +1,6 @@
 -- How what a judge keeps goes on by one entry.
-use Rattle.std.proofs.Common.{◌≡◌, ℕ, ℤ, false, true, true≢false, List, [], ◌∷◌, ◌++◌, ◌<◌, length, reverse, take, drop, get_or, Result, Ok, Err, refl, sym, subst, ◌∙◌, arith}
-use Rattle.std.specs.Prelude.{OnOk, IfErr, slice_get, Some}
+use Rattle.std.proofs.Common.{◌≡◌, ℕ, false, true≢false, List, [], ◌∷◌, ◌<◌, length, Result, Ok, Err, refl, sym, subst, ◌∙◌, arith}
+use Rattle.std.specs.Prelude.{OnOk, IfErr, Some}
 use Rattle.std.specs.List.{AllByRecursion}
 use Rattle.std.proofs.lemmas.Option.{slice_get-get_or}
 use Rattle.lsn_space.specs.Accounts.{Accounts}
@@ -11,7 +11,7 @@ use Rattle.log_recovery.specs.declared.kinds.TheConstants.{MOST_ACCOUNTS}
 use Rattle.log_recovery.specs.declared.reason.Why.{Why}
 use Rattle.log_recovery.specs.Records.{commits}
 use Rattle.log_recovery.specs.Transactions.{records_of}
-use Rattle.log_recovery.specs.Sums.{BaseState, ShowsAccounts, balance_of, last_commit_of}
+use Rattle.log_recovery.specs.Sums.{BaseState, ShowsAccounts}
 use Rattle.log_recovery.specs.Tests.{IsGenesis}
 use Rattle.log_recovery.specs.Lawful.{tests, Passes, IsLawful, genesis_of}
 use Rattle.log_recovery.specs.Faults.{IsFirstFailing}
@@ -43,20 +43,32 @@ judged-plain accounts h end (Commit txn legs) other plain before passes = absurd
 judged-plain accounts h end (Update txn account delta prev) other plain before passes =
     let entry : Entry = record { end = end; rec = Update txn account delta prev } in
     let unended = (meets-log h entry passes).ended in
-    record { lawful = (passes, before.lawful); room = before.room;
-      rows = keeps-same accounts.rows (genesis_of h) h entry (λ side a. total-plain side a entry h refl (has_commit-unended (records_of txn h) unended)) (λ a. refl) before.rows }
+    record {
+      lawful = (passes, before.lawful);
+      room = before.room;
+      rows = keeps-same accounts.rows (genesis_of h) h entry (λ side a. total-plain side a entry h refl (has_commit-unended (records_of txn h) unended)) (λ a. refl) before.rows;
+    }
 judged-plain accounts h end (Short txn leg) other plain before passes =
     let entry : Entry = record { end = end; rec = Short txn leg } in
-    record { lawful = (passes, before.lawful); room = before.room;
-      rows = keeps-same accounts.rows (genesis_of h) h entry (λ side a. total-empty side a entry h refl refl) (λ a. refl) before.rows }
+    record {
+      lawful = (passes, before.lawful);
+      room = before.room;
+      rows = keeps-same accounts.rows (genesis_of h) h entry (λ side a. total-empty side a entry h refl refl) (λ a. refl) before.rows;
+    }
 judged-plain accounts h end (Over txn leg) other plain before passes =
     let entry : Entry = record { end = end; rec = Over txn leg } in
-    record { lawful = (passes, before.lawful); room = before.room;
-      rows = keeps-same accounts.rows (genesis_of h) h entry (λ side a. total-empty side a entry h refl refl) (λ a. refl) before.rows }
+    record {
+      lawful = (passes, before.lawful);
+      room = before.room;
+      rows = keeps-same accounts.rows (genesis_of h) h entry (λ side a. total-empty side a entry h refl refl) (λ a. refl) before.rows;
+    }
 judged-plain accounts h end (Note txn text) other plain before passes =
     let entry : Entry = record { end = end; rec = Note txn text } in
-    record { lawful = (passes, before.lawful); room = before.room;
-      rows = keeps-same accounts.rows (genesis_of h) h entry (λ side a. total-empty side a entry h refl refl) (λ a. refl) before.rows }
+    record {
+      lawful = (passes, before.lawful);
+      room = before.room;
+      rows = keeps-same accounts.rows (genesis_of h) h entry (λ side a. total-empty side a entry h refl refl) (λ a. refl) before.rows;
+    }
 
 -- the answer on an entry whose record is known
 module _ {A : Type 0} (h : List Entry) (entry : Entry) (rec : Rec) (is : entry.rec ≡ rec) (result : Result A Why) where
@@ -95,6 +107,6 @@ pub shows-kept : (rows : List (ℕ × ℕ)) (base : BaseState) (h : List Entry) 
 shows-kept rows base h kept = let counted = kept.count in record {
   count = kept.count;
   each = λ a below. let inside : a < length rows = omega arith in
-    slice_get-get_or rows a (0, 0) inside
-    ∙ (λ i. Some (sym (balance_of-is base h a (row rows a).0 (kept.balance a inside)) i, kept.last a inside i));
+      slice_get-get_or rows a (0, 0) inside
+      ∙ (λ i. Some (sym (balance_of-is base h a (row rows a).0 (kept.balance a inside)) i, kept.last a inside i));
 }

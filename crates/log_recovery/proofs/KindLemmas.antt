@@ -1,5 +1,5 @@
 -- What the tests of one entry come to in terms of what a judge keeps.
-use Rattle.std.proofs.Common.{◌≡◌, ◌<◌, ◌≤◌, ℕ, ◌+◌, ◌*◌, cond, ℤ, Bool, true, false, true≢false, List, [], ◌∷◌, length, reverse, refl, ap, ◌∙◌, sym, subst, arith, get_or, ◌==◌, ◌≢◌, ne_eqb, eq-eqb, length-append, ◌++◌}
+use Rattle.std.proofs.Common.{◌≡◌, ◌<◌, ◌≤◌, ℕ, ◌+◌, cond, ℤ, false, true≢false, List, [], ◌∷◌, length, refl, ap, ◌∙◌, sym, subst, arith, ne_eqb, eq-eqb, length-append, ◌++◌}
 use Rattle.std.specs.List.{AllByRecursion}
 use Rattle.std.proofs.lemmas.List.{get_or_append_left, get_or_at}
 use mathlib.Core.Logic.{dite}
@@ -9,16 +9,16 @@ use Rattle.log_record.specs.declared.rec.Entry.{Entry}
 use Rattle.log_record.specs.declared.rec.Rec.TheVariants.{Genesis, Update, Commit, Short, Over, Note}
 use Rattle.log_record.specs.Spelling.{IsBalance}
 use Rattle.log_recovery.specs.declared.update.Change.{Change}
-use Rattle.log_recovery.specs.Records.{commits, changes_of, gain, loss, txn_of}
+use Rattle.log_recovery.specs.Records.{gain, loss}
 use Rattle.log_recovery.specs.Transactions.{records_of, updates_of, has_end, touches}
-use Rattle.log_recovery.specs.Sums.{BaseState, moved, total, IsBalanceOf, AreInRange, last_commit_of}
+use Rattle.log_recovery.specs.Sums.{BaseState, moved, total, AreInRange, last_commit_of}
 use Rattle.log_recovery.specs.Tests.{IsGenesis, IsCurrent}
 use Rattle.log_recovery.specs.declared.reason.Why.TheVariants as why
 use Rattle.log_recovery.specs.Lawful.{IsLawful, genesis_of, with_genesis, tests, Passes}
 use Rattle.log_recovery.specs.Faults.{IsFirstFailing}
 use Rattle.log_recovery.specs.Settling.{row, Settles, LeavesSome, KeepsRows}
 use Rattle.log_recovery.specs.Judging.{IsCommitting}
-use Rattle.log_recovery.proofs.OneMore.{has_commit-unended, total-plain, total-empty, total-commit, last_commit_of-plain, last_commit_of-commit}
+use Rattle.log_recovery.proofs.OneMore.{has_commit-unended, total-empty, total-commit, last_commit_of-commit}
 use Rattle.log_recovery.proofs.Meeting.{met-log}
 use Rattle.log_recovery.proofs.Pairing.{updates_of-fits}
 
@@ -61,7 +61,7 @@ rows-current rows base h (change ∷ changes) known kept all =
     (all.0 ∙ sym (kept.last change.account known.0), rows-current rows base h changes known.1 kept all.1)
 
 module _ (rows : List (ℕ × ℕ)) (base : BaseState) (h : List Entry) (txn legs end : ℕ) (changes : List Change) (kept : KeepsRows rows base h)
-  (unended : has_end (records_of txn h) ≡ false) (are : changes ≡ updates_of txn h) where
+    (unended : has_end (records_of txn h) ≡ false) (are : changes ≡ updates_of txn h) where
   abbrev commit : Entry
   commit = record { end = end; rec = Commit txn legs }
 
@@ -176,7 +176,7 @@ last_commit-genesis (entry ∷ h) a = by_kind entry.rec ∙ last_commit-genesis 
 
 -- one more Genesis adds a row
 module _ (rows : List (ℕ × ℕ)) (h : List Entry) (end account balance : ℕ) (kept : KeepsRows rows (genesis_of h) h)
-  (all : AllByRecursion (λ (entry : Entry). IsGenesis entry.rec) h) (next : account ≡ (genesis_of h).accounts) (range : IsBalance balance) where
+    (all : AllByRecursion (λ (entry : Entry). IsGenesis entry.rec) h) (next : account ≡ (genesis_of h).accounts) (range : IsBalance balance) where
   abbrev genesis : Entry
   genesis = record { end = end; rec = Genesis account balance }
 
@@ -203,24 +203,24 @@ module _ (rows : List (ℕ × ℕ)) (h : List Entry) (end account balance : ℕ)
   keeps-genesis = let counted = kept.count in let longer = length-append rows ((balance, 0) ∷ []) in record {
     count = omega arith;
     range = λ a inside. dite (ℕ_discrete a (length rows))
-      (λ new. subst (λ (v : ℕ × ℕ). IsBalance v.0) (sym (new-row a new)) range)
-      (λ old. let inside' : a < length rows = omega arith in subst (λ (v : ℕ × ℕ). IsBalance v.0) (sym (old-row a inside')) (kept.range a inside'));
+        (λ new. subst (λ (v : ℕ × ℕ). IsBalance v.0) (sym (new-row a new)) range)
+        (λ old. let inside' : a < length rows = omega arith in subst (λ (v : ℕ × ℕ). IsBalance v.0) (sym (old-row a inside')) (kept.range a inside'));
     balance = λ a inside.
-      let gains = total-genesis gain a (genesis ∷ h) (tt, all) in let losses = total-genesis loss a (genesis ∷ h) (tt, all) in
-      dite (ℕ_discrete a (length rows))
-      (λ new. let here = ap (λ (v : ℕ × ℕ). v.0) (new-row a new) in let first = balance-new a new in omega arith)
-      (λ old. let inside' : a < length rows = omega arith in
+        let gains = total-genesis gain a (genesis ∷ h) (tt, all) in let losses = total-genesis loss a (genesis ∷ h) (tt, all) in
+        dite (ℕ_discrete a (length rows))
+        (λ new. let here = ap (λ (v : ℕ × ℕ). v.0) (new-row a new) in let first = balance-new a new in omega arith)
+        (λ old. let inside' : a < length rows = omega arith in
         let here = ap (λ (v : ℕ × ℕ). v.0) (old-row a inside') in let first = balance-old a inside' in
         let before = kept.balance a inside' in let gains-before = total-genesis gain a h all in let losses-before = total-genesis loss a h all in omega arith);
     last = λ a inside. dite (ℕ_discrete a (length rows))
-      (λ new. ap (λ (v : ℕ × ℕ). v.1) (new-row a new) ∙ sym (last-zero a))
-      (λ old. let inside' : a < length rows = omega arith in
+        (λ new. ap (λ (v : ℕ × ℕ). v.1) (new-row a new) ∙ sym (last-zero a))
+        (λ old. let inside' : a < length rows = omega arith in
         ap (λ (v : ℕ × ℕ). v.1) (old-row a inside') ∙ kept.last a inside' ∙ last-genesis (genesis_of h) a h all ∙ last_commit-genesis h a ∙ sym (last-zero a));
   }
 
 -- a Commit whose transaction has these changes
 module _ (rows : List (ℕ × ℕ)) (h : List Entry) (txn legs end : ℕ) (changes : List Change) (lawful : IsLawful h) (kept : KeepsRows rows (genesis_of h) h)
-  (on : IsCommitting h txn legs changes) where
+    (on : IsCommitting h txn legs changes) where
   abbrev entry : Entry
   entry = record { end = end; rec = Commit txn legs }
 
@@ -249,9 +249,28 @@ module _ (rows : List (ℕ × ℕ)) (h : List Entry) (txn legs end : ℕ) (chang
   keeps-settled new settles = keeps-commit rows (genesis_of h) h txn legs end changes kept on.unended on.are new settles
 
   pub passes-commit : AreCurrentRows → (new : List (ℕ × ℕ)) → Settles changes end rows new → AllByRecursion (Passes h entry) tests
-  passes-commit all new settles =
-      (on.some, (tt, (on.unended, (sym (ap length on.are) ∙ on.legs_are, (tt, (tt, (current all,
-      ((λ is. in_range-rows new (genesis_of h) (entry ∷ h) (keeps-settled new settles)), tt))))))))
+  passes-commit all new settles = (
+    on.some,
+    (
+      tt,
+      (
+        on.unended,
+        (
+          sym (ap length on.are) ∙ on.legs_are,
+          (
+            tt,
+            (
+              tt,
+              (
+                current all,
+                ((λ is. in_range-rows new (genesis_of h) (entry ∷ h) (keeps-settled new settles)), tt),
+              ),
+            ),
+          ),
+        ),
+      ),
+    ),
+  )
 
 -- a Genesis passes all other tests
 pub passes-genesis : (h : List Entry) (end account balance : ℕ) → AllByRecursion (λ (entry : Entry). IsGenesis entry.rec) h → account ≡ length h

@@ -11,5 +11,6 @@ pub mod OwnLemmas
 pub mod Pairing
 pub mod Plainly
 pub mod Ranging
+pub mod RecoveryLemmas
 pub mod SettlingLemmas
 pub mod TextLemmas

@@ -1,15 +1,15 @@
 -- How a list is read from units, record by record.
-use Rattle.std.proofs.Common.{◌≡◌, ◌<◌, ℕ, ◌+◌, List, [], ◌∷◌, ◌++◌, length, take, drop, reverse, refl, ap, ◌∙◌, sym, subst, arith, length-append, append_assoc}
-use Rattle.std.specs.List.{AllByRecursion, flat_map}
+use Rattle.std.proofs.Common.{◌≡◌, ◌<◌, ℕ, ◌+◌, List, [], ◌∷◌, ◌++◌, length, drop, reverse, refl, ap, ◌∙◌, sym, subst, arith, length-append, append_assoc}
+use Rattle.std.specs.List.{AllByRecursion}
 use Rattle.std.proofs.lemmas.List.{reverse-append, append-nil}
 use Rattle.log_record.specs.declared.rec.Rec.{Rec}
 use Rattle.log_record.specs.declared.rec.Entry.{Entry}
 use Rattle.log_record.specs.LogList.{units_of, end_of}
 use Rattle.log_record.specs.Spelling.{spelling, IsSpellable, BeginsWith}
 use Rattle.log_recovery.specs.History.{end_from, entry_at, history_from, history}
-use Rattle.log_recovery.specs.Listing.{IsListOf, IsBadRecAt, Lists}
+use Rattle.log_recovery.specs.Listing.{IsBadRecAt, Lists}
 use Rattle.log_recovery.proofs.Fronts.{history_from-append}
-use Rattle.log_recovery.proofs.ListLemmas.{all-append}
+use Rattle.log_recovery.proofs.ListLemmas.{all-append, all-reverse}
 
 pub units_of-append : (xs ys : List Rec) → units_of (xs ++ ys) ≡ units_of xs ++ units_of ys
 units_of-append [] ys = refl
@@ -38,10 +38,10 @@ reads-more units entries rest after rec end before begins dropped place =
     let behind : List ℕ = begins.1 in
     let is : after ≡ behind = dropped ∙ ap (drop (length (spelling rec))) begins.2 ∙ drop-front (spelling rec) behind in
     let whole : units ≡ units_of (before.records ++ rec ∷ []) ++ after
-      = before.whole ∙ ap (λ l. units_of before.records ++ l) (begins.2 ∙ ap (λ l. spelling rec ++ l) (sym is))
-        ∙ sym (append_assoc (units_of before.records) (spelling rec) after)
-        ∙ ap (λ l. units_of before.records ++ l ++ after) (sym (append-nil (spelling rec)))
-        ∙ ap (λ l. l ++ after) (sym (units_of-append before.records (rec ∷ []))) in
+    = before.whole ∙ ap (λ l. units_of before.records ++ l) (begins.2 ∙ ap (λ l. spelling rec ++ l) (sym is))
+    ∙ sym (append_assoc (units_of before.records) (spelling rec) after)
+    ∙ ap (λ l. units_of before.records ++ l ++ after) (sym (append-nil (spelling rec)))
+    ∙ ap (λ l. l ++ after) (sym (units_of-append before.records (rec ∷ []))) in
     let lengths = ap length whole in
     let parts = length-append (units_of (before.records ++ rec ∷ [])) after in
     let grown = ap length (units_of-append before.records (rec ∷ [])) in
@@ -54,8 +54,8 @@ reads-more units entries rest after rec end before begins dropped place =
       each = all-append IsSpellable before.records (rec ∷ []) before.each (begins.0, tt);
       whole = whole;
       places = reverse-append entries (record { end = end; rec = rec } ∷ [])
-        ∙ (λ i. record { end = end_is i; rec = rec } ∷ before.places i)
-        ∙ sym (history_from-append 0 [] before.records (rec ∷ []));
+          ∙ (λ i. record { end = end_is i; rec = rec } ∷ before.places i)
+          ∙ sym (history_from-append 0 [] before.records (rec ∷ []));
     }
   where
     drop-front : (xs ys : List ℕ) → drop (length xs) (xs ++ ys) ≡ ys
@@ -74,3 +74,14 @@ lists-whole units entries rest before empty = record {
   list = record { each = before.each; whole = before.whole ∙ ap (λ l. units_of before.records ++ l) empty ∙ append-nil (units_of before.records) };
   places = before.places;
 }
+
+spellable-history : (start : ℕ) (h : List Entry) (records : List Rec) → AllByRecursion (λ (entry : Entry). IsSpellable entry.rec) h
+    → AllByRecursion IsSpellable records → AllByRecursion (λ (entry : Entry). IsSpellable entry.rec) (history_from start h records)
+spellable-history start h [] all each = all
+spellable-history start h (rec ∷ records) all each = spellable-history start (entry_at (end_from start h) rec ∷ h) records (each.0, all) each.1
+
+-- the records that were read are spellable
+pub lists-spellable : (units : List ℕ) (entries : List Entry) → Lists units entries → AllByRecursion (λ (entry : Entry). IsSpellable entry.rec) entries
+lists-spellable units entries lists =
+    all-reverse (λ (entry : Entry). IsSpellable entry.rec) entries
+    (subst (AllByRecursion (λ (entry : Entry). IsSpellable entry.rec)) (sym lists.places) (spellable-history 0 [] lists.records tt lists.list.each))

@@ -1,13 +1,12 @@
 -- What lawful histories of both kinds have in common: each entry meets the tests other than that of a Genesis, all with
 -- one base state. The laws are shown of this.
-use Rattle.std.proofs.Common.{◌≡◌, ◌<◌, ℕ, true, false, true≢false, List, [], ◌∷◌, length, sym}
+use Rattle.std.proofs.Common.{ℕ, true≢false, List, [], ◌∷◌, sym}
 use Rattle.std.specs.List.{AllByRecursion}
 use Rattle.log_record.specs.declared.rec.Rec.{Rec}
 use Rattle.log_record.specs.declared.rec.Entry.{Entry}
 use Rattle.log_record.specs.declared.rec.Rec.TheVariants.{Genesis, Update, Commit, Short, Over, Note}
-use Rattle.log_recovery.specs.Records.{txn_of, commits}
 use Rattle.log_recovery.specs.Sums.{BaseState}
-use Rattle.log_recovery.specs.Tests.{IsGenesis, OpensLedger, KnowsAccount, IsUnended, CountsLegs, PairsDeltas, NamesLastCommit, IsNotStale, KeepsBalances}
+use Rattle.log_recovery.specs.Tests.{IsGenesis, KnowsAccount, IsUnended, CountsLegs, PairsDeltas, NamesLastCommit, IsNotStale, KeepsBalances}
 use Rattle.log_recovery.specs.Lawful.{tests, PassesAfter, IsLawfulAfter, Passes, IsLawful, genesis_of, with_genesis}
 
 pub record MeetsTests (base : BaseState) (h : List Entry) (entry : Entry) : Type 0 where

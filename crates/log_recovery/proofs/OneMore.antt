@@ -7,7 +7,7 @@ use Rattle.log_record.specs.declared.rec.Entry.{Entry}
 use Rattle.log_record.specs.declared.rec.Rec.TheVariants.{Genesis, Update, Commit, Short, Over, Note}
 use Rattle.log_recovery.specs.declared.update.Change.{Change}
 use Rattle.log_recovery.specs.Records.{txn_of, commits, ends, changes_of}
-use Rattle.log_recovery.specs.Transactions.{of_transaction, recs_of, changes_in, updates_of, records_of, has_end, has_commit, is_committed, touches}
+use Rattle.log_recovery.specs.Transactions.{of_transaction, recs_of, changes_in, updates_of, has_end, has_commit, is_committed, touches}
 use Rattle.log_recovery.specs.Sums.{BaseState, moved, moved_by, total, last_commit_of}
 
 pub of_transaction-same : (n : ℕ) (entry : Entry) (h : List Entry) → txn_of entry.rec ≡ n → of_transaction n (entry ∷ h) ≡ entry ∷ of_transaction n h
@@ -92,8 +92,8 @@ pub total-empty : (side : ℤ → ℕ) (account : ℕ) (entry : Entry) (h : List
 total-empty side account entry h plain empty =
     moved_by-same (λ n. is_committed n (entry ∷ h)) (λ n. is_committed n h) side account (entry ∷ h) (λ n. is_committed-plain entry h n plain)
     ∙ (let nothing : cond (is_committed (txn_of entry.rec) h) (moved side account (changes_of entry.rec)) 0 ≡ 0
-        = ap (λ changes. cond (is_committed (txn_of entry.rec) h) (moved side account changes) 0) empty ∙ both (is_committed (txn_of entry.rec) h) in
-      omega arith)
+    = ap (λ changes. cond (is_committed (txn_of entry.rec) h) (moved side account changes) 0) empty ∙ both (is_committed (txn_of entry.rec) h) in
+    omega arith)
   where
     both : (b : Bool) → cond {A = ℕ} b 0 0 ≡ 0
     both true = refl
@@ -108,20 +108,20 @@ moved_by-or c n side account (entry ∷ h) off =
     let more = moved_by-or c n side account h off in
     dite (ℕ_discrete (txn_of entry.rec) n)
     (λ is.
-      let off-here : c (txn_of entry.rec) ≡ false = ap c is ∙ off in
-      let on-here : (n == txn_of entry.rec) ≡ true = eq-eqb n (txn_of entry.rec) (sym is) in
-      let now : cond (c (txn_of entry.rec) || (n == txn_of entry.rec)) own 0 ≡ own = (λ i. cond (off-here i || on-here i) own 0) in
-      let before : cond (c (txn_of entry.rec)) own 0 ≡ 0 = ap (λ b. cond b own 0) off-here in
-      let updates : moved side account (updates_of n (entry ∷ h)) ≡ own + moved side account (updates_of n h)
-          = ap (moved side account) (updates_of-same n entry h is) ∙ moved-append side account (changes_of entry.rec) (updates_of n h) in
-      omega arith)
+    let off-here : c (txn_of entry.rec) ≡ false = ap c is ∙ off in
+    let on-here : (n == txn_of entry.rec) ≡ true = eq-eqb n (txn_of entry.rec) (sym is) in
+    let now : cond (c (txn_of entry.rec) || (n == txn_of entry.rec)) own 0 ≡ own = (λ i. cond (off-here i || on-here i) own 0) in
+    let before : cond (c (txn_of entry.rec)) own 0 ≡ 0 = ap (λ b. cond b own 0) off-here in
+    let updates : moved side account (updates_of n (entry ∷ h)) ≡ own + moved side account (updates_of n h)
+    = ap (moved side account) (updates_of-same n entry h is) ∙ moved-append side account (changes_of entry.rec) (updates_of n h) in
+    omega arith)
     (λ other.
-      let off-here : (n == txn_of entry.rec) ≡ false = ne_eqb n (txn_of entry.rec) (λ z. other (sym z)) in
-      let same : cond (c (txn_of entry.rec) || (n == txn_of entry.rec)) own 0 ≡ cond (c (txn_of entry.rec)) own 0
-          = ap (λ b. cond b own 0) (ap (λ b. c (txn_of entry.rec) || b) off-here ∙ or-false (c (txn_of entry.rec))) in
-      let updates : moved side account (updates_of n (entry ∷ h)) ≡ moved side account (updates_of n h)
-          = ap (moved side account) (updates_of-other n entry h other) in
-      omega arith)
+    let off-here : (n == txn_of entry.rec) ≡ false = ne_eqb n (txn_of entry.rec) (λ z. other (sym z)) in
+    let same : cond (c (txn_of entry.rec) || (n == txn_of entry.rec)) own 0 ≡ cond (c (txn_of entry.rec)) own 0
+    = ap (λ b. cond b own 0) (ap (λ b. c (txn_of entry.rec) || b) off-here ∙ or-false (c (txn_of entry.rec))) in
+    let updates : moved side account (updates_of n (entry ∷ h)) ≡ moved side account (updates_of n h)
+    = ap (moved side account) (updates_of-other n entry h other) in
+    omega arith)
 
 -- a Commit moves what the Updates of its transaction say
 pub total-commit : (side : ℤ → ℕ) (account : ℕ) (entry : Entry) (h : List Entry) → commits entry.rec ≡ true
@@ -129,11 +129,11 @@ pub total-commit : (side : ℤ → ℕ) (account : ℕ) (entry : Entry) (h : Lis
     → total side account (entry ∷ h) ≡ total side account h + moved side account (updates_of (txn_of entry.rec) h)
 total-commit side account entry h is uncommitted =
     moved_by-same (λ n. is_committed n (entry ∷ h)) (λ n. is_committed n h || (txn_of entry.rec == n)) side account (entry ∷ h)
-        (λ n. is_committed-commit entry h n is)
+    (λ n. is_committed-commit entry h n is)
     ∙ (let rest = moved_by-or (λ n. is_committed n h) (txn_of entry.rec) side account h uncommitted in
-      let own : cond (is_committed (txn_of entry.rec) h || (txn_of entry.rec == txn_of entry.rec)) (moved side account (changes_of entry.rec)) 0 ≡ 0
-          = nothing (is_committed (txn_of entry.rec) h || (txn_of entry.rec == txn_of entry.rec)) in
-      omega arith)
+    let own : cond (is_committed (txn_of entry.rec) h || (txn_of entry.rec == txn_of entry.rec)) (moved side account (changes_of entry.rec)) 0 ≡ 0
+    = nothing (is_committed (txn_of entry.rec) h || (txn_of entry.rec == txn_of entry.rec)) in
+    omega arith)
   where
     nothing : (b : Bool) → cond b (moved side account (changes_of entry.rec)) 0 ≡ 0
     nothing true = ap (moved side account) (changes_of-commit entry.rec is)

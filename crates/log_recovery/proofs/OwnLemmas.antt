@@ -1,14 +1,13 @@
 -- How the records of one transaction are gathered, entry by entry.
-use Rattle.std.proofs.Common.{◌≡◌, ◌≢◌, ◌<◌, ◌≤◌, ℕ, ◌+◌, ◌||◌, Bool, List, [], ◌∷◌, ◌++◌, length, take, drop, reverse, get_or, refl, ap, ◌∙◌, sym, subst, arith, length-append}
+use Rattle.std.proofs.Common.{◌≡◌, ◌<◌, ◌≤◌, ℕ, ◌+◌, Bool, List, [], ◌∷◌, ◌++◌, length, take, drop, reverse, get_or, ap, ◌∙◌, sym, arith, length-append}
 use Rattle.std.proofs.lemmas.List.{reverse-append, take_more, take-append-drop}
 use mathlib.Core.Logic.{dite}
 use native.Mathlib.Decide.{ℕ_discrete}
-use Rattle.log_record.specs.declared.rec.Rec.{Rec}
 use Rattle.log_record.specs.declared.rec.Entry.{Entry}
 use Rattle.log_recovery.specs.declared.update.Change.{Change}
-use Rattle.log_recovery.specs.Records.{txn_of, ends, changes_of}
-use Rattle.log_recovery.specs.Transactions.{recs_of, records_of, updates_of, has_end}
-use Rattle.log_recovery.proofs.OneMore.{of_transaction-same, of_transaction-other, updates_of-same, updates_of-other}
+use Rattle.log_recovery.specs.Records.{txn_of, changes_of}
+use Rattle.log_recovery.specs.Transactions.{records_of, updates_of, has_end}
+use Rattle.log_recovery.proofs.OneMore.{updates_of-same, updates_of-other}
 
 -- one entry further, the history has that entry in front
 pub reverse-take_more : (entries : List Entry) (i : ℕ) (entry : Entry) → i < length entries → entry ≡ get_or entries i entry
@@ -20,8 +19,8 @@ pub updates_of-longer : (n : ℕ) (later h : List Entry) → length (updates_of 
 updates_of-longer n [] h = omega arith
 updates_of-longer n (entry ∷ later) h = let before = updates_of-longer n later h in dite (ℕ_discrete (txn_of entry.rec) n)
     (λ same.
-      let longer = ap length (updates_of-same n entry (later ++ h) same) in
-      let parts = length-append (changes_of entry.rec) (updates_of n (later ++ h)) in omega arith)
+    let longer = ap length (updates_of-same n entry (later ++ h) same) in
+    let parts = length-append (changes_of entry.rec) (updates_of n (later ++ h)) in omega arith)
     (λ other. let equal = ap length (updates_of-other n entry (later ++ h) other) in omega arith)
 
 -- what stands behind this entry is part of the whole

@@ -1,5 +1,5 @@
 -- The Updates of one transaction: they come in pairs, on accounts of the ledger, and are at most 16.
-use Rattle.std.proofs.Common.{◌≡◌, ◌≢◌, ◌<◌, ◌≤◌, ◌==◌, ℕ, zero, suc, ◌+◌, ◌*◌, ℤ, pos, negsuc, neg_ℤ, not, Bool, true, false, true≢false, List, [], ◌∷◌, ◌++◌, length, sym, refl, ap, ◌∙◌, subst, arith}
+use Rattle.std.proofs.Common.{◌≡◌, ◌<◌, ◌≤◌, ℕ, zero, suc, ◌+◌, ◌*◌, ℤ, pos, negsuc, neg_ℤ, not, Bool, true, false, true≢false, List, [], ◌∷◌, ◌++◌, length, sym, refl, ap, ◌∙◌, subst, arith}
 use Rattle.std.specs.List.{AllByRecursion}
 use Rattle.std.specs.Prelude.{MatchBool}
 use mathlib.Core.Logic.{dite}
@@ -12,8 +12,8 @@ use Rattle.log_recovery.specs.Records.{txn_of, changes_of, lowers, gain, loss}
 use Rattle.log_recovery.specs.Transactions.{updates_of}
 use Rattle.log_recovery.specs.Sums.{BaseState}
 use Rattle.log_recovery.specs.Tests.{KnowsAccount, CountsLegs, PairsDeltas, IsPaired, IsOpposite}
-use Rattle.log_recovery.specs.Plain.{is_odd, IsPlainlyPaired, IsOppositeOfNewest}
-use Rattle.log_recovery.proofs.Meeting.{MeetsTests, AreMet}
+use Rattle.log_recovery.specs.Plain.{is_odd}
+use Rattle.log_recovery.proofs.Meeting.{AreMet}
 use Rattle.log_recovery.proofs.OneMore.{updates_of-same, updates_of-other}
 
 -- each change is paired with those before it
@@ -40,8 +40,8 @@ pub updates_of-fits : (base : BaseState) (h : List Entry) (n : ℕ) → AreMet b
 updates_of-fits base [] n met = record { few = omega arith; paired = tt; known = tt }
 updates_of-fits base (entry ∷ h) n met = let before = updates_of-fits base h n met.1 in dite (ℕ_discrete (txn_of entry.rec) n)
     (λ same. subst (Fits base.accounts) (sym (updates_of-same n entry h same))
-      (subst (λ m. Fits base.accounts (changes_of entry.rec ++ updates_of m h)) same
-      (fits-more base h entry.rec met.0.account met.0.legs met.0.pair (subst (λ m. Fits base.accounts (updates_of m h)) (sym same) before))))
+    (subst (λ m. Fits base.accounts (changes_of entry.rec ++ updates_of m h)) same
+    (fits-more base h entry.rec met.0.account met.0.legs met.0.pair (subst (λ m. Fits base.accounts (updates_of m h)) (sym same) before))))
     (λ other. subst (Fits base.accounts) (sym (updates_of-other n entry h other)) before)
 
 pub gain-lowers : (delta : ℤ) → lowers delta ≡ true → gain delta ≡ 0

@@ -1,5 +1,5 @@
 -- In a lawful history the plain words of the format say the same as the tests.
-use Rattle.std.proofs.Common.{◌≡◌, ◌≢◌, ◌↔◌, ℕ, ◌&&◌, ◌||◌, cond, Bool, true, false, true≢false, List, [], ◌∷◌, ◌++◌, length, sym, refl, ap, ◌∙◌}
+use Rattle.std.proofs.Common.{◌≡◌, ◌↔◌, ℕ, ◌&&◌, ◌||◌, cond, Bool, true, false, true≢false, List, [], ◌∷◌, ◌++◌, length, sym, refl, ap, ◌∙◌}
 use Rattle.std.specs.List.{AllByRecursion}
 use Rattle.std.specs.Prelude.{MatchBool}
 use mathlib.Core.Logic.{dite}
@@ -9,12 +9,12 @@ use Rattle.log_record.specs.declared.rec.Entry.{Entry}
 use Rattle.log_record.specs.declared.rec.Rec.TheVariants.{Genesis, Update, Commit, Short, Over, Note}
 use Rattle.log_recovery.specs.declared.update.Change.{Change}
 use Rattle.log_recovery.specs.Records.{txn_of, commits, ends, changes_of, lowers}
-use Rattle.log_recovery.specs.Transactions.{of_transaction, recs_of, records_of, updates_of, has_end, touches}
+use Rattle.log_recovery.specs.Transactions.{recs_of, records_of, updates_of, has_end, touches}
 use Rattle.log_recovery.specs.Sums.{BaseState, last_commit_of}
 use Rattle.log_recovery.specs.Tests.{IsUnended, IsPaired, IsOpposite}
 use Rattle.log_recovery.specs.Plain.{last_commit_where, plain_last_commit, is_odd, IsOppositeOfNewest, IsPlainlyPaired}
 use Rattle.log_recovery.specs.Lawful.{IsLawful, genesis_of}
-use Rattle.log_recovery.proofs.Meeting.{MeetsTests, AreMet, met-log}
+use Rattle.log_recovery.proofs.Meeting.{AreMet, met-log}
 use Rattle.log_recovery.proofs.OneMore.{of_transaction-same, of_transaction-other, updates_of-same, updates_of-other, changes_of-commit}
 use Rattle.log_recovery.proofs.Pairing.{ArePaired, updates_of-fits, newest_lowers, newest_lowers-parity}
 

@@ -1,5 +1,5 @@
 -- Sums over the changes of one transaction, change by change; and the rows after a Commit.
-use Rattle.std.proofs.Common.{◌≡◌, ◌<◌, ◌==◌, ℕ, ◌+◌, cond, ℤ, Bool, List, [], ◌∷◌, ◌++◌, length, take, get_or, refl, ap, ◌∙◌, sym, subst, arith, set, ◌≤◌}
+use Rattle.std.proofs.Common.{◌≡◌, ◌<◌, ◌==◌, ℕ, ◌+◌, cond, ℤ, List, [], ◌∷◌, ◌++◌, length, take, get_or, refl, ap, ◌∙◌, sym, subst, arith, ◌≤◌}
 use Rattle.std.specs.Prelude.{slice_get, slice_set, Some}
 use Rattle.std.proofs.lemmas.List.{take_more, length-set, get_or-set_same, get_or-set_other}
 use Rattle.std.proofs.lemmas.Option.{get_or_from_slice_get}
@@ -35,9 +35,9 @@ settles-more changes end i old new value inside before here =
     record {
       count = omega arith;
       done = λ account below. dite (ℕ_discrete account i)
-        (λ same. subst (λ a. SettlesRow changes end a (row old a) (row (slice_set new i value) a)) (sym same)
+          (λ same. subst (λ a. SettlesRow changes end a (row old a) (row (slice_set new i value) a)) (sym same)
           (subst (SettlesRow changes end i (row old i)) (sym (get_or-set_same new i value (0, 0) (omega arith))) here))
-        (λ other. subst (SettlesRow changes end account (row old account)) (sym (get_or-set_other new i account value (0, 0) other)) (before.done account (omega arith)));
+          (λ other. subst (SettlesRow changes end account (row old account)) (sym (get_or-set_other new i account value (0, 0) other)) (before.done account (omega arith)));
       left = λ account above. get_or-set_other new i account value (0, 0) (λ same. absurd (omega arith)) ∙ before.left account (omega arith);
     }
 

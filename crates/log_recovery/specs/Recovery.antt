@@ -1,7 +1,9 @@
 -- What the bytes of a log say, and what is wrong with bytes that hold no lawful list.
 use Rattle.std.specs.Prelude.{◌≡◌, ℕ, ◌+◌, List, length}
+use Rattle.std.specs.List.{AllByRecursion}
 use Rattle.log_record.specs.declared.rec.Rec.{Rec}
 use Rattle.log_record.specs.declared.rec.Entry.{Entry}
+use Rattle.log_record.specs.Spelling.{IsSpellable}
 use Rattle.log_record.specs.LogList.{units_of, end_of}
 use Rattle.segment_file.specs.File.{IsFile, HoldsUnits, BeginsAsLog, IsBadBatchAt, written}
 use Rattle.log_recovery.specs.declared.judging.JudgeFault.{JudgeFault}
@@ -13,7 +15,7 @@ use Rattle.log_recovery.specs.History.{history}
 use Rattle.log_recovery.specs.Sums.{ShowsAccounts, greatest_txn}
 use Rattle.log_recovery.specs.Lawful.{IsLawful, genesis_of}
 use Rattle.log_recovery.specs.Faults.{IsUnlawfulAt}
-use Rattle.log_recovery.specs.Listing.{IsListOf, IsBadRecAt}
+use Rattle.log_recovery.specs.Listing.{IsBadRecAt}
 
 -- why a judge answers no accounts; want of memory says nothing of the history
 abbrev pub IsJudgeFaultOf : List Entry → JudgeFault → Type 0
@@ -22,9 +24,8 @@ IsJudgeFaultOf h judge.NoMemory = Unit {0}
 
 -- the bytes are a log file that holds these records
 pub record HoldsList (bytes : List ℕ) (records : List Rec) : Type 0 where
-  pub units : List ℕ
-  pub holds : HoldsUnits bytes units
-  pub list : IsListOf units records
+  pub each : AllByRecursion IsSpellable records
+  pub holds : HoldsUnits bytes (units_of records)
 
 -- they are a log file that holds these records, and the list is lawful
 pub record HoldsLawful (bytes : List ℕ) (records : List Rec) : Type 0 where

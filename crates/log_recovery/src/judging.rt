@@ -7,7 +7,9 @@ ghost use Rattle.log_recovery.specs.Faults.{IsFirstFailing};
 ghost use Rattle.log_recovery.specs.Judging.{IsJudged};
 ghost use Rattle.log_recovery.specs.Recovery.{IsJudgeFaultOf};
 
-use crate::kinds::{MOST_ACCOUNTS, admit_commit, admit_genesis, admit_note, admit_refusal, admit_update};
+use crate::kinds::{
+    MOST_ACCOUNTS, admit_commit, admit_genesis, admit_note, admit_refusal, admit_update,
+};
 use crate::reason::Why;
 use crate::update::Change;
 use log_record::{Entry, Rec};
@@ -32,7 +34,12 @@ fn admit(accounts: &mut Balances, front: &[Entry], entry: &Entry) -> Result<(), 
 {
     match &entry.rec {
         Rec::Genesis { account, balance } => admit_genesis(accounts, front, *account, *balance),
-        Rec::Update { txn, account, delta, prev } => {
+        Rec::Update {
+            txn,
+            account,
+            delta,
+            prev,
+        } => {
             let change = Change {
                 account: *account,
                 delta: *delta,

@@ -54,7 +54,12 @@ fn are_current(accounts: &Balances, changes: &[Change]) -> bool
 }
 
 /// Tests a Genesis, and keeps its account.
-pub fn admit_genesis(accounts: &mut Balances, front: &[Entry], account: u32, balance: u32) -> Result<(), Why>
+pub fn admit_genesis(
+    accounts: &mut Balances,
+    front: &[Entry],
+    account: u32,
+    balance: u32,
+) -> Result<(), Why>
     requires judged { IsJudged accounts.old (reverse front.now) }
     requires account { IsAccount account }
     requires balance { IsBalance balance }
@@ -71,7 +76,12 @@ pub fn admit_genesis(accounts: &mut Balances, front: &[Entry], account: u32, bal
 
 /// Tests an Update.
 #[tactic(auto, using(crate::proofs::KindLemmas::few_updates))]
-pub fn admit_update(accounts: &Balances, front: &[Entry], txn: u32, change: Change) -> Result<(), Why>
+pub fn admit_update(
+    accounts: &Balances,
+    front: &[Entry],
+    txn: u32,
+    change: Change,
+) -> Result<(), Why>
     requires { IsJudged accounts.now (reverse front.now) }
     ensures { (end : ℕ) → Judges (reverse front.now) (record { end = end; rec = Rec.Update txn change.account change.delta change.prev }) result }
 {
@@ -119,7 +129,13 @@ fn committed_changes(front: &[Entry], txn: u32, legs: u32) -> Result<ArrayVec<Ch
 }
 
 /// Tests a Commit, and settles the accounts.
-pub fn admit_commit(accounts: &mut Balances, front: &[Entry], txn: u32, legs: u32, end: Lsn) -> Result<(), Why>
+pub fn admit_commit(
+    accounts: &mut Balances,
+    front: &[Entry],
+    txn: u32,
+    legs: u32,
+    end: Lsn,
+) -> Result<(), Why>
     requires judged { IsJudged accounts.old (reverse front.now) }
     requires legs { IsLeg legs }
     ensures tests { Judges (reverse front.now) (record { end = end; rec = Rec.Commit txn legs }) result }

@@ -20,3 +20,6 @@ pub use reason::Why;
 pub use recovery::{RecoverFault, Recovered, one_answer, recover};
 pub use texts::put_accounts;
 pub use update::Change;
+
+#[cfg(test)]
+mod tests;

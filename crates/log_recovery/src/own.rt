@@ -37,7 +37,12 @@ impl Own {
         ensures changes { self.new.changes.items ≡ changes_of rec.now ++ self.old.changes.items }
     {
         match rec {
-            Rec::Update { account, delta, prev, .. } => {
+            Rec::Update {
+                account,
+                delta,
+                prev,
+                ..
+            } => {
                 let change = Change {
                     account: *account,
                     delta: *delta,

@@ -100,18 +100,19 @@ pub fn recover(alloc: Global, bytes: &[u8]) -> Result<Recovered, RecoverFault>
         Err(fault) => return Err(scan_fault(fault)),
     };
     let tail = scan.tail;
-    let entries = match records(alloc, scan.units.as_slice()) {
-        Ok(entries) => entries,
+    let list = match records(alloc, scan.units.as_slice()) {
+        Ok(list) => list,
         Err(fault) => return Err(list_fault(fault)),
     };
-    let accounts = match judge(alloc, entries.as_slice()) {
+    let entries = list.as_slice();
+    let accounts = match judge(alloc, entries) {
         Ok(accounts) => accounts,
         Err(fault) => return Err(judge_fault(fault)),
     };
     Ok(Recovered {
         lsn: tail.next,
         tail,
-        next_txn: next_txn(entries.as_slice()),
+        next_txn: next_txn(entries),
         accounts,
     })
 }

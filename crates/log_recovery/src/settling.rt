@@ -73,7 +73,9 @@ fn balance_after(balance: u32, changes: &[Change], account: u32) -> Option<u32>
     ensures { MatchOption result (LeavesRange changes.now account balance)
         (λ after. IsBalance after × IsBalanceAfter changes.now account balance after) }
 {
-    let after = (u64::from(balance) + gains(changes, account)).checked_sub(losses(changes, account))?;
+    let after = (u64::from(balance) + gains(changes, account)).checked_sub(losses(
+        changes, account,
+    ))?;
     if after <= MOST_BALANCE {
         Some(after as u32)
     } else {
@@ -106,7 +108,11 @@ pub fn settle(accounts: &mut Balances, changes: &[Change], end: Lsn) -> bool
         let Some(after) = balance_after(balance, changes, account) else {
             return false;
         };
-        accounts.set(account, after, last_commit_after(last_commit, changes, account, end));
+        accounts.set(
+            account,
+            after,
+            last_commit_after(last_commit, changes, account, end),
+        );
     }
     true
 }

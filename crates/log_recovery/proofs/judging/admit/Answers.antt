@@ -18,7 +18,7 @@ pub returns-in-Update-clause-ok : goal.returns-in-Update-clause-ok
 returns-in-Update-clause-ok c =
     let fits : SFits w32 c.in-Update.delta = search rules in
     let judges = subst (λ (delta : ℤ). Judges (reverse c.args.front.now) (record { end = c.args.entry.now.end; rec = Update c.in-Update.txn c.in-Update.account delta c.in-Update.prev }) c.admit_update.result)
-        (to_z-of_z w32 c.in-Update.delta fits) (c.admit_update.ensures c.args.entry.now.end) in
+    (to_z-of_z w32 c.in-Update.delta fits) (c.admit_update.ensures c.args.entry.now.end) in
     ok-plain (reverse c.args.front.now) c.args.entry.now (Update c.in-Update.txn c.in-Update.account c.in-Update.delta c.in-Update.prev) c.in-Update.is c.admit_update.result
     c.args.accounts.now (λ never. never) refl c.requires.judged judges
 
@@ -26,7 +26,7 @@ pub returns-in-Update-clause-why : goal.returns-in-Update-clause-why
 returns-in-Update-clause-why c =
     let fits : SFits w32 c.in-Update.delta = search rules in
     let judges = subst (λ (delta : ℤ). Judges (reverse c.args.front.now) (record { end = c.args.entry.now.end; rec = Update c.in-Update.txn c.in-Update.account delta c.in-Update.prev }) c.admit_update.result)
-        (to_z-of_z w32 c.in-Update.delta fits) (c.admit_update.ensures c.args.entry.now.end) in
+    (to_z-of_z w32 c.in-Update.delta fits) (c.admit_update.ensures c.args.entry.now.end) in
     why-judges (reverse c.args.front.now) c.args.entry.now (Update c.in-Update.txn c.in-Update.account c.in-Update.delta c.in-Update.prev) c.in-Update.is c.admit_update.result judges
 
 pub returns-in-Commit-clause-ok : goal.returns-in-Commit-clause-ok

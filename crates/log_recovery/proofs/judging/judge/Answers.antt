@@ -1,4 +1,4 @@
-use Rattle.std.proofs.Common.{◌≡◌, ◌+◌, take, drop, reverse, subst, ap, arith, rules}
+use Rattle.std.proofs.Common.{◌≡◌, ◌+◌, take, drop, reverse, subst, arith}
 use Rattle.std.proofs.lemmas.Grind.{common_steps}
 use Rattle.log_record.specs.declared.rec.Entry.{Entry}
 use Rattle.std.specs.Prelude.{List}

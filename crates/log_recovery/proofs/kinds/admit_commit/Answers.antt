@@ -1,4 +1,4 @@
-use Rattle.std.proofs.Common.{◌≡◌, ◌∙◌, sym, refl, true≢false, subst, reverse}
+use Rattle.std.proofs.Common.{◌∙◌, sym, refl, true≢false, subst, reverse}
 use Rattle.log_recovery.specs.Judging.{IsCommitting}
 use Rattle.log_recovery.proofs.KindLemmas.{updates-known, fails-stale, fails-balance, keeps-settled, passes-commit}
 use Rattle.log_recovery.proofs.kinds.admit_commit.Goals as goal
@@ -28,10 +28,11 @@ returns-clause-tests c =
 
 pub returns-clause-kept : goal.returns-clause-kept
 returns-clause-kept c =
-    let on = subst (IsCommitting (reverse c.args.front.now) c.args.txn c.args.legs) (sym c.as_slice-changes.ensures.value) c.in-Ok.ensures.ok in
-    (c.if-not-settle.ensures.room ∙ c.requires.judged.room,
-    keeps-settled c.args.accounts.now.rows (reverse c.args.front.now) c.args.txn c.args.legs c.args.end c.as_slice-changes.result.now
-    c.requires.judged.lawful c.requires.judged.rows on c.settle.new.accounts.rows c.if-not-settle.ensures.settled)
+    let on = subst (IsCommitting (reverse c.args.front.now) c.args.txn c.args.legs) (sym c.as_slice-changes.ensures.value) c.in-Ok.ensures.ok in (
+      c.if-not-settle.ensures.room ∙ c.requires.judged.room,
+      keeps-settled c.args.accounts.now.rows (reverse c.args.front.now) c.args.txn c.args.legs c.args.end c.as_slice-changes.result.now
+          c.requires.judged.lawful c.requires.judged.rows on c.settle.new.accounts.rows c.if-not-settle.ensures.settled,
+    )
 
 pub returns-in-Err-clause-tests : goal.returns-in-Err-clause-tests
 returns-in-Err-clause-tests c = c.in-Err.ensures.why c.args.end

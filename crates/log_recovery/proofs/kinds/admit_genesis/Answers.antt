@@ -1,5 +1,5 @@
-use Rattle.std.proofs.Common.{◌≡◌, ◌∙◌, sym, ap, subst, reverse, length, List, ℕ, arith}
-use Rattle.std.specs.Prelude.{◌++◌, ◌∷◌, []}
+use Rattle.std.proofs.Common.{◌∙◌, sym, ap, subst, reverse, List, arith}
+use Rattle.std.specs.Prelude.{◌∷◌}
 use Rattle.std.proofs.lemmas.List.{length-reverse}
 use Rattle.lsn_space.specs.Accounts.{Accounts}
 use Rattle.log_record.specs.declared.rec.Entry.{Entry}
@@ -16,7 +16,7 @@ returns-then-front-count-clause-tests c =
     let turned = length-reverse c.args.front.now in
     λ end. fails-genesis c.args.accounts.now.rows (reverse c.args.front.now) c.args.account c.requires.judged.rows
     (elim c.then-front-count.branch [
-      then-front-count-via-then-front-count w ↦ λ equal next. absurd (omega arith)
+      | then-front-count-via-then-front-count w ↦ λ equal next. absurd (omega arith)
       | then-front-count-via-else-front-count+then-account-count w ↦ λ equal next. absurd (omega arith)
     ]) end c.args.balance
 
@@ -35,7 +35,9 @@ returns-clause-kept c =
     let again = c.count-else-front-count.ensures in
     let turned = length-reverse c.args.front.now in
     let h : List Entry = reverse c.args.front.now in
-    λ end. (ap (λ (a : Accounts). a.room) c.push.ensures ∙ c.requires.judged.room,
+    λ end. (
+      ap (λ (a : Accounts). a.room) c.push.ensures ∙ c.requires.judged.room,
       subst (λ (a : Accounts). KeepsRows a.rows (with_genesis (Genesis c.args.account c.args.balance) (genesis_of h)) (record { end = end; rec = Genesis c.args.account c.args.balance } ∷ h))
-      (sym c.push.ensures)
-      (keeps-genesis c.args.accounts.now.rows h end c.args.account c.args.balance c.requires.judged.rows (genesis-accounts h (omega arith)) (omega arith) c.requires.balance))
+          (sym c.push.ensures)
+          (keeps-genesis c.args.accounts.now.rows h end c.args.account c.args.balance c.requires.judged.rows (genesis-accounts h (omega arith)) (omega arith) c.requires.balance),
+    )

@@ -1,4 +1,4 @@
-use Rattle.std.proofs.Common.{◌≤◌, length}
+use Rattle.std.proofs.Common.{length}
 use Rattle.log_recovery.proofs.ListingLemmas.{ReadsFront}
 use Rattle.log_recovery.proofs.listing.records.Given as goal
 

@@ -1,7 +1,7 @@
-use Rattle.std.proofs.Common.{◌≡◌, ◌<◌, ◌+◌, ℕ, cond, length, ap, sym, subst, ◌∙◌, arith}
+use Rattle.std.proofs.Common.{◌<◌, ◌+◌, ℕ, cond, length, ap, sym, subst, ◌∙◌, arith}
 use Rattle.lsn_space.specs.Accounts.{Accounts}
 use Rattle.log_recovery.specs.Transactions.{touches}
-use Rattle.log_recovery.specs.Settling.{row, IsBalanceAfter, LeavesRange, SettlesRow, LeavesSome}
+use Rattle.log_recovery.specs.Settling.{row, IsBalanceAfter, LeavesRange, SettlesRow}
 use Rattle.log_recovery.proofs.SettlingLemmas.{SettlesBelow, settles-more, row-read}
 use Rattle.log_recovery.proofs.settling.settle.Goals as goal
 
@@ -29,5 +29,5 @@ loop-account-preserved c =
     record {
       room = ap (λ (a : Accounts). a.room) c.set.ensures ∙ c.loop-account.invariant.room;
       rows = subst (SettlesBelow c.args.changes.now c.args.end (account + 1) c.args.accounts.now.rows) (sym (ap (λ (a : Accounts). a.rows) c.set.ensures))
-        (settles-more c.args.changes.now c.args.end account c.args.accounts.now.rows c.loop-account.accounts.rows (c.in-Some.after, c.last_commit_after.result) inside c.loop-account.invariant.rows here);
+          (settles-more c.args.changes.now c.args.end account c.args.accounts.now.rows c.loop-account.accounts.rows (c.in-Some.after, c.last_commit_after.result) inside c.loop-account.invariant.rows here);
     }
