@@ -35,7 +35,8 @@ end_of-prefix_to (rec ∷ records) lsn =
     refl
 
 -- a front that ends at or below an LSN is in the list up to it
-pub prefix_to-append : (front rest : List Rec) (lsn : ℕ) → end_of front ≤ lsn → prefix_to (front ++ rest) lsn ≡ front ++ prefix_to rest (lsn - end_of front)
+pub prefix_to-append : (front rest : List Rec) (lsn : ℕ) → end_of front ≤ lsn
+    → prefix_to (front ++ rest) lsn ≡ front ++ prefix_to rest (lsn - end_of front)
 prefix_to-append [] rest lsn below = ap (prefix_to rest) (omega arith)
 prefix_to-append (rec ∷ front) rest lsn below =
     let fits : nat_le (size_of rec) lsn ≡ true = le-leb (size_of rec) lsn (omega (arith, end_of-cons rec front)) in

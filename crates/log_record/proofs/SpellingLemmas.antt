@@ -26,7 +26,8 @@ cast_unsigned-injective : (d e : ℤ) → IsDelta d → IsDelta e → cast_unsig
 cast_unsigned-injective d e d_ok e_ok same =
     sym (to_z-of_z w32 d (search rules)) ∙ ap (cast_signed w32) same ∙ to_z-of_z w32 e (search rules)
 
-text_units-injective : (text other : List ℕ) → IsNoteText text → IsNoteText other → length text ≡ length other → text_units text ≡ text_units other → text ≡ other
+text_units-injective : (text other : List ℕ) → IsNoteText text → IsNoteText other
+    → length text ≡ length other → text_units text ≡ text_units other → text ≡ other
 text_units-injective text other ok other_ok len same =
     sym (text-front (text_units text) text ok.2 refl).0
     ∙ ap₂ (λ n units. take n (flat_map unit_bytes units)) len same
@@ -54,7 +55,8 @@ append-injective xs ys vs ws len same = (
   sym (drop-append_seam xs ys) ∙ ap₂ drop len same ∙ drop-append_seam vs ws,
 )
 
-pub spelling-append-injective : (r s : Rec) (x y : List ℕ) → IsSpellable r → IsSpellable s → spelling r ++ x ≡ spelling s ++ y → (r ≡ s) × (x ≡ y)
+pub spelling-append-injective : (r s : Rec) (x y : List ℕ) → IsSpellable r → IsSpellable s
+    → spelling r ++ x ≡ spelling s ++ y → (r ≡ s) × (x ≡ y)
 spelling-append-injective r s x y r_ok s_ok same =
     let q = parts_of s in let fits = parts_of-fit s s_ok in
     let front : first_unit q ∷ q.body ++ y ≡ spelling r ++ x = ap (λ units. units ++ y) (sym (spelling-parts_of s)) ∙ sym same in
@@ -70,8 +72,10 @@ spelling-append-injective r s x y r_ok s_ok same =
 
 pub units_of-injective : (L M : List Rec) → All IsSpellable L → All IsSpellable M → units_of L ≡ units_of M → L ≡ M
 units_of-injective [] [] l_ok m_ok same = refl
-units_of-injective [] (s ∷ M) l_ok m_ok same = absurd (omega (arith, ap length same, ap length (spelling-parts_of s), length-append (spelling s) (units_of M)))
-units_of-injective (r ∷ L) [] l_ok m_ok same = absurd (omega (arith, ap length same, ap length (spelling-parts_of r), length-append (spelling r) (units_of L)))
+units_of-injective [] (s ∷ M) l_ok m_ok same =
+    absurd (omega (arith, ap length same, ap length (spelling-parts_of s), length-append (spelling s) (units_of M)))
+units_of-injective (r ∷ L) [] l_ok m_ok same =
+    absurd (omega (arith, ap length same, ap length (spelling-parts_of r), length-append (spelling r) (units_of L)))
 units_of-injective (r ∷ L) (s ∷ M) l_ok m_ok same =
     let split = spelling-append-injective r s (units_of L) (units_of M) (l_ok 0 r (omega arith)) (m_ok 0 s (omega arith)) same in
     ap₂ (λ t N. t ∷ N) split.0 (units_of-injective L M (All-drop IsSpellable 1 (r ∷ L) l_ok) (All-drop IsSpellable 1 (s ∷ M) m_ok) split.1)
