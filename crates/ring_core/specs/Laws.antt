@@ -27,7 +27,7 @@ NothingUnfilledExposed s = AllByRecursion (λ (r : Reservation). r.base < s.expo
 abbrev pub IsAtRest : RingState → Type 0
 IsAtRest s = (actor : ℕ) → stage_of actor s.hands ≡ Idle
 
--- each law by its name; `in_order` is the only one that rests on releases in order
+-- each law by its name; `in_order` holds only because releases come in order
 pub record IsSound (s : RingState) : Type 0 where
   pub tiles : TilesByOwner s
   pub counted : AllByRecursion (λ (r : Reservation). r.filled ≤ r.size) s.reservations
