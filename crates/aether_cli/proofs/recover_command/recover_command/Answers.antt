@@ -9,4 +9,4 @@ returns-in-Ok-put_accounts-clause-answer g c =
 pub returns-clause-answer : goal.returns-clause-answer
 returns-clause-answer g c =
     let found = rw c.as_slice.ensures.value at c.in-Ok-recover.ensures.found in
-    answers-write _ _ _ _ _ c.in-Ok-recover.recovered c.in-Ok.ensures.all found c.in-Err.ensures.prefix
+    answers-write _ _ _ _ _ c.in-Ok-recover.recovered c.in-Ok.ensures.all found c.in-Err-put_accounts.ensures.prefix
