@@ -10,3 +10,4 @@ pub mod Settling
 pub mod Sums
 pub mod Tests
 pub mod Transactions
+pub mod Witness
