@@ -11,3 +11,4 @@ pub mod Sums
 pub mod Tests
 pub mod Text
 pub mod Transactions
+pub mod Witness

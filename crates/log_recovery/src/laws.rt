@@ -10,6 +10,7 @@ ghost use Rattle.log_recovery.specs.Sums.{BaseState, IsBalanceOf, balance_of, Ar
 ghost use Rattle.log_recovery.specs.Tests.{IsPaired};
 ghost use Rattle.log_recovery.specs.Lawful.{IsLawful, IsLawfulAfter, genesis_of};
 ghost use Rattle.log_recovery.specs.Plain.{plain_last_commit, IsPlainlyPaired};
+ghost use Rattle.log_recovery.specs.Witness.{genesis_log};
 
 /// A law: a front of a lawful list is lawful.
 pub fn lawful_front()
@@ -38,4 +39,10 @@ pub fn plain_words()
         → plain_last_commit (genesis_of h) h account ≡ last_commit_of (genesis_of h) h account }
     ensures pair { (h : List Entry) (txn : ℕ) (change : Change) → IsLawful h
         → IsPaired (updates_of txn h) change ↔ IsPlainlyPaired (updates_of txn h) change }
+{}
+
+/// A witness that the premises of these laws can be met: the log of two accounts, of balances 100 and 0.
+pub fn genesis_log_is_lawful()
+    ensures lawful { IsLawful (history genesis_log) }
+    ensures spellable { AllByRecursion (λ entry. IsSpellable entry.rec) (history genesis_log) }
 {}

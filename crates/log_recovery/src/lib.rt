@@ -14,7 +14,7 @@ mod texts;
 mod update;
 
 pub use judging::{JudgeFault, judge};
-pub use laws::{balances_in_range, lawful_front, plain_words, sum_is_kept};
+pub use laws::{balances_in_range, genesis_log_is_lawful, lawful_front, plain_words, sum_is_kept};
 pub use listing::{ListFault, records};
 pub use reason::Why;
 pub use recovery::{RecoverFault, Recovered, one_answer, recover};
