@@ -84,5 +84,5 @@ rows_text-shown lsn rows records end shows =
     let h = history records in
     let base = genesis_of h in
     let same = account_lines-same (balance_in rows) (balance_of base h) base.accounts
-        (λ account below. balance_in-row rows account (balance_of base h account, last_commit_of base h account) (shows.each account below)) in
+    (λ account below. balance_in-row rows account (balance_of base h account, last_commit_of base h account) (shows.each account below)) in
     rw (end, shows.count, same) refl

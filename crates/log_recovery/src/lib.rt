@@ -22,4 +22,6 @@ pub use texts::put_accounts;
 pub use update::Change;
 
 #[cfg(test)]
+mod hostile;
+#[cfg(test)]
 mod tests;
