@@ -3,13 +3,11 @@ use Rattle.std.proofs.Common.{◌≡◌, ℕ, List, [], Option, Some, None, IfSo
 use Rattle.std.specs.Io.KnownBytes.{Appends}
 use Rattle.log_disk.specs.Streams.{AppendsPrefix}
 use Rattle.log_recovery.specs.declared.recovery.Recovered.{Recovered}
-use Rattle.log_recovery.specs.declared.recovery.RecoverFault.{RecoverFault}
-use Rattle.log_recovery.specs.declared.recovery.RecoverFault.TheVariants.{NotALog, BadBatch, BadRec, Unlawful, NoMemory}
-use Rattle.log_recovery.specs.Recovery.{Recovers, IsFaultOf}
+use Rattle.log_recovery.specs.Recovery.{Recovers}
 use Rattle.log_recovery.specs.Text.{rows_text}
 use Rattle.log_recovery.proofs.TextLemmas.{rows_text-shown}
 use Rattle.aether_cli.specs.declared.report.Detail.TheVariants.{Fine, Write}
-use Rattle.aether_cli.specs.Answers.{AnswersRecover, recover_detail}
+use Rattle.aether_cli.specs.Answers.{AnswersRecover}
 
 -- what was read is all that was left
 abbrev pub ReadsAll : Option (List ℕ) → Option (List ℕ) → List ℕ → Type 0
@@ -28,18 +26,3 @@ answers-write None left_new old new bytes r read recovers written = tt
 answers-write (Some all) left_new old new bytes r read recovers written =
     let found = subst (λ b. Recovers r b) read.0 recovers in
     (read.1, found.records, found.held, rw (rows_text-shown _ _ found.records found.lsn found.accounts) at written)
-
--- the same at bytes that are known
-fault-known : (all : List ℕ) (left_new old new : Option (List ℕ)) (fault : RecoverFault) → left_new ≡ Some [] → IsFaultOf all fault
-    → AnswersRecover all left_new old new (recover_detail fault)
-fault-known all left_new old new NotALog end has = (end, has)
-fault-known all left_new old new (BadBatch offset) end has = (end, has)
-fault-known all left_new old new (BadRec lsn) end has = (end, has)
-fault-known all left_new old new (Unlawful lsn why) end has = (end, has)
-fault-known all left_new old new NoMemory end has = tt
-
-pub answers-fault : (left left_new old new : Option (List ℕ)) (bytes : List ℕ) (fault : RecoverFault) → ReadsAll left left_new bytes
-    → IsFaultOf bytes fault → IfSome left (λ all. AnswersRecover all left_new old new (recover_detail fault))
-answers-fault None left_new old new bytes fault read has = tt
-answers-fault (Some all) left_new old new bytes fault read has =
-    fault-known all left_new old new fault read.1 (subst (λ b. IsFaultOf b fault) read.0 has)

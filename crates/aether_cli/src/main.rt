@@ -3,7 +3,6 @@
 
 mod command;
 mod faults;
-mod genesis;
 mod input;
 mod recover_command;
 mod report;

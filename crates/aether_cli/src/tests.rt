@@ -4,7 +4,8 @@ use crate::faults::put_fault;
 use crate::report::{Detail, Report};
 use crate::top::aether;
 use log_disk::{MemorySink, MemorySource};
-use lsn_space::Word;
+use log_recovery::Why;
+use lsn_space::{Lsn, Word};
 use std::test::Fail;
 
 /// Two accounts, with balances 100 and 0.
@@ -13,6 +14,17 @@ const GENESIS_LOG: [u8; 45] = [
     1, 2, 0, 0, 0, 0, 0, 0, 0, 0, 0, 0, 0, 0, 0, 0x64, //
     1, 2, 0, 1, 0, 0, 0, 0, 0, 0, 0, 0, 0, 0, 0, 0, 0,
 ];
+
+/// Then transaction 1 moves 30 from account 0 to account 1.
+const ONE_TRANSFER: &[u8] =
+    b"O\0\0\0\x05\x02\x02\0\0\0\0\0\x01\xff\xff\xff\xe2\0\0\0\0\x02\x02\0\x01\0\0\0\x01\0\0\0\x1e\0\0\0\0\x03\x01\0\x01\0\0\0\x01\0";
+
+/// The same transfer as transaction 7, without an end.
+const UNFINISHED_TRANSFER: &[u8] =
+    b"O\0\0\0\x04\x02\x02\0\0\0\0\0\x07\xff\xff\xff\xe2\0\0\0\0\x02\x02\0\x01\0\0\0\x07\0\0\0\x1e\0\0\0\0\0";
+
+/// An update that names 4 as the last commit of its account, which has none.
+const WRONG_PREDECESSOR: &[u8] = b"O\0\0\0\x02\x02\x02\0\0\0\0\0\x01\xff\xff\xff\xe2\0\0\0\x04\0";
 
 const GENESIS_TEXT: &[u8] = b"lsn 4\n0 100\n1 0\n";
 
@@ -42,16 +54,60 @@ fn sink_of(rt: &HostRuntime, failing: &[u64]) -> Result<MemorySink, Fail> {
 }
 
 #[test]
-fn recovers_the_genesis_log(rt: HostRuntime) -> Result<(), Fail> {
+fn recovers_logs(rt: HostRuntime) -> Result<(), Fail> {
     let (front, _) = GENESIS_LOG.split_at(44);
-    let rests: [&[u8]; 4] = [&[0], &[0, 0xff, 0xff], &[], &[0x4f]];
-    for rest in rests {
+    let cases: [(&[u8], &[u8]); 6] = [
+        (&[0], GENESIS_TEXT),
+        (&[0, 0xff, 0xff], GENESIS_TEXT),
+        (&[], GENESIS_TEXT),
+        (&[0x4f], GENESIS_TEXT),
+        (ONE_TRANSFER, b"lsn 9\n0 70\n1 30\n"),
+        (UNFINISHED_TRANSFER, b"lsn 8\n0 100\n1 0\n"),
+    ];
+    for (rest, text) in cases {
         let mut bytes = Vec::from_slice(rt.alloc(), front)?;
         bytes.extend_from_slice(rest)?;
         let mut out = sink_of(&rt, &[])?;
         let report = answer_of(&rt, &["aether", "recover"], bytes.as_slice(), &[], &mut out)?;
         assert_eq!(rt; report, Report::of(Detail::Fine), "{rest:?}");
-        assert_eq!(rt; out.bytes(), GENESIS_TEXT, "{rest:?}");
+        assert_eq!(rt; out.bytes(), text, "{rest:?}");
+    }
+    Ok(())
+}
+
+#[test]
+fn names_what_is_wrong_with_a_log(rt: HostRuntime) -> Result<(), Fail> {
+    let (front, _) = GENESIS_LOG.split_at(44);
+    let (cut, _) = ONE_TRANSFER.split_at(16);
+    let cases: [(&[u8], Detail, &[u8]); 3] = [
+        (
+            cut,
+            Detail::BadBatch { offset: 44 },
+            b"aether: bad batch at byte 44\n",
+        ),
+        (
+            b"O\0\0\0\x01\0\0\0\0\0\0\0\0\0",
+            Detail::BadRec { lsn: Lsn::new(4) },
+            b"aether: bad record at lsn 4\n",
+        ),
+        (
+            WRONG_PREDECESSOR,
+            Detail::Unlawful {
+                lsn: Lsn::new(4),
+                why: Why::Prev,
+            },
+            b"aether: unlawful record at lsn 4: prev\n",
+        ),
+    ];
+    for (rest, detail, line) in cases {
+        let mut bytes = Vec::from_slice(rt.alloc(), front)?;
+        bytes.extend_from_slice(rest)?;
+        let mut out = sink_of(&rt, &[])?;
+        let report = answer_of(&rt, &["aether", "recover"], bytes.as_slice(), &[], &mut out)?;
+        assert_eq!(rt; report, Report::of(detail), "{rest:?}");
+        assert!(rt; out.bytes().is_empty(), "{rest:?}");
+        assert!(rt; put_fault(&report, &mut out).is_ok());
+        assert_eq!(rt; out.bytes(), line);
     }
     Ok(())
 }
