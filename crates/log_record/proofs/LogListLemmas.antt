@@ -1,5 +1,5 @@
 -- Fronts and boundaries of a log list.
-use Rattle.std.proofs.Common.{rules, ◌≡◌, ◌∙◌, ◌+◌, ◌-◌, ◌<◌, ◌≤◌, ℕ, zero, suc, Bool, true, false, if◌then◌else◌, List, [], ◌∷◌, ◌++◌, length, map, refl, sym, subst, ap, ap₂, arith, nat_le, length-append, append-nil, Contains, get_or}
+use Rattle.std.proofs.Common.{◌≡◌, ◌∙◌, ◌+◌, ◌-◌, ◌<◌, ◌≤◌, ℕ, zero, suc, true, false, if◌then◌else◌, List, [], ◌∷◌, ◌++◌, length, map, refl, sym, subst, ap, ap₂, arith, nat_le, length-append, append-nil, Contains, get_or}
 use Rattle.std.proofs.lemmas.Bool.{leb-true, le-leb}
 use Rattle.std.proofs.lemmas.List.Concat.{flat_map-append}
 use Rattle.log_record.specs.declared.rec.Rec.{Rec}
@@ -35,7 +35,8 @@ end_of-prefix_to (rec ∷ records) lsn =
     refl
 
 -- a front that ends at or below an LSN is in the list up to it
-pub prefix_to-append : (front rest : List Rec) (lsn : ℕ) → end_of front ≤ lsn → prefix_to (front ++ rest) lsn ≡ front ++ prefix_to rest (lsn - end_of front)
+pub prefix_to-append : (front rest : List Rec) (lsn : ℕ) → end_of front ≤ lsn
+    → prefix_to (front ++ rest) lsn ≡ front ++ prefix_to rest (lsn - end_of front)
 prefix_to-append [] rest lsn below = ap (prefix_to rest) (omega arith)
 prefix_to-append (rec ∷ front) rest lsn below =
     let fits : nat_le (size_of rec) lsn ≡ true = le-leb (size_of rec) lsn (omega (arith, end_of-cons rec front)) in
@@ -75,7 +76,7 @@ end_of-prefix_to-front front rest =
     let more = prefix_to rest (end_of front - end_of front) in
     let is = prefix_to-append front rest (end_of front) (omega arith) in
     let longer : end_of (front ++ more) ≡ end_of front + end_of more =
-        ap length (flat_map-append spelling front more) ∙ length-append (units_of front) (units_of more) in
+    ap length (flat_map-append spelling front more) ∙ length-append (units_of front) (units_of more) in
     omega (arith, ap end_of is, longer, end_of-prefix_to (front ++ rest) (end_of front))
 
 pub boundary_is_front : (records : List Rec) (lsn : ℕ) → IsBoundary records lsn

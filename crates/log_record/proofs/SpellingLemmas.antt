@@ -1,16 +1,16 @@
 -- Each record has one spelling, and no spelling is a front of another.
-use Rattle.std.proofs.Common.{rules, ◌≡◌, ◌∙◌, ◌+◌, ◌*◌, ◌<◌, ◌≤◌, ◌^◌, ℕ, zero, suc, ℤ, List, [], ◌∷◌, ◌++◌, length, take, drop, All, refl, sym, ap, ap₂, arith, length-append}
+use Rattle.std.proofs.Common.{rules, ◌≡◌, ◌∙◌, ◌+◌, ◌*◌, ◌^◌, ℕ, ℤ, List, [], ◌∷◌, ◌++◌, length, take, drop, All, refl, sym, ap, ap₂, arith, length-append}
 use Rattle.std.specs.Int.{w32, cast_unsigned, cast_signed}
 use Rattle.std.specs.List.{flat_map}
-use Rattle.std.proofs.lemmas.Int.{ints, to_z-of_z}
+use Rattle.std.proofs.lemmas.Int.{to_z-of_z}
 use Rattle.std.proofs.lemmas.List.Elements.{All-drop}
 use Rattle.std.proofs.Math.Seq.{take-append_seam, drop-append_seam}
 use Rattle.lsn_space.specs.Unit.{unit_bytes}
 use Rattle.log_record.specs.declared.rec.Rec.{Rec}
 use Rattle.log_record.specs.declared.rec.Rec.TheVariants.{Genesis, Update, Commit, Short, Over, Note}
 use Rattle.log_record.specs.LogList.{units_of}
-use Rattle.log_record.specs.Spelling.{header, spelling, text_units, IsDelta, IsNoteText, IsSpellable, BeginsWith}
-use Rattle.log_record.proofs.Fronts.{Parts, parts_of, parts_of-fit, parts_of-front, first_unit, spelling-parts_of, header-injective}
+use Rattle.log_record.specs.Spelling.{spelling, text_units, IsDelta, IsNoteText, IsSpellable}
+use Rattle.log_record.proofs.Fronts.{parts_of, parts_of-fit, parts_of-front, first_unit, spelling-parts_of, header-injective}
 use Rattle.log_record.proofs.TextLemmas.{text-front}
 
 -- parts whose first units are the same are the same but for their bodies
@@ -19,14 +19,15 @@ first_unit-injective : (r s : Rec) → IsSpellable r → IsSpellable s → first
 first_unit-injective r s r_ok s_ok same =
     let p = parts_of r in let q = parts_of s in let fits = parts_of-fit r r_ok in let holds = parts_of-fit s s_ok in
     let parts = header-injective p.kind (1 + length p.body) p.field p.txn q.kind (1 + length q.body) q.field q.txn
-        (omega (arith, fits.count)) (omega (arith, holds.count)) fits.field holds.field fits.txn holds.txn same in
+    (omega (arith, fits.count)) (omega (arith, holds.count)) fits.field holds.field fits.txn holds.txn same in
     (parts.2, parts.3)
 
 cast_unsigned-injective : (d e : ℤ) → IsDelta d → IsDelta e → cast_unsigned w32 d ≡ cast_unsigned w32 e → d ≡ e
 cast_unsigned-injective d e d_ok e_ok same =
     sym (to_z-of_z w32 d (search rules)) ∙ ap (cast_signed w32) same ∙ to_z-of_z w32 e (search rules)
 
-text_units-injective : (text other : List ℕ) → IsNoteText text → IsNoteText other → length text ≡ length other → text_units text ≡ text_units other → text ≡ other
+text_units-injective : (text other : List ℕ) → IsNoteText text → IsNoteText other
+    → length text ≡ length other → text_units text ≡ text_units other → text ≡ other
 text_units-injective text other ok other_ok len same =
     sym (text-front (text_units text) text ok.2 refl).0
     ∙ ap₂ (λ n units. take n (flat_map unit_bytes units)) len same
@@ -54,12 +55,13 @@ append-injective xs ys vs ws len same = (
   sym (drop-append_seam xs ys) ∙ ap₂ drop len same ∙ drop-append_seam vs ws,
 )
 
-pub spelling-append-injective : (r s : Rec) (x y : List ℕ) → IsSpellable r → IsSpellable s → spelling r ++ x ≡ spelling s ++ y → (r ≡ s) × (x ≡ y)
+pub spelling-append-injective : (r s : Rec) (x y : List ℕ) → IsSpellable r → IsSpellable s
+    → spelling r ++ x ≡ spelling s ++ y → (r ≡ s) × (x ≡ y)
 spelling-append-injective r s x y r_ok s_ok same =
     let q = parts_of s in let fits = parts_of-fit s s_ok in
     let front : first_unit q ∷ q.body ++ y ≡ spelling r ++ x = ap (λ units. units ++ y) (sym (spelling-parts_of s)) ∙ sym same in
     let found = parts_of-front r q.kind (1 + length q.body) q.field q.txn (first_unit q) (q.body ++ y) x r_ok
-        (omega (arith, fits.count)) fits.field fits.txn refl front in
+    (omega (arith, fits.count)) fits.field fits.txn refl front in
     let len : length (spelling r) ≡ length (spelling s) = omega (arith, ap length (spelling-parts_of s)) in
     let split = append-injective (spelling r) x (spelling s) y len same in
     let whole : first_unit (parts_of r) ∷ (parts_of r).body ≡ first_unit q ∷ q.body = sym (spelling-parts_of r) ∙ split.0 ∙ spelling-parts_of s in
@@ -70,8 +72,10 @@ spelling-append-injective r s x y r_ok s_ok same =
 
 pub units_of-injective : (L M : List Rec) → All IsSpellable L → All IsSpellable M → units_of L ≡ units_of M → L ≡ M
 units_of-injective [] [] l_ok m_ok same = refl
-units_of-injective [] (s ∷ M) l_ok m_ok same = absurd (omega (arith, ap length same, ap length (spelling-parts_of s), length-append (spelling s) (units_of M)))
-units_of-injective (r ∷ L) [] l_ok m_ok same = absurd (omega (arith, ap length same, ap length (spelling-parts_of r), length-append (spelling r) (units_of L)))
+units_of-injective [] (s ∷ M) l_ok m_ok same =
+    absurd (omega (arith, ap length same, ap length (spelling-parts_of s), length-append (spelling s) (units_of M)))
+units_of-injective (r ∷ L) [] l_ok m_ok same =
+    absurd (omega (arith, ap length same, ap length (spelling-parts_of r), length-append (spelling r) (units_of L)))
 units_of-injective (r ∷ L) (s ∷ M) l_ok m_ok same =
     let split = spelling-append-injective r s (units_of L) (units_of M) (l_ok 0 r (omega arith)) (m_ok 0 s (omega arith)) same in
     ap₂ (λ t N. t ∷ N) split.0 (units_of-injective L M (All-drop IsSpellable 1 (r ∷ L) l_ok) (All-drop IsSpellable 1 (s ∷ M) m_ok) split.1)

@@ -18,14 +18,16 @@ small_at (b ∷ bytes) small zero = small 0 0 (omega arith)
 small_at (b ∷ bytes) small (suc i) = small_at bytes (All-drop IsByte 1 (b ∷ bytes) small) i
 
 -- units are read back from their bytes
-pub units_from-unit_bytes : (units : List ℕ) → All (λ unit. unit < 2 ^ 64) units → units_from (length units) (flat_map unit_bytes units) ≡ units
+pub units_from-unit_bytes : (units : List ℕ) → All (λ unit. unit < 2 ^ 64) units
+    → units_from (length units) (flat_map unit_bytes units) ≡ units
 units_from-unit_bytes [] below = refl
 units_from-unit_bytes (u ∷ units) below =
     ap (λ v. v ∷ units_from (length units) (flat_map unit_bytes units)) (from_be_bytes-to_be_bytes_8 u (below 0 0 (omega arith)))
     ∙ ap (λ us. u ∷ us) (units_from-unit_bytes units (All-drop (λ unit. unit < 2 ^ 64) 1 (u ∷ units) below))
 
 -- bytes are read back from their units
-pub unit_bytes-units_from : (n : ℕ) (bytes : List ℕ) → length bytes ≡ 8 * n → All IsByte bytes → flat_map unit_bytes (units_from n bytes) ≡ bytes
+pub unit_bytes-units_from : (n : ℕ) (bytes : List ℕ) → length bytes ≡ 8 * n → All IsByte bytes
+    → flat_map unit_bytes (units_from n bytes) ≡ bytes
 unit_bytes-units_from zero [] len small = refl
 unit_bytes-units_from zero (b ∷ bytes) len small = absurd (omega arith)
 unit_bytes-units_from (suc n) bytes len small =

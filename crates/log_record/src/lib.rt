@@ -6,6 +6,8 @@ mod laws;
 mod note;
 mod reading;
 mod rec;
+#[cfg(test)]
+mod tests;
 mod text;
 mod units;
 mod writing;

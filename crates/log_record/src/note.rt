@@ -3,6 +3,7 @@
 ghost use Rattle.std.specs.Prelude.{◌≡◌, ◌↔◌, ◌-◌, ◌*◌, ◌≤◌, ◌++◌, ℕ, List, length, replicate, All, IsTrue, IfOk, OnErr};
 ghost use Rattle.std.specs.List.{flat_map};
 ghost use Rattle.lsn_space.specs.Unit.{unit_bytes};
+ghost use Rattle.log_record.specs.declared.text.TheConstants.{LONGEST_NOTE};
 ghost use Rattle.log_record.specs.Spelling.{text_units, units_for, IsPrintable, IsNoteText};
 
 use crate::reading::BadRec;
@@ -13,7 +14,7 @@ use lsn_space::{bytes_of, unit_of};
 
 /// How many units the bytes of a note take.
 pub fn note_units(len: usize) -> usize
-    requires { len ≤ 200 }
+    requires { len ≤ LONGEST_NOTE }
     ensures { result ≡ units_for len }
 {
     (len + 7) / 8
@@ -21,7 +22,7 @@ pub fn note_units(len: usize) -> usize
 
 /// Appends the units of a text: its bytes, then zero bytes to the end of the last unit.
 pub fn push_text(units: &mut Units, text: &[u8])
-    requires fits { length text.now ≤ 200 }
+    requires fits { length text.now ≤ LONGEST_NOTE }
     requires room { length units.old ≤ 1 }
     ensures { units.new ≡ units.old ++ text_units text.now }
 {
@@ -34,8 +35,8 @@ pub fn push_text(units: &mut Units, text: &[u8])
 
 /// The text, with zero bytes behind it.
 fn buffer_of(text: &[u8]) -> [u8; LONGEST_NOTE]
-    requires { length text.now ≤ 200 }
-    ensures { result ≡ text.now ++ replicate (200 - length text.now) 0 }
+    requires { length text.now ≤ LONGEST_NOTE }
+    ensures { result ≡ text.now ++ replicate (LONGEST_NOTE - length text.now) 0 }
 {
     let mut bytes = [0; LONGEST_NOTE];
     bytes[..text.len()].copy_from_slice(text);
@@ -57,10 +58,11 @@ fn bytes_in(units: &[u64]) -> ArrayVec<u8, 200>
 
 /// The text of `len` bytes in these units, if its bytes are printable and what follows it is zero.
 pub fn read_text(len: usize, units: &[u64]) -> Result<Text, BadRec>
-    requires short { len ≤ 200 }
+    requires some { 1 ≤ len }
+    requires short { len ≤ LONGEST_NOTE }
     requires count { length units.now ≡ units_for len }
     ensures found { IfOk result (λ text. (length text ≡ len) × (units.now ≡ text_units text)) }
-    ensures printable { 1 ≤ len → IfOk result IsNoteText }
+    ensures note { IfOk result IsNoteText }
     ensures bad { OnErr result ((text : List ℕ) → IsNoteText text → length text ≡ len → units.now ≡ text_units text → ⊥) }
 {
     let bytes = bytes_in(units);

@@ -6,7 +6,9 @@ ghost use Rattle.log_record.specs.Spelling.{spelling, IsTxn, IsLeg, BeginsWith};
 ghost use Rattle.log_record.specs.declared.header.TheConstants.{COMMIT, GENESIS, NOTE, OVER, SHORT, UPDATE};
 ghost use Rattle.log_record.specs.Reading.{header_unit, Spells};
 
-use crate::header::{COMMIT, GENESIS, Header, NOTE, OVER, SHORT, UPDATE};
+use crate::header::{
+    ACCOUNTS, COMMIT, GENESIS, Header, MOST_BALANCE, MOST_LEGS, NOTE, OVER, SHORT, UPDATE,
+};
 use crate::note::{note_units, read_text};
 use crate::rec::Rec;
 use crate::text::LONGEST_NOTE;
@@ -65,7 +67,7 @@ fn genesis(header: Header, body: &[u64]) -> Result<Rec, BadRec>
     ensures bad { OnErr result ((r : Rec) → Spells header body.now r → ⊥) }
 {
     match body {
-        [balance] if header.txn == 0 && header.field < 4096 && *balance <= 0x7fff_ffff => {
+        [balance] if header.txn == 0 && header.field < ACCOUNTS && *balance <= MOST_BALANCE => {
             Ok(Rec::Genesis {
                 account: header.field as u32,
                 balance: *balance as u32,
@@ -85,7 +87,7 @@ fn update(header: Header, body: &[u64]) -> Result<Rec, BadRec>
         return Err(BadRec);
     };
     let delta = ((*unit >> 32) as u32).cast_signed();
-    if header.txn == 0 || header.field >= 4096 || delta == 0 || delta == i32::MIN {
+    if header.txn == 0 || header.field >= ACCOUNTS || delta == 0 || delta == i32::MIN {
         return Err(BadRec);
     }
     Ok(Rec::Update {
@@ -145,7 +147,7 @@ fn over(header: Header, body: &[u64]) -> Result<Rec, BadRec>
 fn is_end(header: Header, body: &[u64]) -> bool
     ensures { IsTrue result ↔ (IsTxn header.txn × IsLeg header.field × (body.now ≡ [])) }
 {
-    header.txn != 0 && matches!(header.field, 1..=8) && body.is_empty()
+    header.txn != 0 && matches!(header.field, 1..=MOST_LEGS) && body.is_empty()
 }
 
 fn note(header: Header, body: &[u64]) -> Result<Rec, BadRec>

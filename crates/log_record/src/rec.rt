@@ -2,7 +2,7 @@ use crate::text::Text;
 use lsn_space::Lsn;
 
 /// A record of the log.
-#[derive(Debug, Drop)]
+#[derive(Debug, PartialEq, Eq, Drop)]
 pub enum Rec {
     /// The account exists from here on, with this balance. Genesis records begin a log.
     Genesis {
@@ -45,7 +45,7 @@ pub enum Rec {
 }
 
 /// A record in its place in the log: it ends right before this LSN.
-#[derive(Debug, Drop)]
+#[derive(Debug, PartialEq, Eq, Drop)]
 pub struct Entry {
     pub end: Lsn,
     pub rec: Rec,

@@ -13,3 +13,4 @@ pub mod Plainly
 pub mod Ranging
 pub mod RecoveryLemmas
 pub mod SettlingLemmas
+pub mod TextLemmas

@@ -9,5 +9,6 @@ pub mod Recovery
 pub mod Settling
 pub mod Sums
 pub mod Tests
+pub mod Text
 pub mod Transactions
 pub mod Witness

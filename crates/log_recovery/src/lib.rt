@@ -10,6 +10,7 @@ mod own;
 mod reason;
 mod recovery;
 mod settling;
+mod texts;
 mod update;
 
 pub use judging::{JudgeFault, judge};
@@ -17,7 +18,10 @@ pub use laws::{balances_in_range, genesis_log_is_lawful, lawful_front, plain_wor
 pub use listing::{ListFault, records};
 pub use reason::Why;
 pub use recovery::{RecoverFault, Recovered, one_answer, recover};
+pub use texts::put_accounts;
 pub use update::Change;
 
+#[cfg(test)]
+mod hostile;
 #[cfg(test)]
 mod tests;

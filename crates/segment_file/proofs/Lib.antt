@@ -1,3 +1,9 @@
+pub mod Appends
 pub mod BatchLemmas
 pub mod FileLemmas
+pub mod GateBytes
 pub mod OneReading
+pub mod PackingLemmas
+pub mod Results
+pub mod Seams
+pub mod StandingLemmas

@@ -1,3 +1,6 @@
 pub mod File
+pub mod Gates
+pub mod Packing
 pub mod Scan
+pub mod Standing
 pub mod Taking

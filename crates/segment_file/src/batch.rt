@@ -1,80 +1,101 @@
-ghost use Rattle.std.specs.Prelude.{◌≡◌, ◌++◌, ◌+◌, ◌*◌, ◌%◌, ◌<◌, ◌≤◌, ◌^◌, List, ℕ, length, IfOk, OnErr, IfSome, IfNone, IsErrOf};
-ghost use Rattle.std.specs.List.{flat_map};
+ghost use Rattle.std.specs.Prelude.{◌≡◌, ◌<◌, ◌≤◌, ◌+◌, ◌++◌, ◌∷◌, ◌↔◌, [], IsTrue, take, drop, length, vec_capacity, IfOk};
 ghost use Rattle.std.specs.Int.{w32, to_be_bytes};
 ghost use Rattle.lsn_space.specs.Unit.{unit_bytes};
-ghost use Rattle.segment_file.specs.File.{IsCountedBatch, batch, AreUnits, HasNoBatch};
-ghost use Rattle.segment_file.specs.Taking.{TakesBatch};
+ghost use Rattle.segment_file.specs.File.{magic};
 
-use crate::layout::MOST_UNITS;
-use lsn_space::{LAST, unit_of};
-use std::alloc::AllocError;
+use crate::layout::HEAD;
+use lsn_space::{NoMemory, bytes_of};
+use std::alloc::Global;
+use std::marker::Model;
 
-/// Why no batch was taken.
-#[derive(Clone, Copy, Debug, PartialEq, Eq)]
-pub enum BatchFault {
-    Bad,
-    NoMemory,
+/// Units that go to the disk in one piece. Contracts see them, and for how many there is room.
+#[derive(Drop)]
+pub struct Batch {
+    /// The magic bytes, the number of units in four bytes, and the units.
+    pub(crate) bytes: Vec<u8>,
+    room: u32,
 }
 
-/// The number of units of the batch that the bytes begin with, their bytes, and the bytes behind them.
-fn split_batch(bytes: &[u8]) -> Option<(u32, &[u8], &[u8])>
-    ensures counted { IfSome result (λ b. (0 < b.0) × (b.0 ≤ MOST_UNITS) × (length b.1.now ≡ 8 * b.0)) }
-    ensures whole { IfSome result (λ b. bytes.now ≡ to_be_bytes w32 b.0 ++ b.1.now ++ b.2.now) }
-    ensures only { IfSome result (λ b. (units rest : List ℕ) → IsCountedBatch units → bytes.now ≡ batch units ++ rest → b.0 ≡ length units) }
-    ensures none { IfNone result ((units rest : List ℕ) → IsCountedBatch units → bytes.now ≡ batch units ++ rest → ⊥) }
+impl Model for Batch {
+    ghost use Rattle.std.specs.Prelude.{drop, vec_capacity};
+    ghost use Rattle.segment_file.specs.Packing.{BatchState, units_in, IsPacked};
+
+    ghost Value = { BatchState };
+
+    ghost view = { λ b. record { units = units_in (drop 11 b.bytes.items); room = b.room } };
+
+    ghost invariant = { λ b. IsPacked b.bytes.items (units_in (drop 11 b.bytes.items)) b.room (vec_capacity b.bytes) };
+}
+
+impl Batch {
+    /// No units, and room for so many.
+    pub fn make(alloc: Global, units: u32) -> Result<Batch, NoMemory>
+        ensures { IfOk result (λ batch. (batch.units ≡ []) × (batch.room ≡ units)) }
+    {
+        let bytes = head(alloc, HEAD + 2 + 8 * units as usize)?;
+        Ok(Batch { bytes, room: units })
+    }
+
+    /// Adds a unit behind the others.
+    pub fn push(&mut self, unit: u64)
+        requires { length self.old.units < self.old.room }
+        ensures { self.new ≡ record self.old { units = self.old.units ++ unit ∷ [] } }
+    {
+        let count = self.count() + 1;
+        put_count(&mut self.bytes, count);
+        put_unit(&mut self.bytes, unit);
+    }
+
+    /// Drops all units.
+    pub fn clear(&mut self)
+        ensures { self.new ≡ record self.old { units = [] } }
+    {
+        self.bytes.truncate(HEAD);
+        put_count(&mut self.bytes, 0);
+    }
+
+    /// The number of units.
+    pub fn count(&self) -> u32
+        ensures { result ≡ length self.now.units }
+    {
+        ((self.bytes.len() - HEAD) / 8) as u32
+    }
+
+    /// Whether there is no room for another unit.
+    pub fn is_full(&self) -> bool
+        ensures { IsTrue result ↔ (self.now.room ≤ length self.now.units) }
+    {
+        self.room <= self.count()
+    }
+}
+
+/// The magic bytes and a count of 0.
+fn head(alloc: Global, capacity: usize) -> Result<Vec<u8>, NoMemory>
+    requires { HEAD ≤ capacity }
+    ensures bytes { IfOk result (λ bytes. bytes.items ≡ magic ++ to_be_bytes w32 0) }
+    ensures capacity { IfOk result (λ bytes. capacity ≤ vec_capacity bytes) }
 {
-    let [a, b, c, d, rest @ ..] = bytes else {
-        return None;
+    let Ok(mut bytes) = Vec::with_capacity(alloc, capacity) else {
+        return Err(NoMemory);
     };
-    let count = u32::from_be_bytes([*a, *b, *c, *d]);
-    if count == 0 || count > MOST_UNITS || rest.len() < 8 * count as usize {
-        return None;
-    }
-    let (body, after) = rest.split_at(8 * count as usize);
-    Some((count, body, after))
+    bytes.extend_from_slice(b"AETHER1\0\0\0\0").unwrap();
+    Ok(bytes)
 }
 
-/// The unit that the bytes begin with, and the bytes behind it.
-fn first_unit(bytes: &[u8]) -> Option<(u64, &[u8])>
-    ensures some { IfSome result (λ u. bytes.now ≡ unit_bytes u.0 ++ u.1.now) }
-    ensures none { IfNone result (length bytes.now < 8) }
+/// Writes the number of units in front of them.
+fn put_count(bytes: &mut Vec<u8>, count: u32)
+    requires { HEAD ≤ length bytes.old.items }
+    ensures bytes { bytes.new.items ≡ take 7 bytes.old.items ++ to_be_bytes w32 count ++ drop 11 bytes.old.items }
+    ensures capacity { vec_capacity bytes.old ≤ vec_capacity bytes.new }
 {
-    match bytes {
-        [a, b, c, d, e, f, g, h, rest @ ..] => {
-            Some((unit_of([*a, *b, *c, *d, *e, *f, *g, *h]), rest))
-        }
-        _ => None,
-    }
+    bytes[7..HEAD].copy_from_slice(&count.to_be_bytes());
 }
 
-/// Adds the units that the bytes spell.
-fn push_units(units: &mut Vec<u64>, body: &[u8]) -> Result<(), AllocError>
-    requires { length body.now % 8 ≡ 0 }
-    ensures { IfOk result (λ _. (more : List ℕ) × AreUnits more × (body.now ≡ flat_map unit_bytes more)
-        × (units.new.items ≡ units.old.items ++ more)) }
+/// Adds the bytes of a unit.
+fn put_unit(bytes: &mut Vec<u8>, unit: u64)
+    requires { length bytes.old.items + 8 ≤ vec_capacity bytes.old }
+    ensures bytes { bytes.new.items ≡ bytes.old.items ++ unit_bytes unit }
+    ensures capacity { vec_capacity bytes.old ≤ vec_capacity bytes.new }
 {
-    let mut rest = body;
-    'units: while let Some((unit, after)) = first_unit(rest) {
-        units.push(unit)?;
-        rest = after;
-    }
-    Ok(())
-}
-
-/// Adds the units of the batch that the bytes begin with, and answers the bytes behind it. A batch with which the log
-/// would pass the last LSN is bad.
-pub fn take_batch<'a>(units: &mut Vec<u64>, bytes: &'a [u8]) -> Result<&'a [u8], BatchFault>
-    ensures taken { IfOk result (λ rest. TakesBatch units.old.items bytes.now units.new.items rest.now) }
-    ensures bad { IsErrOf result BatchFault.Bad → HasNoBatch (length units.old.items) bytes.now }
-{
-    let Some((count, body, rest)) = split_batch(bytes) else {
-        return Err(BatchFault::Bad);
-    };
-    if units.len() as u64 + count as u64 > LAST as u64 {
-        return Err(BatchFault::Bad);
-    }
-    match push_units(units, body) {
-        Ok(()) => Ok(rest),
-        Err(_) => Err(BatchFault::NoMemory),
-    }
+    bytes.extend_from_slice(&bytes_of(unit)).unwrap();
 }

@@ -2,15 +2,21 @@
 //! `scan` reads the units of a file's bytes by the grammar of `specs/File.antt`.
 #![tactic(auto)]
 
+mod appending;
 mod batch;
 mod gate;
+mod gated_write;
 mod layout;
 mod scan_result;
 mod scanning;
+mod taking;
 #[cfg(test)]
 mod tests;
 mod units;
 
+pub use appending::append;
+pub use batch::Batch;
+pub use gated_write::DiskFault;
 pub use scan_result::{Scan, ScanFault, Tail};
 pub use scanning::{one_reading, scan};
 pub use units::LogUnits;

@@ -1,11 +1,30 @@
+ghost use Rattle.std.specs.Prelude.{◌≡◌, ◌≤◌, ◌<◌, ◌+◌, ◌*◌, ◌^◌};
+ghost use Rattle.lsn_space.specs.declared.lsn.TheConstants.{LAST};
+
 use crate::units::LogUnits;
-use lsn_space::Lsn;
+use lsn_space::{LAST, Lsn};
 
 /// Where a log goes on: the place in the file of the first gate that isn't open, and the LSN of the next unit.
 #[derive(Clone, Copy, Debug, PartialEq, Eq)]
 pub struct Tail {
     pub at: u64,
     pub next: Lsn,
+}
+
+impl Tail {
+    /// The tail behind one more batch of so many units: its gate, four bytes for the count, and eight for each unit.
+    pub(crate) fn after(&self, count: u32) -> Tail
+        requires place { self.now.at + 5 + 8 * count < 2 ^ 64 }
+        requires fits { self.now.next + count ≤ LAST }
+        ensures at { result.at ≡ self.now.at + (5 + 8 * count) }
+        ensures next { result.next ≡ self.now.next + count }
+    {
+        let next = self.next;
+        Tail {
+            at: self.at + 5 + 8 * count as u64,
+            next: Lsn::new(next.units() + count),
+        }
+    }
 }
 
 /// What a log file holds.

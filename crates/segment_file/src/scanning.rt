@@ -2,7 +2,7 @@ ghost use Rattle.std.specs.Prelude.{◌≡◌, IfOk, IfErr, List, ℕ};
 ghost use Rattle.segment_file.specs.File.{HoldsUnits, BeginsAsLog, IsBadBatchAt};
 ghost use Rattle.segment_file.specs.Scan.{Scans, IsScanFaultOf};
 
-use crate::batch::{BatchFault, take_batch};
+use crate::taking::{BatchFault, take_batch};
 use crate::gate::{after_gate, after_magic};
 use crate::scan_result::{Scan, ScanFault, Tail};
 use crate::units::LogUnits;

@@ -1,0 +1,32 @@
+ghost use Rattle.std.specs.Prelude.{◌↔◌, IsTrue};
+ghost use Rattle.aether_cli.specs.Answers.{IsRecoverCommand};
+
+use crate::report::Detail;
+use lsn_space::Word;
+use std::env;
+use std::io::ErrorKind;
+
+/// The words of the command line, the program's name first. Words that aren't text are a faulty command line.
+pub fn words_of(rt: &HostRuntime) -> Result<Vec<Word>, Detail> {
+    let args = match env::args(rt) {
+        Ok(args) => args,
+        Err(error) if error.kind() == ErrorKind::OutOfMemory => return Err(Detail::NoMemory),
+        Err(_) => return Err(Detail::Usage),
+    };
+    let mut words = Vec::new(rt.alloc());
+    for arg in args {
+        let word = Word::make(rt.alloc(), arg.as_str()).map_err(|_| Detail::NoMemory)?;
+        words.push(word).map_err(|_| Detail::NoMemory)?;
+    }
+    Ok(words)
+}
+
+/// Whether the words are the program's name and `recover`.
+pub fn is_recover(words: &[Word]) -> bool
+    ensures { IsTrue result ↔ IsRecoverCommand words.now }
+{
+    match words {
+        [_, command] => command.text() == "recover",
+        _ => false,
+    }
+}

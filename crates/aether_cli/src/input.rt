@@ -1,0 +1,33 @@
+ghost use Rattle.std.specs.Prelude.{◌≡◌, ◌≤◌, [], Some, IfOk, IfSome, IsErrOf};
+ghost use Rattle.log_disk.specs.Faults.{Rose};
+
+use log_disk::Source;
+use std::alloc::Global;
+
+/// Why an input was not read to its end.
+#[derive(Clone, Copy, Debug, PartialEq, Eq)]
+pub enum ReadFault {
+    Failed,
+    NoMemory,
+}
+
+/// All bytes that the source has left.
+pub fn read_all<S: Source>(alloc: Global, source: &mut S) -> Result<Vec<u8>, ReadFault>
+    ensures all { IfOk result (λ v. IfSome (S.left source.old) (λ bytes. (v.items ≡ bytes) × (S.left source.new ≡ Some []))) }
+    ensures failed { IsErrOf result ReadFault.Failed → Rose (S.faults source.old) (S.faults source.new) }
+    ensures later { S.faults source.old ≤ S.faults source.new }
+{
+    let mut bytes = Vec::new(alloc);
+    let mut buf = [0; 4096];
+    'reads: loop {
+        match source.read(&mut buf) {
+            Ok(0) => return Ok(bytes),
+            Ok(count) => {
+                if bytes.extend_from_slice(&buf[..count]).is_err() {
+                    return Err(ReadFault::NoMemory);
+                }
+            }
+            Err(_) => return Err(ReadFault::Failed),
+        }
+    }
+}

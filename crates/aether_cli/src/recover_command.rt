@@ -1,0 +1,46 @@
+ghost use Rattle.std.specs.Prelude.{◌≡◌, ◌≤◌, IfSome};
+ghost use Rattle.log_disk.specs.Faults.{Rose};
+ghost use Rattle.aether_cli.specs.Answers.{AnswersRecover, StaysSilent, recover_detail};
+
+use crate::input::{ReadFault, read_all};
+use crate::report::Detail;
+use log_disk::{Sink, Source};
+use log_recovery::{RecoverFault, put_accounts, recover};
+use std::alloc::Global;
+
+/// Answers the bytes of a log by its accounts text.
+pub fn recover_command<S: Source, K: Sink>(alloc: Global, script: &mut S, out: &mut K) -> Detail
+    ensures answer { IfSome (S.left script.old) (λ bytes.
+        AnswersRecover bytes (S.left script.new) (K.held_bytes out.old) (K.held_bytes out.new) result) }
+    ensures silent { StaysSilent (K.held_bytes out.old) (K.held_bytes out.new) result }
+    ensures usage { result ≡ Detail.Usage → ⊥ }
+    ensures read { result ≡ Detail.Read → Rose (S.faults script.old) (S.faults script.new) }
+    ensures write { result ≡ Detail.Write → Rose (K.faults out.old) (K.faults out.new) }
+    ensures later { (S.faults script.old ≤ S.faults script.new) × (K.faults out.old ≤ K.faults out.new) }
+{
+    let bytes = match read_all(alloc, script) {
+        Ok(bytes) => bytes,
+        Err(ReadFault::Failed) => return Detail::Read,
+        Err(ReadFault::NoMemory) => return Detail::NoMemory,
+    };
+    let recovered = match recover(alloc, bytes.as_slice()) {
+        Ok(recovered) => recovered,
+        Err(fault) => return detail_of(fault),
+    };
+    match put_accounts(recovered.lsn, &recovered.accounts, out) {
+        Ok(()) => Detail::Fine,
+        Err(_) => Detail::Write,
+    }
+}
+
+fn detail_of(fault: RecoverFault) -> Detail
+    ensures { result ≡ recover_detail fault }
+{
+    match fault {
+        RecoverFault::NotALog => Detail::NotALog,
+        RecoverFault::BadBatch { offset } => Detail::BadBatch { offset },
+        RecoverFault::BadRec { lsn } => Detail::BadRec { lsn },
+        RecoverFault::Unlawful { lsn, why } => Detail::Unlawful { lsn, why },
+        RecoverFault::NoMemory => Detail::NoMemory,
+    }
+}

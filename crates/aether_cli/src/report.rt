@@ -1,0 +1,71 @@
+ghost use Rattle.std.specs.Prelude.{◌≡◌};
+ghost use Rattle.aether_cli.specs.Answers.{status_of};
+
+use log_recovery::Why;
+use lsn_space::Lsn;
+
+/// Why the program ends.
+#[derive(Clone, Copy, Debug, PartialEq, Eq)]
+pub enum Detail {
+    /// All output is written.
+    Fine,
+
+    NoMemory,
+
+    /// The command line is none of the program's.
+    Usage,
+
+    /// Standard input could not be read.
+    Read,
+
+    /// Standard output could not be written.
+    Write,
+
+    /// The input doesn't begin as a log.
+    NotALog,
+
+    /// No batch stands behind the open gate at this byte.
+    BadBatch { offset: u64 },
+
+    /// The units from this LSN on begin with no record.
+    BadRec { lsn: Lsn },
+
+    /// The record that starts at this LSN is the first that fails a test, and this is the first that it fails.
+    Unlawful { lsn: Lsn, why: Why },
+}
+
+impl Detail {
+    /// The exit status.
+    pub fn status(&self) -> u8
+        ensures { result ≡ status_of self.now }
+    {
+        match self {
+            Detail::Fine => 0,
+            Detail::NoMemory => 1,
+            Detail::Usage => 2,
+            Detail::Read => 4,
+            Detail::Write => 5,
+            Detail::NotALog
+            | Detail::BadBatch { .. }
+            | Detail::BadRec { .. }
+            | Detail::Unlawful { .. } => 7,
+        }
+    }
+}
+
+/// How the program ends: its exit status, and why.
+#[derive(Clone, Copy, Debug, PartialEq, Eq)]
+pub struct Report {
+    pub status: u8,
+    pub detail: Detail,
+}
+
+impl Report {
+    pub fn of(detail: Detail) -> Report
+        ensures status { result.status ≡ status_of detail }
+        ensures detail { result.detail ≡ detail }
+    {
+        let status = detail.status();
+        Report { status, detail }
+    }
+}

@@ -1,0 +1,152 @@
+//! The program's answers, over a source and a sink in memory.
+
+use crate::faults::put_fault;
+use crate::report::{Detail, Report};
+use crate::top::aether;
+use log_disk::{MemorySink, MemorySource};
+use log_recovery::Why;
+use lsn_space::{Lsn, Word};
+use std::test::Fail;
+
+/// Two accounts, with balances 100 and 0.
+const GENESIS_LOG: [u8; 45] = [
+    0x4f, 0x41, 0x45, 0x54, 0x48, 0x45, 0x52, 0x31, 0, 0, 0, 4, //
+    1, 2, 0, 0, 0, 0, 0, 0, 0, 0, 0, 0, 0, 0, 0, 0x64, //
+    1, 2, 0, 1, 0, 0, 0, 0, 0, 0, 0, 0, 0, 0, 0, 0, 0,
+];
+
+/// Then transaction 1 moves 30 from account 0 to account 1.
+const ONE_TRANSFER: &[u8] =
+    b"O\0\0\0\x05\x02\x02\0\0\0\0\0\x01\xff\xff\xff\xe2\0\0\0\0\x02\x02\0\x01\0\0\0\x01\0\0\0\x1e\0\0\0\0\x03\x01\0\x01\0\0\0\x01\0";
+
+/// The same transfer as transaction 7, without an end.
+const UNFINISHED_TRANSFER: &[u8] =
+    b"O\0\0\0\x04\x02\x02\0\0\0\0\0\x07\xff\xff\xff\xe2\0\0\0\0\x02\x02\0\x01\0\0\0\x07\0\0\0\x1e\0\0\0\0\0";
+
+/// An update that names 4 as the last commit of its account, which has none.
+const WRONG_PREDECESSOR: &[u8] = b"O\0\0\0\x02\x02\x02\0\0\0\0\0\x01\xff\xff\xff\xe2\0\0\0\x04\0";
+
+const GENESIS_TEXT: &[u8] = b"lsn 4\n0 100\n1 0\n";
+
+/// Runs the program on words and an input; calls of the source and the sink with these numbers fail.
+fn answer_of(
+    rt: &HostRuntime,
+    words: &[&str],
+    input: &[u8],
+    source_failing: &[u64],
+    out: &mut MemorySink,
+) -> Result<Report, Fail> {
+    let mut line = Vec::new(rt.alloc());
+    for text in words {
+        let Ok(word) = Word::make(rt.alloc(), text) else {
+            return Err(Fail::new("no memory"));
+        };
+        line.push(word)?;
+    }
+    let Ok(mut script) = MemorySource::make(rt.alloc(), input, 7, source_failing) else {
+        return Err(Fail::new("no memory"));
+    };
+    Ok(aether(rt, rt.alloc(), line.as_slice(), &mut script, out))
+}
+
+fn sink_of(rt: &HostRuntime, failing: &[u64]) -> Result<MemorySink, Fail> {
+    MemorySink::make(rt.alloc(), 300, failing).map_err(|_| Fail::new("no memory"))
+}
+
+#[test]
+fn recovers_logs(rt: HostRuntime) -> Result<(), Fail> {
+    let (front, _) = GENESIS_LOG.split_at(44);
+    let cases: [(&[u8], &[u8]); 6] = [
+        (&[0], GENESIS_TEXT),
+        (&[0, 0xff, 0xff], GENESIS_TEXT),
+        (&[], GENESIS_TEXT),
+        (&[0x4f], GENESIS_TEXT),
+        (ONE_TRANSFER, b"lsn 9\n0 70\n1 30\n"),
+        (UNFINISHED_TRANSFER, b"lsn 8\n0 100\n1 0\n"),
+    ];
+    for (rest, text) in cases {
+        let mut bytes = Vec::from_slice(rt.alloc(), front)?;
+        bytes.extend_from_slice(rest)?;
+        let mut out = sink_of(&rt, &[])?;
+        let report = answer_of(&rt, &["aether", "recover"], bytes.as_slice(), &[], &mut out)?;
+        assert_eq!(rt; report, Report::of(Detail::Fine), "{rest:?}");
+        assert_eq!(rt; out.bytes(), text, "{rest:?}");
+    }
+    Ok(())
+}
+
+#[test]
+fn names_what_is_wrong_with_a_log(rt: HostRuntime) -> Result<(), Fail> {
+    let (front, _) = GENESIS_LOG.split_at(44);
+    let (cut, _) = ONE_TRANSFER.split_at(16);
+    let cases: [(&[u8], Detail, &[u8]); 3] = [
+        (
+            cut,
+            Detail::BadBatch { offset: 44 },
+            b"aether: bad batch at byte 44\n",
+        ),
+        (
+            b"O\0\0\0\x01\0\0\0\0\0\0\0\0\0",
+            Detail::BadRec { lsn: Lsn::new(4) },
+            b"aether: bad record at lsn 4\n",
+        ),
+        (
+            WRONG_PREDECESSOR,
+            Detail::Unlawful {
+                lsn: Lsn::new(4),
+                why: Why::Prev,
+            },
+            b"aether: unlawful record at lsn 4: prev\n",
+        ),
+    ];
+    for (rest, detail, line) in cases {
+        let mut bytes = Vec::from_slice(rt.alloc(), front)?;
+        bytes.extend_from_slice(rest)?;
+        let mut out = sink_of(&rt, &[])?;
+        let report = answer_of(&rt, &["aether", "recover"], bytes.as_slice(), &[], &mut out)?;
+        assert_eq!(rt; report, Report::of(detail), "{rest:?}");
+        assert!(rt; out.bytes().is_empty(), "{rest:?}");
+        assert!(rt; put_fault(&report, &mut out).is_ok());
+        assert_eq!(rt; out.bytes(), line);
+    }
+    Ok(())
+}
+
+#[test]
+fn names_each_fault_and_writes_nothing(rt: HostRuntime) -> Result<(), Fail> {
+    let recover = ["aether", "recover"];
+    let cases: [(&[&str], &[u8], &[u64], &[u64], Detail); 6] = [
+        (&recover, &[], &[], &[], Detail::NotALog),
+        (&recover, &GENESIS_LOG, &[1], &[], Detail::Read),
+        (&recover, &GENESIS_LOG, &[], &[1], Detail::Write),
+        (&["move", "log"], &GENESIS_LOG, &[], &[], Detail::Usage),
+        (&["recover"], &GENESIS_LOG, &[], &[], Detail::Usage),
+        (&[], &GENESIS_LOG, &[], &[], Detail::Usage),
+    ];
+    for (words, input, source_failing, sink_failing, want) in cases {
+        let mut out = sink_of(&rt, sink_failing)?;
+        let report = answer_of(&rt, words, input, source_failing, &mut out)?;
+        assert_eq!(rt; report, Report::of(want), "{words:?}");
+        assert!(rt; out.bytes().is_empty(), "{words:?}");
+    }
+    Ok(())
+}
+
+#[test]
+fn writes_the_line_of_each_report(rt: HostRuntime) -> Result<(), Fail> {
+    let cases: [(Detail, u8, &[u8]); 5] = [
+        (Detail::Fine, 0, b""),
+        (Detail::NoMemory, 1, b"aether: out of memory\n"),
+        (Detail::Read, 4, b"aether: read failed\n"),
+        (Detail::Write, 5, b"aether: write failed\n"),
+        (Detail::NotALog, 7, b"aether: not a log\n"),
+    ];
+    for (detail, status, line) in cases {
+        let mut out = sink_of(&rt, &[])?;
+        let report = Report::of(detail);
+        assert!(rt; put_fault(&report, &mut out).is_ok());
+        assert_eq!(rt; report.status, status);
+        assert_eq!(rt; out.bytes(), line);
+    }
+    Ok(())
+}

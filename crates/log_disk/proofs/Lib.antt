@@ -1,0 +1,6 @@
+pub mod Calls
+pub mod Moments
+pub mod Prefixes
+pub mod Recorded
+pub mod Replays
+pub mod Torn

@@ -1,0 +1,34 @@
+use Rattle.std.proofs.Common.{rules, ◌∙◌, ap, subst, ◌+◌, List, ◌∷◌, [], drop}
+use Rattle.std.proofs.lemmas.List.{drop_more}
+use Rattle.log_disk.specs.MemoryDisks.{recorded}
+use Rattle.log_disk.specs.declared.step.Step.{Step}
+use Rattle.log_disk.specs.declared.step.Step.TheVariants.{Write}
+use Rattle.log_disk.proofs.Replays.{IsReplayed, replayed-write, replayed-sync}
+use Rattle.log_disk.proofs.crash.replay.Goals as goal
+use Rattle.log_disk.proofs.crash.replay.Goals.{in-Write, in-Sync}
+
+pub steps-preserved : goal.steps-preserved
+steps-preserved c =
+    let behind = drop (c.steps.step-index + 1) c.args.steps.now in
+    let ahead = drop_more c.args.steps.now c.steps.step-index (Write 0 0) (search rules) in
+    let from = λ (steps : List Step). IsReplayed c.args.image.now.items (recorded c.args.steps.now c.args.log.now []) steps c.steps.rest.now c.steps.image.items c.steps.file.items in
+    elim c.match-step.branch [
+      | in-Write w ↦
+          let was = subst from (ahead ∙ ap (λ (step : Step). step ∷ behind) w.in-Write.is) c.steps.invariant.replayed in
+          rw (w.image-is, w.file-is, w.rest-is) record {
+            replayed = replayed-write _ _ _ _ _ _ _ _ _ _ _ _ was w.split_at.ensures.front w.split_at.ensures.back w.tear.ensures.torn w.place.ensures.put;
+            image_length = search rules;
+            file_length = search rules;
+            image_capacity = search rules;
+            file_capacity = search rules;
+          }
+      | in-Sync w ↦
+          let was = subst from (ahead ∙ ap (λ (step : Step). step ∷ behind) w.in-Sync.is) c.steps.invariant.replayed in
+          rw (w.image-is, w.file-is, w.rest-is) record {
+            replayed = replayed-sync _ _ _ _ _ _ _ was w.copy_over-in-Sync.ensures.same;
+            image_length = search rules;
+            file_length = search rules;
+            image_capacity = search rules;
+            file_capacity = search rules;
+          }
+    ]

@@ -1,0 +1,10 @@
+use Rattle.std.proofs.Common.{rules, sym, subst, length}
+use Rattle.log_disk.specs.Disk.{IsTorn}
+use Rattle.log_disk.proofs.Torn.{IsTorn-put, IsTorn-trans, IsTorn-widen}
+use Rattle.log_disk.proofs.crash.tear.Goals as goal
+
+pub returns-clause-torn : goal.returns-clause-torn
+returns-clause-torn c =
+    let n = length c.args.bytes.now in
+    let placed = subst (IsTorn c.args.at n c.args.image.now.items) (sym c.place.ensures.put) (IsTorn-put c.args.at n _ _ (search rules) (search rules)) in
+    IsTorn-trans _ _ _ _ _ placed (IsTorn-widen _ _ _ _ _ (search rules) c.overwrite.ensures.torn)

@@ -1,0 +1,19 @@
+-- Counts of faults. A count is 64 bits wide, and stands still at its last value.
+use Rattle.std.specs.Prelude.{◌≡◌, ◌≤◌, ℕ, ◌+◌, ◌-◌, ◌^◌, min, Result, OnErr, MatchResult}
+
+-- one more, or the last value of the counter
+abbrev pub raised : ℕ → ℕ
+raised count = min (count + 1) (2 ^ 64 - 1)
+
+-- the count rose, or stands at its last value
+abbrev pub Rose : ℕ → ℕ → Type 0
+Rose before now = raised before ≤ now
+
+-- the count never falls, and rose where the call failed
+pub record HasCause {T E : Type 0} (before now : ℕ) (result : Result T E) : Type 0 where
+  pub later : before ≤ now
+  pub failed : OnErr result (Rose before now)
+
+-- one fault is counted where the call failed, and none elsewhere
+abbrev pub CountsFault : {T E : Type 0} → ℕ → ℕ → Result T E → Type 0
+CountsFault before now result = MatchResult result (λ _. now ≡ before) (λ _. now ≡ raised before)

@@ -1,0 +1,7 @@
+pub mod Disk
+pub mod Faults
+pub mod History
+pub mod Laws
+pub mod Memory
+pub mod MemoryDisks
+pub mod Streams

@@ -1,0 +1,11 @@
+-- What reads and writes do to allowances and to bytes.
+use Rattle.std.specs.Prelude.{◌≡◌, ℕ, ◌-◌, List, ◌++◌, Option, Result, MatchResult, if◌then◌else◌, ◌==◌}
+use Rattle.std.specs.Io.KnownBytes.{Appends}
+
+-- a read that gives bytes takes one from the allowance, and no other does
+abbrev pub SpendsAllowance : {E : Type 0} → ℕ → ℕ → Result ℕ E → Type 0
+SpendsAllowance before now result = MatchResult result (λ n. now ≡ (if n == 0 then before else before - 1)) (λ _. now ≡ before)
+
+-- known bytes grow by a prefix of these
+abbrev pub AppendsPrefix : Option (List ℕ) → Option (List ℕ) → List ℕ → Type 0
+AppendsPrefix old new bytes = (prefix rest : List ℕ) × (bytes ≡ prefix ++ rest) × Appends old new prefix

@@ -1,0 +1,202 @@
+ghost use Rattle.std.specs.Prelude.{◌≡◌, ◌≤◌, ◌<◌, ◌+◌, [], length, vec_capacity};
+ghost use Rattle.log_disk.specs.Disk.{IsTorn, IsSettled};
+ghost use Rattle.log_disk.specs.History.{Images};
+ghost use Rattle.log_disk.specs.MemoryDisks.{file_of, ImagesOf, total_len, recorded};
+
+use crate::contents::{copy_over, place};
+use crate::memory_disk::MemoryDisk;
+use crate::step::Step;
+
+/// A number that is used up digit by digit, each with a base of its own.
+#[derive(Drop)]
+struct Digits {
+    left: u64,
+}
+
+impl Digits {
+    /// The next digit, from 0 to `most`. After the last one each is 0.
+    fn up_to(&mut self, most: usize) -> usize
+        requires { most < usize.MAX }
+        ensures { result ≤ most }
+    {
+        let base = most as u64 + 1;
+        let digit = self.left % base;
+        self.left /= base;
+        digit as usize
+    }
+}
+
+impl MemoryDisk {
+    /// What a crash leaves: one of the images, as a disk with nothing to lose. It goes on counting
+    /// calls, and has the room that was left.
+    ///
+    /// The digits of `pick` say of each write since the last sync, the oldest first, how many of its
+    /// first bytes landed (from none to all), how many of these hold noise, and which byte that is.
+    /// So a small pick is the number of bytes that landed of the first write, and later ones did not.
+    pub fn crash(self, pick: u64) -> MemoryDisk
+        ensures image { ImagesOf self (file_of result) }
+        ensures settled { IsSettled (file_of result) (ImagesOf result) }
+        ensures history { result.history ≡ [] }
+        ensures room { result.room ≡ self.room }
+        ensures failing { result.failing ≡ self.failing }
+        ensures calls { result.calls ≡ self.calls }
+        ensures count { result.written_count ≡ self.written_count }
+        ensures faults { result.faults ≡ self.faults }
+    {
+        let MemoryDisk {
+            mut start,
+            mut held,
+            mut steps,
+            mut log,
+            room,
+            failing,
+            calls,
+            written_count,
+            faults,
+        } = self;
+        replay(&mut start, &mut held, &steps, &log, pick);
+        copy_over(&mut held, &start);
+        steps.clear();
+        log.clear();
+        MemoryDisk {
+            start,
+            held,
+            steps,
+            log,
+            room,
+            failing,
+            calls,
+            written_count,
+            faults,
+        }
+    }
+}
+
+/// Goes through the steps again, and makes of the file at first what a crash leaves. What is read
+/// goes into `file`.
+fn replay(image: &mut Vec<u8>, file: &mut Vec<u8>, steps: &[Step], log: &[u8], pick: u64)
+    requires whole { total_len steps.now ≡ length log.now }
+    requires image_room { length image.old.items + length log.now ≤ vec_capacity image.old }
+    requires file_room { length image.old.items + length log.now ≤ vec_capacity file.old }
+    ensures image { Images image.old.items (recorded steps.now log.now []) image.new.items }
+    ensures length { length image.new.items ≤ length image.old.items + length log.now }
+    ensures image_capacity { vec_capacity image.old ≤ vec_capacity image.new }
+    ensures file_capacity { vec_capacity file.old ≤ vec_capacity file.new }
+{
+    copy_over(file, image);
+    let mut rest = log;
+    let mut digits = Digits { left: pick };
+    'steps: for step in steps {
+        match *step {
+            Step::Write { at, len } => {
+                let (bytes, after) = rest.split_at(len);
+                tear(image, at, bytes, &mut digits);
+                place(file, at, bytes);
+                rest = after;
+            }
+            Step::Sync => {
+                copy_over(image, file);
+                digits = Digits { left: pick };
+            }
+        }
+    }
+}
+
+/// Writes as a crash may leave it.
+fn tear(image: &mut Vec<u8>, at: usize, bytes: &[u8], digits: &mut Digits)
+    requires { length image.old.items + length bytes.now ≤ vec_capacity image.old }
+    ensures torn { IsTorn at (length bytes.now) image.old.items image.new.items }
+    ensures length { length image.new.items ≤ length image.old.items + length bytes.now }
+    ensures capacity { vec_capacity image.old ≤ vec_capacity image.new }
+{
+    // Behind the end of the image nothing can land: an earlier write that made the file grow is lost.
+    if at > image.len() {
+        return;
+    }
+    let landed = digits.up_to(bytes.len());
+    let noisy = digits.up_to(landed);
+    let noise = digits.up_to(255) as u8;
+    place(image, at, bytes.split_at(landed).0);
+    overwrite(image, at, noisy, noise);
+}
+
+/// Puts the same byte at each of so many places.
+fn overwrite(image: &mut Vec<u8>, at: usize, count: usize, byte: u8)
+    requires { at + count ≤ length image.old.items }
+    ensures torn { IsTorn at count image.old.items image.new.items }
+    ensures length { length image.new.items ≡ length image.old.items }
+    ensures capacity { vec_capacity image.old ≤ vec_capacity image.new }
+{
+    'places: for place in at..at + count {
+        image[place] = byte;
+    }
+}
+
+#[cfg(test)]
+mod tests {
+    use super::*;
+    use crate::LogDisk;
+    use std::test::Fail;
+
+    #[test]
+    fn leaves_what_the_pick_says(rt: HostRuntime) -> Result<(), Fail> {
+        let cases: [(u64, &[u8]); 8] = [
+            (0, b"0123"),
+            (1, b"01a3"),
+            (2, b"01ab"),
+            (3, b"01abc"),
+            (4, b"01abcd"),
+            (9, b"01\0bcd"),
+            (24, b"01\0\0\0\0"),
+            (4 + 5 + 25 * 0x4f, b"01Obcd"),
+        ];
+        for (pick, want) in cases {
+            let Ok(mut disk) = MemoryDisk::make(rt.alloc(), b"0123", 100, &[]) else {
+                return Err(Fail::new("no memory"));
+            };
+            assert_eq!(rt; disk.write_at(2, b"abcd"), Ok(()));
+            assert_eq!(rt; disk.crash(pick).bytes(), want, "pick {pick}");
+        }
+        Ok(())
+    }
+
+    #[test]
+    fn leaves_what_was_synced(rt: HostRuntime) -> Result<(), Fail> {
+        let cases: [(u64, &[u8]); 4] = [
+            (0, b"abc"),
+            (1, b"Xbc"),
+            (3, b"\0bc"),
+            (3 + 4 * 0x4f, b"Obc"),
+        ];
+        for (pick, want) in cases {
+            let Ok(mut disk) = MemoryDisk::make(rt.alloc(), b"", 200, &[]) else {
+                return Err(Fail::new("no memory"));
+            };
+            assert_eq!(rt; disk.write_at(0, b"abc"), Ok(()));
+            assert_eq!(rt; disk.sync(), Ok(()));
+            assert_eq!(rt; disk.write_at(0, b"X"), Ok(()));
+            assert_eq!(rt; disk.crash(pick).bytes(), want, "pick {pick}");
+        }
+        Ok(())
+    }
+
+    #[test]
+    fn loses_what_stands_behind_a_lost_write(rt: HostRuntime) -> Result<(), Fail> {
+        let second = 256 * 9;
+        let cases: [(u64, &[u8]); 4] = [
+            (0, b"0123"),
+            (2, b"0123ab"),
+            (2 + second, b"0123abc"),
+            (1 + 256 * 6, b"0123a"),
+        ];
+        for (pick, want) in cases {
+            let Ok(mut disk) = MemoryDisk::make(rt.alloc(), b"0123", 100, &[]) else {
+                return Err(Fail::new("no memory"));
+            };
+            assert_eq!(rt; disk.write_at(4, b"ab"), Ok(()));
+            assert_eq!(rt; disk.write_at(6, b"c"), Ok(()));
+            assert_eq!(rt; disk.crash(pick).bytes(), want, "pick {pick}");
+        }
+        Ok(())
+    }
+}

@@ -1,0 +1,114 @@
+ghost use Rattle.std.specs.Prelude.{◌≡◌, ◌≤◌, ◌-◌, ◌↔◌, List, ℕ, length, min, take, drop, IfOk, OnOk};
+ghost use Rattle.log_disk.specs.Faults.{HasCause};
+ghost use Rattle.log_disk.specs.Disk.{put, IsTorn, MayBeTorn, IsSettled, Elapses, Keeps, CountsOne};
+
+use crate::Failed;
+use lsn_space::Word;
+
+/// A file on a disk, which a crash may leave otherwise than it is read. A range that was written may
+/// hold any bytes until a sync, and a file that grew may have any length up to its new one; the other
+/// bytes stay. What is said of content holds where the disk is honest. No clause says that of a real
+/// disk, of which nothing is known.
+pub trait LogDisk {
+    /// The disk tells its bytes, and they are as the clauses say.
+    ghost honest: { Self → Type 0 };
+
+    /// The bytes that a read gives.
+    ghost reads: { Self → List ℕ };
+
+    /// What a crash at this moment may leave.
+    ghost images: { Self → List ℕ → Type 0 };
+
+    /// The moment, a number that never falls.
+    ghost moment: { Self → ℕ };
+
+    /// What a crash at that moment or a later one might have left, within a call or between two.
+    ghost images_since: { Self → ℕ → List ℕ → Type 0 };
+
+    /// How many writes and syncs have succeeded.
+    ghost written_count: { Self → ℕ };
+
+    /// How often a call has failed.
+    ghost faults: { Self → ℕ };
+
+    /// Opens the file of that name. A missing one is made where `make` says so, and is else a fault.
+    fn attach(&mut self, name: &Word, make: bool) -> Result<(), Failed>
+        ensures keeps { Keeps honest reads images written_count self.old self.new }
+        ensures honest { honest self.old ↔ honest self.new }
+        ensures time { Elapses moment images images_since self.old self.new }
+        ensures cause { HasCause (faults self.old) (faults self.new) result };
+
+    /// The length of the file in bytes.
+    fn len(&mut self) -> Result<u64, Failed>
+        ensures len { honest self.old → IfOk result (λ n. n ≡ length (reads self.old)) }
+        ensures keeps { Keeps honest reads images written_count self.old self.new }
+        ensures honest { honest self.old ↔ honest self.new }
+        ensures time { Elapses moment images images_since self.old self.new }
+        ensures cause { HasCause (faults self.old) (faults self.new) result };
+
+    /// Reads from that offset on into the front of the buffer, and tells how many bytes. 0 from the
+    /// end of the file on.
+    fn read_at(&mut self, at: u64, buf: &mut [u8]) -> Result<usize, Failed>
+        ensures fits { IfOk result (λ n. n ≤ length buf.new) }
+        ensures count { honest self.old → IfOk result (λ n. n ≡ min (length buf.old) (length (reads self.old) - at)) }
+        ensures bytes { honest self.old → IfOk result (λ n. take n buf.new ≡ take n (drop at (reads self.old))) }
+        ensures keeps { Keeps honest reads images written_count self.old self.new }
+        ensures honest { honest self.old ↔ honest self.new }
+        ensures time { Elapses moment images images_since self.old self.new }
+        ensures cause { HasCause (faults self.old) (faults self.new) result };
+
+    /// Writes over what stands at that offset, and past the end. A write that fails may have left any
+    /// bytes in its range, for reads too.
+    fn write_at(&mut self, at: u64, bytes: &[u8]) -> Result<(), Failed>
+        requires { honest self.old → at ≤ length (reads self.old) }
+        ensures written { honest self.old → OnOk result (reads self.new ≡ put at bytes.now (reads self.old)) }
+        ensures torn { honest self.old → IsTorn at (length bytes.now) (reads self.old) (reads self.new) }
+        ensures images { (c : List ℕ) → images self.new c → MayBeTorn at (length bytes.now) (images self.old) c }
+        ensures count { honest self.old → CountsOne (written_count self.old) (written_count self.new) result }
+        ensures honest { honest self.old ↔ honest self.new }
+        ensures time { Elapses moment images images_since self.old self.new }
+        ensures cause { HasCause (faults self.old) (faults self.new) result };
+
+    /// After it a crash leaves what a read gives. A sync that fails adds no image.
+    fn sync(&mut self) -> Result<(), Failed>
+        ensures settled { honest self.old → OnOk result (IsSettled (reads self.old) (images self.new)) }
+        ensures reads { honest self.old → reads self.new ≡ reads self.old }
+        ensures images { (c : List ℕ) → images self.new c → images self.old c }
+        ensures count { honest self.old → CountsOne (written_count self.old) (written_count self.new) result }
+        ensures honest { honest self.old ↔ honest self.new }
+        ensures time { Elapses moment images images_since self.old self.new }
+        ensures cause { HasCause (faults self.old) (faults self.new) result };
+
+    /// What is read is one of the images.
+    ghost read_is_image: { (disk : Self) → honest disk → images disk (reads disk) };
+
+    /// The images of this moment are among those since an earlier one.
+    ghost counts_now: { (disk : Self) (t : ℕ) (c : List ℕ) → t ≤ moment disk → images disk c → images_since disk t c };
+
+    /// Since this moment there are no others than those of now.
+    ghost only_now: { (disk : Self) (c : List ℕ) → images_since disk (moment disk) c → images disk c };
+}
+
+#[cfg(test)]
+mod tests {
+    use super::*;
+    use crate::{FileDisk, MemoryDisk};
+    use std::test::Fail;
+
+    fn store<D: LogDisk>(disk: &mut D, bytes: &[u8]) -> Result<u64, Failed> {
+        disk.write_at(0, bytes)?;
+        disk.sync()?;
+        disk.len()
+    }
+
+    #[test]
+    fn is_met_by_both_disks(rt: HostRuntime) -> Result<(), Fail> {
+        let Ok(mut memory) = MemoryDisk::make(rt.alloc(), b"", 64, &[]) else {
+            return Err(Fail::new("no memory"));
+        };
+        assert_eq!(rt; store(&mut memory, b"abc"), Ok(3));
+        let mut no_file = FileDisk::make(rt);
+        assert_eq!(rt; store(&mut no_file, b"abc"), Err(Failed));
+        Ok(())
+    }
+}

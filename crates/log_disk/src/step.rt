@@ -1,0 +1,6 @@
+/// What was done to a disk in memory. The bytes of the writes are kept joined, in another place.
+#[derive(Clone, Copy, Debug, PartialEq, Eq)]
+pub(crate) enum Step {
+    Write { at: usize, len: usize },
+    Sync,
+}

@@ -1,0 +1,88 @@
+-- Texts that are written line by line.
+use Rattle.std.proofs.Common.{◌≡◌, ◌≤◌, ◌<◌, Some, slice_get, slice_index_or, sym, ap, refl, ℕ, ◌+◌, zero, suc, List, [], ◌∷◌, ◌++◌, inl, inr, Option, length, arith, append_assoc, add-one}
+use Rattle.std.proofs.lemmas.List.{append-nil}
+use Rattle.std.proofs.lemmas.Option.{get_or_from_slice_get}
+use Rattle.std.proofs.lemmas.List.Concat.{flat_map-append}
+use Rattle.std.proofs.Math.Nat.{eq-or-lt_of_le}
+use Rattle.std.specs.Io.KnownBytes.{Appends}
+use Rattle.std.proofs.KnownBytes.{Appends-trans}
+use Rattle.log_disk.specs.Streams.{AppendsPrefix}
+use Rattle.log_record.specs.declared.rec.Rec.{Rec}
+use Rattle.log_record.specs.LogList.{end_of}
+use Rattle.log_recovery.specs.History.{history}
+use Rattle.log_recovery.specs.Lawful.{genesis_of}
+use Rattle.log_recovery.specs.Sums.{ShowsAccounts, balance_of, last_commit_of}
+use Rattle.log_recovery.specs.Text.{account_line, numbers_below, account_lines, rows_text, accounts_text}
+
+account_lines-suc : (balance : ℕ → ℕ) (n : ℕ) → account_lines balance (n + 1) ≡ account_lines balance n ++ account_line n (balance n)
+account_lines-suc balance n = rw (add-one, flat_map-append, append-nil) refl
+
+-- the lines go on behind the first few
+account_lines-split : (balance : ℕ → ℕ) (i n : ℕ) → i ≤ n → (more : List ℕ) × (account_lines balance n ≡ account_lines balance i ++ more)
+account_lines-split balance i zero few = let none : i ≡ 0 = omega arith in ([], rw (none, append-nil) refl)
+account_lines-split balance i (suc n) few = elim (eq-or-lt_of_le few) [
+  | inl all ↦ ([], rw (all, append-nil) refl)
+  | inr below ↦ let split = account_lines-split balance i n (omega arith) in (
+    split.0 ++ account_line n (balance n),
+    rw (flat_map-append, append-nil, split.1) (append_assoc (account_lines balance i) split.0 (account_line n (balance n))),
+  )
+]
+
+-- a front of a text's first piece is a front of the text
+pub AppendsPrefix-first : (old new : Option (List ℕ)) (text piece more : List ℕ) → AppendsPrefix old new piece → text ≡ piece ++ more → AppendsPrefix old new text
+AppendsPrefix-first old new text piece more written whole =
+    (written.0, written.1 ++ more, rw (whole, written.2) (append_assoc written.0 written.1 more), written.3)
+
+-- a front behind what was written whole
+AppendsPrefix-behind : (old middle new : Option (List ℕ)) (text done piece more : List ℕ) → Appends old middle done → AppendsPrefix middle new piece
+    → text ≡ (done ++ piece) ++ more → AppendsPrefix old new text
+AppendsPrefix-behind old middle new text done piece more before cut whole =
+    (done ++ cut.0, cut.1 ++ more, rw (whole, cut.2) (simp append_assoc), Appends-trans old middle new done cut.0 before cut.3)
+
+-- the balance that is kept of an account
+abbrev pub balance_in : List (ℕ × ℕ) → ℕ → ℕ
+balance_in rows account = (slice_index_or rows account (0, 0)).0
+
+balance_in-row : (rows : List (ℕ × ℕ)) (account : ℕ) (row : ℕ × ℕ) → slice_get rows account ≡ Some row → balance_in rows account ≡ row.0
+balance_in-row rows account row kept = ap (λ (r : ℕ × ℕ). r.0) (get_or_from_slice_get rows account row (0, 0) kept)
+
+module _ (old middle new : Option (List ℕ)) (start : List ℕ) (rows : List (ℕ × ℕ)) (account : ℕ) (row : ℕ × ℕ) (kept : slice_get rows account ≡ Some row)
+    (before : Appends old middle (start ++ account_lines (balance_in rows) account)) where
+  line-added : start ++ account_lines (balance_in rows) (account + 1) ≡ (start ++ account_lines (balance_in rows) account) ++ account_line account row.0
+  line-added =
+      rw (account_lines-suc (balance_in rows) account, balance_in-row rows account row kept)
+      (sym (append_assoc start (account_lines (balance_in rows) account) (account_line account row.0)))
+
+  -- one more line is written
+  pub Appends-line : Appends middle new (account_line account row.0) → Appends old new (start ++ account_lines (balance_in rows) (account + 1))
+  Appends-line line = rw line-added (Appends-trans old middle new _ _ before line)
+
+  -- a front of one more line is written
+  pub AppendsPrefix-line : account < length rows → AppendsPrefix middle new (account_line account row.0)
+      → AppendsPrefix old new (start ++ account_lines (balance_in rows) (length rows))
+  AppendsPrefix-line within cut =
+      let split = account_lines-split (balance_in rows) (account + 1) (length rows) (omega arith) in
+      let lines = account_lines (balance_in rows) (account + 1) in
+      let whole : start ++ account_lines (balance_in rows) (length rows) ≡ ((start ++ account_lines (balance_in rows) account) ++ account_line account row.0) ++ split.0 =
+      rw (split.1, ← append_assoc start lines split.0, line-added) refl in
+      AppendsPrefix-behind old middle new _ _ (account_line account row.0) split.0 before cut whole
+
+account_lines-same : (one other : ℕ → ℕ) (n : ℕ) → ((account : ℕ) → account < n → one account ≡ other account) → account_lines one n ≡ account_lines other n
+account_lines-same one other zero same = refl
+account_lines-same one other (suc n) same =
+    rw (
+      flat_map-append (λ account. account_line account (one account)) (numbers_below n) (n ∷ []),
+      flat_map-append (λ account. account_line account (other account)) (numbers_below n) (n ∷ []),
+      account_lines-same one other n (λ account below. same account (omega arith)),
+      same n (omega arith),
+    ) refl
+
+-- the accounts of a list have its text
+pub rows_text-shown : (lsn : ℕ) (rows : List (ℕ × ℕ)) (records : List Rec) → lsn ≡ end_of records
+    → ShowsAccounts rows (genesis_of (history records)) (history records) → rows_text lsn rows ≡ accounts_text records
+rows_text-shown lsn rows records end shows =
+    let h = history records in
+    let base = genesis_of h in
+    let same = account_lines-same (balance_in rows) (balance_of base h) base.accounts
+    (λ account below. balance_in-row rows account (balance_of base h account, last_commit_of base h account) (shows.each account below)) in
+    rw (end, shows.count, same) refl

@@ -1,0 +1,33 @@
+-- The accounts text: the end of a log, and then each account with its balance. A line ends with LF.
+use Rattle.std.specs.Prelude.{ℕ, zero, suc, List, [], ◌∷◌, ◌++◌, length, codes, slice_index_or}
+use Rattle.std.specs.List.{flat_map}
+use Rattle.lsn_space.specs.Number.{number_text}
+use Rattle.log_record.specs.declared.rec.Rec.{Rec}
+use Rattle.log_record.specs.LogList.{end_of}
+use Rattle.log_recovery.specs.History.{history}
+use Rattle.log_recovery.specs.Sums.{balance_of}
+use Rattle.log_recovery.specs.Lawful.{genesis_of}
+
+unfoldable pub lsn_line : ℕ → List ℕ
+lsn_line lsn = codes "lsn " ++ number_text lsn ++ codes "\n"
+
+unfoldable pub account_line : ℕ → ℕ → List ℕ
+account_line account balance = number_text account ++ codes " " ++ number_text balance ++ codes "\n"
+
+-- 0, 1 and so on below n
+abbrev pub numbers_below : ℕ → List ℕ
+numbers_below zero = []
+numbers_below (suc n) = numbers_below n ++ n ∷ []
+
+-- a line for each of so many accounts
+abbrev pub account_lines : (ℕ → ℕ) → ℕ → List ℕ
+account_lines balance count = flat_map (λ account. account_line account (balance account)) (numbers_below count)
+
+-- the text of a log list
+abbrev pub accounts_text : List Rec → List ℕ
+accounts_text records =
+    let h = history records in lsn_line (end_of records) ++ account_lines (balance_of (genesis_of h) h) (genesis_of h).accounts
+
+-- the text of accounts that are kept as a balance and a last commit each
+abbrev pub rows_text : ℕ → List (ℕ × ℕ) → List ℕ
+rows_text lsn rows = lsn_line lsn ++ account_lines (λ account. (slice_index_or rows account (0, 0)).0) (length rows)

@@ -1,0 +1,68 @@
+ghost use Rattle.std.specs.Prelude.{◌≡◌, OnOk, OnErr};
+ghost use Rattle.std.specs.Io.KnownBytes.{Appends};
+ghost use Rattle.log_disk.specs.Faults.{HasCause};
+ghost use Rattle.log_disk.specs.Streams.{AppendsPrefix};
+ghost use Rattle.log_recovery.specs.Text.{lsn_line, account_line, rows_text};
+
+use arrayvec::ArrayVec;
+use log_disk::{Sink, WriteFault, put_all};
+use lsn_space::{Balances, Lsn, decimal};
+
+/// Room for a line of the accounts text.
+type Line = ArrayVec<u8, 48>;
+
+#[tactic(auto, unfolding(crate::specs::Text::lsn_line))]
+fn end_line(lsn: Lsn) -> Line
+    ensures { result.items ≡ lsn_line lsn }
+{
+    let mut line = ArrayVec::new();
+    line.try_extend_from_slice(b"lsn ").unwrap();
+    line.try_extend_from_slice(decimal(lsn.units() as u64).as_slice())
+        .unwrap();
+    line.push(b'\n');
+    line
+}
+
+#[tactic(auto, unfolding(crate::specs::Text::account_line))]
+fn balance_line(account: u32, balance: u32) -> Line
+    ensures { result.items ≡ account_line account balance }
+{
+    let mut line = ArrayVec::new();
+    line.try_extend_from_slice(decimal(account as u64).as_slice())
+        .unwrap();
+    line.push(b' ');
+    line.try_extend_from_slice(decimal(balance as u64).as_slice())
+        .unwrap();
+    line.push(b'\n');
+    line
+}
+
+fn put_end<K: Sink>(lsn: Lsn, sink: &mut K) -> Result<(), WriteFault>
+    ensures all { OnOk result (Appends (K.held_bytes sink.old) (K.held_bytes sink.new) (lsn_line lsn)) }
+    ensures prefix { OnErr result (AppendsPrefix (K.held_bytes sink.old) (K.held_bytes sink.new) (lsn_line lsn)) }
+    ensures cause { HasCause (K.faults sink.old) (K.faults sink.new) result }
+{
+    put_all(sink, end_line(lsn).as_slice())
+}
+
+fn put_balance<K: Sink>(account: u32, balance: u32, sink: &mut K) -> Result<(), WriteFault>
+    ensures all { OnOk result (Appends (K.held_bytes sink.old) (K.held_bytes sink.new) (account_line account balance)) }
+    ensures prefix { OnErr result (AppendsPrefix (K.held_bytes sink.old) (K.held_bytes sink.new) (account_line account balance)) }
+    ensures cause { HasCause (K.faults sink.old) (K.faults sink.new) result }
+{
+    put_all(sink, balance_line(account, balance).as_slice())
+}
+
+/// Writes the accounts text of a log that ends at this LSN, or a prefix of it at a fault.
+pub fn put_accounts<K: Sink>(lsn: Lsn, accounts: &Balances, sink: &mut K) -> Result<(), WriteFault>
+    ensures all { OnOk result (Appends (K.held_bytes sink.old) (K.held_bytes sink.new) (rows_text lsn accounts.now.rows)) }
+    ensures prefix { OnErr result (AppendsPrefix (K.held_bytes sink.old) (K.held_bytes sink.new) (rows_text lsn accounts.now.rows)) }
+    ensures cause { HasCause (K.faults sink.old) (K.faults sink.new) result }
+{
+    put_end(lsn, sink)?;
+    for account in 0..accounts.count() {
+        let (balance, _) = accounts.at(account);
+        put_balance(account, balance, sink)?;
+    }
+    Ok(())
+}

@@ -1,0 +1,26 @@
+-- What the rows of the program stand for, and when it takes memory.
+use Rattle.std.specs.Prelude.{ℕ, ◌==◌, ◌+◌, Bool, Option, Some, None}
+use Rattle.ring_core.specs.State.{Stage, Idle, Works, Hand, Reservation, RingState}
+use Rattle.ring_core.specs.Machine.{MayReserve}
+use Rattle.ring_core.specs.declared.event.RingEvent.{RingEvent}
+use Rattle.ring_core.specs.declared.event.RingEvent.TheVariants.{Reserve, Fill, Turn, Flushed}
+
+-- an actor works on the base that is noted, or has nothing under way
+abbrev pub stage_at : Option ℕ → Stage
+stage_at None = Idle
+stage_at (Some base) = Works base
+
+-- the row is this actor's
+abbrev pub is_of : ℕ → Hand → Bool
+is_of actor hand = hand.actor == actor
+
+-- the reservation ends at this place
+abbrev pub is_end : ℕ → Reservation → Bool
+is_end place r = r.base + r.size == place
+
+-- only a reservation that is enabled may need memory
+abbrev pub MayNeedMemory : RingState → RingEvent → Type 0
+MayNeedMemory s (Reserve actor n) = MayReserve s actor n
+MayNeedMemory s (Fill actor) = ⊥
+MayNeedMemory s (Turn actor) = ⊥
+MayNeedMemory s (Flushed to) = ⊥

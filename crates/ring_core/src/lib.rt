@@ -1,0 +1,15 @@
+//! The log buffer's ring as a pure machine. Its state, its events and its laws stand in `specs/`;
+//! `RingRun` replays one list of events, and `ring_laws` says what holds after every list.
+#![tactic(auto)]
+
+mod event;
+mod hand;
+mod laws;
+mod range;
+mod run;
+#[cfg(test)]
+mod tests;
+
+pub use event::RingEvent;
+pub use laws::ring_laws;
+pub use run::RingRun;

@@ -1,0 +1,36 @@
+use crate::{RingEvent, RingRun};
+use lsn_space::Lsn;
+use std::test::Fail;
+
+#[test]
+fn releases_in_order(rt: HostRuntime) -> Result<(), Fail> {
+    let Ok(mut run) = RingRun::make(rt.alloc(), Lsn::new(4), 1024) else {
+        return Err(Fail::new("no memory"));
+    };
+    // Each event, whether it is taken, and what is exposed then.
+    let schedule = [
+        (RingEvent::Reserve { by: 1, n: 2 }, true, 4),
+        (RingEvent::Reserve { by: 2, n: 3 }, true, 4),
+        (RingEvent::Fill { by: 2 }, true, 4),
+        (RingEvent::Fill { by: 2 }, true, 4),
+        (RingEvent::Fill { by: 2 }, true, 4),
+        (RingEvent::Turn { by: 2 }, false, 4),
+        (RingEvent::Fill { by: 1 }, true, 4),
+        (RingEvent::Fill { by: 1 }, true, 4),
+        (RingEvent::Turn { by: 1 }, true, 6),
+        (RingEvent::Turn { by: 2 }, true, 9),
+        (RingEvent::Reserve { by: 1, n: 257 }, false, 9),
+        (RingEvent::Flushed { to: Lsn::new(8) }, false, 9),
+        (RingEvent::Flushed { to: Lsn::new(6) }, true, 9),
+    ];
+    for (event, want, exposed) in schedule {
+        let Ok(taken) = run.apply(event) else {
+            return Err(Fail::new("no memory"));
+        };
+        assert_eq!(rt; taken, want, "{event:?}");
+        assert_eq!(rt; run.exposed().units(), exposed, "{event:?}");
+    }
+    assert_eq!(rt; run.tail().units(), 9);
+    assert_eq!(rt; run.durable().units(), 6);
+    Ok(())
+}

@@ -1,0 +1,93 @@
+-- Units in the bytes of a batch.
+use Rattle.std.proofs.Common.{◌≡◌, ◌≤◌, ◌<◌, ◌∙◌, sym, ap, refl, ℕ, ◌+◌, ◌*◌, ◌^◌, List, [], ◌∷◌, ◌++◌, length, take, drop, arith, append_assoc, length-append, subst}
+use Rattle.std.specs.List.{flat_map}
+use Rattle.std.specs.Int.{w32, to_be_bytes}
+use Rattle.std.proofs.lemmas.Nat.{from_be_bytes-to_be_bytes_8}
+use Rattle.std.proofs.lemmas.List.{append-nil, take_at}
+use Rattle.std.proofs.lemmas.List.Concat.{flat_map-append}
+use Rattle.lsn_space.specs.Unit.{unit_bytes}
+use Rattle.segment_file.specs.declared.layout.TheConstants.{CLOSED, MOST_UNITS}
+use Rattle.segment_file.specs.File.{magic, batch, AreUnits, IsCountedBatch}
+use Rattle.segment_file.specs.Gates.{sealed}
+use Rattle.segment_file.specs.Packing.{BatchState, units_in, IsPacked}
+use Rattle.segment_file.proofs.BatchLemmas.{length-unit_bytes}
+
+units_in-unit_bytes : (units : List ℕ) → AreUnits units → units_in (flat_map unit_bytes units) ≡ units
+unfolding units_in
+units_in-unit_bytes [] each = refl
+units_in-unit_bytes (unit ∷ units) each = rw (from_be_bytes-to_be_bytes_8 unit each.0, units_in-unit_bytes units each.1) refl
+
+-- the bytes of a batch give its units back
+pub units_in-batch : (units : List ℕ) → AreUnits units → units_in (drop 11 (magic ++ batch units)) ≡ units
+unfolding batch
+units_in-batch units each = units_in-unit_bytes units each
+
+AreUnits-more : (units : List ℕ) (unit : ℕ) → AreUnits units → unit < 2 ^ 64 → AreUnits (units ++ unit ∷ [])
+AreUnits-more [] unit each small = (small, tt)
+AreUnits-more (first ∷ units) unit each small = (each.0, AreUnits-more units unit each.1 small)
+
+pub length-sealed : (units : List ℕ) → length (sealed units) ≡ 5 + 8 * length units
+unfolding batch
+length-sealed units = omega (arith, length-append (batch units) (CLOSED ∷ []), length-unit_bytes units)
+
+-- the view of a batch whose bytes hold these units
+abbrev pub state : List ℕ → ℕ → BatchState
+state units room = record { units = units; room = room }
+
+-- the invariant, said of the view
+pub packed-view : (bytes units : List ℕ) (room capacity : ℕ) (now : BatchState) → IsPacked bytes units room capacity → state units room ≡ now
+    → IsPacked bytes now.units now.room capacity
+packed-view bytes units room capacity now packed view = subst (λ s. IsPacked bytes s.units s.room capacity) view packed
+
+module _ (bytes units : List ℕ) (room capacity : ℕ) (packed : IsPacked bytes units room capacity) where
+  pub length-packed : length bytes ≡ 11 + 8 * length units
+  unfolding batch
+  length-packed = omega (arith, ap length packed.whole, length-unit_bytes units)
+
+  -- with another number in front of the units
+  pub length-counted : (count : ℕ) → length (take 7 bytes ++ to_be_bytes w32 count ++ drop 11 bytes) ≡ length bytes
+  unfolding batch
+  length-counted count = rw packed.whole refl
+
+  pub units_in-packed : units_in (drop 11 bytes) ≡ units
+  units_in-packed = ap (λ bs. units_in (drop 11 bs)) packed.whole ∙ units_in-batch units packed.each
+
+  -- the invariant of a batch, in which the units are read from the bytes
+  pub packed-units_in : IsPacked bytes (units_in (drop 11 bytes)) room capacity
+  packed-units_in = subst (λ us. IsPacked bytes us room capacity) (sym units_in-packed) packed
+
+  pub counted : 0 < length units → length units ≤ MOST_UNITS → IsCountedBatch units
+  counted some most = record { some = some; most = most; each = packed.each }
+
+  -- with the next gate behind
+  pub packed-sealed : bytes ++ CLOSED ∷ [] ≡ magic ++ sealed units
+  packed-sealed = ap (λ bs. bs ++ CLOSED ∷ []) packed.whole ∙ append_assoc magic (batch units) (CLOSED ∷ [])
+
+  pub packed-body : (full body : List ℕ) → full ≡ bytes ++ CLOSED ∷ [] → body ≡ drop 7 full → body ≡ sealed units
+  packed-body full body is back = back ∙ ap (drop 7) (is ∙ packed-sealed)
+
+  pub packed-push : (unit now : ℕ) (new : List ℕ) → unit < 2 ^ 64 → length units < room → capacity ≤ now
+      → new ≡ (take 7 bytes ++ to_be_bytes w32 (length units + 1) ++ drop 11 bytes) ++ unit_bytes unit → IsPacked new (units ++ unit ∷ []) room now
+  unfolding batch
+  packed-push unit now new small few grown is = record {
+    each = AreUnits-more units unit packed.each small;
+    whole = rw (is, packed.whole, length-append units (unit ∷ []), flat_map-append unit_bytes units (unit ∷ [])) refl;
+    few = omega (arith, length-append units (unit ∷ []));
+    small = packed.small;
+    fits = omega (arith, packed.fits, grown);
+  }
+
+  pub packed-clear : (now : ℕ) (new : List ℕ) → capacity ≤ now → new ≡ take 7 (take 11 bytes) ++ to_be_bytes w32 0 ++ drop 11 (take 11 bytes)
+      → IsPacked new [] room now
+  unfolding batch
+  packed-clear now new grown is = record {
+    each = tt;
+    whole = rw (is, packed.whole) refl;
+    few = omega arith;
+    small = packed.small;
+    fits = omega (arith, packed.fits, grown);
+  }
+
+pub packed-none : (room capacity : ℕ) (bytes : List ℕ) → bytes ≡ magic ++ to_be_bytes w32 0 → room < 2 ^ 32 → 13 + 8 * room ≤ capacity → IsPacked bytes [] room capacity
+unfolding batch
+packed-none room capacity bytes is small fits = record { each = tt; whole = is; few = omega arith; small = small; fits = fits }
