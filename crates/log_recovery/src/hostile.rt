@@ -26,6 +26,10 @@ fn joined(alloc: Global, parts: &[&[u8]]) -> Result<Vec<u8>, AllocError> {
     Ok(bytes)
 }
 
+fn bad_batch(offset: u64) -> RecoverFault {
+    RecoverFault::BadBatch { offset }
+}
+
 fn bad_rec(lsn: u32) -> RecoverFault {
     RecoverFault::BadRec { lsn: Lsn::new(lsn) }
 }
@@ -37,19 +41,21 @@ fn unlawful(lsn: u32, why: Why) -> RecoverFault {
 
 #[test]
 fn bytes_that_are_no_log(rt: HostRuntime) -> Result<(), Fail> {
-    let no_log = RecoverFault::NotALog;
-    let bad_batch = RecoverFault::BadBatch { offset: 0 };
     let (first_43, _) = FRONT.split_at(43);
     let cases: [(&str, &[&[u8]], RecoverFault); 11] = [
-        ("a gate alone", &[b"O"], no_log),
-        ("cut magic bytes", &[b"OAETHER"], no_log),
-        ("another format", &[b"OAETHER3"], no_log),
-        ("no count", &[b"OAETHER1"], bad_batch),
-        ("a cut count", &[b"OAETHER1\0\0\0"], bad_batch),
-        ("no units", &[b"OAETHER1\0\0\0\x04"], bad_batch),
-        ("cut units", &[first_43], bad_batch),
-        ("a count of 0", &[b"OAETHER1\0\0\0\0"], bad_batch),
-        ("too great a count", &[b"OAETHER1\0\x10\0\x01"], bad_batch),
+        ("a gate alone", &[b"O"], RecoverFault::NotALog),
+        ("cut magic bytes", &[b"OAETHER"], RecoverFault::NotALog),
+        ("another format", &[b"OAETHER3"], RecoverFault::NotALog),
+        ("no count", &[b"OAETHER1"], bad_batch(0)),
+        ("a cut count", &[b"OAETHER1\0\0\0"], bad_batch(0)),
+        ("no units", &[b"OAETHER1\0\0\0\x04"], bad_batch(0)),
+        ("cut units", &[first_43], bad_batch(0)),
+        ("a count of 0", &[b"OAETHER1\0\0\0\0"], bad_batch(0)),
+        (
+            "too great a count",
+            &[b"OAETHER1\0\x10\0\x01"],
+            bad_batch(0),
+        ),
         (
             "a count of 3",
             &[b"OAETHER1\0\0\0\x03", ACCOUNTS, CLOSED],
@@ -61,7 +67,7 @@ fn bytes_that_are_no_log(rt: HostRuntime) -> Result<(), Fail> {
                 b"OAETHER1\0\0\0\x04\x01\x02\0\0\0\0\0\0\x80\0\0\0\0\0\0\0\x01\x02\0\x01\0\0\0\0\0\0\0\0\0\0\0\0",
                 b"O\0",
             ],
-            RecoverFault::BadBatch { offset: 44 },
+            bad_batch(44),
         ),
     ];
     for (name, parts, fault) in cases {

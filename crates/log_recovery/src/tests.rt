@@ -25,7 +25,8 @@ fn image(alloc: Global, batches: &[&[u64]]) -> Result<Vec<u8>, AllocError> {
         if i == 0 {
             bytes.extend_from_slice(b"AETHER1")?;
         }
-        bytes.extend_from_slice(&(units.len() as u32).to_be_bytes())?;
+        let count = u32::try_from(units.len()).unwrap_or(0);
+        bytes.extend_from_slice(&count.to_be_bytes())?;
         for unit in *units {
             bytes.extend_from_slice(&bytes_of(*unit))?;
         }
@@ -226,13 +227,17 @@ fn recovers_two_thousand_transfers(rt: HostRuntime) -> Result<(), Fail> {
     let mut units = Vec::from_slice(rt.alloc(), &GENESIS)?;
     let mut prev = 0;
     for txn in 1..=2000u64 {
-        let (from, to) = if txn % 2 == 1 { (0, 1) } else { (1, 0) };
+        let (from, to) = if txn % 2 == 1 {
+            (0, 0x1_0000_0000)
+        } else {
+            (0x1_0000_0000, 0)
+        };
         units.extend_from_slice(&[
-            0x0202_0000_0000_0000 + from * 0x1_0000_0000 + txn,
-            0xffff_ffff_0000_0000 + prev,
-            0x0202_0000_0000_0000 + to * 0x1_0000_0000 + txn,
-            0x0000_0001_0000_0000 + prev,
-            0x0301_0001_0000_0000 + txn,
+            0x0202_0000_0000_0000 | from | txn,
+            0xffff_ffff_0000_0000 | prev,
+            0x0202_0000_0000_0000 | to | txn,
+            0x0000_0001_0000_0000 | prev,
+            0x0301_0001_0000_0000 | txn,
         ])?;
         prev = 4 + 5 * txn;
     }

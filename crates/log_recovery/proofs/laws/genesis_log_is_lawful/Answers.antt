@@ -1,4 +1,4 @@
-use Rattle.std.proofs.Common.{refl, [], ◌∷◌, arith}
+use Rattle.std.proofs.Common.{refl, [], ◌∷◌}
 use Rattle.log_record.specs.declared.rec.Rec.TheVariants.{Genesis}
 use Rattle.log_recovery.proofs.KindLemmas.{passes-genesis}
 use Rattle.log_recovery.proofs.laws.genesis_log_is_lawful.Goals as goal
