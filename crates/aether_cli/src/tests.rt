@@ -9,11 +9,8 @@ use lsn_space::{Lsn, Word};
 use std::test::Fail;
 
 /// Two accounts, with balances 100 and 0.
-const GENESIS_LOG: [u8; 45] = [
-    0x4f, 0x41, 0x45, 0x54, 0x48, 0x45, 0x52, 0x31, 0, 0, 0, 4, //
-    1, 2, 0, 0, 0, 0, 0, 0, 0, 0, 0, 0, 0, 0, 0, 0x64, //
-    1, 2, 0, 1, 0, 0, 0, 0, 0, 0, 0, 0, 0, 0, 0, 0, 0,
-];
+const GENESIS_LOG: &[u8] =
+    b"OAETHER1\0\0\0\x04\x01\x02\0\0\0\0\0\0\0\0\0\0\0\0\0\x64\x01\x02\0\x01\0\0\0\0\0\0\0\0\0\0\0\0\0";
 
 /// Then transaction 1 moves 30 from account 0 to account 1.
 const ONE_TRANSFER: &[u8] =
@@ -114,14 +111,19 @@ fn names_what_is_wrong_with_a_log(rt: HostRuntime) -> Result<(), Fail> {
 
 #[test]
 fn names_each_fault_and_writes_nothing(rt: HostRuntime) -> Result<(), Fail> {
-    let recover = ["aether", "recover"];
     let cases: [(&[&str], &[u8], &[u64], &[u64], Detail); 6] = [
-        (&recover, &[], &[], &[], Detail::NotALog),
-        (&recover, &GENESIS_LOG, &[1], &[], Detail::Read),
-        (&recover, &GENESIS_LOG, &[], &[1], Detail::Write),
-        (&["move", "log"], &GENESIS_LOG, &[], &[], Detail::Usage),
-        (&["recover"], &GENESIS_LOG, &[], &[], Detail::Usage),
-        (&[], &GENESIS_LOG, &[], &[], Detail::Usage),
+        (&["aether", "recover"], &[], &[], &[], Detail::NotALog),
+        (&["aether", "recover"], GENESIS_LOG, &[1], &[], Detail::Read),
+        (
+            &["aether", "recover"],
+            GENESIS_LOG,
+            &[],
+            &[1],
+            Detail::Write,
+        ),
+        (&["move", "log"], GENESIS_LOG, &[], &[], Detail::Usage),
+        (&["recover"], GENESIS_LOG, &[], &[], Detail::Usage),
+        (&[], GENESIS_LOG, &[], &[], Detail::Usage),
     ];
     for (words, input, source_failing, sink_failing, want) in cases {
         let mut out = sink_of(&rt, sink_failing)?;
