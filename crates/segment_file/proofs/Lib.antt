@@ -6,6 +6,7 @@ pub mod GateBytes
 pub mod OneReading
 pub mod PackingLemmas
 pub mod Results
+pub mod Scanned
 pub mod Seams
 pub mod StableGates
 pub mod StandingLemmas

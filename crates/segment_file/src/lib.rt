@@ -4,6 +4,8 @@
 
 mod appending;
 mod batch;
+#[cfg(test)]
+mod crash_tests;
 mod creating;
 mod gate;
 mod gated_write;

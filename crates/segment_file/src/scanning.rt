@@ -2,9 +2,9 @@ ghost use Rattle.std.specs.Prelude.{◌≡◌, IfOk, IfErr, List, ℕ};
 ghost use Rattle.segment_file.specs.File.{HoldsUnits, BeginsAsLog, IsBadBatchAt};
 ghost use Rattle.segment_file.specs.Scan.{Scans, IsScanFaultOf};
 
-use crate::taking::{BatchFault, take_batch};
 use crate::gate::{after_gate, after_magic};
 use crate::scan_result::{Scan, ScanFault, Tail};
+use crate::taking::{BatchFault, take_batch};
 use crate::units::LogUnits;
 use lsn_space::Lsn;
 use std::alloc::Global;

@@ -20,8 +20,8 @@ returns-clause-moments g c = λ honest units stand.
     let body = packed-body _ _ _ _ packed _ _ (c.as_slice.ensures.value ∙ c.push_reserved.ensures.items) c.split_at.ensures.back in
     let moments = rw body at (c.write_gated-appended.ensures.moments honest) in
     Leaves-weaken g.D.LogDisk.moment g.D.LogDisk.images_since _ _ _ _
-      (holds-either c.args.tail units _ _ _ (g.met.D.LogDisk.read_is_image _ honest) (c.requires.shut honest) (counted _ _ _ _ packed c.requires.some c.requires.most) c.requires.fits stand)
-      moments
+    (holds-either c.args.tail units _ _ _ (g.met.D.LogDisk.read_is_image _ honest) (c.requires.shut honest) (counted _ _ _ _ packed c.requires.some c.requires.most) c.requires.fits stand)
+    moments
 
 pub returns-clause-appended : goal.returns-clause-appended
 returns-clause-appended g c = λ honest.
@@ -29,17 +29,17 @@ returns-clause-appended g c = λ honest.
     let body = packed-body _ _ _ _ packed _ _ (c.as_slice.ensures.value ∙ c.push_reserved.ensures.items) c.split_at.ensures.back in
     let written = rw body at (c.write_gated-appended.ensures.written honest) in
     OnOk-both c.write_gated-appended.result (λ written settled units stand.
-      all_stand-more c.args.tail units _ _ _ (g.met.D.LogDisk.read_is_image _ honest) (c.requires.shut honest) (counted _ _ _ _ packed c.requires.some c.requires.most) c.requires.fits stand
-        _ (omega arith) (omega arith) _ _ written settled) written (c.write_gated-appended.ensures.settled honest)
+    all_stand-more c.args.tail units _ _ _ (g.met.D.LogDisk.read_is_image _ honest) (c.requires.shut honest) (counted _ _ _ _ packed c.requires.some c.requires.most) c.requires.fits stand
+    _ (omega arith) (omega arith) _ _ written settled) written (c.write_gated-appended.ensures.settled honest)
 
 pub returns-clause-shut : goal.returns-clause-shut
 returns-clause-shut g c = λ honest.
     let packed = packed-view _ _ _ _ _ c.batch.invariant c.batch.view_is in
     let body = packed-body _ _ _ _ packed _ _ (c.as_slice.ensures.value ∙ c.push_reserved.ensures.items) c.split_at.ensures.back in
     OnOk-both c.write_gated-appended.result
-      (λ written settled. next-shut _ _ (c.requires.shut honest) _ _ (g.met.D.LogDisk.read_is_image _ honest) (batch c.args.batch.now.units) _ _ _ body written settled
-        (omega (arith, ap length body, length-sealed c.args.batch.now.units)))
-      (c.write_gated-appended.ensures.written honest) (c.write_gated-appended.ensures.settled honest)
+    (λ written settled. next-shut _ _ (c.requires.shut honest) _ _ (g.met.D.LogDisk.read_is_image _ honest) (batch c.args.batch.now.units) _ _ _ body written settled
+    (omega (arith, ap length body, length-sealed c.args.batch.now.units)))
+    (c.write_gated-appended.ensures.written honest) (c.write_gated-appended.ensures.settled honest)
 
 pub returns-clause-length : goal.returns-clause-length
 returns-clause-length g c = λ honest.

@@ -15,12 +15,12 @@ pub returns-in_err-close_gate-clause-stand : goal.returns-in_err-close_gate-clau
 returns-in_err-close_gate-clause-stand g c = λ honest units stand crash left.
     let before = stays-closed _ _ _ (g.met.D.LogDisk.read_is_image _ honest) (c.requires.stable honest) in
     stays-stands (tail_at c.args.at c.args.next) units _ stand crash
-      (Leaves-now g.D.LogDisk.moment g.D.LogDisk.images_since g.D.LogDisk.images g.met.D.LogDisk.counts_now _ c.args.disk.now c.close_gate.new.disk
-        g.met.D.LogDisk.only_now before (c.close_gate.ensures.moments honest) crash left)
+    (Leaves-now g.D.LogDisk.moment g.D.LogDisk.images_since g.D.LogDisk.images g.met.D.LogDisk.counts_now _ c.args.disk.now c.close_gate.new.disk
+    g.met.D.LogDisk.only_now before (c.close_gate.ensures.moments honest) crash left)
 
 pub returns-clause-stand : goal.returns-clause-stand
 returns-clause-stand g c = λ honest units stand crash left.
     let before = stays-closed _ _ _ (g.met.D.LogDisk.read_is_image _ honest) (c.requires.stable honest) in
     stays-stands (tail_at c.args.at c.args.next) units _ stand crash
-      (Leaves-now g.D.LogDisk.moment g.D.LogDisk.images_since g.D.LogDisk.images g.met.D.LogDisk.counts_now _ c.args.disk.now c.close_gate.new.disk
-        g.met.D.LogDisk.only_now before (c.close_gate.ensures.moments honest) crash left)
+    (Leaves-now g.D.LogDisk.moment g.D.LogDisk.images_since g.D.LogDisk.images g.met.D.LogDisk.counts_now _ c.args.disk.now c.close_gate.new.disk
+    g.met.D.LogDisk.only_now before (c.close_gate.ensures.moments honest) crash left)

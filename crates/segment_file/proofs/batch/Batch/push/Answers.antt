@@ -23,7 +23,7 @@ invariant_of-self c =
     let count : c.count-count.result + 1 ≡ length (units_in (drop 11 c.self.inside.bytes.items)) + 1 = omega (arith, c.count-count.ensures, units) in
     let is = rw (c.put_count.ensures.bytes, count) at c.put_unit.ensures.bytes in
     packed-units_in _ _ _ _ (packed-push _ _ _ _ c.self.invariant c.args.unit (vec_capacity c.put_unit.new.bytes) c.put_unit.new.bytes.items (omega arith)
-      (omega (arith, units, room, c.requires)) (omega (arith, c.put_count.ensures.capacity, c.put_unit.ensures.capacity)) is)
+    (omega (arith, units, room, c.requires)) (omega (arith, c.put_count.ensures.capacity, c.put_unit.ensures.capacity)) is)
 
 pub returns : goal.returns
 returns c =
@@ -32,5 +32,5 @@ returns c =
     let count : c.count-count.result + 1 ≡ length (units_in (drop 11 c.self.inside.bytes.items)) + 1 = omega (arith, c.count-count.ensures, ap length units) in
     let is = rw (c.put_count.ensures.bytes, count) at c.put_unit.ensures.bytes in
     let pushed = units_in-packed _ _ _ _ (packed-push _ _ _ _ c.self.invariant c.args.unit (vec_capacity c.put_unit.new.bytes) c.put_unit.new.bytes.items (omega arith)
-      (omega (arith, ap length units, room, c.requires)) (omega (arith, c.put_count.ensures.capacity, c.put_unit.ensures.capacity)) is) in
+    (omega (arith, ap length units, room, c.requires)) (omega (arith, c.put_count.ensures.capacity, c.put_unit.ensures.capacity)) is) in
     rw (pushed, units, room) refl
