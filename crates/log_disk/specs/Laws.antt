@@ -1,5 +1,6 @@
 -- The laws of a disk in memory.
-use Rattle.std.proofs.Common.{◌≤◌, refl, inl, ⊎_elim, ℕ, List, [], ◌∷◌, length, arith}
+use Rattle.std.proofs.Common.{◌≤◌, refl, inl, ⊎_elim, ℕ, List, [], ◌∷◌, length}
+use Rattle.std.proofs.Math.Nat.{not-suc-le_self}
 use Rattle.log_disk.specs.History.{Event, file_after, Images, ImagesSince}
 use Rattle.log_disk.specs.History.Event.{Wrote, Synced}
 
@@ -17,4 +18,4 @@ images-count start (event ∷ earlier) t c early image = inl image
 -- since now there are no others
 pub images-only : (start : List ℕ) (history : List Event) (c : List ℕ) → ImagesSince start history (length history) c → Images start history c
 images-only start [] c since = since
-images-only start (event ∷ earlier) c since = ⊎_elim (λ image. image) (λ past. absurd (omega (arith, past.0))) since
+images-only start (event ∷ earlier) c since = ⊎_elim (λ image. image) (λ past. absurd (not-suc-le_self (length earlier) past.0)) since

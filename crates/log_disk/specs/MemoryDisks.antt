@@ -32,6 +32,7 @@ moment_of d = length d.history
 abbrev pub ImagesSinceOf : DiskState → ℕ → List ℕ → Type 0
 ImagesSinceOf d = ImagesSince d.start d.history
 
+-- how many writes and syncs have succeeded
 abbrev pub written_count_of : DiskState → ℕ
 written_count_of d = d.written_count
 
