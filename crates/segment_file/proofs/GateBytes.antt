@@ -1,9 +1,9 @@
 -- A body that is written behind a shut gate, and then the gate's byte.
-use Rattle.std.proofs.Common.{◌≡◌, ◌≢◌, ◌⊎◌, inl, inr, ◌≤◌, ◌∙◌, sym, ap, refl, subst, ℕ, ◌+◌, List, [], ◌∷◌, ◌++◌, length, take, drop, get_or, Some, arith, append_assoc, length-append}
+use Rattle.std.proofs.Common.{◌≡◌, ◌≢◌, ◌⊎◌, inl, inr, ◌≤◌, ◌∙◌, sym, ap, subst, ℕ, ◌+◌, List, [], ◌∷◌, ◌++◌, length, take, drop, get_or, arith, append_assoc, length-append}
 use Rattle.std.specs.List.{slice_get}
 use Rattle.std.proofs.lemmas.List.{length-take-le}
 use Rattle.std.proofs.lemmas.Option.{slice_get_within}
-use Rattle.log_disk.specs.Disk.{put, IsTorn, MayBeTorn, IsSettled}
+use Rattle.log_disk.specs.Disk.{put, IsTorn, IsSettled}
 use Rattle.segment_file.specs.declared.layout.TheConstants.{OPEN, CLOSED}
 use Rattle.segment_file.specs.File.{BeginsOpen}
 use Rattle.segment_file.specs.Gates.{Midway}

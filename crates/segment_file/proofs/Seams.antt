@@ -1,7 +1,7 @@
 -- Bytes that are a known front and then others, and writes behind that front.
 use Rattle.std.proofs.Common.{◌≡◌, ◌<◌, ◌∙◌, sym, ap, refl, ℕ, zero, suc, ◌+◌, List, [], ◌∷◌, ◌++◌, length, get_or, take, drop, Some, arith, append_assoc, length-append, take-append-drop}
 use Rattle.std.specs.List.{slice_get}
-use Rattle.std.proofs.lemmas.List.{take_at, drop_more, length-take-le}
+use Rattle.std.proofs.lemmas.List.{take_at, drop_more}
 use Rattle.std.proofs.Math.Seq.{drop-append-add}
 use Rattle.log_disk.specs.Disk.{put, IsTorn}
 

@@ -1,4 +1,4 @@
-use Rattle.std.proofs.Common.{◌≡◌, ◌∙◌, sym, subst}
+use Rattle.std.proofs.Common.{◌∙◌, sym, subst}
 use Rattle.log_disk.specs.Disk.{IsSettled}
 use Rattle.segment_file.proofs.Scanned.{scanned-stable}
 use Rattle.segment_file.proofs.crash_tests.reopen.Goals as goal

@@ -1,7 +1,6 @@
-use Rattle.std.proofs.Common.{◌≡◌, ◌∙◌, ap, ◌++◌, length, arith}
+use Rattle.std.proofs.Common.{◌∙◌, ap, ◌++◌, length, arith}
 use Rattle.log_disk.proofs.Moments.{Leaves-weaken}
 use Rattle.segment_file.specs.File.{magic, batch}
-use Rattle.segment_file.specs.Gates.{sealed}
 use Rattle.segment_file.proofs.Creates.{holds-none_or, all_stand-first}
 use Rattle.segment_file.proofs.GateBytes.{shut-within, next-shut}
 use Rattle.segment_file.proofs.PackingLemmas.{packed-view, packed-sealed, length-packed, length-sealed, counted}

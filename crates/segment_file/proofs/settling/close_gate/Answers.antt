@@ -1,4 +1,4 @@
-use Rattle.std.proofs.Common.{◌≡◌, ◌≤◌, length, true≢false, sym, ◌∙◌, ap, arith, List, ℕ}
+use Rattle.std.proofs.Common.{◌≤◌, length, true≢false, sym, ◌∙◌, ap, arith}
 use Rattle.log_disk.proofs.Moments.{Leaves-call, Leaves-trans, Leaves-weaken}
 use Rattle.segment_file.proofs.Results.{OnOk-both}
 use Rattle.segment_file.proofs.StableGates.{stays-closed, stays-closed-torn, stable-shut, put-shut}
