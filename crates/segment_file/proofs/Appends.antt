@@ -5,7 +5,7 @@ use Rattle.log_disk.specs.Disk.{put, IsSettled}
 use Rattle.lsn_space.specs.declared.lsn.TheConstants.{LAST}
 use Rattle.segment_file.specs.declared.layout.TheConstants.{OPEN, CLOSED}
 use Rattle.segment_file.specs.declared.scan_result.Tail.{Tail}
-use Rattle.segment_file.specs.File.{batch, gated, IsCountedBatch}
+use Rattle.segment_file.specs.File.{batch, IsCountedBatch}
 use Rattle.segment_file.specs.Gates.{sealed, Midway}
 use Rattle.segment_file.specs.Standing.{tail_after, StandsAt, AllStand, IsShut, HoldsEither}
 use Rattle.segment_file.proofs.GateBytes.{closed-byte, behind, midway-gate, put-gate}

@@ -1,13 +1,14 @@
 -- A body that is written behind a shut gate, and then the gate's byte.
-use Rattle.std.proofs.Common.{◌≡◌, ◌≢◌, ◌⊎◌, inl, inr, ◌≤◌, ◌∙◌, sym, ap, refl, subst, ℕ, ◌+◌, List, [], ◌∷◌, ◌++◌, length, take, drop, get_or, Some, arith, append_assoc, length-append}
+use Rattle.std.proofs.Common.{◌≡◌, ◌≢◌, ◌⊎◌, inl, inr, ◌≤◌, ◌∙◌, sym, ap, subst, ℕ, ◌+◌, List, [], ◌∷◌, ◌++◌, length, take, drop, get_or, arith, append_assoc, length-append}
 use Rattle.std.specs.List.{slice_get}
 use Rattle.std.proofs.lemmas.List.{length-take-le}
-use Rattle.log_disk.specs.Disk.{put, IsTorn, MayBeTorn, IsSettled}
+use Rattle.std.proofs.lemmas.Option.{slice_get_within}
+use Rattle.log_disk.specs.Disk.{put, IsTorn, IsSettled}
 use Rattle.segment_file.specs.declared.layout.TheConstants.{OPEN, CLOSED}
 use Rattle.segment_file.specs.File.{BeginsOpen}
 use Rattle.segment_file.specs.Gates.{Midway}
 use Rattle.segment_file.specs.Standing.{IsShut}
-use Rattle.segment_file.proofs.Seams.{slice_get-seam, slice_get-within, slice_get-split, torn-behind, torn-byte, put-behind}
+use Rattle.segment_file.proofs.Seams.{slice_get-seam, slice_get-split, torn-behind, torn-byte, put-behind}
 
 -- a byte other than 0x4F opens no gate
 pub closed-byte : (byte : ℕ) (rest : List ℕ) → byte ≢ OPEN → BeginsOpen (byte ∷ rest) → ⊥
@@ -16,7 +17,7 @@ closed-byte byte (next ∷ rest) shut opened = shut opened
 
 module _ (at : ℕ) (images : List ℕ → Type 0) (shut : IsShut at images) where
   pub shut-within : (file : List ℕ) → images file → at + 1 ≤ length file
-  shut-within file image = omega (arith, slice_get-within file at shut.gate (shut.stable file image))
+  shut-within file image = omega (arith, slice_get_within file at shut.gate (shut.stable file image))
 
   length-front : (file : List ℕ) → images file → at ≡ length (take at file)
   length-front file image = sym (length-take-le at file (omega (arith, shut-within file image)))

@@ -1,9 +1,12 @@
 pub mod Appends
 pub mod BatchLemmas
+pub mod Creates
 pub mod FileLemmas
 pub mod GateBytes
 pub mod OneReading
 pub mod PackingLemmas
 pub mod Results
+pub mod Scanned
 pub mod Seams
+pub mod StableGates
 pub mod StandingLemmas

@@ -1,7 +1,7 @@
 -- Bytes that are a known front and then others, and writes behind that front.
 use Rattle.std.proofs.Common.{◌≡◌, ◌<◌, ◌∙◌, sym, ap, refl, ℕ, zero, suc, ◌+◌, List, [], ◌∷◌, ◌++◌, length, get_or, take, drop, Some, arith, append_assoc, length-append, take-append-drop}
 use Rattle.std.specs.List.{slice_get}
-use Rattle.std.proofs.lemmas.List.{take_at, drop_more, length-take-le}
+use Rattle.std.proofs.lemmas.List.{take_at, drop_more}
 use Rattle.std.proofs.Math.Seq.{drop-append-add}
 use Rattle.log_disk.specs.Disk.{put, IsTorn}
 
@@ -10,10 +10,10 @@ pub slice_get-seam : (front : List ℕ) (byte : ℕ) (rest : List ℕ) → slice
 slice_get-seam [] byte rest = refl
 slice_get-seam (first ∷ front) byte rest = slice_get-seam front byte rest
 
-pub slice_get-within : (bytes : List ℕ) (at byte : ℕ) → slice_get bytes at ≡ Some byte → at < length bytes
-slice_get-within [] at byte is = grind arith
-slice_get-within (first ∷ bytes) zero byte is = omega arith
-slice_get-within (first ∷ bytes) (suc at) byte is = omega (arith, slice_get-within bytes at byte is)
+pub slice_get-drop : (bytes : List ℕ) (at : ℕ) → slice_get (drop at bytes) 0 ≡ slice_get bytes at
+slice_get-drop bytes zero = refl
+slice_get-drop [] (suc at) = refl
+slice_get-drop (first ∷ bytes) (suc at) = slice_get-drop bytes at
 
 -- bytes before a place, the byte there, and the bytes behind
 pub slice_get-split : (bytes : List ℕ) (at byte : ℕ) → slice_get bytes at ≡ Some byte → bytes ≡ take at bytes ++ byte ∷ drop (at + 1) bytes

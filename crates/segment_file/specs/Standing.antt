@@ -13,6 +13,10 @@ pub record StandsAt (tail : Tail) (units bytes : List ℕ) : Type 0 where
   pub place : tail.at ≡ length (written batches)
   pub next : tail.next ≡ length units
 
+-- the tail at this place, with this LSN next
+abbrev pub tail_at : ℕ → ℕ → Tail
+tail_at at next = record { at = at; next = next }
+
 -- where a log goes on behind an appended batch, with a byte for the gate, four for the count and eight for each unit
 abbrev pub tail_after : Tail → List ℕ → Tail
 tail_after tail units = record { at = tail.at + (5 + 8 * length units); next = tail.next + length units }

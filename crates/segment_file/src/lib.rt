@@ -4,11 +4,16 @@
 
 mod appending;
 mod batch;
+#[cfg(test)]
+mod crash_tests;
+mod creating;
 mod gate;
 mod gated_write;
 mod layout;
+mod opening;
 mod scan_result;
 mod scanning;
+mod settling;
 mod taking;
 #[cfg(test)]
 mod tests;
@@ -16,7 +21,10 @@ mod units;
 
 pub use appending::append;
 pub use batch::Batch;
+pub use creating::create;
 pub use gated_write::DiskFault;
+pub use opening::{OpenFault, open_image};
 pub use scan_result::{Scan, ScanFault, Tail};
 pub use scanning::{one_reading, scan};
+pub use settling::settle;
 pub use units::LogUnits;

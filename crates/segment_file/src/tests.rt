@@ -5,7 +5,7 @@ use lsn_space::Lsn;
 use std::test::Fail;
 
 /// An open gate, the magic bytes, and a batch of four units: two accounts of balances 100 and 0.
-const GENESIS: [u8; 44] = [
+pub const GENESIS: [u8; 44] = [
     0x4f, 0x41, 0x45, 0x54, 0x48, 0x45, 0x52, 0x31, 0, 0, 0, 4, //
     1, 2, 0, 0, 0, 0, 0, 0, 0, 0, 0, 0, 0, 0, 0, 0x64, //
     1, 2, 0, 1, 0, 0, 0, 0, 0, 0, 0, 0, 0, 0, 0, 0,

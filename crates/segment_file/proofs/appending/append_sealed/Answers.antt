@@ -1,7 +1,6 @@
-use Rattle.std.proofs.Common.{◌≡◌, ◌∙◌, ap, List, length, drop, arith, ℕ, length-append, subst}
+use Rattle.std.proofs.Common.{◌∙◌, ap, length, arith}
 use Rattle.log_disk.proofs.Moments.{Leaves-weaken}
 use Rattle.segment_file.specs.File.{batch}
-use Rattle.segment_file.specs.Gates.{sealed}
 use Rattle.segment_file.proofs.Appends.{holds-either, all_stand-more}
 use Rattle.segment_file.proofs.GateBytes.{shut-within, next-shut}
 use Rattle.segment_file.proofs.PackingLemmas.{packed-view, packed-body, length-packed, length-sealed, counted}

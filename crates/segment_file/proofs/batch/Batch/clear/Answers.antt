@@ -1,8 +1,7 @@
-use Rattle.std.proofs.Common.{◌≡◌, ◌∙◌, length, take, drop, vec_capacity, ap, refl, sym, arith}
-use Rattle.std.specs.Int.{w32, to_be_bytes}
+use Rattle.std.proofs.Common.{length, vec_capacity, ap, refl, arith}
 use Rattle.std.proofs.lemmas.List.{length-take}
 use Rattle.segment_file.specs.Packing.{BatchState}
-use Rattle.segment_file.proofs.PackingLemmas.{state, length-packed, packed-clear, packed-units_in, units_in-packed}
+use Rattle.segment_file.proofs.PackingLemmas.{length-packed, packed-clear, packed-units_in, units_in-packed}
 use Rattle.segment_file.proofs.batch.Batch.clear.Goals as goal
 
 pub put_count-requires : goal.put_count-requires

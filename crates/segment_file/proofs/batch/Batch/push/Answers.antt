@@ -1,9 +1,6 @@
-use Rattle.std.proofs.Common.{◌≡◌, ◌∙◌, ℕ, ◌+◌, ◌++◌, length, take, drop, vec_capacity, ap, refl, sym, arith, List, length-append}
-use Rattle.std.specs.Int.{w32, to_be_bytes}
-use Rattle.std.proofs.lemmas.List.{length-take}
-use Rattle.lsn_space.specs.Unit.{unit_bytes}
+use Rattle.std.proofs.Common.{◌≡◌, ◌+◌, length, drop, vec_capacity, ap, refl, arith}
 use Rattle.segment_file.specs.Packing.{BatchState, units_in}
-use Rattle.segment_file.proofs.PackingLemmas.{state, length-packed, length-counted, packed-push, packed-units_in, units_in-packed}
+use Rattle.segment_file.proofs.PackingLemmas.{length-packed, length-counted, packed-push, packed-units_in, units_in-packed}
 use Rattle.segment_file.proofs.batch.Batch.push.Goals as goal
 
 pub put_count-requires : goal.put_count-requires

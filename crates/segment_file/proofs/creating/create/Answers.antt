@@ -1,0 +1,17 @@
+use Rattle.log_disk.proofs.Moments.{Leaves-trans, Leaves-weaken}
+use Rattle.segment_file.proofs.StableGates.{stays-none}
+use Rattle.segment_file.proofs.creating.create.Goals as goal
+
+pub returns-in_err-close_gate-clause-moments : goal.returns-in_err-close_gate-clause-moments
+returns-in_err-close_gate-clause-moments g c = λ honest.
+    Leaves-weaken g.D.LogDisk.moment g.D.LogDisk.images_since _ _ _ _ (stays-none c.args.batch.now.units _) (c.close_gate.ensures.moments honest)
+
+pub returns-in_err-create_sealed-clause-moments : goal.returns-in_err-create_sealed-clause-moments
+returns-in_err-create_sealed-clause-moments g c = λ honest.
+    let closed = Leaves-weaken g.D.LogDisk.moment g.D.LogDisk.images_since _ _ _ _ (stays-none c.args.batch.now.units _) (c.close_gate.ensures.moments honest) in
+    Leaves-trans g.D.LogDisk.moment g.D.LogDisk.images_since _ _ _ _ closed (c.create_sealed.ensures.moments (c.close_gate.ensures.honest.0 honest))
+
+pub returns-clause-moments : goal.returns-clause-moments
+returns-clause-moments g c = λ honest.
+    let closed = Leaves-weaken g.D.LogDisk.moment g.D.LogDisk.images_since _ _ _ _ (stays-none c.args.batch.now.units _) (c.close_gate.ensures.moments honest) in
+    Leaves-trans g.D.LogDisk.moment g.D.LogDisk.images_since _ _ _ _ closed (c.create_sealed.ensures.moments (c.close_gate.ensures.honest.0 honest))

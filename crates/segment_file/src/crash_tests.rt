@@ -1,0 +1,220 @@
+//! Logs on a disk in memory: the bytes that a call writes, and what is read after a crash at each device call.
+
+ghost use Rattle.std.specs.Prelude.{◌≡◌, ◌≤◌, ◌+◌, ◌*◌, ◌^◌, length, IfSome};
+ghost use Rattle.segment_file.specs.Standing.{IsShut};
+
+use crate::tests::GENESIS;
+use crate::{Batch, Tail, append, create, open_image, scan, settle};
+use log_disk::{LogDisk, MemoryDisk};
+use lsn_space::Lsn;
+use std::alloc::Global;
+use std::test::Fail;
+
+/// The number of a device call that is never made.
+const NONE: u64 = 99;
+
+/// Two accounts of balances 100 and 0.
+const ACCOUNTS: [u64; 4] = [0x0102_0000_0000_0000, 100, 0x0102_0001_0000_0000, 0];
+
+/// The accounts, and then a transfer of 30 from the first to the second.
+const ALL: [u64; 9] = [
+    0x0102_0000_0000_0000,
+    100,
+    0x0102_0001_0000_0000,
+    0,
+    0x0202_0000_0000_0001,
+    0xffff_ffe2_0000_0000,
+    0x0202_0001_0000_0001,
+    0x0000_001e_0000_0000,
+    0x0301_0001_0000_0001,
+];
+
+/// The bytes behind the accounts, from their next gate on, once the transfer is appended.
+const APPENDED: [u8; 46] = [
+    0x4f, 0, 0, 0, 5, //
+    2, 2, 0, 0, 0, 0, 0, 1, 0xff, 0xff, 0xff, 0xe2, 0, 0, 0, 0, //
+    2, 2, 0, 1, 0, 0, 0, 1, 0, 0, 0, 0x1e, 0, 0, 0, 0, //
+    3, 1, 0, 1, 0, 0, 0, 1, 0,
+];
+
+fn accounts(alloc: Global) -> Option<Batch>
+    ensures { IfSome result (λ batch. length batch.units ≡ 4) }
+{
+    let Ok(mut batch) = Batch::make(alloc, 4) else {
+        return None;
+    };
+    batch.push(ACCOUNTS[0]);
+    batch.push(ACCOUNTS[1]);
+    batch.push(ACCOUNTS[2]);
+    batch.push(ACCOUNTS[3]);
+    Some(batch)
+}
+
+fn transfer(alloc: Global) -> Option<Batch>
+    ensures { IfSome result (λ batch. length batch.units ≡ 5) }
+{
+    let Ok(mut batch) = Batch::make(alloc, 5) else {
+        return None;
+    };
+    batch.push(ALL[4]);
+    batch.push(ALL[5]);
+    batch.push(ALL[6]);
+    batch.push(ALL[7]);
+    batch.push(ALL[8]);
+    Some(batch)
+}
+
+/// Opens a log, and settles its tail.
+fn reopen<D: LogDisk>(alloc: Global, disk: &mut D) -> Option<Tail>
+    ensures place { IfSome result (λ tail. tail.at ≤ 2 ^ 63 + 16 * tail.next) }
+    ensures shut { D.honest disk.new → IfSome result (λ tail. IsShut tail.at (D.images disk.new)) }
+{
+    let Ok(bytes) = open_image(alloc, disk) else {
+        return None;
+    };
+    let Ok(found) = scan(alloc, bytes.as_slice()) else {
+        return None;
+    };
+    let at = found.tail.at;
+    let next = found.tail.next;
+    match settle(disk, at, next) {
+        Ok(tail) => Some(tail),
+        Err(_) => None,
+    }
+}
+
+/// Opens a log, and appends the transfer.
+fn append_transfer<D: LogDisk>(alloc: Global, disk: &mut D) -> Option<Tail> {
+    let mut batch = transfer(alloc)?;
+    let tail = reopen(alloc, disk)?;
+    let next = tail.next;
+    next.plus(batch.count())?;
+    match append(disk, tail, &mut batch) {
+        Ok(tail) => Some(tail),
+        Err(_) => None,
+    }
+}
+
+/// The units that are read after a crash, or none where no log is.
+fn units_after_crash(alloc: Global, disk: MemoryDisk, pick: u64) -> Result<Vec<u64>, Fail> {
+    let mut disk = disk.crash(pick);
+    let bytes = open_image(alloc, &mut disk)?;
+    match scan(alloc, bytes.as_slice()) {
+        Ok(found) => Ok(found.units.into_vec()),
+        Err(_) => Ok(Vec::new(alloc)),
+    }
+}
+
+/// The bytes of the genesis log, and some behind them.
+fn genesis_and(alloc: Global, rest: &[u8]) -> Result<Vec<u8>, Fail> {
+    let mut bytes = Vec::from_slice(alloc, &GENESIS)?;
+    bytes.extend_from_slice(rest)?;
+    Ok(bytes)
+}
+
+#[test]
+fn appends_a_transfer(rt: HostRuntime) -> Result<(), Fail> {
+    let alloc = rt.alloc();
+    let mut disk = MemoryDisk::make(alloc, genesis_and(alloc, &[0])?.as_slice(), 142, &[])?;
+    let tail = Tail {
+        at: 89,
+        next: Lsn::new(9),
+    };
+    assert_eq!(rt; append_transfer(alloc, &mut disk), Some(tail));
+    let held = open_image(alloc, &mut disk)?;
+    assert_eq!(rt; held.as_slice(), genesis_and(alloc, &APPENDED)?.as_slice());
+    Ok(())
+}
+
+/// What is read after a crash at any device call is the list before, or the whole new one; after Ok the latter.
+#[test]
+fn appends_all_or_nothing(rt: HostRuntime) -> Result<(), Fail> {
+    let alloc = rt.alloc();
+    let bytes = genesis_and(alloc, &[0])?;
+    let (mut before, mut after) = (false, false);
+    for call in [1, 2, 3, 4, 5, 6, 7, 8, NONE] {
+        for pick in 0..400 {
+            let mut disk = MemoryDisk::make(alloc, bytes.as_slice(), 1000, &[call])?;
+            let appended = append_transfer(alloc, &mut disk).is_some();
+            assert_eq!(rt; appended, call > 8, "call {call}");
+            let units = units_after_crash(alloc, disk, pick)?;
+            if !appended && units.as_slice() == ACCOUNTS.as_slice() {
+                before = true;
+            } else {
+                assert_eq!(rt;
+                    units.as_slice(),
+                    ALL.as_slice(),
+                    "call {call}, pick {pick}"
+                );
+                after = true;
+            }
+        }
+    }
+    assert!(rt; before && after);
+    Ok(())
+}
+
+#[test]
+fn creates_all_or_nothing(rt: HostRuntime) -> Result<(), Fail> {
+    let alloc = rt.alloc();
+    let (mut before, mut after) = (false, false);
+    for call in [1, 2, 3, 4, 5, 6, 7, NONE] {
+        for pick in 0..400 {
+            let mut disk = MemoryDisk::make(alloc, &[], 1000, &[call])?;
+            let Some(mut batch) = accounts(alloc) else {
+                return Err(Fail::new("no memory"));
+            };
+            let created = create(&mut disk, &mut batch).is_ok();
+            assert_eq!(rt; created, call > 7, "call {call}");
+            let units = units_after_crash(alloc, disk, pick)?;
+            if !created && units.is_empty() {
+                before = true;
+            } else {
+                assert_eq!(rt;
+                    units.as_slice(),
+                    ACCOUNTS.as_slice(),
+                    "call {call}, pick {pick}"
+                );
+                after = true;
+            }
+        }
+    }
+    assert!(rt; before && after);
+    Ok(())
+}
+
+#[test]
+fn settles_a_gate_that_lacks(rt: HostRuntime) -> Result<(), Fail> {
+    let alloc = rt.alloc();
+    let cases: [(&[u8], &[u8], u64); 4] = [
+        (&[], &[0], 6),
+        (&[0x4f], &[0], 6),
+        (&[0xff], &[0xff], 4),
+        (&[0, 0x4f], &[0, 0x4f], 4),
+    ];
+    for (rest, settled, calls) in cases {
+        let bytes = genesis_and(alloc, rest)?;
+        for call in 1..calls + 2 {
+            let failing = if call > calls { NONE } else { call };
+            for pick in 0..400 {
+                let mut disk = MemoryDisk::make(alloc, bytes.as_slice(), 1000, &[failing])?;
+                let opened = reopen(alloc, &mut disk).is_some();
+                assert_eq!(rt; opened, call > calls, "{rest:?}, call {call}");
+                if opened {
+                    assert_eq!(rt;
+                        disk.bytes(),
+                        genesis_and(alloc, settled)?.as_slice(),
+                        "{rest:?}"
+                    );
+                }
+                let units = units_after_crash(alloc, disk, pick)?;
+                assert_eq!(rt;
+                    units.as_slice(),
+                    ACCOUNTS.as_slice(),
+                    "{rest:?}, call {call}, pick {pick}"
+                );
+            }
+        }
+    }
+    Ok(())
+}

@@ -1,0 +1,61 @@
+ghost use Rattle.std.specs.Prelude.{◌≡◌, ◌≤◌, ◌<◌, ◌+◌, ◌++◌, ◌↔◌, List, ℕ, length, take, IfOk, OnOk, IsErrOf};
+ghost use Rattle.log_disk.specs.Faults.{Rose};
+ghost use Rattle.log_disk.specs.Disk.{IsSettled, Leaves};
+ghost use Rattle.segment_file.specs.declared.opening.OpenFault.TheVariants.{DiskFault};
+
+use log_disk::{Failed, LogDisk};
+use std::alloc::Global;
+
+/// Why the bytes of a disk couldn't be had.
+#[derive(Clone, Copy, Debug, PartialEq, Eq)]
+pub enum OpenFault {
+    DiskFault,
+    NoMemory,
+}
+
+impl From<Failed> for OpenFault {
+    ghost from_gives = { λ _ fault. fault ≡ DiskFault };
+
+    fn from(_: Failed) -> Self {
+        OpenFault::DiskFault
+    }
+}
+
+/// All bytes of the disk, after a sync that makes them stable. Of a disk that ends before the length that it told, the
+/// bytes up to there.
+pub fn open_image<D: LogDisk>(alloc: Global, disk: &mut D) -> Result<Vec<u8>, OpenFault>
+    ensures bytes { D.honest disk.old → IfOk result (λ bytes. bytes.items ≡ D.reads disk.old) }
+    ensures settled { D.honest disk.old → OnOk result (IsSettled (D.reads disk.new) (D.images disk.new)) }
+    ensures reads { D.honest disk.old → D.reads disk.new ≡ D.reads disk.old }
+    ensures images { (c : List ℕ) → D.images disk.new c → D.images disk.old c }
+    ensures moments { Leaves D.moment D.images_since (D.images disk.old) disk.old disk.new }
+    ensures count { D.honest disk.old → D.written_count disk.new ≤ D.written_count disk.old + 1 }
+    ensures honest { D.honest disk.old ↔ D.honest disk.new }
+    ensures fault { IsErrOf result OpenFault.DiskFault → Rose (D.faults disk.old) (D.faults disk.new) }
+    ensures faults { D.faults disk.old ≤ D.faults disk.new }
+{
+    disk.sync()?;
+    let len = disk.len()?;
+    let mut bytes = Vec::new(alloc);
+    let mut buffer = [0; 4096];
+    'reading: while (bytes.len() as u64) < len {
+        let count = disk.read_at(bytes.len() as u64, &mut buffer)?;
+        if count == 0 {
+            break;
+        }
+        add_front(&mut bytes, &buffer, count)?;
+    }
+    Ok(bytes)
+}
+
+/// Adds the front of the buffer.
+fn add_front(bytes: &mut Vec<u8>, buffer: &[u8], count: usize) -> Result<(), OpenFault>
+    requires { count ≤ length buffer.now }
+    ensures items { OnOk result (bytes.new.items ≡ bytes.old.items ++ take count buffer.now) }
+    ensures memory { IsErrOf result OpenFault.DiskFault → ⊥ }
+{
+    match bytes.extend_from_slice(buffer.split_at(count).0) {
+        Ok(()) => Ok(()),
+        Err(_) => Err(OpenFault::NoMemory),
+    }
+}
