@@ -7,6 +7,7 @@ mod batch;
 #[cfg(test)]
 mod crash_tests;
 mod creating;
+mod first_gate;
 mod gate;
 mod gated_write;
 mod layout;
@@ -22,6 +23,7 @@ mod units;
 pub use appending::append;
 pub use batch::Batch;
 pub use creating::create;
+pub use first_gate::has_open_gate;
 pub use gated_write::DiskFault;
 pub use opening::{OpenFault, open_image};
 pub use scan_result::{Scan, ScanFault, Tail};

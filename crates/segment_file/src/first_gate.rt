@@ -1,0 +1,54 @@
+ghost use Rattle.std.specs.Prelude.{◌≡◌, ◌↔◌, IsTrue, List, ℕ, length, take, IfOk};
+ghost use Rattle.log_disk.specs.Disk.{Elapses, Keeps};
+ghost use Rattle.log_disk.specs.Faults.{HasCause};
+ghost use Rattle.segment_file.specs.File.{BeginsOpen};
+
+use crate::gated_write::DiskFault;
+use crate::layout::OPEN;
+use log_disk::LogDisk;
+
+/// Whether the first gate of the file is open, so that a log may be there. The length is asked for, since a read may
+/// give less than is there.
+pub fn has_open_gate<D: LogDisk>(disk: &mut D) -> Result<bool, DiskFault>
+    ensures opens { D.honest disk.old → IfOk result (λ yes. IsTrue yes ↔ BeginsOpen (D.reads disk.old)) }
+    ensures keeps { Keeps D.honest D.reads D.images D.written_count disk.old disk.new }
+    ensures time { Elapses D.moment D.images D.images_since disk.old disk.new }
+    ensures honest { D.honest disk.old ↔ D.honest disk.new }
+    ensures cause { HasCause (D.faults disk.old) (D.faults disk.new) result }
+{
+    let len = disk.len()?;
+    let mut first = [0];
+    let count = disk.read_at(0, &mut first)?;
+    Ok(opens(len, first.split_at(count).0))
+}
+
+/// Whether a file of this length opens with an open gate, by its first byte.
+fn opens(len: u64, first: &[u8]) -> bool
+    ensures { (file : List ℕ) → len ≡ length file → first.now ≡ take 1 file → IsTrue result ↔ BeginsOpen file }
+{
+    len >= 2 && matches!(first, [OPEN])
+}
+
+#[cfg(test)]
+mod tests {
+    use super::*;
+    use log_disk::MemoryDisk;
+    use std::test::Fail;
+
+    #[test]
+    fn a_lone_byte_is_no_open_gate(rt: HostRuntime) -> Result<(), Fail> {
+        let cases: [(&[u8], bool); 4] = [
+            (b"", false),
+            (b"O", false),
+            (b"\0O", false),
+            (b"O\0", true),
+        ];
+        for (bytes, want) in cases {
+            let Ok(mut disk) = MemoryDisk::make(rt.alloc(), bytes, 0, &[]) else {
+                return Err(Fail::new("no memory"));
+            };
+            assert_eq!(rt; has_open_gate(&mut disk), Ok(want), "{bytes:?}");
+        }
+        Ok(())
+    }
+}
