@@ -1,3 +1,4 @@
 pub mod Accounts
 pub mod Number
+pub mod Tiling
 pub mod Unit

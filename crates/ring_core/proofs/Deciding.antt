@@ -1,0 +1,82 @@
+-- An event is enabled or not, so a run can always go on.
+use Rattle.std.proofs.Common.{◌≡◌, ◌⊎◌, inl, inr, ⊎_elim, ℕ, ◌+◌, ◌/◌, ◌<◌, ◌≤◌, Bool, true, false, List, [], ◌∷◌, Option, Some, None, refl, sym, ap, ◌∙◌, subst, arith}
+use Rattle.std.proofs.lemmas.Bool.Decides.{eqb_tells, leb_tells}
+use Rattle.std.specs.Option.{IsSomeAnd}
+use Rattle.lsn_space.specs.declared.lsn.TheConstants.{LAST}
+use Rattle.lsn_space.specs.Tiling.{IsBoundary}
+use Rattle.ring_core.specs.declared.event.RingEvent.{RingEvent}
+use Rattle.ring_core.specs.declared.event.RingEvent.TheVariants.{Reserve, Fill, Turn, Flushed}
+use Rattle.ring_core.specs.State.{Reservation, Stage, Idle, Works, RingState, stage_of, in_hand}
+use Rattle.ring_core.specs.Machine.{MayReserve, MayFlush, IsEnabled, HasUnfilled, IsNext, state_after, RingStep, Run}
+
+abbrev IsDecided : Type 0 → Type 0
+IsDecided A = A ⊎ (¬ A)
+
+module _ {A B : Type 0} where
+  decided-both : IsDecided A → IsDecided B → IsDecided (A × B)
+  decided-both a b = ⊎_elim (λ yes. ⊎_elim (λ also. inl (yes, also)) (λ no_b. inr (λ both. no_b both.1)) b) (λ no_a. inr (λ both. no_a both.0)) a
+
+  decided-either : IsDecided A → IsDecided B → IsDecided (A ⊎ B)
+  decided-either a b = ⊎_elim (λ yes. inl (inl yes)) (λ no_a. ⊎_elim (λ also. inl (inr also)) (λ no_b. inr (λ either. ⊎_elim no_a no_b either)) b) a
+
+  decided-same : (A → B) → (B → A) → IsDecided A → IsDecided B
+  decided-same to back a = ⊎_elim (λ yes. inl (to yes)) (λ no_a. inr (λ b. no_a (back b))) a
+
+eq-decided : (m n : ℕ) → IsDecided (m ≡ n)
+eq-decided m n = ⊎_elim (λ yes. inl yes.1) (λ no_eq. inr no_eq.1) (eqb_tells m n)
+
+le-decided : (m n : ℕ) → IsDecided (m ≤ n)
+le-decided m n = ⊎_elim (λ yes. inl yes.1) (λ above. inr (λ le. omega (arith, above.1, le))) (leb_tells m n)
+
+idle-decided : (stage : Stage) → IsDecided (stage ≡ Idle)
+idle-decided Idle = inl refl
+idle-decided (Works base) = inr (λ is. cc)
+
+boundary-decided : (from : ℕ) (rs : List Reservation) (to : ℕ) → IsDecided (IsBoundary (λ (r : Reservation). r.size) from rs to)
+boundary-decided from [] to = eq-decided to from
+boundary-decided from (r ∷ rs) to = decided-either (eq-decided to from) (boundary-decided (from + r.size) rs to)
+
+some_and-decided : (P : Reservation → Type 0) (o : Option Reservation) → ((r : Reservation) → IsDecided (P r)) → IsDecided (IsSomeAnd o P)
+some_and-decided P None each = inr (λ is. is)
+some_and-decided P (Some r) each = each r
+
+reserve-decided : (s : RingState) (actor n : ℕ) → IsDecided (MayReserve s actor n)
+reserve-decided s actor n = decided-same
+    (λ all. record { idle = all.0; positive = all.1.0; quarter = all.1.1.0; within_log = all.1.1.1.0; within_ring = all.1.1.1.1 })
+    (λ may. (may.idle, (may.positive, (may.quarter, (may.within_log, may.within_ring)))))
+    (decided-both (idle-decided (stage_of actor s.hands))
+        (decided-both (le-decided 1 n) (decided-both (le-decided n (s.ring / 4))
+            (decided-both (le-decided (s.tail + n) LAST) (le-decided (s.tail + n) (s.durable + s.ring))))))
+
+flush-decided : (s : RingState) (to : ℕ) → IsDecided (MayFlush s to)
+flush-decided s to = decided-same
+    (λ all. record { forward = all.0; exposed = all.1.0; boundary = all.1.1 })
+    (λ may. (may.forward, (may.exposed, may.boundary)))
+    (decided-both (le-decided s.durable to) (decided-both (le-decided to s.exposed) (boundary-decided s.start s.reservations to)))
+
+pub enabled-decided : (s : RingState) (event : RingEvent) → IsDecided (IsEnabled s event)
+enabled-decided s (Reserve actor n) = reserve-decided s actor n
+enabled-decided s (Fill actor) = some_and-decided HasUnfilled (in_hand s actor) (λ r. decided-same (λ le. omega (arith, le)) (λ lt. omega (arith, lt)) (le-decided (r.filled + 1) r.size))
+enabled-decided s (Turn actor) = some_and-decided (IsNext s.exposed) (in_hand s actor) (λ r. decided-both (eq-decided r.filled r.size) (eq-decided r.base s.exposed))
+enabled-decided s (Flushed to) = flush-decided s to
+
+-- each event takes the machine somewhere
+pub step-exists : (old : RingState) (event : RingEvent) → (taken : Bool) × (new : RingState) × RingStep old event taken new
+step-exists old event = ⊎_elim (λ enabled. (true, state_after old event, (enabled, refl))) (λ refused. (false, old, (refused, refl))) (enabled-decided old event)
+
+-- so does each list of events
+pub run-exists : (old : RingState) (events : List RingEvent) → (new : RingState) × Run old events new
+run-exists old [] = (old, refl)
+run-exists old (event ∷ events) = let step = step-exists old event in let rest = run-exists step.1 events in (rest.0, (step.0, step.1, step.2, rest.1))
+
+-- to one state only
+step-unique : (old : RingState) (event : RingEvent) (taken other : Bool) (new new' : RingState) → RingStep old event taken new → RingStep old event other new' → new ≡ new'
+step-unique old event true true new new' step step' = step.1 ∙ sym step'.1
+step-unique old event true false new new' step step' = absurd (step'.0 step.0)
+step-unique old event false true new new' step step' = absurd (step.0 step'.0)
+step-unique old event false false new new' step step' = step.1 ∙ sym step'.1
+
+pub run-unique : (old : RingState) (events : List RingEvent) (new new' : RingState) → Run old events new → Run old events new' → new ≡ new'
+run-unique old [] new new' run run' = run ∙ sym run'
+run-unique old (event ∷ events) new new' run run' = run-unique run.1 events new new' run.3
+    (subst (λ mid. Run mid events new') (step-unique old event run'.0 run.0 run'.1 run.1 run'.2 run.2) run'.3)

@@ -1,0 +1,5 @@
+pub mod Deciding
+pub mod HandLemmas
+pub mod Keeping
+pub mod RangeLemmas
+pub mod Runs

@@ -1,0 +1,33 @@
+-- Whole runs of the machine.
+use Rattle.std.proofs.Common.{◌≡◌, ◌⊎◌, inl, inr, ⊎_elim, ℕ, ◌≤◌, Bool, true, false, List, [], ◌∷◌, Option, Some, None, refl, sym, ap, ◌∙◌, subst, arith}
+use Rattle.std.specs.Option.{IsSomeAnd}
+use Rattle.lsn_space.specs.declared.lsn.TheConstants.{LAST}
+use Rattle.ring_core.specs.declared.event.RingEvent.{RingEvent}
+use Rattle.ring_core.specs.declared.event.RingEvent.TheVariants.{Reserve, Fill, Turn, Flushed}
+use Rattle.ring_core.specs.State.{Reservation, RingState, stage_of, in_hand}
+use Rattle.ring_core.specs.Machine.{IsEnabled, HasUnfilled, IsNext, state_after, after_fill, after_turn, start_state, RingStep, Run}
+use Rattle.ring_core.specs.Laws.{IsSound}
+use Rattle.ring_core.proofs.RangeLemmas.{some_and-some, worked_on-some}
+use Rattle.ring_core.proofs.Keeping.{open-in_hand, reserve-sound, fill-sound, turn-sound, flush-sound, start-sound}
+
+-- each event keeps the laws
+pub event-sound : (s : RingState) (event : RingEvent) → IsSound s → IsEnabled s event → IsSound (state_after s event)
+event-sound s (Reserve actor n) sound may = reserve-sound s actor n sound may
+event-sound s (Fill actor) sound may =
+    let found = some_and-some HasUnfilled (in_hand s actor) may in
+    let works = worked_on-some (stage_of actor s.hands) s.reservations found.0 found.1 in
+    subst (λ o. IsSound (after_fill s o)) (sym found.1)
+        (fill-sound s found.0 sound works.1 found.2 (open-in_hand s actor found.0 sound works.0 works.1))
+event-sound s (Turn actor) sound may =
+    let found = some_and-some (IsNext s.exposed) (in_hand s actor) may in
+    let works = worked_on-some (stage_of actor s.hands) s.reservations found.0 found.1 in
+    subst (λ o. IsSound (after_turn s actor o)) (sym found.1) (turn-sound s actor found.0 sound works.0 works.1 found.2)
+event-sound s (Flushed to) sound may = flush-sound s to sound may
+
+pub step-sound : (old : RingState) (event : RingEvent) (taken : Bool) (new : RingState) → IsSound old → RingStep old event taken new → IsSound new
+step-sound old event true new sound step = subst IsSound (sym step.1) (event-sound old event sound step.0)
+step-sound old event false new sound step = subst IsSound (sym step.1) sound
+
+pub run-sound : (old : RingState) (events : List RingEvent) (new : RingState) → IsSound old → Run old events new → IsSound new
+run-sound old [] new sound run = subst IsSound (sym run) sound
+run-sound old (event ∷ events) new sound run = run-sound run.1 events new (step-sound old event run.0 run.1 sound run.2) run.3
