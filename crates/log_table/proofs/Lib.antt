@@ -1,8 +1,12 @@
+mod Allowing
+mod Crewing
+mod Lifting
 mod Lists
+mod Looking
+mod Owning
+mod Ranging
+mod Reserving
+mod Roles
+mod Showing
 mod Viewing
 mod Wording
-mod Lifting
-mod Ranging
-mod Showing
-mod Roles
-mod Looking
