@@ -14,7 +14,7 @@ use Rattle.log_table.specs.declared.view.Standing.{Standing}
 use Rattle.log_table.specs.declared.view.View.{View}
 use Rattle.log_table.specs.Events.{reservation_of, Leads, IsStep}
 use Rattle.log_table.specs.Layout.{Crew}
-use Rattle.log_table.specs.Log.{Log}
+use Rattle.log_table.specs.Log.{Log, ranges_of}
 use Rattle.log_table.specs.May.{IsAtRest}
 use Rattle.log_table.specs.Sound.{EachView, HasSeenBoundaries, HasWorkingOwner, HasConstants, HasSoundRole, HasSoundRoles, HasSoundCrew, RestsUnlessActive, IsSound, Lacks, is_active_view}
 use Rattle.log_table.specs.Views.{is_active, is_worker, is_spent, counted, enrolled, retired}
@@ -84,7 +84,7 @@ restands key words crew views me v log standing s at unspent idle roles = record
   shows = λ i. record { start = key.start; ring = key.ring; reservations = map reservation_of log.parts; hands = hands_of-set_same 0 me views v new at refl i; tail = words.tail; exposed = words.exposed; durable = words.durable };
   sound = record {
     ordered = s.ordered;
-    seen = each_set (λ _ z. HasSeenBoundaries key.start words.tail words.exposed words.durable log z.seen) views me new s.seen
+    seen = each_set (λ _ z. HasSeenBoundaries key.start words.tail words.exposed words.durable (ranges_of log) z.seen) views me new s.seen
         (let old = s.seen me v at in record { tail_seen = old.tail_seen; exposed_seen = old.exposed_seen; durable_seen = old.durable_seen; boundaries = old.boundaries });
     contiguous = s.contiguous;
     filled = s.filled;

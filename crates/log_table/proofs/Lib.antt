@@ -1,10 +1,12 @@
 mod Allowing
 mod Crewing
+mod Filling
 mod Lifting
 mod Lists
 mod Looking
 mod Owning
 mod Ranging
+mod Releasing
 mod Reserving
 mod Roles
 mod Showing

@@ -33,13 +33,13 @@ module _ (start ring tail exposed durable : ℕ) (log : Log) (c : HasContiguousR
   tail-boundary = boundary-behind _ _ _ _ log.flushed _ c.flushed (boundary-behind _ _ _ _ log.released _ c.released (boundary-end _ _ _ log.unreleased c.unreleased))
 
 pub looks : (key : Start) (words : Words) (views : List View) (me : ℕ) (v : View) (log : Log) (seen : Seen) → IsSound key words views log → get_elem? views me ≡ some v
-    → HasSeenBoundaries key.start words.tail words.exposed words.durable log seen → Leads key words words views (set views me (record v { seen = seen })) log None
+    → HasSeenBoundaries key.start words.tail words.exposed words.durable (ranges_of log) seen → Leads key words words views (set views me (record v { seen = seen })) log None
 looks key words views me v log seen s at sees = record {
   after = log;
   shows = λ i. record { start = key.start; ring = key.ring; reservations = map reservation_of log.parts; hands = hands_of-set_same 0 me views v new at refl i; tail = words.tail; exposed = words.exposed; durable = words.durable };
   sound = record {
     ordered = s.ordered;
-    seen = each_set (λ _ z. HasSeenBoundaries key.start words.tail words.exposed words.durable log z.seen) views me new s.seen sees;
+    seen = each_set (λ _ z. HasSeenBoundaries key.start words.tail words.exposed words.durable (ranges_of log) z.seen) views me new s.seen sees;
     contiguous = s.contiguous;
     filled = s.filled;
     below = s.below;

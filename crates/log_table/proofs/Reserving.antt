@@ -102,7 +102,7 @@ module _ (key : Start) (words : Words) (views : List View) (me : ℕ) (v : View)
       within_ring = omega (arith, ring, may.within_ring, (s.seen me v at).durable_seen);
       within_log = may.within_log;
     };
-    seen = each_moves (λ _ z. HasSeenBoundaries key.start from words.exposed words.durable log z.seen) (λ _ z. HasSeenBoundaries key.start to words.exposed words.durable after z.seen) views me new s.seen
+    seen = each_moves (λ _ z. HasSeenBoundaries key.start from words.exposed words.durable (ranges_of log) z.seen) (λ _ z. HasSeenBoundaries key.start to words.exposed words.durable (ranges_of after) z.seen) views me new s.seen
         (let old = s.seen me v at in record { tail_seen = le_refl _; exposed_seen = old.exposed_seen; durable_seen = old.durable_seen; boundaries = (tail-boundary _ _ _ _ _ after contiguous, still v.seen.lsns old.boundaries) })
         (λ _ z _ _ old. record { tail_seen = let before = old.tail_seen in let more = may.some_units in omega arith; exposed_seen = old.exposed_seen; durable_seen = old.durable_seen; boundaries = still z.seen.lsns old.boundaries });
     contiguous = contiguous;

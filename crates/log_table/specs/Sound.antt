@@ -39,11 +39,11 @@ pub record HasOrderedLsns (start ring tail durable : ℕ) : Type 0 where
   pub within_log : tail ≤ LAST
 
 -- no word is below what a seat saw in it, and each LSN that a seat saw is a boundary of reservations
-pub record HasSeenBoundaries (start tail exposed durable : ℕ) (log : Log) (seen : Seen) : Type 0 where
+pub record HasSeenBoundaries (start tail exposed durable : ℕ) (ranges : List Range) (seen : Seen) : Type 0 where
   pub tail_seen : seen.tail ≤ tail
   pub exposed_seen : seen.exposed ≤ exposed
   pub durable_seen : seen.durable ≤ durable
-  pub boundaries : AllByRecursion (IsBoundary (λ (r : Range). r.size) start (ranges_of log)) seen.lsns
+  pub boundaries : AllByRecursion (IsBoundary (λ (r : Range). r.size) start ranges) seen.lsns
 
 -- the reservations follow one another from the start to the tail, and durable and exposed lie between two of them
 pub record HasContiguousReservations (start ring tail exposed durable : ℕ) (log : Log) : Type 0 where
@@ -109,7 +109,7 @@ pub record HasSoundCrew (crew : ℕ) (views : List View) : Type 0 where
 -- the rule: words, views and log of a table that was made with this key go together
 pub record IsSound (key : Start) (words : Words) (views : List View) (log : Log) : Type 0 where
   pub ordered : HasOrderedLsns key.start key.ring words.tail words.durable
-  pub seen : EachView (λ _ view. HasSeenBoundaries key.start words.tail words.exposed words.durable log view.seen) views
+  pub seen : EachView (λ _ view. HasSeenBoundaries key.start words.tail words.exposed words.durable (ranges_of log) view.seen) views
   pub contiguous : HasContiguousReservations key.start key.ring words.tail words.exposed words.durable log
   pub filled : KeepsFilledUnits key.ring words.durable words.ring log.parts
   pub below : IsFilledBelowExposed words.exposed log
