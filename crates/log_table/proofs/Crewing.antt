@@ -19,7 +19,7 @@ use Rattle.log_table.specs.May.{IsAtRest}
 use Rattle.log_table.specs.Sound.{EachView, HasSeenBoundaries, HasWorkingOwner, HasConstants, HasSoundRole, HasSoundRoles, HasSoundCrew, RestsUnlessActive, IsSound, Lacks, is_active_view}
 use Rattle.log_table.specs.Views.{is_active, is_worker, is_spent, counted, enrolled, retired}
 use Rattle.log_table.specs.Words.{Words}
-use Rattle.log_table.proofs.Showing.{hands_of-set_same}
+use Rattle.log_table.proofs.Roles.{restands}
 use Rattle.log_table.proofs.Viewing.{each_set, seats_set, seat_at, pairs_move, count-set}
 
 -- the numbers of the workers among these
@@ -75,33 +75,8 @@ crew-small crew views s =
     let few : length (worker_numbers views) ≤ 4294967296 = length-le_from_distinct_below (worker_numbers views) 4294967296 distinct small in
     omega (arith, s.count, active-le-numbers views)
 
--- the seat's standing and the crew alone change
-restands : (key : Start) (words : Words) (crew : ℕ) (views : List View) (me : ℕ) (v : View) (log : Log) (standing : Standing) → IsSound key words views log → get_elem? views me ≡ some v → is_spent v.standing.role ≡ false
-    → v.call ≡ Rattle.log_table.specs.declared.view.Call.TheVariants.Idle → HasSoundCrew crew (set views me (record v { standing = standing; seen = counted v.seen }))
-    → Leads key words (record words { crew = crew }) views (set views me (record v { standing = standing; seen = counted v.seen })) log None
-restands key words crew views me v log standing s at unspent idle roles = record {
-  after = log;
-  shows = λ i. record { start = key.start; ring = key.ring; reservations = map reservation_of log.parts; hands = hands_of-set_same 0 me views v new at refl i; tail = words.tail; exposed = words.exposed; durable = words.durable };
-  sound = record {
-    ordered = s.ordered;
-    seen = each_set (λ _ z. HasSeenBoundaries key.start words.tail words.exposed words.durable (ranges_of log) z.seen) views me new s.seen
-        (let old = s.seen me v at in record { tail_seen = old.tail_seen; exposed_seen = old.exposed_seen; durable_seen = old.durable_seen; boundaries = old.boundaries });
-    contiguous = s.contiguous;
-    filled = s.filled;
-    below = s.below;
-    at_work = s.at_work;
-    owners = seats_set (HasWorkingOwner log.parts log.unreleased) views me v new at s.owners (let mine = seat_at (HasWorkingOwner log.parts log.unreleased) views me v at s.owners in record { owns = mine.owns; owes = mine.owes });
-    constants = each_set (λ _ z. HasConstants key z) views me new s.constants (λ _. s.constants me v at unspent);
-    resting = each_set (λ _ z. RestsUnlessActive z) views me new s.resting (λ _. idle);
-    roles = roles;
-  };
-}
-  where
-    new : View
-    new = record v { standing = standing; seen = counted v.seen }
-
 pub enrolls : (key : Start) (words : Words) (views : List View) (me : ℕ) (v : View) (log : Log) → IsSound key words views log → get_elem? views me ≡ some v → v.standing.role ≡ Fresh → Leads key words (record words { crew = words.crew + 1 }) views (set views me (enrolled v)) log None
-enrolls key words views me v log s at fresh = restands key words (words.crew + 1) views me v log (enrolled v).standing s at (ap is_spent fresh) (s.resting me v at (ap is_active fresh)) record {
+enrolls key words views me v log s at fresh = restands key words (words.crew + 1) views me v (enrolled v) log s at refl refl (let old = s.seen me v at in record { tail_seen = old.tail_seen; exposed_seen = old.exposed_seen; durable_seen = old.durable_seen; boundaries = old.boundaries }) (λ _. s.constants me v at (ap is_spent fresh)) (λ _. s.resting me v at (ap is_active fresh)) (λ off. absurd (true≢false off)) record {
   count = let was : cond {A = ℕ} (is_active v.standing.role) 1 0 ≡ 0 = ap (λ (r : Role). cond {A = ℕ} (is_active r) 1 0) fresh in omega (arith, count-set is_active_view views me v (enrolled v) at, s.roles.count, was);
   each = each_set (λ seat z. HasSoundRole seat z.standing) views me (enrolled v) s.roles.each record { small = λ _. (s.roles.each me v at).small worker; first = λ e. absurd (cc); merged = λ e. absurd (cc) };
   pairs = pairs_move (λ i y j z. HasSoundRoles i y.standing j z.standing) views me v (enrolled v) at s.roles.pairs
@@ -126,7 +101,7 @@ enrolls key words views me v log s at fresh = restands key words (words.crew + 1
     by_test made n own others false same is = others is
 
 pub leaves : (key : Start) (words : Words) (views : List View) (me : ℕ) (v : View) (log : Log) → IsSound key words views log → get_elem? views me ≡ some v → IsAtRest v → Leads key words (record words { crew = words.crew - 1 }) views (set views me (retired v)) log None
-leaves key words views me v log s at may = restands key words (words.crew - 1) views me v log (retired v).standing s at (ap is_spent may.active) may.idle record {
+leaves key words views me v log s at may = restands key words (words.crew - 1) views me v (retired v) log s at refl refl (let old = s.seen me v at in record { tail_seen = old.tail_seen; exposed_seen = old.exposed_seen; durable_seen = old.durable_seen; boundaries = old.boundaries }) (λ _. s.constants me v at (ap is_spent may.active)) (λ _. may.idle) (λ off. absurd (true≢false off)) record {
   count = let was : cond {A = ℕ} (is_active v.standing.role) 1 0 ≡ 1 = ap (λ (r : Role). cond {A = ℕ} (is_active r) 1 0) may.active in omega (arith, count-set is_active_view views me v (retired v) at, s.roles.count, was);
   each = each_set (λ seat z. HasSoundRole seat z.standing) views me (retired v) s.roles.each record { small = λ _. (s.roles.each me v at).small worker; first = λ e. absurd (cc); merged = λ e. absurd (cc) };
   pairs = pairs_move (λ i y j z. HasSoundRoles i y.standing j z.standing) views me v (retired v) at s.roles.pairs

@@ -19,7 +19,7 @@ use Rattle.log_table.specs.Events.{reservation_of, stage_in, ring_of, Leads, IsS
 use Rattle.log_table.specs.Layout.{Ring}
 use Rattle.log_table.specs.Log.{Part, Log, ranges_of, own, part_of, parts_of, unreleased_in, inside, Fits, StandsInRing, IsFullIfReleased, IsReleasedBelow, CountsRemaining, Laid}
 use Rattle.log_table.specs.May.{MayFill}
-use Rattle.log_table.specs.Sound.{HasSeenBoundaries, HasWorkingOwner, HasConstants, RestsUnlessActive, IsSound}
+use Rattle.log_table.specs.Sound.{HasSeenBoundaries, HasWorkingOwner, HasConstants, RestsUnlessActive, OwnsIfWorker, IsSound}
 use Rattle.log_table.specs.Views.{entries_in, claims_in, with_unit, counted, filled}
 use Rattle.log_table.specs.Words.{Words, put}
 use Rattle.log_table.proofs.Lists.{all-mid, all-at, all-both, all-weaker}
@@ -134,6 +134,7 @@ module _ (key : Start) (words : Words) (views : List View) (me : ℕ) (v : View)
         (λ j z differ h. record { owns = own-others me j last.before last.behind false false entry (with_unit unit entry) differ ∙ (ap (own j) (sym last.split) ∙ h.owns); owes = h.owes });
     constants = each_set (λ _ z. HasConstants key z) views me new s.constants (s.constants me v at);
     resting = each_set (λ _ z. RestsUnlessActive z) views me new s.resting (λ off. let gone : Filling entry ≡ Idle = sym filling ∙ s.resting me v at off in absurd (cc));
+    entries = each_set (λ _ z. OwnsIfWorker z) views me new s.entries (s.entries me v at);
     roles = crew-same words.crew views me v new s.roles at refl;
   }
 

@@ -12,7 +12,7 @@ use Rattle.log_table.specs.declared.view.View.{View}
 use Rattle.log_table.specs.Events.{reservation_of, Leads, IsStep}
 use Rattle.log_table.specs.Layout.{Tail, Exposed, Durable}
 use Rattle.log_table.specs.Log.{Log, ranges_of}
-use Rattle.log_table.specs.Sound.{HasSeenBoundaries, HasContiguousReservations, HasWorkingOwner, HasConstants, HasSoundCrew, RestsUnlessActive, IsSound, is_active_view}
+use Rattle.log_table.specs.Sound.{HasSeenBoundaries, HasContiguousReservations, HasWorkingOwner, HasConstants, HasSoundCrew, RestsUnlessActive, OwnsIfWorker, IsSound, is_active_view}
 use Rattle.log_table.specs.Views.{seen_tail, seen_exposed, seen_durable, saw_tail, saw_exposed, saw_durable}
 use Rattle.log_table.specs.Words.{Words}
 use Rattle.log_table.proofs.Lifting.{Tells}
@@ -47,6 +47,7 @@ looks key words views me v log seen s at sees = record {
     owners = seats_set (HasWorkingOwner log.parts log.unreleased) views me v new at s.owners record { owns = mine.owns; owes = mine.owes };
     constants = each_set (λ _ z. HasConstants key z) views me new s.constants (s.constants me v at);
     resting = each_set (λ _ z. RestsUnlessActive z) views me new s.resting (s.resting me v at);
+    entries = each_set (λ _ z. OwnsIfWorker z) views me new s.entries (s.entries me v at);
     roles = crew-same words.crew views me v new s.roles at refl;
   };
 }

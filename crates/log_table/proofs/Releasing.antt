@@ -12,13 +12,15 @@ use Rattle.ring_core.specs.declared.event.RingEvent.TheVariants.{Turn}
 use Rattle.log_table.specs.declared.table.Start.{Start}
 use Rattle.log_table.specs.declared.view.Call.TheVariants.{Idle, Filling}
 use Rattle.log_table.specs.declared.view.Entry.{Entry}
+use Rattle.log_table.specs.declared.view.Role.{Role}
+use Rattle.log_table.specs.declared.view.Role.TheVariants.{Flusher, Fresh, Active, Ended, Note, Spent}
 use Rattle.log_table.specs.declared.view.View.{View}
 use Rattle.log_table.specs.Events.{reservation_of, stage_in, ring_of, Leads, IsStep}
 use Rattle.log_table.specs.Layout.{Exposed}
 use Rattle.log_table.specs.Log.{Part, Duty, Shared, Owed, Released, Range, Claim, Log, ranges_of, own, owed, owes, is_owed_by, claim_of, part_of, parts_of, unreleased_in, inside, IsFull, Fits, StandsInRing, IsFullIfReleased, IsReleasedBelow, IsReleased, IsOwed, CountsRemaining, Tiles, Laid}
 use Rattle.log_table.specs.May.{MayRelease}
-use Rattle.log_table.specs.Sound.{HasSeenBoundaries, HasContiguousReservations, HasWorkingOwner, HasConstants, RestsUnlessActive, IsSound}
-use Rattle.log_table.specs.Views.{entries_in, claims_in, seen_exposed, released}
+use Rattle.log_table.specs.Sound.{HasSeenBoundaries, HasContiguousReservations, HasWorkingOwner, HasConstants, RestsUnlessActive, OwnsIfWorker, IsSound}
+use Rattle.log_table.specs.Views.{is_active, may_own, entries_in, claims_in, seen_exposed, released}
 use Rattle.log_table.specs.Words.{Words}
 use Rattle.log_table.proofs.Filling.{hand-at}
 use Rattle.log_table.proofs.Lists.{all-append, all-mid, all-at, all-both, all-weaker, Last, picked-last}
@@ -28,6 +30,14 @@ use Rattle.log_table.proofs.Ranging.{Boundary, tiles-le, tiles-push, tiles-first
 use Rattle.log_table.proofs.Roles.{crew-same}
 use Rattle.log_table.proofs.Showing.{hands_of-set, changed-part, released_at-others}
 use Rattle.log_table.proofs.Viewing.{each_moves, each_set, seats_move, seat_at}
+
+only-owners : (role : Role) → may_own role ≡ false → is_active role ≡ false
+only-owners Flusher off = refl
+only-owners Fresh off = refl
+only-owners Active off = absurd (true≢false off)
+only-owners Ended off = refl
+only-owners Note off = refl
+only-owners Spent off = refl
 
 duty-owed : (me : ℕ) (duty : Duty) → is_owed_by me duty ≡ true → duty ≡ Owed me
 duty-owed me (Shared slot) e = absurd (true≢false (sym e))
@@ -162,6 +172,7 @@ module _ (key : Start) (words : Words) (views : List View) (me : ℕ) (v : View)
         (λ j z differ h. record { owns = own-others me j last.before last.behind false true entry entry differ ∙ (ap (own j) (sym last.split) ∙ h.owns); owes = fewer j differ ∙ h.owes });
     constants = each_set (λ _ z. HasConstants key z) views me new s.constants (s.constants me v at);
     resting = each_set (λ _ z. RestsUnlessActive z) views me new s.resting (λ _. refl);
+    entries = each_set (λ _ z. OwnsIfWorker z) views me new s.entries (λ off. let gone : Filling entry ≡ Idle = sym filling ∙ s.resting me v at (only-owners v.standing.role off) in absurd (cc));
     roles = crew-same words.crew views me v new s.roles at refl;
   }
 
@@ -197,8 +208,8 @@ still-turn key words views me v entry log s at filling turn = elim (dec_le words
     last : LastPart me log.parts (parts_of me true v.entries) entry
     last = last_part me log.parts (parts_of me true v.entries) entry (mine.owns ∙ ap (λ c. parts_of me true v.entries ++ parts_of me false (entries_in c)) filling)
 
-pub release-step : (key : Start) (me : ℕ) (v : View) (to : ℕ) → MayRelease to v → (n : ℕ) → IsStep key me Exposed n to v (released to v) (Some (Turn me))
-release-step key me v to may n = record {
+pub release-step : (key : Start) (me : ℕ) (v : View) (end : ℕ) → MayRelease end v → (n : ℕ) → IsStep key me Exposed n end v (released end v) (Some (Turn me))
+release-step key me v _ may n = record {
   leads = λ words views log s here is.
       subst (λ (x : ℕ × List Entry). Leads key words (record words { exposed = x.0 }) views (set views me (record v { seen = seen_exposed x.0 v.seen; entries = v.entries ++ x.1; call = Idle })) log (Some (Turn me)))
       (λ i. (sym may.end i, ap entries_in (sym may.filling) i))

@@ -18,7 +18,7 @@ use Rattle.log_table.specs.Events.{reservation_of, stage_in, hands_of, Leads, Is
 use Rattle.log_table.specs.Layout.{Tail}
 use Rattle.log_table.specs.Log.{Part, Owed, Range, Claim, Log, ranges_of, own, owed, part_of, parts_of, unreleased_in, Fits, StandsInRing, IsFullIfReleased, IsReleasedBelow, IsOwed, CountsRemaining}
 use Rattle.log_table.specs.May.{MayReserve}
-use Rattle.log_table.specs.Sound.{HasSeenBoundaries, HasContiguousReservations, HasWorkingOwner, HasConstants, RestsUnlessActive, IsSound, Ruled}
+use Rattle.log_table.specs.Sound.{HasSeenBoundaries, HasContiguousReservations, HasWorkingOwner, HasConstants, RestsUnlessActive, OwnsIfWorker, IsSound, Ruled}
 use Rattle.log_table.specs.Views.{is_active, is_spent, entries_in, claims_in, empty_entry, saw_tail, reserved, after_exchange}
 use Rattle.log_table.specs.Words.{Words}
 use Rattle.log_table.proofs.Lifting.{allowed-if_step}
@@ -124,6 +124,7 @@ module _ (key : Start) (words : Words) (views : List View) (me : ℕ) (v : View)
         (λ j z differ h. record { owns = own-push_others me j log.parts false entry differ ∙ h.owns; owes = owed-push_others me j log.unreleased range refl differ ∙ h.owes });
     constants = each_set (λ _ z. HasConstants key z) views me new s.constants (s.constants me v at);
     resting = each_set (λ _ z. RestsUnlessActive z) views me new s.resting (λ off. absurd (true≢false (sym (ap is_active may.rests.active) ∙ off)));
+    entries = each_set (λ _ z. OwnsIfWorker z) views me new s.entries (s.entries me v at);
     roles = crew-same words.crew views me v new s.roles at refl;
   }
 

@@ -1,3 +1,4 @@
+pub mod Closing
 pub mod Events
 pub mod Layout
 pub mod Log

@@ -1,5 +1,5 @@
 -- The rule of the table, part by part. Each part speaks of exactly the words and the fields of views that it names.
-use Rattle.std.specs.Prelude.{◌≡◌, ℕ, ◌+◌, ◌/◌, ◌<◌, ◌≤◌, Bool, true, false, List, ◌++◌, length, get_or, count_by}
+use Rattle.std.specs.Prelude.{◌≡◌, ℕ, ◌+◌, ◌/◌, ◌<◌, ◌≤◌, Bool, true, false, List, [], ◌++◌, length, get_or, count_by}
 use Rattle.std.specs.List.{AllByRecursion, list_any}
 use mathlib.Core.Option.{some}
 use lib.Dec.{eqb}
@@ -15,7 +15,7 @@ use Rattle.log_table.specs.declared.view.Standing.{Standing}
 use Rattle.log_table.specs.declared.view.View.{View}
 use Rattle.log_table.specs.Layout.{word_count}
 use Rattle.log_table.specs.Log.{Part, Range, Log, ranges_of, own, parts_of, owed, Tiles, Laid, Fits, StandsInRing, IsFullIfReleased, IsReleasedBelow, IsReleased, IsOwed, CountsRemaining}
-use Rattle.log_table.specs.Views.{is_active, is_worker, is_spent, constants_of, nobody, entries_in, claims_in}
+use Rattle.log_table.specs.Views.{is_active, is_worker, is_spent, may_own, constants_of, nobody, entries_in, claims_in}
 use Rattle.log_table.specs.Words.{Words, words_of}
 
 -- each seat that was made, by its number, has a view for which this holds
@@ -77,6 +77,10 @@ HasConstants key view = is_spent view.standing.role ≡ false → view.constants
 abbrev pub RestsUnlessActive : View → Type 0
 RestsUnlessActive view = is_active view.standing.role ≡ false → view.call ≡ Idle
 
+-- only the flusher's seat and workers' have entries
+abbrev pub OwnsIfWorker : View → Type 0
+OwnsIfWorker view = may_own view.standing.role ≡ false → view.entries ≡ []
+
 abbrev pub Knows : ℕ → List ℕ → Type 0
 Knows worker numbers = list_any (eqb worker) numbers ≡ true
 
@@ -117,6 +121,7 @@ pub record IsSound (key : Start) (words : Words) (views : List View) (log : Log)
   pub owners : EachSeat (HasWorkingOwner log.parts log.unreleased) views
   pub constants : EachView (λ _ view. HasConstants key view) views
   pub resting : EachView (λ _ view. RestsUnlessActive view) views
+  pub entries : EachView (λ _ view. OwnsIfWorker view) views
   pub roles : HasSoundCrew words.crew views
 
 -- the table has its words, and some log goes with them and with the views

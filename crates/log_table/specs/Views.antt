@@ -36,6 +36,14 @@ is_spent Ended = false
 is_spent Note = false
 is_spent Spent = true
 
+abbrev pub may_own : Role → Bool
+may_own Flusher = true
+may_own Fresh = true
+may_own Active = true
+may_own Ended = true
+may_own Note = false
+may_own Spent = false
+
 -- what the table was made with, as each view keeps it
 abbrev pub constants_of : Start → Constants
 constants_of key = record { start = key.start; ring = key.ring; slots = key.slots; accounts = length key.accounts.rows }

@@ -1,7 +1,8 @@
 //! What each kind of step tells the seat that makes it: its new view, and what the rule says of the
 //! word that it found.
 use crate::view::View;
-use atomic_table::Play;
+use atomic_table::{Join, Play, Split};
+use std::marker::{Brand, PhantomData};
 
 pub(crate) struct LoadTail;
 
@@ -77,4 +78,37 @@ impl Play<(), View> for Leave {
     ghost use Rattle.log_table.specs.Views.{retired};
 
     ghost then = { λ st old n new. (new ≡ (retired old.0, old.1)) × Unit {0} };
+}
+
+/// The number of a worker.
+pub trait Number {
+    ghost use Rattle.std.specs.Prelude.{ℕ};
+
+    ghost number: { ℕ };
+}
+
+impl Number for Brand {
+    ghost number = { 0 };
+}
+
+pub(crate) struct Hire<N> {
+    number: PhantomData<N>,
+}
+
+impl<N: Number> Split<View> for Hire<N> {
+    ghost use Rattle.log_table.specs.Views.{hires, hired};
+
+    ghost left = { hires N.number };
+
+    ghost right = { hired N.number };
+}
+
+pub(crate) struct TakeIn;
+
+impl Join<View> for TakeIn {
+    ghost use Rattle.log_table.specs.Views.{takes_in, nobody};
+
+    ghost both = { takes_in };
+
+    ghost spent = { nobody };
 }
