@@ -1,1 +1,5 @@
-pub mod Lists
+pub mod BoundLemmas
+pub mod Fronts
+pub mod LogListLemmas
+pub mod SpellingLemmas
+pub mod TextLemmas

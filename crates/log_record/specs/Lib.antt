@@ -1,2 +1,3 @@
 pub mod LogList
+pub mod Reading
 pub mod Spelling

@@ -1,5 +1,5 @@
 -- A log list: records, one after another. An address in it counts units.
-use Rattle.std.specs.Prelude.{ℕ, List, length}
+use Rattle.std.specs.Prelude.{◌≡◌, ℕ, ◌+◌, ◌-◌, List, [], ◌∷◌, ◌++◌, length, if◌then◌else◌, nat_le, Contains}
 use Rattle.std.specs.List.{flat_map}
 use Rattle.log_record.specs.declared.rec.Rec.{Rec}
 use Rattle.log_record.specs.Spelling.{spelling}
@@ -11,3 +11,31 @@ units_of records = flat_map spelling records
 -- the end of a log list: how many units it has
 abbrev pub end_of : List Rec → ℕ
 end_of records = length (units_of records)
+
+-- how many units a record has
+abbrev pub size_of : Rec → ℕ
+size_of rec = length (spelling rec)
+
+-- where the records start, if the first starts at this address: each at the sum of the units before it
+abbrev pub starts_from : ℕ → List Rec → List ℕ
+starts_from at [] = []
+starts_from at (rec ∷ records) = at ∷ starts_from (at + size_of rec) records
+
+abbrev pub starts_of : List Rec → List ℕ
+starts_of records = starts_from 0 records
+
+-- a boundary of a log list: the start of a record, or the end
+abbrev pub IsBoundary : List Rec → ℕ → Type 0
+IsBoundary records lsn = Contains (starts_of records ++ end_of records ∷ []) lsn
+
+-- the list up to an LSN: the records that end at or below it
+abbrev pub prefix_to : List Rec → ℕ → List Rec
+prefix_to [] lsn = []
+prefix_to (rec ∷ records) lsn =
+    if nat_le (size_of rec) lsn then rec ∷ prefix_to records (lsn - size_of rec) else []
+
+-- ranges of these sizes start at these addresses, each where the one before it ends, and the last ends here
+abbrev pub AreConsecutive : ℕ → List ℕ → List ℕ → ℕ → Type 0
+AreConsecutive from [] [] to = from ≡ to
+AreConsecutive from (start ∷ starts) (size ∷ sizes) to = (start ≡ from) × AreConsecutive (start + size) starts sizes to
+AreConsecutive from _ _ to = ⊥

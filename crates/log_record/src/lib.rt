@@ -1,9 +1,20 @@
-//! Records of the log, and how they are spelled in units. So far a log has Genesis records alone.
+//! Records of the log, and how they are spelled in units.
 #![tactic(auto)]
 
 mod header;
+mod laws;
+mod note;
 mod reading;
 mod rec;
+#[cfg(test)]
+mod tests;
+mod text;
+mod units;
+mod writing;
 
-pub use reading::{BadRec, one_spelling, read};
-pub use rec::Rec;
+pub use laws::{log_list_laws, one_spelling, spelling_bounds};
+pub use reading::{BadRec, read};
+pub use rec::{Entry, Rec};
+pub use text::{LONGEST_NOTE, Text};
+pub use units::{MOST_UNITS, Units};
+pub use writing::spell;

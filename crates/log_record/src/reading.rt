@@ -1,69 +1,168 @@
-ghost use Rattle.std.specs.Prelude.{◌≡◌, ◌++◌, ℕ, List, length, IfOk, OnErr};
-ghost use Rattle.log_record.specs.Spelling.{spelling, IsSpellable, BeginsWith};
+//! A record's units, read. The header says how many they are and of which kind.
 
-use crate::header::Header;
+ghost use Rattle.std.specs.Prelude.{◌≡◌, ◌↔◌, ◌+◌, ℕ, List, [], ◌∷◌, ◌++◌, length, IsTrue, IfOk, OnErr, IfSome, IfNone};
+ghost use Rattle.log_record.specs.declared.rec.Rec.{Rec};
+ghost use Rattle.log_record.specs.Spelling.{spelling, IsTxn, IsLeg, BeginsWith};
+ghost use Rattle.log_record.specs.declared.header.TheConstants.{COMMIT, GENESIS, NOTE, OVER, SHORT, UPDATE};
+ghost use Rattle.log_record.specs.Reading.{header_unit, Spells};
+
+use crate::header::{
+    ACCOUNTS, COMMIT, GENESIS, Header, MOST_BALANCE, MOST_LEGS, NOTE, OVER, SHORT, UPDATE,
+};
+use crate::note::{note_units, read_text};
 use crate::rec::Rec;
+use crate::text::LONGEST_NOTE;
+use lsn_space::Lsn;
 
-/// The units begin with the spelling of no record.
+/// The units begin with no record.
 #[derive(Clone, Copy, Debug, PartialEq, Eq)]
 pub struct BadRec;
 
-/// The record that the units begin with, and how many units it has.
+/// The record that the units begin with, and of how many units it is.
 pub fn read(units: &[u64]) -> Result<(Rec, usize), BadRec>
     ensures found { IfOk result (λ r. BeginsWith units.now r.0 × (r.1 ≡ length (spelling r.0))) }
-    ensures bad { OnErr result ((rec : Rec) → BeginsWith units.now rec → ⊥) }
+    ensures bad { OnErr result ((r : Rec) → BeginsWith units.now r → ⊥) }
 {
-    let [first, second, ..] = units else {
+    let Some((header, body)) = split(units) else {
         return Err(BadRec);
     };
-    match Header::of_unit(*first) {
-        Header {
-            kind: 1,
-            units: 2,
-            field,
-            txn: 0,
-        } if field < 4096 && *second < 0x8000_0000 => Ok((
-            Rec::Genesis {
-                account: field as u32,
-                balance: *second as u32,
-            },
-            2,
-        )),
+    let rec = read_whole(header, body)?;
+    Ok((rec, 1 + body.len()))
+}
+
+/// The header that the units begin with, and the further units that it counts.
+fn split(units: &[u64]) -> Option<(Header, &[u64])>
+    ensures count { IfSome result (λ s. s.0.units ≡ 1 + length s.1.now) }
+    ensures front { IfSome result (λ s. (rest : List ℕ) × (units.now ≡ header_unit s.0 ∷ s.1.now ++ rest)) }
+    ensures cut { IfNone result ((r : Rec) → BeginsWith units.now r → ⊥) }
+{
+    let (first, rest) = units.split_first()?;
+    let header = Header::of(*first);
+    let count = (header.units as usize).checked_sub(1)?;
+    let (body, _) = rest.split_at_checked(count)?;
+    Some((header, body))
+}
+
+/// The record of these units.
+fn read_whole(header: Header, body: &[u64]) -> Result<Rec, BadRec>
+    requires { header.units ≡ 1 + length body.now }
+    ensures found { IfOk result (Spells header body.now) }
+    ensures bad { OnErr result ((r : Rec) → Spells header body.now r → ⊥) }
+{
+    match header.kind {
+        GENESIS => genesis(header, body),
+        UPDATE => update(header, body),
+        COMMIT => commit(header, body),
+        SHORT => short(header, body),
+        OVER => over(header, body),
+        NOTE => note(header, body),
         _ => Err(BadRec),
     }
 }
 
-/// A law: units begin with the spelling of one record at most, so no spelling is a front of another.
-pub fn one_spelling()
-    ensures { (r s : Rec) (x y : List ℕ) → IsSpellable r → IsSpellable s → spelling r ++ x ≡ spelling s ++ y → (r ≡ s) × (x ≡ y) }
-{}
-
-#[cfg(test)]
-mod tests {
-    use super::*;
-
-    const ACCOUNT_0: u64 = 0x0102_0000_0000_0000;
-
-    const ACCOUNT_4095: u64 = 0x0102_0fff_0000_0000;
-
-    const ACCOUNT_4096: u64 = 0x0102_1000_0000_0000;
-
-    #[test]
-    fn reads_genesis_records(rt: HostRuntime) {
-        let cases: [(&[u64], Option<(u32, u32)>); 6] = [
-            (&[ACCOUNT_0, 100], Some((0, 100))),
-            (&[ACCOUNT_4095, 2147483647, 7], Some((4095, 2147483647))),
-            (&[ACCOUNT_0, 2147483648], None),
-            (&[ACCOUNT_4096, 0], None),
-            (&[ACCOUNT_0 + 1, 0], None),
-            (&[ACCOUNT_0], None),
-        ];
-        for (units, want) in cases {
-            let got = match read(units) {
-                Ok((Rec::Genesis { account, balance }, 2)) => Some((account, balance)),
-                _ => None,
-            };
-            assert_eq!(rt; got, want, "{units:?}");
+fn genesis(header: Header, body: &[u64]) -> Result<Rec, BadRec>
+    requires kind { header.kind ≡ GENESIS }
+    requires count { header.units ≡ 1 + length body.now }
+    ensures found { IfOk result (Spells header body.now) }
+    ensures bad { OnErr result ((r : Rec) → Spells header body.now r → ⊥) }
+{
+    match body {
+        [balance] if header.txn == 0 && header.field < ACCOUNTS && *balance <= MOST_BALANCE => {
+            Ok(Rec::Genesis {
+                account: header.field as u32,
+                balance: *balance as u32,
+            })
         }
+        _ => Err(BadRec),
     }
+}
+
+fn update(header: Header, body: &[u64]) -> Result<Rec, BadRec>
+    requires kind { header.kind ≡ UPDATE }
+    requires count { header.units ≡ 1 + length body.now }
+    ensures found { IfOk result (Spells header body.now) }
+    ensures bad { OnErr result ((r : Rec) → Spells header body.now r → ⊥) }
+{
+    let [unit] = body else {
+        return Err(BadRec);
+    };
+    let delta = ((*unit >> 32) as u32).cast_signed();
+    if header.txn == 0 || header.field >= ACCOUNTS || delta == 0 || delta == i32::MIN {
+        return Err(BadRec);
+    }
+    Ok(Rec::Update {
+        txn: header.txn,
+        account: header.field as u32,
+        delta,
+        prev: Lsn::new((*unit & 0xffff_ffff) as u32),
+    })
+}
+
+fn commit(header: Header, body: &[u64]) -> Result<Rec, BadRec>
+    requires kind { header.kind ≡ COMMIT }
+    requires count { header.units ≡ 1 + length body.now }
+    ensures found { IfOk result (Spells header body.now) }
+    ensures bad { OnErr result ((r : Rec) → Spells header body.now r → ⊥) }
+{
+    if !is_end(header, body) {
+        return Err(BadRec);
+    }
+    Ok(Rec::Commit {
+        txn: header.txn,
+        legs: header.field as u32,
+    })
+}
+
+fn short(header: Header, body: &[u64]) -> Result<Rec, BadRec>
+    requires kind { header.kind ≡ SHORT }
+    requires count { header.units ≡ 1 + length body.now }
+    ensures found { IfOk result (Spells header body.now) }
+    ensures bad { OnErr result ((r : Rec) → Spells header body.now r → ⊥) }
+{
+    if !is_end(header, body) {
+        return Err(BadRec);
+    }
+    Ok(Rec::Short {
+        txn: header.txn,
+        leg: header.field as u32,
+    })
+}
+
+fn over(header: Header, body: &[u64]) -> Result<Rec, BadRec>
+    requires kind { header.kind ≡ OVER }
+    requires count { header.units ≡ 1 + length body.now }
+    ensures found { IfOk result (Spells header body.now) }
+    ensures bad { OnErr result ((r : Rec) → Spells header body.now r → ⊥) }
+{
+    if !is_end(header, body) {
+        return Err(BadRec);
+    }
+    Ok(Rec::Over {
+        txn: header.txn,
+        leg: header.field as u32,
+    })
+}
+
+/// The header alone, of a transaction and with legs, or a leg, in its field.
+fn is_end(header: Header, body: &[u64]) -> bool
+    ensures { IsTrue result ↔ (IsTxn header.txn × IsLeg header.field × (body.now ≡ [])) }
+{
+    header.txn != 0 && matches!(header.field, 1..=MOST_LEGS) && body.is_empty()
+}
+
+fn note(header: Header, body: &[u64]) -> Result<Rec, BadRec>
+    requires kind { header.kind ≡ NOTE }
+    requires count { header.units ≡ 1 + length body.now }
+    ensures found { IfOk result (Spells header body.now) }
+    ensures bad { OnErr result ((r : Rec) → Spells header body.now r → ⊥) }
+{
+    let len = header.field as usize;
+    if header.txn == 0 || len == 0 || len > LONGEST_NOTE || body.len() != note_units(len) {
+        return Err(BadRec);
+    }
+    let text = read_text(len, body)?;
+    Ok(Rec::Note {
+        txn: header.txn,
+        text,
+    })
 }

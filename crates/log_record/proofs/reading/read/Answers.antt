@@ -1,14 +1,19 @@
-use Rattle.std.proofs.Common.{◌≡◌, ◌≤◌, ◌∷◌, ◌∙◌, ap, drop, get_or, refl, arith}
-use Rattle.log_record.specs.Spelling.{header}
-use Rattle.log_record.proofs.Lists.{first_two}
+use Rattle.std.proofs.Common.{rules, ◌∙◌, sym}
+use Rattle.std.proofs.lemmas.Result.{err_from_is_err_and}
+use Rattle.log_record.specs.declared.rec.Rec.{Rec}
+use Rattle.log_record.specs.Spelling.{BeginsWith}
+use Rattle.log_record.proofs.Fronts.{spelling-front}
 use Rattle.log_record.proofs.reading.read.Goals as goal
 
-pub returns-in-1-clause-found : goal.returns-in-1-clause-found
-returns-in-1-clause-found c =
-    let units = c.args.units.now in
-    let rest = drop 2 units in
-    let split = first_two units c.in-len2-up.len_at_least in
-    let first : get_or units 0 0 ≡ header 1 2 c.of_unit.result.field 0 = grind arith in
-    let in_range : get_or units 1 0 ≤ 2147483647 = omega arith in
-    let spelled = split ∙ ap (λ unit. unit ∷ get_or units 1 0 ∷ rest) first in
-    (((c.if-field-lt4096.true, in_range), rest, spelled), refl)
+pub returns-in_err-rec-clause-bad : goal.returns-in_err-rec-clause-bad
+returns-in_err-rec-clause-bad c =
+    let h = c.in-Some.header in
+    let split = c.in-Some.ensures.front in
+    let none : (r : Rec) → BeginsWith c.args.units.now r → ⊥ = λ r begins.
+    c.in_err-rec.ensures.bad r (
+      begins.0,
+      spelling-front r h.kind h.units h.field h.txn c.in-Some.body.now split.0 begins.1
+          begins.0 (search rules) (search rules) (search rules) c.in-Some.ensures.count (sym split.1 ∙ begins.2),
+    ) in
+    let err = err_from_is_err_and c.from_residual.result c.from_residual.ensures.1 in
+    rw err.1 none

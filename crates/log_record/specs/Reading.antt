@@ -1,0 +1,13 @@
+-- What a header and the units after it spell.
+use Rattle.std.specs.Prelude.{◌≡◌, ℕ, List, ◌∷◌}
+use Rattle.log_record.specs.declared.header.Header.{Header}
+use Rattle.log_record.specs.declared.rec.Rec.{Rec}
+use Rattle.log_record.specs.Spelling.{header, spelling, IsSpellable}
+
+-- the unit of a header
+abbrev pub header_unit : Header → ℕ
+header_unit h = header h.kind h.units h.field h.txn
+
+-- the header and the units after it are the spelling of this record, and no more
+abbrev pub Spells : Header → List ℕ → Rec → Type 0
+Spells h body rec = IsSpellable rec × (spelling rec ≡ header_unit h ∷ body)
