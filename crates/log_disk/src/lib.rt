@@ -5,6 +5,7 @@
 
 mod disk;
 mod fault;
+mod gate;
 mod memory_sink;
 mod memory_source;
 mod sink;
@@ -13,6 +14,7 @@ mod std_streams;
 
 pub use disk::LogDisk;
 pub use fault::Failed;
+pub use gate::{Gate, OpenGate, Place};
 pub use memory_sink::MemorySink;
 pub use memory_source::MemorySource;
 pub use sink::{Sink, WriteFault, put_all};
