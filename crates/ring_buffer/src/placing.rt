@@ -22,10 +22,10 @@ pub fn look(table: &LogTable, seat: &mut Seat) -> Look
 }
 
 /// The end of `n` units behind the tail, or why there is no room for them.
-fn end_of(look: Look, ring: u32, n: u32) -> Result<Lsn, Refused>
+fn end_of(look: &Look, ring: u32, n: u32) -> Result<Lsn, Refused>
     requires ring { ring ≤ 1048576 }
-    ensures end { IfOk result (λ to. (to ≡ look.tail + n) × HasRoom ring look.tail look.durable n) }
-    ensures refused { IfErr result (Refuses ring look.tail look.durable n) }
+    ensures end { IfOk result (λ to. (to ≡ look.now.tail + n) × HasRoom ring look.now.tail look.now.durable n) }
+    ensures refused { IfErr result (Refuses ring look.now.tail look.now.durable n) }
 {
     let Some(to) = look.tail.plus(n) else {
         return Err(Refused::LogEnd {
@@ -59,7 +59,7 @@ pub fn try_place(
     ensures lost { IfOk result (λ o. IfNone o ((found : ℕ) × (look.tail < found) × Becomes seat.old seat.new (saw_tail found (view_of seat.old)))) }
     ensures refused { IfErr result (λ e. (seat.new ≡ seat.old) × Refuses table.now.ring look.tail look.durable n e) }
 {
-    let to = end_of(look, table.ring(), n)?;
+    let to = end_of(&look, table.ring(), n)?;
     match table.exchange_tail(seat, look.tail, to) {
         Ok(()) => Ok(Some(Range::new(look.tail, n))),
         Err(_) => Ok(None),
