@@ -1,26 +1,25 @@
 -- A worker is counted as active, and no more.
-use Rattle.std.proofs.Common.{◌≡◌, ◌≢◌, ℕ, zero, suc, eqb, ◌||◌, ◌+◌, ◌-◌, ◌%◌, ◌^◌, ◌≤◌, ◌<◌, cond, Bool, true, false, true≢false, List, [], ◌∷◌, length, map, set, Option, None, sym, refl, ap, ◌∙◌, subst, arith, mod-eq_of_lt, eqb-true, ne_eqb}
+use Rattle.std.proofs.Common.{◌≡◌, ℕ, zero, suc, eqb, ◌||◌, ◌+◌, ◌-◌, ◌%◌, ◌^◌, ◌≤◌, ◌<◌, cond, Bool, true, false, true≢false, List, [], ◌∷◌, length, set, None, sym, refl, ap, ◌∙◌, subst, arith, mod-eq_of_lt, eqb-true, ne_eqb}
 use Rattle.std.proofs.Math.Nat.{add-mod_right}
 use Rattle.std.specs.Prelude.{count_by}
 use Rattle.std.specs.List.{IsDistinct, AllByRecursion, list_any}
 use Rattle.std.proofs.lemmas.Map.Steps.{length-le_from_distinct_below}
 use Rattle.std.proofs.lemmas.List.Sums.{sum_by-cons}
-use mathlib.Core.Option.{some, some-injective, some-ne-none}
+use mathlib.Core.Option.{some}
 use lib.ListN.{get_elem?}
 use Rattle.log_table.specs.declared.table.Start.{Start}
 use Rattle.log_table.specs.declared.view.Role.{Role}
 use Rattle.log_table.specs.declared.view.Role.TheVariants.{Flusher, Fresh, Active, Ended, Note, Spent}
-use Rattle.log_table.specs.declared.view.Standing.{Standing}
 use Rattle.log_table.specs.declared.view.View.{View}
-use Rattle.log_table.specs.Events.{reservation_of, Leads, IsStep}
+use Rattle.log_table.specs.Events.{Leads, IsStep}
 use Rattle.log_table.specs.Layout.{Crew}
-use Rattle.log_table.specs.Log.{Log, ranges_of}
+use Rattle.log_table.specs.Log.{Log}
 use Rattle.log_table.specs.May.{IsAtRest}
-use Rattle.log_table.specs.Sound.{EachView, HasSeenBoundaries, HasWorkingOwner, HasConstants, HasSoundRole, HasSoundRoles, HasSoundCrew, RestsUnlessActive, IsSound, Lacks, is_active_view}
-use Rattle.log_table.specs.Views.{is_active, is_worker, is_spent, counted, enrolled, retired}
+use Rattle.log_table.specs.Sound.{EachView, HasSoundRole, HasSoundRoles, HasSoundCrew, IsSound, is_active_view}
+use Rattle.log_table.specs.Views.{is_active, is_worker, is_spent, enrolled, retired}
 use Rattle.log_table.specs.Words.{Words}
 use Rattle.log_table.proofs.Roles.{restands}
-use Rattle.log_table.proofs.Viewing.{each_set, seats_set, seat_at, pairs_move, count-set}
+use Rattle.log_table.proofs.Viewing.{each_set, pairs_move, count-set}
 
 -- the numbers of the workers among these
 abbrev worker_numbers : List View → List ℕ
@@ -124,16 +123,20 @@ module _ (key : Start) (me : ℕ) (v : View) where
 
   -- the machine's sum and difference of words are those of numbers
   pub enroll-adds : v.standing.role ≡ Fresh → (n : ℕ) → IsStep key me Crew n ((n + 1) % 2 ^ 64) v (enrolled v) None
-  enroll-adds fresh n = record { leads = λ words views log s at is. let small = crew-small words.crew views s.roles in
-      subst (λ x. Leads key words (record words { crew = x }) views (set views me (enrolled v)) log None) (sym (mod-eq_of_lt (omega arith))) ((enroll-step fresh n).leads words views log s at is) }
+  enroll-adds fresh n = record {
+    leads = λ words views log s at is. let small = crew-small words.crew views s.roles in
+        subst (λ x. Leads key words (record words { crew = x }) views (set views me (enrolled v)) log None) (sym (mod-eq_of_lt (omega arith))) ((enroll-step fresh n).leads words views log s at is);
+  }
 
   pub leave-subtracts : IsAtRest v → (n : ℕ) → IsStep key me Crew n ((n + (2 ^ 64 - 1)) % 2 ^ 64) v (retired v) None
-  leave-subtracts may n = record { leads = λ words views log s at is.
-      let was : cond {A = ℕ} (is_active v.standing.role) 1 0 ≡ 1 = ap (λ (r : Role). cond {A = ℕ} (is_active r) 1 0) may.active in
-      let some : 1 ≤ n = omega (arith, count-set is_active_view views me v (retired v) at, s.roles.count, was, is) in
-      let small = crew-small words.crew views s.roles in
-      let whole : (n + (2 ^ 64 - 1)) % 2 ^ 64 ≡ n - 1 = ap (λ (x : ℕ). x % 2 ^ 64) (wraps n some) ∙ (add-mod_right (n - 1) (2 ^ 64) ∙ mod-eq_of_lt (omega arith)) in
-      subst (λ x. Leads key words (record words { crew = x }) views (set views me (retired v)) log None) (sym whole) ((leave-step may n).leads words views log s at is) }
+  leave-subtracts may n = record {
+    leads = λ words views log s at is.
+        let was : cond {A = ℕ} (is_active v.standing.role) 1 0 ≡ 1 = ap (λ (r : Role). cond {A = ℕ} (is_active r) 1 0) may.active in
+        let some : 1 ≤ n = omega (arith, count-set is_active_view views me v (retired v) at, s.roles.count, was, is) in
+        let small = crew-small words.crew views s.roles in
+        let whole : (n + (2 ^ 64 - 1)) % 2 ^ 64 ≡ n - 1 = ap (λ (x : ℕ). x % 2 ^ 64) (wraps n some) ∙ (add-mod_right (n - 1) (2 ^ 64) ∙ mod-eq_of_lt (omega arith)) in
+        subst (λ x. Leads key words (record words { crew = x }) views (set views me (retired v)) log None) (sym whole) ((leave-step may n).leads words views log s at is);
+  }
     where
       wraps : (n : ℕ) → 1 ≤ n → n + (2 ^ 64 - 1) ≡ (n - 1) + 2 ^ 64
       wraps n h = omega arith

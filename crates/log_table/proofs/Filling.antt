@@ -1,5 +1,5 @@
 -- The store of a unit into the ring: the machine's Fill.
-use Rattle.std.proofs.Common.{◌≡◌, ◌≢◌, ◌⊎◌, inl, inr, ⊎_elim, ℕ, ◌==◌, ◌+◌, ◌%◌, ◌<◌, ◌≤◌, cond, Bool, true, false, true≢false, List, [], ◌∷◌, ◌++◌, length, map, get_or, set, Option, Some, sym, refl, ap, ◌∙◌, subst, arith, length-append, eq-eqb, ne_eqb}
+use Rattle.std.proofs.Common.{◌≡◌, ◌≢◌, ⊎_elim, ℕ, ◌+◌, ◌%◌, ◌<◌, ◌≤◌, cond, true, false, true≢false, List, [], ◌∷◌, ◌++◌, length, map, get_or, set, Some, sym, refl, ap, ◌∙◌, subst, arith, length-append, eq-eqb, ne_eqb}
 use Rattle.std.specs.List.{AllByRecursion, find}
 use Rattle.std.specs.Option.{IsSomeAnd}
 use Rattle.std.proofs.Math.Seq.{get_or-append_seam}
@@ -8,7 +8,7 @@ use mathlib.Core.Option.{some}
 use native.Mathlib.Decide.{ℕ_discrete, dec_le}
 use lib.ListN.{get_elem?, get_or-append}
 use Rattle.atomic_table.proofs.Lists.{one_turn}
-use Rattle.ring_core.specs.State.{Reservation, is_at, stage_of, worked_on, in_hand, RingState}
+use Rattle.ring_core.specs.State.{is_at, worked_on, in_hand, RingState}
 use Rattle.ring_core.specs.Machine.{HasUnfilled, filled_at, after_fill}
 use Rattle.ring_core.specs.declared.event.RingEvent.TheVariants.{Fill}
 use Rattle.log_table.specs.declared.table.Start.{Start}
@@ -157,7 +157,7 @@ module _ (key : Start) (words : Words) (views : List View) (me : ℕ) (v : View)
     shows = (
       subst (λ o. IsSomeAnd o HasUnfilled) (sym hand-is) unfilled,
       (λ i. record { start = key.start; ring = key.ring; reservations = reservations i; hands = hands_of-set_same 0 me views v new at (ap stage_in (sym filling)) i; tail = words.tail; exposed = words.exposed; durable = words.durable })
-      ∙ ap (after_fill old_state) (sym hand-is),
+          ∙ ap (after_fill old_state) (sym hand-is),
     );
   }
 

@@ -1,11 +1,11 @@
 -- Once every worker was merged, the flusher's seat has the whole log, and all of it is released.
-use Rattle.std.proofs.Common.{◌≡◌, ◌≢◌, ◌⊎◌, ℕ, zero, suc, ◌==◌, ◌+◌, ◌/◌, ◌<◌, ◌≤◌, cond, Bool, true, false, true≢false, List, [], ◌∷◌, ◌++◌, length, get_or, sym, refl, ap, ◌∙◌, subst, arith, append-nil, eq-eqb, ne_eqb, eqb-true}
+use Rattle.std.proofs.Common.{◌≡◌, ◌≢◌, ℕ, zero, suc, ◌+◌, ◌/◌, ◌≤◌, cond, Bool, true, false, true≢false, List, [], ◌∷◌, ◌++◌, get_or, sym, refl, ap, ◌∙◌, subst, append-nil, eq-eqb, ne_eqb}
 use Rattle.std.specs.List.{AllByRecursion}
 use mathlib.Core.Logic.{dite}
 use mathlib.Core.Option.{some, some-injective, some-ne-none}
-use native.Mathlib.Decide.{ℕ_discrete, dec_lt}
+use native.Mathlib.Decide.{ℕ_discrete}
 use lib.ListN.{get_elem?}
-use Rattle.atomic_table.specs.Table.{State, Final, Seen}
+use Rattle.atomic_table.specs.Table.{Final, Seen}
 use Rattle.lsn_space.specs.Tiling.{IsTiling}
 use Rattle.lsn_space.specs.declared.lsn.TheConstants.{LAST}
 use Rattle.log_table.specs.declared.layout.TheConstants.{TAIL, EXPOSED}
@@ -17,7 +17,7 @@ use Rattle.log_table.specs.declared.view.Role.{Role}
 use Rattle.log_table.specs.declared.view.Role.TheVariants.{Flusher, Fresh, Active, Ended, Note, Spent}
 use Rattle.log_table.specs.declared.view.View.{View}
 use Rattle.log_table.specs.Closing.{IsGathered}
-use Rattle.log_table.specs.Log.{Part, Duty, Owed, Range, Claim, Log, own, owed, is_owed_by, claim_of, part_of, parts_of, Tiles, Laid, IsFull, IsFullIfReleased, IsOwed}
+use Rattle.log_table.specs.Log.{Part, Range, Log, own, owed, is_owed_by, claim_of, parts_of, Tiles, Laid, IsFull, IsFullIfReleased, IsOwed}
 use Rattle.log_table.specs.May.{MayClose}
 use Rattle.log_table.specs.Sound.{HasWorkingOwner, IsSound, Ruled}
 use Rattle.log_table.specs.Views.{is_active, is_worker, is_spent, may_own, nobody, entries_in, claims_in}
@@ -91,6 +91,7 @@ module _ (key : Start) (words : Words) (views : List View) (me : ℕ) (v : View)
     where
       others : (i : ℕ) (z : View) → get_elem? views i ≡ some z → (i ≢ me → z.entries ≡ [])
       others i z there other = s.entries i z there (owns-none z.standing.role (no-worker i z there) (λ f. other ((s.roles.each i z there).first f ∙ sym ((s.roles.each me v at).first may.flusher))))
+
       none : (get_or views j nobody).entries ≡ []
       none = each_seat (λ i z. i ≢ me → z.entries ≡ []) views others (λ _ _. refl) j differ
 

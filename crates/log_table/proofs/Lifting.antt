@@ -1,5 +1,5 @@
 -- A kind of step keeps the rule of the base crate where it leads from sound tables to sound ones.
-use Rattle.std.proofs.Common.{◌≡◌, ℕ, ◌<◌, List, length, get_or, set, sym, refl, ap, ◌∙◌, subst, length-set, Option}
+use Rattle.std.proofs.Common.{◌≡◌, ℕ, ◌<◌, List, get_or, set, sym, refl, ◌∙◌, subst, length-set, Option}
 use mathlib.Core.Option.{some}
 use lib.ListN.{get_elem?}
 use Rattle.atomic_table.specs.Table.{Me, keeps, Allows}
@@ -9,8 +9,8 @@ use Rattle.log_table.specs.declared.view.View.{View}
 use Rattle.log_table.specs.Layout.{Word, index_of}
 use Rattle.log_table.specs.Log.{Log}
 use Rattle.log_table.specs.Sound.{IsSound, Ruled}
-use Rattle.log_table.specs.Words.{Words, words_of, word_at, with_word}
-use Rattle.log_table.specs.Events.{Leads, IsStep}
+use Rattle.log_table.specs.Words.{Words, words_of, word_at}
+use Rattle.log_table.specs.Events.{IsStep}
 use Rattle.log_table.proofs.Wording.{Fits, words_of-set, read-word}
 
 -- what the rule tells of the word, whenever the seat has this view

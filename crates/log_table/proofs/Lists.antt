@@ -1,5 +1,5 @@
 -- Lists of which one element changes, or some are picked.
-use Rattle.std.proofs.Common.{◌≡◌, cond, Bool, true, false, true≢false, List, [], ◌∷◌, ◌++◌, sym, refl, ap, ◌∙◌}
+use Rattle.std.proofs.Common.{◌≡◌, cond, Bool, true, false, List, [], ◌∷◌, ◌++◌, sym, refl, ap, ◌∙◌}
 use Rattle.std.specs.List.{AllByRecursion}
 use Rattle.log_table.specs.Log.{picked}
 
@@ -53,6 +53,7 @@ module _ {A : Type 0} {B : Type 0} (test : A → Bool) (tell : A → B) where
         told_before = picked-append test tell (x ∷ []) s.before ∙ ((λ i. here i ++ s.told_before i) ∙ sym is);
         none_behind = s.none_behind;
       }
+
       by_test : (b : Bool) → test x ≡ b → cond b (tell x ∷ picked test tell xs) (picked test tell xs) ≡ told ++ last ∷ [] → (all : List B) → told ≡ all
           → ((rest : List B) → picked test tell xs ≡ rest ++ last ∷ [] → Last test tell xs rest last) → Last test tell (x ∷ xs) told last
       by_test true passes e [] is go =

@@ -1,18 +1,15 @@
 -- Steps that change what their seat has seen, and nothing else: the loads, and an exchange that was lost.
-use Rattle.std.proofs.Common.{◌≡◌, ℕ, ◌+◌, ◌≤◌, List, [], ◌∷◌, ◌++◌, map, set, Option, None, sym, refl, ap, ◌∙◌, subst, le_refl, arith}
-use Rattle.std.specs.List.{AllByRecursion}
+use Rattle.std.proofs.Common.{◌≡◌, ℕ, ◌≤◌, List, map, set, None, refl, subst, le_refl, arith}
 use mathlib.Core.Option.{some}
 use lib.ListN.{get_elem?}
 use Rattle.lsn_space.specs.declared.lsn.TheConstants.{LAST}
 use Rattle.log_table.specs.declared.table.Start.{Start}
-use Rattle.log_table.specs.declared.view.Role.{Role}
 use Rattle.log_table.specs.declared.view.Seen.{Seen}
-use Rattle.log_table.specs.declared.view.Standing.{Standing}
 use Rattle.log_table.specs.declared.view.View.{View}
 use Rattle.log_table.specs.Events.{reservation_of, Leads, IsStep}
 use Rattle.log_table.specs.Layout.{Tail, Exposed, Durable}
 use Rattle.log_table.specs.Log.{Log, ranges_of}
-use Rattle.log_table.specs.Sound.{HasSeenBoundaries, HasContiguousReservations, HasWorkingOwner, HasConstants, HasSoundCrew, RestsUnlessActive, OwnsIfWorker, IsSound, is_active_view}
+use Rattle.log_table.specs.Sound.{HasSeenBoundaries, HasContiguousReservations, HasWorkingOwner, HasConstants, RestsUnlessActive, OwnsIfWorker, IsSound}
 use Rattle.log_table.specs.Views.{seen_tail, seen_exposed, seen_durable, saw_tail, saw_exposed, saw_durable}
 use Rattle.log_table.specs.Words.{Words}
 use Rattle.log_table.proofs.Lifting.{Tells}
@@ -54,6 +51,7 @@ looks key words views me v log seen s at sees = record {
   where
     new : View
     new = record v { seen = seen }
+
     mine : HasWorkingOwner log.parts log.unreleased me v
     mine = seat_at (HasWorkingOwner log.parts log.unreleased) views me v at s.owners
 

@@ -1,7 +1,5 @@
 -- The flusher's seat takes in the seat of a worker that has ended.
-use Rattle.std.proofs.Common.{◌≡◌, ◌≢◌, ◌⊎◌, inl, inr, ⊎_elim, ℕ, zero, suc, eqb, max, ◌||◌, ◌+◌, ◌≤◌, cond, Bool, true, false, true≢false, List, [], ◌∷◌, ◌++◌, length, set, sym, refl, ap, ◌∙◌, subst, arith, append-nil, ne_eqb, eqb-true}
-use Rattle.std.specs.Prelude.{count_by}
-use Rattle.std.specs.List.{AllByRecursion, list_any}
+use Rattle.std.proofs.Common.{◌≡◌, ◌≢◌, ◌⊎◌, inl, inr, ⊎_elim, ℕ, zero, suc, eqb, ◌||◌, ◌+◌, cond, Bool, true, false, true≢false, List, [], ◌∷◌, ◌++◌, set, sym, refl, ap, ◌∙◌, subst, arith, append-nil, ne_eqb, eqb-true}
 use Rattle.std.proofs.lemmas.List.Folds.{list_any-append}
 use mathlib.Core.Option.{some}
 use lib.ListN.{get_elem?}
@@ -9,18 +7,15 @@ use Rattle.atomic_table.specs.Table.{Joins}
 use Rattle.atomic_table.proofs.Lists.{at_set, set_else}
 use Rattle.log_table.specs.declared.table.Start.{Start}
 use Rattle.log_table.specs.declared.view.Call.TheVariants.{Idle}
-use Rattle.log_table.specs.declared.view.Role.{Role}
-use Rattle.log_table.specs.declared.view.Role.TheVariants.{Flusher, Fresh, Ended, Spent}
-use Rattle.log_table.specs.declared.view.Standing.{Standing}
+use Rattle.log_table.specs.declared.view.Role.TheVariants.{Flusher, Fresh}
 use Rattle.log_table.specs.declared.view.View.{View}
-use Rattle.log_table.specs.Log.{Part, Range, Log, ranges_of, parts_of, unreleased_in, Fits, StandsInRing, IsFullIfReleased, IsReleasedBelow, CountsRemaining}
+use Rattle.log_table.specs.Log.{Part, Log, ranges_of, parts_of, Fits, StandsInRing, IsFullIfReleased, IsReleasedBelow, CountsRemaining}
 use Rattle.log_table.specs.May.{MayMerge}
 use Rattle.log_table.specs.Sound.{EachView, HasSeenBoundaries, HasWorkingOwner, HasConstants, RestsUnlessActive, OwnsIfWorker, HasSoundRole, HasSoundRoles, HasSoundCrew, IsSound, Knows, Lacks, Ruled, is_active_view}
 use Rattle.log_table.specs.Views.{is_active, is_worker, is_spent, nobody, entries_in, claims_in, merged_entries, merged_seen, merged_standing, takes_in}
 use Rattle.log_table.specs.Words.{Words, words_of}
 use Rattle.log_table.proofs.Lists.{all-append, all-weaker}
 use Rattle.log_table.proofs.Renaming.{rename, own-renamed, own-renamed-from, own-renamed-else, all-renamed, laid-renamed, unreleased_in-renamed}
-use Rattle.log_table.proofs.Splitting.{or-right}
 use Rattle.log_table.proofs.Viewing.{each_set, seats_move, seat_at, pairs_move, count-set}
 
 set-swap : (views : List View) (a b : ℕ) (x y : View) → a ≢ b → set (set views a x) b y ≡ set (set views b y) a x

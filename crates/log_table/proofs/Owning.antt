@@ -1,7 +1,7 @@
 -- What the log has of a seat, where its last part changes or one is added.
-use Rattle.std.proofs.Common.{◌≡◌, ◌≢◌, ℕ, ◌==◌, cond, Bool, true, false, true≢false, List, [], ◌∷◌, ◌++◌, sym, refl, ap, ◌∙◌, subst, eq-eqb, ne_eqb, eqb-true, append-nil}
+use Rattle.std.proofs.Common.{◌≡◌, ◌≢◌, ℕ, cond, Bool, false, List, [], ◌∷◌, ◌++◌, sym, refl, ap, ◌∙◌, eq-eqb, ne_eqb, eqb-true, append-nil}
 use Rattle.log_table.specs.declared.view.Entry.{Entry}
-use Rattle.log_table.specs.Log.{Part, Duty, Shared, Owed, Released, Range, Claim, own, owed, is_by, whole, owes, is_owed_by, claim_of, part_of, parts_of}
+use Rattle.log_table.specs.Log.{Part, Owed, Range, Claim, own, owed, is_by, whole, owes, is_owed_by, claim_of, part_of, parts_of}
 use Rattle.log_table.proofs.Lists.{picked-append, picked-same, picked-last}
 
 -- the seat's last part, which is not released, and what stands around it

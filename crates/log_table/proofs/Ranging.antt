@@ -1,9 +1,9 @@
 -- Ranges and parts that follow one another: bounds, and what stays where one of them changes.
-use Rattle.std.proofs.Common.{◌≡◌, ◌⊎◌, inl, inr, ⊎_elim, ℕ, ◌+◌, ◌<◌, ◌≤◌, cond, Bool, true, false, List, [], ◌∷◌, ◌++◌, length, sym, refl, ap, ◌∙◌, subst, arith}
+use Rattle.std.proofs.Common.{◌≡◌, ◌⊎◌, inl, inr, ⊎_elim, ℕ, ◌+◌, ◌<◌, ◌≤◌, cond, Bool, true, false, List, [], ◌∷◌, ◌++◌, sym, refl, ap, ◌∙◌, subst, arith}
 use Rattle.std.specs.List.{AllByRecursion}
 use Rattle.lsn_space.specs.Tiling.{IsBoundary}
 use Rattle.log_table.specs.declared.view.Entry.{Entry}
-use Rattle.log_table.specs.Log.{Part, Duty, Range, inside, unreleased_in, Tiles, Laid}
+use Rattle.log_table.specs.Log.{Part, Range, inside, unreleased_in, Tiles, Laid}
 
 pub tiles-le : (most from to : ℕ) (ranges : List Range) → Tiles most from ranges to → from ≤ to
 tiles-le most from to [] t = omega arith

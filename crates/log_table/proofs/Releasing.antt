@@ -1,5 +1,5 @@
 -- The store of exposed: the machine's Turn.
-use Rattle.std.proofs.Common.{◌≡◌, ◌≢◌, ◌⊎◌, inl, inr, ⊎_elim, ℕ, ◌==◌, ◌+◌, ◌/◌, ◌<◌, ◌≤◌, cond, Bool, true, false, List, [], ◌∷◌, ◌++◌, length, map, set, Option, Some, sym, refl, ap, ◌∙◌, subst, le_refl, arith, append-nil, append_assoc, eq-eqb, ne_eqb, eqb-true, true≢false}
+use Rattle.std.proofs.Common.{◌≡◌, ◌≢◌, inl, ℕ, ◌+◌, ◌/◌, ◌<◌, ◌≤◌, cond, true, false, List, [], ◌∷◌, ◌++◌, length, map, set, Some, sym, refl, ap, ◌∙◌, subst, le_refl, arith, append-nil, append_assoc, eq-eqb, ne_eqb, eqb-true, true≢false}
 use Rattle.std.specs.List.{AllByRecursion}
 use Rattle.std.specs.Option.{IsSomeAnd}
 use mathlib.Core.Logic.{dite}
@@ -15,7 +15,7 @@ use Rattle.log_table.specs.declared.view.Entry.{Entry}
 use Rattle.log_table.specs.declared.view.Role.{Role}
 use Rattle.log_table.specs.declared.view.Role.TheVariants.{Flusher, Fresh, Active, Ended, Note, Spent}
 use Rattle.log_table.specs.declared.view.View.{View}
-use Rattle.log_table.specs.Events.{reservation_of, stage_in, ring_of, Leads, IsStep}
+use Rattle.log_table.specs.Events.{reservation_of, ring_of, Leads, IsStep}
 use Rattle.log_table.specs.Layout.{Exposed}
 use Rattle.log_table.specs.Log.{Part, Duty, Shared, Owed, Released, Range, Claim, Log, ranges_of, own, owed, owes, is_owed_by, claim_of, part_of, parts_of, unreleased_in, inside, IsFull, Fits, StandsInRing, IsFullIfReleased, IsReleasedBelow, IsReleased, IsOwed, CountsRemaining, Tiles, Laid}
 use Rattle.log_table.specs.May.{MayRelease}
@@ -26,7 +26,7 @@ use Rattle.log_table.proofs.Filling.{hand-at}
 use Rattle.log_table.proofs.Lists.{all-append, all-mid, all-at, all-both, all-weaker, Last, picked-last}
 use Rattle.log_table.proofs.Looking.{exposed-boundary}
 use Rattle.log_table.proofs.Owning.{LastPart, last_part, own-last, own-others, parts_of-push}
-use Rattle.log_table.proofs.Ranging.{Boundary, tiles-le, tiles-push, tiles-first, tiles-within, boundary-mid, laid-mid, laid-same, unreleased_in-mid, inside-here, inside-none, all-released}
+use Rattle.log_table.proofs.Ranging.{Boundary, tiles-push, tiles-first, tiles-within, boundary-mid, laid-same, unreleased_in-mid, inside-here, inside-none, all-released}
 use Rattle.log_table.proofs.Roles.{crew-same}
 use Rattle.log_table.proofs.Showing.{hands_of-set, changed-part, released_at-others}
 use Rattle.log_table.proofs.Viewing.{each_moves, each_set, seats_move, seat_at}
@@ -195,7 +195,7 @@ module _ (key : Start) (words : Words) (views : List View) (me : ℕ) (v : View)
     shows = (
       subst (λ o. IsSomeAnd o (IsNext words.exposed)) (sym hand-is) (is_full, turn),
       (λ i. record { start = key.start; ring = key.ring; reservations = reservations i; hands = hands_of-set 0 me me views v new (omega arith) at i; tail = words.tail; exposed = to; durable = words.durable })
-      ∙ ap (after_turn old_state me) (sym hand-is),
+          ∙ ap (after_turn old_state me) (sym hand-is),
     );
   }
 
@@ -205,6 +205,7 @@ still-turn key words views me v entry log s at filling turn = elim (dec_le words
   where
     mine : HasWorkingOwner log.parts log.unreleased me v
     mine = seat_at (HasWorkingOwner log.parts log.unreleased) views me v at s.owners
+
     last : LastPart me log.parts (parts_of me true v.entries) entry
     last = last_part me log.parts (parts_of me true v.entries) entry (mine.owns ∙ ap (λ c. parts_of me true v.entries ++ parts_of me false (entries_in c)) filling)
 

@@ -143,4 +143,3 @@ laid-renamed from to a b (x ∷ xs) t = (t.0, t.1, laid-renamed from to (a + x.e
 pub unreleased_in-renamed : (from to c n : ℕ) (xs : List Part) → unreleased_in c n (rename from to xs) ≡ unreleased_in c n xs
 unreleased_in-renamed from to c n [] = refl
 unreleased_in-renamed from to c n (x ∷ xs) = let h = unreleased_in-renamed from to c n xs in omega arith
-

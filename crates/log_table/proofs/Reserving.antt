@@ -6,7 +6,6 @@ use mathlib.Core.Option.{some}
 use native.Mathlib.Decide.{ℕ_discrete}
 use lib.ListN.{get_elem?}
 use prog.Atomic.{either}
-use Rattle.atomic_table.specs.Table.{Me, Allows}
 use Rattle.lsn_space.specs.declared.lsn.TheConstants.{LAST}
 use Rattle.ring_core.specs.declared.event.RingEvent.{RingEvent}
 use Rattle.ring_core.specs.declared.event.RingEvent.TheVariants.{Reserve}
@@ -14,22 +13,20 @@ use Rattle.log_table.specs.declared.table.Start.{Start}
 use Rattle.log_table.specs.declared.view.Constants.{Constants}
 use Rattle.log_table.specs.declared.view.Entry.{Entry}
 use Rattle.log_table.specs.declared.view.View.{View}
-use Rattle.log_table.specs.Events.{reservation_of, stage_in, hands_of, Leads, IsStep}
+use Rattle.log_table.specs.Events.{reservation_of, stage_in, Leads, IsStep}
 use Rattle.log_table.specs.Layout.{Tail}
-use Rattle.log_table.specs.Log.{Part, Owed, Range, Claim, Log, ranges_of, own, owed, part_of, parts_of, unreleased_in, Fits, StandsInRing, IsFullIfReleased, IsReleasedBelow, IsOwed, CountsRemaining}
+use Rattle.log_table.specs.Log.{Part, Owed, Range, Log, ranges_of, part_of, parts_of, unreleased_in, Fits, StandsInRing, IsFullIfReleased, IsReleasedBelow, IsOwed, CountsRemaining}
 use Rattle.log_table.specs.May.{MayReserve}
-use Rattle.log_table.specs.Sound.{HasSeenBoundaries, HasContiguousReservations, HasWorkingOwner, HasConstants, RestsUnlessActive, OwnsIfWorker, IsSound, Ruled}
+use Rattle.log_table.specs.Sound.{HasSeenBoundaries, HasContiguousReservations, HasWorkingOwner, HasConstants, RestsUnlessActive, OwnsIfWorker, IsSound}
 use Rattle.log_table.specs.Views.{is_active, is_spent, entries_in, claims_in, empty_entry, saw_tail, reserved, after_exchange}
 use Rattle.log_table.specs.Words.{Words}
-use Rattle.log_table.proofs.Lifting.{allowed-if_step}
 use Rattle.log_table.proofs.Lists.{all-append, all-weaker}
-use Rattle.log_table.proofs.Looking.{tail-boundary, tail-looks, tail-tells}
+use Rattle.log_table.proofs.Looking.{tail-boundary, tail-looks}
 use Rattle.log_table.proofs.Owning.{own-push, own-push_others, owed-push, owed-push_others}
 use Rattle.log_table.proofs.Ranging.{Boundary, tiles-le, tiles-push, tiles-within, boundary-append, laid-append, inside-here, unreleased_in-append, unreleased_in-apart}
 use Rattle.log_table.proofs.Roles.{crew-same}
 use Rattle.log_table.proofs.Showing.{hands_of-set, stage_of-hands_of}
 use Rattle.log_table.proofs.Viewing.{each_set, each_moves, seats_move, seat_at}
-use Rattle.log_table.proofs.Wording.{shared_tail}
 
 shown-push : (parts : List Part) (p : Part) → map reservation_of (parts ++ p ∷ []) ≡ map reservation_of parts ++ reservation_of p ∷ []
 shown-push [] p = refl

@@ -1,6 +1,5 @@
 -- The roles of the seats and the count of the active ones.
-use Rattle.std.proofs.Common.{◌≡◌, ◌≢◌, ℕ, ◌+◌, ◌-◌, ◌≤◌, cond, Bool, true, false, List, [], ◌∷◌, ◌++◌, map, set, Option, None, sym, refl, ap, ◌∙◌, subst, arith}
-use Rattle.std.specs.Prelude.{count_by}
+use Rattle.std.proofs.Common.{◌≡◌, ℕ, ◌+◌, cond, Bool, true, false, List, ◌++◌, map, set, None, sym, ap, ◌∙◌, subst, arith}
 use mathlib.Core.Option.{some}
 use lib.ListN.{get_elem?}
 use Rattle.log_table.specs.declared.table.Start.{Start}
@@ -8,7 +7,7 @@ use Rattle.log_table.specs.declared.view.Standing.{Standing}
 use Rattle.log_table.specs.declared.view.View.{View}
 use Rattle.log_table.specs.Events.{reservation_of, stage_in, Leads}
 use Rattle.log_table.specs.Log.{Log, ranges_of, parts_of}
-use Rattle.log_table.specs.Sound.{EachView, EachPair, HasSeenBoundaries, HasWorkingOwner, HasConstants, RestsUnlessActive, OwnsIfWorker, HasSoundRole, HasSoundRoles, HasSoundCrew, IsSound, is_active_view}
+use Rattle.log_table.specs.Sound.{HasSeenBoundaries, HasWorkingOwner, HasConstants, RestsUnlessActive, OwnsIfWorker, HasSoundRole, HasSoundRoles, HasSoundCrew, IsSound, is_active_view}
 use Rattle.log_table.specs.Views.{is_active, entries_in, claims_in}
 use Rattle.log_table.specs.Words.{Words}
 use Rattle.log_table.proofs.Showing.{hands_of-set_same}

@@ -1,15 +1,13 @@
 -- What a table shows of the ring machine, where a seat's call or one part changes.
-use Rattle.std.proofs.Common.{◌≡◌, ◌≢◌, ◌⊎◌, inl, inr, ⊎_elim, ℕ, zero, suc, ◌==◌, ◌+◌, ◌<◌, ◌≤◌, cond, Bool, true, false, List, [], ◌∷◌, ◌++◌, map, length, set, Option, Some, None, sym, refl, ap, ◌∙◌, subst, arith, eq-eqb, ne_eqb}
-use Rattle.std.specs.List.{AllByRecursion, find}
+use Rattle.std.proofs.Common.{◌≡◌, ℕ, zero, suc, ◌==◌, ◌+◌, ◌<◌, cond, true, false, List, [], ◌∷◌, ◌++◌, map, set, Some, sym, refl, ap, ◌∙◌, arith, eq-eqb, ne_eqb}
+use Rattle.std.specs.List.{find}
 use mathlib.Core.Option.{some, some-injective, some-ne-none}
 use lib.ListN.{get_elem?}
-use Rattle.ring_core.specs.State.{Reservation, Stage, Hand, RingState, stage_of, with_stage, is_at}
+use Rattle.ring_core.specs.State.{Reservation, Hand, stage_of, with_stage, is_at}
 use Rattle.ring_core.specs.Machine.{filled_at, released_at}
-use Rattle.log_table.specs.declared.table.Start.{Start}
 use Rattle.log_table.specs.declared.view.View.{View}
-use Rattle.log_table.specs.Log.{Part, Log, Laid}
-use Rattle.log_table.specs.Words.{Words}
-use Rattle.log_table.specs.Events.{reservation_of, stage_in, hands_of, ring_of}
+use Rattle.log_table.specs.Log.{Part, Laid}
+use Rattle.log_table.specs.Events.{reservation_of, stage_in, hands_of}
 use Rattle.log_table.proofs.Ranging.{laid-le, laid-mid}
 
 -- a seat whose call shows the same changes nothing

@@ -1,6 +1,5 @@
 -- The flusher's seat makes a worker.
 use Rattle.std.proofs.Common.{◌≡◌, ◌≢◌, ◌⊎◌, inl, inr, ⊎_elim, ℕ, zero, suc, eqb, ◌||◌, ◌+◌, ◌<◌, cond, Bool, true, false, true≢false, List, [], ◌∷◌, ◌++◌, length, get_or, set, sym, refl, ap, ◌∙◌, subst, arith, length-set, eq-eqb, ne_eqb, eqb-true}
-use Rattle.std.specs.Prelude.{count_by}
 use Rattle.std.specs.List.{list_any}
 use Rattle.std.proofs.lemmas.List.Sums.{sum_by_push}
 use mathlib.Core.Option.{some}
@@ -12,7 +11,7 @@ use Rattle.log_table.specs.declared.view.View.{View}
 use Rattle.log_table.specs.Log.{Log, ranges_of}
 use Rattle.log_table.specs.May.{MaySplit}
 use Rattle.log_table.specs.Sound.{HasSeenBoundaries, HasWorkingOwner, HasConstants, RestsUnlessActive, OwnsIfWorker, HasSoundRole, HasSoundRoles, HasSoundCrew, IsSound, Knows, Lacks, Ruled, is_active_view}
-use Rattle.log_table.specs.Views.{is_active, is_worker, is_spent, nobody, hires, hired}
+use Rattle.log_table.specs.Views.{is_worker, is_spent, nobody, hires, hired}
 use Rattle.log_table.specs.Words.{Words, words_of}
 use Rattle.log_table.proofs.Roles.{restands-sound}
 use Rattle.log_table.proofs.Viewing.{each_set, each_push, pairs_move, pairs_push, count-set}
@@ -95,8 +94,8 @@ module _ (key : Start) (words : Words) (views : List View) (me : ℕ) (v : View)
       of-old i y here = let pair = s.roles.pairs me v at i y here in (
         (λ w same. absurd (true≢false (sym (subst (λ q. Knows q v.standing.made) same (pair.made may.flusher w)) ∙ may.new))),
         (λ f. let same : i ≡ me = (s.roles.each i y here).first f ∙ sym first in
-        let is : y ≡ v = Rattle.std.proofs.Common.sym (mathlib.Core.Option.some-injective _ _ (sym at ∙ (ap (λ k. get_elem? views k) (sym same) ∙ here))) in
-        subst (λ (x : View). Lacks n x.standing.merged) (sym is) (lacks-all n v.standing.merged v.standing.made ((s.roles.each me v at).merged may.flusher) may.new)),
+            let is : y ≡ v = Rattle.std.proofs.Common.sym (mathlib.Core.Option.some-injective _ _ (sym at ∙ (ap (λ k. get_elem? views k) (sym same) ∙ here))) in
+            subst (λ (x : View). Lacks n x.standing.merged) (sym is) (lacks-all n v.standing.merged v.standing.made ((s.roles.each me v at).merged may.flusher) may.new)),
         lacks-all n y.standing.enrolled v.standing.made (pair.known may.flusher) may.new,
       )
 

@@ -1,8 +1,7 @@
 -- A table starts at rest: nothing is reserved, and the log ends where it started.
-use Rattle.std.proofs.Common.{◌≡◌, ◌≢◌, ◌⊎◌, ℕ, zero, suc, ◌+◌, ◌<◌, ◌≤◌, cond, true, false, true≢false, List, [], ◌∷◌, length, get_or, replicate, set, sym, refl, ap, ◌∙◌, subst, inl, arith, length-set, get_or-set_same, get_or-set_other, le_refl}
+use Rattle.std.proofs.Common.{◌≡◌, ℕ, zero, suc, ◌+◌, ◌≤◌, true≢false, List, [], ◌∷◌, length, get_or, replicate, set, sym, refl, ap, ◌∙◌, subst, arith, length-set, get_or-set_same, get_or-set_other}
 use Rattle.std.proofs.lemmas.List.{length-replicate, get_or-replicate}
-use mathlib.Core.Option.{some, some-injective, some-ne-none}
-use lib.ListN.{get_elem?}
+use mathlib.Core.Option.{some-injective, some-ne-none}
 use Rattle.atomic_table.specs.Table.{opening}
 use Rattle.lsn_space.specs.declared.lsn.TheConstants.{LAST}
 use Rattle.log_table.specs.declared.layout.TheConstants.{TAIL, EXPOSED, DURABLE, CREW, RING}
@@ -47,25 +46,38 @@ module _ (key : Start) (words : Words) (least : 1024 ≤ key.ring) (most : key.r
 
 pub start-allowed : (key : Start) (ws zeros : List ℕ) → 1024 ≤ key.ring → key.ring ≤ 1048576 → key.start ≤ LAST → zeros ≡ replicate (RING + key.ring) 0 → ws ≡ set (set (set zeros TAIL key.start) EXPOSED key.start) DURABLE key.start
     → Ruled key (opening ws [] (flusher key))
-start-allowed key ws zeros least most small zero-is is = subst (λ (l : List ℕ). Ruled key (opening l [] (flusher key))) (sym is) (length-c, (_, starts key (words_of key.ring c) least most small
-    (get_or-set_other b DURABLE TAIL n 0 (λ e. omega arith) ∙ (get_or-set_other a EXPOSED TAIL n 0 (λ e. omega arith) ∙ get_or-set_same zeros TAIL n 0 (omega (arith, length-zeros))))
-    (get_or-set_other b DURABLE EXPOSED n 0 (λ e. omega arith) ∙ get_or-set_same a EXPOSED n 0 (omega (arith, length-a)))
-    (get_or-set_same b DURABLE n 0 (omega (arith, length-b)))
-    (get_or-set_other b DURABLE CREW n 0 (λ e. omega arith) ∙ (get_or-set_other a EXPOSED CREW n 0 (λ e. omega arith) ∙ (get_or-set_other zeros TAIL CREW n 0 (λ e. omega arith) ∙ (ap (λ l. get_or l CREW 0) zero-is ∙ get_or-replicate (RING + key.ring) CREW 0 0 (omega arith)))))))
+start-allowed key ws zeros least most small zero-is is = subst (λ (l : List ℕ). Ruled key (opening l [] (flusher key))) (sym is) (
+  length-c,
+  (
+    _,
+    starts key (words_of key.ring c) least most small
+        (get_or-set_other b DURABLE TAIL n 0 (λ e. omega arith) ∙ (get_or-set_other a EXPOSED TAIL n 0 (λ e. omega arith) ∙ get_or-set_same zeros TAIL n 0 (omega (arith, length-zeros))))
+        (get_or-set_other b DURABLE EXPOSED n 0 (λ e. omega arith) ∙ get_or-set_same a EXPOSED n 0 (omega (arith, length-a)))
+        (get_or-set_same b DURABLE n 0 (omega (arith, length-b)))
+        (get_or-set_other b DURABLE CREW n 0 (λ e. omega arith) ∙ (get_or-set_other a EXPOSED CREW n 0 (λ e. omega arith) ∙ (get_or-set_other zeros TAIL CREW n 0 (λ e. omega arith) ∙ (ap (λ l. get_or l CREW 0) zero-is ∙ get_or-replicate (RING + key.ring) CREW 0 0 (omega arith))))),
+  ),
+)
   where
     n : ℕ
     n = key.start
+
     a : List ℕ
     a = set zeros TAIL n
+
     b : List ℕ
     b = set a EXPOSED n
+
     c : List ℕ
     c = set b DURABLE n
+
     length-zeros : length zeros ≡ RING + key.ring
     length-zeros = ap length zero-is ∙ length-replicate (RING + key.ring) 0
+
     length-a : length a ≡ RING + key.ring
     length-a = length-set zeros TAIL n ∙ length-zeros
+
     length-b : length b ≡ RING + key.ring
     length-b = length-set a EXPOSED n ∙ length-a
+
     length-c : length c ≡ RING + key.ring
     length-c = length-set b DURABLE n ∙ length-b

@@ -4,7 +4,7 @@ use mathlib.Core.Logic.{dite}
 use native.Mathlib.Decide.{ℕ_discrete}
 use Rattle.log_table.specs.declared.layout.TheConstants.{TAIL, EXPOSED, DURABLE, STOP, CREW, RING}
 use Rattle.log_table.specs.Layout.{Word, Tail, Exposed, Durable, Stop, Crew, Ring, index_of, word_count}
-use Rattle.log_table.specs.Words.{Words, read, words_of, word_at, put, with_word}
+use Rattle.log_table.specs.Words.{read, words_of, word_at, put, with_word}
 
 -- the word that lies at a place
 abbrev word_of : ℕ → Word
@@ -20,6 +20,7 @@ word_of-index (Ring index) = λ i. cond (other TAIL (omega arith) i) Tail (cond 
   where
     other : (place : ℕ) → place < RING → (RING + index == place) ≡ false
     other place below = ne_eqb (RING + index) place (λ e. omega arith)
+
     back : (RING + index) - RING ≡ index
     back = omega arith
 

@@ -1,5 +1,5 @@
 -- The words of the table by name, and where each lies.
-use Rattle.std.specs.Prelude.{ℕ, ◌+◌, ◌%◌}
+use Rattle.std.specs.Prelude.{ℕ, ◌+◌}
 use Rattle.log_table.specs.declared.layout.TheConstants.{TAIL, EXPOSED, DURABLE, STOP, CREW, RING}
 
 -- a word of the table; those of the ring by their index

@@ -1,5 +1,5 @@
 -- When a step is the next one of the call that the view shows as under way.
-use Rattle.std.specs.Prelude.{◌≡◌, ℕ, ◌+◌, ◌/◌, ◌<◌, ◌≤◌, Bool, true, false, length}
+use Rattle.std.specs.Prelude.{◌≡◌, ℕ, ◌+◌, ◌/◌, ◌<◌, ◌≤◌, true, false, length}
 use Rattle.std.specs.List.{list_any}
 use lib.Dec.{eqb}
 use Rattle.lsn_space.specs.declared.lsn.TheConstants.{LAST}
@@ -9,7 +9,6 @@ use Rattle.log_table.specs.declared.view.Role.TheVariants.{Flusher, Active, Ende
 use Rattle.log_table.specs.declared.view.Seen.{Seen}
 use Rattle.log_table.specs.declared.view.View.{View}
 use Rattle.log_table.specs.Log.{IsFull}
-use Rattle.log_table.specs.Views.{is_active}
 
 -- the worker is enrolled and has no call under way
 pub record IsAtRest (view : View) : Type 0 where

@@ -1,5 +1,5 @@
 -- The view of a new seat, and how each kind of step changes the view of its seat.
-use Rattle.std.specs.Prelude.{◌==◌, ℕ, ◌+◌, ◌-◌, ◌<◌, if◌then◌else◌, nat_lt, max, Bool, true, false, List, [], ◌∷◌, ◌++◌, length}
+use Rattle.std.specs.Prelude.{◌==◌, ℕ, ◌+◌, ◌-◌, if◌then◌else◌, nat_lt, max, Bool, true, false, List, [], ◌∷◌, ◌++◌, length}
 use Rattle.log_table.specs.declared.table.Start.{Start}
 use Rattle.log_table.specs.declared.view.Entry.{Entry}
 use Rattle.log_table.specs.declared.view.Call.{Call}

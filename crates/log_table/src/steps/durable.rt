@@ -17,6 +17,10 @@ impl LogTable {
         ensures grows { (view_of seat.old).seen.durable ≤ result }
         ensures event { IsStep (key_of self.now) (number_of seat.old) Durable result result (view_of seat.old) (saw_durable result (view_of seat.old)) None }
     {
-        Lsn::new(self.table.shared.load::<LoadDurable>(&mut seat.base, DURABLE) as u32)
+        Lsn::new(
+            self.table
+                .shared
+                .load::<LoadDurable>(&mut seat.base, DURABLE) as u32,
+        )
     }
 }

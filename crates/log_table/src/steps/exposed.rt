@@ -19,7 +19,11 @@ impl LogTable {
         ensures grows { (view_of seat.old).seen.exposed ≤ result }
         ensures event { IsStep (key_of self.now) (number_of seat.old) Exposed result result (view_of seat.old) (saw_exposed result (view_of seat.old)) None }
     {
-        Lsn::new(self.table.shared.load::<LoadExposed>(&mut seat.base, EXPOSED) as u32)
+        Lsn::new(
+            self.table
+                .shared
+                .load::<LoadExposed>(&mut seat.base, EXPOSED) as u32,
+        )
     }
 
     /// Releases the seat's run, which is full and starts where exposed stands.

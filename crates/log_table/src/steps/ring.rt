@@ -21,6 +21,8 @@ impl LogTable {
         ensures event { (found : ℕ) → IsStep (key_of self.now) (number_of seat.old) (Ring (at % self.now.ring)) found unit (view_of seat.old) (filled unit (view_of seat.old)) (Some (Fill (number_of seat.old))) }
     {
         let index = RING + place(at, self.ring);
-        self.table.shared.store::<StoreRing>(&mut seat.base, index, unit);
+        self.table
+            .shared
+            .store::<StoreRing>(&mut seat.base, index, unit);
     }
 }

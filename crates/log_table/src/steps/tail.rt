@@ -38,6 +38,10 @@ impl LogTable {
             from.units() as u64,
             to.units() as u64,
         );
-        if found == from.units() as u64 { Ok(()) } else { Err(Lsn::new(found as u32)) }
+        if found == from.units() as u64 {
+            Ok(())
+        } else {
+            Err(Lsn::new(found as u32))
+        }
     }
 }

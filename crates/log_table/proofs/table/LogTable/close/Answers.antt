@@ -1,4 +1,4 @@
-use Rattle.std.proofs.Common.{arith, ◌≡◌, ◌≤◌, ◌∙◌, sym, subst, ap, ℕ, Fits, w32}
+use Rattle.std.proofs.Common.{arith, ◌∙◌, sym, subst}
 use Rattle.log_table.specs.Closing.{IsGathered}
 use Rattle.log_table.specs.Seats.{view_of}
 use Rattle.log_table.proofs.Gathering.{IsClosed, closes}

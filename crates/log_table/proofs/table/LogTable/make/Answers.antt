@@ -1,4 +1,4 @@
-use Rattle.std.proofs.Common.{arith, rules, ◌≡◌, ◌≤◌, ℕ, List, ◌∙◌, set, sym, subst, ap}
+use Rattle.std.proofs.Common.{rules, ◌≤◌, ◌∙◌, set, subst, ap}
 use Rattle.lsn_space.specs.declared.lsn.TheConstants.{LAST}
 use Rattle.log_table.specs.declared.layout.TheConstants.{TAIL, EXPOSED, DURABLE}
 use Rattle.log_table.proofs.Starting.{start-allowed}
