@@ -1,0 +1,39 @@
+//! The schedule hook: a worker tells it where it stands. It answers nothing and changes nothing, so
+//! nothing can depend on it. Tests use it to hold one thread until another has come by.
+
+/// Where a worker has come to.
+#[derive(Clone, Copy, Debug, PartialEq, Eq)]
+pub enum Place {
+    /// It asked the queue for a job.
+    JobTaken,
+    /// It took an account.
+    Locked,
+    /// It looked at the tail and at durable.
+    Looked,
+    /// It reserved a range of the log.
+    Placed,
+    /// It joined a group.
+    Joined,
+    /// It told its group where it was placed.
+    Published,
+    /// Its range is copied into the ring.
+    Filled,
+    /// It marked its range as filled.
+    Marked,
+    /// Its range is released.
+    Exposed,
+    /// It gave back the last account of a job.
+    JobEnded,
+}
+
+/// A hook that a worker passes at each place, with its number.
+pub trait Gate {
+    fn at(&self, worker: u32, place: Place);
+}
+
+/// The hook that does nothing.
+pub struct OpenGate;
+
+impl Gate for OpenGate {
+    fn at(&self, _worker: u32, _place: Place) {}
+}

@@ -1,0 +1,189 @@
+-- The flusher's seat takes in the seat of a worker that has ended.
+use Rattle.std.proofs.Common.{◌≡◌, ◌≢◌, ◌⊎◌, inl, inr, ⊎_elim, ℕ, zero, suc, eqb, ◌||◌, ◌+◌, cond, Bool, true, false, true≢false, List, [], ◌∷◌, ◌++◌, set, sym, refl, ap, ◌∙◌, subst, arith, append-nil, ne_eqb, eqb-true}
+use Rattle.std.proofs.lemmas.List.Folds.{list_any-append}
+use mathlib.Core.Option.{some}
+use lib.ListN.{get_elem?}
+use Rattle.atomic_table.specs.Table.{Joins}
+use Rattle.atomic_table.proofs.Lists.{at_set, set_else}
+use Rattle.log_table.specs.declared.table.Start.{Start}
+use Rattle.log_table.specs.declared.view.Call.TheVariants.{Idle}
+use Rattle.log_table.specs.declared.view.Role.TheVariants.{Flusher, Fresh}
+use Rattle.log_table.specs.declared.view.View.{View}
+use Rattle.log_table.specs.Log.{Part, Log, ranges_of, parts_of, Fits, StandsInRing, IsFullIfReleased, IsReleasedBelow, CountsRemaining}
+use Rattle.log_table.specs.May.{MayMerge}
+use Rattle.log_table.specs.Sound.{EachView, HasSeenBoundaries, HasWorkingOwner, HasConstants, RestsUnlessActive, OwnsIfWorker, HasSoundRole, HasSoundRoles, HasSoundCrew, IsSound, Knows, Lacks, Ruled, is_active_view}
+use Rattle.log_table.specs.Views.{is_active, is_worker, is_spent, nobody, entries_in, claims_in, merged_entries, merged_seen, merged_standing, takes_in}
+use Rattle.log_table.specs.Words.{Words, words_of}
+use Rattle.log_table.proofs.Lists.{all-append, all-weaker}
+use Rattle.log_table.proofs.Renaming.{rename, own-renamed, own-renamed-from, own-renamed-else, all-renamed, laid-renamed, unreleased_in-renamed}
+use Rattle.log_table.proofs.Viewing.{each_set, seats_move, seat_at, pairs_move, count-set}
+
+set-swap : (views : List View) (a b : ℕ) (x y : View) → a ≢ b → set (set views a x) b y ≡ set (set views b y) a x
+set-swap [] a b x y differ = refl
+set-swap (z ∷ zs) zero zero x y differ = absurd (differ refl)
+set-swap (z ∷ zs) zero (suc b) x y differ = refl
+set-swap (z ∷ zs) (suc a) zero x y differ = refl
+set-swap (z ∷ zs) (suc a) (suc b) x y differ = ap (λ l. z ∷ l) (set-swap zs a b x y (λ e. differ (ap suc e)))
+
+or-false : (a b : Bool) → a ≡ false → b ≡ false → (a || b) ≡ false
+or-false a b p q = ap (λ c. c || b) p ∙ q
+
+or-cases : (a b : Bool) → (a || b) ≡ true → (a ≡ true) ⊎ (b ≡ true)
+or-cases true b e = inl refl
+or-cases false b e = inr e
+
+module _ (key : Start) (words : Words) (views : List View) (me other : ℕ) (v o : View) (log : Log) (s : IsSound key words views log) (at : get_elem? views me ≡ some v) (there : get_elem? views other ≡ some o) (apart : other ≢ me) (may : MayMerge v o) where
+  abbrev new : View
+  new = takes_in v o
+
+  -- the views once the worker's seat is spent
+  abbrev without : List View
+  without = set views other nobody
+
+  at' : get_elem? without me ≡ some v
+  at' = set_else views other me nobody (λ e. apart (sym e)) ∙ at
+
+  was : (j : ℕ) (z : View) → get_elem? without j ≡ some z → ((j ≡ other) × (nobody ≡ z)) ⊎ ((j ≢ other) × (get_elem? views j ≡ some z))
+  was j z here = at_set views other j nobody z here
+
+  worker : is_worker o.standing.role ≡ true
+  worker = ap is_worker may.ended
+
+  boss : {A : Type 0} → is_worker v.standing.role ≡ true → A
+  boss e = absurd (true≢false (sym e ∙ ap is_worker may.flusher))
+
+  each-without : (P : ℕ → View → Type 0) → EachView P views → P other nobody → EachView P without
+  each-without P all none = each_set P views other nobody all none
+
+  each-merged : (P : ℕ → View → Type 0) → EachView P views → P other nobody → P me new → EachView P (set without me new)
+  each-merged P all none mine = each_set P without me new (each-without P all none) mine
+
+  pairs-without : Rattle.log_table.specs.Sound.EachPair (λ i y j z. HasSoundRoles i y.standing j z.standing) without
+  pairs-without = pairs_move (λ i y j z. HasSoundRoles i y.standing j z.standing) views other o nobody there s.roles.pairs
+      record { apart = λ e. absurd (true≢false (sym e)); made = λ e. absurd (cc); unmerged = λ e. absurd (cc); known = λ e. absurd (cc); fresh = λ e. absurd (cc) }
+      (λ j z differ here. (
+        record { apart = λ e. absurd (true≢false (sym e)); made = λ e. absurd (cc); unmerged = λ e. absurd (cc); known = λ e. absurd (cc); fresh = λ e. absurd (cc) },
+        record { apart = λ _ e. absurd (true≢false (sym e)); made = λ _ e. absurd (true≢false (sym e)); unmerged = λ _ e. absurd (true≢false (sym e)); known = λ _ q e. absurd (true≢false (sym e)); fresh = λ _. refl },
+      ))
+
+  -- the worker's number is no other's
+  others-number : (j : ℕ) (z : View) → get_elem? without j ≡ some z → is_worker z.standing.role ≡ true → eqb z.standing.worker o.standing.worker ≡ false
+  others-number j z here w = ⊎_elim
+      (λ (t : (j ≡ other) × (nobody ≡ z)). absurd (true≢false (sym w ∙ ap (λ (y : View). is_worker y.standing.role) (sym t.1))))
+      (λ (t : (j ≢ other) × (get_elem? views j ≡ some z)). ne_eqb z.standing.worker o.standing.worker (λ same. t.0 ((s.roles.pairs j z t.1 other o there).apart w worker same)))
+      (was j z here)
+
+  fresh-lacks : (j : ℕ) (z : View) → get_elem? without j ≡ some z → z.standing.role ≡ Fresh → Lacks z.standing.worker new.standing.enrolled
+  fresh-lacks j z here f = ⊎_elim
+      (λ (t : (j ≡ other) × (nobody ≡ z)). absurd (true≢false (sym (ap is_worker f) ∙ ap (λ (y : View). is_worker y.standing.role) (sym t.1))))
+      (λ (t : (j ≢ other) × (get_elem? views j ≡ some z)). list_any-append (eqb z.standing.worker) v.standing.enrolled o.standing.enrolled ∙ or-false _ _ ((s.roles.pairs j z t.1 me v at).fresh f) ((s.roles.pairs j z t.1 other o there).fresh f))
+      (was j z here)
+
+  known-made : (q : ℕ) → Knows q new.standing.enrolled → Knows q v.standing.made
+  known-made q knows = ⊎_elim (λ own. (s.roles.pairs me v at me v at).known may.flusher q own) (λ his. (s.roles.pairs me v at other o there).known may.flusher q his)
+      (or-cases _ _ (sym (list_any-append (eqb q) v.standing.enrolled o.standing.enrolled) ∙ knows))
+
+  merged-made : (q : ℕ) → Knows q new.standing.merged → Knows q v.standing.made
+  merged-made q knows = ⊎_elim
+      (λ same. subst (λ n. Knows n v.standing.made) (sym (eqb-true q o.standing.worker same)) ((s.roles.pairs me v at other o there).made may.flusher worker))
+      (λ before. (s.roles.each me v at).merged may.flusher q before) (or-cases (eqb q o.standing.worker) _ knows)
+
+  crew-merges : HasSoundCrew words.crew (set without me new)
+  crew-merges = record {
+    count = s.roles.count ∙ sym (same _ _ _ _ _ (count-set is_active_view views other o nobody there) (ap is_active may.ended) (count-set is_active_view without me v new at'));
+    each = each-merged (λ seat z. HasSoundRole seat z.standing) s.roles.each record { small = λ e. absurd (true≢false (sym e)); first = λ e. absurd (cc); merged = λ e. absurd (cc) }
+        record { small = (s.roles.each me v at).small; first = (s.roles.each me v at).first; merged = λ _ q knows. merged-made q knows };
+    pairs = pairs_move (λ i y j z. HasSoundRoles i y.standing j z.standing) without me v new at' pairs-without
+        record { apart = λ _ _ _. refl; made = λ _ w. boss w; unmerged = λ _ w. boss w; known = λ _ q knows. known-made q knows; fresh = λ f. boss (ap is_worker f) }
+        (λ j z differ here. let to = pairs-without me v at' j z here in let by = pairs-without j z here me v at' in (
+          record { apart = λ w. boss w; made = to.made; unmerged = λ f w. or-false _ _ (others-number j z here w) (to.unmerged f w); known = to.known; fresh = λ f. boss (ap is_worker f) },
+          record { apart = λ _ w. boss w; made = λ _ w. boss w; unmerged = λ _ w. boss w; known = λ f q _. absurd (differ ((each-without (λ seat y. y.standing.role ≡ Flusher → seat ≡ 0) (λ i y h. (s.roles.each i y h).first) (λ e. absurd (cc)) j z here f) ∙ sym ((s.roles.each me v at).first may.flusher))); fresh = λ f. fresh-lacks j z here f },
+        ));
+  }
+    where
+      same : (a b c : ℕ) (p : Bool) (k : ℕ) → b + cond p 1 0 ≡ a + 0 → p ≡ false → c + k ≡ b + k → c ≡ a
+      same a b c p k spent off took = let none : cond {A = ℕ} p 1 0 ≡ 0 = ap (λ x. cond {A = ℕ} x 1 0) off in omega arith
+
+  idle : v.call ≡ Idle
+  idle = s.resting me v at (ap is_active may.flusher)
+
+  idle' : o.call ≡ Idle
+  idle' = s.resting other o there (ap is_active may.ended)
+
+  mine : HasWorkingOwner log.parts log.unreleased me v
+  mine = seat_at (HasWorkingOwner log.parts log.unreleased) views me v at s.owners
+
+  his : HasWorkingOwner log.parts log.unreleased other o
+  his = seat_at (HasWorkingOwner log.parts log.unreleased) views other o there s.owners
+
+  abbrev parts : List Part
+  parts = rename other me log.parts
+
+  abbrev after : Log
+  after = record { parts = parts; flushed = log.flushed; released = log.released; unreleased = log.unreleased }
+
+  -- between the two changes of the views, a seat is the spent one or has its old parts
+  abbrev Half : ℕ → View → Type 0
+  Half j z = ((j ≡ other) × HasWorkingOwner parts log.unreleased j z) ⊎ ((j ≢ other) × HasWorkingOwner log.parts log.unreleased j z)
+
+  owners : Rattle.log_table.specs.Sound.EachSeat (HasWorkingOwner parts log.unreleased) (set without me new)
+  owners = seats_move Half (HasWorkingOwner parts log.unreleased) without me v new at'
+      (seats_move (HasWorkingOwner log.parts log.unreleased) Half views other o nobody there s.owners
+      (inl (refl, record { owns = own-renamed-from other me log.parts apart; owes = his.owes ∙ ap claims_in idle' })) (λ j z differ h. inr (differ, h)))
+      record {
+        owns = own-renamed other me _ _ log.parts v.entries o.entries s.contiguous.parts apart
+            (mine.owns ∙ (ap (λ c. parts_of me true v.entries ++ parts_of me false (entries_in c)) idle ∙ append-nil _))
+            (his.owns ∙ (ap (λ c. parts_of other true o.entries ++ parts_of other false (entries_in c)) idle' ∙ append-nil _))
+            ∙ (sym (append-nil _) ∙ ap (λ c. parts_of me true new.entries ++ parts_of me false (entries_in c)) (sym idle));
+        owes = mine.owes;
+      }
+      (λ j z differ h. ⊎_elim (λ (g : (j ≡ other) × HasWorkingOwner parts log.unreleased j z). g.1)
+      (λ (g : (j ≢ other) × HasWorkingOwner log.parts log.unreleased j z). record { owns = own-renamed-else other me j log.parts g.0 differ ∙ g.1.owns; owes = g.1.owes }) h)
+
+  merges' : IsSound key words (set without me new) after
+  merges' = record {
+    ordered = s.ordered;
+    seen = each-merged (λ _ z. HasSeenBoundaries key.start words.tail words.exposed words.durable (ranges_of log) z.seen) s.seen
+        record { tail_seen = omega arith; exposed_seen = omega arith; durable_seen = omega arith; boundaries = tt }
+        (let a = s.seen me v at in let b = s.seen other o there in record {
+          tail_seen = omega (arith, a.tail_seen, b.tail_seen);
+          exposed_seen = omega (arith, a.exposed_seen, b.exposed_seen);
+          durable_seen = omega (arith, a.durable_seen, b.durable_seen);
+          boundaries = all-append _ v.seen.lsns o.seen.lsns a.boundaries b.boundaries;
+        });
+    contiguous = record {
+      flushed = s.contiguous.flushed;
+      released = s.contiguous.released;
+      unreleased = s.contiguous.unreleased;
+      parts = laid-renamed other me _ _ log.parts s.contiguous.parts;
+      remaining = all-weaker (CountsRemaining log.parts) (CountsRemaining parts) log.unreleased (λ r counts. unreleased_in-renamed other me r.base r.size log.parts ∙ counts) s.contiguous.remaining;
+    };
+    filled = record {
+      fits = all-renamed Fits other me log.parts (λ p h. h) s.filled.fits;
+      stands = all-renamed (StandsInRing key.ring words.durable words.ring) other me log.parts (λ p h. h) s.filled.stands;
+    };
+    below = record {
+      full = all-renamed IsFullIfReleased other me log.parts (λ p h. h) s.below.full;
+      below = all-renamed (IsReleasedBelow words.exposed) other me log.parts (λ p h. h) s.below.below;
+      ranges = s.below.ranges;
+    };
+    at_work = s.at_work;
+    owners = owners;
+    constants = each-merged (λ _ z. HasConstants key z) s.constants (λ e. absurd (true≢false e)) (s.constants me v at);
+    resting = each-merged (λ _ z. RestsUnlessActive z) s.resting (λ _. refl) (s.resting me v at);
+    entries = each-merged (λ _ z. OwnsIfWorker z) s.entries (λ _. refl) (λ off. absurd (true≢false (sym (ap Rattle.log_table.specs.Views.may_own may.flusher) ∙ off)));
+    roles = crew-merges;
+  }
+
+  pub merges : IsSound key words (set (set views me new) other nobody) after
+  merges = subst (λ l. IsSound key words l after) (set-swap views other me nobody new apart) merges'
+
+pub merge-allowed : (key : Start) (seat : ℕ) (v : View) (other : ℕ) (o : View) → MayMerge v o → Joins {S = Unit {0}} (Ruled key) seat v other o (takes_in v o) nobody
+merge-allowed key seat v other o may s ruled at apart there = (
+  ruled.0,
+  (
+    _,
+    merges key (words_of key.ring s.words) s.views seat other v o ruled.1.0 ruled.1.1 at
+        (⊎_elim (λ (t : (other ≡ seat) × (takes_in v o ≡ o)). absurd (apart t.0)) (λ (t : (other ≢ seat) × (get_elem? s.views other ≡ some o)). t.1) (at_set s.views seat other (takes_in v o) o there)) apart may,
+  ),
+)

@@ -1,0 +1,10 @@
+use Rattle.std.proofs.Common.{arith}
+use Rattle.log_table.proofs.Allowing.{enroll-allowed}
+use Rattle.log_table.proofs.Crewing.{enroll-step}
+use Rattle.log_table.proofs.table.LogTable.enroll.Goals as goal
+
+pub fetch_add-requires : goal.fetch_add-requires
+fetch_add-requires c = (c.requires.seat.table_is, omega (arith, c.args.self.now.sized), enroll-allowed _ _ _ _ c.requires.fresh)
+
+pub returns-clause-event : goal.returns-clause-event
+returns-clause-event c = enroll-step _ _ _ c.requires.fresh

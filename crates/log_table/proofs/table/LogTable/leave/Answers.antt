@@ -1,0 +1,10 @@
+use Rattle.std.proofs.Common.{arith}
+use Rattle.log_table.proofs.Allowing.{leave-allowed}
+use Rattle.log_table.proofs.Crewing.{leave-step}
+use Rattle.log_table.proofs.table.LogTable.leave.Goals as goal
+
+pub fetch_sub-requires : goal.fetch_sub-requires
+fetch_sub-requires c = (c.requires.seat.table_is, omega (arith, c.args.self.now.sized), leave-allowed _ _ _ _ c.requires.rests)
+
+pub returns-clause-event : goal.returns-clause-event
+returns-clause-event c = leave-step _ _ _ c.requires.rests

@@ -1,0 +1,13 @@
+use Rattle.std.proofs.Common.{arith}
+use Rattle.log_table.specs.Seats.{view_of, number_of, key_of}
+use Rattle.log_table.proofs.Merging.{merge-allowed}
+use Rattle.log_table.proofs.table.LogTable.merge.Goals as goal
+
+pub join_seat-requires : goal.join_seat-requires
+join_seat-requires c = (
+  c.requires.seat.table_is,
+  c.requires.other.table_is,
+  c.requires.other.no_slots,
+  omega (arith, c.args.self.now.sized),
+  merge-allowed (key_of c.args.self.now) (number_of c.args.seat.now) (view_of c.args.seat.now) _ (view_of c.args.other) c.requires.may,
+)

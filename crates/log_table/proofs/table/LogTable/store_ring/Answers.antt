@@ -1,0 +1,22 @@
+use Rattle.std.proofs.Common.{◌≡◌, arith, ℕ, ◌+◌, ◌%◌, ◌<◌, mod-lt, sym, subst}
+use Rattle.atomic_table.specs.Table.{Allows}
+use Rattle.log_table.specs.declared.layout.TheConstants.{RING}
+use Rattle.log_table.specs.Seats.{number_of, key_of}
+use Rattle.log_table.specs.Sound.{Ruled}
+use Rattle.log_table.specs.Views.{filled}
+use Rattle.log_table.proofs.Allowing.{store_ring-allowed}
+use Rattle.log_table.proofs.Filling.{fill-step}
+use Rattle.log_table.proofs.table.LogTable.store_ring.Goals as goal
+
+pub store-requires : goal.store-requires
+store-requires c =
+    let wide = c.args.self.now.wide in
+    let below : c.args.at % c.args.self.now.ring < c.args.self.now.ring = mod-lt c.args.at (omega arith) in (
+      c.requires.seat.table_is,
+      omega (arith, c.args.self.now.sized, below, c.place-index.ensures),
+      subst (λ (index : ℕ). Allows (Ruled (key_of c.args.self.now)) c.args.self.now.table.shared.table_id.slots (number_of c.args.seat.now) c.args.seat.now.base.me (RING + index) (λ _. c.args.unit) (λ _ new. (new ≡ (filled c.args.unit c.args.seat.now.base.me.0, c.args.seat.now.base.me.1)) × Unit {0})) (sym c.place-index.ensures)
+          (store_ring-allowed (key_of c.args.self.now) c.args.self.now.table.shared.table_id.slots (number_of c.args.seat.now) c.args.seat.now.base.me c.args.at c.args.self.now.ring c.args.unit c.args.self.now.keyed below c.requires.next),
+    )
+
+pub returns-clause-event : goal.returns-clause-event
+returns-clause-event c = fill-step _ _ _ _ _ _ c.args.self.now.keyed c.requires.next

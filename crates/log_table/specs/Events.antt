@@ -1,0 +1,58 @@
+-- What a table shows of the ring machine, and which of its events a step is.
+use Rattle.std.specs.Prelude.{◌≡◌, ℕ, ◌+◌, true, List, [], ◌∷◌, map, length, set, Option, Some, None}
+use mathlib.Core.Option.{some}
+use lib.ListN.{get_elem?}
+use Rattle.ring_core.specs.State.{Reservation, Stage, Idle, Works, Hand, RingState}
+use Rattle.ring_core.specs.Machine.{RingStep}
+use Rattle.ring_core.specs.declared.event.RingEvent.{RingEvent}
+use Rattle.log_table.specs.declared.table.Start.{Start}
+use Rattle.log_table.specs.declared.view.Call.{Call}
+use Rattle.log_table.specs.declared.view.Call.TheVariants.{Idle as AtRest, Filling}
+use Rattle.log_table.specs.declared.view.View.{View}
+use Rattle.log_table.specs.Layout.{Word}
+use Rattle.log_table.specs.Log.{Part, Log}
+use Rattle.log_table.specs.Sound.{IsSound}
+use Rattle.log_table.specs.Words.{Words, word_at, with_word}
+
+-- a part as the machine's reservation: its units are counted
+abbrev pub reservation_of : Part → Reservation
+reservation_of part = record { base = part.entry.start; size = part.entry.size; filled = length part.entry.units; released = part.released }
+
+-- what a call has under way, as the machine says it
+abbrev pub stage_in : Call → Stage
+stage_in AtRest = Idle
+stage_in (Filling entry) = Works entry.start
+
+-- the seats from this number on are the machine's actors
+abbrev pub hands_of : ℕ → List View → List Hand
+hands_of seat [] = []
+hands_of seat (view ∷ views) = record { actor = seat; stage = stage_in view.call } ∷ hands_of (seat + 1) views
+
+-- the state of the ring machine that a table shows
+abbrev pub ring_of : Start → Words → List View → Log → RingState
+ring_of key words views log = record {
+  start = key.start;
+  ring = key.ring;
+  reservations = map reservation_of log.parts;
+  hands = hands_of 0 views;
+  tail = words.tail;
+  exposed = words.exposed;
+  durable = words.durable;
+}
+
+-- the machine takes the event, or where there is none it stays as it was
+abbrev pub Shows : Option RingEvent → RingState → RingState → Type 0
+Shows None old new = new ≡ old
+Shows (Some event) old new = RingStep old event true new
+
+-- from a sound table to a sound one, by this event of the ring machine
+pub record Leads (key : Start) (words words' : Words) (views views' : List View) (log : Log) (event : Option RingEvent) : Type 0 where
+  pub after : Log
+  pub sound : IsSound key words' views' after
+  pub shows : Shows event (ring_of key words views log) (ring_of key words' views' after)
+
+-- Whatever sound table it is in which the word holds `found` and the seat has `view`: once the word holds `left` and the
+-- seat has `view'`, the table is sound, and the step is the event
+pub record IsStep (key : Start) (seat : ℕ) (word : Word) (found left : ℕ) (view view' : View) (event : Option RingEvent) : Type 0 where
+  pub leads : (words : Words) (views : List View) (log : Log) → IsSound key words views log → get_elem? views seat ≡ some view → word_at words word ≡ found
+      → Leads key words (with_word words word left) views (set views seat view') log event

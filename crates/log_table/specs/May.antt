@@ -1,0 +1,62 @@
+-- When a step is the next one of the call that the view shows as under way.
+use Rattle.std.specs.Prelude.{◌≡◌, ℕ, ◌+◌, ◌/◌, ◌<◌, ◌≤◌, true, false, length}
+use Rattle.std.specs.List.{list_any}
+use lib.Dec.{eqb}
+use Rattle.lsn_space.specs.declared.lsn.TheConstants.{LAST}
+use Rattle.log_table.specs.declared.view.Entry.{Entry}
+use Rattle.log_table.specs.declared.view.Call.TheVariants.{Idle, Filling}
+use Rattle.log_table.specs.declared.view.Role.TheVariants.{Flusher, Active, Ended}
+use Rattle.log_table.specs.declared.view.Seen.{Seen}
+use Rattle.log_table.specs.declared.view.View.{View}
+use Rattle.log_table.specs.Log.{IsFull}
+
+-- the worker is enrolled and has no call under way
+pub record IsAtRest (view : View) : Type 0 where
+  pub active : view.standing.role ≡ Active
+  pub idle : view.call ≡ Idle
+
+-- the seat's last two steps were a load of the tail and then one of durable
+pub record HasLooked (seen : Seen) : Type 0 where
+  pub tail : seen.tail_step + 1 ≡ seen.steps
+  pub durable : seen.durable_step ≡ seen.steps
+
+-- the tail may be exchanged: it was looked at, and there is room by what was seen
+pub record MayReserve (from to : ℕ) (view : View) : Type 0 where
+  pub rests : IsAtRest view
+  pub alone : view.contended ≡ false
+  pub looked : HasLooked view.seen
+  pub tail : view.seen.tail ≡ from
+  pub some_units : from < to
+  pub quarter : to ≤ from + view.constants.ring / 4
+  pub within_log : to ≤ LAST
+  pub within_ring : to ≤ view.seen.durable + view.constants.ring
+
+-- the unit at this LSN is the next to be filled
+pub record MayFill (at : ℕ) (view : View) : Type 0 where
+  pub entry : Entry
+  pub filling : view.call ≡ Filling entry
+  pub next : at ≡ entry.start + length entry.units
+  pub unfilled : length entry.units < entry.size
+
+-- exposed may be raised to the end of the seat's run, which is full and starts at exposed
+pub record MayRelease (to : ℕ) (view : View) : Type 0 where
+  pub entry : Entry
+  pub filling : view.call ≡ Filling entry
+  pub full : IsFull entry
+  pub turn : view.seen.exposed ≡ entry.start
+  pub end : to ≡ entry.start + entry.size
+
+-- the flusher's seat may make a worker of this number
+pub record MaySplit (worker : ℕ) (view : View) : Type 0 where
+  pub flusher : view.standing.role ≡ Flusher
+  pub new : list_any (eqb worker) view.standing.made ≡ false
+
+-- the flusher's seat may take in the seat of a worker that has ended
+pub record MayMerge (view other : View) : Type 0 where
+  pub flusher : view.standing.role ≡ Flusher
+  pub ended : other.standing.role ≡ Ended
+
+-- all workers that were made have ended and were merged
+pub record MayClose (view : View) : Type 0 where
+  pub flusher : view.standing.role ≡ Flusher
+  pub all_merged : (worker : ℕ) → list_any (eqb worker) view.standing.made ≡ true → list_any (eqb worker) view.standing.merged ≡ true

@@ -1,0 +1,129 @@
+-- The rule of the table, part by part. Each part speaks of exactly the words and the fields of views that it names.
+use Rattle.std.specs.Prelude.{◌≡◌, ℕ, ◌+◌, ◌/◌, ◌<◌, ◌≤◌, Bool, true, false, List, [], ◌++◌, length, get_or, count_by}
+use Rattle.std.specs.List.{AllByRecursion, list_any}
+use mathlib.Core.Option.{some}
+use lib.Dec.{eqb}
+use lib.ListN.{get_elem?}
+use Rattle.atomic_table.specs.Table.{State}
+use Rattle.lsn_space.specs.declared.lsn.TheConstants.{LAST}
+use Rattle.lsn_space.specs.Tiling.{IsBoundary}
+use Rattle.log_table.specs.declared.table.Start.{Start}
+use Rattle.log_table.specs.declared.view.Call.TheVariants.{Idle}
+use Rattle.log_table.specs.declared.view.Role.TheVariants.{Flusher, Fresh}
+use Rattle.log_table.specs.declared.view.Seen.{Seen}
+use Rattle.log_table.specs.declared.view.Standing.{Standing}
+use Rattle.log_table.specs.declared.view.View.{View}
+use Rattle.log_table.specs.Layout.{word_count}
+use Rattle.log_table.specs.Log.{Part, Range, Log, ranges_of, own, parts_of, owed, Tiles, Laid, Fits, StandsInRing, IsFullIfReleased, IsReleasedBelow, IsReleased, IsOwed, CountsRemaining}
+use Rattle.log_table.specs.Views.{is_active, is_worker, is_spent, may_own, constants_of, nobody, entries_in, claims_in}
+use Rattle.log_table.specs.Words.{Words, words_of}
+
+-- each seat that was made, by its number, has a view for which this holds
+abbrev pub EachView : (ℕ → View → Type 0) → List View → Type 0
+EachView P views = (seat : ℕ) (view : View) → get_elem? views seat ≡ some view → P seat view
+
+-- so has each number, where a seat that was not made counts as one that is spent
+abbrev pub EachSeat : (ℕ → View → Type 0) → List View → Type 0
+EachSeat P views = (seat : ℕ) → P seat (get_or views seat nobody)
+
+-- each two seats that were made have views for which this holds
+abbrev pub EachPair : (ℕ → View → ℕ → View → Type 0) → List View → Type 0
+EachPair R views = EachView (λ seat view. EachView (R seat view) views) views
+
+-- durable stands where the log started; the tail is in the log, and at most a ring above durable
+pub record HasOrderedLsns (start ring tail durable : ℕ) : Type 0 where
+  pub least_ring : 1024 ≤ ring
+  pub greatest_ring : ring ≤ 1048576
+  pub durable_stands : durable ≡ start
+  pub within_ring : tail ≤ durable + ring
+  pub within_log : tail ≤ LAST
+
+-- no word is below what a seat saw in it, and each LSN that a seat saw is a boundary of reservations
+pub record HasSeenBoundaries (start tail exposed durable : ℕ) (ranges : List Range) (seen : Seen) : Type 0 where
+  pub tail_seen : seen.tail ≤ tail
+  pub exposed_seen : seen.exposed ≤ exposed
+  pub durable_seen : seen.durable ≤ durable
+  pub boundaries : AllByRecursion (IsBoundary (λ (r : Range). r.size) start ranges) seen.lsns
+
+-- the reservations follow one another from the start to the tail, and durable and exposed lie between two of them
+pub record HasContiguousReservations (start ring tail exposed durable : ℕ) (log : Log) : Type 0 where
+  pub flushed : Tiles (ring / 4) start log.flushed durable
+  pub released : Tiles (ring / 4) durable log.released exposed
+  pub unreleased : Tiles (ring / 4) exposed log.unreleased tail
+  pub parts : Laid start log.parts tail
+  pub remaining : AllByRecursion (CountsRemaining log.parts) log.unreleased
+
+-- a filled unit at or above durable stands in the ring
+pub record KeepsFilledUnits (size durable : ℕ) (ring : ℕ → ℕ) (parts : List Part) : Type 0 where
+  pub fits : AllByRecursion Fits parts
+  pub stands : AllByRecursion (StandsInRing size durable ring) parts
+
+-- every unit below exposed is filled
+pub record IsFilledBelowExposed (exposed : ℕ) (log : Log) : Type 0 where
+  pub full : AllByRecursion IsFullIfReleased log.parts
+  pub below : AllByRecursion (IsReleasedBelow exposed) log.parts
+  pub ranges : AllByRecursion IsReleased (log.flushed ++ log.released)
+
+-- the log has of the seat its entries, which are released, and what its call has reserved
+pub record HasWorkingOwner (parts : List Part) (unreleased : List Range) (seat : ℕ) (view : View) : Type 0 where
+  pub owns : own seat parts ≡ parts_of seat true view.entries ++ parts_of seat false (entries_in view.call)
+  pub owes : owed seat unreleased ≡ claims_in view.call
+
+-- the view has the table's constants
+abbrev pub HasConstants : Start → View → Type 0
+HasConstants key view = is_spent view.standing.role ≡ false → view.constants ≡ constants_of key
+
+-- a view that is not active has nothing under way
+abbrev pub RestsUnlessActive : View → Type 0
+RestsUnlessActive view = is_active view.standing.role ≡ false → view.call ≡ Idle
+
+-- only the flusher's seat and workers' have entries
+abbrev pub OwnsIfWorker : View → Type 0
+OwnsIfWorker view = may_own view.standing.role ≡ false → view.entries ≡ []
+
+abbrev pub Knows : ℕ → List ℕ → Type 0
+Knows worker numbers = list_any (eqb worker) numbers ≡ true
+
+abbrev pub Lacks : ℕ → List ℕ → Type 0
+Lacks worker numbers = list_any (eqb worker) numbers ≡ false
+
+-- a worker's number is small, and the flusher's seat is the first, which knows as made what it knows as merged
+pub record HasSoundRole (seat : ℕ) (standing : Standing) : Type 0 where
+  pub small : is_worker standing.role ≡ true → standing.worker < 4294967296
+  pub first : standing.role ≡ Flusher → seat ≡ 0
+  pub merged : standing.role ≡ Flusher → (worker : ℕ) → Knows worker standing.merged → Knows worker standing.made
+
+-- no two workers have one number; the flusher's seat knows each as made and none as merged, and as made all that are known as enrolled; no fresh one is known as enrolled
+pub record HasSoundRoles (seat : ℕ) (standing : Standing) (other : ℕ) (others : Standing) : Type 0 where
+  pub apart : is_worker standing.role ≡ true → is_worker others.role ≡ true → standing.worker ≡ others.worker → seat ≡ other
+  pub made : standing.role ≡ Flusher → is_worker others.role ≡ true → Knows others.worker standing.made
+  pub unmerged : standing.role ≡ Flusher → is_worker others.role ≡ true → Lacks others.worker standing.merged
+  pub known : standing.role ≡ Flusher → (worker : ℕ) → Knows worker others.enrolled → Knows worker standing.made
+  pub fresh : standing.role ≡ Fresh → Lacks standing.worker others.enrolled
+
+abbrev pub is_active_view : View → Bool
+is_active_view view = is_active view.standing.role
+
+-- the crew word counts the active views, and the roles of the seats go together
+pub record HasSoundCrew (crew : ℕ) (views : List View) : Type 0 where
+  pub count : crew ≡ count_by is_active_view views
+  pub each : EachView (λ seat view. HasSoundRole seat view.standing) views
+  pub pairs : EachPair (λ seat view other others. HasSoundRoles seat view.standing other others.standing) views
+
+-- the rule: words, views and log of a table that was made with this key go together
+pub record IsSound (key : Start) (words : Words) (views : List View) (log : Log) : Type 0 where
+  pub ordered : HasOrderedLsns key.start key.ring words.tail words.durable
+  pub seen : EachView (λ _ view. HasSeenBoundaries key.start words.tail words.exposed words.durable (ranges_of log) view.seen) views
+  pub contiguous : HasContiguousReservations key.start key.ring words.tail words.exposed words.durable log
+  pub filled : KeepsFilledUnits key.ring words.durable words.ring log.parts
+  pub below : IsFilledBelowExposed words.exposed log
+  pub at_work : AllByRecursion IsOwed log.unreleased
+  pub owners : EachSeat (HasWorkingOwner log.parts log.unreleased) views
+  pub constants : EachView (λ _ view. HasConstants key view) views
+  pub resting : EachView (λ _ view. RestsUnlessActive view) views
+  pub entries : EachView (λ _ view. OwnsIfWorker view) views
+  pub roles : HasSoundCrew words.crew views
+
+-- the table has its words, and some log goes with them and with the views
+abbrev pub Ruled : Start → State (Unit {0}) View → Type 0
+Ruled key state = (length state.words ≡ word_count key.ring) × ((log : Log) × IsSound key (words_of key.ring state.words) state.views log)

@@ -1,0 +1,196 @@
+-- The view of a new seat, and how each kind of step changes the view of its seat.
+use Rattle.std.specs.Prelude.{◌==◌, ℕ, ◌+◌, ◌-◌, if◌then◌else◌, nat_lt, max, Bool, true, false, List, [], ◌∷◌, ◌++◌, length}
+use Rattle.log_table.specs.declared.table.Start.{Start}
+use Rattle.log_table.specs.declared.view.Entry.{Entry}
+use Rattle.log_table.specs.declared.view.Call.{Call}
+use Rattle.log_table.specs.declared.view.Call.TheVariants.{Idle, Filling}
+use Rattle.log_table.specs.declared.view.Role.{Role}
+use Rattle.log_table.specs.declared.view.Role.TheVariants.{Flusher, Fresh, Active, Ended, Note, Spent}
+use Rattle.log_table.specs.declared.view.Constants.{Constants}
+use Rattle.log_table.specs.declared.view.Standing.{Standing}
+use Rattle.log_table.specs.declared.view.Seen.{Seen}
+use Rattle.log_table.specs.declared.view.View.{View}
+use Rattle.log_table.specs.Log.{Claim}
+
+abbrev pub is_active : Role → Bool
+is_active Flusher = false
+is_active Fresh = false
+is_active Active = true
+is_active Ended = false
+is_active Note = false
+is_active Spent = false
+
+abbrev pub is_worker : Role → Bool
+is_worker Flusher = false
+is_worker Fresh = true
+is_worker Active = true
+is_worker Ended = true
+is_worker Note = false
+is_worker Spent = false
+
+abbrev pub is_spent : Role → Bool
+is_spent Flusher = false
+is_spent Fresh = false
+is_spent Active = false
+is_spent Ended = false
+is_spent Note = false
+is_spent Spent = true
+
+abbrev pub may_own : Role → Bool
+may_own Flusher = true
+may_own Fresh = true
+may_own Active = true
+may_own Ended = true
+may_own Note = false
+may_own Spent = false
+
+-- what the table was made with, as each view keeps it
+abbrev pub constants_of : Start → Constants
+constants_of key = record { start = key.start; ring = key.ring; slots = key.slots; accounts = length key.accounts.rows }
+
+-- nothing but the LSN at which the log stood is seen
+abbrev pub seen_at : ℕ → Seen
+seen_at lsn = record { steps = 0; tail = lsn; tail_step = 0; exposed = lsn; exposed_step = 0; durable = lsn; durable_step = 0; lsns = lsn ∷ [] }
+
+-- the view of the table's first seat
+abbrev pub flusher : Start → View
+flusher key = record {
+  constants = constants_of key;
+  standing = record { role = Flusher; worker = 0; made = []; enrolled = []; merged = [] };
+  seen = seen_at key.start;
+  entries = [];
+  call = Idle;
+  contended = false;
+  sending = record { sent = []; read = []; quiet = false; looked = false };
+  books = record {};
+}
+
+-- what is left of a seat that was merged; a seat that was never made has this view too
+abbrev pub nobody : View
+nobody = record {
+  constants = record { start = 0; ring = 0; slots = 0; accounts = 0 };
+  standing = record { role = Spent; worker = 0; made = []; enrolled = []; merged = [] };
+  seen = record { steps = 0; tail = 0; tail_step = 0; exposed = 0; exposed_step = 0; durable = 0; durable_step = 0; lsns = [] };
+  entries = [];
+  call = Idle;
+  contended = false;
+  sending = record { sent = []; read = []; quiet = false; looked = false };
+  books = record {};
+}
+
+-- the entries that the call under way has reserved
+abbrev pub entries_in : Call → List Entry
+entries_in Idle = []
+entries_in (Filling entry) = entry ∷ []
+
+-- the ranges that the call under way has to release
+abbrev pub claims_in : Call → List Claim
+claims_in Idle = []
+claims_in (Filling entry) = record { base = entry.start; size = entry.size; remaining = entry.size } ∷ []
+
+-- one step more
+abbrev pub counted : Seen → Seen
+counted seen = record seen { steps = seen.steps + 1 }
+
+-- the tail was seen at n
+abbrev pub seen_tail : ℕ → Seen → Seen
+seen_tail n seen = record seen { steps = seen.steps + 1; tail = n; tail_step = seen.steps + 1; lsns = n ∷ seen.lsns }
+
+-- exposed was seen at n
+abbrev pub seen_exposed : ℕ → Seen → Seen
+seen_exposed n seen = record seen { steps = seen.steps + 1; exposed = n; exposed_step = seen.steps + 1; lsns = n ∷ seen.lsns }
+
+-- durable was seen at n
+abbrev pub seen_durable : ℕ → Seen → Seen
+seen_durable n seen = record seen { steps = seen.steps + 1; durable = n; durable_step = seen.steps + 1; lsns = n ∷ seen.lsns }
+
+-- a run with no unit filled
+abbrev pub empty_entry : ℕ → ℕ → Entry
+empty_entry start size = record { start = start; size = size; units = []; contents = record {} }
+
+-- the entry with one more unit filled
+abbrev pub with_unit : ℕ → Entry → Entry
+with_unit unit entry = record { start = entry.start; size = entry.size; units = entry.units ++ unit ∷ []; contents = entry.contents }
+
+-- after a load of the tail
+abbrev pub saw_tail : ℕ → View → View
+saw_tail n view = record view { seen = seen_tail n view.seen }
+
+-- after a load of exposed
+abbrev pub saw_exposed : ℕ → View → View
+saw_exposed n view = record view { seen = seen_exposed n view.seen }
+
+-- after a load of durable
+abbrev pub saw_durable : ℕ → View → View
+saw_durable n view = record view { seen = seen_durable n view.seen }
+
+-- after an exchange of the tail that was made; the new tail counts as seen
+abbrev pub reserved : ℕ → ℕ → View → View
+reserved from to view = record view { seen = seen_tail to view.seen; call = Filling (empty_entry from (to - from)) }
+
+-- after an exchange of the tail that found n
+abbrev pub after_exchange : ℕ → ℕ → ℕ → View → View
+after_exchange from to n view = if n == from then reserved from to view else saw_tail n view
+
+-- the call with one more unit filled
+abbrev pub call_with_unit : ℕ → Call → Call
+call_with_unit unit Idle = Idle
+call_with_unit unit (Filling entry) = Filling (with_unit unit entry)
+
+-- after a store of a unit into the ring
+abbrev pub filled : ℕ → View → View
+filled unit view = record view { seen = counted view.seen; call = call_with_unit unit view.call }
+
+-- after a store of exposed; the new value counts as seen
+abbrev pub released : ℕ → View → View
+released to view = record view { seen = seen_exposed to view.seen; entries = view.entries ++ entries_in view.call; call = Idle }
+
+-- after the worker is counted as active, which it then knows
+abbrev pub enrolled : View → View
+enrolled view = record view { standing = record view.standing { role = Active; enrolled = view.standing.worker ∷ view.standing.enrolled }; seen = counted view.seen }
+
+-- after the worker is no more counted as active
+abbrev pub retired : View → View
+retired view = record view { standing = record view.standing { role = Ended }; seen = counted view.seen }
+
+-- the flusher's view once it has made a worker; nobody is known to be at rest any more
+abbrev pub hires : ℕ → View → View
+hires worker view = record view {
+  standing = record view.standing { made = worker ∷ view.standing.made };
+  sending = record view.sending { quiet = false };
+}
+
+-- the view of a new worker, who knows the LSNs that the flusher's seat saw last
+abbrev pub hired : ℕ → View → View
+hired worker view = record {
+  constants = view.constants;
+  standing = record { role = Fresh; worker = worker; made = []; enrolled = []; merged = [] };
+  seen = record view.seen { steps = 0; tail_step = 0; exposed_step = 0; durable_step = 0 };
+  entries = [];
+  call = Idle;
+  contended = false;
+  sending = record { sent = []; read = []; quiet = false; looked = false };
+  books = record {};
+}
+
+-- the entry among others in order of their starts
+abbrev pub inserted : Entry → List Entry → List Entry
+inserted entry [] = entry ∷ []
+inserted entry (other ∷ others) = if nat_lt entry.start other.start then entry ∷ other ∷ others else other ∷ inserted entry others
+
+-- the entries of both in order of their starts
+abbrev pub merged_entries : List Entry → List Entry → List Entry
+merged_entries entries [] = entries
+merged_entries entries (other ∷ others) = inserted other (merged_entries entries others)
+
+-- what both have seen
+abbrev pub merged_seen : Seen → Seen → Seen
+merged_seen seen other = record seen { tail = max seen.tail other.tail; exposed = max seen.exposed other.exposed; durable = max seen.durable other.durable; lsns = seen.lsns ++ other.lsns }
+
+-- the standing of the flusher's seat after it took in a worker's
+abbrev pub merged_standing : Standing → Standing → Standing
+merged_standing standing other = record standing { enrolled = standing.enrolled ++ other.enrolled; merged = other.worker ∷ standing.merged }
+
+-- the flusher's view after it took in a worker's: the entries, jobs and knowledge of both
+abbrev pub takes_in : View → View → View
+takes_in view other = record view { standing = merged_standing view.standing other.standing; seen = merged_seen view.seen other.seen; entries = merged_entries view.entries other.entries }

@@ -1,0 +1,18 @@
+//! Where the words lie in the table. Words that many threads write stand far enough apart to lie on
+//! cache lines of their own. `specs/Layout.antt` shows that no two words share a place.
+
+/// Words from one shared word to the next, two cache lines.
+const STRIDE: usize = 16;
+
+/// The end of the last reservation. The base crate's own moves load word 0.
+pub(crate) const TAIL: usize = 0;
+/// Everything below is filled.
+pub(crate) const EXPOSED: usize = STRIDE;
+/// Everything below is on the disk.
+pub(crate) const DURABLE: usize = 2 * STRIDE;
+/// Why the log stopped, 0 while it runs.
+pub(crate) const STOP: usize = 3 * STRIDE;
+/// The number of active workers.
+pub(crate) const CREW: usize = 4 * STRIDE;
+/// The first word of the ring, which is packed and last.
+pub(crate) const RING: usize = 5 * STRIDE;

@@ -1,0 +1,114 @@
+//! What each kind of step tells the seat that makes it: its new view, and what the rule says of the
+//! word that it found.
+use crate::view::View;
+use atomic_table::{Join, Play, Split};
+use std::marker::{Brand, PhantomData};
+
+pub(crate) struct LoadTail;
+
+impl Play<(), View> for LoadTail {
+    ghost use Rattle.std.specs.Prelude.{◌≡◌, ◌≤◌};
+    ghost use Rattle.lsn_space.specs.declared.lsn.TheConstants.{LAST};
+    ghost use Rattle.log_table.specs.Views.{saw_tail};
+
+    ghost then = { λ st old n new. (new ≡ (saw_tail n old.0, old.1)) × ((old.0.seen.tail ≤ n) × (n ≤ LAST)) };
+}
+
+pub(crate) struct LoadExposed;
+
+impl Play<(), View> for LoadExposed {
+    ghost use Rattle.std.specs.Prelude.{◌≡◌, ◌≤◌};
+    ghost use Rattle.lsn_space.specs.declared.lsn.TheConstants.{LAST};
+    ghost use Rattle.log_table.specs.Views.{saw_exposed};
+
+    ghost then = { λ st old n new. (new ≡ (saw_exposed n old.0, old.1)) × ((old.0.seen.exposed ≤ n) × (n ≤ LAST)) };
+}
+
+pub(crate) struct LoadDurable;
+
+impl Play<(), View> for LoadDurable {
+    ghost use Rattle.std.specs.Prelude.{◌≡◌, ◌≤◌};
+    ghost use Rattle.lsn_space.specs.declared.lsn.TheConstants.{LAST};
+    ghost use Rattle.log_table.specs.Views.{saw_durable};
+
+    ghost then = { λ st old n new. (new ≡ (saw_durable n old.0, old.1)) × ((old.0.seen.durable ≤ n) × (n ≤ LAST)) };
+}
+
+pub(crate) struct ExchangeTail;
+
+impl Play<(), View> for ExchangeTail {
+    ghost use Rattle.std.specs.Prelude.{◌≡◌, ◌≤◌};
+    ghost use Rattle.lsn_space.specs.declared.lsn.TheConstants.{LAST};
+    ghost use Rattle.log_table.specs.Views.{after_exchange};
+
+    ghost then = { λ st old n new. (new ≡ (after_exchange st.first st.second n old.0, old.1)) × ((old.0.seen.tail ≤ n) × (n ≤ LAST)) };
+}
+
+pub(crate) struct StoreRing;
+
+impl Play<(), View> for StoreRing {
+    ghost use Rattle.std.specs.Prelude.{◌≡◌};
+    ghost use Rattle.log_table.specs.Views.{filled};
+
+    ghost then = { λ st old n new. (new ≡ (filled st.first old.0, old.1)) × Unit {0} };
+}
+
+pub(crate) struct StoreExposed;
+
+impl Play<(), View> for StoreExposed {
+    ghost use Rattle.std.specs.Prelude.{◌≡◌};
+    ghost use Rattle.log_table.specs.Views.{released};
+
+    ghost then = { λ st old n new. (new ≡ (released st.first old.0, old.1)) × Unit {0} };
+}
+
+pub(crate) struct Enroll;
+
+impl Play<(), View> for Enroll {
+    ghost use Rattle.std.specs.Prelude.{◌≡◌};
+    ghost use Rattle.log_table.specs.Views.{enrolled};
+
+    ghost then = { λ st old n new. (new ≡ (enrolled old.0, old.1)) × Unit {0} };
+}
+
+pub(crate) struct Leave;
+
+impl Play<(), View> for Leave {
+    ghost use Rattle.std.specs.Prelude.{◌≡◌};
+    ghost use Rattle.log_table.specs.Views.{retired};
+
+    ghost then = { λ st old n new. (new ≡ (retired old.0, old.1)) × Unit {0} };
+}
+
+/// The number of a worker.
+pub trait Number {
+    ghost use Rattle.std.specs.Prelude.{ℕ};
+
+    ghost number: { ℕ };
+}
+
+impl Number for Brand {
+    ghost number = { 0 };
+}
+
+pub(crate) struct Hire<N> {
+    number: PhantomData<N>,
+}
+
+impl<N: Number> Split<View> for Hire<N> {
+    ghost use Rattle.log_table.specs.Views.{hires, hired};
+
+    ghost left = { hires N.number };
+
+    ghost right = { hired N.number };
+}
+
+pub(crate) struct TakeIn;
+
+impl Join<View> for TakeIn {
+    ghost use Rattle.log_table.specs.Views.{takes_in, nobody};
+
+    ghost both = { takes_in };
+
+    ghost spent = { nobody };
+}

@@ -1,0 +1,79 @@
+//! Seats are made, and taken in again.
+ghost use Rattle.std.specs.Prelude.{◌≡◌, ◌≤◌, ◌^◌, ℕ, [], IfOk};
+ghost use Rattle.log_table.specs.May.{MaySplit, MayMerge};
+ghost use Rattle.log_table.specs.Seats.{IsOf, Becomes, view_of};
+ghost use Rattle.log_table.specs.Views.{flusher, hires, hired, takes_in};
+
+use crate::layout::{DURABLE, EXPOSED, RING, TAIL};
+use crate::plays::{Hire, Number, TakeIn};
+use crate::table::{LogTable, Seat, Start};
+use atomic_table::Table;
+use lsn_space::NoMemory;
+use std::alloc::Global;
+use std::marker::Brand;
+
+/// The new seat's view has the worker's number, which a step can't see: it comes by the type.
+fn split_as<N: Number>(table: &LogTable, seat: &mut Seat, worker: u32) -> Seat
+    requires seat { IsOf table.now seat.old }
+    requires may { MaySplit worker (view_of seat.old) }
+    requires named { N.number ≡ worker }
+    ensures old { Becomes seat.old seat.new (hires worker (view_of seat.old)) }
+    ensures new { IsOf table.now result }
+    ensures view { view_of result ≡ hired worker (view_of seat.old) }
+    ensures worker { result.worker ≡ worker }
+{
+    let base = table.table.shared.split_seat::<Hire<N>>(&mut seat.base);
+    Seat { base, worker }
+}
+
+impl LogTable {
+    /// A table at rest, and the flusher's seat. The ring's length is a power of two; there are no
+    /// slots and no accounts yet.
+    pub fn make(alloc: Global, start: Start) -> Result<(LogTable, Seat), NoMemory>
+        requires ring { (1024 ≤ start.ring) × (start.ring ≤ 1048576) }
+        requires power { (n : ℕ) × (start.ring ≡ 2 ^ n) }
+        requires no_slots { start.slots ≡ 0 }
+        requires no_accounts { start.accounts.rows ≡ [] }
+        ensures seat { IfOk result (λ made. IsOf made.0 made.1) }
+        ensures view { IfOk result (λ made. view_of made.1 ≡ flusher start) }
+        ensures ring { IfOk result (λ made. made.0.ring ≡ start.ring) }
+    {
+        let Ok(mut words) = vec![in alloc; 0u64; RING + start.ring as usize] else {
+            return Err(NoMemory);
+        };
+        let lsn = start.start.units() as u64;
+        words[TAIL] = lsn;
+        words[EXPOSED] = lsn;
+        words[DURABLE] = lsn;
+        let Ok((table, base)) = Table::of_words(alloc, words.as_slice(), &start) else {
+            return Err(NoMemory);
+        };
+        let ring = start.ring;
+        Ok((LogTable { table, ring }, Seat { base, worker: 0 }))
+    }
+
+    /// A seat for a new worker of this number.
+    pub fn split(&self, seat: &mut Seat, worker: u32) -> Seat
+        requires seat { IsOf self.now seat.old }
+        requires may { MaySplit worker (view_of seat.old) }
+        ensures old { Becomes seat.old seat.new (hires worker (view_of seat.old)) }
+        ensures new { IsOf self.now result }
+        ensures view { view_of result ≡ hired worker (view_of seat.old) }
+        ensures worker { result.worker ≡ worker }
+    {
+        split_as::<Brand>(self, seat, worker)
+    }
+
+    /// The flusher's seat takes in the seat of a worker that has ended: the entries and the knowledge
+    /// of both.
+    pub fn merge(&self, seat: &mut Seat, other: Seat)
+        requires seat { IsOf self.now seat.old }
+        requires other { IsOf self.now other }
+        requires may { MayMerge (view_of seat.old) (view_of other) }
+        ensures { Becomes seat.old seat.new (takes_in (view_of seat.old) (view_of other)) }
+    {
+        self.table
+            .shared
+            .join_seat::<TakeIn>(&mut seat.base, other.base);
+    }
+}

@@ -1,0 +1,6 @@
+//! The steps, each one atomic action on one word.
+mod crew;
+mod durable;
+mod exposed;
+mod ring;
+mod tail;

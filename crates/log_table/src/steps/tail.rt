@@ -1,0 +1,47 @@
+//! The tail: the end of the last reservation.
+ghost use Rattle.std.specs.Prelude.{◌≡◌, ◌-◌, ◌≤◌, ◌<◌, OnOk, IfErr, None, Some};
+ghost use Rattle.ring_core.specs.declared.event.RingEvent.TheVariants.{Reserve};
+ghost use Rattle.log_table.specs.Events.{IsStep};
+ghost use Rattle.log_table.specs.Layout.{Tail};
+ghost use Rattle.log_table.specs.May.{MayReserve};
+ghost use Rattle.log_table.specs.Seats.{IsOf, Becomes, view_of, number_of, key_of};
+ghost use Rattle.log_table.specs.Views.{saw_tail, reserved};
+
+use crate::layout::TAIL;
+use crate::plays::{ExchangeTail, LoadTail};
+use crate::table::{LogTable, Seat};
+use lsn_space::Lsn;
+
+impl LogTable {
+    pub fn load_tail(&self, seat: &mut Seat) -> Lsn
+        requires { IsOf self.now seat.old }
+        ensures view { Becomes seat.old seat.new (saw_tail result (view_of seat.old)) }
+        ensures grows { (view_of seat.old).seen.tail ≤ result }
+        ensures event { IsStep (key_of self.now) (number_of seat.old) Tail result result (view_of seat.old) (saw_tail result (view_of seat.old)) None }
+    {
+        Lsn::new(self.table.shared.load::<LoadTail>(&mut seat.base, TAIL) as u32)
+    }
+
+    /// Reserves the units from one LSN to another, where the tail is still at the first; an Err holds
+    /// the tail found.
+    pub fn exchange_tail(&self, seat: &mut Seat, from: Lsn, to: Lsn) -> Result<(), Lsn>
+        requires seat { IsOf self.now seat.old }
+        requires next { MayReserve from to (view_of seat.old) }
+        ensures ok { OnOk result (Becomes seat.old seat.new (reserved from to (view_of seat.old))) }
+        ensures ok_event { OnOk result (IsStep (key_of self.now) (number_of seat.old) Tail from to (view_of seat.old) (reserved from to (view_of seat.old)) (Some (Reserve (number_of seat.old) (to - from)))) }
+        ensures err { IfErr result (λ found. (from < found) × Becomes seat.old seat.new (saw_tail found (view_of seat.old))) }
+        ensures err_event { IfErr result (λ found. IsStep (key_of self.now) (number_of seat.old) Tail found found (view_of seat.old) (saw_tail found (view_of seat.old)) None) }
+    {
+        let found = self.table.shared.compare_exchange::<ExchangeTail>(
+            &mut seat.base,
+            TAIL,
+            from.units() as u64,
+            to.units() as u64,
+        );
+        if found == from.units() as u64 {
+            Ok(())
+        } else {
+            Err(Lsn::new(found as u32))
+        }
+    }
+}

@@ -1,0 +1,66 @@
+//! The table, its rule, and a seat of it.
+ghost use Rattle.std.specs.Prelude.{◌≡◌, ◌≤◌};
+ghost use Rattle.log_table.specs.Layout.{word_count};
+ghost use Rattle.log_table.specs.Views.{constants_of};
+
+use crate::view::View;
+use atomic_table::{Table, TableRule};
+use lsn_space::{Balances, Lsn};
+use std::alloc::Global;
+
+/// What a table starts with: the end of the log, the ring's length in units, the number of slots of
+/// the consolidation array, and the accounts.
+#[derive(Drop)]
+pub struct Start {
+    pub start: Lsn,
+    pub ring: u32,
+    pub slots: u32,
+    pub accounts: Balances,
+}
+
+pub(crate) struct Rule;
+
+impl TableRule<(), View, Start> for Rule {
+    ghost use Rattle.log_table.specs.Sound.{Ruled};
+    ghost use Rattle.log_table.specs.Views.{flusher};
+
+    ghost holds = { Ruled };
+
+    ghost first = { flusher };
+}
+
+/// The words of the log, shared by threads.
+#[derive(Drop)]
+pub struct LogTable {
+    pub(crate) table: Table<(), View, Start, Rule, Global>,
+    pub(crate) ring: u32,
+    ghost wide: { (1024 ≤ ring) × (ring ≤ 1048576) },
+    ghost sized: { table.shared.table_id.words ≡ word_count ring },
+    ghost slotless: { table.shared.table_id.slots ≡ 0 },
+    ghost keyed: { table.shared.key.ring ≡ ring },
+}
+
+impl LogTable {
+    /// The length of the ring in units.
+    pub fn ring(&self) -> u32
+        ensures { result ≡ self.now.ring }
+    {
+        self.ring
+    }
+}
+
+/// What a thread steps with. It has a view, which contracts speak of.
+#[derive(Drop)]
+pub struct Seat {
+    pub(crate) base: atomic_table::Seat<(), View>,
+    pub(crate) worker: u32,
+}
+
+impl Seat {
+    /// The worker's number, for the schedule hook alone. The flusher's seat has one that means nothing.
+    pub fn worker(&self) -> u32
+        ensures { result ≡ self.now.worker }
+    {
+        self.worker
+    }
+}

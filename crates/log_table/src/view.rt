@@ -1,0 +1,90 @@
+//! What a seat knows of the table and has done in it. These types stand in contracts alone: no value
+//! of them is ever made, so their numbers have no bound and their lists take no memory.
+use std::collections::LinkedList;
+
+/// The record that an entry spells. Empty until entries are records.
+pub struct Contents {}
+
+/// A run of units that one seat reserved: from `start` on, `size` of them, of which `units` are
+/// copied into the ring so far.
+pub struct Entry {
+    pub start: u64,
+    pub size: u64,
+    pub units: LinkedList<u64>,
+    pub contents: Contents,
+}
+
+/// The call that a seat has under way.
+pub enum Call {
+    Idle,
+    /// A run is reserved, and being copied into the ring.
+    Filling(Entry),
+}
+
+pub enum Role {
+    /// The table's first seat, the only one that splits and merges.
+    Flusher,
+    /// A worker's seat that is not enrolled yet.
+    Fresh,
+    Active,
+    Ended,
+    /// Split off a seat to tell what that seat knows. It owns nothing.
+    Note,
+    /// What is left of a seat that was merged.
+    Spent,
+}
+
+/// What was fixed when the table was made.
+pub struct Constants {
+    pub start: u64,
+    pub ring: u64,
+    pub slots: u64,
+    pub accounts: u64,
+}
+
+/// The seat's role, its worker's number, and the numbers that it knows as made, enrolled and merged.
+pub struct Standing {
+    pub role: Role,
+    pub worker: u64,
+    pub made: LinkedList<u64>,
+    pub enrolled: LinkedList<u64>,
+    pub merged: LinkedList<u64>,
+}
+
+/// The last value seen in each word, and at which of the seat's steps; every LSN that was seen,
+/// newest first.
+pub struct Seen {
+    pub steps: u64,
+    pub tail: u64,
+    pub tail_step: u64,
+    pub exposed: u64,
+    pub exposed_step: u64,
+    pub durable: u64,
+    pub durable_step: u64,
+    pub lsns: LinkedList<u64>,
+}
+
+/// What the flusher sent to the disk and read for it, whether it saw that nobody is at work any more,
+/// and whether it looked at the released LSN since.
+pub struct Sending {
+    pub sent: LinkedList<u64>,
+    pub read: LinkedList<u64>,
+    pub quiet: bool,
+    pub looked: bool,
+}
+
+/// The jobs that the seat took, and the accounts that it holds. Empty until there are jobs.
+pub struct Books {}
+
+pub struct View {
+    pub constants: Constants,
+    pub standing: Standing,
+    pub seen: Seen,
+    /// The runs that the seat reserved, filled and released, in order.
+    pub entries: LinkedList<Entry>,
+    pub call: Call,
+    /// Whether the seat lost an exchange of the tail to another, so that it joins a group instead.
+    pub contended: bool,
+    pub sending: Sending,
+    pub books: Books,
+}

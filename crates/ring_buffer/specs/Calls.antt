@@ -1,0 +1,110 @@
+-- What a seat must be ready for, and what a call leaves it with.
+use Rattle.std.specs.Prelude.{◌≡◌, ℕ, ◌+◌, ◌<◌, ◌≤◌, false, List, [], ◌∷◌, ◌++◌, length}
+use Rattle.lsn_space.specs.declared.lsn.TheConstants.{LAST}
+use Rattle.log_table.specs.declared.table.Seat.{Seat}
+use Rattle.log_table.specs.declared.view.Call.TheVariants.{Idle, Filling}
+use Rattle.log_table.specs.declared.view.Entry.{Entry}
+use Rattle.log_table.specs.declared.view.View.{View}
+use Rattle.log_table.specs.Log.{IsFull}
+use Rattle.log_table.specs.May.{IsAtRest, HasLooked}
+use Rattle.log_table.specs.Seats.{Becomes, view_of}
+use Rattle.log_table.specs.Views.{entries_in, empty_entry, saw_tail, saw_durable, reserved}
+use Rattle.ring_buffer.specs.declared.call.Look.{Look}
+use Rattle.ring_buffer.specs.declared.call.Range.{Range}
+use Rattle.ring_buffer.specs.declared.refused.Refused.{Refused}
+use Rattle.ring_buffer.specs.declared.refused.Refused.TheVariants.{RingFull, LogEnd}
+
+-- the worker is enrolled, has nothing under way, and may place alone
+pub record IsReady (view : View) : Type 0 where
+  pub rests : IsAtRest view
+  pub alone : view.contended ≡ false
+
+-- the look is what the seat's last two steps loaded
+pub record IsLastLook (look : Look) (view : View) : Type 0 where
+  pub looked : HasLooked view.seen
+  pub tail : view.seen.tail ≡ look.tail
+  pub durable : view.seen.durable ≡ look.durable
+
+-- n units fit behind the tail, in the log and in the ring
+pub record HasRoom (ring tail durable n : ℕ) : Type 0 where
+  pub in_log : tail + n ≤ LAST
+  pub in_ring : tail + n ≤ durable + ring
+
+-- they do not, for the reason that is told; the log's end is told where both hold
+abbrev pub Refuses : ℕ → ℕ → ℕ → ℕ → Refused → Type 0
+Refuses ring tail durable n (LogEnd told total) = (told ≡ tail) × (total ≡ n) × (LAST < tail + n)
+Refuses ring tail durable n (RingFull told stood total) = (told ≡ tail) × (stood ≡ durable) × (total ≡ n) × (tail + n ≤ LAST) × (durable + ring < tail + n)
+
+-- after loads of the tail and then of durable
+abbrev pub looked : ℕ → ℕ → View → View
+looked tail durable view = saw_durable durable (saw_tail tail view)
+
+-- the seat looked, and reserved n units where it saw the tail and room behind it
+pub record HasPlaced (old new : Seat) (ring n : ℕ) (range : Range) : Type 0 where
+  pub size : range.size ≡ n
+  pub durable : ℕ
+  pub room : HasRoom ring range.start durable n
+  pub grows : (view_of old).seen.tail ≤ range.start
+  pub becomes : Becomes old new (reserved range.start (range.start + n) (looked range.start durable (view_of old)))
+
+-- the seat looked and saw room, but another had reserved before it did
+pub record HasLost (old new : Seat) (ring n : ℕ) : Type 0 where
+  pub tail : ℕ
+  pub durable : ℕ
+  pub room : HasRoom ring tail durable n
+  pub found : ℕ
+  pub greater : tail < found
+  pub becomes : Becomes old new (saw_tail found (looked tail durable (view_of old)))
+
+-- the seat looked, and by what it saw there is no room
+pub record HasRefused (old new : Seat) (ring n : ℕ) (refused : Refused) : Type 0 where
+  pub tail : ℕ
+  pub durable : ℕ
+  pub refuses : Refuses ring tail durable n refused
+  pub becomes : Becomes old new (looked tail durable (view_of old))
+
+-- the seat reserved the range, and has filled none of it
+abbrev pub HasReserved : Range → View → Type 0
+HasReserved range view = view.call ≡ Filling (empty_entry range.start range.size)
+
+-- the entry of these units
+abbrev pub entry_of : ℕ → List ℕ → Entry
+entry_of start units = record { start = start; size = length units; units = units; contents = record {} }
+
+-- an entry of the range with these units so far
+abbrev pub entry_in : Range → List ℕ → Entry
+entry_in range units = record { start = range.start; size = range.size; units = units; contents = record {} }
+
+-- the range is filled with these units, step by step
+abbrev pub with_units : Range → List ℕ → ℕ → View → View
+with_units range units steps view = record view { seen = record view.seen { steps = steps }; call = Filling (entry_in range units) }
+
+-- the seat has filled the range whole
+pub record HasFilled (range : Range) (view : View) : Type 0 where
+  pub units : List ℕ
+  pub call : view.call ≡ Filling (entry_in range units)
+  pub full : length units ≡ range.size
+
+-- it is the same worker's seat, and it has seen no less
+pub record IsSameWorker (old new : Seat) : Type 0 where
+  pub table_is : new.base.table_id ≡ old.base.table_id
+  pub number : new.base.id ≡ old.base.id
+  pub slots : new.base.me.1 ≡ old.base.me.1
+  pub worker : new.worker ≡ old.worker
+  pub constants : (view_of new).constants ≡ (view_of old).constants
+  pub standing : (view_of new).standing ≡ (view_of old).standing
+  pub contended : (view_of new).contended ≡ (view_of old).contended
+  pub grows : (view_of old).seen.tail ≤ (view_of new).seen.tail
+  pub steps : (view_of old).seen.steps ≤ (view_of new).seen.steps
+
+-- the seat has nothing under way, and these entries
+pub record HasEntries (old new : Seat) (entries : List Entry) : Type 0 where
+  pub same : IsSameWorker old new
+  pub idle : (view_of new).call ≡ Idle
+  pub entries_are : (view_of new).entries ≡ entries
+
+-- the refusal is by what the seat looked at last, in this call
+pub record IsRefusedNow (old new : Seat) (ring n : ℕ) (refused : Refused) : Type 0 where
+  pub refuses : Refuses ring (view_of new).seen.tail (view_of new).seen.durable n refused
+  pub looked : HasLooked (view_of new).seen
+  pub now : (view_of old).seen.steps < (view_of new).seen.tail_step

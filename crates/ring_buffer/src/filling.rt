@@ -1,0 +1,25 @@
+//! A range is filled.
+ghost use Rattle.std.specs.Prelude.{◌≡◌, ◌+◌, length};
+ghost use Rattle.log_table.specs.Seats.{IsOf, Becomes, view_of};
+ghost use Rattle.ring_buffer.specs.Calls.{HasReserved, with_units};
+
+use crate::call::{Filled, Range};
+use log_record::Units;
+use log_table::{LogTable, Seat};
+use lsn_space::Lsn;
+
+/// Copies the units into the ring. There are as many as the range has.
+pub fn fill(table: &LogTable, seat: &mut Seat, range: Range, units: &Units) -> Filled
+    requires seat { IsOf table.now seat.old }
+    requires range { HasReserved range (view_of seat.old) }
+    requires units { length units.now ≡ range.size }
+    ensures range { result.range ≡ range }
+    ensures becomes { Becomes seat.old seat.new (with_units range units.now ((view_of seat.old).seen.steps + range.size) (view_of seat.old)) }
+{
+    let list = units.as_slice();
+    for i in 0..list.len() {
+        let at = Lsn::new(range.start().units() + i as u32);
+        table.store_ring(seat, at, list[i]);
+    }
+    Filled { range }
+}

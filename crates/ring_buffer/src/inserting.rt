@@ -1,0 +1,49 @@
+//! A whole insert.
+ghost use Rattle.std.specs.Prelude.{◌≡◌, ◌++◌, ◌∷◌, ◌≤◌, [], length, IfOk, IfErr};
+ghost use Rattle.log_table.specs.Seats.{IsOf, view_of};
+ghost use Rattle.ring_buffer.specs.Calls.{IsReady, HasEntries, IsRefusedNow, entry_of};
+
+use crate::filling::fill;
+use crate::placing::{look, try_place};
+use crate::refused::Refused;
+use crate::releasing::finish_in_turn;
+use log_disk::{Gate, Place};
+use log_record::Units;
+use log_table::{LogTable, Seat};
+use lsn_space::Lsn;
+use std::sync::Wait;
+
+/// Inserts the units behind what other workers have reserved, and answers their LSN once they are
+/// released. It waits for those before it, and reserves again where another was faster.
+pub fn insert_alone<R: Wait, G: Gate>(
+    rt: &R,
+    table: &LogTable,
+    seat: &mut Seat,
+    units: &Units,
+    gate: &G,
+) -> Result<Lsn, Refused>
+    requires seat { IsOf table.now seat.old }
+    requires ready { IsReady (view_of seat.old) }
+    requires units { 1 ≤ length units.now }
+    ensures inserted { IfOk result (λ at. HasEntries seat.old seat.new ((view_of seat.old).entries ++ entry_of at units.now ∷ [])) }
+    ensures behind { IfOk result (λ at. (view_of seat.old).seen.tail ≤ at) }
+    ensures kept { IfErr result (λ e. HasEntries seat.old seat.new (view_of seat.old).entries) }
+    ensures refused { IfErr result (IsRefusedNow seat.old seat.new table.now.ring (length units.now)) }
+{
+    let n = units.as_slice().len() as u32;
+    for _ in rt.forever() {
+        let seen = look(table, seat);
+        gate.at(seat.worker(), Place::Looked);
+        let Some(range) = try_place(table, seat, seen, n)? else {
+            continue;
+        };
+        gate.at(seat.worker(), Place::Placed);
+        let at = range.start();
+        let filled = fill(table, seat, range, units);
+        gate.at(seat.worker(), Place::Filled);
+        finish_in_turn(rt, table, seat, filled);
+        gate.at(seat.worker(), Place::Exposed);
+        return Ok(at);
+    }
+    unreachable!()
+}

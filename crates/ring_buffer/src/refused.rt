@@ -1,0 +1,11 @@
+use lsn_space::Lsn;
+
+/// Why no range was reserved. The LSNs are those that the call looked at, and `total` is the number of
+/// units asked for.
+#[derive(Clone, Copy, Debug, PartialEq, Eq)]
+pub enum Refused {
+    /// The units would go past the ring's length above durable: once more is flushed, there is room.
+    RingFull { tail: Lsn, durable: Lsn, total: u32 },
+    /// The units would go past the greatest LSN: the log takes no such record any more.
+    LogEnd { tail: Lsn, total: u32 },
+}
