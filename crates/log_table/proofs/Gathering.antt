@@ -75,7 +75,7 @@ module _ (key : Start) (words : Words) (views : List View) (me : ℕ) (v : View)
     where
       by_role : (b : Bool) → is_worker z.standing.role ≡ b → is_worker z.standing.role ≡ false
       by_role false is = is
-      by_role true is = let pair = s.roles.pairs me v at j z there in absurd (true≢false (sym (may.all_merged z.standing.worker (pair.made may.flusher is)) ∙ pair.unmerged may.flusher is))
+      by_role true is = absurd (true≢false (sym (may.all_merged z.standing.worker ((s.roles.pairs me v at j z there).made may.flusher is)) ∙ (s.roles.pairs j z there me v at).unmerged is))
 
   idle : (j : ℕ) → (get_or views j nobody).call ≡ Idle
   idle = each_seat (λ _ z. z.call ≡ Idle) views (λ j z there. s.resting j z there (rests z.standing.role (no-worker j z there))) (λ _. refl)

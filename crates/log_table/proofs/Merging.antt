@@ -60,10 +60,10 @@ module _ (key : Start) (words : Words) (views : List View) (me other : ℕ) (v o
 
   pairs-without : Rattle.log_table.specs.Sound.EachPair (λ i y j z. HasSoundRoles i y.standing j z.standing) without
   pairs-without = pairs_move (λ i y j z. HasSoundRoles i y.standing j z.standing) views other o nobody there s.roles.pairs
-      record { apart = λ e. absurd (true≢false (sym e)); made = λ e. absurd (cc); unmerged = λ e. absurd (cc); known = λ e. absurd (cc); fresh = λ e. absurd (cc) }
+      record { apart = λ e. absurd (true≢false (sym e)); made = λ e. absurd (cc); enrolled = λ e. absurd (cc); merged = λ e. absurd (cc); fresh = λ e. absurd (cc); unmerged = λ e. absurd (true≢false (sym e)) }
       (λ j z differ here. (
-        record { apart = λ e. absurd (true≢false (sym e)); made = λ e. absurd (cc); unmerged = λ e. absurd (cc); known = λ e. absurd (cc); fresh = λ e. absurd (cc) },
-        record { apart = λ _ e. absurd (true≢false (sym e)); made = λ _ e. absurd (true≢false (sym e)); unmerged = λ _ e. absurd (true≢false (sym e)); known = λ _ q e. absurd (true≢false (sym e)); fresh = λ _. refl },
+        record { apart = λ e. absurd (true≢false (sym e)); made = λ e. absurd (cc); enrolled = λ e. absurd (cc); merged = λ e. absurd (cc); fresh = λ e. absurd (cc); unmerged = λ e. absurd (true≢false (sym e)) },
+        record { apart = λ _ e. absurd (true≢false (sym e)); made = λ _ e. absurd (true≢false (sym e)); enrolled = λ _ q e. absurd (true≢false (sym e)); merged = λ _ q e. absurd (true≢false (sym e)); fresh = λ _. refl; unmerged = λ _. refl },
       ))
 
   -- the worker's number is no other's
@@ -80,24 +80,36 @@ module _ (key : Start) (words : Words) (views : List View) (me other : ℕ) (v o
       (was j z here)
 
   known-made : (q : ℕ) → Knows q new.standing.enrolled → Knows q v.standing.made
-  known-made q knows = ⊎_elim (λ own. (s.roles.pairs me v at me v at).known may.flusher q own) (λ his. (s.roles.pairs me v at other o there).known may.flusher q his)
+  known-made q knows = ⊎_elim (λ own. (s.roles.pairs me v at me v at).enrolled may.flusher q own) (λ his. (s.roles.pairs me v at other o there).enrolled may.flusher q his)
       (or-cases _ _ (sym (list_any-append (eqb q) v.standing.enrolled o.standing.enrolled) ∙ knows))
 
   merged-made : (q : ℕ) → Knows q new.standing.merged → Knows q v.standing.made
   merged-made q knows = ⊎_elim
       (λ same. subst (λ n. Knows n v.standing.made) (sym (eqb-true q o.standing.worker same)) ((s.roles.pairs me v at other o there).made may.flusher worker))
-      (λ before. (s.roles.each me v at).merged may.flusher q before) (or-cases (eqb q o.standing.worker) _ knows)
+      (λ before. (s.roles.pairs me v at me v at).merged may.flusher q before) (or-cases (eqb q o.standing.worker) _ knows)
+
+  -- the flusher's seat is the first
+  not-flusher : {A : Type 0} (j : ℕ) (z : View) → j ≢ me → get_elem? without j ≡ some z → z.standing.role ≡ Flusher → A
+  not-flusher j z differ here f = absurd (differ (each-without (λ seat y. y.standing.role ≡ Flusher → seat ≡ 0) (λ i y h. (s.roles.each i y h).first)
+      (λ e. absurd (cc)) j z here f ∙ sym ((s.roles.each me v at).first may.flusher)))
 
   crew-merges : HasSoundCrew words.crew (set without me new)
   crew-merges = record {
     count = s.roles.count ∙ sym (same _ _ _ _ _ (count-set is_active_view views other o nobody there) (ap is_active may.ended) (count-set is_active_view without me v new at'));
-    each = each-merged (λ seat z. HasSoundRole seat z.standing) s.roles.each record { small = λ e. absurd (true≢false (sym e)); first = λ e. absurd (cc); merged = λ e. absurd (cc) }
-        record { small = (s.roles.each me v at).small; first = (s.roles.each me v at).first; merged = λ _ q knows. merged-made q knows };
+    each = each-merged (λ seat z. HasSoundRole seat z.standing) s.roles.each record { small = λ e. absurd (true≢false (sym e)); first = λ e. absurd (cc) }
+        record { small = (s.roles.each me v at).small; first = (s.roles.each me v at).first };
     pairs = pairs_move (λ i y j z. HasSoundRoles i y.standing j z.standing) without me v new at' pairs-without
-        record { apart = λ _ _ _. refl; made = λ _ w. boss w; unmerged = λ _ w. boss w; known = λ _ q knows. known-made q knows; fresh = λ f. boss (ap is_worker f) }
+        record { apart = λ _ _ _. refl; made = λ _ w. boss w; enrolled = λ _ q knows. known-made q knows; merged = λ _ q knows. merged-made q knows; fresh = λ f. boss (ap is_worker f); unmerged = λ w. boss w }
         (λ j z differ here. let to = pairs-without me v at' j z here in let by = pairs-without j z here me v at' in (
-          record { apart = λ w. boss w; made = to.made; unmerged = λ f w. or-false _ _ (others-number j z here w) (to.unmerged f w); known = to.known; fresh = λ f. boss (ap is_worker f) },
-          record { apart = λ _ w. boss w; made = λ _ w. boss w; unmerged = λ _ w. boss w; known = λ f q _. absurd (differ ((each-without (λ seat y. y.standing.role ≡ Flusher → seat ≡ 0) (λ i y h. (s.roles.each i y h).first) (λ e. absurd (cc)) j z here f) ∙ sym ((s.roles.each me v at).first may.flusher))); fresh = λ f. fresh-lacks j z here f },
+          record { apart = λ w. boss w; made = to.made; enrolled = to.enrolled; merged = to.merged; fresh = λ f. boss (ap is_worker f); unmerged = λ w. boss w },
+          record {
+            apart = λ _ w. boss w;
+            made = λ _ w. boss w;
+            enrolled = λ f _ _. not-flusher j z differ here f;
+            merged = λ f _ _. not-flusher j z differ here f;
+            fresh = λ f. fresh-lacks j z here f;
+            unmerged = λ w. or-false _ _ (others-number j z here w) (by.unmerged w);
+          },
         ));
   }
     where

@@ -35,8 +35,8 @@ module _ (key : Start) (words : Words) (least : 1024 ≤ key.ring) (most : key.r
     entries = alone (λ _ z. OwnsIfWorker z) (λ _. refl);
     roles = record {
       count = crew;
-      each = alone (λ seat z. HasSoundRole seat z.standing) record { small = λ e. absurd (true≢false (sym e)); first = λ _. refl; merged = λ _ q e. e };
-      pairs = alone _ (alone (λ j z. HasSoundRoles 0 (flusher key).standing j z.standing) record { apart = λ _ _ _. refl; made = λ _ e. absurd (true≢false (sym e)); unmerged = λ _ e. absurd (true≢false (sym e)); known = λ _ q e. e; fresh = λ e. absurd (cc) });
+      each = alone (λ seat z. HasSoundRole seat z.standing) record { small = λ e. absurd (true≢false (sym e)); first = λ _. refl };
+      pairs = alone _ (alone (λ j z. HasSoundRoles 0 (flusher key).standing j z.standing) record { apart = λ _ _ _. refl; made = λ _ e. absurd (true≢false (sym e)); enrolled = λ _ q e. e; merged = λ _ q e. e; fresh = λ e. absurd (cc); unmerged = λ e. absurd (true≢false (sym e)) });
     };
   }
     where
