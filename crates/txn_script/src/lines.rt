@@ -1,6 +1,6 @@
 //! A text, line by line.
 
-ghost use Rattle.std.specs.Prelude.{◌≡◌, ◌<◌, ◌∷◌, [], length, IfSome, IfNone};
+ghost use Rattle.std.specs.Prelude.{◌≡◌, ◌≢◌, ◌<◌, ◌≤◌, ◌∷◌, [], length, take, slice_index, All, IfSome, IfNone};
 ghost use Rattle.txn_script.specs.Lines.{lines};
 
 /// What ends a line.
@@ -15,8 +15,21 @@ pub fn take_line(bytes: &[u8]) -> Option<(&[u8], &[u8])>
     if bytes.is_empty() {
         return None;
     }
-    match bytes.iter().position(|byte| *byte == LF) {
-        Some(end) => Some((&bytes[..end], &bytes[end + 1..])),
-        None => Some((bytes, &[])),
+    let (line, rest) = bytes.split_at(line_len(bytes));
+    match rest {
+        [_, after @ ..] => Some((line, after)),
+        [] => Some((line, rest)),
     }
+}
+
+/// How many bytes stand before the first line feed; all of them where there is none.
+fn line_len(bytes: &[u8]) -> usize
+    ensures within { result ≤ length bytes.now }
+    ensures before { All (λ byte. byte ≢ LF) (take result bytes.now) }
+    ensures found { result < length bytes.now → slice_index bytes.now result ≡ LF }
+{
+    bytes
+        .iter()
+        .position(|byte| *byte == LF)
+        .unwrap_or(bytes.len())
 }

@@ -1,7 +1,8 @@
-ghost use Rattle.std.specs.Prelude.{◌≡◌, ◌≤◌, ◌<◌, ℕ, List, length, IfSome, IfNone, IfOk, IfErr};
+ghost use Rattle.std.specs.Prelude.{◌≡◌, ◌≤◌, ◌<◌, ◌+◌, ℕ, List, length, IfSome, IfNone, IfOk, IfErr};
 ghost use Rattle.log_record.specs.Spelling.{IsBalance};
 ghost use Rattle.lsn_space.specs.Number.{number_text};
 ghost use Rattle.txn_script.specs.Balances.{IsBalancesText, IsBalanceLine, IsFirstBadBalance, ReadsBalances, IsBalancesFault};
+ghost use Rattle.txn_script.specs.declared.fault.ParseFault.TheVariants.{Line};
 
 use crate::fault::ParseFault;
 use crate::lines::take_line;
@@ -57,6 +58,7 @@ pub fn balances_one_reading()
 
 /// The line behind those that were read.
 fn next_line(balances: &Balances) -> ParseFault
+    ensures { result ≡ Line (length balances.now.rows + 1) }
 {
     ParseFault::Line {
         line: balances.count() as u64 + 1,
