@@ -9,5 +9,6 @@ mod opening;
 mod tests;
 
 pub use fault::ParseFault;
+pub use lines::written_lines;
 pub use numerals::number;
 pub use opening::{balances, balances_one_reading};

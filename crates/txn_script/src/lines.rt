@@ -1,7 +1,7 @@
 //! A text, line by line.
 
-ghost use Rattle.std.specs.Prelude.{◌≡◌, ◌≢◌, ◌<◌, ◌≤◌, ◌∷◌, [], length, take, slice_index, All, IfSome, IfNone};
-ghost use Rattle.txn_script.specs.Lines.{lines};
+ghost use Rattle.std.specs.Prelude.{◌≡◌, ◌≢◌, ◌<◌, ◌≤◌, ◌∷◌, ◌++◌, [], ℕ, List, length, take, slice_index, All, IfSome, IfNone};
+ghost use Rattle.txn_script.specs.Lines.{lines, ended, IsOneLine};
 
 /// What ends a line.
 pub const LF: u8 = b'\n';
@@ -33,3 +33,10 @@ fn line_len(bytes: &[u8]) -> usize
         .position(|byte| *byte == LF)
         .unwrap_or(bytes.len())
 }
+
+/// A law: the lines of a text are what was written with a line feed behind each, which the last one may lack.
+pub fn written_lines()
+    ensures ended { (each : List (List ℕ)) → All IsOneLine each → lines (ended each) ≡ each }
+    ensures lacking { (each : List (List ℕ)) (last : List ℕ) → All IsOneLine each → IsOneLine last → 0 < length last
+        → lines (ended each ++ last) ≡ each ++ last ∷ [] }
+{}
