@@ -22,7 +22,7 @@ lines-first (suc zero) (byte ∷ []) some within before found = lines-other byte
 lines-first (suc (suc len)) (byte ∷ []) some within before found = absurd (omega arith)
 lines-first (suc len) (byte ∷ next ∷ bytes) some within before found =
     let rest = lines-first len (next ∷ bytes) (omega arith) (omega arith) (All-tail (λ b. b ≢ LF) byte (take len (next ∷ bytes)) before)
-        (λ below. found (omega arith)) in
+    (λ below. found (omega arith)) in
     lines-other byte (next ∷ bytes) (All-head (λ b. b ≢ LF) byte (take len (next ∷ bytes)) before) ∙ ap (onto_first byte) rest
 
 -- the same, where the text was found not to be empty and was split before its first line feed
