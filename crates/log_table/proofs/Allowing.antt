@@ -10,6 +10,7 @@ use Rattle.log_table.specs.declared.view.Role.TheVariants.{Fresh}
 use Rattle.log_table.specs.declared.view.View.{View}
 use Rattle.log_table.specs.Layout.{Tail, Exposed, Durable, Crew, Ring}
 use Rattle.log_table.specs.May.{IsAtRest, MayReserve, MayFill, MayRelease}
+use Rattle.log_table.specs.Sends.{IsExposedToFlusher, IsDurableToFlusher}
 use Rattle.log_table.specs.Sound.{Ruled}
 use Rattle.log_table.specs.Views.{saw_tail, saw_exposed, saw_durable, after_exchange, filled, released, enrolled, retired}
 use Rattle.log_table.proofs.Crewing.{enroll-adds, leave-subtracts}
@@ -27,16 +28,16 @@ module _ (key : Start) (slots seat : ℕ) (me : Me (Unit {0}) View) where
       (λ n. (me.0.seen.tail ≤ n) × (n ≤ LAST)) (tail-tells key seat me.0) (λ n _. tail-looks key seat me.0 n)
 
   pub load_exposed-allowed : Allows (Ruled key) slots seat me EXPOSED (λ n. n)
-      (λ n new. (new ≡ (saw_exposed n me.0, me.1)) × ((me.0.seen.exposed ≤ n) × (n ≤ LAST)))
+      (λ n new. (new ≡ (saw_exposed n me.0, me.1)) × ((me.0.seen.exposed ≤ n) × (n ≤ LAST) × IsExposedToFlusher me.0 n))
   load_exposed-allowed =
       allowed-if_step key slots seat me Exposed shared_exposed (λ n. n) (λ n. saw_exposed n me.0) (λ _. None)
-      (λ n. (me.0.seen.exposed ≤ n) × (n ≤ LAST)) (exposed-tells key seat me.0) (λ n _. exposed-looks key seat me.0 n)
+      (λ n. (me.0.seen.exposed ≤ n) × (n ≤ LAST) × IsExposedToFlusher me.0 n) (exposed-tells key seat me.0) (λ n _. exposed-looks key seat me.0 n)
 
   pub load_durable-allowed : Allows (Ruled key) slots seat me DURABLE (λ n. n)
-      (λ n new. (new ≡ (saw_durable n me.0, me.1)) × ((me.0.seen.durable ≤ n) × (n ≤ LAST)))
+      (λ n new. (new ≡ (saw_durable n me.0, me.1)) × ((me.0.seen.durable ≤ n) × (n ≤ LAST) × IsDurableToFlusher me.0 n))
   load_durable-allowed =
       allowed-if_step key slots seat me Durable shared_durable (λ n. n) (λ n. saw_durable n me.0) (λ _. None)
-      (λ n. (me.0.seen.durable ≤ n) × (n ≤ LAST)) (durable-tells key seat me.0) (λ n _. durable-looks key seat me.0 n)
+      (λ n. (me.0.seen.durable ≤ n) × (n ≤ LAST) × IsDurableToFlusher me.0 n) (durable-tells key seat me.0) (λ n _. durable-looks key seat me.0 n)
 
   pub exchange_tail-allowed : (from to : ℕ) → MayReserve from to me.0
       → Allows (Ruled key) slots seat me TAIL (λ n. either (eqb n from) to n)

@@ -1,4 +1,6 @@
+mod Agreeing
 mod Allowing
+mod Boundaries
 mod Crewing
 mod Filling
 mod Gathering

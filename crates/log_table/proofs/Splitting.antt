@@ -10,10 +10,10 @@ use Rattle.log_table.specs.declared.view.Role.TheVariants.{Flusher}
 use Rattle.log_table.specs.declared.view.View.{View}
 use Rattle.log_table.specs.Log.{Log, ranges_of}
 use Rattle.log_table.specs.May.{MaySplit}
-use Rattle.log_table.specs.Sound.{HasSeenBoundaries, HasWorkingOwner, HasConstants, RestsUnlessActive, OwnsIfWorker, HasSoundRole, HasSoundRoles, HasSoundCrew, IsSound, Knows, Lacks, Ruled, is_active_view}
+use Rattle.log_table.specs.Sound.{HasSeenBoundaries, SendsIfFlusher, StoresStop, RestsIfQuiet, LookedIfQuiet, HasWorkingOwner, HasConstants, RestsUnlessActive, OwnsIfWorker, HasSoundRole, HasSoundRoles, HasSoundCrew, IsSound, Knows, Lacks, Ruled, is_active_view}
 use Rattle.log_table.specs.Views.{is_worker, is_spent, nobody, hires, hired}
 use Rattle.log_table.specs.Words.{Words, words_of}
-use Rattle.log_table.proofs.Roles.{restands-sound}
+use Rattle.log_table.proofs.Roles.{quiet-moves, restands-sound}
 use Rattle.log_table.proofs.Viewing.{each_set, each_push, pairs_move, pairs_push, count-set}
 
 -- a seat that was not made counts as nobody's, before and after one like it is made
@@ -87,8 +87,10 @@ module _ (key : Start) (words : Words) (views : List View) (me : ℕ) (v : View)
       same k e = omega arith
 
   hired-sound : IsSound key words (set views me boss) log
-  hired-sound = restands-sound key words words.crew views me v boss log s at refl refl (s.seen me v at) (s.constants me v at) (s.resting me v at)
-      (s.entries me v at) crew-hires
+  hired-sound = restands-sound key words words.stop words.crew views me v boss log s at refl refl (s.seen me v at) (s.constants me v at)
+      (s.resting me v at) (s.entries me v at) crew-hires (s.sends me v at)
+      (each_set (λ _ z. StoresStop words.stop z) views me boss s.stops (s.stops me v at))
+      (quiet-moves views me v boss s.quiet at (λ _ _ _ _ _ q. absurd (true≢false (sym q))) (λ _ h. h)) (λ _ q. absurd (true≢false (sym q)))
 
   abbrev made : List View
   made = set views me boss
@@ -98,6 +100,13 @@ module _ (key : Start) (words : Words) (views : List View) (me : ℕ) (v : View)
   boss-knows j z there f = ⊎_elim
       (λ (t : (j ≡ me) × (boss ≡ z)). subst (λ (y : View). Knows n y.standing.made) t.1
       (ap (λ b. b || list_any (eqb n) v.standing.made) (eq-eqb n n refl)))
+      (λ (t : (j ≢ me) × (get_elem? views j ≡ some z)). absurd (t.0 ((s.roles.each j z t.1).first f ∙ sym first)))
+      (Rattle.atomic_table.proofs.Lists.at_set views me j boss z there)
+
+  -- and it is not quiet any more
+  boss-busy : (j : ℕ) (z : View) → get_elem? made j ≡ some z → z.standing.role ≡ Flusher → z.sending.quiet ≡ true → ⊥
+  boss-busy j z there f = ⊎_elim
+      (λ (t : (j ≡ me) × (boss ≡ z)). subst (λ (y : View). y.sending.quiet ≡ true → ⊥) t.1 (λ q. true≢false (sym q)))
       (λ (t : (j ≢ me) × (get_elem? views j ≡ some z)). absurd (t.0 ((s.roles.each j z t.1).first f ∙ sym first)))
       (Rattle.atomic_table.proofs.Lists.at_set views me j boss z there)
 
@@ -177,6 +186,13 @@ module _ (key : Start) (words : Words) (views : List View) (me : ℕ) (v : View)
     resting = each_push (λ _ z. RestsUnlessActive z) (λ _ z. RestsUnlessActive z) made worker hired-sound.resting (λ _. refl) (λ _ _ _ p. p);
     entries = each_push (λ _ z. OwnsIfWorker z) (λ _ z. OwnsIfWorker z) made worker hired-sound.entries (λ _. refl) (λ _ _ _ p. p);
     roles = crew-splits;
+    sends = each_push (λ _ z. SendsIfFlusher key.start words.exposed words.durable log z)
+        (λ _ z. SendsIfFlusher key.start words.exposed words.durable log z) made worker hired-sound.sends (λ f. absurd (cc)) (λ _ _ _ p. p);
+    stops = each_push (λ _ z. StoresStop words.stop z) (λ _ z. StoresStop words.stop z) made worker hired-sound.stops (λ f. absurd (cc)) (λ _ _ _ p. p);
+    quiet = pairs_push (λ _ y _ z. RestsIfQuiet y z) made worker hired-sound.quiet (λ f. absurd (cc))
+        (λ j z there. ((λ f. absurd (cc)), (λ f q. absurd (boss-busy j z there f q))));
+    looked = each_push (λ _ z. LookedIfQuiet words.exposed z) (λ _ z. LookedIfQuiet words.exposed z) made worker hired-sound.looked
+        (λ f. absurd (cc)) (λ _ _ _ p. p);
   }
 
 pub split-allowed : (key : Start) (seat : ℕ) (v : View) (n : ℕ) → MaySplit n v → n < 4294967296

@@ -10,7 +10,6 @@ use Rattle.log_table.specs.declared.table.Start.{Start}
 use Rattle.log_table.specs.declared.view.Call.TheVariants.{Idle}
 use Rattle.log_table.specs.declared.view.Role.TheVariants.{Flusher, Fresh}
 use Rattle.log_table.specs.declared.view.Seen.{Seen}
-use Rattle.log_table.specs.declared.view.Sending.{Sending}
 use Rattle.log_table.specs.declared.view.Standing.{Standing}
 use Rattle.log_table.specs.declared.view.View.{View}
 use Rattle.log_table.specs.Layout.{word_count}
@@ -65,19 +64,20 @@ pub record IsFilledBelowExposed (exposed : ℕ) (log : Log) : Type 0 where
   pub below : AllByRecursion (IsReleasedBelow exposed) log.parts
   pub ranges : AllByRecursion IsReleased (log.flushed ++ log.released)
 
--- What the flusher's seat sent is the log from the start to durable. What it read follows that, up to exposed at most as it loaded it
--- last, which is a boundary of reservations.
-pub record SendsInsertedUnits (start exposed durable : ℕ) (log : Log) (sending : Sending) : Type 0 where
-  pub sent_to : start + length sending.sent ≡ durable
-  pub read_to : durable + length sending.read ≤ sending.exposed
-  pub exposed_seen : sending.exposed ≤ exposed
-  pub boundary : IsRangeBoundary start (ranges_of log) sending.exposed
-  pub sent : AllByRecursion (AgreesFrom start sending.sent) log.parts
-  pub read : AllByRecursion (AgreesFrom durable sending.read) log.parts
+-- The units sent are the log from the start to durable. Those read follow them, up to exposed at most as it was loaded last, which is a
+-- boundary of reservations.
+pub record SendsInsertedUnits (start exposed durable : ℕ) (log : Log) (loaded : ℕ) (sent read : List ℕ) : Type 0 where
+  pub sent_to : start + length sent ≡ durable
+  pub read_to : durable + length read ≤ loaded
+  pub loaded_seen : loaded ≤ exposed
+  pub boundary : IsRangeBoundary start (ranges_of log) loaded
+  pub sent_agrees : AllByRecursion (AgreesFrom start sent) log.parts
+  pub read_agrees : AllByRecursion (AgreesFrom durable read) log.parts
 
 -- the flusher's seat alone sends, and stop is what it stored
 abbrev pub SendsIfFlusher : ℕ → ℕ → ℕ → Log → View → Type 0
-SendsIfFlusher start exposed durable log view = view.standing.role ≡ Flusher → SendsInsertedUnits start exposed durable log view.sending
+SendsIfFlusher start exposed durable log view =
+    view.standing.role ≡ Flusher → SendsInsertedUnits start exposed durable log view.sending.exposed view.sending.sent view.sending.read
 
 abbrev pub StoresStop : ℕ → View → Type 0
 StoresStop stop view = view.standing.role ≡ Flusher → view.sending.stop ≡ stop

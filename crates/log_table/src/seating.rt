@@ -73,9 +73,11 @@ impl LogTable {
         ensures new { IsOf self.now result }
         ensures view { view_of result ≡ noted (view_of seat.old) }
     {
-        let worker = seat.worker;
         let base = self.table.shared.split_seat::<MakeNote>(&mut seat.base);
-        Seat { base, worker }
+        Seat {
+            base,
+            worker: seat.worker,
+        }
     }
 
     /// The flusher's seat takes in the seat of a worker that has ended, or a note: the entries and the
