@@ -10,6 +10,7 @@ mod Looking
 mod Merging
 mod Owning
 mod Ranging
+mod Reading
 mod Releasing
 mod Renaming
 mod Reserving
@@ -17,5 +18,6 @@ mod Roles
 mod Showing
 mod Splitting
 mod Starting
+mod Stopping
 mod Viewing
 mod Wording

@@ -1,7 +1,8 @@
 -- Steps that change what their seat has seen, and nothing else: the loads, and an exchange that was lost.
-use Rattle.std.proofs.Common.{◌≡◌, ℕ, ◌+◌, ◌≤◌, true, List, length, set, None, sym, refl, ap, ◌∙◌, subst, le_refl, arith}
+use Rattle.std.proofs.Common.{◌≡◌, ℕ, ◌+◌, ◌/◌, ◌≤◌, true, List, length, set, None, sym, refl, ap, ◌∙◌, subst, le_refl, arith}
 use mathlib.Core.Option.{some}
 use lib.ListN.{get_elem?}
+use Rattle.lsn_space.specs.Tiling.{IsBoundary}
 use Rattle.lsn_space.specs.declared.lsn.TheConstants.{LAST}
 use Rattle.log_table.specs.declared.table.Start.{Start}
 use Rattle.log_table.specs.declared.view.Constants.{Constants}
@@ -10,15 +11,15 @@ use Rattle.log_table.specs.declared.view.Sending.{Sending}
 use Rattle.log_table.specs.declared.view.View.{View}
 use Rattle.log_table.specs.Events.{Leads, IsStep}
 use Rattle.log_table.specs.Layout.{Tail, Exposed, Durable, Stop}
-use Rattle.log_table.specs.Log.{Log, ranges_of, IsRangeBoundary}
+use Rattle.log_table.specs.Log.{Log, ranges_of, IsRangeBoundary, Tiles}
 use Rattle.log_table.specs.Sends.{IsExposedToFlusher, IsDurableToFlusher}
 use Rattle.log_table.specs.Sound.{EachView, HasSeenBoundaries, HasContiguousReservations, SendsIfFlusher, StoresStop, RestsIfQuiet, LookedIfQuiet, IsSound}
 use Rattle.log_table.specs.Views.{is_spent, seen_tail, seen_exposed, seen_durable, saw_tail, saw_exposed, saw_durable, saw_stop}
 use Rattle.log_table.specs.Words.{Words}
 use Rattle.log_table.proofs.Lifting.{Tells}
 use Rattle.log_table.proofs.Roles.{crew-same, quiet-moves, restands}
-use Rattle.log_table.proofs.Boundaries.{range_size, boundary-append, boundary-end, boundary-behind}
-use Rattle.log_table.proofs.Ranging.{tiles-le}
+use Rattle.log_table.proofs.Boundaries.{range_size, part_size, boundary-start, boundary-aligned, boundary-append, boundary-end, boundary-behind}
+use Rattle.log_table.proofs.Ranging.{tiles-le, tiles-append}
 use Rattle.log_table.proofs.Viewing.{each_set}
 
 -- durable, exposed and the tail are boundaries of reservations
@@ -32,6 +33,13 @@ module _ (start ring tail exposed durable : ℕ) (log : Log) (c : HasContiguousR
   pub tail-boundary : IsRangeBoundary start (ranges_of log) tail
   tail-boundary = boundary-behind _ _ _ _ log.flushed _ c.flushed
       (boundary-behind _ _ _ _ log.released _ c.released (boundary-end _ _ _ log.unreleased c.unreleased))
+
+  all-tile : Tiles (ring / 4) start (ranges_of log) tail
+  all-tile = tiles-append _ _ _ _ log.flushed _ c.flushed (tiles-append _ _ _ _ log.released log.unreleased c.released c.unreleased)
+
+  -- each boundary of reservations is one of the parts
+  pub part-boundary : (at : ℕ) → IsRangeBoundary start (ranges_of log) at → IsBoundary part_size start log.parts at
+  part-boundary at b = boundary-aligned _ start start tail at log.parts (ranges_of log) all-tile c.aligned (boundary-start part_size start log.parts) b
 
 -- the seat sees a word, or its part in the sending changes
 pub looks : (key : Start) (words : Words) (stop : ℕ) (views : List View) (me : ℕ) (v : View) (log : Log) (seen : Seen) (sending : Sending)
