@@ -1,5 +1,5 @@
 -- Where ranges or parts that follow one another begin or end.
-use Rattle.std.proofs.Common.{◌≡◌, ◌⊎◌, inl, inr, ⊎_elim, ℕ, ◌+◌, ◌≤◌, List, [], ◌∷◌, ◌++◌, sym, refl, subst, arith}
+use Rattle.std.proofs.Common.{◌≡◌, ◌⊎◌, inl, inr, ⊎_elim, ℕ, ◌+◌, ◌≤◌, List, [], ◌∷◌, ◌++◌, sym, refl, ap, ◌∙◌, subst, arith}
 use Rattle.std.specs.List.{AllByRecursion}
 use Rattle.lsn_space.specs.Tiling.{IsBoundary}
 use Rattle.log_table.specs.declared.view.Entry.{Entry}
@@ -62,3 +62,42 @@ pub boundary-entries : (seat start at : ℕ) (entries : List Entry) (flag : Ratt
     → IsBoundary part_size start (parts_of seat flag entries) at → IsEntryBoundary start entries at
 boundary-entries seat start at [] flag b = b
 boundary-entries seat start at (e ∷ es) flag b = ⊎_elim (λ here. inl here) (λ later. inr (boundary-entries seat (start + e.size) at es flag later)) b
+
+-- a boundary not before a tiling's end is one of what follows, and one not behind it is one of the tiling
+pub boundary-later : (most start from at : ℕ) (xs ys : List Range) → Tiles most start xs from → IsRangeBoundary start (xs ++ ys) at → from ≤ at
+    → IsRangeBoundary from ys at
+boundary-later most start from at [] ys t b le = subst (λ n. IsRangeBoundary n ys at) t b
+boundary-later most start from at (x ∷ xs) ys t b le = ⊎_elim
+    (λ (here : at ≡ start). absurd (omega (arith, here, le, t.1, boundary-least range_size (start + x.size) from xs (boundary-end most (start + x.size) from xs t.3))))
+    (λ later. boundary-later most (start + x.size) from at xs ys t.3 later le) b
+
+pub boundary-sooner : (most from to at : ℕ) (xs ys : List Range) → Tiles most from xs to → IsRangeBoundary from (xs ++ ys) at → at ≤ to
+    → IsRangeBoundary from xs at
+boundary-sooner most from to at [] ys t b le = omega (arith, le, t, boundary-least range_size from at ys b)
+boundary-sooner most from to at (x ∷ xs) ys t b le = ⊎_elim (λ here. inl here)
+    (λ later. inr (boundary-sooner most (from + x.size) to at xs ys t.3 later le)) b
+
+-- a tiling in two, at a boundary
+pub record Cut (most from at to : ℕ) (ranges : List Range) : Type 0 where
+  pub before : List Range
+  pub behind : List Range
+  pub split : ranges ≡ before ++ behind
+  pub first : Tiles most from before at
+  pub second : Tiles most at behind to
+
+pub cut-at : (most from at to : ℕ) (ranges : List Range) → Tiles most from ranges to → IsRangeBoundary from ranges at → Cut most from at to ranges
+cut-at most from at to [] t b = record { before = []; behind = []; split = refl; first = sym b; second = b ∙ t }
+cut-at most from at to (r ∷ rs) t b = ⊎_elim (λ (here : at ≡ from). none here)
+    (λ later. more (cut-at most (from + r.size) at to rs t.3 later)) b
+  where
+    none : at ≡ from → Cut most from at to (r ∷ rs)
+    none here = record { before = []; behind = r ∷ rs; split = refl; first = sym here; second = subst (λ n. Tiles most n (r ∷ rs) to) (sym here) t }
+
+    more : Cut most (from + r.size) at to rs → Cut most from at to (r ∷ rs)
+    more c = record {
+      before = r ∷ c.before;
+      behind = c.behind;
+      split = ap (λ l. r ∷ l) c.split;
+      first = (t.0, t.1, t.2, c.first);
+      second = c.second;
+    }

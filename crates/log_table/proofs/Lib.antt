@@ -3,6 +3,7 @@ mod Allowing
 mod Boundaries
 mod Crewing
 mod Filling
+mod Flushing
 mod Gathering
 mod Lifting
 mod Lists
