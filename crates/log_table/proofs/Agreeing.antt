@@ -11,8 +11,7 @@ use Rattle.log_table.specs.declared.view.Entry.{Entry}
 use Rattle.log_table.specs.Log.{Part, Laid, IsFull, AgreesFrom, parts_of, units_in}
 use Rattle.log_table.specs.Sends.{AreEntries}
 use Rattle.log_table.proofs.Boundaries.{part_size, boundary-start, boundary-least}
-use Rattle.log_table.proofs.Lists.{all-weaker, all-both}
-use Rattle.log_table.proofs.Ranging.{laid-le}
+use Rattle.log_table.proofs.Lists.{all-weaker}
 
 -- the units sent and those read behind them are one list
 pub agrees-append : (start : ℕ) (sent read : List ℕ) (p : Part) → AgreesFrom start sent p → AgreesFrom (start + length sent) read p
@@ -32,7 +31,7 @@ pub agrees-push : (base : ℕ) (units : List ℕ) (unit : ℕ) (p : Part) → Ag
     → AgreesFrom base (units ++ unit ∷ []) p
 agrees-push base units unit p old last i lt lo hi =
     let below : p.entry.start + i < base + (length units + 1) =
-        subst (λ (n : ℕ). p.entry.start + i < base + n) (length-append units (unit ∷ [])) hi in
+    subst (λ (n : ℕ). p.entry.start + i < base + n) (length-append units (unit ∷ [])) hi in
     dite (dec_lt (p.entry.start + i) (base + length units))
     (λ yes'. get_or-append units (unit ∷ []) 0 (p.entry.start + i - base) (omega arith) ∙ old i lt lo yes')
     (λ no'. let here : p.entry.start + i ≡ base + length units = omega arith in
@@ -80,7 +79,7 @@ entries-from start to from until (p ∷ ps) units laid a b size full agrees = �
     (λ (here : from ≡ start). ⊎_elim
     (λ (end : until ≡ start). none here end)
     (λ (later : IsBoundary part_size (start + p.entry.size) ps until). some' here later
-        (λ from' us a' size' agrees'. entries-from (start + p.entry.size) to from' until ps us laid.2 a' later size' full.1 agrees')) b)
+    (λ from' us a' size' agrees'. entries-from (start + p.entry.size) to from' until ps us laid.2 a' later size' full.1 agrees')) b)
     (λ (behind : IsBoundary part_size (start + p.entry.size) ps from). ⊎_elim
     (λ (end : until ≡ start). absurd (omega (arith, end, size, laid.1, boundary-least part_size (start + p.entry.size) from ps behind)))
     (λ (later : IsBoundary part_size (start + p.entry.size) ps until).
@@ -97,17 +96,17 @@ entries-from start to from until (p ∷ ps) units laid a b size full agrees = �
 
     some' : from ≡ start → IsBoundary part_size (start + p.entry.size) ps until
         → ((from' : ℕ) (us : List ℕ) → IsBoundary part_size (start + p.entry.size) ps from' → from' + length us ≡ until
-            → AllByRecursion (AgreesFrom from' us) ps → AreEntries from' until us)
+        → AllByRecursion (AgreesFrom from' us) ps → AreEntries from' until us)
         → AreEntries from until units
     some' here later go =
         let end = boundary-least part_size (start + p.entry.size) until ps later in
         let is : IsFull p.entry = full.0 (omega (arith, laid.0, laid.1, end)) in
         let fits : p.entry.size ≤ length units = omega (arith, here, end, size) in
         let rest = go (from + p.entry.size) (drop p.entry.size units)
-            (subst (λ n. IsBoundary part_size (start + p.entry.size) ps (n + p.entry.size)) (sym here)
-            (boundary-start part_size (start + p.entry.size) ps)) (omega (arith, length-drop p.entry.size units, fits, size))
-            (all-weaker (AgreesFrom from units) (AgreesFrom (from + p.entry.size) (drop p.entry.size units)) ps
-            (λ q. rest-agrees from p.entry.size units q fits) agrees.1) in record {
+        (subst (λ n. IsBoundary part_size (start + p.entry.size) ps (n + p.entry.size)) (sym here)
+        (boundary-start part_size (start + p.entry.size) ps)) (omega (arith, length-drop p.entry.size units, fits, size))
+        (all-weaker (AgreesFrom from units) (AgreesFrom (from + p.entry.size) (drop p.entry.size units)) ps
+        (λ q. rest-agrees from p.entry.size units q fits) agrees.1) in record {
           entries = p.entry ∷ rest.entries;
           tiles = (laid.0 ∙ sym here, rest.tiles);
           some_units = (laid.1, rest.some_units);
@@ -138,17 +137,21 @@ pub record IsFront (units whole : List ℕ) : Type 0 where
 
 pub front : (start to : ℕ) (parts : List Part) (units : List ℕ) → Laid start parts to → AllByRecursion (λ (p : Part). IsFull p.entry) parts
     → AllByRecursion (AgreesFrom start units) parts → start + length units ≤ to → IsFront units (joined parts)
-front start to [] units laid full agrees fits = record { ahead = []; is = sym (ap (λ l. l ++ []) (nil_from_length units (omega (arith, laid, fits)))) }
-front start to (p ∷ ps) units laid full agrees fits = elim (dec_le p.entry.size (length units)) [ yes le ↦ longer le
-        (λ us agrees' fits'. front (start + p.entry.size) to ps us laid.2 full.1 agrees' fits') | no gt ↦ within (omega arith) ]
+front start to [] units laid full agrees fits =
+    record { ahead = []; is = sym (ap (λ l. l ++ []) (nil_from_length units (omega (arith, laid, fits)))) }
+front start to (p ∷ ps) units laid full agrees fits = elim (dec_le p.entry.size (length units)) [
+  | yes le ↦ longer le
+      (λ us agrees' fits'. front (start + p.entry.size) to ps us laid.2 full.1 agrees' fits')
+  | no gt ↦ within (omega arith)
+]
   where
     longer : p.entry.size ≤ length units
         → ((us : List ℕ) → AllByRecursion (AgreesFrom (start + p.entry.size) us) ps → start + p.entry.size + length us ≤ to → IsFront us (joined ps))
         → IsFront units (p.entry.units ++ joined ps)
     longer le go =
         let rest = go (drop p.entry.size units)
-            (all-weaker (AgreesFrom start units) (AgreesFrom (start + p.entry.size) (drop p.entry.size units)) ps
-            (λ q. rest-agrees start p.entry.size units q le) agrees.1) (omega (arith, length-drop p.entry.size units, le, fits)) in record {
+        (all-weaker (AgreesFrom start units) (AgreesFrom (start + p.entry.size) (drop p.entry.size units)) ps
+        (λ q. rest-agrees start p.entry.size units q le) agrees.1) (omega (arith, length-drop p.entry.size units, le, fits)) in record {
           ahead = rest.ahead;
           is = (λ i. sym (first-units start units p agrees.0 full.0 laid.0 le) i ++ rest.is i)
               ∙ (sym (append_assoc (take p.entry.size units) (drop p.entry.size units) rest.ahead)
@@ -160,11 +163,11 @@ front start to (p ∷ ps) units laid full agrees fits = elim (dec_le p.entry.siz
         let count = length units in
         let long : count ≤ length p.entry.units = omega (arith, full.0, le) in
         let same : take count p.entry.units ≡ units =
-            ext_get_or 0 (take count p.entry.units) units (length-take-le count p.entry.units long)
-            (λ i lt. let below : i < count = subst (λ (n : ℕ). i < n) (length-take-le count p.entry.units long) lt in
-            get_or-take count p.entry.units i 0 below
-            ∙ (sym (agrees.0 i (omega (arith, below, long)) (omega (arith, laid.0)) (omega (arith, laid.0, below)))
-            ∙ ap (λ k. get_or units k 0) (at-here i))) in record {
+        ext_get_or 0 (take count p.entry.units) units (length-take-le count p.entry.units long)
+        (λ i lt. let below : i < count = subst (λ (n : ℕ). i < n) (length-take-le count p.entry.units long) lt in
+        get_or-take count p.entry.units i 0 below
+        ∙ (sym (agrees.0 i (omega (arith, below, long)) (omega (arith, laid.0)) (omega (arith, laid.0, below)))
+        ∙ ap (λ k. get_or units k 0) (at-here i))) in record {
           ahead = drop count p.entry.units ++ joined ps;
           is = ap (λ l. l ++ joined ps) (sym (take-append-drop count p.entry.units) ∙ ap (λ l. l ++ drop count p.entry.units) same)
               ∙ append_assoc units (drop count p.entry.units) (joined ps);

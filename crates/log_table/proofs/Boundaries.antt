@@ -55,7 +55,7 @@ boundary-aligned most start from to at parts [] t ends here b = subst (IsBoundar
 boundary-aligned most start from to at parts (r ∷ rs) t ends here b = ⊎_elim
     (λ same. subst (IsBoundary part_size start parts) (sym same) here)
     (λ later. boundary-aligned most start (from + r.size) to at parts rs t.3 ends.1
-        (subst (λ n. IsBoundary part_size start parts (n + r.size)) t.0 ends.0) later) b
+    (subst (λ n. IsBoundary part_size start parts (n + r.size)) t.0 ends.0) later) b
 
 -- and of the entries that the parts are of
 pub boundary-entries : (seat start at : ℕ) (entries : List Entry) (flag : Rattle.std.proofs.Common.Bool)
@@ -68,7 +68,8 @@ pub boundary-later : (most start from at : ℕ) (xs ys : List Range) → Tiles m
     → IsRangeBoundary from ys at
 boundary-later most start from at [] ys t b le = subst (λ n. IsRangeBoundary n ys at) t b
 boundary-later most start from at (x ∷ xs) ys t b le = ⊎_elim
-    (λ (here : at ≡ start). absurd (omega (arith, here, le, t.1, boundary-least range_size (start + x.size) from xs (boundary-end most (start + x.size) from xs t.3))))
+    (λ (here : at ≡ start). absurd
+    (omega (arith, here, le, t.1, boundary-least range_size (start + x.size) from xs (boundary-end most (start + x.size) from xs t.3))))
     (λ later. boundary-later most (start + x.size) from at xs ys t.3 later le) b
 
 pub boundary-sooner : (most from to at : ℕ) (xs ys : List Range) → Tiles most from xs to → IsRangeBoundary from (xs ++ ys) at → at ≤ to

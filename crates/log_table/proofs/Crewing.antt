@@ -129,7 +129,8 @@ enrolls key words views me v log s at fresh =
           ));
     }
     (λ f. absurd (cc)) (each_set (λ _ z. StoresStop words.stop z) views me (enrolled v) s.stops (λ f. absurd (cc)))
-    (quiet-moves views me v (enrolled v) s.quiet at (λ _ _ _ _ f. absurd (cc)) (λ z h f q. absurd (true≢false (sym (ap is_working fresh) ∙ h f q)))) (λ f. absurd (cc))
+    (quiet-moves views me v (enrolled v) s.quiet at (λ _ _ _ _ f. absurd (cc))
+    (λ z h f q. absurd (true≢false (sym (ap is_working fresh) ∙ h f q)))) (λ f. absurd (cc))
   where
     worker : is_worker v.standing.role ≡ true
     worker = ap is_worker fresh
@@ -198,7 +199,8 @@ module _ (key : Start) (me : ℕ) (v : View) where
   pub leave-step : IsAtRest v → (n : ℕ) → IsStep key me Crew n (n - 1) v (retired v) None
   leave-step may n = record {
     leads = λ words views log s at is. subst
-        (λ x. Leads key words (record words { crew = x - 1 }) views (set views me (retired v)) log None) is (leaves key words views me v log s at may);
+        (λ x. Leads key words (record words { crew = x - 1 }) views (set views me (retired v)) log None) is
+        (leaves key words views me v log s at may);
   }
 
   -- the machine's sum and difference of words are those of numbers

@@ -12,16 +12,16 @@ use Rattle.log_table.specs.declared.view.Role.TheVariants.{Flusher}
 use Rattle.log_table.specs.declared.view.View.{View}
 use Rattle.log_table.specs.Events.{reservation_of, IsStep, Leads}
 use Rattle.log_table.specs.Layout.{Durable}
-use Rattle.log_table.specs.Log.{Part, Range, Log, ranges_of, parts_of, Tiles, StandsInRing, AgreesFrom, EndsWithPart, IsReleased, IsRangeBoundary}
+use Rattle.log_table.specs.Log.{Part, Log, ranges_of, StandsInRing, AgreesFrom, EndsWithPart, IsReleased, IsRangeBoundary}
 use Rattle.log_table.specs.May.{MaySend}
 use Rattle.log_table.specs.Sound.{HasSeenBoundaries, HasContiguousReservations, SendsInsertedUnits, SendsIfFlusher, StoresStop, LookedIfQuiet, HasWorkingOwner, HasConstants, RestsUnlessActive, OwnsIfWorker, IsSound}
-use Rattle.log_table.specs.Views.{is_spent, sent_to, has_sent}
+use Rattle.log_table.specs.Views.{is_spent, has_sent}
 use Rattle.log_table.specs.Words.{Words}
 use Rattle.log_table.proofs.Agreeing.{agrees-append}
 use Rattle.log_table.proofs.Boundaries.{Cut, part_size, boundary-later, boundary-sooner, cut-at}
 use Rattle.log_table.proofs.Lists.{all-both, all-weaker}
 use Rattle.log_table.proofs.Looking.{part-boundary}
-use Rattle.log_table.proofs.Ranging.{tiles-append, tiles-le}
+use Rattle.log_table.proofs.Ranging.{tiles-append}
 use Rattle.log_table.proofs.Roles.{crew-same, quiet-moves, sole-flusher}
 use Rattle.log_table.proofs.Showing.{hands_of-set_same}
 use Rattle.log_table.proofs.Viewing.{each_moves, each_set, seats_set, seat_at}
@@ -91,7 +91,8 @@ module _ (key : Start) (words : Words) (views : List View) (me : ℕ) (v : View)
         (AgreesFrom key.start (v.sending.sent ++ v.sending.read)) log.parts
         (λ p first second. agrees-append key.start v.sending.sent v.sending.read p first
         (subst (λ n. AgreesFrom n v.sending.read p) (sym sends.sent_to) second)) sends.sent_agrees sends.read_agrees;
-    read_agrees = all-weaker (AgreesFrom key.start v.sending.sent) (AgreesFrom to []) log.parts (λ p _ i _ lo hi. absurd (omega (arith, lo, hi))) sends.sent_agrees;
+    read_agrees = all-weaker (AgreesFrom key.start v.sending.sent) (AgreesFrom to []) log.parts
+        (λ p _ i _ lo hi. absurd (omega (arith, lo, hi))) sends.sent_agrees;
   }
 
   sound : IsSound key (record words { durable = to }) (set views me new) after
@@ -125,7 +126,8 @@ module _ (key : Start) (words : Words) (views : List View) (me : ℕ) (v : View)
     below = record {
       full = s.below.full;
       below = s.below.below;
-      ranges = subst (AllByRecursion IsReleased) (ap (λ l. log.flushed ++ l) cut.split ∙ sym (append_assoc log.flushed cut.before cut.behind)) s.below.ranges;
+      ranges = subst (AllByRecursion IsReleased)
+          (ap (λ l. log.flushed ++ l) cut.split ∙ sym (append_assoc log.flushed cut.before cut.behind)) s.below.ranges;
     };
     at_work = s.at_work;
     owners = seats_set (HasWorkingOwner log.parts log.unreleased) views me v new at s.owners

@@ -155,14 +155,16 @@ module _ (key : Start) (words : Words) (views : List View) (me : ℕ) (v : View)
   all-sent : IsDrained v → joined mine ≡ v.sending.sent
   all-sent d =
       let end : key.start + length v.sending.sent ≡ words.tail =
-          omega (arith, start-is, d.all, s.looked me v at may.flusher d.quiet d.looked, all_released) in
+      omega (arith, start-is, d.all, s.looked me v at may.flusher d.quiet d.looked, all_released) in
       front-whole v.sending.sent (joined mine)
-      (front key.start words.tail mine v.sending.sent laid full (all-mine (AgreesFrom key.start v.sending.sent) sends.sent_agrees) (omega (arith, end)))
+      (front key.start words.tail mine v.sending.sent laid full (all-mine (AgreesFrom key.start v.sending.sent) sends.sent_agrees)
+      (omega (arith, end)))
       (omega (arith, end, joined-length key.start words.tail mine laid full))
 
   seen-between : (x : ℕ) → IsRangeBoundary key.start (ranges_of log) x → IsEntryBoundary v.constants.start v.entries x
   seen-between x b = subst (λ n. IsEntryBoundary n v.entries x) (sym start-is)
-      (boundary-entries me key.start x v.entries true (subst (λ l. IsBoundary part_size key.start l x) parts-are (part-boundary _ _ _ _ _ log s.contiguous x b)))
+      (boundary-entries me key.start x v.entries true
+      (subst (λ l. IsBoundary part_size key.start l x) parts-are (part-boundary _ _ _ _ _ log s.contiguous x b)))
 
   pub gathers : IsGathered words.tail v
   gathers = record {

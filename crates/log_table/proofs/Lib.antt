@@ -1,3 +1,4 @@
+mod Adding
 mod Agreeing
 mod Allowing
 mod Boundaries
@@ -9,6 +10,7 @@ mod Lifting
 mod Lists
 mod Looking
 mod Merging
+mod Noting
 mod Owning
 mod Ranging
 mod Reading

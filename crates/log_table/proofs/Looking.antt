@@ -28,7 +28,8 @@ module _ (start ring tail exposed durable : ℕ) (log : Log) (c : HasContiguousR
   durable-boundary = boundary-append range_size _ _ log.flushed _ (boundary-end _ _ _ log.flushed c.flushed)
 
   pub exposed-boundary : IsRangeBoundary start (ranges_of log) exposed
-  exposed-boundary = boundary-behind _ _ _ _ log.flushed _ c.flushed (boundary-append range_size _ _ log.released _ (boundary-end _ _ _ log.released c.released))
+  exposed-boundary = boundary-behind _ _ _ _ log.flushed _ c.flushed
+      (boundary-append range_size _ _ log.released _ (boundary-end _ _ _ log.released c.released))
 
   pub tail-boundary : IsRangeBoundary start (ranges_of log) tail
   tail-boundary = boundary-behind _ _ _ _ log.flushed _ c.flushed
@@ -39,7 +40,8 @@ module _ (start ring tail exposed durable : ℕ) (log : Log) (c : HasContiguousR
 
   -- each boundary of reservations is one of the parts
   pub part-boundary : (at : ℕ) → IsRangeBoundary start (ranges_of log) at → IsBoundary part_size start log.parts at
-  part-boundary at b = boundary-aligned _ start start tail at log.parts (ranges_of log) all-tile c.aligned (boundary-start part_size start log.parts) b
+  part-boundary at b = boundary-aligned _ start start tail at log.parts (ranges_of log) all-tile c.aligned
+      (boundary-start part_size start log.parts) b
 
 -- the seat sees a word, or its part in the sending changes
 pub looks : (key : Start) (words : Words) (stop : ℕ) (views : List View) (me : ℕ) (v : View) (log : Log) (seen : Seen) (sending : Sending)
@@ -52,7 +54,8 @@ pub looks : (key : Start) (words : Words) (stop : ℕ) (views : List View) (me :
     → Leads key words (record words { stop = stop }) views (set views me (record v { seen = seen; sending = sending })) log None
 looks key words stop views me v log seen sending s at sees sends stops quiet looked =
     restands key words stop words.crew views me v (record v { seen = seen; sending = sending }) log s at refl refl sees (s.constants me v at)
-    (s.resting me v at) (s.entries me v at) (crew-same words.crew views me v (record v { seen = seen; sending = sending }) s.roles at refl) sends stops
+    (s.resting me v at) (s.entries me v at)
+    (crew-same words.crew views me v (record v { seen = seen; sending = sending }) s.roles at refl) sends stops
     (quiet-moves views me v (record v { seen = seen; sending = sending }) s.quiet at quiet (λ _ h. h)) looked
 
 -- the seat sees a word
@@ -93,7 +96,8 @@ module _ (key : Start) (me : ℕ) (v : View) where
           boundary = boundary;
           sent_agrees = sends.sent_agrees;
           read_agrees = sends.read_agrees;
-        }) (each_set (λ _ z. StoresStop words.stop z) views me (saw_exposed words.exposed v) s.stops (s.stops me v at)) (λ _ _ _ h. h) (λ _ _ _. refl));
+        }) (each_set (λ _ z. StoresStop words.stop z) views me (saw_exposed words.exposed v) s.stops (s.stops me v at)) (λ _ _ _ h. h)
+        (λ _ _ _. refl));
   }
 
   pub durable-looks : (n : ℕ) → IsStep key me Durable n n v (saw_durable n v) None

@@ -1,5 +1,5 @@
 -- The flusher's seat reads the next unit from the ring.
-use Rattle.std.proofs.Common.{◌≡◌, ℕ, ◌==◌, ◌+◌, ◌%◌, ◌<◌, ◌≤◌, cond, List, [], ◌∷◌, ◌++◌, length, get_or, set, None, sym, refl, ap, ◌∙◌, subst, arith, length-append, eqb-true, Bool, true, false}
+use Rattle.std.proofs.Common.{◌≡◌, ℕ, ◌==◌, ◌+◌, ◌%◌, ◌<◌, cond, List, [], ◌∷◌, ◌++◌, length, set, None, sym, refl, ap, ◌∙◌, subst, arith, length-append, eqb-true, Bool, true, false}
 use Rattle.std.specs.List.{AllByRecursion}
 use mathlib.Core.Option.{some}
 use lib.ListN.{get_elem?}
@@ -11,14 +11,13 @@ use Rattle.log_table.specs.Layout.{Ring}
 use Rattle.log_table.specs.Log.{Part, Log, AgreesFrom, StandsInRing, IsFull, IsFullIfReleased, IsReleasedBelow}
 use Rattle.log_table.specs.May.{MayRead}
 use Rattle.log_table.specs.Sends.{AreEntries, ReadsWholeEntries}
-use Rattle.log_table.specs.Sound.{EachView, StoresStop, SendsInsertedUnits, IsSound}
-use Rattle.log_table.specs.Views.{is_spent, counted, has_read, sent_to, read_to}
+use Rattle.log_table.specs.Sound.{StoresStop, SendsInsertedUnits, IsSound}
+use Rattle.log_table.specs.Views.{is_spent, counted, has_read, sent_to}
 use Rattle.log_table.specs.Words.{Words, put}
 use Rattle.log_table.proofs.Agreeing.{agrees-push, entries-from}
 use Rattle.log_table.proofs.Lifting.{Tells}
 use Rattle.log_table.proofs.Lists.{all-both}
 use Rattle.log_table.proofs.Looking.{looks, durable-boundary, part-boundary}
-use Rattle.log_table.proofs.Ranging.{tiles-le}
 use Rattle.log_table.proofs.Viewing.{each_set}
 
 -- what stands at a place, put there again, changes nothing

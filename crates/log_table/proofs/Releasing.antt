@@ -159,7 +159,7 @@ module _ (key : Start) (words : Words) (views : List View) (me : ℕ) (v : View)
   aligned : AllByRecursion (EndsWithPart key.start after.parts) (ranges_of after)
   aligned =
       let old = subst (AllByRecursion (EndsWithPart key.start after.parts)) were
-          (all-weaker (EndsWithPart key.start log.parts) (EndsWithPart key.start after.parts) (ranges_of log) ends s.contiguous.aligned) in
+      (all-weaker (EndsWithPart key.start log.parts) (EndsWithPart key.start after.parts) (ranges_of log) ends s.contiguous.aligned) in
       subst (AllByRecursion (EndsWithPart key.start after.parts)) are (all-mid (EndsWithPart key.start after.parts) (log.flushed ++ log.released)
       rest range now (all-at (EndsWithPart key.start after.parts) (log.flushed ++ log.released) rest range old) old)
 

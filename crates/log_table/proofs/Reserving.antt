@@ -120,7 +120,8 @@ module _ (key : Start) (words : Words) (views : List View) (me : ℕ) (v : View)
     loaded_seen = o.loaded_seen;
     boundary = still z.sending.exposed o.boundary;
     sent_agrees = all-append (AgreesFrom key.start z.sending.sent) log.parts (part ∷ []) o.sent_agrees ((λ i below _ _. absurd (omega arith)), tt);
-    read_agrees = all-append (AgreesFrom words.durable z.sending.read) log.parts (part ∷ []) o.read_agrees ((λ i below _ _. absurd (omega arith)), tt);
+    read_agrees = all-append (AgreesFrom words.durable z.sending.read) log.parts (part ∷ []) o.read_agrees
+        ((λ i below _ _. absurd (omega arith)), tt);
   }
 
   sound : IsSound key (record words { tail = to }) (set views me new) after

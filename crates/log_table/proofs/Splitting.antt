@@ -1,5 +1,5 @@
 -- The flusher's seat makes a worker.
-use Rattle.std.proofs.Common.{◌≡◌, ◌≢◌, ◌⊎◌, inl, inr, ⊎_elim, ℕ, zero, suc, eqb, ◌||◌, ◌+◌, ◌<◌, cond, Bool, true, false, true≢false, List, [], ◌∷◌, ◌++◌, length, get_or, set, sym, refl, ap, ◌∙◌, subst, arith, length-set, eq-eqb, ne_eqb, eqb-true}
+use Rattle.std.proofs.Common.{◌≡◌, ◌≢◌, ⊎_elim, ℕ, eqb, ◌||◌, ◌+◌, ◌<◌, cond, Bool, true, false, true≢false, List, [], ◌∷◌, ◌++◌, set, sym, refl, ap, ◌∙◌, subst, arith, eq-eqb}
 use Rattle.std.specs.List.{list_any}
 use Rattle.std.proofs.lemmas.List.Sums.{sum_by_push}
 use mathlib.Core.Option.{some}
@@ -8,25 +8,14 @@ use Rattle.atomic_table.specs.Table.{Splits}
 use Rattle.log_table.specs.declared.table.Start.{Start}
 use Rattle.log_table.specs.declared.view.Role.TheVariants.{Flusher}
 use Rattle.log_table.specs.declared.view.View.{View}
-use Rattle.log_table.specs.Log.{Log, ranges_of}
+use Rattle.log_table.specs.Log.{Log}
 use Rattle.log_table.specs.May.{MaySplit}
-use Rattle.log_table.specs.Sound.{HasSeenBoundaries, SendsIfFlusher, StoresStop, RestsIfQuiet, LookedIfQuiet, HasWorkingOwner, HasConstants, RestsUnlessActive, OwnsIfWorker, HasSoundRole, HasSoundRoles, HasSoundCrew, IsSound, Knows, Lacks, Ruled, is_active_view}
-use Rattle.log_table.specs.Views.{is_worker, is_spent, nobody, hires, hired}
+use Rattle.log_table.specs.Sound.{StoresStop, RestsIfQuiet, HasSoundRole, HasSoundRoles, HasSoundCrew, IsSound, Knows, Lacks, Ruled, is_active_view}
+use Rattle.log_table.specs.Views.{is_worker, is_spent, hires, hired}
 use Rattle.log_table.specs.Words.{Words, words_of}
+use Rattle.log_table.proofs.Adding.{adds}
 use Rattle.log_table.proofs.Roles.{quiet-moves, restands-sound}
 use Rattle.log_table.proofs.Viewing.{each_set, each_push, pairs_move, pairs_push, count-set}
-
--- a seat that was not made counts as nobody's, before and after one like it is made
-nobody-more : (views : List View) (new : View) (P : ℕ → View → Type 0) (j : ℕ) → P (length views) new → P j (get_or views j nobody)
-    → P j (get_or (views ++ new ∷ []) j nobody)
-nobody-more [] new P zero fresh p = fresh
-nobody-more [] new P (suc j) fresh p = p
-nobody-more (x ∷ xs) new P zero fresh p = p
-nobody-more (x ∷ xs) new P (suc j) fresh p = nobody-more xs new (λ k. P (suc k)) j fresh p
-
-nobody-there : (views : List View) → get_or views (length views) nobody ≡ nobody
-nobody-there [] = refl
-nobody-there (x ∷ xs) = nobody-there xs
 
 pub or-right : (a b : Bool) → b ≡ true → (a || b) ≡ true
 or-right true b e = refl
@@ -167,33 +156,11 @@ module _ (key : Start) (words : Words) (views : List View) (me : ℕ) (v : View)
       none k = omega arith
 
   pub splits : IsSound key words (made ++ worker ∷ []) log
-  splits = record {
-    ordered = s.ordered;
-    seen = each_push (λ _ z. HasSeenBoundaries key.start words.tail words.exposed words.durable (ranges_of log) z.seen)
-        (λ _ z. HasSeenBoundaries key.start words.tail words.exposed words.durable (ranges_of log) z.seen) made worker hired-sound.seen
-        (let old = s.seen me v at in
-        record { tail_seen = old.tail_seen; exposed_seen = old.exposed_seen; durable_seen = old.durable_seen; boundaries = old.boundaries })
-        (λ _ _ _ p. p);
-    contiguous = s.contiguous;
-    filled = s.filled;
-    below = s.below;
-    at_work = s.at_work;
-    owners = λ j. nobody-more made worker (HasWorkingOwner log.parts log.unreleased) j
-        (let none = subst (HasWorkingOwner log.parts log.unreleased (length made)) (nobody-there made) (hired-sound.owners (length made)) in
-        record { owns = none.owns; owes = none.owes }) (hired-sound.owners j);
-    constants = each_push (λ _ z. HasConstants key z) (λ _ z. HasConstants key z) made worker hired-sound.constants
-        (λ _. s.constants me v at (ap is_spent may.flusher)) (λ _ _ _ p. p);
-    resting = each_push (λ _ z. RestsUnlessActive z) (λ _ z. RestsUnlessActive z) made worker hired-sound.resting (λ _. refl) (λ _ _ _ p. p);
-    entries = each_push (λ _ z. OwnsIfWorker z) (λ _ z. OwnsIfWorker z) made worker hired-sound.entries (λ _. refl) (λ _ _ _ p. p);
-    roles = crew-splits;
-    sends = each_push (λ _ z. SendsIfFlusher key.start words.exposed words.durable log z)
-        (λ _ z. SendsIfFlusher key.start words.exposed words.durable log z) made worker hired-sound.sends (λ f. absurd (cc)) (λ _ _ _ p. p);
-    stops = each_push (λ _ z. StoresStop words.stop z) (λ _ z. StoresStop words.stop z) made worker hired-sound.stops (λ f. absurd (cc)) (λ _ _ _ p. p);
-    quiet = pairs_push (λ _ y _ z. RestsIfQuiet y z) made worker hired-sound.quiet (λ f. absurd (cc))
-        (λ j z there. ((λ f. absurd (cc)), (λ f q. absurd (boss-busy j z there f q))));
-    looked = each_push (λ _ z. LookedIfQuiet words.exposed z) (λ _ z. LookedIfQuiet words.exposed z) made worker hired-sound.looked
-        (λ f. absurd (cc)) (λ _ _ _ p. p);
-  }
+  splits = adds key words made log hired-sound worker refl refl (λ f. absurd (cc))
+      (let old = s.seen me v at in
+      record { tail_seen = old.tail_seen; exposed_seen = old.exposed_seen; durable_seen = old.durable_seen; boundaries = old.boundaries })
+      (λ _. s.constants me v at (ap is_spent may.flusher)) crew-splits (pairs_push (λ _ y _ z. RestsIfQuiet y z) made worker hired-sound.quiet
+      (λ f. absurd (cc)) (λ j z there. ((λ f. absurd (cc)), (λ f q. absurd (boss-busy j z there f q)))))
 
 pub split-allowed : (key : Start) (seat : ℕ) (v : View) (n : ℕ) → MaySplit n v → n < 4294967296
     → Splits {S = Unit {0}} (Ruled key) seat v (hires n v) (hired n v)

@@ -12,7 +12,7 @@ use Rattle.log_table.specs.declared.view.View.{View}
 use Rattle.log_table.specs.Events.{IsStep, Leads}
 use Rattle.log_table.specs.Layout.{Stop, Crew}
 use Rattle.log_table.specs.Log.{Log}
-use Rattle.log_table.specs.Sound.{EachView, StoresStop, RestsIfQuiet, HasSoundCrew, IsSound, Knows, Lacks, is_active_view}
+use Rattle.log_table.specs.Sound.{EachView, StoresStop, IsSound, Knows, is_active_view}
 use Rattle.log_table.specs.Views.{is_active, is_working, counted, knows_all_enrolled, has_stopped, saw_crew}
 use Rattle.log_table.specs.Words.{Words}
 use Rattle.log_table.proofs.Looking.{looks}
@@ -36,7 +36,8 @@ none-counted test (x ∷ xs) none (Rattle.std.proofs.Common.suc j) z there =
     none-counted test xs (omega (arith, none, sum_by-cons (λ (y : View). cond (test y) 1 0) x xs)) j z there
 
 -- who is made is known as enrolled, where all are
-enrolled-if_made : (enrolled made : List ℕ) (n : ℕ) → list_all (λ worker. list_any (eqb worker) enrolled) made ≡ true → Knows n made → Knows n enrolled
+enrolled-if_made : (enrolled made : List ℕ) (n : ℕ) → list_all (λ worker. list_any (eqb worker) enrolled) made ≡ true → Knows n made
+    → Knows n enrolled
 enrolled-if_made enrolled [] n all knows = absurd (true≢false (sym knows))
 enrolled-if_made enrolled (m ∷ ms) n all knows =
     let both = both-true (list_any (eqb m) enrolled) _ all in by_test (eqb n m) refl knows both.0 (enrolled-if_made enrolled ms n both.1)
@@ -71,7 +72,7 @@ module _ (key : Start) (me : ℕ) (v : View) where
       fresh : z.standing.role ≡ Fresh → ⊥
       fresh is =
           let made : Knows z.standing.worker v.standing.made =
-              (s.roles.pairs me v at j z there).made flusher (ap Rattle.log_table.specs.Views.is_worker is) in
+          (s.roles.pairs me v at j z there).made flusher (ap Rattle.log_table.specs.Views.is_worker is) in
           true≢false (sym (enrolled-if_made v.standing.enrolled v.standing.made z.standing.worker all made)
           ∙ (s.roles.pairs j z there me v at).fresh is)
 

@@ -37,8 +37,6 @@ impl LogTable {
         ensures event { IsStep (key_of self.now) (number_of seat.old) (Ring (at % self.now.ring)) result result (view_of seat.old) (has_read result (view_of seat.old)) None }
     {
         let index = RING + place(at, self.ring);
-        self.table
-            .shared
-            .load::<LoadRing>(&mut seat.base, index)
+        self.table.shared.load::<LoadRing>(&mut seat.base, index)
     }
 }
