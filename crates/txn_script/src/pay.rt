@@ -79,18 +79,25 @@ fn take_leg(bytes: &[u8], accounts: u32) -> Option<((u32, u32, u32), &[u8])>
     let (from, rest) = take_number(bytes)?;
     let (to, rest) = take_number(rest)?;
     let (amount, rest) = take_number(rest)?;
-    let knows_both = from < accounts && to < accounts;
-    let may_move = amount >= 1 && amount <= MOST_AMOUNT;
-    if knows_both && from != to && may_move {
-        Some(((from, to, amount), rest))
+    let leg = (from, to, amount);
+    if is_allowed(leg, accounts) {
+        Some((leg, rest))
     } else {
         None
     }
 }
 
+fn is_allowed(leg: (u32, u32, u32), accounts: u32) -> bool
+    ensures { IsTrue result ↔ IsAllowedLeg accounts leg }
+{
+    let (from, to, amount) = leg;
+    from < accounts && to < accounts && from != to && amount >= 1 && amount <= MOST_AMOUNT
+}
+
 /// The number that the bytes begin with, behind a space, and what follows it.
 fn take_number(bytes: &[u8]) -> Option<(u32, &[u8])>
     ensures text { IfSome result (λ taken. bytes.now ≡ spaced taken.0 ++ taken.1.now) }
+    ensures fits { IfSome result (λ taken. taken.0 < 2 ^ 32) }
     ensures whole { IfSome result (λ taken. EndsNumber taken.1.now) }
     ensures none { IfNone result ((n : ℕ) (rest : List ℕ) → n < 2 ^ 32 → EndsNumber rest → bytes.now ≡ spaced n ++ rest → ⊥) }
 {
