@@ -1,5 +1,6 @@
 -- The parts of a transfer's line can be told apart in one way.
 use Rattle.std.proofs.Common.{◌≡◌, ◌<◌, ◌≤◌, ◌^◌, ◌∙◌, sym, refl, ap, subst, ℕ, List, [], ◌∷◌, ◌++◌, append_assoc, append-nil, zero, suc, length, length-append, take, drop, take-append-drop, slice_index, get_or, arith, All, Option, Some, None}
+use Rattle.std.specs.List.{AllByRecursion}
 use Rattle.std.specs.Str.Parse.{AllDigits}
 use Rattle.std.proofs.lemmas.List.Elements.{All-nil, All-cons, All-head, All-tail}
 use Rattle.std.proofs.lemmas.Str.Parse.{digit_from_value}
@@ -48,7 +49,7 @@ pub number-whole : (m n : ℕ) (x y : List ℕ) → m < 2 ^ 32 → n < 2 ^ 32 �
     → spaced m ++ x ≡ spaced n ++ y → (m ≡ n) × (x ≡ y)
 number-whole m n x y small_m small_n end_x end_y same =
     let both = digits-whole (number_text m) (number_text n) x y (number-digits m small_m) (number-digits n small_n) end_x end_y
-        (ap (drop 1) same) in
+    (ap (drop 1) same) in
     (decimal_injective m n (omega arith) (omega arith) both.0, both.1)
 
 pub space-ends : IsDigit SPACE → ⊥
@@ -58,6 +59,10 @@ space-ends digit = omega (arith, digit.0)
 pub leg-parts : (leg : ℕ × ℕ × ℕ) (rest : List ℕ) → leg_text leg ++ rest ≡ spaced leg.0 ++ (spaced leg.1 ++ (spaced leg.2 ++ rest))
 leg-parts leg rest =
     append_assoc (spaced leg.0 ++ spaced leg.1) (spaced leg.2) rest ∙ append_assoc (spaced leg.0) (spaced leg.1) (spaced leg.2 ++ rest)
+
+pub all-push : {X : Type 0} (P : X → Type 0) (xs : List X) (x : X) → AllByRecursion P xs → P x → AllByRecursion P (xs ++ x ∷ [])
+all-push P [] x all p = (p, tt)
+all-push P (first ∷ xs) x all p = (all.0, all-push P xs x all.1 p)
 
 -- one leg more was read
 pub more-text : (bytes rest after : List ℕ) (legs : List (ℕ × ℕ × ℕ)) (leg : ℕ × ℕ × ℕ) → bytes ≡ legs_text legs ++ rest
@@ -89,7 +94,7 @@ module _ (accounts : ℕ) (few : accounts < 2 ^ 32) where
       → leg_text l ++ x ≡ leg_text m ++ y → (l ≡ m) × (x ≡ y)
   leg-whole l m x y allowed_l allowed_m end_x end_y same =
       let payer = reads-payer m y allowed_m end_y (leg_text l ++ x) (spaced l.1 ++ (spaced l.2 ++ x)) l.0 (omega (arith, allowed_l.payer))
-          space-ends (leg-parts l x) same in
+      space-ends (leg-parts l x) same in
       let payee = reads-payee m y allowed_m end_y (spaced l.1 ++ (spaced l.2 ++ x)) (spaced l.2 ++ x) l.1 (omega (arith, allowed_l.payee)) space-ends refl payer.1 in
       let amount = reads-amount m y allowed_m end_y (spaced l.2 ++ x) x l.2 (omega (arith, allowed_l.most)) end_x refl payee.1 in
       ((λ i. (payer.0 i, payee.0 i, amount.0 i)), amount.1)
@@ -108,41 +113,46 @@ module _ (accounts : ℕ) (few : accounts < 2 ^ 32) where
   legs-end (leg ∷ legs) rest end = space-ends
 
   -- some of the legs of a line were read: the others follow
-  pub legs-front : (ls ms : List (ℕ × ℕ × ℕ)) (x y : List ℕ) → All (IsAllowedLeg accounts) ls → All (IsAllowedLeg accounts) ms
+  pub legs-front : (ls ms : List (ℕ × ℕ × ℕ)) (x y : List ℕ) → AllByRecursion (IsAllowedLeg accounts) ls → AllByRecursion (IsAllowedLeg accounts) ms
       → (0 < length ls → EndsNumber x) → EndsLegs y → legs_text ls ++ x ≡ legs_text ms ++ y
-      → (more : List (ℕ × ℕ × ℕ)) × (ms ≡ ls ++ more) × All (IsAllowedLeg accounts) more × (x ≡ legs_text more ++ y)
+      → (more : List (ℕ × ℕ × ℕ)) × (ms ≡ ls ++ more) × AllByRecursion (IsAllowedLeg accounts) more × (x ≡ legs_text more ++ y)
   legs-front [] ms x y all_l all_m end ends same = (ms, refl, all_m, same)
   legs-front (l ∷ ls) [] x y all_l all_m end ends same =
       absurd (ends.leg (subst BeginsLeg (sym (append_assoc (leg_text l) (legs_text ls) x) ∙ same)
-      (leg-begins l (legs_text ls ++ x) (All-head (IsAllowedLeg accounts) l ls all_l))))
+      (leg-begins l (legs_text ls ++ x) all_l.0)))
   legs-front (l ∷ ls) (m ∷ ms) x y all_l all_m end ends same =
-      let first = leg-whole l m (legs_text ls ++ x) (legs_text ms ++ y) (All-head (IsAllowedLeg accounts) l ls all_l)
-          (All-head (IsAllowedLeg accounts) m ms all_m) (legs-end ls x (end (omega arith))) (legs-end ms y ends.number)
-          (sym (append_assoc (leg_text l) (legs_text ls) x) ∙ same ∙ append_assoc (leg_text m) (legs_text ms) y) in
-      let others = legs-front ls ms x y (All-tail (IsAllowedLeg accounts) l ls all_l) (All-tail (IsAllowedLeg accounts) m ms all_m)
-          (λ some. end (omega arith)) ends first.1 in
+      let first = leg-whole l m (legs_text ls ++ x) (legs_text ms ++ y) all_l.0
+      all_m.0 (legs-end ls x (end (omega arith))) (legs-end ms y ends.number)
+      (sym (append_assoc (leg_text l) (legs_text ls) x) ∙ same ∙ append_assoc (leg_text m) (legs_text ms) y) in
+      let others = legs-front ls ms x y all_l.1 all_m.1
+      (λ some. end (omega arith)) ends first.1 in
       (others.0, (λ i. sym first.0 i ∷ others.1 i), others.2, others.3)
 
   -- where one more leg comes next, it is one of the line's
-  pub next-leg : (ls ms : List (ℕ × ℕ × ℕ)) (x y : List ℕ) → All (IsAllowedLeg accounts) ls → All (IsAllowedLeg accounts) ms
+  pub next-leg : (ls ms : List (ℕ × ℕ × ℕ)) (x y : List ℕ) → AllByRecursion (IsAllowedLeg accounts) ls → AllByRecursion (IsAllowedLeg accounts) ms
       → (0 < length ls → EndsNumber x) → EndsLegs y → legs_text ls ++ x ≡ legs_text ms ++ y → BeginsLeg x
       → (leg : ℕ × ℕ × ℕ) × (rest : List ℕ) × IsAllowedLeg accounts leg × EndsNumber rest × (x ≡ leg_text leg ++ rest) × (length ls < length ms)
   next-leg ls ms x y all_l all_m end ends same begun =
       let front = legs-front ls ms x y all_l all_m end ends same in
       from_front front.0 front.1 front.2 front.3
     where
-      from_front : (more : List (ℕ × ℕ × ℕ)) → ms ≡ ls ++ more → All (IsAllowedLeg accounts) more → x ≡ legs_text more ++ y
+      from_front : (more : List (ℕ × ℕ × ℕ)) → ms ≡ ls ++ more → AllByRecursion (IsAllowedLeg accounts) more → x ≡ legs_text more ++ y
           → (leg : ℕ × ℕ × ℕ) × (rest : List ℕ) × IsAllowedLeg accounts leg × EndsNumber rest × (x ≡ leg_text leg ++ rest) × (length ls < length ms)
       from_front [] all allowed is = absurd (ends.leg (subst BeginsLeg is begun))
-      from_front (leg ∷ more) all allowed is =
-          (leg, legs_text more ++ y, All-head (IsAllowedLeg accounts) leg more allowed, legs-end more y ends.number,
-          is ∙ append_assoc (leg_text leg) (legs_text more) y, omega (arith, ap length all, length-append ls (leg ∷ more)))
+      from_front (leg ∷ more) all allowed is = (
+        leg,
+        legs_text more ++ y,
+        allowed.0,
+        legs-end more y ends.number,
+        is ∙ append_assoc (leg_text leg) (legs_text more) y,
+        omega (arith, ap length all, length-append ls (leg ∷ more)),
+      )
 
   pub legs-begin : (legs : List (ℕ × ℕ × ℕ)) (rest : List ℕ) → AreAllowedLegs accounts legs → BeginsLeg (legs_text legs ++ rest)
   legs-begin [] rest allowed = absurd (omega (arith, allowed.some))
   legs-begin (leg ∷ legs) rest allowed =
       subst BeginsLeg (sym (append_assoc (leg_text leg) (legs_text legs) rest))
-      (leg-begins leg (legs_text legs ++ rest) (All-head (IsAllowedLeg accounts) leg legs allowed.each))
+      (leg-begins leg (legs_text legs ++ rest) allowed.each.0)
 
   -- the legs of a line are told apart in one way
   pub legs-whole : (ls ms : List (ℕ × ℕ × ℕ)) (x y : List ℕ) → AreAllowedLegs accounts ls → AreAllowedLegs accounts ms
@@ -151,11 +161,11 @@ module _ (accounts : ℕ) (few : accounts < 2 ^ 32) where
       let front = legs-front ls ms x y allowed_l.each allowed_m.each (λ some. ends_x.number) ends_y same in
       from_front front.0 front.1 front.2 front.3
     where
-      from_front : (more : List (ℕ × ℕ × ℕ)) → ms ≡ ls ++ more → All (IsAllowedLeg accounts) more → x ≡ legs_text more ++ y → (ls ≡ ms) × (x ≡ y)
+      from_front : (more : List (ℕ × ℕ × ℕ)) → ms ≡ ls ++ more → AllByRecursion (IsAllowedLeg accounts) more → x ≡ legs_text more ++ y → (ls ≡ ms) × (x ≡ y)
       from_front [] all allowed is = (sym (append-nil ls) ∙ sym all, is)
       from_front (leg ∷ more) all allowed is =
           absurd (ends_x.leg (subst BeginsLeg (sym (is ∙ append_assoc (leg_text leg) (legs_text more) y))
-          (leg-begins leg (legs_text more ++ y) (All-head (IsAllowedLeg accounts) leg more allowed))))
+          (leg-begins leg (legs_text more ++ y) allowed.0)))
 
   pub note-ends : (note : Option (List ℕ)) → EndsLegs (note_text note)
   note-ends None = record { number = tt; leg = λ begun. begun }
@@ -171,6 +181,6 @@ module _ (accounts : ℕ) (few : accounts < 2 ^ 32) where
   pub job-same : (j k : Job) → IsAllowedJob accounts j → IsAllowedJob accounts k → job_text j ≡ job_text k → j ≡ k
   job-same j k allowed_j allowed_k same =
       let parts = legs-whole j.legs k.legs (note_text j.note) (note_text k.note) allowed_j.legs allowed_k.legs
-          (note-ends j.note) (note-ends k.note) (ap (drop 3) same) in
+      (note-ends j.note) (note-ends k.note) (ap (drop 3) same) in
       let note = note-same j.note k.note parts.1 in
       λ i. record { legs = parts.0 i; note = note i }

@@ -52,9 +52,9 @@ each-same accounts few [] (k ∷ ks) allowed_j allowed_k same = absurd (omega (a
 each-same accounts few (j ∷ js) [] allowed_j allowed_k same = absurd (omega (arith, ap length same))
 each-same accounts few (j ∷ js) (k ∷ ks) allowed_j allowed_k same =
     let head : j ≡ k = job-same accounts few j k (All-head (IsAllowedJob accounts) j js allowed_j) (All-head (IsAllowedJob accounts) k ks allowed_k)
-        (ap (λ ls. get_or ls 0 []) same) in
+    (ap (λ ls. get_or ls 0 []) same) in
     let tail : js ≡ ks = each-same accounts few js ks (All-tail (IsAllowedJob accounts) j js allowed_j) (All-tail (IsAllowedJob accounts) k ks allowed_k)
-        (ap (drop 1) same) in
+    (ap (drop 1) same) in
     λ i. head i ∷ tail i
 
 pub jobs-same : (accounts : ℕ) (bytes : List ℕ) (js ks : List Job) → accounts < 2 ^ 32 → IsScriptText accounts bytes js
@@ -75,7 +75,7 @@ first-same P (d ∷ ds) (e ∷ es) a b x y all_a all_b not_a not_b same =
 pub bad_line-same : (accounts : ℕ) (bytes : List ℕ) (a b : ℕ) → IsFirstBadLine accounts bytes a → IsFirstBadLine accounts bytes b → a ≡ b
 bad_line-same accounts bytes a b of_a of_b =
     let before = first-same (IsScriptLine accounts) of_a.before of_b.before of_a.line of_b.line of_a.rest of_b.rest of_a.each of_b.each
-        of_a.bad of_b.bad (sym of_a.text ∙ of_b.text) in
+    of_a.bad of_b.bad (sym of_a.text ∙ of_b.text) in
     omega (arith, of_a.at, of_b.at, before)
 
 -- where all lines have a property, each one has it

@@ -1,9 +1,10 @@
 -- The script language: each line is empty or a transfer.
 use Rattle.std.specs.Prelude.{◌≡◌, ◌≢◌, ◌<◌, ◌≤◌, ◌==◌, ℕ, ◌+◌, Option, Some, None, IfSome, List, [], ◌∷◌, ◌++◌, ◌⊎◌, codes, length, map, filter, not, All}
-use Rattle.std.specs.List.{flat_map}
+use Rattle.std.specs.List.{flat_map, AllByRecursion}
 use Rattle.lsn_space.specs.Number.{number_text}
 use Rattle.log_record.specs.Spelling.{IsNoteText}
 use Rattle.txn_script.specs.Lines.{lines}
+use Rattle.txn_script.specs.declared.job.TheConstants.{MOST_LEGS}
 use Rattle.txn_script.specs.declared.job.Job.{Job}
 use Rattle.txn_script.specs.declared.pay.TheConstants.{SPACE, MOST_AMOUNT}
 use Rattle.txn_script.specs.declared.fault.ParseFault.{ParseFault}
@@ -40,8 +41,8 @@ pub record IsAllowedLeg (accounts : ℕ) (leg : ℕ × ℕ × ℕ) : Type 0 wher
 -- 1 to 8 such legs
 pub record AreAllowedLegs (accounts : ℕ) (legs : List (ℕ × ℕ × ℕ)) : Type 0 where
   pub some : 1 ≤ length legs
-  pub few : length legs ≤ 8
-  pub each : All (IsAllowedLeg accounts) legs
+  pub few : length legs ≤ MOST_LEGS
+  pub each : AllByRecursion (IsAllowedLeg accounts) legs
 
 -- a transfer that a log of so many accounts allows
 pub record IsAllowedJob (accounts : ℕ) (job : Job) : Type 0 where

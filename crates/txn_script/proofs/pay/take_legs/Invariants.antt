@@ -1,4 +1,5 @@
-use Rattle.std.proofs.Common.{◌≡◌, ◌<◌, ◌≤◌, ◌++◌, length, All}
+use Rattle.std.proofs.Common.{◌≡◌, ◌<◌, ◌≤◌, ◌++◌, length}
+use Rattle.std.specs.List.{AllByRecursion}
 use Rattle.txn_script.specs.Reading.{EndsNumber}
 use Rattle.txn_script.specs.Script.{legs_text, IsAllowedLeg}
 use Rattle.txn_script.proofs.pay.take_legs.Given as goal
@@ -6,7 +7,7 @@ use Rattle.txn_script.proofs.pay.take_legs.Given as goal
 abbrev pub invariant-legs : goal.invariant-legs
 invariant-legs l = record {
   few : length l.legs ≤ 8;
-  each : All (IsAllowedLeg l.accounts) l.legs;
+  each : AllByRecursion (IsAllowedLeg l.accounts) l.legs;
   whole : 0 < length l.legs → EndsNumber l.rest;
   text : l.bytes ≡ legs_text l.legs ++ l.rest;
 }
