@@ -1,0 +1,21 @@
+ghost use Rattle.std.specs.Prelude.{◌≡◌};
+ghost use Rattle.txn_script.specs.declared.fault.ParseFault.TheVariants as fault;
+
+use lsn_space::NoMemory as Refused;
+
+/// Why a text wasn't read.
+#[derive(Clone, Copy, Debug, PartialEq, Eq)]
+pub enum ParseFault {
+    /// The first line outside the grammar, counted from 1.
+    Line { line: u64 },
+
+    NoMemory,
+}
+
+impl From<Refused> for ParseFault {
+    ghost from_gives = { λ _ f. f ≡ fault.NoMemory };
+
+    fn from(_: Refused) -> Self {
+        ParseFault::NoMemory
+    }
+}
