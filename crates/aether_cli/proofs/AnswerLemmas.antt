@@ -7,11 +7,7 @@ use Rattle.log_recovery.specs.Recovery.{Recovers}
 use Rattle.log_recovery.specs.Text.{rows_text}
 use Rattle.log_recovery.proofs.TextLemmas.{rows_text-shown}
 use Rattle.aether_cli.specs.declared.report.Detail.TheVariants.{Fine, Write}
-use Rattle.aether_cli.specs.Answers.{AnswersRecover}
-
--- what was read is all that was left
-abbrev pub ReadsAll : Option (List ℕ) → Option (List ℕ) → List ℕ → Type 0
-ReadsAll left left_new bytes = IfSome left (λ all. (bytes ≡ all) × (left_new ≡ Some []))
+use Rattle.aether_cli.specs.Answers.{AnswersRecover, ReadsAll}
 
 pub answers-fine : (left left_new old new : Option (List ℕ)) (bytes : List ℕ) (r : Recovered) → ReadsAll left left_new bytes → Recovers r bytes
     → Appends old new (rows_text r.lsn r.accounts.rows) → IfSome left (λ all. AnswersRecover all left_new old new Fine)

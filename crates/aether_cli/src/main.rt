@@ -3,7 +3,10 @@
 
 mod command;
 mod faults;
+mod finding;
+mod genesis;
 mod input;
+mod new_command;
 mod recover_command;
 mod report;
 #[cfg(test)]
@@ -12,7 +15,7 @@ mod top;
 
 use command::words_of;
 use faults::put_fault;
-use log_disk::{StdSink, StdSource};
+use log_disk::{FileDisk, StdSink, StdSource};
 use report::Report;
 use std::process::ExitCode;
 use top::aether;
@@ -22,7 +25,8 @@ fn main(rt: HostRuntime) -> ExitCode {
         Ok(words) => {
             let mut script = StdSource::make(rt.stdin());
             let mut out = StdSink::make(rt.stdout());
-            aether(&rt, rt.alloc(), words.as_slice(), &mut script, &mut out)
+            let mut disk = FileDisk::make(rt);
+            aether(&rt, rt.alloc(), words.as_slice(), &mut disk, &mut script, &mut out)
         }
         Err(detail) => Report::of(detail),
     };
