@@ -2,6 +2,7 @@
 use Rattle.std.proofs.Common.{◌≡◌, ℕ, ◌+◌, ◌*◌, ◌≤◌, ◌<◌, zero, suc, Some, take, slice_get, List, [], ◌∷◌, ◌++◌, length, map, All, refl, ap, ◌∙◌, sym, subst, arith, append_assoc, length-append, length-take-le}
 use Rattle.std.specs.List.{AllByRecursion}
 use Rattle.std.proofs.lemmas.List.{append-nil, length-map, map-append, take_more}
+use Rattle.std.proofs.lemmas.List.Elements.{All-tail}
 use Rattle.std.proofs.lemmas.Option.{get_or_from_slice_get, slice_get_within}
 use Rattle.log_record.specs.declared.rec.Rec.{Rec}
 use Rattle.log_record.specs.declared.rec.Entry.{Entry}
@@ -10,6 +11,8 @@ use Rattle.log_record.specs.LogList.{units_of, end_of}
 use Rattle.log_record.specs.Spelling.{spelling, IsBalance, IsSpellable}
 use Rattle.log_recovery.specs.History.{history, history_from, end_from, entry_at}
 use Rattle.log_recovery.specs.Lawful.{IsLawful, genesis_of}
+use Rattle.log_recovery.specs.Recovery.{HoldsLawful}
+use Rattle.segment_file.specs.File.{HoldsUnits}
 use Rattle.log_recovery.specs.Settling.{KeepsRows}
 use Rattle.log_recovery.specs.Tests.{IsGenesis}
 use Rattle.log_recovery.specs.Text.{rows_text, accounts_text}
@@ -93,12 +96,23 @@ spellable-genesis account (balance ∷ balances) few range =
     let below : account < 4096 = omega arith in
     ((below, range.0), spellable-genesis (account + 1) balances (omega arith) range.1)
 
-module _ (balances : List ℕ) (few : length balances ≤ 4096) (range : AllByRecursion IsBalance balances) where
+all-each : {X : Type 0} (P : X → Type 0) (xs : List X) → All P xs → AllByRecursion P xs
+all-each P [] all = tt
+all-each P (x ∷ xs) all = (all 0 x (omega arith), all-each P xs (All-tail P x xs all))
+
+module _ (balances : List ℕ) (few : length balances ≤ 4096) (each : All IsBalance balances) where
+  range : AllByRecursion IsBalance balances
+  range = all-each IsBalance balances each
+
   opens-genesis : Opens (history (genesis_list balances)) (opening_rows balances)
   opens-genesis = opens-more [] [] 0 balances tt refl range (record { lawful = tt; kept = keeps-none })
 
-  pub genesis-lawful : IsLawful (history (genesis_list balances))
-  genesis-lawful = opens-genesis.lawful
+  -- bytes that hold its units hold the list, which is lawful
+  pub genesis-holds : (c : List ℕ) → HoldsUnits c (units_of (genesis_list balances)) → HoldsLawful c (genesis_list balances)
+  genesis-holds c held = record {
+    list = record { each = spellable-genesis 0 balances (omega arith) range; holds = held };
+    lawful = opens-genesis.lawful;
+  }
 
   pub genesis-text : (lsn : ℕ) → lsn ≡ 2 * length balances → rows_text lsn (opening_rows balances) ≡ accounts_text (genesis_list balances)
   genesis-text lsn is = rows_text-shown lsn (opening_rows balances) (genesis_list balances) (is ∙ sym (end_of-genesis 0 balances))
