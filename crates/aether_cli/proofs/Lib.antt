@@ -1,3 +1,4 @@
 pub mod AnswerLemmas
+pub mod CompletenessLemmas
 pub mod CreationLemmas
 pub mod GenesisLemmas

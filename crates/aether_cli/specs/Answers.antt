@@ -9,6 +9,8 @@ use Rattle.log_recovery.specs.Recovery.{HoldsLawful, IsFaultOf}
 use Rattle.log_recovery.specs.Text.{accounts_text}
 use Rattle.txn_script.specs.Balances.{IsBalancesText, IsFirstBadBalance, ReadsBalances}
 use Rattle.lsn_space.specs.Accounts.{Accounts}
+use Rattle.command_line.specs.CommandLine.{IsCommandLine}
+use Rattle.command_line.specs.declared.command.Command.TheVariants.{New}
 use Rattle.aether_cli.specs.declared.report.Detail.{Detail}
 use Rattle.aether_cli.specs.declared.report.Detail.TheVariants.{Fine, NoMemory, Usage, Script, Read, Write, Disk, NotALog, BadBatch, BadRec, Unlawful, Exists}
 use Rattle.aether_cli.specs.Creation.{genesis_list}
@@ -26,6 +28,29 @@ status_of (BadBatch offset) = 7
 status_of (BadRec lsn) = 7
 status_of (Unlawful lsn why) = 7
 status_of Exists = 10
+
+-- the words ask `new`
+abbrev pub AsksNew : List (List ℕ) → Type 0
+AsksNew words = (log : List ℕ) × IsCommandLine words (New log)
+
+-- the answers that there are to `recover`
+abbrev pub IsOfRecover : Detail → Type 0
+IsOfRecover Usage = ⊥
+IsOfRecover (Script line) = ⊥
+IsOfRecover Disk = ⊥
+IsOfRecover Exists = ⊥
+IsOfRecover detail = Unit {0}
+
+-- the answers that there are to `new`
+abbrev pub IsOfNew : Detail → Type 0
+IsOfNew Fine = Unit {0}
+IsOfNew NoMemory = Unit {0}
+IsOfNew (Script line) = Unit {0}
+IsOfNew Read = Unit {0}
+IsOfNew Write = Unit {0}
+IsOfNew Disk = Unit {0}
+IsOfNew Exists = Unit {0}
+IsOfNew detail = ⊥
 
 -- nothing is written, but where all is fine or the writing failed
 abbrev pub StaysSilent : Option (List ℕ) → Option (List ℕ) → Detail → Type 0

@@ -2,13 +2,11 @@
 use Rattle.std.specs.Prelude.{◌≡◌, ◌⊎◌, ℕ, ◌+◌, List, [], ◌∷◌, Option, IfSome}
 use Rattle.log_record.specs.declared.rec.Rec.{Rec}
 use Rattle.log_record.specs.declared.rec.Rec.TheVariants.{Genesis}
-use Rattle.command_line.specs.CommandLine.{IsCommandLine}
-use Rattle.command_line.specs.declared.command.Command.TheVariants.{New}
 use Rattle.log_recovery.specs.Recovery.{HoldsLawful}
 use Rattle.segment_file.specs.File.{BeginsAsLog}
 use Rattle.txn_script.specs.Balances.{IsBalancesText}
 use Rattle.aether_cli.specs.declared.report.Detail.{Detail}
-use Rattle.aether_cli.specs.declared.report.Detail.TheVariants.{Fine, NoMemory, Usage, Script, Read, Write, Disk, NotALog, BadBatch, BadRec, Unlawful, Exists}
+use Rattle.aether_cli.specs.declared.report.Detail.TheVariants.{Fine, NoMemory, Script, Read, Write, Disk, Exists}
 
 -- a Genesis for each balance, the first for this account
 abbrev pub genesis_from : ℕ → List ℕ → List Rec
@@ -34,29 +32,6 @@ AllHoldNew left images = (balances : List ℕ) × IsInput left balances × ((c :
 -- what `new` may leave at any moment: an image of before, no log, or the new log
 abbrev pub MayBeLeft : Option (List ℕ) → (List ℕ → Type 0) → List ℕ → Type 0
 MayBeLeft left images c = images c ⊎ (BeginsAsLog c → ⊥) ⊎ HoldsNew left c
-
--- the words ask `new`
-abbrev pub AsksNew : List (List ℕ) → Type 0
-AsksNew words = (log : List ℕ) × IsCommandLine words (New log)
-
--- the answers that there are to `recover`
-abbrev pub IsOfRecover : Detail → Type 0
-IsOfRecover Usage = ⊥
-IsOfRecover (Script line) = ⊥
-IsOfRecover Disk = ⊥
-IsOfRecover Exists = ⊥
-IsOfRecover detail = Unit {0}
-
--- the answers that there are to `new`
-abbrev pub IsOfNew : Detail → Type 0
-IsOfNew Fine = Unit {0}
-IsOfNew NoMemory = Unit {0}
-IsOfNew (Script line) = Unit {0}
-IsOfNew Read = Unit {0}
-IsOfNew Write = Unit {0}
-IsOfNew Disk = Unit {0}
-IsOfNew Exists = Unit {0}
-IsOfNew detail = ⊥
 
 -- the answers that come before anything of the log is written
 abbrev pub PrecedesLog : Detail → Type 0

@@ -2,8 +2,8 @@ ghost use Rattle.std.specs.Prelude.{◌≡◌, ◌≤◌, ◌+◌, ◌↔◌, If
 ghost use Rattle.log_disk.specs.Disk.{Leaves};
 ghost use Rattle.log_disk.specs.Faults.{Rose};
 ghost use Rattle.segment_file.specs.File.{BeginsOpen};
-ghost use Rattle.aether_cli.specs.Answers.{AnswersNew, AreOpening, IsInputFault, IsMakingFault, StaysSilent};
-ghost use Rattle.aether_cli.specs.Creation.{AllHoldNew, FollowsLog, IsOfNew, MayBeLeft, PrecedesLog, TellsWhether};
+ghost use Rattle.aether_cli.specs.Answers.{AnswersNew, AreOpening, IsInputFault, IsMakingFault, IsOfNew, StaysSilent};
+ghost use Rattle.aether_cli.specs.Creation.{AllHoldNew, FollowsLog, MayBeLeft, PrecedesLog, TellsWhether};
 
 use crate::finding::finds_log;
 use crate::genesis::genesis;

@@ -1,12 +1,12 @@
-ghost use Rattle.std.specs.Prelude.{◌≡◌, ◌≤◌, ◌+◌, ◌⊎◌, ◌≢◌, ℕ, List, IfSome};
+ghost use Rattle.std.specs.Prelude.{◌≡◌, ◌≤◌, ◌+◌, ◌⊎◌, ℕ, List, IfSome};
 ghost use Rattle.command_line.specs.CommandLine.{IsCommandLine, AreTaken};
 ghost use Rattle.command_line.specs.declared.command.Command.TheVariants.{New, Recover};
 ghost use Rattle.log_disk.specs.Disk.{Leaves};
 ghost use Rattle.log_disk.specs.Faults.{Rose};
 ghost use Rattle.segment_file.specs.File.{BeginsOpen};
 ghost use Rattle.txn_script.specs.Balances.{IsBalancesText};
-ghost use Rattle.aether_cli.specs.Answers.{status_of, AnswersRecover, AnswersNew, StaysSilent};
-ghost use Rattle.aether_cli.specs.Creation.{AsksNew, AllHoldNew, FollowsLog, IsOfNew, IsOfRecover, MayBeLeft, PrecedesLog, TellsWhether};
+ghost use Rattle.aether_cli.specs.Answers.{status_of, AnswersRecover, AnswersNew, AsksNew, IsOfNew, IsOfRecover, StaysSilent};
+ghost use Rattle.aether_cli.specs.Creation.{AllHoldNew, FollowsLog, MayBeLeft, PrecedesLog, TellsWhether};
 
 use crate::new_command::new_command;
 use crate::recover_command::recover_command;
@@ -66,11 +66,10 @@ pub fn aether<R, D: LogDisk, S: Source, K: Sink>(
     ensures later { (S.faults script.old ≤ S.faults script.new) × (K.faults out.old ≤ K.faults out.new) }
     ensures later_disk { D.faults disk.old ≤ D.faults disk.new }
 {
-    let detail = match parse(alloc, words) {
-        Ok(Command::New { log }) => new_command(alloc, &log, disk, script, out),
-        Ok(Command::Recover) => recover_command(alloc, script, out),
-        Err(Refused::Usage) => Detail::Usage,
-        Err(Refused::NoMemory) => Detail::NoMemory,
-    };
-    Report::of(detail)
+    match parse(alloc, words) {
+        Ok(Command::New { log }) => Report::of(new_command(alloc, &log, disk, script, out)),
+        Ok(Command::Recover) => Report::of(recover_command(alloc, script, out)),
+        Err(Refused::Usage) => Report::of(Detail::Usage),
+        Err(Refused::NoMemory) => Report::of(Detail::NoMemory),
+    }
 }
