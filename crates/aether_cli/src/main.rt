@@ -17,10 +17,19 @@ use command::words_of;
 use faults::put_fault;
 use log_disk::{FileDisk, StdSink, StdSource};
 use report::Report;
+use std::fs::File;
+use std::io;
 use std::process::ExitCode;
 use top::aether;
 
+/// The root folder, opened thrice. Where standard streams are closed it takes their numbers, so that no file that is
+/// opened later gets one of them.
+fn hold_streams(rt: &HostRuntime) -> [io::Result<File>; 3] {
+    [File::open(rt, "/"), File::open(rt, "/"), File::open(rt, "/")]
+}
+
 fn main(rt: HostRuntime) -> ExitCode {
+    let _held = hold_streams(&rt);
     let report = match words_of(&rt) {
         Ok(words) => {
             let mut script = StdSource::make(rt.stdin());
