@@ -2,3 +2,4 @@ pub mod AnswerLemmas
 pub mod CompletenessLemmas
 pub mod CreationLemmas
 pub mod GenesisLemmas
+pub mod LawLemmas

@@ -6,6 +6,7 @@ mod faults;
 mod finding;
 mod genesis;
 mod input;
+mod laws;
 mod new_command;
 mod recover_command;
 mod report;
