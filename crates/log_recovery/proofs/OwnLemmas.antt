@@ -4,10 +4,10 @@ use Rattle.std.proofs.lemmas.List.{reverse-append, take_more, take-append-drop}
 use mathlib.Core.Logic.{dite}
 use native.Mathlib.Decide.{ℕ_discrete}
 use Rattle.log_record.specs.declared.rec.Entry.{Entry}
-use Rattle.log_recovery.specs.declared.update.Change.{Change}
-use Rattle.log_recovery.specs.Records.{txn_of, changes_of}
-use Rattle.log_recovery.specs.Transactions.{records_of, updates_of, has_end}
-use Rattle.log_recovery.proofs.OneMore.{updates_of-same, updates_of-other}
+use Rattle.lock_core.specs.declared.update.Change.{Change}
+use Rattle.lock_core.specs.Records.{txn_of, changes_of}
+use Rattle.lock_core.specs.Transactions.{records_of, updates_of, has_end}
+use Rattle.lock_core.proofs.OneMore.{updates_of-same, updates_of-other}
 
 -- one entry further, the history has that entry in front
 pub reverse-take_more : (entries : List Entry) (i : ℕ) (entry : Entry) → i < length entries → entry ≡ get_or entries i entry

@@ -5,10 +5,10 @@ use Rattle.std.proofs.lemmas.List.{take_more, length-set, get_or-set_same, get_o
 use Rattle.std.proofs.lemmas.Option.{get_or_from_slice_get}
 use mathlib.Core.Logic.{dite}
 use native.Mathlib.Decide.{ℕ_discrete}
-use Rattle.log_recovery.specs.declared.update.Change.{Change}
-use Rattle.log_recovery.specs.Sums.{moved}
-use Rattle.log_recovery.specs.Settling.{row, SettlesRow}
-use Rattle.log_recovery.proofs.OneMore.{moved-append}
+use Rattle.lock_core.specs.declared.update.Change.{Change}
+use Rattle.lock_core.specs.Sums.{moved}
+use Rattle.lock_core.specs.Settling.{row, SettlesRow}
+use Rattle.lock_core.proofs.OneMore.{moved-append}
 
 pub moved-take_more : (side : ℤ → ℕ) (account : ℕ) (changes : List Change) (i : ℕ) (change : Change) → i < length changes
     → change ≡ get_or changes i change

@@ -1,17 +1,14 @@
 ghost use Rattle.std.specs.Prelude.{◌∷◌, reverse, IfOk, IfErr, OnOk};
 ghost use Rattle.std.specs.List.{AllByRecursion};
 ghost use Rattle.log_record.specs.Spelling.{IsSpellable};
-ghost use Rattle.log_recovery.specs.Sums.{ShowsAccounts};
-ghost use Rattle.log_recovery.specs.Lawful.{Passes, IsLawful, genesis_of};
-ghost use Rattle.log_recovery.specs.Faults.{IsFirstFailing};
-ghost use Rattle.log_recovery.specs.Judging.{IsJudged};
+ghost use Rattle.lock_core.specs.Sums.{ShowsAccounts};
+ghost use Rattle.lock_core.specs.Lawful.{Passes, IsLawful, genesis_of};
+ghost use Rattle.lock_core.specs.Faults.{IsFirstFailing};
+ghost use Rattle.lock_core.specs.Judging.{IsJudged};
 ghost use Rattle.log_recovery.specs.Recovery.{IsJudgeFaultOf};
 
-use crate::kinds::{
-    MOST_ACCOUNTS, admit_commit, admit_genesis, admit_note, admit_refusal, admit_update,
-};
-use crate::reason::Why;
-use crate::update::Change;
+use crate::kinds::{admit_commit, admit_genesis, admit_note, admit_refusal, admit_update};
+use lock_core::{Change, MOST_ACCOUNTS, Why};
 use log_record::{Entry, Rec};
 use lsn_space::{Balances, Lsn};
 use std::alloc::Global;

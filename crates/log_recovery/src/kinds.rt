@@ -1,24 +1,20 @@
 ghost use Rattle.std.specs.Prelude.{◌≡◌, ◌<◌, ◌↔◌, ◌∷◌, ℕ, length, reverse, IsTrue, IfOk, IfErr, OnOk};
 ghost use Rattle.std.specs.List.{AllByRecursion};
 ghost use Rattle.log_record.specs.Spelling.{IsAccount, IsBalance, IsLeg};
-ghost use Rattle.log_recovery.specs.declared.kinds.TheConstants.{MOST_ACCOUNTS};
-ghost use Rattle.log_recovery.specs.declared.update.Change.{Change};
-ghost use Rattle.log_recovery.specs.Tests.{IsPaired};
-ghost use Rattle.log_recovery.specs.Lawful.{Passes, IsLawful, genesis_of};
-ghost use Rattle.log_recovery.specs.Faults.{IsFirstFailing};
-ghost use Rattle.log_recovery.specs.Settling.{row, KeepsRows};
-ghost use Rattle.log_recovery.specs.Judging.{IsJudged, Judges, IsCommitting};
+ghost use Rattle.lock_core.specs.declared.limits.TheConstants.{MOST_ACCOUNTS};
+ghost use Rattle.lock_core.specs.declared.update.Change.{Change};
+ghost use Rattle.lock_core.specs.Tests.{IsPaired};
+ghost use Rattle.lock_core.specs.Lawful.{Passes, IsLawful, genesis_of};
+ghost use Rattle.lock_core.specs.Faults.{IsFirstFailing};
+ghost use Rattle.lock_core.specs.Settling.{row, KeepsRows};
+ghost use Rattle.lock_core.specs.Judging.{IsJudged, Judges, IsCommitting};
 
 use crate::own::own_records;
-use crate::reason::Why;
 use crate::settling::settle;
-use crate::update::Change;
 use arrayvec::ArrayVec;
+use lock_core::{Change, MOST_ACCOUNTS, Why};
 use log_record::{Entry, Rec, Text};
 use lsn_space::{Balances, Lsn};
-
-/// The most accounts of a log.
-pub const MOST_ACCOUNTS: u32 = 4096;
 
 /// Whether a change is paired with those of its transaction before it, the newest of them first.
 fn is_paired(before: &[Change], change: &Change) -> bool
@@ -75,7 +71,7 @@ pub fn admit_genesis(
 }
 
 /// Tests an Update.
-#[tactic(auto, using(crate::proofs::KindLemmas::few_updates))]
+#[tactic(auto, using(lock_core::proofs::KindLemmas::few_updates))]
 pub fn admit_update(
     accounts: &Balances,
     front: &[Entry],
@@ -108,7 +104,7 @@ pub fn admit_update(
 }
 
 /// What a Commit of so many legs commits, where it passes the tests up to that of the legs.
-#[tactic(auto, using(crate::proofs::KindLemmas::few_updates))]
+#[tactic(auto, using(lock_core::proofs::KindLemmas::few_updates))]
 fn committed_changes(front: &[Entry], txn: u32, legs: u32) -> Result<ArrayVec<Change, 16>, Why>
     requires lawful { IsLawful (reverse front.now) }
     requires legs { IsLeg legs }
@@ -157,7 +153,7 @@ pub fn admit_commit(
 }
 
 /// Tests a Short or an Over.
-#[tactic(auto, using(crate::proofs::KindLemmas::few_updates))]
+#[tactic(auto, using(lock_core::proofs::KindLemmas::few_updates))]
 pub fn admit_refusal(front: &[Entry], txn: u32, leg: u32) -> Result<(), Why>
     requires front { IsLawful (reverse front.now) }
     requires leg { IsLeg leg }
@@ -178,7 +174,7 @@ pub fn admit_refusal(front: &[Entry], txn: u32, leg: u32) -> Result<(), Why>
 }
 
 /// Tests a Note.
-#[tactic(auto, using(crate::proofs::KindLemmas::few_updates))]
+#[tactic(auto, using(lock_core::proofs::KindLemmas::few_updates))]
 pub fn admit_note(front: &[Entry], txn: u32, text: &Text) -> Result<(), Why>
     requires { IsLawful (reverse front.now) }
     ensures { (end : ℕ) → Judges (reverse front.now) (record { end = end; rec = Rec.Note txn text.now }) result }

@@ -1,9 +1,9 @@
 ghost use Rattle.std.specs.Prelude.{◌≡◌, ◌||◌, ◌+◌, ◌≤◌, ◌++◌, length, reverse};
-ghost use Rattle.log_recovery.specs.Records.{txn_of, ends, changes_of};
-ghost use Rattle.log_recovery.specs.Transactions.{records_of, updates_of, has_end};
+ghost use Rattle.lock_core.specs.Records.{txn_of, ends, changes_of};
+ghost use Rattle.lock_core.specs.Transactions.{records_of, updates_of, has_end};
 
-use crate::update::Change;
 use arrayvec::ArrayVec;
+use lock_core::Change;
 use log_record::{Entry, Rec};
 
 /// The records of one transaction in a list.

@@ -1,12 +1,12 @@
 ghost use Rattle.std.specs.Prelude.{◌≡◌, ◌==◌, ◌<◌, ◌≤◌, ◌^◌, if◌then◌else◌, length, MatchOption};
 ghost use Rattle.std.specs.Bool.{OnTrue, OnFalse};
 ghost use Rattle.log_record.specs.Spelling.{IsBalance};
-ghost use Rattle.log_recovery.specs.Records.{gain, loss};
-ghost use Rattle.log_recovery.specs.Transactions.{touches};
-ghost use Rattle.log_recovery.specs.Sums.{moved};
-ghost use Rattle.log_recovery.specs.Settling.{IsBalanceAfter, LeavesRange, Settles, AreRowsInRange, LeavesSome};
+ghost use Rattle.lock_core.specs.Records.{gain, loss};
+ghost use Rattle.lock_core.specs.Transactions.{touches};
+ghost use Rattle.lock_core.specs.Sums.{moved};
+ghost use Rattle.lock_core.specs.Settling.{IsBalanceAfter, LeavesRange, Settles, AreRowsInRange, LeavesSome};
 
-use crate::update::Change;
+use lock_core::Change;
 use lsn_space::{Balances, Lsn};
 
 /// The greatest balance of an account.

@@ -1,8 +1,8 @@
 use Rattle.std.proofs.Common.{reverse, refl, subst, ℤ, rules, w32, SFits}
 use Rattle.std.proofs.lemmas.Int.{to_z-of_z}
-use Rattle.log_recovery.specs.Judging.{Judges}
+use Rattle.lock_core.specs.Judging.{Judges}
 use Rattle.log_record.specs.declared.rec.Rec.TheVariants.{Genesis, Update, Commit, Short, Over, Note}
-use Rattle.log_recovery.proofs.JudgingLemmas.{why-judges, ok-plain, ok-kept}
+use Rattle.lock_core.proofs.JudgingLemmas.{why-judges, ok-plain, ok-kept}
 use Rattle.log_recovery.proofs.judging.admit.Goals as goal
 
 pub returns-in-Genesis-clause-ok : goal.returns-in-Genesis-clause-ok

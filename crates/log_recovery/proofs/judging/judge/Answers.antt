@@ -2,10 +2,10 @@ use Rattle.std.proofs.Common.{◌≡◌, ◌+◌, take, drop, reverse, subst, ar
 use Rattle.std.proofs.lemmas.Grind.{common_steps}
 use Rattle.log_record.specs.declared.rec.Entry.{Entry}
 use Rattle.std.specs.Prelude.{List}
-use Rattle.log_recovery.specs.Sums.{ShowsAccounts}
-use Rattle.log_recovery.specs.Lawful.{genesis_of}
+use Rattle.lock_core.specs.Sums.{ShowsAccounts}
+use Rattle.lock_core.specs.Lawful.{genesis_of}
 use Rattle.log_recovery.proofs.OwnLemmas.{reverse-split}
-use Rattle.log_recovery.proofs.JudgingLemmas.{shows-kept}
+use Rattle.lock_core.proofs.JudgingLemmas.{shows-kept}
 use Rattle.log_recovery.proofs.judging.judge.Goals as goal
 
 pub returns-in-Err-clause-fault : goal.returns-in-Err-clause-fault

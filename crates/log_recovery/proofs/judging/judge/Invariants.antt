@@ -1,6 +1,6 @@
 use Rattle.std.proofs.Common.{◌≡◌, take, reverse}
-use Rattle.log_recovery.specs.History.{end_from}
-use Rattle.log_recovery.specs.Judging.{IsJudged}
+use Rattle.lock_core.specs.History.{end_from}
+use Rattle.lock_core.specs.Judging.{IsJudged}
 use Rattle.log_recovery.proofs.judging.judge.Given as goal
 
 abbrev pub invariant-entries : goal.invariant-entries

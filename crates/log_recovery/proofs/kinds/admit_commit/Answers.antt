@@ -1,6 +1,6 @@
 use Rattle.std.proofs.Common.{◌∙◌, sym, refl, true≢false, subst, reverse}
-use Rattle.log_recovery.specs.Judging.{IsCommitting}
-use Rattle.log_recovery.proofs.KindLemmas.{updates-known, fails-stale, fails-balance, keeps-settled, passes-commit}
+use Rattle.lock_core.specs.Judging.{IsCommitting}
+use Rattle.lock_core.proofs.KindLemmas.{updates-known, fails-stale, fails-balance, keeps-settled, passes-commit}
 use Rattle.log_recovery.proofs.kinds.admit_commit.Goals as goal
 
 pub are_current-requires : goal.are_current-requires

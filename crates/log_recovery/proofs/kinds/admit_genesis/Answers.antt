@@ -4,9 +4,9 @@ use Rattle.std.proofs.lemmas.List.{length-reverse}
 use Rattle.lsn_space.specs.Accounts.{Accounts}
 use Rattle.log_record.specs.declared.rec.Entry.{Entry}
 use Rattle.log_record.specs.declared.rec.Rec.TheVariants.{Genesis}
-use Rattle.log_recovery.specs.Lawful.{genesis_of, with_genesis}
-use Rattle.log_recovery.specs.Settling.{KeepsRows}
-use Rattle.log_recovery.proofs.KindLemmas.{genesis-accounts, passes-genesis, fails-genesis, keeps-genesis}
+use Rattle.lock_core.specs.Lawful.{genesis_of, with_genesis}
+use Rattle.lock_core.specs.Settling.{KeepsRows}
+use Rattle.lock_core.proofs.KindLemmas.{genesis-accounts, passes-genesis, fails-genesis, keeps-genesis}
 use Rattle.log_recovery.proofs.kinds.admit_genesis.Goals as goal
 use Rattle.log_recovery.proofs.kinds.admit_genesis.Goals.{then-front-count-via-then-front-count, then-front-count-via-else-front-count+then-account-count}
 

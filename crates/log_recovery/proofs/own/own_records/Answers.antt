@@ -1,5 +1,5 @@
 use Rattle.std.proofs.Common.{◌≡◌, ◌∙◌, sym, ap, length, arith}
-use Rattle.log_recovery.specs.Records.{txn_of}
+use Rattle.lock_core.specs.Records.{txn_of}
 use Rattle.log_recovery.proofs.OwnLemmas.{updates_of-room}
 use Rattle.log_recovery.proofs.own.own_records.Goals as goal
 

@@ -1,5 +1,5 @@
 use Rattle.std.proofs.Common.{arith}
-use Rattle.log_recovery.specs.Records.{gain}
+use Rattle.lock_core.specs.Records.{gain}
 use Rattle.log_recovery.proofs.SettlingLemmas.{moved-take_more}
 use Rattle.log_recovery.proofs.settling.gains.Goals as goal
 

@@ -1,6 +1,6 @@
 use Rattle.std.proofs.Common.{◌≡◌, ◌≤◌, ◌*◌, take}
-use Rattle.log_recovery.specs.Records.{gain}
-use Rattle.log_recovery.specs.Sums.{moved}
+use Rattle.lock_core.specs.Records.{gain}
+use Rattle.lock_core.specs.Sums.{moved}
 use Rattle.log_recovery.proofs.settling.gains.Given as goal
 
 abbrev pub invariant-loop-change : goal.invariant-loop-change

@@ -1,5 +1,5 @@
 use Rattle.std.proofs.Common.{arith}
-use Rattle.log_recovery.specs.Records.{loss}
+use Rattle.lock_core.specs.Records.{loss}
 use Rattle.log_recovery.proofs.SettlingLemmas.{moved-take_more}
 use Rattle.log_recovery.proofs.settling.losses.Goals as goal
 

@@ -1,7 +1,7 @@
 use Rattle.std.proofs.Common.{◌<◌, ◌+◌, ℕ, cond, length, ap, sym, subst, ◌∙◌, arith}
 use Rattle.lsn_space.specs.Accounts.{Accounts}
-use Rattle.log_recovery.specs.Transactions.{touches}
-use Rattle.log_recovery.specs.Settling.{row, IsBalanceAfter, LeavesRange, SettlesRow}
+use Rattle.lock_core.specs.Transactions.{touches}
+use Rattle.lock_core.specs.Settling.{row, IsBalanceAfter, LeavesRange, SettlesRow}
 use Rattle.log_recovery.proofs.SettlingLemmas.{SettlesBelow, settles-more, row-read}
 use Rattle.log_recovery.proofs.settling.settle.Goals as goal
 
