@@ -8,8 +8,10 @@ pub mod LastCommits
 pub mod ListLemmas
 pub mod Meeting
 pub mod OneMore
+pub mod OwnLemmas
 pub mod Pairing
 pub mod Plainly
 pub mod Ranging
 pub mod Running
 pub mod SerialFronts
+pub mod SettlingLemmas

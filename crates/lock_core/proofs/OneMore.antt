@@ -22,11 +22,11 @@ updates_of-same n entry h is = ap (λ entries. changes_in (recs_of entries)) (of
 pub updates_of-other : (n : ℕ) (entry : Entry) (h : List Entry) → txn_of entry.rec ≢ n → updates_of n (entry ∷ h) ≡ updates_of n h
 updates_of-other n entry h other = ap (λ entries. changes_in (recs_of entries)) (of_transaction-other n entry h other)
 
-or-false : (x : Bool) → (x || false) ≡ x
+pub or-false : (x : Bool) → (x || false) ≡ x
 or-false true = refl
 or-false false = refl
 
-or-true : (x : Bool) → (x || true) ≡ true
+pub or-true : (x : Bool) → (x || true) ≡ true
 or-true true = refl
 or-true false = refl
 

@@ -15,7 +15,7 @@ use Rattle.lock_core.specs.Tests.{IsUnended, IsPaired, IsOpposite}
 use Rattle.lock_core.specs.Plain.{last_commit_where, plain_last_commit, is_odd, IsOppositeOfNewest, IsPlainlyPaired}
 use Rattle.lock_core.specs.Lawful.{IsLawful, genesis_of}
 use Rattle.lock_core.proofs.Meeting.{AreMet, met-log}
-use Rattle.lock_core.proofs.OneMore.{of_transaction-same, of_transaction-other, updates_of-same, updates_of-other, changes_of-commit}
+use Rattle.lock_core.proofs.OneMore.{of_transaction-same, of_transaction-other, updates_of-same, updates_of-other, changes_of-commit, or-true}
 use Rattle.lock_core.proofs.Pairing.{ArePaired, updates_of-fits, newest_lowers, newest_lowers-parity}
 
 commits-ends : (rec : Rec) → commits rec ≡ true → ends rec ≡ true
@@ -29,10 +29,6 @@ commits-ends (Note txn text) is = absurd (true≢false (sym is))
 -- where the entry commits, its transaction is ended in the history
 abbrev HasEndedIn : List Entry → Entry → Type 0
 HasEndedIn h entry = commits entry.rec ≡ true → has_end (records_of (txn_of entry.rec) h) ≡ true
-
-or-true : (x : Bool) → (x || true) ≡ true
-or-true true = refl
-or-true false = refl
 
 has_end-more : (entry : Entry) (h : List Entry) (n : ℕ) → has_end (records_of n h) ≡ true → has_end (records_of n (entry ∷ h)) ≡ true
 has_end-more entry h n ended = dite (ℕ_discrete (txn_of entry.rec) n)

@@ -8,7 +8,9 @@ use Rattle.lock_core.specs.declared.reason.Why.{Why}
 use Rattle.lock_core.specs.declared.update.Change.{Change}
 use Rattle.lock_core.specs.Transactions.{records_of, updates_of, has_end}
 use Rattle.lock_core.specs.Lawful.{tests, Passes, IsLawful, genesis_of}
-use Rattle.lock_core.specs.Faults.{IsFirstFailing}
+use Rattle.lock_core.specs.declared.plain.judging.PlainFault.{PlainFault}
+use Rattle.lock_core.specs.declared.plain.judging.PlainFault.TheVariants as plain
+use Rattle.lock_core.specs.Faults.{IsFirstFailing, IsUnlawfulAt}
 use Rattle.lock_core.specs.Settling.{KeepsRows}
 
 -- the history is lawful, and the accounts kept are its accounts
@@ -27,3 +29,8 @@ pub record IsCommitting (h : List Entry) (txn legs : ℕ) (changes : List Change
   pub unended : has_end (records_of txn h) ≡ false
   pub are : changes ≡ updates_of txn h
   pub legs_are : length changes ≡ 2 * legs
+
+-- why the plain program answers no accounts; want of memory says nothing of the history
+abbrev pub IsPlainFaultOf : List Entry → PlainFault → Type 0
+IsPlainFaultOf h (plain.Unlawful lsn why) = IsUnlawfulAt h lsn why
+IsPlainFaultOf h plain.NoMemory = Unit {0}

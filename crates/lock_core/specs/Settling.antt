@@ -1,5 +1,5 @@
 -- What a Commit makes of the rows that are kept of the accounts: a balance and the last Commit for each.
-use Rattle.std.specs.Prelude.{◌≡◌, ◌<◌, ℕ, ◌+◌, if◌then◌else◌, List, length, slice_index_or}
+use Rattle.std.specs.Prelude.{◌≡◌, ◌<◌, ℕ, ◌+◌, if◌then◌else◌, List, length, slice_index_or, slice_set}
 use Rattle.log_record.specs.declared.rec.Entry.{Entry}
 use Rattle.log_record.specs.Spelling.{IsBalance}
 use Rattle.lock_core.specs.declared.update.Change.{Change}
@@ -24,6 +24,13 @@ pub record SettlesRow (changes : List Change) (end account : ℕ) (old new : ℕ
   pub range : IsBalance new.0
   pub balance : IsBalanceAfter changes account old.0 new.0
   pub last : new.1 ≡ (if touches account changes then end else old.1)
+
+-- the rows before and after the part of such a Commit that concerns one account of its changes
+pub record SettlesAccount (changes : List Change) (account end : ℕ) (old new : List (ℕ × ℕ)) : Type 0 where
+  pub balance : ℕ
+  pub range : IsBalance balance
+  pub after : IsBalanceAfter changes account (row old account).0 balance
+  pub rows : new ≡ slice_set old account (balance, end)
 
 -- all rows before and after such a Commit
 pub record Settles (changes : List Change) (end : ℕ) (old new : List (ℕ × ℕ)) : Type 0 where

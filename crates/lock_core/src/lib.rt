@@ -2,9 +2,12 @@
 //! answers alone, and the judge that takes a list record by record.
 #![tactic(auto)]
 
+mod checks;
 mod laws;
 mod limits;
+mod plain;
 mod reason;
+mod settling;
 mod update;
 
 pub use laws::{
@@ -13,5 +16,6 @@ pub use laws::{
     sums_go_on,
 };
 pub use limits::{MOST_ACCOUNTS, MOST_BALANCE};
+pub use plain::{PlainFault, plain_accounts};
 pub use reason::Why;
-pub use update::Change;
+pub use update::{Change, txn_of};
