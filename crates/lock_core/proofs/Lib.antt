@@ -1,8 +1,10 @@
 pub mod Apart
 pub mod Appending
+pub mod ChainLemmas
 pub mod Conserving
 pub mod Fronts
 pub mod JudgingLemmas
+pub mod KeepingLemmas
 pub mod KindLemmas
 pub mod LastCommits
 pub mod ListLemmas
@@ -15,3 +17,4 @@ pub mod Ranging
 pub mod Running
 pub mod SerialFronts
 pub mod SettlingLemmas
+pub mod TakingLemmas

@@ -27,3 +27,12 @@ pub enum Why {
     /// With the Commit, every account's balance is in its range.
     Balance,
 }
+
+/// Why a judge takes a record not.
+#[derive(Clone, Copy, Debug, PartialEq, Eq)]
+pub enum JudgeFault {
+    /// With the record the list isn't lawful, and this is the first test that the record fails.
+    Why(Why),
+
+    NoMemory,
+}
