@@ -1,16 +1,13 @@
-//! What a list of records says, and how it is read back from a log: the tests that make a list
-//! lawful, the balances that it leaves, and the judge that tells both.
+//! What the bytes of a log say: the lawful list of records that they hold and its accounts, or what is
+//! wrong with them.
 #![tactic(auto)]
 
 mod judging;
-mod kinds;
 mod listing;
-mod own;
 mod recovery;
-mod settling;
 mod texts;
 
-pub use judging::{JudgeFault, judge};
+pub use judging::{UnitsFault, judge_of_units};
 pub use listing::{ListFault, records};
 pub use lock_core::Why;
 pub use recovery::{RecoverFault, Recovered, one_answer, recover};

@@ -1,0 +1,88 @@
+//! The records that units spell, judged one by one as they are read.
+
+ghost use Rattle.std.specs.Prelude.{◌≡◌, ◌+◌, ◌≤◌, length, IfOk, IfErr, IfSome, IfNone};
+ghost use Rattle.lsn_space.specs.declared.lsn.TheConstants.{LAST};
+ghost use Rattle.log_recovery.specs.Listing.{IsFront, IsRecords, IsBadRecAt};
+ghost use Rattle.log_recovery.specs.Judging.{FailsBefore, HasTakenUnits, IsUnitsFaultOf};
+
+use lock_core::{Judge, JudgeFault, Why};
+use log_record::read;
+use lsn_space::Lsn;
+use std::alloc::Global;
+
+/// Why units hold no lawful list of records.
+#[derive(Clone, Copy, Debug, PartialEq, Eq)]
+pub enum UnitsFault {
+    /// Records lead to this LSN, and the units from there on begin with none.
+    BadRec { lsn: Lsn },
+
+    /// The record that starts at this LSN is the first that fails a test, and this is the first test that it fails.
+    Unlawful { lsn: Lsn, why: Why },
+
+    NoMemory,
+}
+
+/// Where the rest of the units begins.
+fn place_of(units: &[u64], rest: &[u64]) -> Lsn
+    requires front { IsFront units.now rest.now }
+    requires fits { length units.now ≤ LAST }
+    ensures { result + length rest.now ≡ length units.now }
+{
+    Lsn::new((units.len() - rest.len()) as u32)
+}
+
+/// The first place behind a front of records at which no record begins, where there is one.
+fn first_bad(units: &[u64], front: &[u64]) -> Option<Lsn>
+    requires front { IsFront units.now front.now }
+    requires fits { length units.now ≤ LAST }
+    ensures bad { IfSome result (IsBadRecAt units.now) }
+    ensures none { IfNone result (IsRecords front.now) }
+{
+    let mut rest = front;
+    'records: while !rest.is_empty() {
+        let Ok((_, size)) = read(rest) else {
+            return Some(place_of(units, rest));
+        };
+        rest = rest.split_at(size).1;
+    }
+    None
+}
+
+/// The fault of units whose records up to this rest end with the first that fails a test: this one, unless the rest is no
+/// list of records.
+fn unlawful(units: &[u64], rest: &[u64], lsn: Lsn, why: Why) -> UnitsFault
+    requires fails { FailsBefore units.now rest.now lsn why }
+    requires fits { length units.now ≤ LAST }
+    ensures { IsUnitsFaultOf units.now result }
+{
+    match first_bad(units, rest) {
+        Some(lsn) => UnitsFault::BadRec { lsn },
+        None => UnitsFault::Unlawful { lsn, why },
+    }
+}
+
+/// A judge that has taken the records which the units spell. A place at which no record begins hides a record that fails a
+/// test, wherever it is.
+pub fn judge_of_units(alloc: Global, units: &[u64]) -> Result<Judge, UnitsFault>
+    requires { length units.now ≤ LAST }
+    ensures found { IfOk result (HasTakenUnits units.now) }
+    ensures fault { IfErr result (IsUnitsFaultOf units.now) }
+{
+    let Ok(mut judge) = Judge::make(alloc) else {
+        return Err(UnitsFault::NoMemory);
+    };
+    let mut rest = units;
+    'records: while !rest.is_empty() {
+        let lsn = place_of(units, rest);
+        let Ok((rec, size)) = read(rest) else {
+            return Err(UnitsFault::BadRec { lsn });
+        };
+        rest = rest.split_at(size).1;
+        match judge.take(lsn, &rec) {
+            Ok(()) => {}
+            Err(JudgeFault::NoMemory) => return Err(UnitsFault::NoMemory),
+            Err(JudgeFault::Why(why)) => return Err(unlawful(units, rest, lsn, why)),
+        }
+    }
+    Ok(judge)
+}
