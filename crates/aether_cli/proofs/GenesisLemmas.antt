@@ -9,15 +9,15 @@ use Rattle.log_record.specs.declared.rec.Entry.{Entry}
 use Rattle.log_record.specs.declared.rec.Rec.TheVariants.{Genesis}
 use Rattle.log_record.specs.LogList.{units_of, end_of}
 use Rattle.log_record.specs.Spelling.{spelling, IsBalance, IsSpellable}
-use Rattle.log_recovery.specs.History.{history, history_from, end_from, entry_at}
-use Rattle.log_recovery.specs.Lawful.{IsLawful, genesis_of}
+use Rattle.lock_core.specs.History.{history, history_from, end_from, entry_at}
+use Rattle.lock_core.specs.Lawful.{IsLawful, genesis_of}
 use Rattle.log_recovery.specs.Recovery.{HoldsLawful}
 use Rattle.segment_file.specs.File.{HoldsUnits}
-use Rattle.log_recovery.specs.Settling.{KeepsRows}
-use Rattle.log_recovery.specs.Tests.{IsGenesis}
+use Rattle.lock_core.specs.Settling.{KeepsRows}
+use Rattle.lock_core.specs.Tests.{IsGenesis}
 use Rattle.log_recovery.specs.Text.{rows_text, accounts_text}
-use Rattle.log_recovery.proofs.JudgingLemmas.{shows-kept}
-use Rattle.log_recovery.proofs.KindLemmas.{accounts-genesis, keeps-genesis, passes-genesis}
+use Rattle.lock_core.proofs.JudgingLemmas.{shows-kept}
+use Rattle.lock_core.proofs.KindLemmas.{accounts-genesis, keeps-genesis, passes-genesis}
 use Rattle.log_recovery.proofs.TextLemmas.{rows_text-shown}
 use Rattle.aether_cli.specs.Creation.{genesis_from, genesis_list}
 
