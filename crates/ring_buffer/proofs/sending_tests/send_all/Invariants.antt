@@ -1,7 +1,6 @@
 use Rattle.std.proofs.Common.{◌≡◌}
 use Rattle.log_table.specs.Seats.{IsOf, view_of}
 use Rattle.log_table.specs.Views.{read_to, sent_to}
-use Rattle.log_table.specs.declared.view.Role.TheVariants.{Flusher}
 use Rattle.ring_buffer.proofs.sending_tests.send_all.Given as goal
 
 abbrev pub invariant-loop-at : goal.invariant-loop-at
