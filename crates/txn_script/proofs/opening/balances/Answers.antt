@@ -37,5 +37,5 @@ lines-preserved c =
       rows = rw (c.push.ensures, before.rows) (sym (map_push (λ n. (n, 0)) before.read balance));
       room = rw (c.push.ensures) before.room;
       text = text-grows c.args.bytes.now before.read balance _ c.lines.rest.now c.in-Some.after.now before.text
-      c.in-Some.ensures.line c.in-Some-next_balance.ensures.text;
+          c.in-Some.ensures.line c.in-Some-next_balance.ensures.text;
     }

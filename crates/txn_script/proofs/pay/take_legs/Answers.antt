@@ -26,8 +26,13 @@ legs-preserved c =
     let before = c.legs.invariant in
     let taken = c.in_ok-leg.ensures in
     rw (c.push.ensures) (record {
-      few = omega (arith, before.few, length-append c.legs.legs (c.in_ok-leg.leg ∷ []), ap length c.as_slice.ensures.legs,
-      c.if-as_slice-eq-MOST_LEGS.false);
+      few = omega (
+        arith,
+        before.few,
+        length-append c.legs.legs (c.in_ok-leg.leg ∷ []),
+        ap length c.as_slice.ensures.legs,
+        c.if-as_slice-eq-MOST_LEGS.false,
+      );
       each = all-push (IsAllowedLeg c.args.accounts) c.legs.legs c.in_ok-leg.leg before.each taken.allowed;
       whole = λ some. taken.whole;
       text = more-text c.args.bytes.now c.legs.rest.now c.in_ok-leg.after.now c.legs.legs c.in_ok-leg.leg before.text taken.text;
