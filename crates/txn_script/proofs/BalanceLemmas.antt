@@ -56,7 +56,14 @@ none_left : (ns before : List ℕ) (rest : List (List ℕ)) → 0 < length ns �
     → (length before < length ns → ⊥) → BeginsOutside (length before) rest → ⊥
 none_left ns before [] some same not_less outside = omega (arith, not_less, outside)
 none_left ns before (line ∷ more) some same not_less outside =
-    omega (arith, not_less, ap length same, length-append (map number_text before) (line ∷ more), length-map ns number_text, length-map before number_text)
+    omega (
+      arith,
+      not_less,
+      ap length same,
+      length-append (map number_text before) (line ∷ more),
+      length-map ns number_text,
+      length-map before number_text,
+    )
 
 pub balances-or_bad : (bytes ns : List ℕ) (line : ℕ) → IsBalancesText bytes ns → IsFirstBadBalance bytes line → ⊥
 balances-or_bad bytes ns line all bad =

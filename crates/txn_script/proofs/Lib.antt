@@ -1,4 +1,6 @@
 pub mod BalanceLemmas
+pub mod JobLemmas
+pub mod LegLemmas
 pub mod LineLemmas
-pub mod PartLemmas
+pub mod NumberLemmas
 pub mod ScriptLemmas

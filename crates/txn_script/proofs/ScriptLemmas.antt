@@ -6,7 +6,7 @@ use Rattle.std.proofs.lemmas.List.Elements.{All-nil, All-cons, All-head, All-tai
 use Rattle.txn_script.specs.declared.job.Job.{Job}
 use Rattle.txn_script.specs.Lines.{lines}
 use Rattle.txn_script.specs.Script.{job_text, filled, IsAllowedJob, IsScriptText, IsScriptLine, IsFirstBadLine}
-use Rattle.txn_script.proofs.PartLemmas.{job-same}
+use Rattle.txn_script.proofs.JobLemmas.{job-same}
 
 filled-next : (line : List ℕ) (each : List (List ℕ)) → false ≡ (length line == 0) → filled (line ∷ each) ≡ line ∷ filled each
 filled-next line each some = rw (sym some) refl
@@ -53,8 +53,8 @@ each-same accounts few (j ∷ js) [] allowed_j allowed_k same = absurd (omega (a
 each-same accounts few (j ∷ js) (k ∷ ks) allowed_j allowed_k same =
     let head : j ≡ k = job-same accounts few j k (All-head (IsAllowedJob accounts) j js allowed_j) (All-head (IsAllowedJob accounts) k ks allowed_k)
     (ap (λ ls. get_or ls 0 []) same) in
-    let tail : js ≡ ks = each-same accounts few js ks (All-tail (IsAllowedJob accounts) j js allowed_j) (All-tail (IsAllowedJob accounts) k ks allowed_k)
-    (ap (drop 1) same) in
+    let tail : js ≡ ks = each-same accounts few js ks (All-tail (IsAllowedJob accounts) j js allowed_j)
+    (All-tail (IsAllowedJob accounts) k ks allowed_k) (ap (drop 1) same) in
     λ i. head i ∷ tail i
 
 pub jobs-same : (accounts : ℕ) (bytes : List ℕ) (js ks : List Job) → accounts < 2 ^ 32 → IsScriptText accounts bytes js

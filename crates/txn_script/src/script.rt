@@ -66,7 +66,8 @@ pub fn parse(alloc: Global, bytes: &[u8], accounts: u32) -> Result<Script, Parse
 pub fn script_one_reading()
     ensures jobs { (accounts : ℕ) (bytes : List ℕ) (js ks : List Job) → accounts < 2 ^ 32 → IsScriptText accounts bytes js
         → IsScriptText accounts bytes ks → js ≡ ks }
-    ensures line { (accounts : ℕ) (bytes : List ℕ) (a b : ℕ) → IsFirstBadLine accounts bytes a → IsFirstBadLine accounts bytes b → a ≡ b }
+    ensures line { (accounts : ℕ) (bytes : List ℕ) (a b : ℕ) → IsFirstBadLine accounts bytes a
+        → IsFirstBadLine accounts bytes b → a ≡ b }
     ensures apart { (accounts : ℕ) (bytes : List ℕ) (js : List Job) (line : ℕ) → IsScriptText accounts bytes js
         → IsFirstBadLine accounts bytes line → ⊥ }
 {}

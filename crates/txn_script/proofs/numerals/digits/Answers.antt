@@ -11,4 +11,6 @@ returns-in-Ok c = λ n small text.
     c.ok.ensures.value ∙ ap result_ok read
 
 pub returns-in-Err : goal.returns-in-Err
-returns-in-Err c = λ n small text. absurd (c.in-Err.ensures.cases.0 (subst IsUtf8 (sym text) (IsUtf8-from_ascii (number_text n) (IsAscii-decimal n (omega arith)))))
+returns-in-Err c = λ n small text.
+    let ascii = IsUtf8-from_ascii (number_text n) (IsAscii-decimal n (omega arith)) in
+    absurd (c.in-Err.ensures.cases.0 (subst IsUtf8 (sym text) ascii))

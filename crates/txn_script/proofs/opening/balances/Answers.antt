@@ -36,5 +36,6 @@ lines-preserved c =
       each = All-push IsBalance before.read balance before.each c.in-Some-next_balance.ensures.balance;
       rows = rw (c.push.ensures, before.rows) (sym (map_push (λ n. (n, 0)) before.read balance));
       room = rw (c.push.ensures) before.room;
-      text = text-grows c.args.bytes.now before.read balance _ c.lines.rest.now c.in-Some.after.now before.text c.in-Some.ensures.line c.in-Some-next_balance.ensures.text;
+      text = text-grows c.args.bytes.now before.read balance _ c.lines.rest.now c.in-Some.after.now before.text
+          c.in-Some.ensures.line c.in-Some-next_balance.ensures.text;
     }

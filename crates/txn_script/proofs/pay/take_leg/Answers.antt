@@ -1,6 +1,7 @@
 use Rattle.std.proofs.Common.{◌++◌, ◌∙◌, sym, true≢false, arith}
 use Rattle.txn_script.specs.Script.{spaced}
-use Rattle.txn_script.proofs.PartLemmas.{reads-payer, reads-payee, reads-amount, space-ends}
+use Rattle.txn_script.proofs.NumberLemmas.{space-ends}
+use Rattle.txn_script.proofs.LegLemmas.{reads-payer, reads-payee, reads-amount}
 use Rattle.txn_script.proofs.pay.take_leg.Goals as goal
 
 pub returns-in_err-to-clause-none : goal.returns-in_err-to-clause-none

@@ -1,6 +1,6 @@
 use Rattle.std.proofs.Common.{◌∙◌, ap, drop, length-drop, arith}
 use Rattle.std.proofs.lemmas.List.{take_all}
-use Rattle.txn_script.proofs.PartLemmas.{reads-digits}
+use Rattle.txn_script.proofs.NumberLemmas.{reads-digits}
 use Rattle.txn_script.proofs.pay.take_number.Goals as goal
 
 pub returns-in_err-n-clause-none : goal.returns-in_err-n-clause-none

@@ -1,59 +1,14 @@
--- The parts of a transfer's line can be told apart in one way.
-use Rattle.std.proofs.Common.{◌≡◌, ◌<◌, ◌≤◌, ◌^◌, ◌∙◌, sym, refl, ap, subst, ℕ, List, [], ◌∷◌, ◌++◌, append_assoc, append-nil, zero, suc, length, length-append, take, drop, take-append-drop, slice_index, get_or, arith, All, Option, Some, None}
+-- The legs of a transfer are told apart, and from what follows them, in one way.
+use Rattle.std.proofs.Common.{◌≡◌, ◌<◌, ◌^◌, ◌∙◌, sym, refl, ap, subst, ℕ, List, [], ◌∷◌, ◌++◌, append_assoc, append-nil, length, length-append, arith, All}
 use Rattle.std.specs.List.{AllByRecursion}
-use Rattle.std.specs.Str.Parse.{AllDigits}
-use Rattle.std.proofs.lemmas.List.Elements.{All-nil, All-cons, All-head, All-tail}
-use Rattle.std.proofs.lemmas.Str.Parse.{digit_from_value}
-use Rattle.std.proofs.lemmas.Fmt.{decimal_is_IsNumeral, decimal_nonempty, decimal_injective}
 use Rattle.std.proofs.lemmas.List.Concat.{flat_map-append}
+use Rattle.std.proofs.lemmas.List.Elements.{All-head}
+use Rattle.std.proofs.lemmas.Fmt.{decimal_nonempty}
 use Rattle.lsn_space.specs.Number.{number_text}
-use Rattle.txn_script.specs.declared.job.Job.{Job}
 use Rattle.txn_script.specs.declared.pay.TheConstants.{SPACE}
 use Rattle.txn_script.specs.Reading.{IsDigit, EndsNumber, BeginsLeg, EndsLegs}
-use Rattle.txn_script.specs.Script.{spaced, leg_text, legs_text, note_text, job_text, IsAllowedLeg, AreAllowedLegs, IsAllowedJob}
-
-digits-all : (ds : List ℕ) → AllDigits 10 ds → All IsDigit ds
-digits-all [] all = All-nil IsDigit
-digits-all (c ∷ cs) all = All-cons IsDigit c cs (digit_from_value c all.0) (digits-all cs all.1)
-
-pub number-digits : (n : ℕ) → n < 2 ^ 32 → All IsDigit (number_text n)
-number-digits n small = digits-all (number_text n) (decimal_is_IsNumeral n (omega arith)).0.1
-
--- digits before something else are the same digits
-pub digits-whole : (ds es x y : List ℕ) → All IsDigit ds → All IsDigit es → EndsNumber x → EndsNumber y → ds ++ x ≡ es ++ y
-    → (ds ≡ es) × (x ≡ y)
-digits-whole [] [] x y all_d all_e end_x end_y same = (refl, same)
-digits-whole [] (e ∷ es) x y all_d all_e end_x end_y same = absurd (subst EndsNumber same end_x (All-head IsDigit e es all_e))
-digits-whole (d ∷ ds) [] x y all_d all_e end_x end_y same = absurd (subst EndsNumber (sym same) end_y (All-head IsDigit d ds all_d))
-digits-whole (d ∷ ds) (e ∷ es) x y all_d all_e end_x end_y same =
-    let head : d ≡ e = ap (λ l. get_or l 0 0) same in
-    let tail = digits-whole ds es x y (All-tail IsDigit d ds all_d) (All-tail IsDigit e es all_e) end_x end_y (ap (drop 1) same) in
-    (rw (head, tail.0) refl, tail.1)
-
-ends-behind : (len : ℕ) (bytes : List ℕ) → len ≤ length bytes → (len < length bytes → IsDigit (slice_index bytes len) → ⊥)
-    → EndsNumber (drop len bytes)
-ends-behind zero [] within end = tt
-ends-behind (suc len) [] within end = tt
-ends-behind zero (byte ∷ bytes) within end = end (omega arith)
-ends-behind (suc len) (byte ∷ bytes) within end = ends-behind len bytes (omega arith) (λ below. end (omega arith))
-
--- all digits that come next were read, so they are the number's
-pub reads-digits : (len : ℕ) (bytes : List ℕ) → len ≤ length bytes → All IsDigit (take len bytes)
-    → (len < length bytes → IsDigit (slice_index bytes len) → ⊥) → (n : ℕ) (rest : List ℕ) → n < 2 ^ 32 → EndsNumber rest
-    → bytes ≡ number_text n ++ rest → take len bytes ≡ number_text n
-reads-digits len bytes within digits end n rest small whole same =
-    (digits-whole (take len bytes) (number_text n) (drop len bytes) rest digits (number-digits n small)
-    (ends-behind len bytes within end) whole (take-append-drop len bytes ∙ same)).0
-
-pub number-whole : (m n : ℕ) (x y : List ℕ) → m < 2 ^ 32 → n < 2 ^ 32 → EndsNumber x → EndsNumber y
-    → spaced m ++ x ≡ spaced n ++ y → (m ≡ n) × (x ≡ y)
-number-whole m n x y small_m small_n end_x end_y same =
-    let both = digits-whole (number_text m) (number_text n) x y (number-digits m small_m) (number-digits n small_n) end_x end_y
-    (ap (drop 1) same) in
-    (decimal_injective m n (omega arith) (omega arith) both.0, both.1)
-
-pub space-ends : IsDigit SPACE → ⊥
-space-ends digit = omega (arith, digit.0)
+use Rattle.txn_script.specs.Script.{spaced, leg_text, legs_text, IsAllowedLeg, AreAllowedLegs}
+use Rattle.txn_script.proofs.NumberLemmas.{number-digits, number-whole, space-ends}
 
 -- the parts of a leg, one after another
 pub leg-parts : (leg : ℕ × ℕ × ℕ) (rest : List ℕ) → leg_text leg ++ rest ≡ spaced leg.0 ++ (spaced leg.1 ++ (spaced leg.2 ++ rest))
@@ -69,7 +24,8 @@ pub more-text : (bytes rest after : List ℕ) (legs : List (ℕ × ℕ × ℕ)) 
     → rest ≡ leg_text leg ++ after → bytes ≡ legs_text (legs ++ leg ∷ []) ++ after
 more-text bytes rest after legs leg text next =
     text ∙ ap (λ more. legs_text legs ++ more) next ∙ sym (append_assoc (legs_text legs) (leg_text leg) after)
-    ∙ ap (λ all. all ++ after) (ap (λ last. legs_text legs ++ last) (sym (append-nil (leg_text leg))) ∙ sym (flat_map-append leg_text legs (leg ∷ [])))
+    ∙ ap (λ all. all ++ after) (ap (λ last. legs_text legs ++ last) (sym (append-nil (leg_text leg)))
+    ∙ sym (flat_map-append leg_text legs (leg ∷ [])))
 
 module _ (accounts : ℕ) (few : accounts < 2 ^ 32) where
   -- the parts of a leg are read in turn
@@ -95,7 +51,8 @@ module _ (accounts : ℕ) (few : accounts < 2 ^ 32) where
   leg-whole l m x y allowed_l allowed_m end_x end_y same =
       let payer = reads-payer m y allowed_m end_y (leg_text l ++ x) (spaced l.1 ++ (spaced l.2 ++ x)) l.0 (omega (arith, allowed_l.payer))
       space-ends (leg-parts l x) same in
-      let payee = reads-payee m y allowed_m end_y (spaced l.1 ++ (spaced l.2 ++ x)) (spaced l.2 ++ x) l.1 (omega (arith, allowed_l.payee)) space-ends refl payer.1 in
+      let payee = reads-payee m y allowed_m end_y (spaced l.1 ++ (spaced l.2 ++ x)) (spaced l.2 ++ x) l.1 (omega (arith, allowed_l.payee))
+      space-ends refl payer.1 in
       let amount = reads-amount m y allowed_m end_y (spaced l.2 ++ x) x l.2 (omega (arith, allowed_l.most)) end_x refl payee.1 in
       ((λ i. (payer.0 i, payee.0 i, amount.0 i)), amount.1)
 
@@ -106,7 +63,8 @@ module _ (accounts : ℕ) (few : accounts < 2 ^ 32) where
   pub leg-begins : (leg : ℕ × ℕ × ℕ) (rest : List ℕ) → IsAllowedLeg accounts leg → BeginsLeg (leg_text leg ++ rest)
   leg-begins leg rest allowed =
       subst BeginsLeg (sym (leg-parts leg rest))
-      (begins (number_text leg.0) (spaced leg.1 ++ (spaced leg.2 ++ rest)) (decimal_nonempty leg.0 (omega (arith, allowed.payer))) (number-digits leg.0 (omega (arith, allowed.payer))))
+      (begins (number_text leg.0) (spaced leg.1 ++ (spaced leg.2 ++ rest)) (decimal_nonempty leg.0 (omega (arith, allowed.payer)))
+      (number-digits leg.0 (omega (arith, allowed.payer))))
 
   legs-end : (legs : List (ℕ × ℕ × ℕ)) (rest : List ℕ) → EndsNumber rest → EndsNumber (legs_text legs ++ rest)
   legs-end [] rest end = end
@@ -161,26 +119,9 @@ module _ (accounts : ℕ) (few : accounts < 2 ^ 32) where
       let front = legs-front ls ms x y allowed_l.each allowed_m.each (λ some. ends_x.number) ends_y same in
       from_front front.0 front.1 front.2 front.3
     where
-      from_front : (more : List (ℕ × ℕ × ℕ)) → ms ≡ ls ++ more → AllByRecursion (IsAllowedLeg accounts) more → x ≡ legs_text more ++ y → (ls ≡ ms) × (x ≡ y)
+      from_front : (more : List (ℕ × ℕ × ℕ)) → ms ≡ ls ++ more → AllByRecursion (IsAllowedLeg accounts) more → x ≡ legs_text more ++ y
+          → (ls ≡ ms) × (x ≡ y)
       from_front [] all allowed is = (sym (append-nil ls) ∙ sym all, is)
       from_front (leg ∷ more) all allowed is =
           absurd (ends_x.leg (subst BeginsLeg (sym (is ∙ append_assoc (leg_text leg) (legs_text more) y))
           (leg-begins leg (legs_text more ++ y) allowed.0)))
-
-  pub note-ends : (note : Option (List ℕ)) → EndsLegs (note_text note)
-  note-ends None = record { number = tt; leg = λ begun. begun }
-  note-ends (Some text) = record { number = space-ends; leg = λ begun. omega (arith, begun.1.1) }
-
-  note-same : (a b : Option (List ℕ)) → note_text a ≡ note_text b → a ≡ b
-  note-same None None same = refl
-  note-same None (Some text) same = absurd (omega (arith, ap length same))
-  note-same (Some text) None same = absurd (omega (arith, ap length same))
-  note-same (Some text) (Some other) same = ap Some (ap (drop 3) same)
-
-  -- a line is one transfer at most
-  pub job-same : (j k : Job) → IsAllowedJob accounts j → IsAllowedJob accounts k → job_text j ≡ job_text k → j ≡ k
-  job-same j k allowed_j allowed_k same =
-      let parts = legs-whole j.legs k.legs (note_text j.note) (note_text k.note) allowed_j.legs allowed_k.legs
-      (note-ends j.note) (note-ends k.note) (ap (drop 3) same) in
-      let note = note-same j.note k.note parts.1 in
-      λ i. record { legs = parts.0 i; note = note i }
