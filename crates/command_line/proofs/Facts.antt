@@ -10,9 +10,9 @@ use Rattle.clap.specs.Kinds.{Kinds, or_else}
 use Rattle.clap.specs.Simple.{entered, rows_at, names_of, argument_words}
 use Rattle.clap.specs.Walk.{Names, Held, Text, finished, nothing_held, settled, stop_after, walk, walk_from}
 use Rattle.clap.specs.Words.{App, Row, Shape, is_simple, is_simple_and_free, subcommand_of, fault_of, built}
-use Rattle.command_line.specs.CommandLine.{aether_command, new_command, AreTaken, NamesSubcommand, IsCommandLine, IsRefusalOf}
+use Rattle.command_line.specs.CommandLine.{aether_command, new_command, AreTaken, NamesSubcommand, IsCommandLine, IsRefusalOf, log_in}
 use Rattle.command_line.specs.declared.command.Command.{Command}
-use Rattle.command_line.specs.declared.command.Command.TheVariants.{New}
+use Rattle.command_line.specs.declared.command.Command.TheVariants.{New, Recover}
 use Rattle.command_line.specs.declared.command.Refused.{Refused}
 use Rattle.command_line.specs.declared.command.Refused.TheVariants.{NoMemory}
 
@@ -119,3 +119,31 @@ module _ {B : Type 0} (name_of : B → Text) (rows_of : B → List Row) where
   pub rows-none : (sub : Option B) → false ≡ is_some sub → is_some (option_map both sub) ≡ false
   rows-none None none = refl
   rows-none (Some b) none = cc
+
+-- words that are taken ask something
+some-pair : {X : Type 0} (o : Option X) → is_some o ≡ true → (x : X) × (o ≡ Some x)
+some-pair None is = cc
+some-pair (Some x) is = (x, refl)
+
+pub asks-some : (words : List (List ℕ)) → AreTaken words → IsCommandLine words Recover ⊎ (log : List ℕ) × IsCommandLine words (New log)
+asks-some words taken =
+    let found = some-pair (subcommand_of aether_command words) (named_some words taken) in
+    let named : NamesSubcommand words found.0.0 found.0.1 = found.1 in
+    elim (named-one words found.0.0 found.0.1 named) [
+      | inl new ↦ inr (log_in found.0.1, (taken, found.0.1, rw new at named, refl))
+      | inr recover ↦ inl (taken, found.0.1, rw recover at named)
+    ]
+
+same-pair : {A B : Type 0} (p q : A × B) → Some p ≡ Some q → (p.0 ≡ q.0) × (p.1 ≡ q.1)
+same-pair p q same = let equal : p ≡ q = cc in (ap (λ r. r.0) equal, ap (λ r. r.1) equal)
+
+other-name : codes "new" ≡ codes "recover" → ⊥
+other-name same = cc
+
+pub asks-apart : (words : List (List ℕ)) (log : List ℕ) → IsCommandLine words (New log) → IsCommandLine words Recover → ⊥
+asks-apart words log new recover = other-name (same-pair (codes "new", new.1) (codes "recover", recover.1) (sym new.2 ∙ recover.2)).0
+
+pub asks-log : (words : List (List ℕ)) (one other : List ℕ) → IsCommandLine words (New one) → IsCommandLine words (New other) → one ≡ other
+asks-log words one other first second =
+    let same = (same-pair (codes "new", first.1) (codes "new", second.1) (sym first.2 ∙ second.2)).1 in
+    first.3 ∙ ap log_in same ∙ sym second.3

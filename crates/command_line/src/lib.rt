@@ -3,9 +3,11 @@
 
 mod command;
 mod definition;
+mod laws;
 mod parsing;
 #[cfg(test)]
 mod tests;
 
 pub use command::{Command, Refused};
+pub use laws::one_command;
 pub use parsing::parse;
