@@ -1,17 +1,19 @@
--- What `recover` answers, from what was read, recovered and written.
-use Rattle.std.proofs.Common.{◌≡◌, ℕ, List, [], Option, Some, None, IfSome, subst}
+-- What `recover` and `new` answer, from what was read, recovered and written.
+use Rattle.std.proofs.Common.{◌≡◌, ℕ, ◌*◌, List, [], length, Option, Some, None, IfSome, ap, ◌∙◌, subst, arith}
+use Rattle.std.proofs.lemmas.List.{length-map}
 use Rattle.std.specs.Io.KnownBytes.{Appends}
 use Rattle.log_disk.specs.Streams.{AppendsPrefix}
 use Rattle.log_recovery.specs.declared.recovery.Recovered.{Recovered}
 use Rattle.log_recovery.specs.Recovery.{Recovers}
-use Rattle.log_recovery.specs.Text.{rows_text}
+use Rattle.log_recovery.specs.Text.{rows_text, accounts_text}
+use Rattle.lsn_space.specs.Accounts.{Accounts}
+use Rattle.txn_script.specs.Balances.{IsBalancesText, IsFirstBadBalance}
 use Rattle.log_recovery.proofs.TextLemmas.{rows_text-shown}
-use Rattle.aether_cli.specs.declared.report.Detail.TheVariants.{Fine, Write}
-use Rattle.aether_cli.specs.Answers.{AnswersRecover}
-
--- what was read is all that was left
-abbrev pub ReadsAll : Option (List ℕ) → Option (List ℕ) → List ℕ → Type 0
-ReadsAll left left_new bytes = IfSome left (λ all. (bytes ≡ all) × (left_new ≡ Some []))
+use Rattle.aether_cli.specs.declared.report.Detail.TheVariants.{Fine, NoMemory, Usage, Script, Read, Write, Disk, NotALog, BadBatch, BadRec, Unlawful, Exists}
+use Rattle.aether_cli.specs.declared.report.Detail.{Detail}
+use Rattle.aether_cli.specs.Answers.{AnswersRecover, AnswersNew, AreOpening, IsMakingFault, ReadsAll}
+use Rattle.aether_cli.specs.Creation.{genesis_list}
+use Rattle.aether_cli.proofs.GenesisLemmas.{genesis-text}
 
 pub answers-fine : (left left_new old new : Option (List ℕ)) (bytes : List ℕ) (r : Recovered) → ReadsAll left left_new bytes → Recovers r bytes
     → Appends old new (rows_text r.lsn r.accounts.rows) → IfSome left (λ all. AnswersRecover all left_new old new Fine)
@@ -26,3 +28,25 @@ answers-write None left_new old new bytes r read recovers written = tt
 answers-write (Some all) left_new old new bytes r read recovers written =
     let found = subst (λ b. Recovers r b) read.0 recovers in
     (read.1, found.records, found.held, rw (rows_text-shown _ _ found.records found.lsn found.accounts) at written)
+
+-- the text of the new log's accounts
+text-opening : (left left_new : Option (List ℕ)) (accounts : Accounts) (opening : AreOpening left left_new accounts) (lsn : ℕ) → lsn ≡ 2 * length accounts.rows
+    → rows_text lsn accounts.rows ≡ accounts_text (genesis_list opening.2.0)
+text-opening left left_new accounts opening lsn is =
+    let rows = opening.2.2 in
+    let counted = ap length rows ∙ length-map opening.2.0 (λ (balance : ℕ). (balance, 0)) in
+    ap (rows_text lsn) rows ∙ genesis-text opening.2.0 opening.2.1.most opening.2.1.each lsn (omega arith)
+
+pub answers_new-fine : (left left_new old new : Option (List ℕ)) (accounts : Accounts) (lsn : ℕ) → AreOpening left left_new accounts
+    → lsn ≡ 2 * length accounts.rows → Appends old new (rows_text lsn accounts.rows) → IfSome left (λ bytes. AnswersNew bytes left_new old new Fine)
+answers_new-fine None left_new old new accounts lsn opening is written = tt
+answers_new-fine (Some bytes) left_new old new accounts lsn opening is written =
+    (opening.1.1, opening.2.0, subst (λ text. IsBalancesText text opening.2.0) opening.1.0 opening.2.1,
+    rw (text-opening (Some bytes) left_new accounts opening lsn is) at written)
+
+pub answers_new-write : (left left_new old new : Option (List ℕ)) (accounts : Accounts) (lsn : ℕ) → AreOpening left left_new accounts
+    → lsn ≡ 2 * length accounts.rows → AppendsPrefix old new (rows_text lsn accounts.rows) → IfSome left (λ bytes. AnswersNew bytes left_new old new Write)
+answers_new-write None left_new old new accounts lsn opening is written = tt
+answers_new-write (Some bytes) left_new old new accounts lsn opening is written =
+    (opening.1.1, opening.2.0, subst (λ text. IsBalancesText text opening.2.0) opening.1.0 opening.2.1,
+    rw (text-opening (Some bytes) left_new accounts opening lsn is) at written)

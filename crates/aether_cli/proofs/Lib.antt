@@ -1,1 +1,5 @@
 pub mod AnswerLemmas
+pub mod CompletenessLemmas
+pub mod CreationLemmas
+pub mod GenesisLemmas
+pub mod LawLemmas

@@ -1,10 +1,10 @@
 -- The line that says why the program ends. A line ends with LF.
 use Rattle.std.specs.Prelude.{ℕ, List, [], ◌++◌, codes}
 use Rattle.lsn_space.specs.Number.{number_text}
-use Rattle.log_recovery.specs.declared.reason.Why.{Why}
-use Rattle.log_recovery.specs.declared.reason.Why.TheVariants as why
+use Rattle.lock_core.specs.declared.reason.Why.{Why}
+use Rattle.lock_core.specs.declared.reason.Why.TheVariants as why
 use Rattle.aether_cli.specs.declared.report.Detail.{Detail}
-use Rattle.aether_cli.specs.declared.report.Detail.TheVariants.{Fine, NoMemory, Usage, Read, Write, NotALog, BadBatch, BadRec, Unlawful}
+use Rattle.aether_cli.specs.declared.report.Detail.TheVariants.{Fine, NoMemory, Usage, Script, Read, Write, Disk, NotALog, BadBatch, BadRec, Unlawful, Exists}
 
 abbrev pub usage_line : List ℕ
 usage_line = codes "usage: aether new LOG | run LOG [--workers N] [--ring R] [--slots K] [--wait] | recover | dump | demo LOG N SEED [--workers N] [--ring R] [--slots K]\n"
@@ -24,9 +24,12 @@ abbrev pub fault_line : Detail → List ℕ
 fault_line Fine = []
 fault_line NoMemory = codes "aether: out of memory\n"
 fault_line Usage = usage_line
+fault_line (Script line) = codes "aether: line " ++ number_text line ++ codes " refused\n"
 fault_line Read = codes "aether: read failed\n"
 fault_line Write = codes "aether: write failed\n"
+fault_line Disk = codes "aether: disk failed\n"
 fault_line NotALog = codes "aether: not a log\n"
 fault_line (BadBatch offset) = codes "aether: bad batch at byte " ++ number_text offset ++ codes "\n"
 fault_line (BadRec lsn) = codes "aether: bad record at lsn " ++ number_text lsn ++ codes "\n"
 fault_line (Unlawful lsn test) = codes "aether: unlawful record at lsn " ++ number_text lsn ++ (codes ": " ++ why_text test ++ codes "\n")
+fault_line Exists = codes "aether: log exists\n"

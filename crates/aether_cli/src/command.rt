@@ -1,6 +1,3 @@
-ghost use Rattle.std.specs.Prelude.{◌↔◌, IsTrue};
-ghost use Rattle.aether_cli.specs.Answers.{IsRecoverCommand};
-
 use crate::report::Detail;
 use lsn_space::Word;
 use std::env;
@@ -19,14 +16,4 @@ pub fn words_of(rt: &HostRuntime) -> Result<Vec<Word>, Detail> {
         words.push(word).map_err(|_| Detail::NoMemory)?;
     }
     Ok(words)
-}
-
-/// Whether the words are the program's name and `recover`.
-pub fn is_recover(words: &[Word]) -> bool
-    ensures { IsTrue result ↔ IsRecoverCommand words.now }
-{
-    match words {
-        [_, command] => command.text() == "recover",
-        _ => false,
-    }
 }

@@ -65,8 +65,10 @@ fn line_of(detail: Detail) -> Line
         Detail::Fine => text(b""),
         Detail::NoMemory => text(b"aether: out of memory\n"),
         Detail::Usage => text(USAGE),
+        Detail::Script { line } => numbered(b"aether: line ", line, b" refused\n"),
         Detail::Read => text(b"aether: read failed\n"),
         Detail::Write => text(b"aether: write failed\n"),
+        Detail::Disk => text(b"aether: disk failed\n"),
         Detail::NotALog => text(b"aether: not a log\n"),
         Detail::BadBatch { offset } => numbered(b"aether: bad batch at byte ", offset, b"\n"),
         Detail::BadRec { lsn } => {
@@ -76,6 +78,7 @@ fn line_of(detail: Detail) -> Line
             let before = b"aether: unlawful record at lsn ";
             numbered(before, lsn.units() as u64, reason(why))
         }
+        Detail::Exists => text(b"aether: log exists\n"),
     }
 }
 

@@ -3,7 +3,11 @@
 
 mod command;
 mod faults;
+mod finding;
+mod genesis;
 mod input;
+mod laws;
+mod new_command;
 mod recover_command;
 mod report;
 #[cfg(test)]
@@ -12,17 +16,27 @@ mod top;
 
 use command::words_of;
 use faults::put_fault;
-use log_disk::{StdSink, StdSource};
+use log_disk::{FileDisk, StdSink, StdSource};
 use report::Report;
+use std::fs::File;
+use std::io;
 use std::process::ExitCode;
 use top::aether;
 
+/// The root folder, opened thrice. Where standard streams are closed it takes their numbers, so that no file that is
+/// opened later gets one of them.
+fn hold_streams(rt: &HostRuntime) -> [io::Result<File>; 3] {
+    [File::open(rt, "/"), File::open(rt, "/"), File::open(rt, "/")]
+}
+
 fn main(rt: HostRuntime) -> ExitCode {
+    let _held = hold_streams(&rt);
     let report = match words_of(&rt) {
         Ok(words) => {
             let mut script = StdSource::make(rt.stdin());
             let mut out = StdSink::make(rt.stdout());
-            aether(&rt, rt.alloc(), words.as_slice(), &mut script, &mut out)
+            let mut disk = FileDisk::make(rt);
+            aether(&rt, rt.alloc(), words.as_slice(), &mut disk, &mut script, &mut out)
         }
         Err(detail) => Report::of(detail),
     };

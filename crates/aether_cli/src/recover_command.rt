@@ -1,6 +1,6 @@
 ghost use Rattle.std.specs.Prelude.{◌≡◌, ◌≤◌, IfSome};
 ghost use Rattle.log_disk.specs.Faults.{Rose};
-ghost use Rattle.aether_cli.specs.Answers.{AnswersRecover, StaysSilent, recover_detail};
+ghost use Rattle.aether_cli.specs.Answers.{AnswersRecover, IsOfRecover, StaysSilent, recover_detail};
 
 use crate::input::{ReadFault, read_all};
 use crate::report::Detail;
@@ -13,7 +13,7 @@ pub fn recover_command<S: Source, K: Sink>(alloc: Global, script: &mut S, out: &
     ensures answer { IfSome (S.left script.old) (λ bytes.
         AnswersRecover bytes (S.left script.new) (K.held_bytes out.old) (K.held_bytes out.new) result) }
     ensures silent { StaysSilent (K.held_bytes out.old) (K.held_bytes out.new) result }
-    ensures usage { result ≡ Detail.Usage → ⊥ }
+    ensures range { IsOfRecover result }
     ensures read { result ≡ Detail.Read → Rose (S.faults script.old) (S.faults script.new) }
     ensures write { result ≡ Detail.Write → Rose (K.faults out.old) (K.faults out.new) }
     ensures later { (S.faults script.old ≤ S.faults script.new) × (K.faults out.old ≤ K.faults out.new) }

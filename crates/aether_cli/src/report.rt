@@ -15,11 +15,17 @@ pub enum Detail {
     /// The command line is none of the program's.
     Usage,
 
+    /// This line of the input, counted from 1, is the first outside its grammar.
+    Script { line: u64 },
+
     /// Standard input could not be read.
     Read,
 
     /// Standard output could not be written.
     Write,
+
+    /// A file could not be opened, read, written or synced.
+    Disk,
 
     /// The input doesn't begin as a log.
     NotALog,
@@ -32,6 +38,9 @@ pub enum Detail {
 
     /// The record that starts at this LSN is the first that fails a test, and this is the first that it fails.
     Unlawful { lsn: Lsn, why: Why },
+
+    /// A log is there already: the file begins with an open gate.
+    Exists,
 }
 
 impl Detail {
@@ -43,12 +52,15 @@ impl Detail {
             Detail::Fine => 0,
             Detail::NoMemory => 1,
             Detail::Usage => 2,
+            Detail::Script { .. } => 3,
             Detail::Read => 4,
             Detail::Write => 5,
+            Detail::Disk => 6,
             Detail::NotALog
             | Detail::BadBatch { .. }
             | Detail::BadRec { .. }
             | Detail::Unlawful { .. } => 7,
+            Detail::Exists => 10,
         }
     }
 }

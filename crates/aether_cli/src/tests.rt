@@ -1,9 +1,9 @@
-//! The program's answers, over a source and a sink in memory.
+//! The program's answers, over a disk, a source and a sink in memory.
 
 use crate::faults::put_fault;
 use crate::report::{Detail, Report};
 use crate::top::aether;
-use log_disk::{MemorySink, MemorySource};
+use log_disk::{MemoryDisk, MemorySink, MemorySource};
 use log_recovery::Why;
 use lsn_space::{Lsn, Word};
 use std::test::Fail;
@@ -25,10 +25,11 @@ const WRONG_PREDECESSOR: &[u8] = b"O\0\0\0\x02\x02\x02\0\0\0\0\0\x01\xff\xff\xff
 
 const GENESIS_TEXT: &[u8] = b"lsn 4\n0 100\n1 0\n";
 
-/// Runs the program on words and an input; calls of the source and the sink with these numbers fail.
-fn answer_of(
+/// Runs the program on words, a disk and an input; calls of the source with these numbers fail.
+fn answer_on(
     rt: &HostRuntime,
     words: &[&str],
+    disk: &mut MemoryDisk,
     input: &[u8],
     source_failing: &[u64],
     out: &mut MemorySink,
@@ -43,7 +44,29 @@ fn answer_of(
     let Ok(mut script) = MemorySource::make(rt.alloc(), input, 7, source_failing) else {
         return Err(Fail::new("no memory"));
     };
-    Ok(aether(rt, rt.alloc(), line.as_slice(), &mut script, out))
+    let report = aether(rt, rt.alloc(), line.as_slice(), disk, &mut script, out);
+    Ok(report)
+}
+
+/// The same without a disk.
+fn answer_of(
+    rt: &HostRuntime,
+    words: &[&str],
+    input: &[u8],
+    source_failing: &[u64],
+    out: &mut MemorySink,
+) -> Result<Report, Fail> {
+    let mut none = disk_of(rt, b"", 0, &[])?;
+    answer_on(rt, words, &mut none, input, source_failing, out)
+}
+
+fn disk_of(
+    rt: &HostRuntime,
+    bytes: &[u8],
+    room: usize,
+    failing: &[u64],
+) -> Result<MemoryDisk, Fail> {
+    MemoryDisk::make(rt.alloc(), bytes, room, failing).map_err(|_| Fail::new("no memory"))
 }
 
 fn sink_of(rt: &HostRuntime, failing: &[u64]) -> Result<MemorySink, Fail> {
@@ -134,14 +157,116 @@ fn names_each_fault_and_writes_nothing(rt: HostRuntime) -> Result<(), Fail> {
     Ok(())
 }
 
+const NEW: &[&str] = &["aether", "new", "bank.log"];
+
+/// Room for the writes and syncs of a small log.
+const ROOM: usize = 400;
+
+#[test]
+fn makes_a_log_once(rt: HostRuntime) -> Result<(), Fail> {
+    let mut disk = disk_of(&rt, b"", ROOM, &[])?;
+    let mut out = sink_of(&rt, &[])?;
+    let report = answer_on(&rt, NEW, &mut disk, b"100\n0\n", &[], &mut out)?;
+    assert_eq!(rt; report, Report::of(Detail::Fine));
+    assert_eq!(rt; out.bytes(), GENESIS_TEXT);
+    assert_eq!(rt; disk.bytes(), GENESIS_LOG);
+
+    let report = answer_on(&rt, NEW, &mut disk, b"7\n", &[], &mut out)?;
+    assert_eq!(rt; report, Report::of(Detail::Exists));
+    assert_eq!(rt; report.status, 10);
+    assert_eq!(rt; out.bytes(), GENESIS_TEXT);
+    assert_eq!(rt; disk.bytes(), GENESIS_LOG);
+    Ok(())
+}
+
+#[test]
+fn recovers_what_new_made(rt: HostRuntime) -> Result<(), Fail> {
+    let mut disk = disk_of(&rt, b"an old text", ROOM, &[])?;
+    let mut made = sink_of(&rt, &[])?;
+    let report = answer_on(&rt, NEW, &mut disk, b"2147483647\n0\n5", &[], &mut made)?;
+    assert_eq!(rt; report, Report::of(Detail::Fine));
+    let text: &[u8] = b"lsn 6\n0 2147483647\n1 0\n2 5\n";
+    assert_eq!(rt; made.bytes(), text);
+
+    let mut recovered = sink_of(&rt, &[])?;
+    let report = answer_of(&rt, &["aether", "recover"], disk.bytes(), &[], &mut recovered)?;
+    assert_eq!(rt; report, Report::of(Detail::Fine));
+    assert_eq!(rt; recovered.bytes(), made.bytes());
+    Ok(())
+}
+
+#[test]
+fn makes_no_log_at_a_fault(rt: HostRuntime) -> Result<(), Fail> {
+    let cases: [(&[u8], &[u8], &[u64], &[u64], Detail); 9] = [
+        (b"", b"100\n0\n", &[1], &[], Detail::Disk),
+        (b"", b"100\n0\n", &[2], &[], Detail::Disk),
+        (b"", b"100\n0\n", &[4], &[], Detail::Disk),
+        (b"O\0", b"100\n0\n", &[], &[], Detail::Exists),
+        (b"O\0", b"no balances", &[], &[1], Detail::Exists),
+        (b"", b"100\n0\n", &[], &[1], Detail::Read),
+        (b"", b"", &[], &[], Detail::Script { line: 1 }),
+        (b"old", b"100\n\n", &[], &[], Detail::Script { line: 2 }),
+        (b"", b"100\r\n", &[], &[], Detail::Script { line: 1 }),
+    ];
+    for (bytes, input, disk_failing, source_failing, want) in cases {
+        let mut disk = disk_of(&rt, bytes, ROOM, disk_failing)?;
+        let mut out = sink_of(&rt, &[])?;
+        let report = answer_on(&rt, NEW, &mut disk, input, source_failing, &mut out)?;
+        assert_eq!(rt; report, Report::of(want), "{input:?}");
+        assert!(rt; out.bytes().is_empty(), "{input:?}");
+        assert_eq!(rt; disk.bytes(), bytes, "{input:?}");
+    }
+    Ok(())
+}
+
+#[test]
+fn leaves_the_log_where_its_text_cannot_be_written(rt: HostRuntime) -> Result<(), Fail> {
+    let mut disk = disk_of(&rt, b"", ROOM, &[])?;
+    let mut out = sink_of(&rt, &[1])?;
+    let report = answer_on(&rt, NEW, &mut disk, b"100\n0\n", &[], &mut out)?;
+    assert_eq!(rt; report, Report::of(Detail::Write));
+    assert!(rt; out.bytes().is_empty());
+    assert_eq!(rt; disk.bytes(), GENESIS_LOG);
+    Ok(())
+}
+
+#[test]
+fn refuses_help_and_leaves_the_disk(rt: HostRuntime) -> Result<(), Fail> {
+    let cases: [&[&str]; 7] = [
+        &["aether"],
+        &["aether", "new"],
+        &["aether", "new", "a.log", "b.log"],
+        &["aether", "--help"],
+        &["aether", "-h"],
+        &["aether", "help"],
+        &["aether", "--version"],
+    ];
+    for words in cases {
+        let mut disk = disk_of(&rt, b"", ROOM, &[1])?;
+        let mut out = sink_of(&rt, &[])?;
+        let report = answer_on(&rt, words, &mut disk, b"100\n", &[1], &mut out)?;
+        assert_eq!(rt; report, Report::of(Detail::Usage), "{words:?}");
+        assert_eq!(rt; report.status, 2);
+        assert!(rt; out.bytes().is_empty(), "{words:?}");
+    }
+    Ok(())
+}
+
 #[test]
 fn writes_the_line_of_each_report(rt: HostRuntime) -> Result<(), Fail> {
-    let cases: [(Detail, u8, &[u8]); 5] = [
+    let cases: [(Detail, u8, &[u8]); 8] = [
         (Detail::Fine, 0, b""),
         (Detail::NoMemory, 1, b"aether: out of memory\n"),
+        (
+            Detail::Script { line: 4097 },
+            3,
+            b"aether: line 4097 refused\n",
+        ),
         (Detail::Read, 4, b"aether: read failed\n"),
         (Detail::Write, 5, b"aether: write failed\n"),
+        (Detail::Disk, 6, b"aether: disk failed\n"),
         (Detail::NotALog, 7, b"aether: not a log\n"),
+        (Detail::Exists, 10, b"aether: log exists\n"),
     ];
     for (detail, status, line) in cases {
         let mut out = sink_of(&rt, &[])?;

@@ -1,41 +1,75 @@
-ghost use Rattle.std.specs.Prelude.{◌≡◌, ◌≤◌, ◌↔◌, IfSome};
+ghost use Rattle.std.specs.Prelude.{◌≡◌, ◌≤◌, ◌+◌, ◌⊎◌, ℕ, List, IfSome};
+ghost use Rattle.command_line.specs.CommandLine.{IsCommandLine, AreTaken};
+ghost use Rattle.command_line.specs.declared.command.Command.TheVariants.{New, Recover};
+ghost use Rattle.log_disk.specs.Disk.{Leaves};
 ghost use Rattle.log_disk.specs.Faults.{Rose};
-ghost use Rattle.aether_cli.specs.Answers.{status_of, IsRecoverCommand, AnswersRecover, StaysSilent};
+ghost use Rattle.segment_file.specs.File.{BeginsOpen};
+ghost use Rattle.txn_script.specs.Balances.{IsBalancesText};
+ghost use Rattle.aether_cli.specs.Answers.{status_of, AnswersRecover, AnswersNew, AsksNew, IsOfNew, IsOfRecover, StaysSilent};
+ghost use Rattle.aether_cli.specs.Creation.{AllHoldNew, FollowsLog, MayBeLeft, PrecedesLog, TellsWhether};
 
-use crate::command::is_recover;
+use crate::new_command::new_command;
 use crate::recover_command::recover_command;
 use crate::report::{Detail, Report};
-use log_disk::{Sink, Source};
+use command_line::{Command, Refused, parse};
+use log_disk::{LogDisk, Sink, Source};
 use lsn_space::Word;
 use std::alloc::Global;
 
-/// All that the program does, on its words, the program's name first, and on what it reads and writes.
-pub fn aether<R, S: Source, K: Sink>(
+/// All that the program does, on its words, the program's name first, on a disk, and on what it reads and writes.
+pub fn aether<R, D: LogDisk, S: Source, K: Sink>(
     _rt: &R,
     alloc: Global,
     words: &[Word],
+    disk: &mut D,
     script: &mut S,
     out: &mut K,
 ) -> Report
     ensures status { result.status ≡ status_of result.detail }
 
     // The words alone decide whether they are a command; where they aren't, nothing is read or written.
-    ensures usage { (result.detail ≡ Detail.Usage) ↔ (IsRecoverCommand words.now → ⊥) }
-    ensures unread { result.detail ≡ Detail.Usage → script.new ≡ script.old }
-    ensures unwritten { result.detail ≡ Detail.Usage → out.new ≡ out.old }
+    ensures usage { result.detail ≡ Detail.Usage → AreTaken words.now → ⊥ }
+    ensures refused { (AreTaken words.now → ⊥) → (result.detail ≡ Detail.Usage) ⊎ (result.detail ≡ Detail.NoMemory) }
+    ensures unread { (AreTaken words.now → ⊥) → script.new ≡ script.old }
+    ensures unwritten { (AreTaken words.now → ⊥) → out.new ≡ out.old }
+    ensures untouched { (AsksNew words.now → ⊥) → disk.new ≡ disk.old }
 
     // `recover`: for the bytes of the input, the text that is written, and what is left of both.
-    ensures recover { IsRecoverCommand words.now → IfSome (S.left script.old) (λ bytes.
+    ensures recover { IsCommandLine words.now Recover → IfSome (S.left script.old) (λ bytes.
         AnswersRecover bytes (S.left script.new) (K.held_bytes out.old) (K.held_bytes out.new) result.detail) }
+    ensures of_recover { IsCommandLine words.now Recover → IsOfRecover result.detail }
+
+    // `new`: the same, and what a crash may leave of the disk.
+    ensures new { AsksNew words.now → IfSome (S.left script.old) (λ bytes.
+        AnswersNew bytes (S.left script.new) (K.held_bytes out.old) (K.held_bytes out.new) result.detail) }
+    ensures of_new { AsksNew words.now → IsOfNew result.detail }
+    ensures images { AsksNew words.now → D.honest disk.old
+        → Leaves D.moment D.images_since (MayBeLeft (S.left script.old) (D.images disk.old)) disk.old disk.new }
+    ensures made { AsksNew words.now → D.honest disk.old → FollowsLog result.detail
+        → AllHoldNew (S.left script.old) (D.images disk.new) }
+    ensures kept { AsksNew words.now → PrecedesLog result.detail
+        → Leaves D.moment D.images_since (D.images disk.old) disk.old disk.new }
+    ensures exists { AsksNew words.now → D.honest disk.old → TellsWhether (BeginsOpen (D.reads disk.old)) result.detail }
+    ensures count { D.honest disk.old → D.written_count disk.new ≤ D.written_count disk.old + 7 }
+    ensures complete { AsksNew words.now → D.honest disk.old → (BeginsOpen (D.reads disk.old) → ⊥)
+        → IfSome (S.left script.old) (λ bytes. (balances : List ℕ) → IsBalancesText bytes balances
+        → (Rose (S.faults script.old) (S.faults script.new) → ⊥) → (Rose (K.faults out.old) (K.faults out.new) → ⊥)
+        → (Rose (D.faults disk.old) (D.faults disk.new) → ⊥) → (result.detail ≡ Detail.Fine) ⊎ (result.detail ≡ Detail.NoMemory)) }
+
+    // Nothing is written but where all is fine or the writing failed.
     ensures silent { StaysSilent (K.held_bytes out.old) (K.held_bytes out.new) result.detail }
 
     // A fault comes only where the object that it names counted one in this call.
     ensures read { result.detail ≡ Detail.Read → Rose (S.faults script.old) (S.faults script.new) }
     ensures write { result.detail ≡ Detail.Write → Rose (K.faults out.old) (K.faults out.new) }
+    ensures disk { result.detail ≡ Detail.Disk → Rose (D.faults disk.old) (D.faults disk.new) }
     ensures later { (S.faults script.old ≤ S.faults script.new) × (K.faults out.old ≤ K.faults out.new) }
+    ensures later_disk { D.faults disk.old ≤ D.faults disk.new }
 {
-    if !is_recover(words) {
-        return Report::of(Detail::Usage);
+    match parse(alloc, words) {
+        Ok(Command::New { log }) => Report::of(new_command(alloc, &log, disk, script, out)),
+        Ok(Command::Recover) => Report::of(recover_command(alloc, script, out)),
+        Err(Refused::Usage) => Report::of(Detail::Usage),
+        Err(Refused::NoMemory) => Report::of(Detail::NoMemory),
     }
-    Report::of(recover_command(alloc, script, out))
 }

@@ -4,8 +4,11 @@ ghost use Rattle.log_disk.specs.Faults.{Rose};
 use crate::{Failed, LogDisk};
 use lsn_space::Word;
 use std::fs::{File, Files, OpenOptions};
-use std::io;
+use std::os::fd::AsRawFd;
 use std::os::unix::fs::FileExt;
+
+/// The number of the standard error, the last of the streams that every program begins with.
+const LAST_STREAM: i32 = 2;
 
 /// A file of the system, read and written at offsets. It tells nothing of its bytes, so nothing is
 /// said of them here but what the system promises: a write that comes back short, or not at all, is a
@@ -71,11 +74,11 @@ impl<R: Files<File = File> + Drop> LogDisk for FileDisk<R> {
     // Where it fails, the file that was attached before stays.
     fn attach(&mut self, name: &Word, make: bool) -> Result<(), Failed> {
         match open_file(&self.rt, name.text(), make) {
-            Ok(file) => {
+            Some(file) => {
                 self.file = Some(file);
                 Ok(())
             }
-            Err(_) => Err(self.fail()),
+            None => Err(self.fail()),
         }
     }
 
@@ -109,15 +112,19 @@ impl<R: Files<File = File> + Drop> LogDisk for FileDisk<R> {
 }
 
 /// Opens for reading and writing, with what the file holds left as it is.
-fn open_file<R: Files<File = File>>(rt: &R, name: &str, make: bool) -> io::Result<File> {
+fn open_file<R: Files<File = File>>(rt: &R, name: &str, make: bool) -> Option<File> {
     let mut options = OpenOptions::new();
     options.read(true).write(true).create(make);
-    let file = options.open(rt, name)?;
+    let file = options.open(rt, name).ok()?;
+    // A standard stream was closed, and the file got its number: what the program writes to the stream would go into it.
+    if file.as_raw_fd() <= LAST_STREAM {
+        return None;
+    }
     // The entry of a new file stands in its folder, which has to be synced too.
     if make {
-        File::open(rt, folder_of(name))?.sync_all()?;
+        File::open(rt, folder_of(name)).ok()?.sync_all().ok()?;
     }
-    Ok(file)
+    Some(file)
 }
 
 fn folder_of(name: &str) -> &str {

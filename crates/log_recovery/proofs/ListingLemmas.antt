@@ -6,10 +6,10 @@ use Rattle.log_record.specs.declared.rec.Rec.{Rec}
 use Rattle.log_record.specs.declared.rec.Entry.{Entry}
 use Rattle.log_record.specs.LogList.{units_of, end_of}
 use Rattle.log_record.specs.Spelling.{spelling, IsSpellable, BeginsWith}
-use Rattle.log_recovery.specs.History.{end_from, entry_at, history_from, history}
-use Rattle.log_recovery.specs.Listing.{IsBadRecAt, Lists}
-use Rattle.log_recovery.proofs.Fronts.{history_from-append}
-use Rattle.log_recovery.proofs.ListLemmas.{all-append, all-reverse}
+use Rattle.lock_core.specs.History.{end_from, entry_at, history_from, history}
+use Rattle.log_recovery.specs.Listing.{IsFront, IsBadRecAt, Lists}
+use Rattle.lock_core.proofs.Fronts.{history_from-append}
+use Rattle.lock_core.proofs.ListLemmas.{all-append, all-reverse}
 
 pub units_of-append : (xs ys : List Rec) → units_of (xs ++ ys) ≡ units_of xs ++ units_of ys
 units_of-append [] ys = refl
@@ -20,6 +20,31 @@ end_from-history start h [] = omega arith
 end_from-history start h (rec ∷ records) =
     let more = end_from-history start (entry_at (end_from start h) rec ∷ h) records in
     let parts = length-append (spelling rec) (units_of records) in omega arith
+
+-- nothing stands before the whole
+pub front-none : (units : List ℕ) → IsFront units units
+front-none units = record { records = []; each = tt; whole = refl }
+
+-- one record further
+pub front-more : (units : List ℕ) (records : List Rec) (rest after : List ℕ) (rec : Rec) → AllByRecursion IsSpellable records → units ≡ units_of records ++ rest
+    → BeginsWith rest rec → after ≡ drop (length (spelling rec)) rest → AllByRecursion IsSpellable (records ++ rec ∷ []) × (units ≡ units_of (records ++ rec ∷ []) ++ after)
+front-more units records rest after rec each before begins dropped =
+    let behind : List ℕ = begins.1 in
+    let is : after ≡ behind = dropped ∙ ap (drop (length (spelling rec))) begins.2 ∙ drop-front (spelling rec) behind in (
+      all-append IsSpellable records (rec ∷ []) each (begins.0, tt),
+      before ∙ ap (λ l. units_of records ++ l) (begins.2 ∙ ap (λ l. spelling rec ++ l) (sym is))
+          ∙ sym (append_assoc (units_of records) (spelling rec) after)
+          ∙ ap (λ l. units_of records ++ l ++ after) (sym (append-nil (spelling rec)))
+          ∙ ap (λ l. l ++ after) (sym (units_of-append records (rec ∷ []))),
+    )
+  where
+    drop-front : (xs ys : List ℕ) → drop (length xs) (xs ++ ys) ≡ ys
+    drop-front [] ys = refl
+    drop-front (x ∷ xs) ys = drop-front xs ys
+
+-- the end of the records before a rest
+pub front-end : (units : List ℕ) (records : List Rec) (rest : List ℕ) → units ≡ units_of records ++ rest → end_of records + length rest ≡ length units
+front-end units records rest whole = let lengths = ap length whole in let parts = length-append (units_of records) rest in omega arith
 
 -- the records read so far, and the units that are left
 pub record ReadsFront (units : List ℕ) (entries : List Entry) (rest : List ℕ) : Type 0 where
@@ -35,36 +60,25 @@ pub reads-more : (units : List ℕ) (entries : List Entry) (rest after : List �
     → BeginsWith rest rec → after ≡ drop (length (spelling rec)) rest → end + length after ≡ length units
     → ReadsFront units (entries ++ record { end = end; rec = rec } ∷ []) after
 reads-more units entries rest after rec end before begins dropped place =
-    let behind : List ℕ = begins.1 in
-    let is : after ≡ behind = dropped ∙ ap (drop (length (spelling rec))) begins.2 ∙ drop-front (spelling rec) behind in
-    let whole : units ≡ units_of (before.records ++ rec ∷ []) ++ after
-    = before.whole ∙ ap (λ l. units_of before.records ++ l) (begins.2 ∙ ap (λ l. spelling rec ++ l) (sym is))
-    ∙ sym (append_assoc (units_of before.records) (spelling rec) after)
-    ∙ ap (λ l. units_of before.records ++ l ++ after) (sym (append-nil (spelling rec)))
-    ∙ ap (λ l. l ++ after) (sym (units_of-append before.records (rec ∷ []))) in
-    let lengths = ap length whole in
-    let parts = length-append (units_of (before.records ++ rec ∷ [])) after in
+    let front = front-more units before.records rest after rec before.each before.whole begins dropped in
+    let lengths = front-end units (before.records ++ rec ∷ []) after front.1 in
+    let start = end_from-history 0 [] before.records in
     let grown = ap length (units_of-append before.records (rec ∷ [])) in
     let sum = length-append (units_of before.records) (units_of (rec ∷ [])) in
     let last = length-append (spelling rec) [] in
-    let start = end_from-history 0 [] before.records in
     let end_is : end ≡ end_from 0 (history before.records) + length (spelling rec) = omega arith in
     record {
       records = before.records ++ rec ∷ [];
-      each = all-append IsSpellable before.records (rec ∷ []) before.each (begins.0, tt);
-      whole = whole;
+      each = front.0;
+      whole = front.1;
       places = reverse-append entries (record { end = end; rec = rec } ∷ [])
           ∙ (λ i. record { end = end_is i; rec = rec } ∷ before.places i)
           ∙ sym (history_from-append 0 [] before.records (rec ∷ []));
     }
-  where
-    drop-front : (xs ys : List ℕ) → drop (length xs) (xs ++ ys) ≡ ys
-    drop-front [] ys = refl
-    drop-front (x ∷ xs) ys = drop-front xs ys
 
-pub bad-front : (units : List ℕ) (entries : List Entry) (rest : List ℕ) (lsn : ℕ) → ReadsFront units entries rest → 0 < length rest
+pub bad-front : (units : List ℕ) (rest : List ℕ) (lsn : ℕ) → IsFront units rest → 0 < length rest
     → lsn + length rest ≡ length units → ((rec : Rec) → BeginsWith rest rec → ⊥) → IsBadRecAt units lsn
-bad-front units entries rest lsn before some place none =
+bad-front units rest lsn before some place none =
     let lengths = ap length before.whole in let parts = length-append (units_of before.records) rest in
     record { front = before.records; each = before.each; rest = rest; whole = before.whole; place = omega arith; some = some; none = none }
 

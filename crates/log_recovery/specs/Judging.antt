@@ -1,29 +1,44 @@
--- What a judge keeps of the history so far, and answers on one entry more.
-use Rattle.std.specs.Prelude.{◌≡◌, ◌<◌, ℕ, ◌*◌, false, List, length, Result, MatchResult}
+-- What a judge takes of the records that units spell.
+use Rattle.std.specs.Prelude.{◌≡◌, ℕ, List, [], ◌∷◌, ◌++◌}
 use Rattle.std.specs.List.{AllByRecursion}
-use Rattle.lsn_space.specs.Accounts.{Accounts}
-use Rattle.log_record.specs.declared.rec.Entry.{Entry}
-use Rattle.log_recovery.specs.declared.kinds.TheConstants.{MOST_ACCOUNTS}
-use Rattle.log_recovery.specs.declared.reason.Why.{Why}
-use Rattle.log_recovery.specs.declared.update.Change.{Change}
-use Rattle.log_recovery.specs.Transactions.{records_of, updates_of, has_end}
-use Rattle.log_recovery.specs.Lawful.{tests, Passes, IsLawful, genesis_of}
-use Rattle.log_recovery.specs.Faults.{IsFirstFailing}
-use Rattle.log_recovery.specs.Settling.{KeepsRows}
+use Rattle.log_record.specs.declared.rec.Rec.{Rec}
+use Rattle.log_record.specs.LogList.{units_of}
+use Rattle.log_record.specs.Spelling.{IsSpellable}
+use Rattle.lock_core.specs.declared.judge.Judge.{Judge}
+use Rattle.lock_core.specs.declared.reason.Why.{Why}
+use Rattle.lock_core.specs.History.{end_from, entry_at, history}
+use Rattle.lock_core.specs.Lawful.{Passes, IsLawful}
+use Rattle.lock_core.specs.Faults.{IsFirstFailing, IsUnlawfulAt}
+use Rattle.lock_core.specs.Taking.{HasTaken}
+use Rattle.log_recovery.specs.declared.judging.UnitsFault.{UnitsFault}
+use Rattle.log_recovery.specs.declared.judging.UnitsFault.TheVariants as fault
+use Rattle.log_recovery.specs.Listing.{IsListOf, IsBadRecAt}
 
--- the history is lawful, and the accounts kept are its accounts
-pub record IsJudged (accounts : Accounts) (h : List Entry) : Type 0 where
-  pub lawful : IsLawful h
-  pub room : accounts.room ≡ MOST_ACCOUNTS
-  pub rows : KeepsRows accounts.rows (genesis_of h) h
+-- the judge has taken the records before this rest of the units
+pub record HasTakenFront (units rest : List ℕ) (judge : Judge) : Type 0 where
+  pub records : List Rec
+  pub each : AllByRecursion IsSpellable records
+  pub whole : units ≡ units_of records ++ rest
+  pub taken : HasTaken judge (history records)
 
--- the answer on one entry more: it passes all tests, or this is the first test that it fails
-abbrev pub Judges : {A : Type 0} → List Entry → Entry → Result A Why → Type 0
-Judges h entry result = MatchResult result (λ _. AllByRecursion (Passes h entry) tests) (IsFirstFailing (Passes h entry))
+-- the judge has taken the records of the units
+pub record HasTakenUnits (units : List ℕ) (judge : Judge) : Type 0 where
+  pub records : List Rec
+  pub list : IsListOf units records
+  pub taken : HasTaken judge (history records)
 
--- a Commit of so many legs passes the tests up to that of the legs, and these are the changes of its transaction
-pub record IsCommitting (h : List Entry) (txn legs : ℕ) (changes : List Change) : Type 0 where
-  pub some : 0 < length h
-  pub unended : has_end (records_of txn h) ≡ false
-  pub are : changes ≡ updates_of txn h
-  pub legs_are : length changes ≡ 2 * legs
+-- of the records before this rest of the units the last starts at this address, and is the first that fails a test
+pub record FailsBefore (units rest : List ℕ) (lsn : ℕ) (test : Why) : Type 0 where
+  pub front : List Rec
+  pub rec : Rec
+  pub each : AllByRecursion IsSpellable (front ++ rec ∷ [])
+  pub whole : units ≡ units_of (front ++ rec ∷ []) ++ rest
+  pub lawful : IsLawful (history front)
+  pub place : lsn ≡ end_from 0 (history front)
+  pub first : IsFirstFailing (Passes (history front) (entry_at lsn rec)) test
+
+-- why no judge takes the units; want of memory says nothing of them
+abbrev pub IsUnitsFaultOf : List ℕ → UnitsFault → Type 0
+IsUnitsFaultOf units (fault.BadRec lsn) = IsBadRecAt units lsn
+IsUnitsFaultOf units (fault.Unlawful lsn why) = (records : List Rec) × IsListOf units records × IsUnlawfulAt (history records) lsn why
+IsUnitsFaultOf units fault.NoMemory = Unit {0}

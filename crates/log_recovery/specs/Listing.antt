@@ -7,12 +7,22 @@ use Rattle.log_record.specs.LogList.{units_of, end_of}
 use Rattle.log_record.specs.Spelling.{IsSpellable, BeginsWith}
 use Rattle.log_recovery.specs.declared.listing.ListFault.{ListFault}
 use Rattle.log_recovery.specs.declared.listing.ListFault.TheVariants as list
-use Rattle.log_recovery.specs.History.{history}
+use Rattle.lock_core.specs.History.{history}
 
 -- the units are the spellings of these records, joined
 pub record IsListOf (units : List ℕ) (records : List Rec) : Type 0 where
   pub each : AllByRecursion IsSpellable records
   pub whole : units ≡ units_of records
+
+-- some records spell what stands before this rest of the units
+pub record IsFront (units rest : List ℕ) : Type 0 where
+  pub records : List Rec
+  pub each : AllByRecursion IsSpellable records
+  pub whole : units ≡ units_of records ++ rest
+
+-- the units are the spellings of some records
+abbrev pub IsRecords : List ℕ → Type 0
+IsRecords units = (records : List Rec) × IsListOf units records
 
 -- records lead to this address, and the units from there on begin with no record
 pub record IsBadRecAt (units : List ℕ) (lsn : ℕ) : Type 0 where

@@ -6,21 +6,14 @@ use Rattle.log_record.specs.declared.rec.Entry.{Entry}
 use Rattle.log_record.specs.Spelling.{IsSpellable}
 use Rattle.log_record.specs.LogList.{units_of, end_of}
 use Rattle.segment_file.specs.File.{IsFile, HoldsUnits, BeginsAsLog, IsBadBatchAt, written}
-use Rattle.log_recovery.specs.declared.judging.JudgeFault.{JudgeFault}
-use Rattle.log_recovery.specs.declared.judging.JudgeFault.TheVariants as judge
 use Rattle.log_recovery.specs.declared.recovery.Recovered.{Recovered}
 use Rattle.log_recovery.specs.declared.recovery.RecoverFault.{RecoverFault}
 use Rattle.log_recovery.specs.declared.recovery.RecoverFault.TheVariants as fault
-use Rattle.log_recovery.specs.History.{history}
-use Rattle.log_recovery.specs.Sums.{ShowsAccounts, greatest_txn}
-use Rattle.log_recovery.specs.Lawful.{IsLawful, genesis_of}
-use Rattle.log_recovery.specs.Faults.{IsUnlawfulAt}
+use Rattle.lock_core.specs.History.{history}
+use Rattle.lock_core.specs.Sums.{ShowsAccounts, greatest_txn}
+use Rattle.lock_core.specs.Lawful.{IsLawful, genesis_of}
+use Rattle.lock_core.specs.Faults.{IsUnlawfulAt}
 use Rattle.log_recovery.specs.Listing.{IsBadRecAt}
-
--- why a judge answers no accounts; want of memory says nothing of the history
-abbrev pub IsJudgeFaultOf : List Entry → JudgeFault → Type 0
-IsJudgeFaultOf h (judge.Unlawful lsn why) = IsUnlawfulAt h lsn why
-IsJudgeFaultOf h judge.NoMemory = Unit {0}
 
 -- the bytes are a log file that holds these records
 pub record HoldsList (bytes : List ℕ) (records : List Rec) : Type 0 where

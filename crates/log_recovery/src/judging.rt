@@ -1,76 +1,88 @@
-ghost use Rattle.std.specs.Prelude.{◌∷◌, reverse, IfOk, IfErr, OnOk};
-ghost use Rattle.std.specs.List.{AllByRecursion};
-ghost use Rattle.log_record.specs.Spelling.{IsSpellable};
-ghost use Rattle.log_recovery.specs.Sums.{ShowsAccounts};
-ghost use Rattle.log_recovery.specs.Lawful.{Passes, IsLawful, genesis_of};
-ghost use Rattle.log_recovery.specs.Faults.{IsFirstFailing};
-ghost use Rattle.log_recovery.specs.Judging.{IsJudged};
-ghost use Rattle.log_recovery.specs.Recovery.{IsJudgeFaultOf};
+//! The records that units spell, judged one by one as they are read.
 
-use crate::kinds::{
-    MOST_ACCOUNTS, admit_commit, admit_genesis, admit_note, admit_refusal, admit_update,
-};
-use crate::reason::Why;
-use crate::update::Change;
-use log_record::{Entry, Rec};
-use lsn_space::{Balances, Lsn};
+ghost use Rattle.std.specs.Prelude.{◌≡◌, ◌+◌, ◌≤◌, length, IfOk, IfErr, IfSome, IfNone};
+ghost use Rattle.lsn_space.specs.declared.lsn.TheConstants.{LAST};
+ghost use Rattle.log_recovery.specs.Listing.{IsFront, IsRecords, IsBadRecAt};
+ghost use Rattle.log_recovery.specs.Judging.{FailsBefore, HasTakenUnits, IsUnitsFaultOf};
+
+use lock_core::{Judge, JudgeFault, Why};
+use log_record::read;
+use lsn_space::Lsn;
 use std::alloc::Global;
 
-/// Why a judge answers no accounts.
+/// Why units hold no lawful list of records.
 #[derive(Clone, Copy, Debug, PartialEq, Eq)]
-pub enum JudgeFault {
+pub enum UnitsFault {
+    /// Records lead to this LSN, and the units from there on begin with none.
+    BadRec { lsn: Lsn },
+
     /// The record that starts at this LSN is the first that fails a test, and this is the first test that it fails.
     Unlawful { lsn: Lsn, why: Why },
 
     NoMemory,
 }
 
-/// Tests one entry more, and keeps the accounts; at an error they are of no use.
-fn admit(accounts: &mut Balances, front: &[Entry], entry: &Entry) -> Result<(), Why>
-    requires judged { IsJudged accounts.old (reverse front.now) }
-    requires spellable { IsSpellable entry.now.rec }
-    ensures ok { OnOk result (IsJudged accounts.new (entry.now ∷ reverse front.now)) }
-    ensures why { IfErr result (IsFirstFailing (Passes (reverse front.now) entry.now)) }
+/// Where the rest of the units begins.
+fn place_of(units: &[u64], rest: &[u64]) -> Lsn
+    requires front { IsFront units.now rest.now }
+    requires fits { length units.now ≤ LAST }
+    ensures { result + length rest.now ≡ length units.now }
 {
-    match &entry.rec {
-        Rec::Genesis { account, balance } => admit_genesis(accounts, front, *account, *balance),
-        Rec::Update {
-            txn,
-            account,
-            delta,
-            prev,
-        } => {
-            let change = Change {
-                account: *account,
-                delta: *delta,
-                prev: *prev,
-            };
-            admit_update(accounts, front, *txn, change)
-        }
-        Rec::Commit { txn, legs } => admit_commit(accounts, front, *txn, *legs, entry.end),
-        Rec::Short { txn, leg } => admit_refusal(front, *txn, *leg),
-        Rec::Over { txn, leg } => admit_refusal(front, *txn, *leg),
-        Rec::Note { txn, text } => admit_note(front, *txn, text),
+    Lsn::new((units.len() - rest.len()) as u32)
+}
+
+/// The first place behind a front of records at which no record begins, where there is one.
+fn first_bad(units: &[u64], front: &[u64]) -> Option<Lsn>
+    requires front { IsFront units.now front.now }
+    requires fits { length units.now ≤ LAST }
+    ensures bad { IfSome result (IsBadRecAt units.now) }
+    ensures none { IfNone result (IsRecords front.now) }
+{
+    let mut rest = front;
+    'records: while !rest.is_empty() {
+        let Ok((_, size)) = read(rest) else {
+            return Some(place_of(units, rest));
+        };
+        rest = rest.split_at(size).1;
+    }
+    None
+}
+
+/// The fault of units whose records up to this rest end with the first that fails a test: this one, unless the rest is no
+/// list of records.
+fn unlawful(units: &[u64], rest: &[u64], lsn: Lsn, why: Why) -> UnitsFault
+    requires fails { FailsBefore units.now rest.now lsn why }
+    requires fits { length units.now ≤ LAST }
+    ensures { IsUnitsFaultOf units.now result }
+{
+    match first_bad(units, rest) {
+        Some(lsn) => UnitsFault::BadRec { lsn },
+        None => UnitsFault::Unlawful { lsn, why },
     }
 }
 
-/// The accounts of a lawful list, given as its entries in the order of the file. It takes time in proportion to the square
-/// of their number, and memory for the accounts alone.
-pub fn judge(alloc: Global, entries: &[Entry]) -> Result<Balances, JudgeFault>
-    requires { AllByRecursion (λ entry. IsSpellable entry.rec) entries.now }
-    ensures lawful { OnOk result (IsLawful (reverse entries.now)) }
-    ensures accounts { IfOk result (λ accounts. ShowsAccounts accounts.rows (genesis_of (reverse entries.now)) (reverse entries.now)) }
-    ensures fault { IfErr result (IsJudgeFaultOf (reverse entries.now)) }
+/// A judge that has taken the records which the units spell. A place at which no record begins hides a record that fails a
+/// test, wherever it is.
+pub fn judge_of_units(alloc: Global, units: &[u64]) -> Result<Judge, UnitsFault>
+    requires { length units.now ≤ LAST }
+    ensures found { IfOk result (HasTakenUnits units.now) }
+    ensures fault { IfErr result (IsUnitsFaultOf units.now) }
 {
-    let Ok(mut accounts) = Balances::make(alloc, MOST_ACCOUNTS) else {
-        return Err(JudgeFault::NoMemory);
+    let Ok(mut judge) = Judge::make(alloc) else {
+        return Err(UnitsFault::NoMemory);
     };
-    let mut start = Lsn::new(0);
-    'entries: for (i, entry) in entries.iter().enumerate() {
-        if let Err(why) = admit(&mut accounts, &entries[..i], entry) {
-            return Err(JudgeFault::Unlawful { lsn: start, why });
+    let mut rest = units;
+    'records: while !rest.is_empty() {
+        let lsn = place_of(units, rest);
+        let Ok((rec, size)) = read(rest) else {
+            return Err(UnitsFault::BadRec { lsn });
+        };
+        rest = rest.split_at(size).1;
+        match judge.take(lsn, &rec) {
+            Ok(()) => {}
+            Err(JudgeFault::NoMemory) => return Err(UnitsFault::NoMemory),
+            Err(JudgeFault::Why(why)) => return Err(unlawful(units, rest, lsn, why)),
         }
-        start = entry.end;
     }
-    Ok(accounts)
+    Ok(judge)
 }

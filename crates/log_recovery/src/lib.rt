@@ -1,25 +1,17 @@
-//! What a list of records says, and how it is read back from a log: the tests that make a list
-//! lawful, the balances that it leaves, and the judge that tells both.
+//! What the bytes of a log say: the lawful list of records that they hold and its accounts, or what is
+//! wrong with them.
 #![tactic(auto)]
 
 mod judging;
-mod kinds;
-mod laws;
 mod listing;
-mod own;
-mod reason;
 mod recovery;
-mod settling;
 mod texts;
-mod update;
 
-pub use judging::{JudgeFault, judge};
-pub use laws::{balances_in_range, genesis_log_is_lawful, lawful_front, plain_words, sum_is_kept};
+pub use judging::{UnitsFault, judge_of_units};
 pub use listing::{ListFault, records};
-pub use reason::Why;
+pub use lock_core::Why;
 pub use recovery::{RecoverFault, Recovered, one_answer, recover};
 pub use texts::put_accounts;
-pub use update::Change;
 
 #[cfg(test)]
 mod hostile;

@@ -1,18 +1,13 @@
-ghost use Rattle.std.specs.Prelude.{◌≡◌, ◌⊎◌, ◌+◌, reverse, List, ℕ, IfOk, IfErr};
+ghost use Rattle.std.specs.Prelude.{◌≡◌, ◌⊎◌, List, ℕ, IfOk, IfErr};
 ghost use Rattle.log_record.specs.declared.rec.Rec.{Rec};
 ghost use Rattle.log_recovery.specs.declared.recovery.RecoverFault.{RecoverFault};
-ghost use Rattle.log_recovery.specs.Sums.{greatest_txn};
 ghost use Rattle.segment_file.specs.File.{HoldsUnits};
 ghost use Rattle.segment_file.specs.Scan.{IsScanFaultOf};
-ghost use Rattle.log_recovery.specs.History.{history};
-ghost use Rattle.log_recovery.specs.Listing.{IsListFaultOf};
-ghost use Rattle.log_recovery.specs.Recovery.{HoldsList, HoldsLawful, Recovers, IsJudgeFaultOf, IsFaultOf};
+ghost use Rattle.log_recovery.specs.Judging.{IsUnitsFaultOf};
+ghost use Rattle.log_recovery.specs.Recovery.{HoldsList, HoldsLawful, Recovers, IsFaultOf};
 
-use crate::judging::{JudgeFault, judge};
-use crate::listing::{ListFault, records};
-use crate::own::txn_of;
-use crate::reason::Why;
-use log_record::Entry;
+use crate::judging::{UnitsFault, judge_of_units};
+use lock_core::Why;
 use lsn_space::{Balances, Lsn};
 use segment_file::{ScanFault, Tail, scan};
 use std::alloc::Global;
@@ -61,33 +56,14 @@ fn scan_fault(fault: ScanFault) -> RecoverFault
     }
 }
 
-fn list_fault(fault: ListFault) -> RecoverFault
-    ensures { (bytes units : List ℕ) → HoldsUnits bytes units → IsListFaultOf units fault → IsFaultOf bytes result }
+fn units_fault(fault: UnitsFault) -> RecoverFault
+    ensures { (bytes units : List ℕ) → HoldsUnits bytes units → IsUnitsFaultOf units fault → IsFaultOf bytes result }
 {
     match fault {
-        ListFault::BadRec { lsn } => RecoverFault::BadRec { lsn },
-        ListFault::NoMemory => RecoverFault::NoMemory,
+        UnitsFault::BadRec { lsn } => RecoverFault::BadRec { lsn },
+        UnitsFault::Unlawful { lsn, why } => RecoverFault::Unlawful { lsn, why },
+        UnitsFault::NoMemory => RecoverFault::NoMemory,
     }
-}
-
-fn judge_fault(fault: JudgeFault) -> RecoverFault
-    ensures { (bytes : List ℕ) (records : List Rec) → HoldsList bytes records → IsJudgeFaultOf (history records) fault → IsFaultOf bytes result }
-{
-    match fault {
-        JudgeFault::Unlawful { lsn, why } => RecoverFault::Unlawful { lsn, why },
-        JudgeFault::NoMemory => RecoverFault::NoMemory,
-    }
-}
-
-/// One more than the greatest transaction number of the entries.
-fn next_txn(entries: &[Entry]) -> u64
-    ensures { result ≡ greatest_txn (reverse entries.now) + 1 }
-{
-    let mut greatest = 0;
-    for entry in entries {
-        greatest = txn_of(&entry.rec).max(greatest);
-    }
-    u64::from(greatest) + 1
 }
 
 /// The accounts of the lawful list that the bytes hold.
@@ -100,20 +76,15 @@ pub fn recover(alloc: Global, bytes: &[u8]) -> Result<Recovered, RecoverFault>
         Err(fault) => return Err(scan_fault(fault)),
     };
     let tail = scan.tail;
-    let list = match records(alloc, scan.units.as_slice()) {
-        Ok(list) => list,
-        Err(fault) => return Err(list_fault(fault)),
-    };
-    let entries = list.as_slice();
-    let accounts = match judge(alloc, entries) {
-        Ok(accounts) => accounts,
-        Err(fault) => return Err(judge_fault(fault)),
+    let judge = match judge_of_units(alloc, scan.units.as_slice()) {
+        Ok(judge) => judge,
+        Err(fault) => return Err(units_fault(fault)),
     };
     Ok(Recovered {
         lsn: tail.next,
         tail,
-        next_txn: next_txn(entries),
-        accounts,
+        next_txn: u64::from(judge.greatest_txn()) + 1,
+        accounts: judge.into_accounts(),
     })
 }
 

@@ -15,10 +15,10 @@ use Rattle.log_table.specs.Events.{Leads, IsStep}
 use Rattle.log_table.specs.Layout.{Crew}
 use Rattle.log_table.specs.Log.{Log}
 use Rattle.log_table.specs.May.{IsAtRest}
-use Rattle.log_table.specs.Sound.{EachView, HasSoundRole, HasSoundRoles, HasSoundCrew, IsSound, is_active_view}
-use Rattle.log_table.specs.Views.{is_active, is_worker, is_spent, enrolled, retired}
+use Rattle.log_table.specs.Sound.{EachView, StoresStop, HasSoundRole, HasSoundRoles, HasSoundCrew, IsSound, is_active_view}
+use Rattle.log_table.specs.Views.{is_active, is_worker, is_working, is_spent, enrolled, retired}
 use Rattle.log_table.specs.Words.{Words}
-use Rattle.log_table.proofs.Roles.{restands}
+use Rattle.log_table.proofs.Roles.{quiet-moves, restands}
 use Rattle.log_table.proofs.Viewing.{each_set, pairs_move, count-set}
 
 -- the numbers of the workers among these
@@ -90,7 +90,7 @@ pub enrolls : (key : Start) (words : Words) (views : List View) (me : ℕ) (v : 
     → get_elem? views me ≡ some v → v.standing.role ≡ Fresh
     → Leads key words (record words { crew = words.crew + 1 }) views (set views me (enrolled v)) log None
 enrolls key words views me v log s at fresh =
-    restands key words (words.crew + 1) views me v (enrolled v) log s at refl refl
+    restands key words words.stop (words.crew + 1) views me v (enrolled v) log s at refl refl
     (let old = s.seen me v at in
     record { tail_seen = old.tail_seen; exposed_seen = old.exposed_seen; durable_seen = old.durable_seen; boundaries = old.boundaries })
     (λ _. s.constants me v at (ap is_spent fresh)) (λ _. s.resting me v at (ap is_active fresh)) (λ off. absurd (true≢false off)) record {
@@ -128,6 +128,9 @@ enrolls key words views me v log s at fresh =
             },
           ));
     }
+    (λ f. absurd (cc)) (each_set (λ _ z. StoresStop words.stop z) views me (enrolled v) s.stops (λ f. absurd (cc)))
+    (quiet-moves views me v (enrolled v) s.quiet at (λ _ _ _ _ f. absurd (cc))
+    (λ z h f q. absurd (true≢false (sym (ap is_working fresh) ∙ h f q)))) (λ f. absurd (cc))
   where
     worker : is_worker v.standing.role ≡ true
     worker = ap is_worker fresh
@@ -141,7 +144,7 @@ enrolls key words views me v log s at fresh =
 pub leaves : (key : Start) (words : Words) (views : List View) (me : ℕ) (v : View) (log : Log) → IsSound key words views log
     → get_elem? views me ≡ some v → IsAtRest v → Leads key words (record words { crew = words.crew - 1 }) views (set views me (retired v)) log None
 leaves key words views me v log s at may =
-    restands key words (words.crew - 1) views me v (retired v) log s at refl refl
+    restands key words words.stop (words.crew - 1) views me v (retired v) log s at refl refl
     (let old = s.seen me v at in
     record { tail_seen = old.tail_seen; exposed_seen = old.exposed_seen; durable_seen = old.durable_seen; boundaries = old.boundaries })
     (λ _. s.constants me v at (ap is_spent may.active)) (λ _. may.idle) (λ off. absurd (true≢false off)) record {
@@ -178,6 +181,8 @@ leaves key words views me v log s at may =
             },
           ));
     }
+    (λ f. absurd (cc)) (each_set (λ _ z. StoresStop words.stop z) views me (retired v) s.stops (λ f. absurd (cc)))
+    (quiet-moves views me v (retired v) s.quiet at (λ _ _ _ _ f. absurd (cc)) (λ z _ _ _. refl)) (λ f. absurd (cc))
   where
     worker : is_worker v.standing.role ≡ true
     worker = ap is_worker may.active
@@ -194,7 +199,8 @@ module _ (key : Start) (me : ℕ) (v : View) where
   pub leave-step : IsAtRest v → (n : ℕ) → IsStep key me Crew n (n - 1) v (retired v) None
   leave-step may n = record {
     leads = λ words views log s at is. subst
-        (λ x. Leads key words (record words { crew = x - 1 }) views (set views me (retired v)) log None) is (leaves key words views me v log s at may);
+        (λ x. Leads key words (record words { crew = x - 1 }) views (set views me (retired v)) log None) is
+        (leaves key words views me v log s at may);
   }
 
   -- the machine's sum and difference of words are those of numbers

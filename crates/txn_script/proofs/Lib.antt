@@ -1,2 +1,4 @@
-pub mod LineLemmas
 pub mod BalanceLemmas
+pub mod LineLemmas
+pub mod PartLemmas
+pub mod ScriptLemmas

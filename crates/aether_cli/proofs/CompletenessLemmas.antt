@@ -1,0 +1,29 @@
+-- Where nothing stands in its way, `new` succeeds.
+use Rattle.std.proofs.Common.{◌≡◌, ◌⊎◌, inl, inr, refl, List, ℕ, Option, Some, None, IfSome}
+use Rattle.txn_script.specs.Balances.{IsBalancesText}
+use Rattle.txn_script.proofs.BalanceLemmas.{balances-or_bad}
+use Rattle.aether_cli.specs.declared.report.Detail.{Detail}
+use Rattle.aether_cli.specs.declared.report.Detail.TheVariants.{Fine, NoMemory, Usage, Script, Read, Write, Disk, NotALog, BadBatch, BadRec, Unlawful, Exists}
+use Rattle.aether_cli.specs.Answers.{AnswersNew}
+use Rattle.aether_cli.specs.Creation.{TellsWhether}
+
+-- the input is in its grammar, no log is there, and no fault was counted
+pub new-complete : (left left_new old new : Option (List ℕ)) (opened ReadFails WriteFails DiskFails : Type 0) (detail : Detail)
+    → IfSome left (λ bytes. AnswersNew bytes left_new old new detail) → TellsWhether opened detail
+    → (detail ≡ Read → ReadFails) → (detail ≡ Write → WriteFails) → (detail ≡ Disk → DiskFails) → (opened → ⊥)
+    → IfSome left (λ bytes. (balances : List ℕ) → IsBalancesText bytes balances → (ReadFails → ⊥) → (WriteFails → ⊥) → (DiskFails → ⊥)
+    → (detail ≡ Fine) ⊎ (detail ≡ NoMemory))
+new-complete None left_new old new opened R W D detail answers tells reads writes disk closed = tt
+new-complete (Some bytes) left_new old new opened R W D Fine answers tells reads writes disk closed = λ balances text r w d. inl refl
+new-complete (Some bytes) left_new old new opened R W D NoMemory answers tells reads writes disk closed = λ balances text r w d. inr refl
+new-complete (Some bytes) left_new old new opened R W D (Script line) answers tells reads writes disk closed =
+    λ balances text r w d. absurd (balances-or_bad bytes balances line text answers.1)
+new-complete (Some bytes) left_new old new opened R W D Read answers tells reads writes disk closed = λ balances text r w d. absurd (r (reads refl))
+new-complete (Some bytes) left_new old new opened R W D Write answers tells reads writes disk closed = λ balances text r w d. absurd (w (writes refl))
+new-complete (Some bytes) left_new old new opened R W D Disk answers tells reads writes disk closed = λ balances text r w d. absurd (d (disk refl))
+new-complete (Some bytes) left_new old new opened R W D Exists answers tells reads writes disk closed = λ balances text r w d. absurd (closed tells)
+new-complete (Some bytes) left_new old new opened R W D Usage answers tells reads writes disk closed = absurd answers
+new-complete (Some bytes) left_new old new opened R W D NotALog answers tells reads writes disk closed = absurd answers
+new-complete (Some bytes) left_new old new opened R W D (BadBatch offset) answers tells reads writes disk closed = absurd answers
+new-complete (Some bytes) left_new old new opened R W D (BadRec lsn) answers tells reads writes disk closed = absurd answers
+new-complete (Some bytes) left_new old new opened R W D (Unlawful lsn why) answers tells reads writes disk closed = absurd answers

@@ -1,0 +1,25 @@
+ghost use Rattle.std.specs.Prelude.{◌≡◌, ◌≤◌, ◌+◌, ◌↔◌, ℕ, List, IfOk, OnOk, IsTrue};
+ghost use Rattle.log_disk.specs.Faults.{HasCause};
+ghost use Rattle.log_disk.specs.Disk.{IsSettled, Leaves};
+ghost use Rattle.segment_file.specs.File.{BeginsOpen};
+
+use log_disk::LogDisk;
+use lsn_space::Word;
+use segment_file::{DiskFault, has_open_gate};
+
+/// Opens the file of that name, which is made where it is missing, and tells whether a log may be there. What it
+/// reads is stable from then on.
+pub fn finds_log<D: LogDisk>(disk: &mut D, log: &Word) -> Result<bool, DiskFault>
+    ensures opens { D.honest disk.old → IfOk result (λ yes. IsTrue yes ↔ BeginsOpen (D.reads disk.old)) }
+    ensures reads { D.honest disk.old → D.reads disk.new ≡ D.reads disk.old }
+    ensures settled { D.honest disk.old → OnOk result (IsSettled (D.reads disk.new) (D.images disk.new)) }
+    ensures images { (c : List ℕ) → D.images disk.new c → D.images disk.old c }
+    ensures moments { Leaves D.moment D.images_since (D.images disk.old) disk.old disk.new }
+    ensures count { D.honest disk.old → D.written_count disk.new ≤ D.written_count disk.old + 1 }
+    ensures honest { D.honest disk.old ↔ D.honest disk.new }
+    ensures cause { HasCause (D.faults disk.old) (D.faults disk.new) result }
+{
+    disk.attach(log, true)?;
+    disk.sync()?;
+    has_open_gate(disk)
+}

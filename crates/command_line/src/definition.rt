@@ -1,0 +1,43 @@
+//! The command of the program, as `clap` builds it. `specs/CommandLine.antt` has it as one term.
+ghost use Rattle.std.specs.Prelude.{◌≡◌, IfOk, false};
+ghost use Rattle.clap.specs.Words.{app_of, rule_of};
+ghost use Rattle.clap.specs.declared.builder.command.Command.TheViews.{out-Command};
+ghost use Rattle.command_line.specs.CommandLine.{aether_command, bare_command, new_command, required_rule};
+
+use clap::{Arg, Command};
+use std::alloc::{AllocError, Global};
+
+/// A value that must be given, by its place.
+fn required<'a>(alloc: Global, name: &'a str) -> Arg<'a>
+    ensures rule { rule_of result ≡ required_rule name.entry.now }
+    ensures local { result.global ≡ false }
+{
+    Arg::new(alloc, name).required(true)
+}
+
+fn new<'a>(alloc: Global) -> Result<Command<'a>, AllocError>
+    ensures app { IfOk result (λ r. app_of r ≡ new_command) }
+    ensures local { IfOk result (λ r. (out-Command r).has_globals ≡ false) }
+{
+    Command::new(alloc, "new").arg(required(alloc, "LOG"))
+}
+
+/// A command line that asks for help is a faulty one, so nothing here stands for help or for a version.
+fn bare<'a>(alloc: Global) -> Command<'a>
+    ensures { app_of result ≡ bare_command }
+{
+    Command::new(alloc, "aether")
+        .subcommand_required(true)
+        .disable_help_flag(true)
+        .disable_help_subcommand(true)
+        .disable_version_flag(true)
+}
+
+/// The whole command, with its subcommands.
+pub(crate) fn aether<'a>(alloc: Global) -> Result<Command<'a>, AllocError>
+    ensures { IfOk result (λ r. app_of r ≡ aether_command) }
+{
+    bare(alloc)
+        .subcommand(new(alloc)?)?
+        .subcommand(Command::new(alloc, "recover"))
+}

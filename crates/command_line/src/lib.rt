@@ -1,0 +1,11 @@
+//! The command line of the program. What it takes is defined once, as a command of `clap`, and the words are read by it.
+#![tactic(auto)]
+
+mod command;
+mod definition;
+mod parsing;
+#[cfg(test)]
+mod tests;
+
+pub use command::{Command, Refused};
+pub use parsing::parse;

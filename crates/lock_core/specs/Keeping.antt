@@ -1,0 +1,56 @@
+-- What a judge keeps of the history that it took.
+use Rattle.std.specs.Prelude.{◌≡◌, ◌≢◌, ◌<◌, ℕ, ◌+◌, pos, true, false, List, [], ◌∷◌, length, slice_index_or, unwrap_or, nat_eq, IsTrue, ◌↔◌}
+use Rattle.std.specs.List.{AllByRecursion}
+use Rattle.std.specs.HashMap.{get}
+use Rattle.log_record.specs.declared.rec.Rec.{Rec}
+use Rattle.log_record.specs.declared.rec.Entry.{Entry}
+use Rattle.lock_core.specs.declared.limits.TheConstants.{ENDED}
+use Rattle.lock_core.specs.declared.update.Change.{Change}
+use Rattle.lock_core.specs.declared.txn_table.TxnTable.{TxnTable}
+use Rattle.lock_core.specs.declared.update_links.UpdateLink.{UpdateLink}
+use Rattle.lock_core.specs.declared.transactions.Transactions.{Transactions}
+use Rattle.lock_core.specs.declared.ledger.Ledger.{Ledger}
+use Rattle.lock_core.specs.Transactions.{records_of, has_end, changes_in}
+use Rattle.lock_core.specs.Tests.{IsGenesis}
+use Rattle.lock_core.specs.Judging.{IsJudged}
+
+-- the number of a transaction in the table, 0 where none was put
+abbrev pub value_at : TxnTable → ℕ → ℕ
+value_at table txn = unwrap_or (get nat_eq table.scattered txn) (slice_index_or table.dense.items txn 0)
+
+-- what stands where no Update stands
+abbrev pub no_link : UpdateLink
+no_link = record { change = record { account = 0; delta = pos 0; prev = 0 }; count = 0; older = 0 }
+
+abbrev pub link_at : List UpdateLink → ℕ → UpdateLink
+link_at links place = slice_index_or links place no_link
+
+-- Updates that say these changes, newest first: the newest stands at this place, each names the place of the one before it,
+-- and counts how many there are with it
+abbrev pub HasChain : List UpdateLink → ℕ → List Change → Type 0
+HasChain links place [] = place ≡ 0
+HasChain links place (change ∷ changes) =
+    (0 < place) × (place < length links) × ((link_at links place).change ≡ change) × ((link_at links place).count ≡ length changes + 1)
+    × HasChain links (link_at links place).older changes
+
+-- these records of a transaction have no end record, and the newest of their Updates stands at this place
+pub record IsOpenAt (links : List UpdateLink) (place : ℕ) (records : List Rec) : Type 0 where
+  pub unended : has_end records ≡ false
+  pub chain : HasChain links place (changes_in records)
+
+-- what is kept of these records of a transaction
+pub record KeepsRecords (links : List UpdateLink) (place : ℕ) (records : List Rec) : Type 0 where
+  pub ended : place ≡ ENDED → has_end records ≡ true
+  pub unended : place ≢ ENDED → IsOpenAt links place records
+
+-- what is kept of the transactions of a history
+pub record KeepsTransactions (txns : Transactions) (h : List Entry) : Type 0 where
+  pub some : 0 < length txns.updates
+  pub first : link_at txns.updates 0 ≡ no_link
+  pub each : (txn : ℕ) → KeepsRecords txns.updates (value_at txns.newest txn) (records_of txn h)
+
+-- what is kept of a lawful history
+pub record KeepsLedger (ledger : Ledger) (h : List Entry) : Type 0 where
+  pub judged : IsJudged ledger.accounts h
+  pub opening : IsTrue ledger.is_opening ↔ AllByRecursion (λ entry. IsGenesis entry.rec) h
+  pub transactions : KeepsTransactions ledger.txns h

@@ -1,0 +1,188 @@
+ghost use Rattle.std.specs.Prelude.{◌≡◌, ◌≤◌, ◌+◌, ◌∷◌, [], true, false, ℕ, List, length, IfOk, IfErr, OnOk};
+ghost use Rattle.log_record.specs.declared.rec.Rec.{Rec};
+ghost use Rattle.log_record.specs.declared.rec.Entry.{Entry};
+ghost use Rattle.log_record.specs.Spelling.{spelling, IsAccount, IsBalance, IsLeg, IsSpellable};
+ghost use Rattle.lsn_space.specs.declared.lsn.TheConstants.{LAST};
+ghost use Rattle.lock_core.specs.Records.{txn_of, ends};
+ghost use Rattle.lock_core.specs.Keeping.{KeepsTransactions, KeepsLedger};
+ghost use Rattle.lock_core.specs.Taking.{TakesEntry};
+
+use crate::checks::{are_current, is_current, is_paired};
+use crate::limits::MOST_ACCOUNTS;
+use crate::reason::{JudgeFault, Why};
+use crate::settling::settle;
+use crate::transactions::Transactions;
+use crate::update::Change;
+use log_record::Rec;
+use lsn_space::{Balances, Lsn, NoMemory};
+use std::alloc::Global;
+
+/// What a judge keeps of a lawful list: the accounts, whether there are Genesis records alone, and the transactions.
+#[derive(Drop)]
+pub struct Ledger {
+    pub accounts: Balances,
+    is_opening: bool,
+    txns: Transactions,
+}
+
+impl Ledger {
+    /// No record.
+    pub fn make(alloc: Global) -> Result<Ledger, NoMemory>
+        ensures { IfOk result (λ ledger. KeepsLedger ledger []) }
+    {
+        let accounts = Balances::make(alloc, MOST_ACCOUNTS)?;
+        let txns = Transactions::make(alloc)?;
+        Ok(Ledger {
+            accounts,
+            is_opening: true,
+            txns,
+        })
+    }
+
+    /// Takes the record that starts at `lsn`.
+    pub fn take(&mut self, lsn: Lsn, rec: &Rec) -> Result<(), JudgeFault>
+        requires kept { (h : List Entry) × KeepsLedger self.old h }
+        requires spellable { IsSpellable rec.now }
+        requires fits { lsn + length (spelling rec.now) ≤ LAST }
+        ensures { TakesEntry self.old self.new (lsn + length (spelling rec.now)) rec.now result }
+    {
+        match rec {
+            Rec::Genesis { account, balance } => self.take_genesis(*account, *balance),
+            Rec::Update {
+                txn,
+                account,
+                delta,
+                prev,
+            } => {
+                let change = Change {
+                    account: *account,
+                    delta: *delta,
+                    prev: *prev,
+                };
+                self.take_update(*txn, change)
+            }
+            Rec::Commit { txn, legs } => {
+                self.take_commit(*txn, *legs, Lsn::new(lsn.units() + 1))
+            }
+            Rec::Short { txn, leg } => self.take_refusal(*txn, *leg),
+            Rec::Over { txn, leg } => self.take_refusal(*txn, *leg),
+            Rec::Note { txn, .. } => self.take_note(*txn),
+        }
+    }
+
+    fn take_genesis(&mut self, account: u32, balance: u32) -> Result<(), JudgeFault>
+        requires kept { (h : List Entry) × KeepsLedger self.old h }
+        requires account { IsAccount account }
+        requires balance { IsBalance balance }
+        ensures { (end : ℕ) → TakesEntry self.old self.new end (Rec.Genesis account balance) result }
+    {
+        if !self.is_opening || account != self.accounts.count() {
+            return Err(JudgeFault::Why(Why::Genesis));
+        }
+        self.accounts.push(balance, 0);
+        Ok(())
+    }
+
+    fn take_update(&mut self, txn: u32, change: Change) -> Result<(), JudgeFault>
+        requires kept { (h : List Entry) × KeepsLedger self.old h }
+        ensures { (end : ℕ) → TakesEntry self.old self.new end (Rec.Update txn change.account change.delta change.prev) result }
+    {
+        if self.accounts.count() == 0 {
+            return Err(JudgeFault::Why(Why::Genesis));
+        }
+        if change.account >= self.accounts.count() {
+            return Err(JudgeFault::Why(Why::Account));
+        }
+        let Some(place) = self.txns.place(txn) else {
+            return Err(JudgeFault::Why(Why::Ended));
+        };
+        let newest = self.txns.update(place);
+        if newest.count > 15 {
+            return Err(JudgeFault::Why(Why::Legs));
+        }
+        if !is_paired(&[newest.change], &change) {
+            return Err(JudgeFault::Why(Why::Pair));
+        }
+        if !is_current(&self.accounts, &change) {
+            return Err(JudgeFault::Why(Why::Prev));
+        }
+        self.is_opening = false;
+        match self.txns.push(txn, place, newest.count + 1, change) {
+            Ok(()) => Ok(()),
+            Err(NoMemory) => Err(JudgeFault::NoMemory),
+        }
+    }
+
+    fn take_commit(&mut self, txn: u32, legs: u32, end: Lsn) -> Result<(), JudgeFault>
+        requires kept { (h : List Entry) × KeepsLedger self.old h }
+        requires legs { IsLeg legs }
+        ensures { TakesEntry self.old self.new end (Rec.Commit txn legs) result }
+    {
+        if self.accounts.count() == 0 {
+            return Err(JudgeFault::Why(Why::Genesis));
+        }
+        let Some(place) = self.txns.place(txn) else {
+            return Err(JudgeFault::Why(Why::Ended));
+        };
+        if self.txns.update(place).count != 2 * legs {
+            return Err(JudgeFault::Why(Why::Legs));
+        }
+        let changes = self.txns.changes(place);
+        let changes = changes.as_slice();
+        if !are_current(&self.accounts, changes) {
+            return Err(JudgeFault::Why(Why::Stale));
+        }
+        if !settle(&mut self.accounts, changes, end) {
+            return Err(JudgeFault::Why(Why::Balance));
+        }
+        self.end(txn)
+    }
+
+    /// Takes a Short or an Over.
+    fn take_refusal(&mut self, txn: u32, leg: u32) -> Result<(), JudgeFault>
+        requires kept { (h : List Entry) × KeepsLedger self.old h }
+        requires leg { IsLeg leg }
+        ensures short { (end : ℕ) → TakesEntry self.old self.new end (Rec.Short txn leg) result }
+        ensures over { (end : ℕ) → TakesEntry self.old self.new end (Rec.Over txn leg) result }
+    {
+        if self.accounts.count() == 0 {
+            return Err(JudgeFault::Why(Why::Genesis));
+        }
+        let Some(place) = self.txns.place(txn) else {
+            return Err(JudgeFault::Why(Why::Ended));
+        };
+        if self.txns.update(place).count != 2 * (leg - 1) {
+            return Err(JudgeFault::Why(Why::Legs));
+        }
+        self.end(txn)
+    }
+
+    fn take_note(&mut self, txn: u32) -> Result<(), JudgeFault>
+        requires kept { (h : List Entry) × KeepsLedger self.old h }
+        ensures { (end : ℕ) (text : List ℕ) → TakesEntry self.old self.new end (Rec.Note txn text) result }
+    {
+        if self.accounts.count() == 0 {
+            return Err(JudgeFault::Why(Why::Genesis));
+        }
+        let Some(_) = self.txns.place(txn) else {
+            return Err(JudgeFault::Why(Why::Ended));
+        };
+        self.is_opening = false;
+        Ok(())
+    }
+
+    /// Ends a transaction.
+    fn end(&mut self, txn: u32) -> Result<(), JudgeFault>
+        ensures accounts { self.new.accounts ≡ self.old.accounts }
+        ensures opening { self.new.is_opening ≡ false }
+        ensures ended { OnOk result ((entry : Entry) (h : List Entry) → KeepsTransactions self.old.txns h → txn_of entry.rec ≡ txn
+            → ends entry.rec ≡ true → KeepsTransactions self.new.txns (entry ∷ h)) }
+        ensures memory { IfErr result (λ fault. fault ≡ JudgeFault.NoMemory) }
+    {
+        self.is_opening = false;
+        match self.txns.end(txn) {
+            Ok(()) => Ok(()),
+            Err(NoMemory) => Err(JudgeFault::NoMemory),
+        }
+    }
+}

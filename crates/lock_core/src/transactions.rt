@@ -1,0 +1,92 @@
+ghost use Rattle.std.specs.Prelude.{◌≡◌, ◌<◌, ◌≤◌, ◌+◌, ◌∷◌, [], true, ℕ, List, length, IfSome, IfNone, IfOk, OnOk};
+ghost use Rattle.log_record.specs.declared.rec.Rec.{Rec};
+ghost use Rattle.log_record.specs.declared.rec.Entry.{Entry};
+ghost use Rattle.lock_core.specs.Records.{txn_of, ends};
+ghost use Rattle.lock_core.specs.Transactions.{records_of, updates_of, has_end};
+ghost use Rattle.lock_core.specs.Keeping.{link_at, IsOpenAt, KeepsTransactions};
+
+use crate::limits::ENDED;
+use crate::txn_table::TxnTable;
+use crate::update::Change;
+use crate::update_links::{UpdateLink, UpdateLinks};
+use arrayvec::ArrayVec;
+use lsn_space::NoMemory;
+use std::alloc::Global;
+
+/// What a judge keeps of transactions: of each the place of its newest Update, 0 where it has none, or `ENDED` where it has
+/// its end record.
+#[derive(Drop)]
+pub struct Transactions {
+    newest: TxnTable,
+    updates: UpdateLinks,
+}
+
+impl Transactions {
+    /// No transaction has a record.
+    pub fn make(alloc: Global) -> Result<Transactions, NoMemory>
+        ensures { IfOk result (λ txns. KeepsTransactions txns []) }
+    {
+        let updates = UpdateLinks::make(alloc)?;
+        Ok(Transactions {
+            newest: TxnTable::new(alloc),
+            updates,
+        })
+    }
+
+    /// The place of the newest Update of a transaction, or `None` where the transaction is ended.
+    pub fn place(&self, txn: u32) -> Option<u32>
+        requires kept { (h : List Entry) × KeepsTransactions self.now h }
+        ensures ended { IfNone result ((h : List Entry) → KeepsTransactions self.now h → has_end (records_of txn h) ≡ true) }
+        ensures unended { IfSome result (λ place. (h : List Entry) → KeepsTransactions self.now h
+            → IsOpenAt self.now.updates place (records_of txn h)) }
+        ensures inside { IfSome result (λ place. place < length self.now.updates) }
+    {
+        let place = self.newest.value(txn);
+        if place == ENDED { None } else { Some(place) }
+    }
+
+    /// The Update at this place.
+    pub fn update(&self, place: u32) -> UpdateLink
+        requires { place < length self.now.updates }
+        ensures { result ≡ link_at self.now.updates place }
+    {
+        self.updates.at(place)
+    }
+
+    /// What the Updates of a transaction say, newest first; the newest stands at this place.
+    pub fn changes(&self, place: u32) -> ArrayVec<Change, 16>
+        requires { (txn : ℕ) × (h : List Entry) × IsOpenAt self.now.updates place (records_of txn h) × (length (updates_of txn h) ≤ 16) }
+        ensures { (txn : ℕ) (h : List Entry) → IsOpenAt self.now.updates place (records_of txn h) → result.items ≡ updates_of txn h }
+    {
+        self.updates.chain(place)
+    }
+
+    /// Takes an Update of a transaction, which has so many with it, and the one before it at this place.
+    pub fn push(
+        &mut self,
+        txn: u32,
+        place: u32,
+        count: u32,
+        change: Change,
+    ) -> Result<(), NoMemory>
+        ensures { OnOk result ((end : ℕ) (h : List Entry) → KeepsTransactions self.old h → IsOpenAt self.old.updates place (records_of txn h)
+            → count ≡ length (updates_of txn h) + 1
+            → KeepsTransactions self.new (record { end = end; rec = Rec.Update txn change.account change.delta change.prev } ∷ h)) }
+    {
+        let link = UpdateLink {
+            change,
+            count,
+            older: place,
+        };
+        let place = self.updates.push(link)?;
+        self.newest.put(txn, place)
+    }
+
+    /// Takes the end record of a transaction.
+    pub fn end(&mut self, txn: u32) -> Result<(), NoMemory>
+        ensures { OnOk result ((entry : Entry) (h : List Entry) → KeepsTransactions self.old h → txn_of entry.rec ≡ txn → ends entry.rec ≡ true
+            → KeepsTransactions self.new (entry ∷ h)) }
+    {
+        self.newest.put(txn, ENDED)
+    }
+}

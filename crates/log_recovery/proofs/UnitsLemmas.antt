@@ -1,0 +1,97 @@
+-- How a judge takes the records of units, one by one.
+use Rattle.std.proofs.Common.{◌≡◌, ◌≤◌, ℕ, ◌+◌, List, [], ◌∷◌, ◌++◌, length, drop, refl, ap, ◌∙◌, sym, subst, arith, length-append}
+use Rattle.std.specs.List.{AllByRecursion}
+use Rattle.std.proofs.lemmas.List.{append-nil}
+use Rattle.log_record.specs.declared.rec.Rec.{Rec}
+use Rattle.log_record.specs.declared.rec.Entry.{Entry}
+use Rattle.log_record.specs.LogList.{units_of, end_of}
+use Rattle.log_record.specs.Spelling.{spelling, IsSpellable, BeginsWith}
+use Rattle.lock_core.specs.declared.judge.Judge.{Judge}
+use Rattle.lock_core.specs.declared.reason.Why.{Why}
+use Rattle.lock_core.specs.History.{end_from, entry_at, history_from, history}
+use Rattle.lock_core.specs.Lawful.{Passes, IsLawful}
+use Rattle.lock_core.specs.Faults.{IsFirstFailing, IsUnlawfulAt}
+use Rattle.lock_core.specs.Taking.{HasTaken}
+use Rattle.lock_core.proofs.Fronts.{history_from-append, history_from-onto}
+use Rattle.log_recovery.specs.Listing.{IsListOf, IsFront, IsRecords}
+use Rattle.log_recovery.specs.Judging.{HasTakenFront, HasTakenUnits, FailsBefore}
+use Rattle.lock_core.proofs.ListLemmas.{all-append}
+use Rattle.log_recovery.proofs.ListingLemmas.{units_of-append, end_from-history, front-more, front-end}
+
+pub front-next : (units rest after : List ℕ) (rec : Rec) → IsFront units rest → BeginsWith rest rec → after ≡ drop (length (spelling rec)) rest → IsFront units after
+front-next units rest after rec front begins dropped =
+    let more = front-more units front.records rest after rec front.each front.whole begins dropped in
+    record { records = front.records ++ rec ∷ []; each = more.0; whole = more.1 }
+
+pub front-all : (units rest : List ℕ) → rest ≡ [] → IsFront units rest → IsRecords units
+front-all units rest empty front =
+    (front.records, record { each = front.each; whole = front.whole ∙ ap (λ l. units_of front.records ++ l) empty ∙ append-nil (units_of front.records) })
+
+pub taken-none : (units : List ℕ) (judge : Judge) → HasTaken judge [] → HasTakenFront units units judge
+taken-none units judge taken = record { records = []; each = tt; whole = refl; taken = taken }
+
+pub taken-front : (units rest : List ℕ) (judge : Judge) → HasTakenFront units rest judge → IsFront units rest
+taken-front units rest judge front = record { records = front.records; each = front.each; whole = front.whole }
+
+module _ (units rest : List ℕ) (judge : Judge) (lsn : ℕ) (before : HasTakenFront units rest judge) (place : lsn + length rest ≡ length units) where
+  pub taken-place : lsn ≡ end_from 0 (history before.records)
+  taken-place = let end = front-end units before.records rest before.whole in let start = end_from-history 0 [] before.records in omega arith
+
+  pub taken-fits : (rec : Rec) (last : ℕ) → BeginsWith rest rec → length units ≤ last → lsn + length (spelling rec) ≤ last
+  taken-fits rec last begins fits = let longer = ap length begins.2 in let parts = length-append (spelling rec) begins.1 in omega arith
+
+  module _ (rec : Rec) (after : List ℕ) (begins : BeginsWith rest rec) (dropped : after ≡ drop (length (spelling rec)) rest) where
+    next : AllByRecursion IsSpellable (before.records ++ rec ∷ []) × (units ≡ units_of (before.records ++ rec ∷ []) ++ after)
+    next = front-more units before.records rest after rec before.each before.whole begins dropped
+
+    history-next : history (before.records ++ rec ∷ []) ≡ entry_at lsn rec ∷ history before.records
+    history-next = history_from-append 0 [] before.records (rec ∷ []) ∙ ap (λ start. entry_at start rec ∷ history before.records) (sym taken-place)
+
+    pub taken-next : (later : Judge) → HasTaken later (entry_at lsn rec ∷ history before.records) → HasTakenFront units after later
+    taken-next later taken = record {
+      records = before.records ++ rec ∷ [];
+      each = next.0;
+      whole = next.1;
+      taken = subst (HasTaken later) (sym history-next) taken;
+    }
+
+    pub fails-next : (why : Why) → IsFirstFailing (Passes (history before.records) (entry_at lsn rec)) why → FailsBefore units after lsn why
+    fails-next why first = record {
+      front = before.records;
+      rec = rec;
+      each = next.0;
+      whole = next.1;
+      lawful = before.taken.ledger.judged.lawful;
+      place = taken-place;
+      first = first;
+    }
+
+pub taken-all : (units rest : List ℕ) (judge : Judge) → rest ≡ [] → HasTakenFront units rest judge → HasTakenUnits units judge
+taken-all units rest judge empty front = record {
+  records = front.records;
+  list = record { each = front.each; whole = front.whole ∙ ap (λ l. units_of front.records ++ l) empty ∙ append-nil (units_of front.records) };
+  taken = front.taken;
+}
+
+-- a record that fails, and then the rest of a list
+pub unlawful-list : (units rest : List ℕ) (lsn : ℕ) (why : Why) → FailsBefore units rest lsn why → IsRecords rest
+    → (records : List Rec) × IsListOf units records × IsUnlawfulAt (history records) lsn why
+unlawful-list units rest lsn why fails more =
+    let all : List Rec = (fails.front ++ fails.rec ∷ []) ++ more.0 in
+    let onto = history_from-onto 0 (history (fails.front ++ fails.rec ∷ [])) more.0 in (
+      all,
+      record {
+        each = all-append IsSpellable (fails.front ++ fails.rec ∷ []) more.0 fails.each more.1.each;
+        whole = fails.whole ∙ ap (λ l. units_of (fails.front ++ fails.rec ∷ []) ++ l) more.1.whole ∙ sym (units_of-append (fails.front ++ fails.rec ∷ []) more.0);
+      },
+      record {
+        later = onto.0;
+        entry = entry_at lsn fails.rec;
+        front = history fails.front;
+        whole = history_from-append 0 [] (fails.front ++ fails.rec ∷ []) more.0 ∙ onto.1
+            ∙ ap (λ h. onto.0 ++ h) (history_from-append 0 [] fails.front (fails.rec ∷ []) ∙ ap (λ start. entry_at start fails.rec ∷ history fails.front) (sym fails.place));
+        lawful = fails.lawful;
+        place = fails.place;
+        first = fails.first;
+      },
+    )

@@ -1,0 +1,5 @@
+use Rattle.log_recovery.proofs.UnitsLemmas.{unlawful-list}
+use Rattle.log_recovery.proofs.judging.unlawful.Goals as goal
+
+pub returns-in-None : goal.returns-in-None
+returns-in-None c = unlawful-list c.args.units.now c.args.rest.now c.args.lsn c.args.why c.requires.fails c.in-None.ensures.none
