@@ -201,4 +201,33 @@ mod tests {
         assert!(rt; fs::remove_file(&rt, name.text()).is_ok());
         Ok(())
     }
+
+    // No write fits on the device, and it can't be synced.
+    #[test]
+    fn counts_what_the_system_refuses(rt: HostRuntime) -> Result<(), Fail> {
+        let Ok(name) = Word::make(rt.alloc(), "/dev/full") else {
+            return Err(Fail::new("no memory"));
+        };
+        let mut disk = FileDisk::make(rt);
+        assert_eq!(rt; disk.attach(&name, false), Ok(()));
+        assert_eq!(rt; disk.write_at(0, b"abc"), Err(Failed));
+        assert_eq!(rt; disk.faults(), 1);
+        assert_eq!(rt; disk.sync(), Err(Failed));
+        assert_eq!(rt; disk.faults(), 2);
+        Ok(())
+    }
+
+    #[test]
+    fn knows_the_folder_of_a_file(rt: HostRuntime) {
+        let cases = [
+            ("x.log", "."),
+            ("a/x.log", "a"),
+            ("a/b/x.log", "a/b"),
+            ("/x.log", "/"),
+            ("/a/x.log", "/a"),
+        ];
+        for (name, folder) in cases {
+            assert_eq!(rt; folder_of(name), folder, "{name}");
+        }
+    }
 }

@@ -14,7 +14,8 @@ use std::marker::Model;
 /// What the record of a write or of a sync takes of the room, beside the bytes.
 pub const RECORD: usize = 16;
 
-/// A disk in memory, which keeps what was done to it, so that `crash` can leave any of its images.
+/// A disk in memory, which keeps what was done to it, so that `crash` can leave one of its images: not each of
+/// them, but one for each number.
 #[derive(Drop)]
 pub struct MemoryDisk {
     pub(crate) start: Vec<u8>,

@@ -2,18 +2,24 @@
 use Rattle.std.proofs.Common.{◌≡◌, ◌∙◌, ◌+◌, ◌-◌, ◌<◌, ◌≤◌, ℕ, zero, suc, true, false, if◌then◌else◌, List, [], ◌∷◌, ◌++◌, length, map, refl, sym, subst, ap, ap₂, arith, nat_le, length-append, append-nil, Contains, get_or}
 use Rattle.std.proofs.lemmas.Bool.{leb-true, le-leb}
 use Rattle.std.proofs.lemmas.List.Concat.{flat_map-append}
+use Rattle.std.specs.List.{zip}
+use Rattle.lsn_space.specs.Tiling.{IsTiling}
 use Rattle.log_record.specs.declared.rec.Rec.{Rec}
 use Rattle.log_record.specs.Spelling.{spelling}
-use Rattle.log_record.specs.LogList.{units_of, end_of, size_of, starts_from, IsBoundary, prefix_to, AreConsecutive}
+use Rattle.log_record.specs.LogList.{units_of, end_of, size_of, starts_from, IsBoundary, prefix_to}
 
 pub end_of-cons : (rec : Rec) (records : List Rec) → end_of (rec ∷ records) ≡ size_of rec + end_of records
 end_of-cons rec records = length-append (spelling rec) (units_of records)
 
-pub starts_from-consecutive : (at to : ℕ) (records : List Rec) → at + end_of records ≡ to
-    → AreConsecutive at (starts_from at records) (map size_of records) to
-starts_from-consecutive at to [] there = omega arith
-starts_from-consecutive at to (rec ∷ records) there =
-    (refl, starts_from-consecutive (at + size_of rec) to records (omega (arith, end_of-cons rec records)))
+pub length-starts_from : (at : ℕ) (records : List Rec) → length (starts_from at records) ≡ length records
+length-starts_from at [] = refl
+length-starts_from at (rec ∷ records) = ap suc (length-starts_from (at + size_of rec) records)
+
+pub starts_from-tiling : (at to : ℕ) (records : List Rec) → at + end_of records ≡ to
+    → IsTiling (λ (r : ℕ × ℕ). r.0) (λ (r : ℕ × ℕ). r.1) at (zip (starts_from at records) (map size_of records)) to
+starts_from-tiling at to [] there = omega arith
+starts_from-tiling at to (rec ∷ records) there =
+    (refl, starts_from-tiling (at + size_of rec) to records (omega (arith, end_of-cons rec records)))
 
 -- the list up to an LSN is a front of it
 pub prefix_to-front : (records : List Rec) (lsn : ℕ) → (rest : List Rec) × (records ≡ prefix_to records lsn ++ rest)

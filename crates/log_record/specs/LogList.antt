@@ -1,6 +1,6 @@
 -- A log list: records, one after another. An address in it counts units.
-use Rattle.std.specs.Prelude.{◌≡◌, ℕ, ◌+◌, ◌-◌, List, [], ◌∷◌, ◌++◌, length, if◌then◌else◌, nat_le, Contains}
-use Rattle.std.specs.List.{flat_map}
+use Rattle.std.specs.Prelude.{ℕ, ◌+◌, ◌-◌, List, [], ◌∷◌, ◌++◌, length, map, if◌then◌else◌, nat_le, Contains}
+use Rattle.std.specs.List.{flat_map, zip}
 use Rattle.log_record.specs.declared.rec.Rec.{Rec}
 use Rattle.log_record.specs.Spelling.{spelling}
 
@@ -24,6 +24,10 @@ starts_from at (rec ∷ records) = at ∷ starts_from (at + size_of rec) records
 abbrev pub starts_of : List Rec → List ℕ
 starts_of records = starts_from 0 records
 
+-- the range of each record: where it starts, and how many units it has
+abbrev pub ranges_of : List Rec → List (ℕ × ℕ)
+ranges_of records = zip (starts_of records) (map size_of records)
+
 -- a boundary of a log list: the start of a record, or the end
 abbrev pub IsBoundary : List Rec → ℕ → Type 0
 IsBoundary records lsn = Contains (starts_of records ++ end_of records ∷ []) lsn
@@ -33,9 +37,3 @@ abbrev pub prefix_to : List Rec → ℕ → List Rec
 prefix_to [] lsn = []
 prefix_to (rec ∷ records) lsn =
     if nat_le (size_of rec) lsn then rec ∷ prefix_to records (lsn - size_of rec) else []
-
--- ranges of these sizes start at these addresses, each where the one before it ends, and the last ends here
-abbrev pub AreConsecutive : ℕ → List ℕ → List ℕ → ℕ → Type 0
-AreConsecutive from [] [] to = from ≡ to
-AreConsecutive from (start ∷ starts) (size ∷ sizes) to = (start ≡ from) × AreConsecutive (start + size) starts sizes to
-AreConsecutive from _ _ to = ⊥

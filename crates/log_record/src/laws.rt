@@ -1,8 +1,9 @@
 //! Laws of the definitions. The functions do nothing.
 
-ghost use Rattle.std.specs.Prelude.{◌≡◌, ◌<◌, ◌≤◌, ◌^◌, ◌-◌, ◌++◌, ◌↔◌, ℕ, List, length, map, All};
+ghost use Rattle.std.specs.Prelude.{◌≡◌, ◌<◌, ◌≤◌, ◌^◌, ◌-◌, ◌++◌, ◌↔◌, ℕ, List, length, All};
+ghost use Rattle.lsn_space.specs.Tiling.{IsTiling};
 ghost use Rattle.log_record.specs.declared.rec.Rec.{Rec};
-ghost use Rattle.log_record.specs.LogList.{units_of, end_of, size_of, starts_of, prefix_to, IsBoundary, AreConsecutive};
+ghost use Rattle.log_record.specs.LogList.{units_of, end_of, starts_of, ranges_of, prefix_to, IsBoundary};
 ghost use Rattle.log_record.specs.Spelling.{spelling, IsSpellable, BeginsWith};
 
 /// A law: no spelling is a front of another, and each record has one. So what was spelled is read
@@ -24,7 +25,8 @@ pub fn spelling_bounds()
 /// A law: the records of a log list lie one after another from 0 to its end, and the list up to an
 /// LSN is a front of it, which at a boundary ends exactly there.
 pub fn log_list_laws()
-    ensures tiling { (L : List Rec) → AreConsecutive 0 (starts_of L) (map size_of L) (end_of L) }
+    ensures starts { (L : List Rec) → length (starts_of L) ≡ length L }
+    ensures tiling { (L : List Rec) → IsTiling (λ (r : ℕ × ℕ). r.0) (λ (r : ℕ × ℕ). r.1) 0 (ranges_of L) (end_of L) }
     ensures boundary { (L : List Rec) (x : ℕ) →
         IsBoundary L x ↔ ((front rest : List Rec) × (L ≡ front ++ rest) × (x ≡ end_of front)) }
     ensures front { (L : List Rec) (x : ℕ) → (rest : List Rec) × (L ≡ prefix_to L x ++ rest) }

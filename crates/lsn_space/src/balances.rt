@@ -43,6 +43,7 @@ impl Balances {
         self.rows.push_reserved((balance, mark));
     }
 
+    /// Gives the account this balance, and its last commit this end LSN. The other accounts stay.
     pub fn set(&mut self, account: u32, balance: u32, mark: u32)
         requires { account < length self.old.rows }
         ensures { self.new ≡ record self.old { rows = slice_set self.old.rows account (balance, mark) } }

@@ -21,6 +21,7 @@ impl Model for Lsn {
 }
 
 impl Lsn {
+    /// The address with so many units before it.
     pub fn new(units: u32) -> Lsn
         ensures { result ≡ units }
     {

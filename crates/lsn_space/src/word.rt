@@ -20,6 +20,7 @@ impl Model for Word {
 }
 
 impl Word {
+    /// A word with this text.
     pub fn make(alloc: Global, text: &str) -> Result<Word, NoMemory>
         ensures { IfOk result (λ word. word ≡ text.now) }
     {
@@ -29,6 +30,7 @@ impl Word {
         }
     }
 
+    /// The text that it was made with.
     pub fn text(&self) -> &str
         ensures { result.now ≡ self.now }
     {

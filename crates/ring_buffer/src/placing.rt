@@ -1,5 +1,6 @@
 //! A range is looked for, and reserved.
 ghost use Rattle.std.specs.Prelude.{◌≡◌, ℕ, ◌+◌, ◌<◌, ◌≤◌, OnOk, IfOk, IfErr, IfSome, IfNone};
+ghost use Rattle.log_record.specs.declared.units.TheConstants.{MOST_UNITS};
 ghost use Rattle.log_table.specs.Seats.{IsOf, Becomes, view_of};
 ghost use Rattle.log_table.specs.Views.{saw_tail, reserved};
 ghost use Rattle.ring_buffer.specs.Calls.{IsReady, IsLastLook, HasRoom, Refuses, HasPlaced, HasLost, HasRefused, looked};
@@ -53,7 +54,7 @@ pub fn try_place(
     requires seat { IsOf table.now seat.old }
     requires ready { IsReady (view_of seat.old) }
     requires look { IsLastLook look (view_of seat.old) }
-    requires size { (1 ≤ n) × (n ≤ 26) }
+    requires size { (1 ≤ n) × (n ≤ MOST_UNITS) }
     ensures room { OnOk result (HasRoom table.now.ring look.tail look.durable n) }
     ensures placed { IfOk result (λ o. IfSome o (λ range. (range.start ≡ look.tail) × (range.size ≡ n) × Becomes seat.old seat.new (reserved look.tail (look.tail + n) (view_of seat.old)))) }
     ensures lost { IfOk result (λ o. IfNone o ((found : ℕ) × (look.tail < found) × Becomes seat.old seat.new (saw_tail found (view_of seat.old)))) }
@@ -70,7 +71,7 @@ pub fn try_place(
 pub fn place_alone(table: &LogTable, seat: &mut Seat, n: u32) -> Result<Option<Range>, Refused>
     requires seat { IsOf table.now seat.old }
     requires ready { IsReady (view_of seat.old) }
-    requires size { (1 ≤ n) × (n ≤ 26) }
+    requires size { (1 ≤ n) × (n ≤ MOST_UNITS) }
     ensures placed { IfOk result (λ o. IfSome o (HasPlaced seat.old seat.new table.now.ring n)) }
     ensures lost { IfOk result (λ o. IfNone o (HasLost seat.old seat.new table.now.ring n)) }
     ensures refused { IfErr result (HasRefused seat.old seat.new table.now.ring n) }

@@ -16,6 +16,7 @@ pub fn append<D: LogDisk>(disk: &mut D, tail: Tail, batch: &mut Batch) -> Result
     requires some { 0 < length batch.old.units }
     requires most { length batch.old.units ≤ MOST_UNITS }
     requires fits { tail.next + length batch.old.units ≤ LAST }
+    // So that no place passes 64 bits: each unit takes 8 bytes, and each batch 5 more and has a unit.
     requires place { tail.at ≤ 2 ^ 63 + 16 * tail.next }
     requires shut { D.honest disk.old → IsShut tail.at (D.images disk.old) }
     ensures moments { D.honest disk.old → (units : List ℕ) → AllStand tail units (D.images disk.old)

@@ -25,6 +25,7 @@ pub use batch::Batch;
 pub use creating::create;
 pub use first_gate::has_open_gate;
 pub use gated_write::DiskFault;
+pub use layout::format_numbers;
 pub use opening::{OpenFault, open_image};
 pub use scan_result::{Scan, ScanFault, Tail};
 pub use scanning::{one_reading, scan};
