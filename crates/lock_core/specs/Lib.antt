@@ -4,6 +4,7 @@ pub mod History
 pub mod Judging
 pub mod Keeping
 pub mod Lawful
+pub mod Packing
 pub mod Plain
 pub mod Records
 pub mod Serial

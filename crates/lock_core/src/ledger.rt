@@ -85,6 +85,7 @@ impl Ledger {
 
     fn take_update(&mut self, txn: u32, change: Change) -> Result<(), JudgeFault>
         requires kept { (h : List Entry) × KeepsLedger self.old h }
+        requires account { IsAccount change.account }
         ensures { (end : ℕ) → TakesEntry self.old self.new end (Rec.Update txn change.account change.delta change.prev) result }
     {
         if self.accounts.count() == 0 {

@@ -1,6 +1,7 @@
 ghost use Rattle.std.specs.Prelude.{◌≡◌, ◌<◌, ◌≤◌, ◌+◌, ◌∷◌, [], true, ℕ, List, length, IfSome, IfNone, IfOk, OnOk};
 ghost use Rattle.log_record.specs.declared.rec.Rec.{Rec};
 ghost use Rattle.log_record.specs.declared.rec.Entry.{Entry};
+ghost use Rattle.log_record.specs.Spelling.{IsAccount};
 ghost use Rattle.lock_core.specs.Records.{txn_of, ends};
 ghost use Rattle.lock_core.specs.Transactions.{records_of, updates_of, has_end};
 ghost use Rattle.lock_core.specs.Keeping.{link_at, IsOpenAt, KeepsTransactions};
@@ -69,6 +70,8 @@ impl Transactions {
         count: u32,
         change: Change,
     ) -> Result<(), NoMemory>
+        requires account { IsAccount change.account }
+        requires count { count ≤ 16 }
         ensures { OnOk result ((end : ℕ) (h : List Entry) → KeepsTransactions self.old h → IsOpenAt self.old.updates place (records_of txn h)
             → count ≡ length (updates_of txn h) + 1
             → KeepsTransactions self.new (record { end = end; rec = Rec.Update txn change.account change.delta change.prev } ∷ h)) }

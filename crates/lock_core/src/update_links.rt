@@ -1,6 +1,8 @@
 ghost use Rattle.std.specs.Prelude.{◌≡◌, ◌<◌, ◌≤◌, ◌++◌, ◌∷◌, [], List, length, IfOk};
+ghost use Rattle.log_record.specs.Spelling.{IsAccount};
 ghost use Rattle.lock_core.specs.declared.update.Change.{Change};
 ghost use Rattle.lock_core.specs.declared.limits.TheConstants.{ENDED};
+ghost use Rattle.lock_core.specs.Packing.{unpacked};
 ghost use Rattle.lock_core.specs.Keeping.{no_link, link_at, HasChain};
 
 use crate::limits::ENDED;
@@ -19,19 +21,70 @@ pub struct UpdateLink {
     pub older: u32,
 }
 
+/// An Update as it is kept, in 16 bytes.
+#[derive(Clone, Copy, Debug, PartialEq, Eq)]
+pub struct PackedLink {
+    delta: i32,
+    prev: Lsn,
+    older: u32,
+    account: u16,
+    count: u16,
+}
+
+impl PackedLink {
+    fn of(link: UpdateLink) -> PackedLink
+        requires account { IsAccount link.change.account }
+        requires count { link.count ≤ 16 }
+        ensures { unpacked result ≡ link }
+    {
+        let UpdateLink {
+            change,
+            count,
+            older,
+        } = link;
+        let Change {
+            account,
+            delta,
+            prev,
+        } = change;
+        PackedLink {
+            delta,
+            prev,
+            older,
+            account: account as u16,
+            count: count as u16,
+        }
+    }
+
+    fn unpacked(self) -> UpdateLink
+        ensures { result ≡ unpacked self }
+    {
+        UpdateLink {
+            change: Change {
+                account: u32::from(self.account),
+                delta: self.delta,
+                prev: self.prev,
+            },
+            count: u32::from(self.count),
+            older: self.older,
+        }
+    }
+}
+
 /// The Updates of many transactions. At place 0 stands none, so that the first of a transaction needs no case of its own.
 #[derive(Drop)]
 pub struct UpdateLinks {
-    links: Vec<UpdateLink>,
+    links: Vec<PackedLink>,
 }
 
 impl Model for UpdateLinks {
-    ghost use Rattle.std.specs.Prelude.{List};
+    ghost use Rattle.std.specs.Prelude.{List, map};
     ghost use Rattle.lock_core.specs.declared.update_links.UpdateLink.{UpdateLink};
+    ghost use Rattle.lock_core.specs.Packing.{unpacked};
 
     ghost Value = { List UpdateLink };
 
-    ghost view = { λ u. u.links.items };
+    ghost view = { λ u. map unpacked u.links.items };
 }
 
 impl UpdateLinks {
@@ -48,7 +101,7 @@ impl UpdateLinks {
             older: 0,
         };
         let mut links = Vec::new(alloc);
-        match links.push(none) {
+        match links.push(PackedLink::of(none)) {
             Ok(()) => Ok(UpdateLinks { links }),
             Err(_) => Err(NoMemory),
         }
@@ -58,11 +111,13 @@ impl UpdateLinks {
         requires { place < length self.now }
         ensures { result ≡ link_at self.now place }
     {
-        self.links[place as usize]
+        self.links[place as usize].unpacked()
     }
 
     /// Appends an Update, and answers its place.
     pub fn push(&mut self, link: UpdateLink) -> Result<u32, NoMemory>
+        requires account { IsAccount link.change.account }
+        requires count { link.count ≤ 16 }
         ensures links { IfOk result (λ place. self.new ≡ self.old ++ link ∷ []) }
         ensures place { IfOk result (λ place. place ≡ length self.old) }
         ensures fits { IfOk result (λ place. place < ENDED) }
@@ -71,7 +126,7 @@ impl UpdateLinks {
         if place >= ENDED as usize {
             return Err(NoMemory);
         }
-        match self.links.push(link) {
+        match self.links.push(PackedLink::of(link)) {
             Ok(()) => Ok(place as u32),
             Err(_) => Err(NoMemory),
         }
