@@ -1,5 +1,5 @@
 -- What `recover` and `new` answer, from what was read, recovered and written.
-use Rattle.std.proofs.Common.{◌≡◌, ℕ, ◌*◌, List, [], length, Option, Some, None, IfSome, ap, ◌∙◌, subst, arith}
+use Rattle.std.proofs.Common.{◌≡◌, ℕ, ◌*◌, List, length, Option, Some, None, IfSome, ap, ◌∙◌, subst, arith}
 use Rattle.std.proofs.lemmas.List.{length-map}
 use Rattle.std.specs.Io.KnownBytes.{Appends}
 use Rattle.log_disk.specs.Streams.{AppendsPrefix}
@@ -7,11 +7,10 @@ use Rattle.log_recovery.specs.declared.recovery.Recovered.{Recovered}
 use Rattle.log_recovery.specs.Recovery.{Recovers}
 use Rattle.log_recovery.specs.Text.{rows_text, accounts_text}
 use Rattle.lsn_space.specs.Accounts.{Accounts}
-use Rattle.txn_script.specs.Balances.{IsBalancesText, IsFirstBadBalance}
+use Rattle.txn_script.specs.Balances.{IsBalancesText}
 use Rattle.log_recovery.proofs.TextLemmas.{rows_text-shown}
-use Rattle.aether_cli.specs.declared.report.Detail.TheVariants.{Fine, NoMemory, Usage, Script, Read, Write, Disk, NotALog, BadBatch, BadRec, Unlawful, Exists}
-use Rattle.aether_cli.specs.declared.report.Detail.{Detail}
-use Rattle.aether_cli.specs.Answers.{AnswersRecover, AnswersNew, AreOpening, IsMakingFault, ReadsAll}
+use Rattle.aether_cli.specs.declared.report.Detail.TheVariants.{Fine, Write}
+use Rattle.aether_cli.specs.Answers.{AnswersRecover, AnswersNew, AreOpening, ReadsAll}
 use Rattle.aether_cli.specs.Creation.{genesis_list}
 use Rattle.aether_cli.proofs.GenesisLemmas.{genesis-text}
 
@@ -30,7 +29,8 @@ answers-write (Some all) left_new old new bytes r read recovers written =
     (read.1, found.records, found.held, rw (rows_text-shown _ _ found.records found.lsn found.accounts) at written)
 
 -- the text of the new log's accounts
-text-opening : (left left_new : Option (List ℕ)) (accounts : Accounts) (opening : AreOpening left left_new accounts) (lsn : ℕ) → lsn ≡ 2 * length accounts.rows
+text-opening : (left left_new : Option (List ℕ)) (accounts : Accounts) (opening : AreOpening left left_new accounts) (lsn : ℕ)
+    → lsn ≡ 2 * length accounts.rows
     → rows_text lsn accounts.rows ≡ accounts_text (genesis_list opening.2.0)
 text-opening left left_new accounts opening lsn is =
     let rows = opening.2.2 in
@@ -38,15 +38,23 @@ text-opening left left_new accounts opening lsn is =
     ap (rows_text lsn) rows ∙ genesis-text opening.2.0 opening.2.1.most opening.2.1.each lsn (omega arith)
 
 pub answers_new-fine : (left left_new old new : Option (List ℕ)) (accounts : Accounts) (lsn : ℕ) → AreOpening left left_new accounts
-    → lsn ≡ 2 * length accounts.rows → Appends old new (rows_text lsn accounts.rows) → IfSome left (λ bytes. AnswersNew bytes left_new old new Fine)
+    → lsn ≡ 2 * length accounts.rows → Appends old new (rows_text lsn accounts.rows)
+    → IfSome left (λ bytes. AnswersNew bytes left_new old new Fine)
 answers_new-fine None left_new old new accounts lsn opening is written = tt
-answers_new-fine (Some bytes) left_new old new accounts lsn opening is written =
-    (opening.1.1, opening.2.0, subst (λ text. IsBalancesText text opening.2.0) opening.1.0 opening.2.1,
-    rw (text-opening (Some bytes) left_new accounts opening lsn is) at written)
+answers_new-fine (Some bytes) left_new old new accounts lsn opening is written = (
+  opening.1.1,
+  opening.2.0,
+  subst (λ text. IsBalancesText text opening.2.0) opening.1.0 opening.2.1,
+  rw (text-opening (Some bytes) left_new accounts opening lsn is) at written,
+)
 
 pub answers_new-write : (left left_new old new : Option (List ℕ)) (accounts : Accounts) (lsn : ℕ) → AreOpening left left_new accounts
-    → lsn ≡ 2 * length accounts.rows → AppendsPrefix old new (rows_text lsn accounts.rows) → IfSome left (λ bytes. AnswersNew bytes left_new old new Write)
+    → lsn ≡ 2 * length accounts.rows → AppendsPrefix old new (rows_text lsn accounts.rows)
+    → IfSome left (λ bytes. AnswersNew bytes left_new old new Write)
 answers_new-write None left_new old new accounts lsn opening is written = tt
-answers_new-write (Some bytes) left_new old new accounts lsn opening is written =
-    (opening.1.1, opening.2.0, subst (λ text. IsBalancesText text opening.2.0) opening.1.0 opening.2.1,
-    rw (text-opening (Some bytes) left_new accounts opening lsn is) at written)
+answers_new-write (Some bytes) left_new old new accounts lsn opening is written = (
+  opening.1.1,
+  opening.2.0,
+  subst (λ text. IsBalancesText text opening.2.0) opening.1.0 opening.2.1,
+  rw (text-opening (Some bytes) left_new accounts opening lsn is) at written,
+)

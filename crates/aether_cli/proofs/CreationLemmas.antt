@@ -1,12 +1,11 @@
 -- What `new` leaves on a disk, from what it read, found, and created.
-use Rattle.std.proofs.Common.{◌≡◌, ◌⊎◌, inl, inr, ℕ, ◌+◌, ◌*◌, ◌≤◌, ◌<◌, List, [], ◌∷◌, length, map, take, drop, All, Option, Some, None, IfSome, slice_get, refl, ap, ◌∙◌, sym, subst, arith}
+use Rattle.std.proofs.Common.{◌≡◌, inl, inr, ℕ, ◌*◌, ◌≤◌, ◌<◌, List, [], ◌∷◌, length, map, All, Option, Some, None, slice_get, refl, ap, ◌∙◌, sym, subst, arith}
 use Rattle.std.proofs.lemmas.List.Elements.{All-map}
 use Rattle.log_disk.specs.Disk.{IsSettled, Leaves}
 use Rattle.log_disk.proofs.Moments.{Leaves-trans, Leaves-weaken}
 use Rattle.log_record.specs.LogList.{units_of}
 use Rattle.log_record.specs.Spelling.{IsBalance}
 use Rattle.log_recovery.specs.Recovery.{HoldsLawful}
-use Rattle.log_recovery.specs.Text.{rows_text, accounts_text}
 use Rattle.lsn_space.specs.Accounts.{Accounts}
 use Rattle.segment_file.specs.File.{BeginsOpen, HoldsUnits}
 use Rattle.segment_file.specs.Standing.{IsStableGate, HoldsNoneOr, AllStand}
@@ -14,8 +13,8 @@ use Rattle.segment_file.specs.declared.scan_result.Tail.{Tail}
 use Rattle.segment_file.proofs.StandingLemmas.{holds}
 use Rattle.txn_script.specs.Balances.{IsBalancesText}
 use Rattle.aether_cli.specs.Answers.{AreOpening}
-use Rattle.aether_cli.specs.Creation.{genesis_list, AllHoldNew, HoldsNew, IsInput, MayBeLeft}
-use Rattle.aether_cli.proofs.GenesisLemmas.{opening_rows, end_of-genesis, genesis-holds, genesis-text}
+use Rattle.aether_cli.specs.Creation.{genesis_list, AllHoldNew, IsInput, MayBeLeft}
+use Rattle.aether_cli.proofs.GenesisLemmas.{opening_rows, end_of-genesis, genesis-holds}
 
 -- on a settled disk the first gate is stable
 pub gate-settled : (file : List ℕ) (images : List ℕ → Type 0) → IsSettled file images → (BeginsOpen file → ⊥) → IsStableGate 0 images
@@ -44,7 +43,8 @@ module _ (left left_new : Option (List ℕ)) (accounts : Accounts) (opening : Ar
   rows = opening.2.2
 
   pub each-opening : All (λ row. IsBalance row.0) accounts.rows
-  each-opening = subst (All (λ row. IsBalance row.0)) (sym rows) (All-map (λ (row : ℕ × ℕ). IsBalance row.0) (λ balance. (balance, 0)) balances text.each)
+  each-opening = subst (All (λ row. IsBalance row.0)) (sym rows)
+      (All-map (λ (row : ℕ × ℕ). IsBalance row.0) (λ balance. (balance, 0)) balances text.each)
 
   -- the units that are made of them
   module _ (units : List ℕ) (made : units ≡ units_of (genesis_list (map (λ row. row.0) accounts.rows))) where

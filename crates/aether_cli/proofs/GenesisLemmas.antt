@@ -1,10 +1,9 @@
 -- The list of a new log: its units, that it is lawful, and its text.
-use Rattle.std.proofs.Common.{◌≡◌, ℕ, ◌+◌, ◌*◌, ◌≤◌, ◌<◌, zero, suc, Some, take, slice_get, List, [], ◌∷◌, ◌++◌, length, map, All, refl, ap, ◌∙◌, sym, subst, arith, append_assoc, length-append, length-take-le}
+use Rattle.std.proofs.Common.{◌≡◌, ℕ, ◌+◌, ◌*◌, ◌≤◌, ◌<◌, Some, take, slice_get, List, [], ◌∷◌, ◌++◌, length, map, All, refl, ap, ◌∙◌, sym, subst, arith, append_assoc, length-take-le}
 use Rattle.std.specs.List.{AllByRecursion}
 use Rattle.std.proofs.lemmas.List.{append-nil, length-map, map-append, take_more}
 use Rattle.std.proofs.lemmas.List.Elements.{All-tail}
 use Rattle.std.proofs.lemmas.Option.{get_or_from_slice_get, slice_get_within}
-use Rattle.log_record.specs.declared.rec.Rec.{Rec}
 use Rattle.log_record.specs.declared.rec.Entry.{Entry}
 use Rattle.log_record.specs.declared.rec.Rec.TheVariants.{Genesis}
 use Rattle.log_record.specs.LogList.{units_of, end_of}
@@ -37,22 +36,25 @@ length-below account rows within = length-map (take account rows) (λ (row : ℕ
 
 -- one account more
 pub units_of-row_more : (rows : List (ℕ × ℕ)) (account : ℕ) (row : ℕ × ℕ) → slice_get rows account ≡ Some row
-    → units_of (genesis_list (balances_below (account + 1) rows)) ≡ units_of (genesis_list (balances_below account rows)) ++ spelling (Genesis account row.0)
+    → units_of (genesis_list (balances_below (account + 1) rows))
+    ≡ units_of (genesis_list (balances_below account rows)) ++ spelling (Genesis account row.0)
 units_of-row_more rows account row here =
     let within = slice_get_within rows account row here in
     let taken : take (account + 1) rows ≡ take account rows ++ row ∷ [] =
-        take_more rows account row within ∙ ap (λ r. take account rows ++ r ∷ []) (get_or_from_slice_get rows account row row here) in
+    take_more rows account row within ∙ ap (λ r. take account rows ++ r ∷ []) (get_or_from_slice_get rows account row row here) in
     let balances : balances_below (account + 1) rows ≡ balances_below account rows ++ row.0 ∷ [] =
-        ap (map (λ (r : ℕ × ℕ). r.0)) taken ∙ map-append (λ (r : ℕ × ℕ). r.0) (take account rows) (row ∷ []) in
+    ap (map (λ (r : ℕ × ℕ). r.0)) taken ∙ map-append (λ (r : ℕ × ℕ). r.0) (take account rows) (row ∷ []) in
     let counted = length-below account rows (omega arith) in
-    ap (λ bs. units_of (genesis_list bs)) balances ∙ units_of-more 0 (balances_below account rows) row.0 account (omega arith)
+    ap (λ bs. units_of (genesis_list bs)) balances
+    ∙ units_of-more 0 (balances_below account rows) row.0 account (omega arith)
 
 -- two units for each account
 pub end_of-genesis : (account : ℕ) (balances : List ℕ) → end_of (genesis_from account balances) ≡ 2 * length balances
 end_of-genesis account [] = refl
 end_of-genesis account (balance ∷ balances) = let more = end_of-genesis (account + 1) balances in omega arith
 
-pub end_of-rows_below : (account : ℕ) (rows : List (ℕ × ℕ)) → account ≤ length rows → end_of (genesis_list (balances_below account rows)) ≡ 2 * account
+pub end_of-rows_below : (account : ℕ) (rows : List (ℕ × ℕ)) → account ≤ length rows
+    → end_of (genesis_list (balances_below account rows)) ≡ 2 * account
 end_of-rows_below account rows within =
     let counted = end_of-genesis 0 (balances_below account rows) in let below = length-below account rows within in omega arith
 
@@ -68,8 +70,8 @@ record Opens (h : List Entry) (rows : List (ℕ × ℕ)) : Type 0 where
   pub lawful : IsLawful h
   pub kept : KeepsRows rows (genesis_of h) h
 
-opens-more : (h : List Entry) (rows : List (ℕ × ℕ)) (account : ℕ) (balances : List ℕ) → AreGenesis h → account ≡ length h → AllByRecursion IsBalance balances
-    → Opens h rows → Opens (history_from 0 h (genesis_from account balances)) (rows ++ opening_rows balances)
+opens-more : (h : List Entry) (rows : List (ℕ × ℕ)) (account : ℕ) (balances : List ℕ) → AreGenesis h → account ≡ length h
+    → AllByRecursion IsBalance balances → Opens h rows → Opens (history_from 0 h (genesis_from account balances)) (rows ++ opening_rows balances)
 opens-more h rows account [] all next range opened = subst (Opens h) (sym (append-nil rows)) opened
 opens-more h rows account (balance ∷ balances) all next range opened =
     let counted = accounts-genesis h all in
@@ -78,7 +80,8 @@ opens-more h rows account (balance ∷ balances) all next range opened =
       lawful = (passes-genesis h end account balance all next, opened.lawful);
       kept = keeps-genesis rows h end account balance opened.kept all (next ∙ sym counted) range.0;
     } in
-    let more = opens-more (entry_at (end_from 0 h) (Genesis account balance) ∷ h) (rows ++ (balance, 0) ∷ []) (account + 1) balances (tt, all) (omega arith) range.1 one in
+    let more = opens-more (entry_at (end_from 0 h) (Genesis account balance) ∷ h) (rows ++ (balance, 0) ∷ []) (account + 1) balances
+    (tt, all) (omega arith) range.1 one in
     subst (Opens _) (append_assoc rows ((balance, 0) ∷ []) (opening_rows balances)) more
 
 keeps-none : KeepsRows [] (genesis_of []) []

@@ -1,5 +1,5 @@
 -- `recover` on bytes that hold a lawful list.
-use Rattle.std.proofs.Common.{◌≡◌, ◌≢◌, ℕ, List, Option, arith, subst, sym}
+use Rattle.std.proofs.Common.{◌≢◌, ℕ, List, Option, arith, subst}
 use Rattle.std.specs.Io.KnownBytes.{Appends}
 use Rattle.log_record.specs.declared.rec.Rec.{Rec}
 use Rattle.log_recovery.specs.declared.recovery.RecoverFault.TheVariants as fault
@@ -17,10 +17,14 @@ lawful-status bytes records left old new Fine held answers = λ is. absurd (omeg
 lawful-status bytes records left old new NoMemory held answers = λ is. absurd (omega arith)
 lawful-status bytes records left old new Read held answers = λ is. absurd (omega arith)
 lawful-status bytes records left old new Write held answers = λ is. absurd (omega arith)
-lawful-status bytes records left old new NotALog held answers = λ is. let none = lawful-fault bytes records fault.NotALog held answers.1 in cc
-lawful-status bytes records left old new (BadBatch offset) held answers = λ is. let none = lawful-fault bytes records (fault.BadBatch offset) held answers.1 in cc
-lawful-status bytes records left old new (BadRec lsn) held answers = λ is. let none = lawful-fault bytes records (fault.BadRec lsn) held answers.1 in cc
-lawful-status bytes records left old new (Unlawful lsn why) held answers = λ is. let none = lawful-fault bytes records (fault.Unlawful lsn why) held answers.1 in cc
+lawful-status bytes records left old new NotALog held answers = λ is.
+    let none = lawful-fault bytes records fault.NotALog held answers.1 in cc
+lawful-status bytes records left old new (BadBatch offset) held answers = λ is.
+    let none = lawful-fault bytes records (fault.BadBatch offset) held answers.1 in cc
+lawful-status bytes records left old new (BadRec lsn) held answers = λ is.
+    let none = lawful-fault bytes records (fault.BadRec lsn) held answers.1 in cc
+lawful-status bytes records left old new (Unlawful lsn why) held answers = λ is.
+    let none = lawful-fault bytes records (fault.Unlawful lsn why) held answers.1 in cc
 lawful-status bytes records left old new Usage held answers = absurd answers
 lawful-status bytes records left old new (Script line) held answers = absurd answers
 lawful-status bytes records left old new Disk held answers = absurd answers

@@ -1,5 +1,5 @@
 -- What `new` makes: the log of the accounts' opening balances. `left` is what the input holds at first, where it tells that.
-use Rattle.std.specs.Prelude.{◌≡◌, ◌⊎◌, ℕ, ◌+◌, List, [], ◌∷◌, Option, IfSome}
+use Rattle.std.specs.Prelude.{◌⊎◌, ℕ, ◌+◌, List, [], ◌∷◌, Option, IfSome}
 use Rattle.log_record.specs.declared.rec.Rec.{Rec}
 use Rattle.log_record.specs.declared.rec.Rec.TheVariants.{Genesis}
 use Rattle.log_recovery.specs.Recovery.{HoldsLawful}

@@ -26,7 +26,11 @@ use top::aether;
 /// The root folder, opened thrice. Where standard streams are closed it takes their numbers, so that no file that is
 /// opened later gets one of them.
 fn hold_streams(rt: &HostRuntime) -> [io::Result<File>; 3] {
-    [File::open(rt, "/"), File::open(rt, "/"), File::open(rt, "/")]
+    [
+        File::open(rt, "/"),
+        File::open(rt, "/"),
+        File::open(rt, "/"),
+    ]
 }
 
 fn main(rt: HostRuntime) -> ExitCode {
@@ -36,7 +40,14 @@ fn main(rt: HostRuntime) -> ExitCode {
             let mut script = StdSource::make(rt.stdin());
             let mut out = StdSink::make(rt.stdout());
             let mut disk = FileDisk::make(rt);
-            aether(&rt, rt.alloc(), words.as_slice(), &mut disk, &mut script, &mut out)
+            aether(
+                &rt,
+                rt.alloc(),
+                words.as_slice(),
+                &mut disk,
+                &mut script,
+                &mut out,
+            )
         }
         Err(detail) => Report::of(detail),
     };

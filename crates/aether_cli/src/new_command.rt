@@ -62,7 +62,8 @@ fn make_log<D: LogDisk, S: Source>(
     ensures images { D.honest disk.old
         → Leaves D.moment D.images_since (MayBeLeft (S.left script.old) (D.images disk.old)) disk.old disk.new }
     ensures made { D.honest disk.old → OnOk result (AllHoldNew (S.left script.old) (D.images disk.new)) }
-    ensures kept { IfErr result (λ detail. PrecedesLog detail → Leaves D.moment D.images_since (D.images disk.old) disk.old disk.new) }
+    ensures kept { IfErr result (λ detail. PrecedesLog detail
+        → Leaves D.moment D.images_since (D.images disk.old) disk.old disk.new) }
     ensures exists { D.honest disk.old
         → MatchResult result (λ _. BeginsOpen (D.reads disk.old) → ⊥) (TellsWhether (BeginsOpen (D.reads disk.old))) }
     ensures count { D.honest disk.old → D.written_count disk.new ≤ D.written_count disk.old + 7 }

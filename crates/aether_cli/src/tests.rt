@@ -189,7 +189,13 @@ fn recovers_what_new_made(rt: HostRuntime) -> Result<(), Fail> {
     assert_eq!(rt; made.bytes(), text);
 
     let mut recovered = sink_of(&rt, &[])?;
-    let report = answer_of(&rt, &["aether", "recover"], disk.bytes(), &[], &mut recovered)?;
+    let report = answer_of(
+        &rt,
+        &["aether", "recover"],
+        disk.bytes(),
+        &[],
+        &mut recovered,
+    )?;
     assert_eq!(rt; report, Report::of(Detail::Fine));
     assert_eq!(rt; recovered.bytes(), made.bytes());
     Ok(())

@@ -54,7 +54,8 @@ pub fn aether<R, D: LogDisk, S: Source, K: Sink>(
     ensures complete { AsksNew words.now → D.honest disk.old → (BeginsOpen (D.reads disk.old) → ⊥)
         → IfSome (S.left script.old) (λ bytes. (balances : List ℕ) → IsBalancesText bytes balances
         → (Rose (S.faults script.old) (S.faults script.new) → ⊥) → (Rose (K.faults out.old) (K.faults out.new) → ⊥)
-        → (Rose (D.faults disk.old) (D.faults disk.new) → ⊥) → (result.detail ≡ Detail.Fine) ⊎ (result.detail ≡ Detail.NoMemory)) }
+        → (Rose (D.faults disk.old) (D.faults disk.new) → ⊥)
+        → (result.detail ≡ Detail.Fine) ⊎ (result.detail ≡ Detail.NoMemory)) }
 
     // Nothing is written but where all is fine or the writing failed.
     ensures silent { StaysSilent (K.held_bytes out.old) (K.held_bytes out.new) result.detail }

@@ -71,7 +71,7 @@ found-one f [] test r found = cc
 found-one f (x ∷ xs) test r found = elim (eq_dec_bool (test x)) [
   | inl is ↦ inl (let this : Some (f x) ≡ Some r = rw is at found in cc)
   | inr is ↦ inr (found-one f xs test r (rw is at found))
-  ]
+]
 
 -- a subcommand that is entered has one of their names
 entered-name : (a : App) (stop : Option (Text × List Text)) (name : Text) (rows : List Row) → entered a stop ≡ Some (name, rows)
@@ -89,10 +89,10 @@ unfolding aether_command new_command
 named-one words name rows named =
     let a = built aether_command in
     elim (entered-name a (stop_after a.top.rules (names_of a) (argument_words aether_command words)) name rows named) [
-  | inl new ↦ inl new
-  | inr (inl recover) ↦ inr recover
-  | inr (inr none) ↦ elim none [ ]
-  ]
+      | inl new ↦ inl new
+      | inr (inl recover) ↦ inr recover
+      | inr (inr none) ↦ elim none [ ]
+    ]
 
 -- the text behind a reference that may be missing
 pub unwrap_or-text : (text : Option (Bor Text)) (other : Bor Text) → (unwrap_or text other).now ≡ unwrap_or (option_map (λ s. s.now) text) other.now

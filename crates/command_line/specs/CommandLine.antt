@@ -1,5 +1,5 @@
 -- The command line of the program: the command that is defined, and what words ask by it. Words have the program's name first.
-use Rattle.std.specs.Prelude.{◌≡◌, ◌≢◌, ℕ, codes, Some, unwrap_or, true, List, [], ◌∷◌}
+use Rattle.std.specs.Prelude.{◌≡◌, ◌≢◌, ℕ, codes, Some, unwrap_or, true, List, []}
 use Rattle.clap.specs.Words.{App, Rule, Row, new_app, new_rule, with_rule, with_subcommand, fault_of, subcommand_of, first_of}
 use Rattle.command_line.specs.declared.command.Command.{Command}
 use Rattle.command_line.specs.declared.command.Command.TheVariants.{New, Recover}

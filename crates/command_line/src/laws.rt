@@ -6,7 +6,8 @@ ghost use Rattle.command_line.specs.declared.command.Command.TheVariants.{New, R
 
 /// A law: words that are taken ask one of the commands, and only one.
 pub fn one_command()
-    ensures some { (words : List (List ℕ)) → AreTaken words → IsCommandLine words Recover ⊎ (log : List ℕ) × IsCommandLine words (New log) }
+    ensures some { (words : List (List ℕ)) → AreTaken words
+        → IsCommandLine words Recover ⊎ (log : List ℕ) × IsCommandLine words (New log) }
     ensures apart { (words : List (List ℕ)) (log : List ℕ) → IsCommandLine words (New log) → IsCommandLine words Recover → ⊥ }
     ensures log { (words : List (List ℕ)) (one other : List ℕ) → IsCommandLine words (New one) → IsCommandLine words (New other)
         → one ≡ other }

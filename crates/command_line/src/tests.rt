@@ -29,10 +29,16 @@ fn takes_commands(rt: HostRuntime) -> Result<(), Fail> {
     ];
     for (words, want) in cases {
         let command = parsed(&rt, words)?;
-        assert!(rt; matches!(&command, Ok(Command::New { log }) if log.text() == want), "{words:?}");
+        assert!(rt;
+            matches!(&command, Ok(Command::New { log }) if log.text() == want),
+            "{words:?}"
+        );
     }
     for words in [["aether", "recover"], ["", "recover"]] {
-        assert!(rt; matches!(parsed(&rt, &words)?, Ok(Command::Recover)), "{words:?}");
+        assert!(rt;
+            matches!(parsed(&rt, &words)?, Ok(Command::Recover)),
+            "{words:?}"
+        );
     }
     Ok(())
 }
@@ -64,7 +70,10 @@ fn refuses_other_words(rt: HostRuntime) -> Result<(), Fail> {
         &["aether", "recove"],
     ];
     for words in cases {
-        assert!(rt; matches!(parsed(&rt, words)?, Err(Refused::Usage)), "{words:?}");
+        assert!(rt;
+            matches!(parsed(&rt, words)?, Err(Refused::Usage)),
+            "{words:?}"
+        );
     }
     Ok(())
 }

@@ -1,4 +1,4 @@
-use Rattle.std.proofs.Common.{◌≡◌, ◌∙◌, ap, sym, length, arith, ◌++◌}
+use Rattle.std.proofs.Common.{◌∙◌, ap, sym, length, arith, ◌++◌}
 use Rattle.log_record.specs.Spelling.{spelling}
 use Rattle.log_record.specs.declared.rec.Rec.TheVariants.{Genesis}
 use Rattle.aether_cli.proofs.GenesisLemmas.{units_of-row_more, end_of-rows_below}

@@ -1,4 +1,4 @@
-use Rattle.std.proofs.Common.{◌≡◌, ◌∙◌, sym, subst, ap}
+use Rattle.std.proofs.Common.{subst}
 use Rattle.segment_file.specs.File.{BeginsOpen}
 use Rattle.aether_cli.proofs.CreationLemmas.{gate-settled, each-opening, some-made, most-made, all-made, leaves-made}
 use Rattle.aether_cli.proofs.new_command.make_log.Goals as goal
@@ -21,14 +21,17 @@ create-requires-clause-stable g c = λ honest.
 
 pub returns-in-Ok-create-clause-images : goal.returns-in-Ok-create-clause-images
 returns-in-Ok-create-clause-images g c = λ honest.
-    leaves-made _ _ c.in_ok-accounts.accounts c.in_ok-accounts.ensures.ok _ c.in-Ok.ensures g.D.LogDisk.moment g.D.LogDisk.images_since _ _ c.finds_log.new.disk _
+    leaves-made _ _ c.in_ok-accounts.accounts c.in_ok-accounts.ensures.ok _ c.in-Ok.ensures
+    g.D.LogDisk.moment g.D.LogDisk.images_since _ _ c.finds_log.new.disk _
     c.in-Ok-false.ensures.moments (c.in-Ok-create.ensures.moments (c.in-Ok-false.ensures.honest.0 honest))
 
 pub returns-in-Ok-create-clause-made : goal.returns-in-Ok-create-clause-made
 returns-in-Ok-create-clause-made g c = λ honest.
-    all-made _ _ c.in_ok-accounts.accounts c.in_ok-accounts.ensures.ok _ c.in-Ok.ensures _ _ (c.in-Ok-create.ensures.created (c.in-Ok-false.ensures.honest.0 honest))
+    all-made _ _ c.in_ok-accounts.accounts c.in_ok-accounts.ensures.ok _ c.in-Ok.ensures _ _
+    (c.in-Ok-create.ensures.created (c.in-Ok-false.ensures.honest.0 honest))
 
 pub returns-in-Err-create-clause-images : goal.returns-in-Err-create-clause-images
 returns-in-Err-create-clause-images g c = λ honest.
-    leaves-made _ _ c.in_ok-accounts.accounts c.in_ok-accounts.ensures.ok _ c.in-Ok.ensures g.D.LogDisk.moment g.D.LogDisk.images_since _ _ c.finds_log.new.disk _
+    leaves-made _ _ c.in_ok-accounts.accounts c.in_ok-accounts.ensures.ok _ c.in-Ok.ensures
+    g.D.LogDisk.moment g.D.LogDisk.images_since _ _ c.finds_log.new.disk _
     c.in-Ok-false.ensures.moments (c.in-Err-create.ensures.moments (c.in-Ok-false.ensures.honest.0 honest))

@@ -1,4 +1,4 @@
-use Rattle.std.proofs.Common.{◌≡◌, ◌∙◌, sym, subst}
+use Rattle.std.proofs.Common.{◌∙◌, sym, subst}
 use Rattle.aether_cli.specs.Answers.{IsOfRecover}
 use Rattle.aether_cli.proofs.CompletenessLemmas.{new-complete}
 use Rattle.aether_cli.proofs.top.aether.Goals as goal
@@ -6,7 +6,8 @@ use Rattle.aether_cli.proofs.top.aether.Goals as goal
 pub returns-in-Ok-New-clause-complete : goal.returns-in-Ok-New-clause-complete
 returns-in-Ok-New-clause-complete g c = λ asked honest closed.
     let called = c.new_command.ensures in
-    rw c.of.ensures.detail (new-complete _ _ _ _ _ _ _ _ c.new_command.result called.answer (called.exists honest) called.read called.write called.disk closed)
+    rw c.of.ensures.detail (new-complete _ _ _ _ _ _ _ _ c.new_command.result called.answer (called.exists honest)
+    called.read called.write called.disk closed)
 
 pub returns-in-Ok-Recover-clause-disk : goal.returns-in-Ok-Recover-clause-disk
 returns-in-Ok-Recover-clause-disk g c = λ is.

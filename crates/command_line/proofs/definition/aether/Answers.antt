@@ -1,4 +1,4 @@
-use Rattle.std.proofs.Common.{◌≡◌, ◌∙◌, ap, ap₂}
+use Rattle.std.proofs.Common.{◌∙◌, ap, ap₂}
 use Rattle.std.proofs.lemmas.Result.{IfOk-weaker}
 use Rattle.clap.specs.Words.{App, with_subcommand}
 use Rattle.command_line.specs.CommandLine.{aether_command}
@@ -8,4 +8,5 @@ pub returns : goal.returns
 unfolding aether_command
 returns c = IfOk-weaker c.subcommand-2.result _ _ (λ r h. h.shape c.new-2.ensures.local
     ∙ ap₂ with_subcommand (c.in_ok-subcommand.ensures.shape c.in_ok-new.ensures.local
-    ∙ ap₂ with_subcommand c.bare.ensures (ap (λ (a : App). a.top) c.in_ok-new.ensures.app)) (ap (λ (a : App). a.top) c.new-2.ensures.app)) c.subcommand-2.ensures
+    ∙ ap₂ with_subcommand c.bare.ensures (ap (λ (a : App). a.top) c.in_ok-new.ensures.app))
+    (ap (λ (a : App). a.top) c.new-2.ensures.app)) c.subcommand-2.ensures

@@ -1,6 +1,6 @@
-use Rattle.std.proofs.Common.{◌≡◌, ◌∙◌, inl, inr, sym, ap, true, false, codes, is_some, unwrap_or, []}
+use Rattle.std.proofs.Common.{◌≡◌, ◌∙◌, inl, inr, sym, ap, false, codes, is_some, unwrap_or, []}
 use Rattle.clap.proofs.WalkLemmas.{first_value-rows}
-use Rattle.clap.specs.Words.{subcommand_rows_of, subcommand_of, found_of, rows_of}
+use Rattle.clap.specs.Words.{subcommand_of, found_of, rows_of}
 use Rattle.command_line.specs.CommandLine.{aether_command, NamesSubcommand}
 use Rattle.command_line.proofs.Facts.{rows-named, rows-none, named-one, named_some, answers-new, unwrap_or-text}
 use Rattle.command_line.proofs.parsing.parse.Goals as goal
@@ -8,7 +8,7 @@ use Rattle.command_line.proofs.parsing.parse.Goals as goal
 pub unreachable-requires : goal.unreachable-requires
 unreachable-requires c =
     let none : is_some (subcommand_of aether_command c.args.words.now) ≡ false =
-        ap is_some (sym c.in_ok-matches.ensures.ok) ∙ rows-none _ _ _ c.in_default.ensures.variant in
+    ap is_some (sym c.in_ok-matches.ensures.ok) ∙ rows-none _ _ _ c.in_default.ensures.variant in
     let some = named_some c.args.words.now c.in_ok-matches.ensures.exact in
     cc
 
@@ -16,7 +16,7 @@ pub returns-in-new-clause-exact : goal.returns-in-new-clause-exact
 returns-in-new-clause-exact c =
     let rows = rows_of (found_of c.in-Some.found.now) in
     let named : NamesSubcommand c.args.words.now c.in-Some.name.now rows =
-        sym c.in_ok-matches.ensures.ok ∙ rows-named _ _ _ _ _ c.in-Some.ensures.name c.in-Some.ensures.rows in
+    sym c.in_ok-matches.ensures.ok ∙ rows-named _ _ _ _ _ c.in-Some.ensures.name c.in-Some.ensures.rows in
     let text = ap (λ o. unwrap_or o []) (c.get_str.ensures ∙ first_value-rows (found_of c.in-Some.found.now) (codes "LOG")) in
     let log = ap (λ t. t.now) c.unwrap_or.ensures ∙ unwrap_or-text c.get_str.result _ ∙ text in
     answers-new _ _ _ (c.in_ok-matches.ensures.exact, rows, rw c.in-new.is at named, log) c.new.ensures
@@ -25,5 +25,5 @@ pub unreachable-requires-in_default-name : goal.unreachable-requires-in_default-
 unreachable-requires-in_default-name c =
     let rows = rows_of (found_of c.in-Some.found.now) in
     let named : NamesSubcommand c.args.words.now c.in-Some.name.now rows =
-        sym c.in_ok-matches.ensures.ok ∙ rows-named _ _ _ _ _ c.in-Some.ensures.name c.in-Some.ensures.rows in
+    sym c.in_ok-matches.ensures.ok ∙ rows-named _ _ _ _ _ c.in-Some.ensures.name c.in-Some.ensures.rows in
     elim (named-one _ _ _ named) [ inl new ↦ c.in_default-name.not-new new | inr recover ↦ c.in_default-name.not-recover recover ]
