@@ -1,0 +1,4 @@
+pub mod EndLines
+pub mod Later
+pub mod Telling
+pub mod Turning

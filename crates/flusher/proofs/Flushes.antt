@@ -1,0 +1,58 @@
+-- What the steps of a flush come to.
+use Rattle.std.proofs.Common.{◌≡◌, ◌≤◌, ◌+◌, ◌∙◌, sym, ap, refl, subst, inl, inr, ⊎_elim, ℕ, List, [], ◌++◌, append_assoc}
+use Rattle.log_disk.specs.Disk.{Leaves}
+use Rattle.log_disk.specs.declared.disk.LogDisk.{Ghosts}
+use Rattle.log_disk.proofs.Moments.{Leaves-now}
+use Rattle.log_table.specs.declared.table.Seat.{Seat}
+use Rattle.log_table.specs.declared.view.View.{View}
+use Rattle.log_table.specs.Seats.{Becomes, view_of}
+use Rattle.segment_file.specs.File.{HoldsUnits}
+use Rattle.segment_file.specs.Standing.{StandsAt, AllStand, HoldsEither}
+use Rattle.segment_file.specs.declared.scan_result.Tail.{Tail}
+use Rattle.flusher.specs.declared.flusher.Flusher.{Flusher}
+use Rattle.flusher.specs.Flushing.{HoldsDurablePrefix, MayHoldBatchInFlight, WritesWhole}
+
+-- one step after another
+pub Becomes-then : (a b c : Seat) (view : View) (f : View → View) → Becomes a b view → Becomes b c (f (view_of b)) → Becomes a c (f view)
+Becomes-then a b c view f first second = record {
+  table_is = second.table_is ∙ first.table_is;
+  number = second.number ∙ first.number;
+  me = second.me ∙ ap (λ m. (f m.0, m.1)) first.me;
+  worker = second.worker ∙ first.worker;
+}
+
+-- what stands at a tail holds its units
+StandsAt-holds : (tail : Tail) (units bytes : List ℕ) → StandsAt tail units bytes → HoldsUnits bytes units
+StandsAt-holds tail units bytes stands = (stands.batches, stands.rest, stands.file, stands.units_are)
+
+-- what an append says of every list, said of the opening units and those sent
+pub Leaves-append : {D : Type 0} (g : Ghosts D) (old : Flusher D) (disk : D) (batch units : List ℕ) → batch ≡ units
+    → ((us : List ℕ) → AllStand old.tail us (g.images old.disk.now) → Leaves g.moment g.images_since (HoldsEither us batch) old.disk.now disk)
+    → (opening : List ℕ) → HoldsDurablePrefix g old opening
+    → Leaves g.moment g.images_since (HoldsEither (opening ++ (view_of old.seat).sending.sent) units) old.disk.now disk
+Leaves-append g old disk batch units same moments opening stand =
+    subst (λ us. Leaves g.moment g.images_since (HoldsEither (opening ++ (view_of old.seat).sending.sent) us) old.disk.now disk) same
+    (moments (opening ++ (view_of old.seat).sending.sent) stand)
+
+-- after an append the images hold what the view then says was sent
+pub HoldsDurablePrefix-append : {D : Type 0} (g : Ghosts D) (old : Flusher D) (tail : Tail) (disk : D) (batch units sent : List ℕ) → batch ≡ units
+    → ((us : List ℕ) → AllStand old.tail us (g.images old.disk.now) → AllStand tail (us ++ batch) (g.images disk))
+    → sent ≡ (view_of old.seat).sending.sent ++ units → (opening : List ℕ) → HoldsDurablePrefix g old opening → AllStand tail (opening ++ sent) (g.images disk)
+HoldsDurablePrefix-append g old tail disk batch units sent same appended sent_is opening stand =
+    subst (λ us. AllStand tail us (g.images disk))
+    (ap (λ us. (opening ++ (view_of old.seat).sending.sent) ++ us) same ∙ append_assoc opening (view_of old.seat).sending.sent units ∙ ap (λ us. opening ++ us) (sym sent_is))
+    (appended (opening ++ (view_of old.seat).sending.sent) stand)
+
+-- after an append that failed they hold that, or with it what the view says was read
+pub MayHoldBatchInFlight-append : {D : Type 0} (g : Ghosts D)
+    → ((disk : D) (t : ℕ) (c : List ℕ) → t ≤ g.moment disk → g.images disk c → g.images_since disk t c)
+    → ((disk : D) (c : List ℕ) → g.images_since disk (g.moment disk) c → g.images disk c)
+    → (old : Flusher D) (disk : D) (units sent read : List ℕ)
+    → ((opening : List ℕ) → HoldsDurablePrefix g old opening → Leaves g.moment g.images_since (HoldsEither (opening ++ (view_of old.seat).sending.sent) units) old.disk.now disk)
+    → sent ≡ (view_of old.seat).sending.sent → read ≡ units
+    → (opening : List ℕ) → HoldsDurablePrefix g old opening → (c : List ℕ) → g.images disk c → HoldsEither (opening ++ sent) read c
+MayHoldBatchInFlight-append g counts_now only_now old disk units sent read moments sent_is read_is opening stand =
+    subst (λ us. (c : List ℕ) → g.images disk c → HoldsEither (opening ++ us) read c) (sym sent_is)
+    (subst (λ us. (c : List ℕ) → g.images disk c → HoldsEither (opening ++ (view_of old.seat).sending.sent) us c) (sym read_is)
+    (Leaves-now g.moment g.images_since g.images counts_now _ old.disk.now disk only_now
+    (λ c image. inl (StandsAt-holds _ _ c (stand c image))) (moments opening stand)))
