@@ -76,3 +76,13 @@ text_of Count at records = []
 abbrev pub lines_in : Voice → List Rec → ℕ
 lines_in Lines records = done_in records + refused_in records
 lines_in Count records = 0
+
+-- what a daemon with this voice writes of one record, which ends at this LSN
+abbrev pub line_said : Voice → ℕ → Rec → List ℕ
+line_said Lines end rec = end_line end rec
+line_said Count end rec = []
+
+-- how many lines that is
+abbrev pub count_said : Voice → Rec → ℕ
+count_said Lines rec = is_done rec + is_refused rec
+count_said Count rec = 0

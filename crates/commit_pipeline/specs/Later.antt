@@ -14,8 +14,8 @@ use Rattle.commit_pipeline.specs.declared.daemon.Daemon.{Daemon}
 use Rattle.commit_pipeline.specs.declared.daemon.DaemonFault.{DaemonFault}
 use Rattle.commit_pipeline.specs.declared.daemon.DaemonFault.TheVariants.{DiskFault, WriteFault}
 use Rattle.commit_pipeline.specs.EndLines.{Spells, text_of}
-use Rattle.commit_pipeline.specs.Telling.{Tally, TellsFront, counted}
-use Rattle.commit_pipeline.specs.Turning.{MayTurn, IsSameDaemon, tally_of, durable}
+use Rattle.commit_pipeline.specs.Telling.{TellsFront, counted}
+use Rattle.commit_pipeline.specs.Turning.{MayTurn, IsSameDaemon, durable}
 
 -- each batch spells the records that stand in its place
 abbrev pub SpellEach : List (List ℕ) → List (List Rec) → Type 0
@@ -78,9 +78,9 @@ pub record Ran {D : Type 0} {K : Type 0} (g : Ghosts D) (h : SinkGhosts K) (old 
       → HoldsDurablePrefix g old.flusher opening → MayHoldBatchInFlight g new.flusher opening
   pub appended : Appends (h.held_bytes old.sink.now) (h.held_bytes new.sink.now) text
   pub front : (lists : List (List Rec)) → SpellEach batches lists
-      → TellsFront old.voice (durable old) (all_of lists) text (tally_of old) (tally_of new)
+      → TellsFront old.voice (durable old) (all_of lists) text old.tally new.tally
   pub all : new.fault ≢ Some WriteFault → (lists : List (List Rec)) → SpellEach batches lists
-      → (text ≡ text_of old.voice (durable old) (all_of lists)) × (tally_of new ≡ counted (tally_of old) (all_of lists))
+      → (text ≡ text_of old.voice (durable old) (all_of lists)) × (new.tally ≡ counted old.tally (all_of lists))
   pub reason : HasReason g h old new new.fault
   pub count : g.honest old.flusher.disk.now
       → g.written_count new.flusher.disk.now ≤ g.written_count old.flusher.disk.now + 4 * length batches + extra new.fault

@@ -1,15 +1,11 @@
 -- What lines are written of the units that a turn sends.
 use Rattle.std.specs.Prelude.{◌≡◌, ℕ, ◌+◌, List, [], ◌∷◌, ◌++◌}
 use Rattle.log_record.specs.declared.rec.Rec.{Rec}
+use Rattle.commit_pipeline.specs.declared.tally.Tally.{Tally}
 use Rattle.commit_pipeline.specs.declared.voice.Voice.{Voice}
 use Rattle.commit_pipeline.specs.EndLines.{Spells, text_of, lines_in, done_in, refused_in}
 
--- how many end records of either kind were seen
-pub record Tally : Type 0 where
-  pub done : ℕ
-  pub refused : ℕ
-
--- those of these records added
+-- the tally with the end records among these
 abbrev pub counted : Tally → List Rec → Tally
 counted tally records = record { done = tally.done + done_in records; refused = tally.refused + refused_in records }
 

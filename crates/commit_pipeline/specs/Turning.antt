@@ -14,11 +14,7 @@ use Rattle.commit_pipeline.specs.declared.daemon.DaemonFault.{DaemonFault}
 use Rattle.commit_pipeline.specs.declared.daemon.DaemonFault.TheVariants.{DiskFault, WriteFault}
 use Rattle.commit_pipeline.specs.declared.daemon.Turn.{Turn}
 use Rattle.commit_pipeline.specs.declared.daemon.Turn.TheVariants.{Idle, Sent}
-use Rattle.commit_pipeline.specs.Telling.{Tally, TellsAll, TellsSome}
-
--- the end records that a daemon has counted
-abbrev pub tally_of : {D : Type 0} → {K : Type 0} → Daemon D K → Tally
-tally_of d = record { done = d.done; refused = d.refused }
+use Rattle.commit_pipeline.specs.Telling.{TellsAll, TellsSome}
 
 -- where the next units go
 abbrev pub durable : {D : Type 0} → {K : Type 0} → Daemon D K → ℕ
@@ -28,7 +24,7 @@ durable d = durable_of (view_of d.flusher.seat)
 pub record MayTurn {D : Type 0} {K : Type 0} (g : Ghosts D) (d : Daemon D K) : Type 0 where
   pub flusher : IsReady g d.flusher
   pub fine : d.fault ≡ None
-  pub counted : d.done + d.refused ≤ length (view_of d.flusher.seat).sending.sent
+  pub counted : d.tally.done + d.tally.refused ≤ length (view_of d.flusher.seat).sending.sent
 
 -- it is the same daemon, with the same disk and sink
 pub record IsSameDaemon {D : Type 0} {K : Type 0} (g : Ghosts D) (h : SinkGhosts K) (old new : Daemon D K) : Type 0 where
@@ -53,7 +49,7 @@ pub record SendsLines {D : Type 0} {K : Type 0} (g : Ghosts D) (h : SinkGhosts K
   pub flush : Sends g old.flusher new.flusher (durable old) to
   pub text : List ℕ
   pub appended : Appends (h.held_bytes old.sink.now) (h.held_bytes new.sink.now) text
-  pub tells : TellsAll old.voice (durable old) flush.units text lines (tally_of old) (tally_of new)
+  pub tells : TellsAll old.voice (durable old) flush.units text lines old.tally new.tally
   pub fine : new.fault ≡ None
 
 -- the disk failed to take the units; nothing was written, and the stop word is 1
@@ -72,7 +68,7 @@ pub record LosesLines {D : Type 0} {K : Type 0} (g : Ghosts D) (h : SinkGhosts K
   pub stops : Stops 2 sent new.flusher
   pub text : List ℕ
   pub appended : Appends (h.held_bytes old.sink.now) (h.held_bytes new.sink.now) text
-  pub tells : TellsSome old.voice (durable old) flush.units text (tally_of old) (tally_of new)
+  pub tells : TellsSome old.voice (durable old) flush.units text old.tally new.tally
   pub fault : new.fault ≡ Some WriteFault
   pub rose : Rose (h.faults old.sink.now) (h.faults new.sink.now)
 
