@@ -9,7 +9,6 @@ use Rattle.log_table.specs.declared.view.Role.TheVariants.{Flusher, Active, Ende
 use Rattle.log_table.specs.declared.view.Seen.{Seen}
 use Rattle.log_table.specs.declared.view.View.{View}
 use Rattle.log_table.specs.Log.{IsFull}
-use Rattle.log_table.specs.Views.{durable_of}
 
 -- the worker is enrolled and has no call under way
 pub record IsAtRest (view : View) : Type 0 where
@@ -61,18 +60,3 @@ pub record MayMerge (view other : View) : Type 0 where
 pub record MayClose (view : View) : Type 0 where
   pub flusher : view.standing.role ≡ Flusher
   pub all_merged : (worker : ℕ) → list_any (eqb worker) view.standing.made ≡ true → list_any (eqb worker) view.standing.merged ≡ true
-
--- the unit at this LSN is the next that the flusher reads
-pub record MayRead (at : ℕ) (view : View) : Type 0 where
-  pub flusher : view.standing.role ≡ Flusher
-  pub next : at ≡ durable_of view + length view.sending.read
-  pub below : at < view.seen.exposed
-
-pub record MayStoreDurable (to : ℕ) (view : View) : Type 0 where
-  pub flusher : view.standing.role ≡ Flusher
-  pub whole : to ≡ durable_of view + length view.sending.read
-  pub exposed : to ≡ view.seen.exposed
-
-pub record MayLoadCrew (view : View) : Type 0 where
-  pub flusher : view.standing.role ≡ Flusher
-  pub told : (worker : ℕ) → list_any (eqb worker) view.standing.made ≡ true → list_any (eqb worker) view.standing.enrolled ≡ true

@@ -61,7 +61,7 @@ flusher key = record {
   entries = [];
   call = Idle;
   contended = false;
-  sending = record { sent = []; read = []; quiet = false; looked = false; stop = 0 };
+  sending = record { sent = []; read = []; quiet = false; looked = false };
   books = record {};
 }
 
@@ -74,7 +74,7 @@ nobody = record {
   entries = [];
   call = Idle;
   contended = false;
-  sending = record { sent = []; read = []; quiet = false; looked = false; stop = 0 };
+  sending = record { sent = []; read = []; quiet = false; looked = false };
   books = record {};
 }
 
@@ -120,28 +120,9 @@ saw_tail n view = record view { seen = seen_tail n view.seen }
 abbrev pub saw_exposed : ℕ → View → View
 saw_exposed n view = record view { seen = seen_exposed n view.seen }
 
-abbrev pub saw_exposed_looked : ℕ → View → View
-saw_exposed_looked n view = record view { seen = seen_exposed n view.seen; sending = record view.sending { looked = true } }
-
 -- after a load of durable
 abbrev pub saw_durable : ℕ → View → View
 saw_durable n view = record view { seen = seen_durable n view.seen }
-
--- where the units sent end
-abbrev pub durable_of : View → ℕ
-durable_of view = view.constants.start + length view.sending.sent
-
-abbrev pub read_unit : ℕ → View → View
-read_unit unit view = record view { seen = counted view.seen; sending = record view.sending { read = view.sending.read ++ unit ∷ [] } }
-
-abbrev pub stored_durable : ℕ → View → View
-stored_durable to view = record view { seen = seen_durable to view.seen; sending = record view.sending { sent = view.sending.sent ++ view.sending.read; read = [] } }
-
-abbrev pub stored_stop : ℕ → View → View
-stored_stop word view = record view { seen = counted view.seen; sending = record view.sending { stop = word } }
-
-abbrev pub saw_crew : ℕ → View → View
-saw_crew n view = record view { seen = counted view.seen; sending = record view.sending { quiet = n == 0; looked = false } }
 
 -- after an exchange of the tail that was made; the new tail counts as seen
 abbrev pub reserved : ℕ → ℕ → View → View
@@ -188,7 +169,7 @@ hired worker view = record {
   entries = [];
   call = Idle;
   contended = false;
-  sending = record { sent = []; read = []; quiet = false; looked = false; stop = 0 };
+  sending = record { sent = []; read = []; quiet = false; looked = false };
   books = record {};
 }
 

@@ -71,7 +71,6 @@ pub struct Sending {
     pub read: LinkedList<u64>,
     pub quiet: bool,
     pub looked: bool,
-    pub stop: u64,
 }
 
 /// The jobs that the seat took, and the accounts that it holds. Empty until there are jobs.
