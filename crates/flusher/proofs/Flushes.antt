@@ -1,5 +1,5 @@
 -- What the steps of a flush come to.
-use Rattle.std.proofs.Common.{◌≡◌, ◌≤◌, ◌+◌, ◌∙◌, sym, ap, refl, subst, inl, inr, ⊎_elim, ℕ, List, [], ◌++◌, append_assoc}
+use Rattle.std.proofs.Common.{◌≡◌, ◌≤◌, ◌+◌, ◌∙◌, sym, ap, refl, subst, inl, inr, ⊎_elim, ℕ, List, [], ◌++◌, length, arith, append_assoc}
 use Rattle.log_disk.specs.Disk.{Leaves}
 use Rattle.log_disk.specs.declared.disk.LogDisk.{Ghosts}
 use Rattle.log_disk.proofs.Moments.{Leaves-now}
@@ -10,7 +10,10 @@ use Rattle.segment_file.specs.File.{HoldsUnits}
 use Rattle.segment_file.specs.Standing.{StandsAt, AllStand, HoldsEither}
 use Rattle.segment_file.specs.declared.scan_result.Tail.{Tail}
 use Rattle.flusher.specs.declared.flusher.Flusher.{Flusher}
-use Rattle.flusher.specs.Flushing.{HoldsDurablePrefix, MayHoldBatchInFlight, WritesWhole}
+use Rattle.log_table.specs.Sends.{AreEntries, ReadsWholeEntries}
+use Rattle.log_table.specs.Views.{sent_to, read_to}
+use Rattle.flusher.specs.Sending.{gathered}
+use Rattle.flusher.specs.Flushing.{HoldsDurablePrefix, MayHoldBatchInFlight}
 
 -- one step after another
 pub Becomes-then : (a b c : Seat) (view : View) (f : View → View) → Becomes a b view → Becomes b c (f (view_of b)) → Becomes a c (f view)
@@ -56,3 +59,11 @@ MayHoldBatchInFlight-append g counts_now only_now old disk units sent read momen
     (subst (λ us. (c : List ℕ) → g.images disk c → HoldsEither (opening ++ (view_of old.seat).sending.sent) us c) (sym read_is)
     (Leaves-now g.moment g.images_since g.images counts_now _ old.disk.now disk only_now
     (λ c image. inl (StandsAt-holds _ _ c (stand c image))) (moments opening stand)))
+
+-- the units read up to exposed are whole entries
+pub AreEntries-gathered : (view now : View) (from to : ℕ) (units : List ℕ) → now ≡ gathered to units view → view.sending.read ≡ []
+    → from ≡ sent_to view → to ≡ from + length units → ReadsWholeEntries now → AreEntries from to units
+AreEntries-gathered view now from to units is unread start whole entries =
+    let read : view.sending.read ++ units ≡ units = ap (λ us. us ++ units) unread in
+    let all : read_to (gathered to units view) ≡ to = omega (arith, start, whole, ap length read) in
+    subst (λ at. AreEntries at to units) (sym start) (subst (AreEntries (sent_to view) to) read (subst ReadsWholeEntries is entries all))

@@ -4,14 +4,15 @@ use Rattle.log_disk.specs.Disk.{IsSettled, Leaves}
 use Rattle.log_disk.specs.declared.disk.LogDisk.{Ghosts}
 use Rattle.log_table.specs.declared.view.Role.TheVariants.{Flusher as FlusherRole}
 use Rattle.log_table.specs.Seats.{IsOf, Becomes, view_of}
-use Rattle.log_table.specs.Views.{saw_exposed_looked, saw_crew, durable_of}
+use Rattle.log_table.specs.Sends.{AreEntries, IsDrained}
+use Rattle.log_table.specs.Views.{saw_exposed_looked, saw_crew, sent_to}
 use Rattle.segment_file.specs.Standing.{tail_after, AllStand, IsShut, HoldsEither}
 use Rattle.flusher.specs.declared.flusher.Flusher.{Flusher}
 use Rattle.flusher.specs.declared.flusher.Flushed.{Flushed}
 use Rattle.flusher.specs.declared.flusher.Flushed.TheVariants.{Nothing, To}
 use Rattle.flusher.specs.declared.flusher.Drained.{Drained}
 use Rattle.flusher.specs.declared.flusher.Drained.TheVariants.{At, Active, Behind}
-use Rattle.flusher.specs.Sending.{gathered, flushed, asked, IsDrained}
+use Rattle.flusher.specs.Sending.{gathered, flushed, asked}
 
 -- a flush may be made: the seat is the table's first, its last flush did not fail, the log goes on at durable, behind a
 -- gate that stays shut, and the batch has room for the ring
@@ -19,7 +20,7 @@ pub record IsReady {D : Type 0} (g : Ghosts D) (f : Flusher D) : Type 0 where
   pub seat : IsOf f.table.now f.seat
   pub flusher : (view_of f.seat).standing.role ≡ FlusherRole
   pub unread : (view_of f.seat).sending.read ≡ []
-  pub next : f.tail.next ≡ durable_of (view_of f.seat)
+  pub next : f.tail.next ≡ sent_to (view_of f.seat)
   pub place : f.tail.at ≤ 2 ^ 63 + 16 * f.tail.next
   pub shut : g.honest f.disk.now → IsShut f.tail.at (g.images f.disk.now)
   pub room : f.table.now.ring ≤ f.batch.room
@@ -48,16 +49,17 @@ pub record WritesWhole {D : Type 0} (g : Ghosts D) (units : List ℕ) (old new :
 
 -- exposed, as loaded, is durable, and nothing else was done
 pub record FindsNothing {D : Type 0} (old new : Flusher D) (at : ℕ) : Type 0 where
-  pub durable : at ≡ durable_of (view_of old.seat)
+  pub durable : at ≡ sent_to (view_of old.seat)
   pub seat : Becomes old.seat new.seat (saw_exposed_looked at (view_of old.seat))
   pub rest : new ≡ record old { seat = new.seat }
 
 -- the units from durable to exposed, as loaded, are written behind the tail, and then durable is raised to their end
 pub record Sends {D : Type 0} (g : Ghosts D) (old new : Flusher D) (from to : ℕ) : Type 0 where
   pub units : List ℕ
-  pub durable : from ≡ durable_of (view_of old.seat)
+  pub durable : from ≡ sent_to (view_of old.seat)
   pub some : from < to
   pub whole : to ≡ from + length units
+  pub entries : AreEntries from to units
   pub seat : Becomes old.seat new.seat (flushed to units (view_of old.seat))
   pub batch : new.batch ≡ record old.batch { units = units }
   pub tail : new.tail ≡ tail_after old.tail units
@@ -70,7 +72,8 @@ pub record Loses {D : Type 0} (g : Ghosts D) (old new : Flusher D) : Type 0 wher
   pub to : ℕ
   pub units : List ℕ
   pub some : 0 < length units
-  pub whole : to ≡ durable_of (view_of old.seat) + length units
+  pub whole : to ≡ sent_to (view_of old.seat) + length units
+  pub entries : AreEntries (sent_to (view_of old.seat)) to units
   pub seat : Becomes old.seat new.seat (gathered to units (view_of old.seat))
   pub batch : new.batch ≡ record old.batch { units = units }
   pub tail : new.tail ≡ old.tail
@@ -84,8 +87,8 @@ Flushes g old new (To from to) = Sends g old new from to
 
 -- what crew held, and where that was 0, how exposed, loaded after it, stands to durable
 abbrev pub Asks : {D : Type 0} → Flusher D → Flusher D → Drained → Type 0
-Asks old new (At lsn) = (lsn ≡ durable_of (view_of old.seat)) × IsDrained (view_of new.seat)
+Asks old new (At lsn) = (lsn ≡ sent_to (view_of old.seat)) × IsDrained (view_of new.seat)
     × Becomes old.seat new.seat (asked lsn (view_of old.seat))
 Asks old new (Active n) = (0 < n) × Becomes old.seat new.seat (saw_crew n (view_of old.seat))
-Asks old new (Behind exposed durable) = (durable ≡ durable_of (view_of old.seat)) × (durable < exposed)
+Asks old new (Behind exposed durable) = (durable ≡ sent_to (view_of old.seat)) × (durable < exposed)
     × Becomes old.seat new.seat (asked exposed (view_of old.seat))

@@ -1,8 +1,8 @@
 //! The question whether the log has come to its end.
-ghost use Rattle.std.specs.Prelude.{◌≡◌};
+ghost use Rattle.std.specs.Prelude.{◌≡◌, true};
 ghost use Rattle.log_disk.specs.Faults.{HasCause};
-ghost use Rattle.log_table.specs.May.{MayLoadCrew};
 ghost use Rattle.log_table.specs.Seats.{IsOf, view_of};
+ghost use Rattle.log_table.specs.Views.{knows_all_enrolled};
 ghost use Rattle.flusher.specs.Flushing.{IsReady, Asks};
 
 use crate::flusher::{Drained, Flusher};
@@ -14,7 +14,7 @@ impl<'a, D: LogDisk> Flusher<'a, D> {
     /// log: no worker was active when exposed was loaded, and none will be.
     pub fn drained<P: Steps>(&mut self) -> Drained
         requires ready { IsReady D.LogDisk self.old }
-        requires told { MayLoadCrew (view_of self.old.seat) }
+        requires told { knows_all_enrolled (view_of self.old.seat).standing ≡ true }
         ensures asks { Asks self.old self.new result }
         ensures rest { self.new ≡ record self.old { seat = self.new.seat } }
         ensures ready { IsReady D.LogDisk self.new }

@@ -1,5 +1,6 @@
-use Rattle.std.proofs.Common.{◌≡◌, ◌≤◌, ◌+◌, length}
+use Rattle.std.proofs.Common.{◌≡◌, ◌<◌, ◌≤◌, ◌+◌, length}
 use Rattle.log_table.specs.Seats.{Becomes, view_of}
+use Rattle.log_table.specs.Sends.{ReadsWholeEntries}
 use Rattle.flusher.specs.Sending.{read_units}
 use Rattle.flusher.proofs.flushing.gather.Given as goal
 
@@ -12,4 +13,5 @@ invariant-loop-at g l = record {
   below : l.at ≤ l.at-end;
   seat : Becomes l.initial.seat l.seat (read_units l.batch.units (view_of l.initial.seat));
   room : l.batch.room ≡ l.initial.batch.room;
+  entries : l.fn.from < l.at → ReadsWholeEntries (view_of l.seat);
 }

@@ -1,9 +1,10 @@
-use Rattle.std.proofs.Common.{rules, arith, ◌≡◌, ◌≢◌, ◌∙◌, sym, ap, refl, length, ◌+◌, ◌++◌}
+use Rattle.std.proofs.Common.{rules, arith, ◌≡◌, ◌≢◌, ◌∙◌, sym, ap, refl, subst, length, ◌<◌, ◌+◌, ◌++◌}
 use Rattle.std.proofs.lemmas.Result.{err_from_is_err_and}
 use Rattle.log_table.specs.Seats.{view_of}
-use Rattle.log_table.specs.Views.{saw_exposed_looked, stored_durable}
+use Rattle.log_table.specs.Views.{saw_exposed_looked, has_sent}
+use Rattle.log_table.specs.Sends.{AreEntries}
 use Rattle.flusher.specs.Sending.{read_units}
-use Rattle.flusher.proofs.Flushes.{Becomes-then, Leaves-append, HoldsDurablePrefix-append, MayHoldBatchInFlight-append}
+use Rattle.flusher.proofs.Flushes.{Becomes-then, Leaves-append, AreEntries-gathered, HoldsDurablePrefix-append, MayHoldBatchInFlight-append}
 use Rattle.flusher.proofs.flusher.Flusher.flush.Goals as goal
 
 pub returns-in_err-self-clause-lost : goal.returns-in_err-self-clause-lost
@@ -11,12 +12,15 @@ returns-in_err-self-clause-lost g c =
     let failed = err_from_is_err_and c.from_residual.result c.from_residual.ensures.1 in
     let apart : c.load_exposed-to.result ≢ c.args.self.now.tail.next = search rules in
     let units = ap (λ batch. batch.units) c.gather.ensures.batch in
+    let below : c.args.self.now.tail.next < c.load_exposed-to.result = omega (arith, (c.load_exposed-to.ensures.flusher c.requires.ready.flusher).read, c.requires.ready.next, apart) in
     let seat = Becomes-then _ _ _ _ (read_units c.gather.ensures.units) c.load_exposed-to.ensures.view c.gather.ensures.seat in
+    let entries = AreEntries-gathered (view_of c.args.self.now.seat) _ _ _ _ (ap (λ m. m.0) seat.me) c.requires.ready.unread c.requires.ready.next c.gather.ensures.whole (c.gather.ensures.entries below) in
     rw failed.1 record {
       to = c.load_exposed-to.result;
       units = c.gather.ensures.units;
-      some = omega (arith, c.gather.ensures.whole, apart);
+      some = omega (arith, c.gather.ensures.whole, below);
       whole = c.gather.ensures.whole ∙ ap (λ n. n + length c.gather.ensures.units) c.requires.ready.next;
+      entries = subst (λ from. AreEntries from c.load_exposed-to.result c.gather.ensures.units) c.requires.ready.next entries;
       seat = seat;
       batch = c.append.ensures.batch ∙ c.gather.ensures.batch;
       tail = refl;
@@ -33,15 +37,16 @@ pub returns-clause-flushed : goal.returns-clause-flushed
 returns-clause-flushed g c =
     let apart : c.load_exposed-to.result ≢ c.args.self.now.tail.next = search rules in
     let units = ap (λ batch. batch.units) c.gather.ensures.batch in
-    let room = c.load_exposed-to.ensures.room c.requires.ready.flusher in
-    let seat = Becomes-then _ _ _ _ (stored_durable c.load_exposed-to.result)
-        (Becomes-then _ _ _ _ (read_units c.gather.ensures.units) c.load_exposed-to.ensures.view c.gather.ensures.seat)
-        c.store_durable.ensures.view in
+    let below : c.args.self.now.tail.next < c.load_exposed-to.result = omega (arith, (c.load_exposed-to.ensures.flusher c.requires.ready.flusher).read, c.requires.ready.next, apart) in
+    let read = Becomes-then _ _ _ _ (read_units c.gather.ensures.units) c.load_exposed-to.ensures.view c.gather.ensures.seat in
+    let entries = AreEntries-gathered (view_of c.args.self.now.seat) _ _ _ _ (ap (λ m. m.0) read.me) c.requires.ready.unread c.requires.ready.next c.gather.ensures.whole (c.gather.ensures.entries below) in
+    let seat = Becomes-then _ _ _ _ (has_sent c.load_exposed-to.result) read c.store_durable.ensures.view in
     record {
       units = c.gather.ensures.units;
       durable = c.requires.ready.next;
-      some = omega (arith, room.0, c.requires.ready.next, apart);
+      some = below;
       whole = c.gather.ensures.whole;
+      entries = entries;
       seat = seat;
       batch = c.append.ensures.batch ∙ c.gather.ensures.batch;
       tail = search rules;
