@@ -1,5 +1,6 @@
 -- The lines of end records: how a transaction ended, and the LSN at which its end record ends. A line ends with LF.
-use Rattle.std.specs.Prelude.{◌≡◌, ℕ, ◌+◌, List, [], ◌∷◌, ◌++◌, length, All, codes}
+use Rattle.std.specs.Prelude.{◌≡◌, ℕ, ◌+◌, List, [], ◌∷◌, ◌++◌, length, codes}
+use Rattle.std.specs.List.{AllByRecursion}
 use Rattle.lsn_space.specs.Number.{number_text}
 use Rattle.log_record.specs.declared.rec.Rec.{Rec}
 use Rattle.log_record.specs.declared.rec.Rec.TheVariants.{Genesis, Update, Commit, Short, Over, Note}
@@ -64,7 +65,7 @@ refused_in (rec ∷ records) = is_refused rec + refused_in records
 
 -- the units are the spellings of these records, one after another
 pub record Spells (units : List ℕ) (records : List Rec) : Type 0 where
-  pub spellable : All IsSpellable records
+  pub spellable : AllByRecursion IsSpellable records
   pub units_are : units ≡ units_of records
 
 -- what a daemon with this voice writes of records

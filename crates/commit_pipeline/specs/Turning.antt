@@ -6,7 +6,7 @@ use Rattle.log_disk.specs.declared.disk.LogDisk.{Ghosts}
 use Rattle.log_disk.specs.declared.sink.Sink.{Ghosts as SinkGhosts}
 use Rattle.log_disk.specs.Faults.{Rose}
 use Rattle.log_table.specs.Seats.{Becomes, view_of}
-use Rattle.log_table.specs.Views.{durable_of, stored_stop}
+use Rattle.log_table.specs.Views.{sent_to, has_stopped}
 use Rattle.flusher.specs.declared.flusher.Flusher.{Flusher}
 use Rattle.flusher.specs.Flushing.{IsReady, IsSame, FindsNothing, Sends, Loses}
 use Rattle.commit_pipeline.specs.declared.daemon.Daemon.{Daemon}
@@ -18,7 +18,7 @@ use Rattle.commit_pipeline.specs.Telling.{TellsAll, TellsSome}
 
 -- where the next units go
 abbrev pub durable : {D : Type 0} → {K : Type 0} → Daemon D K → ℕ
-durable d = durable_of (view_of d.flusher.seat)
+durable d = sent_to (view_of d.flusher.seat)
 
 -- a turn may be made: nothing has befallen the daemon, and it has counted no more end records than units were sent
 pub record MayTurn {D : Type 0} {K : Type 0} (g : Ghosts D) (d : Daemon D K) : Type 0 where
@@ -36,7 +36,7 @@ pub record IsSameDaemon {D : Type 0} {K : Type 0} (g : Ghosts D) (h : SinkGhosts
 
 -- the stop word was stored, and nothing else was done
 pub record Stops {D : Type 0} (word : ℕ) (old new : Flusher D) : Type 0 where
-  pub seat : Becomes old.seat new.seat (stored_stop word (view_of old.seat))
+  pub seat : Becomes old.seat new.seat (has_stopped word (view_of old.seat))
   pub rest : new ≡ record old { seat = new.seat }
 
 -- exposed, as loaded, is durable, and nothing else was done

@@ -49,7 +49,7 @@ impl DaemonFault {
 impl<'a, D, K> Daemon<'a, D, K> {
     /// A daemon to which nothing has befallen, and which has counted nothing.
     pub fn make(flusher: Flusher<'a, D>, sink: &'a mut K, voice: Voice) -> Daemon<'a, D, K>
-        ensures flusher { result.flusher ≡ flusher }
+        ensures flusher { result.flusher ≡ flusher.entry }
         ensures sink { result.sink ≡ sink.entry }
         ensures voice { result.voice ≡ voice }
         ensures done { result.tally.done ≡ 0 }

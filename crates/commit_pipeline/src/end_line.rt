@@ -1,8 +1,5 @@
 //! The line of an end record.
-ghost use Rattle.std.specs.Prelude.{◌≡◌, OnOk, OnErr, IfOk, IfSome, IfNone, [], length, ◌≤◌};
-ghost use Rattle.std.specs.Io.KnownBytes.{Appends};
-ghost use Rattle.log_disk.specs.Faults.{HasCause};
-ghost use Rattle.log_disk.specs.Streams.{AppendsPrefix};
+ghost use Rattle.std.specs.Prelude.{◌≡◌, ◌+◌, [], IfSome, IfNone};
 ghost use Rattle.commit_pipeline.specs.EndLines.{done_line, short_line, over_line, end_line, is_done, is_refused};
 
 use arrayvec::ArrayVec;

@@ -20,15 +20,16 @@ impl<'a, D: LogDisk, K: Sink> Daemon<'a, D, K> {
         ensures ready { OnOk result (MayTurn D.LogDisk self.new) }
         ensures same { IsSameDaemon D.LogDisk K.Sink self.old self.new }
     {
-        match self.flusher.flush::<P>() {
-            Ok(Flushed::Nothing { at: _ }) => Ok(Turn::Idle),
-            Ok(Flushed::To { from, to }) => {
-                match tell(&self.flusher.batch, from, self.voice, self.sink, &mut self.tally) {
-                    Ok(lines) => Ok(Turn::Sent { lines, to }),
-                    Err(_) => Err(self.stop::<P>(DaemonFault::WriteFault)),
-                }
-            }
-            Err(_) => Err(self.stop::<P>(DaemonFault::DiskFault)),
+        let Ok(flushed) = self.flusher.flush::<P>() else {
+            return Err(self.stop::<P>(DaemonFault::DiskFault));
+        };
+        let Flushed::To { from, to } = flushed else {
+            return Ok(Turn::Idle);
+        };
+        let told = tell(&self.flusher.batch, from, self.voice, self.sink, &mut self.tally);
+        match told {
+            Ok(lines) => Ok(Turn::Sent { lines, to }),
+            Err(_) => Err(self.stop::<P>(DaemonFault::WriteFault)),
         }
     }
 
