@@ -16,8 +16,7 @@ use Rattle.log_table.specs.Words.{Words, words_of}
 abbrev empty_log : Log
 empty_log = record { parts = []; flushed = []; released = []; unreleased = [] }
 
-module _ (key : Start) (words : Words) (least : 1024 ≤ key.ring) (most : key.ring ≤ 1048576) (small : key.start ≤ LAST)
-    (tail : words.tail ≡ key.start) (exposed : words.exposed ≡ key.start) (durable : words.durable ≡ key.start) (crew : words.crew ≡ 0) where
+module _ (key : Start) (words : Words) (least : 1024 ≤ key.ring) (most : key.ring ≤ 1048576) (small : key.start ≤ LAST) (tail : words.tail ≡ key.start) (exposed : words.exposed ≡ key.start) (durable : words.durable ≡ key.start) (crew : words.crew ≡ 0) where
   alone : (P : ℕ → View → Type 0) → P 0 (flusher key) → EachView P (flusher key ∷ [])
   alone P first zero v at = subst (P 0) (some-injective _ _ at) first
   alone P first (suc j) v at = absurd (some-ne-none v (sym at))
@@ -25,20 +24,8 @@ module _ (key : Start) (words : Words) (least : 1024 ≤ key.ring) (most : key.r
   pub starts : IsSound key words (flusher key ∷ []) empty_log
   starts = record {
     ordered = record { least_ring = least; greatest_ring = most; durable_stands = durable; within_ring = omega arith; within_log = omega arith };
-    seen = alone (λ _ z. HasSeenBoundaries key.start words.tail words.exposed words.durable [] z.seen) record {
-      tail_seen = omega arith;
-      exposed_seen = omega arith;
-      durable_seen = omega arith;
-      boundaries = (refl, tt);
-    };
-    contiguous = record {
-      flushed = sym durable;
-      released = durable ∙ sym exposed;
-      unreleased = exposed
-          ∙ sym tail;
-      parts = sym tail;
-      remaining = tt;
-    };
+    seen = alone (λ _ z. HasSeenBoundaries key.start words.tail words.exposed words.durable [] z.seen) record { tail_seen = omega arith; exposed_seen = omega arith; durable_seen = omega arith; boundaries = (refl, tt) };
+    contiguous = record { flushed = sym durable; released = durable ∙ sym exposed; unreleased = exposed ∙ sym tail; parts = sym tail; remaining = tt };
     filled = record { fits = tt; stands = tt };
     below = record { full = tt; below = tt; ranges = tt };
     at_work = tt;
@@ -48,16 +35,8 @@ module _ (key : Start) (words : Words) (least : 1024 ≤ key.ring) (most : key.r
     entries = alone (λ _ z. OwnsIfWorker z) (λ _. refl);
     roles = record {
       count = crew;
-      each = alone (λ seat z. HasSoundRole seat z.standing) record { small = λ e. absurd (true≢false (sym e)); first = λ _. refl };
-      pairs = alone _ (alone
-          (λ j z. HasSoundRoles 0 (flusher key).standing j z.standing) record {
-            apart = λ _ _ _. refl;
-            made = λ _ e. absurd (true≢false (sym e));
-            enrolled = λ _ q e. e;
-            merged = λ _ q e. e;
-            fresh = λ e. absurd (cc);
-            unmerged = λ e. absurd (true≢false (sym e));
-          });
+      each = alone (λ seat z. HasSoundRole seat z.standing) record { small = λ e. absurd (true≢false (sym e)); first = λ _. refl; merged = λ _ q e. e };
+      pairs = alone _ (alone (λ j z. HasSoundRoles 0 (flusher key).standing j z.standing) record { apart = λ _ _ _. refl; made = λ _ e. absurd (true≢false (sym e)); unmerged = λ _ e. absurd (true≢false (sym e)); known = λ _ q e. e; fresh = λ e. absurd (cc) });
     };
   }
     where
@@ -65,22 +44,17 @@ module _ (key : Start) (words : Words) (least : 1024 ≤ key.ring) (most : key.r
       owners zero = record { owns = refl; owes = refl }
       owners (suc j) = record { owns = refl; owes = refl }
 
-pub start-allowed : (key : Start) (ws zeros : List ℕ) → 1024 ≤ key.ring → key.ring ≤ 1048576 → key.start ≤ LAST
-    → zeros ≡ replicate (RING + key.ring) 0 → ws ≡ set (set (set zeros TAIL key.start) EXPOSED key.start) DURABLE key.start
+pub start-allowed : (key : Start) (ws zeros : List ℕ) → 1024 ≤ key.ring → key.ring ≤ 1048576 → key.start ≤ LAST → zeros ≡ replicate (RING + key.ring) 0 → ws ≡ set (set (set zeros TAIL key.start) EXPOSED key.start) DURABLE key.start
     → Ruled key (opening ws [] (flusher key))
 start-allowed key ws zeros least most small zero-is is = subst (λ (l : List ℕ). Ruled key (opening l [] (flusher key))) (sym is) (
   length-c,
   (
     _,
     starts key (words_of key.ring c) least most small
-        (get_or-set_other b DURABLE TAIL n 0 (λ e. omega arith)
-        ∙ (get_or-set_other a EXPOSED TAIL n 0 (λ e. omega arith) ∙ get_or-set_same zeros TAIL n 0 (omega (arith, length-zeros))))
+        (get_or-set_other b DURABLE TAIL n 0 (λ e. omega arith) ∙ (get_or-set_other a EXPOSED TAIL n 0 (λ e. omega arith) ∙ get_or-set_same zeros TAIL n 0 (omega (arith, length-zeros))))
         (get_or-set_other b DURABLE EXPOSED n 0 (λ e. omega arith) ∙ get_or-set_same a EXPOSED n 0 (omega (arith, length-a)))
         (get_or-set_same b DURABLE n 0 (omega (arith, length-b)))
-        (get_or-set_other b DURABLE CREW n 0 (λ e. omega arith)
-        ∙ (get_or-set_other a EXPOSED CREW n 0 (λ e. omega arith)
-        ∙ (get_or-set_other zeros TAIL CREW n 0 (λ e. omega arith)
-        ∙ (ap (λ l. get_or l CREW 0) zero-is ∙ get_or-replicate (RING + key.ring) CREW 0 0 (omega arith))))),
+        (get_or-set_other b DURABLE CREW n 0 (λ e. omega arith) ∙ (get_or-set_other a EXPOSED CREW n 0 (λ e. omega arith) ∙ (get_or-set_other zeros TAIL CREW n 0 (λ e. omega arith) ∙ (ap (λ l. get_or l CREW 0) zero-is ∙ get_or-replicate (RING + key.ring) CREW 0 0 (omega arith))))),
   ),
 )
   where

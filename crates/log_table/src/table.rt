@@ -54,16 +54,12 @@ impl LogTable {
 pub struct Seat {
     pub(crate) base: atomic_table::Seat<(), View>,
     pub(crate) worker: u32,
-    ghost named: { worker ≡ base.me.0.standing.worker },
 }
 
 impl Seat {
-    ghost use Rattle.log_table.specs.Seats.{view_of};
-
-    /// The worker's number, as in its view. The flusher's seat has one that means nothing.
+    /// The worker's number, for the schedule hook alone. The flusher's seat has one that means nothing.
     pub fn worker(&self) -> u32
-        ensures worker { result ≡ self.now.worker }
-        ensures view { result ≡ (view_of self.now).standing.worker }
+        ensures { result ≡ self.now.worker }
     {
         self.worker
     }
