@@ -15,10 +15,10 @@ use Rattle.log_table.specs.Events.{Leads, IsStep}
 use Rattle.log_table.specs.Layout.{Crew}
 use Rattle.log_table.specs.Log.{Log}
 use Rattle.log_table.specs.May.{IsAtRest}
-use Rattle.log_table.specs.Sound.{EachView, HasSoundRole, HasSoundRoles, HasSoundCrew, IsSound, is_active_view}
-use Rattle.log_table.specs.Views.{is_active, is_worker, is_spent, enrolled, retired}
+use Rattle.log_table.specs.Sound.{EachView, StoresStop, HasSoundRole, HasSoundRoles, HasSoundCrew, IsSound, is_active_view}
+use Rattle.log_table.specs.Views.{is_active, is_worker, is_working, is_spent, enrolled, retired}
 use Rattle.log_table.specs.Words.{Words}
-use Rattle.log_table.proofs.Roles.{restands}
+use Rattle.log_table.proofs.Roles.{quiet-moves, restands}
 use Rattle.log_table.proofs.Viewing.{each_set, pairs_move, count-set}
 
 -- the numbers of the workers among these
@@ -74,23 +74,51 @@ crew-small crew views s =
     let few : length (worker_numbers views) ≤ 4294967296 = length-le_from_distinct_below (worker_numbers views) 4294967296 distinct small in
     omega (arith, s.count, active-le-numbers views)
 
-pub enrolls : (key : Start) (words : Words) (views : List View) (me : ℕ) (v : View) (log : Log) → IsSound key words views log → get_elem? views me ≡ some v → v.standing.role ≡ Fresh → Leads key words (record words { crew = words.crew + 1 }) views (set views me (enrolled v)) log None
-enrolls key words views me v log s at fresh = restands key words (words.crew + 1) views me v (enrolled v) log s at refl refl (let old = s.seen me v at in record { tail_seen = old.tail_seen; exposed_seen = old.exposed_seen; durable_seen = old.durable_seen; boundaries = old.boundaries }) (λ _. s.constants me v at (ap is_spent fresh)) (λ _. s.resting me v at (ap is_active fresh)) (λ off. absurd (true≢false off)) record {
-  count = let was : cond {A = ℕ} (is_active v.standing.role) 1 0 ≡ 0 = ap (λ (r : Role). cond {A = ℕ} (is_active r) 1 0) fresh in omega (arith, count-set is_active_view views me v (enrolled v) at, s.roles.count, was);
-  each = each_set (λ seat z. HasSoundRole seat z.standing) views me (enrolled v) s.roles.each record { small = λ _. (s.roles.each me v at).small worker; first = λ e. absurd (cc); merged = λ e. absurd (cc) };
-  pairs = pairs_move (λ i y j z. HasSoundRoles i y.standing j z.standing) views me v (enrolled v) at s.roles.pairs
-      record { apart = λ _ _ _. refl; made = λ e. absurd (cc); unmerged = λ e. absurd (cc); known = λ e. absurd (cc); fresh = λ e. absurd (cc) }
-      (λ j z differ there. let to = s.roles.pairs me v at j z there in let by = s.roles.pairs j z there me v at in (
-        record { apart = λ _ is same. to.apart worker is same; made = λ e. absurd (cc); unmerged = λ e. absurd (cc); known = λ e. absurd (cc); fresh = λ e. absurd (cc) },
-        record {
-          apart = λ is _ same. by.apart is worker same;
-          made = λ f _. by.made f worker;
-          unmerged = λ f _. by.unmerged f worker;
-          known = λ f n is. by_test z.standing.made n (by.made f worker) (by.known f n) (eqb n v.standing.worker) refl is;
-          fresh = λ f. ap (λ b. b || list_any (eqb z.standing.worker) v.standing.enrolled) (ne_eqb z.standing.worker v.standing.worker (λ same. differ (by.apart (ap is_worker f) worker same))) ∙ by.fresh f;
-        },
-      ));
-}
+pub enrolls : (key : Start) (words : Words) (views : List View) (me : ℕ) (v : View) (log : Log) → IsSound key words views log
+    → get_elem? views me ≡ some v → v.standing.role ≡ Fresh
+    → Leads key words (record words { crew = words.crew + 1 }) views (set views me (enrolled v)) log None
+enrolls key words views me v log s at fresh =
+    restands key words words.stop (words.crew + 1) views me v (enrolled v) log s at refl refl
+    (let old = s.seen me v at in
+    record { tail_seen = old.tail_seen; exposed_seen = old.exposed_seen; durable_seen = old.durable_seen; boundaries = old.boundaries })
+    (λ _. s.constants me v at (ap is_spent fresh)) (λ _. s.resting me v at (ap is_active fresh)) (λ off. absurd (true≢false off)) record {
+      count = let was : cond {A = ℕ} (is_active v.standing.role) 1 0 ≡ 0 =
+          ap (λ (r : Role). cond {A = ℕ} (is_active r) 1 0) fresh in
+          omega (arith, count-set is_active_view views me v (enrolled v) at, s.roles.count, was);
+      each = each_set (λ seat z. HasSoundRole seat z.standing) views me
+          (enrolled v) s.roles.each record { small = λ _. (s.roles.each me v at).small worker; first = λ e. absurd (cc) };
+      pairs = pairs_move (λ i y j z. HasSoundRoles i y.standing j z.standing) views me v (enrolled v) at s.roles.pairs
+          record {
+            apart = λ _ _ _. refl;
+            made = λ e. absurd (cc);
+            enrolled = λ e. absurd (cc);
+            merged = λ e. absurd (cc);
+            fresh = λ e. absurd (cc);
+            unmerged = λ _. (s.roles.pairs me v at me v at).unmerged worker;
+          }
+          (λ j z differ there. let to = s.roles.pairs me v at j z there in let by = s.roles.pairs j z there me v at in (
+            record {
+              apart = λ _ is same. to.apart worker is same;
+              made = λ e. absurd (cc);
+              enrolled = λ e. absurd (cc);
+              merged = λ e. absurd (cc);
+              fresh = λ e. absurd (cc);
+              unmerged = λ _. to.unmerged worker;
+            },
+            record {
+              apart = λ is _ same. by.apart is worker same;
+              made = λ f _. by.made f worker;
+              enrolled = λ f n is. by_test z.standing.made n (by.made f worker) (by.enrolled f n) (eqb n v.standing.worker) refl is;
+              merged = by.merged;
+              fresh = λ f. ap (λ b. b || list_any (eqb z.standing.worker) v.standing.enrolled)
+                  (ne_eqb z.standing.worker v.standing.worker (λ same. differ (by.apart (ap is_worker f) worker same))) ∙ by.fresh f;
+              unmerged = by.unmerged;
+            },
+          ));
+    }
+    (λ f. absurd (cc)) (each_set (λ _ z. StoresStop words.stop z) views me (enrolled v) s.stops (λ f. absurd (cc)))
+    (quiet-moves views me v (enrolled v) s.quiet at (λ _ _ _ _ f. absurd (cc))
+    (λ z h f q. absurd (true≢false (sym (ap is_working fresh) ∙ h f q)))) (λ f. absurd (cc))
   where
     worker : is_worker v.standing.role ≡ true
     worker = ap is_worker fresh
@@ -99,17 +127,48 @@ enrolls key words views me v log s at fresh = restands key words (words.crew + 1
     by_test made n own others true same is = subst (λ k. list_any (eqb k) made ≡ true) (sym (eqb-true n v.standing.worker same)) own
     by_test made n own others false same is = others is
 
-pub leaves : (key : Start) (words : Words) (views : List View) (me : ℕ) (v : View) (log : Log) → IsSound key words views log → get_elem? views me ≡ some v → IsAtRest v → Leads key words (record words { crew = words.crew - 1 }) views (set views me (retired v)) log None
-leaves key words views me v log s at may = restands key words (words.crew - 1) views me v (retired v) log s at refl refl (let old = s.seen me v at in record { tail_seen = old.tail_seen; exposed_seen = old.exposed_seen; durable_seen = old.durable_seen; boundaries = old.boundaries }) (λ _. s.constants me v at (ap is_spent may.active)) (λ _. may.idle) (λ off. absurd (true≢false off)) record {
-  count = let was : cond {A = ℕ} (is_active v.standing.role) 1 0 ≡ 1 = ap (λ (r : Role). cond {A = ℕ} (is_active r) 1 0) may.active in omega (arith, count-set is_active_view views me v (retired v) at, s.roles.count, was);
-  each = each_set (λ seat z. HasSoundRole seat z.standing) views me (retired v) s.roles.each record { small = λ _. (s.roles.each me v at).small worker; first = λ e. absurd (cc); merged = λ e. absurd (cc) };
-  pairs = pairs_move (λ i y j z. HasSoundRoles i y.standing j z.standing) views me v (retired v) at s.roles.pairs
-      record { apart = λ _ _ _. refl; made = λ e. absurd (cc); unmerged = λ e. absurd (cc); known = λ e. absurd (cc); fresh = λ e. absurd (cc) }
-      (λ j z differ there. let to = s.roles.pairs me v at j z there in let by = s.roles.pairs j z there me v at in (
-        record { apart = λ _ is same. to.apart worker is same; made = λ e. absurd (cc); unmerged = λ e. absurd (cc); known = λ e. absurd (cc); fresh = λ e. absurd (cc) },
-        record { apart = λ is _ same. by.apart is worker same; made = λ f _. by.made f worker; unmerged = λ f _. by.unmerged f worker; known = by.known; fresh = by.fresh },
-      ));
-}
+pub leaves : (key : Start) (words : Words) (views : List View) (me : ℕ) (v : View) (log : Log) → IsSound key words views log
+    → get_elem? views me ≡ some v → IsAtRest v → Leads key words (record words { crew = words.crew - 1 }) views (set views me (retired v)) log None
+leaves key words views me v log s at may =
+    restands key words words.stop (words.crew - 1) views me v (retired v) log s at refl refl
+    (let old = s.seen me v at in
+    record { tail_seen = old.tail_seen; exposed_seen = old.exposed_seen; durable_seen = old.durable_seen; boundaries = old.boundaries })
+    (λ _. s.constants me v at (ap is_spent may.active)) (λ _. may.idle) (λ off. absurd (true≢false off)) record {
+      count = let was : cond {A = ℕ} (is_active v.standing.role) 1 0 ≡ 1 =
+          ap (λ (r : Role). cond {A = ℕ} (is_active r) 1 0) may.active in
+          omega (arith, count-set is_active_view views me v (retired v) at, s.roles.count, was);
+      each = each_set (λ seat z. HasSoundRole seat z.standing) views me
+          (retired v) s.roles.each record { small = λ _. (s.roles.each me v at).small worker; first = λ e. absurd (cc) };
+      pairs = pairs_move (λ i y j z. HasSoundRoles i y.standing j z.standing) views me v (retired v) at s.roles.pairs
+          record {
+            apart = λ _ _ _. refl;
+            made = λ e. absurd (cc);
+            enrolled = λ e. absurd (cc);
+            merged = λ e. absurd (cc);
+            fresh = λ e. absurd (cc);
+            unmerged = λ _. (s.roles.pairs me v at me v at).unmerged worker;
+          }
+          (λ j z differ there. let to = s.roles.pairs me v at j z there in let by = s.roles.pairs j z there me v at in (
+            record {
+              apart = λ _ is same. to.apart worker is same;
+              made = λ e. absurd (cc);
+              enrolled = λ e. absurd (cc);
+              merged = λ e. absurd (cc);
+              fresh = λ e. absurd (cc);
+              unmerged = λ _. to.unmerged worker;
+            },
+            record {
+              apart = λ is _ same. by.apart is worker same;
+              made = λ f _. by.made f worker;
+              enrolled = by.enrolled;
+              merged = by.merged;
+              fresh = by.fresh;
+              unmerged = by.unmerged;
+            },
+          ));
+    }
+    (λ f. absurd (cc)) (each_set (λ _ z. StoresStop words.stop z) views me (retired v) s.stops (λ f. absurd (cc)))
+    (quiet-moves views me v (retired v) s.quiet at (λ _ _ _ _ f. absurd (cc)) (λ z _ _ _. refl)) (λ f. absurd (cc))
   where
     worker : is_worker v.standing.role ≡ true
     worker = ap is_worker may.active
@@ -119,7 +178,11 @@ module _ (key : Start) (me : ℕ) (v : View) where
   enroll-step fresh n = record { leads = λ words views log s at is. subst (λ x. Leads key words (record words { crew = x + 1 }) views (set views me (enrolled v)) log None) is (enrolls key words views me v log s at fresh) }
 
   pub leave-step : IsAtRest v → (n : ℕ) → IsStep key me Crew n (n - 1) v (retired v) None
-  leave-step may n = record { leads = λ words views log s at is. subst (λ x. Leads key words (record words { crew = x - 1 }) views (set views me (retired v)) log None) is (leaves key words views me v log s at may) }
+  leave-step may n = record {
+    leads = λ words views log s at is. subst
+        (λ x. Leads key words (record words { crew = x - 1 }) views (set views me (retired v)) log None) is
+        (leaves key words views me v log s at may);
+  }
 
   -- the machine's sum and difference of words are those of numbers
   pub enroll-adds : v.standing.role ≡ Fresh → (n : ℕ) → IsStep key me Crew n ((n + 1) % 2 ^ 64) v (enrolled v) None

@@ -8,6 +8,7 @@ use mathlib.Core.Option.{some}
 use native.Mathlib.Decide.{ℕ_discrete, dec_le}
 use lib.ListN.{get_elem?, get_or-append}
 use Rattle.atomic_table.proofs.Lists.{one_turn}
+use Rattle.lsn_space.specs.Tiling.{IsBoundary}
 use Rattle.ring_core.specs.State.{is_at, worked_on, in_hand, RingState}
 use Rattle.ring_core.specs.Machine.{HasUnfilled, filled_at, after_fill}
 use Rattle.ring_core.specs.declared.event.RingEvent.TheVariants.{Fill}
@@ -17,17 +18,18 @@ use Rattle.log_table.specs.declared.view.Entry.{Entry}
 use Rattle.log_table.specs.declared.view.View.{View}
 use Rattle.log_table.specs.Events.{reservation_of, stage_in, ring_of, Leads, IsStep}
 use Rattle.log_table.specs.Layout.{Ring}
-use Rattle.log_table.specs.Log.{Part, Log, ranges_of, own, part_of, parts_of, unreleased_in, inside, Fits, StandsInRing, IsFullIfReleased, IsReleasedBelow, CountsRemaining, Laid}
+use Rattle.log_table.specs.Log.{Part, Log, ranges_of, own, part_of, parts_of, unreleased_in, inside, Fits, StandsInRing, IsFullIfReleased, IsReleasedBelow, CountsRemaining, AgreesFrom, EndsWithPart, Laid}
 use Rattle.log_table.specs.May.{MayFill}
-use Rattle.log_table.specs.Sound.{HasSeenBoundaries, HasWorkingOwner, HasConstants, RestsUnlessActive, OwnsIfWorker, IsSound}
+use Rattle.log_table.specs.Sound.{HasSeenBoundaries, SendsIfFlusher, StoresStop, LookedIfQuiet, HasWorkingOwner, HasConstants, RestsUnlessActive, OwnsIfWorker, IsSound}
 use Rattle.log_table.specs.Views.{entries_in, claims_in, with_unit, counted, filled}
 use Rattle.log_table.specs.Words.{Words, put}
+use Rattle.log_table.proofs.Boundaries.{part_size, boundary-mid}
 use Rattle.log_table.proofs.Lists.{all-mid, all-at, all-both, all-weaker}
 use Rattle.log_table.proofs.Owning.{LastPart, last_part, own-last, own-others}
 use Rattle.log_table.proofs.Ranging.{tiles-le, laid-le, laid-mid, laid-same, laid-replaced, unreleased_in-mid}
-use Rattle.log_table.proofs.Roles.{crew-same}
+use Rattle.log_table.proofs.Roles.{crew-same, quiet-moves}
 use Rattle.log_table.proofs.Showing.{hands_of-set_same, stage_of-hands_of, find-part, changed-part, filled_at-others}
-use Rattle.log_table.proofs.Viewing.{each_set, seats_move, seat_at}
+use Rattle.log_table.proofs.Viewing.{each_moves, each_set, seats_move, seat_at}
 
 -- two LSNs apart by less than the ring have two words
 differ_in_ring : (x y size : ℕ) → x ≢ y → x < y + size → y < x + size → x % size ≢ y % size
@@ -102,6 +104,22 @@ module _ (key : Start) (words : Words) (views : List View) (me : ℕ) (v : View)
   fits-part : Fits part
   fits-part = subst (λ (n : ℕ). n ≤ entry.size) (sym (length-append entry.units (unit ∷ []))) (omega (arith, unfilled))
 
+  -- the units that the flusher's seat has lie below exposed
+  agrees : (base : ℕ) (units : List ℕ) → base + length units ≤ words.exposed → AllByRecursion (AgreesFrom base units) log.parts
+      → AllByRecursion (AgreesFrom base units) after.parts
+  agrees base units below all = all-mid (AgreesFrom base units) last.before last.behind old_part part
+      (λ i _ _ hi. absurd (omega (arith, hi, below, above_exposed))) (all-old (AgreesFrom base units) all)
+
+  sends : (z : View) → SendsIfFlusher key.start words.exposed words.durable log z → SendsIfFlusher key.start words.exposed words.durable after z
+  sends z old f = let o = old f in record {
+    sent_to = o.sent_to;
+    read_to = o.read_to;
+    loaded_seen = o.loaded_seen;
+    boundary = o.boundary;
+    sent_agrees = agrees key.start z.sending.sent (omega (arith, o.sent_to, o.read_to, o.loaded_seen)) o.sent_agrees;
+    read_agrees = agrees words.durable z.sending.read (omega (arith, o.read_to, o.loaded_seen)) o.read_agrees;
+  }
+
   sound : IsSound key (record words { ring = ring' }) (set views me new) after
   sound = record {
     ordered = s.ordered;
@@ -114,8 +132,13 @@ module _ (key : Start) (words : Words) (views : List View) (me : ℕ) (v : View)
       parts = laid-same _ _ last.before last.behind old_part part refl refl laid;
       remaining = all-weaker (CountsRemaining log.parts) (CountsRemaining after.parts) log.unreleased (λ q counts.
           let m = unreleased_in-mid q.base q.size last.before last.behind old_part part in
-          let g : unreleased_in q.base q.size (last.before ++ old_part ∷ last.behind) ≡ unreleased_in q.base q.size log.parts = ap (unreleased_in q.base q.size) (sym last.split) in
-          let i : inside q.base q.size (with_unit unit entry) ≡ inside q.base q.size entry = refl in omega (arith, m, g, i, counts)) s.contiguous.remaining;
+          let g : unreleased_in q.base q.size (last.before ++ old_part ∷ last.behind) ≡ unreleased_in q.base q.size log.parts =
+          ap (unreleased_in q.base q.size) (sym last.split) in
+          let i : inside q.base q.size (with_unit unit entry) ≡ inside q.base q.size entry =
+          refl in omega (arith, m, g, i, counts)) s.contiguous.remaining;
+      aligned = all-weaker (EndsWithPart key.start log.parts) (EndsWithPart key.start after.parts) (ranges_of log)
+          (λ r b. boundary-mid part_size key.start (r.base + r.size) last.before last.behind old_part part refl
+          (subst (λ l. IsBoundary part_size key.start l (r.base + r.size)) last.split b)) s.contiguous.aligned;
     };
     filled = record {
       fits = all-mid Fits last.before last.behind old_part part fits-part (all-old Fits s.filled.fits);
@@ -136,6 +159,11 @@ module _ (key : Start) (words : Words) (views : List View) (me : ℕ) (v : View)
     resting = each_set (λ _ z. RestsUnlessActive z) views me new s.resting (λ off. let gone : Filling entry ≡ Idle = sym filling ∙ s.resting me v at off in absurd (cc));
     entries = each_set (λ _ z. OwnsIfWorker z) views me new s.entries (s.entries me v at);
     roles = crew-same words.crew views me v new s.roles at refl;
+    sends = each_moves (λ _ z. SendsIfFlusher key.start words.exposed words.durable log z)
+        (λ _ z. SendsIfFlusher key.start words.exposed words.durable after z) views me new s.sends (sends v (s.sends me v at)) (λ _ z _ _. sends z);
+    stops = each_set (λ _ z. StoresStop words.stop z) views me new s.stops (s.stops me v at);
+    quiet = quiet-moves views me v new s.quiet at (λ _ _ _ h. h) (λ _ h. h);
+    looked = each_set (λ _ z. LookedIfQuiet words.exposed z) views me new s.looked (s.looked me v at);
   }
 
   abbrev old_state : RingState

@@ -1,12 +1,12 @@
 -- Once every worker was merged, the flusher's seat has the whole log, and all of it is released.
-use Rattle.std.proofs.Common.{◌≡◌, ◌≢◌, ℕ, zero, suc, ◌+◌, ◌/◌, ◌≤◌, cond, Bool, true, false, true≢false, List, [], ◌∷◌, ◌++◌, get_or, sym, refl, ap, ◌∙◌, subst, append-nil, eq-eqb, ne_eqb}
+use Rattle.std.proofs.Common.{◌≡◌, ◌≢◌, ℕ, zero, suc, ◌+◌, ◌/◌, ◌≤◌, cond, Bool, true, false, true≢false, List, [], ◌∷◌, ◌++◌, get_or, sym, refl, ap, ◌∙◌, subst, append-nil, arith, length, length-append, eq-eqb, ne_eqb}
 use Rattle.std.specs.List.{AllByRecursion}
 use mathlib.Core.Logic.{dite}
 use mathlib.Core.Option.{some, some-injective, some-ne-none}
 use native.Mathlib.Decide.{ℕ_discrete}
 use lib.ListN.{get_elem?}
 use Rattle.atomic_table.specs.Table.{Final, Seen}
-use Rattle.lsn_space.specs.Tiling.{IsTiling}
+use Rattle.lsn_space.specs.Tiling.{IsTiling, IsBoundary}
 use Rattle.lsn_space.specs.declared.lsn.TheConstants.{LAST}
 use Rattle.log_table.specs.declared.layout.TheConstants.{TAIL, EXPOSED}
 use Rattle.log_table.specs.declared.table.Start.{Start}
@@ -17,11 +17,16 @@ use Rattle.log_table.specs.declared.view.Role.{Role}
 use Rattle.log_table.specs.declared.view.Role.TheVariants.{Flusher, Fresh, Active, Ended, Note, Spent}
 use Rattle.log_table.specs.declared.view.View.{View}
 use Rattle.log_table.specs.Closing.{IsGathered}
-use Rattle.log_table.specs.Log.{Part, Range, Log, own, owed, is_owed_by, claim_of, parts_of, Tiles, Laid, IsFull, IsFullIfReleased, IsOwed}
+use Rattle.log_table.specs.Log.{Part, Range, Log, own, owed, is_owed_by, claim_of, parts_of, ranges_of, Tiles, Laid, IsFull, IsFullIfReleased, IsOwed, AgreesFrom, IsRangeBoundary, IsEntryBoundary}
+use Rattle.log_table.specs.Sends.{IsDrained}
 use Rattle.log_table.specs.May.{MayClose}
-use Rattle.log_table.specs.Sound.{HasWorkingOwner, IsSound, Ruled}
+use Rattle.log_table.specs.Sound.{HasWorkingOwner, SendsInsertedUnits, IsSound, Ruled}
 use Rattle.log_table.specs.Views.{is_active, is_worker, is_spent, may_own, nobody, entries_in, claims_in}
 use Rattle.log_table.specs.Words.{Words, words_of}
+use Rattle.log_table.proofs.Agreeing.{IsFront, agrees-append, front, front-whole, joined, joined-entries, joined-length}
+use Rattle.log_table.proofs.Boundaries.{part_size, boundary-entries}
+use Rattle.log_table.proofs.Lists.{all-both, all-weaker}
+use Rattle.log_table.proofs.Looking.{part-boundary}
 use Rattle.log_table.proofs.Viewing.{seat_at}
 
 -- what holds of each view and of nobody's holds of each seat
@@ -51,6 +56,11 @@ tiles-entries seat from to (e ∷ es) l = (l.0, tiles-entries seat (from + e.siz
 full-entries : (seat : ℕ) (entries : List Entry) → AllByRecursion IsFullIfReleased (parts_of seat true entries) → AllByRecursion IsFull entries
 full-entries seat [] all = tt
 full-entries seat (e ∷ es) all = (all.0 refl, full-entries seat es all.1)
+
+full-parts : (seat : ℕ) (entries : List Entry) → AllByRecursion IsFullIfReleased (parts_of seat true entries)
+    → AllByRecursion (λ (p : Part). IsFull p.entry) (parts_of seat true entries)
+full-parts seat [] all = tt
+full-parts seat (e ∷ es) all = (all.0 refl, full-parts seat es all.1)
 
 rests : (role : Role) → is_worker role ≡ false → is_active role ≡ false
 rests Flusher e = refl
@@ -98,11 +108,59 @@ module _ (key : Start) (words : Words) (views : List View) (me : ℕ) (v : View)
   parts-are : log.parts ≡ parts_of me true v.entries
   parts-are = sym (own-all me log.parts no-entries) ∙ ((seat_at (HasWorkingOwner log.parts log.unreleased) views me v at s.owners).owns ∙ (ap (λ c. parts_of me true v.entries ++ parts_of me false (entries_in c)) (s.resting me v at (ap is_active may.flusher)) ∙ append-nil _))
 
+  start-is : v.constants.start ≡ key.start
+  start-is = ap (λ (c : Constants). c.start) (s.constants me v at (ap is_spent may.flusher))
+
+  abbrev mine : List Part
+  mine = parts_of me true v.entries
+
+  all-mine : (P : Part → Type 0) → AllByRecursion P log.parts → AllByRecursion P mine
+  all-mine P = subst (AllByRecursion P) parts-are
+
+  laid : Laid key.start mine words.tail
+  laid = subst (λ l. Laid key.start l words.tail) parts-are s.contiguous.parts
+
+  full : AllByRecursion (λ (p : Part). IsFull p.entry) mine
+  full = full-parts me v.entries (all-mine IsFullIfReleased s.below.full)
+
+  sends : SendsInsertedUnits key.start words.exposed words.durable log v.sending.exposed v.sending.sent v.sending.read
+  sends = s.sends me v at may.flusher
+
+  agrees : AllByRecursion (AgreesFrom key.start (v.sending.sent ++ v.sending.read)) mine
+  agrees = all-mine (AgreesFrom key.start (v.sending.sent ++ v.sending.read))
+      (all-both (AgreesFrom key.start v.sending.sent) (AgreesFrom words.durable v.sending.read)
+      (AgreesFrom key.start (v.sending.sent ++ v.sending.read)) log.parts
+      (λ p sent read. agrees-append key.start v.sending.sent v.sending.read p sent
+      (subst (λ n. AgreesFrom n v.sending.read p) (sym sends.sent_to) read)) sends.sent_agrees sends.read_agrees)
+
+  first : IsFront (v.sending.sent ++ v.sending.read) (joined mine)
+  first = front key.start words.tail mine (v.sending.sent ++ v.sending.read) laid full agrees
+      (omega (arith, length-append v.sending.sent v.sending.read, sends.sent_to, sends.read_to, sends.loaded_seen, all_released))
+
+  all-sent : IsDrained v → joined mine ≡ v.sending.sent
+  all-sent d =
+      let end : key.start + length v.sending.sent ≡ words.tail =
+      omega (arith, start-is, d.all, s.looked me v at may.flusher d.quiet d.looked, all_released) in
+      front-whole v.sending.sent (joined mine)
+      (front key.start words.tail mine v.sending.sent laid full (all-mine (AgreesFrom key.start v.sending.sent) sends.sent_agrees)
+      (omega (arith, end)))
+      (omega (arith, end, joined-length key.start words.tail mine laid full))
+
+  seen-between : (x : ℕ) → IsRangeBoundary key.start (ranges_of log) x → IsEntryBoundary v.constants.start v.entries x
+  seen-between x b = subst (λ n. IsEntryBoundary n v.entries x) (sym start-is)
+      (boundary-entries me key.start x v.entries true
+      (subst (λ l. IsBoundary part_size key.start l x) parts-are (part-boundary _ _ _ _ _ log s.contiguous x b)))
+
   pub gathers : IsGathered words.tail v
   gathers = record {
-    tiles = subst (λ n. IsTiling (λ (e : Entry). e.start) (λ (e : Entry). e.size) n v.entries words.tail) (sym (ap (λ (c : Constants). c.start) (s.constants me v at (ap is_spent may.flusher))))
-        (tiles-entries me key.start words.tail v.entries (subst (λ l. Laid key.start l words.tail) parts-are s.contiguous.parts));
-    full = full-entries me v.entries (subst (AllByRecursion IsFullIfReleased) parts-are s.below.full);
+    tiles = subst (λ n. IsTiling (λ (e : Entry). e.start) (λ (e : Entry). e.size) n v.entries words.tail) (sym start-is)
+        (tiles-entries me key.start words.tail v.entries laid);
+    full = full-entries me v.entries (all-mine IsFullIfReleased s.below.full);
+    seen = all-weaker (IsRangeBoundary key.start (ranges_of log)) (IsEntryBoundary v.constants.start v.entries) v.seen.lsns
+        seen-between (s.seen me v at).boundaries;
+    unsent = first.ahead;
+    sent = sym (joined-entries me true v.entries) ∙ first.is;
+    drained = λ d. sym (joined-entries me true v.entries) ∙ all-sent d;
   }
 
 -- what the words of a closed table held

@@ -1,13 +1,19 @@
+mod Adding
+mod Agreeing
 mod Allowing
+mod Boundaries
 mod Crewing
 mod Filling
+mod Flushing
 mod Gathering
 mod Lifting
 mod Lists
 mod Looking
 mod Merging
+mod Noting
 mod Owning
 mod Ranging
+mod Reading
 mod Releasing
 mod Renaming
 mod Reserving
@@ -15,5 +21,6 @@ mod Roles
 mod Showing
 mod Splitting
 mod Starting
+mod Stopping
 mod Viewing
 mod Wording

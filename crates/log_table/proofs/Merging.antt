@@ -7,15 +7,17 @@ use Rattle.atomic_table.specs.Table.{Joins}
 use Rattle.atomic_table.proofs.Lists.{at_set, set_else}
 use Rattle.log_table.specs.declared.table.Start.{Start}
 use Rattle.log_table.specs.declared.view.Call.TheVariants.{Idle}
-use Rattle.log_table.specs.declared.view.Role.TheVariants.{Flusher, Fresh}
+use Rattle.log_table.specs.declared.view.Role.{Role}
+use Rattle.log_table.specs.declared.view.Role.TheVariants.{Flusher, Fresh, Active, Ended, Note, Spent}
 use Rattle.log_table.specs.declared.view.View.{View}
-use Rattle.log_table.specs.Log.{Part, Log, ranges_of, parts_of, Fits, StandsInRing, IsFullIfReleased, IsReleasedBelow, CountsRemaining}
+use Rattle.log_table.specs.Log.{Part, Log, ranges_of, parts_of, Fits, StandsInRing, IsFullIfReleased, IsReleasedBelow, CountsRemaining, AgreesFrom, EndsWithPart}
 use Rattle.log_table.specs.May.{MayMerge}
-use Rattle.log_table.specs.Sound.{EachView, HasSeenBoundaries, HasWorkingOwner, HasConstants, RestsUnlessActive, OwnsIfWorker, HasSoundRole, HasSoundRoles, HasSoundCrew, IsSound, Knows, Lacks, Ruled, is_active_view}
-use Rattle.log_table.specs.Views.{is_active, is_worker, is_spent, nobody, entries_in, claims_in, merged_entries, merged_seen, merged_standing, takes_in}
+use Rattle.log_table.specs.Sound.{EachView, HasSeenBoundaries, SendsIfFlusher, StoresStop, LookedIfQuiet, HasWorkingOwner, HasConstants, RestsUnlessActive, OwnsIfWorker, HasSoundRole, HasSoundRoles, HasSoundCrew, IsSound, Knows, Lacks, Ruled, is_active_view}
+use Rattle.log_table.specs.Views.{has_ended, is_active, is_worker, is_spent, nobody, entries_in, claims_in, merged_entries, merged_seen, merged_standing, takes_in}
 use Rattle.log_table.specs.Words.{Words, words_of}
 use Rattle.log_table.proofs.Lists.{all-append, all-weaker}
-use Rattle.log_table.proofs.Renaming.{rename, own-renamed, own-renamed-from, own-renamed-else, all-renamed, laid-renamed, unreleased_in-renamed}
+use Rattle.log_table.proofs.Renaming.{rename, own-renamed, own-renamed-from, own-renamed-else, all-renamed, laid-renamed, unreleased_in-renamed, boundary-renamed}
+use Rattle.log_table.proofs.Roles.{quiet-moves}
 use Rattle.log_table.proofs.Viewing.{each_set, seats_move, seat_at, pairs_move, count-set}
 
 set-swap : (views : List View) (a b : ℕ) (x y : View) → a ≢ b → set (set views a x) b y ≡ set (set views b y) a x
@@ -27,6 +29,14 @@ set-swap (z ∷ zs) (suc a) (suc b) x y differ = ap (λ l. z ∷ l) (set-swap zs
 
 or-false : (a b : Bool) → a ≡ false → b ≡ false → (a || b) ≡ false
 or-false a b p q = ap (λ c. c || b) p ∙ q
+
+ended-rests : (role : Role) → has_ended role ≡ true → is_active role ≡ false
+ended-rests Flusher e = refl
+ended-rests Fresh e = refl
+ended-rests Active e = absurd (true≢false (sym e))
+ended-rests Ended e = refl
+ended-rests Note e = refl
+ended-rests Spent e = refl
 
 or-cases : (a b : Bool) → (a || b) ≡ true → (a ≡ true) ⊎ (b ≡ true)
 or-cases true b e = inl refl
@@ -46,9 +56,6 @@ module _ (key : Start) (words : Words) (views : List View) (me other : ℕ) (v o
   was : (j : ℕ) (z : View) → get_elem? without j ≡ some z → ((j ≡ other) × (nobody ≡ z)) ⊎ ((j ≢ other) × (get_elem? views j ≡ some z))
   was j z here = at_set views other j nobody z here
 
-  worker : is_worker o.standing.role ≡ true
-  worker = ap is_worker may.ended
-
   boss : {A : Type 0} → is_worker v.standing.role ≡ true → A
   boss e = absurd (true≢false (sym e ∙ ap is_worker may.flusher))
 
@@ -67,11 +74,21 @@ module _ (key : Start) (words : Words) (views : List View) (me other : ℕ) (v o
       ))
 
   -- the worker's number is no other's
-  others-number : (j : ℕ) (z : View) → get_elem? without j ≡ some z → is_worker z.standing.role ≡ true → eqb z.standing.worker o.standing.worker ≡ false
-  others-number j z here w = ⊎_elim
+  others-number : is_worker o.standing.role ≡ true → (j : ℕ) (z : View) → get_elem? without j ≡ some z → is_worker z.standing.role ≡ true
+      → eqb z.standing.worker o.standing.worker ≡ false
+  others-number worker j z here w = ⊎_elim
       (λ (t : (j ≡ other) × (nobody ≡ z)). absurd (true≢false (sym w ∙ ap (λ (y : View). is_worker y.standing.role) (sym t.1))))
       (λ (t : (j ≢ other) × (get_elem? views j ≡ some z)). ne_eqb z.standing.worker o.standing.worker (λ same. t.0 ((s.roles.pairs j z t.1 other o there).apart w worker same)))
       (was j z here)
+
+  lacks-merged : (j : ℕ) (z : View) → get_elem? without j ≡ some z → is_worker z.standing.role ≡ true → Lacks z.standing.worker v.standing.merged
+      → Lacks z.standing.worker new.standing.merged
+  lacks-merged j z here w lacks = by_role (is_worker o.standing.role) refl
+    where
+      by_role : (b : Bool) → is_worker o.standing.role ≡ b
+          → Lacks z.standing.worker (cond b (o.standing.worker ∷ v.standing.merged) v.standing.merged)
+      by_role true worker = or-false _ _ (others-number worker j z here w) lacks
+      by_role false note = lacks
 
   fresh-lacks : (j : ℕ) (z : View) → get_elem? without j ≡ some z → z.standing.role ≡ Fresh → Lacks z.standing.worker new.standing.enrolled
   fresh-lacks j z here f = ⊎_elim
@@ -84,20 +101,52 @@ module _ (key : Start) (words : Words) (views : List View) (me other : ℕ) (v o
       (or-cases _ _ (sym (list_any-append (eqb q) v.standing.enrolled o.standing.enrolled) ∙ knows))
 
   merged-made : (q : ℕ) → Knows q new.standing.merged → Knows q v.standing.made
-  merged-made q knows = ⊎_elim
-      (λ same. subst (λ n. Knows n v.standing.made) (sym (eqb-true q o.standing.worker same)) ((s.roles.pairs me v at other o there).made may.flusher worker))
-      (λ before. (s.roles.each me v at).merged may.flusher q before) (or-cases (eqb q o.standing.worker) _ knows)
+  merged-made q knows = by_role (is_worker o.standing.role) refl knows
+    where
+      before : Knows q v.standing.merged → Knows q v.standing.made
+      before = (s.roles.pairs me v at me v at).merged may.flusher q
+
+      by_role : (b : Bool) → is_worker o.standing.role ≡ b → Knows q (cond b (o.standing.worker ∷ v.standing.merged) v.standing.merged)
+          → Knows q v.standing.made
+      by_role true worker knows = ⊎_elim
+          (λ same. subst (λ n. Knows n v.standing.made) (sym (eqb-true q o.standing.worker same))
+          ((s.roles.pairs me v at other o there).made may.flusher worker)) before (or-cases (eqb q o.standing.worker) _ knows)
+      by_role false note knows = before knows
+
+  -- the flusher's seat is the first
+  not-flusher : {A : Type 0} (j : ℕ) (z : View) → j ≢ me → get_elem? without j ≡ some z → z.standing.role ≡ Flusher → A
+  not-flusher j z differ here f = absurd (differ (each-without (λ seat y. y.standing.role ≡ Flusher → seat ≡ 0) (λ i y h. (s.roles.each i y h).first)
+      (λ e. absurd (cc)) j z here f ∙ sym ((s.roles.each me v at).first may.flusher)))
 
   crew-merges : HasSoundCrew words.crew (set without me new)
   crew-merges = record {
-    count = s.roles.count ∙ sym (same _ _ _ _ _ (count-set is_active_view views other o nobody there) (ap is_active may.ended) (count-set is_active_view without me v new at'));
-    each = each-merged (λ seat z. HasSoundRole seat z.standing) s.roles.each record { small = λ e. absurd (true≢false (sym e)); first = λ e. absurd (cc); merged = λ e. absurd (cc) }
-        record { small = (s.roles.each me v at).small; first = (s.roles.each me v at).first; merged = λ _ q knows. merged-made q knows };
+    count = s.roles.count
+        ∙ sym (same _ _ _ _ _ (count-set is_active_view views other o nobody there) (ended-rests o.standing.role may.ended)
+        (count-set is_active_view without me v new at'));
+    each = each-merged (λ seat z. HasSoundRole seat z.standing) s.roles.each record {
+      small = λ e. absurd (true≢false (sym e));
+      first = λ e. absurd (cc);
+    }
+        record { small = (s.roles.each me v at).small; first = (s.roles.each me v at).first };
     pairs = pairs_move (λ i y j z. HasSoundRoles i y.standing j z.standing) without me v new at' pairs-without
         record { apart = λ _ _ _. refl; made = λ _ w. boss w; unmerged = λ _ w. boss w; known = λ _ q knows. known-made q knows; fresh = λ f. boss (ap is_worker f) }
         (λ j z differ here. let to = pairs-without me v at' j z here in let by = pairs-without j z here me v at' in (
-          record { apart = λ w. boss w; made = to.made; unmerged = λ f w. or-false _ _ (others-number j z here w) (to.unmerged f w); known = to.known; fresh = λ f. boss (ap is_worker f) },
-          record { apart = λ _ w. boss w; made = λ _ w. boss w; unmerged = λ _ w. boss w; known = λ f q _. absurd (differ ((each-without (λ seat y. y.standing.role ≡ Flusher → seat ≡ 0) (λ i y h. (s.roles.each i y h).first) (λ e. absurd (cc)) j z here f) ∙ sym ((s.roles.each me v at).first may.flusher))); fresh = λ f. fresh-lacks j z here f },
+          record {
+            apart = λ w. boss w;
+            made = to.made;
+            enrolled = to.enrolled;
+            merged = to.merged;
+            fresh = λ f. boss (ap is_worker f);
+            unmerged = λ w. boss w;
+          },
+          record {
+            apart = λ _ w. boss w;
+            made = λ _ w. boss w;
+            enrolled = λ f _ _. not-flusher j z differ here f;
+            merged = λ f _ _. not-flusher j z differ here f;
+            fresh = λ f. fresh-lacks j z here f;
+            unmerged = λ w. lacks-merged j z here w (by.unmerged w);
+          },
         ));
   }
     where
@@ -108,7 +157,7 @@ module _ (key : Start) (words : Words) (views : List View) (me other : ℕ) (v o
   idle = s.resting me v at (ap is_active may.flusher)
 
   idle' : o.call ≡ Idle
-  idle' = s.resting other o there (ap is_active may.ended)
+  idle' = s.resting other o there (ended-rests o.standing.role may.ended)
 
   mine : HasWorkingOwner log.parts log.unreleased me v
   mine = seat_at (HasWorkingOwner log.parts log.unreleased) views me v at s.owners
@@ -140,6 +189,16 @@ module _ (key : Start) (words : Words) (views : List View) (me other : ℕ) (v o
       (λ j z differ h. ⊎_elim (λ (g : (j ≡ other) × HasWorkingOwner parts log.unreleased j z). g.1)
       (λ (g : (j ≢ other) × HasWorkingOwner log.parts log.unreleased j z). record { owns = own-renamed-else other me j log.parts g.0 differ ∙ g.1.owns; owes = g.1.owes }) h)
 
+  sends : (z : View) → SendsIfFlusher key.start words.exposed words.durable log z → SendsIfFlusher key.start words.exposed words.durable after z
+  sends z old f = let o = old f in record {
+    sent_to = o.sent_to;
+    read_to = o.read_to;
+    loaded_seen = o.loaded_seen;
+    boundary = o.boundary;
+    sent_agrees = all-renamed (AgreesFrom key.start z.sending.sent) other me log.parts (λ p h. h) o.sent_agrees;
+    read_agrees = all-renamed (AgreesFrom words.durable z.sending.read) other me log.parts (λ p h. h) o.read_agrees;
+  }
+
   merges' : IsSound key words (set without me new) after
   merges' = record {
     ordered = s.ordered;
@@ -156,7 +215,10 @@ module _ (key : Start) (words : Words) (views : List View) (me other : ℕ) (v o
       released = s.contiguous.released;
       unreleased = s.contiguous.unreleased;
       parts = laid-renamed other me _ _ log.parts s.contiguous.parts;
-      remaining = all-weaker (CountsRemaining log.parts) (CountsRemaining parts) log.unreleased (λ r counts. unreleased_in-renamed other me r.base r.size log.parts ∙ counts) s.contiguous.remaining;
+      remaining = all-weaker (CountsRemaining log.parts) (CountsRemaining parts) log.unreleased
+          (λ r counts. unreleased_in-renamed other me r.base r.size log.parts ∙ counts) s.contiguous.remaining;
+      aligned = all-weaker (EndsWithPart key.start log.parts) (EndsWithPart key.start parts) (ranges_of log)
+          (λ r. boundary-renamed other me key.start (r.base + r.size) log.parts) s.contiguous.aligned;
     };
     filled = record {
       fits = all-renamed Fits other me log.parts (λ p h. h) s.filled.fits;
@@ -173,6 +235,12 @@ module _ (key : Start) (words : Words) (views : List View) (me other : ℕ) (v o
     resting = each-merged (λ _ z. RestsUnlessActive z) s.resting (λ _. refl) (s.resting me v at);
     entries = each-merged (λ _ z. OwnsIfWorker z) s.entries (λ _. refl) (λ off. absurd (true≢false (sym (ap Rattle.log_table.specs.Views.may_own may.flusher) ∙ off)));
     roles = crew-merges;
+    sends = each-merged (λ _ z. SendsIfFlusher key.start words.exposed words.durable after z) (λ j z here. sends z (s.sends j z here))
+        (λ f. absurd (cc)) (sends v (s.sends me v at));
+    stops = each-merged (λ _ z. StoresStop words.stop z) s.stops (λ f. absurd (cc)) (s.stops me v at);
+    quiet = quiet-moves without me v new
+        (quiet-moves views other o nobody s.quiet there (λ _ _ _ _ f. absurd (cc)) (λ _ _ _ _. refl)) at' (λ _ _ _ h. h) (λ _ h. h);
+    looked = each-merged (λ _ z. LookedIfQuiet words.exposed z) s.looked (λ f. absurd (cc)) (s.looked me v at);
   }
 
   pub merges : IsSound key words (set (set views me new) other nobody) after

@@ -1,7 +1,6 @@
 -- Ranges and parts that follow one another: bounds, and what stays where one of them changes.
 use Rattle.std.proofs.Common.{◌≡◌, ◌⊎◌, inl, inr, ⊎_elim, ℕ, ◌+◌, ◌<◌, ◌≤◌, cond, Bool, true, false, List, [], ◌∷◌, ◌++◌, sym, refl, ap, ◌∙◌, subst, arith}
 use Rattle.std.specs.List.{AllByRecursion}
-use Rattle.lsn_space.specs.Tiling.{IsBoundary}
 use Rattle.log_table.specs.declared.view.Entry.{Entry}
 use Rattle.log_table.specs.Log.{Part, Range, inside, unreleased_in, Tiles, Laid}
 
@@ -29,31 +28,9 @@ tiles-within P Q most from to [] t all f = tt
 tiles-within P Q most from to (r ∷ rs) t all f =
     (f r all.0 t.1 (omega (arith, t.0)) (omega (arith, t.0, tiles-le most (from + r.size) to rs t.3)), tiles-within P Q most (from + r.size) to rs t.3 all.1 (λ q p least lo hi. f q p least (omega (arith, t.0, t.1, lo)) hi))
 
--- where reservations begin or end
-abbrev pub Boundary : ℕ → List Range → ℕ → Type 0
-Boundary start ranges at = IsBoundary (λ (r : Range). r.size) start ranges at
-
-pub boundary-start : (start : ℕ) (ranges : List Range) → Boundary start ranges start
-boundary-start start [] = refl
-boundary-start start (r ∷ rs) = inl refl
-
-pub boundary-append : (start at : ℕ) (xs ys : List Range) → Boundary start xs at → Boundary start (xs ++ ys) at
-boundary-append start at [] ys b = subst (Boundary start ys) (sym b) (boundary-start start ys)
-boundary-append start at (x ∷ xs) ys b = ⊎_elim (λ here. inl here) (λ later. inr (boundary-append (start + x.size) at xs ys later)) b
-
--- where a tiling ends, a boundary of what follows is one of the whole
-pub boundary-behind : (most start from at : ℕ) (xs ys : List Range) → Tiles most start xs from → Boundary from ys at → Boundary start (xs ++ ys) at
-boundary-behind most start from at [] ys t b = subst (λ z. Boundary z ys at) (sym t) b
-boundary-behind most start from at (x ∷ xs) ys t b = inr (boundary-behind most (start + x.size) from at xs ys t.3 b)
-
-pub boundary-end : (most start to : ℕ) (ranges : List Range) → Tiles most start ranges to → Boundary start ranges to
-boundary-end most start to [] t = sym t
-boundary-end most start to (r ∷ rs) t = inr (boundary-end most (start + r.size) to rs t.3)
-
--- a range is exchanged for another of its size
-pub boundary-mid : (start at : ℕ) (ls rs : List Range) (r r' : Range) → r'.size ≡ r.size → Boundary start (ls ++ r ∷ rs) at → Boundary start (ls ++ r' ∷ rs) at
-boundary-mid start at [] rs r r' same b = ⊎_elim (λ here. inl here) (λ later. inr (subst (λ n. Boundary (start + n) rs at) (sym same) later)) b
-boundary-mid start at (l ∷ ls) rs r r' same b = ⊎_elim (λ here. inl here) (λ later. inr (boundary-mid (start + l.size) at ls rs r r' same later)) b
+pub tiles-append : (most from mid to : ℕ) (xs ys : List Range) → Tiles most from xs mid → Tiles most mid ys to → Tiles most from (xs ++ ys) to
+tiles-append most from mid to [] ys t u = subst (λ z. Tiles most z ys to) (sym t) u
+tiles-append most from mid to (x ∷ xs) ys t u = (t.0, t.1, t.2, tiles-append most (from + x.size) mid to xs ys t.3 u)
 
 pub laid-le : (from to : ℕ) (parts : List Part) → Laid from parts to → from ≤ to
 laid-le from to [] l = omega arith

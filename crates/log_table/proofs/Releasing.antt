@@ -6,6 +6,7 @@ use mathlib.Core.Logic.{dite}
 use mathlib.Core.Option.{some}
 use native.Mathlib.Decide.{dec_lt, dec_le}
 use lib.ListN.{get_elem?}
+use Rattle.lsn_space.specs.Tiling.{IsBoundary}
 use Rattle.ring_core.specs.State.{in_hand, RingState}
 use Rattle.ring_core.specs.Machine.{IsNext, released_at, after_turn}
 use Rattle.ring_core.specs.declared.event.RingEvent.TheVariants.{Turn}
@@ -17,17 +18,18 @@ use Rattle.log_table.specs.declared.view.Role.TheVariants.{Flusher, Fresh, Activ
 use Rattle.log_table.specs.declared.view.View.{View}
 use Rattle.log_table.specs.Events.{reservation_of, ring_of, Leads, IsStep}
 use Rattle.log_table.specs.Layout.{Exposed}
-use Rattle.log_table.specs.Log.{Part, Duty, Shared, Owed, Released, Range, Claim, Log, ranges_of, own, owed, owes, is_owed_by, claim_of, part_of, parts_of, unreleased_in, inside, IsFull, Fits, StandsInRing, IsFullIfReleased, IsReleasedBelow, IsReleased, IsOwed, CountsRemaining, Tiles, Laid}
+use Rattle.log_table.specs.Log.{Part, Duty, Shared, Owed, Released, Range, Claim, Log, ranges_of, own, owed, owes, is_owed_by, claim_of, part_of, parts_of, unreleased_in, inside, IsFull, Fits, StandsInRing, IsFullIfReleased, IsReleasedBelow, IsReleased, IsOwed, CountsRemaining, Tiles, Laid, AgreesFrom, EndsWithPart, IsRangeBoundary}
 use Rattle.log_table.specs.May.{MayRelease}
-use Rattle.log_table.specs.Sound.{HasSeenBoundaries, HasContiguousReservations, HasWorkingOwner, HasConstants, RestsUnlessActive, OwnsIfWorker, IsSound}
+use Rattle.log_table.specs.Sound.{HasSeenBoundaries, HasContiguousReservations, SendsIfFlusher, StoresStop, LookedIfQuiet, HasWorkingOwner, HasConstants, RestsUnlessActive, OwnsIfWorker, IsSound}
 use Rattle.log_table.specs.Views.{is_active, may_own, entries_in, claims_in, seen_exposed, released}
 use Rattle.log_table.specs.Words.{Words}
+use Rattle.log_table.proofs.Boundaries.{range_size, part_size, boundary-mid}
 use Rattle.log_table.proofs.Filling.{hand-at}
 use Rattle.log_table.proofs.Lists.{all-append, all-mid, all-at, all-both, all-weaker, Last, picked-last}
 use Rattle.log_table.proofs.Looking.{exposed-boundary}
 use Rattle.log_table.proofs.Owning.{LastPart, last_part, own-last, own-others, parts_of-push}
-use Rattle.log_table.proofs.Ranging.{Boundary, tiles-push, tiles-first, tiles-within, boundary-mid, laid-same, unreleased_in-mid, inside-here, inside-none, all-released}
-use Rattle.log_table.proofs.Roles.{crew-same}
+use Rattle.log_table.proofs.Ranging.{tiles-push, tiles-first, tiles-within, laid-same, unreleased_in-mid, inside-here, inside-none, all-released}
+use Rattle.log_table.proofs.Roles.{busy-not_quiet, crew-same, quiet-moves}
 use Rattle.log_table.proofs.Showing.{hands_of-set, changed-part, released_at-others}
 use Rattle.log_table.proofs.Viewing.{each_moves, each_set, seats_move, seat_at}
 
@@ -127,26 +129,61 @@ module _ (key : Start) (words : Words) (views : List View) (me : ℕ) (v : View)
   laid-after : Laid key.start after.parts words.tail
   laid-after = laid-same _ _ last.before last.behind old_part part refl refl laid
 
+  -- all ranges, before and after
+  were : ranges_of log ≡ (log.flushed ++ log.released) ++ range ∷ rest
+  were = ap (λ l. log.flushed ++ (log.released ++ l)) split ∙ sym (append_assoc log.flushed log.released (range ∷ rest))
+
+  are : (log.flushed ++ log.released) ++ now ∷ rest ≡ ranges_of after
+  are = append_assoc log.flushed log.released (now ∷ rest) ∙ ap (λ l. log.flushed ++ l) (sym (append_assoc log.released (now ∷ []) rest))
+
+  -- no boundary changes, only who has released what
+  still : (x : ℕ) → IsRangeBoundary key.start (ranges_of log) x → IsRangeBoundary key.start (ranges_of after) x
+  still x b = subst (λ l. IsRangeBoundary key.start l x) are
+      (boundary-mid range_size key.start x (log.flushed ++ log.released) rest range now refl (subst (λ l. IsRangeBoundary key.start l x) were b))
+
+  stills : (lsns : List ℕ) → AllByRecursion (IsRangeBoundary key.start (ranges_of log)) lsns
+      → AllByRecursion (IsRangeBoundary key.start (ranges_of after)) lsns
+  stills lsns = all-weaker (IsRangeBoundary key.start (ranges_of log)) (IsRangeBoundary key.start (ranges_of after)) lsns still
+
+  ends : (r : Range) → EndsWithPart key.start log.parts r → EndsWithPart key.start after.parts r
+  ends r b = boundary-mid part_size key.start (r.base + r.size) last.before last.behind old_part part refl
+      (subst (λ l. IsBoundary part_size key.start l (r.base + r.size)) last.split b)
+
+  aligned : AllByRecursion (EndsWithPart key.start after.parts) (ranges_of after)
+  aligned =
+      let old = subst (AllByRecursion (EndsWithPart key.start after.parts)) were
+      (all-weaker (EndsWithPart key.start log.parts) (EndsWithPart key.start after.parts) (ranges_of log) ends s.contiguous.aligned) in
+      subst (AllByRecursion (EndsWithPart key.start after.parts)) are (all-mid (EndsWithPart key.start after.parts) (log.flushed ++ log.released)
+      rest range now (all-at (EndsWithPart key.start after.parts) (log.flushed ++ log.released) rest range old) old)
+
   contiguous : HasContiguousReservations key.start key.ring words.tail to words.durable after
   contiguous = record {
     flushed = s.contiguous.flushed;
     released = tiles-push _ _ _ _ log.released now s.contiguous.released tiles.0 tiles.1 tiles.2 end;
     unreleased = subst (λ a. Tiles (key.ring / 4) a rest words.tail) end tiles.3;
     parts = laid-after;
-    remaining = tiles-within (CountsRemaining log.parts) (CountsRemaining after.parts) _ _ _ rest tiles.3 (behind-of (CountsRemaining log.parts) s.contiguous.remaining)
-        (λ q counts least lo hi. let out = inside-none q.base q.size entry (inl (omega (arith, lo, end, positive))) in omega (arith, counted q.base q.size, out, counts));
+    remaining = tiles-within (CountsRemaining log.parts) (CountsRemaining after.parts) _ _ _ rest tiles.3
+        (behind-of (CountsRemaining log.parts) s.contiguous.remaining)
+        (λ q counts least lo hi. let out = inside-none q.base q.size entry (inl (omega (arith, lo, end, positive))) in
+        omega (arith, counted q.base q.size, out, counts));
+    aligned = aligned;
   }
-
-  -- no boundary changes, only who has released what
-  still : (x : ℕ) → Boundary key.start (ranges_of log) x → Boundary key.start (ranges_of after) x
-  still x b = subst (λ l. Boundary key.start l x) (append_assoc log.flushed log.released (now ∷ rest) ∙ ap (λ l. log.flushed ++ l) (sym (append_assoc log.released (now ∷ []) rest)))
-      (boundary-mid key.start x (log.flushed ++ log.released) rest range now refl (subst (λ l. Boundary key.start l x) (ap (λ l. log.flushed ++ (log.released ++ l)) split ∙ sym (append_assoc log.flushed log.released (range ∷ rest))) b))
-
-  stills : (lsns : List ℕ) → AllByRecursion (Boundary key.start (ranges_of log)) lsns → AllByRecursion (Boundary key.start (ranges_of after)) lsns
-  stills lsns = all-weaker (Boundary key.start (ranges_of log)) (Boundary key.start (ranges_of after)) lsns still
 
   fewer : (j : ℕ) → j ≢ me → owed j rest ≡ owed j log.unreleased
   fewer j differ = sym (ap (owed j) split ∙ ap (λ b. cond b (claim_of range ∷ owed j rest) (owed j rest)) (ap (is_owed_by j) duty-is ∙ ne_eqb me j (λ e. differ (sym e))))
+
+  sends : (z : View) → SendsIfFlusher key.start words.exposed words.durable log z → SendsIfFlusher key.start to words.durable after z
+  sends z old f = let o = old f in record {
+    sent_to = o.sent_to;
+    read_to = o.read_to;
+    loaded_seen = omega (arith, o.loaded_seen, turn);
+    boundary = still z.sending.exposed o.boundary;
+    sent_agrees = same-part (AgreesFrom key.start z.sending.sent) (λ h. h) o.sent_agrees;
+    read_agrees = same-part (AgreesFrom words.durable z.sending.read) (λ h. h) o.read_agrees;
+  }
+
+  busy : (j : ℕ) (z : View) → get_elem? views j ≡ some z → z.standing.role ≡ Flusher → z.sending.quiet ≡ true → ⊥
+  busy = busy-not_quiet key words views me v log s at (λ idle. let gone : Filling entry ≡ Idle = sym filling ∙ idle in absurd (cc))
 
   sound : IsSound key (record words { exposed = to }) (set views me new) after
   sound = record {
@@ -174,6 +211,12 @@ module _ (key : Start) (words : Words) (views : List View) (me : ℕ) (v : View)
     resting = each_set (λ _ z. RestsUnlessActive z) views me new s.resting (λ _. refl);
     entries = each_set (λ _ z. OwnsIfWorker z) views me new s.entries (λ off. let gone : Filling entry ≡ Idle = sym filling ∙ s.resting me v at (only-owners v.standing.role off) in absurd (cc));
     roles = crew-same words.crew views me v new s.roles at refl;
+    sends = each_moves (λ _ z. SendsIfFlusher key.start words.exposed words.durable log z)
+        (λ _ z. SendsIfFlusher key.start to words.durable after z) views me new s.sends (sends v (s.sends me v at)) (λ _ z _ _. sends z);
+    stops = each_set (λ _ z. StoresStop words.stop z) views me new s.stops (s.stops me v at);
+    quiet = quiet-moves views me v new s.quiet at (λ _ _ _ h. h) (λ _ h. h);
+    looked = each_moves (λ _ z. LookedIfQuiet words.exposed z) (λ _ z. LookedIfQuiet to z) views me new s.looked
+        (λ f q _. absurd (busy me v at f q)) (λ j z _ there _ f q _. absurd (busy j z there f q));
   }
 
   abbrev old_state : RingState

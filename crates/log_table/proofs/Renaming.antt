@@ -1,11 +1,13 @@
 -- One seat's parts become another's.
-use Rattle.std.proofs.Common.{◌≡◌, ◌≢◌, ◌⊎◌, ℕ, ◌==◌, ◌+◌, ◌<◌, ◌≤◌, cond, nat_lt, lt-ltb, le-ltb, Bool, true, false, List, [], ◌∷◌, ◌++◌, sym, refl, ap, ◌∙◌, subst, arith, eq-eqb, ne_eqb}
+use Rattle.std.proofs.Common.{◌≡◌, ◌≢◌, ◌⊎◌, inl, inr, ⊎_elim, ℕ, ◌==◌, ◌+◌, ◌<◌, ◌≤◌, cond, nat_lt, lt-ltb, le-ltb, Bool, true, false, List, [], ◌∷◌, ◌++◌, sym, refl, ap, ◌∙◌, subst, arith, eq-eqb, ne_eqb}
 use Rattle.std.specs.List.{AllByRecursion}
 use mathlib.Core.Logic.{dite}
 use native.Mathlib.Decide.{ℕ_discrete}
+use Rattle.lsn_space.specs.Tiling.{IsBoundary}
 use Rattle.log_table.specs.declared.view.Entry.{Entry}
 use Rattle.log_table.specs.Log.{Part, picked, own, is_by, parts_of, Laid, unreleased_in}
 use Rattle.log_table.specs.Views.{inserted, merged_entries}
+use Rattle.log_table.proofs.Boundaries.{part_size}
 use Rattle.log_table.proofs.Lists.{all-weaker}
 
 abbrev pub rename_one : ℕ → ℕ → Part → Part
@@ -143,3 +145,8 @@ laid-renamed from to a b (x ∷ xs) t = (t.0, t.1, laid-renamed from to (a + x.e
 pub unreleased_in-renamed : (from to c n : ℕ) (xs : List Part) → unreleased_in c n (rename from to xs) ≡ unreleased_in c n xs
 unreleased_in-renamed from to c n [] = refl
 unreleased_in-renamed from to c n (x ∷ xs) = let h = unreleased_in-renamed from to c n xs in omega arith
+
+pub boundary-renamed : (from to start at : ℕ) (xs : List Part) → IsBoundary part_size start xs at → IsBoundary part_size start (rename from to xs) at
+boundary-renamed from to start at [] b = b
+boundary-renamed from to start at (x ∷ xs) b =
+    ⊎_elim (λ here. inl here) (λ later. inr (boundary-renamed from to (start + x.entry.size) at xs later)) b

@@ -6,6 +6,7 @@ use mathlib.Core.Option.{some}
 use native.Mathlib.Decide.{ℕ_discrete}
 use lib.ListN.{get_elem?}
 use prog.Atomic.{either}
+use Rattle.lsn_space.specs.Tiling.{IsBoundary}
 use Rattle.lsn_space.specs.declared.lsn.TheConstants.{LAST}
 use Rattle.ring_core.specs.declared.event.RingEvent.{RingEvent}
 use Rattle.ring_core.specs.declared.event.RingEvent.TheVariants.{Reserve}
@@ -15,16 +16,17 @@ use Rattle.log_table.specs.declared.view.Entry.{Entry}
 use Rattle.log_table.specs.declared.view.View.{View}
 use Rattle.log_table.specs.Events.{reservation_of, stage_in, Leads, IsStep}
 use Rattle.log_table.specs.Layout.{Tail}
-use Rattle.log_table.specs.Log.{Part, Owed, Range, Log, ranges_of, part_of, parts_of, unreleased_in, Fits, StandsInRing, IsFullIfReleased, IsReleasedBelow, IsOwed, CountsRemaining}
+use Rattle.log_table.specs.Log.{Part, Owed, Range, Log, ranges_of, part_of, parts_of, unreleased_in, Fits, StandsInRing, IsFullIfReleased, IsReleasedBelow, IsOwed, CountsRemaining, AgreesFrom, EndsWithPart, IsRangeBoundary, Laid}
 use Rattle.log_table.specs.May.{MayReserve}
-use Rattle.log_table.specs.Sound.{HasSeenBoundaries, HasContiguousReservations, HasWorkingOwner, HasConstants, RestsUnlessActive, OwnsIfWorker, IsSound}
+use Rattle.log_table.specs.Sound.{HasSeenBoundaries, HasContiguousReservations, SendsIfFlusher, StoresStop, LookedIfQuiet, HasWorkingOwner, HasConstants, RestsUnlessActive, OwnsIfWorker, IsSound}
 use Rattle.log_table.specs.Views.{is_active, is_spent, entries_in, claims_in, empty_entry, saw_tail, reserved, after_exchange}
 use Rattle.log_table.specs.Words.{Words}
+use Rattle.log_table.proofs.Boundaries.{range_size, part_size, boundary-append, laid-end}
 use Rattle.log_table.proofs.Lists.{all-append, all-weaker}
 use Rattle.log_table.proofs.Looking.{tail-boundary, tail-looks}
 use Rattle.log_table.proofs.Owning.{own-push, own-push_others, owed-push, owed-push_others}
-use Rattle.log_table.proofs.Ranging.{Boundary, tiles-le, tiles-push, tiles-within, boundary-append, laid-append, inside-here, unreleased_in-append, unreleased_in-apart}
-use Rattle.log_table.proofs.Roles.{crew-same}
+use Rattle.log_table.proofs.Ranging.{tiles-le, tiles-push, tiles-within, laid-append, inside-here, unreleased_in-append, unreleased_in-apart}
+use Rattle.log_table.proofs.Roles.{crew-same, quiet-moves}
 use Rattle.log_table.proofs.Showing.{hands_of-set, stage_of-hands_of}
 use Rattle.log_table.proofs.Viewing.{each_set, each_moves, seats_move, seat_at}
 
@@ -72,36 +74,78 @@ module _ (key : Start) (words : Words) (views : List View) (me : ℕ) (v : View)
   none : unreleased_in from size log.parts ≡ 0
   none = unreleased_in-apart _ _ from size log.parts s.contiguous.parts (inl (le_refl _))
 
+  ranges : ranges_of log ++ range ∷ [] ≡ ranges_of after
+  ranges = append_assoc log.flushed (log.released ++ log.unreleased) (range ∷ [])
+      ∙ ap (λ l. log.flushed ++ l) (append_assoc log.released log.unreleased (range ∷ []))
+
+  laid : Laid key.start after.parts to
+  laid = laid-append _ _ _ log.parts (part ∷ []) s.contiguous.parts (refl, positive, whole)
+
   contiguous : HasContiguousReservations key.start key.ring to words.exposed words.durable after
   contiguous = record {
     flushed = s.contiguous.flushed;
     released = s.contiguous.released;
     unreleased = tiles-push _ _ _ _ log.unreleased range s.contiguous.unreleased refl positive quarter whole;
-    parts = laid-append _ _ _ log.parts (part ∷ []) s.contiguous.parts (refl, positive, whole);
+    parts = laid;
     remaining = all-append (CountsRemaining after.parts) log.unreleased (range ∷ [])
-        (tiles-within (CountsRemaining log.parts) (CountsRemaining after.parts) _ _ _ log.unreleased s.contiguous.unreleased s.contiguous.remaining (λ q counts least lo hi.
-        unreleased_in-append q.base q.size log.parts (part ∷ []) ∙ (ap (λ n. unreleased_in q.base q.size log.parts + n) (unreleased_in-apart from to q.base q.size (part ∷ []) (refl, positive, whole) (inr hi)) ∙ (add-zero _ ∙ counts))))
-        (unreleased_in-append from size log.parts (part ∷ []) ∙ (let here = inside-here from size entry (le_refl _) (omega (arith, positive)) in omega (arith, here, none)), tt);
+        (tiles-within (CountsRemaining log.parts)
+        (CountsRemaining after.parts) _ _ _ log.unreleased s.contiguous.unreleased s.contiguous.remaining (λ q counts least lo hi.
+        unreleased_in-append q.base q.size log.parts (part ∷ [])
+        ∙ (ap (λ n. unreleased_in q.base q.size log.parts + n)
+        (unreleased_in-apart from to q.base q.size (part ∷ []) (refl, positive, whole) (inr hi)) ∙ (add-zero _ ∙ counts)))) (
+          unreleased_in-append from size log.parts (part ∷ [])
+              ∙ (let here = inside-here from size entry (le_refl _) (omega (arith, positive)) in omega (arith, here, none)),
+          tt,
+        );
+    aligned = subst (AllByRecursion (EndsWithPart key.start after.parts)) ranges
+        (all-append (EndsWithPart key.start after.parts) (ranges_of log) (range ∷ [])
+        (all-weaker (EndsWithPart key.start log.parts) (EndsWithPart key.start after.parts) (ranges_of log)
+        (λ r. boundary-append part_size key.start (r.base + r.size) log.parts (part ∷ [])) s.contiguous.aligned)
+        (subst (IsBoundary part_size key.start after.parts) (sym whole) (laid-end _ _ after.parts laid), tt));
   }
 
-  ranges : ranges_of log ++ range ∷ [] ≡ ranges_of after
-  ranges = append_assoc log.flushed (log.released ++ log.unreleased) (range ∷ []) ∙ ap (λ l. log.flushed ++ l) (append_assoc log.released log.unreleased (range ∷ []))
+  still : (x : ℕ) → IsRangeBoundary key.start (ranges_of log) x → IsRangeBoundary key.start (ranges_of after) x
+  still x b = subst (λ l. IsRangeBoundary key.start l x) ranges (boundary-append range_size key.start x (ranges_of log) (range ∷ []) b)
 
-  still : (lsns : List ℕ) → AllByRecursion (Boundary key.start (ranges_of log)) lsns → AllByRecursion (Boundary key.start (ranges_of after)) lsns
-  still lsns = all-weaker (Boundary key.start (ranges_of log)) (Boundary key.start (ranges_of after)) lsns (λ x b. subst (λ l. Boundary key.start l x) ranges (boundary-append key.start x (ranges_of log) (range ∷ []) b))
+  stills : (lsns : List ℕ) → AllByRecursion (IsRangeBoundary key.start (ranges_of log)) lsns
+      → AllByRecursion (IsRangeBoundary key.start (ranges_of after)) lsns
+  stills lsns = all-weaker (IsRangeBoundary key.start (ranges_of log)) (IsRangeBoundary key.start (ranges_of after)) lsns still
+
+  -- a part with no unit changes nothing for the flusher's seat
+  sends : (z : View) → SendsIfFlusher key.start words.exposed words.durable log z → SendsIfFlusher key.start words.exposed words.durable after z
+  sends z old f = let o = old f in record {
+    sent_to = o.sent_to;
+    read_to = o.read_to;
+    loaded_seen = o.loaded_seen;
+    boundary = still z.sending.exposed o.boundary;
+    sent_agrees = all-append (AgreesFrom key.start z.sending.sent) log.parts (part ∷ []) o.sent_agrees ((λ i below _ _. absurd (omega arith)), tt);
+    read_agrees = all-append (AgreesFrom words.durable z.sending.read) log.parts (part ∷ []) o.read_agrees
+        ((λ i below _ _. absurd (omega arith)), tt);
+  }
 
   sound : IsSound key (record words { tail = to }) (set views me new) after
   sound = record {
     ordered = record {
       least_ring = s.ordered.least_ring;
       greatest_ring = s.ordered.greatest_ring;
-      durable_stands = s.ordered.durable_stands;
       within_ring = omega (arith, ring, may.within_ring, (s.seen me v at).durable_seen);
       within_log = may.within_log;
     };
-    seen = each_moves (λ _ z. HasSeenBoundaries key.start from words.exposed words.durable (ranges_of log) z.seen) (λ _ z. HasSeenBoundaries key.start to words.exposed words.durable (ranges_of after) z.seen) views me new s.seen
-        (let old = s.seen me v at in record { tail_seen = le_refl _; exposed_seen = old.exposed_seen; durable_seen = old.durable_seen; boundaries = (tail-boundary _ _ _ _ _ after contiguous, still v.seen.lsns old.boundaries) })
-        (λ _ z _ _ old. record { tail_seen = let before = old.tail_seen in let more = may.some_units in omega arith; exposed_seen = old.exposed_seen; durable_seen = old.durable_seen; boundaries = still z.seen.lsns old.boundaries });
+    seen = each_moves (λ _ z. HasSeenBoundaries key.start from words.exposed words.durable (ranges_of log) z.seen)
+        (λ _ z. HasSeenBoundaries key.start to words.exposed words.durable (ranges_of after) z.seen) views me new s.seen
+        (let old = s.seen me v at in
+        record {
+          tail_seen = le_refl _;
+          exposed_seen = old.exposed_seen;
+          durable_seen = old.durable_seen;
+          boundaries = (tail-boundary _ _ _ _ _ after contiguous, stills v.seen.lsns old.boundaries);
+        })
+        (λ _ z _ _ old. record {
+          tail_seen = let before = old.tail_seen in let more = may.some_units in omega arith;
+          exposed_seen = old.exposed_seen;
+          durable_seen = old.durable_seen;
+          boundaries = stills z.seen.lsns old.boundaries;
+        });
     contiguous = contiguous;
     filled = record {
       fits = all-append Fits log.parts (part ∷ []) s.filled.fits (omega arith, tt);
@@ -123,6 +167,11 @@ module _ (key : Start) (words : Words) (views : List View) (me : ℕ) (v : View)
     resting = each_set (λ _ z. RestsUnlessActive z) views me new s.resting (λ off. absurd (true≢false (sym (ap is_active may.rests.active) ∙ off)));
     entries = each_set (λ _ z. OwnsIfWorker z) views me new s.entries (s.entries me v at);
     roles = crew-same words.crew views me v new s.roles at refl;
+    sends = each_moves (λ _ z. SendsIfFlusher key.start words.exposed words.durable log z)
+        (λ _ z. SendsIfFlusher key.start words.exposed words.durable after z) views me new s.sends (sends v (s.sends me v at)) (λ _ z _ _. sends z);
+    stops = each_set (λ _ z. StoresStop words.stop z) views me new s.stops (s.stops me v at);
+    quiet = quiet-moves views me v new s.quiet at (λ _ _ _ h. h) (λ _ h. h);
+    looked = each_set (λ _ z. LookedIfQuiet words.exposed z) views me new s.looked (s.looked me v at);
   }
 
   pub tail-reserves : Leads key words (record words { tail = to }) views (set views me new) log (Some (Reserve me size))

@@ -1,14 +1,17 @@
 -- The roles of the seats and the count of the active ones.
-use Rattle.std.proofs.Common.{◌≡◌, ℕ, ◌+◌, cond, Bool, true, false, List, ◌++◌, map, set, None, sym, ap, ◌∙◌, subst, arith}
+use Rattle.std.proofs.Common.{◌≡◌, ℕ, ◌+◌, cond, Bool, true, false, true≢false, List, ◌++◌, map, set, None, sym, refl, ap, ◌∙◌, subst, arith}
 use mathlib.Core.Option.{some}
 use lib.ListN.{get_elem?}
 use Rattle.log_table.specs.declared.table.Start.{Start}
+use Rattle.log_table.specs.declared.view.Call.TheVariants.{Idle}
+use Rattle.log_table.specs.declared.view.Role.{Role}
+use Rattle.log_table.specs.declared.view.Role.TheVariants.{Flusher, Fresh, Active, Ended, Note, Spent}
 use Rattle.log_table.specs.declared.view.Standing.{Standing}
 use Rattle.log_table.specs.declared.view.View.{View}
 use Rattle.log_table.specs.Events.{reservation_of, stage_in, Leads}
 use Rattle.log_table.specs.Log.{Log, ranges_of, parts_of}
-use Rattle.log_table.specs.Sound.{HasSeenBoundaries, HasWorkingOwner, HasConstants, RestsUnlessActive, OwnsIfWorker, HasSoundRole, HasSoundRoles, HasSoundCrew, IsSound, is_active_view}
-use Rattle.log_table.specs.Views.{is_active, entries_in, claims_in}
+use Rattle.log_table.specs.Sound.{EachView, EachPair, HasSeenBoundaries, SendsIfFlusher, StoresStop, RestsIfQuiet, LookedIfQuiet, HasWorkingOwner, HasConstants, RestsUnlessActive, OwnsIfWorker, HasSoundRole, HasSoundRoles, HasSoundCrew, IsSound, is_active_view}
+use Rattle.log_table.specs.Views.{is_active, is_working, entries_in, claims_in}
 use Rattle.log_table.specs.Words.{Words}
 use Rattle.log_table.proofs.Showing.{hands_of-set_same}
 use Rattle.log_table.proofs.Viewing.{each_set, seats_set, seat_at, pairs_move, count-set}
@@ -26,10 +29,44 @@ crew-same crew views me v new s at same = record {
     counts : {a b : ℕ} {p q : Bool} → a + cond p 1 0 ≡ b + cond q 1 0 → q ≡ p → a ≡ b
     counts {a} {b} {p} {q} e is = let f : a + cond p 1 0 ≡ b + cond p 1 0 = e ∙ ap (λ (x : Bool). b + cond x 1 0) is in omega arith
 
+-- a seat that is quiet no less, and at work no more, than it was
+pub quiet-moves : (views : List View) (me : ℕ) (v new : View) → EachPair (λ _ y _ z. RestsIfQuiet y z) views
+    → get_elem? views me ≡ some v → ((j : ℕ) (z : View) → get_elem? views j ≡ some z → RestsIfQuiet v z → RestsIfQuiet new z)
+    → ((z : View) → RestsIfQuiet z v → RestsIfQuiet z new)
+    → EachPair (λ _ y _ z. RestsIfQuiet y z) (set views me new)
+quiet-moves views me v new all at first second = pairs_move (λ _ y _ z. RestsIfQuiet y z) views me v new at all
+    (second new (first me v at (all me v at me v at)))
+    (λ j z _ there. (first j z there (all me v at j z there), second z (all j z there me v at)))
+
+-- who has something under way is at work
+active-works : (role : Role) → is_working role ≡ false → is_active role ≡ false
+active-works Flusher off = refl
+active-works Fresh off = absurd (true≢false off)
+active-works Active off = absurd (true≢false off)
+active-works Ended off = refl
+active-works Note off = refl
+active-works Spent off = refl
+
+-- where a seat has something under way, the flusher's is not quiet
+pub busy-not_quiet : (key : Start) (words : Words) (views : List View) (me : ℕ) (v : View) (log : Log) → IsSound key words views log
+    → get_elem? views me ≡ some v → (v.call ≡ Idle → ⊥) → (j : ℕ) (z : View) → get_elem? views j ≡ some z → z.standing.role ≡ Flusher
+    → z.sending.quiet ≡ true → ⊥
+busy-not_quiet key words views me v log s at busy j z there flusher quiet =
+    busy (s.resting me v at (active-works v.standing.role (s.quiet j z there me v at flusher quiet)))
+
+-- the flusher's seat is the only one
+pub sole-flusher : (crew : ℕ) (views : List View) (me : ℕ) (v : View) → HasSoundCrew crew views → get_elem? views me ≡ some v
+    → v.standing.role ≡ Flusher → (j : ℕ) (z : View) → get_elem? views j ≡ some z → z.standing.role ≡ Flusher → j ≡ me
+sole-flusher crew views me v s at flusher j z there f = (s.each j z there).first f ∙ sym ((s.each me v at).first flusher)
+
 -- the seat's view and the crew change, but not what the seat owns or has under way
-module _ (key : Start) (words : Words) (crew : ℕ) (views : List View) (me : ℕ) (v new : View) (log : Log) (s : IsSound key words views log) (at : get_elem? views me ≡ some v) (call : new.call ≡ v.call) (entries : new.entries ≡ v.entries)
-    (sees : HasSeenBoundaries key.start words.tail words.exposed words.durable (ranges_of log) new.seen) (constants : HasConstants key new) (rests : RestsUnlessActive new) (owns : OwnsIfWorker new) (roles : HasSoundCrew crew (set views me new)) where
-  pub restands-sound : IsSound key (record words { crew = crew }) (set views me new) log
+module _ (key : Start) (words : Words) (stop crew : ℕ) (views : List View) (me : ℕ) (v new : View) (log : Log) (s : IsSound key words views log)
+    (at : get_elem? views me ≡ some v) (call : new.call ≡ v.call) (entries : new.entries ≡ v.entries)
+    (sees : HasSeenBoundaries key.start words.tail words.exposed words.durable (ranges_of log) new.seen) (constants : HasConstants key new)
+    (rests : RestsUnlessActive new) (owns : OwnsIfWorker new) (roles : HasSoundCrew crew (set views me new))
+    (sends : SendsIfFlusher key.start words.exposed words.durable log new) (stops : EachView (λ _ z. StoresStop stop z) (set views me new))
+    (quiet : EachPair (λ _ y _ z. RestsIfQuiet y z) (set views me new)) (looked : LookedIfQuiet words.exposed new) where
+  pub restands-sound : IsSound key (record words { stop = stop; crew = crew }) (set views me new) log
   restands-sound = record {
     ordered = s.ordered;
     seen = each_set (λ _ z. HasSeenBoundaries key.start words.tail words.exposed words.durable (ranges_of log) z.seen) views me new s.seen sees;
@@ -45,9 +82,13 @@ module _ (key : Start) (words : Words) (crew : ℕ) (views : List View) (me : �
     resting = each_set (λ _ z. RestsUnlessActive z) views me new s.resting rests;
     entries = each_set (λ _ z. OwnsIfWorker z) views me new s.entries owns;
     roles = roles;
+    sends = each_set (λ _ z. SendsIfFlusher key.start words.exposed words.durable log z) views me new s.sends sends;
+    stops = stops;
+    quiet = quiet;
+    looked = each_set (λ _ z. LookedIfQuiet words.exposed z) views me new s.looked looked;
   }
 
-  pub restands : Leads key words (record words { crew = crew }) views (set views me new) log None
+  pub restands : Leads key words (record words { stop = stop; crew = crew }) views (set views me new) log None
   restands = record {
     after = log;
     shows = λ i. record { start = key.start; ring = key.ring; reservations = map reservation_of log.parts; hands = hands_of-set_same 0 me views v new at (ap stage_in call) i; tail = words.tail; exposed = words.exposed; durable = words.durable };

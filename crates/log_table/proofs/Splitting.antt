@@ -1,5 +1,5 @@
 -- The flusher's seat makes a worker.
-use Rattle.std.proofs.Common.{◌≡◌, ◌≢◌, ◌⊎◌, inl, inr, ⊎_elim, ℕ, zero, suc, eqb, ◌||◌, ◌+◌, ◌<◌, cond, Bool, true, false, true≢false, List, [], ◌∷◌, ◌++◌, length, get_or, set, sym, refl, ap, ◌∙◌, subst, arith, length-set, eq-eqb, ne_eqb, eqb-true}
+use Rattle.std.proofs.Common.{◌≡◌, ◌≢◌, ⊎_elim, ℕ, eqb, ◌||◌, ◌+◌, ◌<◌, cond, Bool, true, false, true≢false, List, [], ◌∷◌, ◌++◌, set, sym, refl, ap, ◌∙◌, subst, arith, eq-eqb}
 use Rattle.std.specs.List.{list_any}
 use Rattle.std.proofs.lemmas.List.Sums.{sum_by_push}
 use mathlib.Core.Option.{some}
@@ -8,24 +8,14 @@ use Rattle.atomic_table.specs.Table.{Splits}
 use Rattle.log_table.specs.declared.table.Start.{Start}
 use Rattle.log_table.specs.declared.view.Role.TheVariants.{Flusher}
 use Rattle.log_table.specs.declared.view.View.{View}
-use Rattle.log_table.specs.Log.{Log, ranges_of}
+use Rattle.log_table.specs.Log.{Log}
 use Rattle.log_table.specs.May.{MaySplit}
-use Rattle.log_table.specs.Sound.{HasSeenBoundaries, HasWorkingOwner, HasConstants, RestsUnlessActive, OwnsIfWorker, HasSoundRole, HasSoundRoles, HasSoundCrew, IsSound, Knows, Lacks, Ruled, is_active_view}
-use Rattle.log_table.specs.Views.{is_worker, is_spent, nobody, hires, hired}
+use Rattle.log_table.specs.Sound.{StoresStop, RestsIfQuiet, HasSoundRole, HasSoundRoles, HasSoundCrew, IsSound, Knows, Lacks, Ruled, is_active_view}
+use Rattle.log_table.specs.Views.{is_worker, is_spent, hires, hired}
 use Rattle.log_table.specs.Words.{Words, words_of}
-use Rattle.log_table.proofs.Roles.{restands-sound}
+use Rattle.log_table.proofs.Adding.{adds}
+use Rattle.log_table.proofs.Roles.{quiet-moves, restands-sound}
 use Rattle.log_table.proofs.Viewing.{each_set, each_push, pairs_move, pairs_push, count-set}
-
--- a seat that was not made counts as nobody's, before and after one like it is made
-nobody-more : (views : List View) (new : View) (P : ℕ → View → Type 0) (j : ℕ) → P (length views) new → P j (get_or views j nobody) → P j (get_or (views ++ new ∷ []) j nobody)
-nobody-more [] new P zero fresh p = fresh
-nobody-more [] new P (suc j) fresh p = p
-nobody-more (x ∷ xs) new P zero fresh p = p
-nobody-more (x ∷ xs) new P (suc j) fresh p = nobody-more xs new (λ k. P (suc k)) j fresh p
-
-nobody-there : (views : List View) → get_or views (length views) nobody ≡ nobody
-nobody-there [] = refl
-nobody-there (x ∷ xs) = nobody-there xs
 
 pub or-right : (a b : Bool) → b ≡ true → (a || b) ≡ true
 or-right true b e = refl
@@ -68,7 +58,10 @@ module _ (key : Start) (words : Words) (views : List View) (me : ℕ) (v : View)
       same k e = omega arith
 
   hired-sound : IsSound key words (set views me boss) log
-  hired-sound = restands-sound key words words.crew views me v boss log s at refl refl (s.seen me v at) (s.constants me v at) (s.resting me v at) (s.entries me v at) crew-hires
+  hired-sound = restands-sound key words words.stop words.crew views me v boss log s at refl refl (s.seen me v at) (s.constants me v at)
+      (s.resting me v at) (s.entries me v at) crew-hires (s.sends me v at)
+      (each_set (λ _ z. StoresStop words.stop z) views me boss s.stops (s.stops me v at))
+      (quiet-moves views me v boss s.quiet at (λ _ _ _ _ _ q. absurd (true≢false (sym q))) (λ _ h. h)) (λ _ q. absurd (true≢false (sym q)))
 
   abbrev made : List View
   made = set views me boss
@@ -77,6 +70,13 @@ module _ (key : Start) (words : Words) (views : List View) (me : ℕ) (v : View)
   boss-knows : (j : ℕ) (z : View) → get_elem? made j ≡ some z → z.standing.role ≡ Flusher → Knows n z.standing.made
   boss-knows j z there f = ⊎_elim
       (λ (t : (j ≡ me) × (boss ≡ z)). subst (λ (y : View). Knows n y.standing.made) t.1 (ap (λ b. b || list_any (eqb n) v.standing.made) (eq-eqb n n refl)))
+      (λ (t : (j ≢ me) × (get_elem? views j ≡ some z)). absurd (t.0 ((s.roles.each j z t.1).first f ∙ sym first)))
+      (Rattle.atomic_table.proofs.Lists.at_set views me j boss z there)
+
+  -- and it is not quiet any more
+  boss-busy : (j : ℕ) (z : View) → get_elem? made j ≡ some z → z.standing.role ≡ Flusher → z.sending.quiet ≡ true → ⊥
+  boss-busy j z there f = ⊎_elim
+      (λ (t : (j ≡ me) × (boss ≡ z)). subst (λ (y : View). y.sending.quiet ≡ true → ⊥) t.1 (λ q. true≢false (sym q)))
       (λ (t : (j ≢ me) × (get_elem? views j ≡ some z)). absurd (t.0 ((s.roles.each j z t.1).first f ∙ sym first)))
       (Rattle.atomic_table.proofs.Lists.at_set views me j boss z there)
 
@@ -115,21 +115,11 @@ module _ (key : Start) (words : Words) (views : List View) (me : ℕ) (v : View)
       none k = omega arith
 
   pub splits : IsSound key words (made ++ worker ∷ []) log
-  splits = record {
-    ordered = s.ordered;
-    seen = each_push (λ _ z. HasSeenBoundaries key.start words.tail words.exposed words.durable (ranges_of log) z.seen) (λ _ z. HasSeenBoundaries key.start words.tail words.exposed words.durable (ranges_of log) z.seen) made worker hired-sound.seen
-        (let old = s.seen me v at in record { tail_seen = old.tail_seen; exposed_seen = old.exposed_seen; durable_seen = old.durable_seen; boundaries = old.boundaries }) (λ _ _ _ p. p);
-    contiguous = s.contiguous;
-    filled = s.filled;
-    below = s.below;
-    at_work = s.at_work;
-    owners = λ j. nobody-more made worker (HasWorkingOwner log.parts log.unreleased) j
-        (let none = subst (HasWorkingOwner log.parts log.unreleased (length made)) (nobody-there made) (hired-sound.owners (length made)) in record { owns = none.owns; owes = none.owes }) (hired-sound.owners j);
-    constants = each_push (λ _ z. HasConstants key z) (λ _ z. HasConstants key z) made worker hired-sound.constants (λ _. s.constants me v at (ap is_spent may.flusher)) (λ _ _ _ p. p);
-    resting = each_push (λ _ z. RestsUnlessActive z) (λ _ z. RestsUnlessActive z) made worker hired-sound.resting (λ _. refl) (λ _ _ _ p. p);
-    entries = each_push (λ _ z. OwnsIfWorker z) (λ _ z. OwnsIfWorker z) made worker hired-sound.entries (λ _. refl) (λ _ _ _ p. p);
-    roles = crew-splits;
-  }
+  splits = adds key words made log hired-sound worker refl refl (λ f. absurd (cc))
+      (let old = s.seen me v at in
+      record { tail_seen = old.tail_seen; exposed_seen = old.exposed_seen; durable_seen = old.durable_seen; boundaries = old.boundaries })
+      (λ _. s.constants me v at (ap is_spent may.flusher)) crew-splits (pairs_push (λ _ y _ z. RestsIfQuiet y z) made worker hired-sound.quiet
+      (λ f. absurd (cc)) (λ j z there. ((λ f. absurd (cc)), (λ f q. absurd (boss-busy j z there f q)))))
 
 pub split-allowed : (key : Start) (seat : ℕ) (v : View) (n : ℕ) → MaySplit n v → n < 4294967296 → Splits {S = Unit {0}} (Ruled key) seat v (hires n v) (hired n v)
 split-allowed key seat v n may small s ruled at = (ruled.0, (ruled.1.0, splits key (words_of key.ring s.words) s.views seat v n ruled.1.0 ruled.1.1 at may small))

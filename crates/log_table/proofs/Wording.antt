@@ -43,6 +43,7 @@ pub data Fits (size : ℕ) : Word → Type 0 where
   shared_tail : Fits size Tail
   shared_exposed : Fits size Exposed
   shared_durable : Fits size Durable
+  shared_stop : Fits size Stop
   shared_crew : Fits size Crew
   in_ring : (index : ℕ) → index < size → Fits size (Ring index)
 

@@ -4,6 +4,7 @@ pub mod Layout
 pub mod Log
 pub mod May
 pub mod Seats
+pub mod Sends
 pub mod Sound
 pub mod Views
 pub mod Words

@@ -1,6 +1,7 @@
 -- The reserved part of the log as lists that no word holds: its parts, each with its owner, and the reserved ranges.
 -- One seat's range is one part; a group's range will be as many parts as it has members.
-use Rattle.std.specs.Prelude.{◌≡◌, ◌==◌, ◌&&◌, ℕ, ◌+◌, ◌%◌, ◌<◌, ◌≤◌, if◌then◌else◌, nat_le, nat_lt, Bool, true, false, List, [], ◌∷◌, ◌++◌, length, slice_index}
+use Rattle.std.specs.Prelude.{◌≡◌, ◌==◌, ◌&&◌, ℕ, ◌+◌, ◌-◌, ◌%◌, ◌<◌, ◌≤◌, if◌then◌else◌, nat_le, nat_lt, Bool, true, false, List, [], ◌∷◌, ◌++◌, length, slice_index}
+use Rattle.lsn_space.specs.Tiling.{IsBoundary}
 use Rattle.log_table.specs.declared.view.Entry.{Entry}
 
 -- a run of units, the number of the seat that owns it, and whether that seat has released it
@@ -101,6 +102,23 @@ Laid from (part ∷ parts) to = (part.entry.start ≡ from) × (1 ≤ part.entry
 abbrev pub IsFull : Entry → Type 0
 IsFull entry = length entry.units ≡ entry.size
 
+-- the units of the entries, joined
+abbrev pub units_in : List Entry → List ℕ
+units_in [] = []
+units_in (entry ∷ entries) = entry.units ++ units_in entries
+
+-- where an entry begins or ends
+abbrev pub IsEntryBoundary : ℕ → List Entry → ℕ → Type 0
+IsEntryBoundary start entries at = IsBoundary (λ (entry : Entry). entry.size) start entries at
+
+-- where a range begins or ends
+abbrev pub IsRangeBoundary : ℕ → List Range → ℕ → Type 0
+IsRangeBoundary start ranges at = IsBoundary (λ (range : Range). range.size) start ranges at
+
+-- the range ends where a part does
+abbrev pub EndsWithPart : ℕ → List Part → Range → Type 0
+EndsWithPart start parts range = IsBoundary (λ (part : Part). part.entry.size) start parts (range.base + range.size)
+
 -- it has no more units than were reserved
 abbrev pub Fits : Part → Type 0
 Fits part = length part.entry.units ≤ part.entry.size
@@ -109,6 +127,11 @@ Fits part = length part.entry.units ≤ part.entry.size
 abbrev pub StandsInRing : ℕ → ℕ → (ℕ → ℕ) → Part → Type 0
 StandsInRing size durable ring part = (i : ℕ) → i < length part.entry.units → durable ≤ part.entry.start + i
     → ring ((part.entry.start + i) % size) ≡ slice_index part.entry.units i
+
+-- each filled unit at an LSN that the list of units covers, which begins at `base`, is the list's
+abbrev pub AgreesFrom : ℕ → List ℕ → Part → Type 0
+AgreesFrom base units part = (i : ℕ) → i < length part.entry.units → base ≤ part.entry.start + i → part.entry.start + i < base + length units
+    → slice_index units (part.entry.start + i - base) ≡ slice_index part.entry.units i
 
 -- a part that is released is full
 abbrev pub IsFullIfReleased : Part → Type 0

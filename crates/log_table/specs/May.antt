@@ -5,10 +5,11 @@ use lib.Dec.{eqb}
 use Rattle.lsn_space.specs.declared.lsn.TheConstants.{LAST}
 use Rattle.log_table.specs.declared.view.Entry.{Entry}
 use Rattle.log_table.specs.declared.view.Call.TheVariants.{Idle, Filling}
-use Rattle.log_table.specs.declared.view.Role.TheVariants.{Flusher, Active, Ended}
+use Rattle.log_table.specs.declared.view.Role.TheVariants.{Flusher, Active}
 use Rattle.log_table.specs.declared.view.Seen.{Seen}
 use Rattle.log_table.specs.declared.view.View.{View}
 use Rattle.log_table.specs.Log.{IsFull}
+use Rattle.log_table.specs.Views.{has_ended, read_to}
 
 -- the worker is enrolled and has no call under way
 pub record IsAtRest (view : View) : Type 0 where
@@ -46,15 +47,27 @@ pub record MayRelease (to : ℕ) (view : View) : Type 0 where
   pub turn : view.seen.exposed ≡ entry.start
   pub end : to ≡ entry.start + entry.size
 
+-- the unit at this LSN is the next to be read, and below exposed as the flusher's seat loaded it last
+pub record MayRead (at : ℕ) (view : View) : Type 0 where
+  pub flusher : view.standing.role ≡ Flusher
+  pub next : at ≡ read_to view
+  pub below : at < view.sending.exposed
+
+-- all units up to exposed, as the flusher's seat loaded it last, were read
+pub record MaySend (to : ℕ) (view : View) : Type 0 where
+  pub flusher : view.standing.role ≡ Flusher
+  pub read : to ≡ read_to view
+  pub all : to ≡ view.sending.exposed
+
 -- the flusher's seat may make a worker of this number
 pub record MaySplit (worker : ℕ) (view : View) : Type 0 where
   pub flusher : view.standing.role ≡ Flusher
   pub new : list_any (eqb worker) view.standing.made ≡ false
 
--- the flusher's seat may take in the seat of a worker that has ended
+-- the flusher's seat may take in the seat of a worker that has ended, and a note
 pub record MayMerge (view other : View) : Type 0 where
   pub flusher : view.standing.role ≡ Flusher
-  pub ended : other.standing.role ≡ Ended
+  pub ended : has_ended other.standing.role ≡ true
 
 -- all workers that were made have ended and were merged
 pub record MayClose (view : View) : Type 0 where

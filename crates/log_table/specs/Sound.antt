@@ -6,7 +6,6 @@ use lib.Dec.{eqb}
 use lib.ListN.{get_elem?}
 use Rattle.atomic_table.specs.Table.{State}
 use Rattle.lsn_space.specs.declared.lsn.TheConstants.{LAST}
-use Rattle.lsn_space.specs.Tiling.{IsBoundary}
 use Rattle.log_table.specs.declared.table.Start.{Start}
 use Rattle.log_table.specs.declared.view.Call.TheVariants.{Idle}
 use Rattle.log_table.specs.declared.view.Role.TheVariants.{Flusher, Fresh}
@@ -14,8 +13,8 @@ use Rattle.log_table.specs.declared.view.Seen.{Seen}
 use Rattle.log_table.specs.declared.view.Standing.{Standing}
 use Rattle.log_table.specs.declared.view.View.{View}
 use Rattle.log_table.specs.Layout.{word_count}
-use Rattle.log_table.specs.Log.{Part, Range, Log, ranges_of, own, parts_of, owed, Tiles, Laid, Fits, StandsInRing, IsFullIfReleased, IsReleasedBelow, IsReleased, IsOwed, CountsRemaining}
-use Rattle.log_table.specs.Views.{is_active, is_worker, is_spent, may_own, constants_of, nobody, entries_in, claims_in}
+use Rattle.log_table.specs.Log.{Part, Range, Log, ranges_of, own, parts_of, owed, Tiles, Laid, Fits, StandsInRing, AgreesFrom, IsRangeBoundary, EndsWithPart, IsFullIfReleased, IsReleasedBelow, IsReleased, IsOwed, CountsRemaining}
+use Rattle.log_table.specs.Views.{is_active, is_worker, is_working, is_spent, may_own, constants_of, nobody, entries_in, claims_in}
 use Rattle.log_table.specs.Words.{Words, words_of}
 
 -- each seat that was made, by its number, has a view for which this holds
@@ -30,11 +29,10 @@ EachSeat P views = (seat : ℕ) → P seat (get_or views seat nobody)
 abbrev pub EachPair : (ℕ → View → ℕ → View → Type 0) → List View → Type 0
 EachPair R views = EachView (λ seat view. EachView (R seat view) views) views
 
--- durable stands where the log started; the tail is in the log, and at most a ring above durable
-pub record HasOrderedLsns (start ring tail durable : ℕ) : Type 0 where
+-- the tail is in the log, and at most a ring above durable
+pub record HasOrderedLsns (ring tail durable : ℕ) : Type 0 where
   pub least_ring : 1024 ≤ ring
   pub greatest_ring : ring ≤ 1048576
-  pub durable_stands : durable ≡ start
   pub within_ring : tail ≤ durable + ring
   pub within_log : tail ≤ LAST
 
@@ -43,15 +41,17 @@ pub record HasSeenBoundaries (start tail exposed durable : ℕ) (ranges : List R
   pub tail_seen : seen.tail ≤ tail
   pub exposed_seen : seen.exposed ≤ exposed
   pub durable_seen : seen.durable ≤ durable
-  pub boundaries : AllByRecursion (IsBoundary (λ (r : Range). r.size) start ranges) seen.lsns
+  pub boundaries : AllByRecursion (IsRangeBoundary start ranges) seen.lsns
 
--- the reservations follow one another from the start to the tail, and durable and exposed lie between two of them
+-- The reservations follow one another from the start to the tail, and so do the parts, one or more in each reservation. Durable and
+-- exposed lie between two reservations, and durable is not above exposed.
 pub record HasContiguousReservations (start ring tail exposed durable : ℕ) (log : Log) : Type 0 where
   pub flushed : Tiles (ring / 4) start log.flushed durable
   pub released : Tiles (ring / 4) durable log.released exposed
   pub unreleased : Tiles (ring / 4) exposed log.unreleased tail
   pub parts : Laid start log.parts tail
   pub remaining : AllByRecursion (CountsRemaining log.parts) log.unreleased
+  pub aligned : AllByRecursion (EndsWithPart start log.parts) (ranges_of log)
 
 -- a filled unit at or above durable stands in the ring
 pub record KeepsFilledUnits (size durable : ℕ) (ring : ℕ → ℕ) (parts : List Part) : Type 0 where
@@ -63,6 +63,31 @@ pub record IsFilledBelowExposed (exposed : ℕ) (log : Log) : Type 0 where
   pub full : AllByRecursion IsFullIfReleased log.parts
   pub below : AllByRecursion (IsReleasedBelow exposed) log.parts
   pub ranges : AllByRecursion IsReleased (log.flushed ++ log.released)
+
+-- The units sent are the log from the start to durable. Those read follow them, up to exposed at most as it was loaded last, which is a
+-- boundary of reservations.
+pub record SendsInsertedUnits (start exposed durable : ℕ) (log : Log) (loaded : ℕ) (sent read : List ℕ) : Type 0 where
+  pub sent_to : start + length sent ≡ durable
+  pub read_to : durable + length read ≤ loaded
+  pub loaded_seen : loaded ≤ exposed
+  pub boundary : IsRangeBoundary start (ranges_of log) loaded
+  pub sent_agrees : AllByRecursion (AgreesFrom start sent) log.parts
+  pub read_agrees : AllByRecursion (AgreesFrom durable read) log.parts
+
+-- the flusher's seat alone sends, and stop is what it stored
+abbrev pub SendsIfFlusher : ℕ → ℕ → ℕ → Log → View → Type 0
+SendsIfFlusher start exposed durable log view =
+    view.standing.role ≡ Flusher → SendsInsertedUnits start exposed durable log view.sending.exposed view.sending.sent view.sending.read
+
+abbrev pub StoresStop : ℕ → View → Type 0
+StoresStop stop view = view.standing.role ≡ Flusher → view.sending.stop ≡ stop
+
+-- where the flusher's seat is quiet, no worker is at work, and exposed as it loaded it after that is exposed
+abbrev pub RestsIfQuiet : View → View → Type 0
+RestsIfQuiet view other = view.standing.role ≡ Flusher → view.sending.quiet ≡ true → is_working other.standing.role ≡ false
+
+abbrev pub LookedIfQuiet : ℕ → View → Type 0
+LookedIfQuiet exposed view = view.standing.role ≡ Flusher → view.sending.quiet ≡ true → view.sending.looked ≡ true → view.sending.exposed ≡ exposed
 
 -- the log has of the seat its entries, which are released, and what its call has reserved
 pub record HasWorkingOwner (parts : List Part) (unreleased : List Range) (seat : ℕ) (view : View) : Type 0 where
@@ -112,7 +137,7 @@ pub record HasSoundCrew (crew : ℕ) (views : List View) : Type 0 where
 
 -- the rule: words, views and log of a table that was made with this key go together
 pub record IsSound (key : Start) (words : Words) (views : List View) (log : Log) : Type 0 where
-  pub ordered : HasOrderedLsns key.start key.ring words.tail words.durable
+  pub ordered : HasOrderedLsns key.ring words.tail words.durable
   pub seen : EachView (λ _ view. HasSeenBoundaries key.start words.tail words.exposed words.durable (ranges_of log) view.seen) views
   pub contiguous : HasContiguousReservations key.start key.ring words.tail words.exposed words.durable log
   pub filled : KeepsFilledUnits key.ring words.durable words.ring log.parts
@@ -123,6 +148,10 @@ pub record IsSound (key : Start) (words : Words) (views : List View) (log : Log)
   pub resting : EachView (λ _ view. RestsUnlessActive view) views
   pub entries : EachView (λ _ view. OwnsIfWorker view) views
   pub roles : HasSoundCrew words.crew views
+  pub sends : EachView (λ _ view. SendsIfFlusher key.start words.exposed words.durable log view) views
+  pub stops : EachView (λ _ view. StoresStop words.stop view) views
+  pub quiet : EachPair (λ _ view _ other. RestsIfQuiet view other) views
+  pub looked : EachView (λ _ view. LookedIfQuiet words.exposed view) views
 
 -- the table has its words, and some log goes with them and with the views
 abbrev pub Ruled : Start → State (Unit {0}) View → Type 0

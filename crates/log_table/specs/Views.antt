@@ -1,5 +1,7 @@
 -- The view of a new seat, and how each kind of step changes the view of its seat.
-use Rattle.std.specs.Prelude.{◌==◌, ℕ, ◌+◌, ◌-◌, if◌then◌else◌, nat_lt, max, Bool, true, false, List, [], ◌∷◌, ◌++◌, length}
+use Rattle.std.specs.Prelude.{◌==◌, ◌&&◌, ℕ, ◌+◌, ◌-◌, if◌then◌else◌, nat_lt, max, Bool, true, false, List, [], ◌∷◌, ◌++◌, length}
+use Rattle.std.specs.List.{list_all, list_any}
+use lib.Dec.{eqb}
 use Rattle.log_table.specs.declared.table.Start.{Start}
 use Rattle.log_table.specs.declared.view.Entry.{Entry}
 use Rattle.log_table.specs.declared.view.Call.{Call}
@@ -9,6 +11,7 @@ use Rattle.log_table.specs.declared.view.Role.TheVariants.{Flusher, Fresh, Activ
 use Rattle.log_table.specs.declared.view.Constants.{Constants}
 use Rattle.log_table.specs.declared.view.Standing.{Standing}
 use Rattle.log_table.specs.declared.view.Seen.{Seen}
+use Rattle.log_table.specs.declared.view.Sending.{Sending}
 use Rattle.log_table.specs.declared.view.View.{View}
 use Rattle.log_table.specs.Log.{Claim}
 
@@ -27,6 +30,24 @@ is_worker Active = true
 is_worker Ended = true
 is_worker Note = false
 is_worker Spent = false
+
+-- the worker may still step, or become one that may
+abbrev pub is_working : Role → Bool
+is_working Flusher = false
+is_working Fresh = true
+is_working Active = true
+is_working Ended = false
+is_working Note = false
+is_working Spent = false
+
+-- the seat may be merged into the flusher's
+abbrev pub has_ended : Role → Bool
+has_ended Flusher = false
+has_ended Fresh = false
+has_ended Active = false
+has_ended Ended = true
+has_ended Note = true
+has_ended Spent = false
 
 abbrev pub is_spent : Role → Bool
 is_spent Flusher = false
@@ -50,7 +71,22 @@ constants_of key = record { start = key.start; ring = key.ring; slots = key.slot
 
 -- nothing but the LSN at which the log stood is seen
 abbrev pub seen_at : ℕ → Seen
-seen_at lsn = record { steps = 0; tail = lsn; tail_step = 0; exposed = lsn; exposed_step = 0; durable = lsn; durable_step = 0; lsns = lsn ∷ [] }
+seen_at lsn = record {
+  steps = 0;
+  tail = lsn;
+  tail_step = 0;
+  exposed = lsn;
+  exposed_step = 0;
+  durable = lsn;
+  durable_step = 0;
+  stop = 0;
+  crew = 0;
+  lsns = lsn ∷ [];
+}
+
+-- nothing is sent or read
+abbrev pub sending_from : ℕ → Sending
+sending_from lsn = record { sent = []; read = []; exposed = lsn; stop = 0; quiet = false; looked = false }
 
 -- the view of the table's first seat
 abbrev pub flusher : Start → View
@@ -61,7 +97,7 @@ flusher key = record {
   entries = [];
   call = Idle;
   contended = false;
-  sending = record { sent = []; read = []; quiet = false; looked = false };
+  sending = sending_from key.start;
   books = record {};
 }
 
@@ -70,11 +106,11 @@ abbrev pub nobody : View
 nobody = record {
   constants = record { start = 0; ring = 0; slots = 0; accounts = 0 };
   standing = record { role = Spent; worker = 0; made = []; enrolled = []; merged = [] };
-  seen = record { steps = 0; tail = 0; tail_step = 0; exposed = 0; exposed_step = 0; durable = 0; durable_step = 0; lsns = [] };
+  seen = record (seen_at 0) { lsns = [] };
   entries = [];
   call = Idle;
   contended = false;
-  sending = record { sent = []; read = []; quiet = false; looked = false };
+  sending = sending_from 0;
   books = record {};
 }
 
@@ -118,11 +154,48 @@ saw_tail n view = record view { seen = seen_tail n view.seen }
 
 -- after a load of exposed
 abbrev pub saw_exposed : ℕ → View → View
-saw_exposed n view = record view { seen = seen_exposed n view.seen }
+saw_exposed n view = record view { seen = seen_exposed n view.seen; sending = record view.sending { exposed = n; looked = true } }
 
 -- after a load of durable
 abbrev pub saw_durable : ℕ → View → View
 saw_durable n view = record view { seen = seen_durable n view.seen }
+
+-- after a load of stop
+abbrev pub saw_stop : ℕ → View → View
+saw_stop n view = record view { seen = record view.seen { steps = view.seen.steps + 1; stop = n } }
+
+-- every worker known as made is known as enrolled
+abbrev pub knows_all_enrolled : Standing → Bool
+knows_all_enrolled standing = list_all (λ worker. list_any (eqb worker) standing.enrolled) standing.made
+
+-- after a load of crew; a crew of 0 tells that nobody is at work any more, where all are known to have begun
+abbrev pub saw_crew : ℕ → View → View
+saw_crew n view = record view {
+  seen = record view.seen { steps = view.seen.steps + 1; crew = n };
+  sending = record view.sending { quiet = n == 0 && knows_all_enrolled view.standing; looked = false };
+}
+
+-- where the units sent end, which is durable, and where those read behind them do
+abbrev pub sent_to : View → ℕ
+sent_to view = view.constants.start + length view.sending.sent
+
+abbrev pub read_to : View → ℕ
+read_to view = sent_to view + length view.sending.read
+
+-- after a load of the next unit from the ring
+abbrev pub has_read : ℕ → View → View
+has_read unit view = record view { seen = counted view.seen; sending = record view.sending { read = view.sending.read ++ unit ∷ [] } }
+
+-- after a store of durable; the new value counts as seen
+abbrev pub has_sent : ℕ → View → View
+has_sent to view = record view {
+  seen = seen_durable to view.seen;
+  sending = record view.sending { sent = view.sending.sent ++ view.sending.read; read = [] };
+}
+
+-- after a store of stop
+abbrev pub has_stopped : ℕ → View → View
+has_stopped word view = record view { seen = counted view.seen; sending = record view.sending { stop = word } }
 
 -- after an exchange of the tail that was made; the new tail counts as seen
 abbrev pub reserved : ℕ → ℕ → View → View
@@ -169,7 +242,20 @@ hired worker view = record {
   entries = [];
   call = Idle;
   contended = false;
-  sending = record { sent = []; read = []; quiet = false; looked = false };
+  sending = sending_from 0;
+  books = record {};
+}
+
+-- the view of a note: it knows what the seat knows that made it, and owns nothing
+abbrev pub noted : View → View
+noted view = record {
+  constants = view.constants;
+  standing = record view.standing { role = Note };
+  seen = view.seen;
+  entries = [];
+  call = Idle;
+  contended = false;
+  sending = sending_from 0;
   books = record {};
 }
 
@@ -187,10 +273,13 @@ merged_entries entries (other ∷ others) = inserted other (merged_entries entri
 abbrev pub merged_seen : Seen → Seen → Seen
 merged_seen seen other = record seen { tail = max seen.tail other.tail; exposed = max seen.exposed other.exposed; durable = max seen.durable other.durable; lsns = seen.lsns ++ other.lsns }
 
--- the standing of the flusher's seat after it took in a worker's
+-- the standing of the flusher's seat after it took in a worker's or a note, which leaves its worker unmerged
 abbrev pub merged_standing : Standing → Standing → Standing
-merged_standing standing other = record standing { enrolled = standing.enrolled ++ other.enrolled; merged = other.worker ∷ standing.merged }
+merged_standing standing other = record standing {
+  enrolled = standing.enrolled ++ other.enrolled;
+  merged = if is_worker other.role then other.worker ∷ standing.merged else standing.merged;
+}
 
--- the flusher's view after it took in a worker's: the entries, jobs and knowledge of both
+-- the flusher's view after it took in a worker's or a note: the entries, jobs and knowledge of both
 abbrev pub takes_in : View → View → View
 takes_in view other = record view { standing = merged_standing view.standing other.standing; seen = merged_seen view.seen other.seen; entries = merged_entries view.entries other.entries }

@@ -19,9 +19,10 @@ pub(crate) struct LoadExposed;
 impl Play<(), View> for LoadExposed {
     ghost use Rattle.std.specs.Prelude.{◌≡◌, ◌≤◌};
     ghost use Rattle.lsn_space.specs.declared.lsn.TheConstants.{LAST};
+    ghost use Rattle.log_table.specs.Sends.{IsExposedToFlusher};
     ghost use Rattle.log_table.specs.Views.{saw_exposed};
 
-    ghost then = { λ st old n new. (new ≡ (saw_exposed n old.0, old.1)) × ((old.0.seen.exposed ≤ n) × (n ≤ LAST)) };
+    ghost then = { λ st old n new. (new ≡ (saw_exposed n old.0, old.1)) × ((old.0.seen.exposed ≤ n) × (n ≤ LAST) × IsExposedToFlusher old.0 n) };
 }
 
 pub(crate) struct LoadDurable;
@@ -29,9 +30,10 @@ pub(crate) struct LoadDurable;
 impl Play<(), View> for LoadDurable {
     ghost use Rattle.std.specs.Prelude.{◌≡◌, ◌≤◌};
     ghost use Rattle.lsn_space.specs.declared.lsn.TheConstants.{LAST};
+    ghost use Rattle.log_table.specs.Sends.{IsDurableToFlusher};
     ghost use Rattle.log_table.specs.Views.{saw_durable};
 
-    ghost then = { λ st old n new. (new ≡ (saw_durable n old.0, old.1)) × ((old.0.seen.durable ≤ n) × (n ≤ LAST)) };
+    ghost then = { λ st old n new. (new ≡ (saw_durable n old.0, old.1)) × ((old.0.seen.durable ≤ n) × (n ≤ LAST) × IsDurableToFlusher old.0 n) };
 }
 
 pub(crate) struct ExchangeTail;
@@ -80,6 +82,52 @@ impl Play<(), View> for Leave {
     ghost then = { λ st old n new. (new ≡ (retired old.0, old.1)) × Unit {0} };
 }
 
+pub(crate) struct LoadRing;
+
+impl Play<(), View> for LoadRing {
+    ghost use Rattle.std.specs.Prelude.{◌≡◌};
+    ghost use Rattle.log_table.specs.Sends.{ReadsWholeEntries};
+    ghost use Rattle.log_table.specs.Views.{has_read};
+
+    ghost then = { λ st old n new. (new ≡ (has_read n old.0, old.1)) × ReadsWholeEntries (has_read n old.0) };
+}
+
+pub(crate) struct StoreDurable;
+
+impl Play<(), View> for StoreDurable {
+    ghost use Rattle.std.specs.Prelude.{◌≡◌};
+    ghost use Rattle.log_table.specs.Views.{has_sent};
+
+    ghost then = { λ st old n new. (new ≡ (has_sent st.first old.0, old.1)) × Unit {0} };
+}
+
+pub(crate) struct StoreStop;
+
+impl Play<(), View> for StoreStop {
+    ghost use Rattle.std.specs.Prelude.{◌≡◌};
+    ghost use Rattle.log_table.specs.Views.{has_stopped};
+
+    ghost then = { λ st old n new. (new ≡ (has_stopped st.first old.0, old.1)) × Unit {0} };
+}
+
+pub(crate) struct LoadStop;
+
+impl Play<(), View> for LoadStop {
+    ghost use Rattle.std.specs.Prelude.{◌≡◌};
+    ghost use Rattle.log_table.specs.Views.{saw_stop};
+
+    ghost then = { λ st old n new. (new ≡ (saw_stop n old.0, old.1)) × Unit {0} };
+}
+
+pub(crate) struct LoadCrew;
+
+impl Play<(), View> for LoadCrew {
+    ghost use Rattle.std.specs.Prelude.{◌≡◌};
+    ghost use Rattle.log_table.specs.Views.{saw_crew};
+
+    ghost then = { λ st old n new. (new ≡ (saw_crew n old.0, old.1)) × Unit {0} };
+}
+
 /// The number of a worker.
 pub trait Number {
     ghost use Rattle.std.specs.Prelude.{ℕ};
@@ -101,6 +149,16 @@ impl<N: Number> Split<View> for Hire<N> {
     ghost left = { hires N.number };
 
     ghost right = { hired N.number };
+}
+
+pub(crate) struct MakeNote;
+
+impl Split<View> for MakeNote {
+    ghost use Rattle.log_table.specs.Views.{noted};
+
+    ghost left = { λ view. view };
+
+    ghost right = { noted };
 }
 
 pub(crate) struct TakeIn;

@@ -1,11 +1,11 @@
 //! Seats are made, and taken in again.
-ghost use Rattle.std.specs.Prelude.{◌≡◌, ◌≤◌, ◌^◌, ℕ, [], IfOk};
+ghost use Rattle.std.specs.Prelude.{◌≡◌, ◌≤◌, ◌^◌, ℕ, [], IfOk, false};
 ghost use Rattle.log_table.specs.May.{MaySplit, MayMerge};
 ghost use Rattle.log_table.specs.Seats.{IsOf, Becomes, view_of};
-ghost use Rattle.log_table.specs.Views.{flusher, hires, hired, takes_in};
+ghost use Rattle.log_table.specs.Views.{flusher, hires, hired, is_spent, noted, takes_in};
 
 use crate::layout::{DURABLE, EXPOSED, RING, TAIL};
-use crate::plays::{Hire, Number, TakeIn};
+use crate::plays::{Hire, MakeNote, Number, TakeIn};
 use crate::table::{LogTable, Seat, Start};
 use atomic_table::Table;
 use lsn_space::NoMemory;
@@ -64,8 +64,24 @@ impl LogTable {
         split_as::<Brand>(self, seat, worker)
     }
 
-    /// The flusher's seat takes in the seat of a worker that has ended: the entries and the knowledge
-    /// of both.
+    /// A note: a seat that knows what this one knows, and owns no entries. Merged into the flusher's
+    /// seat, it teaches that seat that the worker is enrolled, where it was when the note was made.
+    pub fn note(&self, seat: &mut Seat) -> Seat
+        requires seat { IsOf self.now seat.old }
+        requires unspent { is_spent (view_of seat.old).standing.role ≡ false }
+        ensures old { Becomes seat.old seat.new (view_of seat.old) }
+        ensures new { IsOf self.now result }
+        ensures view { view_of result ≡ noted (view_of seat.old) }
+    {
+        let base = self.table.shared.split_seat::<MakeNote>(&mut seat.base);
+        Seat {
+            base,
+            worker: seat.worker,
+        }
+    }
+
+    /// The flusher's seat takes in the seat of a worker that has ended, or a note: the entries and the
+    /// knowledge of both.
     pub fn merge(&self, seat: &mut Seat, other: Seat)
         requires seat { IsOf self.now seat.old }
         requires other { IsOf self.now other }

@@ -3,4 +3,5 @@ mod crew;
 mod durable;
 mod exposed;
 mod ring;
+mod stop;
 mod tail;

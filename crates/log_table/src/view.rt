@@ -51,8 +51,8 @@ pub struct Standing {
     pub merged: LinkedList<u64>,
 }
 
-/// The last value seen in each word, and at which of the seat's steps; every LSN that was seen,
-/// newest first.
+/// The last value seen in each word, and of the LSNs at which of the seat's steps; every LSN that was
+/// seen, newest first.
 pub struct Seen {
     pub steps: u64,
     pub tail: u64,
@@ -61,14 +61,19 @@ pub struct Seen {
     pub exposed_step: u64,
     pub durable: u64,
     pub durable_step: u64,
+    pub stop: u64,
+    pub crew: u64,
     pub lsns: LinkedList<u64>,
 }
 
-/// What the flusher sent to the disk and read for it, whether it saw that nobody is at work any more,
-/// and whether it looked at the released LSN since.
+/// The flusher's work: the units sent to the disk and those read behind them, exposed as it loaded it
+/// last, the stop word that it stored, whether it saw that nobody is at work any more, and whether it
+/// loaded exposed since.
 pub struct Sending {
     pub sent: LinkedList<u64>,
     pub read: LinkedList<u64>,
+    pub exposed: u64,
+    pub stop: u64,
     pub quiet: bool,
     pub looked: bool,
 }

@@ -5,10 +5,10 @@ ghost use Rattle.log_table.specs.Events.{IsStep};
 ghost use Rattle.log_table.specs.Layout.{Crew};
 ghost use Rattle.log_table.specs.May.{IsAtRest};
 ghost use Rattle.log_table.specs.Seats.{IsOf, Becomes, view_of, number_of, key_of};
-ghost use Rattle.log_table.specs.Views.{enrolled, retired};
+ghost use Rattle.log_table.specs.Views.{enrolled, retired, saw_crew};
 
 use crate::layout::CREW;
-use crate::plays::{Enroll, Leave};
+use crate::plays::{Enroll, Leave, LoadCrew};
 use crate::table::{LogTable, Seat};
 
 impl LogTable {
@@ -34,5 +34,15 @@ impl LogTable {
         self.table
             .shared
             .fetch_sub::<Leave>(&mut seat.base, CREW, 1);
+    }
+
+    /// The number of active workers. Where it is 0 and the seat knows that every worker made was
+    /// enrolled, its view is quiet: none will ever be at work again, but those made later.
+    pub fn load_crew(&self, seat: &mut Seat) -> u64
+        requires { IsOf self.now seat.old }
+        ensures view { Becomes seat.old seat.new (saw_crew result (view_of seat.old)) }
+        ensures event { IsStep (key_of self.now) (number_of seat.old) Crew result result (view_of seat.old) (saw_crew result (view_of seat.old)) None }
+    {
+        self.table.shared.load::<LoadCrew>(&mut seat.base, CREW)
     }
 }

@@ -1,12 +1,15 @@
 //! Durable: everything below is on the disk.
-ghost use Rattle.std.specs.Prelude.{◌≡◌, ◌≤◌, None};
+ghost use Rattle.std.specs.Prelude.{◌≡◌, ◌≤◌, None, Some, ℕ};
+ghost use Rattle.ring_core.specs.declared.event.RingEvent.TheVariants.{Flushed};
 ghost use Rattle.log_table.specs.Events.{IsStep};
 ghost use Rattle.log_table.specs.Layout.{Durable};
+ghost use Rattle.log_table.specs.May.{MaySend};
 ghost use Rattle.log_table.specs.Seats.{IsOf, Becomes, view_of, number_of, key_of};
-ghost use Rattle.log_table.specs.Views.{saw_durable};
+ghost use Rattle.log_table.specs.Sends.{IsDurableToFlusher};
+ghost use Rattle.log_table.specs.Views.{saw_durable, has_sent};
 
 use crate::layout::DURABLE;
-use crate::plays::LoadDurable;
+use crate::plays::{LoadDurable, StoreDurable};
 use crate::table::{LogTable, Seat};
 use lsn_space::Lsn;
 
@@ -15,6 +18,7 @@ impl LogTable {
         requires { IsOf self.now seat.old }
         ensures view { Becomes seat.old seat.new (saw_durable result (view_of seat.old)) }
         ensures grows { (view_of seat.old).seen.durable ≤ result }
+        ensures flusher { IsDurableToFlusher (view_of seat.old) result }
         ensures event { IsStep (key_of self.now) (number_of seat.old) Durable result result (view_of seat.old) (saw_durable result (view_of seat.old)) None }
     {
         Lsn::new(
@@ -22,5 +26,18 @@ impl LogTable {
                 .shared
                 .load::<LoadDurable>(&mut seat.base, DURABLE) as u32,
         )
+    }
+
+    /// Tells that all units read are on the disk, which are all up to exposed as the flusher's seat
+    /// loaded it last.
+    pub fn store_durable(&self, seat: &mut Seat, to: Lsn)
+        requires seat { IsOf self.now seat.old }
+        requires next { MaySend to (view_of seat.old) }
+        ensures view { Becomes seat.old seat.new (has_sent to (view_of seat.old)) }
+        ensures event { (found : ℕ) → IsStep (key_of self.now) (number_of seat.old) Durable found to (view_of seat.old) (has_sent to (view_of seat.old)) (Some (Flushed to)) }
+    {
+        self.table
+            .shared
+            .store::<StoreDurable>(&mut seat.base, DURABLE, to.units() as u64);
     }
 }

@@ -5,6 +5,7 @@ ghost use Rattle.log_table.specs.Events.{IsStep};
 ghost use Rattle.log_table.specs.Layout.{Exposed};
 ghost use Rattle.log_table.specs.May.{MayRelease};
 ghost use Rattle.log_table.specs.Seats.{IsOf, Becomes, view_of, number_of, key_of};
+ghost use Rattle.log_table.specs.Sends.{IsExposedToFlusher};
 ghost use Rattle.log_table.specs.Views.{saw_exposed, released};
 
 use crate::layout::EXPOSED;
@@ -17,6 +18,7 @@ impl LogTable {
         requires { IsOf self.now seat.old }
         ensures view { Becomes seat.old seat.new (saw_exposed result (view_of seat.old)) }
         ensures grows { (view_of seat.old).seen.exposed ≤ result }
+        ensures flusher { IsExposedToFlusher (view_of seat.old) result }
         ensures event { IsStep (key_of self.now) (number_of seat.old) Exposed result result (view_of seat.old) (saw_exposed result (view_of seat.old)) None }
     {
         Lsn::new(

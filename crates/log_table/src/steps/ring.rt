@@ -1,14 +1,15 @@
 //! The ring: the units that are reserved and not yet on the disk.
-ghost use Rattle.std.specs.Prelude.{◌≡◌, ◌%◌, Some, ℕ};
+ghost use Rattle.std.specs.Prelude.{◌≡◌, ◌%◌, None, Some, ℕ};
 ghost use Rattle.ring_core.specs.declared.event.RingEvent.TheVariants.{Fill};
 ghost use Rattle.log_table.specs.Events.{IsStep};
 ghost use Rattle.log_table.specs.Layout.{Ring};
-ghost use Rattle.log_table.specs.May.{MayFill};
+ghost use Rattle.log_table.specs.May.{MayFill, MayRead};
 ghost use Rattle.log_table.specs.Seats.{IsOf, Becomes, view_of, number_of, key_of};
-ghost use Rattle.log_table.specs.Views.{filled};
+ghost use Rattle.log_table.specs.Sends.{ReadsWholeEntries};
+ghost use Rattle.log_table.specs.Views.{filled, has_read};
 
 use crate::layout::RING;
-use crate::plays::StoreRing;
+use crate::plays::{LoadRing, StoreRing};
 use crate::table::{LogTable, Seat};
 use lsn_space::{Lsn, place};
 
@@ -24,5 +25,18 @@ impl LogTable {
         self.table
             .shared
             .store::<StoreRing>(&mut seat.base, index, unit);
+    }
+
+    /// Reads the next unit for the disk. All units up to exposed, as the flusher's seat loaded it
+    /// last, are whole entries.
+    pub fn load_ring(&self, seat: &mut Seat, at: Lsn) -> u64
+        requires seat { IsOf self.now seat.old }
+        requires next { MayRead at (view_of seat.old) }
+        ensures view { Becomes seat.old seat.new (has_read result (view_of seat.old)) }
+        ensures whole { ReadsWholeEntries (has_read result (view_of seat.old)) }
+        ensures event { IsStep (key_of self.now) (number_of seat.old) (Ring (at % self.now.ring)) result result (view_of seat.old) (has_read result (view_of seat.old)) None }
+    {
+        let index = RING + place(at, self.ring);
+        self.table.shared.load::<LoadRing>(&mut seat.base, index)
     }
 }

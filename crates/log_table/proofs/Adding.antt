@@ -1,0 +1,55 @@
+-- A seat is added that owns nothing and has nothing under way.
+use Rattle.std.proofs.Common.{◌≡◌, ℕ, zero, suc, List, [], ◌∷◌, ◌++◌, length, get_or, refl, sym, ap, ◌∙◌, subst}
+use Rattle.log_table.specs.declared.table.Start.{Start}
+use Rattle.log_table.specs.declared.view.Call.TheVariants.{Idle}
+use Rattle.log_table.specs.declared.view.Role.TheVariants.{Flusher}
+use Rattle.log_table.specs.declared.view.View.{View}
+use Rattle.log_table.specs.Log.{Log, ranges_of, parts_of}
+use Rattle.log_table.specs.Sound.{EachPair, HasSeenBoundaries, SendsIfFlusher, StoresStop, RestsIfQuiet, LookedIfQuiet, HasWorkingOwner, HasConstants, RestsUnlessActive, OwnsIfWorker, HasSoundCrew, IsSound}
+use Rattle.log_table.specs.Views.{nobody, entries_in, claims_in}
+use Rattle.log_table.specs.Words.{Words}
+use Rattle.log_table.proofs.Viewing.{each_push}
+
+-- a seat that was not made counts as nobody's, before and after one like it is made
+nobody-more : (views : List View) (new : View) (P : ℕ → View → Type 0) (j : ℕ) → P (length views) new → P j (get_or views j nobody)
+    → P j (get_or (views ++ new ∷ []) j nobody)
+nobody-more [] new P zero fresh p = fresh
+nobody-more [] new P (suc j) fresh p = p
+nobody-more (x ∷ xs) new P zero fresh p = p
+nobody-more (x ∷ xs) new P (suc j) fresh p = nobody-more xs new (λ k. P (suc k)) j fresh p
+
+nobody-there : (views : List View) → get_or views (length views) nobody ≡ nobody
+nobody-there [] = refl
+nobody-there (x ∷ xs) = nobody-there xs
+
+module _ (key : Start) (words : Words) (views : List View) (log : Log) (s : IsSound key words views log) (new : View) (entries : new.entries ≡ [])
+    (call : new.call ≡ Idle) (not-flusher : new.standing.role ≡ Flusher → ⊥)
+    (sees : HasSeenBoundaries key.start words.tail words.exposed words.durable (ranges_of log) new.seen) (constants : HasConstants key new)
+    (roles : HasSoundCrew words.crew (views ++ new ∷ [])) (quiet : EachPair (λ _ y _ z. RestsIfQuiet y z) (views ++ new ∷ [])) where
+  pub adds : IsSound key words (views ++ new ∷ []) log
+  adds = record {
+    ordered = s.ordered;
+    seen = each_push (λ _ z. HasSeenBoundaries key.start words.tail words.exposed words.durable (ranges_of log) z.seen)
+        (λ _ z. HasSeenBoundaries key.start words.tail words.exposed words.durable (ranges_of log) z.seen) views new s.seen sees (λ _ _ _ p. p);
+    contiguous = s.contiguous;
+    filled = s.filled;
+    below = s.below;
+    at_work = s.at_work;
+    owners = λ j. nobody-more views new (HasWorkingOwner log.parts log.unreleased) j
+        (let none = subst (HasWorkingOwner log.parts log.unreleased (length views)) (nobody-there views) (s.owners (length views)) in record {
+          owns = none.owns ∙ (λ i. parts_of (length views) Rattle.std.proofs.Common.true (sym entries i)
+              ++ parts_of (length views) Rattle.std.proofs.Common.false (entries_in (sym call i)));
+          owes = none.owes ∙ ap claims_in (sym call);
+        }) (s.owners j);
+    constants = each_push (λ _ z. HasConstants key z) (λ _ z. HasConstants key z) views new s.constants constants (λ _ _ _ p. p);
+    resting = each_push (λ _ z. RestsUnlessActive z) (λ _ z. RestsUnlessActive z) views new s.resting (λ _. call) (λ _ _ _ p. p);
+    entries = each_push (λ _ z. OwnsIfWorker z) (λ _ z. OwnsIfWorker z) views new s.entries (λ _. entries) (λ _ _ _ p. p);
+    roles = roles;
+    sends = each_push (λ _ z. SendsIfFlusher key.start words.exposed words.durable log z)
+        (λ _ z. SendsIfFlusher key.start words.exposed words.durable log z) views new s.sends (λ f. absurd (not-flusher f)) (λ _ _ _ p. p);
+    stops = each_push (λ _ z. StoresStop words.stop z) (λ _ z. StoresStop words.stop z) views new s.stops (λ f. absurd (not-flusher f))
+        (λ _ _ _ p. p);
+    quiet = quiet;
+    looked = each_push (λ _ z. LookedIfQuiet words.exposed z) (λ _ z. LookedIfQuiet words.exposed z) views new s.looked
+        (λ f. absurd (not-flusher f)) (λ _ _ _ p. p);
+  }

@@ -1,0 +1,175 @@
+-- The store of durable: the machine's Flushed.
+use Rattle.std.proofs.Common.{◌≡◌, ℕ, ◌+◌, ◌/◌, ◌≤◌, List, [], ◌∷◌, ◌++◌, length, map, set, Some, sym, refl, ap, ◌∙◌, subst, le_refl, arith, append_assoc, length-append}
+use Rattle.std.specs.List.{AllByRecursion}
+use mathlib.Core.Option.{some}
+use lib.ListN.{get_elem?}
+use Rattle.lsn_space.specs.Tiling.{IsBoundary}
+use Rattle.ring_core.specs.State.{size_of}
+use Rattle.ring_core.specs.declared.event.RingEvent.TheVariants.{Flushed}
+use Rattle.log_table.specs.declared.table.Start.{Start}
+use Rattle.log_table.specs.declared.view.Constants.{Constants}
+use Rattle.log_table.specs.declared.view.Role.TheVariants.{Flusher}
+use Rattle.log_table.specs.declared.view.View.{View}
+use Rattle.log_table.specs.Events.{reservation_of, IsStep, Leads}
+use Rattle.log_table.specs.Layout.{Durable}
+use Rattle.log_table.specs.Log.{Part, Log, ranges_of, StandsInRing, AgreesFrom, EndsWithPart, IsReleased, IsRangeBoundary}
+use Rattle.log_table.specs.May.{MaySend}
+use Rattle.log_table.specs.Sound.{HasSeenBoundaries, HasContiguousReservations, SendsInsertedUnits, SendsIfFlusher, StoresStop, LookedIfQuiet, HasWorkingOwner, HasConstants, RestsUnlessActive, OwnsIfWorker, IsSound}
+use Rattle.log_table.specs.Views.{is_spent, has_sent}
+use Rattle.log_table.specs.Words.{Words}
+use Rattle.log_table.proofs.Agreeing.{agrees-append}
+use Rattle.log_table.proofs.Boundaries.{Cut, part_size, boundary-later, boundary-sooner, cut-at}
+use Rattle.log_table.proofs.Lists.{all-both, all-weaker}
+use Rattle.log_table.proofs.Looking.{part-boundary}
+use Rattle.log_table.proofs.Ranging.{tiles-append}
+use Rattle.log_table.proofs.Roles.{crew-same, quiet-moves, sole-flusher}
+use Rattle.log_table.proofs.Showing.{hands_of-set_same}
+use Rattle.log_table.proofs.Viewing.{each_moves, each_set, seats_set, seat_at}
+
+-- the machine's boundaries are the parts'
+boundary-shown : (start at : ℕ) (parts : List Part) → IsBoundary part_size start parts at → IsBoundary size_of start (map reservation_of parts) at
+boundary-shown start at [] b = b
+boundary-shown start at (p ∷ ps) b = Rattle.std.proofs.Common.⊎_elim (λ here. Rattle.std.proofs.Common.inl here)
+    (λ later. Rattle.std.proofs.Common.inr (boundary-shown (start + p.entry.size) at ps later)) b
+
+module _ (key : Start) (words : Words) (views : List View) (me : ℕ) (v : View) (log : Log) (s : IsSound key words views log)
+    (at : get_elem? views me ≡ some v) (flusher : v.standing.role ≡ Flusher) (to : ℕ) (read : to ≡ words.durable + length v.sending.read)
+    (all : to ≡ v.sending.exposed) where
+  abbrev new : View
+  new = has_sent to v
+
+  sends : SendsInsertedUnits key.start words.exposed words.durable log v.sending.exposed v.sending.sent v.sending.read
+  sends = s.sends me v at flusher
+
+  boundary : IsRangeBoundary key.start (ranges_of log) to
+  boundary = subst (IsRangeBoundary key.start (ranges_of log)) (sym all) sends.boundary
+
+  forward : words.durable ≤ to
+  forward = omega (arith, read)
+
+  below : to ≤ words.exposed
+  below = omega (arith, all, sends.loaded_seen)
+
+  -- what is sent now, and what is exposed behind it
+  cut : Cut (key.ring / 4) words.durable to words.exposed log.released
+  cut = cut-at (key.ring / 4) words.durable to words.exposed log.released s.contiguous.released
+      (boundary-sooner _ _ _ to log.released log.unreleased s.contiguous.released
+      (boundary-later _ _ _ to log.flushed (log.released ++ log.unreleased) s.contiguous.flushed boundary forward) below)
+
+  abbrev after : Log
+  after = record { parts = log.parts; flushed = log.flushed ++ cut.before; released = cut.behind; unreleased = log.unreleased }
+
+  same-ranges : ranges_of log ≡ ranges_of after
+  same-ranges = ap (λ l. log.flushed ++ (l ++ log.unreleased)) cut.split
+      ∙ (ap (λ l. log.flushed ++ l) (append_assoc cut.before cut.behind log.unreleased)
+      ∙ sym (append_assoc log.flushed cut.before (cut.behind ++ log.unreleased)))
+
+  contiguous : HasContiguousReservations key.start key.ring words.tail words.exposed to after
+  contiguous = record {
+    flushed = tiles-append _ _ _ _ log.flushed cut.before s.contiguous.flushed cut.first;
+    released = cut.second;
+    unreleased = s.contiguous.unreleased;
+    parts = s.contiguous.parts;
+    remaining = s.contiguous.remaining;
+    aligned = subst (AllByRecursion (EndsWithPart key.start log.parts)) same-ranges s.contiguous.aligned;
+  }
+
+  still : (lsns : List ℕ) → AllByRecursion (IsRangeBoundary key.start (ranges_of log)) lsns
+      → AllByRecursion (IsRangeBoundary key.start (ranges_of after)) lsns
+  still lsns = subst (λ l. AllByRecursion (IsRangeBoundary key.start l) lsns) same-ranges
+
+  sent-is : key.start + length (v.sending.sent ++ v.sending.read) ≡ to
+  sent-is = omega (arith, length-append v.sending.sent v.sending.read, sends.sent_to, read)
+
+  sends-all : SendsInsertedUnits key.start words.exposed to after v.sending.exposed (v.sending.sent ++ v.sending.read) []
+  sends-all = record {
+    sent_to = sent-is;
+    read_to = omega (arith, all);
+    loaded_seen = sends.loaded_seen;
+    boundary = subst (λ l. IsRangeBoundary key.start l v.sending.exposed) same-ranges sends.boundary;
+    sent_agrees = all-both (AgreesFrom key.start v.sending.sent) (AgreesFrom words.durable v.sending.read)
+        (AgreesFrom key.start (v.sending.sent ++ v.sending.read)) log.parts
+        (λ p first second. agrees-append key.start v.sending.sent v.sending.read p first
+        (subst (λ n. AgreesFrom n v.sending.read p) (sym sends.sent_to) second)) sends.sent_agrees sends.read_agrees;
+    read_agrees = all-weaker (AgreesFrom key.start v.sending.sent) (AgreesFrom to []) log.parts
+        (λ p _ i _ lo hi. absurd (omega (arith, lo, hi))) sends.sent_agrees;
+  }
+
+  sound : IsSound key (record words { durable = to }) (set views me new) after
+  sound = record {
+    ordered = record {
+      least_ring = s.ordered.least_ring;
+      greatest_ring = s.ordered.greatest_ring;
+      within_ring = omega (arith, forward, s.ordered.within_ring);
+      within_log = s.ordered.within_log;
+    };
+    seen = each_moves (λ _ z. HasSeenBoundaries key.start words.tail words.exposed words.durable (ranges_of log) z.seen)
+        (λ _ z. HasSeenBoundaries key.start words.tail words.exposed to (ranges_of after) z.seen) views me new s.seen
+        (let old = s.seen me v at in record {
+          tail_seen = old.tail_seen;
+          exposed_seen = old.exposed_seen;
+          durable_seen = le_refl _;
+          boundaries = still (to ∷ v.seen.lsns) (boundary, old.boundaries);
+        })
+        (λ _ z _ _ old. record {
+          tail_seen = old.tail_seen;
+          exposed_seen = old.exposed_seen;
+          durable_seen = omega (arith, old.durable_seen, forward);
+          boundaries = still z.seen.lsns old.boundaries;
+        });
+    contiguous = contiguous;
+    filled = record {
+      fits = s.filled.fits;
+      stands = all-weaker (StandsInRing key.ring words.durable words.ring) (StandsInRing key.ring to words.ring) log.parts
+          (λ p stands i lt lo. stands i lt (omega (arith, lo, forward))) s.filled.stands;
+    };
+    below = record {
+      full = s.below.full;
+      below = s.below.below;
+      ranges = subst (AllByRecursion IsReleased)
+          (ap (λ l. log.flushed ++ l) cut.split ∙ sym (append_assoc log.flushed cut.before cut.behind)) s.below.ranges;
+    };
+    at_work = s.at_work;
+    owners = seats_set (HasWorkingOwner log.parts log.unreleased) views me v new at s.owners
+        (let mine = seat_at (HasWorkingOwner log.parts log.unreleased) views me v at s.owners in record { owns = mine.owns; owes = mine.owes });
+    constants = each_set (λ _ z. HasConstants key z) views me new s.constants (s.constants me v at);
+    resting = each_set (λ _ z. RestsUnlessActive z) views me new s.resting (s.resting me v at);
+    entries = each_set (λ _ z. OwnsIfWorker z) views me new s.entries (s.entries me v at);
+    roles = crew-same words.crew views me v new s.roles at refl;
+    sends = each_moves (λ _ z. SendsIfFlusher key.start words.exposed words.durable log z)
+        (λ _ z. SendsIfFlusher key.start words.exposed to after z) views me new s.sends (λ _. sends-all)
+        (λ j z differ there _ f. absurd (differ (sole-flusher words.crew views me v s.roles at flusher j z there f)));
+    stops = each_set (λ _ z. StoresStop words.stop z) views me new s.stops (s.stops me v at);
+    quiet = quiet-moves views me v new s.quiet at (λ _ _ _ h. h) (λ _ h. h);
+    looked = each_set (λ _ z. LookedIfQuiet words.exposed z) views me new s.looked (s.looked me v at);
+  }
+
+  pub durable-flushes : Leads key words (record words { durable = to }) views (set views me new) log (Some (Flushed to))
+  durable-flushes = record {
+    after = after;
+    sound = sound;
+    shows = (
+      record {
+        forward = forward;
+        exposed = below;
+        boundary = boundary-shown key.start to log.parts (part-boundary _ _ _ _ _ log s.contiguous to boundary);
+      },
+      λ i. record {
+        start = key.start;
+        ring = key.ring;
+        reservations = map reservation_of log.parts;
+        hands = hands_of-set_same 0 me views v new at refl i;
+        tail = words.tail;
+        exposed = words.exposed;
+        durable = to;
+      },
+    );
+  }
+
+pub send-step : (key : Start) (me : ℕ) (v : View) (to : ℕ) → MaySend to v → (n : ℕ) → IsStep key me Durable n to v (has_sent to v) (Some (Flushed to))
+send-step key me v to may n = record {
+  leads = λ words views log s at is.
+      let start : v.constants.start ≡ key.start = ap (λ (c : Constants). c.start) (s.constants me v at (ap is_spent may.flusher)) in
+      durable-flushes key words views me v log s at may.flusher to
+      (omega (arith, may.read, start, (s.sends me v at may.flusher).sent_to)) may.all;
+}

@@ -1,0 +1,10 @@
+use Rattle.std.proofs.Common.{arith}
+use Rattle.log_table.proofs.Allowing.{load_crew-allowed}
+use Rattle.log_table.proofs.Stopping.{crew-looks}
+use Rattle.log_table.proofs.table.LogTable.load_crew.Goals as goal
+
+pub load-requires : goal.load-requires
+load-requires c = (c.requires.table_is, omega (arith, c.args.self.now.sized), load_crew-allowed _ _ _ _)
+
+pub returns-clause-event : goal.returns-clause-event
+returns-clause-event c = crew-looks _ _ _ _

@@ -1,0 +1,17 @@
+use Rattle.std.proofs.Common.{arith, ℕ, sym, subst}
+use Rattle.log_table.specs.May.{MaySend}
+use Rattle.log_table.specs.Seats.{view_of, number_of, key_of}
+use Rattle.log_table.proofs.Allowing.{store_durable-allowed}
+use Rattle.log_table.proofs.Flushing.{send-step}
+use Rattle.log_table.proofs.table.LogTable.store_durable.Goals as goal
+
+pub store-requires : goal.store-requires
+store-requires c = (
+  c.requires.seat.table_is,
+  omega (arith, c.args.self.now.sized),
+  store_durable-allowed (key_of c.args.self.now) c.args.self.now.table.shared.table_id.slots (number_of c.args.seat.now)
+      c.args.seat.now.base.me c.units.result (subst (λ (to : ℕ). MaySend to (view_of c.args.seat.now)) (sym c.units.ensures) c.requires.next),
+)
+
+pub returns-clause-event : goal.returns-clause-event
+returns-clause-event c = send-step _ _ _ _ c.requires.next

@@ -1,0 +1,10 @@
+use Rattle.std.proofs.Common.{arith}
+use Rattle.log_table.proofs.Allowing.{store_stop-allowed}
+use Rattle.log_table.proofs.Stopping.{stop-step}
+use Rattle.log_table.proofs.table.LogTable.store_stop.Goals as goal
+
+pub store-requires : goal.store-requires
+store-requires c = (c.requires.seat.table_is, omega (arith, c.args.self.now.sized), store_stop-allowed _ _ _ _ _ c.requires.flusher)
+
+pub returns-clause-event : goal.returns-clause-event
+returns-clause-event c = stop-step _ _ _ c.requires.flusher _

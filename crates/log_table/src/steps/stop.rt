@@ -1,0 +1,33 @@
+//! Stop: why the log stopped, 0 while it runs.
+ghost use Rattle.std.specs.Prelude.{◌≡◌, None, ℕ};
+ghost use Rattle.log_table.specs.declared.view.Role.TheVariants.{Flusher};
+ghost use Rattle.log_table.specs.Events.{IsStep};
+ghost use Rattle.log_table.specs.Layout.{Stop};
+ghost use Rattle.log_table.specs.Seats.{IsOf, Becomes, view_of, number_of, key_of};
+ghost use Rattle.log_table.specs.Views.{saw_stop, has_stopped};
+
+use crate::layout::STOP;
+use crate::plays::{LoadStop, StoreStop};
+use crate::table::{LogTable, Seat};
+
+impl LogTable {
+    pub fn load_stop(&self, seat: &mut Seat) -> u64
+        requires { IsOf self.now seat.old }
+        ensures view { Becomes seat.old seat.new (saw_stop result (view_of seat.old)) }
+        ensures event { IsStep (key_of self.now) (number_of seat.old) Stop result result (view_of seat.old) (saw_stop result (view_of seat.old)) None }
+    {
+        self.table.shared.load::<LoadStop>(&mut seat.base, STOP)
+    }
+
+    /// Tells the workers to stop, and why.
+    pub fn store_stop(&self, seat: &mut Seat, word: u64)
+        requires seat { IsOf self.now seat.old }
+        requires flusher { (view_of seat.old).standing.role ≡ Flusher }
+        ensures view { Becomes seat.old seat.new (has_stopped word (view_of seat.old)) }
+        ensures event { (found : ℕ) → IsStep (key_of self.now) (number_of seat.old) Stop found word (view_of seat.old) (has_stopped word (view_of seat.old)) None }
+    {
+        self.table
+            .shared
+            .store::<StoreStop>(&mut seat.base, STOP, word);
+    }
+}
