@@ -7,21 +7,21 @@ ghost use Rattle.commit_pipeline.specs.Stopping.{stop_word};
 
 use crate::daemon::{Daemon, DaemonFault, Turn};
 use crate::telling::tell;
-use flusher::{Flushed, Flusher, Steps};
+use flusher::Flushed;
 use log_disk::{LogDisk, Sink};
 
 impl<'a, D: LogDisk, K: Sink> Daemon<'a, D, K> {
     /// Flushes, and then writes a line for each end record in what was sent. A fault is told to the workers by the stop
     /// word before it is answered, and no further turn may be made.
-    pub fn turn<P: Steps>(&mut self) -> Result<Turn, DaemonFault>
+    pub fn turn(&mut self) -> Result<Turn, DaemonFault>
         requires ready { MayTurn D.LogDisk self.old }
         ensures turned { IfOk result (Turns D.LogDisk K.Sink self.old self.new) }
         ensures failed { IfErr result (Fails D.LogDisk K.Sink self.old self.new) }
         ensures ready { OnOk result (MayTurn D.LogDisk self.new) }
         ensures same { IsSameDaemon D.LogDisk K.Sink self.old self.new }
     {
-        let Ok(flushed) = self.flusher.flush::<P>() else {
-            return Err(self.stop::<P>(DaemonFault::DiskFault));
+        let Ok(flushed) = self.flusher.flush() else {
+            return Err(self.stop(DaemonFault::DiskFault));
         };
         let Flushed::To { from, to } = flushed else {
             return Ok(Turn::Idle);
@@ -29,19 +29,19 @@ impl<'a, D: LogDisk, K: Sink> Daemon<'a, D, K> {
         let told = tell(&self.flusher.batch, from, self.voice, self.sink, &mut self.tally);
         match told {
             Ok(lines) => Ok(Turn::Sent { lines, to }),
-            Err(_) => Err(self.stop::<P>(DaemonFault::WriteFault)),
+            Err(_) => Err(self.stop(DaemonFault::WriteFault)),
         }
     }
 
     /// Tells the workers of the fault, and keeps it.
-    fn stop<P: Steps>(&mut self, fault: DaemonFault) -> DaemonFault
+    fn stop(&mut self, fault: DaemonFault) -> DaemonFault
         requires seat { IsOf self.old.flusher.table.now self.old.flusher.seat }
         requires flusher { (view_of self.old.flusher.seat).standing.role ≡ FlusherRole }
         ensures stops { Stops (stop_word fault) self.old.flusher self.new.flusher }
         ensures rest { self.new ≡ record self.old { flusher = self.new.flusher; fault = Some fault } }
         ensures fault { result ≡ fault }
     {
-        P::store_stop(self.flusher.table, &mut self.flusher.seat, fault.word());
+        self.flusher.table.store_stop(&mut self.flusher.seat, fault.word());
         self.fault = Some(fault);
         fault
     }

@@ -5,7 +5,7 @@ use Rattle.log_disk.specs.declared.disk.LogDisk.{Ghosts}
 use Rattle.log_table.specs.declared.view.Role.TheVariants.{Flusher as FlusherRole}
 use Rattle.log_table.specs.Seats.{IsOf, Becomes, view_of}
 use Rattle.log_table.specs.Sends.{AreEntries, IsDrained}
-use Rattle.log_table.specs.Views.{saw_exposed_looked, saw_crew, sent_to}
+use Rattle.log_table.specs.Views.{saw_exposed, saw_crew, sent_to}
 use Rattle.segment_file.specs.Standing.{tail_after, AllStand, IsShut, HoldsEither}
 use Rattle.flusher.specs.declared.flusher.Flusher.{Flusher}
 use Rattle.flusher.specs.declared.flusher.Flushed.{Flushed}
@@ -50,7 +50,7 @@ pub record WritesWhole {D : Type 0} (g : Ghosts D) (units : List ℕ) (old new :
 -- exposed, as loaded, is durable, and nothing else was done
 pub record FindsNothing {D : Type 0} (old new : Flusher D) (at : ℕ) : Type 0 where
   pub durable : at ≡ sent_to (view_of old.seat)
-  pub seat : Becomes old.seat new.seat (saw_exposed_looked at (view_of old.seat))
+  pub seat : Becomes old.seat new.seat (saw_exposed at (view_of old.seat))
   pub rest : new ≡ record old { seat = new.seat }
 
 -- the units from durable to exposed, as loaded, are written behind the tail, and then durable is raised to their end

@@ -6,24 +6,23 @@ ghost use Rattle.log_table.specs.Views.{knows_all_enrolled};
 ghost use Rattle.flusher.specs.Flushing.{IsReady, Asks};
 
 use crate::flusher::{Drained, Flusher};
-use crate::provisional::Steps;
 use log_disk::LogDisk;
 
 impl<'a, D: LogDisk> Flusher<'a, D> {
     /// Whether workers are active, and where none is, whether all that is released is on the disk. At is the end of the
     /// log: no worker was active when exposed was loaded, and none will be.
-    pub fn drained<P: Steps>(&mut self) -> Drained
+    pub fn drained(&mut self) -> Drained
         requires ready { IsReady D.LogDisk self.old }
         requires told { knows_all_enrolled (view_of self.old.seat).standing ≡ true }
         ensures asks { Asks self.old self.new result }
         ensures rest { self.new ≡ record self.old { seat = self.new.seat } }
         ensures ready { IsReady D.LogDisk self.new }
     {
-        let active = P::load_crew(self.table, &mut self.seat);
+        let active = self.table.load_crew(&mut self.seat);
         if active > 0 {
             return Drained::Active(active);
         }
-        let exposed = P::load_exposed(self.table, &mut self.seat);
+        let exposed = self.table.load_exposed(&mut self.seat);
         let durable = self.tail.next;
         if exposed == durable {
             Drained::At(durable)

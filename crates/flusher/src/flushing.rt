@@ -7,7 +7,6 @@ ghost use Rattle.flusher.specs.Flushing.{IsReady, IsSame, Flushes, Loses};
 ghost use Rattle.flusher.specs.Gathering.{MayGather, Gathers};
 
 use crate::flusher::{Flushed, Flusher};
-use crate::provisional::Steps;
 use log_disk::LogDisk;
 use log_table::{LogTable, Seat};
 use lsn_space::Lsn;
@@ -16,7 +15,7 @@ use segment_file::{Batch, DiskFault, append};
 impl<'a, D: LogDisk> Flusher<'a, D> {
     /// Writes what is released beyond durable to the disk as one batch, and then raises durable to its end. After an
     /// Err durable stands where it was, and no further flush may be made.
-    pub fn flush<P: Steps>(&mut self) -> Result<Flushed, DiskFault>
+    pub fn flush(&mut self) -> Result<Flushed, DiskFault>
         requires ready { IsReady D.LogDisk self.old }
         ensures flushed { IfOk result (Flushes D.LogDisk self.old self.new) }
         ensures ready { OnOk result (IsReady D.LogDisk self.new) }
@@ -25,19 +24,19 @@ impl<'a, D: LogDisk> Flusher<'a, D> {
         ensures cause { HasCause (D.faults self.old.disk.now) (D.faults self.new.disk.now) result }
     {
         let from = self.tail.next;
-        let to = P::load_exposed(self.table, &mut self.seat);
+        let to = self.table.load_exposed(&mut self.seat);
         if to == from {
             return Ok(Flushed::Nothing { at: to });
         }
-        gather::<P>(self.table, &mut self.seat, &mut self.batch, from, to);
+        gather(self.table, &mut self.seat, &mut self.batch, from, to);
         self.tail = append(self.disk, self.tail, &mut self.batch)?;
-        P::store_durable(self.table, &mut self.seat, to);
+        self.table.store_durable(&mut self.seat, to);
         Ok(Flushed::To { from, to })
     }
 }
 
 /// Reads the units from the one LSN to the other into the batch.
-fn gather<P: Steps>(table: &LogTable, seat: &mut Seat, batch: &mut Batch, from: Lsn, to: Lsn)
+fn gather(table: &LogTable, seat: &mut Seat, batch: &mut Batch, from: Lsn, to: Lsn)
     requires seat { IsOf table.now seat.old }
     requires may { MayGather from to (view_of seat.old) }
     requires room { to ≤ from + batch.old.room }
@@ -45,7 +44,7 @@ fn gather<P: Steps>(table: &LogTable, seat: &mut Seat, batch: &mut Batch, from: 
 {
     batch.clear();
     for at in from.units()..to.units() {
-        let unit = P::load_ring(table, seat, Lsn::new(at));
+        let unit = table.load_ring(seat, Lsn::new(at));
         batch.push(unit);
     }
 }

@@ -4,7 +4,5 @@
 mod draining;
 mod flusher;
 mod flushing;
-mod provisional;
 
-pub use provisional::Steps;
 pub use flusher::{Drained, Flushed, Flusher};

@@ -25,8 +25,10 @@ use Rattle.log_table.proofs.Reserving.{exchange-step, exchange-event}
 use Rattle.log_table.proofs.Wording.{shared_tail, shared_exposed, shared_durable, shared_stop, shared_crew, in_ring}
 
 module _ (key : Start) (slots seat : ℕ) (me : Me (Unit {0}) View) where
-  pub load_tail-allowed : Allows (Ruled key) slots seat me TAIL (λ n. n) (λ n new. (new ≡ (saw_tail n me.0, me.1)) × ((me.0.seen.tail ≤ n) × (n ≤ LAST)))
-  load_tail-allowed = allowed-if_step key slots seat me Tail shared_tail (λ n. n) (λ n. saw_tail n me.0) (λ _. None) (λ n. (me.0.seen.tail ≤ n) × (n ≤ LAST)) (tail-tells key seat me.0) (λ n _. tail-looks key seat me.0 n)
+  pub load_tail-allowed : Allows (Ruled key) slots seat me TAIL (λ n. n)
+      (λ n new. (new ≡ (saw_tail n me.0, me.1)) × ((me.0.seen.tail ≤ n) × (n ≤ LAST)))
+  load_tail-allowed = allowed-if_step key slots seat me Tail shared_tail (λ n. n) (λ n. saw_tail n me.0) (λ _. None)
+      (λ n. (me.0.seen.tail ≤ n) × (n ≤ LAST)) (tail-tells key seat me.0) (λ n _. tail-looks key seat me.0 n)
 
   pub load_exposed-allowed : Allows (Ruled key) slots seat me EXPOSED (λ n. n)
       (λ n new. (new ≡ (saw_exposed n me.0, me.1)) × ((me.0.seen.exposed ≤ n) × (n ≤ LAST) × IsExposedToFlusher me.0 n))
@@ -41,17 +43,29 @@ module _ (key : Start) (slots seat : ℕ) (me : Me (Unit {0}) View) where
       (λ n. (me.0.seen.durable ≤ n) × (n ≤ LAST) × IsDurableToFlusher me.0 n) (durable-tells key seat me.0) (λ n _. durable-looks key seat me.0 n)
 
   pub exchange_tail-allowed : (from to : ℕ) → MayReserve from to me.0
-      → Allows (Ruled key) slots seat me TAIL (λ n. either (eqb n from) to n) (λ n new. (new ≡ (after_exchange from to n me.0, me.1)) × ((me.0.seen.tail ≤ n) × (n ≤ LAST)))
-  exchange_tail-allowed from to may = allowed-if_step key slots seat me Tail shared_tail (λ n. either (eqb n from) to n) (λ n. after_exchange from to n me.0) (exchange-event seat from to) (λ n. (me.0.seen.tail ≤ n) × (n ≤ LAST)) (tail-tells key seat me.0) (λ n _. exchange-step key seat me.0 from to may n)
+      → Allows (Ruled key) slots seat me TAIL (λ n. either (eqb n from) to n)
+      (λ n new. (new ≡ (after_exchange from to n me.0, me.1)) × ((me.0.seen.tail ≤ n) × (n ≤ LAST)))
+  exchange_tail-allowed from to may =
+      allowed-if_step key slots seat me Tail shared_tail (λ n. either (eqb n from) to n) (λ n. after_exchange from to n me.0)
+      (exchange-event seat from to) (λ n. (me.0.seen.tail ≤ n) × (n ≤ LAST)) (tail-tells key seat me.0)
+      (λ n _. exchange-step key seat me.0 from to may n)
 
-  pub enroll-allowed : me.0.standing.role ≡ Fresh → Allows (Ruled key) slots seat me CREW (λ n. (n + 1) % 2 ^ 64) (λ n new. (new ≡ (enrolled me.0, me.1)) × Unit {0})
-  enroll-allowed fresh = allowed-if_step key slots seat me Crew shared_crew (λ n. (n + 1) % 2 ^ 64) (λ _. enrolled me.0) (λ _. None) (λ _. Unit {0}) (λ _ _ _ _ _. tt) (λ n _. enroll-adds key seat me.0 fresh n)
+  pub enroll-allowed : me.0.standing.role ≡ Fresh
+      → Allows (Ruled key) slots seat me CREW (λ n. (n + 1) % 2 ^ 64) (λ n new. (new ≡ (enrolled me.0, me.1)) × Unit {0})
+  enroll-allowed fresh =
+      allowed-if_step key slots seat me Crew shared_crew (λ n. (n + 1) % 2 ^ 64) (λ _. enrolled me.0) (λ _. None) (λ _. Unit {0})
+      (λ _ _ _ _ _. tt) (λ n _. enroll-adds key seat me.0 fresh n)
 
-  pub leave-allowed : IsAtRest me.0 → Allows (Ruled key) slots seat me CREW (λ n. (n + (2 ^ 64 - 1)) % 2 ^ 64) (λ n new. (new ≡ (retired me.0, me.1)) × Unit {0})
-  leave-allowed may = allowed-if_step key slots seat me Crew shared_crew (λ n. (n + (2 ^ 64 - 1)) % 2 ^ 64) (λ _. retired me.0) (λ _. None) (λ _. Unit {0}) (λ _ _ _ _ _. tt) (λ n _. leave-subtracts key seat me.0 may n)
+  pub leave-allowed : IsAtRest me.0
+      → Allows (Ruled key) slots seat me CREW (λ n. (n + (2 ^ 64 - 1)) % 2 ^ 64) (λ n new. (new ≡ (retired me.0, me.1)) × Unit {0})
+  leave-allowed may = allowed-if_step key slots seat me Crew shared_crew (λ n. (n + (2 ^ 64 - 1)) % 2 ^ 64) (λ _. retired me.0) (λ _. None)
+      (λ _. Unit {0}) (λ _ _ _ _ _. tt) (λ n _. leave-subtracts key seat me.0 may n)
 
-  pub store_ring-allowed : (at ring unit : ℕ) → key.ring ≡ ring → at % ring < ring → MayFill at me.0 → Allows (Ruled key) slots seat me (RING + at % ring) (λ _. unit) (λ _ new. (new ≡ (filled unit me.0, me.1)) × Unit {0})
-  store_ring-allowed at ring unit same below may = allowed-if_step key slots seat me (Ring (at % ring)) (in_ring (at % ring) (subst (λ r. at % ring < r) (sym same) below)) (λ _. unit) (λ _. filled unit me.0) (λ _. Some (Fill seat)) (λ _. Unit {0}) (λ _ _ _ _ _. tt) (λ n _. fill-step key seat me.0 at ring unit same may n)
+  pub store_ring-allowed : (at ring unit : ℕ) → key.ring ≡ ring → at % ring < ring → MayFill at me.0
+      → Allows (Ruled key) slots seat me (RING + at % ring) (λ _. unit) (λ _ new. (new ≡ (filled unit me.0, me.1)) × Unit {0})
+  store_ring-allowed at ring unit same below may =
+      allowed-if_step key slots seat me (Ring (at % ring)) (in_ring (at % ring) (subst (λ r. at % ring < r) (sym same) below)) (λ _. unit)
+      (λ _. filled unit me.0) (λ _. Some (Fill seat)) (λ _. Unit {0}) (λ _ _ _ _ _. tt) (λ n _. fill-step key seat me.0 at ring unit same may n)
 
   pub store_exposed-allowed : (to : ℕ) → MayRelease to me.0
       → Allows (Ruled key) slots seat me EXPOSED (λ _. to) (λ _ new. (new ≡ (released to me.0, me.1)) × Unit {0})

@@ -26,24 +26,35 @@ abbrev worker_numbers : List View → List ℕ
 worker_numbers [] = []
 worker_numbers (v ∷ vs) = cond (is_worker v.standing.role) (v.standing.worker ∷ worker_numbers vs) (worker_numbers vs)
 
-all-numbers : (P : ℕ → Type 0) (views : List View) → EachView (λ _ v. is_worker v.standing.role ≡ true → P v.standing.worker) views → AllByRecursion P (worker_numbers views)
+all-numbers : (P : ℕ → Type 0) (views : List View) → EachView (λ _ v. is_worker v.standing.role ≡ true → P v.standing.worker) views
+    → AllByRecursion P (worker_numbers views)
 all-numbers P [] all = tt
 all-numbers P (v ∷ vs) all = by_role (is_worker v.standing.role) refl (all-numbers P vs (λ j z at. all (suc j) z at))
   where
-    by_role : (b : Bool) → is_worker v.standing.role ≡ b → AllByRecursion P (worker_numbers vs) → AllByRecursion P (cond b (v.standing.worker ∷ worker_numbers vs) (worker_numbers vs))
+    by_role : (b : Bool) → is_worker v.standing.role ≡ b → AllByRecursion P (worker_numbers vs)
+        → AllByRecursion P (cond b (v.standing.worker ∷ worker_numbers vs) (worker_numbers vs))
     by_role true is rest = (all zero v refl is, rest)
     by_role false is rest = rest
 
 abbrev AreApart : List View → Type 0
-AreApart views = (i j : ℕ) (v z : View) → get_elem? views i ≡ some v → get_elem? views j ≡ some z → is_worker v.standing.role ≡ true → is_worker z.standing.role ≡ true → v.standing.worker ≡ z.standing.worker → i ≡ j
+AreApart views = (i j : ℕ) (v z : View) → get_elem? views i ≡ some v → get_elem? views j ≡ some z → is_worker v.standing.role ≡ true
+    → is_worker z.standing.role ≡ true → v.standing.worker ≡ z.standing.worker → i ≡ j
 
 distinct-numbers : (views : List View) → AreApart views → IsDistinct eqb (worker_numbers views)
 unfolding IsDistinct
 distinct-numbers [] apart = tt
-distinct-numbers (v ∷ vs) apart = by_role (is_worker v.standing.role) refl (distinct-numbers vs (λ i j y z at there is too same. let e = apart (suc i) (suc j) y z at there is too same in omega arith))
+distinct-numbers (v ∷ vs) apart =
+    by_role (is_worker v.standing.role) refl
+    (distinct-numbers vs (λ i j y z at there is too same. let e = apart (suc i) (suc j) y z at there is too same in omega arith))
   where
-    by_role : (b : Bool) → is_worker v.standing.role ≡ b → IsDistinct eqb (worker_numbers vs) → IsDistinct eqb (cond b (v.standing.worker ∷ worker_numbers vs) (worker_numbers vs))
-    by_role true is rest = (all-numbers (λ n. eqb v.standing.worker n ≡ false) vs (λ j z at too. ne_eqb v.standing.worker z.standing.worker (λ same. let e = apart zero (suc j) v z refl at is too same in absurd (omega arith))), rest)
+    by_role : (b : Bool) → is_worker v.standing.role ≡ b → IsDistinct eqb (worker_numbers vs)
+        → IsDistinct eqb (cond b (v.standing.worker ∷ worker_numbers vs) (worker_numbers vs))
+    by_role true is rest = (
+      all-numbers (λ n. eqb v.standing.worker n ≡ false) vs
+          (λ j z at too. ne_eqb v.standing.worker z.standing.worker
+          (λ same. let e = apart zero (suc j) v z refl at is too same in absurd (omega arith))),
+      rest,
+    )
     by_role false is rest = rest
 
 member-below : (most : ℕ) (numbers : List ℕ) → AllByRecursion (λ n. n < most) numbers → (n : ℕ) → list_any (eqb n) numbers ≡ true → n < most
@@ -58,7 +69,8 @@ active-le-numbers : (views : List View) → count_by is_active_view views ≤ le
 active-le-numbers [] = omega arith
 active-le-numbers (v ∷ vs) = by_role v.standing.role (sum_by-cons (λ (x : View). cond (is_active_view x) 1 0) v vs) (active-le-numbers vs)
   where
-    by_role : {a b : ℕ} (role : Role) → a ≡ cond (is_active role) 1 0 + b → b ≤ length (worker_numbers vs) → a ≤ length (cond (is_worker role) (v.standing.worker ∷ worker_numbers vs) (worker_numbers vs))
+    by_role : {a b : ℕ} (role : Role) → a ≡ cond (is_active role) 1 0 + b → b ≤ length (worker_numbers vs)
+        → a ≤ length (cond (is_worker role) (v.standing.worker ∷ worker_numbers vs) (worker_numbers vs))
     by_role Flusher c h = omega arith
     by_role Fresh c h = omega arith
     by_role Active c h = omega arith
@@ -123,7 +135,9 @@ enrolls key words views me v log s at fresh =
     worker : is_worker v.standing.role ≡ true
     worker = ap is_worker fresh
 
-    by_test : (made : List ℕ) (n : ℕ) → list_any (eqb v.standing.worker) made ≡ true → (list_any (eqb n) v.standing.enrolled ≡ true → list_any (eqb n) made ≡ true) → (b : Bool) → eqb n v.standing.worker ≡ b → (b || list_any (eqb n) v.standing.enrolled) ≡ true → list_any (eqb n) made ≡ true
+    by_test : (made : List ℕ) (n : ℕ) → list_any (eqb v.standing.worker) made ≡ true
+        → (list_any (eqb n) v.standing.enrolled ≡ true → list_any (eqb n) made ≡ true) → (b : Bool) → eqb n v.standing.worker ≡ b
+        → (b || list_any (eqb n) v.standing.enrolled) ≡ true → list_any (eqb n) made ≡ true
     by_test made n own others true same is = subst (λ k. list_any (eqb k) made ≡ true) (sym (eqb-true n v.standing.worker same)) own
     by_test made n own others false same is = others is
 
@@ -175,7 +189,12 @@ leaves key words views me v log s at may =
 
 module _ (key : Start) (me : ℕ) (v : View) where
   pub enroll-step : v.standing.role ≡ Fresh → (n : ℕ) → IsStep key me Crew n (n + 1) v (enrolled v) None
-  enroll-step fresh n = record { leads = λ words views log s at is. subst (λ x. Leads key words (record words { crew = x + 1 }) views (set views me (enrolled v)) log None) is (enrolls key words views me v log s at fresh) }
+  enroll-step fresh n =
+      record {
+        leads = λ words views log s at is. subst
+            (λ x. Leads key words (record words { crew = x + 1 }) views (set views me (enrolled v)) log None) is
+            (enrolls key words views me v log s at fresh);
+      }
 
   pub leave-step : IsAtRest v → (n : ℕ) → IsStep key me Crew n (n - 1) v (retired v) None
   leave-step may n = record {
@@ -188,7 +207,8 @@ module _ (key : Start) (me : ℕ) (v : View) where
   pub enroll-adds : v.standing.role ≡ Fresh → (n : ℕ) → IsStep key me Crew n ((n + 1) % 2 ^ 64) v (enrolled v) None
   enroll-adds fresh n = record {
     leads = λ words views log s at is. let small = crew-small words.crew views s.roles in
-        subst (λ x. Leads key words (record words { crew = x }) views (set views me (enrolled v)) log None) (sym (mod-eq_of_lt (omega arith))) ((enroll-step fresh n).leads words views log s at is);
+        subst (λ x. Leads key words (record words { crew = x }) views (set views me (enrolled v)) log None) (sym (mod-eq_of_lt (omega arith)))
+        ((enroll-step fresh n).leads words views log s at is);
   }
 
   pub leave-subtracts : IsAtRest v → (n : ℕ) → IsStep key me Crew n ((n + (2 ^ 64 - 1)) % 2 ^ 64) v (retired v) None
@@ -197,8 +217,10 @@ module _ (key : Start) (me : ℕ) (v : View) where
         let was : cond {A = ℕ} (is_active v.standing.role) 1 0 ≡ 1 = ap (λ (r : Role). cond {A = ℕ} (is_active r) 1 0) may.active in
         let some : 1 ≤ n = omega (arith, count-set is_active_view views me v (retired v) at, s.roles.count, was, is) in
         let small = crew-small words.crew views s.roles in
-        let whole : (n + (2 ^ 64 - 1)) % 2 ^ 64 ≡ n - 1 = ap (λ (x : ℕ). x % 2 ^ 64) (wraps n some) ∙ (add-mod_right (n - 1) (2 ^ 64) ∙ mod-eq_of_lt (omega arith)) in
-        subst (λ x. Leads key words (record words { crew = x }) views (set views me (retired v)) log None) (sym whole) ((leave-step may n).leads words views log s at is);
+        let whole : (n + (2 ^ 64 - 1)) % 2 ^ 64 ≡ n - 1 = ap (λ (x : ℕ). x % 2 ^ 64) (wraps n some)
+        ∙ (add-mod_right (n - 1) (2 ^ 64) ∙ mod-eq_of_lt (omega arith)) in
+        subst (λ x. Leads key words (record words { crew = x }) views (set views me (retired v)) log None) (sym whole)
+        ((leave-step may n).leads words views log s at is);
   }
     where
       wraps : (n : ℕ) → 1 ≤ n → n + (2 ^ 64 - 1) ≡ (n - 1) + 2 ^ 64

@@ -33,7 +33,8 @@ use Rattle.log_table.proofs.Viewing.{each_moves, each_set, seats_move, seat_at}
 
 -- two LSNs apart by less than the ring have two words
 differ_in_ring : (x y size : ℕ) → x ≢ y → x < y + size → y < x + size → x % size ≢ y % size
-differ_in_ring x y size differ lo hi same = differ (elim (dec_le x y) [ yes le ↦ one_turn x y size le hi same | no gt ↦ sym (one_turn y x size (omega arith) lo (sym same)) ])
+differ_in_ring x y size differ lo hi same =
+    differ (elim (dec_le x y) [ yes le ↦ one_turn x y size le hi same | no gt ↦ sym (one_turn y x size (omega arith) lo (sym same)) ])
 
 put-here : (f : ℕ → ℕ) (at x : ℕ) → put f at x at ≡ x
 put-here f at x = ap (λ b. cond b x (f at)) (eq-eqb at at refl)
@@ -42,12 +43,17 @@ put-other : (f : ℕ → ℕ) (at x k : ℕ) → k ≢ at → put f at x k ≡ f
 put-other f at x k differ = ap (λ b. cond b x (f k)) (ne_eqb k at differ)
 
 -- the machine finds the reservation that the seat fills
-pub hand-at : (key : Start) (words : Words) (views : List View) (me : ℕ) (v : View) (entry : Entry) (log : Log) (before behind : List Part) → get_elem? views me ≡ some v → v.call ≡ Filling entry
-    → log.parts ≡ before ++ part_of me false entry ∷ behind → Laid key.start (before ++ part_of me false entry ∷ behind) words.tail → in_hand (ring_of key words views log) me ≡ Some (reservation_of (part_of me false entry))
-hand-at key words views me v entry log before behind at filling split laid = ap (λ g. worked_on g (map reservation_of log.parts)) (stage_of-hands_of 0 me me views v (omega arith) at ∙ ap stage_in filling)
+pub hand-at : (key : Start) (words : Words) (views : List View) (me : ℕ) (v : View) (entry : Entry) (log : Log) (before behind : List Part)
+    → get_elem? views me ≡ some v → v.call ≡ Filling entry
+    → log.parts ≡ before ++ part_of me false entry ∷ behind → Laid key.start (before ++ part_of me false entry ∷ behind) words.tail
+    → in_hand (ring_of key words views log) me ≡ Some (reservation_of (part_of me false entry))
+hand-at key words views me v entry log before behind at filling split laid =
+    ap (λ g. worked_on g (map reservation_of log.parts)) (stage_of-hands_of 0 me me views v (omega arith) at ∙ ap stage_in filling)
     ∙ (ap (λ (l : List Part). find (is_at entry.start) (map reservation_of l)) split ∙ find-part _ _ before behind (part_of me false entry) laid)
 
-module _ (key : Start) (words : Words) (views : List View) (me : ℕ) (v : View) (entry : Entry) (unit : ℕ) (log : Log) (s : IsSound key words views log) (at : get_elem? views me ≡ some v) (filling : v.call ≡ Filling entry) (unfilled : length entry.units < entry.size) where
+module _ (key : Start) (words : Words) (views : List View) (me : ℕ) (v : View) (entry : Entry) (unit : ℕ) (log : Log)
+    (s : IsSound key words views log) (at : get_elem? views me ≡ some v) (filling : v.call ≡ Filling entry)
+    (unfilled : length entry.units < entry.size) where
   abbrev next : ℕ
   next = (entry.start + length entry.units) % key.ring
 
@@ -61,7 +67,8 @@ module _ (key : Start) (words : Words) (views : List View) (me : ℕ) (v : View)
   mine = seat_at (HasWorkingOwner log.parts log.unreleased) views me v at s.owners
 
   last : LastPart me log.parts (parts_of me true v.entries) entry
-  last = last_part me log.parts (parts_of me true v.entries) entry (mine.owns ∙ ap (λ c. parts_of me true v.entries ++ parts_of me false (entries_in c)) filling)
+  last = last_part me log.parts (parts_of me true v.entries) entry
+      (mine.owns ∙ ap (λ c. parts_of me true v.entries ++ parts_of me false (entries_in c)) filling)
 
   abbrev old_part : Part
   old_part = part_of me false entry
@@ -83,22 +90,37 @@ module _ (key : Start) (words : Words) (views : List View) (me : ℕ) (v : View)
 
   -- a run that is not released is not below exposed
   above_exposed : words.exposed ≤ entry.start
-  above_exposed = elim (dec_le words.exposed entry.start) [ yes le ↦ le | no gt ↦ absurd (true≢false (sym (all-at (IsReleasedBelow words.exposed) last.before last.behind old_part (all-old (IsReleasedBelow words.exposed) s.below.below) (omega arith)))) ]
+  above_exposed = elim
+      (dec_le words.exposed entry.start) [
+        | yes le ↦ le
+        | no gt ↦ absurd (true≢false
+            (sym (all-at (IsReleasedBelow words.exposed) last.before last.behind old_part (all-old (IsReleasedBelow words.exposed) s.below.below)
+            (omega arith))))
+      ]
 
   above_durable : words.durable ≤ entry.start
   above_durable = omega (arith, above_exposed, tiles-le _ _ _ log.released s.contiguous.released)
 
   stands-part : StandsInRing key.ring words.durable ring' part
-  stands-part i below hi = let lt : i < length entry.units + 1 = subst (λ (n : ℕ). i < n) (length-append entry.units (unit ∷ [])) below in dite (ℕ_discrete i (length entry.units))
-      (λ same. ap (λ (n : ℕ). ring' ((entry.start + n) % key.ring)) same ∙ (put-here words.ring next unit ∙ sym (ap (λ (n : ℕ). get_or (entry.units ++ unit ∷ []) n 0) same ∙ get_or-append_seam entry.units unit [] 0)))
+  stands-part i below hi = let lt : i < length entry.units + 1 =
+      subst (λ (n : ℕ). i < n) (length-append entry.units (unit ∷ [])) below in dite (ℕ_discrete i (length entry.units))
+      (λ same. ap (λ (n : ℕ). ring' ((entry.start + n) % key.ring)) same
+      ∙ (put-here words.ring next unit
+      ∙ sym (ap (λ (n : ℕ). get_or (entry.units ++ unit ∷ []) n 0) same ∙ get_or-append_seam entry.units unit [] 0)))
       (λ other. let lt : i < length entry.units = omega arith in
-      put-other words.ring next unit ((entry.start + i) % key.ring) (differ_in_ring (entry.start + i) (entry.start + length entry.units) key.ring (λ e. omega arith) (omega arith) (omega (arith, unfilled, below_tail, above_durable, s.ordered.within_ring)))
-      ∙ (all-at (StandsInRing key.ring words.durable words.ring) last.before last.behind old_part (all-old (StandsInRing key.ring words.durable words.ring) s.filled.stands) i lt hi ∙ sym (get_or-append entry.units (unit ∷ []) 0 i lt)))
+      put-other words.ring next unit ((entry.start + i) % key.ring)
+      (differ_in_ring (entry.start + i) (entry.start + length entry.units) key.ring (λ e. omega arith) (omega arith)
+      (omega (arith, unfilled, below_tail, above_durable, s.ordered.within_ring)))
+      ∙ (all-at (StandsInRing key.ring words.durable words.ring) last.before last.behind old_part
+      (all-old (StandsInRing key.ring words.durable words.ring) s.filled.stands) i lt hi ∙ sym (get_or-append entry.units (unit ∷ []) 0 i lt)))
 
-  stands-others : (q : Part) → Fits q × StandsInRing key.ring words.durable words.ring q → q.entry.start + q.entry.size ≤ words.tail → Rattle.log_table.proofs.Ranging.Apart q old_part → StandsInRing key.ring words.durable ring' q
+  stands-others : (q : Part) → Fits q × StandsInRing key.ring words.durable words.ring q → q.entry.start + q.entry.size ≤ words.tail
+      → Rattle.log_table.proofs.Ranging.Apart q old_part → StandsInRing key.ring words.durable ring' q
   stands-others q h hi apart i below low = let fits = h.0 in
       put-other words.ring next unit ((q.entry.start + i) % key.ring)
-      (differ_in_ring (q.entry.start + i) (entry.start + length entry.units) key.ring (λ e. ⊎_elim (λ a. omega (arith, a, fits, below, e)) (λ b. omega (arith, b, e, unfilled)) apart) (omega (arith, hi, fits, below, above_durable, s.ordered.within_ring)) (omega (arith, low, below_tail, unfilled, s.ordered.within_ring)))
+      (differ_in_ring (q.entry.start + i) (entry.start + length entry.units) key.ring
+      (λ e. ⊎_elim (λ a. omega (arith, a, fits, below, e)) (λ b. omega (arith, b, e, unfilled)) apart)
+      (omega (arith, hi, fits, below, above_durable, s.ordered.within_ring)) (omega (arith, low, below_tail, unfilled, s.ordered.within_ring)))
       ∙ h.1 i below low
 
   fits-part : Fits part
@@ -124,7 +146,8 @@ module _ (key : Start) (words : Words) (views : List View) (me : ℕ) (v : View)
   sound = record {
     ordered = s.ordered;
     seen = each_set (λ _ z. HasSeenBoundaries key.start words.tail words.exposed words.durable (ranges_of log) z.seen) views me new s.seen
-        (let old = s.seen me v at in record { tail_seen = old.tail_seen; exposed_seen = old.exposed_seen; durable_seen = old.durable_seen; boundaries = old.boundaries });
+        (let old = s.seen me v at in
+        record { tail_seen = old.tail_seen; exposed_seen = old.exposed_seen; durable_seen = old.durable_seen; boundaries = old.boundaries });
     contiguous = record {
       flushed = s.contiguous.flushed;
       released = s.contiguous.released;
@@ -142,21 +165,34 @@ module _ (key : Start) (words : Words) (views : List View) (me : ℕ) (v : View)
     };
     filled = record {
       fits = all-mid Fits last.before last.behind old_part part fits-part (all-old Fits s.filled.fits);
-      stands = laid-replaced (λ q. Fits q × StandsInRing key.ring words.durable words.ring q) (StandsInRing key.ring words.durable ring') _ _ last.before last.behind old_part part laid
-          (all-both Fits (StandsInRing key.ring words.durable words.ring) (λ q. Fits q × StandsInRing key.ring words.durable words.ring q) _ (λ q a b. (a, b)) (all-old Fits s.filled.fits) (all-old (StandsInRing key.ring words.durable words.ring) s.filled.stands))
+      stands = laid-replaced (λ q. Fits q × StandsInRing key.ring words.durable words.ring q)
+          (StandsInRing key.ring words.durable ring') _ _ last.before last.behind old_part part laid
+          (all-both Fits (StandsInRing key.ring words.durable words.ring) (λ q. Fits q × StandsInRing key.ring words.durable words.ring q) _
+          (λ q a b. (a, b)) (all-old Fits s.filled.fits) (all-old (StandsInRing key.ring words.durable words.ring) s.filled.stands))
           stands-part (λ q h _ _ hi apart. stands-others q h hi apart);
     };
     below = record {
-      full = all-mid IsFullIfReleased last.before last.behind old_part part (λ e. absurd (true≢false (sym e))) (all-old IsFullIfReleased s.below.full);
-      below = all-mid (IsReleasedBelow words.exposed) last.before last.behind old_part part (λ low. absurd (omega (arith, above_exposed))) (all-old (IsReleasedBelow words.exposed) s.below.below);
+      full = all-mid IsFullIfReleased last.before last.behind old_part part (λ e. absurd (true≢false (sym e)))
+          (all-old IsFullIfReleased s.below.full);
+      below = all-mid (IsReleasedBelow words.exposed) last.before last.behind old_part part (λ low. absurd (omega (arith, above_exposed)))
+          (all-old (IsReleasedBelow words.exposed) s.below.below);
       ranges = s.below.ranges;
     };
     at_work = s.at_work;
     owners = seats_move (HasWorkingOwner log.parts log.unreleased) (HasWorkingOwner after.parts after.unreleased) views me v new at s.owners
-        record { owns = own-last me last.before last.behind (parts_of me true v.entries) false (with_unit unit entry) last.own_before last.none_behind; owes = mine.owes ∙ ap claims_in filling }
-        (λ j z differ h. record { owns = own-others me j last.before last.behind false false entry (with_unit unit entry) differ ∙ (ap (own j) (sym last.split) ∙ h.owns); owes = h.owes });
+        record {
+          owns = own-last me last.before last.behind (parts_of me true v.entries) false
+              (with_unit unit entry) last.own_before last.none_behind;
+          owes = mine.owes ∙ ap claims_in filling;
+        }
+        (λ j z differ h. record {
+          owns = own-others me j last.before last.behind false false entry (with_unit unit entry) differ
+              ∙ (ap (own j) (sym last.split) ∙ h.owns);
+          owes = h.owes;
+        });
     constants = each_set (λ _ z. HasConstants key z) views me new s.constants (s.constants me v at);
-    resting = each_set (λ _ z. RestsUnlessActive z) views me new s.resting (λ off. let gone : Filling entry ≡ Idle = sym filling ∙ s.resting me v at off in absurd (cc));
+    resting = each_set (λ _ z. RestsUnlessActive z) views me new s.resting (λ off. let gone : Filling entry ≡ Idle = sym filling
+        ∙ s.resting me v at off in absurd (cc));
     entries = each_set (λ _ z. OwnsIfWorker z) views me new s.entries (s.entries me v at);
     roles = crew-same words.crew views me v new s.roles at refl;
     sends = each_moves (λ _ z. SendsIfFlusher key.start words.exposed words.durable log z)
@@ -173,10 +209,17 @@ module _ (key : Start) (words : Words) (views : List View) (me : ℕ) (v : View)
   hand-is = hand-at key words views me v entry log last.before last.behind at filling last.split laid
 
   more : reservation_of part ≡ filled_at entry.start (reservation_of old_part)
-  more i = record { base = entry.start; size = entry.size; filled = (length-append entry.units (unit ∷ []) ∙ sym (ap (λ b. cond b (length entry.units + 1) (length entry.units)) (eq-eqb entry.start entry.start refl))) i; released = false }
+  more i = record {
+    base = entry.start;
+    size = entry.size;
+    filled = (length-append entry.units (unit ∷ [])
+        ∙ sym (ap (λ b. cond b (length entry.units + 1) (length entry.units)) (eq-eqb entry.start entry.start refl))) i;
+    released = false;
+  }
 
   reservations : map reservation_of after.parts ≡ map (filled_at entry.start) (map reservation_of log.parts)
-  reservations = changed-part _ _ (filled_at entry.start) last.before last.behind old_part part (filled_at-others entry.start) laid more ∙ ap (λ (l : List Part). map (filled_at entry.start) (map reservation_of l)) (sym last.split)
+  reservations = changed-part _ _ (filled_at entry.start) last.before last.behind old_part part (filled_at-others entry.start) laid more
+      ∙ ap (λ (l : List Part). map (filled_at entry.start) (map reservation_of l)) (sym last.split)
 
   pub ring-fills : Leads key words (record words { ring = ring' }) views (set views me new) log (Some (Fill me))
   ring-fills = record {
@@ -184,16 +227,28 @@ module _ (key : Start) (words : Words) (views : List View) (me : ℕ) (v : View)
     sound = sound;
     shows = (
       subst (λ o. IsSomeAnd o HasUnfilled) (sym hand-is) unfilled,
-      (λ i. record { start = key.start; ring = key.ring; reservations = reservations i; hands = hands_of-set_same 0 me views v new at (ap stage_in (sym filling)) i; tail = words.tail; exposed = words.exposed; durable = words.durable })
+      (λ i. record {
+        start = key.start;
+        ring = key.ring;
+        reservations = reservations i;
+        hands = hands_of-set_same 0 me views v new at (ap stage_in (sym filling)) i;
+        tail = words.tail;
+        exposed = words.exposed;
+        durable =
+            words.durable;
+      })
           ∙ ap (after_fill old_state) (sym hand-is),
     );
   }
 
-pub fill-step : (key : Start) (me : ℕ) (v : View) (at ring unit : ℕ) → key.ring ≡ ring → MayFill at v → (n : ℕ) → IsStep key me (Ring (at % ring)) n unit v (filled unit v) (Some (Fill me))
+pub fill-step : (key : Start) (me : ℕ) (v : View) (at ring unit : ℕ) → key.ring ≡ ring → MayFill at v → (n : ℕ)
+    → IsStep key me (Ring (at % ring)) n unit v (filled unit v) (Some (Fill me))
 fill-step key me v at ring unit same may n = record {
   leads = λ words views log s here is.
       let index : (may.entry.start + length may.entry.units) % key.ring ≡ at % ring = (λ i. sym may.next i % same i) in
-      let call : Filling (with_unit unit may.entry) ≡ (filled unit v).call = ap (Rattle.log_table.specs.Views.call_with_unit unit) (sym may.filling) in
-      subst (λ (x : ℕ × Rattle.log_table.specs.declared.view.Call.Call). Leads key words (record words { ring = put words.ring x.0 unit }) views (set views me (record v { seen = counted v.seen; call = x.1 })) log (Some (Fill me)))
+      let call : Filling (with_unit unit may.entry) ≡ (filled unit v).call =
+      ap (Rattle.log_table.specs.Views.call_with_unit unit) (sym may.filling) in
+      subst (λ (x : ℕ × Rattle.log_table.specs.declared.view.Call.Call). Leads key words (record words { ring = put words.ring x.0 unit }) views
+      (set views me (record v { seen = counted v.seen; call = x.1 })) log (Some (Fill me)))
       (λ i. (index i, call i)) (ring-fills key words views me v may.entry unit log s here may.filling may.unfilled);
 }

@@ -30,7 +30,8 @@ use Rattle.log_table.proofs.Looking.{part-boundary}
 use Rattle.log_table.proofs.Viewing.{seat_at}
 
 -- what holds of each view and of nobody's holds of each seat
-each_seat : (P : ℕ → View → Type 0) (views : List View) → ((j : ℕ) (z : View) → get_elem? views j ≡ some z → P j z) → ((j : ℕ) → P j nobody) → (j : ℕ) → P j (get_or views j nobody)
+each_seat : (P : ℕ → View → Type 0) (views : List View) → ((j : ℕ) (z : View) → get_elem? views j ≡ some z → P j z) → ((j : ℕ) → P j nobody)
+    → (j : ℕ) → P j (get_or views j nobody)
 each_seat P [] all none j = none j
 each_seat P (x ∷ xs) all none zero = all zero x refl
 each_seat P (x ∷ xs) all none (suc j) = each_seat (λ k. P (suc k)) xs (λ k z at. all (suc k) z at) (λ k. none (suc k)) j
@@ -39,17 +40,24 @@ each_seat P (x ∷ xs) all none (suc j) = each_seat (λ k. P (suc k)) xs (λ k z
 none-owed : (ranges : List Range) → AllByRecursion IsOwed ranges → ((j : ℕ) → owed j ranges ≡ []) → ranges ≡ []
 none-owed [] all none = refl
 none-owed (r ∷ rs) all none = let seat = all.0.seat in
-    let one : claim_of r ∷ owed seat rs ≡ [] = sym (ap (λ b. cond b (claim_of r ∷ owed seat rs) (owed seat rs)) (ap (is_owed_by seat) all.0.duty ∙ eq-eqb seat seat refl)) ∙ none seat in absurd (cc)
+    let one : claim_of r ∷ owed seat rs ≡ [] =
+    sym (ap (λ b. cond b (claim_of r ∷ owed seat rs) (owed seat rs)) (ap (is_owed_by seat) all.0.duty ∙ eq-eqb seat seat refl))
+    ∙ none seat in absurd (cc)
 
 -- where no other seat has a part, all parts are the seat's
 own-all : (seat : ℕ) (parts : List Part) → ((j : ℕ) → j ≢ seat → own j parts ≡ []) → own seat parts ≡ parts
 own-all seat [] none = refl
-own-all seat (p ∷ ps) none = ap (λ b. cond b (p ∷ own seat ps) (own seat ps)) (eq-eqb p.owner seat is) ∙ ap (λ l. p ∷ l) (own-all seat ps (λ j differ. sym (ap (λ b. cond b (p ∷ own j ps) (own j ps)) (ne_eqb p.owner j (λ e. differ (sym e ∙ is)))) ∙ none j differ))
+own-all seat (p ∷ ps) none = ap (λ b. cond b (p ∷ own seat ps) (own seat ps)) (eq-eqb p.owner seat is)
+    ∙ ap (λ l. p ∷ l) (own-all seat ps (λ j differ. sym (ap (λ b. cond b (p ∷ own j ps) (own j ps)) (ne_eqb p.owner j (λ e. differ (sym e ∙ is))))
+    ∙ none j differ))
   where
     is : p.owner ≡ seat
-    is = dite (ℕ_discrete p.owner seat) (λ same. same) (λ differ. let some' : p ∷ own p.owner ps ≡ [] = sym (ap (λ b. cond b (p ∷ own p.owner ps) (own p.owner ps)) (eq-eqb p.owner p.owner refl)) ∙ none p.owner differ in absurd (cc))
+    is = dite (ℕ_discrete p.owner seat) (λ same. same)
+        (λ differ. let some' : p ∷ own p.owner ps ≡ [] = sym
+        (ap (λ b. cond b (p ∷ own p.owner ps) (own p.owner ps)) (eq-eqb p.owner p.owner refl)) ∙ none p.owner differ in absurd (cc))
 
-tiles-entries : (seat from to : ℕ) (entries : List Entry) → Laid from (parts_of seat true entries) to → IsTiling (λ (e : Entry). e.start) (λ (e : Entry). e.size) from entries to
+tiles-entries : (seat from to : ℕ) (entries : List Entry) → Laid from (parts_of seat true entries) to
+    → IsTiling (λ (e : Entry). e.start) (λ (e : Entry). e.size) from entries to
 tiles-entries seat from to [] l = l
 tiles-entries seat from to (e ∷ es) l = (l.0, tiles-entries seat (from + e.size) to es l.2)
 
@@ -78,14 +86,17 @@ owns-none Ended e other = absurd (true≢false e)
 owns-none Note e other = refl
 owns-none Spent e other = refl
 
-module _ (key : Start) (words : Words) (views : List View) (me : ℕ) (v : View) (log : Log) (s : IsSound key words views log) (at : get_elem? views me ≡ some v) (may : MayClose v) where
+module _ (key : Start) (words : Words) (views : List View) (me : ℕ) (v : View) (log : Log) (s : IsSound key words views log)
+    (at : get_elem? views me ≡ some v) (may : MayClose v) where
   -- every worker that was made was merged, so no seat is a worker's
   no-worker : (j : ℕ) (z : View) → get_elem? views j ≡ some z → is_worker z.standing.role ≡ false
   no-worker j z there = by_role (is_worker z.standing.role) refl
     where
       by_role : (b : Bool) → is_worker z.standing.role ≡ b → is_worker z.standing.role ≡ false
       by_role false is = is
-      by_role true is = let pair = s.roles.pairs me v at j z there in absurd (true≢false (sym (may.all_merged z.standing.worker (pair.made may.flusher is)) ∙ pair.unmerged may.flusher is))
+      by_role true is = absurd
+          (true≢false (sym (may.all_merged z.standing.worker ((s.roles.pairs me v at j z there).made may.flusher is))
+          ∙ (s.roles.pairs j z there me v at).unmerged is))
 
   idle : (j : ℕ) → (get_or views j nobody).call ≡ Idle
   idle = each_seat (λ _ z. z.call ≡ Idle) views (λ j z there. s.resting j z there (rests z.standing.role (no-worker j z there))) (λ _. refl)
@@ -100,13 +111,17 @@ module _ (key : Start) (words : Words) (views : List View) (me : ℕ) (v : View)
   no-entries j differ = (s.owners j).owns ∙ (λ i. parts_of j true (none i) ++ parts_of j false (entries_in (idle j i)))
     where
       others : (i : ℕ) (z : View) → get_elem? views i ≡ some z → (i ≢ me → z.entries ≡ [])
-      others i z there other = s.entries i z there (owns-none z.standing.role (no-worker i z there) (λ f. other ((s.roles.each i z there).first f ∙ sym ((s.roles.each me v at).first may.flusher))))
+      others i z there other =
+          s.entries i z there (owns-none z.standing.role (no-worker i z there)
+          (λ f. other ((s.roles.each i z there).first f ∙ sym ((s.roles.each me v at).first may.flusher))))
 
       none : (get_or views j nobody).entries ≡ []
       none = each_seat (λ i z. i ≢ me → z.entries ≡ []) views others (λ _ _. refl) j differ
 
   parts-are : log.parts ≡ parts_of me true v.entries
-  parts-are = sym (own-all me log.parts no-entries) ∙ ((seat_at (HasWorkingOwner log.parts log.unreleased) views me v at s.owners).owns ∙ (ap (λ c. parts_of me true v.entries ++ parts_of me false (entries_in c)) (s.resting me v at (ap is_active may.flusher)) ∙ append-nil _))
+  parts-are = sym (own-all me log.parts no-entries)
+      ∙ ((seat_at (HasWorkingOwner log.parts log.unreleased) views me v at s.owners).owns
+      ∙ (ap (λ c. parts_of me true v.entries ++ parts_of me false (entries_in c)) (s.resting me v at (ap is_active may.flusher)) ∙ append-nil _))
 
   start-is : v.constants.start ≡ key.start
   start-is = ap (λ (c : Constants). c.start) (s.constants me v at (ap is_spent may.flusher))
@@ -174,7 +189,8 @@ at-index [] i a e = absurd (some-ne-none a (sym e))
 at-index (x ∷ xs) zero a e = some-injective x a e
 at-index (x ∷ xs) (suc i) a e = at-index xs i a e
 
-pub closes : (key : Start) (me : ℕ) (v : View) (ws : List ℕ) (xs : List (Unit {0})) (tail exposed : ℕ) → Final (Seen (Ruled key) me v) ws xs → MayClose v → get_elem? ws TAIL ≡ some tail → get_elem? ws EXPOSED ≡ some exposed → IsClosed tail exposed v
+pub closes : (key : Start) (me : ℕ) (v : View) (ws : List ℕ) (xs : List (Unit {0})) (tail exposed : ℕ) → Final (Seen (Ruled key) me v) ws xs
+    → MayClose v → get_elem? ws TAIL ≡ some tail → get_elem? ws EXPOSED ≡ some exposed → IsClosed tail exposed v
 closes key me v ws xs tail exposed final may tail-at exposed-at =
     let state = final.0 in let log = final.1.0.1.0 in let s = final.1.0.1.1 in let at = final.1.1 in let words = words_of key.ring state.words in
     let tail-is : words.tail ≡ tail = ap (λ l. get_or l TAIL 0) final.2 ∙ at-index ws TAIL tail tail-at in

@@ -15,7 +15,8 @@ use Rattle.log_table.proofs.Wording.{Fits, words_of-set, read-word}
 
 -- what the rule tells of the word, whenever the seat has this view
 abbrev pub Tells : Start → ℕ → Word → View → (ℕ → Type 0) → Type 0
-Tells key seat word view P = (words : Words) (views : List View) (log : Log) → IsSound key words views log → get_elem? views seat ≡ some view → P (word_at words word)
+Tells key seat word view P = (words : Words) (views : List View) (log : Log) → IsSound key words views log → get_elem? views seat ≡ some view
+    → P (word_at words word)
 
 module _ (key : Start) (slots seat : ℕ) (me : Me (Unit {0}) View) (word : Word) (fits : Fits key.ring word) where
   -- a step that finds n, leaves `left n` in the word and `after n` as the seat's view
@@ -30,6 +31,14 @@ module _ (key : Start) (slots seat : ℕ) (me : Me (Unit {0}) View) (word : Word
         after n,
         keeps,
         tt,
-        (length-set s.words (index_of word) (left n) ∙ ruled.0, (led.after, subst (λ (w : Words). IsSound key w (set s.views seat (after n)) led.after) (sym (words_of-set key.ring s.words word (left n) fits ruled.0)) led.sound)),
+        (
+          length-set s.words (index_of word) (left n)
+              ∙ ruled.0,
+          (
+            led.after,
+            subst (λ (w : Words). IsSound key w (set s.views seat (after n)) led.after)
+                (sym (words_of-set key.ring s.words word (left n) fits ruled.0)) led.sound,
+          ),
+        ),
         (refl, subst P (sym read) (tells (words_of key.ring s.words) s.views ruled.1.0 ruled.1.1 here)),
       )

@@ -9,15 +9,18 @@ module _ {A : Type 0} {B : Type 0} (test : A → Bool) (tell : A → B) where
   picked-append (x ∷ xs) ys = by_test (test x) (picked-append xs ys)
     where
       by_test : (b : Bool) → picked test tell (xs ++ ys) ≡ picked test tell xs ++ picked test tell ys
-          → cond b (tell x ∷ picked test tell (xs ++ ys)) (picked test tell (xs ++ ys)) ≡ cond b (tell x ∷ picked test tell xs) (picked test tell xs) ++ picked test tell ys
+          → cond b (tell x ∷ picked test tell (xs ++ ys)) (picked test tell (xs ++ ys)) ≡ cond b (tell x ∷ picked test tell xs)
+          (picked test tell xs) ++ picked test tell ys
       by_test true rest = ap (λ l. tell x ∷ l) rest
       by_test false rest = rest
 
   -- one is exchanged for another which neither function tells from it
-  pub picked-same : (ls rs : List A) (x x' : A) → test x' ≡ test x → (test x ≡ true → tell x' ≡ tell x) → picked test tell (ls ++ x' ∷ rs) ≡ picked test tell (ls ++ x ∷ rs)
+  pub picked-same : (ls rs : List A) (x x' : A) → test x' ≡ test x → (test x ≡ true → tell x' ≡ tell x)
+      → picked test tell (ls ++ x' ∷ rs) ≡ picked test tell (ls ++ x ∷ rs)
   picked-same [] rs x x' same told = ap (λ b. cond b (tell x' ∷ picked test tell rs) (picked test tell rs)) same ∙ by_test (test x) told
     where
-      by_test : (b : Bool) → (b ≡ true → tell x' ≡ tell x) → cond b (tell x' ∷ picked test tell rs) (picked test tell rs) ≡ cond b (tell x ∷ picked test tell rs) (picked test tell rs)
+      by_test : (b : Bool) → (b ≡ true → tell x' ≡ tell x)
+          → cond b (tell x' ∷ picked test tell rs) (picked test tell rs) ≡ cond b (tell x ∷ picked test tell rs) (picked test tell rs)
       by_test true told = ap (λ y. y ∷ picked test tell rs) (told refl)
       by_test false told = refl
   picked-same (l ∷ ls) rs x x' same told = λ i. cond (test l) (tell l ∷ picked-same ls rs x x' same told i) (picked-same ls rs x x' same told i)
@@ -42,7 +45,8 @@ module _ {A : Type 0} {B : Type 0} (test : A → Bool) (tell : A → B) where
       never (z ∷ zs) e = cc
   picked-last (x ∷ xs) told last e = by_test (test x) refl e told refl (λ rest. picked-last xs rest last)
     where
-      later : (rest : List B) (first : List B) → told ≡ first ++ rest → picked test tell (x ∷ []) ≡ first → Last test tell xs rest last → Last test tell (x ∷ xs) told last
+      later : (rest : List B) (first : List B) → told ≡ first ++ rest → picked test tell (x ∷ []) ≡ first → Last test tell xs rest last
+          → Last test tell (x ∷ xs) told last
       later rest first is here s = record {
         before = x ∷ s.before;
         here = s.here;
@@ -54,7 +58,8 @@ module _ {A : Type 0} {B : Type 0} (test : A → Bool) (tell : A → B) where
         none_behind = s.none_behind;
       }
 
-      by_test : (b : Bool) → test x ≡ b → cond b (tell x ∷ picked test tell xs) (picked test tell xs) ≡ told ++ last ∷ [] → (all : List B) → told ≡ all
+      by_test : (b : Bool) → test x ≡ b → cond b (tell x ∷ picked test tell xs) (picked test tell xs) ≡ told ++ last ∷ [] → (all : List B)
+          → told ≡ all
           → ((rest : List B) → picked test tell xs ≡ rest ++ last ∷ [] → Last test tell xs rest last) → Last test tell (x ∷ xs) told last
       by_test true passes e [] is go =
           let only : tell x ∷ picked test tell xs ≡ last ∷ [] = e ∙ ap (λ l. l ++ last ∷ []) is in

@@ -42,7 +42,8 @@ or-cases : (a b : Bool) → (a || b) ≡ true → (a ≡ true) ⊎ (b ≡ true)
 or-cases true b e = inl refl
 or-cases false b e = inr e
 
-module _ (key : Start) (words : Words) (views : List View) (me other : ℕ) (v o : View) (log : Log) (s : IsSound key words views log) (at : get_elem? views me ≡ some v) (there : get_elem? views other ≡ some o) (apart : other ≢ me) (may : MayMerge v o) where
+module _ (key : Start) (words : Words) (views : List View) (me other : ℕ) (v o : View) (log : Log) (s : IsSound key words views log)
+    (at : get_elem? views me ≡ some v) (there : get_elem? views other ≡ some o) (apart : other ≢ me) (may : MayMerge v o) where
   abbrev new : View
   new = takes_in v o
 
@@ -67,10 +68,31 @@ module _ (key : Start) (words : Words) (views : List View) (me other : ℕ) (v o
 
   pairs-without : Rattle.log_table.specs.Sound.EachPair (λ i y j z. HasSoundRoles i y.standing j z.standing) without
   pairs-without = pairs_move (λ i y j z. HasSoundRoles i y.standing j z.standing) views other o nobody there s.roles.pairs
-      record { apart = λ e. absurd (true≢false (sym e)); made = λ e. absurd (cc); unmerged = λ e. absurd (cc); known = λ e. absurd (cc); fresh = λ e. absurd (cc) }
+      record {
+        apart = λ e. absurd (true≢false (sym e));
+        made = λ e. absurd (cc);
+        enrolled = λ e. absurd (cc);
+        merged = λ e. absurd (cc);
+        fresh = λ e. absurd (cc);
+        unmerged = λ e. absurd (true≢false (sym e));
+      }
       (λ j z differ here. (
-        record { apart = λ e. absurd (true≢false (sym e)); made = λ e. absurd (cc); unmerged = λ e. absurd (cc); known = λ e. absurd (cc); fresh = λ e. absurd (cc) },
-        record { apart = λ _ e. absurd (true≢false (sym e)); made = λ _ e. absurd (true≢false (sym e)); unmerged = λ _ e. absurd (true≢false (sym e)); known = λ _ q e. absurd (true≢false (sym e)); fresh = λ _. refl },
+        record {
+          apart = λ e. absurd (true≢false (sym e));
+          made = λ e. absurd (cc);
+          enrolled = λ e. absurd (cc);
+          merged = λ e. absurd (cc);
+          fresh = λ e. absurd (cc);
+          unmerged = λ e. absurd (true≢false (sym e));
+        },
+        record {
+          apart = λ _ e. absurd (true≢false (sym e));
+          made = λ _ e. absurd (true≢false (sym e));
+          enrolled = λ _ q e. absurd (true≢false (sym e));
+          merged = λ _ q e. absurd (true≢false (sym e));
+          fresh = λ _. refl;
+          unmerged = λ _. refl;
+        },
       ))
 
   -- the worker's number is no other's
@@ -78,7 +100,8 @@ module _ (key : Start) (words : Words) (views : List View) (me other : ℕ) (v o
       → eqb z.standing.worker o.standing.worker ≡ false
   others-number worker j z here w = ⊎_elim
       (λ (t : (j ≡ other) × (nobody ≡ z)). absurd (true≢false (sym w ∙ ap (λ (y : View). is_worker y.standing.role) (sym t.1))))
-      (λ (t : (j ≢ other) × (get_elem? views j ≡ some z)). ne_eqb z.standing.worker o.standing.worker (λ same. t.0 ((s.roles.pairs j z t.1 other o there).apart w worker same)))
+      (λ (t : (j ≢ other) × (get_elem? views j ≡ some z)). ne_eqb z.standing.worker o.standing.worker
+      (λ same. t.0 ((s.roles.pairs j z t.1 other o there).apart w worker same)))
       (was j z here)
 
   lacks-merged : (j : ℕ) (z : View) → get_elem? without j ≡ some z → is_worker z.standing.role ≡ true → Lacks z.standing.worker v.standing.merged
@@ -93,11 +116,13 @@ module _ (key : Start) (words : Words) (views : List View) (me other : ℕ) (v o
   fresh-lacks : (j : ℕ) (z : View) → get_elem? without j ≡ some z → z.standing.role ≡ Fresh → Lacks z.standing.worker new.standing.enrolled
   fresh-lacks j z here f = ⊎_elim
       (λ (t : (j ≡ other) × (nobody ≡ z)). absurd (true≢false (sym (ap is_worker f) ∙ ap (λ (y : View). is_worker y.standing.role) (sym t.1))))
-      (λ (t : (j ≢ other) × (get_elem? views j ≡ some z)). list_any-append (eqb z.standing.worker) v.standing.enrolled o.standing.enrolled ∙ or-false _ _ ((s.roles.pairs j z t.1 me v at).fresh f) ((s.roles.pairs j z t.1 other o there).fresh f))
+      (λ (t : (j ≢ other) × (get_elem? views j ≡ some z)). list_any-append (eqb z.standing.worker) v.standing.enrolled o.standing.enrolled
+      ∙ or-false _ _ ((s.roles.pairs j z t.1 me v at).fresh f) ((s.roles.pairs j z t.1 other o there).fresh f))
       (was j z here)
 
   known-made : (q : ℕ) → Knows q new.standing.enrolled → Knows q v.standing.made
-  known-made q knows = ⊎_elim (λ own. (s.roles.pairs me v at me v at).known may.flusher q own) (λ his. (s.roles.pairs me v at other o there).known may.flusher q his)
+  known-made q knows = ⊎_elim (λ own. (s.roles.pairs me v at me v at).enrolled may.flusher q own)
+      (λ his. (s.roles.pairs me v at other o there).enrolled may.flusher q his)
       (or-cases _ _ (sym (list_any-append (eqb q) v.standing.enrolled o.standing.enrolled) ∙ knows))
 
   merged-made : (q : ℕ) → Knows q new.standing.merged → Knows q v.standing.made
@@ -129,7 +154,14 @@ module _ (key : Start) (words : Words) (views : List View) (me other : ℕ) (v o
     }
         record { small = (s.roles.each me v at).small; first = (s.roles.each me v at).first };
     pairs = pairs_move (λ i y j z. HasSoundRoles i y.standing j z.standing) without me v new at' pairs-without
-        record { apart = λ _ _ _. refl; made = λ _ w. boss w; unmerged = λ _ w. boss w; known = λ _ q knows. known-made q knows; fresh = λ f. boss (ap is_worker f) }
+        record {
+          apart = λ _ _ _. refl;
+          made = λ _ w. boss w;
+          enrolled = λ _ q knows. known-made q knows;
+          merged = λ _ q knows. merged-made q knows;
+          fresh = λ f. boss (ap is_worker f);
+          unmerged = λ w. boss w;
+        }
         (λ j z differ here. let to = pairs-without me v at' j z here in let by = pairs-without j z here me v at' in (
           record {
             apart = λ w. boss w;
@@ -178,7 +210,8 @@ module _ (key : Start) (words : Words) (views : List View) (me other : ℕ) (v o
   owners : Rattle.log_table.specs.Sound.EachSeat (HasWorkingOwner parts log.unreleased) (set without me new)
   owners = seats_move Half (HasWorkingOwner parts log.unreleased) without me v new at'
       (seats_move (HasWorkingOwner log.parts log.unreleased) Half views other o nobody there s.owners
-      (inl (refl, record { owns = own-renamed-from other me log.parts apart; owes = his.owes ∙ ap claims_in idle' })) (λ j z differ h. inr (differ, h)))
+      (inl (refl, record { owns = own-renamed-from other me log.parts apart; owes = his.owes ∙ ap claims_in idle' }))
+      (λ j z differ h. inr (differ, h)))
       record {
         owns = own-renamed other me _ _ log.parts v.entries o.entries s.contiguous.parts apart
             (mine.owns ∙ (ap (λ c. parts_of me true v.entries ++ parts_of me false (entries_in c)) idle ∙ append-nil _))
@@ -187,7 +220,11 @@ module _ (key : Start) (words : Words) (views : List View) (me other : ℕ) (v o
         owes = mine.owes;
       }
       (λ j z differ h. ⊎_elim (λ (g : (j ≡ other) × HasWorkingOwner parts log.unreleased j z). g.1)
-      (λ (g : (j ≢ other) × HasWorkingOwner log.parts log.unreleased j z). record { owns = own-renamed-else other me j log.parts g.0 differ ∙ g.1.owns; owes = g.1.owes }) h)
+      (λ (g : (j ≢ other) × HasWorkingOwner log.parts log.unreleased j z). record {
+        owns = own-renamed-else other me j log.parts g.0 differ
+            ∙ g.1.owns;
+        owes = g.1.owes;
+      }) h)
 
   sends : (z : View) → SendsIfFlusher key.start words.exposed words.durable log z → SendsIfFlusher key.start words.exposed words.durable after z
   sends z old f = let o = old f in record {
@@ -233,7 +270,8 @@ module _ (key : Start) (words : Words) (views : List View) (me other : ℕ) (v o
     owners = owners;
     constants = each-merged (λ _ z. HasConstants key z) s.constants (λ e. absurd (true≢false e)) (s.constants me v at);
     resting = each-merged (λ _ z. RestsUnlessActive z) s.resting (λ _. refl) (s.resting me v at);
-    entries = each-merged (λ _ z. OwnsIfWorker z) s.entries (λ _. refl) (λ off. absurd (true≢false (sym (ap Rattle.log_table.specs.Views.may_own may.flusher) ∙ off)));
+    entries = each-merged (λ _ z. OwnsIfWorker z) s.entries (λ _. refl)
+        (λ off. absurd (true≢false (sym (ap Rattle.log_table.specs.Views.may_own may.flusher) ∙ off)));
     roles = crew-merges;
     sends = each-merged (λ _ z. SendsIfFlusher key.start words.exposed words.durable after z) (λ j z here. sends z (s.sends j z here))
         (λ f. absurd (cc)) (sends v (s.sends me v at));
@@ -246,12 +284,14 @@ module _ (key : Start) (words : Words) (views : List View) (me other : ℕ) (v o
   pub merges : IsSound key words (set (set views me new) other nobody) after
   merges = subst (λ l. IsSound key words l after) (set-swap views other me nobody new apart) merges'
 
-pub merge-allowed : (key : Start) (seat : ℕ) (v : View) (other : ℕ) (o : View) → MayMerge v o → Joins {S = Unit {0}} (Ruled key) seat v other o (takes_in v o) nobody
+pub merge-allowed : (key : Start) (seat : ℕ) (v : View) (other : ℕ) (o : View) → MayMerge v o
+    → Joins {S = Unit {0}} (Ruled key) seat v other o (takes_in v o) nobody
 merge-allowed key seat v other o may s ruled at apart there = (
   ruled.0,
   (
     _,
     merges key (words_of key.ring s.words) s.views seat other v o ruled.1.0 ruled.1.1 at
-        (⊎_elim (λ (t : (other ≡ seat) × (takes_in v o ≡ o)). absurd (apart t.0)) (λ (t : (other ≢ seat) × (get_elem? s.views other ≡ some o)). t.1) (at_set s.views seat other (takes_in v o) o there)) apart may,
+        (⊎_elim (λ (t : (other ≡ seat) × (takes_in v o ≡ o)). absurd (apart t.0))
+        (λ (t : (other ≢ seat) × (get_elem? s.views other ≡ some o)). t.1) (at_set s.views seat other (takes_in v o) o there)) apart may,
   ),
 )

@@ -46,7 +46,8 @@ duty-owed me (Shared slot) e = absurd (true≢false (sym e))
 duty-owed me (Owed other) e = ap Owed (eqb-true other me e)
 duty-owed me Released e = absurd (true≢false (sym e))
 
-module _ (key : Start) (words : Words) (views : List View) (me : ℕ) (v : View) (entry : Entry) (log : Log) (s : IsSound key words views log) (at : get_elem? views me ≡ some v) (filling : v.call ≡ Filling entry) (is_full : IsFull entry) (turn : entry.start ≡ words.exposed) where
+module _ (key : Start) (words : Words) (views : List View) (me : ℕ) (v : View) (entry : Entry) (log : Log) (s : IsSound key words views log)
+    (at : get_elem? views me ≡ some v) (filling : v.call ≡ Filling entry) (is_full : IsFull entry) (turn : entry.start ≡ words.exposed) where
   abbrev to : ℕ
   to = entry.start + entry.size
 
@@ -57,7 +58,8 @@ module _ (key : Start) (words : Words) (views : List View) (me : ℕ) (v : View)
   mine = seat_at (HasWorkingOwner log.parts log.unreleased) views me v at s.owners
 
   last : LastPart me log.parts (parts_of me true v.entries) entry
-  last = last_part me log.parts (parts_of me true v.entries) entry (mine.owns ∙ ap (λ c. parts_of me true v.entries ++ parts_of me false (entries_in c)) filling)
+  last = last_part me log.parts (parts_of me true v.entries) entry
+      (mine.owns ∙ ap (λ c. parts_of me true v.entries ++ parts_of me false (entries_in c)) filling)
 
   abbrev claim : Claim
   claim = record { base = entry.start; size = entry.size; remaining = entry.size }
@@ -93,7 +95,9 @@ module _ (key : Start) (words : Words) (views : List View) (me : ℕ) (v : View)
   duty-is = duty-owed me range.duty found.passes
 
   split : log.unreleased ≡ range ∷ rest
-  split = found.split ∙ ap (λ l. l ++ range ∷ rest) (tiles-first _ _ _ found.before rest range (subst (λ l. Tiles (key.ring / 4) words.exposed l words.tail) found.split s.contiguous.unreleased) (base-is ∙ turn))
+  split = found.split ∙ ap (λ l. l ++ range ∷ rest)
+      (tiles-first _ _ _ found.before rest range
+      (subst (λ l. Tiles (key.ring / 4) words.exposed l words.tail) found.split s.contiguous.unreleased) (base-is ∙ turn))
 
   tiles : Tiles (key.ring / 4) words.exposed (range ∷ rest) words.tail
   tiles = subst (λ l. Tiles (key.ring / 4) words.exposed l words.tail) split s.contiguous.unreleased
@@ -116,14 +120,17 @@ module _ (key : Start) (words : Words) (views : List View) (me : ℕ) (v : View)
   counted : (base size : ℕ) → unreleased_in base size after.parts + inside base size entry ≡ unreleased_in base size log.parts
   counted base size =
       let m = unreleased_in-mid base size last.before last.behind old_part part in
-      let g : unreleased_in base size (last.before ++ old_part ∷ last.behind) ≡ unreleased_in base size log.parts = ap (unreleased_in base size) (sym last.split) in omega (arith, m, g)
+      let g : unreleased_in base size (last.before ++ old_part ∷ last.behind) ≡ unreleased_in base size log.parts =
+      ap (unreleased_in base size) (sym last.split) in omega (arith, m, g)
 
   positive : 1 ≤ entry.size
   positive = omega (arith, tiles.1, size-is)
 
   none-left : unreleased_in entry.start entry.size after.parts ≡ 0
   none-left =
-      let was : unreleased_in entry.start entry.size log.parts ≡ entry.size = subst (λ (c : Claim). unreleased_in c.base c.size log.parts ≡ c.remaining) found.is (subst (AllByRecursion (CountsRemaining log.parts)) split s.contiguous.remaining).0 in
+      let was : unreleased_in entry.start entry.size log.parts ≡ entry.size =
+      subst (λ (c : Claim). unreleased_in c.base c.size log.parts ≡ c.remaining) found.is
+      (subst (AllByRecursion (CountsRemaining log.parts)) split s.contiguous.remaining).0 in
       omega (arith, was, counted entry.start entry.size, inside-here entry.start entry.size entry (le_refl _) (omega (arith, positive)))
 
   laid-after : Laid key.start after.parts words.tail
@@ -170,7 +177,9 @@ module _ (key : Start) (words : Words) (views : List View) (me : ℕ) (v : View)
   }
 
   fewer : (j : ℕ) → j ≢ me → owed j rest ≡ owed j log.unreleased
-  fewer j differ = sym (ap (owed j) split ∙ ap (λ b. cond b (claim_of range ∷ owed j rest) (owed j rest)) (ap (is_owed_by j) duty-is ∙ ne_eqb me j (λ e. differ (sym e))))
+  fewer j differ = sym
+      (ap (owed j) split ∙ ap (λ b. cond b (claim_of range ∷ owed j rest) (owed j rest))
+      (ap (is_owed_by j) duty-is ∙ ne_eqb me j (λ e. differ (sym e))))
 
   sends : (z : View) → SendsIfFlusher key.start words.exposed words.durable log z → SendsIfFlusher key.start to words.durable after z
   sends z old f = let o = old f in record {
@@ -188,28 +197,52 @@ module _ (key : Start) (words : Words) (views : List View) (me : ℕ) (v : View)
   sound : IsSound key (record words { exposed = to }) (set views me new) after
   sound = record {
     ordered = s.ordered;
-    seen = each_moves (λ _ z. HasSeenBoundaries key.start words.tail words.exposed words.durable (ranges_of log) z.seen) (λ _ z. HasSeenBoundaries key.start words.tail to words.durable (ranges_of after) z.seen) views me new s.seen
-        (let old = s.seen me v at in record { tail_seen = old.tail_seen; exposed_seen = le_refl _; durable_seen = old.durable_seen; boundaries = (exposed-boundary _ _ _ _ _ after contiguous, stills v.seen.lsns old.boundaries) })
-        (λ _ z _ _ old. record { tail_seen = old.tail_seen; exposed_seen = omega (arith, old.exposed_seen, turn); durable_seen = old.durable_seen; boundaries = stills z.seen.lsns old.boundaries });
+    seen = each_moves (λ _ z. HasSeenBoundaries key.start words.tail words.exposed words.durable (ranges_of log) z.seen)
+        (λ _ z. HasSeenBoundaries key.start words.tail to words.durable (ranges_of after) z.seen) views me new s.seen
+        (let old = s.seen me v at in
+        record {
+          tail_seen = old.tail_seen;
+          exposed_seen = le_refl _;
+          durable_seen = old.durable_seen;
+          boundaries = (exposed-boundary _ _ _ _ _ after contiguous, stills v.seen.lsns old.boundaries);
+        })
+        (λ _ z _ _ old. record {
+          tail_seen = old.tail_seen;
+          exposed_seen = omega (arith, old.exposed_seen, turn);
+          durable_seen = old.durable_seen;
+          boundaries = stills z.seen.lsns old.boundaries;
+        });
     contiguous = contiguous;
-    filled = record { fits = same-part Fits (λ h. h) s.filled.fits; stands = same-part (StandsInRing key.ring words.durable words.ring) (λ h. h) s.filled.stands };
+    filled = record {
+      fits = same-part Fits (λ h. h) s.filled.fits;
+      stands = same-part (StandsInRing key.ring words.durable words.ring) (λ h. h) s.filled.stands;
+    };
     below = record {
       full = same-part IsFullIfReleased (λ _ _. is_full) s.below.full;
-      below = all-both (IsReleasedBelow words.exposed) (λ (q : Part). entry.start ≤ q.entry.start → q.entry.start < entry.start + entry.size → q.released ≡ true) (IsReleasedBelow to) after.parts
+      below = all-both (IsReleasedBelow words.exposed) (λ (q : Part). entry.start ≤ q.entry.start → q.entry.start < entry.start + entry.size
+          → q.released ≡ true) (IsReleasedBelow to) after.parts
           (λ q low here lt. dite (dec_lt q.entry.start words.exposed) (λ yes'. low yes') (λ no'. here (omega (arith, turn)) lt))
-          (same-part (IsReleasedBelow words.exposed) (λ _ _. refl) s.below.below) (all-released _ _ entry.start entry.size after.parts laid-after none-left);
-      ranges = subst (AllByRecursion IsReleased) (append_assoc log.flushed log.released (now ∷ [])) (all-append IsReleased (log.flushed ++ log.released) (now ∷ []) s.below.ranges (refl, tt));
+          (same-part (IsReleasedBelow words.exposed) (λ _ _. refl) s.below.below)
+          (all-released _ _ entry.start entry.size after.parts laid-after none-left);
+      ranges = subst (AllByRecursion IsReleased) (append_assoc log.flushed log.released (now ∷ []))
+          (all-append IsReleased (log.flushed ++ log.released) (now ∷ []) s.below.ranges (refl, tt));
     };
     at_work = behind-of IsOwed s.at_work;
     owners = seats_move (HasWorkingOwner log.parts log.unreleased) (HasWorkingOwner after.parts after.unreleased) views me v new at s.owners
         record {
-          owns = own-last me last.before last.behind (parts_of me true v.entries) true entry last.own_before last.none_behind ∙ (sym (parts_of-push me true v.entries entry) ∙ sym (append-nil _));
+          owns = own-last me last.before last.behind (parts_of me true v.entries) true entry last.own_before last.none_behind
+              ∙ (sym (parts_of-push me true v.entries entry) ∙ sym (append-nil _));
           owes = found.none_behind;
         }
-        (λ j z differ h. record { owns = own-others me j last.before last.behind false true entry entry differ ∙ (ap (own j) (sym last.split) ∙ h.owns); owes = fewer j differ ∙ h.owes });
+        (λ j z differ h. record {
+          owns = own-others me j last.before last.behind false true entry entry differ
+              ∙ (ap (own j) (sym last.split) ∙ h.owns);
+          owes = fewer j differ ∙ h.owes;
+        });
     constants = each_set (λ _ z. HasConstants key z) views me new s.constants (s.constants me v at);
     resting = each_set (λ _ z. RestsUnlessActive z) views me new s.resting (λ _. refl);
-    entries = each_set (λ _ z. OwnsIfWorker z) views me new s.entries (λ off. let gone : Filling entry ≡ Idle = sym filling ∙ s.resting me v at (only-owners v.standing.role off) in absurd (cc));
+    entries = each_set (λ _ z. OwnsIfWorker z) views me new s.entries (λ off. let gone : Filling entry ≡ Idle = sym filling
+        ∙ s.resting me v at (only-owners v.standing.role off) in absurd (cc));
     roles = crew-same words.crew views me v new s.roles at refl;
     sends = each_moves (λ _ z. SendsIfFlusher key.start words.exposed words.durable log z)
         (λ _ z. SendsIfFlusher key.start to words.durable after z) views me new s.sends (sends v (s.sends me v at)) (λ _ z _ _. sends z);
@@ -226,10 +259,16 @@ module _ (key : Start) (words : Words) (views : List View) (me : ℕ) (v : View)
   hand-is = hand-at key words views me v entry log last.before last.behind at filling last.split laid
 
   more : reservation_of part ≡ released_at entry.start (reservation_of old_part)
-  more i = record { base = entry.start; size = entry.size; filled = length entry.units; released = sym (ap (λ b. cond b true false) (eq-eqb entry.start entry.start refl)) i }
+  more i = record {
+    base = entry.start;
+    size = entry.size;
+    filled = length entry.units;
+    released = sym (ap (λ b. cond b true false) (eq-eqb entry.start entry.start refl)) i;
+  }
 
   reservations : map reservation_of after.parts ≡ map (released_at entry.start) (map reservation_of log.parts)
-  reservations = changed-part _ _ (released_at entry.start) last.before last.behind old_part part (released_at-others entry.start) laid more ∙ ap (λ (l : List Part). map (released_at entry.start) (map reservation_of l)) (sym last.split)
+  reservations = changed-part _ _ (released_at entry.start) last.before last.behind old_part part (released_at-others entry.start) laid more
+      ∙ ap (λ (l : List Part). map (released_at entry.start) (map reservation_of l)) (sym last.split)
 
   pub turn-releases : Leads key words (record words { exposed = to }) views (set views me new) log (Some (Turn me))
   turn-releases = record {
@@ -237,25 +276,44 @@ module _ (key : Start) (words : Words) (views : List View) (me : ℕ) (v : View)
     sound = sound;
     shows = (
       subst (λ o. IsSomeAnd o (IsNext words.exposed)) (sym hand-is) (is_full, turn),
-      (λ i. record { start = key.start; ring = key.ring; reservations = reservations i; hands = hands_of-set 0 me me views v new (omega arith) at i; tail = words.tail; exposed = to; durable = words.durable })
+      (λ i. record {
+        start = key.start;
+        ring = key.ring;
+        reservations = reservations i;
+        hands = hands_of-set 0 me me views v new (omega arith) at i;
+        tail = words.tail;
+        exposed = to;
+        durable = words.durable;
+      })
           ∙ ap (after_turn old_state me) (sym hand-is),
     );
   }
 
 -- whose turn it was when it looked, has its turn still
-still-turn : (key : Start) (words : Words) (views : List View) (me : ℕ) (v : View) (entry : Entry) (log : Log) → IsSound key words views log → get_elem? views me ≡ some v → v.call ≡ Filling entry → v.seen.exposed ≡ entry.start → entry.start ≡ words.exposed
-still-turn key words views me v entry log s at filling turn = elim (dec_le words.exposed entry.start) [ yes le ↦ omega (arith, (s.seen me v at).exposed_seen) | no gt ↦ absurd (true≢false (sym (all-at (IsReleasedBelow words.exposed) last.before last.behind (part_of me false entry) (subst (AllByRecursion (IsReleasedBelow words.exposed)) last.split s.below.below) (omega arith)))) ]
+still-turn : (key : Start) (words : Words) (views : List View) (me : ℕ) (v : View) (entry : Entry) (log : Log) → IsSound key words views log
+    → get_elem? views me ≡ some v → v.call ≡ Filling entry → v.seen.exposed ≡ entry.start → entry.start ≡ words.exposed
+still-turn key words views me v entry log s at filling turn =
+    elim (dec_le words.exposed entry.start) [
+      | yes le ↦ omega (arith, (s.seen me v at).exposed_seen)
+      | no gt ↦ absurd (true≢false
+          (sym (all-at (IsReleasedBelow words.exposed) last.before last.behind (part_of me false entry)
+          (subst (AllByRecursion (IsReleasedBelow words.exposed)) last.split s.below.below) (omega arith))))
+    ]
   where
     mine : HasWorkingOwner log.parts log.unreleased me v
     mine = seat_at (HasWorkingOwner log.parts log.unreleased) views me v at s.owners
 
     last : LastPart me log.parts (parts_of me true v.entries) entry
-    last = last_part me log.parts (parts_of me true v.entries) entry (mine.owns ∙ ap (λ c. parts_of me true v.entries ++ parts_of me false (entries_in c)) filling)
+    last = last_part me log.parts (parts_of me true v.entries) entry
+        (mine.owns ∙ ap (λ c. parts_of me true v.entries ++ parts_of me false (entries_in c)) filling)
 
-pub release-step : (key : Start) (me : ℕ) (v : View) (end : ℕ) → MayRelease end v → (n : ℕ) → IsStep key me Exposed n end v (released end v) (Some (Turn me))
+pub release-step : (key : Start) (me : ℕ) (v : View) (end : ℕ) → MayRelease end v → (n : ℕ)
+    → IsStep key me Exposed n end v (released end v) (Some (Turn me))
 release-step key me v _ may n = record {
   leads = λ words views log s here is.
-      subst (λ (x : ℕ × List Entry). Leads key words (record words { exposed = x.0 }) views (set views me (record v { seen = seen_exposed x.0 v.seen; entries = v.entries ++ x.1; call = Idle })) log (Some (Turn me)))
+      subst (λ (x : ℕ × List Entry). Leads key words (record words { exposed = x.0 }) views
+      (set views me (record v { seen = seen_exposed x.0 v.seen; entries = v.entries ++ x.1; call = Idle })) log (Some (Turn me)))
       (λ i. (sym may.end i, ap entries_in (sym may.filling) i))
-      (turn-releases key words views me v may.entry log s here may.filling may.full (still-turn key words views me v may.entry log s here may.filling may.turn));
+      (turn-releases key words views me v may.entry log s here may.filling may.full
+      (still-turn key words views me v may.entry log s here may.filling may.turn));
 }

@@ -34,7 +34,8 @@ shown-push : (parts : List Part) (p : Part) → map reservation_of (parts ++ p �
 shown-push [] p = refl
 shown-push (q ∷ qs) p = ap (λ l. reservation_of q ∷ l) (shown-push qs p)
 
-module _ (key : Start) (words : Words) (views : List View) (me : ℕ) (v : View) (to : ℕ) (log : Log) (s : IsSound key words views log) (at : get_elem? views me ≡ some v) (may : MayReserve words.tail to v) where
+module _ (key : Start) (words : Words) (views : List View) (me : ℕ) (v : View) (to : ℕ) (log : Log) (s : IsSound key words views log)
+    (at : get_elem? views me ≡ some v) (may : MayReserve words.tail to v) where
   abbrev from : ℕ
   from = words.tail
 
@@ -149,20 +150,29 @@ module _ (key : Start) (words : Words) (views : List View) (me : ℕ) (v : View)
     contiguous = contiguous;
     filled = record {
       fits = all-append Fits log.parts (part ∷ []) s.filled.fits (omega arith, tt);
-      stands = all-append (StandsInRing key.ring words.durable words.ring) log.parts (part ∷ []) s.filled.stands ((λ i below _. absurd (omega arith)), tt);
+      stands = all-append (StandsInRing key.ring words.durable words.ring) log.parts (part ∷ []) s.filled.stands
+          ((λ i below _. absurd (omega arith)), tt);
     };
     below = record {
       full = all-append IsFullIfReleased log.parts (part ∷ []) s.below.full ((λ e. absurd (true≢false (sym e))), tt);
-      below = all-append (IsReleasedBelow words.exposed) log.parts (part ∷ []) s.below.below ((λ low. absurd (omega (arith, tiles-le _ _ _ log.unreleased s.contiguous.unreleased))), tt);
+      below = all-append (IsReleasedBelow words.exposed) log.parts (part ∷ []) s.below.below
+          ((λ low. absurd (omega (arith, tiles-le _ _ _ log.unreleased s.contiguous.unreleased))), tt);
       ranges = s.below.ranges;
     };
     at_work = all-append IsOwed log.unreleased (range ∷ []) s.at_work (record { seat = me; duty = refl }, tt);
     owners = seats_move (HasWorkingOwner log.parts log.unreleased) (HasWorkingOwner after.parts after.unreleased) views me v new at s.owners
         record {
-          owns = own-push me log.parts false entry ∙ ap (λ l. l ++ part ∷ []) (mine.owns ∙ (ap (λ c. parts_of me true v.entries ++ parts_of me false (entries_in c)) may.rests.idle ∙ append-nil _));
-          owes = owed-push me log.unreleased range refl ∙ ap (λ l. l ++ record { base = from; size = size; remaining = size } ∷ []) (mine.owes ∙ ap claims_in may.rests.idle);
+          owns = own-push me log.parts false entry
+              ∙ ap (λ l. l ++ part ∷ [])
+              (mine.owns ∙ (ap (λ c. parts_of me true v.entries ++ parts_of me false (entries_in c)) may.rests.idle ∙ append-nil _));
+          owes = owed-push me log.unreleased range refl
+              ∙ ap (λ l. l ++ record { base = from; size = size; remaining = size } ∷ []) (mine.owes ∙ ap claims_in may.rests.idle);
         }
-        (λ j z differ h. record { owns = own-push_others me j log.parts false entry differ ∙ h.owns; owes = owed-push_others me j log.unreleased range refl differ ∙ h.owes });
+        (λ j z differ h. record {
+          owns = own-push_others me j log.parts false entry differ
+              ∙ h.owns;
+          owes = owed-push_others me j log.unreleased range refl differ ∙ h.owes;
+        });
     constants = each_set (λ _ z. HasConstants key z) views me new s.constants (s.constants me v at);
     resting = each_set (λ _ z. RestsUnlessActive z) views me new s.resting (λ off. absurd (true≢false (sym (ap is_active may.rests.active) ∙ off)));
     entries = each_set (λ _ z. OwnsIfWorker z) views me new s.entries (s.entries me v at);
@@ -186,7 +196,15 @@ module _ (key : Start) (words : Words) (views : List View) (me : ℕ) (v : View)
         within_log = subst (λ n. n ≤ LAST) (sym whole) may.within_log;
         within_ring = omega (arith, whole, sound.ordered.within_ring);
       },
-      λ i. record { start = key.start; ring = key.ring; reservations = shown-push log.parts part i; hands = hands_of-set 0 me me views v new (omega arith) at i; tail = sym whole i; exposed = words.exposed; durable = words.durable },
+      λ i. record {
+        start = key.start;
+        ring = key.ring;
+        reservations = shown-push log.parts part i;
+        hands = hands_of-set 0 me me views v new (omega arith) at i;
+        tail = sym whole i;
+        exposed = words.exposed;
+        durable = words.durable;
+      },
     );
   }
 
@@ -197,12 +215,15 @@ exchange-event me from to n = cond (n == from) (Some (Reserve me (to - from))) N
 module _ (key : Start) (me : ℕ) (v : View) (from to : ℕ) (may : MayReserve from to v) where
   pub reserves : IsStep key me Tail from to v (reserved from to v) (Some (Reserve me (to - from)))
   reserves = record {
-    leads = λ words views log s at is. subst (λ n. Leads key words (record words { tail = to }) views (set views me (reserved n to v)) log (Some (Reserve me (to - n)))) is
+    leads = λ words views log s at is. subst
+        (λ n. Leads key words (record words { tail = to }) views (set views me (reserved n to v)) log (Some (Reserve me (to - n)))) is
         (tail-reserves key words views me v to log s at (subst (λ n. MayReserve n to v) (sym is) may));
   }
 
   pub exchange-step : (n : ℕ) → IsStep key me Tail n (either (eqb n from) to n) v (after_exchange from to n v) (exchange-event me from to n)
   exchange-step n = dite (ℕ_discrete n from)
-      (λ same. subst (λ (b : Bool). IsStep key me Tail n (either b to n) v (cond b (reserved from to v) (saw_tail n v)) (cond b (Some (Reserve me (to - from))) None)) (sym (Rattle.std.proofs.Common.eq-eqb n from same))
+      (λ same. subst (λ (b : Bool). IsStep key me Tail n (either b to n) v (cond b (reserved from to v) (saw_tail n v))
+      (cond b (Some (Reserve me (to - from))) None)) (sym (Rattle.std.proofs.Common.eq-eqb n from same))
       (subst (λ k. IsStep key me Tail k to v (reserved from to v) (Some (Reserve me (to - from)))) (sym same) reserves))
-      (λ differ. subst (λ (b : Bool). IsStep key me Tail n (either b to n) v (cond b (reserved from to v) (saw_tail n v)) (cond b (Some (Reserve me (to - from))) None)) (sym (Rattle.std.proofs.Common.ne_eqb n from differ)) (tail-looks key me v n))
+      (λ differ. subst (λ (b : Bool). IsStep key me Tail n (either b to n) v (cond b (reserved from to v) (saw_tail n v))
+      (cond b (Some (Reserve me (to - from))) None)) (sym (Rattle.std.proofs.Common.ne_eqb n from differ)) (tail-looks key me v n))

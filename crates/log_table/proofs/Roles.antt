@@ -17,13 +17,17 @@ use Rattle.log_table.proofs.Showing.{hands_of-set_same}
 use Rattle.log_table.proofs.Viewing.{each_set, seats_set, seat_at, pairs_move, count-set}
 
 -- a seat's standing stays
-pub crew-same : (crew : ℕ) (views : List View) (me : ℕ) (v new : View) → HasSoundCrew crew views → get_elem? views me ≡ some v → new.standing ≡ v.standing → HasSoundCrew crew (set views me new)
+pub crew-same : (crew : ℕ) (views : List View) (me : ℕ) (v new : View) → HasSoundCrew crew views → get_elem? views me ≡ some v
+    → new.standing ≡ v.standing → HasSoundCrew crew (set views me new)
 crew-same crew views me v new s at same = record {
   count = s.count ∙ sym (counts (count-set is_active_view views me v new at) (ap (λ (z : Standing). is_active z.role) same));
   each = each_set (λ seat z. HasSoundRole seat z.standing) views me new s.each (subst (HasSoundRole me) (sym same) (s.each me v at));
   pairs = pairs_move (λ i y j z. HasSoundRoles i y.standing j z.standing) views me v new at s.pairs
       (subst (λ (z : Standing). HasSoundRoles me z me z) (sym same) (s.pairs me v at me v at))
-      (λ j z differ there. (subst (λ (y : Standing). HasSoundRoles me y j z.standing) (sym same) (s.pairs me v at j z there), subst (λ (y : Standing). HasSoundRoles j z.standing me y) (sym same) (s.pairs j z there me v at)));
+      (λ j z differ there. (
+        subst (λ (y : Standing). HasSoundRoles me y j z.standing) (sym same) (s.pairs me v at j z there),
+        subst (λ (y : Standing). HasSoundRoles j z.standing me y) (sym same) (s.pairs j z there me v at),
+      ));
 }
   where
     counts : {a b : ℕ} {p q : Bool} → a + cond p 1 0 ≡ b + cond q 1 0 → q ≡ p → a ≡ b
@@ -74,10 +78,11 @@ module _ (key : Start) (words : Words) (stop crew : ℕ) (views : List View) (me
     filled = s.filled;
     below = s.below;
     at_work = s.at_work;
-    owners = seats_set (HasWorkingOwner log.parts log.unreleased) views me v new at s.owners (let mine = seat_at (HasWorkingOwner log.parts log.unreleased) views me v at s.owners in record {
-      owns = mine.owns ∙ (λ i. parts_of me true (sym entries i) ++ parts_of me false (entries_in (sym call i)));
-      owes = mine.owes ∙ ap claims_in (sym call);
-    });
+    owners = seats_set (HasWorkingOwner log.parts log.unreleased) views me v new at s.owners
+        (let mine = seat_at (HasWorkingOwner log.parts log.unreleased) views me v at s.owners in record {
+          owns = mine.owns ∙ (λ i. parts_of me true (sym entries i) ++ parts_of me false (entries_in (sym call i)));
+          owes = mine.owes ∙ ap claims_in (sym call);
+        });
     constants = each_set (λ _ z. HasConstants key z) views me new s.constants constants;
     resting = each_set (λ _ z. RestsUnlessActive z) views me new s.resting rests;
     entries = each_set (λ _ z. OwnsIfWorker z) views me new s.entries owns;
@@ -91,6 +96,14 @@ module _ (key : Start) (words : Words) (stop crew : ℕ) (views : List View) (me
   pub restands : Leads key words (record words { stop = stop; crew = crew }) views (set views me new) log None
   restands = record {
     after = log;
-    shows = λ i. record { start = key.start; ring = key.ring; reservations = map reservation_of log.parts; hands = hands_of-set_same 0 me views v new at (ap stage_in call) i; tail = words.tail; exposed = words.exposed; durable = words.durable };
+    shows = λ i. record {
+      start = key.start;
+      ring = key.ring;
+      reservations = map reservation_of log.parts;
+      hands = hands_of-set_same 0 me views v new at (ap stage_in call) i;
+      tail = words.tail;
+      exposed = words.exposed;
+      durable = words.durable;
+    };
     sound = restands-sound;
   }

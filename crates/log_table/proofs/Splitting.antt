@@ -28,7 +28,8 @@ lacks-all n known made sub lacks = by_test (list_any (eqb n) known) refl
     by_test true is = absurd (true≢false (sym (sub n is) ∙ lacks))
     by_test false is = is
 
-module _ (key : Start) (words : Words) (views : List View) (me : ℕ) (v : View) (n : ℕ) (log : Log) (s : IsSound key words views log) (at : get_elem? views me ≡ some v) (may : MaySplit n v) (small : n < 4294967296) where
+module _ (key : Start) (words : Words) (views : List View) (me : ℕ) (v : View) (n : ℕ) (log : Log) (s : IsSound key words views log)
+    (at : get_elem? views me ≡ some v) (may : MaySplit n v) (small : n < 4294967296) where
   abbrev boss : View
   boss = hires n v
 
@@ -45,12 +46,29 @@ module _ (key : Start) (words : Words) (views : List View) (me : ℕ) (v : View)
   crew-hires : HasSoundCrew words.crew (set views me boss)
   crew-hires = record {
     count = s.roles.count ∙ sym (same _ (count-set is_active_view views me v boss at));
-    each = each_set (λ seat z. HasSoundRole seat z.standing) views me boss s.roles.each (let old = s.roles.each me v at in record { small = old.small; first = old.first; merged = λ f q knows. more q (old.merged f q knows) });
+    each = each_set (λ seat z. HasSoundRole seat z.standing) views me boss s.roles.each
+        (let old = s.roles.each me v at in record { small = old.small; first = old.first });
     pairs = pairs_move (λ i y j z. HasSoundRoles i y.standing j z.standing) views me v boss at s.roles.pairs
-        (let old = s.roles.pairs me v at me v at in record { apart = old.apart; made = λ f w. more v.standing.worker (old.made f w); unmerged = old.unmerged; known = λ f q knows. more q (old.known f q knows); fresh = old.fresh })
+        (let old = s.roles.pairs me v at me v at in
+        record {
+          apart = old.apart;
+          made = λ f w. more v.standing.worker (old.made f w);
+          enrolled = λ f q knows. more q (old.enrolled f q knows);
+          merged = λ f q knows. more q (old.merged f q knows);
+          fresh =
+              old.fresh;
+          unmerged = old.unmerged;
+        })
         (λ j z differ there. let to = s.roles.pairs me v at j z there in let by = s.roles.pairs j z there me v at in (
-          record { apart = to.apart; made = λ f w. more z.standing.worker (to.made f w); unmerged = to.unmerged; known = λ f q knows. more q (to.known f q knows); fresh = to.fresh },
-          record { apart = by.apart; made = by.made; unmerged = by.unmerged; known = by.known; fresh = by.fresh },
+          record {
+            apart = to.apart;
+            made = λ f w. more z.standing.worker (to.made f w);
+            enrolled = λ f q knows. more q (to.enrolled f q knows);
+            merged = λ f q knows. more q (to.merged f q knows);
+            fresh = to.fresh;
+            unmerged = to.unmerged;
+          },
+          record { apart = by.apart; made = by.made; enrolled = by.enrolled; merged = by.merged; fresh = by.fresh; unmerged = by.unmerged },
         ));
   }
     where
@@ -69,7 +87,8 @@ module _ (key : Start) (words : Words) (views : List View) (me : ℕ) (v : View)
   -- whoever the flusher's seat is, it knows the new number as made
   boss-knows : (j : ℕ) (z : View) → get_elem? made j ≡ some z → z.standing.role ≡ Flusher → Knows n z.standing.made
   boss-knows j z there f = ⊎_elim
-      (λ (t : (j ≡ me) × (boss ≡ z)). subst (λ (y : View). Knows n y.standing.made) t.1 (ap (λ b. b || list_any (eqb n) v.standing.made) (eq-eqb n n refl)))
+      (λ (t : (j ≡ me) × (boss ≡ z)). subst (λ (y : View). Knows n y.standing.made) t.1
+      (ap (λ b. b || list_any (eqb n) v.standing.made) (eq-eqb n n refl)))
       (λ (t : (j ≢ me) × (get_elem? views j ≡ some z)). absurd (t.0 ((s.roles.each j z t.1).first f ∙ sym first)))
       (Rattle.atomic_table.proofs.Lists.at_set views me j boss z there)
 
@@ -81,7 +100,7 @@ module _ (key : Start) (words : Words) (views : List View) (me : ℕ) (v : View)
       (Rattle.atomic_table.proofs.Lists.at_set views me j boss z there)
 
   abbrev IsNewTo : View → Type 0
-  IsNewTo y = (is_worker y.standing.role ≡ true → y.standing.worker ≡ n → ⊥) × (y.standing.role ≡ Flusher → Lacks n y.standing.merged) × Lacks n y.standing.enrolled
+  IsNewTo y = (is_worker y.standing.role ≡ true → y.standing.worker ≡ n → ⊥) × Lacks n y.standing.merged × Lacks n y.standing.enrolled
 
   -- no worker had the number, and nobody knew it as enrolled or merged
   new-number : (j : ℕ) (z : View) → get_elem? made j ≡ some z → IsNewTo z
@@ -93,21 +112,43 @@ module _ (key : Start) (words : Words) (views : List View) (me : ℕ) (v : View)
       of-old : (i : ℕ) (y : View) → get_elem? views i ≡ some y → IsNewTo y
       of-old i y here = let pair = s.roles.pairs me v at i y here in (
         (λ w same. absurd (true≢false (sym (subst (λ q. Knows q v.standing.made) same (pair.made may.flusher w)) ∙ may.new))),
-        (λ f. let same : i ≡ me = (s.roles.each i y here).first f ∙ sym first in
-            let is : y ≡ v = Rattle.std.proofs.Common.sym (mathlib.Core.Option.some-injective _ _ (sym at ∙ (ap (λ k. get_elem? views k) (sym same) ∙ here))) in
-            subst (λ (x : View). Lacks n x.standing.merged) (sym is) (lacks-all n v.standing.merged v.standing.made ((s.roles.each me v at).merged may.flusher) may.new)),
-        lacks-all n y.standing.enrolled v.standing.made (pair.known may.flusher) may.new,
+        lacks-all n y.standing.merged v.standing.made (pair.merged may.flusher) may.new,
+        lacks-all n y.standing.enrolled v.standing.made (pair.enrolled may.flusher) may.new,
       )
 
   crew-splits : HasSoundCrew words.crew (made ++ worker ∷ [])
   crew-splits = record {
     count = hired-sound.roles.count ∙ sym (sum_by_push (λ (z : View). cond (is_active_view z) 1 0) made worker ∙ none _);
-    each = each_push (λ seat z. HasSoundRole seat z.standing) (λ seat z. HasSoundRole seat z.standing) made worker hired-sound.roles.each record { small = λ _. small; first = λ e. absurd (cc); merged = λ e. absurd (cc) } (λ _ _ _ p. p);
+    each = each_push (λ seat z. HasSoundRole seat z.standing)
+        (λ seat z. HasSoundRole seat z.standing) made worker hired-sound.roles.each record { small = λ _. small; first = λ e. absurd (cc) }
+        (λ _ _ _ p. p);
     pairs = pairs_push (λ i y j z. HasSoundRoles i y.standing j z.standing) made worker hired-sound.roles.pairs
-        record { apart = λ _ _ _. refl; made = λ e. absurd (cc); unmerged = λ e. absurd (cc); known = λ e. absurd (cc); fresh = λ _. refl }
+        record {
+          apart = λ _ _ _. refl;
+          made = λ e. absurd (cc);
+          enrolled = λ e. absurd (cc);
+          merged = λ e. absurd (cc);
+          fresh = λ _. refl;
+          unmerged = λ _. refl;
+        }
         (λ j z there. let new = new-number j z there in (
-          record { apart = λ _ w same. absurd (new.0 w (sym same)); made = λ e. absurd (cc); unmerged = λ e. absurd (cc); known = λ e. absurd (cc); fresh = λ _. new.2 },
-          record { apart = λ w _ same. absurd (new.0 w same); made = λ f _. boss-knows j z there f; unmerged = λ f _. new.1 f; known = λ f q e. absurd (true≢false (sym e)); fresh = λ _. refl },
+          record {
+            apart = λ _ w same. absurd (new.0 w (sym same));
+            made = λ e. absurd (cc);
+            enrolled = λ e. absurd (cc);
+            merged = λ e. absurd (cc);
+            fresh = λ _. new.2;
+            unmerged = λ _. new.1;
+          },
+          record {
+            apart = λ w _ same. absurd (new.0 w same);
+            made = λ f _. boss-knows j z there f;
+            enrolled = λ f q e. absurd (true≢false (sym e));
+            merged = λ f q e. absurd (true≢false (sym e));
+            fresh = λ _. refl;
+            unmerged =
+                λ _. refl;
+          },
         ));
   }
     where
@@ -121,5 +162,7 @@ module _ (key : Start) (words : Words) (views : List View) (me : ℕ) (v : View)
       (λ _. s.constants me v at (ap is_spent may.flusher)) crew-splits (pairs_push (λ _ y _ z. RestsIfQuiet y z) made worker hired-sound.quiet
       (λ f. absurd (cc)) (λ j z there. ((λ f. absurd (cc)), (λ f q. absurd (boss-busy j z there f q)))))
 
-pub split-allowed : (key : Start) (seat : ℕ) (v : View) (n : ℕ) → MaySplit n v → n < 4294967296 → Splits {S = Unit {0}} (Ruled key) seat v (hires n v) (hired n v)
-split-allowed key seat v n may small s ruled at = (ruled.0, (ruled.1.0, splits key (words_of key.ring s.words) s.views seat v n ruled.1.0 ruled.1.1 at may small))
+pub split-allowed : (key : Start) (seat : ℕ) (v : View) (n : ℕ) → MaySplit n v → n < 4294967296
+    → Splits {S = Unit {0}} (Ruled key) seat v (hires n v) (hired n v)
+split-allowed key seat v n may small s ruled at =
+    (ruled.0, (ruled.1.0, splits key (words_of key.ring s.words) s.views seat v n ruled.1.0 ruled.1.1 at may small))

@@ -50,8 +50,16 @@ module _ (key : Start) (words : Words) (least : 1024 ≤ key.ring) (most : key.r
     entries = alone (λ _ z. OwnsIfWorker z) (λ _. refl);
     roles = record {
       count = crew;
-      each = alone (λ seat z. HasSoundRole seat z.standing) record { small = λ e. absurd (true≢false (sym e)); first = λ _. refl; merged = λ _ q e. e };
-      pairs = alone _ (alone (λ j z. HasSoundRoles 0 (flusher key).standing j z.standing) record { apart = λ _ _ _. refl; made = λ _ e. absurd (true≢false (sym e)); unmerged = λ _ e. absurd (true≢false (sym e)); known = λ _ q e. e; fresh = λ e. absurd (cc) });
+      each = alone (λ seat z. HasSoundRole seat z.standing) record { small = λ e. absurd (true≢false (sym e)); first = λ _. refl };
+      pairs = alone _ (alone
+          (λ j z. HasSoundRoles 0 (flusher key).standing j z.standing) record {
+            apart = λ _ _ _. refl;
+            made = λ _ e. absurd (true≢false (sym e));
+            enrolled = λ _ q e. e;
+            merged = λ _ q e. e;
+            fresh = λ e. absurd (cc);
+            unmerged = λ e. absurd (true≢false (sym e));
+          });
     };
     sends = alone (λ _ z. SendsIfFlusher key.start words.exposed words.durable empty_log z) (λ _. record {
       sent_to = omega arith;
@@ -70,14 +78,16 @@ module _ (key : Start) (words : Words) (least : 1024 ≤ key.ring) (most : key.r
       owners zero = record { owns = refl; owes = refl }
       owners (suc j) = record { owns = refl; owes = refl }
 
-pub start-allowed : (key : Start) (ws zeros : List ℕ) → 1024 ≤ key.ring → key.ring ≤ 1048576 → key.start ≤ LAST → zeros ≡ replicate (RING + key.ring) 0 → ws ≡ set (set (set zeros TAIL key.start) EXPOSED key.start) DURABLE key.start
+pub start-allowed : (key : Start) (ws zeros : List ℕ) → 1024 ≤ key.ring → key.ring ≤ 1048576 → key.start ≤ LAST
+    → zeros ≡ replicate (RING + key.ring) 0 → ws ≡ set (set (set zeros TAIL key.start) EXPOSED key.start) DURABLE key.start
     → Ruled key (opening ws [] (flusher key))
 start-allowed key ws zeros least most small zero-is is = subst (λ (l : List ℕ). Ruled key (opening l [] (flusher key))) (sym is) (
   length-c,
   (
     _,
     starts key (words_of key.ring c) least most small
-        (get_or-set_other b DURABLE TAIL n 0 (λ e. omega arith) ∙ (get_or-set_other a EXPOSED TAIL n 0 (λ e. omega arith) ∙ get_or-set_same zeros TAIL n 0 (omega (arith, length-zeros))))
+        (get_or-set_other b DURABLE TAIL n 0 (λ e. omega arith)
+        ∙ (get_or-set_other a EXPOSED TAIL n 0 (λ e. omega arith) ∙ get_or-set_same zeros TAIL n 0 (omega (arith, length-zeros))))
         (get_or-set_other b DURABLE EXPOSED n 0 (λ e. omega arith) ∙ get_or-set_same a EXPOSED n 0 (omega (arith, length-a)))
         (get_or-set_same b DURABLE n 0 (omega (arith, length-b)))
         (zero-at STOP (λ e. omega arith) (λ e. omega arith) (λ e. omega arith) (omega arith))

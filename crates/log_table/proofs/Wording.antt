@@ -8,7 +8,8 @@ use Rattle.log_table.specs.Words.{read, words_of, word_at, put, with_word}
 
 -- the word that lies at a place
 abbrev word_of : ℕ → Word
-word_of n = cond (n == TAIL) Tail (cond (n == EXPOSED) Exposed (cond (n == DURABLE) Durable (cond (n == STOP) Stop (cond (n == CREW) Crew (Ring (n - RING))))))
+word_of n = cond (n == TAIL) Tail
+    (cond (n == EXPOSED) Exposed (cond (n == DURABLE) Durable (cond (n == STOP) Stop (cond (n == CREW) Crew (Ring (n - RING))))))
 
 word_of-index : (word : Word) → word_of (index_of word) ≡ word
 word_of-index Tail = refl
@@ -16,7 +17,10 @@ word_of-index Exposed = refl
 word_of-index Durable = refl
 word_of-index Stop = refl
 word_of-index Crew = refl
-word_of-index (Ring index) = λ i. cond (other TAIL (omega arith) i) Tail (cond (other EXPOSED (omega arith) i) Exposed (cond (other DURABLE (omega arith) i) Durable (cond (other STOP (omega arith) i) Stop (cond (other CREW (omega arith) i) Crew (Ring (back i))))))
+word_of-index (Ring index) =
+    λ i. cond (other TAIL (omega arith) i) Tail
+    (cond (other EXPOSED (omega arith) i) Exposed
+    (cond (other DURABLE (omega arith) i) Durable (cond (other STOP (omega arith) i) Stop (cond (other CREW (omega arith) i) Crew (Ring (back i))))))
   where
     other : (place : ℕ) → place < RING → (RING + index == place) ≡ false
     other place below = ne_eqb (RING + index) place (λ e. omega arith)
@@ -35,7 +39,8 @@ read-other ws word other x differ = get_or-set_other ws (index_of word) (index_o
 read-same : (ws : List ℕ) (word : Word) (x : ℕ) → index_of word < length ws → read (set ws (index_of word) x) word ≡ x
 read-same ws word x below = get_or-set_same ws (index_of word) x 0 below
 
-ring-other : (size : ℕ) (ws : List ℕ) (word : Word) (x index : ℕ) → word ≢ Ring index → cond (nat_lt index size) (read (set ws (index_of word) x) (Ring index)) 0 ≡ cond (nat_lt index size) (read ws (Ring index)) 0
+ring-other : (size : ℕ) (ws : List ℕ) (word : Word) (x index : ℕ) → word ≢ Ring index
+    → cond (nat_lt index size) (read (set ws (index_of word) x) (Ring index)) 0 ≡ cond (nat_lt index size) (read ws (Ring index)) 0
 ring-other size ws word x index differ = ap (λ n. cond (nat_lt index size) n 0) (read-other ws word (Ring index) x differ)
 
 -- the word lies in a table whose ring has that many units
@@ -47,7 +52,8 @@ pub data Fits (size : ℕ) : Word → Type 0 where
   shared_crew : Fits size Crew
   in_ring : (index : ℕ) → index < size → Fits size (Ring index)
 
-pub words_of-set : (size : ℕ) (ws : List ℕ) (word : Word) (x : ℕ) → Fits size word → length ws ≡ word_count size → words_of size (set ws (index_of word) x) ≡ with_word (words_of size ws) word x
+pub words_of-set : (size : ℕ) (ws : List ℕ) (word : Word) (x : ℕ) → Fits size word → length ws ≡ word_count size
+    → words_of size (set ws (index_of word) x) ≡ with_word (words_of size ws) word x
 words_of-set size ws Tail x fits len i = record {
   tail = read-same ws Tail x (omega (arith, len)) i;
   exposed = read-other ws Tail Exposed x (λ e. cc) i;
@@ -99,9 +105,13 @@ words_of-set size ws (Ring index) x (in_ring _ below) len i = record {
   where
     ring-at : (k : ℕ) → cond (nat_lt k size) (read (set ws (index_of (Ring index)) x) (Ring k)) 0 ≡ put (words_of size ws).ring index x k
     ring-at k = dite (ℕ_discrete k index)
-        (λ same. subst (λ j. cond (nat_lt j size) (read (set ws (index_of (Ring index)) x) (Ring j)) 0 ≡ put (words_of size ws).ring index x j) (sym same)
-        (ap (λ b. cond b (read (set ws (index_of (Ring index)) x) (Ring index)) 0) (Rattle.std.proofs.Common.lt-ltb index size below) ∙ (read-same ws (Ring index) x (omega (arith, len, below)) ∙ sym (ap (λ b. cond b x ((words_of size ws).ring index)) (eq-eqb index index refl)))))
-        (λ differ. ring-other size ws (Ring index) x k (λ e. differ (sym (ring-index e))) ∙ sym (ap (λ b. cond b x ((words_of size ws).ring k)) (ne_eqb k index differ)))
+        (λ same. subst (λ j. cond (nat_lt j size) (read (set ws (index_of (Ring index)) x) (Ring j)) 0 ≡ put (words_of size ws).ring index x j)
+        (sym same)
+        (ap (λ b. cond b (read (set ws (index_of (Ring index)) x) (Ring index)) 0) (Rattle.std.proofs.Common.lt-ltb index size below)
+        ∙ (read-same ws (Ring index) x (omega (arith, len, below))
+        ∙ sym (ap (λ b. cond b x ((words_of size ws).ring index)) (eq-eqb index index refl)))))
+        (λ differ. ring-other size ws (Ring index) x k (λ e. differ (sym (ring-index e)))
+        ∙ sym (ap (λ b. cond b x ((words_of size ws).ring k)) (ne_eqb k index differ)))
       where
         ring-index : Ring index ≡ Ring k → index ≡ k
         ring-index e = cc
@@ -113,4 +123,5 @@ read-word size ws Exposed fits = refl
 read-word size ws Durable fits = refl
 read-word size ws Stop fits = refl
 read-word size ws Crew fits = refl
-read-word size ws (Ring index) (in_ring _ below) = sym (ap (λ b. cond b (get_or ws (RING + index) 0) 0) (Rattle.std.proofs.Common.lt-ltb index size below))
+read-word size ws (Ring index) (in_ring _ below) =
+    sym (ap (λ b. cond b (get_or ws (RING + index) 0) 0) (Rattle.std.proofs.Common.lt-ltb index size below))

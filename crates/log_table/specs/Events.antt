@@ -54,5 +54,6 @@ pub record Leads (key : Start) (words words' : Words) (views views' : List View)
 -- Whatever sound table it is in which the word holds `found` and the seat has `view`: once the word holds `left` and the
 -- seat has `view'`, the table is sound, and the step is the event
 pub record IsStep (key : Start) (seat : ℕ) (word : Word) (found left : ℕ) (view view' : View) (event : Option RingEvent) : Type 0 where
-  pub leads : (words : Words) (views : List View) (log : Log) → IsSound key words views log → get_elem? views seat ≡ some view → word_at words word ≡ found
+  pub leads : (words : Words) (views : List View) (log : Log) → IsSound key words views log → get_elem? views seat ≡ some view
+      → word_at words word ≡ found
       → Leads key words (with_word words word left) views (set views seat view') log event

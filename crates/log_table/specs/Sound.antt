@@ -112,19 +112,20 @@ Knows worker numbers = list_any (eqb worker) numbers ≡ true
 abbrev pub Lacks : ℕ → List ℕ → Type 0
 Lacks worker numbers = list_any (eqb worker) numbers ≡ false
 
--- a worker's number is small, and the flusher's seat is the first, which knows as made what it knows as merged
+-- a worker's number is small, and the flusher's seat is the first
 pub record HasSoundRole (seat : ℕ) (standing : Standing) : Type 0 where
   pub small : is_worker standing.role ≡ true → standing.worker < 4294967296
   pub first : standing.role ≡ Flusher → seat ≡ 0
-  pub merged : standing.role ≡ Flusher → (worker : ℕ) → Knows worker standing.merged → Knows worker standing.made
 
--- no two workers have one number; the flusher's seat knows each as made and none as merged, and as made all that are known as enrolled; no fresh one is known as enrolled
+-- No two workers have one number. The flusher's seat knows as made each of them, and each number that any seat knows as enrolled or
+-- merged. No fresh worker has a number that any seat knows as enrolled, and no worker one that any seat knows as merged.
 pub record HasSoundRoles (seat : ℕ) (standing : Standing) (other : ℕ) (others : Standing) : Type 0 where
   pub apart : is_worker standing.role ≡ true → is_worker others.role ≡ true → standing.worker ≡ others.worker → seat ≡ other
   pub made : standing.role ≡ Flusher → is_worker others.role ≡ true → Knows others.worker standing.made
-  pub unmerged : standing.role ≡ Flusher → is_worker others.role ≡ true → Lacks others.worker standing.merged
-  pub known : standing.role ≡ Flusher → (worker : ℕ) → Knows worker others.enrolled → Knows worker standing.made
+  pub enrolled : standing.role ≡ Flusher → (worker : ℕ) → Knows worker others.enrolled → Knows worker standing.made
+  pub merged : standing.role ≡ Flusher → (worker : ℕ) → Knows worker others.merged → Knows worker standing.made
   pub fresh : standing.role ≡ Fresh → Lacks standing.worker others.enrolled
+  pub unmerged : is_worker standing.role ≡ true → Lacks standing.worker others.merged
 
 abbrev pub is_active_view : View → Bool
 is_active_view view = is_active view.standing.role

@@ -220,7 +220,10 @@ released to view = record view { seen = seen_exposed to view.seen; entries = vie
 
 -- after the worker is counted as active, which it then knows
 abbrev pub enrolled : View → View
-enrolled view = record view { standing = record view.standing { role = Active; enrolled = view.standing.worker ∷ view.standing.enrolled }; seen = counted view.seen }
+enrolled view = record view {
+  standing = record view.standing { role = Active; enrolled = view.standing.worker ∷ view.standing.enrolled };
+  seen = counted view.seen;
+}
 
 -- after the worker is no more counted as active
 abbrev pub retired : View → View
@@ -271,7 +274,13 @@ merged_entries entries (other ∷ others) = inserted other (merged_entries entri
 
 -- what both have seen
 abbrev pub merged_seen : Seen → Seen → Seen
-merged_seen seen other = record seen { tail = max seen.tail other.tail; exposed = max seen.exposed other.exposed; durable = max seen.durable other.durable; lsns = seen.lsns ++ other.lsns }
+merged_seen seen other =
+    record seen {
+      tail = max seen.tail other.tail;
+      exposed = max seen.exposed other.exposed;
+      durable = max seen.durable other.durable;
+      lsns = seen.lsns ++ other.lsns;
+    }
 
 -- the standing of the flusher's seat after it took in a worker's or a note, which leaves its worker unmerged
 abbrev pub merged_standing : Standing → Standing → Standing
@@ -282,4 +291,9 @@ merged_standing standing other = record standing {
 
 -- the flusher's view after it took in a worker's or a note: the entries, jobs and knowledge of both
 abbrev pub takes_in : View → View → View
-takes_in view other = record view { standing = merged_standing view.standing other.standing; seen = merged_seen view.seen other.seen; entries = merged_entries view.entries other.entries }
+takes_in view other =
+    record view {
+      standing = merged_standing view.standing other.standing;
+      seen = merged_seen view.seen other.seen;
+      entries = merged_entries view.entries other.entries;
+    }

@@ -54,12 +54,16 @@ impl LogTable {
 pub struct Seat {
     pub(crate) base: atomic_table::Seat<(), View>,
     pub(crate) worker: u32,
+    ghost named: { worker ≡ base.me.0.standing.worker },
 }
 
 impl Seat {
-    /// The worker's number, for the schedule hook alone. The flusher's seat has one that means nothing.
+    ghost use Rattle.log_table.specs.Seats.{view_of};
+
+    /// The worker's number, as in its view. The flusher's seat has one that means nothing.
     pub fn worker(&self) -> u32
-        ensures { result ≡ self.now.worker }
+        ensures worker { result ≡ self.now.worker }
+        ensures view { result ≡ (view_of self.now).standing.worker }
     {
         self.worker
     }

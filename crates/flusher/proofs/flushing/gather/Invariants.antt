@@ -6,7 +6,7 @@ use Rattle.flusher.proofs.flushing.gather.Given as goal
 
 -- the units read so far are those of the batch
 abbrev pub invariant-loop-at : goal.invariant-loop-at
-invariant-loop-at g l = record {
+invariant-loop-at l = record {
   same : l.table ≡ l.initial.table;
   end : l.at-end ≡ l.fn.to;
   next : l.at ≡ l.fn.from + length l.batch.units;

@@ -9,5 +9,6 @@ split_seat-base-requires g c = (
   c.requires.seat.table_is,
   omega (arith, c.args.table.now.sized),
   split-allowed (key_of c.args.table.now) (number_of c.args.seat.now) (view_of c.args.seat.now) _
-      (subst (λ (n : ℕ). MaySplit n (view_of c.args.seat.now)) (sym c.requires.named) c.requires.may) (let named = c.requires.named in omega (arith, c.ranges.worker)),
+      (subst (λ (n : ℕ). MaySplit n (view_of c.args.seat.now)) (sym c.requires.named) c.requires.may)
+      (let named = c.requires.named in omega (arith, c.ranges.worker)),
 )

@@ -9,7 +9,8 @@ pub store-requires : goal.store-requires
 store-requires c = (
   c.requires.seat.table_is,
   omega (arith, c.args.self.now.sized),
-  store_exposed-allowed (key_of c.args.self.now) c.args.self.now.table.shared.table_id.slots (number_of c.args.seat.now) c.args.seat.now.base.me c.units.result
+  store_exposed-allowed (key_of c.args.self.now) c.args.self.now.table.shared.table_id.slots
+      (number_of c.args.seat.now) c.args.seat.now.base.me c.units.result
       (subst (λ (to : ℕ). MayRelease to (view_of c.args.seat.now)) (sym c.units.ensures) c.requires.next),
 )
 

@@ -14,8 +14,12 @@ store-requires c =
     let below : c.args.at % c.args.self.now.ring < c.args.self.now.ring = mod-lt c.args.at (omega arith) in (
       c.requires.seat.table_is,
       omega (arith, c.args.self.now.sized, below, c.place-index.ensures),
-      subst (λ (index : ℕ). Allows (Ruled (key_of c.args.self.now)) c.args.self.now.table.shared.table_id.slots (number_of c.args.seat.now) c.args.seat.now.base.me (RING + index) (λ _. c.args.unit) (λ _ new. (new ≡ (filled c.args.unit c.args.seat.now.base.me.0, c.args.seat.now.base.me.1)) × Unit {0})) (sym c.place-index.ensures)
-          (store_ring-allowed (key_of c.args.self.now) c.args.self.now.table.shared.table_id.slots (number_of c.args.seat.now) c.args.seat.now.base.me c.args.at c.args.self.now.ring c.args.unit c.args.self.now.keyed below c.requires.next),
+      subst (λ (index : ℕ). Allows (Ruled (key_of c.args.self.now)) c.args.self.now.table.shared.table_id.slots
+          (number_of c.args.seat.now) c.args.seat.now.base.me (RING + index) (λ _. c.args.unit)
+          (λ _ new. (new ≡ (filled c.args.unit c.args.seat.now.base.me.0, c.args.seat.now.base.me.1)) × Unit {0})) (sym c.place-index.ensures)
+          (store_ring-allowed (key_of c.args.self.now) c.args.self.now.table.shared.table_id.slots
+          (number_of c.args.seat.now) c.args.seat.now.base.me c.args.at c.args.self.now.ring c.args.unit c.args.self.now.keyed below
+          c.requires.next),
     )
 
 pub returns-clause-event : goal.returns-clause-event
