@@ -1,3 +1,5 @@
 pub mod LineLemmas
+pub mod RanLemmas
+pub mod SpellLemmas
 pub mod ToldLemmas
 pub mod TurnLemmas

@@ -28,13 +28,14 @@ abbrev pub all_of : List (List Rec) → List Rec
 all_of [] = []
 all_of (records ∷ lists) = records ++ all_of lists
 
--- the bytes hold these units and then a front of more, which ends at an LSN that the view saw, so between two reservations
-pub record HoldsFront (before more : List ℕ) (at : ℕ) (view : View) (bytes : List ℕ) : Type 0 where
+-- the bytes hold these units and then a front of more, which ends at one of these LSNs: those that a seat saw, which lie between
+-- two reservations
+pub record HoldsSome (before more : List ℕ) (at : ℕ) (lsns bytes : List ℕ) : Type 0 where
   pub front : List ℕ
   pub rest : List ℕ
   pub whole : more ≡ front ++ rest
   pub holds : HoldsUnits bytes (before ++ front)
-  pub seen : Contains view.seen.lsns (at + length front)
+  pub seen : Contains lsns (at + length front)
 
 -- the units in flight: those that were read when the disk failed, and else none
 abbrev pub InFlight : Option DaemonFault → View → List ℕ → Type 0
@@ -56,14 +57,15 @@ extra None = 0
 extra (Some DiskFault) = 4
 extra (Some WriteFault) = 0
 
--- Turns of a daemon whom nothing had befallen. `batches` are the units that each of them sent, `cut` those in flight at a
--- fault of the disk, `text` what was written.
+-- Turns of a daemon to which nothing had befallen. `batches` are the units that each of them sent, `cut` those in flight at a
+-- fault of the disk, `text` what was written, `newer` the LSNs that were seen meanwhile.
 pub record Ran {D : Type 0} {K : Type 0} (g : Ghosts D) (h : SinkGhosts K) (old new : Daemon D K) : Type 0 where
   pub was_fine : old.fault ≡ None
   pub batches : List (List ℕ)
   pub cut : List ℕ
   pub text : List ℕ
   pub newer : List ℕ
+  pub same : IsSameDaemon g h old new
   pub constants : (view_of new.flusher.seat).constants ≡ (view_of old.flusher.seat).constants
   pub standing : (view_of new.flusher.seat).standing ≡ (view_of old.flusher.seat).standing
   pub seen : (view_of new.flusher.seat).seen.lsns ≡ newer ++ (view_of old.flusher.seat).seen.lsns
@@ -71,7 +73,8 @@ pub record Ran {D : Type 0} {K : Type 0} (g : Ghosts D) (h : SinkGhosts K) (old 
   pub in_flight : InFlight new.fault (view_of new.flusher.seat) cut
   pub may_turn : new.fault ≡ None → MayTurn g new
   pub moments : g.honest old.flusher.disk.now → (opening : List ℕ) → HoldsDurablePrefix g old.flusher opening
-      → Leaves g.moment g.images_since (HoldsFront (opening ++ (view_of old.flusher.seat).sending.sent) (joined batches ++ cut) (durable old) (view_of new.flusher.seat)) old.flusher.disk.now new.flusher.disk.now
+      → Leaves g.moment g.images_since (HoldsSome (opening ++ (view_of old.flusher.seat).sending.sent) (joined batches ++ cut)
+          (durable old) (view_of new.flusher.seat).seen.lsns) old.flusher.disk.now new.flusher.disk.now
   pub prefix : new.fault ≢ Some DiskFault → g.honest old.flusher.disk.now → (opening : List ℕ)
       → HoldsDurablePrefix g old.flusher opening → HoldsDurablePrefix g new.flusher opening
   pub torn : g.honest old.flusher.disk.now → (opening : List ℕ)
@@ -87,4 +90,4 @@ pub record Ran {D : Type 0} {K : Type 0} (g : Ghosts D) (h : SinkGhosts K) (old 
 
 -- nothing happened, or turns did
 abbrev pub Later : {D : Type 0} → {K : Type 0} → Ghosts D → SinkGhosts K → Daemon D K → Daemon D K → Type 0
-Later g h old new = (new ≡ old) ⊎ (IsSameDaemon g h old new × Ran g h old new)
+Later g h old new = (new ≡ old) ⊎ Ran g h old new

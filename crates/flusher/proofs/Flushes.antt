@@ -1,5 +1,7 @@
 -- What the steps of a flush come to.
-use Rattle.std.proofs.Common.{◌≡◌, ◌≤◌, ◌+◌, ◌∙◌, sym, ap, refl, subst, inl, inr, ⊎_elim, ℕ, List, [], ◌++◌, length, arith, append_assoc}
+use Rattle.std.proofs.Common.{◌≡◌, ◌≤◌, ◌+◌, ◌∙◌, sym, ap, refl, subst, inl, inr, ⊎_elim, ℕ, List, [], ◌∷◌, ◌++◌, length, length-append, arith, append_assoc}
+use Rattle.std.specs.List.{Contains}
+use Rattle.std.proofs.lemmas.List.Elements.{Contains-append_left, Contains-append_right, Contains-push}
 use Rattle.log_disk.specs.Disk.{Leaves}
 use Rattle.log_disk.specs.declared.disk.LogDisk.{Ghosts}
 use Rattle.log_disk.proofs.Moments.{Leaves-now}
@@ -12,8 +14,8 @@ use Rattle.segment_file.specs.declared.scan_result.Tail.{Tail}
 use Rattle.flusher.specs.declared.flusher.Flusher.{Flusher}
 use Rattle.log_table.specs.Sends.{AreEntries, ReadsWholeEntries}
 use Rattle.log_table.specs.Views.{sent_to, read_to}
-use Rattle.flusher.specs.Sending.{gathered}
-use Rattle.flusher.specs.Flushing.{HoldsDurablePrefix, MayHoldBatchInFlight}
+use Rattle.flusher.specs.Sending.{gathered, flushed}
+use Rattle.flusher.specs.Flushing.{IsReady, HoldsDurablePrefix, MayHoldBatchInFlight}
 
 -- one step after another
 pub Becomes-then : (a b c : Seat) (view : View) (f : View → View) → Becomes a b view → Becomes b c (f (view_of b)) → Becomes a c (f view)
@@ -67,3 +69,45 @@ AreEntries-gathered view now from to units is unread start whole entries =
     let read : view.sending.read ++ units ≡ units = ap (λ us. us ++ units) unread in
     let all : read_to (gathered to units view) ≡ to = omega (arith, start, whole, ap length read) in
     subst (λ at. AreEntries at to units) (sym start) (subst (AreEntries (sent_to view) to) read (subst ReadsWholeEntries is entries all))
+
+-- a step of the seat alone, which leaves what was sent and read as it was, leaves the flusher ready
+pub IsReady-step : {D : Type 0} (g : Ghosts D) (f : Flusher D) (seat : Seat) (view : View) → IsReady g f → Becomes f.seat seat view
+    → view.constants ≡ (view_of f.seat).constants → view.standing ≡ (view_of f.seat).standing → view.sending.sent ≡ (view_of f.seat).sending.sent
+    → view.sending.read ≡ (view_of f.seat).sending.read → ((x : ℕ) → Contains (view_of f.seat).seen.lsns x → Contains view.seen.lsns x)
+    → IsReady g (record f { seat = seat })
+IsReady-step g f seat view ready becomes constants standing sent read seen =
+    let view_is : view_of seat ≡ view = ap (λ m. m.0) becomes.me in
+    let constants_are : (view_of seat).constants ≡ (view_of f.seat).constants = ap (λ v. v.constants) view_is ∙ constants in
+    let durable_is : sent_to (view_of seat) ≡ sent_to (view_of f.seat) =
+        (λ i. (constants_are i).start + length ((ap (λ v. v.sending.sent) view_is ∙ sent) i)) in
+    record {
+      seat = record {
+        table_is = becomes.table_is ∙ ready.seat.table_is;
+        no_slots = ap (λ m. m.1) becomes.me ∙ ready.seat.no_slots;
+        ring = ap (λ k. k.ring) constants_are ∙ ready.seat.ring;
+      };
+      flusher = ap (λ v. v.standing.role) view_is ∙ ap (λ s. s.role) standing ∙ ready.flusher;
+      unread = ap (λ v. v.sending.read) view_is ∙ read ∙ ready.unread;
+      seen = subst (Contains (view_of seat).seen.lsns) (sym durable_is)
+          (subst (λ v. Contains v.seen.lsns (sent_to (view_of f.seat))) (sym view_is) (seen (sent_to (view_of f.seat)) ready.seen));
+      next = ready.next ∙ sym durable_is;
+      place = ready.place;
+      shut = ready.shut;
+      room = ready.room;
+    }
+
+-- an LSN is among those seen, and stays there
+pub seen-newer : (newer : ℕ) (lsns : List ℕ) (x : ℕ) → Contains lsns x → Contains (newer ∷ lsns) x
+seen-newer newer lsns x seen = Contains-append_right (newer ∷ []) lsns x seen
+
+pub seen-newest : (newer : ℕ) (lsns : List ℕ) → Contains (newer ∷ lsns) newer
+seen-newest newer lsns = Contains-append_left (newer ∷ []) lsns newer (Contains-push [] newer)
+
+-- durable is seen once it is stored
+pub seen-flushed : (view now : View) (from to : ℕ) (units : List ℕ) → now ≡ flushed to units view → view.sending.read ≡ []
+    → from ≡ sent_to view → to ≡ from + length units → Contains now.seen.lsns (sent_to now)
+seen-flushed view now from to units is unread start whole =
+    let read : view.sending.read ++ units ≡ units = ap (λ us. us ++ units) unread in
+    let at : sent_to (flushed to units view) ≡ to =
+        omega (arith, length-append view.sending.sent (view.sending.read ++ units), ap length read, start, whole) in
+    subst (λ v. Contains v.seen.lsns (sent_to v)) (sym is) (subst (Contains (flushed to units view).seen.lsns) (sym at) (seen-newest to _))

@@ -1,5 +1,5 @@
 -- What a flush asks for, and what it leaves. `g` is what a disk shows; `old` and `new` are the flusher before and after.
-use Rattle.std.specs.Prelude.{◌≡◌, ◌↔◌, ℕ, ◌+◌, ◌*◌, ◌^◌, ◌<◌, ◌≤◌, List, [], ◌++◌, length}
+use Rattle.std.specs.Prelude.{◌≡◌, ◌↔◌, ℕ, ◌+◌, ◌*◌, ◌^◌, ◌<◌, ◌≤◌, List, [], ◌++◌, length, Contains}
 use Rattle.log_disk.specs.Disk.{IsSettled, Leaves}
 use Rattle.log_disk.specs.declared.disk.LogDisk.{Ghosts}
 use Rattle.log_table.specs.declared.view.Role.TheVariants.{Flusher as FlusherRole}
@@ -14,12 +14,13 @@ use Rattle.flusher.specs.declared.flusher.Drained.{Drained}
 use Rattle.flusher.specs.declared.flusher.Drained.TheVariants.{At, Active, Behind}
 use Rattle.flusher.specs.Sending.{gathered, flushed, asked}
 
--- a flush may be made: the seat is the table's first, its last flush did not fail, the log goes on at durable, behind a
--- gate that stays shut, and the batch has room for the ring
+-- a flush may be made: the seat is the table's first and saw durable, its last flush did not fail, the log goes on at durable
+-- behind a gate that stays shut, and the batch has room for the ring
 pub record IsReady {D : Type 0} (g : Ghosts D) (f : Flusher D) : Type 0 where
   pub seat : IsOf f.table.now f.seat
   pub flusher : (view_of f.seat).standing.role ≡ FlusherRole
   pub unread : (view_of f.seat).sending.read ≡ []
+  pub seen : Contains (view_of f.seat).seen.lsns (sent_to (view_of f.seat))
   pub next : f.tail.next ≡ sent_to (view_of f.seat)
   pub place : f.tail.at ≤ 2 ^ 63 + 16 * f.tail.next
   pub shut : g.honest f.disk.now → IsShut f.tail.at (g.images f.disk.now)

@@ -4,7 +4,7 @@ use Rattle.log_table.specs.Seats.{view_of}
 use Rattle.log_table.specs.Views.{saw_exposed, has_sent}
 use Rattle.log_table.specs.Sends.{AreEntries}
 use Rattle.flusher.specs.Sending.{read_units}
-use Rattle.flusher.proofs.Flushes.{Becomes-then, Leaves-append, AreEntries-gathered, HoldsDurablePrefix-append, MayHoldBatchInFlight-append}
+use Rattle.flusher.proofs.Flushes.{Becomes-then, Leaves-append, AreEntries-gathered, seen-flushed, HoldsDurablePrefix-append, MayHoldBatchInFlight-append}
 use Rattle.flusher.proofs.flusher.Flusher.flush.Goals as goal
 
 pub returns-in_err-self-clause-lost : goal.returns-in_err-self-clause-lost
@@ -57,4 +57,19 @@ returns-clause-flushed g c =
       prefix = λ honest. HoldsDurablePrefix-append g.D.LogDisk c.args.self.now _ _ _ _ _ units (c.in_ok-self.ensures.appended honest)
           (ap (λ m. m.0.sending.sent) seat.me ∙ ap (λ us. (view_of c.args.self.now.seat).sending.sent ++ (us ++ c.gather.ensures.units)) c.requires.ready.unread);
       settled = λ honest. c.in_ok-self.ensures.settled honest;
+    }
+
+pub returns-clause-ready : goal.returns-clause-ready
+returns-clause-ready g c =
+    let read = Becomes-then _ _ _ _ (read_units c.gather.ensures.units) c.load_exposed-to.ensures.view c.gather.ensures.seat in
+    let seat = Becomes-then _ _ _ _ (has_sent c.load_exposed-to.result) read c.store_durable.ensures.view in
+    record {
+      seat = search rules;
+      flusher = search rules;
+      unread = search rules;
+      seen = seen-flushed (view_of c.args.self.now.seat) _ _ _ _ (ap (λ m. m.0) seat.me) c.requires.ready.unread c.requires.ready.next c.gather.ensures.whole;
+      next = search rules;
+      place = search rules;
+      shut = search rules;
+      room = search rules;
     }
