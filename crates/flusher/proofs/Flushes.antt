@@ -110,4 +110,4 @@ seen-flushed view now from to units is unread start whole =
     let read : view.sending.read ++ units ≡ units = ap (λ us. us ++ units) unread in
     let at : sent_to (flushed to units view) ≡ to =
         omega (arith, length-append view.sending.sent (view.sending.read ++ units), ap length read, start, whole) in
-    subst (λ v. Contains v.seen.lsns (sent_to v)) (sym is) (subst (Contains (flushed to units view).seen.lsns) (sym at) (seen-newest to _))
+    subst (λ v. Contains v.seen.lsns (sent_to v)) (sym is) (subst (Contains (flushed to units view).seen.lsns) (sym at) (seen-newest to (gathered to units view).seen.lsns))
