@@ -103,11 +103,15 @@ seen-newer newer lsns x seen = Contains-append_right (newer ∷ []) lsns x seen
 pub seen-newest : (newer : ℕ) (lsns : List ℕ) → Contains (newer ∷ lsns) newer
 seen-newest newer lsns = Contains-append_left (newer ∷ []) lsns newer (Contains-push [] newer)
 
--- durable is seen once it is stored
-pub seen-flushed : (view now : View) (from to : ℕ) (units : List ℕ) → now ≡ flushed to units view → view.sending.read ≡ []
-    → from ≡ sent_to view → to ≡ from + length units → Contains now.seen.lsns (sent_to now)
-seen-flushed view now from to units is unread start whole =
+-- durable, once it is stored
+pub sent_to-flushed : (view now : View) (from to : ℕ) (units : List ℕ) → now ≡ flushed to units view → view.sending.read ≡ []
+    → from ≡ sent_to view → to ≡ from + length units → sent_to now ≡ to
+sent_to-flushed view now from to units is unread start whole =
     let read : view.sending.read ++ units ≡ units = ap (λ us. us ++ units) unread in
     let at : sent_to (flushed to units view) ≡ to =
         omega (arith, length-append view.sending.sent (view.sending.read ++ units), ap length read, start, whole) in
-    subst (λ v. Contains v.seen.lsns (sent_to v)) (sym is) (subst (Contains (flushed to units view).seen.lsns) (sym at) (seen-newest to (gathered to units view).seen.lsns))
+    ap sent_to is ∙ at
+
+pub seen-flushed : (view now : View) (to : ℕ) (units : List ℕ) → now ≡ flushed to units view → sent_to now ≡ to → Contains now.seen.lsns (sent_to now)
+seen-flushed view now to units is at =
+    subst (Contains now.seen.lsns) (sym at) (subst (λ v. Contains v.seen.lsns to) (sym is) (seen-newest to (gathered to units view).seen.lsns))

@@ -4,7 +4,7 @@ use Rattle.log_table.specs.Seats.{view_of}
 use Rattle.log_table.specs.Views.{saw_exposed, has_sent}
 use Rattle.log_table.specs.Sends.{AreEntries}
 use Rattle.flusher.specs.Sending.{read_units}
-use Rattle.flusher.proofs.Flushes.{Becomes-then, Leaves-append, AreEntries-gathered, seen-flushed, HoldsDurablePrefix-append, MayHoldBatchInFlight-append}
+use Rattle.flusher.proofs.Flushes.{Becomes-then, Leaves-append, AreEntries-gathered, sent_to-flushed, seen-flushed, HoldsDurablePrefix-append, MayHoldBatchInFlight-append}
 use Rattle.flusher.proofs.flusher.Flusher.flush.Goals as goal
 
 pub returns-in_err-self-clause-lost : goal.returns-in_err-self-clause-lost
@@ -63,12 +63,14 @@ pub returns-clause-ready : goal.returns-clause-ready
 returns-clause-ready g c =
     let read = Becomes-then _ _ _ _ (read_units c.gather.ensures.units) c.load_exposed-to.ensures.view c.gather.ensures.seat in
     let seat = Becomes-then _ _ _ _ (has_sent c.load_exposed-to.result) read c.store_durable.ensures.view in
+    let durable = sent_to-flushed (view_of c.args.self.now.seat) _ _ _ _ (ap (λ m. m.0) seat.me) c.requires.ready.unread c.requires.ready.next c.gather.ensures.whole in
+    let units = ap (λ batch. length batch.units) c.gather.ensures.batch in
     record {
       seat = search rules;
       flusher = search rules;
       unread = search rules;
-      seen = seen-flushed (view_of c.args.self.now.seat) _ _ _ _ (ap (λ m. m.0) seat.me) c.requires.ready.unread c.requires.ready.next c.gather.ensures.whole;
-      next = search rules;
+      seen = seen-flushed (view_of c.args.self.now.seat) _ _ _ (ap (λ m. m.0) seat.me) durable;
+      next = omega (arith, durable, c.in_ok-self.ensures.next, units, c.gather.ensures.whole);
       place = search rules;
       shut = search rules;
       room = search rules;
