@@ -70,7 +70,7 @@ pub record ToldUpTo (voice : Voice) (from at : ℕ) (units text : List ℕ) (lin
   pub lines_are : lines ≡ lines_in voice seen
   pub counts : after ≡ counted before seen
 
-text_of-none : (voice : Voice) (from : ℕ) → [] ≡ text_of voice from []
+pub text_of-none : (voice : Voice) (from : ℕ) → [] ≡ text_of voice from []
 text_of-none Lines from = refl
 text_of-none Count from = refl
 
@@ -78,7 +78,7 @@ lines_in-none : (voice : Voice) → 0 ≡ lines_in voice []
 lines_in-none Lines = omega arith
 lines_in-none Count = refl
 
-counted-none : (tally : Tally) → tally ≡ counted tally []
+pub counted-none : (tally : Tally) → tally ≡ counted tally []
 counted-none tally i = record { done = same tally.done i; refused = same tally.refused i }
   where
     same : (n : ℕ) → n ≡ n + 0

@@ -3,6 +3,7 @@
 
 mod daemon;
 mod end_line;
+mod running;
 mod tally;
 mod telling;
 mod turning;

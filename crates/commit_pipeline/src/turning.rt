@@ -2,6 +2,7 @@
 ghost use Rattle.std.specs.Prelude.{◌≡◌, IfOk, IfErr, OnOk, OnErr, Some};
 ghost use Rattle.log_table.specs.declared.view.Role.TheVariants.{Flusher as FlusherRole};
 ghost use Rattle.log_table.specs.Seats.{IsOf, view_of};
+ghost use Rattle.commit_pipeline.specs.Later.{Later};
 ghost use Rattle.commit_pipeline.specs.Turning.{MayTurn, IsSameDaemon, Turns, Fails, Stops};
 ghost use Rattle.commit_pipeline.specs.Stopping.{stop_word};
 
@@ -19,6 +20,7 @@ impl<'a, D: LogDisk, K: Sink> Daemon<'a, D, K> {
         ensures failed { IfErr result (Fails D.LogDisk K.Sink self.old self.new) }
         ensures ready { OnOk result (MayTurn D.LogDisk self.new) }
         ensures same { IsSameDaemon D.LogDisk K.Sink self.old self.new }
+        ensures later { Later D.LogDisk K.Sink self.old self.new }
     {
         let Ok(flushed) = self.flusher.flush() else {
             return Err(self.stop(DaemonFault::DiskFault));

@@ -27,7 +27,7 @@ Becomes-then a b c view f first second = record {
 }
 
 -- what stands at a tail holds its units
-StandsAt-holds : (tail : Tail) (units bytes : List ℕ) → StandsAt tail units bytes → HoldsUnits bytes units
+pub StandsAt-holds : (tail : Tail) (units bytes : List ℕ) → StandsAt tail units bytes → HoldsUnits bytes units
 StandsAt-holds tail units bytes stands = (stands.batches, stands.rest, stands.file, stands.units_are)
 
 -- what an append says of every list, said of the opening units and those sent
