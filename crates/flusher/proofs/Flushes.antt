@@ -79,7 +79,7 @@ IsReady-step g f seat view ready becomes constants standing sent read seen =
     let view_is : view_of seat ≡ view = ap (λ m. m.0) becomes.me in
     let constants_are : (view_of seat).constants ≡ (view_of f.seat).constants = ap (λ v. v.constants) view_is ∙ constants in
     let durable_is : sent_to (view_of seat) ≡ sent_to (view_of f.seat) =
-        (λ i. (constants_are i).start + length ((ap (λ v. v.sending.sent) view_is ∙ sent) i)) in
+    (λ i. (constants_are i).start + length ((ap (λ v. v.sending.sent) view_is ∙ sent) i)) in
     record {
       seat = record {
         table_is = becomes.table_is ∙ ready.seat.table_is;
@@ -109,7 +109,7 @@ pub sent_to-flushed : (view now : View) (from to : ℕ) (units : List ℕ) → n
 sent_to-flushed view now from to units is unread start whole =
     let read : view.sending.read ++ units ≡ units = ap (λ us. us ++ units) unread in
     let at : sent_to (flushed to units view) ≡ to =
-        omega (arith, length-append view.sending.sent (view.sending.read ++ units), ap length read, start, whole) in
+    omega (arith, length-append view.sending.sent (view.sending.read ++ units), ap length read, start, whole) in
     ap sent_to is ∙ at
 
 pub seen-flushed : (view now : View) (to : ℕ) (units : List ℕ) → now ≡ flushed to units view → sent_to now ≡ to → Contains now.seen.lsns (sent_to now)

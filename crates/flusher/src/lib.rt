@@ -4,5 +4,7 @@
 mod draining;
 mod flusher;
 mod flushing;
+#[cfg(test)]
+mod tests;
 
 pub use flusher::{Drained, Flushed, Flusher};
