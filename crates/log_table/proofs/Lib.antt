@@ -2,6 +2,7 @@ mod Adding
 mod Agreeing
 mod Allowing
 mod Boundaries
+mod CrewMerging
 mod Crewing
 mod Filling
 mod Flushing
@@ -22,5 +23,6 @@ mod Showing
 mod Splitting
 mod Starting
 mod Stopping
+mod Turning
 mod Viewing
 mod Wording

@@ -33,7 +33,7 @@ impl Closed {
 
 impl LogTable {
     /// Ends the table: the entries gathered in the flusher's seat are the whole log, and all of it is
-    /// released.
+    /// released. What was sent to the disk, and then what was read for it, are their first units.
     pub fn close(self, seat: Seat) -> Closed
         requires seat { IsOf self seat }
         requires may { MayClose (view_of seat) }

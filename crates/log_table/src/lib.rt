@@ -8,6 +8,8 @@ mod plays;
 mod seating;
 mod steps;
 mod table;
+#[cfg(test)]
+mod tests;
 mod view;
 
 pub use closing::Closed;

@@ -1,14 +1,13 @@
 -- What a seat must be ready for, and what a call leaves it with.
-use Rattle.std.specs.Prelude.{◌≡◌, ℕ, ◌+◌, ◌<◌, ◌≤◌, false, List, [], ◌∷◌, ◌++◌, length}
+use Rattle.std.specs.Prelude.{◌≡◌, ℕ, ◌+◌, ◌<◌, ◌≤◌, false, List, length}
 use Rattle.lsn_space.specs.declared.lsn.TheConstants.{LAST}
 use Rattle.log_table.specs.declared.table.Seat.{Seat}
 use Rattle.log_table.specs.declared.view.Call.TheVariants.{Idle, Filling}
 use Rattle.log_table.specs.declared.view.Entry.{Entry}
 use Rattle.log_table.specs.declared.view.View.{View}
-use Rattle.log_table.specs.Log.{IsFull}
 use Rattle.log_table.specs.May.{IsAtRest, HasLooked}
 use Rattle.log_table.specs.Seats.{Becomes, view_of}
-use Rattle.log_table.specs.Views.{entries_in, empty_entry, saw_tail, saw_durable, reserved}
+use Rattle.log_table.specs.Views.{empty_entry, saw_tail, saw_durable, reserved}
 use Rattle.ring_buffer.specs.declared.call.Look.{Look}
 use Rattle.ring_buffer.specs.declared.call.Range.{Range}
 use Rattle.ring_buffer.specs.declared.refused.Refused.{Refused}

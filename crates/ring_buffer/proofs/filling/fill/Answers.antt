@@ -1,4 +1,4 @@
-use Rattle.std.proofs.Common.{arith, ◌≡◌, ◌≤◌, take, length, ap, length-take-le}
+use Rattle.std.proofs.Common.{arith, ◌≡◌, take, length, ap, length-take-le}
 use Rattle.ring_buffer.specs.Calls.{entry_in}
 use Rattle.ring_buffer.proofs.filling.fill.Goals as goal
 

@@ -1,4 +1,4 @@
-use Rattle.std.proofs.Common.{arith, rules, ◌≡◌, ◌∙◌, sym, ap}
+use Rattle.std.proofs.Common.{rules, ◌≡◌, ◌∙◌, ap}
 use Rattle.ring_buffer.specs.Calls.{entry_in}
 use Rattle.ring_buffer.proofs.releasing.finish_in_turn.Goals as goal
 
