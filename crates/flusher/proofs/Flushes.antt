@@ -1,5 +1,5 @@
 -- What the steps of a flush come to.
-use Rattle.std.proofs.Common.{◌≡◌, ◌≤◌, ◌+◌, ◌∙◌, sym, ap, refl, subst, inl, inr, ⊎_elim, ℕ, List, [], ◌∷◌, ◌++◌, length, length-append, arith, append_assoc}
+use Rattle.std.proofs.Common.{◌≡◌, ◌≤◌, ◌+◌, ◌∙◌, sym, ap, subst, inl, ℕ, List, [], ◌∷◌, ◌++◌, length, length-append, arith, append_assoc}
 use Rattle.std.specs.List.{Contains}
 use Rattle.std.proofs.lemmas.List.Elements.{Contains-append_left, Contains-append_right, Contains-push}
 use Rattle.log_disk.specs.Disk.{Leaves}
@@ -15,7 +15,7 @@ use Rattle.flusher.specs.declared.flusher.Flusher.{Flusher}
 use Rattle.log_table.specs.Sends.{AreEntries, ReadsWholeEntries}
 use Rattle.log_table.specs.Views.{sent_to, read_to}
 use Rattle.flusher.specs.Sending.{gathered, flushed}
-use Rattle.flusher.specs.Flushing.{IsReady, HoldsDurablePrefix, MayHoldBatchInFlight}
+use Rattle.flusher.specs.Flushing.{IsReady, HoldsDurablePrefix}
 
 -- one step after another
 pub Becomes-then : (a b c : Seat) (view : View) (f : View → View) → Becomes a b view → Becomes b c (f (view_of b)) → Becomes a c (f view)

@@ -1,5 +1,4 @@
 use Rattle.std.proofs.Common.{refl}
-use Rattle.log_table.specs.Seats.{view_of}
 use Rattle.log_table.specs.Views.{saw_exposed}
 use Rattle.flusher.proofs.Flushes.{Becomes-then, IsReady-step, seen-newer}
 use Rattle.flusher.proofs.flusher.Flusher.drained.Goals as goal

@@ -1,7 +1,7 @@
-use Rattle.std.proofs.Common.{rules, arith, ◌≡◌, ◌≢◌, ◌∙◌, sym, ap, refl, subst, length, ◌<◌, ◌+◌, ◌++◌}
+use Rattle.std.proofs.Common.{rules, arith, ◌≢◌, ◌∙◌, ap, refl, subst, length, ◌<◌, ◌+◌, ◌++◌}
 use Rattle.std.proofs.lemmas.Result.{err_from_is_err_and}
 use Rattle.log_table.specs.Seats.{view_of}
-use Rattle.log_table.specs.Views.{saw_exposed, has_sent}
+use Rattle.log_table.specs.Views.{has_sent}
 use Rattle.log_table.specs.Sends.{AreEntries}
 use Rattle.flusher.specs.Sending.{read_units}
 use Rattle.flusher.proofs.Flushes.{Becomes-then, Leaves-append, AreEntries-gathered, sent_to-flushed, seen-flushed, HoldsDurablePrefix-append, MayHoldBatchInFlight-append}
