@@ -42,10 +42,12 @@ Leaves-append g old disk batch units same moments opening stand =
 -- after an append the images hold what the view then says was sent
 pub HoldsDurablePrefix-append : {D : Type 0} (g : Ghosts D) (old : Flusher D) (tail : Tail) (disk : D) (batch units sent : List ℕ) → batch ≡ units
     → ((us : List ℕ) → AllStand old.tail us (g.images old.disk.now) → AllStand tail (us ++ batch) (g.images disk))
-    → sent ≡ (view_of old.seat).sending.sent ++ units → (opening : List ℕ) → HoldsDurablePrefix g old opening → AllStand tail (opening ++ sent) (g.images disk)
+    → sent ≡ (view_of old.seat).sending.sent ++ units → (opening : List ℕ) → HoldsDurablePrefix g old opening
+    → AllStand tail (opening ++ sent) (g.images disk)
 HoldsDurablePrefix-append g old tail disk batch units sent same appended sent_is opening stand =
     subst (λ us. AllStand tail us (g.images disk))
-    (ap (λ us. (opening ++ (view_of old.seat).sending.sent) ++ us) same ∙ append_assoc opening (view_of old.seat).sending.sent units ∙ ap (λ us. opening ++ us) (sym sent_is))
+    (ap (λ us. (opening ++ (view_of old.seat).sending.sent) ++ us) same ∙ append_assoc opening (view_of old.seat).sending.sent units
+        ∙ ap (λ us. opening ++ us) (sym sent_is))
     (appended (opening ++ (view_of old.seat).sending.sent) stand)
 
 -- after an append that failed they hold that, or with it what the view says was read
@@ -53,7 +55,8 @@ pub MayHoldBatchInFlight-append : {D : Type 0} (g : Ghosts D)
     → ((disk : D) (t : ℕ) (c : List ℕ) → t ≤ g.moment disk → g.images disk c → g.images_since disk t c)
     → ((disk : D) (c : List ℕ) → g.images_since disk (g.moment disk) c → g.images disk c)
     → (old : Flusher D) (disk : D) (units sent read : List ℕ)
-    → ((opening : List ℕ) → HoldsDurablePrefix g old opening → Leaves g.moment g.images_since (HoldsEither (opening ++ (view_of old.seat).sending.sent) units) old.disk.now disk)
+    → ((opening : List ℕ) → HoldsDurablePrefix g old opening
+        → Leaves g.moment g.images_since (HoldsEither (opening ++ (view_of old.seat).sending.sent) units) old.disk.now disk)
     → sent ≡ (view_of old.seat).sending.sent → read ≡ units
     → (opening : List ℕ) → HoldsDurablePrefix g old opening → (c : List ℕ) → g.images disk c → HoldsEither (opening ++ sent) read c
 MayHoldBatchInFlight-append g counts_now only_now old disk units sent read moments sent_is read_is opening stand =

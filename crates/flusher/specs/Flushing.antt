@@ -68,7 +68,8 @@ pub record Sends {D : Type 0} (g : Ghosts D) (old new : Flusher D) (from to : �
   pub prefix : g.honest old.disk.now → (opening : List ℕ) → HoldsDurablePrefix g old opening → HoldsDurablePrefix g new opening
   pub settled : g.honest old.disk.now → IsSettled (g.reads new.disk.now) (g.images new.disk.now)
 
--- the units up to exposed, as loaded, were read, and the disk failed to take them; durable stands, and the seat keeps what it read
+-- the units up to exposed, as loaded, were read, and the disk failed to take them; durable stands, and the seat keeps what
+-- it read
 pub record Loses {D : Type 0} (g : Ghosts D) (old new : Flusher D) : Type 0 where
   pub to : ℕ
   pub units : List ℕ
