@@ -20,7 +20,6 @@ use Rattle.commit_pipeline.specs.Turning.{Stops}
 pub record Flew {D : Type 0} (g : Ghosts D) (units cut : List ℕ) (most : ℕ) (old new : Flusher D) : Type 0 where
   pub newer : List ℕ
   pub constants : (view_of new.seat).constants ≡ (view_of old.seat).constants
-  pub standing : (view_of new.seat).standing ≡ (view_of old.seat).standing
   pub seen : (view_of new.seat).seen.lsns ≡ newer ++ (view_of old.seat).seen.lsns
   pub sent : (view_of new.seat).sending.sent ≡ (view_of old.seat).sending.sent ++ units
   pub read : (view_of new.seat).sending.read ≡ cut
@@ -37,17 +36,16 @@ torn-none g f opening stand = λ c image. inl (StandsAt-holds f.tail (opening ++
 
 -- a step of the seat alone
 pub Flew-step : {D : Type 0} (g : Ghosts D) (old new : Flusher D) (newer : List ℕ) → new ≡ record old { seat = new.seat }
-    → (view_of new.seat).constants ≡ (view_of old.seat).constants → (view_of new.seat).standing ≡ (view_of old.seat).standing
+    → (view_of new.seat).constants ≡ (view_of old.seat).constants
     → (view_of new.seat).seen.lsns ≡ newer ++ (view_of old.seat).seen.lsns
     → (view_of new.seat).sending.sent ≡ (view_of old.seat).sending.sent → (view_of new.seat).sending.read ≡ [] → Flew g [] [] 0 old new
-Flew-step g old new newer rest constants standing seen sent read =
+Flew-step g old new newer rest constants seen sent read =
     let prefix : (opening : List ℕ) → HoldsDurablePrefix g old opening → HoldsDurablePrefix g new opening = λ opening stand.
         subst (λ (f : Flusher _). AllStand f.tail (opening ++ (view_of new.seat).sending.sent) (g.images f.disk.now)) (sym rest)
         (subst (λ us. AllStand old.tail (opening ++ us) (g.images old.disk.now)) (sym sent) stand) in
     record {
       newer = newer;
       constants = constants;
-      standing = standing;
       seen = seen;
       sent = sent ∙ sym (append-nil (view_of old.seat).sending.sent);
       read = read;
@@ -91,7 +89,6 @@ Flew-sends g old new from to ready sends =
     record {
       newer = to ∷ to ∷ [];
       constants = ap (λ (v : View). v.constants) is;
-      standing = ap (λ (v : View). v.standing) is;
       seen = ap (λ (v : View). v.seen.lsns) is;
       sent = ap (λ (v : View). v.sending.sent) is ∙ ap (λ us. (view_of old.seat).sending.sent ++ (us ++ sends.units)) ready.unread;
       read = ap (λ (v : View). v.sending.read) is;
@@ -116,7 +113,6 @@ Flew-loses g old new ready loses =
     record {
       newer = loses.to ∷ [];
       constants = ap (λ (v : View). v.constants) is;
-      standing = ap (λ (v : View). v.standing) is;
       seen = ap (λ (v : View). v.seen.lsns) is;
       sent = ap (λ (v : View). v.sending.sent) is ∙ sym (append-nil (view_of old.seat).sending.sent);
       read = ap (λ (v : View). v.sending.read) is ∙ ap (λ us. us ++ loses.units) ready.unread;
@@ -140,7 +136,6 @@ Flew-stop g units cut most word old mid new flew stops =
     record {
       newer = flew.newer;
       constants = ap (λ (v : View). v.constants) is ∙ flew.constants;
-      standing = ap (λ (v : View). v.standing) is ∙ flew.standing;
       seen = lsns ∙ flew.seen;
       sent = sent ∙ flew.sent;
       read = read ∙ flew.read;

@@ -32,6 +32,7 @@ pub IsSameDaemon-trans : {D : Type 0} {K : Type 0} (g : Ghosts D) (h : SinkGhost
 IsSameDaemon-trans g h a b c first second = record {
   flusher = record {
     table = second.flusher.table ∙ first.flusher.table;
+    workers = second.flusher.workers ∙ first.flusher.workers;
     disk = second.flusher.disk ∙ first.flusher.disk;
     honest = (λ honest. second.flusher.honest.0 (first.flusher.honest.0 honest), λ honest. first.flusher.honest.1 (second.flusher.honest.1 honest));
     later = omega (arith, first.flusher.later, second.flusher.later);
@@ -177,7 +178,6 @@ module _ {D : Type 0} {K : Type 0} (g : Ghosts D) (h : SinkGhosts K) (a b c : Da
     newer = second.newer ++ first.newer;
     same = IsSameDaemon-trans g h a b c first.same second.same;
     constants = second.constants ∙ first.constants;
-    standing = second.standing ∙ first.standing;
     seen = second.seen ∙ ap (λ lsns. second.newer ++ lsns) first.seen ∙ sym (append_assoc second.newer first.newer (view_of a.flusher.seat).seen.lsns);
     sent = second.sent ∙ ap (λ us. us ++ joined second.batches) first.sent ∙ append_assoc (view_of a.flusher.seat).sending.sent (joined first.batches) (joined second.batches)
         ∙ ap (λ us. (view_of a.flusher.seat).sending.sent ++ us) (sym (joined-append first.batches second.batches));
@@ -209,4 +209,4 @@ Later-trans g h a b c (inr first) (inr second) = inr (Ran-trans g h a b c first 
 pub Later-standing : {D : Type 0} {K : Type 0} (g : Ghosts D) (h : SinkGhosts K) (a b : Daemon D K) → Later g h a b
     → (view_of b.flusher.seat).standing ≡ (view_of a.flusher.seat).standing
 Later-standing g h a b (inl same) = ap (λ d. (view_of d.flusher.seat).standing) same
-Later-standing g h a b (inr ran) = ran.standing
+Later-standing g h a b (inr ran) = ran.same.flusher.workers

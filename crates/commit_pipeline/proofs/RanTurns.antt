@@ -41,7 +41,6 @@ module _ {D : Type 0} {K : Type 0} (g : Ghosts D) (h : SinkGhosts K) (old new : 
     newer = flew.newer;
     same = same;
     constants = flew.constants;
-    standing = flew.standing;
     seen = flew.seen;
     sent = flew.sent;
     in_flight = in_flight;
@@ -142,10 +141,11 @@ module _ {D : Type 0} {K : Type 0} (g : Ghosts D) (h : SinkGhosts K) (old new : 
 
   module _ (rest : new ≡ record old { flusher = new.flusher }) (seat_alone : new.flusher ≡ record old.flusher { seat = new.flusher.seat }) where
     -- where the seat alone made steps, it is the same daemon
-    IsSameDaemon-step : IsSameDaemon g h old new
-    IsSameDaemon-step = record {
+    IsSameDaemon-step : (view_of new.flusher.seat).standing ≡ (view_of old.flusher.seat).standing → IsSameDaemon g h old new
+    IsSameDaemon-step workers = record {
       flusher = record {
         table = ap (λ (f : Flusher D). f.table) seat_alone;
+        workers = workers;
         disk = ap (λ (f : Flusher D). f.disk.ghost_name) seat_alone;
         honest = subst (λ (f : Flusher D). g.honest old.flusher.disk.now ↔ g.honest f.disk.now) (sym seat_alone) (λ honest. honest, λ honest. honest);
         later = omega (arith, ap (λ (f : Flusher D). g.moment f.disk.now) seat_alone);
@@ -163,9 +163,9 @@ module _ {D : Type 0} {K : Type 0} (g : Ghosts D) (h : SinkGhosts K) (old new : 
         → view.sending.read ≡ (view_of old.flusher.seat).sending.read → view.sending.stop ≡ (view_of old.flusher.seat).sending.stop → Ran g h old new
     Ran-steps view newer is ready may constants standing seen sent read stop =
         Ran-quiet ready
-        (Flew-step g old.flusher new.flusher newer seat_alone (ap (λ (v : View). v.constants) is ∙ constants) (ap (λ (v : View). v.standing) is ∙ standing)
+        (Flew-step g old.flusher new.flusher newer seat_alone (ap (λ (v : View). v.constants) is ∙ constants)
         (ap (λ (v : View). v.seen.lsns) is ∙ seen) (ap (λ (v : View). v.sending.sent) is ∙ sent) (ap (λ (v : View). v.sending.read) is ∙ read ∙ ready.flusher.unread))
-        IsSameDaemon-step may rest (ap (λ (v : View). v.sending.stop) is ∙ stop)
+        (IsSameDaemon-step (ap (λ (v : View). v.standing) is ∙ standing)) may rest (ap (λ (v : View). v.sending.stop) is ∙ stop)
 
     pub Ran-asked : (answer : Drained) → Asks old.flusher new.flusher answer → MayTurn g old → MayTurn g new → Ran g h old new
     Ran-asked (At lsn) asks ready may = Ran-steps _ (lsn ∷ []) (ap (λ m. m.0) asks.2.me) ready may refl refl refl refl refl refl

@@ -67,7 +67,6 @@ pub record Ran {D : Type 0} {K : Type 0} (g : Ghosts D) (h : SinkGhosts K) (old 
   pub newer : List ℕ
   pub same : IsSameDaemon g h old new
   pub constants : (view_of new.flusher.seat).constants ≡ (view_of old.flusher.seat).constants
-  pub standing : (view_of new.flusher.seat).standing ≡ (view_of old.flusher.seat).standing
   pub seen : (view_of new.flusher.seat).seen.lsns ≡ newer ++ (view_of old.flusher.seat).seen.lsns
   pub sent : (view_of new.flusher.seat).sending.sent ≡ (view_of old.flusher.seat).sending.sent ++ joined batches
   pub in_flight : InFlight new.fault (view_of new.flusher.seat) cut

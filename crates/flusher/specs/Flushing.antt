@@ -26,9 +26,10 @@ pub record IsReady {D : Type 0} (g : Ghosts D) (f : Flusher D) : Type 0 where
   pub shut : g.honest f.disk.now → IsShut f.tail.at (g.images f.disk.now)
   pub room : f.table.now.ring ≤ f.batch.room
 
--- it is the same table and the same disk, whose time went on
+-- it is the same table, with the same workers, and the same disk, whose time went on
 pub record IsSame {D : Type 0} (g : Ghosts D) (old new : Flusher D) : Type 0 where
   pub table : new.table ≡ old.table
+  pub workers : (view_of new.seat).standing ≡ (view_of old.seat).standing
   pub disk : new.disk.ghost_name ≡ old.disk.ghost_name
   pub honest : g.honest old.disk.now ↔ g.honest new.disk.now
   pub later : g.moment old.disk.now ≤ g.moment new.disk.now
