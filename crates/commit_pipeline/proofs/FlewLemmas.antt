@@ -25,7 +25,7 @@ pub record Flew {D : Type 0} (g : Ghosts D) (units cut : List ℕ) (most : ℕ) 
   pub read : (view_of new.seat).sending.read ≡ cut
   pub moments : g.honest old.disk.now → (opening : List ℕ) → HoldsDurablePrefix g old opening
       → Leaves g.moment g.images_since (HoldsSome (opening ++ (view_of old.seat).sending.sent) (units ++ cut) (sent_to (view_of old.seat)) (view_of new.seat).seen.lsns)
-          old.disk.now new.disk.now
+      old.disk.now new.disk.now
   pub prefix : cut ≡ [] → g.honest old.disk.now → (opening : List ℕ) → HoldsDurablePrefix g old opening → HoldsDurablePrefix g new opening
   pub torn : g.honest old.disk.now → (opening : List ℕ) → HoldsDurablePrefix g old opening → MayHoldBatchInFlight g new opening
   pub count : g.honest old.disk.now → g.written_count new.disk.now ≤ g.written_count old.disk.now + most
@@ -41,8 +41,8 @@ pub Flew-step : {D : Type 0} (g : Ghosts D) (old new : Flusher D) (newer : List 
     → (view_of new.seat).sending.sent ≡ (view_of old.seat).sending.sent → (view_of new.seat).sending.read ≡ [] → Flew g [] [] 0 old new
 Flew-step g old new newer rest constants seen sent read =
     let prefix : (opening : List ℕ) → HoldsDurablePrefix g old opening → HoldsDurablePrefix g new opening = λ opening stand.
-        subst (λ (f : Flusher _). AllStand f.tail (opening ++ (view_of new.seat).sending.sent) (g.images f.disk.now)) (sym rest)
-        (subst (λ us. AllStand old.tail (opening ++ us) (g.images old.disk.now)) (sym sent) stand) in
+    subst (λ (f : Flusher _). AllStand f.tail (opening ++ (view_of new.seat).sending.sent) (g.images f.disk.now)) (sym rest)
+    (subst (λ us. AllStand old.tail (opening ++ us) (g.images old.disk.now)) (sym sent) stand) in
     record {
       newer = newer;
       constants = constants;
@@ -81,11 +81,11 @@ Flew-sends g old new from to ready sends =
     let whole : sends.units ++ [] ≡ sends.units = append-nil sends.units in
     let end : to ≡ sent_to (view_of old.seat) + length sends.units = sends.whole ∙ ap (λ n. n + length sends.units) sends.durable in
     let start_seen : Contains (view_of new.seat).seen.lsns (sent_to (view_of old.seat)) =
-        subst (λ (v : View). Contains v.seen.lsns (sent_to (view_of old.seat))) (sym is)
-        (seen-newer to (to ∷ (view_of old.seat).seen.lsns) _ (seen-newer to (view_of old.seat).seen.lsns _ ready.seen)) in
+    subst (λ (v : View). Contains v.seen.lsns (sent_to (view_of old.seat))) (sym is)
+    (seen-newer to (to ∷ (view_of old.seat).seen.lsns) _ (seen-newer to (view_of old.seat).seen.lsns _ ready.seen)) in
     let end_seen : Contains (view_of new.seat).seen.lsns (sent_to (view_of old.seat) + length sends.units) =
-        subst (Contains (view_of new.seat).seen.lsns) end
-        (subst (λ (v : View). Contains v.seen.lsns to) (sym is) (seen-newest to (to ∷ (view_of old.seat).seen.lsns))) in
+    subst (Contains (view_of new.seat).seen.lsns) end
+    (subst (λ (v : View). Contains v.seen.lsns to) (sym is) (seen-newest to (to ∷ (view_of old.seat).seen.lsns))) in
     record {
       newer = to ∷ to ∷ [];
       constants = ap (λ (v : View). v.constants) is;
@@ -95,7 +95,7 @@ Flew-sends g old new from to ready sends =
       moments = λ honest opening stand.
           Leaves-weaken g.moment g.images_since _ _ old.disk.now new.disk.now
           (λ c either. subst (λ us. HoldsSome (opening ++ (view_of old.seat).sending.sent) us (sent_to (view_of old.seat)) (view_of new.seat).seen.lsns c) (sym whole)
-              (HoldsSome-either (opening ++ (view_of old.seat).sending.sent) sends.units (sent_to (view_of old.seat)) (view_of new.seat).seen.lsns c start_seen end_seen either))
+          (HoldsSome-either (opening ++ (view_of old.seat).sending.sent) sends.units (sent_to (view_of old.seat)) (view_of new.seat).seen.lsns c start_seen end_seen either))
           (sends.writes.moments honest opening stand);
       prefix = λ none honest opening stand. sends.prefix honest opening stand;
       torn = λ honest opening stand. torn-none g new opening (sends.prefix honest opening stand);
@@ -106,10 +106,10 @@ pub Flew-loses : {D : Type 0} (g : Ghosts D) (old new : Flusher D) → IsReady g
 Flew-loses g old new ready loses =
     let is : view_of new.seat ≡ gathered loses.to loses.units (view_of old.seat) = ap (λ m. m.0) loses.seat.me in
     let start_seen : Contains (view_of new.seat).seen.lsns (sent_to (view_of old.seat)) =
-        subst (λ (v : View). Contains v.seen.lsns (sent_to (view_of old.seat))) (sym is) (seen-newer loses.to (view_of old.seat).seen.lsns _ ready.seen) in
+    subst (λ (v : View). Contains v.seen.lsns (sent_to (view_of old.seat))) (sym is) (seen-newer loses.to (view_of old.seat).seen.lsns _ ready.seen) in
     let end_seen : Contains (view_of new.seat).seen.lsns (sent_to (view_of old.seat) + length loses.units) =
-        subst (Contains (view_of new.seat).seen.lsns) loses.whole
-        (subst (λ (v : View). Contains v.seen.lsns loses.to) (sym is) (seen-newest loses.to (view_of old.seat).seen.lsns)) in
+    subst (Contains (view_of new.seat).seen.lsns) loses.whole
+    (subst (λ (v : View). Contains v.seen.lsns loses.to) (sym is) (seen-newest loses.to (view_of old.seat).seen.lsns)) in
     record {
       newer = loses.to ∷ [];
       constants = ap (λ (v : View). v.constants) is;

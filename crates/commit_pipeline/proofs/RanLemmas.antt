@@ -158,11 +158,12 @@ module _ {D : Type 0} {K : Type 0} (g : Ghosts D) (h : SinkGhosts K) (a b c : Da
       let divided = SpellEach-divided first.batches second.batches lists spells in
       let told = first.all (kept WriteFault) divided.front divided.spells_front in
       let more = second.all written divided.rest divided.spells_rest in
-      let records : all_of divided.front ++ all_of divided.rest ≡ all_of lists = sym (ap all_of divided.whole ∙ all_of-append divided.front divided.rest) in
-      ((λ i. told.0 i ++ (more.0 ∙ ap (λ v. text_of v (durable b) (all_of divided.rest)) first.same.voice
-          ∙ ap (λ n. text_of a.voice n (all_of divided.rest)) (seam divided.front divided.spells_front)) i)
-        ∙ sym (text_of-append a.voice (durable a) (all_of divided.front) (all_of divided.rest)) ∙ ap (text_of a.voice (durable a)) records,
-       more.1 ∙ ap (λ t. counted t (all_of divided.rest)) told.1 ∙ sym (counted-append a.tally (all_of divided.front) (all_of divided.rest)) ∙ ap (counted a.tally) records)
+      let records : all_of divided.front ++ all_of divided.rest ≡ all_of lists = sym (ap all_of divided.whole ∙ all_of-append divided.front divided.rest) in (
+        (λ i. told.0 i ++ (more.0 ∙ ap (λ v. text_of v (durable b) (all_of divided.rest)) first.same.voice
+            ∙ ap (λ n. text_of a.voice n (all_of divided.rest)) (seam divided.front divided.spells_front)) i)
+            ∙ sym (text_of-append a.voice (durable a) (all_of divided.front) (all_of divided.rest)) ∙ ap (text_of a.voice (durable a)) records,
+        more.1 ∙ ap (λ t. counted t (all_of divided.rest)) told.1 ∙ sym (counted-append a.tally (all_of divided.front) (all_of divided.rest)) ∙ ap (counted a.tally) records,
+      )
 
   reason : (fault : Option DaemonFault) → HasReason g h b c fault → HasReason g h a c fault
   reason None kept_stop = kept_stop ∙ (subst (HasReason g h a b) fine first.reason)

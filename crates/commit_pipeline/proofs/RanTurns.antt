@@ -31,7 +31,7 @@ module _ {D : Type 0} {K : Type 0} (g : Ghosts D) (h : SinkGhosts K) (old new : 
       → (new.fault ≢ Some DiskFault → cut ≡ []) → Appends (h.held_bytes old.sink.now) (h.held_bytes new.sink.now) text
       → ((lists : List (List Rec)) → SpellEach batches lists → TellsFront old.voice (durable old) (all_of lists) text old.tally new.tally)
       → (new.fault ≢ Some WriteFault → (lists : List (List Rec)) → SpellEach batches lists
-          → (text ≡ text_of old.voice (durable old) (all_of lists)) × (new.tally ≡ counted old.tally (all_of lists)))
+      → (text ≡ text_of old.voice (durable old) (all_of lists)) × (new.tally ≡ counted old.tally (all_of lists)))
       → HasReason g h old new new.fault → most ≡ 4 * length batches + extra new.fault → Ran g h old new
   Ran-of batches cut text most fine flew same in_flight may_turn cuts appended front all reason count = record {
     was_fine = fine;
@@ -110,8 +110,8 @@ module _ {D : Type 0} {K : Type 0} (g : Ghosts D) (h : SinkGhosts K) (old new : 
       let is = ap (λ m. m.0) sent.flush.seat.me in
       let flew = Flew-sends g old.flusher new.flusher (durable old) to ready.flusher sent.flush in
       let all : (lists : List (List Rec)) → SpellEach (sent.flush.units ∷ []) lists
-          → (sent.text ≡ text_of old.voice (durable old) (all_of lists)) × (new.tally ≡ counted old.tally (all_of lists)) = λ lists spells.
-          let told = sent.tells (all_of lists) (SpellEach-one sent.flush.units lists spells) in (told.0, told.2) in
+      → (sent.text ≡ text_of old.voice (durable old) (all_of lists)) × (new.tally ≡ counted old.tally (all_of lists)) = λ lists spells.
+      let told = sent.tells (all_of lists) (SpellEach-one sent.flush.units lists spells) in (told.0, told.2) in
       Ran-of (sent.flush.units ∷ []) [] sent.text 4 ready.fine (one-batch sent.flush.units [] flew) same (fine-flight may.fine flew.read) (λ fine. may) (λ disk. refl)
       sent.appended (λ lists spells. front-whole old.voice (durable old) (all_of lists) sent.text old.tally new.tally (all lists spells).0 (all lists spells).1) (λ written. all)
       (subst (HasReason g h old new) (sym may.fine) (ap (λ (v : View). v.sending.stop) is)) (omega (arith, ap extra may.fine))

@@ -73,7 +73,7 @@ pub record Ran {D : Type 0} {K : Type 0} (g : Ghosts D) (h : SinkGhosts K) (old 
   pub may_turn : new.fault ≡ None → MayTurn g new
   pub moments : g.honest old.flusher.disk.now → (opening : List ℕ) → HoldsDurablePrefix g old.flusher opening
       → Leaves g.moment g.images_since (HoldsSome (opening ++ (view_of old.flusher.seat).sending.sent) (joined batches ++ cut)
-          (durable old) (view_of new.flusher.seat).seen.lsns) old.flusher.disk.now new.flusher.disk.now
+      (durable old) (view_of new.flusher.seat).seen.lsns) old.flusher.disk.now new.flusher.disk.now
   pub prefix : new.fault ≢ Some DiskFault → g.honest old.flusher.disk.now → (opening : List ℕ)
       → HoldsDurablePrefix g old.flusher opening → HoldsDurablePrefix g new.flusher opening
   pub torn : g.honest old.flusher.disk.now → (opening : List ℕ)

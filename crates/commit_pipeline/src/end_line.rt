@@ -28,9 +28,11 @@ fn done(txn: u32, end: Lsn) -> Line
 {
     let mut line = ArrayVec::new();
     line.try_extend_from_slice(b"done ").unwrap();
-    line.try_extend_from_slice(decimal(txn as u64).as_slice()).unwrap();
+    line.try_extend_from_slice(decimal(txn as u64).as_slice())
+        .unwrap();
     line.push(b' ');
-    line.try_extend_from_slice(decimal(end.units() as u64).as_slice()).unwrap();
+    line.try_extend_from_slice(decimal(end.units() as u64).as_slice())
+        .unwrap();
     line.push(b'\n');
     line
 }
@@ -41,11 +43,14 @@ fn short(txn: u32, leg: u32, end: Lsn) -> Line
 {
     let mut line = ArrayVec::new();
     line.try_extend_from_slice(b"short ").unwrap();
-    line.try_extend_from_slice(decimal(txn as u64).as_slice()).unwrap();
+    line.try_extend_from_slice(decimal(txn as u64).as_slice())
+        .unwrap();
     line.push(b' ');
-    line.try_extend_from_slice(decimal(leg as u64).as_slice()).unwrap();
+    line.try_extend_from_slice(decimal(leg as u64).as_slice())
+        .unwrap();
     line.push(b' ');
-    line.try_extend_from_slice(decimal(end.units() as u64).as_slice()).unwrap();
+    line.try_extend_from_slice(decimal(end.units() as u64).as_slice())
+        .unwrap();
     line.push(b'\n');
     line
 }
@@ -56,11 +61,14 @@ fn over(txn: u32, leg: u32, end: Lsn) -> Line
 {
     let mut line = ArrayVec::new();
     line.try_extend_from_slice(b"over ").unwrap();
-    line.try_extend_from_slice(decimal(txn as u64).as_slice()).unwrap();
+    line.try_extend_from_slice(decimal(txn as u64).as_slice())
+        .unwrap();
     line.push(b' ');
-    line.try_extend_from_slice(decimal(leg as u64).as_slice()).unwrap();
+    line.try_extend_from_slice(decimal(leg as u64).as_slice())
+        .unwrap();
     line.push(b' ');
-    line.try_extend_from_slice(decimal(end.units() as u64).as_slice()).unwrap();
+    line.try_extend_from_slice(decimal(end.units() as u64).as_slice())
+        .unwrap();
     line.push(b'\n');
     line
 }

@@ -23,7 +23,6 @@ use std::test::Fail;
 /// Two accounts of balances 100 and 0.
 const ACCOUNTS: [u64; 4] = [0x0102_0000_0000_0000, 100, 0x0102_0001_0000_0000, 0];
 
-
 /// The log of the two accounts, and the transfer behind it.
 const ONE_TRANSFER_LOG: [u8; 90] = [
     0x4f, b'A', b'E', b'T', b'H', b'E', b'R', b'1', 0, 0, 0, 4, //
@@ -111,7 +110,12 @@ fn units_of(record: &[u64]) -> Units
     units
 }
 
-fn insert<R: Wait>(rt: &R, table: &LogTable, seat: &mut Seat, record: &[u64]) -> Result<Lsn, Refused>
+fn insert<R: Wait>(
+    rt: &R,
+    table: &LogTable,
+    seat: &mut Seat,
+    record: &[u64],
+) -> Result<Lsn, Refused>
     requires seat { IsOf table.now seat.old }
     requires ready { IsReady (view_of seat.old) }
     requires units { (1 ≤ length record.now) × (length record.now ≤ 26) }
@@ -128,8 +132,20 @@ fn transfer<R: Wait>(rt: &R, table: &LogTable, seat: &mut Seat) -> [Option<Lsn>;
     ensures seat { IsOf table.now seat.new }
     ensures ready { IsReady (view_of seat.new) }
 {
-    let takes = insert(rt, table, seat, &[0x0202_0000_0000_0001, 0xffff_ffe2_0000_0000]).ok();
-    let adds = insert(rt, table, seat, &[0x0202_0001_0000_0001, 0x0000_001e_0000_0000]).ok();
+    let takes = insert(
+        rt,
+        table,
+        seat,
+        &[0x0202_0000_0000_0001, 0xffff_ffe2_0000_0000],
+    )
+    .ok();
+    let adds = insert(
+        rt,
+        table,
+        seat,
+        &[0x0202_0001_0000_0001, 0x0000_001e_0000_0000],
+    )
+    .ok();
     let ends = insert(rt, table, seat, &[0x0301_0001_0000_0001]).ok();
     [takes, adds, ends]
 }
@@ -189,59 +205,91 @@ fn turn(daemon: &mut Daemon<MemoryDisk, MemorySink>) -> Result<Turn, DaemonFault
     daemon.turn()
 }
 
+/// What a daemon answers while a worker that inserted a transfer is active, and once it has ended.
+fn report_one<R: Wait>(
+    rt: &R,
+    alloc: Global,
+    disk: &mut MemoryDisk,
+    sink: &mut MemorySink,
+) -> Option<[(Drained, Turn); 2]>
+    requires { IsSettled [] (ImagesOf disk.old) }
+{
+    let (table, mut boss) = table_from_4(alloc).ok()?;
+    let mut seat = worker(&table, &mut boss);
+    let mut daemon = daemon_on(alloc, &table, boss, disk, sink, Voice::Lines)?;
+    transfer(rt, &table, &mut seat);
+    let active = ask(&mut daemon);
+    let sent = turn(&mut daemon).ok()?;
+    table.leave(&mut seat);
+    let at_end = ask(&mut daemon);
+    let idle = turn(&mut daemon).ok()?;
+    Some([(active, sent), (at_end, idle)])
+}
+
 #[test]
 fn one_transfer(rt: HostRuntime) -> Result<(), Fail> {
-    let alloc = rt.alloc();
-    let (table, mut boss) = table_from_4(alloc)?;
-    let mut seat = worker(&table, &mut boss);
-    let mut disk = MemoryDisk::make(alloc, &[], 1000, &[])?;
-    let mut sink = MemorySink::make(alloc, 100, &[])?;
-    let Some(mut daemon) = daemon_on(alloc, &table, boss, &mut disk, &mut sink, Voice::Lines) else {
-        return Err(Fail::new("no memory"));
-    };
-    let starts = [Some(Lsn::new(4)), Some(Lsn::new(6)), Some(Lsn::new(8))];
-    assert_eq!(rt; transfer(&rt, &table, &mut seat), starts);
-    assert_eq!(rt; ask(&mut daemon), Drained::Active(1));
+    let mut disk = MemoryDisk::make(rt.alloc(), &[], 1000, &[])?;
+    let mut sink = MemorySink::make(rt.alloc(), 100, &[])?;
+    let told = report_one(&rt, rt.alloc(), &mut disk, &mut sink);
     let to = Lsn::new(9);
-    let Ok(sent) = turn(&mut daemon) else {
-        return Err(Fail::new("a fault"));
-    };
-    assert_eq!(rt; sent, Turn::Sent { lines: 1, to });
-    assert_eq!(rt; daemon.sink.bytes(), b"done 1 9\n");
-    assert_eq!(rt; daemon.flusher.disk.bytes(), ONE_TRANSFER_LOG.as_slice());
-    let Ok(idle) = turn(&mut daemon) else {
-        return Err(Fail::new("a fault"));
-    };
-    assert_eq!(rt; idle, Turn::Idle);
-    table.leave(&mut seat);
-    assert_eq!(rt; ask(&mut daemon), Drained::At(to));
-    assert_eq!(rt; (daemon.done(), daemon.refused()), (1, 0));
+    let first = (Drained::Active(1), Turn::Sent { lines: 1, to });
+    assert_eq!(rt; told, Some([first, (Drained::At(to), Turn::Idle)]));
+    assert_eq!(rt; sink.bytes(), b"done 1 9\n".as_slice());
+    assert_eq!(rt; disk.bytes(), ONE_TRANSFER_LOG.as_slice());
     Ok(())
 }
 
 #[test]
-fn behind_until_sent(rt: HostRuntime) -> Result<(), Fail> {
-    let alloc = rt.alloc();
-    let (table, mut boss) = table_from_4(alloc)?;
+fn inserts_answer_their_lsns(rt: HostRuntime) -> Result<(), Fail> {
+    let (table, mut boss) = table_from_4(rt.alloc())?;
     let mut seat = worker(&table, &mut boss);
-    let mut disk = MemoryDisk::make(alloc, &[], 1000, &[])?;
-    let mut sink = MemorySink::make(alloc, 100, &[])?;
-    let Some(mut daemon) = daemon_on(alloc, &table, boss, &mut disk, &mut sink, Voice::Count) else {
-        return Err(Fail::new("no memory"));
-    };
-    transfer(&rt, &table, &mut seat);
+    let starts = [Some(Lsn::new(4)), Some(Lsn::new(6)), Some(Lsn::new(8))];
+    assert_eq!(rt; transfer(&rt, &table, &mut seat), starts);
+    Ok(())
+}
+
+/// What a daemon that only counts answers once the worker has ended, before any turn and at the end, and what it counted.
+fn count_one<R: Wait>(
+    rt: &R,
+    alloc: Global,
+    disk: &mut MemoryDisk,
+    sink: &mut MemorySink,
+) -> Option<(Drained, Lsn, [u32; 2])>
+    requires { IsSettled [] (ImagesOf disk.old) }
+{
+    let (table, mut boss) = table_from_4(alloc).ok()?;
+    let mut seat = worker(&table, &mut boss);
+    let mut daemon = daemon_on(alloc, &table, boss, disk, sink, Voice::Count)?;
+    transfer(rt, &table, &mut seat);
     table.leave(&mut seat);
+    let behind = ask(&mut daemon);
+    let end = daemon.run_until_drained(rt).ok()?;
+    Some((behind, end, [daemon.done(), daemon.refused()]))
+}
+
+#[test]
+fn behind_until_sent(rt: HostRuntime) -> Result<(), Fail> {
+    let mut disk = MemoryDisk::make(rt.alloc(), &[], 1000, &[])?;
+    let mut sink = MemorySink::make(rt.alloc(), 100, &[])?;
+    let told = count_one(&rt, rt.alloc(), &mut disk, &mut sink);
     let (exposed, durable) = (Lsn::new(9), Lsn::new(4));
-    assert_eq!(rt; ask(&mut daemon), Drained::Behind { exposed, durable });
-    assert_eq!(rt; daemon.run_until_drained(&rt), Ok(exposed));
-    assert_eq!(rt; daemon.sink.bytes(), b"");
-    assert_eq!(rt; (daemon.done(), daemon.refused()), (1, 0));
+    assert_eq!(rt;
+        told,
+        Some((Drained::Behind { exposed, durable }, exposed, [1, 0]))
+    );
+    assert!(rt; sink.bytes().is_empty());
+    assert_eq!(rt; disk.bytes(), ONE_TRANSFER_LOG.as_slice());
     Ok(())
 }
 
 /// The stop word that a worker reads after one turn, and what the turn answers, where these calls of the disk and of the
 /// sink fail.
-fn faulty_turn<R: Wait>(rt: &R, alloc: Global, disk_failing: &[u64], sink_failing: &[u64]) -> Result<(Result<Turn, DaemonFault>, u64), NoMemory> {
+fn faulty_turn<R: Wait>(
+    rt: &R,
+    alloc: Global,
+    disk_failing: &[u64],
+    sink_failing: &[u64],
+) -> Result<(Result<Turn, DaemonFault>, u64), NoMemory> {
     let (table, mut boss) = table_from_4(alloc)?;
     let mut seat = worker(&table, &mut boss);
     let mut disk = MemoryDisk::make(alloc, &[], 1000, disk_failing)?;
@@ -256,10 +304,17 @@ fn faulty_turn<R: Wait>(rt: &R, alloc: Global, disk_failing: &[u64], sink_failin
 
 #[test]
 fn faults_are_told_by_the_stop_word(rt: HostRuntime) -> Result<(), Fail> {
-    let sent = Turn::Sent { lines: 1, to: Lsn::new(9) };
+    let sent = Turn::Sent {
+        lines: 1,
+        to: Lsn::new(9),
+    };
     for call in 1..5 {
         let (answer, stop) = faulty_turn(&rt, rt.alloc(), &[CREATED + call], &[])?;
-        assert_eq!(rt; (answer, stop), (Err(DaemonFault::DiskFault), 1), "call {call}");
+        assert_eq!(rt;
+            (answer, stop),
+            (Err(DaemonFault::DiskFault), 1),
+            "call {call}"
+        );
     }
     let (answer, stop) = faulty_turn(&rt, rt.alloc(), &[], &[1])?;
     assert_eq!(rt; (answer, stop), (Err(DaemonFault::WriteFault), 2));

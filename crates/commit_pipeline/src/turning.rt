@@ -28,7 +28,13 @@ impl<'a, D: LogDisk, K: Sink> Daemon<'a, D, K> {
         let Flushed::To { from, to } = flushed else {
             return Ok(Turn::Idle);
         };
-        let told = tell(&self.flusher.batch, from, self.voice, self.sink, &mut self.tally);
+        let told = tell(
+            &self.flusher.batch,
+            from,
+            self.voice,
+            self.sink,
+            &mut self.tally,
+        );
         match told {
             Ok(lines) => Ok(Turn::Sent { lines, to }),
             Err(_) => Err(self.stop(DaemonFault::WriteFault)),
@@ -43,7 +49,9 @@ impl<'a, D: LogDisk, K: Sink> Daemon<'a, D, K> {
         ensures rest { self.new ≡ record self.old { flusher = self.new.flusher; fault = Some fault } }
         ensures fault { result ≡ fault }
     {
-        self.flusher.table.store_stop(&mut self.flusher.seat, fault.word());
+        self.flusher
+            .table
+            .store_stop(&mut self.flusher.seat, fault.word());
         self.fault = Some(fault);
         fault
     }

@@ -15,7 +15,7 @@ returns-in-At-clause-later g c =
 pub loop-preserved : goal.loop-preserved
 loop-preserved g c =
     let later = Later-trans g.D.LogDisk g.K.Sink c.args.self.now c.turn.new.self c.ask.new.self
-        (Later-trans g.D.LogDisk g.K.Sink c.args.self.now c.loop.self c.turn.new.self c.loop.invariant.later c.turn.ensures.later) c.ask.ensures.later in
+    (Later-trans g.D.LogDisk g.K.Sink c.args.self.now c.loop.self c.turn.new.self c.loop.invariant.later c.turn.ensures.later) c.ask.ensures.later in
     record {
       later = later;
       ready = c.ask.ensures.ready;
