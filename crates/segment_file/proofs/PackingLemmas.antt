@@ -1,7 +1,7 @@
 -- Units in the bytes of a batch.
-use Rattle.std.proofs.Common.{◌≡◌, ◌≤◌, ◌<◌, ◌∙◌, sym, ap, refl, ℕ, ◌+◌, ◌*◌, ◌^◌, List, [], ◌∷◌, ◌++◌, length, take, drop, arith, append_assoc, length-append, subst}
+use Rattle.std.proofs.Common.{◌≡◌, ◌≤◌, ◌<◌, ◌∙◌, sym, ap, refl, ℕ, zero, suc, slice_index, ◌+◌, ◌*◌, ◌^◌, List, [], ◌∷◌, ◌++◌, length, take, drop, arith, append_assoc, length-append, subst}
 use Rattle.std.specs.List.{flat_map}
-use Rattle.std.specs.Int.{w32, to_be_bytes}
+use Rattle.std.specs.Int.{w32, w64, to_be_bytes, from_be_bytes}
 use Rattle.std.proofs.lemmas.Nat.{from_be_bytes-to_be_bytes_8}
 use Rattle.std.proofs.lemmas.List.Concat.{flat_map-append}
 use Rattle.lsn_space.specs.Unit.{unit_bytes}
@@ -20,6 +20,16 @@ units_in-unit_bytes (unit ∷ units) each = rw (from_be_bytes-to_be_bytes_8 unit
 pub units_in-batch : (units : List ℕ) → AreUnits units → units_in (drop 11 (magic ++ batch units)) ≡ units
 unfolding batch
 units_in-batch units each = units_in-unit_bytes units each
+
+-- the unit at an index stands at eight times its place
+unit-at_index : (units : List ℕ) (index unit : ℕ) (rest : List ℕ) → AreUnits units → index < length units → unit < 2 ^ 64
+    → drop (8 * index) (flat_map unit_bytes units) ≡ unit_bytes unit ++ rest → unit ≡ slice_index units index
+unit-at_index [] index unit rest each within small is = absurd (omega (arith, within))
+unit-at_index (first ∷ units) zero unit rest each within small is =
+    sym (from_be_bytes-to_be_bytes_8 unit small) ∙ sym (ap (λ bytes. from_be_bytes w64 (take 8 bytes)) is) ∙ from_be_bytes-to_be_bytes_8 first each.0
+unit-at_index (first ∷ units) (suc index) unit rest each within small is =
+    let longer : 8 * suc index ≡ suc (suc (suc (suc (suc (suc (suc (suc (8 * index)))))))) = omega arith in
+    unit-at_index units index unit rest each.1 (omega (arith, within)) small (sym (ap (λ n. drop n (flat_map unit_bytes (first ∷ units))) longer) ∙ is)
 
 AreUnits-more : (units : List ℕ) (unit : ℕ) → AreUnits units → unit < 2 ^ 64 → AreUnits (units ++ unit ∷ [])
 AreUnits-more [] unit each small = (small, tt)
@@ -57,6 +67,14 @@ module _ (bytes units : List ℕ) (room capacity : ℕ) (packed : IsPacked bytes
 
   pub counted : 0 < length units → length units ≤ MOST_UNITS → IsCountedBatch units
   counted some most = record { some = some; most = most; each = packed.each }
+
+  pub unit-at : (index unit : ℕ) (rest : List ℕ) → index < length units → unit < 2 ^ 64 → drop (11 + 8 * index) bytes ≡ unit_bytes unit ++ rest
+      → unit ≡ slice_index units index
+  unfolding batch
+  unit-at index unit rest within small is =
+      let longer : 11 + 8 * index ≡ suc (suc (suc (suc (suc (suc (suc (suc (suc (suc (suc (8 * index))))))))))) = omega arith in
+      unit-at_index units index unit rest packed.each within small
+      (sym (ap (λ n. drop n (magic ++ batch units)) longer) ∙ sym (ap (drop (11 + 8 * index)) packed.whole) ∙ is)
 
   -- with the next gate behind
   pub packed-sealed : bytes ++ CLOSED ∷ [] ≡ magic ++ sealed units

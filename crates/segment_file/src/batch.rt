@@ -1,9 +1,10 @@
-ghost use Rattle.std.specs.Prelude.{◌≡◌, ◌<◌, ◌≤◌, ◌+◌, ◌++◌, ◌∷◌, ◌↔◌, [], IsTrue, take, drop, length, vec_capacity, IfOk};
+ghost use Rattle.std.specs.Prelude.{◌≡◌, ◌<◌, ◌≤◌, ◌+◌, ◌++◌, ◌∷◌, ◌↔◌, [], IsTrue, take, drop, length, slice_index, vec_capacity, IfOk};
 ghost use Rattle.std.specs.Int.{w32, to_be_bytes};
 ghost use Rattle.lsn_space.specs.Unit.{unit_bytes};
 ghost use Rattle.segment_file.specs.File.{magic};
 
 use crate::layout::HEAD;
+use crate::taking::first_unit;
 use lsn_space::{NoMemory, bytes_of};
 use std::alloc::Global;
 use std::marker::Model;
@@ -59,6 +60,18 @@ impl Batch {
         ensures { result ≡ length self.now.units }
     {
         ((self.bytes.len() - HEAD) / 8) as u32
+    }
+
+    /// The unit at that index, from 0.
+    pub fn at(&self, index: u32) -> u64
+        requires { index < length self.now.units }
+        ensures { result ≡ slice_index self.now.units index }
+    {
+        let rest = self.bytes.as_slice().split_at(HEAD + 8 * index as usize).1;
+        match first_unit(rest) {
+            Some((unit, _)) => unit,
+            None => unreachable!(),
+        }
     }
 
     /// Whether there is no room for another unit.

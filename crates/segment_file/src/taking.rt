@@ -35,7 +35,7 @@ fn split_batch(bytes: &[u8]) -> Option<(u32, &[u8], &[u8])>
 }
 
 /// The unit that the bytes begin with, and the bytes behind it.
-fn first_unit(bytes: &[u8]) -> Option<(u64, &[u8])>
+pub(crate) fn first_unit(bytes: &[u8]) -> Option<(u64, &[u8])>
     ensures some { IfSome result (λ u. bytes.now ≡ unit_bytes u.0 ++ u.1.now) }
     ensures none { IfNone result (length bytes.now < 8) }
 {

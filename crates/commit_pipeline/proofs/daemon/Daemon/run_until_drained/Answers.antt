@@ -1,0 +1,23 @@
+use Rattle.std.proofs.Common.{ap, ◌∙◌}
+use Rattle.log_table.specs.Views.{knows_all_enrolled}
+use Rattle.commit_pipeline.proofs.RanLemmas.{Later-trans, Later-standing}
+use Rattle.commit_pipeline.proofs.daemon.Daemon.run_until_drained.Goals as goal
+
+pub returns-in_err-turn-clause-later : goal.returns-in_err-turn-clause-later
+returns-in_err-turn-clause-later g c =
+    Later-trans g.D.LogDisk g.K.Sink c.args.self.now c.loop.self c.turn.new.self c.loop.invariant.later c.turn.ensures.later
+
+pub returns-in-At-clause-later : goal.returns-in-At-clause-later
+returns-in-At-clause-later g c =
+    Later-trans g.D.LogDisk g.K.Sink c.args.self.now c.turn.new.self c.ask.new.self
+    (Later-trans g.D.LogDisk g.K.Sink c.args.self.now c.loop.self c.turn.new.self c.loop.invariant.later c.turn.ensures.later) c.ask.ensures.later
+
+pub loop-preserved : goal.loop-preserved
+loop-preserved g c =
+    let later = Later-trans g.D.LogDisk g.K.Sink c.args.self.now c.turn.new.self c.ask.new.self
+    (Later-trans g.D.LogDisk g.K.Sink c.args.self.now c.loop.self c.turn.new.self c.loop.invariant.later c.turn.ensures.later) c.ask.ensures.later in
+    record {
+      later = later;
+      ready = c.ask.ensures.ready;
+      told = ap knows_all_enrolled (Later-standing g.D.LogDisk g.K.Sink c.args.self.now c.ask.new.self later) ∙ c.requires.told;
+    }

@@ -1,0 +1,83 @@
+-- What a turn of a daemon asks for, and what it leaves. `g` is what a disk shows and `h` what a sink shows; `old` and `new` are
+-- the daemon before and after.
+use Rattle.std.specs.Prelude.{◌≡◌, ℕ, ◌+◌, ◌≤◌, List, length, Some, None}
+use Rattle.std.specs.Io.KnownBytes.{Appends}
+use Rattle.log_disk.specs.declared.disk.LogDisk.{Ghosts}
+use Rattle.log_disk.specs.declared.sink.Sink.{Ghosts as SinkGhosts}
+use Rattle.log_disk.specs.Faults.{Rose}
+use Rattle.log_table.specs.Seats.{Becomes, view_of}
+use Rattle.log_table.specs.Views.{sent_to, has_stopped}
+use Rattle.flusher.specs.declared.flusher.Flusher.{Flusher}
+use Rattle.flusher.specs.Flushing.{IsReady, IsSame, FindsNothing, Sends, Loses}
+use Rattle.commit_pipeline.specs.declared.daemon.Daemon.{Daemon}
+use Rattle.commit_pipeline.specs.declared.daemon.DaemonFault.{DaemonFault}
+use Rattle.commit_pipeline.specs.declared.daemon.DaemonFault.TheVariants.{DiskFault, WriteFault}
+use Rattle.commit_pipeline.specs.declared.daemon.Turn.{Turn}
+use Rattle.commit_pipeline.specs.declared.daemon.Turn.TheVariants.{Idle, Sent}
+use Rattle.commit_pipeline.specs.Telling.{TellsAll, TellsSome}
+
+-- where the next units go
+abbrev pub durable : {D : Type 0} → {K : Type 0} → Daemon D K → ℕ
+durable d = sent_to (view_of d.flusher.seat)
+
+-- a turn may be made: nothing has befallen the daemon, and it has counted no more end records than units were sent
+pub record MayTurn {D : Type 0} {K : Type 0} (g : Ghosts D) (d : Daemon D K) : Type 0 where
+  pub flusher : IsReady g d.flusher
+  pub fine : d.fault ≡ None
+  pub counted : d.tally.done + d.tally.refused ≤ length (view_of d.flusher.seat).sending.sent
+
+-- it is the same daemon, with the same disk and sink
+pub record IsSameDaemon {D : Type 0} {K : Type 0} (g : Ghosts D) (h : SinkGhosts K) (old new : Daemon D K) : Type 0 where
+  pub flusher : IsSame g old.flusher new.flusher
+  pub sink : new.sink.ghost_name ≡ old.sink.ghost_name
+  pub voice : new.voice ≡ old.voice
+  pub disk_faults : g.faults old.flusher.disk.now ≤ g.faults new.flusher.disk.now
+  pub sink_faults : h.faults old.sink.now ≤ h.faults new.sink.now
+
+-- the stop word was stored, and nothing else was done
+pub record Stops {D : Type 0} (word : ℕ) (old new : Flusher D) : Type 0 where
+  pub seat : Becomes old.seat new.seat (has_stopped word (view_of old.seat))
+  pub rest : new ≡ record old { seat = new.seat }
+
+-- exposed, as loaded, is durable, and nothing else was done
+pub record Idles {D : Type 0} {K : Type 0} (old new : Daemon D K) : Type 0 where
+  pub flush : FindsNothing old.flusher new.flusher (durable old)
+  pub rest : new ≡ record old { flusher = new.flusher }
+
+-- units were sent, and then the lines of their end records were written
+pub record SendsLines {D : Type 0} {K : Type 0} (g : Ghosts D) (h : SinkGhosts K) (old new : Daemon D K) (lines to : ℕ) : Type 0 where
+  pub flush : Sends g old.flusher new.flusher (durable old) to
+  pub text : List ℕ
+  pub appended : Appends (h.held_bytes old.sink.now) (h.held_bytes new.sink.now) text
+  pub tells : TellsAll old.voice (durable old) flush.units text lines old.tally new.tally
+  pub fine : new.fault ≡ None
+
+-- the disk failed to take the units; nothing was written, and the stop word is 1
+pub record LosesUnits {D : Type 0} {K : Type 0} (g : Ghosts D) (old new : Daemon D K) : Type 0 where
+  pub lost : Flusher D
+  pub flush : Loses g old.flusher lost
+  pub stops : Stops 1 lost new.flusher
+  pub rest : new ≡ record old { flusher = new.flusher; fault = Some DiskFault }
+  pub rose : Rose (g.faults old.flusher.disk.now) (g.faults new.flusher.disk.now)
+
+-- the units were sent, and then the sink failed to take the lines; the stop word is 2
+pub record LosesLines {D : Type 0} {K : Type 0} (g : Ghosts D) (h : SinkGhosts K) (old new : Daemon D K) : Type 0 where
+  pub to : ℕ
+  pub sent : Flusher D
+  pub flush : Sends g old.flusher sent (durable old) to
+  pub stops : Stops 2 sent new.flusher
+  pub text : List ℕ
+  pub appended : Appends (h.held_bytes old.sink.now) (h.held_bytes new.sink.now) text
+  pub tells : TellsSome old.voice (durable old) flush.units text old.tally new.tally
+  pub fault : new.fault ≡ Some WriteFault
+  pub rose : Rose (h.faults old.sink.now) (h.faults new.sink.now)
+
+-- a turn, by its answer
+abbrev pub Turns : {D : Type 0} → {K : Type 0} → Ghosts D → SinkGhosts K → Daemon D K → Daemon D K → Turn → Type 0
+Turns g h old new Idle = Idles old new
+Turns g h old new (Sent lines to) = SendsLines g h old new lines to
+
+-- a turn that failed, by the fault
+abbrev pub Fails : {D : Type 0} → {K : Type 0} → Ghosts D → SinkGhosts K → Daemon D K → Daemon D K → DaemonFault → Type 0
+Fails g h old new DiskFault = LosesUnits g old new
+Fails g h old new WriteFault = LosesLines g h old new

@@ -1,0 +1,120 @@
+-- What the steps of a flush come to.
+use Rattle.std.proofs.Common.{◌≡◌, ◌≤◌, ◌+◌, ◌∙◌, sym, ap, subst, inl, ℕ, List, [], ◌∷◌, ◌++◌, length, length-append, arith, append_assoc}
+use Rattle.std.specs.List.{Contains}
+use Rattle.std.proofs.lemmas.List.Elements.{Contains-append_left, Contains-append_right, Contains-push}
+use Rattle.log_disk.specs.Disk.{Leaves}
+use Rattle.log_disk.specs.declared.disk.LogDisk.{Ghosts}
+use Rattle.log_disk.proofs.Moments.{Leaves-now}
+use Rattle.log_table.specs.declared.table.Seat.{Seat}
+use Rattle.log_table.specs.declared.view.View.{View}
+use Rattle.log_table.specs.Seats.{Becomes, view_of}
+use Rattle.segment_file.specs.File.{HoldsUnits}
+use Rattle.segment_file.specs.Standing.{StandsAt, AllStand, HoldsEither}
+use Rattle.segment_file.specs.declared.scan_result.Tail.{Tail}
+use Rattle.flusher.specs.declared.flusher.Flusher.{Flusher}
+use Rattle.log_table.specs.Sends.{AreEntries, ReadsWholeEntries}
+use Rattle.log_table.specs.Views.{sent_to, read_to}
+use Rattle.flusher.specs.Sending.{gathered, flushed}
+use Rattle.flusher.specs.Flushing.{IsReady, HoldsDurablePrefix}
+
+-- one step after another
+pub Becomes-then : (a b c : Seat) (view : View) (f : View → View) → Becomes a b view → Becomes b c (f (view_of b)) → Becomes a c (f view)
+Becomes-then a b c view f first second = record {
+  table_is = second.table_is ∙ first.table_is;
+  number = second.number ∙ first.number;
+  me = second.me ∙ ap (λ m. (f m.0, m.1)) first.me;
+  worker = second.worker ∙ first.worker;
+}
+
+-- what stands at a tail holds its units
+pub StandsAt-holds : (tail : Tail) (units bytes : List ℕ) → StandsAt tail units bytes → HoldsUnits bytes units
+StandsAt-holds tail units bytes stands = (stands.batches, stands.rest, stands.file, stands.units_are)
+
+-- what an append says of every list, said of the opening units and those sent
+pub Leaves-append : {D : Type 0} (g : Ghosts D) (old : Flusher D) (disk : D) (batch units : List ℕ) → batch ≡ units
+    → ((us : List ℕ) → AllStand old.tail us (g.images old.disk.now) → Leaves g.moment g.images_since (HoldsEither us batch) old.disk.now disk)
+    → (opening : List ℕ) → HoldsDurablePrefix g old opening
+    → Leaves g.moment g.images_since (HoldsEither (opening ++ (view_of old.seat).sending.sent) units) old.disk.now disk
+Leaves-append g old disk batch units same moments opening stand =
+    subst (λ us. Leaves g.moment g.images_since (HoldsEither (opening ++ (view_of old.seat).sending.sent) us) old.disk.now disk) same
+    (moments (opening ++ (view_of old.seat).sending.sent) stand)
+
+-- after an append the images hold what the view then says was sent
+pub HoldsDurablePrefix-append : {D : Type 0} (g : Ghosts D) (old : Flusher D) (tail : Tail) (disk : D) (batch units sent : List ℕ) → batch ≡ units
+    → ((us : List ℕ) → AllStand old.tail us (g.images old.disk.now) → AllStand tail (us ++ batch) (g.images disk))
+    → sent ≡ (view_of old.seat).sending.sent ++ units → (opening : List ℕ) → HoldsDurablePrefix g old opening
+    → AllStand tail (opening ++ sent) (g.images disk)
+HoldsDurablePrefix-append g old tail disk batch units sent same appended sent_is opening stand =
+    subst (λ us. AllStand tail us (g.images disk))
+    (ap (λ us. (opening ++ (view_of old.seat).sending.sent) ++ us) same ∙ append_assoc opening (view_of old.seat).sending.sent units
+        ∙ ap (λ us. opening ++ us) (sym sent_is))
+    (appended (opening ++ (view_of old.seat).sending.sent) stand)
+
+-- after an append that failed they hold that, or with it what the view says was read
+pub MayHoldBatchInFlight-append : {D : Type 0} (g : Ghosts D)
+    → ((disk : D) (t : ℕ) (c : List ℕ) → t ≤ g.moment disk → g.images disk c → g.images_since disk t c)
+    → ((disk : D) (c : List ℕ) → g.images_since disk (g.moment disk) c → g.images disk c)
+    → (old : Flusher D) (disk : D) (units sent read : List ℕ)
+    → ((opening : List ℕ) → HoldsDurablePrefix g old opening
+        → Leaves g.moment g.images_since (HoldsEither (opening ++ (view_of old.seat).sending.sent) units) old.disk.now disk)
+    → sent ≡ (view_of old.seat).sending.sent → read ≡ units
+    → (opening : List ℕ) → HoldsDurablePrefix g old opening → (c : List ℕ) → g.images disk c → HoldsEither (opening ++ sent) read c
+MayHoldBatchInFlight-append g counts_now only_now old disk units sent read moments sent_is read_is opening stand =
+    subst (λ us. (c : List ℕ) → g.images disk c → HoldsEither (opening ++ us) read c) (sym sent_is)
+    (subst (λ us. (c : List ℕ) → g.images disk c → HoldsEither (opening ++ (view_of old.seat).sending.sent) us c) (sym read_is)
+    (Leaves-now g.moment g.images_since g.images counts_now _ old.disk.now disk only_now
+    (λ c image. inl (StandsAt-holds _ _ c (stand c image))) (moments opening stand)))
+
+-- the units read up to exposed are whole entries
+pub AreEntries-gathered : (view now : View) (from to : ℕ) (units : List ℕ) → now ≡ gathered to units view → view.sending.read ≡ []
+    → from ≡ sent_to view → to ≡ from + length units → ReadsWholeEntries now → AreEntries from to units
+AreEntries-gathered view now from to units is unread start whole entries =
+    let read : view.sending.read ++ units ≡ units = ap (λ us. us ++ units) unread in
+    let all : read_to (gathered to units view) ≡ to = omega (arith, start, whole, ap length read) in
+    subst (λ at. AreEntries at to units) (sym start) (subst (AreEntries (sent_to view) to) read (subst ReadsWholeEntries is entries all))
+
+-- a step of the seat alone, which leaves what was sent and read as it was, leaves the flusher ready
+pub IsReady-step : {D : Type 0} (g : Ghosts D) (f : Flusher D) (seat : Seat) (view : View) → IsReady g f → Becomes f.seat seat view
+    → view.constants ≡ (view_of f.seat).constants → view.standing ≡ (view_of f.seat).standing → view.sending.sent ≡ (view_of f.seat).sending.sent
+    → view.sending.read ≡ (view_of f.seat).sending.read → ((x : ℕ) → Contains (view_of f.seat).seen.lsns x → Contains view.seen.lsns x)
+    → IsReady g (record f { seat = seat })
+IsReady-step g f seat view ready becomes constants standing sent read seen =
+    let view_is : view_of seat ≡ view = ap (λ m. m.0) becomes.me in
+    let constants_are : (view_of seat).constants ≡ (view_of f.seat).constants = ap (λ v. v.constants) view_is ∙ constants in
+    let durable_is : sent_to (view_of seat) ≡ sent_to (view_of f.seat) =
+    (λ i. (constants_are i).start + length ((ap (λ v. v.sending.sent) view_is ∙ sent) i)) in
+    record {
+      seat = record {
+        table_is = becomes.table_is ∙ ready.seat.table_is;
+        no_slots = ap (λ m. m.1) becomes.me ∙ ready.seat.no_slots;
+        ring = ap (λ k. k.ring) constants_are ∙ ready.seat.ring;
+      };
+      flusher = ap (λ v. v.standing.role) view_is ∙ ap (λ s. s.role) standing ∙ ready.flusher;
+      unread = ap (λ v. v.sending.read) view_is ∙ read ∙ ready.unread;
+      seen = subst (Contains (view_of seat).seen.lsns) (sym durable_is)
+          (subst (λ v. Contains v.seen.lsns (sent_to (view_of f.seat))) (sym view_is) (seen (sent_to (view_of f.seat)) ready.seen));
+      next = ready.next ∙ sym durable_is;
+      place = ready.place;
+      shut = ready.shut;
+      room = ready.room;
+    }
+
+-- an LSN is among those seen, and stays there
+pub seen-newer : (newer : ℕ) (lsns : List ℕ) (x : ℕ) → Contains lsns x → Contains (newer ∷ lsns) x
+seen-newer newer lsns x seen = Contains-append_right (newer ∷ []) lsns x seen
+
+pub seen-newest : (newer : ℕ) (lsns : List ℕ) → Contains (newer ∷ lsns) newer
+seen-newest newer lsns = Contains-append_left (newer ∷ []) lsns newer (Contains-push [] newer)
+
+-- durable, once it is stored
+pub sent_to-flushed : (view now : View) (from to : ℕ) (units : List ℕ) → now ≡ flushed to units view → view.sending.read ≡ []
+    → from ≡ sent_to view → to ≡ from + length units → sent_to now ≡ to
+sent_to-flushed view now from to units is unread start whole =
+    let read : view.sending.read ++ units ≡ units = ap (λ us. us ++ units) unread in
+    let at : sent_to (flushed to units view) ≡ to =
+    omega (arith, length-append view.sending.sent (view.sending.read ++ units), ap length read, start, whole) in
+    ap sent_to is ∙ at
+
+pub seen-flushed : (view now : View) (to : ℕ) (units : List ℕ) → now ≡ flushed to units view → sent_to now ≡ to → Contains now.seen.lsns (sent_to now)
+seen-flushed view now to units is at =
+    subst (Contains now.seen.lsns) (sym at) (subst (λ v. Contains v.seen.lsns to) (sym is) (seen-newest to (gathered to units view).seen.lsns))

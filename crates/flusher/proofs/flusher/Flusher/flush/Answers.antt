@@ -1,0 +1,84 @@
+use Rattle.std.proofs.Common.{rules, arith, ◌≢◌, ◌∙◌, ap, refl, subst, length, ◌<◌, ◌+◌, ◌++◌}
+use Rattle.std.proofs.lemmas.Result.{err_from_is_err_and}
+use Rattle.log_table.specs.Seats.{view_of}
+use Rattle.log_table.specs.Views.{has_sent}
+use Rattle.log_table.specs.Sends.{AreEntries}
+use Rattle.flusher.specs.Sending.{read_units}
+use Rattle.flusher.proofs.Flushes.{Becomes-then, Leaves-append, AreEntries-gathered, sent_to-flushed, seen-flushed, HoldsDurablePrefix-append, MayHoldBatchInFlight-append}
+use Rattle.flusher.proofs.flusher.Flusher.flush.Goals as goal
+
+pub returns-in_err-self-clause-lost : goal.returns-in_err-self-clause-lost
+returns-in_err-self-clause-lost g c =
+    let failed = err_from_is_err_and c.from_residual.result c.from_residual.ensures.1 in
+    let apart : c.load_exposed-to.result ≢ c.args.self.now.tail.next = search rules in
+    let units = ap (λ batch. batch.units) c.gather.ensures.batch in
+    let below : c.args.self.now.tail.next < c.load_exposed-to.result =
+        omega (arith, (c.load_exposed-to.ensures.flusher c.requires.ready.flusher).read, c.requires.ready.next, apart) in
+    let seat = Becomes-then _ _ _ _ (read_units c.gather.ensures.units) c.load_exposed-to.ensures.view c.gather.ensures.seat in
+    let entries = AreEntries-gathered (view_of c.args.self.now.seat) _ _ _ _ (ap (λ m. m.0) seat.me) c.requires.ready.unread c.requires.ready.next
+        c.gather.ensures.whole (c.gather.ensures.entries below) in
+    rw failed.1 record {
+      to = c.load_exposed-to.result;
+      units = c.gather.ensures.units;
+      some = omega (arith, c.gather.ensures.whole, below);
+      whole = c.gather.ensures.whole ∙ ap (λ n. n + length c.gather.ensures.units) c.requires.ready.next;
+      entries = subst (λ from. AreEntries from c.load_exposed-to.result c.gather.ensures.units) c.requires.ready.next entries;
+      seat = seat;
+      batch = c.append.ensures.batch ∙ c.gather.ensures.batch;
+      tail = refl;
+      writes = record {
+        moments = λ honest. Leaves-append g.D.LogDisk c.args.self.now _ _ _ units (c.append.ensures.moments honest);
+        count = c.append.ensures.count;
+      };
+      prefix = λ honest. MayHoldBatchInFlight-append g.D.LogDisk g.met.D.LogDisk.counts_now g.met.D.LogDisk.only_now c.args.self.now _
+          c.gather.ensures.units _ _
+          (Leaves-append g.D.LogDisk c.args.self.now _ _ _ units (c.append.ensures.moments honest))
+          (ap (λ m. m.0.sending.sent) seat.me) (ap (λ m. m.0.sending.read) seat.me ∙ ap (λ us. us ++ c.gather.ensures.units) c.requires.ready.unread);
+    }
+
+pub returns-clause-flushed : goal.returns-clause-flushed
+returns-clause-flushed g c =
+    let apart : c.load_exposed-to.result ≢ c.args.self.now.tail.next = search rules in
+    let units = ap (λ batch. batch.units) c.gather.ensures.batch in
+    let below : c.args.self.now.tail.next < c.load_exposed-to.result =
+        omega (arith, (c.load_exposed-to.ensures.flusher c.requires.ready.flusher).read, c.requires.ready.next, apart) in
+    let read = Becomes-then _ _ _ _ (read_units c.gather.ensures.units) c.load_exposed-to.ensures.view c.gather.ensures.seat in
+    let entries = AreEntries-gathered (view_of c.args.self.now.seat) _ _ _ _ (ap (λ m. m.0) read.me) c.requires.ready.unread c.requires.ready.next
+        c.gather.ensures.whole (c.gather.ensures.entries below) in
+    let seat = Becomes-then _ _ _ _ (has_sent c.load_exposed-to.result) read c.store_durable.ensures.view in
+    record {
+      units = c.gather.ensures.units;
+      durable = c.requires.ready.next;
+      some = below;
+      whole = c.gather.ensures.whole;
+      entries = entries;
+      seat = seat;
+      batch = c.append.ensures.batch ∙ c.gather.ensures.batch;
+      tail = search rules;
+      writes = record {
+        moments = λ honest. Leaves-append g.D.LogDisk c.args.self.now _ _ _ units (c.append.ensures.moments honest);
+        count = c.append.ensures.count;
+      };
+      prefix = λ honest. HoldsDurablePrefix-append g.D.LogDisk c.args.self.now _ _ _ _ _ units (c.in_ok-self.ensures.appended honest)
+          (ap (λ m. m.0.sending.sent) seat.me
+              ∙ ap (λ us. (view_of c.args.self.now.seat).sending.sent ++ (us ++ c.gather.ensures.units)) c.requires.ready.unread);
+      settled = λ honest. c.in_ok-self.ensures.settled honest;
+    }
+
+pub returns-clause-ready : goal.returns-clause-ready
+returns-clause-ready g c =
+    let read = Becomes-then _ _ _ _ (read_units c.gather.ensures.units) c.load_exposed-to.ensures.view c.gather.ensures.seat in
+    let seat = Becomes-then _ _ _ _ (has_sent c.load_exposed-to.result) read c.store_durable.ensures.view in
+    let durable = sent_to-flushed (view_of c.args.self.now.seat) _ _ _ _ (ap (λ m. m.0) seat.me) c.requires.ready.unread c.requires.ready.next
+        c.gather.ensures.whole in
+    let units = ap (λ batch. length batch.units) c.gather.ensures.batch in
+    record {
+      seat = search rules;
+      flusher = search rules;
+      unread = search rules;
+      seen = seen-flushed (view_of c.args.self.now.seat) _ _ _ (ap (λ m. m.0) seat.me) durable;
+      next = omega (arith, durable, c.in_ok-self.ensures.next, units, c.gather.ensures.whole);
+      place = search rules;
+      shut = search rules;
+      room = search rules;
+    }

@@ -1,0 +1,97 @@
+-- What a flush asks for, and what it leaves. `g` is what a disk shows; `old` and `new` are the flusher before and after.
+use Rattle.std.specs.Prelude.{◌≡◌, ◌↔◌, ℕ, ◌+◌, ◌*◌, ◌^◌, ◌<◌, ◌≤◌, List, [], ◌++◌, length, Contains}
+use Rattle.log_disk.specs.Disk.{IsSettled, Leaves}
+use Rattle.log_disk.specs.declared.disk.LogDisk.{Ghosts}
+use Rattle.log_table.specs.declared.view.Role.TheVariants.{Flusher as FlusherRole}
+use Rattle.log_table.specs.Seats.{IsOf, Becomes, view_of}
+use Rattle.log_table.specs.Sends.{AreEntries, IsDrained}
+use Rattle.log_table.specs.Views.{saw_exposed, saw_crew, sent_to}
+use Rattle.segment_file.specs.Standing.{tail_after, AllStand, IsShut, HoldsEither}
+use Rattle.flusher.specs.declared.flusher.Flusher.{Flusher}
+use Rattle.flusher.specs.declared.flusher.Flushed.{Flushed}
+use Rattle.flusher.specs.declared.flusher.Flushed.TheVariants.{Nothing, To}
+use Rattle.flusher.specs.declared.flusher.Drained.{Drained}
+use Rattle.flusher.specs.declared.flusher.Drained.TheVariants.{At, Active, Behind}
+use Rattle.flusher.specs.Sending.{gathered, flushed, asked}
+
+-- a flush may be made: the seat is the table's first and saw durable, its last flush did not fail, the log goes on at durable
+-- behind a gate that stays shut, and the batch has room for the ring
+pub record IsReady {D : Type 0} (g : Ghosts D) (f : Flusher D) : Type 0 where
+  pub seat : IsOf f.table.now f.seat
+  pub flusher : (view_of f.seat).standing.role ≡ FlusherRole
+  pub unread : (view_of f.seat).sending.read ≡ []
+  pub seen : Contains (view_of f.seat).seen.lsns (sent_to (view_of f.seat))
+  pub next : f.tail.next ≡ sent_to (view_of f.seat)
+  pub place : f.tail.at ≤ 2 ^ 63 + 16 * f.tail.next
+  pub shut : g.honest f.disk.now → IsShut f.tail.at (g.images f.disk.now)
+  pub room : f.table.now.ring ≤ f.batch.room
+
+-- it is the same table, with the same workers, and the same disk, whose time went on
+pub record IsSame {D : Type 0} (g : Ghosts D) (old new : Flusher D) : Type 0 where
+  pub table : new.table ≡ old.table
+  pub workers : (view_of new.seat).standing ≡ (view_of old.seat).standing
+  pub disk : new.disk.ghost_name ≡ old.disk.ghost_name
+  pub honest : g.honest old.disk.now ↔ g.honest new.disk.now
+  pub later : g.moment old.disk.now ≤ g.moment new.disk.now
+
+-- each image holds the opening units, and then the units sent, which reach up to durable; it goes on at the tail
+abbrev pub HoldsDurablePrefix : {D : Type 0} → Ghosts D → Flusher D → List ℕ → Type 0
+HoldsDurablePrefix g f opening = AllStand f.tail (opening ++ (view_of f.seat).sending.sent) (g.images f.disk.now)
+
+-- each image holds the opening units and those sent, or these and the whole batch that was read
+abbrev pub MayHoldBatchInFlight : {D : Type 0} → Ghosts D → Flusher D → List ℕ → Type 0
+MayHoldBatchInFlight g f opening = (c : List ℕ) → g.images f.disk.now c
+    → HoldsEither (opening ++ (view_of f.seat).sending.sent) (view_of f.seat).sending.read c
+
+-- at each moment an image holds what was sent before, or that and the whole batch; whatever the opening units were
+pub record WritesWhole {D : Type 0} (g : Ghosts D) (units : List ℕ) (old new : Flusher D) : Type 0 where
+  pub moments : g.honest old.disk.now → (opening : List ℕ) → HoldsDurablePrefix g old opening
+      → Leaves g.moment g.images_since (HoldsEither (opening ++ (view_of old.seat).sending.sent) units) old.disk.now new.disk.now
+  pub count : g.honest old.disk.now → g.written_count new.disk.now ≤ g.written_count old.disk.now + 4
+
+-- exposed, as loaded, is durable, and nothing else was done
+pub record FindsNothing {D : Type 0} (old new : Flusher D) (at : ℕ) : Type 0 where
+  pub durable : at ≡ sent_to (view_of old.seat)
+  pub seat : Becomes old.seat new.seat (saw_exposed at (view_of old.seat))
+  pub rest : new ≡ record old { seat = new.seat }
+
+-- the units from durable to exposed, as loaded, are written behind the tail, and then durable is raised to their end
+pub record Sends {D : Type 0} (g : Ghosts D) (old new : Flusher D) (from to : ℕ) : Type 0 where
+  pub units : List ℕ
+  pub durable : from ≡ sent_to (view_of old.seat)
+  pub some : from < to
+  pub whole : to ≡ from + length units
+  pub entries : AreEntries from to units
+  pub seat : Becomes old.seat new.seat (flushed to units (view_of old.seat))
+  pub batch : new.batch ≡ record old.batch { units = units }
+  pub tail : new.tail ≡ tail_after old.tail units
+  pub writes : WritesWhole g units old new
+  pub prefix : g.honest old.disk.now → (opening : List ℕ) → HoldsDurablePrefix g old opening → HoldsDurablePrefix g new opening
+  pub settled : g.honest old.disk.now → IsSettled (g.reads new.disk.now) (g.images new.disk.now)
+
+-- the units up to exposed, as loaded, were read, and the disk failed to take them; durable stands, and the seat keeps what
+-- it read
+pub record Loses {D : Type 0} (g : Ghosts D) (old new : Flusher D) : Type 0 where
+  pub to : ℕ
+  pub units : List ℕ
+  pub some : 0 < length units
+  pub whole : to ≡ sent_to (view_of old.seat) + length units
+  pub entries : AreEntries (sent_to (view_of old.seat)) to units
+  pub seat : Becomes old.seat new.seat (gathered to units (view_of old.seat))
+  pub batch : new.batch ≡ record old.batch { units = units }
+  pub tail : new.tail ≡ old.tail
+  pub writes : WritesWhole g units old new
+  pub prefix : g.honest old.disk.now → (opening : List ℕ) → HoldsDurablePrefix g old opening → MayHoldBatchInFlight g new opening
+
+-- a flush, by its answer
+abbrev pub Flushes : {D : Type 0} → Ghosts D → Flusher D → Flusher D → Flushed → Type 0
+Flushes g old new (Nothing at) = FindsNothing old new at
+Flushes g old new (To from to) = Sends g old new from to
+
+-- what crew held, and where that was 0, how exposed, loaded after it, stands to durable
+abbrev pub Asks : {D : Type 0} → Flusher D → Flusher D → Drained → Type 0
+Asks old new (At lsn) = (lsn ≡ sent_to (view_of old.seat)) × IsDrained (view_of new.seat)
+    × Becomes old.seat new.seat (asked lsn (view_of old.seat))
+Asks old new (Active n) = (0 < n) × Becomes old.seat new.seat (saw_crew n (view_of old.seat))
+Asks old new (Behind exposed durable) = (durable ≡ sent_to (view_of old.seat)) × (durable < exposed)
+    × Becomes old.seat new.seat (asked exposed (view_of old.seat))

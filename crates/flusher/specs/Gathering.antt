@@ -1,0 +1,25 @@
+-- How units go from the ring into a batch.
+use Rattle.std.specs.Prelude.{◌≡◌, ℕ, ◌+◌, ◌<◌, ◌≤◌, List, length}
+use Rattle.log_table.specs.declared.table.Seat.{Seat}
+use Rattle.log_table.specs.declared.view.Role.TheVariants.{Flusher}
+use Rattle.log_table.specs.declared.view.View.{View}
+use Rattle.log_table.specs.Seats.{Becomes, view_of}
+use Rattle.log_table.specs.Sends.{ReadsWholeEntries}
+use Rattle.log_table.specs.Views.{read_to}
+use Rattle.segment_file.specs.Packing.{BatchState}
+use Rattle.flusher.specs.Sending.{read_units}
+
+-- the units from the one LSN to the other are the next to be read
+pub record MayGather (from to : ℕ) (view : View) : Type 0 where
+  pub flusher : view.standing.role ≡ Flusher
+  pub next : from ≡ read_to view
+  pub forward : from ≤ to
+  pub released : to ≤ view.sending.exposed
+
+-- they were read, and are the units of the batch; once they end at exposed they are whole entries
+pub record Gathers (from to : ℕ) (old new : Seat) (before after : BatchState) : Type 0 where
+  pub units : List ℕ
+  pub whole : to ≡ from + length units
+  pub seat : Becomes old new (read_units units (view_of old))
+  pub batch : after ≡ record before { units = units }
+  pub entries : from < to → ReadsWholeEntries (view_of new)

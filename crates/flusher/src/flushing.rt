@@ -1,0 +1,50 @@
+//! A flush: the units from durable to exposed go from the ring to the disk.
+ghost use Rattle.std.specs.Prelude.{◌≡◌, ◌≤◌, ◌<◌, ◌+◌, ◌-◌, ◌++◌, [], List, ℕ, length, IfOk, OnOk, OnErr};
+ghost use Rattle.log_disk.specs.Faults.{HasCause};
+ghost use Rattle.log_table.specs.Seats.{IsOf, Becomes, view_of};
+ghost use Rattle.log_table.specs.Views.{sent_to};
+ghost use Rattle.flusher.specs.Flushing.{IsReady, IsSame, Flushes, Loses};
+ghost use Rattle.flusher.specs.Gathering.{MayGather, Gathers};
+
+use crate::flusher::{Flushed, Flusher};
+use log_disk::LogDisk;
+use log_table::{LogTable, Seat};
+use lsn_space::Lsn;
+use segment_file::{Batch, DiskFault, append};
+
+impl<'a, D: LogDisk> Flusher<'a, D> {
+    /// Writes what is released beyond durable to the disk as one batch, and then raises durable to its end. After an
+    /// Err durable stands where it was, and no further flush may be made.
+    pub fn flush(&mut self) -> Result<Flushed, DiskFault>
+        requires ready { IsReady D.LogDisk self.old }
+        ensures flushed { IfOk result (Flushes D.LogDisk self.old self.new) }
+        ensures ready { OnOk result (IsReady D.LogDisk self.new) }
+        ensures lost { OnErr result (Loses D.LogDisk self.old self.new) }
+        ensures same { IsSame D.LogDisk self.old self.new }
+        ensures cause { HasCause (D.faults self.old.disk.now) (D.faults self.new.disk.now) result }
+    {
+        let from = self.tail.next;
+        let to = self.table.load_exposed(&mut self.seat);
+        if to == from {
+            return Ok(Flushed::Nothing { at: to });
+        }
+        gather(self.table, &mut self.seat, &mut self.batch, from, to);
+        self.tail = append(self.disk, self.tail, &mut self.batch)?;
+        self.table.store_durable(&mut self.seat, to);
+        Ok(Flushed::To { from, to })
+    }
+}
+
+/// Reads the units from the one LSN to the other into the batch.
+fn gather(table: &LogTable, seat: &mut Seat, batch: &mut Batch, from: Lsn, to: Lsn)
+    requires seat { IsOf table.now seat.old }
+    requires may { MayGather from to (view_of seat.old) }
+    requires room { to ≤ from + batch.old.room }
+    ensures { Gathers from to seat.old seat.new batch.old batch.new }
+{
+    batch.clear();
+    for at in from.units()..to.units() {
+        let unit = table.load_ring(seat, Lsn::new(at));
+        batch.push(unit);
+    }
+}

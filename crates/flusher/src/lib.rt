@@ -1,0 +1,10 @@
+//! Takes what is released from the ring, writes it to the log file as one batch, and only then says that it is durable.
+#![tactic(auto)]
+
+mod draining;
+mod flusher;
+mod flushing;
+#[cfg(test)]
+mod tests;
+
+pub use flusher::{Drained, Flushed, Flusher};
