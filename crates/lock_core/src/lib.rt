@@ -25,3 +25,6 @@ pub use limits::{MOST_ACCOUNTS, MOST_BALANCE};
 pub use plain::{PlainFault, plain_accounts};
 pub use reason::{JudgeFault, Why};
 pub use update::{Change, txn_of};
+
+#[cfg(test)]
+mod tests;

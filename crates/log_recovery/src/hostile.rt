@@ -1,5 +1,6 @@
 //! Images that somebody might hand in, each with the one answer that it gets.
 
+use crate::plain_tests::is_same;
 use crate::{RecoverFault, Why, recover};
 use lsn_space::Lsn;
 use std::alloc::{AllocError, Global};
@@ -77,6 +78,7 @@ fn bytes_that_are_no_log(rt: HostRuntime) -> Result<(), Fail> {
             Some(fault),
             "{name}"
         );
+        assert!(rt; is_same(rt.alloc(), bytes.as_slice()), "{name}");
     }
     Ok(())
 }
@@ -118,6 +120,7 @@ fn units_that_are_no_record(rt: HostRuntime) -> Result<(), Fail> {
             Some(fault),
             "{name}"
         );
+        assert!(rt; is_same(rt.alloc(), bytes.as_slice()), "{name}");
     }
     Ok(())
 }
@@ -197,6 +200,7 @@ fn records_that_are_unlawful(rt: HostRuntime) -> Result<(), Fail> {
             Some(fault),
             "{name}"
         );
+        assert!(rt; is_same(rt.alloc(), bytes.as_slice()), "{name}");
     }
     Ok(())
 }
@@ -237,6 +241,7 @@ fn odd_logs_that_are_lawful(rt: HostRuntime) -> Result<(), Fail> {
         assert_eq!(rt; recovered.lsn, Lsn::new(lsn), "{name}");
         assert_eq!(rt; recovered.accounts.count(), accounts, "{name}");
         assert_eq!(rt; recovered.accounts.at(0), (100, 0), "{name}");
+        assert!(rt; is_same(rt.alloc(), bytes.as_slice()), "{name}");
     }
     Ok(())
 }

@@ -16,4 +16,6 @@ pub use texts::put_accounts;
 #[cfg(test)]
 mod hostile;
 #[cfg(test)]
+mod plain_tests;
+#[cfg(test)]
 mod tests;

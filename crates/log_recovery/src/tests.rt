@@ -1,6 +1,7 @@
 //! Whole images of logs, as batches of units. Most begin with the genesis log's batch: accounts 0 and 1, of balances
 //! 100 and 0.
 
+use crate::plain_tests::is_same;
 use crate::{RecoverFault, Why, recover};
 use lsn_space::{Lsn, bytes_of};
 use std::alloc::{AllocError, Global};
@@ -97,6 +98,7 @@ fn recovers_lawful_lists(rt: HostRuntime) -> Result<(), Fail> {
         assert_eq!(rt; found.0, lsn, "{batches:?}");
         assert_eq!(rt; found.1, next_txn, "{batches:?}");
         assert_eq!(rt; found.2.as_slice(), rows, "{batches:?}");
+        assert!(rt; is_same(rt.alloc(), bytes.as_slice()), "{batches:?}");
     }
     Ok(())
 }
@@ -200,6 +202,7 @@ fn names_the_first_fault(rt: HostRuntime) -> Result<(), Fail> {
             Some(fault),
             "{batches:?}"
         );
+        assert!(rt; is_same(rt.alloc(), bytes.as_slice()), "{batches:?}");
     }
     Ok(())
 }
@@ -246,5 +249,51 @@ fn recovers_two_thousand_transfers(rt: HostRuntime) -> Result<(), Fail> {
     assert_eq!(rt; lsn, 10004);
     assert_eq!(rt; next_txn, 2001);
     assert_eq!(rt; rows.as_slice(), [(100, 10004), (0, 10004)].as_slice());
+    Ok(())
+}
+
+/// The log of so many refused transfers, numbered by `number`, that are all open at once: first each takes 1 from account 0,
+/// then each adds it to account 1, then each ends.
+fn open_at_once(alloc: Global, count: u64, spread: u64) -> Result<Vec<u8>, AllocError> {
+    let mut units = Vec::from_slice(alloc, &GENESIS)?;
+    for i in 0..count {
+        let txn = 1 + i.wrapping_mul(spread) % 0xffff_ffff;
+        units.extend_from_slice(&[0x0202_0000_0000_0000 | txn, 0xffff_ffff_0000_0000])?;
+    }
+    for i in 0..count {
+        let txn = 1 + i.wrapping_mul(spread) % 0xffff_ffff;
+        units.extend_from_slice(&[0x0202_0001_0000_0000 | txn, 0x0000_0001_0000_0000])?;
+    }
+    for i in 0..count {
+        let txn = 1 + i.wrapping_mul(spread) % 0xffff_ffff;
+        units.push(0x0401_0002_0000_0000 | txn)?;
+    }
+    image(alloc, &[units.as_slice()])
+}
+
+#[test]
+fn transactions_that_are_open_at_once(rt: HostRuntime) -> Result<(), Fail> {
+    for (count, spread) in [(300, 1), (300, 7), (300, 14316557)] {
+        let bytes = open_at_once(rt.alloc(), count, spread)?;
+        let (lsn, _, rows) = accounts_of(rt.alloc(), bytes.as_slice())?;
+        assert_eq!(rt; lsn, 1504, "{spread}");
+        assert_eq!(rt; rows.as_slice(), [(100, 0), (0, 0)].as_slice());
+        assert!(rt; is_same(rt.alloc(), bytes.as_slice()), "{spread}");
+    }
+    Ok(())
+}
+
+#[test]
+fn far_numbers_end_once(rt: HostRuntime) -> Result<(), Fail> {
+    for txn in [1, 4095, 4096, 70000, 0x8000_0000, 0xffff_ffff] {
+        let end = 0x0401_0001_0000_0000 | txn;
+        let bytes = image(rt.alloc(), &[&GENESIS, &[end, 0x0401_0001_0000_0000 | 9, end]])?;
+        assert_eq!(rt;
+            recover(rt.alloc(), bytes.as_slice()).err(),
+            Some(unlawful(6, Why::Ended)),
+            "{txn}"
+        );
+        assert!(rt; is_same(rt.alloc(), bytes.as_slice()), "{txn}");
+    }
     Ok(())
 }

@@ -1,0 +1,36 @@
+use crate::{Judge, JudgeFault, Why};
+use log_record::Rec;
+use lsn_space::Lsn;
+use std::test::Fail;
+
+/// A judge takes two accounts, of balances 100 and 0, and refuses a Short whose leg says that there were two Updates.
+#[test]
+fn takes_and_refuses(rt: HostRuntime) -> Result<(), Fail> {
+    let Ok(mut judge) = Judge::make(rt.alloc()) else {
+        return Err(Fail::new("no memory for a judge"));
+    };
+    let first = Rec::Genesis {
+        account: 0,
+        balance: 100,
+    };
+    let second = Rec::Genesis {
+        account: 1,
+        balance: 0,
+    };
+    let Ok(()) = judge.take(Lsn::new(0), &first) else {
+        return Err(Fail::new("the first account is refused"));
+    };
+    let Ok(()) = judge.take(Lsn::new(2), &second) else {
+        return Err(Fail::new("the second account is refused"));
+    };
+    assert_eq!(rt; judge.accounts(), 2);
+    assert_eq!(rt; judge.balance(0), 100);
+    assert_eq!(rt; judge.last(1), 0);
+    assert_eq!(rt; judge.greatest_txn(), 0);
+    let short = Rec::Short { txn: 1, leg: 2 };
+    assert_eq!(rt;
+        judge.take(Lsn::new(4), &short),
+        Err(JudgeFault::Why(Why::Legs))
+    );
+    Ok(())
+}
