@@ -32,6 +32,7 @@ pub fn new_command<D: LogDisk, S: Source, K: Sink>(
         → Leaves D.moment D.images_since (MayBeLeft (S.left script.old) (D.images disk.old)) disk.old disk.new }
     ensures made { D.honest disk.old → FollowsLog result → AllHoldNew (S.left script.old) (D.images disk.new) }
     ensures kept { PrecedesLog result → Leaves D.moment D.images_since (D.images disk.old) disk.old disk.new }
+    ensures unchanged { D.honest disk.old → PrecedesLog result → D.reads disk.new ≡ D.reads disk.old }
     ensures exists { D.honest disk.old → TellsWhether (BeginsOpen (D.reads disk.old)) result }
     ensures count { D.honest disk.old → D.written_count disk.new ≤ D.written_count disk.old + 7 }
     ensures read { result ≡ Detail.Read → Rose (S.faults script.old) (S.faults script.new) }
@@ -64,6 +65,7 @@ fn make_log<D: LogDisk, S: Source>(
     ensures made { D.honest disk.old → OnOk result (AllHoldNew (S.left script.old) (D.images disk.new)) }
     ensures kept { IfErr result (λ detail. PrecedesLog detail
         → Leaves D.moment D.images_since (D.images disk.old) disk.old disk.new) }
+    ensures unchanged { D.honest disk.old → IfErr result (λ detail. PrecedesLog detail → D.reads disk.new ≡ D.reads disk.old) }
     ensures exists { D.honest disk.old
         → MatchResult result (λ _. BeginsOpen (D.reads disk.old) → ⊥) (TellsWhether (BeginsOpen (D.reads disk.old))) }
     ensures count { D.honest disk.old → D.written_count disk.new ≤ D.written_count disk.old + 7 }

@@ -49,6 +49,7 @@ pub fn aether<R, D: LogDisk, S: Source, K: Sink>(
         → AllHoldNew (S.left script.old) (D.images disk.new) }
     ensures kept { AsksNew words.now → PrecedesLog result.detail
         → Leaves D.moment D.images_since (D.images disk.old) disk.old disk.new }
+    ensures unchanged { AsksNew words.now → D.honest disk.old → PrecedesLog result.detail → D.reads disk.new ≡ D.reads disk.old }
     ensures exists { AsksNew words.now → D.honest disk.old → TellsWhether (BeginsOpen (D.reads disk.old)) result.detail }
     ensures count { D.honest disk.old → D.written_count disk.new ≤ D.written_count disk.old + 7 }
     ensures complete { AsksNew words.now → D.honest disk.old → (BeginsOpen (D.reads disk.old) → ⊥)
