@@ -1,4 +1,4 @@
-ghost use Rattle.std.specs.Prelude.{◌≡◌, ◌++◌, ◌∷◌, ◌↔◌, ◌<◌, ◌≤◌, ◌+◌, ◌==◌, ◌||◌, true, false, ℕ, ℤ, List, if◌then◌else◌};
+ghost use Rattle.std.specs.Prelude.{◌≡◌, ◌++◌, [], ◌∷◌, ◌↔◌, ◌<◌, ◌≤◌, ◌+◌, ◌==◌, ◌||◌, true, false, ℕ, ℤ, List, if◌then◌else◌};
 ghost use Rattle.std.specs.List.{AllByRecursion};
 ghost use Rattle.log_record.specs.declared.rec.Rec.{Rec};
 ghost use Rattle.log_record.specs.declared.rec.Entry.{Entry};
@@ -11,9 +11,9 @@ ghost use Rattle.lock_core.specs.Sums.{BaseState, base_after, moved, total, IsBa
 ghost use Rattle.lock_core.specs.Tests.{IsPaired};
 ghost use Rattle.lock_core.specs.Lawful.{IsLawful, IsLawfulAfter, genesis_of, base_state_of};
 ghost use Rattle.lock_core.specs.Plain.{plain_last_commit, IsPlainlyPaired};
-ghost use Rattle.lock_core.specs.Alone.{Job, outcome_alone, outcome_records, planned_records};
+ghost use Rattle.lock_core.specs.Alone.{Job, IsAllowed, outcome_alone, outcome_records, planned_records};
 ghost use Rattle.lock_core.specs.Serial.{Task, numbered, IsSerialAfter, IsPartlySerialAfter};
-ghost use Rattle.lock_core.specs.Witness.{genesis_log};
+ghost use Rattle.lock_core.specs.Witness.{genesis_log, transfer, transfer_history};
 
 /// A law: a front of a lawful list is lawful.
 pub fn lawful_front()
@@ -108,11 +108,14 @@ pub fn numbers_apart()
         → AllByRecursion (λ entry. txn_of entry.rec < first) l → ShareNoTransaction h l }
 {}
 
-/// A law: the outcome of a transfer depends on the balances of its own accounts alone.
+/// A law: the outcome of a transfer, and its records, depend on the balances of its own accounts alone.
 pub fn own_accounts_alone()
-    ensures { (job : Job) (balance other : ℕ → ℕ)
+    ensures outcome { (job : Job) (balance other : ℕ → ℕ)
         → AllByRecursion (λ leg. (balance leg.0 ≡ other leg.0) × (balance leg.1 ≡ other leg.1)) job.legs
         → outcome_alone job balance ≡ outcome_alone job other }
+    ensures records { (txn : ℕ) (job : Job) (last_commit balance other : ℕ → ℕ)
+        → AllByRecursion (λ leg. (balance leg.0 ≡ other leg.0) × (balance leg.1 ≡ other leg.1)) job.legs
+        → planned_records txn job last_commit balance ≡ planned_records txn job last_commit other }
 {}
 
 /// A law: the records of a transfer leg by leg are those of its outcome.
@@ -136,4 +139,13 @@ pub fn partly_serial_front()
 pub fn genesis_log_is_lawful()
     ensures lawful { IsLawful (history genesis_log) }
     ensures spellable { AllByRecursion (λ entry. IsSpellable entry.rec) (history genesis_log) }
+{}
+
+/// A witness that the premises of the laws of serial lists, and of the law of appending, can be met: after that log, 30 from
+/// account 0 to account 1.
+pub fn one_transfer_is_serial()
+    ensures lawful { IsLawfulAfter (base_state_of (history genesis_log)) transfer_history }
+    ensures serial { IsSerialAfter (base_state_of (history genesis_log)) (numbered 1 (transfer ∷ [])) transfer_history }
+    ensures apart { ShareNoTransaction transfer_history (history genesis_log) }
+    ensures allowed { IsAllowed (genesis_of (history genesis_log)).accounts transfer }
 {}
