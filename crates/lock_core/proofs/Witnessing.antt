@@ -1,15 +1,13 @@
 -- One transfer after a log of two accounts.
-use Rattle.std.proofs.Common.{◌≡◌, ◌≢◌, ◌<◌, ℕ, zero, suc, ◌+◌, ◌∙◌, pos, negsuc, true≢false, inl, List, [], ◌∷◌, refl, sym, arith}
-use Rattle.std.specs.List.{AllByRecursion}
+use Rattle.std.proofs.Common.{◌≢◌, ℕ, zero, suc, ◌∙◌, pos, negsuc, true≢false, inl, List, [], ◌∷◌, refl, sym, arith}
 use Rattle.log_record.specs.declared.rec.Entry.{Entry}
 use Rattle.log_record.specs.declared.rec.Rec.TheVariants.{Update, Commit}
-use Rattle.log_record.specs.Spelling.{IsBalance}
 use Rattle.lock_core.specs.History.{history}
-use Rattle.lock_core.specs.Transactions.{of_transaction, ShareNoTransaction}
-use Rattle.lock_core.specs.Sums.{IsBalanceOf, AreInRange}
+use Rattle.lock_core.specs.Transactions.{ShareNoTransaction}
+use Rattle.lock_core.specs.Sums.{AreInRange}
 use Rattle.lock_core.specs.Lawful.{IsLawfulAfter, genesis_of, base_state_of}
 use Rattle.lock_core.specs.Alone.{IsAllowed}
-use Rattle.lock_core.specs.Serial.{Task, numbered, HasNoOthers, IsSerialAfter}
+use Rattle.lock_core.specs.Serial.{numbered, HasNoOthers, IsSerialAfter}
 use Rattle.lock_core.specs.Witness.{genesis_log, transfer, transfer_history}
 use Rattle.lock_core.proofs.OneMore.{of_transaction-other}
 
@@ -31,16 +29,22 @@ transfer-lawful = (
 )
 
 pub transfer-serial : IsSerialAfter (base_state_of (history genesis_log)) (numbered 1 (transfer ∷ [])) transfer_history
-transfer-serial = record { each = (record {
-    later = [];
-    end = record { end = 9; rec = Commit 1 1 };
-    front = rest;
-    whole = refl;
-    own = refl;
-    ended = refl;
-    last = refl;
-    records = refl;
-  }, tt); others = others }
+transfer-serial = record {
+  each = (
+    record {
+      later = [];
+      end = record { end = 9; rec = Commit 1 1 };
+      front = rest;
+      whole = refl;
+      own = refl;
+      ended = refl;
+      last = refl;
+      records = refl;
+    },
+    tt,
+  );
+  others = others;
+}
   where
     rest : List Entry
     rest = record { end = 8; rec = Update 1 1 (pos 30) 0 } ∷ record { end = 6; rec = Update 1 0 (negsuc 29) 0 } ∷ []

@@ -63,13 +63,7 @@ impl Transactions {
     }
 
     /// Takes an Update of a transaction, which has so many with it, and the one before it at this place.
-    pub fn push(
-        &mut self,
-        txn: u32,
-        place: u32,
-        count: u32,
-        change: Change,
-    ) -> Result<(), NoMemory>
+    pub fn push(&mut self, txn: u32, place: u32, count: u32, change: Change) -> Result<(), NoMemory>
         requires account { IsAccount change.account }
         requires count { count ≤ 16 }
         ensures { OnOk result ((end : ℕ) (h : List Entry) → KeepsTransactions self.old h → IsOpenAt self.old.updates place (records_of txn h)
