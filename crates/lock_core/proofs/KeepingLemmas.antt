@@ -12,7 +12,7 @@ use Rattle.lock_core.specs.declared.update_links.UpdateLink.{UpdateLink}
 use Rattle.lock_core.specs.declared.transactions.Transactions.{Transactions}
 use Rattle.lock_core.specs.Records.{txn_of, ends, changes_of}
 use Rattle.lock_core.specs.Transactions.{recs_of, records_of, updates_of, has_end, changes_in}
-use Rattle.lock_core.specs.Keeping.{value_at, no_link, link_at, HasChain, IsOpenAt, KeepsRecords, KeepsTransactions}
+use Rattle.lock_core.specs.Keeping.{value_at, PutsValue, no_link, link_at, HasChain, IsOpenAt, KeepsRecords, KeepsTransactions}
 use Rattle.lock_core.proofs.OneMore.{of_transaction-same, of_transaction-other}
 use Rattle.lock_core.proofs.ChainLemmas.{chain-append, chain-push}
 
@@ -47,10 +47,6 @@ keeps-idle txns entry h empty off kept = record { some = kept.some; first = kept
     each txn = dite (ℕ_discrete (txn_of entry.rec) txn)
         (λ same. subst (KeepsRecords txns.updates (value_at txns.newest txn)) (sym (records_of-same txn entry h same)) (more (value_at txns.newest txn) (records_of txn h) (kept.each txn)))
         (λ other. subst (KeepsRecords txns.updates (value_at txns.newest txn)) (sym (records_of-other txn entry h other)) (kept.each txn))
-
--- one number is put
-abbrev pub PutsValue : TxnTable → TxnTable → ℕ → ℕ → Type 0
-PutsValue old new txn value = (other : ℕ) → value_at new other ≡ cond (txn == other) value (value_at old other)
 
 -- an end record
 pub keeps-ended : (newest newer : TxnTable) (updates : List UpdateLink) (txn : ℕ) (entry : Entry) (h : List Entry) → PutsValue newest newer txn ENDED

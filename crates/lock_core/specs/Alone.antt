@@ -53,7 +53,8 @@ after_leg leg balance account =
 abbrev pub outcome_from : ℕ → List (ℕ × ℕ × ℕ) → (ℕ → ℕ) → Outcome
 outcome_from k [] balance = Done
 outcome_from k (leg ∷ legs) balance =
-    if lacks leg balance then ShortAt (k + 1) else (if overfills leg balance then OverAt (k + 1) else outcome_from (k + 1) legs (after_leg leg balance))
+    if lacks leg balance then ShortAt (k + 1) else
+    (if overfills leg balance then OverAt (k + 1) else outcome_from (k + 1) legs (after_leg leg balance))
 
 -- the balances after all legs
 abbrev pub after_legs : List (ℕ × ℕ × ℕ) → (ℕ → ℕ) → ℕ → ℕ

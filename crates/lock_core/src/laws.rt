@@ -18,7 +18,8 @@ ghost use Rattle.lock_core.specs.Witness.{genesis_log, transfer, transfer_histor
 /// A law: a front of a lawful list is lawful.
 pub fn lawful_front()
     ensures log { (later front : List Entry) → IsLawful (later ++ front) → IsLawful front }
-    ensures after { (base : BaseState) (later front : List Entry) → IsLawfulAfter base (later ++ front) → IsLawfulAfter base front }
+    ensures after { (base : BaseState) (later front : List Entry) → IsLawfulAfter base (later ++ front)
+        → IsLawfulAfter base front }
     ensures records { (front later : List Rec) → IsLawful (history (front ++ later)) → IsLawful (history front) }
 {}
 
@@ -66,9 +67,12 @@ pub fn one_more_record()
 
 /// A law: in a lawful list of records each account has a balance, only one, and it is in its range.
 pub fn balances_in_range()
-    ensures range { (h : List Entry) → AllByRecursion (λ entry. IsSpellable entry.rec) h → IsLawful h → AreInRange (genesis_of h) h }
-    ensures after { (base : BaseState) (h : List Entry) → ((account : ℕ) → account < base.accounts → IsBalance (base.balance account))
-        → IsLawfulAfter base h → AreInRange base h }
+    ensures range { (h : List Entry) → AllByRecursion (λ entry. IsSpellable entry.rec) h → IsLawful h
+        → AreInRange (genesis_of h) h }
+    ensures after { (base : BaseState) (h : List Entry)
+        → ((account : ℕ) → account < base.accounts → IsBalance (base.balance account))
+        → IsLawfulAfter base h
+        → AreInRange base h }
     ensures one { (base : BaseState) (h : List Entry) (account balance : ℕ) → IsBalanceOf base h account balance
         → balance ≡ balance_of base h account }
 {}
@@ -79,7 +83,8 @@ pub fn sum_is_kept()
     ensures after { (base : BaseState) (h : List Entry) → IsLawfulAfter base h
         → sum_below base.accounts (balance_of base h) ≡ sum_below base.accounts base.balance }
     ensures log { (h : List Entry) → AllByRecursion (λ entry. IsSpellable entry.rec) h → IsLawful h
-        → sum_below (genesis_of h).accounts (balance_of (genesis_of h) h) ≡ sum_below (genesis_of h).accounts (genesis_of h).balance }
+        → sum_below (genesis_of h).accounts (balance_of (genesis_of h) h)
+        ≡ sum_below (genesis_of h).accounts (genesis_of h).balance }
 {}
 
 /// A law: in a lawful list the tests say what the plain words of the format say.
@@ -93,16 +98,19 @@ pub fn plain_words()
 /// A law: the last Commit that an Update names is the base state's, or a Commit of the list before it.
 pub fn predecessors()
     ensures log { (h : List Entry) (end txn account : ℕ) (delta : ℤ) (prev : ℕ)
-        → IsLawful (record { end = end; rec = Rec.Update txn account delta prev } ∷ h) → IsLastCommit (genesis_of h) h account prev }
+        → IsLawful (record { end = end; rec = Rec.Update txn account delta prev } ∷ h)
+        → IsLastCommit (genesis_of h) h account prev }
     ensures after { (base : BaseState) (h : List Entry) (end txn account : ℕ) (delta : ℤ) (prev : ℕ)
-        → IsLawfulAfter base (record { end = end; rec = Rec.Update txn account delta prev } ∷ h) → IsLastCommit base h account prev }
+        → IsLawfulAfter base (record { end = end; rec = Rec.Update txn account delta prev } ∷ h)
+        → IsLastCommit base h account prev }
 {}
 
 /// A law: lists share no transaction where the numbers of the one are below a number, and those of the other are not. What
 /// follows a base state and is partly serial has the given transfers' numbers alone.
 pub fn numbers_apart()
     ensures below { (h : List Entry) (first : ℕ) → greatest_txn h < first → AllByRecursion (λ entry. txn_of entry.rec < first) h }
-    ensures from { (base : BaseState) (first : ℕ) (jobs : List Job) (h : List Entry) → IsPartlySerialAfter base (numbered first jobs) h
+    ensures from { (base : BaseState) (first : ℕ) (jobs : List Job) (h : List Entry)
+        → IsPartlySerialAfter base (numbered first jobs) h
         → AllByRecursion (λ entry. first ≤ txn_of entry.rec) h }
     ensures apart { (first : ℕ) (h l : List Entry) → AllByRecursion (λ entry. first ≤ txn_of entry.rec) h
         → AllByRecursion (λ entry. txn_of entry.rec < first) l → ShareNoTransaction h l }
@@ -129,7 +137,8 @@ pub fn planned_records_are()
 pub fn partly_serial_front()
     ensures front { (base : BaseState) (tasks : List Task) (later h : List Entry) → IsPartlySerialAfter base tasks (later ++ h)
         → IsPartlySerialAfter base tasks h }
-    ensures partly { (base : BaseState) (tasks : List Task) (h : List Entry) → IsSerialAfter base tasks h → IsPartlySerialAfter base tasks h }
+    ensures partly { (base : BaseState) (tasks : List Task) (h : List Entry) → IsSerialAfter base tasks h
+        → IsPartlySerialAfter base tasks h }
     ensures whole { (base : BaseState) (tasks : List Task) (h : List Entry)
         → AllByRecursion (λ task. has_end (records_of task.number h) ≡ true) tasks → IsPartlySerialAfter base tasks h
         → IsSerialAfter base tasks h }
