@@ -6,7 +6,7 @@ use Rattle.log_record.specs.declared.rec.Entry.{Entry}
 use Rattle.lock_core.specs.Records.{txn_of}
 use Rattle.lock_core.specs.Transactions.{of_transaction, recs_of, records_of, ShareNoTransaction}
 use Rattle.lock_core.specs.Sums.{greatest_txn}
-use Rattle.lock_core.proofs.OneMore.{of_transaction-same, of_transaction-other}
+use Rattle.lock_core.proofs.OneMore.{of_transaction-other}
 
 pub of_transaction-append : (n : ℕ) (h l : List Entry) → of_transaction n (h ++ l) ≡ of_transaction n h ++ of_transaction n l
 of_transaction-append n [] l = refl

@@ -1,5 +1,5 @@
 -- A lawful list, and what is lawful after it, is a lawful list: sums, last Commits and tests go on.
-use Rattle.std.proofs.Common.{◌≡◌, ◌≢◌, ◌<◌, ◌≤◌, ℕ, ◌+◌, ◌-◌, ◌*◌, ◌&&◌, cond, ℤ, Bool, true, false, true≢false, List, [], ◌∷◌, ◌++◌, length, refl, ap, ◌∙◌, sym, subst, arith, length-append}
+use Rattle.std.proofs.Common.{◌≡◌, ◌<◌, ◌≤◌, ℕ, ◌+◌, ◌-◌, ◌*◌, ◌&&◌, cond, ℤ, Bool, false, true≢false, List, [], ◌∷◌, ◌++◌, length, refl, ap, ◌∙◌, sym, subst, arith, length-append}
 use Rattle.std.specs.List.{AllByRecursion}
 use Rattle.log_record.specs.declared.rec.Rec.{Rec}
 use Rattle.log_record.specs.declared.rec.Entry.{Entry}
@@ -8,7 +8,7 @@ use Rattle.lock_core.specs.declared.update.Change.{Change}
 use Rattle.lock_core.specs.Records.{txn_of, commits, changes_of, gain, loss}
 use Rattle.lock_core.specs.Transactions.{of_transaction, records_of, updates_of, has_end, changes_in, has_commit, is_committed, touches, ShareNoTransaction}
 use Rattle.lock_core.specs.Sums.{BaseState, base_after, moved, moved_by, total, IsBalanceOf, balance_of, AreInRange, last_commit_of}
-use Rattle.lock_core.specs.Tests.{IsGenesis, OpensLedger, KnowsAccount, IsUnended, CountsLegs, PairsDeltas, NamesLastCommit, IsNotStale, IsCurrent, IsPaired, KeepsBalances}
+use Rattle.lock_core.specs.Tests.{IsGenesis, OpensLedger, IsCurrent, IsPaired}
 use Rattle.lock_core.specs.Lawful.{tests, PassesAfter, IsLawfulAfter, Passes, IsLawful, genesis_of, with_genesis, base_state_of}
 use Rattle.lock_core.proofs.OneMore.{has_commit-unended, total-plain, total-empty}
 use Rattle.lock_core.proofs.Meeting.{MeetsTests, AreMet, meets-after, met-after, met-log}
@@ -44,7 +44,7 @@ pub last_commit_of-append : (base later : BaseState) (h l : List Entry) (account
 last_commit_of-append base later [] l account start none = sym start
 last_commit_of-append base later (entry ∷ h) l account start none =
     λ i. cond (commits entry.rec && touches account (changes_in (records_of-left (txn_of entry.rec) h l none.0 i))) entry.end
-        (last_commit_of-append base later h l account start none.1 i)
+    (last_commit_of-append base later h l account start none.1 i)
 
 -- where the tests are met, the balance is a balance
 pub is_balance-met : (base : BaseState) (h : List Entry) (account : ℕ) → account < base.accounts → AreMet base h

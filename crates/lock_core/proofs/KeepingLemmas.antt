@@ -1,5 +1,5 @@
 -- How what is kept of transactions goes on by one entry.
-use Rattle.std.proofs.Common.{◌≡◌, ◌≢◌, ◌<◌, ℕ, ◌+◌, ◌==◌, ◌||◌, cond, Bool, true, false, true≢false, List, [], ◌∷◌, ◌++◌, length, refl, ap, ◌∙◌, sym, subst, arith, eq-eqb, ne_eqb, length-append}
+use Rattle.std.proofs.Common.{◌≡◌, ◌≢◌, ◌<◌, ℕ, ◌+◌, ◌==◌, ◌||◌, cond, true, false, List, [], ◌∷◌, ◌++◌, length, refl, ap, ◌∙◌, sym, subst, arith, eq-eqb, ne_eqb, length-append}
 use Rattle.std.proofs.lemmas.List.{get_or_append_left}
 use mathlib.Core.Logic.{dite}
 use native.Mathlib.Decide.{ℕ_discrete}
@@ -7,14 +7,13 @@ use Rattle.log_record.specs.declared.rec.Rec.{Rec}
 use Rattle.log_record.specs.declared.rec.Entry.{Entry}
 use Rattle.log_record.specs.declared.rec.Rec.TheVariants.{Update}
 use Rattle.lock_core.specs.declared.limits.TheConstants.{ENDED}
-use Rattle.lock_core.specs.declared.update.Change.{Change}
 use Rattle.lock_core.specs.declared.txn_table.TxnTable.{TxnTable}
 use Rattle.lock_core.specs.declared.update_links.UpdateLink.{UpdateLink}
 use Rattle.lock_core.specs.declared.transactions.Transactions.{Transactions}
 use Rattle.lock_core.specs.Records.{txn_of, ends, changes_of}
 use Rattle.lock_core.specs.Transactions.{recs_of, records_of, updates_of, has_end, changes_in}
-use Rattle.lock_core.specs.Keeping.{value_at, no_link, link_at, HasChain, IsOpenAt, KeepsRecords, KeepsTransactions}
-use Rattle.lock_core.proofs.OneMore.{of_transaction-same, of_transaction-other, or-true}
+use Rattle.lock_core.specs.Keeping.{value_at, PutsValue, no_link, link_at, HasChain, IsOpenAt, KeepsRecords, KeepsTransactions}
+use Rattle.lock_core.proofs.OneMore.{of_transaction-same, of_transaction-other}
 use Rattle.lock_core.proofs.ChainLemmas.{chain-append, chain-push}
 
 records_of-same : (n : ℕ) (entry : Entry) (h : List Entry) → txn_of entry.rec ≡ n → records_of n (entry ∷ h) ≡ entry.rec ∷ records_of n h
@@ -48,10 +47,6 @@ keeps-idle txns entry h empty off kept = record { some = kept.some; first = kept
     each txn = dite (ℕ_discrete (txn_of entry.rec) txn)
         (λ same. subst (KeepsRecords txns.updates (value_at txns.newest txn)) (sym (records_of-same txn entry h same)) (more (value_at txns.newest txn) (records_of txn h) (kept.each txn)))
         (λ other. subst (KeepsRecords txns.updates (value_at txns.newest txn)) (sym (records_of-other txn entry h other)) (kept.each txn))
-
--- one number is put
-abbrev pub PutsValue : TxnTable → TxnTable → ℕ → ℕ → Type 0
-PutsValue old new txn value = (other : ℕ) → value_at new other ≡ cond (txn == other) value (value_at old other)
 
 -- an end record
 pub keeps-ended : (newest newer : TxnTable) (updates : List UpdateLink) (txn : ℕ) (entry : Entry) (h : List Entry) → PutsValue newest newer txn ENDED

@@ -1,6 +1,5 @@
 -- The last Commit that an Update names is the base state's, or a Commit of the list.
-use Rattle.std.proofs.Common.{◌≡◌, ◌⊎◌, inl, inr, ◌&&◌, ℕ, cond, Bool, true, false, List, [], ◌∷◌, ◌++◌, refl, ap, ◌∙◌, sym, subst}
-use Rattle.log_record.specs.declared.rec.Rec.{Rec}
+use Rattle.std.proofs.Common.{◌≡◌, inl, inr, ◌&&◌, ℕ, cond, Bool, true, false, List, [], ◌∷◌, refl, ap}
 use Rattle.log_record.specs.declared.rec.Entry.{Entry}
 use Rattle.lock_core.specs.Records.{txn_of, commits}
 use Rattle.lock_core.specs.Transactions.{updates_of, touches}

@@ -18,3 +18,4 @@ pub mod Running
 pub mod SerialFronts
 pub mod SettlingLemmas
 pub mod TakingLemmas
+pub mod Witnessing

@@ -1,11 +1,11 @@
 -- One transfer alone: its outcome depends on its own accounts alone, and its records leg by leg are those of its outcome.
-use Rattle.std.proofs.Common.{◌≡◌, ℕ, zero, suc, ◌==◌, ◌||◌, ◌+◌, ◌-◌, ◌≤◌, cond, nat_lt, ℤ, pos, neg_ℤ, Bool, true, false, List, [], ◌∷◌, ◌++◌, length, take, drop, refl, ap, ◌∙◌, sym, arith, append_assoc}
+use Rattle.std.proofs.Common.{◌≡◌, ℕ, suc, ◌==◌, ◌||◌, ◌+◌, ◌-◌, ◌≤◌, cond, nat_lt, pos, neg_ℤ, Bool, true, false, List, [], ◌∷◌, ◌++◌, length, take, drop, refl, ap, ◌∙◌, sym, arith}
 use Rattle.std.specs.List.{AllByRecursion}
 use Rattle.std.proofs.lemmas.List.{same_from_push, take-append-drop}
 use Rattle.log_record.specs.declared.rec.Rec.{Rec}
-use Rattle.log_record.specs.declared.rec.Rec.TheVariants.{Genesis, Update, Commit, Short, Over, Note}
+use Rattle.log_record.specs.declared.rec.Rec.TheVariants.{Update, Commit, Short, Over, Note}
 use Rattle.lock_core.specs.declared.limits.TheConstants.{MOST_BALANCE}
-use Rattle.lock_core.specs.Records.{ends, without_prev}
+use Rattle.lock_core.specs.Records.{ends}
 use Rattle.lock_core.specs.Transactions.{has_end, all_without_prev, in_order}
 use Rattle.lock_core.proofs.OneMore.{neither}
 use Rattle.lock_core.specs.Alone.{Job, Outcome, Done, ShortAt, OverAt, lacks, overfills, after_leg, outcome_from, outcome_alone, with_note, leg_updates, legs_passed, end_record, outcome_records, planned_from, planned_records}
@@ -42,7 +42,7 @@ planned_from-agrees txn last_commit balance other k [] agree = refl
 planned_from-agrees txn last_commit balance other k (leg ∷ legs) agree =
     let rest = planned_from-agrees txn last_commit (after_leg leg balance) (after_leg leg other) (k + 1) legs (agrees-after balance other leg legs agree.1) in
     λ i. cond (nat_lt (agree.0.0 i) leg.2) (Short txn (k + 1) ∷ []) (cond (nat_lt MOST_BALANCE (agree.0.1 i + leg.2)) (Over txn (k + 1) ∷ [])
-        (Update txn leg.0 (neg_ℤ (pos leg.2)) (last_commit leg.0) ∷ Update txn leg.1 (pos leg.2) (last_commit leg.1) ∷ rest i))
+    (Update txn leg.0 (neg_ℤ (pos leg.2)) (last_commit leg.0) ∷ Update txn leg.1 (pos leg.2) (last_commit leg.1) ∷ rest i))
 
 -- the records of the legs with their `prev` left out
 pub planned_from-without_prev : (txn : ℕ) (last_commit balance : ℕ → ℕ) (k : ℕ) (legs : List (ℕ × ℕ × ℕ))
@@ -56,9 +56,9 @@ planned_from-without_prev txn last_commit balance k (leg ∷ legs) =
 
     by_case : (short over : Bool) → all_without_prev (planned_from txn last_commit (after_leg leg balance) (k + 1) legs) ≡ planned_from txn no_commit (after_leg leg balance) (k + 1) legs
         → all_without_prev (cond short (Short txn (k + 1) ∷ []) (cond over (Over txn (k + 1) ∷ [])
-            (Update txn leg.0 (neg_ℤ (pos leg.2)) (last_commit leg.0) ∷ Update txn leg.1 (pos leg.2) (last_commit leg.1) ∷ planned_from txn last_commit (after_leg leg balance) (k + 1) legs)))
+        (Update txn leg.0 (neg_ℤ (pos leg.2)) (last_commit leg.0) ∷ Update txn leg.1 (pos leg.2) (last_commit leg.1) ∷ planned_from txn last_commit (after_leg leg balance) (k + 1) legs)))
         ≡ cond short (Short txn (k + 1) ∷ []) (cond over (Over txn (k + 1) ∷ [])
-            (Update txn leg.0 (neg_ℤ (pos leg.2)) 0 ∷ Update txn leg.1 (pos leg.2) 0 ∷ planned_from txn no_commit (after_leg leg balance) (k + 1) legs))
+        (Update txn leg.0 (neg_ℤ (pos leg.2)) 0 ∷ Update txn leg.1 (pos leg.2) 0 ∷ planned_from txn no_commit (after_leg leg balance) (k + 1) legs))
     by_case true over same = refl
     by_case false true same = refl
     by_case false false same = ap (λ records. Update txn leg.0 (neg_ℤ (pos leg.2)) 0 ∷ Update txn leg.1 (pos leg.2) 0 ∷ records) same
@@ -123,7 +123,7 @@ planned_from-outcome txn k (leg ∷ legs) balance =
         → planned_from txn no_commit (after_leg leg balance) (k + 1) legs
         ≡ leg_updates txn (take (passed_behind (k + 1) legs outcome) legs) ++ end_behind txn (k + 1) legs outcome ∷ []
         → cond short (Short txn (k + 1) ∷ []) (cond over (Over txn (k + 1) ∷ [])
-            (Update txn leg.0 (neg_ℤ (pos leg.2)) 0 ∷ Update txn leg.1 (pos leg.2) 0 ∷ planned_from txn no_commit (after_leg leg balance) (k + 1) legs))
+        (Update txn leg.0 (neg_ℤ (pos leg.2)) 0 ∷ Update txn leg.1 (pos leg.2) 0 ∷ planned_from txn no_commit (after_leg leg balance) (k + 1) legs))
         ≡ leg_updates txn (take (passed_behind k (leg ∷ legs) (cond short (ShortAt (k + 1)) (cond over (OverAt (k + 1)) outcome))) (leg ∷ legs))
         ++ end_behind txn k (leg ∷ legs) (cond short (ShortAt (k + 1)) (cond over (OverAt (k + 1)) outcome)) ∷ []
     by_case true over outcome later rest = none (k + 1 - 1 - k) (Short txn (k + 1)) (omega arith)

@@ -1,5 +1,5 @@
 -- A front of a partly serial history is partly serial; and what one entry of another transaction leaves.
-use Rattle.std.proofs.Common.{◌≡◌, ◌≢◌, ◌≤◌, ◌<◌, ◌⊎◌, inl, inr, ℕ, ◌+◌, ◌||◌, Bool, true, false, true≢false, List, [], ◌∷◌, ◌++◌, refl, ap, ◌∙◌, sym, subst, arith}
+use Rattle.std.proofs.Common.{◌≡◌, ◌≢◌, ◌≤◌, ◌⊎◌, inl, inr, ℕ, ◌+◌, ◌||◌, true, true≢false, List, [], ◌∷◌, ◌++◌, refl, ap, ◌∙◌, sym, subst, arith}
 use Rattle.std.specs.List.{AllByRecursion}
 use mathlib.Core.Logic.{dite}
 use native.Mathlib.Decide.{ℕ_discrete, dec_le}
@@ -9,7 +9,7 @@ use Rattle.log_record.specs.declared.rec.Rec.TheVariants.{Genesis, Update, Commi
 use Rattle.lock_core.specs.Records.{txn_of, ends, without_prev}
 use Rattle.lock_core.specs.Transactions.{of_transaction, recs_of, records_of, has_end, all_without_prev, in_order}
 use Rattle.lock_core.specs.Sums.{BaseState, balance_of}
-use Rattle.lock_core.specs.Alone.{Job, outcome_alone, outcome_records, with_note, leg_updates}
+use Rattle.lock_core.specs.Alone.{Job, outcome_alone, outcome_records}
 use Rattle.lock_core.specs.Serial.{Task, numbered, IsRunWhole, IsCutShort, HasNoOthers, IsSerialAfter, IsPartlySerialAfter}
 use Rattle.lock_core.proofs.OneMore.{of_transaction-same, of_transaction-other}
 use Rattle.lock_core.proofs.Apart.{of_transaction-older}

@@ -1,5 +1,5 @@
 -- What a ledger answers on one record more: the first test that fails, or what it keeps then.
-use Rattle.std.proofs.Common.{◌≡◌, ◌≢◌, ◌<◌, ◌≤◌, ℕ, ◌+◌, ◌-◌, ◌*◌, ℤ, Bool, true, false, true≢false, List, [], ◌∷◌, ◌++◌, length, Result, Ok, Err, refl, ap, ◌∙◌, sym, subst, arith}
+use Rattle.std.proofs.Common.{◌≡◌, ◌<◌, ◌≤◌, ℕ, ◌-◌, ◌*◌, true, false, true≢false, List, [], ◌∷◌, ◌++◌, length, Result, Ok, Err, refl, ap, ◌∙◌, sym, subst, arith}
 use Rattle.std.specs.Prelude.{OnOk, IfErr, MatchResult}
 use Rattle.std.specs.List.{AllByRecursion}
 use Rattle.log_record.specs.declared.rec.Rec.{Rec}
@@ -7,23 +7,20 @@ use Rattle.log_record.specs.declared.rec.Entry.{Entry}
 use Rattle.log_record.specs.declared.rec.Rec.TheVariants.{Genesis, Update, Commit, Short, Over, Note}
 use Rattle.log_record.specs.Spelling.{IsBalance}
 use Rattle.lsn_space.specs.Accounts.{Accounts}
-use Rattle.lock_core.specs.declared.limits.TheConstants.{MOST_ACCOUNTS}
 use Rattle.lock_core.specs.declared.reason.JudgeFault.{JudgeFault}
 use Rattle.lock_core.specs.declared.reason.JudgeFault.TheVariants as fault
 use Rattle.lock_core.specs.declared.reason.Why.TheVariants as why
 use Rattle.lock_core.specs.declared.update.Change.{Change}
 use Rattle.lock_core.specs.declared.transactions.Transactions.{Transactions}
 use Rattle.lock_core.specs.declared.ledger.Ledger.{Ledger}
-use Rattle.lock_core.specs.Records.{commits, ends}
 use Rattle.lock_core.specs.Transactions.{records_of, updates_of, has_end}
 use Rattle.lock_core.specs.Tests.{IsGenesis, OpensLedger, IsPaired}
 use Rattle.lock_core.specs.Lawful.{tests, Passes, IsLawful, genesis_of, with_genesis}
 use Rattle.lock_core.specs.Faults.{IsFirstFailing}
 use Rattle.lock_core.specs.Settling.{row, Settles, LeavesSome, KeepsRows}
-use Rattle.lock_core.specs.Judging.{IsJudged, IsCommitting}
-use Rattle.lock_core.specs.Keeping.{IsOpenAt, KeepsTransactions, KeepsLedger}
-use Rattle.lock_core.specs.Taking.{IsTakeFault}
-use Rattle.lock_core.proofs.KindLemmas.{few_updates, updates-known, accounts-genesis, accounts-most, keeps-genesis, passes-genesis, fails-stale, fails-balance, keeps-settled, passes-commit}
+use Rattle.lock_core.specs.Judging.{IsCommitting}
+use Rattle.lock_core.specs.Keeping.{KeepsTransactions, KeepsLedger}
+use Rattle.lock_core.proofs.KindLemmas.{accounts-genesis, accounts-most, keeps-genesis, passes-genesis, fails-stale, fails-balance, keeps-settled, passes-commit}
 use Rattle.lock_core.proofs.JudgingLemmas.{judged-plain}
 use Rattle.lock_core.proofs.KeepingLemmas.{keeps-idle}
 

@@ -1,8 +1,8 @@
 -- One transfer, run alone: its legs in order, each on the balances as the legs before it changed them.
-use Rattle.std.specs.Prelude.{◌≡◌, ◌≢◌, ◌==◌, ℕ, ◌+◌, ◌-◌, ◌≤◌, ◌<◌, nat_lt, ℤ, pos, neg_ℤ, Bool, true, false, if◌then◌else◌, ◌⊎◌, List, [], ◌∷◌, ◌++◌, length, take}
+use Rattle.std.specs.Prelude.{◌≡◌, ◌≢◌, ◌==◌, ℕ, ◌+◌, ◌-◌, ◌≤◌, ◌<◌, nat_lt, pos, neg_ℤ, Bool, if◌then◌else◌, ◌⊎◌, List, [], ◌∷◌, ◌++◌, length, take}
 use Rattle.std.specs.List.{AllByRecursion}
 use Rattle.log_record.specs.declared.rec.Rec.{Rec}
-use Rattle.log_record.specs.declared.rec.Rec.TheVariants.{Genesis, Update, Commit, Short, Over, Note}
+use Rattle.log_record.specs.declared.rec.Rec.TheVariants.{Update, Commit, Short, Over, Note}
 use Rattle.log_record.specs.Spelling.{IsNoteText}
 use Rattle.lock_core.specs.declared.limits.TheConstants.{MOST_BALANCE}
 
@@ -53,7 +53,8 @@ after_leg leg balance account =
 abbrev pub outcome_from : ℕ → List (ℕ × ℕ × ℕ) → (ℕ → ℕ) → Outcome
 outcome_from k [] balance = Done
 outcome_from k (leg ∷ legs) balance =
-    if lacks leg balance then ShortAt (k + 1) else (if overfills leg balance then OverAt (k + 1) else outcome_from (k + 1) legs (after_leg leg balance))
+    if lacks leg balance then ShortAt (k + 1) else
+    (if overfills leg balance then OverAt (k + 1) else outcome_from (k + 1) legs (after_leg leg balance))
 
 -- the balances after all legs
 abbrev pub after_legs : List (ℕ × ℕ × ℕ) → (ℕ → ℕ) → ℕ → ℕ

@@ -3,7 +3,7 @@ use Rattle.std.specs.Prelude.{◌≡◌, ◌≢◌, ℕ, ◌+◌, true, ◌⊎�
 use Rattle.std.specs.List.{AllByRecursion}
 use Rattle.log_record.specs.declared.rec.Rec.{Rec}
 use Rattle.log_record.specs.declared.rec.Entry.{Entry}
-use Rattle.lock_core.specs.Records.{txn_of, ends, without_prev}
+use Rattle.lock_core.specs.Records.{txn_of, ends}
 use Rattle.lock_core.specs.Transactions.{of_transaction, records_of, all_without_prev, in_order}
 use Rattle.lock_core.specs.Sums.{BaseState, balance_of}
 use Rattle.lock_core.specs.Lawful.{base_state_of}

@@ -40,7 +40,8 @@ impl Judge {
         requires spellable { IsSpellable rec.now }
         requires fits { lsn + length (spelling rec.now) ≤ LAST }
         ensures taken { OnOk result ((h : List Entry) → HasTaken self.old h → HasTaken self.new (entry_at lsn rec.now ∷ h)) }
-        ensures fault { IfErr result (λ fault. (h : List Entry) → HasTaken self.old h → IsTakeFault h (entry_at lsn rec.now) fault) }
+        ensures fault { IfErr result (λ fault. (h : List Entry) → HasTaken self.old h
+            → IsTakeFault h (entry_at lsn rec.now) fault) }
     {
         self.ledger.take(lsn, rec)?;
         self.greatest = txn_of(rec).max(self.greatest);

@@ -1,4 +1,4 @@
-ghost use Rattle.std.specs.Prelude.{◌≡◌, ◌++◌, ◌∷◌, ◌↔◌, ◌<◌, ◌≤◌, ◌+◌, ◌==◌, ◌||◌, true, false, ℕ, ℤ, List, if◌then◌else◌};
+ghost use Rattle.std.specs.Prelude.{◌≡◌, ◌++◌, [], ◌∷◌, ◌↔◌, ◌<◌, ◌≤◌, ◌+◌, ◌==◌, ◌||◌, true, false, ℕ, ℤ, List, if◌then◌else◌};
 ghost use Rattle.std.specs.List.{AllByRecursion};
 ghost use Rattle.log_record.specs.declared.rec.Rec.{Rec};
 ghost use Rattle.log_record.specs.declared.rec.Entry.{Entry};
@@ -11,14 +11,15 @@ ghost use Rattle.lock_core.specs.Sums.{BaseState, base_after, moved, total, IsBa
 ghost use Rattle.lock_core.specs.Tests.{IsPaired};
 ghost use Rattle.lock_core.specs.Lawful.{IsLawful, IsLawfulAfter, genesis_of, base_state_of};
 ghost use Rattle.lock_core.specs.Plain.{plain_last_commit, IsPlainlyPaired};
-ghost use Rattle.lock_core.specs.Alone.{Job, outcome_alone, outcome_records, planned_records};
+ghost use Rattle.lock_core.specs.Alone.{Job, IsAllowed, outcome_alone, outcome_records, planned_records};
 ghost use Rattle.lock_core.specs.Serial.{Task, numbered, IsSerialAfter, IsPartlySerialAfter};
-ghost use Rattle.lock_core.specs.Witness.{genesis_log};
+ghost use Rattle.lock_core.specs.Witness.{genesis_log, transfer, transfer_history};
 
 /// A law: a front of a lawful list is lawful.
 pub fn lawful_front()
     ensures log { (later front : List Entry) → IsLawful (later ++ front) → IsLawful front }
-    ensures after { (base : BaseState) (later front : List Entry) → IsLawfulAfter base (later ++ front) → IsLawfulAfter base front }
+    ensures after { (base : BaseState) (later front : List Entry) → IsLawfulAfter base (later ++ front)
+        → IsLawfulAfter base front }
     ensures records { (front later : List Rec) → IsLawful (history (front ++ later)) → IsLawful (history front) }
 {}
 
@@ -66,9 +67,12 @@ pub fn one_more_record()
 
 /// A law: in a lawful list of records each account has a balance, only one, and it is in its range.
 pub fn balances_in_range()
-    ensures range { (h : List Entry) → AllByRecursion (λ entry. IsSpellable entry.rec) h → IsLawful h → AreInRange (genesis_of h) h }
-    ensures after { (base : BaseState) (h : List Entry) → ((account : ℕ) → account < base.accounts → IsBalance (base.balance account))
-        → IsLawfulAfter base h → AreInRange base h }
+    ensures range { (h : List Entry) → AllByRecursion (λ entry. IsSpellable entry.rec) h → IsLawful h
+        → AreInRange (genesis_of h) h }
+    ensures after { (base : BaseState) (h : List Entry)
+        → ((account : ℕ) → account < base.accounts → IsBalance (base.balance account))
+        → IsLawfulAfter base h
+        → AreInRange base h }
     ensures one { (base : BaseState) (h : List Entry) (account balance : ℕ) → IsBalanceOf base h account balance
         → balance ≡ balance_of base h account }
 {}
@@ -79,7 +83,8 @@ pub fn sum_is_kept()
     ensures after { (base : BaseState) (h : List Entry) → IsLawfulAfter base h
         → sum_below base.accounts (balance_of base h) ≡ sum_below base.accounts base.balance }
     ensures log { (h : List Entry) → AllByRecursion (λ entry. IsSpellable entry.rec) h → IsLawful h
-        → sum_below (genesis_of h).accounts (balance_of (genesis_of h) h) ≡ sum_below (genesis_of h).accounts (genesis_of h).balance }
+        → sum_below (genesis_of h).accounts (balance_of (genesis_of h) h)
+        ≡ sum_below (genesis_of h).accounts (genesis_of h).balance }
 {}
 
 /// A law: in a lawful list the tests say what the plain words of the format say.
@@ -93,26 +98,32 @@ pub fn plain_words()
 /// A law: the last Commit that an Update names is the base state's, or a Commit of the list before it.
 pub fn predecessors()
     ensures log { (h : List Entry) (end txn account : ℕ) (delta : ℤ) (prev : ℕ)
-        → IsLawful (record { end = end; rec = Rec.Update txn account delta prev } ∷ h) → IsLastCommit (genesis_of h) h account prev }
+        → IsLawful (record { end = end; rec = Rec.Update txn account delta prev } ∷ h)
+        → IsLastCommit (genesis_of h) h account prev }
     ensures after { (base : BaseState) (h : List Entry) (end txn account : ℕ) (delta : ℤ) (prev : ℕ)
-        → IsLawfulAfter base (record { end = end; rec = Rec.Update txn account delta prev } ∷ h) → IsLastCommit base h account prev }
+        → IsLawfulAfter base (record { end = end; rec = Rec.Update txn account delta prev } ∷ h)
+        → IsLastCommit base h account prev }
 {}
 
 /// A law: lists share no transaction where the numbers of the one are below a number, and those of the other are not. What
 /// follows a base state and is partly serial has the given transfers' numbers alone.
 pub fn numbers_apart()
     ensures below { (h : List Entry) (first : ℕ) → greatest_txn h < first → AllByRecursion (λ entry. txn_of entry.rec < first) h }
-    ensures from { (base : BaseState) (first : ℕ) (jobs : List Job) (h : List Entry) → IsPartlySerialAfter base (numbered first jobs) h
+    ensures from { (base : BaseState) (first : ℕ) (jobs : List Job) (h : List Entry)
+        → IsPartlySerialAfter base (numbered first jobs) h
         → AllByRecursion (λ entry. first ≤ txn_of entry.rec) h }
     ensures apart { (first : ℕ) (h l : List Entry) → AllByRecursion (λ entry. first ≤ txn_of entry.rec) h
         → AllByRecursion (λ entry. txn_of entry.rec < first) l → ShareNoTransaction h l }
 {}
 
-/// A law: the outcome of a transfer depends on the balances of its own accounts alone.
+/// A law: the outcome of a transfer, and its records, depend on the balances of its own accounts alone.
 pub fn own_accounts_alone()
-    ensures { (job : Job) (balance other : ℕ → ℕ)
+    ensures outcome { (job : Job) (balance other : ℕ → ℕ)
         → AllByRecursion (λ leg. (balance leg.0 ≡ other leg.0) × (balance leg.1 ≡ other leg.1)) job.legs
         → outcome_alone job balance ≡ outcome_alone job other }
+    ensures records { (txn : ℕ) (job : Job) (last_commit balance other : ℕ → ℕ)
+        → AllByRecursion (λ leg. (balance leg.0 ≡ other leg.0) × (balance leg.1 ≡ other leg.1)) job.legs
+        → planned_records txn job last_commit balance ≡ planned_records txn job last_commit other }
 {}
 
 /// A law: the records of a transfer leg by leg are those of its outcome.
@@ -126,7 +137,8 @@ pub fn planned_records_are()
 pub fn partly_serial_front()
     ensures front { (base : BaseState) (tasks : List Task) (later h : List Entry) → IsPartlySerialAfter base tasks (later ++ h)
         → IsPartlySerialAfter base tasks h }
-    ensures partly { (base : BaseState) (tasks : List Task) (h : List Entry) → IsSerialAfter base tasks h → IsPartlySerialAfter base tasks h }
+    ensures partly { (base : BaseState) (tasks : List Task) (h : List Entry) → IsSerialAfter base tasks h
+        → IsPartlySerialAfter base tasks h }
     ensures whole { (base : BaseState) (tasks : List Task) (h : List Entry)
         → AllByRecursion (λ task. has_end (records_of task.number h) ≡ true) tasks → IsPartlySerialAfter base tasks h
         → IsSerialAfter base tasks h }
@@ -136,4 +148,13 @@ pub fn partly_serial_front()
 pub fn genesis_log_is_lawful()
     ensures lawful { IsLawful (history genesis_log) }
     ensures spellable { AllByRecursion (λ entry. IsSpellable entry.rec) (history genesis_log) }
+{}
+
+/// A witness that the premises of the laws of serial lists, and of the law of appending, can be met: after that log, 30 from
+/// account 0 to account 1.
+pub fn one_transfer_is_serial()
+    ensures lawful { IsLawfulAfter (base_state_of (history genesis_log)) transfer_history }
+    ensures serial { IsSerialAfter (base_state_of (history genesis_log)) (numbered 1 (transfer ∷ [])) transfer_history }
+    ensures apart { ShareNoTransaction transfer_history (history genesis_log) }
+    ensures allowed { IsAllowed (genesis_of (history genesis_log)).accounts transfer }
 {}

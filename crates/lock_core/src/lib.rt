@@ -17,9 +17,9 @@ mod update_links;
 
 pub use judge::Judge;
 pub use laws::{
-    balances_in_range, genesis_log_is_lawful, lawful_append, lawful_front, numbers_apart, one_more_record,
-    own_accounts_alone, partly_serial_front, plain_words, planned_records_are, predecessors, sum_is_kept,
-    sums_go_on,
+    balances_in_range, genesis_log_is_lawful, lawful_append, lawful_front, numbers_apart,
+    one_more_record, one_transfer_is_serial, own_accounts_alone, partly_serial_front, plain_words,
+    planned_records_are, predecessors, sum_is_kept, sums_go_on,
 };
 pub use limits::{MOST_ACCOUNTS, MOST_BALANCE};
 pub use plain::{PlainFault, plain_accounts};

@@ -1,10 +1,9 @@
 ghost use Rattle.std.specs.Prelude.{◌≡◌, ◌<◌, ◌≤◌, ◌+◌, ◌∷◌, [], true, ℕ, List, length, IfSome, IfNone, IfOk, OnOk};
-ghost use Rattle.log_record.specs.declared.rec.Rec.{Rec};
 ghost use Rattle.log_record.specs.declared.rec.Entry.{Entry};
 ghost use Rattle.log_record.specs.Spelling.{IsAccount};
 ghost use Rattle.lock_core.specs.Records.{txn_of, ends};
 ghost use Rattle.lock_core.specs.Transactions.{records_of, updates_of, has_end};
-ghost use Rattle.lock_core.specs.Keeping.{link_at, IsOpenAt, KeepsTransactions};
+ghost use Rattle.lock_core.specs.Keeping.{update_at, link_at, IsOpenAt, KeepsTransactions};
 
 use crate::limits::ENDED;
 use crate::txn_table::TxnTable;
@@ -56,25 +55,21 @@ impl Transactions {
 
     /// What the Updates of a transaction say, newest first; the newest stands at this place.
     pub fn changes(&self, place: u32) -> ArrayVec<Change, 16>
-        requires { (txn : ℕ) × (h : List Entry) × IsOpenAt self.now.updates place (records_of txn h) × (length (updates_of txn h) ≤ 16) }
-        ensures { (txn : ℕ) (h : List Entry) → IsOpenAt self.now.updates place (records_of txn h) → result.items ≡ updates_of txn h }
+        requires { (txn : ℕ) × (h : List Entry) × IsOpenAt self.now.updates place (records_of txn h)
+            × (length (updates_of txn h) ≤ 16) }
+        ensures { (txn : ℕ) (h : List Entry) → IsOpenAt self.now.updates place (records_of txn h)
+            → result.items ≡ updates_of txn h }
     {
         self.updates.chain(place)
     }
 
     /// Takes an Update of a transaction, which has so many with it, and the one before it at this place.
-    pub fn push(
-        &mut self,
-        txn: u32,
-        place: u32,
-        count: u32,
-        change: Change,
-    ) -> Result<(), NoMemory>
+    pub fn push(&mut self, txn: u32, place: u32, count: u32, change: Change) -> Result<(), NoMemory>
         requires account { IsAccount change.account }
         requires count { count ≤ 16 }
-        ensures { OnOk result ((end : ℕ) (h : List Entry) → KeepsTransactions self.old h → IsOpenAt self.old.updates place (records_of txn h)
-            → count ≡ length (updates_of txn h) + 1
-            → KeepsTransactions self.new (record { end = end; rec = Rec.Update txn change.account change.delta change.prev } ∷ h)) }
+        ensures { OnOk result ((end : ℕ) (h : List Entry) → KeepsTransactions self.old h
+            → IsOpenAt self.old.updates place (records_of txn h) → count ≡ length (updates_of txn h) + 1
+            → KeepsTransactions self.new (update_at end txn change ∷ h)) }
     {
         let link = UpdateLink {
             change,
@@ -87,8 +82,8 @@ impl Transactions {
 
     /// Takes the end record of a transaction.
     pub fn end(&mut self, txn: u32) -> Result<(), NoMemory>
-        ensures { OnOk result ((entry : Entry) (h : List Entry) → KeepsTransactions self.old h → txn_of entry.rec ≡ txn → ends entry.rec ≡ true
-            → KeepsTransactions self.new (entry ∷ h)) }
+        ensures { OnOk result ((entry : Entry) (h : List Entry) → KeepsTransactions self.old h → txn_of entry.rec ≡ txn
+            → ends entry.rec ≡ true → KeepsTransactions self.new (entry ∷ h)) }
     {
         self.newest.put(txn, ENDED)
     }

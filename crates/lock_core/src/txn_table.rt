@@ -1,6 +1,6 @@
-ghost use Rattle.std.specs.Prelude.{◌≡◌, ◌==◌, ℕ, nat_eq, if◌then◌else◌, OnOk, None};
+ghost use Rattle.std.specs.Prelude.{◌≡◌, ℕ, nat_eq, OnOk, None};
 ghost use Rattle.std.specs.HashMap.{get};
-ghost use Rattle.lock_core.specs.Keeping.{value_at};
+ghost use Rattle.lock_core.specs.Keeping.{value_at, PutsValue};
 
 use lsn_space::NoMemory;
 use std::alloc::Global;
@@ -53,7 +53,7 @@ impl TxnTable {
     }
 
     pub fn put(&mut self, txn: u32, value: u32) -> Result<(), NoMemory>
-        ensures { OnOk result ((other : ℕ) → value_at self.new other ≡ (if txn == other then value else value_at self.old other)) }
+        ensures { OnOk result (PutsValue self.old self.new txn value) }
     {
         self.puts = self.puts.saturating_add(1);
         if self.scattered_value(txn).is_none() && self.has_place(txn) {
@@ -71,7 +71,7 @@ impl TxnTable {
 
     fn put_in_place(&mut self, txn: u32, value: u32) -> Result<(), NoMemory>
         requires { get nat_eq self.old.scattered txn ≡ None }
-        ensures { OnOk result ((other : ℕ) → value_at self.new other ≡ (if txn == other then value else value_at self.old other)) }
+        ensures { OnOk result (PutsValue self.old self.new txn value) }
     {
         let place = txn as usize;
         if place >= self.dense.len() {
@@ -84,7 +84,7 @@ impl TxnTable {
     }
 
     fn put_in_map(&mut self, txn: u32, value: u32) -> Result<(), NoMemory>
-        ensures { OnOk result ((other : ℕ) → value_at self.new other ≡ (if txn == other then value else value_at self.old other)) }
+        ensures { OnOk result (PutsValue self.old self.new txn value) }
     {
         match self.scattered.insert(txn, value) {
             Ok(_) => Ok(()),

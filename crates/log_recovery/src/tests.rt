@@ -287,7 +287,10 @@ fn transactions_that_are_open_at_once(rt: HostRuntime) -> Result<(), Fail> {
 fn far_numbers_end_once(rt: HostRuntime) -> Result<(), Fail> {
     for txn in [1, 4095, 4096, 70000, 0x8000_0000, 0xffff_ffff] {
         let end = 0x0401_0001_0000_0000 | txn;
-        let bytes = image(rt.alloc(), &[&GENESIS, &[end, 0x0401_0001_0000_0000 | 9, end]])?;
+        let bytes = image(
+            rt.alloc(),
+            &[&GENESIS, &[end, 0x0401_0001_0000_0000 | 9, end]],
+        )?;
         assert_eq!(rt;
             recover(rt.alloc(), bytes.as_slice()).err(),
             Some(unlawful(6, Why::Ended)),

@@ -10,10 +10,10 @@ ghost use Rattle.lock_core.specs.Settling.{row, KeepsRows};
 ghost use Rattle.lock_core.specs.Judging.{IsJudged, Judges, IsCommitting};
 
 use super::own::own_records;
+use crate::checks::{are_current, is_current, is_paired};
 use crate::limits::MOST_ACCOUNTS;
 use crate::reason::Why;
 use crate::settling::settle;
-use crate::checks::{are_current, is_current, is_paired};
 use crate::update::Change;
 use arrayvec::ArrayVec;
 use log_record::{Entry, Rec, Text};

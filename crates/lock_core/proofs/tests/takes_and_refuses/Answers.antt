@@ -10,6 +10,8 @@ take-requires-2-clause-taken g c =
 
 pub take-requires-3-clause-taken : goal.take-requires-3-clause-taken
 take-requires-3-clause-taken g c =
-    let next = c.new-3.ensures in let last = c.new-4.ensures in
-    (entry_at c.new-3.result (Genesis 1 0) ∷ entry_at c.new-2.result (Genesis 0 100) ∷ [],
-      c.in-Ok-take-2.ensures.taken (entry_at c.new-2.result (Genesis 0 100) ∷ []) (c.in-Ok-take.ensures.taken [] c.in-Ok.ensures), omega arith)
+    let next = c.new-3.ensures in let last = c.new-4.ensures in (
+      entry_at c.new-3.result (Genesis 1 0) ∷ entry_at c.new-2.result (Genesis 0 100) ∷ [],
+      c.in-Ok-take-2.ensures.taken (entry_at c.new-2.result (Genesis 0 100) ∷ []) (c.in-Ok-take.ensures.taken [] c.in-Ok.ensures),
+      omega arith,
+    )

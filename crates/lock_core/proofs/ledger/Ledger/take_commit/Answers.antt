@@ -1,5 +1,5 @@
-use Rattle.std.proofs.Common.{◌≡◌, ◌∙◌, ap, arith, refl, true≢false, sym, subst, length}
-use Rattle.std.specs.Prelude.{[], ◌∷◌, ◌*◌}
+use Rattle.std.proofs.Common.{◌∙◌, ap, arith, refl, true≢false, sym, length}
+use Rattle.std.specs.Prelude.{◌∷◌}
 use Rattle.log_record.specs.declared.rec.Entry.{Entry}
 use Rattle.log_record.specs.declared.rec.Rec.TheVariants.{Commit}
 use Rattle.lock_core.specs.declared.update_links.UpdateLink.{UpdateLink}

@@ -7,7 +7,7 @@ pub returns-then-not-self : goal.returns-then-not-self
 returns-then-not-self c = λ end h kept. elim c.then-not-self.branch [
   | then-not-self-via-then-not-self w ↦ fails-opening c.args.self.now h kept end c.args.account c.args.balance w.if-not-self.true
   | then-not-self-via-else-not-self+then-account-count w ↦
-    fails-next c.args.self.now h kept end c.args.account c.args.balance (λ same. let counted = w.count.ensures in absurd (omega arith))
+      fails-next c.args.self.now h kept end c.args.account c.args.balance (λ same. let counted = w.count.ensures in absurd (omega arith))
 ]
 
 pub returns : goal.returns

@@ -1,10 +1,8 @@
-use Rattle.std.proofs.Common.{◌≡◌, ◌∙◌, ap, arith, length, refl, ◌∷◌}
+use Rattle.std.proofs.Common.{◌∙◌, ap, arith, refl, ◌∷◌}
 use Rattle.log_record.specs.declared.rec.Entry.{Entry}
 use Rattle.log_record.specs.declared.rec.Rec.TheVariants.{Short, Over}
-use Rattle.lock_core.specs.declared.reason.JudgeFault.TheVariants as fault
 use Rattle.lock_core.specs.declared.update_links.UpdateLink.{UpdateLink}
 use Rattle.lock_core.specs.Transactions.{updates_of}
-use Rattle.lock_core.specs.Keeping.{KeepsLedger}
 use Rattle.lock_core.specs.Taking.{IsTakeFault}
 use Rattle.lock_core.proofs.ChainLemmas.{chain-count}
 use Rattle.lock_core.proofs.TakingLemmas.{some-taken, fails-first, fails-short-legs, fails-over-legs, takes-short, takes-over, match-ended, keeps-parts}

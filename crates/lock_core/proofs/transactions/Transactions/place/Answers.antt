@@ -1,5 +1,4 @@
 use Rattle.std.proofs.Common.{subst, sym}
-use Rattle.std.specs.Prelude.{◌<◌, length}
 use Rattle.lock_core.specs.Transactions.{records_of, updates_of}
 use Rattle.lock_core.specs.Keeping.{KeepsRecords}
 use Rattle.lock_core.proofs.ChainLemmas.{chain-inside}

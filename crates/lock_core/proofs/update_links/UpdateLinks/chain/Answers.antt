@@ -1,4 +1,4 @@
-use Rattle.std.proofs.Common.{◌≡◌, ◌<◌, sym, subst, arith}
+use Rattle.std.proofs.Common.{◌<◌, sym, subst, arith}
 use Rattle.lock_core.proofs.ChainLemmas.{Collects, collects-inside, collects-more, collects-all}
 use Rattle.lock_core.proofs.update_links.UpdateLinks.chain.Goals as goal
 

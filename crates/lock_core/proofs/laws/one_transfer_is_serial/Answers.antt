@@ -1,0 +1,14 @@
+use Rattle.lock_core.proofs.Witnessing.{transfer-lawful, transfer-serial, transfer-apart, transfer-allowed}
+use Rattle.lock_core.proofs.laws.one_transfer_is_serial.Goals as goal
+
+pub returns-clause-lawful : goal.returns-clause-lawful
+returns-clause-lawful c = transfer-lawful
+
+pub returns-clause-serial : goal.returns-clause-serial
+returns-clause-serial c = transfer-serial
+
+pub returns-clause-apart : goal.returns-clause-apart
+returns-clause-apart c = transfer-apart
+
+pub returns-clause-allowed : goal.returns-clause-allowed
+returns-clause-allowed c = transfer-allowed
