@@ -4,6 +4,8 @@
 mod command;
 mod faults;
 mod input;
+#[cfg(test)]
+mod pipeline_tests;
 mod recover_command;
 mod report;
 #[cfg(test)]

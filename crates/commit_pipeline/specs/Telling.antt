@@ -26,4 +26,5 @@ pub record TellsFront (voice : Voice) (at : ℕ) (records : List Rec) (text : Li
 
 -- the writing stopped at a fault
 abbrev pub TellsSome : Voice → ℕ → List ℕ → List ℕ → Tally → Tally → Type 0
-TellsSome voice at units text before after = (records : List Rec) → Spells units records → TellsFront voice at records text before after
+TellsSome voice at units text before after = (records : List Rec) → Spells units records
+    → TellsFront voice at records text before after

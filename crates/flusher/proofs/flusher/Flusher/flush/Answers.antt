@@ -33,7 +33,8 @@ returns-in_err-self-clause-lost g c =
       prefix = λ honest. MayHoldBatchInFlight-append g.D.LogDisk g.met.D.LogDisk.counts_now g.met.D.LogDisk.only_now c.args.self.now _
           c.gather.ensures.units _ _
           (Leaves-append g.D.LogDisk c.args.self.now _ _ _ units (c.append.ensures.moments honest))
-          (ap (λ m. m.0.sending.sent) seat.me) (ap (λ m. m.0.sending.read) seat.me ∙ ap (λ us. us ++ c.gather.ensures.units) c.requires.ready.unread);
+          (ap (λ m. m.0.sending.sent) seat.me)
+              (ap (λ m. m.0.sending.read) seat.me ∙ ap (λ us. us ++ c.gather.ensures.units) c.requires.ready.unread);
     }
 
 pub returns-clause-flushed : goal.returns-clause-flushed
