@@ -1,16 +1,16 @@
 -- What a flush, or a step of the seat alone, does to a flusher, in the words of what turns leave.
-use Rattle.std.proofs.Common.{◌≡◌, ◌∙◌, sym, ap, refl, subst, inl, inr, ⊎_elim, ℕ, ◌+◌, ◌≤◌, List, [], ◌∷◌, ◌++◌, length, append_assoc, append-nil, arith}
+use Rattle.std.proofs.Common.{◌≡◌, ◌∙◌, sym, ap, refl, subst, inl, inr, ℕ, ◌+◌, ◌≤◌, List, [], ◌∷◌, ◌++◌, length, append-nil, arith}
 use Rattle.std.specs.List.{Contains}
 use Rattle.log_disk.specs.Disk.{Leaves}
 use Rattle.log_disk.specs.declared.disk.LogDisk.{Ghosts}
 use Rattle.log_disk.proofs.Moments.{Leaves-refl, Leaves-weaken}
 use Rattle.log_table.specs.declared.view.View.{View}
-use Rattle.log_table.specs.Seats.{Becomes, view_of}
+use Rattle.log_table.specs.Seats.{view_of}
 use Rattle.log_table.specs.Views.{sent_to, has_stopped}
 use Rattle.segment_file.specs.File.{HoldsUnits}
 use Rattle.segment_file.specs.Standing.{AllStand, HoldsEither}
 use Rattle.flusher.specs.declared.flusher.Flusher.{Flusher}
-use Rattle.flusher.specs.Flushing.{IsReady, HoldsDurablePrefix, MayHoldBatchInFlight, FindsNothing, Sends, Loses, sent_of, lsns_of}
+use Rattle.flusher.specs.Flushing.{IsReady, HoldsDurablePrefix, MayHoldBatchInFlight, Sends, Loses, sent_of, lsns_of}
 use Rattle.flusher.specs.Sending.{gathered, flushed}
 use Rattle.flusher.proofs.Flushes.{StandsAt-holds, seen-newer, seen-newest}
 use Rattle.commit_pipeline.specs.Later.{HoldsSome}
@@ -52,7 +52,7 @@ Flew-step g old new newer rest constants seen sent read =
       moments = λ honest opening stand.
           let P = HoldsSome (opening ++ sent_of old) ([] ++ []) (sent_to (view_of old.seat)) (lsns_of new) in
           subst (λ (f : Flusher _). Leaves g.moment g.images_since P old.disk.now f.disk.now) (sym rest)
-              (Leaves-refl g.moment g.images_since P old.disk.now);
+          (Leaves-refl g.moment g.images_since P old.disk.now);
       prefix = λ none honest. prefix;
       torn = λ honest opening stand. torn-none g new opening (prefix opening stand);
       count = λ honest. omega (arith, ap (λ (f : Flusher _). g.written_count f.disk.now) rest);
@@ -121,7 +121,7 @@ Flew-loses g old new ready loses =
       moments = λ honest opening stand.
           Leaves-weaken g.moment g.images_since _ _ old.disk.now new.disk.now
           (λ c either. HoldsSome-either (opening ++ sent_of old) loses.units (sent_to (view_of old.seat))
-              (lsns_of new) c start_seen end_seen either)
+          (lsns_of new) c start_seen end_seen either)
           (loses.writes.moments honest opening stand);
       prefix = λ none. absurd (omega (arith, loses.some, ap length none));
       torn = loses.prefix;
@@ -145,19 +145,19 @@ Flew-stop g units cut most word old mid new flew stops =
       read = read ∙ flew.read;
       moments = λ honest opening stand.
           subst (λ l. Leaves g.moment g.images_since
-              (HoldsSome (opening ++ sent_of old) (units ++ cut) (sent_to (view_of old.seat)) l) old.disk.now new.disk.now) (sym lsns)
+          (HoldsSome (opening ++ sent_of old) (units ++ cut) (sent_to (view_of old.seat)) l) old.disk.now new.disk.now) (sym lsns)
           (subst (λ (f : Flusher _). Leaves g.moment g.images_since
-              (HoldsSome (opening ++ sent_of old) (units ++ cut) (sent_to (view_of old.seat)) (lsns_of mid)) old.disk.now f.disk.now)
+          (HoldsSome (opening ++ sent_of old) (units ++ cut) (sent_to (view_of old.seat)) (lsns_of mid)) old.disk.now f.disk.now)
           (sym stops.rest) (flew.moments honest opening stand));
       prefix = λ none honest opening stand.
           subst (λ us. AllStand new.tail (opening ++ us) (g.images new.disk.now)) (sym sent)
           (subst (λ (f : Flusher _). AllStand f.tail (opening ++ sent_of mid) (g.images f.disk.now)) (sym stops.rest)
-              (flew.prefix none honest opening stand));
+          (flew.prefix none honest opening stand));
       torn = λ honest opening stand.
           subst (λ us. (c : List ℕ) → g.images new.disk.now c → HoldsEither (opening ++ us) (view_of new.seat).sending.read c) (sym sent)
           (subst (λ us. (c : List ℕ) → g.images new.disk.now c → HoldsEither (opening ++ sent_of mid) us c) (sym read)
           (subst (λ (f : Flusher _). (c : List ℕ) → g.images f.disk.now c
-              → HoldsEither (opening ++ sent_of mid) (view_of mid.seat).sending.read c) (sym stops.rest)
+          → HoldsEither (opening ++ sent_of mid) (view_of mid.seat).sending.read c) (sym stops.rest)
           (flew.torn honest opening stand)));
       count = λ honest. omega (arith, flew.count honest, ap (λ (f : Flusher _). g.written_count f.disk.now) stops.rest);
     }

@@ -1,9 +1,8 @@
 -- Turns one after another.
-use Rattle.std.proofs.Common.{◌≡◌, ◌≢◌, ◌⊎◌, ◌∙◌, sym, ap, refl, subst, inl, inr, ⊎_elim, ℕ, ◌+◌, ◌*◌, ◌≤◌, List, [], ◌∷◌, ◌++◌, length, length-append, append_assoc, append-nil, arith, Option, Some, None}
+use Rattle.std.proofs.Common.{◌≡◌, ◌≢◌, ◌∙◌, sym, ap, refl, subst, inl, inr, ℕ, ◌+◌, ◌≤◌, List, [], ◌++◌, length, length-append, append_assoc, append-nil, arith, Option, Some, None}
 use Rattle.std.proofs.KnownBytes.{Appends-trans}
 use Rattle.std.proofs.lemmas.List.Elements.{Contains-append_right}
 use Rattle.std.specs.List.{Contains}
-use Rattle.log_disk.specs.Disk.{Leaves}
 use Rattle.log_disk.specs.Faults.{Rose}
 use Rattle.log_disk.specs.declared.disk.LogDisk.{Ghosts}
 use Rattle.log_disk.specs.declared.sink.Sink.{Ghosts as SinkGhosts}
@@ -14,7 +13,7 @@ use Rattle.log_table.specs.Seats.{view_of}
 use Rattle.log_table.specs.declared.view.Constants.{Constants}
 use Rattle.log_table.specs.declared.view.View.{View}
 use Rattle.segment_file.specs.File.{joined, HoldsUnits}
-use Rattle.flusher.specs.Flushing.{IsSame, HoldsDurablePrefix, sent_of, lsns_of}
+use Rattle.flusher.specs.Flushing.{sent_of, lsns_of}
 use Rattle.commit_pipeline.specs.declared.daemon.Daemon.{Daemon}
 use Rattle.commit_pipeline.specs.declared.daemon.DaemonFault.{DaemonFault}
 use Rattle.commit_pipeline.specs.declared.daemon.DaemonFault.TheVariants.{DiskFault, WriteFault}
@@ -113,8 +112,13 @@ module _ {D : Type 0} {K : Type 0} (g : Ghosts D) (h : SinkGhosts K) (a b c : Da
   no_cut = ap (λ us. joined first.batches ++ us) (none-in_flight b.fault _ first.cut fine first.in_flight) ∙ append-nil (joined first.batches)
 
   place : durable b ≡ durable a + length (joined first.batches)
-  place = omega (arith, ap (λ (k : Constants). k.start) first.constants, ap length first.sent, length-append (sent_of a.flusher)
-      (joined first.batches))
+  place = omega (
+    arith,
+    ap (λ (k : Constants). k.start) first.constants,
+    ap length first.sent,
+    length-append (sent_of a.flusher)
+        (joined first.batches),
+  )
 
   moved : (opening : List ℕ) → (opening ++ sent_of a.flusher) ++ joined first.batches ≡ opening ++ sent_of b.flusher
   moved opening = append_assoc opening (sent_of a.flusher) (joined first.batches) ∙ ap (λ us. opening ++ us) (sym first.sent)
@@ -129,9 +133,9 @@ module _ {D : Type 0} {K : Type 0} (g : Ghosts D) (h : SinkGhosts K) (a b c : Da
   HoldsSome-first opening c' some =
       subst (λ us. HoldsSome (opening ++ sent_of a.flusher) us (durable a) (lsns_of c.flusher) c') (sym units)
       (subst (λ lsns. HoldsSome (opening ++ sent_of a.flusher) (joined first.batches ++ (joined second.batches ++ second.cut))
-          (durable a) lsns c') (sym second.seen)
+      (durable a) lsns c') (sym second.seen)
       (HoldsSome-more (opening ++ sent_of a.flusher) (joined first.batches) (joined second.batches ++ second.cut) (durable a) second.newer
-          (lsns_of b.flusher) c'
+      (lsns_of b.flusher) c'
       (subst (λ us. HoldsSome (opening ++ sent_of a.flusher) us (durable a) (lsns_of b.flusher) c') no_cut some)))
 
   HoldsSome-second : (opening c' : List ℕ)
@@ -140,9 +144,9 @@ module _ {D : Type 0} {K : Type 0} (g : Ghosts D) (h : SinkGhosts K) (a b c : Da
   HoldsSome-second opening c' some =
       subst (λ us. HoldsSome (opening ++ sent_of a.flusher) us (durable a) (lsns_of c.flusher) c') (sym units)
       (HoldsSome-behind (opening ++ sent_of a.flusher) (joined first.batches) (joined second.batches ++ second.cut) (durable a)
-          (lsns_of c.flusher) c'
+      (lsns_of c.flusher) c'
       (subst (λ us. HoldsSome us (joined second.batches ++ second.cut) (durable a + length (joined first.batches)) (lsns_of c.flusher) c')
-          (sym (moved opening))
+      (sym (moved opening))
       (subst (λ n. HoldsSome (opening ++ sent_of b.flusher) (joined second.batches ++ second.cut) n (lsns_of c.flusher) c') place some)))
 
   -- where the records of the second part start
@@ -155,12 +159,12 @@ module _ {D : Type 0} {K : Type 0} (g : Ghosts D) (h : SinkGhosts K) (a b c : Da
       let divided = SpellEach-divided first.batches second.batches lists spells in
       let told = first.all (kept WriteFault) divided.front divided.spells_front in
       subst (λ rs. TellsFront a.voice (durable a) rs (first.text ++ second.text) a.tally c.tally)
-          (sym (ap all_of divided.whole ∙ all_of-append divided.front divided.rest))
+      (sym (ap all_of divided.whole ∙ all_of-append divided.front divided.rest))
       (TellsFront-behind a.voice (durable a) (all_of divided.front)
-          (all_of divided.rest) first.text second.text a.tally b.tally c.tally told.0 told.1
+      (all_of divided.rest) first.text second.text a.tally b.tally c.tally told.0 told.1
       (subst (λ n. TellsFront a.voice n (all_of divided.rest) second.text b.tally c.tally) (seam divided.front divided.spells_front)
       (subst (λ v. TellsFront v (durable b) (all_of divided.rest) second.text b.tally c.tally) first.same.voice
-          (second.front divided.rest divided.spells_rest))))
+      (second.front divided.rest divided.spells_rest))))
 
   all : c.fault ≢ Some WriteFault → (lists : List (List Rec)) → SpellEach (first.batches ++ second.batches) lists
       → (first.text ++ second.text ≡ text_of a.voice (durable a) (all_of lists)) × (c.tally ≡ counted a.tally (all_of lists))
@@ -169,7 +173,7 @@ module _ {D : Type 0} {K : Type 0} (g : Ghosts D) (h : SinkGhosts K) (a b c : Da
       let told = first.all (kept WriteFault) divided.front divided.spells_front in
       let more = second.all written divided.rest divided.spells_rest in
       let records : all_of divided.front ++ all_of divided.rest ≡ all_of lists =
-          sym (ap all_of divided.whole ∙ all_of-append divided.front divided.rest) in (
+      sym (ap all_of divided.whole ∙ all_of-append divided.front divided.rest) in (
         (λ i. told.0 i ++ (more.0 ∙ ap (λ v. text_of v (durable b) (all_of divided.rest)) first.same.voice
             ∙ ap (λ n. text_of a.voice n (all_of divided.rest)) (seam divided.front divided.spells_front)) i)
             ∙ sym (text_of-append a.voice (durable a) (all_of divided.front) (all_of divided.rest)) ∙ ap (text_of a.voice (durable a)) records,
@@ -200,7 +204,7 @@ module _ {D : Type 0} {K : Type 0} (g : Ghosts D) (h : SinkGhosts K) (a b c : Da
     moments = λ honest opening stand.
         Leaves-trans g.moment g.images_since _ a.flusher.disk.now b.flusher.disk.now c.flusher.disk.now
         (Leaves-weaken g.moment g.images_since _ _ a.flusher.disk.now b.flusher.disk.now (HoldsSome-first opening)
-            (first.moments honest opening stand))
+        (first.moments honest opening stand))
         (Leaves-weaken g.moment g.images_since _ _ b.flusher.disk.now c.flusher.disk.now (HoldsSome-second opening)
         (second.moments (first.same.flusher.honest.0 honest) opening (first.prefix (kept DiskFault) honest opening stand)));
     prefix = λ sent honest opening stand. second.prefix sent (first.same.flusher.honest.0 honest) opening
@@ -210,8 +214,13 @@ module _ {D : Type 0} {K : Type 0} (g : Ghosts D) (h : SinkGhosts K) (a b c : Da
     front = front;
     all = all;
     reason = reason c.fault second.reason;
-    count = λ honest. omega (arith, first.count honest, second.count (first.same.flusher.honest.0 honest), extra-fine b.fault fine,
-        length-append first.batches second.batches);
+    count = λ honest. omega (
+      arith,
+      first.count honest,
+      second.count (first.same.flusher.honest.0 honest),
+      extra-fine b.fault fine,
+      length-append first.batches second.batches,
+    );
   }
 
 pub Later-refl : {D : Type 0} {K : Type 0} (g : Ghosts D) (h : SinkGhosts K) (d : Daemon D K) → Later g h d d

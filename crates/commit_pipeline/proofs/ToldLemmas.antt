@@ -138,12 +138,12 @@ module _ (voice : Voice) (from at : ℕ) (units text : List ℕ) (lines : ℕ) (
       by-unseen [] all left is = absurd (omega (arith, size_of-some rec, size_of-begins _ rec begins, ap (λ us. length (take 26 us)) left))
       by-unseen (next ∷ unseen) all left is =
           let same = spelling-append-injective next rec _ _ all.0 begins.0
-              (sym (window-begins next (drop at units) (units_of unseen) all.0 left) ∙ begins.2) in
+          (sym (window-begins next (drop at units) (units_of unseen) all.0 left) ∙ begins.2) in
           record { unseen = unseen; whole = is ∙ ap (λ r. r ∷ unseen) same.0 }
 
   module _ (rec : Rec) (begins : BeginsWith (take 26 (drop at units)) rec) (size end : ℕ) (next : Tally) (size_is : size ≡ size_of rec)
       (end_is : end ≡ from + (at + size)) (done_is : next.done ≡ after.done + is_done rec)
-          (refused_is : next.refused ≡ after.refused + is_refused rec) where
+      (refused_is : next.refused ≡ after.refused + is_refused rec) where
     abbrev rest : List Rec
     rest = (goes rec begins).unseen
 
@@ -154,7 +154,7 @@ module _ (voice : Voice) (from at : ℕ) (units text : List ℕ) (lines : ℕ) (
     said-more =
         let same : (from + length (units_of told.seen)) + size_of rec ≡ end = omega (arith, told.place, size_is, end_is) in
         text_of-append voice from told.seen (rec ∷ []) ∙ ap (λ us. us ++ text_of voice (from + length (units_of told.seen)) (rec ∷ []))
-            (sym told.said)
+        (sym told.said)
         ∙ ap (λ us. text ++ us) (text_of-one voice (from + length (units_of told.seen)) rec ∙ ap (λ n. line_said voice n rec) same)
 
     counts-more : next ≡ counted before (told.seen ++ rec ∷ [])

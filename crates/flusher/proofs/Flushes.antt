@@ -47,7 +47,7 @@ pub HoldsDurablePrefix-append : {D : Type 0} (g : Ghosts D) (old : Flusher D) (t
 HoldsDurablePrefix-append g old tail disk batch units sent same appended sent_is opening stand =
     subst (λ us. AllStand tail us (g.images disk))
     (ap (λ us. (opening ++ sent_of old) ++ us) same ∙ append_assoc opening (sent_of old) units
-        ∙ ap (λ us. opening ++ us) (sym sent_is))
+    ∙ ap (λ us. opening ++ us) (sym sent_is))
     (appended (opening ++ sent_of old) stand)
 
 -- after an append that failed they hold that, or with it what the view says was read
@@ -56,7 +56,7 @@ pub MayHoldBatchInFlight-append : {D : Type 0} (g : Ghosts D)
     → ((disk : D) (c : List ℕ) → g.images_since disk (g.moment disk) c → g.images disk c)
     → (old : Flusher D) (disk : D) (units sent read : List ℕ)
     → ((opening : List ℕ) → HoldsDurablePrefix g old opening
-        → Leaves g.moment g.images_since (HoldsEither (opening ++ sent_of old) units) old.disk.now disk)
+    → Leaves g.moment g.images_since (HoldsEither (opening ++ sent_of old) units) old.disk.now disk)
     → sent ≡ sent_of old → read ≡ units
     → (opening : List ℕ) → HoldsDurablePrefix g old opening → (c : List ℕ) → g.images disk c → HoldsEither (opening ++ sent) read c
 MayHoldBatchInFlight-append g counts_now only_now old disk units sent read moments sent_is read_is opening stand =

@@ -25,7 +25,7 @@ returns-in-Err-clause-failed g c =
 pub returns-in_default-clause-later : goal.returns-in_default-clause-later
 returns-in_default-clause-later g c =
     let lost = LosesUnits-stop g.D.LogDisk g.K.Sink c.args.self.now c.flush.new.self c.stop.new.self c.in_default.ensures.lost
-        c.stop.ensures.stops c.stop.ensures.rest c.in_default.ensures.cause.failed in
+    c.stop.ensures.stops c.stop.ensures.rest c.in_default.ensures.cause.failed in
     inr (Ran-lost g.D.LogDisk g.K.Sink c.args.self.now c.stop.new.self c.requires.ready lost (search rules))
 
 pub returns-in_default-flushed-clause-later : goal.returns-in_default-flushed-clause-later
@@ -44,5 +44,5 @@ pub returns-in-Err-clause-later : goal.returns-in-Err-clause-later
 returns-in-Err-clause-later g c =
     let sends = subst (Flushes g.D.LogDisk c.args.self.now.flusher c.flush.new.self) c.in-To.is c.in-Ok.ensures.flushed in
     let lost = LosesLines-stop g.D.LogDisk g.K.Sink c.args.self.now c.flush.new.self _ c.tell-told.new.tally c.stop-in-Err.new.self
-        c.in-To.from c.in-To.to sends c.in-Err.ensures.front c.in-Err.ensures.cause.failed c.stop-in-Err.ensures.stops c.stop-in-Err.ensures.rest in
+    c.in-To.from c.in-To.to sends c.in-Err.ensures.front c.in-Err.ensures.cause.failed c.stop-in-Err.ensures.stops c.stop-in-Err.ensures.rest in
     inr (Ran-unwritten g.D.LogDisk g.K.Sink c.args.self.now c.stop-in-Err.new.self c.requires.ready lost (search rules))
