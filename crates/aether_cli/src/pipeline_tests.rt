@@ -167,7 +167,11 @@ fn finish<'a, R: Wait, D: LogDisk>(rt: &R, mut daemon: Daemon<'a, D, MemorySink>
     requires told { knows_all_enrolled (view_of daemon.flusher.seat).standing ≡ true }
 {
     let answer = daemon.run_until_drained(rt);
-    (answer, daemon.flusher.tail.next, daemon.flusher.batch.count())
+    (
+        answer,
+        daemon.flusher.tail.next,
+        daemon.flusher.batch.count(),
+    )
 }
 
 /// Both workers, each in a thread.
