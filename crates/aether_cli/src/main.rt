@@ -8,6 +8,8 @@ mod genesis;
 mod input;
 mod laws;
 mod new_command;
+#[cfg(test)]
+mod pipeline_tests;
 mod recover_command;
 mod report;
 #[cfg(test)]

@@ -6,18 +6,21 @@ use Rattle.log_record.specs.Spelling.{spelling}
 use Rattle.commit_pipeline.specs.declared.tally.Tally.{Tally}
 use Rattle.commit_pipeline.specs.declared.voice.Voice.{Voice}
 use Rattle.commit_pipeline.specs.declared.voice.Voice.TheVariants.{Lines, Count}
-use Rattle.commit_pipeline.specs.EndLines.{end_line, end_lines, is_done, is_refused, done_in, refused_in, text_of, lines_in, line_said, count_said}
+use Rattle.commit_pipeline.specs.EndLines.{end_line, end_lines, done_in, refused_in, text_of, lines_in, line_said, count_said}
 use Rattle.commit_pipeline.specs.Telling.{counted}
 
 pub end_lines-append : (at : ℕ) (xs ys : List Rec) → end_lines at (xs ++ ys) ≡ end_lines at xs ++ end_lines (at + length (units_of xs)) ys
 end_lines-append at [] ys = ap (λ n. end_lines n ys) (omega arith)
 end_lines-append at (rec ∷ xs) ys =
-    let size : (at + size_of rec) + length (units_of xs) ≡ at + length (units_of (rec ∷ xs)) = omega (arith, length-append (spelling rec) (units_of xs)) in
+    let size : (at + size_of rec) + length (units_of xs) ≡ at + length (units_of (rec ∷ xs)) =
+    omega (arith, length-append (spelling rec) (units_of xs)) in
     ap (λ text. end_line (at + size_of rec) rec ++ text) (end_lines-append (at + size_of rec) xs ys)
-    ∙ sym (append_assoc (end_line (at + size_of rec) rec) (end_lines (at + size_of rec) xs) (end_lines ((at + size_of rec) + length (units_of xs)) ys))
+    ∙ sym (append_assoc (end_line (at + size_of rec) rec) (end_lines (at + size_of rec) xs)
+    (end_lines ((at + size_of rec) + length (units_of xs)) ys))
     ∙ ap (λ n. end_lines at (rec ∷ xs) ++ end_lines n ys) size
 
-pub text_of-append : (voice : Voice) (at : ℕ) (xs ys : List Rec) → text_of voice at (xs ++ ys) ≡ text_of voice at xs ++ text_of voice (at + length (units_of xs)) ys
+pub text_of-append : (voice : Voice) (at : ℕ) (xs ys : List Rec) → text_of voice at (xs ++ ys) ≡ text_of voice at xs
+    ++ text_of voice (at + length (units_of xs)) ys
 text_of-append Lines at xs ys = end_lines-append at xs ys
 text_of-append Count at xs ys = refl
 

@@ -1,9 +1,8 @@
 -- Turns one after another.
-use Rattle.std.proofs.Common.{◌≡◌, ◌≢◌, ◌⊎◌, ◌∙◌, sym, ap, refl, subst, inl, inr, ⊎_elim, ℕ, ◌+◌, ◌*◌, ◌≤◌, List, [], ◌∷◌, ◌++◌, length, length-append, append_assoc, append-nil, arith, Option, Some, None}
+use Rattle.std.proofs.Common.{◌≡◌, ◌≢◌, ◌∙◌, sym, ap, refl, subst, inl, inr, ℕ, ◌+◌, ◌≤◌, List, [], ◌++◌, length, length-append, append_assoc, append-nil, arith, Option, Some, None}
 use Rattle.std.proofs.KnownBytes.{Appends-trans}
 use Rattle.std.proofs.lemmas.List.Elements.{Contains-append_right}
 use Rattle.std.specs.List.{Contains}
-use Rattle.log_disk.specs.Disk.{Leaves}
 use Rattle.log_disk.specs.Faults.{Rose}
 use Rattle.log_disk.specs.declared.disk.LogDisk.{Ghosts}
 use Rattle.log_disk.specs.declared.sink.Sink.{Ghosts as SinkGhosts}
@@ -14,7 +13,7 @@ use Rattle.log_table.specs.Seats.{view_of}
 use Rattle.log_table.specs.declared.view.Constants.{Constants}
 use Rattle.log_table.specs.declared.view.View.{View}
 use Rattle.segment_file.specs.File.{joined, HoldsUnits}
-use Rattle.flusher.specs.Flushing.{IsSame, HoldsDurablePrefix}
+use Rattle.flusher.specs.Flushing.{sent_of, lsns_of}
 use Rattle.commit_pipeline.specs.declared.daemon.Daemon.{Daemon}
 use Rattle.commit_pipeline.specs.declared.daemon.DaemonFault.{DaemonFault}
 use Rattle.commit_pipeline.specs.declared.daemon.DaemonFault.TheVariants.{DiskFault, WriteFault}
@@ -113,44 +112,59 @@ module _ {D : Type 0} {K : Type 0} (g : Ghosts D) (h : SinkGhosts K) (a b c : Da
   no_cut = ap (λ us. joined first.batches ++ us) (none-in_flight b.fault _ first.cut fine first.in_flight) ∙ append-nil (joined first.batches)
 
   place : durable b ≡ durable a + length (joined first.batches)
-  place = omega (arith, ap (λ (k : Constants). k.start) first.constants, ap length first.sent, length-append (view_of a.flusher.seat).sending.sent (joined first.batches))
+  place = omega (
+    arith,
+    ap (λ (k : Constants). k.start) first.constants,
+    ap length first.sent,
+    length-append (sent_of a.flusher)
+        (joined first.batches),
+  )
 
-  moved : (opening : List ℕ) → (opening ++ (view_of a.flusher.seat).sending.sent) ++ joined first.batches ≡ opening ++ (view_of b.flusher.seat).sending.sent
-  moved opening = append_assoc opening (view_of a.flusher.seat).sending.sent (joined first.batches) ∙ ap (λ us. opening ++ us) (sym first.sent)
+  moved : (opening : List ℕ) → (opening ++ sent_of a.flusher) ++ joined first.batches ≡ opening ++ sent_of b.flusher
+  moved opening = append_assoc opening (sent_of a.flusher) (joined first.batches) ∙ ap (λ us. opening ++ us) (sym first.sent)
 
   units : joined (first.batches ++ second.batches) ++ second.cut ≡ joined first.batches ++ (joined second.batches ++ second.cut)
-  units = ap (λ us. us ++ second.cut) (joined-append first.batches second.batches) ∙ append_assoc (joined first.batches) (joined second.batches) second.cut
+  units = ap (λ us. us ++ second.cut) (joined-append first.batches second.batches)
+      ∙ append_assoc (joined first.batches) (joined second.batches) second.cut
 
   HoldsSome-first : (opening c' : List ℕ)
-      → HoldsSome (opening ++ (view_of a.flusher.seat).sending.sent) (joined first.batches ++ first.cut) (durable a) (view_of b.flusher.seat).seen.lsns c'
-      → HoldsSome (opening ++ (view_of a.flusher.seat).sending.sent) (joined (first.batches ++ second.batches) ++ second.cut) (durable a) (view_of c.flusher.seat).seen.lsns c'
+      → HoldsSome (opening ++ sent_of a.flusher) (joined first.batches ++ first.cut) (durable a) (lsns_of b.flusher) c'
+      → HoldsSome (opening ++ sent_of a.flusher) (joined (first.batches ++ second.batches) ++ second.cut) (durable a) (lsns_of c.flusher) c'
   HoldsSome-first opening c' some =
-      subst (λ us. HoldsSome (opening ++ (view_of a.flusher.seat).sending.sent) us (durable a) (view_of c.flusher.seat).seen.lsns c') (sym units)
-      (subst (λ lsns. HoldsSome (opening ++ (view_of a.flusher.seat).sending.sent) (joined first.batches ++ (joined second.batches ++ second.cut)) (durable a) lsns c') (sym second.seen)
-      (HoldsSome-more (opening ++ (view_of a.flusher.seat).sending.sent) (joined first.batches) (joined second.batches ++ second.cut) (durable a) second.newer (view_of b.flusher.seat).seen.lsns c'
-      (subst (λ us. HoldsSome (opening ++ (view_of a.flusher.seat).sending.sent) us (durable a) (view_of b.flusher.seat).seen.lsns c') no_cut some)))
+      subst (λ us. HoldsSome (opening ++ sent_of a.flusher) us (durable a) (lsns_of c.flusher) c') (sym units)
+      (subst (λ lsns. HoldsSome (opening ++ sent_of a.flusher) (joined first.batches ++ (joined second.batches ++ second.cut))
+      (durable a) lsns c') (sym second.seen)
+      (HoldsSome-more (opening ++ sent_of a.flusher) (joined first.batches) (joined second.batches ++ second.cut) (durable a) second.newer
+      (lsns_of b.flusher) c'
+      (subst (λ us. HoldsSome (opening ++ sent_of a.flusher) us (durable a) (lsns_of b.flusher) c') no_cut some)))
 
   HoldsSome-second : (opening c' : List ℕ)
-      → HoldsSome (opening ++ (view_of b.flusher.seat).sending.sent) (joined second.batches ++ second.cut) (durable b) (view_of c.flusher.seat).seen.lsns c'
-      → HoldsSome (opening ++ (view_of a.flusher.seat).sending.sent) (joined (first.batches ++ second.batches) ++ second.cut) (durable a) (view_of c.flusher.seat).seen.lsns c'
+      → HoldsSome (opening ++ sent_of b.flusher) (joined second.batches ++ second.cut) (durable b) (lsns_of c.flusher) c'
+      → HoldsSome (opening ++ sent_of a.flusher) (joined (first.batches ++ second.batches) ++ second.cut) (durable a) (lsns_of c.flusher) c'
   HoldsSome-second opening c' some =
-      subst (λ us. HoldsSome (opening ++ (view_of a.flusher.seat).sending.sent) us (durable a) (view_of c.flusher.seat).seen.lsns c') (sym units)
-      (HoldsSome-behind (opening ++ (view_of a.flusher.seat).sending.sent) (joined first.batches) (joined second.batches ++ second.cut) (durable a) (view_of c.flusher.seat).seen.lsns c'
-      (subst (λ us. HoldsSome us (joined second.batches ++ second.cut) (durable a + length (joined first.batches)) (view_of c.flusher.seat).seen.lsns c') (sym (moved opening))
-      (subst (λ n. HoldsSome (opening ++ (view_of b.flusher.seat).sending.sent) (joined second.batches ++ second.cut) n (view_of c.flusher.seat).seen.lsns c') place some)))
+      subst (λ us. HoldsSome (opening ++ sent_of a.flusher) us (durable a) (lsns_of c.flusher) c') (sym units)
+      (HoldsSome-behind (opening ++ sent_of a.flusher) (joined first.batches) (joined second.batches ++ second.cut) (durable a)
+      (lsns_of c.flusher) c'
+      (subst (λ us. HoldsSome us (joined second.batches ++ second.cut) (durable a + length (joined first.batches)) (lsns_of c.flusher) c')
+      (sym (moved opening))
+      (subst (λ n. HoldsSome (opening ++ sent_of b.flusher) (joined second.batches ++ second.cut) n (lsns_of c.flusher) c') place some)))
 
   -- where the records of the second part start
   seam : (lists : List (List Rec)) → SpellEach first.batches lists → durable b ≡ durable a + length (units_of (all_of lists))
   seam lists spells = place ∙ ap (λ us. durable a + length us) (joined-spelled first.batches lists spells)
 
-  front : (lists : List (List Rec)) → SpellEach (first.batches ++ second.batches) lists → TellsFront a.voice (durable a) (all_of lists) (first.text ++ second.text) a.tally c.tally
+  front : (lists : List (List Rec)) → SpellEach (first.batches ++ second.batches) lists
+      → TellsFront a.voice (durable a) (all_of lists) (first.text ++ second.text) a.tally c.tally
   front lists spells =
       let divided = SpellEach-divided first.batches second.batches lists spells in
       let told = first.all (kept WriteFault) divided.front divided.spells_front in
-      subst (λ rs. TellsFront a.voice (durable a) rs (first.text ++ second.text) a.tally c.tally) (sym (ap all_of divided.whole ∙ all_of-append divided.front divided.rest))
-      (TellsFront-behind a.voice (durable a) (all_of divided.front) (all_of divided.rest) first.text second.text a.tally b.tally c.tally told.0 told.1
+      subst (λ rs. TellsFront a.voice (durable a) rs (first.text ++ second.text) a.tally c.tally)
+      (sym (ap all_of divided.whole ∙ all_of-append divided.front divided.rest))
+      (TellsFront-behind a.voice (durable a) (all_of divided.front)
+      (all_of divided.rest) first.text second.text a.tally b.tally c.tally told.0 told.1
       (subst (λ n. TellsFront a.voice n (all_of divided.rest) second.text b.tally c.tally) (seam divided.front divided.spells_front)
-      (subst (λ v. TellsFront v (durable b) (all_of divided.rest) second.text b.tally c.tally) first.same.voice (second.front divided.rest divided.spells_rest))))
+      (subst (λ v. TellsFront v (durable b) (all_of divided.rest) second.text b.tally c.tally) first.same.voice
+      (second.front divided.rest divided.spells_rest))))
 
   all : c.fault ≢ Some WriteFault → (lists : List (List Rec)) → SpellEach (first.batches ++ second.batches) lists
       → (first.text ++ second.text ≡ text_of a.voice (durable a) (all_of lists)) × (c.tally ≡ counted a.tally (all_of lists))
@@ -158,11 +172,13 @@ module _ {D : Type 0} {K : Type 0} (g : Ghosts D) (h : SinkGhosts K) (a b c : Da
       let divided = SpellEach-divided first.batches second.batches lists spells in
       let told = first.all (kept WriteFault) divided.front divided.spells_front in
       let more = second.all written divided.rest divided.spells_rest in
-      let records : all_of divided.front ++ all_of divided.rest ≡ all_of lists = sym (ap all_of divided.whole ∙ all_of-append divided.front divided.rest) in (
+      let records : all_of divided.front ++ all_of divided.rest ≡ all_of lists =
+      sym (ap all_of divided.whole ∙ all_of-append divided.front divided.rest) in (
         (λ i. told.0 i ++ (more.0 ∙ ap (λ v. text_of v (durable b) (all_of divided.rest)) first.same.voice
             ∙ ap (λ n. text_of a.voice n (all_of divided.rest)) (seam divided.front divided.spells_front)) i)
             ∙ sym (text_of-append a.voice (durable a) (all_of divided.front) (all_of divided.rest)) ∙ ap (text_of a.voice (durable a)) records,
-        more.1 ∙ ap (λ t. counted t (all_of divided.rest)) told.1 ∙ sym (counted-append a.tally (all_of divided.front) (all_of divided.rest)) ∙ ap (counted a.tally) records,
+        more.1 ∙ ap (λ t. counted t (all_of divided.rest)) told.1 ∙ sym (counted-append a.tally (all_of divided.front) (all_of divided.rest))
+            ∙ ap (counted a.tally) records,
       )
 
   reason : (fault : Option DaemonFault) → HasReason g h b c fault → HasReason g h a c fault
@@ -179,23 +195,32 @@ module _ {D : Type 0} {K : Type 0} (g : Ghosts D) (h : SinkGhosts K) (a b c : Da
     newer = second.newer ++ first.newer;
     same = IsSameDaemon-trans g h a b c first.same second.same;
     constants = second.constants ∙ first.constants;
-    seen = second.seen ∙ ap (λ lsns. second.newer ++ lsns) first.seen ∙ sym (append_assoc second.newer first.newer (view_of a.flusher.seat).seen.lsns);
-    sent = second.sent ∙ ap (λ us. us ++ joined second.batches) first.sent ∙ append_assoc (view_of a.flusher.seat).sending.sent (joined first.batches) (joined second.batches)
-        ∙ ap (λ us. (view_of a.flusher.seat).sending.sent ++ us) (sym (joined-append first.batches second.batches));
+    seen = second.seen ∙ ap (λ lsns. second.newer ++ lsns) first.seen ∙ sym (append_assoc second.newer first.newer (lsns_of a.flusher));
+    sent = second.sent ∙ ap (λ us. us ++ joined second.batches) first.sent
+        ∙ append_assoc (sent_of a.flusher) (joined first.batches) (joined second.batches)
+        ∙ ap (λ us. sent_of a.flusher ++ us) (sym (joined-append first.batches second.batches));
     in_flight = second.in_flight;
     may_turn = second.may_turn;
     moments = λ honest opening stand.
         Leaves-trans g.moment g.images_since _ a.flusher.disk.now b.flusher.disk.now c.flusher.disk.now
-        (Leaves-weaken g.moment g.images_since _ _ a.flusher.disk.now b.flusher.disk.now (HoldsSome-first opening) (first.moments honest opening stand))
+        (Leaves-weaken g.moment g.images_since _ _ a.flusher.disk.now b.flusher.disk.now (HoldsSome-first opening)
+        (first.moments honest opening stand))
         (Leaves-weaken g.moment g.images_since _ _ b.flusher.disk.now c.flusher.disk.now (HoldsSome-second opening)
         (second.moments (first.same.flusher.honest.0 honest) opening (first.prefix (kept DiskFault) honest opening stand)));
-    prefix = λ sent honest opening stand. second.prefix sent (first.same.flusher.honest.0 honest) opening (first.prefix (kept DiskFault) honest opening stand);
+    prefix = λ sent honest opening stand. second.prefix sent (first.same.flusher.honest.0 honest) opening
+        (first.prefix (kept DiskFault) honest opening stand);
     torn = λ honest opening stand. second.torn (first.same.flusher.honest.0 honest) opening (first.prefix (kept DiskFault) honest opening stand);
     appended = Appends-trans _ _ _ first.text second.text first.appended second.appended;
     front = front;
     all = all;
     reason = reason c.fault second.reason;
-    count = λ honest. omega (arith, first.count honest, second.count (first.same.flusher.honest.0 honest), extra-fine b.fault fine, length-append first.batches second.batches);
+    count = λ honest. omega (
+      arith,
+      first.count honest,
+      second.count (first.same.flusher.honest.0 honest),
+      extra-fine b.fault fine,
+      length-append first.batches second.batches,
+    );
   }
 
 pub Later-refl : {D : Type 0} {K : Type 0} (g : Ghosts D) (h : SinkGhosts K) (d : Daemon D K) → Later g h d d

@@ -18,7 +18,8 @@ use Rattle.commit_pipeline.specs.Telling.{TellsFront, counted}
 use Rattle.commit_pipeline.proofs.LineLemmas.{text_of-append, text_of-one, lines_in-append, lines_in-one, counted-append}
 
 -- the units from one index to another, where there are so many, are those of the window
-pub window-whole : (units : List ℕ) (at to : ℕ) → at ≤ length units → to ≡ min (length units) (at + 26) → take (to - at) (drop at units) ≡ take 26 (drop at units)
+pub window-whole : (units : List ℕ) (at to : ℕ) → at ≤ length units → to ≡ min (length units) (at + 26)
+    → take (to - at) (drop at units) ≡ take 26 (drop at units)
 window-whole units at to within whole =
     let some : to - at ≡ min 26 (length (drop at units)) = omega (arith, within, whole, length-drop at units) in
     ap (λ n. take n (drop at units)) some ∙ take_min 26 (drop at units)
@@ -31,7 +32,8 @@ pub size_of-begins : (units : List ℕ) (rec : Rec) → BeginsWith units rec →
 size_of-begins units rec begins = omega (arith, ap length begins.2, length-append (spelling rec) begins.1)
 
 -- the record ends within the units
-pub window-within : (units : List ℕ) (at : ℕ) (rec : Rec) → at ≤ length units → BeginsWith (take 26 (drop at units)) rec → at + size_of rec ≤ length units
+pub window-within : (units : List ℕ) (at : ℕ) (rec : Rec) → at ≤ length units → BeginsWith (take 26 (drop at units)) rec
+    → at + size_of rec ≤ length units
 window-within units at rec within begins =
     omega (arith, within, size_of-begins _ rec begins, length-take 26 (drop at units), length-drop at units)
 
@@ -104,7 +106,8 @@ told-none voice from units before records spells = record {
 }
 
 -- what follows are the units of a record, whole
-window-begins : (rec : Rec) (units more : List ℕ) → IsSpellable rec → units ≡ spelling rec ++ more → take 26 units ≡ spelling rec ++ take (26 - size_of rec) more
+window-begins : (rec : Rec) (units more : List ℕ) → IsSpellable rec → units ≡ spelling rec ++ more → take 26 units ≡ spelling rec
+    ++ take (26 - size_of rec) more
 window-begins rec units more spellable is =
     let short : 26 ≡ size_of rec + (26 - size_of rec) = omega (arith, length-spelling rec spellable) in
     ap (take 26) is ∙ ap (λ n. take n (spelling rec ++ more)) short ∙ take-append-add (spelling rec) more (26 - size_of rec)
@@ -120,7 +123,8 @@ module _ (voice : Voice) (from at : ℕ) (units text : List ℕ) (lines : ℕ) (
     where
       by-unseen : (unseen : List Rec) → AllByRecursion IsSpellable unseen → drop at units ≡ units_of unseen → ⊥
       by-unseen [] all left = absurd (omega (arith, within, length-drop at units, ap length left))
-      by-unseen (rec ∷ unseen) all left = none rec (all.0, take (26 - size_of rec) (units_of unseen), window-begins rec (drop at units) (units_of unseen) all.0 left)
+      by-unseen (rec ∷ unseen) all left =
+          none rec (all.0, take (26 - size_of rec) (units_of unseen), window-begins rec (drop at units) (units_of unseen) all.0 left)
 
   -- one more record was read
   record Goes (rec : Rec) : Type 0 where
@@ -133,11 +137,13 @@ module _ (voice : Voice) (from at : ℕ) (units text : List ℕ) (lines : ℕ) (
       by-unseen : (unseen : List Rec) → AllByRecursion IsSpellable unseen → drop at units ≡ units_of unseen → told.unseen ≡ unseen → Goes rec
       by-unseen [] all left is = absurd (omega (arith, size_of-some rec, size_of-begins _ rec begins, ap (λ us. length (take 26 us)) left))
       by-unseen (next ∷ unseen) all left is =
-          let same = spelling-append-injective next rec _ _ all.0 begins.0 (sym (window-begins next (drop at units) (units_of unseen) all.0 left) ∙ begins.2) in
+          let same = spelling-append-injective next rec _ _ all.0 begins.0
+          (sym (window-begins next (drop at units) (units_of unseen) all.0 left) ∙ begins.2) in
           record { unseen = unseen; whole = is ∙ ap (λ r. r ∷ unseen) same.0 }
 
   module _ (rec : Rec) (begins : BeginsWith (take 26 (drop at units)) rec) (size end : ℕ) (next : Tally) (size_is : size ≡ size_of rec)
-      (end_is : end ≡ from + (at + size)) (done_is : next.done ≡ after.done + is_done rec) (refused_is : next.refused ≡ after.refused + is_refused rec) where
+      (end_is : end ≡ from + (at + size)) (done_is : next.done ≡ after.done + is_done rec)
+      (refused_is : next.refused ≡ after.refused + is_refused rec) where
     abbrev rest : List Rec
     rest = (goes rec begins).unseen
 
@@ -147,7 +153,8 @@ module _ (voice : Voice) (from at : ℕ) (units text : List ℕ) (lines : ℕ) (
     said-more : text_of voice from (told.seen ++ rec ∷ []) ≡ text ++ line_said voice end rec
     said-more =
         let same : (from + length (units_of told.seen)) + size_of rec ≡ end = omega (arith, told.place, size_is, end_is) in
-        text_of-append voice from told.seen (rec ∷ []) ∙ ap (λ us. us ++ text_of voice (from + length (units_of told.seen)) (rec ∷ [])) (sym told.said)
+        text_of-append voice from told.seen (rec ∷ []) ∙ ap (λ us. us ++ text_of voice (from + length (units_of told.seen)) (rec ∷ []))
+        (sym told.said)
         ∙ ap (λ us. text ++ us) (text_of-one voice (from + length (units_of told.seen)) rec ∙ ap (λ n. line_said voice n rec) same)
 
     counts-more : next ≡ counted before (told.seen ++ rec ∷ [])
@@ -156,9 +163,11 @@ module _ (voice : Voice) (from at : ℕ) (units text : List ℕ) (lines : ℕ) (
 
     units-more : (seen : List Rec) → length (units_of (seen ++ rec ∷ [])) ≡ length (units_of seen) + size_of rec
     units-more [] = omega (arith, ap length (append-nil (spelling rec)))
-    units-more (first ∷ seen) = omega (arith, units-more seen, length-append (spelling first) (units_of (seen ++ rec ∷ [])), length-append (spelling first) (units_of seen))
+    units-more (first ∷ seen) = omega
+        (arith, units-more seen, length-append (spelling first) (units_of (seen ++ rec ∷ [])), length-append (spelling first) (units_of seen))
 
-    pub told-more : (count : ℕ) → count ≡ count_said voice rec → ToldUpTo voice from (at + size) units (text ++ line_said voice end rec) (lines + count) before next records
+    pub told-more : (count : ℕ) → count ≡ count_said voice rec → ToldUpTo voice from (at + size) units (text ++ line_said voice end rec)
+        (lines + count) before next records
     told-more count count_is = record {
       seen = told.seen ++ rec ∷ [];
       unseen = rest;
@@ -191,4 +200,5 @@ module _ (voice : Voice) (from at : ℕ) (units text : List ℕ) (lines : ℕ) (
     where
       by-unseen : (unseen : List Rec) → drop at units ≡ units_of unseen → unseen ≡ []
       by-unseen [] left = refl
-      by-unseen (rec ∷ unseen) left = absurd (omega (arith, end, length-drop at units, ap length left, length-append (spelling rec) (units_of unseen), size_of-some rec))
+      by-unseen (rec ∷ unseen) left =
+          absurd (omega (arith, end, length-drop at units, ap length left, length-append (spelling rec) (units_of unseen), size_of-some rec))

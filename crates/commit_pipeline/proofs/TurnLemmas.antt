@@ -15,7 +15,8 @@ use Rattle.commit_pipeline.specs.Turning.{SendsLines, LosesUnits, LosesLines, St
 module _ {D : Type 0} {K : Type 0} (g : Ghosts D) (h : SinkGhosts K) (old : Daemon D K) where
   -- the lines of the batch are those of the units sent
   pub SendsLines-told : (new : Daemon D K) (from to lines : ℕ) → new.fault ≡ old.fault → Sends g old.flusher new.flusher from to
-      → (text : List ℕ) × Appends (h.held_bytes old.sink.now) (h.held_bytes new.sink.now) text × TellsAll old.voice from new.flusher.batch.units text lines old.tally new.tally
+      → (text : List ℕ) × Appends (h.held_bytes old.sink.now) (h.held_bytes new.sink.now) text
+      × TellsAll old.voice from new.flusher.batch.units text lines old.tally new.tally
       → old.fault ≡ None → SendsLines g h old new lines to
   SendsLines-told new from to lines fault sends told fine =
       let flush = subst (λ n. Sends g old.flusher new.flusher n to) sends.durable sends in
@@ -30,7 +31,8 @@ module _ {D : Type 0} {K : Type 0} (g : Ghosts D) (h : SinkGhosts K) (old : Daem
 
   -- the disk failed, and then the stop word was stored
   pub LosesUnits-stop : (lost : Flusher D) (new : Daemon D K) → Loses g old.flusher lost → Stops 1 lost new.flusher
-      → new ≡ record old { flusher = new.flusher; fault = Some DiskFault } → Rose (g.faults old.flusher.disk.now) (g.faults lost.disk.now) → LosesUnits g old new
+      → new ≡ record old { flusher = new.flusher; fault = Some DiskFault } → Rose (g.faults old.flusher.disk.now) (g.faults lost.disk.now)
+      → LosesUnits g old new
   LosesUnits-stop lost new flush stops rest rose = record {
     lost = lost;
     flush = flush;
@@ -41,7 +43,8 @@ module _ {D : Type 0} {K : Type 0} (g : Ghosts D) (h : SinkGhosts K) (old : Daem
 
   -- the sink failed, and then the stop word was stored
   pub LosesLines-stop : (sent : Flusher D) (sink : MutBor K) (tally : Tally) (new : Daemon D K) (from to : ℕ) → Sends g old.flusher sent from to
-      → (text : List ℕ) × Appends (h.held_bytes old.sink.now) (h.held_bytes sink.now) text × TellsSome old.voice from sent.batch.units text old.tally tally
+      → (text : List ℕ) × Appends (h.held_bytes old.sink.now) (h.held_bytes sink.now) text
+      × TellsSome old.voice from sent.batch.units text old.tally tally
       → Rose (h.faults old.sink.now) (h.faults sink.now) → Stops 2 sent new.flusher
       → new ≡ record old { flusher = new.flusher; sink = sink; tally = tally; fault = Some WriteFault } → LosesLines g h old new
   LosesLines-stop sent sink tally new from to sends told rose stops rest =

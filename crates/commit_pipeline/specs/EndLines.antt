@@ -1,5 +1,5 @@
 -- The lines of end records: how a transaction ended, and the LSN at which its end record ends. A line ends with LF.
-use Rattle.std.specs.Prelude.{◌≡◌, ℕ, ◌+◌, List, [], ◌∷◌, ◌++◌, length, codes}
+use Rattle.std.specs.Prelude.{◌≡◌, ℕ, ◌+◌, List, [], ◌∷◌, ◌++◌, codes}
 use Rattle.std.specs.List.{AllByRecursion}
 use Rattle.lsn_space.specs.Number.{number_text}
 use Rattle.log_record.specs.declared.rec.Rec.{Rec}
@@ -15,11 +15,13 @@ done_line txn end = codes "done " ++ number_text txn ++ codes " " ++ number_text
 
 -- `short`, the transaction, the leg, and the LSN
 unfoldable pub short_line : ℕ → ℕ → ℕ → List ℕ
-short_line txn leg end = codes "short " ++ number_text txn ++ codes " " ++ number_text leg ++ codes " " ++ number_text end ++ codes "\n"
+short_line txn leg end =
+    codes "short " ++ number_text txn ++ codes " " ++ number_text leg ++ codes " " ++ number_text end ++ codes "\n"
 
 -- `over`, the transaction, the leg, and the LSN
 unfoldable pub over_line : ℕ → ℕ → ℕ → List ℕ
-over_line txn leg end = codes "over " ++ number_text txn ++ codes " " ++ number_text leg ++ codes " " ++ number_text end ++ codes "\n"
+over_line txn leg end =
+    codes "over " ++ number_text txn ++ codes " " ++ number_text leg ++ codes " " ++ number_text end ++ codes "\n"
 
 -- the line of a record that ends at this LSN; a record that ends no transaction has none
 abbrev pub end_line : ℕ → Rec → List ℕ

@@ -9,7 +9,7 @@ use Rattle.log_record.specs.declared.rec.Rec.{Rec}
 use Rattle.log_table.specs.declared.view.View.{View}
 use Rattle.log_table.specs.Seats.{view_of}
 use Rattle.segment_file.specs.File.{joined, HoldsUnits}
-use Rattle.flusher.specs.Flushing.{HoldsDurablePrefix, MayHoldBatchInFlight}
+use Rattle.flusher.specs.Flushing.{HoldsDurablePrefix, MayHoldBatchInFlight, sent_of, lsns_of}
 use Rattle.commit_pipeline.specs.declared.daemon.Daemon.{Daemon}
 use Rattle.commit_pipeline.specs.declared.daemon.DaemonFault.{DaemonFault}
 use Rattle.commit_pipeline.specs.declared.daemon.DaemonFault.TheVariants.{DiskFault, WriteFault}
@@ -44,7 +44,8 @@ InFlight (Some DiskFault) view cut = view.sending.read ≡ cut
 InFlight (Some WriteFault) view cut = (cut ≡ []) × (view.sending.read ≡ [])
 
 -- the count of the object that the fault names rose, and the stop word tells it; without one the stop word is as before
-abbrev pub HasReason : {D : Type 0} → {K : Type 0} → Ghosts D → SinkGhosts K → Daemon D K → Daemon D K → Option DaemonFault → Type 0
+abbrev pub HasReason : {D : Type 0} → {K : Type 0} → Ghosts D → SinkGhosts K → Daemon D K → Daemon D K
+    → Option DaemonFault → Type 0
 HasReason g h old new None = (view_of new.flusher.seat).sending.stop ≡ (view_of old.flusher.seat).sending.stop
 HasReason g h old new (Some DiskFault) = Rose (g.faults old.flusher.disk.now) (g.faults new.flusher.disk.now)
     × ((view_of new.flusher.seat).sending.stop ≡ 1)
@@ -67,13 +68,13 @@ pub record Ran {D : Type 0} {K : Type 0} (g : Ghosts D) (h : SinkGhosts K) (old 
   pub newer : List ℕ
   pub same : IsSameDaemon g h old new
   pub constants : (view_of new.flusher.seat).constants ≡ (view_of old.flusher.seat).constants
-  pub seen : (view_of new.flusher.seat).seen.lsns ≡ newer ++ (view_of old.flusher.seat).seen.lsns
-  pub sent : (view_of new.flusher.seat).sending.sent ≡ (view_of old.flusher.seat).sending.sent ++ joined batches
+  pub seen : lsns_of new.flusher ≡ newer ++ lsns_of old.flusher
+  pub sent : sent_of new.flusher ≡ sent_of old.flusher ++ joined batches
   pub in_flight : InFlight new.fault (view_of new.flusher.seat) cut
   pub may_turn : new.fault ≡ None → MayTurn g new
   pub moments : g.honest old.flusher.disk.now → (opening : List ℕ) → HoldsDurablePrefix g old.flusher opening
-      → Leaves g.moment g.images_since (HoldsSome (opening ++ (view_of old.flusher.seat).sending.sent) (joined batches ++ cut)
-      (durable old) (view_of new.flusher.seat).seen.lsns) old.flusher.disk.now new.flusher.disk.now
+      → Leaves g.moment g.images_since (HoldsSome (opening ++ sent_of old.flusher) (joined batches ++ cut)
+      (durable old) (lsns_of new.flusher)) old.flusher.disk.now new.flusher.disk.now
   pub prefix : new.fault ≢ Some DiskFault → g.honest old.flusher.disk.now → (opening : List ℕ)
       → HoldsDurablePrefix g old.flusher opening → HoldsDurablePrefix g new.flusher opening
   pub torn : g.honest old.flusher.disk.now → (opening : List ℕ)

@@ -1,5 +1,5 @@
 -- What lines are written of the units that a turn sends.
-use Rattle.std.specs.Prelude.{◌≡◌, ℕ, ◌+◌, List, [], ◌∷◌, ◌++◌}
+use Rattle.std.specs.Prelude.{◌≡◌, ℕ, ◌+◌, List, ◌++◌}
 use Rattle.log_record.specs.declared.rec.Rec.{Rec}
 use Rattle.commit_pipeline.specs.declared.tally.Tally.{Tally}
 use Rattle.commit_pipeline.specs.declared.voice.Voice.{Voice}
@@ -26,4 +26,5 @@ pub record TellsFront (voice : Voice) (at : ℕ) (records : List Rec) (text : Li
 
 -- the writing stopped at a fault
 abbrev pub TellsSome : Voice → ℕ → List ℕ → List ℕ → Tally → Tally → Type 0
-TellsSome voice at units text before after = (records : List Rec) → Spells units records → TellsFront voice at records text before after
+TellsSome voice at units text before after = (records : List Rec) → Spells units records
+    → TellsFront voice at records text before after

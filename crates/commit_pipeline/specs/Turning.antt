@@ -8,7 +8,7 @@ use Rattle.log_disk.specs.Faults.{Rose}
 use Rattle.log_table.specs.Seats.{Becomes, view_of}
 use Rattle.log_table.specs.Views.{sent_to, has_stopped}
 use Rattle.flusher.specs.declared.flusher.Flusher.{Flusher}
-use Rattle.flusher.specs.Flushing.{IsReady, IsSame, FindsNothing, Sends, Loses}
+use Rattle.flusher.specs.Flushing.{IsReady, IsSame, FindsNothing, Sends, Loses, sent_of}
 use Rattle.commit_pipeline.specs.declared.daemon.Daemon.{Daemon}
 use Rattle.commit_pipeline.specs.declared.daemon.DaemonFault.{DaemonFault}
 use Rattle.commit_pipeline.specs.declared.daemon.DaemonFault.TheVariants.{DiskFault, WriteFault}
@@ -24,7 +24,7 @@ durable d = sent_to (view_of d.flusher.seat)
 pub record MayTurn {D : Type 0} {K : Type 0} (g : Ghosts D) (d : Daemon D K) : Type 0 where
   pub flusher : IsReady g d.flusher
   pub fine : d.fault ≡ None
-  pub counted : d.tally.done + d.tally.refused ≤ length (view_of d.flusher.seat).sending.sent
+  pub counted : d.tally.done + d.tally.refused ≤ length (sent_of d.flusher)
 
 -- it is the same daemon, with the same disk and sink
 pub record IsSameDaemon {D : Type 0} {K : Type 0} (g : Ghosts D) (h : SinkGhosts K) (old new : Daemon D K) : Type 0 where
@@ -45,7 +45,8 @@ pub record Idles {D : Type 0} {K : Type 0} (old new : Daemon D K) : Type 0 where
   pub rest : new ≡ record old { flusher = new.flusher }
 
 -- units were sent, and then the lines of their end records were written
-pub record SendsLines {D : Type 0} {K : Type 0} (g : Ghosts D) (h : SinkGhosts K) (old new : Daemon D K) (lines to : ℕ) : Type 0 where
+pub record SendsLines {D : Type 0} {K : Type 0} (g : Ghosts D) (h : SinkGhosts K) (old new : Daemon D K) (lines to : ℕ)
+    : Type 0 where
   pub flush : Sends g old.flusher new.flusher (durable old) to
   pub text : List ℕ
   pub appended : Appends (h.held_bytes old.sink.now) (h.held_bytes new.sink.now) text

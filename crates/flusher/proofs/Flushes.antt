@@ -15,7 +15,7 @@ use Rattle.flusher.specs.declared.flusher.Flusher.{Flusher}
 use Rattle.log_table.specs.Sends.{AreEntries, ReadsWholeEntries}
 use Rattle.log_table.specs.Views.{sent_to, read_to}
 use Rattle.flusher.specs.Sending.{gathered, flushed}
-use Rattle.flusher.specs.Flushing.{IsReady, HoldsDurablePrefix}
+use Rattle.flusher.specs.Flushing.{IsReady, HoldsDurablePrefix, sent_of, lsns_of}
 
 -- one step after another
 pub Becomes-then : (a b c : Seat) (view : View) (f : View → View) → Becomes a b view → Becomes b c (f (view_of b)) → Becomes a c (f view)
@@ -34,21 +34,21 @@ StandsAt-holds tail units bytes stands = (stands.batches, stands.rest, stands.fi
 pub Leaves-append : {D : Type 0} (g : Ghosts D) (old : Flusher D) (disk : D) (batch units : List ℕ) → batch ≡ units
     → ((us : List ℕ) → AllStand old.tail us (g.images old.disk.now) → Leaves g.moment g.images_since (HoldsEither us batch) old.disk.now disk)
     → (opening : List ℕ) → HoldsDurablePrefix g old opening
-    → Leaves g.moment g.images_since (HoldsEither (opening ++ (view_of old.seat).sending.sent) units) old.disk.now disk
+    → Leaves g.moment g.images_since (HoldsEither (opening ++ sent_of old) units) old.disk.now disk
 Leaves-append g old disk batch units same moments opening stand =
-    subst (λ us. Leaves g.moment g.images_since (HoldsEither (opening ++ (view_of old.seat).sending.sent) us) old.disk.now disk) same
-    (moments (opening ++ (view_of old.seat).sending.sent) stand)
+    subst (λ us. Leaves g.moment g.images_since (HoldsEither (opening ++ sent_of old) us) old.disk.now disk) same
+    (moments (opening ++ sent_of old) stand)
 
 -- after an append the images hold what the view then says was sent
 pub HoldsDurablePrefix-append : {D : Type 0} (g : Ghosts D) (old : Flusher D) (tail : Tail) (disk : D) (batch units sent : List ℕ) → batch ≡ units
     → ((us : List ℕ) → AllStand old.tail us (g.images old.disk.now) → AllStand tail (us ++ batch) (g.images disk))
-    → sent ≡ (view_of old.seat).sending.sent ++ units → (opening : List ℕ) → HoldsDurablePrefix g old opening
+    → sent ≡ sent_of old ++ units → (opening : List ℕ) → HoldsDurablePrefix g old opening
     → AllStand tail (opening ++ sent) (g.images disk)
 HoldsDurablePrefix-append g old tail disk batch units sent same appended sent_is opening stand =
     subst (λ us. AllStand tail us (g.images disk))
-    (ap (λ us. (opening ++ (view_of old.seat).sending.sent) ++ us) same ∙ append_assoc opening (view_of old.seat).sending.sent units
-        ∙ ap (λ us. opening ++ us) (sym sent_is))
-    (appended (opening ++ (view_of old.seat).sending.sent) stand)
+    (ap (λ us. (opening ++ sent_of old) ++ us) same ∙ append_assoc opening (sent_of old) units
+    ∙ ap (λ us. opening ++ us) (sym sent_is))
+    (appended (opening ++ sent_of old) stand)
 
 -- after an append that failed they hold that, or with it what the view says was read
 pub MayHoldBatchInFlight-append : {D : Type 0} (g : Ghosts D)
@@ -56,12 +56,12 @@ pub MayHoldBatchInFlight-append : {D : Type 0} (g : Ghosts D)
     → ((disk : D) (c : List ℕ) → g.images_since disk (g.moment disk) c → g.images disk c)
     → (old : Flusher D) (disk : D) (units sent read : List ℕ)
     → ((opening : List ℕ) → HoldsDurablePrefix g old opening
-        → Leaves g.moment g.images_since (HoldsEither (opening ++ (view_of old.seat).sending.sent) units) old.disk.now disk)
-    → sent ≡ (view_of old.seat).sending.sent → read ≡ units
+    → Leaves g.moment g.images_since (HoldsEither (opening ++ sent_of old) units) old.disk.now disk)
+    → sent ≡ sent_of old → read ≡ units
     → (opening : List ℕ) → HoldsDurablePrefix g old opening → (c : List ℕ) → g.images disk c → HoldsEither (opening ++ sent) read c
 MayHoldBatchInFlight-append g counts_now only_now old disk units sent read moments sent_is read_is opening stand =
     subst (λ us. (c : List ℕ) → g.images disk c → HoldsEither (opening ++ us) read c) (sym sent_is)
-    (subst (λ us. (c : List ℕ) → g.images disk c → HoldsEither (opening ++ (view_of old.seat).sending.sent) us c) (sym read_is)
+    (subst (λ us. (c : List ℕ) → g.images disk c → HoldsEither (opening ++ sent_of old) us c) (sym read_is)
     (Leaves-now g.moment g.images_since g.images counts_now _ old.disk.now disk only_now
     (λ c image. inl (StandsAt-holds _ _ c (stand c image))) (moments opening stand)))
 
@@ -75,8 +75,8 @@ AreEntries-gathered view now from to units is unread start whole entries =
 
 -- a step of the seat alone, which leaves what was sent and read as it was, leaves the flusher ready
 pub IsReady-step : {D : Type 0} (g : Ghosts D) (f : Flusher D) (seat : Seat) (view : View) → IsReady g f → Becomes f.seat seat view
-    → view.constants ≡ (view_of f.seat).constants → view.standing ≡ (view_of f.seat).standing → view.sending.sent ≡ (view_of f.seat).sending.sent
-    → view.sending.read ≡ (view_of f.seat).sending.read → ((x : ℕ) → Contains (view_of f.seat).seen.lsns x → Contains view.seen.lsns x)
+    → view.constants ≡ (view_of f.seat).constants → view.standing ≡ (view_of f.seat).standing → view.sending.sent ≡ sent_of f
+    → view.sending.read ≡ (view_of f.seat).sending.read → ((x : ℕ) → Contains (lsns_of f) x → Contains view.seen.lsns x)
     → IsReady g (record f { seat = seat })
 IsReady-step g f seat view ready becomes constants standing sent read seen =
     let view_is : view_of seat ≡ view = ap (λ m. m.0) becomes.me in
@@ -115,6 +115,7 @@ sent_to-flushed view now from to units is unread start whole =
     omega (arith, length-append view.sending.sent (view.sending.read ++ units), ap length read, start, whole) in
     ap sent_to is ∙ at
 
-pub seen-flushed : (view now : View) (to : ℕ) (units : List ℕ) → now ≡ flushed to units view → sent_to now ≡ to → Contains now.seen.lsns (sent_to now)
+pub seen-flushed : (view now : View) (to : ℕ) (units : List ℕ) → now ≡ flushed to units view → sent_to now ≡ to
+    → Contains now.seen.lsns (sent_to now)
 seen-flushed view now to units is at =
     subst (Contains now.seen.lsns) (sym at) (subst (λ v. Contains v.seen.lsns to) (sym is) (seen-newest to (gathered to units view).seen.lsns))

@@ -14,13 +14,20 @@ use Rattle.flusher.specs.declared.flusher.Drained.{Drained}
 use Rattle.flusher.specs.declared.flusher.Drained.TheVariants.{At, Active, Behind}
 use Rattle.flusher.specs.Sending.{gathered, flushed, asked}
 
+-- what the flusher's seat sent, and the LSNs that it saw
+abbrev pub sent_of : {D : Type 0} → Flusher D → List ℕ
+sent_of f = (view_of f.seat).sending.sent
+
+abbrev pub lsns_of : {D : Type 0} → Flusher D → List ℕ
+lsns_of f = (view_of f.seat).seen.lsns
+
 -- a flush may be made: the seat is the table's first and saw durable, its last flush did not fail, the log goes on at durable
 -- behind a gate that stays shut, and the batch has room for the ring
 pub record IsReady {D : Type 0} (g : Ghosts D) (f : Flusher D) : Type 0 where
   pub seat : IsOf f.table.now f.seat
   pub flusher : (view_of f.seat).standing.role ≡ FlusherRole
   pub unread : (view_of f.seat).sending.read ≡ []
-  pub seen : Contains (view_of f.seat).seen.lsns (sent_to (view_of f.seat))
+  pub seen : Contains (lsns_of f) (sent_to (view_of f.seat))
   pub next : f.tail.next ≡ sent_to (view_of f.seat)
   pub place : f.tail.at ≤ 2 ^ 63 + 16 * f.tail.next
   pub shut : g.honest f.disk.now → IsShut f.tail.at (g.images f.disk.now)
@@ -36,17 +43,17 @@ pub record IsSame {D : Type 0} (g : Ghosts D) (old new : Flusher D) : Type 0 whe
 
 -- each image holds the opening units, and then the units sent, which reach up to durable; it goes on at the tail
 abbrev pub HoldsDurablePrefix : {D : Type 0} → Ghosts D → Flusher D → List ℕ → Type 0
-HoldsDurablePrefix g f opening = AllStand f.tail (opening ++ (view_of f.seat).sending.sent) (g.images f.disk.now)
+HoldsDurablePrefix g f opening = AllStand f.tail (opening ++ sent_of f) (g.images f.disk.now)
 
 -- each image holds the opening units and those sent, or these and the whole batch that was read
 abbrev pub MayHoldBatchInFlight : {D : Type 0} → Ghosts D → Flusher D → List ℕ → Type 0
 MayHoldBatchInFlight g f opening = (c : List ℕ) → g.images f.disk.now c
-    → HoldsEither (opening ++ (view_of f.seat).sending.sent) (view_of f.seat).sending.read c
+    → HoldsEither (opening ++ sent_of f) (view_of f.seat).sending.read c
 
 -- at each moment an image holds what was sent before, or that and the whole batch; whatever the opening units were
 pub record WritesWhole {D : Type 0} (g : Ghosts D) (units : List ℕ) (old new : Flusher D) : Type 0 where
   pub moments : g.honest old.disk.now → (opening : List ℕ) → HoldsDurablePrefix g old opening
-      → Leaves g.moment g.images_since (HoldsEither (opening ++ (view_of old.seat).sending.sent) units) old.disk.now new.disk.now
+      → Leaves g.moment g.images_since (HoldsEither (opening ++ sent_of old) units) old.disk.now new.disk.now
   pub count : g.honest old.disk.now → g.written_count new.disk.now ≤ g.written_count old.disk.now + 4
 
 -- exposed, as loaded, is durable, and nothing else was done

@@ -13,10 +13,10 @@ returns-in_err-self-clause-lost g c =
     let apart : c.load_exposed-to.result ≢ c.args.self.now.tail.next = search rules in
     let units = ap (λ batch. batch.units) c.gather.ensures.batch in
     let below : c.args.self.now.tail.next < c.load_exposed-to.result =
-        omega (arith, (c.load_exposed-to.ensures.flusher c.requires.ready.flusher).read, c.requires.ready.next, apart) in
+    omega (arith, (c.load_exposed-to.ensures.flusher c.requires.ready.flusher).read, c.requires.ready.next, apart) in
     let seat = Becomes-then _ _ _ _ (read_units c.gather.ensures.units) c.load_exposed-to.ensures.view c.gather.ensures.seat in
     let entries = AreEntries-gathered (view_of c.args.self.now.seat) _ _ _ _ (ap (λ m. m.0) seat.me) c.requires.ready.unread c.requires.ready.next
-        c.gather.ensures.whole (c.gather.ensures.entries below) in
+    c.gather.ensures.whole (c.gather.ensures.entries below) in
     rw failed.1 record {
       to = c.load_exposed-to.result;
       units = c.gather.ensures.units;
@@ -33,7 +33,8 @@ returns-in_err-self-clause-lost g c =
       prefix = λ honest. MayHoldBatchInFlight-append g.D.LogDisk g.met.D.LogDisk.counts_now g.met.D.LogDisk.only_now c.args.self.now _
           c.gather.ensures.units _ _
           (Leaves-append g.D.LogDisk c.args.self.now _ _ _ units (c.append.ensures.moments honest))
-          (ap (λ m. m.0.sending.sent) seat.me) (ap (λ m. m.0.sending.read) seat.me ∙ ap (λ us. us ++ c.gather.ensures.units) c.requires.ready.unread);
+          (ap (λ m. m.0.sending.sent) seat.me)
+          (ap (λ m. m.0.sending.read) seat.me ∙ ap (λ us. us ++ c.gather.ensures.units) c.requires.ready.unread);
     }
 
 pub returns-clause-flushed : goal.returns-clause-flushed
@@ -41,10 +42,10 @@ returns-clause-flushed g c =
     let apart : c.load_exposed-to.result ≢ c.args.self.now.tail.next = search rules in
     let units = ap (λ batch. batch.units) c.gather.ensures.batch in
     let below : c.args.self.now.tail.next < c.load_exposed-to.result =
-        omega (arith, (c.load_exposed-to.ensures.flusher c.requires.ready.flusher).read, c.requires.ready.next, apart) in
+    omega (arith, (c.load_exposed-to.ensures.flusher c.requires.ready.flusher).read, c.requires.ready.next, apart) in
     let read = Becomes-then _ _ _ _ (read_units c.gather.ensures.units) c.load_exposed-to.ensures.view c.gather.ensures.seat in
     let entries = AreEntries-gathered (view_of c.args.self.now.seat) _ _ _ _ (ap (λ m. m.0) read.me) c.requires.ready.unread c.requires.ready.next
-        c.gather.ensures.whole (c.gather.ensures.entries below) in
+    c.gather.ensures.whole (c.gather.ensures.entries below) in
     let seat = Becomes-then _ _ _ _ (has_sent c.load_exposed-to.result) read c.store_durable.ensures.view in
     record {
       units = c.gather.ensures.units;
@@ -61,7 +62,7 @@ returns-clause-flushed g c =
       };
       prefix = λ honest. HoldsDurablePrefix-append g.D.LogDisk c.args.self.now _ _ _ _ _ units (c.in_ok-self.ensures.appended honest)
           (ap (λ m. m.0.sending.sent) seat.me
-              ∙ ap (λ us. (view_of c.args.self.now.seat).sending.sent ++ (us ++ c.gather.ensures.units)) c.requires.ready.unread);
+          ∙ ap (λ us. (view_of c.args.self.now.seat).sending.sent ++ (us ++ c.gather.ensures.units)) c.requires.ready.unread);
       settled = λ honest. c.in_ok-self.ensures.settled honest;
     }
 
@@ -70,7 +71,7 @@ returns-clause-ready g c =
     let read = Becomes-then _ _ _ _ (read_units c.gather.ensures.units) c.load_exposed-to.ensures.view c.gather.ensures.seat in
     let seat = Becomes-then _ _ _ _ (has_sent c.load_exposed-to.result) read c.store_durable.ensures.view in
     let durable = sent_to-flushed (view_of c.args.self.now.seat) _ _ _ _ (ap (λ m. m.0) seat.me) c.requires.ready.unread c.requires.ready.next
-        c.gather.ensures.whole in
+    c.gather.ensures.whole in
     let units = ap (λ batch. length batch.units) c.gather.ensures.batch in
     record {
       seat = search rules;
