@@ -1,0 +1,18 @@
+-- An account's word: from the highest bit, whether it is held (1 bit), its balance (31) and the end LSN of its last commit (32).
+use Rattle.std.specs.Prelude.{ℕ, Bool, ◌+◌, ◌*◌, ◌/◌, ◌%◌, ◌^◌, if◌then◌else◌, nat_eq}
+use Rattle.slot_word.specs.declared.account_word.AccountWord.{AccountWord}
+
+abbrev pub packed : Bool → ℕ → ℕ → ℕ
+packed held balance mark = (if held then 2 ^ 63 else 0) + balance * 2 ^ 32 + mark
+
+abbrev pub word_of : AccountWord → ℕ
+word_of account = packed account.held account.balance account.mark
+
+abbrev pub held_in : ℕ → Bool
+held_in word = nat_eq (word / 2 ^ 63) 1
+
+abbrev pub balance_in : ℕ → ℕ
+balance_in word = word / 2 ^ 32 % 2 ^ 31
+
+abbrev pub mark_in : ℕ → ℕ
+mark_in word = word % 2 ^ 32

@@ -1,0 +1,59 @@
+//! An account's fields, packed into the word of the table.
+ghost use Rattle.std.specs.Prelude.{◌≡◌, ◌<◌, ◌^◌, ℕ, Bool};
+ghost use Rattle.slot_word.specs.AccountWord.{packed, word_of, held_in, balance_in, mark_in};
+
+use crate::account_word::AccountWord;
+
+impl AccountWord {
+    /// The account whose word this is. Each word is that of one account.
+    pub fn unpack(word: u64) -> AccountWord
+        ensures held { result.held ≡ held_in word }
+        ensures balance { result.balance ≡ balance_in word }
+        ensures mark { result.mark ≡ mark_in word }
+    {
+        let balance = (word >> 32 & 0x7fff_ffff) as u32;
+        let mark = (word & 0xffff_ffff) as u32;
+        if word >> 63 == 1 {
+            AccountWord::taken(balance, mark)
+        } else {
+            AccountWord::free(balance, mark)
+        }
+    }
+
+    /// The word.
+    pub fn pack(self) -> u64
+        ensures { result ≡ word_of self }
+    {
+        ((self.held() as u64) << 63) + ((self.balance() as u64) << 32) + self.mark() as u64
+    }
+}
+
+/// A law: what was packed is unpacked, and each word is packed of what it unpacks to.
+pub fn account_word_law()
+    ensures fits { (held : Bool) (balance mark : ℕ) → balance < 2 ^ 31 → mark < 2 ^ 32 → packed held balance mark < 2 ^ 64 }
+    ensures held { (held : Bool) (balance mark : ℕ) → balance < 2 ^ 31 → mark < 2 ^ 32 → held_in (packed held balance mark) ≡ held }
+    ensures balance { (held : Bool) (balance mark : ℕ) → balance < 2 ^ 31 → mark < 2 ^ 32 → balance_in (packed held balance mark) ≡ balance }
+    ensures mark { (held : Bool) (balance mark : ℕ) → balance < 2 ^ 31 → mark < 2 ^ 32 → mark_in (packed held balance mark) ≡ mark }
+    ensures word { (word : ℕ) → word < 2 ^ 64 → packed (held_in word) (balance_in word) (mark_in word) ≡ word }
+{}
+
+#[cfg(test)]
+mod tests {
+    use super::*;
+
+    #[test]
+    fn the_fields_stand_in_their_places(rt: HostRuntime) {
+        let most = 0x7fff_ffff;
+        let cases = [
+            (AccountWord::free(100, 9), 0x0000_0064_0000_0009),
+            (AccountWord::taken(100, 9), 0x8000_0064_0000_0009),
+            (AccountWord::free(0, 0), 0),
+            (AccountWord::free(0, u32::MAX), 0xffff_ffff),
+            (AccountWord::taken(most, u32::MAX), u64::MAX),
+        ];
+        for (account, word) in cases {
+            assert_eq!(rt; account.pack(), word);
+            assert_eq!(rt; AccountWord::unpack(word), account);
+        }
+    }
+}
