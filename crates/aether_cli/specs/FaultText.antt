@@ -1,8 +1,8 @@
 -- The line that says why the program ends. A line ends with LF.
 use Rattle.std.specs.Prelude.{ℕ, List, [], ◌++◌, codes}
 use Rattle.lsn_space.specs.Number.{number_text}
-use Rattle.log_recovery.specs.declared.reason.Why.{Why}
-use Rattle.log_recovery.specs.declared.reason.Why.TheVariants as why
+use Rattle.lock_core.specs.declared.reason.Why.{Why}
+use Rattle.lock_core.specs.declared.reason.Why.TheVariants as why
 use Rattle.aether_cli.specs.declared.report.Detail.{Detail}
 use Rattle.aether_cli.specs.declared.report.Detail.TheVariants.{Fine, NoMemory, Usage, Read, Write, NotALog, BadBatch, BadRec, Unlawful}
 

@@ -6,21 +6,21 @@ use Rattle.log_record.specs.declared.rec.Rec.{Rec}
 use Rattle.log_record.specs.declared.rec.Entry.{Entry}
 use Rattle.log_record.specs.LogList.{units_of, end_of}
 use Rattle.log_record.specs.Spelling.{spelling, IsSpellable, BeginsWith}
-use Rattle.log_recovery.specs.declared.reason.Why.{Why}
-use Rattle.log_recovery.specs.declared.reason.Why.TheVariants as why
-use Rattle.log_recovery.specs.History.{end_from}
-use Rattle.log_recovery.specs.Lawful.{tests, Passes, IsLawful}
-use Rattle.log_recovery.specs.Faults.{IsFirstFailing, IsUnlawfulAt}
+use Rattle.lock_core.specs.declared.reason.Why.{Why}
+use Rattle.lock_core.specs.declared.reason.Why.TheVariants as why
+use Rattle.lock_core.specs.History.{end_from}
+use Rattle.lock_core.specs.Lawful.{tests, Passes, IsLawful}
+use Rattle.lock_core.specs.Faults.{IsFirstFailing, IsUnlawfulAt}
 use Rattle.log_record.specs.declared.rec.Rec.TheVariants.{Genesis, Update, Commit, Short, Over, Note}
 use Rattle.log_record.proofs.SpellingLemmas.{spelling-append-injective, units_of-injective}
 use Rattle.segment_file.specs.File.{HoldsUnits}
 use Rattle.segment_file.proofs.OneReading.{one_reading-units, one_reading-log, one_reading-bad, one_reading-place}
-use Rattle.log_recovery.specs.History.{history}
+use Rattle.lock_core.specs.History.{history}
 use Rattle.log_recovery.specs.declared.recovery.RecoverFault.{RecoverFault}
 use Rattle.log_recovery.specs.declared.recovery.RecoverFault.TheVariants as fault
 use Rattle.log_recovery.specs.Listing.{IsBadRecAt}
 use Rattle.log_recovery.specs.Recovery.{HoldsList, HoldsLawful, IsFaultOf}
-use Rattle.log_recovery.proofs.Fronts.{lawful-front}
+use Rattle.lock_core.proofs.Fronts.{lawful-front}
 
 -- the first of these tests that fails, test by test
 abbrev FailsIn : (Why → Type 0) → List Why → Why → Type 0

@@ -1,16 +1,6 @@
 pub mod AnswerLemmas
-pub mod Conserving
-pub mod Fronts
-pub mod JudgingLemmas
-pub mod KindLemmas
-pub mod ListLemmas
 pub mod ListingLemmas
-pub mod Meeting
-pub mod OneMore
 pub mod OwnLemmas
-pub mod Pairing
-pub mod Plainly
-pub mod Ranging
 pub mod RecoveryLemmas
 pub mod SettlingLemmas
 pub mod TextLemmas

@@ -6,10 +6,10 @@ use Rattle.log_record.specs.declared.rec.Rec.{Rec}
 use Rattle.log_record.specs.declared.rec.Entry.{Entry}
 use Rattle.log_record.specs.LogList.{units_of, end_of}
 use Rattle.log_record.specs.Spelling.{spelling, IsSpellable, BeginsWith}
-use Rattle.log_recovery.specs.History.{end_from, entry_at, history_from, history}
+use Rattle.lock_core.specs.History.{end_from, entry_at, history_from, history}
 use Rattle.log_recovery.specs.Listing.{IsBadRecAt, Lists}
-use Rattle.log_recovery.proofs.Fronts.{history_from-append}
-use Rattle.log_recovery.proofs.ListLemmas.{all-append, all-reverse}
+use Rattle.lock_core.proofs.Fronts.{history_from-append}
+use Rattle.lock_core.proofs.ListLemmas.{all-append, all-reverse}
 
 pub units_of-append : (xs ys : List Rec) → units_of (xs ++ ys) ≡ units_of xs ++ units_of ys
 units_of-append [] ys = refl

@@ -6,8 +6,8 @@ use Rattle.segment_file.specs.declared.scan_result.Scan.{Scan}
 use Rattle.segment_file.specs.Scan.{Scans}
 use Rattle.segment_file.specs.File.{HoldsUnits}
 use Rattle.log_recovery.specs.declared.recovery.Recovered.{Recovered}
-use Rattle.log_recovery.specs.Sums.{ShowsAccounts, greatest_txn}
-use Rattle.log_recovery.specs.Lawful.{IsLawful, genesis_of}
+use Rattle.lock_core.specs.Sums.{ShowsAccounts, greatest_txn}
+use Rattle.lock_core.specs.Lawful.{IsLawful, genesis_of}
 use Rattle.log_recovery.specs.Listing.{Lists}
 use Rattle.log_recovery.specs.Recovery.{HoldsList, Recovers}
 

@@ -9,9 +9,9 @@ use Rattle.std.proofs.KnownBytes.{Appends-trans}
 use Rattle.log_disk.specs.Streams.{AppendsPrefix}
 use Rattle.log_record.specs.declared.rec.Rec.{Rec}
 use Rattle.log_record.specs.LogList.{end_of}
-use Rattle.log_recovery.specs.History.{history}
-use Rattle.log_recovery.specs.Lawful.{genesis_of}
-use Rattle.log_recovery.specs.Sums.{ShowsAccounts, balance_of, last_commit_of}
+use Rattle.lock_core.specs.History.{history}
+use Rattle.lock_core.specs.Lawful.{genesis_of}
+use Rattle.lock_core.specs.Sums.{ShowsAccounts, balance_of, last_commit_of}
 use Rattle.log_recovery.specs.Text.{account_line, numbers_below, account_lines, rows_text, accounts_text}
 
 account_lines-suc : (balance : ℕ → ℕ) (n : ℕ) → account_lines balance (n + 1) ≡ account_lines balance n ++ account_line n (balance n)

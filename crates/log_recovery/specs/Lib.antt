@@ -1,14 +1,3 @@
-pub mod Faults
-pub mod History
-pub mod Judging
-pub mod Lawful
 pub mod Listing
-pub mod Plain
-pub mod Records
 pub mod Recovery
-pub mod Settling
-pub mod Sums
-pub mod Tests
 pub mod Text
-pub mod Transactions
-pub mod Witness

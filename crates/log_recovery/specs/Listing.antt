@@ -7,7 +7,7 @@ use Rattle.log_record.specs.LogList.{units_of, end_of}
 use Rattle.log_record.specs.Spelling.{IsSpellable, BeginsWith}
 use Rattle.log_recovery.specs.declared.listing.ListFault.{ListFault}
 use Rattle.log_recovery.specs.declared.listing.ListFault.TheVariants as list
-use Rattle.log_recovery.specs.History.{history}
+use Rattle.lock_core.specs.History.{history}
 
 -- the units are the spellings of these records, joined
 pub record IsListOf (units : List ℕ) (records : List Rec) : Type 0 where

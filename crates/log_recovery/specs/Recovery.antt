@@ -11,10 +11,10 @@ use Rattle.log_recovery.specs.declared.judging.JudgeFault.TheVariants as judge
 use Rattle.log_recovery.specs.declared.recovery.Recovered.{Recovered}
 use Rattle.log_recovery.specs.declared.recovery.RecoverFault.{RecoverFault}
 use Rattle.log_recovery.specs.declared.recovery.RecoverFault.TheVariants as fault
-use Rattle.log_recovery.specs.History.{history}
-use Rattle.log_recovery.specs.Sums.{ShowsAccounts, greatest_txn}
-use Rattle.log_recovery.specs.Lawful.{IsLawful, genesis_of}
-use Rattle.log_recovery.specs.Faults.{IsUnlawfulAt}
+use Rattle.lock_core.specs.History.{history}
+use Rattle.lock_core.specs.Sums.{ShowsAccounts, greatest_txn}
+use Rattle.lock_core.specs.Lawful.{IsLawful, genesis_of}
+use Rattle.lock_core.specs.Faults.{IsUnlawfulAt}
 use Rattle.log_recovery.specs.Listing.{IsBadRecAt}
 
 -- why a judge answers no accounts; want of memory says nothing of the history

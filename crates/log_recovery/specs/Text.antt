@@ -4,9 +4,9 @@ use Rattle.std.specs.List.{flat_map}
 use Rattle.lsn_space.specs.Number.{number_text}
 use Rattle.log_record.specs.declared.rec.Rec.{Rec}
 use Rattle.log_record.specs.LogList.{end_of}
-use Rattle.log_recovery.specs.History.{history}
-use Rattle.log_recovery.specs.Sums.{balance_of}
-use Rattle.log_recovery.specs.Lawful.{genesis_of}
+use Rattle.lock_core.specs.History.{history}
+use Rattle.lock_core.specs.Sums.{balance_of}
+use Rattle.lock_core.specs.Lawful.{genesis_of}
 
 unfoldable pub lsn_line : ℕ → List ℕ
 lsn_line lsn = codes "lsn " ++ number_text lsn ++ codes "\n"

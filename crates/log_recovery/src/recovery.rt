@@ -1,17 +1,17 @@
 ghost use Rattle.std.specs.Prelude.{◌≡◌, ◌⊎◌, ◌+◌, reverse, List, ℕ, IfOk, IfErr};
 ghost use Rattle.log_record.specs.declared.rec.Rec.{Rec};
 ghost use Rattle.log_recovery.specs.declared.recovery.RecoverFault.{RecoverFault};
-ghost use Rattle.log_recovery.specs.Sums.{greatest_txn};
+ghost use Rattle.lock_core.specs.Sums.{greatest_txn};
 ghost use Rattle.segment_file.specs.File.{HoldsUnits};
 ghost use Rattle.segment_file.specs.Scan.{IsScanFaultOf};
-ghost use Rattle.log_recovery.specs.History.{history};
+ghost use Rattle.lock_core.specs.History.{history};
 ghost use Rattle.log_recovery.specs.Listing.{IsListFaultOf};
 ghost use Rattle.log_recovery.specs.Recovery.{HoldsList, HoldsLawful, Recovers, IsJudgeFaultOf, IsFaultOf};
 
 use crate::judging::{JudgeFault, judge};
 use crate::listing::{ListFault, records};
 use crate::own::txn_of;
-use crate::reason::Why;
+use lock_core::Why;
 use log_record::Entry;
 use lsn_space::{Balances, Lsn};
 use segment_file::{ScanFault, Tail, scan};

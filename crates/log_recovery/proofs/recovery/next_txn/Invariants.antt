@@ -1,5 +1,5 @@
 use Rattle.std.proofs.Common.{◌≡◌, ◌<◌, ◌^◌, take, reverse}
-use Rattle.log_recovery.specs.Sums.{greatest_txn}
+use Rattle.lock_core.specs.Sums.{greatest_txn}
 use Rattle.log_recovery.proofs.recovery.next_txn.Given as goal
 
 abbrev pub invariant-loop-entry : goal.invariant-loop-entry

@@ -1,0 +1,33 @@
+-- Fronts of lawful lists are lawful.
+use Rattle.std.proofs.Common.{◌≡◌, ℕ, List, [], ◌∷◌, ◌++◌, refl, ◌∙◌, sym, subst, append_assoc}
+use Rattle.log_record.specs.declared.rec.Rec.{Rec}
+use Rattle.log_record.specs.declared.rec.Entry.{Entry}
+use Rattle.lock_core.specs.History.{end_from, entry_at, history_from, history}
+use Rattle.lock_core.specs.Sums.{BaseState}
+use Rattle.lock_core.specs.Lawful.{IsLawfulAfter, IsLawful}
+
+pub lawful-front : (later front : List Entry) → IsLawful (later ++ front) → IsLawful front
+lawful-front [] front lawful = lawful
+lawful-front (entry ∷ later) front lawful = lawful-front later front lawful.1
+
+pub lawful_after-front : (base : BaseState) (later front : List Entry) → IsLawfulAfter base (later ++ front) → IsLawfulAfter base front
+lawful_after-front base [] front lawful = lawful
+lawful_after-front base (entry ∷ later) front lawful = lawful_after-front base later front lawful.1
+
+pub history_from-append : (start : ℕ) (h : List Entry) (front later : List Rec)
+    → history_from start h (front ++ later) ≡ history_from start (history_from start h front) later
+history_from-append start h [] later = refl
+history_from-append start h (rec ∷ front) later = history_from-append start (entry_at (end_from start h) rec ∷ h) front later
+
+-- a history stands at the bottom of what follows it
+pub history_from-onto : (start : ℕ) (h : List Entry) (records : List Rec) → (more : List Entry) × (history_from start h records ≡ more ++ h)
+history_from-onto start h [] = ([], refl)
+history_from-onto start h (rec ∷ records) =
+    let entry : Entry = entry_at (end_from start h) rec in
+    let rest = history_from-onto start (entry ∷ h) records in
+    (rest.0 ++ entry ∷ [], rest.1 ∙ sym (append_assoc rest.0 (entry ∷ []) h))
+
+pub lawful-records : (front later : List Rec) → IsLawful (history (front ++ later)) → IsLawful (history front)
+lawful-records front later lawful =
+    let rest = history_from-onto 0 (history front) later in
+    lawful-front rest.0 (history front) (subst IsLawful (history_from-append 0 [] front later ∙ rest.1) lawful)

@@ -1,0 +1,112 @@
+-- How what a judge keeps goes on by one entry.
+use Rattle.std.proofs.Common.{◌≡◌, ℕ, false, true≢false, List, [], ◌∷◌, ◌<◌, length, Result, Ok, Err, refl, sym, subst, ◌∙◌, arith}
+use Rattle.std.specs.Prelude.{OnOk, IfErr, Some}
+use Rattle.std.specs.List.{AllByRecursion}
+use Rattle.std.proofs.lemmas.Option.{slice_get-get_or}
+use Rattle.lsn_space.specs.Accounts.{Accounts}
+use Rattle.log_record.specs.declared.rec.Rec.{Rec}
+use Rattle.log_record.specs.declared.rec.Entry.{Entry}
+use Rattle.log_record.specs.declared.rec.Rec.TheVariants.{Genesis, Update, Commit, Short, Over, Note}
+use Rattle.lock_core.specs.declared.limits.TheConstants.{MOST_ACCOUNTS}
+use Rattle.lock_core.specs.declared.reason.Why.{Why}
+use Rattle.lock_core.specs.Records.{commits}
+use Rattle.lock_core.specs.Transactions.{records_of}
+use Rattle.lock_core.specs.Sums.{BaseState, ShowsAccounts}
+use Rattle.lock_core.specs.Tests.{IsGenesis}
+use Rattle.lock_core.specs.Lawful.{tests, Passes, IsLawful, genesis_of}
+use Rattle.lock_core.specs.Faults.{IsFirstFailing}
+use Rattle.lock_core.specs.Settling.{row, KeepsRows}
+use Rattle.lock_core.specs.Judging.{IsJudged, Judges}
+use Rattle.lock_core.proofs.OneMore.{has_commit-unended, total-plain, total-empty}
+use Rattle.lock_core.proofs.Meeting.{meets-log}
+use Rattle.lock_core.proofs.Ranging.{balance_of-is}
+use Rattle.lock_core.proofs.KindLemmas.{keeps-same}
+
+-- no record, no account
+pub judged-none : (accounts : Accounts) → accounts.rows ≡ [] → accounts.room ≡ MOST_ACCOUNTS → IsJudged accounts []
+judged-none accounts empty room = let none : length accounts.rows ≡ 0 = (λ i. length (empty i)) in record {
+  lawful = tt;
+  room = room;
+  rows = record {
+    count = none;
+    range = λ a inside. absurd (omega arith);
+    balance = λ a inside. absurd (omega arith);
+    last = λ a inside. absurd (omega arith);
+  };
+}
+
+-- an entry that passes all tests, and neither opens an account nor commits, leaves the accounts
+pub judged-plain : (accounts : Accounts) (h : List Entry) (end : ℕ) (rec : Rec) → (IsGenesis rec → ⊥) → commits rec ≡ false
+    → IsJudged accounts h → AllByRecursion (Passes h (record { end = end; rec = rec })) tests → IsJudged accounts (record { end = end; rec = rec } ∷ h)
+judged-plain accounts h end (Genesis account balance) other plain before passes = absurd (other tt)
+judged-plain accounts h end (Commit txn legs) other plain before passes = absurd (true≢false plain)
+judged-plain accounts h end (Update txn account delta prev) other plain before passes =
+    let entry : Entry = record { end = end; rec = Update txn account delta prev } in
+    let unended = (meets-log h entry passes).ended in
+    record {
+      lawful = (passes, before.lawful);
+      room = before.room;
+      rows = keeps-same accounts.rows (genesis_of h) h entry (λ side a. total-plain side a entry h refl (has_commit-unended (records_of txn h) unended)) (λ a. refl) before.rows;
+    }
+judged-plain accounts h end (Short txn leg) other plain before passes =
+    let entry : Entry = record { end = end; rec = Short txn leg } in
+    record {
+      lawful = (passes, before.lawful);
+      room = before.room;
+      rows = keeps-same accounts.rows (genesis_of h) h entry (λ side a. total-empty side a entry h refl refl) (λ a. refl) before.rows;
+    }
+judged-plain accounts h end (Over txn leg) other plain before passes =
+    let entry : Entry = record { end = end; rec = Over txn leg } in
+    record {
+      lawful = (passes, before.lawful);
+      room = before.room;
+      rows = keeps-same accounts.rows (genesis_of h) h entry (λ side a. total-empty side a entry h refl refl) (λ a. refl) before.rows;
+    }
+judged-plain accounts h end (Note txn text) other plain before passes =
+    let entry : Entry = record { end = end; rec = Note txn text } in
+    record {
+      lawful = (passes, before.lawful);
+      room = before.room;
+      rows = keeps-same accounts.rows (genesis_of h) h entry (λ side a. total-empty side a entry h refl refl) (λ a. refl) before.rows;
+    }
+
+-- the answer on an entry whose record is known
+module _ {A : Type 0} (h : List Entry) (entry : Entry) (rec : Rec) (is : entry.rec ≡ rec) (result : Result A Why) where
+  abbrev known : Entry
+  known = record { end = entry.end; rec = rec }
+
+  same : (X : Entry → Type 0) → X known → X entry
+  same X here = subst (λ r. X (record { end = entry.end; rec = r })) (sym is) here
+
+  pub why-judges : Judges h known result → IfErr result (IsFirstFailing (Passes h entry))
+  why-judges judges = same (λ e. IfErr result (IsFirstFailing (Passes h e))) (by_case result judges)
+    where
+      by_case : (r : Result A Why) → Judges h known r → IfErr r (IsFirstFailing (Passes h known))
+      by_case (Ok x) judges = tt
+      by_case (Err why) judges = judges
+
+  pub ok-plain : (accounts : Accounts) → (IsGenesis rec → ⊥) → commits rec ≡ false → IsJudged accounts h → Judges h known result
+      → OnOk result (IsJudged accounts (entry ∷ h))
+  ok-plain accounts other plain before judges = same (λ e. OnOk result (IsJudged accounts (e ∷ h))) (by_case result judges)
+    where
+      by_case : (r : Result A Why) → Judges h known r → OnOk r (IsJudged accounts (known ∷ h))
+      by_case (Ok x) judges = judged-plain accounts h entry.end rec other plain before judges
+      by_case (Err why) judges = tt
+
+  pub ok-kept : (accounts : Accounts) → IsLawful h → Judges h known result
+      → OnOk result ((accounts.room ≡ MOST_ACCOUNTS) × KeepsRows accounts.rows (genesis_of (known ∷ h)) (known ∷ h)) → OnOk result (IsJudged accounts (entry ∷ h))
+  ok-kept accounts lawful judges kept = same (λ e. OnOk result (IsJudged accounts (e ∷ h))) (by_case result judges kept)
+    where
+      by_case : (r : Result A Why) → Judges h known r → OnOk r ((accounts.room ≡ MOST_ACCOUNTS) × KeepsRows accounts.rows (genesis_of (known ∷ h)) (known ∷ h))
+          → OnOk r (IsJudged accounts (known ∷ h))
+      by_case (Ok x) judges kept = record { lawful = (judges, lawful); room = kept.0; rows = kept.1 }
+      by_case (Err why) judges kept = tt
+
+-- the rows that are kept are the accounts
+pub shows-kept : (rows : List (ℕ × ℕ)) (base : BaseState) (h : List Entry) → KeepsRows rows base h → ShowsAccounts rows base h
+shows-kept rows base h kept = let counted = kept.count in record {
+  count = kept.count;
+  each = λ a below. let inside : a < length rows = omega arith in
+      slice_get-get_or rows a (0, 0) inside
+      ∙ (λ i. Some (sym (balance_of-is base h a (row rows a).0 (kept.balance a inside)) i, kept.last a inside i));
+}

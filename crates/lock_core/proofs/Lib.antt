@@ -1,0 +1,17 @@
+pub mod Apart
+pub mod Appending
+pub mod Conserving
+pub mod Fronts
+pub mod JudgingLemmas
+pub mod KindLemmas
+pub mod LastCommits
+pub mod ListLemmas
+pub mod Meeting
+pub mod OneMore
+pub mod OwnLemmas
+pub mod Pairing
+pub mod Plainly
+pub mod Ranging
+pub mod Running
+pub mod SerialFronts
+pub mod SettlingLemmas

@@ -1,0 +1,13 @@
+pub mod Alone
+pub mod Faults
+pub mod History
+pub mod Judging
+pub mod Lawful
+pub mod Plain
+pub mod Records
+pub mod Serial
+pub mod Settling
+pub mod Sums
+pub mod Tests
+pub mod Transactions
+pub mod Witness

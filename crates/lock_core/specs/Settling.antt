@@ -1,0 +1,55 @@
+-- What a Commit makes of the rows that are kept of the accounts: a balance and the last Commit for each.
+use Rattle.std.specs.Prelude.{◌≡◌, ◌<◌, ℕ, ◌+◌, if◌then◌else◌, List, length, slice_index_or, slice_set}
+use Rattle.log_record.specs.declared.rec.Entry.{Entry}
+use Rattle.log_record.specs.Spelling.{IsBalance}
+use Rattle.lock_core.specs.declared.update.Change.{Change}
+use Rattle.lock_core.specs.Records.{gain, loss}
+use Rattle.lock_core.specs.Transactions.{touches}
+use Rattle.lock_core.specs.Sums.{BaseState, moved, IsBalanceOf, last_commit_of}
+
+-- the row of an account
+abbrev pub row : List (ℕ × ℕ) → ℕ → ℕ × ℕ
+row rows account = slice_index_or rows account (0, 0)
+
+-- this is the balance after the changes, of an account that had that balance before
+abbrev pub IsBalanceAfter : List Change → ℕ → ℕ → ℕ → Type 0
+IsBalanceAfter changes account before after = after + moved loss account changes ≡ before + moved gain account changes
+
+-- the changes lead the account out of its range
+abbrev pub LeavesRange : List Change → ℕ → ℕ → Type 0
+LeavesRange changes account before = (after : ℕ) → IsBalance after → IsBalanceAfter changes account before after → ⊥
+
+-- the account's row before and after a Commit of these changes that ends here
+pub record SettlesRow (changes : List Change) (end account : ℕ) (old new : ℕ × ℕ) : Type 0 where
+  pub range : IsBalance new.0
+  pub balance : IsBalanceAfter changes account old.0 new.0
+  pub last : new.1 ≡ (if touches account changes then end else old.1)
+
+-- the rows before and after the part of such a Commit that concerns one account of its changes
+pub record SettlesAccount (changes : List Change) (account end : ℕ) (old new : List (ℕ × ℕ)) : Type 0 where
+  pub balance : ℕ
+  pub range : IsBalance balance
+  pub after : IsBalanceAfter changes account (row old account).0 balance
+  pub rows : new ≡ slice_set old account (balance, end)
+
+-- all rows before and after such a Commit
+pub record Settles (changes : List Change) (end : ℕ) (old new : List (ℕ × ℕ)) : Type 0 where
+  pub count : length new ≡ length old
+  pub each : (account : ℕ) → account < length old → SettlesRow changes end account (row old account) (row new account)
+
+-- every balance is in its range
+abbrev pub AreRowsInRange : List (ℕ × ℕ) → Type 0
+AreRowsInRange rows = (account : ℕ) → account < length rows → IsBalance (row rows account).0
+
+-- one row is led out of its range
+pub record LeavesSome (changes : List Change) (rows : List (ℕ × ℕ)) : Type 0 where
+  pub account : ℕ
+  pub inside : account < length rows
+  pub leaves : LeavesRange changes account (row rows account).0
+
+-- the rows are those of the history: each account's balance, in its range, and its last Commit
+pub record KeepsRows (rows : List (ℕ × ℕ)) (base : BaseState) (h : List Entry) : Type 0 where
+  pub count : length rows ≡ base.accounts
+  pub range : AreRowsInRange rows
+  pub balance : (account : ℕ) → account < length rows → IsBalanceOf base h account (row rows account).0
+  pub last : (account : ℕ) → account < length rows → (row rows account).1 ≡ last_commit_of base h account

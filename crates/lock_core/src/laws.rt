@@ -1,0 +1,139 @@
+ghost use Rattle.std.specs.Prelude.{◌≡◌, ◌++◌, ◌∷◌, ◌↔◌, ◌<◌, ◌≤◌, ◌+◌, ◌==◌, ◌||◌, true, false, ℕ, ℤ, List, if◌then◌else◌};
+ghost use Rattle.std.specs.List.{AllByRecursion};
+ghost use Rattle.log_record.specs.declared.rec.Rec.{Rec};
+ghost use Rattle.log_record.specs.declared.rec.Entry.{Entry};
+ghost use Rattle.log_record.specs.Spelling.{IsSpellable, IsBalance};
+ghost use Rattle.lock_core.specs.declared.update.Change.{Change};
+ghost use Rattle.lock_core.specs.History.{history};
+ghost use Rattle.lock_core.specs.Records.{txn_of, commits};
+ghost use Rattle.lock_core.specs.Transactions.{records_of, updates_of, has_end, is_committed, touches, all_without_prev, ShareNoTransaction};
+ghost use Rattle.lock_core.specs.Sums.{BaseState, base_after, moved, total, IsBalanceOf, balance_of, AreInRange, last_commit_of, IsLastCommit, sum_below, greatest_txn};
+ghost use Rattle.lock_core.specs.Tests.{IsPaired};
+ghost use Rattle.lock_core.specs.Lawful.{IsLawful, IsLawfulAfter, genesis_of, base_state_of};
+ghost use Rattle.lock_core.specs.Plain.{plain_last_commit, IsPlainlyPaired};
+ghost use Rattle.lock_core.specs.Alone.{Job, outcome_alone, outcome_records, planned_records};
+ghost use Rattle.lock_core.specs.Serial.{Task, numbered, IsSerialAfter, IsPartlySerialAfter};
+ghost use Rattle.lock_core.specs.Witness.{genesis_log};
+
+/// A law: a front of a lawful list is lawful.
+pub fn lawful_front()
+    ensures log { (later front : List Entry) → IsLawful (later ++ front) → IsLawful front }
+    ensures after { (base : BaseState) (later front : List Entry) → IsLawfulAfter base (later ++ front) → IsLawfulAfter base front }
+    ensures records { (front later : List Rec) → IsLawful (history (front ++ later)) → IsLawful (history front) }
+{}
+
+/// A law: a lawful list that has an account, followed by what is lawful after its base state and shares no transaction with
+/// it, is lawful. So is what is lawful after a base state, followed by what is lawful after the base state that it leaves.
+pub fn lawful_append()
+    ensures log { (h l : List Entry) → IsLawful l → 0 < (genesis_of l).accounts → IsLawfulAfter (base_state_of l) h
+        → ShareNoTransaction h l → IsLawful (h ++ l) }
+    ensures after { (base : BaseState) (h l : List Entry) → IsLawfulAfter base l → IsLawfulAfter (base_after base l) h
+        → ShareNoTransaction h l → IsLawfulAfter base (h ++ l) }
+{}
+
+/// A law: what a list says goes on over what follows it, where they share no transaction: sums, balances, last Commits.
+pub fn sums_go_on()
+    ensures total { (side : ℤ → ℕ) (account : ℕ) (h l : List Entry) → ShareNoTransaction h l
+        → total side account (h ++ l) ≡ total side account h + total side account l }
+    ensures log { (h l : List Entry) (account : ℕ) → IsLawful l → account < (genesis_of l).accounts → ShareNoTransaction h l
+        → balance_of (genesis_of l) (h ++ l) account ≡ balance_of (base_state_of l) h account }
+    ensures after { (base : BaseState) (h l : List Entry) (account : ℕ) → IsLawfulAfter base l → account < base.accounts
+        → ShareNoTransaction h l → balance_of base (h ++ l) account ≡ balance_of (base_after base l) h account }
+    ensures last_commit { (base : BaseState) (h l : List Entry) (account : ℕ) → ShareNoTransaction h l
+        → last_commit_of base (h ++ l) account ≡ last_commit_of (base_after base l) h account }
+    ensures accounts { (base : BaseState) (h l : List Entry) → IsLawfulAfter base h → genesis_of (h ++ l) ≡ genesis_of l }
+{}
+
+/// A law: what one more record does. A record that is no Commit, of a transaction that isn't committed, changes neither
+/// what is committed nor a sum nor a last Commit. A Commit commits its transaction, adds what its Updates move, and is the
+/// last Commit on their accounts.
+pub fn one_more_record()
+    ensures plain_committed { (entry : Entry) (h : List Entry) (txn : ℕ) → commits entry.rec ≡ false
+        → is_committed txn (entry ∷ h) ≡ is_committed txn h }
+    ensures plain_total { (side : ℤ → ℕ) (account : ℕ) (entry : Entry) (h : List Entry) → commits entry.rec ≡ false
+        → is_committed (txn_of entry.rec) h ≡ false → total side account (entry ∷ h) ≡ total side account h }
+    ensures plain_last_commit { (base : BaseState) (entry : Entry) (h : List Entry) (account : ℕ) → commits entry.rec ≡ false
+        → last_commit_of base (entry ∷ h) account ≡ last_commit_of base h account }
+    ensures commit_committed { (entry : Entry) (h : List Entry) (txn : ℕ) → commits entry.rec ≡ true
+        → is_committed txn (entry ∷ h) ≡ (is_committed txn h || (txn_of entry.rec == txn)) }
+    ensures commit_total { (side : ℤ → ℕ) (account : ℕ) (entry : Entry) (h : List Entry) → commits entry.rec ≡ true
+        → is_committed (txn_of entry.rec) h ≡ false
+        → total side account (entry ∷ h) ≡ total side account h + moved side account (updates_of (txn_of entry.rec) h) }
+    ensures commit_last_commit { (base : BaseState) (entry : Entry) (h : List Entry) (account : ℕ) → commits entry.rec ≡ true
+        → last_commit_of base (entry ∷ h) account
+        ≡ (if touches account (updates_of (txn_of entry.rec) h) then entry.end else last_commit_of base h account) }
+{}
+
+/// A law: in a lawful list of records each account has a balance, only one, and it is in its range.
+pub fn balances_in_range()
+    ensures range { (h : List Entry) → AllByRecursion (λ entry. IsSpellable entry.rec) h → IsLawful h → AreInRange (genesis_of h) h }
+    ensures after { (base : BaseState) (h : List Entry) → ((account : ℕ) → account < base.accounts → IsBalance (base.balance account))
+        → IsLawfulAfter base h → AreInRange base h }
+    ensures one { (base : BaseState) (h : List Entry) (account balance : ℕ) → IsBalanceOf base h account balance
+        → balance ≡ balance_of base h account }
+{}
+
+/// A law: nothing is made or lost. In a lawful list of records the sum of all balances is that of the
+/// Genesis balances, and after a base state that of the balances there.
+pub fn sum_is_kept()
+    ensures after { (base : BaseState) (h : List Entry) → IsLawfulAfter base h
+        → sum_below base.accounts (balance_of base h) ≡ sum_below base.accounts base.balance }
+    ensures log { (h : List Entry) → AllByRecursion (λ entry. IsSpellable entry.rec) h → IsLawful h
+        → sum_below (genesis_of h).accounts (balance_of (genesis_of h) h) ≡ sum_below (genesis_of h).accounts (genesis_of h).balance }
+{}
+
+/// A law: in a lawful list the tests say what the plain words of the format say.
+pub fn plain_words()
+    ensures last_commit { (h : List Entry) (account : ℕ) → IsLawful h
+        → plain_last_commit (genesis_of h) h account ≡ last_commit_of (genesis_of h) h account }
+    ensures pair { (h : List Entry) (txn : ℕ) (change : Change) → IsLawful h
+        → IsPaired (updates_of txn h) change ↔ IsPlainlyPaired (updates_of txn h) change }
+{}
+
+/// A law: the last Commit that an Update names is the base state's, or a Commit of the list before it.
+pub fn predecessors()
+    ensures log { (h : List Entry) (end txn account : ℕ) (delta : ℤ) (prev : ℕ)
+        → IsLawful (record { end = end; rec = Rec.Update txn account delta prev } ∷ h) → IsLastCommit (genesis_of h) h account prev }
+    ensures after { (base : BaseState) (h : List Entry) (end txn account : ℕ) (delta : ℤ) (prev : ℕ)
+        → IsLawfulAfter base (record { end = end; rec = Rec.Update txn account delta prev } ∷ h) → IsLastCommit base h account prev }
+{}
+
+/// A law: lists share no transaction where the numbers of the one are below a number, and those of the other are not. What
+/// follows a base state and is partly serial has the given transfers' numbers alone.
+pub fn numbers_apart()
+    ensures below { (h : List Entry) (first : ℕ) → greatest_txn h < first → AllByRecursion (λ entry. txn_of entry.rec < first) h }
+    ensures from { (base : BaseState) (first : ℕ) (jobs : List Job) (h : List Entry) → IsPartlySerialAfter base (numbered first jobs) h
+        → AllByRecursion (λ entry. first ≤ txn_of entry.rec) h }
+    ensures apart { (first : ℕ) (h l : List Entry) → AllByRecursion (λ entry. first ≤ txn_of entry.rec) h
+        → AllByRecursion (λ entry. txn_of entry.rec < first) l → ShareNoTransaction h l }
+{}
+
+/// A law: the outcome of a transfer depends on the balances of its own accounts alone.
+pub fn own_accounts_alone()
+    ensures { (job : Job) (balance other : ℕ → ℕ)
+        → AllByRecursion (λ leg. (balance leg.0 ≡ other leg.0) × (balance leg.1 ≡ other leg.1)) job.legs
+        → outcome_alone job balance ≡ outcome_alone job other }
+{}
+
+/// A law: the records of a transfer leg by leg are those of its outcome.
+pub fn planned_records_are()
+    ensures { (txn : ℕ) (job : Job) (last_commit balance : ℕ → ℕ)
+        → all_without_prev (planned_records txn job last_commit balance) ≡ outcome_records txn job (outcome_alone job balance) }
+{}
+
+/// A law: a front of a partly serial history is partly serial. A serial history is one in which each transfer has its end
+/// record.
+pub fn partly_serial_front()
+    ensures front { (base : BaseState) (tasks : List Task) (later h : List Entry) → IsPartlySerialAfter base tasks (later ++ h)
+        → IsPartlySerialAfter base tasks h }
+    ensures partly { (base : BaseState) (tasks : List Task) (h : List Entry) → IsSerialAfter base tasks h → IsPartlySerialAfter base tasks h }
+    ensures whole { (base : BaseState) (tasks : List Task) (h : List Entry)
+        → AllByRecursion (λ task. has_end (records_of task.number h) ≡ true) tasks → IsPartlySerialAfter base tasks h
+        → IsSerialAfter base tasks h }
+{}
+
+/// A witness that the premises of these laws can be met: the log of two accounts, of balances 100 and 0.
+pub fn genesis_log_is_lawful()
+    ensures lawful { IsLawful (history genesis_log) }
+    ensures spellable { AllByRecursion (λ entry. IsSpellable entry.rec) (history genesis_log) }
+{}

@@ -1,0 +1,21 @@
+//! What a list of records says: which lists are lawful, what balances they leave, what one transfer
+//! answers alone, and the judge that takes a list record by record.
+#![tactic(auto)]
+
+mod checks;
+mod laws;
+mod limits;
+mod plain;
+mod reason;
+mod settling;
+mod update;
+
+pub use laws::{
+    balances_in_range, genesis_log_is_lawful, lawful_append, lawful_front, numbers_apart, one_more_record,
+    own_accounts_alone, partly_serial_front, plain_words, planned_records_are, predecessors, sum_is_kept,
+    sums_go_on,
+};
+pub use limits::{MOST_ACCOUNTS, MOST_BALANCE};
+pub use plain::{PlainFault, plain_accounts};
+pub use reason::Why;
+pub use update::{Change, txn_of};

@@ -1,0 +1,121 @@
+ghost use Rattle.std.specs.Prelude.{◌≡◌, ◌==◌, ◌<◌, ◌≤◌, ◌^◌, if◌then◌else◌, length, MatchOption};
+ghost use Rattle.std.specs.Bool.{OnTrue, OnFalse};
+ghost use Rattle.std.specs.List.{AllByRecursion};
+ghost use Rattle.log_record.specs.Spelling.{IsBalance};
+ghost use Rattle.lock_core.specs.Records.{gain, loss};
+ghost use Rattle.lock_core.specs.Transactions.{touches};
+ghost use Rattle.lock_core.specs.Sums.{moved};
+ghost use Rattle.lock_core.specs.Settling.{row, IsBalanceAfter, LeavesRange, SettlesAccount, Settles, AreRowsInRange, LeavesSome};
+
+use crate::limits::MOST_BALANCE;
+use crate::update::Change;
+use lsn_space::{Balances, Lsn};
+
+/// What the change adds to the account.
+fn gain(change: &Change, account: u32) -> u32
+    ensures { result ≡ (if change.now.account == account then gain change.now.delta else 0) }
+{
+    if change.account == account && change.delta > 0 {
+        change.delta as u32
+    } else {
+        0
+    }
+}
+
+/// What the change takes from the account.
+fn loss(change: &Change, account: u32) -> u32
+    ensures { result ≡ (if change.now.account == account then loss change.now.delta else 0) }
+{
+    if change.account == account && change.delta < 0 {
+        change.delta.unsigned_abs()
+    } else {
+        0
+    }
+}
+
+/// What the changes add to the account.
+fn gains(changes: &[Change], account: u32) -> u64
+    requires { length changes.now ≤ 16 }
+    ensures sum { result ≡ moved gain account changes.now }
+    ensures small { result < 2 ^ 36 }
+{
+    let mut sum = 0;
+    for change in changes {
+        sum += u64::from(gain(change, account));
+    }
+    sum
+}
+
+/// What the changes take from the account.
+fn losses(changes: &[Change], account: u32) -> u64
+    requires { length changes.now ≤ 16 }
+    ensures sum { result ≡ moved loss account changes.now }
+    ensures small { result < 2 ^ 36 }
+{
+    let mut sum = 0;
+    for change in changes {
+        sum += u64::from(loss(change, account));
+    }
+    sum
+}
+
+fn touches(changes: &[Change], account: u32) -> bool
+    ensures { result ≡ touches account changes.now }
+{
+    changes.iter().any(|change| change.account == account)
+}
+
+/// The account's balance after the changes, unless it leaves its range.
+fn balance_after(balance: u32, changes: &[Change], account: u32) -> Option<u32>
+    requires few { length changes.now ≤ 16 }
+    requires range { IsBalance balance }
+    ensures { MatchOption result (LeavesRange changes.now account balance)
+        (λ after. IsBalance after × IsBalanceAfter changes.now account balance after) }
+{
+    let after = (u64::from(balance) + gains(changes, account)).checked_sub(losses(
+        changes, account,
+    ))?;
+    if after <= u64::from(MOST_BALANCE) {
+        Some(after as u32)
+    } else {
+        None
+    }
+}
+
+/// Makes the part of a Commit of the changes that concerns one account of theirs: true, and its row is then the one after
+/// it; or false where its balance leaves its range.
+fn settle_account(accounts: &mut Balances, changes: &[Change], account: u32, end: Lsn) -> bool
+    requires few { length changes.now ≤ 16 }
+    requires known { account < length accounts.old.rows }
+    requires range { IsBalance (row accounts.old.rows account).0 }
+    ensures room { accounts.new.room ≡ accounts.old.room }
+    ensures settled { OnTrue result (SettlesAccount changes.now account end accounts.old.rows accounts.new.rows) }
+    ensures leaves { OnFalse result (LeavesRange changes.now account (row accounts.old.rows account).0) }
+{
+    let (balance, _) = accounts.at(account);
+    let Some(after) = balance_after(balance, changes, account) else {
+        return false;
+    };
+    accounts.set(account, after, end.units());
+    true
+}
+
+/// Makes a Commit of the changes, which ends here: true, and the accounts are then those after it; or
+/// false where a balance leaves its range, and the accounts are then of no use.
+pub fn settle(accounts: &mut Balances, changes: &[Change], end: Lsn) -> bool
+    requires few { length changes.now ≤ 16 }
+    requires known { AllByRecursion (λ change. change.account < length accounts.old.rows) changes.now }
+    requires range { AreRowsInRange accounts.old.rows }
+    ensures room { accounts.new.room ≡ accounts.old.room }
+    ensures settled { OnTrue result (Settles changes.now end accounts.old.rows accounts.new.rows) }
+    ensures leaves { OnFalse result (LeavesSome changes.now accounts.old.rows) }
+{
+    for (i, change) in changes.iter().enumerate() {
+        if !touches(&changes[..i], change.account)
+            && !settle_account(accounts, changes, change.account, end)
+        {
+            return false;
+        }
+    }
+    true
+}

@@ -1,8 +1,0 @@
-use Rattle.std.proofs.Common.{refl, [], ◌∷◌}
-use Rattle.log_record.specs.declared.rec.Rec.TheVariants.{Genesis}
-use Rattle.log_recovery.proofs.KindLemmas.{passes-genesis}
-use Rattle.log_recovery.proofs.laws.genesis_log_is_lawful.Goals as goal
-
-pub returns-clause-lawful : goal.returns-clause-lawful
-returns-clause-lawful c =
-    (passes-genesis (record { end = 2; rec = Genesis 0 100 } ∷ []) 4 1 0 (tt, tt) refl, (passes-genesis [] 2 0 100 tt refl, tt))

@@ -1,9 +1,0 @@
-use Rattle.std.proofs.Common.{arith}
-use Rattle.log_recovery.specs.Records.{loss}
-use Rattle.log_recovery.proofs.SettlingLemmas.{moved-take_more}
-use Rattle.log_recovery.proofs.settling.losses.Goals as goal
-
-pub loop-change-preserved : goal.loop-change-preserved
-loop-change-preserved c =
-    let more = moved-take_more loss c.args.account c.args.changes.now c.loop-change.change-index c.change-item.result c.loop-change-test.true c.change-item.is in
-    record { sum = omega arith; bound = omega arith }
