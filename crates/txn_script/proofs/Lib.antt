@@ -1,0 +1,4 @@
+pub mod BalanceLemmas
+pub mod LineLemmas
+pub mod PartLemmas
+pub mod ScriptLemmas

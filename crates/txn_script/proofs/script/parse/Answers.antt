@@ -1,0 +1,38 @@
+use Rattle.std.proofs.Common.{◌≡◌, sym, inl, inr, ◌++◌, ◌∷◌, [], length-append, arith}
+use Rattle.std.proofs.lemmas.Bool.{eqb-true}
+use Rattle.std.proofs.lemmas.List.{nil_from_length}
+use Rattle.std.proofs.lemmas.List.Elements.{All-push}
+use Rattle.txn_script.specs.Script.{IsAllowedJob, IsScriptLine}
+use Rattle.txn_script.proofs.ScriptLemmas.{jobs-kept, jobs-grow, lines-grow}
+use Rattle.txn_script.proofs.script.parse.Goals as goal
+
+pub lines-preserved-in_ok-push : goal.lines-preserved-in_ok-push
+lines-preserved-in_ok-push c =
+    let before = c.lines.invariant in
+    let line = c.in-Some.line.now in
+    let read = c.in-Some-read_job.ensures in
+    let grown = c.in_ok-push.ensures.items in
+    record {
+      before = before.before ++ line ∷ [];
+      each = All-push (IsScriptLine c.args.accounts) before.before line before.each (inr (c.in-Some-read_job.job, read.allowed, read.text));
+      text = lines-grow c.args.bytes.now c.lines.rest.now c.in-Some.after.now line before.before before.text c.in-Some.ensures.line;
+      allowed = rw grown (All-push (IsAllowedJob c.args.accounts) c.lines.jobs.items c.in-Some-read_job.job before.allowed read.allowed);
+      jobs = rw grown (jobs-grow before.before line c.lines.jobs.items c.in-Some-read_job.job c.if-not-is_empty.ensures read.text before.jobs);
+      number = omega (arith, before.number, length-append before.before (line ∷ []));
+      bound = omega (arith, before.bound, c.in-Some.ensures.shorter);
+    }
+
+pub lines-preserved : goal.lines-preserved
+lines-preserved c =
+    let before = c.lines.invariant in
+    let line = c.in-Some.line.now in
+    let none : line ≡ [] = nil_from_length line (eqb-true _ _ (sym c.if-not-is_empty.ensures)) in
+    record {
+      before = before.before ++ line ∷ [];
+      each = All-push (IsScriptLine c.args.accounts) before.before line before.each (inl none);
+      text = lines-grow c.args.bytes.now c.lines.rest.now c.in-Some.after.now line before.before before.text c.in-Some.ensures.line;
+      allowed = before.allowed;
+      jobs = jobs-kept before.before line c.lines.jobs.items none before.jobs;
+      number = omega (arith, before.number, length-append before.before (line ∷ []));
+      bound = omega (arith, before.bound, c.in-Some.ensures.shorter);
+    }

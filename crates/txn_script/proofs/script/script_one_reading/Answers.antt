@@ -1,0 +1,5 @@
+use Rattle.txn_script.proofs.ScriptLemmas.{jobs-same, bad_line-same, jobs-or_bad}
+use Rattle.txn_script.proofs.script.script_one_reading.Goals as goal
+
+pub returns : goal.returns
+returns c = record { jobs = jobs-same; line = bad_line-same; apart = jobs-or_bad }

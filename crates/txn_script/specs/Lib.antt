@@ -1,0 +1,4 @@
+pub mod Balances
+pub mod Lines
+pub mod Reading
+pub mod Script

@@ -1,0 +1,77 @@
+-- The script language: each line is empty or a transfer.
+use Rattle.std.specs.Prelude.{◌≡◌, ◌≢◌, ◌<◌, ◌≤◌, ◌==◌, ℕ, ◌+◌, Option, Some, None, IfSome, List, [], ◌∷◌, ◌++◌, ◌⊎◌, codes, length, map, filter, not, All}
+use Rattle.std.specs.List.{flat_map}
+use Rattle.lsn_space.specs.Number.{number_text}
+use Rattle.log_record.specs.Spelling.{IsNoteText}
+use Rattle.txn_script.specs.Lines.{lines}
+use Rattle.txn_script.specs.declared.job.Job.{Job}
+use Rattle.txn_script.specs.declared.pay.TheConstants.{SPACE, MOST_AMOUNT}
+use Rattle.txn_script.specs.declared.fault.ParseFault.{ParseFault}
+use Rattle.txn_script.specs.declared.fault.ParseFault.TheVariants.{Line, NoMemory}
+
+-- a number behind a space
+abbrev pub spaced : ℕ → List ℕ
+spaced n = SPACE ∷ number_text n
+
+-- a leg: the account that pays, the account that receives, and the amount
+abbrev pub leg_text : ℕ × ℕ × ℕ → List ℕ
+leg_text leg = spaced leg.0 ++ spaced leg.1 ++ spaced leg.2
+
+abbrev pub legs_text : List (ℕ × ℕ × ℕ) → List ℕ
+legs_text legs = flat_map leg_text legs
+
+-- a note behind a colon; nothing where there is none
+abbrev pub note_text : Option (List ℕ) → List ℕ
+note_text None = []
+note_text (Some text) = codes " : " ++ text
+
+-- the line of a transfer
+abbrev pub job_text : Job → List ℕ
+job_text job = codes "pay" ++ legs_text job.legs ++ note_text job.note
+
+-- a leg that a log of so many accounts allows
+pub record IsAllowedLeg (accounts : ℕ) (leg : ℕ × ℕ × ℕ) : Type 0 where
+  pub payer : leg.0 < accounts
+  pub payee : leg.1 < accounts
+  pub two : leg.0 ≢ leg.1
+  pub some : 1 ≤ leg.2
+  pub most : leg.2 ≤ MOST_AMOUNT
+
+-- 1 to 8 such legs
+pub record AreAllowedLegs (accounts : ℕ) (legs : List (ℕ × ℕ × ℕ)) : Type 0 where
+  pub some : 1 ≤ length legs
+  pub few : length legs ≤ 8
+  pub each : All (IsAllowedLeg accounts) legs
+
+-- a transfer that a log of so many accounts allows
+pub record IsAllowedJob (accounts : ℕ) (job : Job) : Type 0 where
+  pub legs : AreAllowedLegs accounts job.legs
+  pub note : IfSome job.note IsNoteText
+
+-- the lines that aren't empty
+abbrev pub filled : List (List ℕ) → List (List ℕ)
+filled each = filter (λ line. not (length line == 0)) each
+
+-- the lines that aren't empty are these transfers, in order
+pub record IsScriptText (accounts : ℕ) (bytes : List ℕ) (jobs : List Job) : Type 0 where
+  pub each : All (IsAllowedJob accounts) jobs
+  pub text : filled (lines bytes) ≡ map job_text jobs
+
+-- the line is empty or a transfer
+abbrev pub IsScriptLine : ℕ → List ℕ → Type 0
+IsScriptLine accounts line = (line ≡ []) ⊎ ((job : Job) × IsAllowedJob accounts job × (line ≡ job_text job))
+
+-- the number of the first line that is neither, counted from 1
+pub record IsFirstBadLine (accounts : ℕ) (bytes : List ℕ) (number : ℕ) : Type 0 where
+  pub before : List (List ℕ)
+  pub each : All (IsScriptLine accounts) before
+  pub line : List ℕ
+  pub rest : List (List ℕ)
+  pub text : lines bytes ≡ before ++ line ∷ rest
+  pub at : number ≡ length before + 1
+  pub bad : IsScriptLine accounts line → ⊥
+
+-- what is wrong with the text; want of memory says nothing of it
+abbrev pub IsScriptFault : ℕ → List ℕ → ParseFault → Type 0
+IsScriptFault accounts bytes (Line number) = IsFirstBadLine accounts bytes number
+IsScriptFault accounts bytes NoMemory = Unit {0}

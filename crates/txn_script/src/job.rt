@@ -1,0 +1,101 @@
+ghost use Rattle.std.specs.Prelude.{◌≡◌, ◌<◌, ◌≤◌, ◌++◌, ◌∷◌, [], length, All, IsTrue, ◌↔◌, IfSome, IfNone};
+ghost use Rattle.log_record.specs.Spelling.{IsNoteText, IsPrintable};
+ghost use Rattle.txn_script.specs.declared.job.TheConstants.{MOST_LEGS};
+
+use arrayvec::ArrayVec;
+use log_record::{LONGEST_NOTE, Text};
+use std::marker::Model;
+
+/// The most legs of a transfer.
+pub const MOST_LEGS: usize = 8;
+
+/// The legs of a transfer, at most `MOST_LEGS`. Contracts see the list of them.
+#[derive(Debug, Drop)]
+pub struct Legs {
+    legs: ArrayVec<(u32, u32, u32), 8>,
+}
+
+impl Model for Legs {
+    ghost use Rattle.std.specs.Prelude.{ℕ, List};
+
+    ghost Value = { List (ℕ × ℕ × ℕ) };
+
+    ghost view = { λ legs. legs.legs.items };
+}
+
+impl Legs {
+    pub fn new() -> Legs
+        ensures { result ≡ [] }
+    {
+        Legs {
+            legs: ArrayVec::new(),
+        }
+    }
+
+    /// Appends a leg: the account that pays, the account that receives, and the amount.
+    pub fn push(&mut self, leg: (u32, u32, u32))
+        requires { length self.old < MOST_LEGS }
+        ensures { self.new ≡ self.old ++ leg ∷ [] }
+    {
+        self.legs.push(leg);
+    }
+
+    pub fn as_slice(&self) -> &[(u32, u32, u32)]
+        ensures legs { result.now ≡ self.now }
+        ensures few { length self.now ≤ MOST_LEGS }
+    {
+        self.legs.as_slice()
+    }
+}
+
+/// What a user says of a transfer: 1 to 200 bytes of printable ASCII. Contracts see the list of them.
+#[derive(Debug, Drop)]
+pub struct Remark {
+    text: Text,
+}
+
+impl Model for Remark {
+    ghost use Rattle.std.specs.Prelude.{ℕ, List};
+    ghost use Rattle.log_record.specs.Spelling.{IsNoteText};
+
+    ghost Value = { List ℕ };
+
+    ghost view = { λ remark. remark.text };
+
+    ghost invariant = { λ remark. IsNoteText remark.text };
+}
+
+impl Remark {
+    /// The remark of these bytes, if it may be one.
+    pub fn new(text: &[u8]) -> Option<Remark>
+        ensures text { IfSome result (λ remark. remark ≡ text.now) }
+        ensures none { IfNone result (IsNoteText text.now → ⊥) }
+    {
+        if text.is_empty() || text.len() > LONGEST_NOTE || !is_printable(text) {
+            return None;
+        }
+        Some(Remark {
+            text: Text::from_bytes(text),
+        })
+    }
+
+    pub fn as_slice(&self) -> &[u8]
+        ensures bytes { result.now ≡ self.now }
+        ensures note { IsNoteText self.now }
+    {
+        self.text.as_slice()
+    }
+}
+
+/// A transfer: the legs in which it moves money, and what its user says of it.
+#[derive(Debug, Drop)]
+pub struct Job {
+    pub legs: Legs,
+    pub note: Option<Remark>,
+}
+
+fn is_printable(text: &[u8]) -> bool
+    ensures { IsTrue result ↔ All IsPrintable text.now }
+{
+    text.iter().all(|byte| matches!(*byte, 0x20..=0x7e))
+}
