@@ -43,7 +43,7 @@ module _ (key : Start) (words : Words) (views : List View) (me : ℕ) (v : View)
   size = to - from
 
   abbrev entry : Entry
-  entry = empty_entry from size
+  entry = empty_entry from size (Rattle.log_table.specs.Books.next_of v.books)
 
   abbrev part : Part
   part = part_of me false entry

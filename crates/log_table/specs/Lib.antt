@@ -1,3 +1,5 @@
+pub mod Accounts
+pub mod Books
 pub mod Closing
 pub mod Events
 pub mod Layout

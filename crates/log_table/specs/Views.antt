@@ -13,6 +13,8 @@ use Rattle.log_table.specs.declared.view.Standing.{Standing}
 use Rattle.log_table.specs.declared.view.Seen.{Seen}
 use Rattle.log_table.specs.declared.view.Sending.{Sending}
 use Rattle.log_table.specs.declared.view.View.{View}
+use Rattle.log_record.specs.declared.rec.Rec.{Rec}
+use Rattle.log_table.specs.Books.{no_books, next_of}
 use Rattle.log_table.specs.Log.{Claim}
 
 abbrev pub is_active : Role → Bool
@@ -98,7 +100,7 @@ flusher key = record {
   call = Idle;
   contended = false;
   sending = sending_from key.start;
-  books = record {};
+  books = no_books;
 }
 
 -- what is left of a seat that was merged; a seat that was never made has this view too
@@ -111,7 +113,7 @@ nobody = record {
   call = Idle;
   contended = false;
   sending = sending_from 0;
-  books = record {};
+  books = no_books;
 }
 
 -- the entries that the call under way has reserved
@@ -140,13 +142,13 @@ seen_exposed n seen = record seen { steps = seen.steps + 1; exposed = n; exposed
 abbrev pub seen_durable : ℕ → Seen → Seen
 seen_durable n seen = record seen { steps = seen.steps + 1; durable = n; durable_step = seen.steps + 1; lsns = n ∷ seen.lsns }
 
--- a run with no unit filled
-abbrev pub empty_entry : ℕ → ℕ → Entry
-empty_entry start size = record { start = start; size = size; units = []; contents = record {} }
+-- a run for the record with no unit filled
+abbrev pub empty_entry : ℕ → ℕ → Rec → Entry
+empty_entry start size rec = record { start = start; size = size; units = []; rec = rec }
 
 -- the entry with one more unit filled
 abbrev pub with_unit : ℕ → Entry → Entry
-with_unit unit entry = record { start = entry.start; size = entry.size; units = entry.units ++ unit ∷ []; contents = entry.contents }
+with_unit unit entry = record { start = entry.start; size = entry.size; units = entry.units ++ unit ∷ []; rec = entry.rec }
 
 -- after a load of the tail
 abbrev pub saw_tail : ℕ → View → View
@@ -199,7 +201,8 @@ has_stopped word view = record view { seen = counted view.seen; sending = record
 
 -- after an exchange of the tail that was made; the new tail counts as seen
 abbrev pub reserved : ℕ → ℕ → View → View
-reserved from to view = record view { seen = seen_tail to view.seen; call = Filling (empty_entry from (to - from)) }
+reserved from to view =
+    record view { seen = seen_tail to view.seen; call = Filling (empty_entry from (to - from) (next_of view.books)) }
 
 -- after an exchange of the tail that found n
 abbrev pub after_exchange : ℕ → ℕ → ℕ → View → View
@@ -246,7 +249,7 @@ hired worker view = record {
   call = Idle;
   contended = false;
   sending = sending_from 0;
-  books = record {};
+  books = no_books;
 }
 
 -- the view of a note: it knows what the seat knows that made it, and owns nothing
@@ -259,7 +262,7 @@ noted view = record {
   call = Idle;
   contended = false;
   sending = sending_from 0;
-  books = record {};
+  books = no_books;
 }
 
 -- the entry among others in order of their starts
