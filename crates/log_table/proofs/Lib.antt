@@ -7,7 +7,9 @@ mod Crewing
 mod Entering
 mod Filling
 mod Flushing
+mod Gathered
 mod Gathering
+mod Giving
 mod Growing
 mod Lifting
 mod Lists
@@ -27,5 +29,6 @@ mod Showing
 mod Splitting
 mod Starting
 mod Stopping
+mod Taking
 mod Viewing
 mod Wording

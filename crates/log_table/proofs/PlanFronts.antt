@@ -1,6 +1,7 @@
 -- What is known of each record of a plan whatever the balances are: no record before it ends the transaction, it can be spelled, and a
 -- Note is the first.
 use Rattle.std.proofs.Common.{◌≡◌, ◌≢◌, ◌⊎◌, inl, inr, ⊎_elim, ℕ, zero, suc, ◌+◌, ◌≤◌, ◌<◌, cond, ℤ, pos, negsuc, neg_ℤ, ◌≤ℤ◌, Bool, true, false, List, [], ◌∷◌, length, sym, refl, ap, ◌∙◌, subst, arith}
+use Rattle.std.proofs.lemmas.Int.{ints}
 use Rattle.std.specs.List.{AllByRecursion}
 use Rattle.log_record.specs.declared.rec.Rec.{Rec}
 use Rattle.log_record.specs.declared.rec.Rec.TheVariants.{Genesis, Update, Commit, Short, Over, Note}
@@ -34,11 +35,11 @@ pub record IsSmallLeg (leg : ℕ × ℕ × ℕ) : Type 0 where
 
 more-delta : (amount : ℕ) → 1 ≤ amount → amount ≤ MOST_BALANCE → IsDelta (pos amount)
 more-delta zero least most = absurd (omega arith)
-more-delta (suc n) least most = ((λ e. cc), omega arith, omega arith)
+more-delta (suc n) least most = ((λ e. cc), omega (arith, ints), omega (arith, ints))
 
 less-delta : (amount : ℕ) → 1 ≤ amount → amount ≤ MOST_BALANCE → IsDelta (neg_ℤ (pos amount))
 less-delta zero least most = absurd (omega arith)
-less-delta (suc n) least most = ((λ e. cc), omega arith, omega arith)
+less-delta (suc n) least most = ((λ e. cc), omega (arith, ints), omega (arith, ints))
 
 module _ (task : Task) (mark : ℕ → ℕ) (txn-fits : IsTxn task.number) (marks : (account : ℕ) → mark account ≤ LAST) where
   abbrev txn : ℕ

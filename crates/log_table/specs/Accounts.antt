@@ -17,7 +17,7 @@ use Rattle.lock_core.specs.Serial.{Task, IsRunWhole, IsCutShort}
 use Rattle.log_table.specs.declared.view.TakenJob.{TakenJob}
 use Rattle.log_table.specs.declared.view.Held.{Held}
 use Rattle.log_table.specs.declared.view.Books.{Books}
-use Rattle.log_table.specs.Books.{task_of, times_held, times_taken}
+use Rattle.log_table.specs.Books.{task_of, times_held, times_taken, balance_taken, mark_taken}
 
 -- each element has this
 abbrev pub Everywhere : {A : Type 0} → (A → Type 0) → List A → Type 0
@@ -99,3 +99,10 @@ pub record AccountsFollowList (base : BaseState) (words : ℕ → ℕ) (h : List
 pub record KeepsAccounts (base : BaseState) (words : ℕ → ℕ) (h : List Entry) (all : List Books) : Type 0 where
   pub holder : HasOneHolder base.accounts words all
   pub follows : HasDistinctJobs all → AccountsFollowList base words h all
+
+-- The values of the word are those of the account as it was taken, with what the seat's last job made of them by its Commit.
+pub record MayGive (account word : ℕ) (books : Books) : Type 0 where
+  pub has : 1 ≤ times_held account books.held
+  pub balance : balance_in word + moved_if_committed loss account books.placed
+      ≡ balance_taken books.held account + moved_if_committed gain account books.placed
+  pub mark : mark_in word ≡ commit_in books.placed account (mark_taken books.held account)
