@@ -1,5 +1,5 @@
 -- The next record of a seat's last job enters the log: each kind keeps the account part of the rule.
-use Rattle.std.proofs.Common.{◌≡◌, ◌≢◌, ◌⊎◌, inl, inr, ◌==◌, ◌&&◌, ◌||◌, ℕ, zero, suc, ◌+◌, ◌-◌, ◌*◌, ◌≤◌, ◌<◌, cond, ℤ, Bool, true, false, true≢false, List, [], ◌∷◌, ◌++◌, length, set, All, sym, refl, ap, ◌∙◌, subst, arith}
+use Rattle.std.proofs.Common.{◌≡◌, ◌≢◌, ◌⊎◌, inl, inr, ◌==◌, ◌&&◌, ◌||◌, ℕ, zero, suc, ◌+◌, ◌-◌, ◌*◌, ◌≤◌, ◌<◌, cond, ℤ, Bool, true, false, true≢false, List, [], ◌∷◌, ◌++◌, length, set, Option, Some, None, IfSome, sym, refl, ap, ◌∙◌, subst, arith}
 use Rattle.std.specs.List.{AllByRecursion}
 use mathlib.Core.Logic.{dite}
 use mathlib.Core.Option.{some}
@@ -8,7 +8,7 @@ use lib.ListN.{get_elem?}
 use Rattle.log_record.specs.declared.rec.Rec.{Rec}
 use Rattle.log_record.specs.declared.rec.Rec.TheVariants.{Genesis, Update, Commit, Short, Over, Note}
 use Rattle.log_record.specs.declared.rec.Entry.{Entry}
-use Rattle.log_record.specs.Spelling.{IsBalance}
+use Rattle.log_record.specs.Spelling.{IsBalance, IsNoteText, IsSpellable}
 use Rattle.lock_core.specs.declared.limits.TheConstants.{MOST_BALANCE}
 use Rattle.lock_core.specs.declared.update.Change.{Change}
 use Rattle.lock_core.specs.Records.{txn_of, commits, ends, gain, loss}
@@ -30,10 +30,15 @@ use Rattle.log_table.specs.declared.view.TakenJob.{TakenJob}
 use Rattle.log_table.specs.declared.view.Held.{Held}
 use Rattle.log_table.specs.declared.view.Books.{Books}
 use Rattle.log_table.specs.Books.{note_of, transfer_of, task_of, times_held, balance_taken, mark_taken, plan_of, IsNext, HoldsLeg, HoldsAccounts, IsNote, MayEnter, placing}
-use Rattle.log_table.specs.Accounts.{IsAsTaken, HasOneHolder, HasDistinctJobs, moved_if_committed, commit_in, Follows, AccountsFollowList}
-use Rattle.log_table.proofs.Bookings.{found, all-held, balance_taken-none}
+use Rattle.log_table.specs.Accounts.{IsAsTaken, HasOneHolder, HasDistinctJobs, moved_if_committed, commit_in, Follows, AccountsFollowList, KeepsAccounts, IsAllowed}
+use Rattle.log_table.proofs.Bookings.{everywhere-set, summed-set, found, balance_taken-none, mark_taken-all}
 use Rattle.log_table.proofs.Growing.{IsSameAt, grows}
 use Rattle.log_table.proofs.Lists.{all-weaker, all-both}
+use Rattle.log_table.proofs.Taking.{LastIsOne, distinct-before}
+use Rattle.std.proofs.lemmas.List.Elements.{recursion_from_All}
+use Rattle.lsn_space.specs.declared.lsn.TheConstants.{LAST}
+use Rattle.slot_word.specs.AccountWord.{mark_in}
+use Rattle.log_table.proofs.PlanFronts.{IsPlanned, IsSmallLeg, next-planned}
 use Rattle.log_table.proofs.Planning.{Walk, walk-at, walk-plan, walk-marked, untouched, IsHeldLeg, IsMarked, IsFront, Step, HasBalance}
 
 module _ (base : BaseState) (words : ℕ → ℕ) (h : List Entry) (all : List Books) (me : ℕ) (mine : Books) (distinct : HasDistinctJobs all)
@@ -294,3 +299,72 @@ module _ (base : BaseState) (words : ℕ → ℕ) (h : List Entry) (all : List B
       } (λ g. g) (inl (run-whole few some_amounts holds unended (Over txn leg) rest next entry refl is.own refl is.last))
   held-enters end (Note txn text) rest few some_amounts holds unended next =
       let is = step few some_amounts holds unended (Note txn text) rest next in note-enters end txn text is.own unended is.cut
+
+-- what a seat's last job is known to be
+module _ (base : BaseState) (words : ℕ → ℕ) (all : List Books) (me : ℕ) (mine : Books) (holder : HasOneHolder base.accounts words all)
+    (at : get_elem? all me ≡ some mine) where
+  marks-fit : (account : ℕ) → mark_taken mine.held account ≤ LAST
+  marks-fit account = mark_taken-all (λ m. m ≤ LAST) account mine.held (omega arith)
+      (all-weaker (IsAsTaken base.accounts words) (λ (held : Held). held.mark ≤ LAST) mine.held
+      (λ held t. subst (λ m. m ≤ LAST) t.mark (mark-fits (words held.account))) (holder.taken me mine at))
+    where
+      mark-fits : (word : ℕ) → mark_in word ≤ LAST
+      mark-fits word = grind (arith)
+
+  module _ (some_job : 1 ≤ mine.last.number) where
+    allowed : IsAllowed base.accounts mine.last
+    allowed = (holder.last me mine at some_job).0
+
+    legs-allowed : AllByRecursion (IsAllowedLeg base.accounts) mine.last.job.legs
+    legs-allowed = recursion_from_All (IsAllowedLeg base.accounts) mine.last.job.legs allowed.job.legs.each
+
+    amounts : AllByRecursion (λ (leg : ℕ × ℕ × ℕ). (leg.0 ≢ leg.1) × (1 ≤ leg.2)) mine.last.job.legs
+    amounts = all-weaker (IsAllowedLeg base.accounts) (λ (leg : ℕ × ℕ × ℕ). (leg.0 ≢ leg.1) × (1 ≤ leg.2)) mine.last.job.legs
+        (λ leg a. (a.two, a.some)) legs-allowed
+
+    planned : (rec : Rec) (next : IsNext rec mine) → IsPlanned (task_of mine.last) (recs_of mine.placed) rec next.rest
+    planned rec next = next-planned (task_of mine.last) (mark_taken mine.held) allowed.number marks-fit (balance_taken mine.held)
+        allowed.job.legs.some allowed.job.legs.few
+        (all-weaker (IsAllowedLeg base.accounts) IsSmallLeg mine.last.job.legs (λ leg a. let few = holder.few in let payer = a.payer in let payee = a.payee in
+        record { payer = omega arith; payee = omega arith; least = a.some; most = a.most }) legs-allowed)
+        (by_note mine.last.job.note allowed.job.note) (recs_of mine.placed) rec next.rest next.plan
+      where
+        by_note : (note : Option (List ℕ)) → IfSome note IsNoteText → (note_of note ≡ []) ⊎ IsNoteText (note_of note)
+        by_note None fits = inl refl
+        by_note (Some text) fits = inr fits
+
+  -- the next record can be spelled
+  pub enters-spellable : (rec : Rec) → MayEnter rec mine → IsSpellable rec
+  enters-spellable rec may = (planned may.some_job rec may.next).spellable
+
+  -- placing changes neither what is held nor what was taken
+  pub placed-holder : (end : ℕ) (rec : Rec) → HasOneHolder base.accounts words (set all me (placing end rec mine))
+  placed-holder end rec = record {
+    few = holder.few;
+    counts = λ account below. let sum = summed-set (λ (books : Books). times_held account books.held) all me mine (placing end rec mine) at in
+        let count = holder.counts account below in omega arith;
+    taken = everywhere-set (λ (books : Books). AllByRecursion (IsAsTaken base.accounts words) books.held) all me (placing end rec mine) holder.taken (holder.taken me mine at);
+    last = everywhere-set (LastIsOne base.accounts) all me (placing end rec mine) holder.last (holder.last me mine at);
+  }
+
+-- the next record of a seat's last job enters the log
+pub enters : (base : BaseState) (words : ℕ → ℕ) (h : List Entry) (all : List Books) (me : ℕ) (mine : Books) → get_elem? all me ≡ some mine → (end : ℕ) (rec : Rec)
+    → MayEnter rec mine → KeepsAccounts base words h all
+    → KeepsAccounts base words (record { end = end; rec = rec } ∷ h) (set all me (placing end rec mine))
+enters base words h all me mine at end rec may s = record {
+  holder = placed-holder base words all me mine s.holder at end rec;
+  follows = λ distinct. let before = distinct-before base words h all me mine at (placing end rec mine) (λ number. omega arith) distinct in
+      by_accounts before may.accounts rec refl may.next (planned base words all me mine s.holder at may.some_job rec may.next);
+}
+  where
+    by_accounts : HasDistinctJobs all → IsNote rec ⊎ HoldsAccounts mine → (r : Rec) → rec ≡ r → (next : IsNext r mine) → IsPlanned (task_of mine.last) (recs_of mine.placed) r next.rest
+        → AccountsFollowList base words (record { end = end; rec = r } ∷ h) (set all me (placing end r mine))
+    by_accounts distinct (inr holds) r same next p = held-enters base words h all me mine distinct s.holder (s.follows distinct) at may.some_job end r next.rest
+        (allowed base words all me mine s.holder at may.some_job).job.legs.few (amounts base words all me mine s.holder at may.some_job) holds p.unended next.plan
+    by_accounts distinct (inl note) (Note txn text) same next p =
+        note-enters base words h all me mine distinct s.holder (s.follows distinct) at may.some_job end txn text p.note.own p.unended p.note.cut
+    by_accounts distinct (inl note) (Genesis account balance) same next p = absurd (subst IsNote same note)
+    by_accounts distinct (inl note) (Update txn account delta prev) same next p = absurd (subst IsNote same note)
+    by_accounts distinct (inl note) (Commit txn legs) same next p = absurd (subst IsNote same note)
+    by_accounts distinct (inl note) (Short txn leg) same next p = absurd (subst IsNote same note)
+    by_accounts distinct (inl note) (Over txn leg) same next p = absurd (subst IsNote same note)

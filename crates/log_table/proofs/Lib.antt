@@ -11,11 +11,13 @@ mod Gathered
 mod Gathering
 mod Giving
 mod Growing
+mod Keeping
 mod Lifting
 mod Lists
 mod Looking
 mod Merging
 mod Noting
+mod Owing
 mod Owning
 mod PlanFronts
 mod Planning
@@ -25,6 +27,7 @@ mod Releasing
 mod Renaming
 mod Reserving
 mod Roles
+mod Rows
 mod Showing
 mod Splitting
 mod Starting

@@ -21,7 +21,7 @@ use Rattle.log_table.proofs.Looking.{looks, durable-boundary, part-boundary}
 use Rattle.log_table.proofs.Viewing.{each_set}
 
 -- what stands at a place, put there again, changes nothing
-put-same : (f : ℕ → ℕ) (at n k : ℕ) → f at ≡ n → put f at n k ≡ f k
+pub put-same : (f : ℕ → ℕ) (at n k : ℕ) → f at ≡ n → put f at n k ≡ f k
 put-same f at n k is = by_test (k == at) refl
   where
     by_test : (b : Bool) → (k == at) ≡ b → cond b n (f k) ≡ f k

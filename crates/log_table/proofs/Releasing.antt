@@ -18,9 +18,12 @@ use Rattle.log_table.specs.declared.view.Role.TheVariants.{Flusher, Fresh, Activ
 use Rattle.log_table.specs.declared.view.View.{View}
 use Rattle.log_table.specs.Events.{reservation_of, ring_of, Leads, IsStep}
 use Rattle.log_table.specs.Layout.{Exposed}
-use Rattle.log_table.specs.Log.{Part, Duty, Shared, Owed, Released, Range, Claim, Log, ranges_of, own, owed, owes, is_owed_by, claim_of, part_of, parts_of, unreleased_in, inside, IsFull, Fits, StandsInRing, IsFullIfReleased, IsReleasedBelow, IsReleased, IsOwed, CountsRemaining, Tiles, Laid, AgreesFrom, EndsWithPart, IsRangeBoundary}
+use Rattle.log_table.specs.Log.{Part, Duty, Shared, Owed, Released, Range, Claim, Log, ranges_of, own, owed, owes, is_owed_by, claim_of, part_of, parts_of, unreleased_in, inside, IsFull, SpellsRecord, records_in, StandsInRing, IsFullIfReleased, IsReleasedBelow, IsReleased, IsOwed, CountsRemaining, Tiles, Laid, AgreesFrom, EndsWithPart, IsRangeBoundary}
 use Rattle.log_table.specs.May.{MayRelease}
-use Rattle.log_table.specs.Sound.{HasSeenBoundaries, HasContiguousReservations, SendsIfFlusher, StoresStop, LookedIfQuiet, HasWorkingOwner, HasConstants, RestsUnlessActive, OwnsIfWorker, IsSound}
+use Rattle.log_table.specs.Sound.{HasSeenBoundaries, HasContiguousReservations, SendsIfFlusher, StoresStop, LookedIfQuiet, HasWorkingOwner, HasConstants, RestsUnlessActive, OwnsIfWorker, HoldsIfActive, IsSound, base_of, books_of}
+use Rattle.lock_core.specs.History.{history_from}
+use Rattle.log_table.specs.Accounts.{KeepsAccounts}
+use Rattle.log_table.proofs.Keeping.{accounts-stay, records-mid}
 use Rattle.log_table.specs.Views.{is_active, may_own, entries_in, claims_in, seen_exposed, released}
 use Rattle.log_table.specs.Words.{Words}
 use Rattle.log_table.proofs.Boundaries.{range_size, part_size, boundary-mid}
@@ -214,7 +217,7 @@ module _ (key : Start) (words : Words) (views : List View) (me : ℕ) (v : View)
         });
     contiguous = contiguous;
     filled = record {
-      fits = same-part Fits (λ h. h) s.filled.fits;
+      spelled = same-part SpellsRecord (λ h. record { spellable = h.spellable; size = h.size; rest = h.rest; units = h.units }) s.filled.spelled;
       stands = same-part (StandsInRing key.ring words.durable words.ring) (λ h. h) s.filled.stands;
     };
     below = record {
@@ -250,6 +253,10 @@ module _ (key : Start) (words : Words) (views : List View) (me : ℕ) (v : View)
     quiet = quiet-moves views me v new s.quiet at (λ _ _ _ h. h) (λ _ h. h);
     looked = each_moves (λ _ z. LookedIfQuiet words.exposed z) (λ _ z. LookedIfQuiet to z) views me new s.looked
         (λ f q _. absurd (busy me v at f q)) (λ j z _ there _ f q _. absurd (busy j z there f q));
+    unheld = each_set (λ _ z. HoldsIfActive z) views me new s.unheld (s.unheld me v at);
+    accounts = accounts-stay key words.account after.parts views me v new at refl
+        (subst (λ records. KeepsAccounts (base_of key) words.account (history_from key.start [] records) (map books_of views))
+        (ap records_in last.split ∙ sym (records-mid last.before last.behind old_part part refl)) s.accounts);
   }
 
   abbrev old_state : RingState

@@ -5,6 +5,7 @@ pub mod Events
 pub mod Layout
 pub mod Log
 pub mod May
+pub mod Opening
 pub mod Seats
 pub mod Sends
 pub mod Sound

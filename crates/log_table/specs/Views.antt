@@ -14,7 +14,11 @@ use Rattle.log_table.specs.declared.view.Seen.{Seen}
 use Rattle.log_table.specs.declared.view.Sending.{Sending}
 use Rattle.log_table.specs.declared.view.View.{View}
 use Rattle.log_record.specs.declared.rec.Rec.{Rec}
-use Rattle.log_table.specs.Books.{no_books, next_of}
+use Rattle.slot_word.specs.AccountWord.{balance_in, mark_in}
+use Rattle.txn_script.specs.declared.job.Job.{Job}
+use Rattle.log_table.specs.declared.view.TakenJob.{TakenJob}
+use Rattle.log_table.specs.declared.view.Held.{Held}
+use Rattle.log_table.specs.Books.{no_books, next_of, placing, taking_job, taking, giving, merging}
 use Rattle.log_table.specs.Log.{Claim}
 
 abbrev pub is_active : Role → Bool
@@ -83,6 +87,8 @@ seen_at lsn = record {
   durable_step = 0;
   stop = 0;
   crew = 0;
+  account = 0;
+  account_word = 0;
   lsns = lsn ∷ [];
 }
 
@@ -166,6 +172,38 @@ saw_durable n view = record view { seen = seen_durable n view.seen }
 abbrev pub saw_stop : ℕ → View → View
 saw_stop n view = record view { seen = record view.seen { steps = view.seen.steps + 1; stop = n } }
 
+-- after a load of stop with which the seat takes a job
+abbrev pub took_job : ℕ → Job → ℕ → View → View
+took_job number job n view = record view {
+  seen = record view.seen { steps = view.seen.steps + 1; stop = n };
+  books = taking_job (record { number = number; job = job }) view.books;
+}
+
+-- the account's word was seen
+abbrev pub seen_account : ℕ → ℕ → Seen → Seen
+seen_account account word seen = record seen { steps = seen.steps + 1; account = account; account_word = word }
+
+-- after a load of an account's word
+abbrev pub saw_account : ℕ → ℕ → View → View
+saw_account account word view = record view { seen = seen_account account word view.seen }
+
+-- the account with the values of the word
+abbrev pub held_as : ℕ → ℕ → Held
+held_as account word = record { account = account; balance = balance_in word; mark = mark_in word }
+
+-- after an exchange of an account's word that took the account
+abbrev pub took_account : ℕ → ℕ → View → View
+took_account account word view =
+    record view { seen = seen_account account word view.seen; books = taking (held_as account word) view.books }
+
+-- after an exchange of an account's word that found n
+abbrev pub after_account : ℕ → ℕ → ℕ → View → View
+after_account account from n view = if n == from then took_account account from view else saw_account account n view
+
+-- after a store into an account's word, which gives the account back
+abbrev pub gave_account : ℕ → View → View
+gave_account account view = record view { seen = counted view.seen; books = giving account view.books }
+
 -- every worker known as made is known as enrolled
 abbrev pub knows_all_enrolled : Standing → Bool
 knows_all_enrolled standing = list_all (λ worker. list_any (eqb worker) standing.enrolled) standing.made
@@ -199,10 +237,13 @@ has_sent to view = record view {
 abbrev pub has_stopped : ℕ → View → View
 has_stopped word view = record view { seen = counted view.seen; sending = record view.sending { stop = word } }
 
--- after an exchange of the tail that was made; the new tail counts as seen
+-- after an exchange of the tail that was made; the new tail counts as seen, and the next record of the seat's last job has its place
 abbrev pub reserved : ℕ → ℕ → View → View
-reserved from to view =
-    record view { seen = seen_tail to view.seen; call = Filling (empty_entry from (to - from) (next_of view.books)) }
+reserved from to view = record view {
+  seen = seen_tail to view.seen;
+  call = Filling (empty_entry from (to - from) (next_of view.books));
+  books = placing to (next_of view.books) view.books;
+}
 
 -- after an exchange of the tail that found n
 abbrev pub after_exchange : ℕ → ℕ → ℕ → View → View
@@ -299,4 +340,5 @@ takes_in view other =
       standing = merged_standing view.standing other.standing;
       seen = merged_seen view.seen other.seen;
       entries = merged_entries view.entries other.entries;
+      books = merging view.books other.books;
     }

@@ -50,8 +50,8 @@ pub struct Standing {
     pub merged: LinkedList<u64>,
 }
 
-/// The last value seen in each word, and of the LSNs at which of the seat's steps; every LSN that was
-/// seen, newest first.
+/// The last value seen in each word, and of the LSNs at which of the seat's steps; of the accounts' words
+/// the last one, and whose it was; every LSN that was seen, newest first.
 pub struct Seen {
     pub steps: u64,
     pub tail: u64,
@@ -62,6 +62,8 @@ pub struct Seen {
     pub durable_step: u64,
     pub stop: u64,
     pub crew: u64,
+    pub account: u64,
+    pub account_word: u64,
     pub lsns: LinkedList<u64>,
 }
 

@@ -5,16 +5,16 @@ use Rattle.log_table.proofs.Gathering.{IsClosed, closes}
 use Rattle.log_table.proofs.table.LogTable.close.Goals as goal
 
 pub overflow_cast-exposed : goal.overflow_cast-exposed
-overflow_cast-exposed c = let is : IsClosed c.word-tail.result c.word-exposed.result (view_of c.args.seat) =
+overflow_cast-exposed c = let is : IsClosed _ _ c.word-tail.result c.word-exposed.result (view_of c.args.seat) =
     closes _ _ _ _ _ _ _ c.close_with-closed.ensures.values.2 c.requires.may c.word-tail.ensures c.word-exposed.ensures in
     omega (arith, is.small, is.released)
 
 pub returns-clause-gathered : goal.returns-clause-gathered
-returns-clause-gathered c = let is : IsClosed c.word-tail.result c.word-exposed.result (view_of c.args.seat) =
+returns-clause-gathered c = let is : IsClosed _ _ c.word-tail.result c.word-exposed.result (view_of c.args.seat) =
     closes _ _ _ _ _ _ _ c.close_with-closed.ensures.values.2 c.requires.may c.word-tail.ensures c.word-exposed.ensures in
     subst (λ n. IsGathered n (view_of c.args.seat)) (sym c.new.ensures) is.gathered
 
 pub returns-clause-released : goal.returns-clause-released
-returns-clause-released c = let is : IsClosed c.word-tail.result c.word-exposed.result (view_of c.args.seat) =
+returns-clause-released c = let is : IsClosed _ _ c.word-tail.result c.word-exposed.result (view_of c.args.seat) =
     closes _ _ _ _ _ _ _ c.close_with-closed.ensures.values.2 c.requires.may c.word-tail.ensures c.word-exposed.ensures in
     c.new-2.ensures ∙ (is.released ∙ sym c.new.ensures)
