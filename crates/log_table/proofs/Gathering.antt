@@ -294,7 +294,7 @@ pub record IsClosed (key : Start) (ws : List ℕ) (tail exposed : ℕ) (v : View
   pub gathered : IsGathered tail v
   pub settled : (old rows : List (ℕ × ℕ)) → length old ≡ length key.accounts.rows → ReadsRows key.ring (length old) ws old rows → IsSettled (base_of key) v rows
 
-at-index : (l : List ℕ) (i a : ℕ) → get_elem? l i ≡ some a → get_or l i 0 ≡ a
+pub at-index : (l : List ℕ) (i a : ℕ) → get_elem? l i ≡ some a → get_or l i 0 ≡ a
 at-index [] i a e = absurd (some-ne-none a (sym e))
 at-index (x ∷ xs) zero a e = some-injective x a e
 at-index (x ∷ xs) (suc i) a e = at-index xs i a e

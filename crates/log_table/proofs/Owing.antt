@@ -1,5 +1,5 @@
 -- The steps on an account's word, and the load of stop with which a seat takes a job.
-use Rattle.std.proofs.Common.{◌≡◌, ◌≢◌, ℕ, ◌==◌, ◌+◌, ◌≤◌, ◌<◌, cond, eqb, ◌||◌, ◌^◌, Bool, true, false, true≢false, List, [], ◌∷◌, length, map, set, None, sym, refl, ap, ◌∙◌, subst, arith, eq-eqb, ne_eqb}
+use Rattle.std.proofs.Common.{◌≡◌, ◌≢◌, ℕ, ◌==◌, ◌+◌, ◌≤◌, ◌<◌, cond, eqb, ◌||◌, ◌^◌, Bool, true, false, true≢false, List, [], ◌∷◌, length, map, set, None, Result, Ok, Err, OnOk, IfErr, sym, refl, ap, ◌∙◌, subst, arith, eq-eqb, ne_eqb}
 use Rattle.std.specs.List.{AllByRecursion}
 use Rattle.std.proofs.lemmas.List.{map-set}
 use mathlib.Core.Logic.{dite}
@@ -53,10 +53,10 @@ module _ (key : Start) (words : Words) (account : ℕ → ℕ) (views : List Vie
       (subst (KeepsAccounts (base_of key) account (history_in key log.parts)) (sym (map-set books_of views me new)) accounts)
 
 -- one step more, and no LSN seen
-sees-same : (start tail exposed durable : ℕ) (log : Log) (old new : Seen) → HasSeenBoundaries start tail exposed durable (ranges_of log) old
-    → new.tail ≡ old.tail → new.exposed ≡ old.exposed → new.durable ≡ old.durable → new.lsns ≡ old.lsns
-    → HasSeenBoundaries start tail exposed durable (ranges_of log) new
-sees-same start tail exposed durable log old new s is-tail is-exposed is-durable is-lsns = record {
+sees-same : (start tail exposed durable : ℕ) (log : Log) (old now : Seen) → HasSeenBoundaries start tail exposed durable (ranges_of log) old
+    → now.tail ≡ old.tail → now.exposed ≡ old.exposed → now.durable ≡ old.durable → now.lsns ≡ old.lsns
+    → HasSeenBoundaries start tail exposed durable (ranges_of log) now
+sees-same start tail exposed durable log old now s is-tail is-exposed is-durable is-lsns = record {
   tail_seen = subst (λ n. n ≤ tail) (sym is-tail) s.tail_seen;
   exposed_seen = subst (λ n. n ≤ exposed) (sym is-exposed) s.exposed_seen;
   durable_seen = subst (λ n. n ≤ durable) (sym is-durable) s.durable_seen;
@@ -139,3 +139,12 @@ module _ (key : Start) (me : ℕ) (v : View) where
         (gives (base_of key) words.account (history_in key log.parts) (map books_of views) me v.books (at_map books_of views me v at) s.accounts.holder
         account (word_of word) (held_back word.held word.balance word.mark word-fits.0 word-fits.1 ∙ may.free) may.gives s.accounts);
   }
+
+-- what holds whatever the answer is
+pub on_ok : {A : Type 0} {E : Type 0} (answer : Result A E) (P : Type 0) → P → OnOk answer P
+on_ok (Ok x) P holds = holds
+on_ok (Err e) P holds = tt
+
+pub if_err : {A : Type 0} {E : Type 0} (answer : Result A E) (P : E → Type 0) → ((e : E) → P e) → IfErr answer P
+if_err (Ok x) P holds = tt
+if_err (Err e) P holds = holds e

@@ -30,11 +30,11 @@ fn split_as<N: Number>(table: &LogTable, seat: &mut Seat, worker: u32) -> Seat
 }
 
 /// Puts the accounts' words, each free with its balance and last commit.
-fn put_accounts(words: &mut [u64], start: &Start)
+fn put_accounts(words: &mut Vec<u64>, start: &Start)
     requires ring { (1024 ≤ start.now.ring) × (start.now.ring ≤ 1048576) }
     requires accounts { HasAccounts start.now }
-    requires size { length words.old ≡ word_count start.now.ring (length start.now.accounts.rows) }
-    ensures { PutsAccounts start.now (length start.now.accounts.rows) words.old words.new }
+    requires size { length words.old.items ≡ word_count start.now.ring (length start.now.accounts.rows) }
+    ensures { PutsAccounts start.now (length start.now.accounts.rows) words.old.items words.new.items }
 {
     for account in 0..start.accounts.count() {
         let (balance, mark) = start.accounts.at(account);
@@ -64,7 +64,7 @@ impl LogTable {
         words[TAIL] = lsn;
         words[EXPOSED] = lsn;
         words[DURABLE] = lsn;
-        put_accounts(words.as_mut_slice(), &start);
+        put_accounts(&mut words, &start);
         let Ok((table, base)) = Table::of_words(alloc, words.as_slice(), &start) else {
             return Err(NoMemory);
         };

@@ -1,5 +1,6 @@
-use Rattle.std.proofs.Common.{arith, ◌∙◌, sym, subst}
-use Rattle.log_table.specs.Closing.{IsGathered}
+use Rattle.std.proofs.Common.{arith, length, ◌∙◌, sym, subst}
+use Rattle.std.specs.Slots.{slots_items}
+use Rattle.log_table.specs.Closing.{IsGathered, ReadsRows}
 use Rattle.log_table.specs.Seats.{view_of}
 use Rattle.log_table.proofs.Gathering.{IsClosed, closes}
 use Rattle.log_table.proofs.table.LogTable.close.Goals as goal
@@ -18,3 +19,10 @@ pub returns-clause-released : goal.returns-clause-released
 returns-clause-released c = let is : IsClosed _ _ c.word-tail.result c.word-exposed.result (view_of c.args.seat) =
     closes _ _ _ _ _ _ _ c.close_with-closed.ensures.values.2 c.requires.may c.word-tail.ensures c.word-exposed.ensures in
     c.new-2.ensures ∙ (is.released ∙ sym c.new.ensures)
+
+pub returns-clause-settled : goal.returns-clause-settled
+returns-clause-settled c = let is : IsClosed _ _ c.word-tail.result c.word-exposed.result (view_of c.args.seat) =
+    closes _ _ _ _ _ _ _ c.close_with-closed.ensures.values.2 c.requires.may c.word-tail.ensures c.word-exposed.ensures in
+    is.settled _ _ (c.args.self.rowed ∙ sym c.args.self.counted)
+        (subst (λ ring. ReadsRows ring (length c.args.self.rows.rows) (slots_items c.close_with-closed.result.words) c.args.self.rows.rows c.read_rows.new.rows.rows)
+        (sym c.args.self.keyed) c.read_rows.ensures.rows)
