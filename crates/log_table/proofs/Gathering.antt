@@ -26,17 +26,17 @@ use Rattle.lock_core.specs.Sums.{BaseState, IsBalanceOf, last_commit_of, total}
 use Rattle.log_table.specs.declared.view.Books.{Books}
 use Rattle.log_table.specs.Accounts.{summed, holders, takers, AccountsFollowList}
 use Rattle.log_table.specs.Books.{task_of, times_held, times_taken}
-use Rattle.log_table.specs.Closing.{IsGathered, IsSpelled, IsLedger, IsSettled, ReadsRows, records_of, history_of}
+use Rattle.log_table.specs.Closing.{IsGathered, IsLedger, IsSettled, ReadsRows, records_of, history_of}
 use Rattle.log_table.specs.Layout.{Account, index_of}
 use Rattle.log_table.proofs.Gathered.{gathered}
 use Rattle.atomic_table.proofs.Lists.{at_map}
-use Rattle.log_table.specs.Log.{Part, Range, Log, own, owed, is_owed_by, claim_of, parts_of, ranges_of, Tiles, Laid, IsFull, IsFullIfReleased, IsOwed, AgreesFrom, IsRangeBoundary, IsEntryBoundary, SpellsRecord, records_in}
+use Rattle.log_table.specs.Log.{Part, Range, Log, own, owed, is_owed_by, claim_of, part_of, parts_of, IsSpelled, ranges_of, Tiles, Laid, IsFull, IsFullIfReleased, IsOwed, AgreesFrom, IsRangeBoundary, IsEntryBoundary, SpellsRecord, records_in}
 use Rattle.log_table.specs.Sends.{IsDrained}
 use Rattle.log_table.specs.May.{MayClose}
 use Rattle.log_table.specs.Sound.{HasWorkingOwner, SendsInsertedUnits, IsSound, Ruled, base_of, history_in, books_of}
 use Rattle.log_table.specs.Views.{is_active, is_worker, is_spent, may_own, nobody, entries_in, claims_in}
 use Rattle.log_table.specs.Words.{Words, words_in}
-use Rattle.log_table.proofs.Agreeing.{IsFront, agrees-append, front, front-whole, joined, joined-entries, joined-length}
+use Rattle.log_table.proofs.Agreeing.{IsFront, agrees-append, whole-record, front, front-whole, joined, joined-entries, joined-length}
 use Rattle.log_table.proofs.Boundaries.{part_size, boundary-entries}
 use Rattle.log_table.proofs.Lists.{all-both, all-weaker}
 use Rattle.log_table.proofs.Looking.{part-boundary}
@@ -104,11 +104,7 @@ spelled-entries : (seat : ℕ) (entries : List Entry) → AllByRecursion SpellsR
     → AllByRecursion IsFullIfReleased (parts_of seat true entries) → AllByRecursion IsSpelled entries
 spelled-entries seat [] spells full = tt
 spelled-entries seat (entry ∷ entries) spells full =
-    (by_rest spells.0.rest spells.0.units (full.0 refl ∙ spells.0.size), spelled-entries seat entries spells.1 full.1)
-  where
-    by_rest : (rest : List ℕ) → entry.units ++ rest ≡ spelling entry.rec → length entry.units ≡ length (spelling entry.rec) → IsSpelled entry
-    by_rest [] is whole = record { spellable = spells.0.spellable; units = sym (append-nil entry.units) ∙ is }
-    by_rest (unit ∷ rest) is whole = let count = length-append entry.units (unit ∷ rest) in let all = ap length is in absurd (omega arith)
+    (whole-record (part_of seat true entry) spells.0 (full.0 refl), spelled-entries seat entries spells.1 full.1)
 
 records-entries : (seat : ℕ) (entries : List Entry) → records_in (parts_of seat true entries) ≡ records_of entries
 records-entries seat [] = refl

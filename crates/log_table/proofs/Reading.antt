@@ -69,7 +69,7 @@ module _ (key : Start) (words : Words) (views : List View) (me : ℕ) (v : View)
   whole all = subst (λ n. AreEntries n v.sending.exposed read) (sym sent-is)
       (entries-from key.start words.tail words.durable v.sending.exposed log.parts read s.contiguous.parts
       (part-boundary _ _ _ _ _ log s.contiguous words.durable (durable-boundary _ _ _ _ _ log s.contiguous))
-      (part-boundary _ _ _ _ _ log s.contiguous v.sending.exposed sends.boundary) (omega (arith, all, sent-is)) full sends-more.read_agrees)
+      (part-boundary _ _ _ _ _ log s.contiguous v.sending.exposed sends.boundary) (omega (arith, all, sent-is)) full s.filled.spelled sends-more.read_agrees)
 
   pub ring-reads : Leads key words words views (set views me (has_read unit v)) log None
   ring-reads = let old = s.seen me v at in

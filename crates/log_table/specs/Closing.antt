@@ -4,12 +4,11 @@ use Rattle.std.specs.List.{AllByRecursion}
 use Rattle.lsn_space.specs.Tiling.{IsTiling}
 use Rattle.log_table.specs.declared.view.Entry.{Entry}
 use Rattle.log_table.specs.declared.view.View.{View}
-use Rattle.log_table.specs.Log.{IsFull, IsEntryBoundary, units_in}
+use Rattle.log_table.specs.Log.{IsFull, IsSpelled, IsEntryBoundary, units_in}
 use Rattle.log_table.specs.Sends.{IsDrained}
 use Rattle.slot_word.specs.AccountWord.{balance_in, mark_in}
 use Rattle.log_record.specs.declared.rec.Rec.{Rec}
 use Rattle.log_record.specs.declared.rec.Entry.{Entry as Placed}
-use Rattle.log_record.specs.Spelling.{spelling, IsSpellable}
 use Rattle.lock_core.specs.History.{history_from}
 use Rattle.lock_core.specs.Lawful.{IsLawfulAfter}
 use Rattle.lock_core.specs.Serial.{Task, IsPartlySerialAfter}
@@ -17,11 +16,6 @@ use Rattle.lock_core.specs.Settling.{row, KeepsRows}
 use Rattle.lock_core.specs.Sums.{BaseState}
 use Rattle.log_table.specs.Books.{task_of, times_taken}
 use Rattle.log_table.specs.Layout.{Account, index_of}
-
--- the entry's record is in the log whole
-pub record IsSpelled (entry : Entry) : Type 0 where
-  pub spellable : IsSpellable entry.rec
-  pub units : entry.units ≡ spelling entry.rec
 
 -- The entries are the whole log from the start to this LSN, without gap or overlap, and each is filled. Each LSN that a seat saw lies
 -- between two of them. What was sent to the disk, and then what was read for it, are the log's first units, and all of it where the

@@ -128,6 +128,11 @@ pub record SpellsRecord (part : Part) : Type 0 where
   pub rest : List ℕ
   pub units : part.entry.units ++ rest ≡ spelling part.entry.rec
 
+-- the entry's record is in the log whole
+pub record IsSpelled (entry : Entry) : Type 0 where
+  pub spellable : IsSpellable entry.rec
+  pub units : entry.units ≡ spelling entry.rec
+
 -- the records of the parts
 abbrev pub records_in : List Part → List Rec
 records_in [] = []

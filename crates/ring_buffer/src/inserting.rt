@@ -1,7 +1,9 @@
 //! A whole insert.
-ghost use Rattle.std.specs.Prelude.{◌≡◌, ◌++◌, ◌∷◌, ◌≤◌, [], length, IfOk, IfErr};
+ghost use Rattle.std.specs.Prelude.{◌≡◌, ◌++◌, ◌∷◌, ◌+◌, ◌≤◌, [], length, IfOk, IfErr};
+ghost use Rattle.log_record.specs.Spelling.{spelling};
+ghost use Rattle.log_table.specs.Books.{next_of, placing};
 ghost use Rattle.log_table.specs.Seats.{IsOf, view_of};
-ghost use Rattle.ring_buffer.specs.Calls.{IsReady, HasEntries, IsRefusedNow, entry_of};
+ghost use Rattle.ring_buffer.specs.Calls.{IsReady, MayPlace, HasEntries, IsRefusedNow, entry_of};
 
 use crate::filling::fill;
 use crate::placing::{look, try_place};
@@ -13,8 +15,8 @@ use log_table::{LogTable, Seat};
 use lsn_space::Lsn;
 use std::sync::Wait;
 
-/// Inserts the units behind what other workers have reserved, and answers their LSN once they are
-/// released. It waits for those before it, and reserves again where another was faster.
+/// Inserts the next record of the seat's last job, which has these units, behind what other workers
+/// have reserved, and answers its LSN once it is released. It waits for those before it, and reserves again where another was faster.
 pub fn insert_alone<R: Wait, G: Gate>(
     rt: &R,
     table: &LogTable,
@@ -24,10 +26,11 @@ pub fn insert_alone<R: Wait, G: Gate>(
 ) -> Result<Lsn, Refused>
     requires seat { IsOf table.now seat.old }
     requires ready { IsReady (view_of seat.old) }
-    requires units { 1 ≤ length units.now }
-    ensures inserted { IfOk result (λ at. HasEntries seat.old seat.new ((view_of seat.old).entries ++ entry_of at units.now ∷ [])) }
+    requires next { MayPlace (length units.now) (view_of seat.old).books }
+    requires units { units.now ≡ spelling (next_of (view_of seat.old).books) }
+    ensures inserted { IfOk result (λ at. HasEntries seat.old seat.new ((view_of seat.old).entries ++ entry_of at (next_of (view_of seat.old).books) ∷ []) (placing (at + length units.now) (next_of (view_of seat.old).books) (view_of seat.old).books)) }
     ensures behind { IfOk result (λ at. (view_of seat.old).seen.tail ≤ at) }
-    ensures kept { IfErr result (λ e. HasEntries seat.old seat.new (view_of seat.old).entries) }
+    ensures kept { IfErr result (λ e. HasEntries seat.old seat.new (view_of seat.old).entries (view_of seat.old).books) }
     ensures refused { IfErr result (IsRefusedNow seat.old seat.new table.now.ring (length units.now)) }
 {
     let n = units.as_slice().len() as u32;
