@@ -1,4 +1,5 @@
 use Rattle.std.proofs.Common.{arith, ◌≡◌, ◌≤◌, ◌∙◌, ℕ, List, take, length, get_or, ap, sym, length-take-le}
+use Rattle.log_record.specs.Spelling.{spelling}
 use Rattle.log_table.specs.declared.view.Entry.{Entry}
 use Rattle.ring_buffer.specs.Calls.{filled_with}
 use Rattle.ring_buffer.proofs.filling.fill.Goals as goal
@@ -16,5 +17,5 @@ store_ring-requires-clause-next c =
       filling = ap (λ m. m.0.call) invariant.me ∙ ap (filled_with (take c.loop-i.i list)) range.call;
       next = omega (arith, len, c.new-at.ensures, c.units.ensures, c.start.ensures);
       unfilled = omega (arith, len, whole, range.size, ap length range.units_are);
-      unit_is = ?;
+      unit_is = ap (λ l. get_or l c.loop-i.i 0) (c.as_slice-list.ensures.units ∙ range.units_are) ∙ ap (λ n. get_or (spelling range.rec) n 0) (sym len);
     }

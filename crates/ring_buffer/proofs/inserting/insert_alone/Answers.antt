@@ -1,0 +1,15 @@
+use Rattle.std.proofs.Common.{rules, arith, ◌≡◌, ◌+◌, ◌-◌, ◌∙◌, ℕ, length, ap, sym}
+use Rattle.log_table.specs.Books.{next_of}
+use Rattle.log_table.specs.Seats.{Becomes, view_of}
+use Rattle.log_table.specs.Views.{reserved}
+use Rattle.ring_buffer.specs.Calls.{filled_with}
+use Rattle.ring_buffer.proofs.inserting.insert_alone.Goals as goal
+
+pub finish_in_turn-requires-clause-filled : goal.finish_in_turn-requires-clause-filled
+finish_in_turn-requires-clause-filled g c =
+    let n : ℕ = length c.as_slice.result.now in
+    let tail : ℕ = c.look-seen.result.tail in
+    let start : c.in-Some-2.range.start ≡ tail = search rules in
+    let size : c.in-Some-2.range.size ≡ n = search rules in
+    let placed : Becomes c.look-seen.new.seat c.try_place.new.seat (reserved tail (tail + n) (view_of c.look-seen.new.seat)) = search rules in
+    let range-is : c.fill-filled.result.range ≡ c.in-Some-2.range = c.fill-filled.ensures.range in ?
