@@ -16,6 +16,7 @@ mod Lifting
 mod Lists
 mod Looking
 mod Merging
+pub mod Nexting
 mod Noting
 mod Owing
 mod Owning
