@@ -35,7 +35,6 @@ use Rattle.log_table.proofs.Bookings.{everywhere-set, summed-set, found, balance
 use Rattle.log_table.proofs.Growing.{IsSameAt, grows}
 use Rattle.log_table.proofs.Lists.{all-weaker, all-both}
 use Rattle.log_table.proofs.Taking.{LastIsOne, distinct-before}
-use Rattle.std.proofs.lemmas.List.Elements.{recursion_from_All}
 use Rattle.lsn_space.specs.declared.lsn.TheConstants.{LAST}
 use Rattle.slot_word.specs.AccountWord.{mark_in}
 use Rattle.log_table.proofs.PlanFronts.{IsPlanned, IsSmallLeg, next-planned}
@@ -316,7 +315,7 @@ module _ (base : BaseState) (words : ℕ → ℕ) (all : List Books) (me : ℕ) 
     allowed = (holder.last me mine at some_job).0
 
     legs-allowed : AllByRecursion (IsAllowedLeg base.accounts) mine.last.job.legs
-    legs-allowed = recursion_from_All (IsAllowedLeg base.accounts) mine.last.job.legs allowed.job.legs.each
+    legs-allowed = allowed.job.legs.each
 
     amounts : AllByRecursion (λ (leg : ℕ × ℕ × ℕ). (leg.0 ≢ leg.1) × (1 ≤ leg.2)) mine.last.job.legs
     amounts = all-weaker (IsAllowedLeg base.accounts) (λ (leg : ℕ × ℕ × ℕ). (leg.0 ≢ leg.1) × (1 ≤ leg.2)) mine.last.job.legs
