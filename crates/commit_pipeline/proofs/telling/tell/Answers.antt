@@ -5,24 +5,6 @@ use Rattle.log_record.specs.Spelling.{BeginsWith}
 use Rattle.commit_pipeline.proofs.ToldLemmas.{window-within, ends-few, count_said-few, told-begins, told-more, told-cut, told-all}
 use Rattle.commit_pipeline.proofs.telling.tell.Goals as goal
 
-pub records-preserved-in_default : goal.records-preserved-in_default
-records-preserved-in_default g c = record {
-  same = refl;
-  within = omega (arith, c.records-test.true, c.count.ensures);
-  lines_few = omega (arith, c.records.invariant.lines_few);
-  few = omega (arith, c.records.invariant.few);
-  told = (
-    c.records.invariant.told.0,
-    c.records.invariant.told.1,
-    λ records spells.
-        absurd (told-begins c.args.voice c.args.from c.records.at c.args.batch.now.units _ _ _ _ records
-        (c.records.invariant.told.2 records spells) spells.spellable
-        (omega (arith, c.records-test.true, c.count.ensures))
-        (λ rec begins. c.in_default.ensures.bad rec (subst (λ us. BeginsWith us rec) (sym (c.as_slice.ensures.units ∙ c.window.ensures)) begins))),
-  );
-  later = c.records.invariant.later;
-}
-
 pub overflow_add-at-in-records : goal.overflow_add-at-in-records
 overflow_add-at-in-records g c =
     let begins = subst (λ us. BeginsWith us c.in-Ok.rec) (c.as_slice.ensures.units ∙ c.window.ensures) c.in-Ok.ensures.found.0 in
