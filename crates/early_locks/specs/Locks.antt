@@ -9,13 +9,13 @@ use Rattle.log_table.specs.declared.table.Seat.{Seat}
 use Rattle.log_table.specs.declared.view.Books.{Books}
 use Rattle.log_table.specs.declared.view.View.{View}
 use Rattle.log_table.specs.Accounts.{moved_if_committed, commit_in}
-use Rattle.log_table.specs.Books.{times_held, balance_taken, mark_taken}
+use Rattle.log_table.specs.Books.{times_held, balance_taken, mark_taken, taking}
 use Rattle.log_table.specs.Seats.{Becomes, view_of}
 use Rattle.log_table.specs.Views.{saw_account, took_account}
 use Rattle.early_locks.specs.declared.taking.Taken.{Taken}
 use Rattle.early_locks.specs.declared.taking.Held.{Held}
 
--- the seat loaded the free word of the account and took it with these values
+-- the seat loaded the free word of the account and took it with these values, in two steps
 pub record HasTaken (old new : Seat) (account : ℕ) (taken : Taken) : Type 0 where
   pub account_is : taken.account ≡ account
   pub word : AccountWord
@@ -23,6 +23,7 @@ pub record HasTaken (old new : Seat) (account : ℕ) (taken : Taken) : Type 0 wh
   pub balance : taken.balance ≡ word.balance
   pub mark : taken.mark ≡ word.mark
   pub becomes : Becomes old new (took_account account (word_of word) (saw_account account (word_of word) (view_of old)))
+  pub books : (view_of new).books ≡ taking (record { account = account; balance = taken.balance; mark = taken.mark }) (view_of old).books
 
 -- The seat loaded the account's word; where that was held, it was found so, and else its exchange found another word. It made no other
 -- step.
