@@ -4,3 +4,4 @@ pub mod RanLemmas
 pub mod RanTurns
 pub mod ToldLemmas
 pub mod TurnLemmas
+pub mod Transferring
