@@ -180,7 +180,7 @@ fn transfer<R: Wait + Abort>(rt: &R, table: &LogTable, seat: &mut Seat, number: 
     table.take_job(seat, number, &transfer_job());
     let payer = take(rt, table, seat, 0);
     let payee = take(rt, table, seat, 1);
-    if payer.balance < 30 || payee.balance > 2_147_483_617 {
+    if payer.balance < 30 || payer.balance > 2_147_483_647 || payee.balance > 2_147_483_617 {
         panic!(rt; "the balances do not allow the transfer");
     }
     let (less, more) = (payer.balance - 30, payee.balance + 30);
