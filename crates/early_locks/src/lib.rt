@@ -4,8 +4,6 @@
 
 mod giving;
 mod taking;
-#[cfg(test)]
-mod tests;
 
 pub use giving::{give, give_durable};
 pub use taking::{Held, Taken, try_take};
