@@ -4,6 +4,8 @@
 
 mod giving;
 mod taking;
+#[cfg(test)]
+mod tests;
 
 pub use giving::{give, give_durable};
 pub use taking::{Held, Taken, try_take};
