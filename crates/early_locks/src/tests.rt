@@ -114,8 +114,28 @@ fn transfer<R: Wait>(rt: &R, table: &LogTable, seat: &mut Seat) -> Option<()>
     }
     let (less, more) = (first.balance - 30, second.balance + 30);
     let (prev, prev_too) = (Lsn::new(first.mark), Lsn::new(second.mark));
-    put(rt, table, seat, &Rec::Update { txn: 1, account: 0, delta: -30, prev })?;
-    put(rt, table, seat, &Rec::Update { txn: 1, account: 1, delta: 30, prev: prev_too })?;
+    put(
+        rt,
+        table,
+        seat,
+        &Rec::Update {
+            txn: 1,
+            account: 0,
+            delta: -30,
+            prev,
+        },
+    )?;
+    put(
+        rt,
+        table,
+        seat,
+        &Rec::Update {
+            txn: 1,
+            account: 1,
+            delta: 30,
+            prev: prev_too,
+        },
+    )?;
     let end = put(rt, table, seat, &Rec::Commit { txn: 1, legs: 1 })?;
     give(table, seat, first, less, end.units());
     give(table, seat, second, more, end.units());

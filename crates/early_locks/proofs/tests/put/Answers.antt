@@ -18,6 +18,6 @@ insert_alone-requires-clause-units g c = c.spell-units.ensures.units ∙ sym (ap
 pub returns-clause-books : goal.returns-clause-books
 returns-clause-books g c =
     let books : (view_of c.insert_alone.new.seat).books
-        ≡ placing (c.in_ok-at.at + length c.spell-units.result) (next_of (view_of c.args.seat.now).books) (view_of c.args.seat.now).books = search rules in
+    ≡ placing (c.in_ok-at.at + length c.spell-units.result) (next_of (view_of c.args.seat.now).books) (view_of c.args.seat.now).books = search rules in
     let size : length c.as_slice.result.now ≡ length c.spell-units.result = search rules in
     placed-at _ _ _ _ _ _ (next-is _ _ c.requires.next.next) books (ap (λ n. c.in_ok-at.at + n) size) c.plus.ensures.sum
