@@ -1,5 +1,5 @@
 //! One transfer made by hand: its job, its accounts, its records, and its accounts back.
-ghost use Rattle.std.specs.Prelude.{◌≡◌, [], IfOk, IfSome, length};
+ghost use Rattle.std.specs.Prelude.{◌≡◌, ℕ, [], IfOk, IfSome, length};
 ghost use Rattle.log_record.specs.Spelling.{spelling};
 ghost use Rattle.log_table.specs.declared.view.Role.TheVariants.{Flusher};
 ghost use Rattle.log_table.specs.Books.{placing, no_books};
@@ -7,9 +7,10 @@ ghost use Rattle.log_table.specs.May.{MaySplit};
 ghost use Rattle.log_table.specs.Seats.{IsOf, view_of};
 ghost use Rattle.log_table.specs.Views.{hires, hired, enrolled, flusher};
 ghost use Rattle.ring_buffer.specs.Calls.{IsReady};
-ghost use Rattle.early_locks.specs.Transfers.{MayPut};
+ghost use Rattle.early_locks.specs.Transfers.{MayPut, transfer_books};
 
-use crate::{give, try_take};
+use crate::{Taken, give, try_take};
+use lock_core::MOST_BALANCE;
 use log_disk::OpenGate;
 use log_record::{Rec, spell};
 use log_table::{LogTable, Seat, Start};
@@ -69,6 +70,33 @@ fn put<R: Wait>(rt: &R, table: &LogTable, seat: &mut Seat, rec: &Rec) -> Option<
     at.plus(units.as_slice().len() as u32)
 }
 
+/// Both accounts of the transfer.
+#[derive(Drop)]
+struct Both {
+    first: Taken,
+    second: Taken,
+}
+
+/// Takes the transfer, and both accounts of it. None: one was held.
+fn take_both(table: &LogTable, seat: &mut Seat) -> Option<Both>
+    requires seat { IsOf table.now seat.old }
+    requires accounts { table.now.accounts ≡ 2 }
+    requires ready { IsReady (view_of seat.old) }
+    requires fresh { (view_of seat.old).books ≡ no_books }
+    ensures seat { IsOf table.now seat.new }
+    ensures standing { (view_of seat.new).standing ≡ (view_of seat.old).standing }
+    ensures ready { IsReady (view_of seat.new) }
+    ensures accounts { IfSome result (λ both. (both.first.account ≡ 0) × (both.second.account ≡ 1)) }
+    ensures books { IfSome result (λ both. (view_of seat.new).books ≡ transfer_books both.first.balance both.first.mark both.second.balance both.second.mark []) }
+{
+    let mut legs = Legs::new();
+    legs.push((0, 1, 30));
+    table.take_job(seat, 1, &Job { legs, note: None });
+    let first = try_take(table, seat, 0).ok()?;
+    let second = try_take(table, seat, 1).ok()?;
+    Some(Both { first, second })
+}
+
 /// The whole transfer. None: an account was held, or there was no room.
 fn transfer<R: Wait>(rt: &R, table: &LogTable, seat: &mut Seat) -> Option<()>
     requires seat { IsOf table.now seat.old }
@@ -77,21 +105,37 @@ fn transfer<R: Wait>(rt: &R, table: &LogTable, seat: &mut Seat) -> Option<()>
     requires fresh { (view_of seat.old).books ≡ no_books }
     ensures seat { IsOf table.now seat.new }
     ensures standing { (view_of seat.new).standing ≡ (view_of seat.old).standing }
-    ensures ready { IfSome result (λ done. IsReady (view_of seat.new)) }
+    ensures ready { IsReady (view_of seat.new) }
     ensures none_held { IfSome result (λ done. (view_of seat.new).books.held ≡ []) }
 {
-    let mut legs = Legs::new();
-    legs.push((0, 1, 30));
-    table.take_job(seat, 1, &Job { legs, note: None });
-    let first = try_take(table, seat, 0).ok()?;
-    let second = try_take(table, seat, 1).ok()?;
-    if first.balance < 30 || second.balance > 2_147_483_617 {
+    let Both { first, second } = take_both(table, seat)?;
+    if first.balance < 30 || first.balance > MOST_BALANCE || second.balance > MOST_BALANCE - 30 {
         return None;
     }
     let (less, more) = (first.balance - 30, second.balance + 30);
     let (prev, prev_too) = (Lsn::new(first.mark), Lsn::new(second.mark));
-    put(rt, table, seat, &Rec::Update { txn: 1, account: 0, delta: -30, prev })?;
-    put(rt, table, seat, &Rec::Update { txn: 1, account: 1, delta: 30, prev: prev_too })?;
+    put(
+        rt,
+        table,
+        seat,
+        &Rec::Update {
+            txn: 1,
+            account: 0,
+            delta: -30,
+            prev,
+        },
+    )?;
+    put(
+        rt,
+        table,
+        seat,
+        &Rec::Update {
+            txn: 1,
+            account: 1,
+            delta: 30,
+            prev: prev_too,
+        },
+    )?;
     let end = put(rt, table, seat, &Rec::Commit { txn: 1, legs: 1 })?;
     give(table, seat, first, less, end.units());
     give(table, seat, second, more, end.units());

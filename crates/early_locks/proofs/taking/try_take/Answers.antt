@@ -13,7 +13,7 @@ returns-in-Ok-clause-taken c =
     let small : loaded.balance < 2 ^ 31 = loaded.fits in
     let short : loaded.mark < 2 ^ 32 = search rules in
     let becomes : Becomes c.args.seat.now c.exchange_account.new.seat
-        (took_account c.args.account (word_of loaded) (saw_account c.args.account (word_of loaded) (view_of c.args.seat.now))) = search rules in record {
+    (took_account c.args.account (word_of loaded) (saw_account c.args.account (word_of loaded) (view_of c.args.seat.now))) = search rules in record {
       account_is = search rules;
       word = loaded;
       free = search rules;
