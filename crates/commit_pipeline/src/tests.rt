@@ -1,24 +1,32 @@
 //! A transfer that a worker inserts and a daemon reports, with faults of the disk and of the sink.
-ghost use Rattle.std.specs.Prelude.{◌≡◌, ◌≤◌, [], length, true, IfOk, IfSome, OnOk, Contains};
+ghost use Rattle.std.specs.Prelude.{◌≡◌, ◌≤◌, ◌<◌, [], ◌∷◌, length, true, IfOk, IfSome, OnOk, Contains};
 ghost use Rattle.log_disk.specs.Disk.{IsSettled};
 ghost use Rattle.log_disk.specs.MemoryDisks.{ImagesOf};
 ghost use Rattle.log_table.specs.declared.view.Role.TheVariants.{Flusher as FlusherRole};
 ghost use Rattle.log_table.specs.Seats.{IsOf, view_of};
 ghost use Rattle.log_table.specs.Views.{knows_all_enrolled, sent_to};
+ghost use Rattle.log_table.specs.Books.{taking, placing};
+ghost use Rattle.log_table.specs.May.{HasBegunNothing};
 ghost use Rattle.ring_buffer.specs.Calls.{IsReady};
+ghost use Rattle.ring_buffer.specs.NotedJobs.{IsFreeFor};
+ghost use Rattle.early_locks.specs.Transfers.{MayPut};
+ghost use Rattle.commit_pipeline.specs.Transfers.{transfer_job, transfer_of, held_as_taken};
 ghost use Rattle.commit_pipeline.specs.Turning.{MayTurn};
 
 use crate::{Daemon, DaemonFault, Turn, Voice};
 use flusher::{Drained, Flusher};
 use log_disk::{LogDisk, MemoryDisk, MemorySink, OpenGate};
-use log_record::Units;
+use early_locks::{Taken, give, try_take};
+use log_record::{Rec, spell};
 use log_table::{LogTable, Seat, Start};
 use lsn_space::{Balances, Lsn, NoMemory};
-use ring_buffer::{Refused, insert_alone};
+use ring_buffer::insert_alone;
 use segment_file::{Batch, create};
 use std::alloc::Global;
+use std::process::Abort;
 use std::sync::Wait;
 use std::test::Fail;
+use txn_script::{Job, Legs};
 
 /// Two accounts of balances 100 and 0.
 const ACCOUNTS: [u64; 4] = [0x0102_0000_0000_0000, 100, 0x0102_0001_0000_0000, 0];
@@ -48,8 +56,11 @@ fn table_from_4(alloc: Global) -> Result<(LogTable, Seat), NoMemory>
     ensures enrolled { IfOk result (λ made. (view_of made.1).standing.enrolled ≡ []) }
     ensures merged { IfOk result (λ made. (view_of made.1).standing.merged ≡ []) }
     ensures ring { IfOk result (λ made. made.0.ring ≡ 1024) }
+    ensures accounts { IfOk result (λ made. made.0.accounts ≡ 2) }
 {
-    let accounts = Balances::make(alloc, 0)?;
+    let mut accounts = Balances::make(alloc, 2)?;
+    accounts.push(100, 0);
+    accounts.push(0, 0);
     LogTable::make(
         alloc,
         Start {
@@ -79,6 +90,7 @@ fn worker(table: &LogTable, boss: &mut Seat) -> Seat
     ensures told { knows_all_enrolled (view_of boss.new).standing ≡ true }
     ensures seat { IsOf table.now result }
     ensures ready { IsReady (view_of result) }
+    ensures free { IsFreeFor 1 (view_of result) }
 {
     let mut seat = table.split(boss, 0);
     table.enroll(&mut seat);
@@ -98,56 +110,99 @@ fn accounts(alloc: Global) -> Result<Batch, NoMemory>
     Ok(batch)
 }
 
-/// The units, of which there are one or two.
-fn units_of(record: &[u64]) -> Units
-    requires { (1 ≤ length record.now) × (length record.now ≤ 26) }
-    ensures { result ≡ record.now }
+/// The transfer of 30 from account 0 to account 1.
+fn transfer_job() -> Job
+    ensures { result ≡ transfer_job }
 {
-    let mut units = Units::new();
-    for i in 0..record.len() {
-        units.push(record[i]);
+    let mut legs = Legs::new();
+    legs.push((0, 1, 30));
+    Job { legs, note: None }
+}
+
+/// Takes the account, and waits for a worker that holds it.
+fn take<R: Wait>(rt: &R, table: &LogTable, seat: &mut Seat, account: u32) -> Taken
+    requires seat { IsOf table.now seat.old }
+    requires account { account < table.now.accounts }
+    requires ready { IsReady (view_of seat.old) }
+    requires begins { HasBegunNothing (view_of seat.old) }
+    ensures seat { IsOf table.now seat.new }
+    ensures ready { IsReady (view_of seat.new) }
+    ensures standing { (view_of seat.new).standing ≡ (view_of seat.old).standing }
+    ensures account { result.account ≡ account }
+    ensures books { (view_of seat.new).books ≡ taking (held_as_taken account result) (view_of seat.old).books }
+{
+    for _ in rt.forever() {
+        match try_take(table, seat, account) {
+            Ok(taken) => return taken,
+            Err(_) => {}
+        }
     }
-    units
+    unreachable!()
 }
 
-fn insert<R: Wait>(
-    rt: &R,
-    table: &LogTable,
-    seat: &mut Seat,
-    record: &[u64],
-) -> Result<Lsn, Refused>
+/// Inserts the record, and waits for room; answers where it starts and ends.
+fn put<R: Wait + Abort>(rt: &R, table: &LogTable, seat: &mut Seat, rec: &Rec) -> (Lsn, Lsn)
     requires seat { IsOf table.now seat.old }
     requires ready { IsReady (view_of seat.old) }
-    requires units { (1 ≤ length record.now) × (length record.now ≤ 26) }
+    requires next { MayPut rec.now (view_of seat.old).books }
     ensures seat { IsOf table.now seat.new }
     ensures ready { IsReady (view_of seat.new) }
+    ensures standing { (view_of seat.new).standing ≡ (view_of seat.old).standing }
+    ensures books { (view_of seat.new).books ≡ placing result.1 rec.now (view_of seat.old).books }
 {
-    insert_alone(rt, table, seat, &units_of(record), &OpenGate)
+    let units = spell(rec);
+    for _ in rt.forever() {
+        match insert_alone(rt, table, seat, &units, &OpenGate) {
+            Ok(at) => {
+                let Some(end) = at.plus(units.as_slice().len() as u32) else {
+                    panic!(rt; "no record ends behind the last LSN");
+                };
+                return (at, end);
+            }
+            Err(_) => {}
+        }
+    }
+    unreachable!()
 }
 
-/// Inserts the three records of the transfer, and answers their LSNs.
-fn transfer<R: Wait>(rt: &R, table: &LogTable, seat: &mut Seat) -> [Option<Lsn>; 3]
+/// Makes the transfer under this number, and answers where its three records start.
+fn transfer<R: Wait + Abort>(rt: &R, table: &LogTable, seat: &mut Seat, number: u32) -> [Lsn; 3]
     requires seat { IsOf table.now seat.old }
+    requires accounts { table.now.accounts ≡ 2 }
     requires ready { IsReady (view_of seat.old) }
+    requires free { IsFreeFor number (view_of seat.old) }
     ensures seat { IsOf table.now seat.new }
     ensures ready { IsReady (view_of seat.new) }
+    ensures standing { (view_of seat.new).standing ≡ (view_of seat.old).standing }
+    ensures none_held { (view_of seat.new).books.held ≡ [] }
+    ensures jobs { (view_of seat.new).books.jobs ≡ transfer_of number ∷ (view_of seat.old).books.jobs }
 {
-    let takes = insert(
-        rt,
-        table,
-        seat,
-        &[0x0202_0000_0000_0001, 0xffff_ffe2_0000_0000],
-    )
-    .ok();
-    let adds = insert(
-        rt,
-        table,
-        seat,
-        &[0x0202_0001_0000_0001, 0x0000_001e_0000_0000],
-    )
-    .ok();
-    let ends = insert(rt, table, seat, &[0x0301_0001_0000_0001]).ok();
-    [takes, adds, ends]
+    table.take_job(seat, number, &transfer_job());
+    let payer = take(rt, table, seat, 0);
+    let payee = take(rt, table, seat, 1);
+    if payer.balance < 30 || payer.balance > 2_147_483_647 || payee.balance > 2_147_483_617 {
+        panic!(rt; "the balances do not allow the transfer");
+    }
+    let (less, more) = (payer.balance - 30, payee.balance + 30);
+    let (txn, prev, prev_too) = (number, Lsn::new(payer.mark), Lsn::new(payee.mark));
+    let loss = Rec::Update {
+        txn,
+        account: 0,
+        delta: -30,
+        prev,
+    };
+    let gain = Rec::Update {
+        txn,
+        account: 1,
+        delta: 30,
+        prev: prev_too,
+    };
+    let first = put(rt, table, seat, &loss);
+    let second = put(rt, table, seat, &gain);
+    let third = put(rt, table, seat, &Rec::Commit { txn, legs: 1 });
+    give(table, seat, payer, less, third.1.units());
+    give(table, seat, payee, more, third.1.units());
+    [first.0, second.0, third.0]
 }
 
 /// A daemon over an empty disk, on which the log of the two accounts is made.
@@ -206,7 +261,7 @@ fn turn(daemon: &mut Daemon<MemoryDisk, MemorySink>) -> Result<Turn, DaemonFault
 }
 
 /// What a daemon answers while a worker that inserted a transfer is active, and once it has ended.
-fn report_one<R: Wait>(
+fn report_one<R: Wait + Abort>(
     rt: &R,
     alloc: Global,
     disk: &mut MemoryDisk,
@@ -217,7 +272,7 @@ fn report_one<R: Wait>(
     let (table, mut boss) = table_from_4(alloc).ok()?;
     let mut seat = worker(&table, &mut boss);
     let mut daemon = daemon_on(alloc, &table, boss, disk, sink, Voice::Lines)?;
-    transfer(rt, &table, &mut seat);
+    transfer(rt, &table, &mut seat, 1);
     let active = ask(&mut daemon);
     let sent = turn(&mut daemon).ok()?;
     table.leave(&mut seat);
@@ -243,13 +298,13 @@ fn one_transfer(rt: HostRuntime) -> Result<(), Fail> {
 fn inserts_answer_their_lsns(rt: HostRuntime) -> Result<(), Fail> {
     let (table, mut boss) = table_from_4(rt.alloc())?;
     let mut seat = worker(&table, &mut boss);
-    let starts = [Some(Lsn::new(4)), Some(Lsn::new(6)), Some(Lsn::new(8))];
-    assert_eq!(rt; transfer(&rt, &table, &mut seat), starts);
+    let starts = [Lsn::new(4), Lsn::new(6), Lsn::new(8)];
+    assert_eq!(rt; transfer(&rt, &table, &mut seat, 1), starts);
     Ok(())
 }
 
 /// What a daemon that only counts answers once the worker has ended, before any turn and at the end, and what it counted.
-fn count_one<R: Wait>(
+fn count_one<R: Wait + Abort>(
     rt: &R,
     alloc: Global,
     disk: &mut MemoryDisk,
@@ -260,7 +315,7 @@ fn count_one<R: Wait>(
     let (table, mut boss) = table_from_4(alloc).ok()?;
     let mut seat = worker(&table, &mut boss);
     let mut daemon = daemon_on(alloc, &table, boss, disk, sink, Voice::Count)?;
-    transfer(rt, &table, &mut seat);
+    transfer(rt, &table, &mut seat, 1);
     table.leave(&mut seat);
     let behind = ask(&mut daemon);
     let end = daemon.run_until_drained(rt).ok()?;
@@ -284,7 +339,7 @@ fn behind_until_sent(rt: HostRuntime) -> Result<(), Fail> {
 
 /// The stop word that a worker reads after one turn, and what the turn answers, where these calls of the disk and of the
 /// sink fail.
-fn faulty_turn<R: Wait>(
+fn faulty_turn<R: Wait + Abort>(
     rt: &R,
     alloc: Global,
     disk_failing: &[u64],
@@ -297,7 +352,7 @@ fn faulty_turn<R: Wait>(
     let Some(mut daemon) = daemon_on(alloc, &table, boss, &mut disk, &mut sink, Voice::Lines) else {
         return Err(NoMemory);
     };
-    transfer(rt, &table, &mut seat);
+    transfer(rt, &table, &mut seat, 1);
     let answer = turn(&mut daemon);
     Ok((answer, table.load_stop(&mut seat)))
 }

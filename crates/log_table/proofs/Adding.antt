@@ -1,14 +1,19 @@
 -- A seat is added that owns nothing and has nothing under way.
-use Rattle.std.proofs.Common.{◌≡◌, ℕ, zero, suc, List, [], ◌∷◌, ◌++◌, length, get_or, refl, sym, ap, ◌∙◌, subst}
+use Rattle.std.proofs.Common.{◌≡◌, ℕ, zero, suc, List, [], ◌∷◌, ◌++◌, map, length, get_or, refl, sym, ap, ◌∙◌, subst}
 use Rattle.log_table.specs.declared.table.Start.{Start}
 use Rattle.log_table.specs.declared.view.Call.TheVariants.{Idle}
 use Rattle.log_table.specs.declared.view.Role.TheVariants.{Flusher}
 use Rattle.log_table.specs.declared.view.View.{View}
 use Rattle.log_table.specs.Log.{Log, ranges_of, parts_of}
-use Rattle.log_table.specs.Sound.{EachPair, HasSeenBoundaries, SendsIfFlusher, StoresStop, RestsIfQuiet, LookedIfQuiet, HasWorkingOwner, HasConstants, RestsUnlessActive, OwnsIfWorker, HasSoundCrew, IsSound}
+use Rattle.log_table.specs.Sound.{EachPair, HasSeenBoundaries, SendsIfFlusher, StoresStop, RestsIfQuiet, LookedIfQuiet, HasWorkingOwner, HasConstants, RestsUnlessActive, OwnsIfWorker, HoldsIfActive, HasSoundCrew, IsSound, base_of, history_in, books_of}
+use Rattle.log_table.specs.declared.view.Books.{Books}
+use Rattle.log_table.specs.Accounts.{KeepsAccounts}
+use Rattle.log_table.specs.Books.{no_books}
 use Rattle.log_table.specs.Views.{nobody, entries_in, claims_in}
 use Rattle.log_table.specs.Words.{Words}
+use Rattle.log_table.proofs.Gathered.{adds-nobody}
 use Rattle.log_table.proofs.Viewing.{each_push}
+use Rattle.std.proofs.lemmas.List.{map-append}
 
 -- a seat that was not made counts as nobody's, before and after one like it is made
 nobody-more : (views : List View) (new : View) (P : ℕ → View → Type 0) (j : ℕ) → P (length views) new → P j (get_or views j nobody)
@@ -25,7 +30,8 @@ nobody-there (x ∷ xs) = nobody-there xs
 module _ (key : Start) (words : Words) (views : List View) (log : Log) (s : IsSound key words views log) (new : View) (entries : new.entries ≡ [])
     (call : new.call ≡ Idle) (not-flusher : new.standing.role ≡ Flusher → ⊥)
     (sees : HasSeenBoundaries key.start words.tail words.exposed words.durable (ranges_of log) new.seen) (constants : HasConstants key new)
-    (roles : HasSoundCrew words.crew (views ++ new ∷ [])) (quiet : EachPair (λ _ y _ z. RestsIfQuiet y z) (views ++ new ∷ [])) where
+    (roles : HasSoundCrew words.crew (views ++ new ∷ [])) (quiet : EachPair (λ _ y _ z. RestsIfQuiet y z) (views ++ new ∷ []))
+    (books : new.books ≡ no_books) where
   pub adds : IsSound key words (views ++ new ∷ []) log
   adds = record {
     ordered = s.ordered;
@@ -52,4 +58,8 @@ module _ (key : Start) (words : Words) (views : List View) (log : Log) (s : IsSo
     quiet = quiet;
     looked = each_push (λ _ z. LookedIfQuiet words.exposed z) (λ _ z. LookedIfQuiet words.exposed z) views new s.looked
         (λ f. absurd (not-flusher f)) (λ _ _ _ p. p);
+    unheld = each_push (λ _ z. HoldsIfActive z) (λ _ z. HoldsIfActive z) views new s.unheld ((λ _. ap (λ (b : Books). b.held) books), (λ _. ap (λ (b : Books). b.jobs) books)) (λ _ _ _ p. p);
+    accounts = subst (KeepsAccounts (base_of key) words.account (history_in key log.parts))
+        (sym (map-append books_of views (new ∷ []) ∙ ap (λ b. map books_of views ++ b ∷ []) books))
+        (adds-nobody (base_of key) words.account (history_in key log.parts) (map books_of views) s.accounts);
   }

@@ -16,6 +16,7 @@ use Rattle.log_table.specs.Sends.{IsExposedToFlusher, IsDurableToFlusher}
 use Rattle.log_table.specs.Sound.{EachView, HasSeenBoundaries, HasContiguousReservations, SendsIfFlusher, StoresStop, RestsIfQuiet, LookedIfQuiet, IsSound}
 use Rattle.log_table.specs.Views.{is_spent, seen_tail, seen_exposed, seen_durable, saw_tail, saw_exposed, saw_durable, saw_stop}
 use Rattle.log_table.specs.Words.{Words}
+use Rattle.log_table.proofs.Keeping.{accounts-stay}
 use Rattle.log_table.proofs.Lifting.{Tells}
 use Rattle.log_table.proofs.Roles.{crew-same, quiet-moves, restands}
 use Rattle.log_table.proofs.Boundaries.{range_size, part_size, boundary-start, boundary-aligned, boundary-append, boundary-end, boundary-behind}
@@ -53,10 +54,11 @@ pub looks : (key : Start) (words : Words) (stop : ℕ) (views : List View) (me :
     → LookedIfQuiet words.exposed (record v { seen = seen; sending = sending })
     → Leads key words (record words { stop = stop }) views (set views me (record v { seen = seen; sending = sending })) log None
 looks key words stop views me v log seen sending s at sees sends stops quiet looked =
-    restands key words stop words.crew views me v (record v { seen = seen; sending = sending }) log s at refl refl sees (s.constants me v at)
+    restands key words stop words.crew words.account views me v (record v { seen = seen; sending = sending }) log s at refl refl sees (s.constants me v at)
     (s.resting me v at) (s.entries me v at)
     (crew-same words.crew views me v (record v { seen = seen; sending = sending }) s.roles at refl) sends stops
-    (quiet-moves views me v (record v { seen = seen; sending = sending }) s.quiet at quiet (λ _ h. h)) looked
+    (quiet-moves views me v (record v { seen = seen; sending = sending }) s.quiet at quiet (λ _ h. h)) looked (s.unheld me v at)
+    (accounts-stay key words.account log.parts views me v (record v { seen = seen; sending = sending }) at refl s.accounts)
 
 -- the seat sees a word
 pub sees-word : (key : Start) (words : Words) (views : List View) (me : ℕ) (v : View) (log : Log) (seen : Seen) → IsSound key words views log

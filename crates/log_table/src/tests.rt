@@ -16,7 +16,9 @@ fn table_from(alloc: Global, start: u32) -> Result<(LogTable, Seat), NoMemory>
     ensures made { IfOk result (λ made. (view_of made.1).standing.made ≡ []) }
     ensures merged { IfOk result (λ made. (view_of made.1).standing.merged ≡ []) }
 {
-    let accounts = Balances::make(alloc, 0)?;
+    let mut accounts = Balances::make(alloc, 2)?;
+    accounts.push(100, 0);
+    accounts.push(0, 0);
     LogTable::make(
         alloc,
         Start {

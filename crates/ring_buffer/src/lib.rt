@@ -9,8 +9,6 @@ mod placing;
 mod refused;
 mod releasing;
 #[cfg(test)]
-mod sending_tests;
-#[cfg(test)]
 mod tests;
 
 pub use call::{Filled, Look, Range};

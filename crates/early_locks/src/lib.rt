@@ -1,0 +1,11 @@
+//! Accounts are taken and given back. A worker holds an account only until its commit has a place in
+//! the log, not until it is durable.
+#![tactic(auto)]
+
+mod giving;
+mod taking;
+#[cfg(test)]
+mod tests;
+
+pub use giving::{give, give_durable};
+pub use taking::{Held, Taken, try_take};
