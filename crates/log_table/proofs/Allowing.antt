@@ -22,7 +22,7 @@ use Rattle.log_table.proofs.Lifting.{allowed-if_step}
 use Rattle.log_table.proofs.Looking.{tail-looks, exposed-looks, durable-looks, stop-looks, tail-tells, exposed-tells, durable-tells}
 use Rattle.log_table.proofs.Flushing.{send-step}
 use Rattle.log_table.proofs.Reading.{read-step, read-tells}
-use Rattle.log_table.proofs.Releasing.{release-step}
+use Rattle.log_table.proofs.Turning.{release-step}
 use Rattle.log_table.proofs.Stopping.{stop-step, crew-looks}
 use Rattle.log_table.proofs.Reserving.{exchange-step, exchange-event}
 use Rattle.log_table.proofs.Wording.{Fits, shared_tail, shared_exposed, shared_durable, shared_stop, shared_crew, in_ring, of_account}

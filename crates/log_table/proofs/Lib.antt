@@ -3,6 +3,7 @@ mod Agreeing
 mod Allowing
 mod Bookings
 mod Boundaries
+mod CrewMerging
 mod Crewing
 mod Entering
 mod Filling
@@ -34,5 +35,6 @@ mod Splitting
 mod Starting
 mod Stopping
 mod Taking
+mod Turning
 mod Viewing
 mod Wording

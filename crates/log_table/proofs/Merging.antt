@@ -1,6 +1,5 @@
--- The flusher's seat takes in the seat of a worker that has ended.
-use Rattle.std.proofs.Common.{◌≡◌, ◌≢◌, ◌⊎◌, inl, inr, ⊎_elim, ℕ, zero, suc, eqb, ◌||◌, ◌+◌, cond, Bool, true, false, true≢false, List, [], ◌∷◌, ◌++◌, map, set, sym, refl, ap, ◌∙◌, subst, arith, append-nil, ne_eqb, eqb-true}
-use Rattle.std.proofs.lemmas.List.Folds.{list_any-append}
+-- The flusher's seat takes in the seat of a worker that has ended, or a note.
+use Rattle.std.proofs.Common.{◌≡◌, ◌≢◌, ◌⊎◌, inl, inr, ⊎_elim, ℕ, zero, suc, ◌+◌, true, false, true≢false, List, [], ◌∷◌, ◌++◌, map, set, sym, refl, ap, ◌∙◌, subst, arith, append-nil}
 use mathlib.Core.Option.{some}
 use lib.ListN.{get_elem?}
 use Rattle.atomic_table.specs.Table.{Joins}
@@ -13,18 +12,17 @@ use Rattle.log_table.specs.Books.{no_books, merging}
 use Rattle.log_table.proofs.Gathered.{joins}
 use Rattle.log_table.specs.declared.table.Start.{Start}
 use Rattle.log_table.specs.declared.view.Call.TheVariants.{Idle}
-use Rattle.log_table.specs.declared.view.Role.{Role}
-use Rattle.log_table.specs.declared.view.Role.TheVariants.{Flusher, Fresh, Active, Ended, Note, Spent}
 use Rattle.log_table.specs.declared.view.View.{View}
 use Rattle.log_table.specs.Log.{Part, Log, ranges_of, parts_of, SpellsRecord, records_in, StandsInRing, IsFullIfReleased, IsReleasedBelow, CountsRemaining, AgreesFrom, EndsWithPart}
 use Rattle.log_table.specs.May.{MayMerge}
 use Rattle.log_table.specs.Sound.{EachView, HasSeenBoundaries, SendsIfFlusher, StoresStop, LookedIfQuiet, HasWorkingOwner, HasConstants, RestsUnlessActive, OwnsIfWorker, HoldsIfActive, base_of, history_in, books_of, HasSoundRole, HasSoundRoles, HasSoundCrew, IsSound, Knows, Lacks, Ruled, is_active_view}
 use Rattle.log_table.specs.Views.{has_ended, is_active, is_worker, is_spent, nobody, entries_in, claims_in, merged_entries, merged_seen, merged_standing, takes_in}
 use Rattle.log_table.specs.Words.{Words, words_in}
+use Rattle.log_table.proofs.CrewMerging.{ended-rests, crew-merges}
 use Rattle.log_table.proofs.Lists.{all-append, all-weaker}
 use Rattle.log_table.proofs.Renaming.{rename, own-renamed, own-renamed-from, own-renamed-else, all-renamed, laid-renamed, unreleased_in-renamed, boundary-renamed, records-renamed}
 use Rattle.log_table.proofs.Roles.{quiet-moves}
-use Rattle.log_table.proofs.Viewing.{each_set, seats_move, seat_at, pairs_move, count-set}
+use Rattle.log_table.proofs.Viewing.{each_set, seats_move, seat_at}
 
 set-swap : (views : List View) (a b : ℕ) (x y : View) → a ≢ b → set (set views a x) b y ≡ set (set views b y) a x
 set-swap [] a b x y differ = refl
@@ -32,21 +30,6 @@ set-swap (z ∷ zs) zero zero x y differ = absurd (differ refl)
 set-swap (z ∷ zs) zero (suc b) x y differ = refl
 set-swap (z ∷ zs) (suc a) zero x y differ = refl
 set-swap (z ∷ zs) (suc a) (suc b) x y differ = ap (λ l. z ∷ l) (set-swap zs a b x y (λ e. differ (ap suc e)))
-
-or-false : (a b : Bool) → a ≡ false → b ≡ false → (a || b) ≡ false
-or-false a b p q = ap (λ c. c || b) p ∙ q
-
-ended-rests : (role : Role) → has_ended role ≡ true → is_active role ≡ false
-ended-rests Flusher e = refl
-ended-rests Fresh e = refl
-ended-rests Active e = absurd (true≢false (sym e))
-ended-rests Ended e = refl
-ended-rests Note e = refl
-ended-rests Spent e = refl
-
-or-cases : (a b : Bool) → (a || b) ≡ true → (a ≡ true) ⊎ (b ≡ true)
-or-cases true b e = inl refl
-or-cases false b e = inr e
 
 module _ (key : Start) (words : Words) (views : List View) (me other : ℕ) (v o : View) (log : Log) (s : IsSound key words views log)
     (at : get_elem? views me ≡ some v) (there : get_elem? views other ≡ some o) (apart : other ≢ me) (may : MayMerge v o) where
@@ -63,133 +46,11 @@ module _ (key : Start) (words : Words) (views : List View) (me other : ℕ) (v o
   was : (j : ℕ) (z : View) → get_elem? without j ≡ some z → ((j ≡ other) × (nobody ≡ z)) ⊎ ((j ≢ other) × (get_elem? views j ≡ some z))
   was j z here = at_set views other j nobody z here
 
-  boss : {A : Type 0} → is_worker v.standing.role ≡ true → A
-  boss e = absurd (true≢false (sym e ∙ ap is_worker may.flusher))
-
   each-without : (P : ℕ → View → Type 0) → EachView P views → P other nobody → EachView P without
   each-without P all none = each_set P views other nobody all none
 
   each-merged : (P : ℕ → View → Type 0) → EachView P views → P other nobody → P me new → EachView P (set without me new)
   each-merged P all none mine = each_set P without me new (each-without P all none) mine
-
-  pairs-without : Rattle.log_table.specs.Sound.EachPair (λ i y j z. HasSoundRoles i y.standing j z.standing) without
-  pairs-without = pairs_move (λ i y j z. HasSoundRoles i y.standing j z.standing) views other o nobody there s.roles.pairs
-      record {
-        apart = λ e. absurd (true≢false (sym e));
-        made = λ e. absurd (cc);
-        enrolled = λ e. absurd (cc);
-        merged = λ e. absurd (cc);
-        fresh = λ e. absurd (cc);
-        unmerged = λ e. absurd (true≢false (sym e));
-      }
-      (λ j z differ here. (
-        record {
-          apart = λ e. absurd (true≢false (sym e));
-          made = λ e. absurd (cc);
-          enrolled = λ e. absurd (cc);
-          merged = λ e. absurd (cc);
-          fresh = λ e. absurd (cc);
-          unmerged = λ e. absurd (true≢false (sym e));
-        },
-        record {
-          apart = λ _ e. absurd (true≢false (sym e));
-          made = λ _ e. absurd (true≢false (sym e));
-          enrolled = λ _ q e. absurd (true≢false (sym e));
-          merged = λ _ q e. absurd (true≢false (sym e));
-          fresh = λ _. refl;
-          unmerged = λ _. refl;
-        },
-      ))
-
-  -- the worker's number is no other's
-  others-number : is_worker o.standing.role ≡ true → (j : ℕ) (z : View) → get_elem? without j ≡ some z → is_worker z.standing.role ≡ true
-      → eqb z.standing.worker o.standing.worker ≡ false
-  others-number worker j z here w = ⊎_elim
-      (λ (t : (j ≡ other) × (nobody ≡ z)). absurd (true≢false (sym w ∙ ap (λ (y : View). is_worker y.standing.role) (sym t.1))))
-      (λ (t : (j ≢ other) × (get_elem? views j ≡ some z)). ne_eqb z.standing.worker o.standing.worker
-      (λ same. t.0 ((s.roles.pairs j z t.1 other o there).apart w worker same)))
-      (was j z here)
-
-  lacks-merged : (j : ℕ) (z : View) → get_elem? without j ≡ some z → is_worker z.standing.role ≡ true → Lacks z.standing.worker v.standing.merged
-      → Lacks z.standing.worker new.standing.merged
-  lacks-merged j z here w lacks = by_role (is_worker o.standing.role) refl
-    where
-      by_role : (b : Bool) → is_worker o.standing.role ≡ b
-          → Lacks z.standing.worker (cond b (o.standing.worker ∷ v.standing.merged) v.standing.merged)
-      by_role true worker = or-false _ _ (others-number worker j z here w) lacks
-      by_role false note = lacks
-
-  fresh-lacks : (j : ℕ) (z : View) → get_elem? without j ≡ some z → z.standing.role ≡ Fresh → Lacks z.standing.worker new.standing.enrolled
-  fresh-lacks j z here f = ⊎_elim
-      (λ (t : (j ≡ other) × (nobody ≡ z)). absurd (true≢false (sym (ap is_worker f) ∙ ap (λ (y : View). is_worker y.standing.role) (sym t.1))))
-      (λ (t : (j ≢ other) × (get_elem? views j ≡ some z)). list_any-append (eqb z.standing.worker) v.standing.enrolled o.standing.enrolled
-      ∙ or-false _ _ ((s.roles.pairs j z t.1 me v at).fresh f) ((s.roles.pairs j z t.1 other o there).fresh f))
-      (was j z here)
-
-  known-made : (q : ℕ) → Knows q new.standing.enrolled → Knows q v.standing.made
-  known-made q knows = ⊎_elim (λ own. (s.roles.pairs me v at me v at).enrolled may.flusher q own)
-      (λ his. (s.roles.pairs me v at other o there).enrolled may.flusher q his)
-      (or-cases _ _ (sym (list_any-append (eqb q) v.standing.enrolled o.standing.enrolled) ∙ knows))
-
-  merged-made : (q : ℕ) → Knows q new.standing.merged → Knows q v.standing.made
-  merged-made q knows = by_role (is_worker o.standing.role) refl knows
-    where
-      before : Knows q v.standing.merged → Knows q v.standing.made
-      before = (s.roles.pairs me v at me v at).merged may.flusher q
-
-      by_role : (b : Bool) → is_worker o.standing.role ≡ b → Knows q (cond b (o.standing.worker ∷ v.standing.merged) v.standing.merged)
-          → Knows q v.standing.made
-      by_role true worker knows = ⊎_elim
-          (λ same. subst (λ n. Knows n v.standing.made) (sym (eqb-true q o.standing.worker same))
-          ((s.roles.pairs me v at other o there).made may.flusher worker)) before (or-cases (eqb q o.standing.worker) _ knows)
-      by_role false note knows = before knows
-
-  -- the flusher's seat is the first
-  not-flusher : {A : Type 0} (j : ℕ) (z : View) → j ≢ me → get_elem? without j ≡ some z → z.standing.role ≡ Flusher → A
-  not-flusher j z differ here f = absurd (differ (each-without (λ seat y. y.standing.role ≡ Flusher → seat ≡ 0) (λ i y h. (s.roles.each i y h).first)
-      (λ e. absurd (cc)) j z here f ∙ sym ((s.roles.each me v at).first may.flusher)))
-
-  crew-merges : HasSoundCrew words.crew (set without me new)
-  crew-merges = record {
-    count = s.roles.count
-        ∙ sym (same _ _ _ _ _ (count-set is_active_view views other o nobody there) (ended-rests o.standing.role may.ended)
-        (count-set is_active_view without me v new at'));
-    each = each-merged (λ seat z. HasSoundRole seat z.standing) s.roles.each record {
-      small = λ e. absurd (true≢false (sym e));
-      first = λ e. absurd (cc);
-    }
-        record { small = (s.roles.each me v at).small; first = (s.roles.each me v at).first };
-    pairs = pairs_move (λ i y j z. HasSoundRoles i y.standing j z.standing) without me v new at' pairs-without
-        record {
-          apart = λ _ _ _. refl;
-          made = λ _ w. boss w;
-          enrolled = λ _ q knows. known-made q knows;
-          merged = λ _ q knows. merged-made q knows;
-          fresh = λ f. boss (ap is_worker f);
-          unmerged = λ w. boss w;
-        }
-        (λ j z differ here. let to = pairs-without me v at' j z here in let by = pairs-without j z here me v at' in (
-          record {
-            apart = λ w. boss w;
-            made = to.made;
-            enrolled = to.enrolled;
-            merged = to.merged;
-            fresh = λ f. boss (ap is_worker f);
-            unmerged = λ w. boss w;
-          },
-          record {
-            apart = λ _ w. boss w;
-            made = λ _ w. boss w;
-            enrolled = λ f _ _. not-flusher j z differ here f;
-            merged = λ f _ _. not-flusher j z differ here f;
-            fresh = λ f. fresh-lacks j z here f;
-            unmerged = λ w. lacks-merged j z here w (by.unmerged w);
-          },
-        ));
-  }
-    where
-      same : (a b c : ℕ) (p : Bool) (k : ℕ) → b + cond p 1 0 ≡ a + 0 → p ≡ false → c + k ≡ b + k → c ≡ a
-      same a b c p k spent off took = let none : cond {A = ℕ} p 1 0 ≡ 0 = ap (λ x. cond {A = ℕ} x 1 0) off in omega arith
 
   idle : v.call ≡ Idle
   idle = s.resting me v at (ap is_active may.flusher)
@@ -293,7 +154,7 @@ module _ (key : Start) (words : Words) (views : List View) (me other : ℕ) (v o
     resting = each-merged (λ _ z. RestsUnlessActive z) s.resting (λ _. refl) (s.resting me v at);
     entries = each-merged (λ _ z. OwnsIfWorker z) s.entries (λ _. refl)
         (λ off. absurd (true≢false (sym (ap Rattle.log_table.specs.Views.may_own may.flusher) ∙ off)));
-    roles = crew-merges;
+    roles = crew-merges words.crew views me other v o s.roles at there apart may;
     sends = each-merged (λ _ z. SendsIfFlusher key.start words.exposed words.durable after z) (λ j z here. sends z (s.sends j z here))
         (λ f. absurd (cc)) (sends v (s.sends me v at));
     stops = each-merged (λ _ z. StoresStop words.stop z) s.stops (λ f. absurd (cc)) (s.stops me v at);

@@ -1,39 +1,30 @@
--- The store of exposed: the machine's Turn.
-use Rattle.std.proofs.Common.{◌≡◌, ◌≢◌, inl, ℕ, ◌+◌, ◌/◌, ◌<◌, ◌≤◌, cond, true, false, List, [], ◌∷◌, ◌++◌, length, map, set, Some, sym, refl, ap, ◌∙◌, subst, le_refl, arith, append-nil, append_assoc, eq-eqb, ne_eqb, eqb-true, true≢false}
+-- The store of exposed keeps the rule.
+use Rattle.std.proofs.Common.{◌≡◌, ◌≢◌, inl, ℕ, ◌+◌, ◌/◌, ◌<◌, ◌≤◌, cond, true, false, List, [], ◌∷◌, ◌++◌, map, set, sym, refl, ap, ◌∙◌, subst, le_refl, arith, append-nil, append_assoc, ne_eqb, eqb-true, true≢false}
 use Rattle.std.specs.List.{AllByRecursion}
-use Rattle.std.specs.Option.{IsSomeAnd}
 use mathlib.Core.Logic.{dite}
 use mathlib.Core.Option.{some}
-use native.Mathlib.Decide.{dec_lt, dec_le}
+use native.Mathlib.Decide.{dec_lt}
 use lib.ListN.{get_elem?}
 use Rattle.lsn_space.specs.Tiling.{IsBoundary}
-use Rattle.ring_core.specs.State.{in_hand, RingState}
-use Rattle.ring_core.specs.Machine.{IsNext, released_at, after_turn}
-use Rattle.ring_core.specs.declared.event.RingEvent.TheVariants.{Turn}
 use Rattle.log_table.specs.declared.table.Start.{Start}
 use Rattle.log_table.specs.declared.view.Call.TheVariants.{Idle, Filling}
 use Rattle.log_table.specs.declared.view.Entry.{Entry}
 use Rattle.log_table.specs.declared.view.Role.{Role}
 use Rattle.log_table.specs.declared.view.Role.TheVariants.{Flusher, Fresh, Active, Ended, Note, Spent}
 use Rattle.log_table.specs.declared.view.View.{View}
-use Rattle.log_table.specs.Events.{reservation_of, ring_of, Leads, IsStep}
-use Rattle.log_table.specs.Layout.{Exposed}
 use Rattle.log_table.specs.Log.{Part, Duty, Shared, Owed, Released, Range, Claim, Log, ranges_of, own, owed, owes, is_owed_by, claim_of, part_of, parts_of, unreleased_in, inside, IsFull, SpellsRecord, records_in, StandsInRing, IsFullIfReleased, IsReleasedBelow, IsReleased, IsOwed, CountsRemaining, Tiles, Laid, AgreesFrom, EndsWithPart, IsRangeBoundary}
-use Rattle.log_table.specs.May.{MayRelease}
 use Rattle.log_table.specs.Sound.{HasSeenBoundaries, HasContiguousReservations, SendsIfFlusher, StoresStop, LookedIfQuiet, HasWorkingOwner, HasConstants, RestsUnlessActive, OwnsIfWorker, HoldsIfActive, IsSound, base_of, books_of}
 use Rattle.lock_core.specs.History.{history_from}
 use Rattle.log_table.specs.Accounts.{KeepsAccounts}
 use Rattle.log_table.proofs.Keeping.{accounts-stay, records-mid}
-use Rattle.log_table.specs.Views.{is_active, may_own, entries_in, claims_in, seen_exposed, released}
+use Rattle.log_table.specs.Views.{is_active, may_own, entries_in, claims_in, seen_exposed}
 use Rattle.log_table.specs.Words.{Words}
 use Rattle.log_table.proofs.Boundaries.{range_size, part_size, boundary-mid}
-use Rattle.log_table.proofs.Filling.{hand-at}
 use Rattle.log_table.proofs.Lists.{all-append, all-mid, all-at, all-both, all-weaker, Last, picked-last}
 use Rattle.log_table.proofs.Looking.{exposed-boundary}
 use Rattle.log_table.proofs.Owning.{LastPart, last_part, own-last, own-others, parts_of-push}
 use Rattle.log_table.proofs.Ranging.{tiles-push, tiles-first, tiles-within, laid-same, unreleased_in-mid, inside-here, inside-none, all-released}
 use Rattle.log_table.proofs.Roles.{busy-not_quiet, crew-same, quiet-moves}
-use Rattle.log_table.proofs.Showing.{hands_of-set, changed-part, released_at-others}
 use Rattle.log_table.proofs.Viewing.{each_moves, each_set, seats_move, seat_at}
 
 only-owners : (role : Role) → may_own role ≡ false → is_active role ≡ false
@@ -60,14 +51,14 @@ module _ (key : Start) (words : Words) (views : List View) (me : ℕ) (v : View)
   mine : HasWorkingOwner log.parts log.unreleased me v
   mine = seat_at (HasWorkingOwner log.parts log.unreleased) views me v at s.owners
 
-  last : LastPart me log.parts (parts_of me true v.entries) entry
+  pub last : LastPart me log.parts (parts_of me true v.entries) entry
   last = last_part me log.parts (parts_of me true v.entries) entry
       (mine.owns ∙ ap (λ c. parts_of me true v.entries ++ parts_of me false (entries_in c)) filling)
 
   abbrev claim : Claim
   claim = record { base = entry.start; size = entry.size; remaining = entry.size }
 
-  found : Last (owes me) claim_of log.unreleased [] claim
+  pub found : Last (owes me) claim_of log.unreleased [] claim
   found = picked-last (owes me) claim_of log.unreleased [] claim (mine.owes ∙ ap claims_in filling)
 
   abbrev range : Range
@@ -85,7 +76,7 @@ module _ (key : Start) (words : Words) (views : List View) (me : ℕ) (v : View)
   abbrev now : Range
   now = record { base = range.base; size = range.size; remaining = 0; duty = Released }
 
-  abbrev after : Log
+  abbrev pub after : Log
   after = record { parts = last.before ++ part ∷ last.behind; flushed = log.flushed; released = log.released ++ now ∷ []; unreleased = rest }
 
   base-is : range.base ≡ entry.start
@@ -111,7 +102,7 @@ module _ (key : Start) (words : Words) (views : List View) (me : ℕ) (v : View)
   behind-of : (P : Range → Type 0) → AllByRecursion P log.unreleased → AllByRecursion P rest
   behind-of P all = (subst (AllByRecursion P) split all).1
 
-  laid : Laid key.start (last.before ++ old_part ∷ last.behind) words.tail
+  pub laid : Laid key.start (last.before ++ old_part ∷ last.behind) words.tail
   laid = subst (λ l. Laid key.start l words.tail) last.split s.contiguous.parts
 
   all-old : (P : Part → Type 0) → AllByRecursion P log.parts → AllByRecursion P (last.before ++ old_part ∷ last.behind)
@@ -197,7 +188,7 @@ module _ (key : Start) (words : Words) (views : List View) (me : ℕ) (v : View)
   busy : (j : ℕ) (z : View) → get_elem? views j ≡ some z → z.standing.role ≡ Flusher → z.sending.quiet ≡ true → ⊥
   busy = busy-not_quiet key words views me v log s at (λ idle. let gone : Filling entry ≡ Idle = sym filling ∙ idle in absurd (cc))
 
-  sound : IsSound key (record words { exposed = to }) (set views me new) after
+  pub sound : IsSound key (record words { exposed = to }) (set views me new) after
   sound = record {
     ordered = s.ordered;
     seen = each_moves (λ _ z. HasSeenBoundaries key.start words.tail words.exposed words.durable (ranges_of log) z.seen)
@@ -258,69 +249,3 @@ module _ (key : Start) (words : Words) (views : List View) (me : ℕ) (v : View)
         (subst (λ records. KeepsAccounts (base_of key) words.account (history_from key.start [] records) (map books_of views))
         (ap records_in last.split ∙ sym (records-mid last.before last.behind old_part part refl)) s.accounts);
   }
-
-  abbrev old_state : RingState
-  old_state = ring_of key words views log
-
-  hand-is : in_hand old_state me ≡ Some (reservation_of old_part)
-  hand-is = hand-at key words views me v entry log last.before last.behind at filling last.split laid
-
-  more : reservation_of part ≡ released_at entry.start (reservation_of old_part)
-  more i = record {
-    base = entry.start;
-    size = entry.size;
-    filled = length entry.units;
-    released = sym (ap (λ b. cond b true false) (eq-eqb entry.start entry.start refl)) i;
-  }
-
-  reservations : map reservation_of after.parts ≡ map (released_at entry.start) (map reservation_of log.parts)
-  reservations = changed-part _ _ (released_at entry.start) last.before last.behind old_part part (released_at-others entry.start) laid more
-      ∙ ap (λ (l : List Part). map (released_at entry.start) (map reservation_of l)) (sym last.split)
-
-  pub turn-releases : Leads key words (record words { exposed = to }) views (set views me new) log (Some (Turn me))
-  turn-releases = record {
-    after = after;
-    sound = sound;
-    shows = (
-      subst (λ o. IsSomeAnd o (IsNext words.exposed)) (sym hand-is) (is_full, turn),
-      (λ i. record {
-        start = key.start;
-        ring = key.ring;
-        reservations = reservations i;
-        hands = hands_of-set 0 me me views v new (omega arith) at i;
-        tail = words.tail;
-        exposed = to;
-        durable = words.durable;
-      })
-          ∙ ap (after_turn old_state me) (sym hand-is),
-    );
-  }
-
--- whose turn it was when it looked, has its turn still
-still-turn : (key : Start) (words : Words) (views : List View) (me : ℕ) (v : View) (entry : Entry) (log : Log) → IsSound key words views log
-    → get_elem? views me ≡ some v → v.call ≡ Filling entry → v.seen.exposed ≡ entry.start → entry.start ≡ words.exposed
-still-turn key words views me v entry log s at filling turn =
-    elim (dec_le words.exposed entry.start) [
-      | yes le ↦ omega (arith, (s.seen me v at).exposed_seen)
-      | no gt ↦ absurd (true≢false
-          (sym (all-at (IsReleasedBelow words.exposed) last.before last.behind (part_of me false entry)
-          (subst (AllByRecursion (IsReleasedBelow words.exposed)) last.split s.below.below) (omega arith))))
-    ]
-  where
-    mine : HasWorkingOwner log.parts log.unreleased me v
-    mine = seat_at (HasWorkingOwner log.parts log.unreleased) views me v at s.owners
-
-    last : LastPart me log.parts (parts_of me true v.entries) entry
-    last = last_part me log.parts (parts_of me true v.entries) entry
-        (mine.owns ∙ ap (λ c. parts_of me true v.entries ++ parts_of me false (entries_in c)) filling)
-
-pub release-step : (key : Start) (me : ℕ) (v : View) (end : ℕ) → MayRelease end v → (n : ℕ)
-    → IsStep key me Exposed n end v (released end v) (Some (Turn me))
-release-step key me v _ may n = record {
-  leads = λ words views log s here is.
-      subst (λ (x : ℕ × List Entry). Leads key words (record words { exposed = x.0 }) views
-      (set views me (record v { seen = seen_exposed x.0 v.seen; entries = v.entries ++ x.1; call = Idle })) log (Some (Turn me)))
-      (λ i. (sym may.end i, ap entries_in (sym may.filling) i))
-      (turn-releases key words views me v may.entry log s here may.filling may.full
-      (still-turn key words views me v may.entry log s here may.filling may.turn));
-}

@@ -2,7 +2,7 @@ use Rattle.std.proofs.Common.{arith, ℕ, sym, subst}
 use Rattle.log_table.specs.May.{MayRelease}
 use Rattle.log_table.specs.Seats.{view_of, number_of, key_of}
 use Rattle.log_table.proofs.Allowing.{store_exposed-allowed}
-use Rattle.log_table.proofs.Releasing.{release-step}
+use Rattle.log_table.proofs.Turning.{release-step}
 use Rattle.log_table.proofs.table.LogTable.store_exposed.Goals as goal
 
 pub store-requires : goal.store-requires
