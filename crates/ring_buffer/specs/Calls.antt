@@ -9,7 +9,7 @@ use Rattle.log_table.specs.declared.view.Call.{Call}
 use Rattle.log_table.specs.declared.view.Call.TheVariants.{Idle, Filling}
 use Rattle.log_table.specs.declared.view.Entry.{Entry}
 use Rattle.log_table.specs.declared.view.View.{View}
-use Rattle.log_table.specs.Books.{next_of, MayEnter}
+use Rattle.log_table.specs.Books.{next_of, placing, MayEnter}
 use Rattle.log_table.specs.Log.{IsFull}
 use Rattle.log_table.specs.May.{IsAtRest, HasLooked}
 use Rattle.log_table.specs.Seats.{Becomes, view_of}
@@ -79,6 +79,14 @@ pub record HasReserved (range : Range) (units : List ℕ) (view : View) : Type 0
   pub call : view.call ≡ Filling (empty_entry range.start range.size rec)
   pub size : range.size ≡ length (spelling rec)
   pub units_are : units ≡ spelling rec
+
+-- the range is reserved for the next record of the seat's last job, behind what the seat had seen, and none of it is filled
+pub record PlacesNext (old new : View) (n : ℕ) (range : Range) : Type 0 where
+  pub size : range.size ≡ n
+  pub behind : old.seen.tail ≤ range.start
+  pub call : new.call ≡ Filling (empty_entry range.start n (next_of old.books))
+  pub entries : new.entries ≡ old.entries
+  pub books : new.books ≡ placing (range.start + n) (next_of old.books) old.books
 
 -- the entry of the record whole
 abbrev pub entry_of : ℕ → Rec → Entry

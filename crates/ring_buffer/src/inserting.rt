@@ -1,10 +1,11 @@
 //! A whole insert.
-ghost use Rattle.std.specs.Prelude.{◌≡◌, ◌++◌, ◌∷◌, ◌+◌, ◌≤◌, [], length, IfOk, IfErr};
+ghost use Rattle.std.specs.Prelude.{◌≡◌, ◌++◌, ◌∷◌, ◌+◌, ◌≤◌, [], length, IfOk, IfErr, OnOk};
 ghost use Rattle.log_record.specs.Spelling.{spelling};
 ghost use Rattle.log_table.specs.Books.{next_of, placing};
 ghost use Rattle.log_table.specs.Seats.{IsOf, view_of};
-ghost use Rattle.ring_buffer.specs.Calls.{IsReady, MayPlace, HasEntries, IsRefusedNow, entry_of};
+ghost use Rattle.ring_buffer.specs.Calls.{IsReady, MayPlace, PlacesNext, HasEntries, IsSameWorker, IsRefusedNow, entry_of};
 
+use crate::call::Range;
 use crate::filling::fill;
 use crate::placing::{look, try_place};
 use crate::refused::Refused;
@@ -16,7 +17,8 @@ use lsn_space::Lsn;
 use std::sync::Wait;
 
 /// Inserts the next record of the seat's last job, which has these units, behind what other workers
-/// have reserved, and answers its LSN once it is released. It waits for those before it, and reserves again where another was faster.
+/// have reserved, and answers its LSN once it is released. It waits for those before it, and reserves
+/// again where another was faster.
 pub fn insert_alone<R: Wait, G: Gate>(
     rt: &R,
     table: &LogTable,
@@ -34,19 +36,37 @@ pub fn insert_alone<R: Wait, G: Gate>(
     ensures refused { IfErr result (IsRefusedNow seat.old seat.new table.now.ring (length units.now)) }
 {
     let n = units.as_slice().len() as u32;
-    for _ in rt.forever() {
+    let range = place_among(table, seat, n, gate)?;
+    gate.at(seat.worker(), Place::Placed);
+    let at = range.start();
+    let filled = fill(table, seat, range, units);
+    gate.at(seat.worker(), Place::Filled);
+    finish_in_turn(rt, table, seat, filled);
+    gate.at(seat.worker(), Place::Exposed);
+    Ok(at)
+}
+
+/// Looks and reserves for the next record of the seat's last job until no other worker is faster. It
+/// returns: each time the tail is greater.
+fn place_among<G: Gate>(
+    table: &LogTable,
+    seat: &mut Seat,
+    n: u32,
+    gate: &G,
+) -> Result<Range, Refused>
+    requires seat { IsOf table.now seat.old }
+    requires ready { IsReady (view_of seat.old) }
+    requires next { MayPlace n (view_of seat.old).books }
+    ensures placed { IfOk result (PlacesNext (view_of seat.old) (view_of seat.new) n) }
+    ensures same { OnOk result (IsSameWorker seat.old seat.new) }
+    ensures kept { IfErr result (λ e. HasEntries seat.old seat.new (view_of seat.old).entries (view_of seat.old).books) }
+    ensures refused { IfErr result (IsRefusedNow seat.old seat.new table.now.ring n) }
+{
+    'places: loop {
         let seen = look(table, seat);
         gate.at(seat.worker(), Place::Looked);
-        let Some(range) = try_place(table, seat, seen, n)? else {
-            continue;
-        };
-        gate.at(seat.worker(), Place::Placed);
-        let at = range.start();
-        let filled = fill(table, seat, range, units);
-        gate.at(seat.worker(), Place::Filled);
-        finish_in_turn(rt, table, seat, filled);
-        gate.at(seat.worker(), Place::Exposed);
-        return Ok(at);
+        if let Some(range) = try_place(table, seat, seen, n)? {
+            return Ok(range);
+        }
     }
-    unreachable!()
 }
