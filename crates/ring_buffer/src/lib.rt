@@ -9,6 +9,8 @@ mod placing;
 mod refused;
 mod releasing;
 #[cfg(test)]
+mod sending_tests;
+#[cfg(test)]
 mod tests;
 
 pub use call::{Filled, Look, Range};
