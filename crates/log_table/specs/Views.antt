@@ -316,13 +316,14 @@ abbrev pub merged_entries : List Entry → List Entry → List Entry
 merged_entries entries [] = entries
 merged_entries entries (other ∷ others) = inserted other (merged_entries entries others)
 
--- what both have seen
+-- what both have seen; of the stop words the other's, unless it is 0
 abbrev pub merged_seen : Seen → Seen → Seen
 merged_seen seen other =
     record seen {
       tail = max seen.tail other.tail;
       exposed = max seen.exposed other.exposed;
       durable = max seen.durable other.durable;
+      stop = if other.stop == 0 then seen.stop else other.stop;
       lsns = seen.lsns ++ other.lsns;
     }
 
