@@ -84,7 +84,7 @@ pub record HasReserved (range : Range) (units : List ℕ) (view : View) : Type 0
 pub record PlacesNext (old new : View) (n : ℕ) (range : Range) : Type 0 where
   pub size : range.size ≡ n
   pub behind : old.seen.tail ≤ range.start
-  pub fits : range.start + n ≤ LAST
+  pub seen : range.start + n ≤ new.seen.tail
   pub call : new.call ≡ Filling (empty_entry range.start n (next_of old.books))
   pub entries : new.entries ≡ old.entries
   pub books : new.books ≡ placing (range.start + n) (next_of old.books) old.books
@@ -120,6 +120,7 @@ pub record IsSameWorker (old new : Seat) : Type 0 where
   pub standing : (view_of new).standing ≡ (view_of old).standing
   pub contended : (view_of new).contended ≡ (view_of old).contended
   pub grows : (view_of old).seen.tail ≤ (view_of new).seen.tail
+  pub durable : (view_of old).seen.durable ≤ (view_of new).seen.durable
   pub steps : (view_of old).seen.steps ≤ (view_of new).seen.steps
 
 -- the seat has nothing under way, these entries and these books
