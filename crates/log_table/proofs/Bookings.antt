@@ -1,5 +1,5 @@
 -- Lists of books, the accounts that they hold and the jobs that they took.
-use Rattle.std.proofs.Common.{◌≡◌, ◌≢◌, ℕ, zero, suc, ◌==◌, ◌+◌, ◌≤◌, ◌<◌, cond, Bool, true, false, true≢false, List, [], ◌∷◌, ◌++◌, length, map, set, sym, refl, ap, ◌∙◌, subst, ⊎_elim, arith, eq-eqb, ne_eqb}
+use Rattle.std.proofs.Common.{◌≡◌, ◌≢◌, ℕ, zero, suc, ◌==◌, ◌+◌, ◌≤◌, cond, Bool, true, false, List, [], ◌∷◌, ◌++◌, length, map, set, sym, refl, ap, ◌∙◌, subst, ⊎_elim, arith, eq-eqb, ne_eqb}
 use Rattle.std.specs.List.{AllByRecursion}
 use mathlib.Core.Logic.{dite}
 use mathlib.Core.Option.{some, some-injective, some-ne-none}
@@ -10,7 +10,7 @@ use Rattle.log_table.specs.declared.view.TakenJob.{TakenJob}
 use Rattle.log_table.specs.declared.view.Held.{Held}
 use Rattle.log_table.specs.declared.view.Books.{Books}
 use Rattle.log_table.specs.Books.{times_held, times_taken, balance_taken, mark_taken, without}
-use Rattle.log_table.specs.Accounts.{Everywhere, summed, holders, takers, HasDistinctJobs}
+use Rattle.log_table.specs.Accounts.{Everywhere, summed, HasDistinctJobs}
 
 module _ {A : Type 0} where
   pub everywhere-moves : (P Q : A → Type 0) (list : List A) (me : ℕ) (new : A) → Everywhere P list → Q new
