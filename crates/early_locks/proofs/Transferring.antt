@@ -91,9 +91,13 @@ module _ (number : ℕ) (transfer : Transfer) (payer payee : Taken) (enough : tr
         overfills-none = ap (λ b. nat_lt MOST_BALANCE (b + transfer.amount)) payee-balance ∙ le-ltb MOST_BALANCE (payee.balance + transfer.amount) fits
 
     holds-accounts : HoldsAccounts books
-    holds-accounts = subst (λ (taken : TakenJob). AllByRecursion (HoldsLeg books.held) taken.job.legs) (sym moving.last)
-        ((subst (λ a. 1 ≤ times_held a books.held) moving.payer_is moving.payer_held.has,
-        subst (λ a. 1 ≤ times_held a books.held) moving.payee_is moving.payee_held.has), tt)
+    holds-accounts = subst (λ (taken : TakenJob). AllByRecursion (HoldsLeg books.held) taken.job.legs) (sym moving.last) (
+      (
+        subst (λ a. 1 ≤ times_held a books.held) moving.payer_is moving.payer_held.has,
+        subst (λ a. 1 ≤ times_held a books.held) moving.payee_is moving.payee_held.has,
+      ),
+      tt,
+    )
 
     pub puts : (rec : Rec) (rest : List Rec) → IsTxn number → in_order (recs_of placed) (rec ∷ rest) ≡ less ∷ more ∷ commit ∷ [] → IsSpellable rec → MayPut rec books
     puts rec rest txn next spellable = record {

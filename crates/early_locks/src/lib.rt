@@ -2,6 +2,8 @@
 //! the log, not until it is durable.
 #![tactic(auto)]
 
+#[cfg(test)]
+mod end_tests;
 mod giving;
 mod one_transfer;
 mod taking;

@@ -267,9 +267,13 @@ fn put_records<R: Wait, G: Gate>(
     if payer.balance < amount || payee.balance + amount > MOST_BALANCE {
         return None;
     }
+    let commit = Rec::Commit {
+        txn: number,
+        legs: 1,
+    };
     put(rt, table, seat, &transfer.loss(number, payer), gate)?;
     put(rt, table, seat, &transfer.gain(number, payee), gate)?;
-    put(rt, table, seat, &Rec::Commit { txn: number, legs: 1 }, gate)
+    put(rt, table, seat, &commit, gate)
 }
 
 /// Gives the account back as it was taken.

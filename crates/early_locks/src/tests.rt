@@ -24,14 +24,14 @@ const THIRTY: Transfer = Transfer {
 };
 
 /// 500 from account 0, which has 100, to account 1.
-const TOO_MUCH: Transfer = Transfer {
+pub(crate) const TOO_MUCH: Transfer = Transfer {
     payer: 0,
     payee: 1,
     amount: 500,
 };
 
 /// A table of two accounts, of balances 100 and 0.
-fn table_from(alloc: Global, start: u32) -> Result<(LogTable, Seat), NoMemory>
+pub(crate) fn table_from(alloc: Global, start: u32) -> Result<(LogTable, Seat), NoMemory>
     ensures seat { IfOk result (λ made. IsOf made.0 made.1) }
     ensures view { IfOk result (λ made. view_of made.1 ≡ flusher (key_of made.0)) }
     ensures start { IfOk result (λ made. (key_of made.0).start ≡ start) }
@@ -52,7 +52,7 @@ fn table_from(alloc: Global, start: u32) -> Result<(LogTable, Seat), NoMemory>
     )
 }
 
-fn worker(table: &LogTable, boss: &mut Seat, number: u32) -> Seat
+pub(crate) fn worker(table: &LogTable, boss: &mut Seat, number: u32) -> Seat
     requires boss { IsOf table.now boss.old }
     requires may { MaySplit number (view_of boss.old) }
     ensures boss { IsOf table.now boss.new }
