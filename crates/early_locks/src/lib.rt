@@ -11,5 +11,7 @@ mod taking;
 mod tests;
 
 pub use giving::{give, give_durable};
-pub use one_transfer::{Committed, Transfer, commit_transfer, give_back, give_back_durable};
+pub use one_transfer::{
+    Committed, Placed, Transfer, commit_transfer, give_back, give_back_durable,
+};
 pub use taking::{Held, Taken, try_take};

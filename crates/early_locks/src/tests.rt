@@ -115,7 +115,10 @@ fn accounts_are_given_back_before_durable(rt: HostRuntime) -> Result<(), Fail> {
     let Some(committed) = commit_transfer(&rt, &table, &mut one, 1, THIRTY, &OpenGate) else {
         return Err(Fail::new("no transfer"));
     };
-    assert_eq!(rt; committed.end(), Lsn::new(9));
+    let placed = committed.placed();
+    let starts = (placed.loss, placed.gain, placed.commit);
+    assert_eq!(rt; starts, (Lsn::new(4), Lsn::new(6), Lsn::new(8)));
+    assert_eq!(rt; placed.end, Lsn::new(9));
     let (loaded, found) = (AccountWord::taken(100, 0), AccountWord::taken(100, 0));
     assert_eq!(rt; values_of(&table, &mut two, 0), Err(Held { loaded, found }));
     give_back(&table, &mut one, committed);
