@@ -144,21 +144,9 @@ pub fn give_back(table: &LogTable, seat: &mut Seat, committed: Committed)
     ensures jobs { (view_of seat.new).books.jobs ≡ (view_of seat.old).books.jobs }
     ensures none_held { (view_of seat.new).books.held ≡ [] }
 {
-    let end = committed.placed.end;
-    give(
-        table,
-        seat,
-        committed.payer,
-        committed.payer_balance,
-        end.units(),
-    );
-    give(
-        table,
-        seat,
-        committed.payee,
-        committed.payee_balance,
-        end.units(),
-    );
+    let mark = committed.placed.end.units();
+    give(table, seat, committed.payer, committed.payer_balance, mark);
+    give(table, seat, committed.payee, committed.payee_balance, mark);
 }
 
 /// Waits until the commit is on the disk, and gives both accounts back only then.
@@ -172,21 +160,10 @@ pub fn give_back_durable<R: Wait>(rt: &R, table: &LogTable, seat: &mut Seat, com
     ensures none_held { (view_of seat.new).books.held ≡ [] }
 {
     let end = committed.placed.end;
+    let mark = end.units();
     see_durable(rt, table, seat, end);
-    give_durable(
-        table,
-        seat,
-        committed.payer,
-        committed.payer_balance,
-        end.units(),
-    );
-    give_durable(
-        table,
-        seat,
-        committed.payee,
-        committed.payee_balance,
-        end.units(),
-    );
+    give_durable(table, seat, committed.payer, committed.payer_balance, mark);
+    give_durable(table, seat, committed.payee, committed.payee_balance, mark);
 }
 
 /// Takes the account, and waits while another worker holds it.
