@@ -2,6 +2,5 @@ pub mod FlewLemmas
 pub mod LineLemmas
 pub mod RanLemmas
 pub mod RanTurns
-pub mod SpellLemmas
 pub mod ToldLemmas
 pub mod TurnLemmas

@@ -1,36 +1,43 @@
 -- Turns one after another.
-use Rattle.std.proofs.Common.{◌≡◌, ◌≢◌, ◌∙◌, sym, ap, refl, subst, inl, inr, ℕ, ◌+◌, ◌≤◌, List, [], ◌++◌, length, length-append, append_assoc, append-nil, arith, Option, Some, None}
+use Rattle.std.proofs.Common.{◌≡◌, ◌≢◌, ◌∙◌, sym, ap, refl, subst, inl, inr, ℕ, ◌+◌, ◌≤◌, List, [], ◌∷◌, ◌++◌, length, length-append, append_assoc, append-nil, arith, Option, Some, None}
 use Rattle.std.proofs.KnownBytes.{Appends-trans}
-use Rattle.std.proofs.lemmas.List.Elements.{Contains-append_right}
-use Rattle.std.specs.List.{Contains}
+use Rattle.std.proofs.lemmas.List.Concat.{flat_map-append}
+use Rattle.std.specs.List.{AllByRecursion}
 use Rattle.log_disk.specs.Faults.{Rose}
 use Rattle.log_disk.specs.declared.disk.LogDisk.{Ghosts}
 use Rattle.log_disk.specs.declared.sink.Sink.{Ghosts as SinkGhosts}
 use Rattle.log_disk.proofs.Moments.{Leaves-trans, Leaves-weaken}
 use Rattle.log_record.specs.declared.rec.Rec.{Rec}
 use Rattle.log_record.specs.LogList.{units_of}
+use Rattle.log_record.specs.Spelling.{spelling, IsSpellable}
 use Rattle.log_table.specs.Seats.{view_of}
 use Rattle.log_table.specs.declared.view.Constants.{Constants}
 use Rattle.log_table.specs.declared.view.View.{View}
-use Rattle.segment_file.specs.File.{joined, HoldsUnits}
-use Rattle.flusher.specs.Flushing.{sent_of, lsns_of}
+use Rattle.segment_file.specs.File.{HoldsUnits}
+use Rattle.flusher.specs.Flushing.{sent_of}
 use Rattle.commit_pipeline.specs.declared.daemon.Daemon.{Daemon}
 use Rattle.commit_pipeline.specs.declared.daemon.DaemonFault.{DaemonFault}
 use Rattle.commit_pipeline.specs.declared.daemon.DaemonFault.TheVariants.{DiskFault, WriteFault}
 use Rattle.commit_pipeline.specs.declared.tally.Tally.{Tally}
 use Rattle.commit_pipeline.specs.declared.voice.Voice.{Voice}
 use Rattle.commit_pipeline.specs.EndLines.{text_of}
-use Rattle.commit_pipeline.specs.Later.{SpellEach, all_of, HoldsSome, InFlight, HasReason, extra, Ran, Later}
+use Rattle.commit_pipeline.specs.Later.{HoldsFront, InFlight, HasReason, extra, Ran, Later}
 use Rattle.commit_pipeline.specs.Telling.{TellsFront, counted}
 use Rattle.commit_pipeline.specs.Turning.{IsSameDaemon, durable}
 use Rattle.commit_pipeline.proofs.LineLemmas.{text_of-append, counted-append}
-use Rattle.commit_pipeline.proofs.SpellLemmas.{joined-append, all_of-append, SpellEach-divided, joined-spelled}
 
 pub IsSameDaemon-trans : {D : Type 0} {K : Type 0} (g : Ghosts D) (h : SinkGhosts K) (a b c : Daemon D K)
     → IsSameDaemon g h a b → IsSameDaemon g h b c → IsSameDaemon g h a c
 IsSameDaemon-trans g h a b c first second = record {
   flusher = record {
     table = second.flusher.table ∙ first.flusher.table;
+    seat = record {
+      table_is = second.flusher.seat.table_is ∙ first.flusher.seat.table_is;
+      slots = second.flusher.seat.slots ∙ first.flusher.seat.slots;
+      constants = second.flusher.seat.constants ∙ first.flusher.seat.constants;
+      entries = second.flusher.seat.entries ∙ first.flusher.seat.entries;
+      books = second.flusher.seat.books ∙ first.flusher.seat.books;
+    };
     workers = second.flusher.workers ∙ first.flusher.workers;
     disk = second.flusher.disk ∙ first.flusher.disk;
     honest = (λ honest. second.flusher.honest.0 (first.flusher.honest.0 honest), λ honest. first.flusher.honest.1 (second.flusher.honest.1 honest));
@@ -43,26 +50,30 @@ IsSameDaemon-trans g h a b c first second = record {
 }
 
 -- a front of the first few is a front of all
-HoldsSome-more : (before more rest : List ℕ) (at : ℕ) (newer lsns bytes : List ℕ) → HoldsSome before more at lsns bytes
-    → HoldsSome before (more ++ rest) at (newer ++ lsns) bytes
-HoldsSome-more before more rest at newer lsns bytes some = record {
+HoldsFront-more : (before : List ℕ) (more rest : List Rec) (bytes : List ℕ) → HoldsFront before more bytes
+    → HoldsFront before (more ++ rest) bytes
+HoldsFront-more before more rest bytes some = record {
   front = some.front;
   rest = some.rest ++ rest;
-  whole = ap (λ us. us ++ rest) some.whole ∙ append_assoc some.front some.rest rest;
+  whole = ap (λ rs. rs ++ rest) some.whole ∙ append_assoc some.front some.rest rest;
   holds = some.holds;
-  seen = Contains-append_right newer lsns (at + length some.front) some.seen;
 }
 
 -- so is a front of what follows the first few, with these
-HoldsSome-behind : (before done more : List ℕ) (at : ℕ) (lsns bytes : List ℕ) → HoldsSome (before ++ done) more (at + length done) lsns bytes
-    → HoldsSome before (done ++ more) at lsns bytes
-HoldsSome-behind before done more at lsns bytes some = record {
+HoldsFront-behind : (before : List ℕ) (done more : List Rec) (bytes : List ℕ) → HoldsFront (before ++ units_of done) more bytes
+    → HoldsFront before (done ++ more) bytes
+HoldsFront-behind before done more bytes some = record {
   front = done ++ some.front;
   rest = some.rest;
-  whole = ap (λ us. done ++ us) some.whole ∙ sym (append_assoc done some.front some.rest);
-  holds = subst (HoldsUnits bytes) (append_assoc before done some.front) some.holds;
-  seen = subst (Contains lsns) (omega (arith, length-append done some.front)) some.seen;
+  whole = ap (λ rs. done ++ rs) some.whole ∙ sym (append_assoc done some.front some.rest);
+  holds = subst (HoldsUnits bytes) (append_assoc before (units_of done) (units_of some.front)
+      ∙ ap (λ us. before ++ us) (sym (flat_map-append spelling done some.front))) some.holds;
 }
+
+-- the records of both parts are spellable
+spellable-append : (xs ys : List Rec) → AllByRecursion IsSpellable xs → AllByRecursion IsSpellable ys → AllByRecursion IsSpellable (xs ++ ys)
+spellable-append [] ys first second = second
+spellable-append (x ∷ xs) ys first second = (first.0, spellable-append xs ys first.1 second)
 
 -- what is told of a front of later records, told with all before them
 TellsFront-behind : (voice : Voice) (at : ℕ) (before after : List Rec) (text more : List ℕ) (old mid new : Tally)
@@ -91,8 +102,8 @@ disk≢write same = subst (λ f. IsDisk f) same tt
     IsDisk DiskFault = Unit {0}
     IsDisk WriteFault = ⊥
 
--- without a fault no units are in flight
-none-in_flight : (fault : Option DaemonFault) (view : View) (cut : List ℕ) → fault ≡ None → InFlight fault view cut → cut ≡ []
+-- without a fault no records are in flight
+none-in_flight : (fault : Option DaemonFault) (view : View) (cut : List Rec) → fault ≡ None → InFlight fault view cut → cut ≡ []
 none-in_flight fault view cut fine flight = (subst (λ f. InFlight f view cut) fine flight).0
 
 extra-fine : (fault : Option DaemonFault) → fault ≡ None → extra fault ≡ 0
@@ -108,77 +119,54 @@ module _ {D : Type 0} {K : Type 0} (g : Ghosts D) (h : SinkGhosts K) (a b c : Da
   abbrev kept : (fault : DaemonFault) → b.fault ≢ Some fault
   kept fault is = none≢some fault (sym fine ∙ is)
 
-  no_cut : joined first.batches ++ first.cut ≡ joined first.batches
-  no_cut = ap (λ us. joined first.batches ++ us) (none-in_flight b.fault _ first.cut fine first.in_flight) ∙ append-nil (joined first.batches)
+  no_cut : first.more ++ first.cut ≡ first.more
+  no_cut = ap (λ rs. first.more ++ rs) (none-in_flight b.fault _ first.cut fine first.in_flight) ∙ append-nil first.more
 
-  place : durable b ≡ durable a + length (joined first.batches)
+  place : durable b ≡ durable a + length (units_of first.more)
   place = omega (
     arith,
     ap (λ (k : Constants). k.start) first.constants,
     ap length first.sent,
-    length-append (sent_of a.flusher)
-        (joined first.batches),
+    length-append (sent_of a.flusher) (units_of first.more),
   )
 
-  moved : (opening : List ℕ) → (opening ++ sent_of a.flusher) ++ joined first.batches ≡ opening ++ sent_of b.flusher
-  moved opening = append_assoc opening (sent_of a.flusher) (joined first.batches) ∙ ap (λ us. opening ++ us) (sym first.sent)
+  moved : (opening : List ℕ) → (opening ++ sent_of a.flusher) ++ units_of first.more ≡ opening ++ sent_of b.flusher
+  moved opening = append_assoc opening (sent_of a.flusher) (units_of first.more) ∙ ap (λ us. opening ++ us) (sym first.sent)
 
-  units : joined (first.batches ++ second.batches) ++ second.cut ≡ joined first.batches ++ (joined second.batches ++ second.cut)
-  units = ap (λ us. us ++ second.cut) (joined-append first.batches second.batches)
-      ∙ append_assoc (joined first.batches) (joined second.batches) second.cut
+  records : (first.more ++ second.more) ++ second.cut ≡ first.more ++ (second.more ++ second.cut)
+  records = append_assoc first.more second.more second.cut
 
-  HoldsSome-first : (opening c' : List ℕ)
-      → HoldsSome (opening ++ sent_of a.flusher) (joined first.batches ++ first.cut) (durable a) (lsns_of b.flusher) c'
-      → HoldsSome (opening ++ sent_of a.flusher) (joined (first.batches ++ second.batches) ++ second.cut) (durable a) (lsns_of c.flusher) c'
-  HoldsSome-first opening c' some =
-      subst (λ us. HoldsSome (opening ++ sent_of a.flusher) us (durable a) (lsns_of c.flusher) c') (sym units)
-      (subst (λ lsns. HoldsSome (opening ++ sent_of a.flusher) (joined first.batches ++ (joined second.batches ++ second.cut))
-      (durable a) lsns c') (sym second.seen)
-      (HoldsSome-more (opening ++ sent_of a.flusher) (joined first.batches) (joined second.batches ++ second.cut) (durable a) second.newer
-      (lsns_of b.flusher) c'
-      (subst (λ us. HoldsSome (opening ++ sent_of a.flusher) us (durable a) (lsns_of b.flusher) c') no_cut some)))
+  HoldsFront-first : (opening c' : List ℕ) → HoldsFront (opening ++ sent_of a.flusher) (first.more ++ first.cut) c'
+      → HoldsFront (opening ++ sent_of a.flusher) ((first.more ++ second.more) ++ second.cut) c'
+  HoldsFront-first opening c' some =
+      subst (λ rs. HoldsFront (opening ++ sent_of a.flusher) rs c') (sym records)
+      (HoldsFront-more (opening ++ sent_of a.flusher) first.more (second.more ++ second.cut) c'
+      (subst (λ rs. HoldsFront (opening ++ sent_of a.flusher) rs c') no_cut some))
 
-  HoldsSome-second : (opening c' : List ℕ)
-      → HoldsSome (opening ++ sent_of b.flusher) (joined second.batches ++ second.cut) (durable b) (lsns_of c.flusher) c'
-      → HoldsSome (opening ++ sent_of a.flusher) (joined (first.batches ++ second.batches) ++ second.cut) (durable a) (lsns_of c.flusher) c'
-  HoldsSome-second opening c' some =
-      subst (λ us. HoldsSome (opening ++ sent_of a.flusher) us (durable a) (lsns_of c.flusher) c') (sym units)
-      (HoldsSome-behind (opening ++ sent_of a.flusher) (joined first.batches) (joined second.batches ++ second.cut) (durable a)
-      (lsns_of c.flusher) c'
-      (subst (λ us. HoldsSome us (joined second.batches ++ second.cut) (durable a + length (joined first.batches)) (lsns_of c.flusher) c')
-      (sym (moved opening))
-      (subst (λ n. HoldsSome (opening ++ sent_of b.flusher) (joined second.batches ++ second.cut) n (lsns_of c.flusher) c') place some)))
+  HoldsFront-second : (opening c' : List ℕ) → HoldsFront (opening ++ sent_of b.flusher) (second.more ++ second.cut) c'
+      → HoldsFront (opening ++ sent_of a.flusher) ((first.more ++ second.more) ++ second.cut) c'
+  HoldsFront-second opening c' some =
+      subst (λ rs. HoldsFront (opening ++ sent_of a.flusher) rs c') (sym records)
+      (HoldsFront-behind (opening ++ sent_of a.flusher) first.more (second.more ++ second.cut) c'
+      (subst (λ us. HoldsFront us (second.more ++ second.cut) c') (sym (moved opening)) some))
 
-  -- where the records of the second part start
-  seam : (lists : List (List Rec)) → SpellEach first.batches lists → durable b ≡ durable a + length (units_of (all_of lists))
-  seam lists spells = place ∙ ap (λ us. durable a + length us) (joined-spelled first.batches lists spells)
+  told : (first.text ≡ text_of a.voice (durable a) first.more) × (b.tally ≡ counted a.tally first.more)
+  told = first.all (kept WriteFault)
 
-  front : (lists : List (List Rec)) → SpellEach (first.batches ++ second.batches) lists
-      → TellsFront a.voice (durable a) (all_of lists) (first.text ++ second.text) a.tally c.tally
-  front lists spells =
-      let divided = SpellEach-divided first.batches second.batches lists spells in
-      let told = first.all (kept WriteFault) divided.front divided.spells_front in
-      subst (λ rs. TellsFront a.voice (durable a) rs (first.text ++ second.text) a.tally c.tally)
-      (sym (ap all_of divided.whole ∙ all_of-append divided.front divided.rest))
-      (TellsFront-behind a.voice (durable a) (all_of divided.front)
-      (all_of divided.rest) first.text second.text a.tally b.tally c.tally told.0 told.1
-      (subst (λ n. TellsFront a.voice n (all_of divided.rest) second.text b.tally c.tally) (seam divided.front divided.spells_front)
-      (subst (λ v. TellsFront v (durable b) (all_of divided.rest) second.text b.tally c.tally) first.same.voice
-      (second.front divided.rest divided.spells_rest))))
+  front : TellsFront a.voice (durable a) (first.more ++ second.more) (first.text ++ second.text) a.tally c.tally
+  front =
+      TellsFront-behind a.voice (durable a) first.more second.more first.text second.text a.tally b.tally c.tally told.0 told.1
+      (subst (λ n. TellsFront a.voice n second.more second.text b.tally c.tally) place
+      (subst (λ v. TellsFront v (durable b) second.more second.text b.tally c.tally) first.same.voice second.front))
 
-  all : c.fault ≢ Some WriteFault → (lists : List (List Rec)) → SpellEach (first.batches ++ second.batches) lists
-      → (first.text ++ second.text ≡ text_of a.voice (durable a) (all_of lists)) × (c.tally ≡ counted a.tally (all_of lists))
-  all written lists spells =
-      let divided = SpellEach-divided first.batches second.batches lists spells in
-      let told = first.all (kept WriteFault) divided.front divided.spells_front in
-      let more = second.all written divided.rest divided.spells_rest in
-      let records : all_of divided.front ++ all_of divided.rest ≡ all_of lists =
-      sym (ap all_of divided.whole ∙ all_of-append divided.front divided.rest) in (
-        (λ i. told.0 i ++ (more.0 ∙ ap (λ v. text_of v (durable b) (all_of divided.rest)) first.same.voice
-            ∙ ap (λ n. text_of a.voice n (all_of divided.rest)) (seam divided.front divided.spells_front)) i)
-            ∙ sym (text_of-append a.voice (durable a) (all_of divided.front) (all_of divided.rest)) ∙ ap (text_of a.voice (durable a)) records,
-        more.1 ∙ ap (λ t. counted t (all_of divided.rest)) told.1 ∙ sym (counted-append a.tally (all_of divided.front) (all_of divided.rest))
-            ∙ ap (counted a.tally) records,
+  all : c.fault ≢ Some WriteFault → (first.text ++ second.text ≡ text_of a.voice (durable a) (first.more ++ second.more))
+      × (c.tally ≡ counted a.tally (first.more ++ second.more))
+  all written =
+      let more = second.all written in (
+        (λ i. told.0 i ++ (more.0 ∙ ap (λ v. text_of v (durable b) second.more) first.same.voice
+            ∙ ap (λ n. text_of a.voice n second.more) place) i)
+            ∙ sym (text_of-append a.voice (durable a) first.more second.more),
+        more.1 ∙ ap (λ t. counted t second.more) told.1 ∙ sym (counted-append a.tally first.more second.more),
       )
 
   reason : (fault : Option DaemonFault) → HasReason g h b c fault → HasReason g h a c fault
@@ -189,23 +177,23 @@ module _ {D : Type 0} {K : Type 0} (g : Ghosts D) (h : SinkGhosts K) (a b c : Da
   pub Ran-trans : Ran g h a c
   Ran-trans = record {
     was_fine = first.was_fine;
-    batches = first.batches ++ second.batches;
+    more = first.more ++ second.more;
     cut = second.cut;
     text = first.text ++ second.text;
-    newer = second.newer ++ first.newer;
+    spellable = subst (AllByRecursion IsSpellable) (sym records)
+        (spellable-append first.more (second.more ++ second.cut) (subst (AllByRecursion IsSpellable) no_cut first.spellable) second.spellable);
     same = IsSameDaemon-trans g h a b c first.same second.same;
     constants = second.constants ∙ first.constants;
-    seen = second.seen ∙ ap (λ lsns. second.newer ++ lsns) first.seen ∙ sym (append_assoc second.newer first.newer (lsns_of a.flusher));
-    sent = second.sent ∙ ap (λ us. us ++ joined second.batches) first.sent
-        ∙ append_assoc (sent_of a.flusher) (joined first.batches) (joined second.batches)
-        ∙ ap (λ us. sent_of a.flusher ++ us) (sym (joined-append first.batches second.batches));
+    sent = second.sent ∙ ap (λ us. us ++ units_of second.more) first.sent
+        ∙ append_assoc (sent_of a.flusher) (units_of first.more) (units_of second.more)
+        ∙ ap (λ us. sent_of a.flusher ++ us) (sym (flat_map-append spelling first.more second.more));
     in_flight = second.in_flight;
     may_turn = second.may_turn;
     moments = λ honest opening stand.
         Leaves-trans g.moment g.images_since _ a.flusher.disk.now b.flusher.disk.now c.flusher.disk.now
-        (Leaves-weaken g.moment g.images_since _ _ a.flusher.disk.now b.flusher.disk.now (HoldsSome-first opening)
+        (Leaves-weaken g.moment g.images_since _ _ a.flusher.disk.now b.flusher.disk.now (HoldsFront-first opening)
         (first.moments honest opening stand))
-        (Leaves-weaken g.moment g.images_since _ _ b.flusher.disk.now c.flusher.disk.now (HoldsSome-second opening)
+        (Leaves-weaken g.moment g.images_since _ _ b.flusher.disk.now c.flusher.disk.now (HoldsFront-second opening)
         (second.moments (first.same.flusher.honest.0 honest) opening (first.prefix (kept DiskFault) honest opening stand)));
     prefix = λ sent honest opening stand. second.prefix sent (first.same.flusher.honest.0 honest) opening
         (first.prefix (kept DiskFault) honest opening stand);
@@ -219,7 +207,7 @@ module _ {D : Type 0} {K : Type 0} (g : Ghosts D) (h : SinkGhosts K) (a b c : Da
       first.count honest,
       second.count (first.same.flusher.honest.0 honest),
       extra-fine b.fault fine,
-      length-append first.batches second.batches,
+      length-append first.more second.more,
     );
   }
 
@@ -236,3 +224,28 @@ pub Later-standing : {D : Type 0} {K : Type 0} (g : Ghosts D) (h : SinkGhosts K)
     → (view_of b.flusher.seat).standing ≡ (view_of a.flusher.seat).standing
 Later-standing g h a b (inl same) = ap (λ d. (view_of d.flusher.seat).standing) same
 Later-standing g h a b (inr ran) = ran.same.flusher.workers
+
+-- it is the same daemon, whose counts of faults never fall
+pub Later-same : {D : Type 0} {K : Type 0} (g : Ghosts D) (h : SinkGhosts K) (a b : Daemon D K) → Later g h a b → IsSameDaemon g h a b
+Later-same g h a b (inl same) = subst (IsSameDaemon g h a) (sym same) (record {
+  flusher = record {
+    table = refl;
+    seat = record { table_is = refl; slots = refl; constants = refl; entries = refl; books = refl };
+    workers = refl;
+    disk = refl;
+    honest = (λ honest. honest, λ honest. honest);
+    later = omega arith;
+  };
+  sink = refl;
+  voice = refl;
+  disk_faults = omega arith;
+  sink_faults = omega arith;
+})
+Later-same g h a b (inr ran) = ran.same
+
+-- what befell it since nothing had, has its reason
+pub Later-reason : {D : Type 0} {K : Type 0} (g : Ghosts D) (h : SinkGhosts K) (a b : Daemon D K) → Later g h a b → a.fault ≡ None
+    → HasReason g h a b b.fault
+Later-reason g h a b (inl same) was_fine =
+    subst (λ d. HasReason g h a d d.fault) (sym same) (subst (HasReason g h a a) (sym was_fine) refl)
+Later-reason g h a b (inr ran) _ = ran.reason

@@ -1,23 +1,26 @@
 -- One turn, and one question whether the log is drained, as what turns leave.
-use Rattle.std.proofs.Common.{◌≡◌, ◌≢◌, ◌↔◌, ◌∙◌, sym, ap, refl, subst, ℕ, ◌+◌, ◌*◌, List, [], ◌∷◌, ◌++◌, length, append-nil, arith, Some, None}
+use Rattle.std.proofs.Common.{◌≡◌, ◌≢◌, ◌↔◌, ◌∙◌, sym, ap, refl, subst, ℕ, ◌+◌, ◌*◌, ◌≤◌, ◌<◌, List, [], ◌∷◌, ◌++◌, length, append-nil, arith, Some, None}
 use Rattle.std.specs.Io.KnownBytes.{Appends}
 use Rattle.std.proofs.KnownBytes.{Appends-nil}
 use Rattle.log_disk.specs.declared.disk.LogDisk.{Ghosts}
 use Rattle.log_disk.specs.declared.sink.Sink.{Ghosts as SinkGhosts}
+use Rattle.std.specs.List.{AllByRecursion}
 use Rattle.log_record.specs.declared.rec.Rec.{Rec}
+use Rattle.log_record.specs.Spelling.{IsSpellable}
 use Rattle.log_table.specs.declared.view.View.{View}
-use Rattle.log_table.specs.Seats.{view_of}
-use Rattle.segment_file.specs.File.{joined}
+use Rattle.log_table.specs.Seats.{Becomes, view_of}
 use Rattle.flusher.specs.declared.flusher.Drained.{Drained}
 use Rattle.flusher.specs.declared.flusher.Drained.TheVariants.{At, Active, Behind}
 use Rattle.flusher.specs.declared.flusher.Flusher.{Flusher}
-use Rattle.flusher.specs.Flushing.{Asks, sent_of, lsns_of}
+use Rattle.flusher.specs.Flushing.{Asks, IsSameSeat, sent_of}
+use Rattle.flusher.specs.Records.{Spells}
+use Rattle.flusher.proofs.Flushes.{IsSameSeat-becomes}
 use Rattle.commit_pipeline.specs.declared.daemon.Daemon.{Daemon}
 use Rattle.commit_pipeline.specs.declared.daemon.DaemonFault.TheVariants.{DiskFault, WriteFault}
 use Rattle.commit_pipeline.specs.declared.tally.Tally.{Tally}
 use Rattle.commit_pipeline.specs.declared.voice.Voice.{Voice}
-use Rattle.commit_pipeline.specs.EndLines.{Spells, text_of}
-use Rattle.commit_pipeline.specs.Later.{SpellEach, all_of, InFlight, HasReason, extra, Ran}
+use Rattle.commit_pipeline.specs.EndLines.{text_of}
+use Rattle.commit_pipeline.specs.Later.{InFlight, HasReason, extra, Ran}
 use Rattle.commit_pipeline.specs.Telling.{TellsFront, counted}
 use Rattle.commit_pipeline.specs.Turning.{MayTurn, IsSameDaemon, Idles, SendsLines, LosesUnits, LosesLines, durable}
 use Rattle.commit_pipeline.proofs.FlewLemmas.{Flew, Flew-step, Flew-sends, Flew-loses, Flew-stop}
@@ -25,22 +28,21 @@ use Rattle.commit_pipeline.proofs.RanLemmas.{none≢some}
 use Rattle.commit_pipeline.proofs.ToldLemmas.{text_of-none, counted-none}
 
 module _ {D : Type 0} {K : Type 0} (g : Ghosts D) (h : SinkGhosts K) (old new : Daemon D K) where
-  Ran-of : (batches : List (List ℕ)) (cut text : List ℕ) (most : ℕ) → old.fault ≡ None → Flew g (joined batches) cut most old.flusher new.flusher
+  Ran-of : (more cut : List Rec) (text : List ℕ) (most : ℕ) → old.fault ≡ None → AllByRecursion IsSpellable (more ++ cut)
+      → Flew g more cut most old.flusher new.flusher
       → IsSameDaemon g h old new → InFlight new.fault (view_of new.flusher.seat) cut → (new.fault ≡ None → MayTurn g new)
       → (new.fault ≢ Some DiskFault → cut ≡ []) → Appends (h.held_bytes old.sink.now) (h.held_bytes new.sink.now) text
-      → ((lists : List (List Rec)) → SpellEach batches lists → TellsFront old.voice (durable old) (all_of lists) text old.tally new.tally)
-      → (new.fault ≢ Some WriteFault → (lists : List (List Rec)) → SpellEach batches lists
-      → (text ≡ text_of old.voice (durable old) (all_of lists)) × (new.tally ≡ counted old.tally (all_of lists)))
-      → HasReason g h old new new.fault → most ≡ 4 * length batches + extra new.fault → Ran g h old new
-  Ran-of batches cut text most fine flew same in_flight may_turn cuts appended front all reason count = record {
+      → TellsFront old.voice (durable old) more text old.tally new.tally
+      → (new.fault ≢ Some WriteFault → (text ≡ text_of old.voice (durable old) more) × (new.tally ≡ counted old.tally more))
+      → HasReason g h old new new.fault → most ≤ 4 * length more + extra new.fault → Ran g h old new
+  Ran-of more cut text most fine spellable flew same in_flight may_turn cuts appended front all reason count = record {
     was_fine = fine;
-    batches = batches;
+    more = more;
     cut = cut;
     text = text;
-    newer = flew.newer;
+    spellable = spellable;
     same = same;
     constants = flew.constants;
-    seen = flew.seen;
     sent = flew.sent;
     in_flight = in_flight;
     may_turn = may_turn;
@@ -55,14 +57,11 @@ module _ {D : Type 0} {K : Type 0} (g : Ghosts D) (h : SinkGhosts K) (old new : 
   }
 
   -- of no records nothing is told
-  nothing-all : new.tally ≡ old.tally → (lists : List (List Rec)) → SpellEach [] lists
-      → ([] ≡ text_of old.voice (durable old) (all_of lists)) × (new.tally ≡ counted old.tally (all_of lists))
-  nothing-all same [] spells = (text_of-none old.voice (durable old), same ∙ counted-none old.tally)
-  nothing-all same (records ∷ lists) spells = absurd spells
+  nothing-all : new.tally ≡ old.tally → ([] ≡ text_of old.voice (durable old) []) × (new.tally ≡ counted old.tally [])
+  nothing-all same = (text_of-none old.voice (durable old), same ∙ counted-none old.tally)
 
-  nothing-front : new.tally ≡ old.tally → (lists : List (List Rec)) → SpellEach [] lists
-      → TellsFront old.voice (durable old) (all_of lists) [] old.tally new.tally
-  nothing-front same [] spells = record {
+  nothing-front : new.tally ≡ old.tally → TellsFront old.voice (durable old) [] [] old.tally new.tally
+  nothing-front same = record {
     seen = [];
     unseen = [];
     whole = refl;
@@ -70,7 +69,6 @@ module _ {D : Type 0} {K : Type 0} (g : Ghosts D) (h : SinkGhosts K) (old new : 
     lines = sym (text_of-none old.voice (durable old));
     counts = same ∙ counted-none old.tally;
   }
-  nothing-front same (records ∷ lists) spells = absurd spells
 
   -- whatever is told whole is told in front
   front-whole : (voice : Voice) (at : ℕ) (records : List Rec) (text : List ℕ) (before after : Tally)
@@ -92,43 +90,38 @@ module _ {D : Type 0} {K : Type 0} (g : Ghosts D) (h : SinkGhosts K) (old new : 
       → new ≡ record old { flusher = new.flusher }
       → (view_of new.flusher.seat).sending.stop ≡ (view_of old.flusher.seat).sending.stop → Ran g h old new
   Ran-quiet ready flew same may rest stop =
-      Ran-of [] [] [] 0 ready.fine flew same (fine-flight may.fine flew.read) (λ fine. may) (λ sent. refl)
+      Ran-of [] [] [] 0 ready.fine tt flew same (fine-flight may.fine flew.read) (λ fine. may) (λ sent. refl)
       (subst (λ (d : Daemon D K). Appends (h.held_bytes old.sink.now) (h.held_bytes d.sink.now) []) (sym rest)
       (Appends-nil (h.held_bytes old.sink.now)))
       (nothing-front (ap (λ (d : Daemon D K). d.tally) rest)) (λ written. nothing-all (ap (λ (d : Daemon D K). d.tally) rest))
       (subst (HasReason g h old new) (sym may.fine) stop) (omega (arith, ap extra may.fine))
 
-  one-batch : (units cut : List ℕ) → Flew g units cut 4 old.flusher new.flusher → Flew g (joined (units ∷ [])) cut 4 old.flusher new.flusher
-  one-batch units cut flew = subst (λ us. Flew g us cut 4 old.flusher new.flusher) (sym (append-nil units)) flew
-
-  -- of one batch
-  SpellEach-one : (units : List ℕ) (lists : List (List Rec)) → SpellEach (units ∷ []) lists → Spells units (all_of lists)
-  SpellEach-one units [] spells = absurd spells
-  SpellEach-one units (records ∷ []) spells = subst (Spells units) (sym (append-nil records)) spells.0
-  SpellEach-one units (records ∷ (more ∷ lists)) spells = absurd spells.1
+  -- what some units spell is some record
+  some-records : (units : List ℕ) (records : List Rec) → Spells units records → 0 < length units → 1 ≤ length records
+  some-records units [] spelled some = absurd (omega (arith, some, ap length spelled.units_are))
+  some-records units (record_ ∷ records) spelled some = omega arith
 
   pub Ran-sent : (lines to : ℕ) → MayTurn g old → SendsLines g h old new lines to → IsSameDaemon g h old new → MayTurn g new → Ran g h old new
   Ran-sent lines to ready sent same may =
       let is = ap (λ m. m.0) sent.flush.seat.me in
       let flew = Flew-sends g old.flusher new.flusher (durable old) to ready.flusher sent.flush in
-      let all : (lists : List (List Rec)) → SpellEach (sent.flush.units ∷ []) lists
-      → (sent.text ≡ text_of old.voice (durable old) (all_of lists)) × (new.tally ≡ counted old.tally (all_of lists)) = λ lists spells.
-      let told = sent.tells (all_of lists) (SpellEach-one sent.flush.units lists spells) in (told.0, told.2) in
-      Ran-of (sent.flush.units ∷ []) [] sent.text 4 ready.fine (one-batch sent.flush.units [] flew) same (fine-flight may.fine flew.read)
-      (λ fine. may) (λ disk. refl)
-      sent.appended (λ lists spells. front-whole old.voice (durable old) (all_of lists) sent.text old.tally new.tally (all lists spells).0
-      (all lists spells).1) (λ written. all)
-      (subst (HasReason g h old new) (sym may.fine) (ap (λ (v : View). v.sending.stop) is)) (omega (arith, ap extra may.fine))
+      let some = some-records sent.flush.units sent.flush.records sent.flush.spelled (omega (arith, sent.flush.some, sent.flush.whole)) in
+      Ran-of sent.flush.records [] sent.text 4 ready.fine
+      (subst (AllByRecursion IsSpellable) (sym (append-nil sent.flush.records)) sent.flush.spelled.spellable) flew same
+      (fine-flight may.fine flew.read) (λ fine. may) (λ disk. refl) sent.appended
+      (front-whole old.voice (durable old) sent.flush.records sent.text old.tally new.tally sent.tells.text_is sent.tells.counts)
+      (λ written. (sent.tells.text_is, sent.tells.counts))
+      (subst (HasReason g h old new) (sym may.fine) (ap (λ (v : View). v.sending.stop) is)) (omega (arith, some, ap extra may.fine))
 
   -- the disk failed
   pub Ran-lost : MayTurn g old → LosesUnits g old new → IsSameDaemon g h old new → Ran g h old new
   Ran-lost ready lost same =
       let fault : new.fault ≡ Some DiskFault = ap (λ (d : Daemon D K). d.fault) lost.rest in
       let is = ap (λ m. m.0) lost.stops.seat.me in
-      let flew = Flew-stop g [] lost.flush.units 4 1 old.flusher lost.lost new.flusher
+      let flew = Flew-stop g [] lost.flush.records 4 1 old.flusher lost.lost new.flusher
       (Flew-loses g old.flusher lost.lost ready.flusher lost.flush) lost.stops in
-      Ran-of [] lost.flush.units [] 4 ready.fine flew same
-      (subst (λ f. InFlight f (view_of new.flusher.seat) lost.flush.units) (sym fault) flew.read)
+      Ran-of [] lost.flush.records [] 4 ready.fine lost.flush.spelled.spellable flew same
+      (subst (λ f. InFlight f (view_of new.flusher.seat) lost.flush.records) (sym fault) flew.read)
       (λ fine. absurd (none≢some DiskFault (sym fine ∙ fault))) (λ sent. absurd (sent fault))
       (subst (λ (d : Daemon D K). Appends (h.held_bytes old.sink.now) (h.held_bytes d.sink.now) []) (sym lost.rest)
       (Appends-nil (h.held_bytes old.sink.now)))
@@ -139,20 +132,24 @@ module _ {D : Type 0} {K : Type 0} (g : Ghosts D) (h : SinkGhosts K) (old new : 
   pub Ran-unwritten : MayTurn g old → LosesLines g h old new → IsSameDaemon g h old new → Ran g h old new
   Ran-unwritten ready lost same =
       let is = ap (λ m. m.0) lost.stops.seat.me in
-      let flew = Flew-stop g lost.flush.units [] 4 2 old.flusher lost.sent new.flusher
+      let flew = Flew-stop g lost.flush.records [] 4 2 old.flusher lost.sent new.flusher
       (Flew-sends g old.flusher lost.sent (durable old) lost.to ready.flusher lost.flush) lost.stops in
-      Ran-of (lost.flush.units ∷ []) [] lost.text 4 ready.fine (one-batch lost.flush.units [] flew) same
+      let some = some-records lost.flush.units lost.flush.records lost.flush.spelled (omega (arith, lost.flush.some, lost.flush.whole)) in
+      Ran-of lost.flush.records [] lost.text 4 ready.fine
+      (subst (AllByRecursion IsSpellable) (sym (append-nil lost.flush.records)) lost.flush.spelled.spellable) flew same
       (subst (λ f. InFlight f (view_of new.flusher.seat) []) (sym lost.fault) (refl, flew.read))
       (λ fine. absurd (none≢some WriteFault (sym fine ∙ lost.fault))) (λ sent. refl) lost.appended
-      (λ lists spells. lost.tells (all_of lists) (SpellEach-one lost.flush.units lists spells)) (λ written. absurd (written lost.fault))
-      (subst (HasReason g h old new) (sym lost.fault) (lost.rose, ap (λ (v : View). v.sending.stop) is)) (omega (arith, ap extra lost.fault))
+      lost.tells (λ written. absurd (written lost.fault))
+      (subst (HasReason g h old new) (sym lost.fault) (lost.rose, ap (λ (v : View). v.sending.stop) is)) (omega (arith, some, ap extra lost.fault))
 
   module _ (rest : new ≡ record old { flusher = new.flusher }) (seat_alone : new.flusher ≡ record old.flusher { seat = new.flusher.seat }) where
     -- where the seat alone made steps, it is the same daemon
-    IsSameDaemon-step : (view_of new.flusher.seat).standing ≡ (view_of old.flusher.seat).standing → IsSameDaemon g h old new
-    IsSameDaemon-step workers = record {
+    IsSameDaemon-step : IsSameSeat old.flusher.seat new.flusher.seat → (view_of new.flusher.seat).standing ≡ (view_of old.flusher.seat).standing
+        → IsSameDaemon g h old new
+    IsSameDaemon-step seat workers = record {
       flusher = record {
         table = ap (λ (f : Flusher D). f.table) seat_alone;
+        seat = seat;
         workers = workers;
         disk = ap (λ (f : Flusher D). f.disk.ghost_name) seat_alone;
         honest = subst (λ (f : Flusher D). g.honest old.flusher.disk.now ↔ g.honest f.disk.now) (sym seat_alone)
@@ -166,23 +163,24 @@ module _ {D : Type 0} {K : Type 0} (g : Ghosts D) (h : SinkGhosts K) (old new : 
     }
 
     -- the view after steps that change nothing but what was seen
-    Ran-steps : (view : View) (newer : List ℕ) → view_of new.flusher.seat ≡ view → MayTurn g old → MayTurn g new
-        → view.constants ≡ (view_of old.flusher.seat).constants → view.standing ≡ (view_of old.flusher.seat).standing
-        → view.seen.lsns ≡ newer ++ lsns_of old.flusher → view.sending.sent ≡ sent_of old.flusher
+    Ran-steps : (view : View) → Becomes old.flusher.seat new.flusher.seat view → MayTurn g old → MayTurn g new
+        → view.constants ≡ (view_of old.flusher.seat).constants → view.entries ≡ (view_of old.flusher.seat).entries
+        → view.books ≡ (view_of old.flusher.seat).books → view.standing ≡ (view_of old.flusher.seat).standing
+        → view.sending.sent ≡ sent_of old.flusher
         → view.sending.read ≡ (view_of old.flusher.seat).sending.read → view.sending.stop ≡ (view_of old.flusher.seat).sending.stop
         → Ran g h old new
-    Ran-steps view newer is ready may constants standing seen sent read stop =
+    Ran-steps view becomes ready may constants entries books standing sent read stop =
+        let is = ap (λ m. m.0) becomes.me in
         Ran-quiet ready
-        (Flew-step g old.flusher new.flusher newer seat_alone (ap (λ (v : View). v.constants) is ∙ constants)
-        (ap (λ (v : View). v.seen.lsns) is ∙ seen) (ap (λ (v : View). v.sending.sent) is ∙ sent)
+        (Flew-step g old.flusher new.flusher seat_alone (ap (λ (v : View). v.constants) is ∙ constants)
+        (ap (λ (v : View). v.sending.sent) is ∙ sent)
         (ap (λ (v : View). v.sending.read) is ∙ read ∙ ready.flusher.unread))
-        (IsSameDaemon-step (ap (λ (v : View). v.standing) is ∙ standing)) may rest (ap (λ (v : View). v.sending.stop) is ∙ stop)
+        (IsSameDaemon-step (IsSameSeat-becomes _ _ view becomes constants entries books) (ap (λ (v : View). v.standing) is ∙ standing)) may rest (ap (λ (v : View). v.sending.stop) is ∙ stop)
 
     pub Ran-asked : (answer : Drained) → Asks old.flusher new.flusher answer → MayTurn g old → MayTurn g new → Ran g h old new
-    Ran-asked (At lsn) asks ready may = Ran-steps _ (lsn ∷ []) (ap (λ m. m.0) asks.2.me) ready may refl refl refl refl refl refl
-    Ran-asked (Active n) asks ready may = Ran-steps _ [] (ap (λ m. m.0) asks.1.me) ready may refl refl refl refl refl refl
-    Ran-asked (Behind exposed durable) asks ready may = Ran-steps _ (exposed ∷ []) (ap (λ m. m.0) asks.2.me) ready may refl refl refl refl refl refl
+    Ran-asked (At lsn) asks ready may = Ran-steps _ asks.2 ready may refl refl refl refl refl refl refl
+    Ran-asked (Active n) asks ready may = Ran-steps _ asks.1 ready may refl refl refl refl refl refl refl
+    Ran-asked (Behind exposed durable) asks ready may = Ran-steps _ asks.2 ready may refl refl refl refl refl refl refl
 
   pub Ran-idle : Idles old new → MayTurn g old → MayTurn g new → Ran g h old new
-  Ran-idle idles ready may = Ran-steps idles.rest idles.flush.rest _ (durable old ∷ [])
-      (ap (λ m. m.0) idles.flush.seat.me) ready may refl refl refl refl refl refl
+  Ran-idle idles ready may = Ran-steps idles.rest idles.flush.rest _ idles.flush.seat ready may refl refl refl refl refl refl refl

@@ -10,11 +10,12 @@ use Rattle.log_record.specs.Spelling.{spelling, IsSpellable, BeginsWith}
 use Rattle.log_record.proofs.BoundLemmas.{length-spelling}
 use Rattle.log_record.proofs.Fronts.{spelling-parts_of}
 use Rattle.log_record.proofs.SpellingLemmas.{spelling-append-injective}
+use Rattle.flusher.specs.Records.{Spells}
 use Rattle.commit_pipeline.specs.declared.tally.Tally.{Tally}
 use Rattle.commit_pipeline.specs.declared.voice.Voice.{Voice}
 use Rattle.commit_pipeline.specs.declared.voice.Voice.TheVariants.{Lines, Count}
-use Rattle.commit_pipeline.specs.EndLines.{Spells, text_of, lines_in, line_said, count_said, is_done, is_refused}
-use Rattle.commit_pipeline.specs.Telling.{TellsFront, counted}
+use Rattle.commit_pipeline.specs.EndLines.{text_of, lines_in, line_said, count_said, is_done, is_refused}
+use Rattle.commit_pipeline.specs.Telling.{TellsAll, TellsFront, counted}
 use Rattle.commit_pipeline.proofs.LineLemmas.{text_of-append, text_of-one, lines_in-append, lines_in-one, counted-append}
 
 -- the units from one index to another, where there are so many, are those of the window
@@ -192,11 +193,15 @@ module _ (voice : Voice) (from at : ℕ) (units text : List ℕ) (lines : ℕ) (
     }
 
   -- no units are left
-  pub told-all : length units ≤ at → (text ≡ text_of voice from records) × (lines ≡ lines_in voice records) × (after ≡ counted before records)
+  pub told-all : length units ≤ at → TellsAll voice from records text lines before after
   told-all end =
       let all = by-unseen told.unseen told.left in
       let seen : told.seen ≡ records = sym (append-nil told.seen) ∙ ap (λ rs. told.seen ++ rs) (sym all) ∙ sym told.whole in
-      (told.said ∙ ap (text_of voice from) seen, told.lines_are ∙ ap (lines_in voice) seen, told.counts ∙ ap (counted before) seen)
+      record {
+        text_is = told.said ∙ ap (text_of voice from) seen;
+        lines_are = told.lines_are ∙ ap (lines_in voice) seen;
+        counts = told.counts ∙ ap (counted before) seen;
+      }
     where
       by-unseen : (unseen : List Rec) → drop at units ≡ units_of unseen → unseen ≡ []
       by-unseen [] left = refl

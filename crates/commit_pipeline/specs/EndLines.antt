@@ -1,11 +1,9 @@
 -- The lines of end records: how a transaction ended, and the LSN at which its end record ends. A line ends with LF.
-use Rattle.std.specs.Prelude.{◌≡◌, ℕ, ◌+◌, List, [], ◌∷◌, ◌++◌, codes}
-use Rattle.std.specs.List.{AllByRecursion}
+use Rattle.std.specs.Prelude.{ℕ, ◌+◌, List, [], ◌∷◌, ◌++◌, codes}
 use Rattle.lsn_space.specs.Number.{number_text}
 use Rattle.log_record.specs.declared.rec.Rec.{Rec}
 use Rattle.log_record.specs.declared.rec.Rec.TheVariants.{Genesis, Update, Commit, Short, Over, Note}
-use Rattle.log_record.specs.LogList.{units_of, size_of}
-use Rattle.log_record.specs.Spelling.{IsSpellable}
+use Rattle.log_record.specs.LogList.{size_of}
 use Rattle.commit_pipeline.specs.declared.voice.Voice.{Voice}
 use Rattle.commit_pipeline.specs.declared.voice.Voice.TheVariants.{Lines, Count}
 
@@ -64,11 +62,6 @@ done_in (rec ∷ records) = is_done rec + done_in records
 abbrev pub refused_in : List Rec → ℕ
 refused_in [] = 0
 refused_in (rec ∷ records) = is_refused rec + refused_in records
-
--- the units are the spellings of these records, one after another
-pub record Spells (units : List ℕ) (records : List Rec) : Type 0 where
-  pub spellable : AllByRecursion IsSpellable records
-  pub units_are : units ≡ units_of records
 
 -- what a daemon with this voice writes of records
 abbrev pub text_of : Voice → ℕ → List Rec → List ℕ

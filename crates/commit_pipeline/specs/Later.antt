@@ -1,46 +1,36 @@
 -- What any number of turns leave, of which at most the last failed. The relation is reflexive and transitive.
-use Rattle.std.specs.Prelude.{◌≡◌, ◌≢◌, ◌⊎◌, ℕ, ◌+◌, ◌*◌, ◌≤◌, List, [], ◌∷◌, ◌++◌, length, Option, Some, None, Contains}
+use Rattle.std.specs.Prelude.{◌≡◌, ◌≢◌, ◌⊎◌, ℕ, ◌+◌, ◌*◌, ◌≤◌, List, [], ◌++◌, length, Option, Some, None}
+use Rattle.std.specs.List.{AllByRecursion}
 use Rattle.std.specs.Io.KnownBytes.{Appends}
 use Rattle.log_disk.specs.Disk.{Leaves}
 use Rattle.log_disk.specs.declared.disk.LogDisk.{Ghosts}
 use Rattle.log_disk.specs.declared.sink.Sink.{Ghosts as SinkGhosts}
 use Rattle.log_disk.specs.Faults.{Rose}
 use Rattle.log_record.specs.declared.rec.Rec.{Rec}
+use Rattle.log_record.specs.LogList.{units_of}
+use Rattle.log_record.specs.Spelling.{IsSpellable}
 use Rattle.log_table.specs.declared.view.View.{View}
 use Rattle.log_table.specs.Seats.{view_of}
-use Rattle.segment_file.specs.File.{joined, HoldsUnits}
-use Rattle.flusher.specs.Flushing.{HoldsDurablePrefix, MayHoldBatchInFlight, sent_of, lsns_of}
+use Rattle.segment_file.specs.File.{HoldsUnits}
+use Rattle.flusher.specs.Flushing.{HoldsDurablePrefix, MayHoldBatchInFlight, sent_of}
 use Rattle.commit_pipeline.specs.declared.daemon.Daemon.{Daemon}
 use Rattle.commit_pipeline.specs.declared.daemon.DaemonFault.{DaemonFault}
 use Rattle.commit_pipeline.specs.declared.daemon.DaemonFault.TheVariants.{DiskFault, WriteFault}
-use Rattle.commit_pipeline.specs.EndLines.{Spells, text_of}
+use Rattle.commit_pipeline.specs.EndLines.{text_of}
 use Rattle.commit_pipeline.specs.Telling.{TellsFront, counted}
 use Rattle.commit_pipeline.specs.Turning.{MayTurn, IsSameDaemon, durable}
 
--- each batch spells the records that stand in its place
-abbrev pub SpellEach : List (List ℕ) → List (List Rec) → Type 0
-SpellEach [] [] = Unit {0}
-SpellEach (units ∷ batches) (records ∷ lists) = Spells units records × SpellEach batches lists
-SpellEach _ _ = ⊥
+-- the bytes hold these units, and then those of a front of the records
+pub record HoldsFront (before : List ℕ) (records : List Rec) (bytes : List ℕ) : Type 0 where
+  pub front : List Rec
+  pub rest : List Rec
+  pub whole : records ≡ front ++ rest
+  pub holds : HoldsUnits bytes (before ++ units_of front)
 
--- all the records
-abbrev pub all_of : List (List Rec) → List Rec
-all_of [] = []
-all_of (records ∷ lists) = records ++ all_of lists
-
--- the bytes hold these units and then a front of more, which ends at one of these LSNs: those that a seat saw, which lie between
--- two reservations
-pub record HoldsSome (before more : List ℕ) (at : ℕ) (lsns bytes : List ℕ) : Type 0 where
-  pub front : List ℕ
-  pub rest : List ℕ
-  pub whole : more ≡ front ++ rest
-  pub holds : HoldsUnits bytes (before ++ front)
-  pub seen : Contains lsns (at + length front)
-
--- the units in flight: those that were read when the disk failed, and else none
-abbrev pub InFlight : Option DaemonFault → View → List ℕ → Type 0
+-- the records in flight: those that were read when the disk failed, and else none
+abbrev pub InFlight : Option DaemonFault → View → List Rec → Type 0
 InFlight None view cut = (cut ≡ []) × (view.sending.read ≡ [])
-InFlight (Some DiskFault) view cut = view.sending.read ≡ cut
+InFlight (Some DiskFault) view cut = view.sending.read ≡ units_of cut
 InFlight (Some WriteFault) view cut = (cut ≡ []) × (view.sending.read ≡ [])
 
 -- the count of the object that the fault names rose, and the stop word tells it; without one the stop word is as before
@@ -58,35 +48,33 @@ extra None = 0
 extra (Some DiskFault) = 4
 extra (Some WriteFault) = 0
 
--- Turns of a daemon to which nothing had befallen. `batches` are the units that each of them sent, `cut` those in flight at a
--- fault of the disk, `text` what was written, `newer` the LSNs that were seen meanwhile.
+-- Turns of a daemon to which nothing had befallen. `more` are the records that they sent, `cut` those in flight at a fault of the
+-- disk, and `text` is what was written.
 pub record Ran {D : Type 0} {K : Type 0} (g : Ghosts D) (h : SinkGhosts K) (old new : Daemon D K) : Type 0 where
   pub was_fine : old.fault ≡ None
-  pub batches : List (List ℕ)
-  pub cut : List ℕ
+  pub more : List Rec
+  pub cut : List Rec
   pub text : List ℕ
-  pub newer : List ℕ
+  pub spellable : AllByRecursion IsSpellable (more ++ cut)
   pub same : IsSameDaemon g h old new
   pub constants : (view_of new.flusher.seat).constants ≡ (view_of old.flusher.seat).constants
-  pub seen : lsns_of new.flusher ≡ newer ++ lsns_of old.flusher
-  pub sent : sent_of new.flusher ≡ sent_of old.flusher ++ joined batches
+  pub sent : sent_of new.flusher ≡ sent_of old.flusher ++ units_of more
   pub in_flight : InFlight new.fault (view_of new.flusher.seat) cut
   pub may_turn : new.fault ≡ None → MayTurn g new
   pub moments : g.honest old.flusher.disk.now → (opening : List ℕ) → HoldsDurablePrefix g old.flusher opening
-      → Leaves g.moment g.images_since (HoldsSome (opening ++ sent_of old.flusher) (joined batches ++ cut)
-      (durable old) (lsns_of new.flusher)) old.flusher.disk.now new.flusher.disk.now
+      → Leaves g.moment g.images_since (HoldsFront (opening ++ sent_of old.flusher) (more ++ cut))
+      old.flusher.disk.now new.flusher.disk.now
   pub prefix : new.fault ≢ Some DiskFault → g.honest old.flusher.disk.now → (opening : List ℕ)
       → HoldsDurablePrefix g old.flusher opening → HoldsDurablePrefix g new.flusher opening
   pub torn : g.honest old.flusher.disk.now → (opening : List ℕ)
       → HoldsDurablePrefix g old.flusher opening → MayHoldBatchInFlight g new.flusher opening
   pub appended : Appends (h.held_bytes old.sink.now) (h.held_bytes new.sink.now) text
-  pub front : (lists : List (List Rec)) → SpellEach batches lists
-      → TellsFront old.voice (durable old) (all_of lists) text old.tally new.tally
-  pub all : new.fault ≢ Some WriteFault → (lists : List (List Rec)) → SpellEach batches lists
-      → (text ≡ text_of old.voice (durable old) (all_of lists)) × (new.tally ≡ counted old.tally (all_of lists))
+  pub front : TellsFront old.voice (durable old) more text old.tally new.tally
+  pub all : new.fault ≢ Some WriteFault
+      → (text ≡ text_of old.voice (durable old) more) × (new.tally ≡ counted old.tally more)
   pub reason : HasReason g h old new new.fault
   pub count : g.honest old.flusher.disk.now
-      → g.written_count new.flusher.disk.now ≤ g.written_count old.flusher.disk.now + 4 * length batches + extra new.fault
+      → g.written_count new.flusher.disk.now ≤ g.written_count old.flusher.disk.now + 4 * length more + extra new.fault
 
 -- nothing happened, or turns did
 abbrev pub Later : {D : Type 0} → {K : Type 0} → Ghosts D → SinkGhosts K → Daemon D K → Daemon D K → Type 0

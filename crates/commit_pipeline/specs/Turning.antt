@@ -14,16 +14,18 @@ use Rattle.commit_pipeline.specs.declared.daemon.DaemonFault.{DaemonFault}
 use Rattle.commit_pipeline.specs.declared.daemon.DaemonFault.TheVariants.{DiskFault, WriteFault}
 use Rattle.commit_pipeline.specs.declared.daemon.Turn.{Turn}
 use Rattle.commit_pipeline.specs.declared.daemon.Turn.TheVariants.{Idle, Sent}
-use Rattle.commit_pipeline.specs.Telling.{TellsAll, TellsSome}
+use Rattle.commit_pipeline.specs.Telling.{TellsAll, TellsFront}
 
 -- where the next units go
 abbrev pub durable : {D : Type 0} → {K : Type 0} → Daemon D K → ℕ
 durable d = sent_to (view_of d.flusher.seat)
 
--- a turn may be made: nothing has befallen the daemon, and it has counted no more end records than units were sent
+-- a turn may be made: nothing has befallen the daemon, it has not stopped the log, and it has counted no more end records than units
+-- were sent
 pub record MayTurn {D : Type 0} {K : Type 0} (g : Ghosts D) (d : Daemon D K) : Type 0 where
   pub flusher : IsReady g d.flusher
   pub fine : d.fault ≡ None
+  pub running : (view_of d.flusher.seat).sending.stop ≡ 0
   pub counted : d.tally.done + d.tally.refused ≤ length (sent_of d.flusher)
 
 -- it is the same daemon, with the same disk and sink
@@ -44,16 +46,16 @@ pub record Idles {D : Type 0} {K : Type 0} (old new : Daemon D K) : Type 0 where
   pub flush : FindsNothing old.flusher new.flusher (durable old)
   pub rest : new ≡ record old { flusher = new.flusher }
 
--- units were sent, and then the lines of their end records were written
+-- records were sent, and then their lines were written
 pub record SendsLines {D : Type 0} {K : Type 0} (g : Ghosts D) (h : SinkGhosts K) (old new : Daemon D K) (lines to : ℕ)
     : Type 0 where
   pub flush : Sends g old.flusher new.flusher (durable old) to
   pub text : List ℕ
   pub appended : Appends (h.held_bytes old.sink.now) (h.held_bytes new.sink.now) text
-  pub tells : TellsAll old.voice (durable old) flush.units text lines old.tally new.tally
+  pub tells : TellsAll old.voice (durable old) flush.records text lines old.tally new.tally
   pub fine : new.fault ≡ None
 
--- the disk failed to take the units; nothing was written, and the stop word is 1
+-- the disk failed to take the records; no line was written, and the stop word is 1
 pub record LosesUnits {D : Type 0} {K : Type 0} (g : Ghosts D) (old new : Daemon D K) : Type 0 where
   pub lost : Flusher D
   pub flush : Loses g old.flusher lost
@@ -61,7 +63,7 @@ pub record LosesUnits {D : Type 0} {K : Type 0} (g : Ghosts D) (old new : Daemon
   pub rest : new ≡ record old { flusher = new.flusher; fault = Some DiskFault }
   pub rose : Rose (g.faults old.flusher.disk.now) (g.faults new.flusher.disk.now)
 
--- the units were sent, and then the sink failed to take the lines; the stop word is 2
+-- the records were sent, and then the sink failed to take the lines; the stop word is 2
 pub record LosesLines {D : Type 0} {K : Type 0} (g : Ghosts D) (h : SinkGhosts K) (old new : Daemon D K) : Type 0 where
   pub to : ℕ
   pub sent : Flusher D
@@ -69,7 +71,7 @@ pub record LosesLines {D : Type 0} {K : Type 0} (g : Ghosts D) (h : SinkGhosts K
   pub stops : Stops 2 sent new.flusher
   pub text : List ℕ
   pub appended : Appends (h.held_bytes old.sink.now) (h.held_bytes new.sink.now) text
-  pub tells : TellsSome old.voice (durable old) flush.units text old.tally new.tally
+  pub tells : TellsFront old.voice (durable old) flush.records text old.tally new.tally
   pub fault : new.fault ≡ Some WriteFault
   pub rose : Rose (h.faults old.sink.now) (h.faults new.sink.now)
 

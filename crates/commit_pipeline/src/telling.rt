@@ -4,8 +4,10 @@ ghost use Rattle.std.specs.Io.KnownBytes.{Appends};
 ghost use Rattle.lsn_space.specs.declared.lsn.TheConstants.{LAST};
 ghost use Rattle.log_disk.specs.Faults.{HasCause};
 ghost use Rattle.log_disk.specs.Streams.{AppendsPrefix};
+ghost use Rattle.log_record.specs.declared.rec.Rec.{Rec};
+ghost use Rattle.flusher.specs.Records.{Spells};
 ghost use Rattle.commit_pipeline.specs.EndLines.{line_said, count_said};
-ghost use Rattle.commit_pipeline.specs.Telling.{TellsAll, TellsSome};
+ghost use Rattle.commit_pipeline.specs.Telling.{TellsAll, TellsFront};
 
 use crate::end_line::line_of;
 use crate::tally::Tally;
@@ -15,8 +17,7 @@ use log_record::{MOST_UNITS, Rec, Units, read};
 use lsn_space::Lsn;
 use segment_file::Batch;
 
-/// Counts the end records of the batch, whose first unit is at this LSN, and writes a line for each. A unit that begins
-/// no record is passed over.
+/// Counts the end records of the batch, whose first unit is at this LSN, and writes a line for each.
 pub(crate) fn tell<K: Sink>(
     batch: &Batch,
     from: Lsn,
@@ -24,12 +25,13 @@ pub(crate) fn tell<K: Sink>(
     sink: &mut K,
     tally: &mut Tally,
 ) -> Result<u32, WriteFault>
+    requires spelled { (records : List Rec) × Spells batch.now.units records }
     requires end { from + length batch.now.units ≤ LAST }
     requires few { tally.old.done + tally.old.refused + length batch.now.units ≤ LAST }
     ensures told { IfOk result (λ lines. (text : List ℕ) × Appends (K.held_bytes sink.old) (K.held_bytes sink.new) text
-        × TellsAll voice from batch.now.units text lines tally.old tally.new) }
+        × ((records : List Rec) → Spells batch.now.units records → TellsAll voice from records text lines tally.old tally.new)) }
     ensures front { OnErr result ((text : List ℕ) × Appends (K.held_bytes sink.old) (K.held_bytes sink.new) text
-        × TellsSome voice from batch.now.units text tally.old tally.new) }
+        × ((records : List Rec) → Spells batch.now.units records → TellsFront voice from records text tally.old tally.new)) }
     ensures few { tally.new.done + tally.new.refused ≤ tally.old.done + tally.old.refused + length batch.now.units }
     ensures cause { HasCause (K.faults sink.old) (K.faults sink.new) result }
 {
@@ -37,8 +39,7 @@ pub(crate) fn tell<K: Sink>(
     let mut lines = 0;
     'records: while at < batch.count() {
         let Ok((rec, size)) = read(window(batch, at).as_slice()) else {
-            at += 1;
-            continue;
+            unreachable!()
         };
         at += size as u32;
         tally.count(&rec);

@@ -1,27 +1,35 @@
 //! A transfer that a worker inserts and a daemon reports, with faults of the disk and of the sink.
-ghost use Rattle.std.specs.Prelude.{◌≡◌, ◌≤◌, [], length, true, IfOk, IfSome, OnOk, Contains};
+ghost use Rattle.std.specs.Prelude.{◌≡◌, [], length, true, IfOk, IfSome, OnOk, Contains};
 ghost use Rattle.log_disk.specs.Disk.{IsSettled};
 ghost use Rattle.log_disk.specs.MemoryDisks.{ImagesOf};
 ghost use Rattle.log_table.specs.declared.view.Role.TheVariants.{Flusher as FlusherRole};
 ghost use Rattle.log_table.specs.Seats.{IsOf, view_of};
 ghost use Rattle.log_table.specs.Views.{knows_all_enrolled, sent_to};
 ghost use Rattle.ring_buffer.specs.Calls.{IsReady};
+ghost use Rattle.ring_buffer.specs.NotedJobs.{IsFreeFor};
 ghost use Rattle.commit_pipeline.specs.Turning.{MayTurn};
 
 use crate::{Daemon, DaemonFault, Turn, Voice};
+use early_locks::{Transfer, commit_transfer, give_back};
 use flusher::{Drained, Flusher};
 use log_disk::{LogDisk, MemoryDisk, MemorySink, OpenGate};
-use log_record::Units;
 use log_table::{LogTable, Seat, Start};
 use lsn_space::{Balances, Lsn, NoMemory};
-use ring_buffer::{Refused, insert_alone};
 use segment_file::{Batch, create};
 use std::alloc::Global;
+use std::process::Abort;
 use std::sync::Wait;
 use std::test::Fail;
 
 /// Two accounts of balances 100 and 0.
 const ACCOUNTS: [u64; 4] = [0x0102_0000_0000_0000, 100, 0x0102_0001_0000_0000, 0];
+
+/// 30 from account 0 to account 1.
+const THIRTY: Transfer = Transfer {
+    payer: 0,
+    payee: 1,
+    amount: 30,
+};
 
 /// The log of the two accounts, and the transfer behind it.
 const ONE_TRANSFER_LOG: [u8; 90] = [
@@ -43,13 +51,17 @@ fn table_from_4(alloc: Global) -> Result<(LogTable, Seat), NoMemory>
     ensures flusher { IfOk result (λ made. (view_of made.1).standing.role ≡ FlusherRole) }
     ensures durable { IfOk result (λ made. sent_to (view_of made.1) ≡ 4) }
     ensures unread { IfOk result (λ made. (view_of made.1).sending.read ≡ []) }
+    ensures running { IfOk result (λ made. (view_of made.1).sending.stop ≡ 0) }
     ensures seen { IfOk result (λ made. Contains (view_of made.1).seen.lsns 4) }
     ensures made { IfOk result (λ made. (view_of made.1).standing.made ≡ []) }
     ensures enrolled { IfOk result (λ made. (view_of made.1).standing.enrolled ≡ []) }
     ensures merged { IfOk result (λ made. (view_of made.1).standing.merged ≡ []) }
     ensures ring { IfOk result (λ made. made.0.ring ≡ 1024) }
+    ensures accounts { IfOk result (λ made. made.0.accounts ≡ 2) }
 {
-    let accounts = Balances::make(alloc, 0)?;
+    let mut accounts = Balances::make(alloc, 2)?;
+    accounts.push(100, 0);
+    accounts.push(0, 0);
     LogTable::make(
         alloc,
         Start {
@@ -67,6 +79,7 @@ fn worker(table: &LogTable, boss: &mut Seat) -> Seat
     requires flusher { (view_of boss.old).standing.role ≡ FlusherRole }
     requires durable { sent_to (view_of boss.old) ≡ 4 }
     requires unread { (view_of boss.old).sending.read ≡ [] }
+    requires running { (view_of boss.old).sending.stop ≡ 0 }
     requires seen { Contains (view_of boss.old).seen.lsns 4 }
     requires made { (view_of boss.old).standing.made ≡ [] }
     requires enrolled { (view_of boss.old).standing.enrolled ≡ [] }
@@ -75,10 +88,12 @@ fn worker(table: &LogTable, boss: &mut Seat) -> Seat
     ensures flusher { (view_of boss.new).standing.role ≡ FlusherRole }
     ensures durable { sent_to (view_of boss.new) ≡ 4 }
     ensures unread { (view_of boss.new).sending.read ≡ [] }
+    ensures running { (view_of boss.new).sending.stop ≡ 0 }
     ensures seen { Contains (view_of boss.new).seen.lsns 4 }
     ensures told { knows_all_enrolled (view_of boss.new).standing ≡ true }
     ensures seat { IsOf table.now result }
     ensures ready { IsReady (view_of result) }
+    ensures free { IsFreeFor 1 (view_of result) }
 {
     let mut seat = table.split(boss, 0);
     table.enroll(&mut seat);
@@ -98,56 +113,22 @@ fn accounts(alloc: Global) -> Result<Batch, NoMemory>
     Ok(batch)
 }
 
-/// The units, of which there are one or two.
-fn units_of(record: &[u64]) -> Units
-    requires { (1 ≤ length record.now) × (length record.now ≤ 26) }
-    ensures { result ≡ record.now }
-{
-    let mut units = Units::new();
-    for i in 0..record.len() {
-        units.push(record[i]);
-    }
-    units
-}
-
-fn insert<R: Wait>(
-    rt: &R,
-    table: &LogTable,
-    seat: &mut Seat,
-    record: &[u64],
-) -> Result<Lsn, Refused>
+/// Moves 30 from account 0 to account 1 under this number, and answers where its three records start.
+fn transfer<R: Wait + Abort>(rt: &R, table: &LogTable, seat: &mut Seat, number: u32) -> [Lsn; 3]
     requires seat { IsOf table.now seat.old }
+    requires accounts { table.now.accounts ≡ 2 }
     requires ready { IsReady (view_of seat.old) }
-    requires units { (1 ≤ length record.now) × (length record.now ≤ 26) }
+    requires free { IsFreeFor number (view_of seat.old) }
     ensures seat { IsOf table.now seat.new }
     ensures ready { IsReady (view_of seat.new) }
+    ensures none_held { (view_of seat.new).books.held ≡ [] }
 {
-    insert_alone(rt, table, seat, &units_of(record), &OpenGate)
-}
-
-/// Inserts the three records of the transfer, and answers their LSNs.
-fn transfer<R: Wait>(rt: &R, table: &LogTable, seat: &mut Seat) -> [Option<Lsn>; 3]
-    requires seat { IsOf table.now seat.old }
-    requires ready { IsReady (view_of seat.old) }
-    ensures seat { IsOf table.now seat.new }
-    ensures ready { IsReady (view_of seat.new) }
-{
-    let takes = insert(
-        rt,
-        table,
-        seat,
-        &[0x0202_0000_0000_0001, 0xffff_ffe2_0000_0000],
-    )
-    .ok();
-    let adds = insert(
-        rt,
-        table,
-        seat,
-        &[0x0202_0001_0000_0001, 0x0000_001e_0000_0000],
-    )
-    .ok();
-    let ends = insert(rt, table, seat, &[0x0301_0001_0000_0001]).ok();
-    [takes, adds, ends]
+    let Some(committed) = commit_transfer(rt, table, seat, number, THIRTY, &OpenGate) else {
+        panic!(rt; "the balances do not allow the transfer");
+    };
+    let placed = committed.placed();
+    give_back(table, seat, committed);
+    [placed.loss, placed.gain, placed.commit]
 }
 
 /// A daemon over an empty disk, on which the log of the two accounts is made.
@@ -163,6 +144,7 @@ fn daemon_on<'a>(
     requires flusher { (view_of seat).standing.role ≡ FlusherRole }
     requires durable { sent_to (view_of seat) ≡ 4 }
     requires unread { (view_of seat).sending.read ≡ [] }
+    requires running { (view_of seat).sending.stop ≡ 0 }
     requires seen { Contains (view_of seat).seen.lsns 4 }
     requires told { knows_all_enrolled (view_of seat).standing ≡ true }
     requires ring { table.now.ring ≡ 1024 }
@@ -206,7 +188,7 @@ fn turn(daemon: &mut Daemon<MemoryDisk, MemorySink>) -> Result<Turn, DaemonFault
 }
 
 /// What a daemon answers while a worker that inserted a transfer is active, and once it has ended.
-fn report_one<R: Wait>(
+fn report_one<R: Wait + Abort>(
     rt: &R,
     alloc: Global,
     disk: &mut MemoryDisk,
@@ -217,7 +199,7 @@ fn report_one<R: Wait>(
     let (table, mut boss) = table_from_4(alloc).ok()?;
     let mut seat = worker(&table, &mut boss);
     let mut daemon = daemon_on(alloc, &table, boss, disk, sink, Voice::Lines)?;
-    transfer(rt, &table, &mut seat);
+    transfer(rt, &table, &mut seat, 1);
     let active = ask(&mut daemon);
     let sent = turn(&mut daemon).ok()?;
     table.leave(&mut seat);
@@ -243,13 +225,13 @@ fn one_transfer(rt: HostRuntime) -> Result<(), Fail> {
 fn inserts_answer_their_lsns(rt: HostRuntime) -> Result<(), Fail> {
     let (table, mut boss) = table_from_4(rt.alloc())?;
     let mut seat = worker(&table, &mut boss);
-    let starts = [Some(Lsn::new(4)), Some(Lsn::new(6)), Some(Lsn::new(8))];
-    assert_eq!(rt; transfer(&rt, &table, &mut seat), starts);
+    let starts = [Lsn::new(4), Lsn::new(6), Lsn::new(8)];
+    assert_eq!(rt; transfer(&rt, &table, &mut seat, 1), starts);
     Ok(())
 }
 
 /// What a daemon that only counts answers once the worker has ended, before any turn and at the end, and what it counted.
-fn count_one<R: Wait>(
+fn count_one<R: Wait + Abort>(
     rt: &R,
     alloc: Global,
     disk: &mut MemoryDisk,
@@ -260,7 +242,7 @@ fn count_one<R: Wait>(
     let (table, mut boss) = table_from_4(alloc).ok()?;
     let mut seat = worker(&table, &mut boss);
     let mut daemon = daemon_on(alloc, &table, boss, disk, sink, Voice::Count)?;
-    transfer(rt, &table, &mut seat);
+    transfer(rt, &table, &mut seat, 1);
     table.leave(&mut seat);
     let behind = ask(&mut daemon);
     let end = daemon.run_until_drained(rt).ok()?;
@@ -284,7 +266,7 @@ fn behind_until_sent(rt: HostRuntime) -> Result<(), Fail> {
 
 /// The stop word that a worker reads after one turn, and what the turn answers, where these calls of the disk and of the
 /// sink fail.
-fn faulty_turn<R: Wait>(
+fn faulty_turn<R: Wait + Abort>(
     rt: &R,
     alloc: Global,
     disk_failing: &[u64],
@@ -297,7 +279,7 @@ fn faulty_turn<R: Wait>(
     let Some(mut daemon) = daemon_on(alloc, &table, boss, &mut disk, &mut sink, Voice::Lines) else {
         return Err(NoMemory);
     };
-    transfer(rt, &table, &mut seat);
+    transfer(rt, &table, &mut seat, 1);
     let answer = turn(&mut daemon);
     Ok((answer, table.load_stop(&mut seat)))
 }

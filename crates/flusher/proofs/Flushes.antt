@@ -1,11 +1,15 @@
 -- What the steps of a flush come to.
-use Rattle.std.proofs.Common.{◌≡◌, ◌≤◌, ◌+◌, ◌∙◌, sym, ap, subst, inl, ℕ, List, [], ◌∷◌, ◌++◌, length, length-append, arith, append_assoc}
-use Rattle.std.specs.List.{Contains}
+use Rattle.std.proofs.Common.{◌≡◌, ◌≤◌, ◌+◌, ◌∙◌, sym, ap, refl, subst, inl, ℕ, List, [], ◌∷◌, ◌++◌, length, length-append, arith, append_assoc}
+use Rattle.std.specs.List.{AllByRecursion, Contains}
 use Rattle.std.proofs.lemmas.List.Elements.{Contains-append_left, Contains-append_right, Contains-push}
 use Rattle.log_disk.specs.Disk.{Leaves}
 use Rattle.log_disk.specs.declared.disk.LogDisk.{Ghosts}
 use Rattle.log_disk.proofs.Moments.{Leaves-now}
+use Rattle.log_record.specs.declared.rec.Rec.{Rec}
 use Rattle.log_table.specs.declared.table.Seat.{Seat}
+use Rattle.log_table.specs.declared.view.Entry.{Entry}
+use Rattle.log_table.specs.Closing.{records_of}
+use Rattle.log_table.specs.Log.{IsSpelled, units_in}
 use Rattle.log_table.specs.declared.view.View.{View}
 use Rattle.log_table.specs.Seats.{Becomes, view_of}
 use Rattle.segment_file.specs.File.{HoldsUnits}
@@ -14,8 +18,9 @@ use Rattle.segment_file.specs.declared.scan_result.Tail.{Tail}
 use Rattle.flusher.specs.declared.flusher.Flusher.{Flusher}
 use Rattle.log_table.specs.Sends.{AreEntries, ReadsWholeEntries}
 use Rattle.log_table.specs.Views.{sent_to, read_to}
+use Rattle.flusher.specs.Records.{Spells}
 use Rattle.flusher.specs.Sending.{gathered, flushed}
-use Rattle.flusher.specs.Flushing.{IsReady, HoldsDurablePrefix, sent_of, lsns_of}
+use Rattle.flusher.specs.Flushing.{IsReady, IsSameSeat, HoldsDurablePrefix, sent_of, lsns_of}
 
 -- one step after another
 pub Becomes-then : (a b c : Seat) (view : View) (f : View → View) → Becomes a b view → Becomes b c (f (view_of b)) → Becomes a c (f view)
@@ -24,6 +29,17 @@ Becomes-then a b c view f first second = record {
   number = second.number ∙ first.number;
   me = second.me ∙ ap (λ m. (f m.0, m.1)) first.me;
   worker = second.worker ∙ first.worker;
+}
+
+-- steps that leave entries and books as they were leave the same seat
+pub IsSameSeat-becomes : (old new : Seat) (view : View) → Becomes old new view → view.constants ≡ (view_of old).constants
+    → view.entries ≡ (view_of old).entries → view.books ≡ (view_of old).books → IsSameSeat old new
+IsSameSeat-becomes old new view becomes constants entries books = record {
+  table_is = becomes.table_is;
+  slots = ap (λ m. m.1) becomes.me;
+  constants = ap (λ m. m.0.constants) becomes.me ∙ constants;
+  entries = ap (λ m. m.0.entries) becomes.me ∙ entries;
+  books = ap (λ m. m.0.books) becomes.me ∙ books;
 }
 
 -- what stands at a tail holds its units
@@ -65,13 +81,31 @@ MayHoldBatchInFlight-append g counts_now only_now old disk units sent read momen
     (Leaves-now g.moment g.images_since g.images counts_now _ old.disk.now disk only_now
     (λ c image. inl (StandsAt-holds _ _ c (stand c image))) (moments opening stand)))
 
--- the units read up to exposed are whole entries
-pub AreEntries-gathered : (view now : View) (from to : ℕ) (units : List ℕ) → now ≡ gathered to units view → view.sending.read ≡ []
-    → from ≡ sent_to view → to ≡ from + length units → ReadsWholeEntries now → AreEntries from to units
-AreEntries-gathered view now from to units is unread start whole entries =
+-- entries whose units are the spellings of their records spell those
+spelled-records : (entries : List Entry) → AllByRecursion IsSpelled entries → Spells (units_in entries) (records_of entries)
+spelled-records [] spelled = record { spellable = tt; units_are = refl }
+spelled-records (entry ∷ entries) spelled =
+    let rest = spelled-records entries spelled.1 in record {
+      spellable = (spelled.0.spellable, rest.spellable);
+      units_are = (λ i. spelled.0.units i ++ rest.units_are i);
+    }
+
+-- the records of the units read up to exposed
+pub record Reads (units : List ℕ) : Type 0 where
+  pub records : List Rec
+  pub spelled : Spells units records
+
+-- the units read up to exposed spell records
+pub Reads-gathered : (view now : View) (from to : ℕ) (units : List ℕ) → now ≡ gathered to units view → view.sending.read ≡ []
+    → from ≡ sent_to view → to ≡ from + length units → ReadsWholeEntries now → Reads units
+Reads-gathered view now from to units is unread start whole entries =
     let read : view.sending.read ++ units ≡ units = ap (λ us. us ++ units) unread in
     let all : read_to (gathered to units view) ≡ to = omega (arith, start, whole, ap length read) in
-    subst (λ at. AreEntries at to units) (sym start) (subst (AreEntries (sent_to view) to) read (subst ReadsWholeEntries is entries all))
+    let found : AreEntries (sent_to view) to (view.sending.read ++ units) = subst ReadsWholeEntries is entries all in
+    record {
+      records = records_of found.entries;
+      spelled = subst (λ us. Spells us (records_of found.entries)) (found.units_are ∙ read) (spelled-records found.entries found.spelled);
+    }
 
 -- a step of the seat alone, which leaves what was sent and read as it was, leaves the flusher ready
 pub IsReady-step : {D : Type 0} (g : Ghosts D) (f : Flusher D) (seat : Seat) (view : View) → IsReady g f → Becomes f.seat seat view

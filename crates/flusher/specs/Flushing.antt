@@ -2,9 +2,11 @@
 use Rattle.std.specs.Prelude.{◌≡◌, ◌↔◌, ℕ, ◌+◌, ◌*◌, ◌^◌, ◌<◌, ◌≤◌, List, [], ◌++◌, length, Contains}
 use Rattle.log_disk.specs.Disk.{IsSettled, Leaves}
 use Rattle.log_disk.specs.declared.disk.LogDisk.{Ghosts}
+use Rattle.log_record.specs.declared.rec.Rec.{Rec}
+use Rattle.log_table.specs.declared.table.Seat.{Seat}
 use Rattle.log_table.specs.declared.view.Role.TheVariants.{Flusher as FlusherRole}
 use Rattle.log_table.specs.Seats.{IsOf, Becomes, view_of}
-use Rattle.log_table.specs.Sends.{AreEntries, IsDrained}
+use Rattle.log_table.specs.Sends.{IsDrained}
 use Rattle.log_table.specs.Views.{saw_exposed, saw_crew, sent_to}
 use Rattle.segment_file.specs.Standing.{tail_after, AllStand, IsShut, HoldsEither}
 use Rattle.flusher.specs.declared.flusher.Flusher.{Flusher}
@@ -12,6 +14,7 @@ use Rattle.flusher.specs.declared.flusher.Flushed.{Flushed}
 use Rattle.flusher.specs.declared.flusher.Flushed.TheVariants.{Nothing, To}
 use Rattle.flusher.specs.declared.flusher.Drained.{Drained}
 use Rattle.flusher.specs.declared.flusher.Drained.TheVariants.{At, Active, Behind}
+use Rattle.flusher.specs.Records.{Spells}
 use Rattle.flusher.specs.Sending.{gathered, flushed, asked}
 
 -- what the flusher's seat sent, and the LSNs that it saw
@@ -33,9 +36,18 @@ pub record IsReady {D : Type 0} (g : Ghosts D) (f : Flusher D) : Type 0 where
   pub shut : g.honest f.disk.now → IsShut f.tail.at (g.images f.disk.now)
   pub room : f.table.now.ring ≤ f.batch.room
 
--- it is the same table, with the same workers, and the same disk, whose time went on
+-- it is the same seat, which took in no other's entries or jobs
+pub record IsSameSeat (old new : Seat) : Type 0 where
+  pub table_is : new.base.table_id ≡ old.base.table_id
+  pub slots : new.base.me.1 ≡ old.base.me.1
+  pub constants : (view_of new).constants ≡ (view_of old).constants
+  pub entries : (view_of new).entries ≡ (view_of old).entries
+  pub books : (view_of new).books ≡ (view_of old).books
+
+-- it is the same table and seat, with the same workers, and the same disk, whose time went on
 pub record IsSame {D : Type 0} (g : Ghosts D) (old new : Flusher D) : Type 0 where
   pub table : new.table ≡ old.table
+  pub seat : IsSameSeat old.seat new.seat
   pub workers : (view_of new.seat).standing ≡ (view_of old.seat).standing
   pub disk : new.disk.ghost_name ≡ old.disk.ghost_name
   pub honest : g.honest old.disk.now ↔ g.honest new.disk.now
@@ -62,13 +74,15 @@ pub record FindsNothing {D : Type 0} (old new : Flusher D) (at : ℕ) : Type 0 w
   pub seat : Becomes old.seat new.seat (saw_exposed at (view_of old.seat))
   pub rest : new ≡ record old { seat = new.seat }
 
--- the units from durable to exposed, as loaded, are written behind the tail, and then durable is raised to their end
+-- the units from durable to exposed, as loaded, which spell records, are written behind the tail, and then durable is raised to
+-- their end
 pub record Sends {D : Type 0} (g : Ghosts D) (old new : Flusher D) (from to : ℕ) : Type 0 where
   pub units : List ℕ
   pub durable : from ≡ sent_to (view_of old.seat)
   pub some : from < to
   pub whole : to ≡ from + length units
-  pub entries : AreEntries from to units
+  pub records : List Rec
+  pub spelled : Spells units records
   pub seat : Becomes old.seat new.seat (flushed to units (view_of old.seat))
   pub batch : new.batch ≡ record old.batch { units = units }
   pub tail : new.tail ≡ tail_after old.tail units
@@ -76,14 +90,15 @@ pub record Sends {D : Type 0} (g : Ghosts D) (old new : Flusher D) (from to : �
   pub prefix : g.honest old.disk.now → (opening : List ℕ) → HoldsDurablePrefix g old opening → HoldsDurablePrefix g new opening
   pub settled : g.honest old.disk.now → IsSettled (g.reads new.disk.now) (g.images new.disk.now)
 
--- the units up to exposed, as loaded, were read, and the disk failed to take them; durable stands, and the seat keeps what
--- it read
+-- the units up to exposed, as loaded, were read, which spell records, and the disk failed to take them; durable stands, and the seat
+-- keeps what it read
 pub record Loses {D : Type 0} (g : Ghosts D) (old new : Flusher D) : Type 0 where
   pub to : ℕ
   pub units : List ℕ
   pub some : 0 < length units
   pub whole : to ≡ sent_to (view_of old.seat) + length units
-  pub entries : AreEntries (sent_to (view_of old.seat)) to units
+  pub records : List Rec
+  pub spelled : Spells units records
   pub seat : Becomes old.seat new.seat (gathered to units (view_of old.seat))
   pub batch : new.batch ≡ record old.batch { units = units }
   pub tail : new.tail ≡ old.tail

@@ -1,3 +1,4 @@
 pub mod Flushing
 pub mod Gathering
+pub mod Records
 pub mod Sending

@@ -1,16 +1,19 @@
 //! A ring that is full until it is flushed.
-ghost use Rattle.std.specs.Prelude.{◌≡◌, ◌≤◌, [], length, true, IfOk, IfSome, Contains};
+ghost use Rattle.std.specs.Prelude.{◌≡◌, ◌≤◌, ◌+◌, ℕ, List, [], ◌∷◌, length, true, IfOk, IfSome, Some, Contains};
+ghost use Rattle.log_record.specs.declared.rec.Rec.{Rec};
+ghost use Rattle.log_record.specs.Spelling.{spelling, IsTxn};
 ghost use Rattle.log_disk.specs.Disk.{IsSettled};
 ghost use Rattle.log_disk.specs.MemoryDisks.{ImagesOf};
 ghost use Rattle.log_table.specs.declared.view.Role.TheVariants.{Flusher as FlusherRole};
 ghost use Rattle.log_table.specs.Seats.{IsOf, view_of};
 ghost use Rattle.log_table.specs.Views.{knows_all_enrolled, sent_to};
 ghost use Rattle.ring_buffer.specs.Calls.{IsReady};
+ghost use Rattle.ring_buffer.specs.NotedJobs.{IsNotedJob, IsFreeFor};
 ghost use Rattle.flusher.specs.Flushing.{IsReady as MayFlush};
 
 use crate::{Flushed, Flusher};
 use log_disk::{LogDisk, MemoryDisk, OpenGate};
-use log_record::Units;
+use log_record::{Rec, Text, Units, spell};
 use log_table::{LogTable, Seat, Start};
 use lsn_space::{Balances, Lsn, NoMemory, place};
 use ring_buffer::{Refused, insert_alone};
@@ -18,6 +21,7 @@ use segment_file::{Batch, create};
 use std::alloc::Global;
 use std::sync::Wait;
 use std::test::Fail;
+use txn_script::{Job, Legs, Remark};
 
 /// Two accounts of balances 100 and 0.
 const ACCOUNTS: [u64; 4] = [0x0102_0000_0000_0000, 100, 0x0102_0001_0000_0000, 0];
@@ -33,8 +37,11 @@ fn table_from_4(alloc: Global) -> Result<(LogTable, Seat), NoMemory>
     ensures enrolled { IfOk result (λ made. (view_of made.1).standing.enrolled ≡ []) }
     ensures merged { IfOk result (λ made. (view_of made.1).standing.merged ≡ []) }
     ensures ring { IfOk result (λ made. made.0.ring ≡ 1024) }
+    ensures accounts { IfOk result (λ made. made.0.accounts ≡ 2) }
 {
-    let accounts = Balances::make(alloc, 0)?;
+    let mut accounts = Balances::make(alloc, 2)?;
+    accounts.push(100, 0);
+    accounts.push(0, 0);
     LogTable::make(
         alloc,
         Start {
@@ -64,6 +71,7 @@ fn worker(table: &LogTable, boss: &mut Seat) -> Seat
     ensures told { knows_all_enrolled (view_of boss.new).standing ≡ true }
     ensures seat { IsOf table.now result }
     ensures ready { IsReady (view_of result) }
+    ensures free { IsFreeFor 1 (view_of result) }
 {
     let mut seat = table.split(boss, 0);
     table.enroll(&mut seat);
@@ -83,42 +91,74 @@ fn accounts(alloc: Global) -> Result<Batch, NoMemory>
     Ok(batch)
 }
 
-fn two_units() -> Units
-    ensures { length result ≡ 2 }
+/// A job of one leg between the two accounts, with this note.
+fn noted_job(note: &[u8]) -> Option<Job>
+    ensures { IfSome result IsNotedJob }
 {
-    let mut units = Units::new();
-    units.push(1);
-    units.push(2);
-    units
+    let remark = Remark::new(note)?;
+    let mut legs = Legs::new();
+    legs.push((0, 1, 30));
+    Some(Job {
+        legs,
+        note: Some(remark),
+    })
 }
 
-fn insert<R: Wait>(rt: &R, table: &LogTable, seat: &mut Seat, units: &Units) -> Result<Lsn, Refused>
-    requires seat { IsOf table.now seat.old }
-    requires ready { IsReady (view_of seat.old) }
-    requires units { 1 ≤ length units.now }
-    ensures seat { IsOf table.now seat.new }
-    ensures ready { IsReady (view_of seat.new) }
+/// The units of the job's note.
+fn note_units(number: u32, job: &Job) -> Units
+    requires number { IsTxn number }
+    requires job { IsNotedJob job.now }
+    ensures { (text : List ℕ) × (job.now.note ≡ Some text) × (1 ≤ length text) × (result ≡ spelling (Rec.Note number text)) }
 {
-    insert_alone(rt, table, seat, units, &OpenGate)
+    let Some(remark) = &job.note else {
+        unreachable!()
+    };
+    spell(&Rec::Note {
+        txn: number,
+        text: Text::from_bytes(remark.as_slice()),
+    })
 }
 
-/// Inserts so often, and answers the last LSN.
-fn insert_all<R: Wait>(
+/// Takes the job, and inserts its note.
+fn insert_note<R: Wait>(
     rt: &R,
     table: &LogTable,
     seat: &mut Seat,
-    units: &Units,
-    times: u32,
-) -> Option<Lsn>
+    number: u32,
+    job: &Job,
+) -> Result<Lsn, Refused>
     requires seat { IsOf table.now seat.old }
+    requires accounts { table.now.accounts ≡ 2 }
     requires ready { IsReady (view_of seat.old) }
-    requires units { 1 ≤ length units.now }
+    requires free { IsFreeFor number (view_of seat.old) }
+    requires job { IsNotedJob job.now }
     ensures seat { IsOf table.now seat.new }
     ensures ready { IsReady (view_of seat.new) }
+    ensures none_held { (view_of seat.new).books.held ≡ [] }
+    ensures jobs { (view_of seat.new).books.jobs ≡ record { number = number; job = job.now } ∷ (view_of seat.old).books.jobs }
+    ensures worker { (view_of seat.new).standing ≡ (view_of seat.old).standing }
 {
-    let mut last = None;
-    for _ in 0..times {
-        last = insert(rt, table, seat, units).ok();
+    table.take_job(seat, number, job);
+    insert_alone(rt, table, seat, &note_units(number, job), &OpenGate)
+}
+
+/// Takes so many jobs with this note, one after another, and inserts their notes; answers the last LSN.
+fn insert_all<R: Wait>(rt: &R, table: &LogTable, seat: &mut Seat, job: &Job, times: u32) -> u32
+    requires seat { IsOf table.now seat.old }
+    requires accounts { table.now.accounts ≡ 2 }
+    requires ready { IsReady (view_of seat.old) }
+    requires free { IsFreeFor 1 (view_of seat.old) }
+    requires job { IsNotedJob job.now }
+    requires few { times ≤ 1000 }
+    ensures seat { IsOf table.now seat.new }
+    ensures ready { IsReady (view_of seat.new) }
+    ensures free { IsFreeFor (times + 1) (view_of seat.new) }
+{
+    let mut last = 0;
+    for i in 0..times {
+        if let Ok(at) = insert_note(rt, table, seat, i + 1, job) {
+            last = at.units();
+        }
     }
     last
 }
@@ -158,17 +198,19 @@ fn ring_full_until_flushed(rt: HostRuntime) -> Result<(), Fail> {
     let alloc = rt.alloc();
     let (table, mut boss) = table_from_4(alloc)?;
     let mut seat = worker(&table, &mut boss);
-    let units = two_units();
-    assert_eq!(rt;
-        insert_all(&rt, &table, &mut seat, &units, 512),
-        Some(Lsn::new(1026))
-    );
+    let Some(job) = noted_job(b"aaaaaaaa") else {
+        return Err(Fail::new("no job"));
+    };
+    assert_eq!(rt; insert_all(&rt, &table, &mut seat, &job, 512), 1026);
     let refused = Refused::RingFull {
         tail: Lsn::new(1028),
         durable: Lsn::new(4),
         total: 2,
     };
-    assert_eq!(rt; insert(&rt, &table, &mut seat, &units), Err(refused));
+    assert_eq!(rt;
+        insert_note(&rt, &table, &mut seat, 513, &job),
+        Err(refused)
+    );
     let mut disk = MemoryDisk::make(alloc, &[], 20_000, &[])?;
     let Some(mut flusher) = flusher_on(alloc, &table, boss, &mut disk) else {
         return Err(Fail::new("no memory"));
@@ -176,7 +218,7 @@ fn ring_full_until_flushed(rt: HostRuntime) -> Result<(), Fail> {
     let (from, to) = (Lsn::new(4), Lsn::new(1028));
     assert_eq!(rt; flusher.flush(), Ok(Flushed::To { from, to }));
     assert_eq!(rt; flusher.flush(), Ok(Flushed::Nothing { at: to }));
-    assert_eq!(rt; insert(&rt, &table, &mut seat, &units), Ok(to));
+    assert_eq!(rt; insert_note(&rt, &table, &mut seat, 514, &job), Ok(to));
     assert_eq!(rt; place(to, table.ring()), 4);
     Ok(())
 }

@@ -1,14 +1,19 @@
 -- A seat is added that owns nothing and has nothing under way.
-use Rattle.std.proofs.Common.{◌≡◌, ℕ, zero, suc, List, [], ◌∷◌, ◌++◌, length, get_or, refl, sym, ap, ◌∙◌, subst}
+use Rattle.std.proofs.Common.{◌≡◌, ℕ, zero, suc, List, [], ◌∷◌, ◌++◌, map, length, get_or, refl, sym, ap, ◌∙◌, subst}
 use Rattle.log_table.specs.declared.table.Start.{Start}
 use Rattle.log_table.specs.declared.view.Call.TheVariants.{Idle}
 use Rattle.log_table.specs.declared.view.Role.TheVariants.{Flusher}
 use Rattle.log_table.specs.declared.view.View.{View}
 use Rattle.log_table.specs.Log.{Log, ranges_of, parts_of}
-use Rattle.log_table.specs.Sound.{EachPair, HasSeenBoundaries, SendsIfFlusher, StoresStop, RestsIfQuiet, LookedIfQuiet, HasWorkingOwner, HasConstants, RestsUnlessActive, OwnsIfWorker, HasSoundCrew, IsSound}
+use Rattle.log_table.specs.Sound.{EachPair, HasSeenBoundaries, SendsIfFlusher, StoresStop, HasReadStop, RestsIfQuiet, LookedIfQuiet, HasWorkingOwner, HasConstants, RestsUnlessActive, OwnsIfWorker, HoldsIfActive, HasSoundCrew, IsSound, base_of, history_in, books_of}
+use Rattle.log_table.specs.declared.view.Books.{Books}
+use Rattle.log_table.specs.Accounts.{KeepsAccounts}
+use Rattle.log_table.specs.Books.{no_books}
 use Rattle.log_table.specs.Views.{nobody, entries_in, claims_in}
 use Rattle.log_table.specs.Words.{Words}
+use Rattle.log_table.proofs.Gathered.{adds-nobody}
 use Rattle.log_table.proofs.Viewing.{each_push}
+use Rattle.std.proofs.lemmas.List.{map-append}
 
 -- a seat that was not made counts as nobody's, before and after one like it is made
 nobody-more : (views : List View) (new : View) (P : ℕ → View → Type 0) (j : ℕ) → P (length views) new → P j (get_or views j nobody)
@@ -24,8 +29,10 @@ nobody-there (x ∷ xs) = nobody-there xs
 
 module _ (key : Start) (words : Words) (views : List View) (log : Log) (s : IsSound key words views log) (new : View) (entries : new.entries ≡ [])
     (call : new.call ≡ Idle) (not-flusher : new.standing.role ≡ Flusher → ⊥)
-    (sees : HasSeenBoundaries key.start words.tail words.exposed words.durable (ranges_of log) new.seen) (constants : HasConstants key new)
-    (roles : HasSoundCrew words.crew (views ++ new ∷ [])) (quiet : EachPair (λ _ y _ z. RestsIfQuiet y z) (views ++ new ∷ [])) where
+    (sees : HasSeenBoundaries key.start words.tail words.exposed words.durable (ranges_of log) new.seen)
+    (read : HasReadStop words.stop new) (constants : HasConstants key new)
+    (roles : HasSoundCrew words.crew (views ++ new ∷ [])) (quiet : EachPair (λ _ y _ z. RestsIfQuiet y z) (views ++ new ∷ []))
+    (books : new.books ≡ no_books) where
   pub adds : IsSound key words (views ++ new ∷ []) log
   adds = record {
     ordered = s.ordered;
@@ -49,7 +56,12 @@ module _ (key : Start) (words : Words) (views : List View) (log : Log) (s : IsSo
         (λ _ z. SendsIfFlusher key.start words.exposed words.durable log z) views new s.sends (λ f. absurd (not-flusher f)) (λ _ _ _ p. p);
     stops = each_push (λ _ z. StoresStop words.stop z) (λ _ z. StoresStop words.stop z) views new s.stops (λ f. absurd (not-flusher f))
         (λ _ _ _ p. p);
+    read_stop = each_push (λ _ z. HasReadStop words.stop z) (λ _ z. HasReadStop words.stop z) views new s.read_stop read (λ _ _ _ p. p);
     quiet = quiet;
     looked = each_push (λ _ z. LookedIfQuiet words.exposed z) (λ _ z. LookedIfQuiet words.exposed z) views new s.looked
         (λ f. absurd (not-flusher f)) (λ _ _ _ p. p);
+    unheld = each_push (λ _ z. HoldsIfActive z) (λ _ z. HoldsIfActive z) views new s.unheld ((λ _. ap (λ (b : Books). b.held) books), (λ _. ap (λ (b : Books). b.jobs) books)) (λ _ _ _ p. p);
+    accounts = subst (KeepsAccounts (base_of key) words.account (history_in key log.parts))
+        (sym (map-append books_of views (new ∷ []) ∙ ap (λ b. map books_of views ++ b ∷ []) books))
+        (adds-nobody (base_of key) words.account (history_in key log.parts) (map books_of views) s.accounts);
   }

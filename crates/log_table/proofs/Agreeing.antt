@@ -8,7 +8,8 @@ use mathlib.Core.Logic.{dite}
 use lib.ListN.{get_or-append}
 use Rattle.lsn_space.specs.Tiling.{IsBoundary}
 use Rattle.log_table.specs.declared.view.Entry.{Entry}
-use Rattle.log_table.specs.Log.{Part, Laid, IsFull, AgreesFrom, parts_of, units_in}
+use Rattle.log_table.specs.Log.{Part, Laid, IsFull, AgreesFrom, parts_of, units_in, SpellsRecord, IsSpelled}
+use Rattle.log_record.specs.Spelling.{spelling}
 use Rattle.log_table.specs.Sends.{AreEntries}
 use Rattle.log_table.proofs.Boundaries.{part_size, boundary-start, boundary-least}
 use Rattle.log_table.proofs.Lists.{all-weaker}
@@ -63,27 +64,36 @@ rest-agrees base n units q fits agrees i lt lo hi =
     there : (at : ℕ) → base + n ≤ at → n + (at - (base + n)) ≡ at - base
     there at le = omega arith
 
+-- a full part is its record whole
+pub whole-record : (part : Part) → SpellsRecord part → IsFull part.entry → IsSpelled part.entry
+whole-record part spells full = by_rest spells.rest spells.units (full ∙ spells.size)
+  where
+    by_rest : (rest : List ℕ) → part.entry.units ++ rest ≡ spelling part.entry.rec → length part.entry.units ≡ length (spelling part.entry.rec) → IsSpelled part.entry
+    by_rest [] is whole = record { spellable = spells.spellable; units = sym (append-nil part.entry.units) ∙ is }
+    by_rest (unit ∷ rest) is whole = let count = length-append part.entry.units (unit ∷ rest) in let all = ap length is in absurd (omega arith)
+
 -- between two boundaries of full parts, the list is whole entries
 pub entries-from : (start to from until : ℕ) (parts : List Part) (units : List ℕ) → Laid start parts to → IsBoundary part_size start parts from
     → IsBoundary part_size start parts until → from + length units ≡ until
-    → AllByRecursion (λ (p : Part). p.entry.start < until → IsFull p.entry) parts → AllByRecursion (AgreesFrom from units) parts
-    → AreEntries from until units
-entries-from start to from until [] units laid a b size full agrees = record {
+    → AllByRecursion (λ (p : Part). p.entry.start < until → IsFull p.entry) parts → AllByRecursion SpellsRecord parts
+    → AllByRecursion (AgreesFrom from units) parts → AreEntries from until units
+entries-from start to from until [] units laid a b size full spells agrees = record {
   entries = [];
   tiles = a ∙ sym b;
   some_units = tt;
   full = tt;
+  spelled = tt;
   units_are = sym (nil_from_length units (omega (arith, a, b, size)));
 }
-entries-from start to from until (p ∷ ps) units laid a b size full agrees = ⊎_elim
+entries-from start to from until (p ∷ ps) units laid a b size full spells agrees = ⊎_elim
     (λ (here : from ≡ start). ⊎_elim
     (λ (end : until ≡ start). none here end)
     (λ (later : IsBoundary part_size (start + p.entry.size) ps until). some' here later
-    (λ from' us a' size' agrees'. entries-from (start + p.entry.size) to from' until ps us laid.2 a' later size' full.1 agrees')) b)
+    (λ from' us a' size' agrees'. entries-from (start + p.entry.size) to from' until ps us laid.2 a' later size' full.1 spells.1 agrees')) b)
     (λ (behind : IsBoundary part_size (start + p.entry.size) ps from). ⊎_elim
     (λ (end : until ≡ start). absurd (omega (arith, end, size, laid.1, boundary-least part_size (start + p.entry.size) from ps behind)))
     (λ (later : IsBoundary part_size (start + p.entry.size) ps until).
-    entries-from (start + p.entry.size) to from until ps units laid.2 behind later size full.1 agrees.1) b) a
+    entries-from (start + p.entry.size) to from until ps units laid.2 behind later size full.1 spells.1 agrees.1) b) a
   where
     none : from ≡ start → until ≡ start → AreEntries from until units
     none here end = record {
@@ -91,6 +101,7 @@ entries-from start to from until (p ∷ ps) units laid a b size full agrees = �
       tiles = here ∙ sym end;
       some_units = tt;
       full = tt;
+      spelled = tt;
       units_are = sym (nil_from_length units (omega (arith, here, end, size)));
     }
 
@@ -111,6 +122,7 @@ entries-from start to from until (p ∷ ps) units laid a b size full agrees = �
           tiles = (laid.0 ∙ sym here, rest.tiles);
           some_units = (laid.1, rest.some_units);
           full = (is, rest.full);
+          spelled = (whole-record p spells.0 is, rest.spelled);
           units_are = (λ i. sym (first-units from units p agrees.0 is (laid.0 ∙ sym here) fits) i ++ rest.units_are i)
               ∙ take-append-drop p.entry.size units;
         }

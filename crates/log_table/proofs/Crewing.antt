@@ -14,10 +14,11 @@ use Rattle.log_table.specs.declared.view.View.{View}
 use Rattle.log_table.specs.Events.{Leads, IsStep}
 use Rattle.log_table.specs.Layout.{Crew}
 use Rattle.log_table.specs.Log.{Log}
-use Rattle.log_table.specs.May.{IsAtRest}
-use Rattle.log_table.specs.Sound.{EachView, StoresStop, HasSoundRole, HasSoundRoles, HasSoundCrew, IsSound, is_active_view}
+use Rattle.log_table.specs.May.{MayLeave}
+use Rattle.log_table.specs.Sound.{EachView, StoresStop, HasReadStop, HasSoundRole, HasSoundRoles, HasSoundCrew, IsSound, is_active_view}
 use Rattle.log_table.specs.Views.{is_active, is_worker, is_working, is_spent, enrolled, retired}
 use Rattle.log_table.specs.Words.{Words}
+use Rattle.log_table.proofs.Keeping.{accounts-stay}
 use Rattle.log_table.proofs.Roles.{quiet-moves, restands}
 use Rattle.log_table.proofs.Viewing.{each_set, pairs_move, count-set}
 
@@ -90,7 +91,7 @@ pub enrolls : (key : Start) (words : Words) (views : List View) (me : ℕ) (v : 
     → get_elem? views me ≡ some v → v.standing.role ≡ Fresh
     → Leads key words (record words { crew = words.crew + 1 }) views (set views me (enrolled v)) log None
 enrolls key words views me v log s at fresh =
-    restands key words words.stop (words.crew + 1) views me v (enrolled v) log s at refl refl
+    restands key words words.stop (words.crew + 1) words.account views me v (enrolled v) log s at refl refl
     (let old = s.seen me v at in
     record { tail_seen = old.tail_seen; exposed_seen = old.exposed_seen; durable_seen = old.durable_seen; boundaries = old.boundaries })
     (λ _. s.constants me v at (ap is_spent fresh)) (λ _. s.resting me v at (ap is_active fresh)) (λ off. absurd (true≢false off)) record {
@@ -129,8 +130,10 @@ enrolls key words views me v log s at fresh =
           ));
     }
     (λ f. absurd (cc)) (each_set (λ _ z. StoresStop words.stop z) views me (enrolled v) s.stops (λ f. absurd (cc)))
+    (each_set (λ _ z. HasReadStop words.stop z) views me (enrolled v) s.read_stop (s.read_stop me v at))
     (quiet-moves views me v (enrolled v) s.quiet at (λ _ _ _ _ f. absurd (cc))
-    (λ z h f q. absurd (true≢false (sym (ap is_working fresh) ∙ h f q)))) (λ f. absurd (cc))
+    (λ z h f q. absurd (true≢false (sym (ap is_working fresh) ∙ h f q)))) (λ f. absurd (cc)) ((λ off. absurd (true≢false off)), (λ off. absurd (true≢false off)))
+    (accounts-stay key words.account log.parts views me v (enrolled v) at refl s.accounts)
   where
     worker : is_worker v.standing.role ≡ true
     worker = ap is_worker fresh
@@ -142,14 +145,14 @@ enrolls key words views me v log s at fresh =
     by_test made n own others false same is = others is
 
 pub leaves : (key : Start) (words : Words) (views : List View) (me : ℕ) (v : View) (log : Log) → IsSound key words views log
-    → get_elem? views me ≡ some v → IsAtRest v → Leads key words (record words { crew = words.crew - 1 }) views (set views me (retired v)) log None
+    → get_elem? views me ≡ some v → MayLeave v → Leads key words (record words { crew = words.crew - 1 }) views (set views me (retired v)) log None
 leaves key words views me v log s at may =
-    restands key words words.stop (words.crew - 1) views me v (retired v) log s at refl refl
+    restands key words words.stop (words.crew - 1) words.account views me v (retired v) log s at refl refl
     (let old = s.seen me v at in
     record { tail_seen = old.tail_seen; exposed_seen = old.exposed_seen; durable_seen = old.durable_seen; boundaries = old.boundaries })
-    (λ _. s.constants me v at (ap is_spent may.active)) (λ _. may.idle) (λ off. absurd (true≢false off)) record {
+    (λ _. s.constants me v at (ap is_spent may.rests.active)) (λ _. may.rests.idle) (λ off. absurd (true≢false off)) record {
       count = let was : cond {A = ℕ} (is_active v.standing.role) 1 0 ≡ 1 =
-          ap (λ (r : Role). cond {A = ℕ} (is_active r) 1 0) may.active in
+          ap (λ (r : Role). cond {A = ℕ} (is_active r) 1 0) may.rests.active in
           omega (arith, count-set is_active_view views me v (retired v) at, s.roles.count, was);
       each = each_set (λ seat z. HasSoundRole seat z.standing) views me
           (retired v) s.roles.each record { small = λ _. (s.roles.each me v at).small worker; first = λ e. absurd (cc) };
@@ -182,10 +185,12 @@ leaves key words views me v log s at may =
           ));
     }
     (λ f. absurd (cc)) (each_set (λ _ z. StoresStop words.stop z) views me (retired v) s.stops (λ f. absurd (cc)))
-    (quiet-moves views me v (retired v) s.quiet at (λ _ _ _ _ f. absurd (cc)) (λ z _ _ _. refl)) (λ f. absurd (cc))
+    (each_set (λ _ z. HasReadStop words.stop z) views me (retired v) s.read_stop (s.read_stop me v at))
+    (quiet-moves views me v (retired v) s.quiet at (λ _ _ _ _ f. absurd (cc)) (λ z _ _ _. refl)) (λ f. absurd (cc)) ((λ _. may.none_held), (λ off. absurd (true≢false off)))
+    (accounts-stay key words.account log.parts views me v (retired v) at refl s.accounts)
   where
     worker : is_worker v.standing.role ≡ true
-    worker = ap is_worker may.active
+    worker = ap is_worker may.rests.active
 
 module _ (key : Start) (me : ℕ) (v : View) where
   pub enroll-step : v.standing.role ≡ Fresh → (n : ℕ) → IsStep key me Crew n (n + 1) v (enrolled v) None
@@ -196,7 +201,7 @@ module _ (key : Start) (me : ℕ) (v : View) where
             (enrolls key words views me v log s at fresh);
       }
 
-  pub leave-step : IsAtRest v → (n : ℕ) → IsStep key me Crew n (n - 1) v (retired v) None
+  pub leave-step : MayLeave v → (n : ℕ) → IsStep key me Crew n (n - 1) v (retired v) None
   leave-step may n = record {
     leads = λ words views log s at is. subst
         (λ x. Leads key words (record words { crew = x - 1 }) views (set views me (retired v)) log None) is
@@ -211,10 +216,10 @@ module _ (key : Start) (me : ℕ) (v : View) where
         ((enroll-step fresh n).leads words views log s at is);
   }
 
-  pub leave-subtracts : IsAtRest v → (n : ℕ) → IsStep key me Crew n ((n + (2 ^ 64 - 1)) % 2 ^ 64) v (retired v) None
+  pub leave-subtracts : MayLeave v → (n : ℕ) → IsStep key me Crew n ((n + (2 ^ 64 - 1)) % 2 ^ 64) v (retired v) None
   leave-subtracts may n = record {
     leads = λ words views log s at is.
-        let was : cond {A = ℕ} (is_active v.standing.role) 1 0 ≡ 1 = ap (λ (r : Role). cond {A = ℕ} (is_active r) 1 0) may.active in
+        let was : cond {A = ℕ} (is_active v.standing.role) 1 0 ≡ 1 = ap (λ (r : Role). cond {A = ℕ} (is_active r) 1 0) may.rests.active in
         let some : 1 ≤ n = omega (arith, count-set is_active_view views me v (retired v) at, s.roles.count, was, is) in
         let small = crew-small words.crew views s.roles in
         let whole : (n + (2 ^ 64 - 1)) % 2 ^ 64 ≡ n - 1 = ap (λ (x : ℕ). x % 2 ^ 64) (wraps n some)

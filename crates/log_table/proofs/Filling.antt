@@ -1,5 +1,5 @@
 -- The store of a unit into the ring: the machine's Fill.
-use Rattle.std.proofs.Common.{◌≡◌, ◌≢◌, ⊎_elim, ℕ, ◌+◌, ◌%◌, ◌<◌, ◌≤◌, cond, true, false, true≢false, List, [], ◌∷◌, ◌++◌, length, map, get_or, set, Some, sym, refl, ap, ◌∙◌, subst, arith, length-append, eq-eqb, ne_eqb}
+use Rattle.std.proofs.Common.{◌≡◌, ◌≢◌, ⊎_elim, ℕ, ◌+◌, ◌%◌, ◌<◌, ◌≤◌, cond, true, false, true≢false, List, [], ◌∷◌, ◌++◌, length, map, get_or, set, Some, sym, refl, ap, ◌∙◌, subst, arith, length-append, append-nil, append_assoc, slice_index, eq-eqb, ne_eqb}
 use Rattle.std.specs.List.{AllByRecursion, find}
 use Rattle.std.specs.Option.{IsSomeAnd}
 use Rattle.std.proofs.Math.Seq.{get_or-append_seam}
@@ -18,12 +18,16 @@ use Rattle.log_table.specs.declared.view.Entry.{Entry}
 use Rattle.log_table.specs.declared.view.View.{View}
 use Rattle.log_table.specs.Events.{reservation_of, stage_in, ring_of, Leads, IsStep}
 use Rattle.log_table.specs.Layout.{Ring}
-use Rattle.log_table.specs.Log.{Part, Log, ranges_of, own, part_of, parts_of, unreleased_in, inside, Fits, StandsInRing, IsFullIfReleased, IsReleasedBelow, CountsRemaining, AgreesFrom, EndsWithPart, Laid}
+use Rattle.log_table.specs.Log.{Part, Log, ranges_of, own, part_of, parts_of, unreleased_in, inside, SpellsRecord, records_in, StandsInRing, IsFullIfReleased, IsReleasedBelow, CountsRemaining, AgreesFrom, EndsWithPart, Laid}
 use Rattle.log_table.specs.May.{MayFill}
-use Rattle.log_table.specs.Sound.{HasSeenBoundaries, SendsIfFlusher, StoresStop, LookedIfQuiet, HasWorkingOwner, HasConstants, RestsUnlessActive, OwnsIfWorker, IsSound}
+use Rattle.log_table.specs.Sound.{HasSeenBoundaries, SendsIfFlusher, StoresStop, HasReadStop, LookedIfQuiet, HasWorkingOwner, HasConstants, RestsUnlessActive, OwnsIfWorker, HoldsIfActive, IsSound, base_of, books_of}
+use Rattle.log_record.specs.Spelling.{spelling}
+use Rattle.lock_core.specs.History.{history_from}
+use Rattle.log_table.specs.Accounts.{KeepsAccounts}
 use Rattle.log_table.specs.Views.{entries_in, claims_in, with_unit, counted, filled}
 use Rattle.log_table.specs.Words.{Words, put}
 use Rattle.log_table.proofs.Boundaries.{part_size, boundary-mid}
+use Rattle.log_table.proofs.Keeping.{accounts-stay, records-mid}
 use Rattle.log_table.proofs.Lists.{all-mid, all-at, all-both, all-weaker}
 use Rattle.log_table.proofs.Owning.{LastPart, last_part, own-last, own-others}
 use Rattle.log_table.proofs.Ranging.{tiles-le, laid-le, laid-mid, laid-same, laid-replaced, unreleased_in-mid}
@@ -42,6 +46,25 @@ put-here f at x = ap (λ b. cond b x (f at)) (eq-eqb at at refl)
 put-other : (f : ℕ → ℕ) (at x k : ℕ) → k ≢ at → put f at x k ≡ f k
 put-other f at x k differ = ap (λ b. cond b x (f k)) (ne_eqb k at differ)
 
+-- no more units are filled than were reserved
+pub units-le : (part : Part) → SpellsRecord part → length part.entry.units ≤ part.entry.size
+units-le part spells = let all = length-append part.entry.units spells.rest in let is = ap length spells.units in let size = spells.size in omega arith
+
+-- the next unit of the record is filled
+spells-more : (seat : ℕ) (entry : Entry) (unit : ℕ) → SpellsRecord (part_of seat false entry) → length entry.units < entry.size
+    → unit ≡ slice_index (spelling entry.rec) (length entry.units) → SpellsRecord (part_of seat false (with_unit unit entry))
+spells-more seat entry unit old unfilled unit-is = by_rest old.rest old.units
+  where
+    by_rest : (rest : List ℕ) → entry.units ++ rest ≡ spelling entry.rec → SpellsRecord (part_of seat false (with_unit unit entry))
+    by_rest [] is = let all = ap length (sym (append-nil entry.units) ∙ is) in let size = old.size in absurd (omega arith)
+    by_rest (next ∷ rest) is =
+        let same : next ≡ unit = sym (get_or-append_seam entry.units next rest 0) ∙ (ap (λ l. get_or l (length entry.units) 0) is ∙ sym unit-is) in record {
+          spellable = old.spellable;
+          size = old.size;
+          rest = rest;
+          units = append_assoc entry.units (unit ∷ []) rest ∙ (ap (λ u. entry.units ++ u ∷ rest) (sym same) ∙ is);
+        }
+
 -- the machine finds the reservation that the seat fills
 pub hand-at : (key : Start) (words : Words) (views : List View) (me : ℕ) (v : View) (entry : Entry) (log : Log) (before behind : List Part)
     → get_elem? views me ≡ some v → v.call ≡ Filling entry
@@ -53,7 +76,7 @@ hand-at key words views me v entry log before behind at filling split laid =
 
 module _ (key : Start) (words : Words) (views : List View) (me : ℕ) (v : View) (entry : Entry) (unit : ℕ) (log : Log)
     (s : IsSound key words views log) (at : get_elem? views me ≡ some v) (filling : v.call ≡ Filling entry)
-    (unfilled : length entry.units < entry.size) where
+    (unfilled : length entry.units < entry.size) (unit-is : unit ≡ slice_index (spelling entry.rec) (length entry.units)) where
   abbrev next : ℕ
   next = (entry.start + length entry.units) % key.ring
 
@@ -114,17 +137,17 @@ module _ (key : Start) (words : Words) (views : List View) (me : ℕ) (v : View)
       ∙ (all-at (StandsInRing key.ring words.durable words.ring) last.before last.behind old_part
       (all-old (StandsInRing key.ring words.durable words.ring) s.filled.stands) i lt hi ∙ sym (get_or-append entry.units (unit ∷ []) 0 i lt)))
 
-  stands-others : (q : Part) → Fits q × StandsInRing key.ring words.durable words.ring q → q.entry.start + q.entry.size ≤ words.tail
+  stands-others : (q : Part) → SpellsRecord q × StandsInRing key.ring words.durable words.ring q → q.entry.start + q.entry.size ≤ words.tail
       → Rattle.log_table.proofs.Ranging.Apart q old_part → StandsInRing key.ring words.durable ring' q
-  stands-others q h hi apart i below low = let fits = h.0 in
+  stands-others q h hi apart i below low = let fits = units-le q h.0 in
       put-other words.ring next unit ((q.entry.start + i) % key.ring)
       (differ_in_ring (q.entry.start + i) (entry.start + length entry.units) key.ring
       (λ e. ⊎_elim (λ a. omega (arith, a, fits, below, e)) (λ b. omega (arith, b, e, unfilled)) apart)
       (omega (arith, hi, fits, below, above_durable, s.ordered.within_ring)) (omega (arith, low, below_tail, unfilled, s.ordered.within_ring)))
       ∙ h.1 i below low
 
-  fits-part : Fits part
-  fits-part = subst (λ (n : ℕ). n ≤ entry.size) (sym (length-append entry.units (unit ∷ []))) (omega (arith, unfilled))
+  spelled-part : SpellsRecord part
+  spelled-part = spells-more me entry unit (all-at SpellsRecord last.before last.behind old_part (all-old SpellsRecord s.filled.spelled)) unfilled unit-is
 
   -- the units that the flusher's seat has lie below exposed
   agrees : (base : ℕ) (units : List ℕ) → base + length units ≤ words.exposed → AllByRecursion (AgreesFrom base units) log.parts
@@ -164,11 +187,11 @@ module _ (key : Start) (words : Words) (views : List View) (me : ℕ) (v : View)
           (subst (λ l. IsBoundary part_size key.start l (r.base + r.size)) last.split b)) s.contiguous.aligned;
     };
     filled = record {
-      fits = all-mid Fits last.before last.behind old_part part fits-part (all-old Fits s.filled.fits);
-      stands = laid-replaced (λ q. Fits q × StandsInRing key.ring words.durable words.ring q)
+      spelled = all-mid SpellsRecord last.before last.behind old_part part spelled-part (all-old SpellsRecord s.filled.spelled);
+      stands = laid-replaced (λ q. SpellsRecord q × StandsInRing key.ring words.durable words.ring q)
           (StandsInRing key.ring words.durable ring') _ _ last.before last.behind old_part part laid
-          (all-both Fits (StandsInRing key.ring words.durable words.ring) (λ q. Fits q × StandsInRing key.ring words.durable words.ring q) _
-          (λ q a b. (a, b)) (all-old Fits s.filled.fits) (all-old (StandsInRing key.ring words.durable words.ring) s.filled.stands))
+          (all-both SpellsRecord (StandsInRing key.ring words.durable words.ring) (λ q. SpellsRecord q × StandsInRing key.ring words.durable words.ring q) _
+          (λ q a b. (a, b)) (all-old SpellsRecord s.filled.spelled) (all-old (StandsInRing key.ring words.durable words.ring) s.filled.stands))
           stands-part (λ q h _ _ hi apart. stands-others q h hi apart);
     };
     below = record {
@@ -198,8 +221,13 @@ module _ (key : Start) (words : Words) (views : List View) (me : ℕ) (v : View)
     sends = each_moves (λ _ z. SendsIfFlusher key.start words.exposed words.durable log z)
         (λ _ z. SendsIfFlusher key.start words.exposed words.durable after z) views me new s.sends (sends v (s.sends me v at)) (λ _ z _ _. sends z);
     stops = each_set (λ _ z. StoresStop words.stop z) views me new s.stops (s.stops me v at);
+    read_stop = each_set (λ _ z. HasReadStop words.stop z) views me new s.read_stop (s.read_stop me v at);
     quiet = quiet-moves views me v new s.quiet at (λ _ _ _ h. h) (λ _ h. h);
     looked = each_set (λ _ z. LookedIfQuiet words.exposed z) views me new s.looked (s.looked me v at);
+    unheld = each_set (λ _ z. HoldsIfActive z) views me new s.unheld (s.unheld me v at);
+    accounts = accounts-stay key words.account after.parts views me v new at refl
+        (subst (λ records. KeepsAccounts (base_of key) words.account (history_from key.start [] records) (map books_of views))
+        (ap records_in last.split ∙ sym (records-mid last.before last.behind old_part part refl)) s.accounts);
   }
 
   abbrev old_state : RingState
@@ -241,7 +269,7 @@ module _ (key : Start) (words : Words) (views : List View) (me : ℕ) (v : View)
     );
   }
 
-pub fill-step : (key : Start) (me : ℕ) (v : View) (at ring unit : ℕ) → key.ring ≡ ring → MayFill at v → (n : ℕ)
+pub fill-step : (key : Start) (me : ℕ) (v : View) (at ring unit : ℕ) → key.ring ≡ ring → MayFill at unit v → (n : ℕ)
     → IsStep key me (Ring (at % ring)) n unit v (filled unit v) (Some (Fill me))
 fill-step key me v at ring unit same may n = record {
   leads = λ words views log s here is.
@@ -250,5 +278,5 @@ fill-step key me v at ring unit same may n = record {
       ap (Rattle.log_table.specs.Views.call_with_unit unit) (sym may.filling) in
       subst (λ (x : ℕ × Rattle.log_table.specs.declared.view.Call.Call). Leads key words (record words { ring = put words.ring x.0 unit }) views
       (set views me (record v { seen = counted v.seen; call = x.1 })) log (Some (Fill me)))
-      (λ i. (index i, call i)) (ring-fills key words views me v may.entry unit log s here may.filling may.unfilled);
+      (λ i. (index i, call i)) (ring-fills key words views me v may.entry unit log s here may.filling may.unfilled may.unit_is);
 }

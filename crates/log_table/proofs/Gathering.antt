@@ -1,5 +1,5 @@
 -- Once every worker was merged, the flusher's seat has the whole log, and all of it is released.
-use Rattle.std.proofs.Common.{◌≡◌, ◌≢◌, ℕ, zero, suc, ◌+◌, ◌/◌, ◌≤◌, cond, Bool, true, false, true≢false, List, [], ◌∷◌, ◌++◌, get_or, sym, refl, ap, ◌∙◌, subst, append-nil, arith, length, length-append, eq-eqb, ne_eqb}
+use Rattle.std.proofs.Common.{◌≡◌, ◌≢◌, ℕ, zero, suc, ◌+◌, ◌/◌, ◌≤◌, ◌<◌, cond, lt-ltb, slice_index, map, Bool, true, false, true≢false, List, [], ◌∷◌, ◌++◌, get_or, sym, refl, ap, ◌∙◌, subst, append-nil, arith, length, length-append, eq-eqb, ne_eqb}
 use Rattle.std.specs.List.{AllByRecursion}
 use mathlib.Core.Logic.{dite}
 use mathlib.Core.Option.{some, some-injective, some-ne-none}
@@ -16,14 +16,27 @@ use Rattle.log_table.specs.declared.view.Entry.{Entry}
 use Rattle.log_table.specs.declared.view.Role.{Role}
 use Rattle.log_table.specs.declared.view.Role.TheVariants.{Flusher, Fresh, Active, Ended, Note, Spent}
 use Rattle.log_table.specs.declared.view.View.{View}
-use Rattle.log_table.specs.Closing.{IsGathered}
-use Rattle.log_table.specs.Log.{Part, Range, Log, own, owed, is_owed_by, claim_of, parts_of, ranges_of, Tiles, Laid, IsFull, IsFullIfReleased, IsOwed, AgreesFrom, IsRangeBoundary, IsEntryBoundary}
+use Rattle.slot_word.specs.AccountWord.{held_in, balance_in, mark_in}
+use Rattle.log_record.specs.declared.rec.Entry.{Entry as Placed}
+use Rattle.log_record.specs.Spelling.{IsBalance}
+use Rattle.lock_core.specs.History.{history_from}
+use Rattle.lock_core.specs.Records.{loss}
+use Rattle.lock_core.specs.Settling.{row}
+use Rattle.lock_core.specs.Sums.{BaseState, IsBalanceOf, last_commit_of, total}
+use Rattle.log_table.specs.declared.view.Books.{Books}
+use Rattle.log_table.specs.Accounts.{summed, holders, takers, AccountsFollowList}
+use Rattle.log_table.specs.Books.{task_of, times_held, times_taken}
+use Rattle.log_table.specs.Closing.{IsGathered, IsLedger, IsSettled, ReadsRows, records_of, history_of}
+use Rattle.log_table.specs.Layout.{Account, index_of}
+use Rattle.log_table.proofs.Gathered.{gathered}
+use Rattle.atomic_table.proofs.Lists.{at_map}
+use Rattle.log_table.specs.Log.{Part, Range, Log, own, owed, is_owed_by, claim_of, part_of, parts_of, IsSpelled, ranges_of, Tiles, Laid, IsFull, IsFullIfReleased, IsOwed, AgreesFrom, IsRangeBoundary, IsEntryBoundary, SpellsRecord, records_in}
 use Rattle.log_table.specs.Sends.{IsDrained}
 use Rattle.log_table.specs.May.{MayClose}
-use Rattle.log_table.specs.Sound.{HasWorkingOwner, SendsInsertedUnits, IsSound, Ruled}
+use Rattle.log_table.specs.Sound.{HasWorkingOwner, SendsInsertedUnits, IsSound, Ruled, base_of, history_in, books_of}
 use Rattle.log_table.specs.Views.{is_active, is_worker, is_spent, may_own, nobody, entries_in, claims_in}
-use Rattle.log_table.specs.Words.{Words, words_of}
-use Rattle.log_table.proofs.Agreeing.{IsFront, agrees-append, front, front-whole, joined, joined-entries, joined-length}
+use Rattle.log_table.specs.Words.{Words, words_in}
+use Rattle.log_table.proofs.Agreeing.{IsFront, agrees-append, whole-record, front, front-whole, joined, joined-entries, joined-length}
 use Rattle.log_table.proofs.Boundaries.{part_size, boundary-entries}
 use Rattle.log_table.proofs.Lists.{all-both, all-weaker}
 use Rattle.log_table.proofs.Looking.{part-boundary}
@@ -85,6 +98,38 @@ owns-none Active e other = absurd (true≢false e)
 owns-none Ended e other = absurd (true≢false e)
 owns-none Note e other = refl
 owns-none Spent e other = refl
+
+-- full entries hold their records whole
+spelled-entries : (seat : ℕ) (entries : List Entry) → AllByRecursion SpellsRecord (parts_of seat true entries)
+    → AllByRecursion IsFullIfReleased (parts_of seat true entries) → AllByRecursion IsSpelled entries
+spelled-entries seat [] spells full = tt
+spelled-entries seat (entry ∷ entries) spells full =
+    (whole-record (part_of seat true entry) spells.0 (full.0 refl), spelled-entries seat entries spells.1 full.1)
+
+records-entries : (seat : ℕ) (entries : List Entry) → records_in (parts_of seat true entries) ≡ records_of entries
+records-entries seat [] = refl
+records-entries seat (entry ∷ entries) = ap (λ l. entry.rec ∷ l) (records-entries seat entries)
+
+-- a sum over the books of views of which none has anything, or one alone
+summed-none : (amount : Books → ℕ) (tell : View → Books) (views : List View) → ((j : ℕ) (z : View) → get_elem? views j ≡ some z → amount (tell z) ≡ 0)
+    → summed amount (map tell views) ≡ 0
+summed-none amount tell [] none = refl
+summed-none amount tell (z ∷ zs) none = let first = none zero z refl in let more = summed-none amount tell zs (λ j x there. none (suc j) x there) in omega arith
+
+summed-only : (amount : Books → ℕ) (tell : View → Books) (views : List View) (me : ℕ) (v : View) → get_elem? views me ≡ some v
+    → ((j : ℕ) (z : View) → j ≢ me → get_elem? views j ≡ some z → amount (tell z) ≡ 0) → summed amount (map tell views) ≡ amount (tell v)
+summed-only amount tell [] me v at none = absurd (some-ne-none v (sym at))
+summed-only amount tell (z ∷ zs) zero v at none =
+    let same : amount (tell z) ≡ amount (tell v) = ap (λ x. amount (tell x)) (some-injective z v at) in
+    let more = summed-none amount tell zs (λ j x there. none (suc j) x (λ e. absurd (omega arith)) there) in omega arith
+summed-only amount tell (z ∷ zs) (suc me) v at none =
+    let first = none zero z (λ e. absurd (omega arith)) refl in
+    let more = summed-only amount tell zs me v at (λ j x differ there. none (suc j) x (λ e. differ (omega arith)) there) in omega arith
+
+-- the row has what the list says of the account
+record IsRow (base : BaseState) (h : List Placed) (account : ℕ) (values : ℕ × ℕ) : Type 0 where
+  balance : IsBalanceOf base h account values.0
+  mark : last_commit_of base h account ≡ values.1
 
 module _ (key : Start) (words : Words) (views : List View) (me : ℕ) (v : View) (log : Log) (s : IsSound key words views log)
     (at : get_elem? views me ≡ some v) (may : MayClose v) where
@@ -176,26 +221,88 @@ module _ (key : Start) (words : Words) (views : List View) (me : ℕ) (v : View)
     unsent = first.ahead;
     sent = sym (joined-entries me true v.entries) ∙ first.is;
     drained = λ d. sym (joined-entries me true v.entries) ∙ all-sent d;
+    spelled = spelled-entries me v.entries (all-mine SpellsRecord s.filled.spelled) (all-mine IsFullIfReleased s.below.full);
   }
 
+  abbrev bs : List Books
+  bs = map books_of views
+
+  -- all accounts are free
+  none-held : (account : ℕ) → holders account bs ≡ 0
+  none-held account = summed-none (λ (b : Books). times_held account b.held) books_of views
+      (λ j z there. ap (times_held account) ((s.unheld j z there).0 (rests z.standing.role (no-worker j z there))))
+
+  free : (account : ℕ) → account < length key.accounts.rows → held_in (words.account account) ≡ false
+  free account below = by_test (held_in (words.account account)) (sym (none-held account) ∙ s.accounts.holder.counts account below)
+    where
+      by_test : (b : Bool) → 0 ≡ cond {A = ℕ} b 1 0 → b ≡ false
+      by_test true is = absurd (omega arith)
+      by_test false is = refl
+
+  -- all jobs are the flusher's seat's
+  all-jobs : (number : ℕ) → takers number bs ≡ times_taken number v.books.jobs
+  all-jobs number = summed-only (λ (b : Books). times_taken number b.jobs) books_of views me v at
+      (λ j z differ there. ap (times_taken number) ((s.unheld j z there).1 (owns-none z.standing.role (no-worker j z there)
+      (λ f. differ ((s.roles.each j z there).first f ∙ sym ((s.roles.each me v at).first may.flusher))))))
+
+  records-are : history_in key log.parts ≡ history_of (base_of key) v.entries
+  records-are = ap (history_from key.start []) (ap records_in parts-are ∙ records-entries me v.entries)
+
+  pub settles : (ws : List ℕ) (old rows : List (ℕ × ℕ)) → words ≡ words_in key ws → length old ≡ length key.accounts.rows → ReadsRows key.ring (length old) ws old rows
+      → IsSettled (base_of key) v rows
+  settles ws old rows words-are same reads = record {
+    count = reads.count ∙ same;
+    ledger = λ distinct. let f = s.accounts.follows (λ number. subst (λ n. n ≤ 1) (sym (all-jobs number)) (distinct number)) in
+        subst (λ h. IsLedger (base_of key) h (map task_of v.books.jobs) rows) records-are record {
+          lawful = f.lawful;
+          serial = gathered (base_of key) words.account (history_in key log.parts) bs me v.books (at_map books_of views me v at) all-jobs f;
+          accounts = record {
+            count = reads.count ∙ same;
+            range = λ account below. let up = up-to-date f account (omega (arith, reads.count, same)) in
+                let r = f.range account (omega (arith, reads.count, same)) in let is = up.balance in let sum = r.2 in
+                subst IsBalance (same-balance r.0 (row rows account).0 (total loss account (history_in key log.parts)) _ sum is) r.1;
+            balance = λ account below. (up-to-date f account (omega (arith, reads.count, same))).balance;
+            last = λ account below. sym (up-to-date f account (omega (arith, reads.count, same))).mark;
+          };
+        };
+  }
+    where
+      same-balance : (x y k n : ℕ) → x + k ≡ n → y + k ≡ n → x ≡ y
+      same-balance x y k n a b = omega arith
+
+      up-to-date : AccountsFollowList (base_of key) words.account (history_in key log.parts) bs → (account : ℕ) → account < length key.accounts.rows
+          → IsRow (base_of key) (history_in key log.parts) account (row rows account)
+      up-to-date f account below =
+          let old' = f.free account below (free account below) in
+          let word-is : words.account account ≡ slice_index ws (index_of key.ring (Account account)) =
+          ap (λ (w : Words). w.account account) words-are
+          ∙ ap (λ t. cond t (slice_index ws (index_of key.ring (Account account))) 0) (lt-ltb account (length key.accounts.rows) below) in
+          let row-is = reads.each account (subst (λ n. account < n) (sym same) below) in
+          record {
+            balance = subst (IsBalanceOf (base_of key) (history_in key log.parts) account) (ap balance_in word-is ∙ sym (ap (λ (r : ℕ × ℕ). r.0) row-is)) old'.balance;
+            mark = old'.mark ∙ (ap mark_in word-is ∙ sym (ap (λ (r : ℕ × ℕ). r.1) row-is));
+          }
+
 -- what the words of a closed table held
-pub record IsClosed (tail exposed : ℕ) (v : View) : Type 0 where
+pub record IsClosed (key : Start) (ws : List ℕ) (tail exposed : ℕ) (v : View) : Type 0 where
   pub small : tail ≤ LAST
   pub released : exposed ≡ tail
   pub gathered : IsGathered tail v
+  pub settled : (old rows : List (ℕ × ℕ)) → length old ≡ length key.accounts.rows → ReadsRows key.ring (length old) ws old rows → IsSettled (base_of key) v rows
 
-at-index : (l : List ℕ) (i a : ℕ) → get_elem? l i ≡ some a → get_or l i 0 ≡ a
+pub at-index : (l : List ℕ) (i a : ℕ) → get_elem? l i ≡ some a → get_or l i 0 ≡ a
 at-index [] i a e = absurd (some-ne-none a (sym e))
 at-index (x ∷ xs) zero a e = some-injective x a e
 at-index (x ∷ xs) (suc i) a e = at-index xs i a e
 
 pub closes : (key : Start) (me : ℕ) (v : View) (ws : List ℕ) (xs : List (Unit {0})) (tail exposed : ℕ) → Final (Seen (Ruled key) me v) ws xs
-    → MayClose v → get_elem? ws TAIL ≡ some tail → get_elem? ws EXPOSED ≡ some exposed → IsClosed tail exposed v
+    → MayClose v → get_elem? ws TAIL ≡ some tail → get_elem? ws EXPOSED ≡ some exposed → IsClosed key ws tail exposed v
 closes key me v ws xs tail exposed final may tail-at exposed-at =
-    let state = final.0 in let log = final.1.0.1.0 in let s = final.1.0.1.1 in let at = final.1.1 in let words = words_of key.ring state.words in
+    let state = final.0 in let log = final.1.0.1.0 in let s = final.1.0.1.1 in let at = final.1.1 in let words = words_in key state.words in
     let tail-is : words.tail ≡ tail = ap (λ l. get_or l TAIL 0) final.2 ∙ at-index ws TAIL tail tail-at in
     let exposed-is : words.exposed ≡ exposed = ap (λ l. get_or l EXPOSED 0) final.2 ∙ at-index ws EXPOSED exposed exposed-at in record {
       small = subst (λ n. n ≤ LAST) tail-is s.ordered.within_log;
       released = sym exposed-is ∙ (all_released key words state.views me v log s at may ∙ tail-is);
       gathered = subst (λ n. IsGathered n v) tail-is (gathers key words state.views me v log s at may);
+      settled = λ old rows same reads. settles key words state.views me v log s at may ws old rows (ap (words_in key) final.2) same reads;
     }

@@ -1,5 +1,5 @@
 -- A kind of step keeps the rule of the base crate where it leads from sound tables to sound ones.
-use Rattle.std.proofs.Common.{◌≡◌, ℕ, ◌<◌, List, get_or, set, sym, refl, ◌∙◌, subst, length-set, Option}
+use Rattle.std.proofs.Common.{◌≡◌, ℕ, ◌<◌, List, length, get_or, set, sym, refl, ◌∙◌, subst, length-set, Option}
 use mathlib.Core.Option.{some}
 use lib.ListN.{get_elem?}
 use Rattle.atomic_table.specs.Table.{Me, keeps, Allows}
@@ -9,7 +9,7 @@ use Rattle.log_table.specs.declared.view.View.{View}
 use Rattle.log_table.specs.Layout.{Word, index_of}
 use Rattle.log_table.specs.Log.{Log}
 use Rattle.log_table.specs.Sound.{IsSound, Ruled}
-use Rattle.log_table.specs.Words.{Words, words_of, word_at}
+use Rattle.log_table.specs.Words.{Words, words_in, word_at}
 use Rattle.log_table.specs.Events.{IsStep}
 use Rattle.log_table.proofs.Wording.{Fits, words_of-set, read-word}
 
@@ -18,27 +18,27 @@ abbrev pub Tells : Start → ℕ → Word → View → (ℕ → Type 0) → Type
 Tells key seat word view P = (words : Words) (views : List View) (log : Log) → IsSound key words views log → get_elem? views seat ≡ some view
     → P (word_at words word)
 
-module _ (key : Start) (slots seat : ℕ) (me : Me (Unit {0}) View) (word : Word) (fits : Fits key.ring word) where
+module _ (key : Start) (slots seat : ℕ) (me : Me (Unit {0}) View) (word : Word) (fits : Fits key.ring (length key.accounts.rows) word) where
   -- a step that finds n, leaves `left n` in the word and `after n` as the seat's view
   pub allowed-if_step : (left : ℕ → ℕ) (after : ℕ → View) (event : ℕ → Option RingEvent) (P : ℕ → Type 0)
       → Tells key seat word me.0 P
       → ((n : ℕ) → n < 18446744073709551616 → IsStep key seat word n (left n) me.0 (after n) (event n))
-      → Allows (Ruled key) slots seat me (index_of word) left (λ n new. (new ≡ (after n, me.1)) × P n)
+      → Allows (Ruled key) slots seat me (index_of key.ring word) left (λ n new. (new ≡ (after n, me.1)) × P n)
   allowed-if_step left after event P tells step s ruled deep here small =
-      let n : ℕ = get_or s.words (index_of word) 0 in
-      let read : n ≡ word_at (words_of key.ring s.words) word = read-word key.ring s.words word fits in
-      let led = (step n small).leads (words_of key.ring s.words) s.views ruled.1.0 ruled.1.1 here (sym read) in (
+      let n : ℕ = get_or s.words (index_of key.ring word) 0 in
+      let read : n ≡ word_at (words_in key s.words) word = read-word key.ring (length key.accounts.rows) s.words word fits in
+      let led = (step n small).leads (words_in key s.words) s.views ruled.1.0 ruled.1.1 here (sym read) in (
         after n,
         keeps,
         tt,
         (
-          length-set s.words (index_of word) (left n)
+          length-set s.words (index_of key.ring word) (left n)
               ∙ ruled.0,
           (
             led.after,
             subst (λ (w : Words). IsSound key w (set s.views seat (after n)) led.after)
-                (sym (words_of-set key.ring s.words word (left n) fits ruled.0)) led.sound,
+                (sym (words_of-set key.ring (length key.accounts.rows) s.words word (left n) fits ruled.0)) led.sound,
           ),
         ),
-        (refl, subst P (sym read) (tells (words_of key.ring s.words) s.views ruled.1.0 ruled.1.1 here)),
+        (refl, subst P (sym read) (tells (words_in key s.words) s.views ruled.1.0 ruled.1.1 here)),
       )

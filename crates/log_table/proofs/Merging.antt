@@ -1,21 +1,28 @@
 -- The flusher's seat takes in the seat of a worker that has ended, or a note.
-use Rattle.std.proofs.Common.{◌≡◌, ◌≢◌, ◌⊎◌, inl, inr, ⊎_elim, ℕ, zero, suc, ◌+◌, true, false, true≢false, List, [], ◌∷◌, ◌++◌, set, sym, refl, ap, ◌∙◌, subst, arith, append-nil}
+use Rattle.std.proofs.Common.{◌≡◌, ◌≢◌, ◌==◌, ◌⊎◌, inl, inr, ⊎_elim, ℕ, zero, suc, ◌+◌, true, false, true≢false, List, [], ◌∷◌, ◌++◌, map, set, sym, refl, ap, ◌∙◌, subst, arith, append-nil}
 use mathlib.Core.Option.{some}
 use lib.ListN.{get_elem?}
 use Rattle.atomic_table.specs.Table.{Joins}
-use Rattle.atomic_table.proofs.Lists.{at_set, set_else}
+use Rattle.atomic_table.proofs.Lists.{at_set, at_map, set_else}
+use Rattle.std.proofs.lemmas.List.{map-set}
+use Rattle.lock_core.specs.History.{history_from}
+use Rattle.log_table.specs.declared.view.Books.{Books}
+use Rattle.log_table.specs.Accounts.{KeepsAccounts}
+use Rattle.log_table.specs.Books.{no_books, merging}
+use Rattle.log_table.proofs.Gathered.{joins}
 use Rattle.log_table.specs.declared.table.Start.{Start}
 use Rattle.log_table.specs.declared.view.Call.TheVariants.{Idle}
 use Rattle.log_table.specs.declared.view.View.{View}
-use Rattle.log_table.specs.Log.{Part, Log, ranges_of, parts_of, Fits, StandsInRing, IsFullIfReleased, IsReleasedBelow, CountsRemaining, AgreesFrom, EndsWithPart}
+use Rattle.log_table.specs.Log.{Part, Log, ranges_of, parts_of, SpellsRecord, StandsInRing, IsFullIfReleased, IsReleasedBelow, CountsRemaining, AgreesFrom, EndsWithPart}
 use Rattle.log_table.specs.May.{MayMerge}
-use Rattle.log_table.specs.Sound.{EachView, HasSeenBoundaries, SendsIfFlusher, StoresStop, LookedIfQuiet, HasWorkingOwner, HasConstants, RestsUnlessActive, OwnsIfWorker, HasSoundRole, HasSoundRoles, HasSoundCrew, IsSound, Knows, Lacks, Ruled, is_active_view}
+use Rattle.log_table.specs.Sound.{EachView, HasSeenBoundaries, SendsIfFlusher, StoresStop, HasReadStop, LookedIfQuiet, HasWorkingOwner, HasConstants, RestsUnlessActive, OwnsIfWorker, HoldsIfActive, base_of, history_in, books_of, HasSoundRole, HasSoundRoles, HasSoundCrew, IsSound, Knows, Lacks, Ruled, is_active_view}
 use Rattle.log_table.specs.Views.{has_ended, is_active, is_worker, is_spent, nobody, entries_in, claims_in, merged_entries, merged_seen, merged_standing, takes_in}
-use Rattle.log_table.specs.Words.{Words, words_of}
+use Rattle.log_table.specs.Words.{Words, words_in}
 use Rattle.log_table.proofs.CrewMerging.{ended-rests, crew-merges}
 use Rattle.log_table.proofs.Lists.{all-append, all-weaker}
-use Rattle.log_table.proofs.Renaming.{rename, own-renamed, own-renamed-from, own-renamed-else, all-renamed, laid-renamed, unreleased_in-renamed, boundary-renamed}
+use Rattle.log_table.proofs.Renaming.{rename, own-renamed, own-renamed-from, own-renamed-else, all-renamed, laid-renamed, unreleased_in-renamed, boundary-renamed, records-renamed}
 use Rattle.log_table.proofs.Roles.{quiet-moves}
+use Rattle.log_table.proofs.Stopping.{either-read}
 use Rattle.log_table.proofs.Viewing.{each_set, seats_move, seat_at}
 
 set-swap : (views : List View) (a b : ℕ) (x y : View) → a ≢ b → set (set views a x) b y ≡ set (set views b y) a x
@@ -97,6 +104,20 @@ module _ (key : Start) (words : Words) (views : List View) (me other : ℕ) (v o
     read_agrees = all-renamed (AgreesFrom words.durable z.sending.read) other me log.parts (λ p h. h) o.read_agrees;
   }
 
+  abbrev bs : List Books
+  bs = map books_of views
+
+  books-merged : map books_of (set without me new) ≡ set (set bs me (merging v.books o.books)) other no_books
+  books-merged = ap (map books_of) (set-swap views other me nobody new apart)
+      ∙ (map-set books_of (set views me new) other nobody ∙ ap (λ l. set l other no_books) (map-set books_of views me new))
+
+  accounts-merged : KeepsAccounts (base_of key) words.account (history_in key parts) (map books_of (set without me new))
+  accounts-merged = subst (KeepsAccounts (base_of key) words.account (history_in key parts)) (sym books-merged)
+      (subst (λ records. KeepsAccounts (base_of key) words.account (history_from key.start [] records) (set (set bs me (merging v.books o.books)) other no_books))
+      (sym (records-renamed other me log.parts))
+      (joins (base_of key) words.account (history_in key log.parts) bs me other v.books o.books apart (at_map books_of views me v at)
+      (at_map books_of views other o there) ((s.unheld other o there).0 (ended-rests o.standing.role may.ended)) s.accounts))
+
   merges' : IsSound key words (set without me new) after
   merges' = record {
     ordered = s.ordered;
@@ -119,7 +140,8 @@ module _ (key : Start) (words : Words) (views : List View) (me other : ℕ) (v o
           (λ r. boundary-renamed other me key.start (r.base + r.size) log.parts) s.contiguous.aligned;
     };
     filled = record {
-      fits = all-renamed Fits other me log.parts (λ p h. h) s.filled.fits;
+      spelled = all-renamed SpellsRecord other me log.parts (λ p h. record { spellable = h.spellable; size = h.size; rest = h.rest; units = h.units })
+          s.filled.spelled;
       stands = all-renamed (StandsInRing key.ring words.durable words.ring) other me log.parts (λ p h. h) s.filled.stands;
     };
     below = record {
@@ -137,9 +159,14 @@ module _ (key : Start) (words : Words) (views : List View) (me other : ℕ) (v o
     sends = each-merged (λ _ z. SendsIfFlusher key.start words.exposed words.durable after z) (λ j z here. sends z (s.sends j z here))
         (λ f. absurd (cc)) (sends v (s.sends me v at));
     stops = each-merged (λ _ z. StoresStop words.stop z) s.stops (λ f. absurd (cc)) (s.stops me v at);
+    read_stop = each-merged (λ _ z. HasReadStop words.stop z) s.read_stop (inl refl)
+        (either-read words.stop v.seen.stop o.seen.stop (o.seen.stop == 0) (s.read_stop me v at) (s.read_stop other o there));
     quiet = quiet-moves without me v new
         (quiet-moves views other o nobody s.quiet there (λ _ _ _ _ f. absurd (cc)) (λ _ _ _ _. refl)) at' (λ _ _ _ h. h) (λ _ h. h);
     looked = each-merged (λ _ z. LookedIfQuiet words.exposed z) s.looked (λ f. absurd (cc)) (s.looked me v at);
+    unheld = each-merged (λ _ z. HoldsIfActive z) s.unheld ((λ _. refl), (λ _. refl))
+        ((s.unheld me v at).0, (λ off. absurd (true≢false (sym (ap Rattle.log_table.specs.Views.may_own may.flusher) ∙ off))));
+    accounts = accounts-merged;
   }
 
   pub merges : IsSound key words (set (set views me new) other nobody) after
@@ -151,7 +178,7 @@ merge-allowed key seat v other o may s ruled at apart there = (
   ruled.0,
   (
     _,
-    merges key (words_of key.ring s.words) s.views seat other v o ruled.1.0 ruled.1.1 at
+    merges key (words_in key s.words) s.views seat other v o ruled.1.0 ruled.1.1 at
         (⊎_elim (λ (t : (other ≡ seat) × (takes_in v o ≡ o)). absurd (apart t.0))
         (λ (t : (other ≢ seat) × (get_elem? s.views other ≡ some o)). t.1) (at_set s.views seat other (takes_in v o) o there)) apart may,
   ),

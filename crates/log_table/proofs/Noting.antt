@@ -9,7 +9,7 @@ use Rattle.log_table.specs.declared.view.View.{View}
 use Rattle.log_table.specs.Log.{Log}
 use Rattle.log_table.specs.Sound.{RestsIfQuiet, HasSoundRole, HasSoundRoles, HasSoundCrew, IsSound, Ruled, is_active_view}
 use Rattle.log_table.specs.Views.{is_spent, noted}
-use Rattle.log_table.specs.Words.{Words, words_of}
+use Rattle.log_table.specs.Words.{Words, words_in}
 use Rattle.log_table.proofs.Adding.{adds}
 use Rattle.log_table.proofs.Viewing.{each_push, pairs_push}
 
@@ -62,15 +62,15 @@ module _ (key : Start) (words : Words) (views : List View) (me : ℕ) (v : View)
       none k = omega arith
 
   pub notes : IsSound key words (views ++ note ∷ []) log
-  notes = adds key words views log s note refl refl (λ f. absurd (cc)) (s.seen me v at) (λ _. s.constants me v at unspent) crew-notes
-      (pairs_push (λ _ y _ z. RestsIfQuiet y z) views note s.quiet (λ f. absurd (cc)) (λ j z there. ((λ f. absurd (cc)), (λ _ _. refl))))
+  notes = adds key words views log s note refl refl (λ f. absurd (cc)) (s.seen me v at) (s.read_stop me v at) (λ _. s.constants me v at unspent) crew-notes
+      (pairs_push (λ _ y _ z. RestsIfQuiet y z) views note s.quiet (λ f. absurd (cc)) (λ j z there. ((λ f. absurd (cc)), (λ _ _. refl)))) refl
 
 pub note-allowed : (key : Start) (seat : ℕ) (v : View) → is_spent v.standing.role ≡ false → Splits {S = Unit {0}} (Ruled key) seat v v (noted v)
 note-allowed key seat v unspent s ruled at = (
   ruled.0,
   (
     ruled.1.0,
-    subst (λ l. IsSound key (words_of key.ring s.words) (l ++ noted v ∷ []) ruled.1.0) (sym (set-same s.views seat v at))
-        (notes key (words_of key.ring s.words) s.views seat v ruled.1.0 ruled.1.1 at unspent),
+    subst (λ l. IsSound key (words_in key s.words) (l ++ noted v ∷ []) ruled.1.0) (sym (set-same s.views seat v at))
+        (notes key (words_in key s.words) s.views seat v ruled.1.0 ruled.1.1 at unspent),
   ),
 )

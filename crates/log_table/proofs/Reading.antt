@@ -11,7 +11,7 @@ use Rattle.log_table.specs.Layout.{Ring}
 use Rattle.log_table.specs.Log.{Part, Log, AgreesFrom, StandsInRing, IsFull, IsFullIfReleased, IsReleasedBelow}
 use Rattle.log_table.specs.May.{MayRead}
 use Rattle.log_table.specs.Sends.{AreEntries, ReadsWholeEntries}
-use Rattle.log_table.specs.Sound.{StoresStop, SendsInsertedUnits, IsSound}
+use Rattle.log_table.specs.Sound.{StoresStop, HasReadStop, SendsInsertedUnits, IsSound}
 use Rattle.log_table.specs.Views.{is_spent, counted, has_read, sent_to}
 use Rattle.log_table.specs.Words.{Words, put}
 use Rattle.log_table.proofs.Agreeing.{agrees-push, entries-from}
@@ -21,7 +21,7 @@ use Rattle.log_table.proofs.Looking.{looks, durable-boundary, part-boundary}
 use Rattle.log_table.proofs.Viewing.{each_set}
 
 -- what stands at a place, put there again, changes nothing
-put-same : (f : ℕ → ℕ) (at n k : ℕ) → f at ≡ n → put f at n k ≡ f k
+pub put-same : (f : ℕ → ℕ) (at n k : ℕ) → f at ≡ n → put f at n k ≡ f k
 put-same f at n k is = by_test (k == at) refl
   where
     by_test : (b : Bool) → (k == at) ≡ b → cond b n (f k) ≡ f k
@@ -69,7 +69,7 @@ module _ (key : Start) (words : Words) (views : List View) (me : ℕ) (v : View)
   whole all = subst (λ n. AreEntries n v.sending.exposed read) (sym sent-is)
       (entries-from key.start words.tail words.durable v.sending.exposed log.parts read s.contiguous.parts
       (part-boundary _ _ _ _ _ log s.contiguous words.durable (durable-boundary _ _ _ _ _ log s.contiguous))
-      (part-boundary _ _ _ _ _ log s.contiguous v.sending.exposed sends.boundary) (omega (arith, all, sent-is)) full sends-more.read_agrees)
+      (part-boundary _ _ _ _ _ log s.contiguous v.sending.exposed sends.boundary) (omega (arith, all, sent-is)) full s.filled.spelled sends-more.read_agrees)
 
   pub ring-reads : Leads key words words views (set views me (has_read unit v)) log None
   ring-reads = let old = s.seen me v at in
@@ -79,6 +79,7 @@ module _ (key : Start) (words : Words) (views : List View) (me : ℕ) (v : View)
         durable_seen = old.durable_seen;
         boundaries = old.boundaries;
       } (λ _. sends-more) (each_set (λ _ z. StoresStop words.stop z) views me (has_read unit v) s.stops (s.stops me v at))
+      (each_set (λ _ z. HasReadStop words.stop z) views me (has_read unit v) s.read_stop (s.read_stop me v at))
       (λ _ _ _ h. h) (s.looked me v at)
 
 module _ (key : Start) (me : ℕ) (v : View) (lsn ring : ℕ) (same : key.ring ≡ ring) (may : MayRead lsn v) where

@@ -1,5 +1,5 @@
 -- The store of exposed keeps the rule.
-use Rattle.std.proofs.Common.{◌≡◌, ◌≢◌, inl, ℕ, ◌+◌, ◌/◌, ◌<◌, ◌≤◌, cond, true, false, List, [], ◌∷◌, ◌++◌, set, sym, refl, ap, ◌∙◌, subst, le_refl, arith, append-nil, append_assoc, ne_eqb, eqb-true, true≢false}
+use Rattle.std.proofs.Common.{◌≡◌, ◌≢◌, inl, ℕ, ◌+◌, ◌/◌, ◌<◌, ◌≤◌, cond, true, false, List, [], ◌∷◌, ◌++◌, map, set, sym, refl, ap, ◌∙◌, subst, le_refl, arith, append-nil, append_assoc, ne_eqb, eqb-true, true≢false}
 use Rattle.std.specs.List.{AllByRecursion}
 use mathlib.Core.Logic.{dite}
 use mathlib.Core.Option.{some}
@@ -12,8 +12,11 @@ use Rattle.log_table.specs.declared.view.Entry.{Entry}
 use Rattle.log_table.specs.declared.view.Role.{Role}
 use Rattle.log_table.specs.declared.view.Role.TheVariants.{Flusher, Fresh, Active, Ended, Note, Spent}
 use Rattle.log_table.specs.declared.view.View.{View}
-use Rattle.log_table.specs.Log.{Part, Duty, Shared, Owed, Released, Range, Claim, Log, ranges_of, own, owed, owes, is_owed_by, claim_of, part_of, parts_of, unreleased_in, inside, IsFull, Fits, StandsInRing, IsFullIfReleased, IsReleasedBelow, IsReleased, IsOwed, CountsRemaining, Tiles, Laid, AgreesFrom, EndsWithPart, IsRangeBoundary}
-use Rattle.log_table.specs.Sound.{HasSeenBoundaries, HasContiguousReservations, SendsIfFlusher, StoresStop, LookedIfQuiet, HasWorkingOwner, HasConstants, RestsUnlessActive, OwnsIfWorker, IsSound}
+use Rattle.log_table.specs.Log.{Part, Duty, Shared, Owed, Released, Range, Claim, Log, ranges_of, own, owed, owes, is_owed_by, claim_of, part_of, parts_of, unreleased_in, inside, IsFull, SpellsRecord, records_in, StandsInRing, IsFullIfReleased, IsReleasedBelow, IsReleased, IsOwed, CountsRemaining, Tiles, Laid, AgreesFrom, EndsWithPart, IsRangeBoundary}
+use Rattle.log_table.specs.Sound.{HasSeenBoundaries, HasContiguousReservations, SendsIfFlusher, StoresStop, HasReadStop, LookedIfQuiet, HasWorkingOwner, HasConstants, RestsUnlessActive, OwnsIfWorker, HoldsIfActive, IsSound, base_of, books_of}
+use Rattle.lock_core.specs.History.{history_from}
+use Rattle.log_table.specs.Accounts.{KeepsAccounts}
+use Rattle.log_table.proofs.Keeping.{accounts-stay, records-mid}
 use Rattle.log_table.specs.Views.{is_active, may_own, entries_in, claims_in, seen_exposed}
 use Rattle.log_table.specs.Words.{Words}
 use Rattle.log_table.proofs.Boundaries.{range_size, part_size, boundary-mid}
@@ -205,7 +208,7 @@ module _ (key : Start) (words : Words) (views : List View) (me : ℕ) (v : View)
         });
     contiguous = contiguous;
     filled = record {
-      fits = same-part Fits (λ h. h) s.filled.fits;
+      spelled = same-part SpellsRecord (λ h. record { spellable = h.spellable; size = h.size; rest = h.rest; units = h.units }) s.filled.spelled;
       stands = same-part (StandsInRing key.ring words.durable words.ring) (λ h. h) s.filled.stands;
     };
     below = record {
@@ -238,7 +241,12 @@ module _ (key : Start) (words : Words) (views : List View) (me : ℕ) (v : View)
     sends = each_moves (λ _ z. SendsIfFlusher key.start words.exposed words.durable log z)
         (λ _ z. SendsIfFlusher key.start to words.durable after z) views me new s.sends (sends v (s.sends me v at)) (λ _ z _ _. sends z);
     stops = each_set (λ _ z. StoresStop words.stop z) views me new s.stops (s.stops me v at);
+    read_stop = each_set (λ _ z. HasReadStop words.stop z) views me new s.read_stop (s.read_stop me v at);
     quiet = quiet-moves views me v new s.quiet at (λ _ _ _ h. h) (λ _ h. h);
     looked = each_moves (λ _ z. LookedIfQuiet words.exposed z) (λ _ z. LookedIfQuiet to z) views me new s.looked
         (λ f q _. absurd (busy me v at f q)) (λ j z _ there _ f q _. absurd (busy j z there f q));
+    unheld = each_set (λ _ z. HoldsIfActive z) views me new s.unheld (s.unheld me v at);
+    accounts = accounts-stay key words.account after.parts views me v new at refl
+        (subst (λ records. KeepsAccounts (base_of key) words.account (history_from key.start [] records) (map books_of views))
+        (ap records_in last.split ∙ sym (records-mid last.before last.behind old_part part refl)) s.accounts);
   }

@@ -5,7 +5,7 @@ use mathlib.Core.Logic.{dite}
 use native.Mathlib.Decide.{ℕ_discrete}
 use Rattle.lsn_space.specs.Tiling.{IsBoundary}
 use Rattle.log_table.specs.declared.view.Entry.{Entry}
-use Rattle.log_table.specs.Log.{Part, picked, own, is_by, parts_of, Laid, unreleased_in}
+use Rattle.log_table.specs.Log.{Part, picked, own, is_by, parts_of, Laid, unreleased_in, records_in}
 use Rattle.log_table.specs.Views.{inserted, merged_entries}
 use Rattle.log_table.proofs.Boundaries.{part_size}
 use Rattle.log_table.proofs.Lists.{all-weaker}
@@ -16,6 +16,10 @@ rename_one from to p = record { owner = cond (p.owner == from) to p.owner; entry
 abbrev pub rename : ℕ → ℕ → List Part → List Part
 rename from to [] = []
 rename from to (x ∷ xs) = rename_one from to x ∷ rename from to xs
+
+pub records-renamed : (from to : ℕ) (parts : List Part) → records_in (rename from to parts) ≡ records_in parts
+records-renamed from to [] = refl
+records-renamed from to (part ∷ parts) = ap (λ records. part.entry.rec ∷ records) (records-renamed from to parts)
 
 abbrev its_entry : Part → Entry
 its_entry p = p.entry

@@ -16,12 +16,25 @@ use Rattle.log_table.specs.declared.view.Entry.{Entry}
 use Rattle.log_table.specs.declared.view.View.{View}
 use Rattle.log_table.specs.Events.{reservation_of, stage_in, Leads, IsStep}
 use Rattle.log_table.specs.Layout.{Tail}
-use Rattle.log_table.specs.Log.{Part, Owed, Range, Log, ranges_of, part_of, parts_of, unreleased_in, Fits, StandsInRing, IsFullIfReleased, IsReleasedBelow, IsOwed, CountsRemaining, AgreesFrom, EndsWithPart, IsRangeBoundary, Laid}
+use Rattle.log_table.specs.Log.{Part, Owed, Range, Log, ranges_of, part_of, parts_of, unreleased_in, SpellsRecord, records_in, StandsInRing, IsFullIfReleased, IsReleasedBelow, IsOwed, CountsRemaining, AgreesFrom, EndsWithPart, IsRangeBoundary, Laid}
 use Rattle.log_table.specs.May.{MayReserve}
-use Rattle.log_table.specs.Sound.{HasSeenBoundaries, HasContiguousReservations, SendsIfFlusher, StoresStop, LookedIfQuiet, HasWorkingOwner, HasConstants, RestsUnlessActive, OwnsIfWorker, IsSound}
+use Rattle.log_table.specs.Sound.{HasSeenBoundaries, HasContiguousReservations, SendsIfFlusher, StoresStop, HasReadStop, LookedIfQuiet, HasWorkingOwner, HasConstants, RestsUnlessActive, OwnsIfWorker, HoldsIfActive, IsSound, base_of, history_in, books_of}
 use Rattle.log_table.specs.Views.{is_active, is_spent, entries_in, claims_in, empty_entry, saw_tail, reserved, after_exchange}
 use Rattle.log_table.specs.Words.{Words}
 use Rattle.log_table.proofs.Boundaries.{range_size, part_size, boundary-append, laid-end}
+use Rattle.log_record.specs.declared.rec.Rec.{Rec}
+use Rattle.log_record.specs.declared.rec.Rec.TheVariants as rec
+use Rattle.log_record.specs.declared.rec.Entry.{Entry as Placed}
+use Rattle.log_record.specs.Spelling.{spelling, IsSpellable}
+use Rattle.log_record.proofs.BoundLemmas.{length-spelling}
+use Rattle.lock_core.specs.History.{end_from, history_from}
+use Rattle.log_table.specs.declared.view.Books.{Books}
+use Rattle.log_table.specs.Accounts.{KeepsAccounts}
+use Rattle.log_table.specs.Books.{next_of}
+use Rattle.log_table.proofs.Entering.{enters, enters-spellable}
+use Rattle.log_table.proofs.Keeping.{records-push, history-push, history-end}
+use Rattle.std.proofs.lemmas.List.{map-set}
+use Rattle.atomic_table.proofs.Lists.{at_map}
 use Rattle.log_table.proofs.Lists.{all-append, all-weaker}
 use Rattle.log_table.proofs.Looking.{tail-boundary, tail-looks}
 use Rattle.log_table.proofs.Owning.{own-push, own-push_others, owed-push, owed-push_others}
@@ -34,6 +47,14 @@ shown-push : (parts : List Part) (p : Part) → map reservation_of (parts ++ p �
 shown-push [] p = refl
 shown-push (q ∷ qs) p = ap (λ l. reservation_of q ∷ l) (shown-push qs p)
 
+spelling-some : (r : Rec) → 1 ≤ length (spelling r)
+spelling-some (rec.Genesis account balance) = omega arith
+spelling-some (rec.Update txn account delta prev) = omega arith
+spelling-some (rec.Commit txn legs) = omega arith
+spelling-some (rec.Short txn leg) = omega arith
+spelling-some (rec.Over txn leg) = omega arith
+spelling-some (rec.Note txn text) = omega arith
+
 module _ (key : Start) (words : Words) (views : List View) (me : ℕ) (v : View) (to : ℕ) (log : Log) (s : IsSound key words views log)
     (at : get_elem? views me ≡ some v) (may : MayReserve words.tail to v) where
   abbrev from : ℕ
@@ -42,8 +63,11 @@ module _ (key : Start) (words : Words) (views : List View) (me : ℕ) (v : View)
   abbrev size : ℕ
   size = to - from
 
+  abbrev next : Rec
+  next = next_of v.books
+
   abbrev entry : Entry
-  entry = empty_entry from size
+  entry = empty_entry from size next
 
   abbrev part : Part
   part = part_of me false entry
@@ -57,17 +81,49 @@ module _ (key : Start) (words : Words) (views : List View) (me : ℕ) (v : View)
   abbrev after : Log
   after = record { parts = log.parts ++ part ∷ []; flushed = log.flushed; released = log.released; unreleased = log.unreleased ++ range ∷ [] }
 
+  has-units : 1 ≤ length (spelling next)
+  has-units = spelling-some next
+
   whole : from + size ≡ to
-  whole = let least = may.some_units in omega arith
+  whole = let units = has-units in let size' = may.size in omega arith
+
+  units-are : size ≡ length (spelling next)
+  units-are = let size' = may.size in omega arith
 
   positive : 1 ≤ size
-  positive = let least = may.some_units in omega arith
+  positive = let units = has-units in let is = units-are in omega arith
+
+  abbrev bs : List Books
+  bs = map books_of views
+
+  my-books : get_elem? bs me ≡ some v.books
+  my-books = at_map books_of views me v at
+
+  spellable : IsSpellable next
+  spellable = enters-spellable (base_of key) words.account bs me v.books s.accounts.holder my-books next may.enters
 
   ring : v.constants.ring ≡ key.ring
   ring = ap (λ (c : Constants). c.ring) (s.constants me v at (ap is_spent may.rests.active))
 
   quarter : size ≤ key.ring / 4
-  quarter = subst (λ n. size ≤ n / 4) ring (omega (arith, may.quarter))
+  quarter = let short = length-spelling next spellable in let is = units-are in let least = s.ordered.least_ring in omega arith
+
+  spelled : SpellsRecord part
+  spelled = record { spellable = spellable; size = units-are; rest = spelling next; units = refl }
+
+  -- the list has one record more
+  history-is : history_in key after.parts ≡ record { end = to; rec = next } ∷ history_in key log.parts
+  history-is = ap (history_from key.start []) (records-push log.parts part)
+      ∙ (history-push key.start [] (records_in log.parts) next
+      ∙ (λ i. record { end = ends i; rec = next } ∷ history_in key log.parts))
+    where
+      ends : end_from key.start (history_in key log.parts) + length (spelling next) ≡ to
+      ends = let before = history-end key.start key.start from [] log.parts refl s.contiguous.parts s.filled.spelled in let size' = may.size in omega arith
+
+  accounts : KeepsAccounts (base_of key) words.account (history_in key after.parts) (map books_of (set views me new))
+  accounts = subst (λ (p : List Placed × List Books). KeepsAccounts (base_of key) words.account p.0 p.1)
+      (λ i. (sym history-is i, sym (map-set books_of views me new) i))
+      (enters (base_of key) words.account (history_in key log.parts) bs me v.books my-books to next may.enters s.accounts)
 
   mine : HasWorkingOwner log.parts log.unreleased me v
   mine = seat_at (HasWorkingOwner log.parts log.unreleased) views me v at s.owners
@@ -142,14 +198,14 @@ module _ (key : Start) (words : Words) (views : List View) (me : ℕ) (v : View)
           boundaries = (tail-boundary _ _ _ _ _ after contiguous, stills v.seen.lsns old.boundaries);
         })
         (λ _ z _ _ old. record {
-          tail_seen = let before = old.tail_seen in let more = may.some_units in omega arith;
+          tail_seen = let before = old.tail_seen in let more = whole in omega arith;
           exposed_seen = old.exposed_seen;
           durable_seen = old.durable_seen;
           boundaries = stills z.seen.lsns old.boundaries;
         });
     contiguous = contiguous;
     filled = record {
-      fits = all-append Fits log.parts (part ∷ []) s.filled.fits (omega arith, tt);
+      spelled = all-append SpellsRecord log.parts (part ∷ []) s.filled.spelled (spelled, tt);
       stands = all-append (StandsInRing key.ring words.durable words.ring) log.parts (part ∷ []) s.filled.stands
           ((λ i below _. absurd (omega arith)), tt);
     };
@@ -180,8 +236,11 @@ module _ (key : Start) (words : Words) (views : List View) (me : ℕ) (v : View)
     sends = each_moves (λ _ z. SendsIfFlusher key.start words.exposed words.durable log z)
         (λ _ z. SendsIfFlusher key.start words.exposed words.durable after z) views me new s.sends (sends v (s.sends me v at)) (λ _ z _ _. sends z);
     stops = each_set (λ _ z. StoresStop words.stop z) views me new s.stops (s.stops me v at);
+    read_stop = each_set (λ _ z. HasReadStop words.stop z) views me new s.read_stop (s.read_stop me v at);
     quiet = quiet-moves views me v new s.quiet at (λ _ _ _ h. h) (λ _ h. h);
     looked = each_set (λ _ z. LookedIfQuiet words.exposed z) views me new s.looked (s.looked me v at);
+    unheld = each_set (λ _ z. HoldsIfActive z) views me new s.unheld (s.unheld me v at);
+    accounts = accounts;
   }
 
   pub tail-reserves : Leads key words (record words { tail = to }) views (set views me new) log (Some (Reserve me size))

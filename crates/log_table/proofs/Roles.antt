@@ -10,9 +10,10 @@ use Rattle.log_table.specs.declared.view.Standing.{Standing}
 use Rattle.log_table.specs.declared.view.View.{View}
 use Rattle.log_table.specs.Events.{reservation_of, stage_in, Leads}
 use Rattle.log_table.specs.Log.{Log, ranges_of, parts_of}
-use Rattle.log_table.specs.Sound.{EachView, EachPair, HasSeenBoundaries, SendsIfFlusher, StoresStop, RestsIfQuiet, LookedIfQuiet, HasWorkingOwner, HasConstants, RestsUnlessActive, OwnsIfWorker, HasSoundRole, HasSoundRoles, HasSoundCrew, IsSound, is_active_view}
+use Rattle.log_table.specs.Sound.{EachView, EachPair, HasSeenBoundaries, SendsIfFlusher, StoresStop, HasReadStop, RestsIfQuiet, LookedIfQuiet, HasWorkingOwner, HasConstants, RestsUnlessActive, OwnsIfWorker, HoldsIfActive, base_of, history_in, books_of, HasSoundRole, HasSoundRoles, HasSoundCrew, IsSound, is_active_view}
 use Rattle.log_table.specs.Views.{is_active, is_working, entries_in, claims_in}
 use Rattle.log_table.specs.Words.{Words}
+use Rattle.log_table.specs.Accounts.{KeepsAccounts}
 use Rattle.log_table.proofs.Showing.{hands_of-set_same}
 use Rattle.log_table.proofs.Viewing.{each_set, seats_set, seat_at, pairs_move, count-set}
 
@@ -63,14 +64,17 @@ pub sole-flusher : (crew : ℕ) (views : List View) (me : ℕ) (v : View) → Ha
     → v.standing.role ≡ Flusher → (j : ℕ) (z : View) → get_elem? views j ≡ some z → z.standing.role ≡ Flusher → j ≡ me
 sole-flusher crew views me v s at flusher j z there f = (s.each j z there).first f ∙ sym ((s.each me v at).first flusher)
 
--- the seat's view and the crew change, but not what the seat owns or has under way
-module _ (key : Start) (words : Words) (stop crew : ℕ) (views : List View) (me : ℕ) (v new : View) (log : Log) (s : IsSound key words views log)
+-- the seat's view, the crew and the accounts change, but not what the seat owns or has under way
+module _ (key : Start) (words : Words) (stop crew : ℕ) (account : ℕ → ℕ) (views : List View) (me : ℕ) (v new : View) (log : Log) (s : IsSound key words views log)
     (at : get_elem? views me ≡ some v) (call : new.call ≡ v.call) (entries : new.entries ≡ v.entries)
     (sees : HasSeenBoundaries key.start words.tail words.exposed words.durable (ranges_of log) new.seen) (constants : HasConstants key new)
     (rests : RestsUnlessActive new) (owns : OwnsIfWorker new) (roles : HasSoundCrew crew (set views me new))
     (sends : SendsIfFlusher key.start words.exposed words.durable log new) (stops : EachView (λ _ z. StoresStop stop z) (set views me new))
-    (quiet : EachPair (λ _ y _ z. RestsIfQuiet y z) (set views me new)) (looked : LookedIfQuiet words.exposed new) where
-  pub restands-sound : IsSound key (record words { stop = stop; crew = crew }) (set views me new) log
+    (read_stop : EachView (λ _ z. HasReadStop stop z) (set views me new))
+    (quiet : EachPair (λ _ y _ z. RestsIfQuiet y z) (set views me new)) (looked : LookedIfQuiet words.exposed new)
+    (unheld : HoldsIfActive new)
+    (accounts : KeepsAccounts (base_of key) account (history_in key log.parts) (map books_of (set views me new))) where
+  pub restands-sound : IsSound key (record words { stop = stop; crew = crew; account = account }) (set views me new) log
   restands-sound = record {
     ordered = s.ordered;
     seen = each_set (λ _ z. HasSeenBoundaries key.start words.tail words.exposed words.durable (ranges_of log) z.seen) views me new s.seen sees;
@@ -89,11 +93,14 @@ module _ (key : Start) (words : Words) (stop crew : ℕ) (views : List View) (me
     roles = roles;
     sends = each_set (λ _ z. SendsIfFlusher key.start words.exposed words.durable log z) views me new s.sends sends;
     stops = stops;
+    read_stop = read_stop;
     quiet = quiet;
     looked = each_set (λ _ z. LookedIfQuiet words.exposed z) views me new s.looked looked;
+    unheld = each_set (λ _ z. HoldsIfActive z) views me new s.unheld unheld;
+    accounts = accounts;
   }
 
-  pub restands : Leads key words (record words { stop = stop; crew = crew }) views (set views me new) log None
+  pub restands : Leads key words (record words { stop = stop; crew = crew; account = account }) views (set views me new) log None
   restands = record {
     after = log;
     shows = λ i. record {

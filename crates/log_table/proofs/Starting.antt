@@ -1,5 +1,5 @@
 -- A table starts at rest: nothing is reserved, and the log ends where it started.
-use Rattle.std.proofs.Common.{◌≡◌, ◌≢◌, ℕ, zero, suc, ◌+◌, ◌<◌, ◌≤◌, true≢false, List, [], ◌∷◌, length, get_or, replicate, set, sym, refl, ap, ◌∙◌, subst, arith, length-set, get_or-set_same, get_or-set_other}
+use Rattle.std.proofs.Common.{◌≡◌, ◌≢◌, inl, ℕ, zero, suc, ◌<◌, ◌≤◌, true≢false, List, [], ◌∷◌, length, get_or, replicate, set, sym, refl, ap, ◌∙◌, subst, arith, cond, Bool, false, lt-ltb, length-set, get_or-set_same, get_or-set_other}
 use Rattle.std.proofs.lemmas.List.{length-replicate, get_or-replicate}
 use mathlib.Core.Option.{some-injective, some-ne-none}
 use Rattle.atomic_table.specs.Table.{opening}
@@ -8,9 +8,18 @@ use Rattle.log_table.specs.declared.layout.TheConstants.{TAIL, EXPOSED, DURABLE,
 use Rattle.log_table.specs.declared.table.Start.{Start}
 use Rattle.log_table.specs.declared.view.View.{View}
 use Rattle.log_table.specs.Log.{Log}
-use Rattle.log_table.specs.Sound.{EachView, HasSeenBoundaries, SendsIfFlusher, StoresStop, RestsIfQuiet, LookedIfQuiet, HasWorkingOwner, HasConstants, RestsUnlessActive, OwnsIfWorker, HasSoundRole, HasSoundRoles, IsSound, Ruled}
+use Rattle.log_table.specs.Sound.{EachView, HasSeenBoundaries, SendsIfFlusher, StoresStop, HasReadStop, RestsIfQuiet, LookedIfQuiet, HasWorkingOwner, HasConstants, RestsUnlessActive, OwnsIfWorker, HoldsIfActive, base_of, HasSoundRole, HasSoundRoles, IsSound, Ruled}
 use Rattle.log_table.specs.Views.{flusher, nobody}
-use Rattle.log_table.specs.Words.{Words, words_of}
+use Rattle.log_table.specs.Words.{Words, words_in}
+use Rattle.slot_word.specs.AccountWord.{packed, held_in, balance_in, mark_in}
+use Rattle.slot_word.proofs.AccountWordLemmas.{held_back, balance_back, mark_back}
+use Rattle.log_record.specs.Spelling.{IsBalance}
+use Rattle.lock_core.specs.Settling.{row}
+use Rattle.log_table.specs.Accounts.{KeepsAccounts}
+use Rattle.log_table.specs.Books.{no_books}
+use Rattle.log_table.specs.Layout.{Account, index_of, word_count}
+use Rattle.log_table.specs.Opening.{HasAccounts, PutsAccounts}
+use Rattle.log_table.proofs.Gathered.{starts-free}
 
 -- nothing is reserved
 abbrev empty_log : Log
@@ -18,7 +27,7 @@ empty_log = record { parts = []; flushed = []; released = []; unreleased = [] }
 
 module _ (key : Start) (words : Words) (least : 1024 ≤ key.ring) (most : key.ring ≤ 1048576) (small : key.start ≤ LAST)
     (tail : words.tail ≡ key.start) (exposed : words.exposed ≡ key.start) (durable : words.durable ≡ key.start) (stop : words.stop ≡ 0)
-    (crew : words.crew ≡ 0) where
+    (crew : words.crew ≡ 0) (accounts : KeepsAccounts (base_of key) words.account [] (no_books ∷ [])) where
   alone : (P : ℕ → View → Type 0) → P 0 (flusher key) → EachView P (flusher key ∷ [])
   alone P first zero v at = subst (P 0) (some-injective _ _ at) first
   alone P first (suc j) v at = absurd (some-ne-none v (sym at))
@@ -41,7 +50,7 @@ module _ (key : Start) (words : Words) (least : 1024 ≤ key.ring) (most : key.r
       remaining = tt;
       aligned = tt;
     };
-    filled = record { fits = tt; stands = tt };
+    filled = record { spelled = tt; stands = tt };
     below = record { full = tt; below = tt; ranges = tt };
     at_work = tt;
     owners = owners;
@@ -70,33 +79,44 @@ module _ (key : Start) (words : Words) (least : 1024 ≤ key.ring) (most : key.r
       read_agrees = tt;
     });
     stops = alone (λ _ z. StoresStop words.stop z) (λ _. sym stop);
+    read_stop = alone (λ _ z. HasReadStop words.stop z) (inl refl);
     quiet = alone _ (alone (λ _ z. RestsIfQuiet (flusher key) z) (λ _ e. absurd (true≢false (sym e))));
     looked = alone (λ _ z. LookedIfQuiet words.exposed z) (λ _ e. absurd (true≢false (sym e)));
+    unheld = alone (λ _ z. HoldsIfActive z) ((λ _. refl), (λ off. absurd (true≢false off)));
+    accounts = accounts;
   }
     where
       owners : (j : ℕ) → HasWorkingOwner [] [] j (get_or (flusher key ∷ []) j nobody)
       owners zero = record { owns = refl; owes = refl }
       owners (suc j) = record { owns = refl; owes = refl }
 
-pub start-allowed : (key : Start) (ws zeros : List ℕ) → 1024 ≤ key.ring → key.ring ≤ 1048576 → key.start ≤ LAST
-    → zeros ≡ replicate (RING + key.ring) 0 → ws ≡ set (set (set zeros TAIL key.start) EXPOSED key.start) DURABLE key.start
+-- the words of the table before the accounts' are put in
+abbrev pub shared_words : List ℕ → ℕ → List ℕ
+shared_words zeros n = set (set (set zeros TAIL n) EXPOSED n) DURABLE n
+
+pub start-allowed : (key : Start) (ws zeros : List ℕ) → 1024 ≤ key.ring → key.ring ≤ 1048576 → key.start ≤ LAST → HasAccounts key
+    → zeros ≡ replicate (word_count key.ring (length key.accounts.rows)) 0 → PutsAccounts key (length key.accounts.rows) (shared_words zeros key.start) ws
     → Ruled key (opening ws [] (flusher key))
-start-allowed key ws zeros least most small zero-is is = subst (λ (l : List ℕ). Ruled key (opening l [] (flusher key))) (sym is) (
-  length-c,
+start-allowed key ws zeros least most small has zero-is puts = (
+  puts.count ∙ length-c,
   (
     _,
-    starts key (words_of key.ring c) least most small
-        (get_or-set_other b DURABLE TAIL n 0 (λ e. omega arith)
-        ∙ (get_or-set_other a EXPOSED TAIL n 0 (λ e. omega arith) ∙ get_or-set_same zeros TAIL n 0 (omega (arith, length-zeros))))
-        (get_or-set_other b DURABLE EXPOSED n 0 (λ e. omega arith) ∙ get_or-set_same a EXPOSED n 0 (omega (arith, length-a)))
-        (get_or-set_same b DURABLE n 0 (omega (arith, length-b)))
+    starts key (words_in key ws) least most small
+        (puts.others TAIL (omega arith) ∙ (get_or-set_other b DURABLE TAIL n 0 (λ e. omega arith)
+        ∙ (get_or-set_other a EXPOSED TAIL n 0 (λ e. omega arith) ∙ get_or-set_same zeros TAIL n 0 (omega (arith, length-zeros)))))
+        (puts.others EXPOSED (omega arith) ∙ (get_or-set_other b DURABLE EXPOSED n 0 (λ e. omega arith) ∙ get_or-set_same a EXPOSED n 0 (omega (arith, length-a))))
+        (puts.others DURABLE (omega arith) ∙ get_or-set_same b DURABLE n 0 (omega (arith, length-b)))
         (zero-at STOP (λ e. omega arith) (λ e. omega arith) (λ e. omega arith) (omega arith))
-        (zero-at CREW (λ e. omega arith) (λ e. omega arith) (λ e. omega arith) (omega arith)),
+        (zero-at CREW (λ e. omega arith) (λ e. omega arith) (λ e. omega arith) (omega arith))
+        (starts-free (base_of key) (words_in key ws).account has.few first),
   ),
 )
   where
     n : ℕ
     n = key.start
+
+    count : ℕ
+    count = length key.accounts.rows
 
     a : List ℕ
     a = set zeros TAIL n
@@ -107,20 +127,32 @@ start-allowed key ws zeros least most small zero-is is = subst (λ (l : List ℕ
     c : List ℕ
     c = set b DURABLE n
 
-    length-zeros : length zeros ≡ RING + key.ring
-    length-zeros = ap length zero-is ∙ length-replicate (RING + key.ring) 0
+    length-zeros : length zeros ≡ word_count key.ring count
+    length-zeros = ap length zero-is ∙ length-replicate (word_count key.ring count) 0
 
-    length-a : length a ≡ RING + key.ring
+    length-a : length a ≡ word_count key.ring count
     length-a = length-set zeros TAIL n ∙ length-zeros
 
-    length-b : length b ≡ RING + key.ring
+    length-b : length b ≡ word_count key.ring count
     length-b = length-set a EXPOSED n ∙ length-a
 
-    length-c : length c ≡ RING + key.ring
+    length-c : length c ≡ word_count key.ring count
     length-c = length-set b DURABLE n ∙ length-b
 
-    zero-at : (at : ℕ) → at ≢ DURABLE → at ≢ EXPOSED → at ≢ TAIL → at < RING + key.ring → get_or c at 0 ≡ 0
-    zero-at at durable exposed tail below = get_or-set_other b DURABLE at n 0 durable
+    zero-at : (at : ℕ) → at ≢ DURABLE → at ≢ EXPOSED → at ≢ TAIL → at < RING → get_or ws at 0 ≡ 0
+    zero-at at durable exposed tail below = puts.others at below ∙ (get_or-set_other b DURABLE at n 0 durable
         ∙ (get_or-set_other a EXPOSED at n 0 exposed
         ∙ (get_or-set_other zeros TAIL at n 0 tail
-        ∙ (ap (λ l. get_or l at 0) zero-is ∙ get_or-replicate (RING + key.ring) at 0 0 below)))
+        ∙ (ap (λ l. get_or l at 0) zero-is ∙ get_or-replicate (word_count key.ring count) at 0 0 (omega arith)))))
+
+    first : (account : ℕ) → account < count → (held_in ((words_in key ws).account account) ≡ false)
+        × (balance_in ((words_in key ws).account account) ≡ (base_of key).balance account)
+        × (mark_in ((words_in key ws).account account) ≡ (base_of key).last_commit account) × IsBalance ((base_of key).balance account)
+    first account below = let range = has.balances account below in let mark = has.marks account below in
+        let is : (words_in key ws).account account ≡ packed false (row key.accounts.rows account).0 (row key.accounts.rows account).1 =
+        ap (λ (t : Bool). cond t (get_or ws (index_of key.ring (Account account)) 0) 0) (lt-ltb account count below) ∙ puts.each account below in (
+          ap held_in is ∙ held_back false _ _ (omega arith) (omega arith),
+          ap balance_in is ∙ balance_back false _ _ (omega arith) (omega arith),
+          ap mark_in is ∙ mark_back false _ _ (omega arith) (omega arith),
+          range,
+        )

@@ -1,127 +1,195 @@
 -- No two words share a place, so a write of one word changes that word alone.
-use Rattle.std.proofs.Common.{◌≡◌, ◌≢◌, ◌==◌, ℕ, ◌+◌, ◌-◌, ◌<◌, ◌≤◌, cond, nat_lt, Bool, true, false, List, length, get_or, set, get_or-set_same, get_or-set_other, sym, refl, ap, ◌∙◌, subst, arith, eq-eqb, ne_eqb, ltb-true}
+use Rattle.std.proofs.Common.{◌≡◌, ◌≢◌, ◌==◌, ℕ, ◌+◌, ◌-◌, ◌*◌, ◌/◌, ◌<◌, ◌≤◌, cond, nat_lt, Bool, true, false, List, length, get_or, set, get_or-set_same, get_or-set_other, sym, refl, ap, ◌∙◌, arith, eq-eqb, ne_eqb, ltb-true, lt-ltb}
 use mathlib.Core.Logic.{dite}
 use native.Mathlib.Decide.{ℕ_discrete}
-use Rattle.log_table.specs.declared.layout.TheConstants.{TAIL, EXPOSED, DURABLE, STOP, CREW, RING}
-use Rattle.log_table.specs.Layout.{Word, Tail, Exposed, Durable, Stop, Crew, Ring, index_of, word_count}
+use Rattle.log_table.specs.declared.layout.TheConstants.{STRIDE, TAIL, EXPOSED, DURABLE, STOP, CREW, RING}
+use Rattle.log_table.specs.Layout.{Word, Tail, Exposed, Durable, Stop, Crew, Ring, Account, index_of, word_count}
 use Rattle.log_table.specs.Words.{read, words_of, word_at, put, with_word}
 
+-- the word lies in a table whose ring has that many units, and which has so many accounts
+pub data Fits (size accounts : ℕ) : Word → Type 0 where
+  shared_tail : Fits size accounts Tail
+  shared_exposed : Fits size accounts Exposed
+  shared_durable : Fits size accounts Durable
+  shared_stop : Fits size accounts Stop
+  shared_crew : Fits size accounts Crew
+  in_ring : (index : ℕ) → index < size → Fits size accounts (Ring index)
+  of_account : (account : ℕ) → account < accounts → Fits size accounts (Account account)
+
 -- the word that lies at a place
-abbrev word_of : ℕ → Word
-word_of n = cond (n == TAIL) Tail
-    (cond (n == EXPOSED) Exposed (cond (n == DURABLE) Durable (cond (n == STOP) Stop (cond (n == CREW) Crew (Ring (n - RING))))))
+abbrev behind_crew : ℕ → ℕ → Word
+behind_crew size n = cond (nat_lt (n - RING) size) (Ring (n - RING)) (Account ((n - RING - size) / STRIDE))
 
-word_of-index : (word : Word) → word_of (index_of word) ≡ word
-word_of-index Tail = refl
-word_of-index Exposed = refl
-word_of-index Durable = refl
-word_of-index Stop = refl
-word_of-index Crew = refl
-word_of-index (Ring index) =
-    λ i. cond (other TAIL (omega arith) i) Tail
+abbrev word_of : ℕ → ℕ → Word
+word_of size n = cond (n == TAIL) Tail
+    (cond (n == EXPOSED) Exposed (cond (n == DURABLE) Durable (cond (n == STOP) Stop (cond (n == CREW) Crew (behind_crew size n)))))
+
+word_of-behind : (size n : ℕ) → RING ≤ n → word_of size n ≡ behind_crew size n
+word_of-behind size n least = λ i. cond (other TAIL (omega arith) i) Tail
     (cond (other EXPOSED (omega arith) i) Exposed
-    (cond (other DURABLE (omega arith) i) Durable (cond (other STOP (omega arith) i) Stop (cond (other CREW (omega arith) i) Crew (Ring (back i))))))
+    (cond (other DURABLE (omega arith) i) Durable (cond (other STOP (omega arith) i) Stop (cond (other CREW (omega arith) i) Crew (behind_crew size n)))))
   where
-    other : (place : ℕ) → place < RING → (RING + index == place) ≡ false
-    other place below = ne_eqb (RING + index) place (λ e. omega arith)
+    other : (place : ℕ) → place < RING → (n == place) ≡ false
+    other place below = ne_eqb n place (λ e. omega arith)
 
-    back : (RING + index) - RING ≡ index
-    back = omega arith
+module _ (size accounts : ℕ) where
+  word_of-index : (word : Word) → Fits size accounts word → word_of size (index_of size word) ≡ word
+  word_of-index Tail fits = refl
+  word_of-index Exposed fits = refl
+  word_of-index Durable fits = refl
+  word_of-index Stop fits = refl
+  word_of-index Crew fits = refl
+  word_of-index (Ring index) (in_ring _ below) = word_of-behind size (RING + index) (omega arith)
+      ∙ (ap (λ b. cond b (Ring (RING + index - RING)) (Account ((RING + index - RING - size) / STRIDE))) (lt-ltb (RING + index - RING) size (omega arith)) ∙ ap Ring back)
+    where
+      back : RING + index - RING ≡ index
+      back = omega arith
+  word_of-index (Account account) fits = word_of-behind size (RING + size + STRIDE * account) (omega arith)
+      ∙ (ap (λ b. cond b (Ring (RING + size + STRIDE * account - RING)) (Account ((RING + size + STRIDE * account - RING - size) / STRIDE)))
+      (lt_not (RING + size + STRIDE * account - RING) (omega arith)) ∙ ap Account back)
+    where
+      lt_not : (n : ℕ) → size ≤ n → nat_lt n size ≡ false
+      lt_not n least = by_test (nat_lt n size) refl
+        where
+          by_test : (b : Bool) → nat_lt n size ≡ b → b ≡ false
+          by_test true is = let less = ltb-true n size is in absurd (omega arith)
+          by_test false is = refl
 
--- no two words share a place
-pub index-injective : (a b : Word) → index_of a ≡ index_of b → a ≡ b
-index-injective a b e = sym (word_of-index a) ∙ (ap word_of e ∙ word_of-index b)
+      back : (RING + size + STRIDE * account - RING - size) / STRIDE ≡ account
+      back = omega arith
 
--- a write of one word leaves another
-read-other : (ws : List ℕ) (word other : Word) (x : ℕ) → word ≢ other → read (set ws (index_of word) x) other ≡ read ws other
-read-other ws word other x differ = get_or-set_other ws (index_of word) (index_of other) x 0 (λ e. differ (index-injective word other (sym e)))
+  -- no two words share a place
+  pub index-injective : (a b : Word) → Fits size accounts a → Fits size accounts b → index_of size a ≡ index_of size b → a ≡ b
+  index-injective a b fits-a fits-b e = sym (word_of-index a fits-a) ∙ (ap (word_of size) e ∙ word_of-index b fits-b)
 
-read-same : (ws : List ℕ) (word : Word) (x : ℕ) → index_of word < length ws → read (set ws (index_of word) x) word ≡ x
-read-same ws word x below = get_or-set_same ws (index_of word) x 0 below
+  -- a write of one word leaves another
+  module _ (ws : List ℕ) (word : Word) (x : ℕ) (fits : Fits size accounts word) where
+    abbrev after : List ℕ
+    after = set ws (index_of size word) x
 
-ring-other : (size : ℕ) (ws : List ℕ) (word : Word) (x index : ℕ) → word ≢ Ring index
-    → cond (nat_lt index size) (read (set ws (index_of word) x) (Ring index)) 0 ≡ cond (nat_lt index size) (read ws (Ring index)) 0
-ring-other size ws word x index differ = ap (λ n. cond (nat_lt index size) n 0) (read-other ws word (Ring index) x differ)
+    read-other : (other : Word) → Fits size accounts other → word ≢ other → read size after other ≡ read size ws other
+    read-other other fits-other differ = get_or-set_other ws (index_of size word) (index_of size other) x 0
+        (λ e. differ (index-injective word other fits fits-other (sym e)))
 
--- the word lies in a table whose ring has that many units
-pub data Fits (size : ℕ) : Word → Type 0 where
-  shared_tail : Fits size Tail
-  shared_exposed : Fits size Exposed
-  shared_durable : Fits size Durable
-  shared_stop : Fits size Stop
-  shared_crew : Fits size Crew
-  in_ring : (index : ℕ) → index < size → Fits size (Ring index)
+    read-same : index_of size word < length ws → read size after word ≡ x
+    read-same below = get_or-set_same ws (index_of size word) x 0 below
 
-pub words_of-set : (size : ℕ) (ws : List ℕ) (word : Word) (x : ℕ) → Fits size word → length ws ≡ word_count size
-    → words_of size (set ws (index_of word) x) ≡ with_word (words_of size ws) word x
-words_of-set size ws Tail x fits len i = record {
-  tail = read-same ws Tail x (omega (arith, len)) i;
-  exposed = read-other ws Tail Exposed x (λ e. cc) i;
-  durable = read-other ws Tail Durable x (λ e. cc) i;
-  stop = read-other ws Tail Stop x (λ e. cc) i;
-  crew = read-other ws Tail Crew x (λ e. cc) i;
-  ring = λ k. ring-other size ws Tail x k (λ e. cc) i;
-}
-words_of-set size ws Exposed x fits len i = record {
-  tail = read-other ws Exposed Tail x (λ e. cc) i;
-  exposed = read-same ws Exposed x (omega (arith, len)) i;
-  durable = read-other ws Exposed Durable x (λ e. cc) i;
-  stop = read-other ws Exposed Stop x (λ e. cc) i;
-  crew = read-other ws Exposed Crew x (λ e. cc) i;
-  ring = λ k. ring-other size ws Exposed x k (λ e. cc) i;
-}
-words_of-set size ws Durable x fits len i = record {
-  tail = read-other ws Durable Tail x (λ e. cc) i;
-  exposed = read-other ws Durable Exposed x (λ e. cc) i;
-  durable = read-same ws Durable x (omega (arith, len)) i;
-  stop = read-other ws Durable Stop x (λ e. cc) i;
-  crew = read-other ws Durable Crew x (λ e. cc) i;
-  ring = λ k. ring-other size ws Durable x k (λ e. cc) i;
-}
-words_of-set size ws Stop x fits len i = record {
-  tail = read-other ws Stop Tail x (λ e. cc) i;
-  exposed = read-other ws Stop Exposed x (λ e. cc) i;
-  durable = read-other ws Stop Durable x (λ e. cc) i;
-  stop = read-same ws Stop x (omega (arith, len)) i;
-  crew = read-other ws Stop Crew x (λ e. cc) i;
-  ring = λ k. ring-other size ws Stop x k (λ e. cc) i;
-}
-words_of-set size ws Crew x fits len i = record {
-  tail = read-other ws Crew Tail x (λ e. cc) i;
-  exposed = read-other ws Crew Exposed x (λ e. cc) i;
-  durable = read-other ws Crew Durable x (λ e. cc) i;
-  stop = read-other ws Crew Stop x (λ e. cc) i;
-  crew = read-same ws Crew x (omega (arith, len)) i;
-  ring = λ k. ring-other size ws Crew x k (λ e. cc) i;
-}
-words_of-set size ws (Ring index) x (in_ring _ below) len i = record {
-  tail = read-other ws (Ring index) Tail x (λ e. cc) i;
-  exposed = read-other ws (Ring index) Exposed x (λ e. cc) i;
-  durable = read-other ws (Ring index) Durable x (λ e. cc) i;
-  stop = read-other ws (Ring index) Stop x (λ e. cc) i;
-  crew = read-other ws (Ring index) Crew x (λ e. cc) i;
-  ring = λ k. ring-at k i;
-}
-  where
-    ring-at : (k : ℕ) → cond (nat_lt k size) (read (set ws (index_of (Ring index)) x) (Ring k)) 0 ≡ put (words_of size ws).ring index x k
-    ring-at k = dite (ℕ_discrete k index)
-        (λ same. subst (λ j. cond (nat_lt j size) (read (set ws (index_of (Ring index)) x) (Ring j)) 0 ≡ put (words_of size ws).ring index x j)
-        (sym same)
-        (ap (λ b. cond b (read (set ws (index_of (Ring index)) x) (Ring index)) 0) (Rattle.std.proofs.Common.lt-ltb index size below)
-        ∙ (read-same ws (Ring index) x (omega (arith, len, below))
-        ∙ sym (ap (λ b. cond b x ((words_of size ws).ring index)) (eq-eqb index index refl)))))
-        (λ differ. ring-other size ws (Ring index) x k (λ e. differ (sym (ring-index e)))
-        ∙ sym (ap (λ b. cond b x ((words_of size ws).ring k)) (ne_eqb k index differ)))
+    ring-other : (index : ℕ) → word ≢ Ring index
+        → cond (nat_lt index size) (read size after (Ring index)) 0 ≡ cond (nat_lt index size) (read size ws (Ring index)) 0
+    ring-other index differ = by_test (nat_lt index size) refl
       where
-        ring-index : Ring index ≡ Ring k → index ≡ k
-        ring-index e = cc
+        by_test : (b : Bool) → nat_lt index size ≡ b → cond b (read size after (Ring index)) 0 ≡ cond b (read size ws (Ring index)) 0
+        by_test true is = read-other (Ring index) (in_ring index (ltb-true index size is)) differ
+        by_test false is = refl
 
--- what a list holds at the word's place is what the word holds
-pub read-word : (size : ℕ) (ws : List ℕ) (word : Word) → Fits size word → get_or ws (index_of word) 0 ≡ word_at (words_of size ws) word
-read-word size ws Tail fits = refl
-read-word size ws Exposed fits = refl
-read-word size ws Durable fits = refl
-read-word size ws Stop fits = refl
-read-word size ws Crew fits = refl
-read-word size ws (Ring index) (in_ring _ below) =
-    sym (ap (λ b. cond b (get_or ws (RING + index) 0) 0) (Rattle.std.proofs.Common.lt-ltb index size below))
+    account-other : (account : ℕ) → word ≢ Account account
+        → cond (nat_lt account accounts) (read size after (Account account)) 0 ≡ cond (nat_lt account accounts) (read size ws (Account account)) 0
+    account-other account differ = by_test (nat_lt account accounts) refl
+      where
+        by_test : (b : Bool) → nat_lt account accounts ≡ b → cond b (read size after (Account account)) 0 ≡ cond b (read size ws (Account account)) 0
+        by_test true is = read-other (Account account) (of_account account (ltb-true account accounts is)) differ
+        by_test false is = refl
+
+    -- a region that holds the word changes at its index alone
+    region-put : (before now : ℕ → ℕ) (index : ℕ) → now index ≡ x → ((k : ℕ) → k ≢ index → now k ≡ before k) → (k : ℕ) → now k ≡ put before index x k
+    region-put before now index here others k = dite (ℕ_discrete k index)
+        (λ same. ap now same ∙ (here ∙ sym (ap (λ b. cond b x (before k)) (eq-eqb k index same))))
+        (λ differ. others k differ ∙ sym (ap (λ b. cond b x (before k)) (ne_eqb k index differ)))
+
+  pub words_of-set : (ws : List ℕ) (word : Word) (x : ℕ) → Fits size accounts word → length ws ≡ word_count size accounts
+      → words_of size accounts (set ws (index_of size word) x) ≡ with_word (words_of size accounts ws) word x
+  words_of-set ws Tail x fits len i = record {
+    tail = read-same ws Tail x fits (omega (arith, len)) i;
+    exposed = read-other ws Tail x fits Exposed shared_exposed (λ e. cc) i;
+    durable = read-other ws Tail x fits Durable shared_durable (λ e. cc) i;
+    stop = read-other ws Tail x fits Stop shared_stop (λ e. cc) i;
+    crew = read-other ws Tail x fits Crew shared_crew (λ e. cc) i;
+    ring = λ k. ring-other ws Tail x fits k (λ e. cc) i;
+    account = λ k. account-other ws Tail x fits k (λ e. cc) i;
+  }
+  words_of-set ws Exposed x fits len i = record {
+    tail = read-other ws Exposed x fits Tail shared_tail (λ e. cc) i;
+    exposed = read-same ws Exposed x fits (omega (arith, len)) i;
+    durable = read-other ws Exposed x fits Durable shared_durable (λ e. cc) i;
+    stop = read-other ws Exposed x fits Stop shared_stop (λ e. cc) i;
+    crew = read-other ws Exposed x fits Crew shared_crew (λ e. cc) i;
+    ring = λ k. ring-other ws Exposed x fits k (λ e. cc) i;
+    account = λ k. account-other ws Exposed x fits k (λ e. cc) i;
+  }
+  words_of-set ws Durable x fits len i = record {
+    tail = read-other ws Durable x fits Tail shared_tail (λ e. cc) i;
+    exposed = read-other ws Durable x fits Exposed shared_exposed (λ e. cc) i;
+    durable = read-same ws Durable x fits (omega (arith, len)) i;
+    stop = read-other ws Durable x fits Stop shared_stop (λ e. cc) i;
+    crew = read-other ws Durable x fits Crew shared_crew (λ e. cc) i;
+    ring = λ k. ring-other ws Durable x fits k (λ e. cc) i;
+    account = λ k. account-other ws Durable x fits k (λ e. cc) i;
+  }
+  words_of-set ws Stop x fits len i = record {
+    tail = read-other ws Stop x fits Tail shared_tail (λ e. cc) i;
+    exposed = read-other ws Stop x fits Exposed shared_exposed (λ e. cc) i;
+    durable = read-other ws Stop x fits Durable shared_durable (λ e. cc) i;
+    stop = read-same ws Stop x fits (omega (arith, len)) i;
+    crew = read-other ws Stop x fits Crew shared_crew (λ e. cc) i;
+    ring = λ k. ring-other ws Stop x fits k (λ e. cc) i;
+    account = λ k. account-other ws Stop x fits k (λ e. cc) i;
+  }
+  words_of-set ws Crew x fits len i = record {
+    tail = read-other ws Crew x fits Tail shared_tail (λ e. cc) i;
+    exposed = read-other ws Crew x fits Exposed shared_exposed (λ e. cc) i;
+    durable = read-other ws Crew x fits Durable shared_durable (λ e. cc) i;
+    stop = read-other ws Crew x fits Stop shared_stop (λ e. cc) i;
+    crew = read-same ws Crew x fits (omega (arith, len)) i;
+    ring = λ k. ring-other ws Crew x fits k (λ e. cc) i;
+    account = λ k. account-other ws Crew x fits k (λ e. cc) i;
+  }
+  words_of-set ws (Ring index) x (in_ring _ below) len i = record {
+    tail = read-other ws (Ring index) x (in_ring index below) Tail shared_tail (λ e. cc) i;
+    exposed = read-other ws (Ring index) x (in_ring index below) Exposed shared_exposed (λ e. cc) i;
+    durable = read-other ws (Ring index) x (in_ring index below) Durable shared_durable (λ e. cc) i;
+    stop = read-other ws (Ring index) x (in_ring index below) Stop shared_stop (λ e. cc) i;
+    crew = read-other ws (Ring index) x (in_ring index below) Crew shared_crew (λ e. cc) i;
+    ring = λ k. at k i;
+    account = λ k. account-other ws (Ring index) x (in_ring index below) k (λ e. cc) i;
+  }
+    where
+      at : (k : ℕ) → cond (nat_lt k size) (read size (set ws (RING + index) x) (Ring k)) 0 ≡ put (words_of size accounts ws).ring index x k
+      at = region-put ws (Ring index) x (in_ring index below) (words_of size accounts ws).ring
+          (λ k. cond (nat_lt k size) (read size (set ws (RING + index) x) (Ring k)) 0) index
+          (ap (λ b. cond b (read size (set ws (RING + index) x) (Ring index)) 0) (lt-ltb index size below)
+          ∙ read-same ws (Ring index) x (in_ring index below) (omega (arith, len, below)))
+          (λ k differ. ring-other ws (Ring index) x (in_ring index below) k (λ e. differ (same_index e)))
+        where
+          same_index : {k : ℕ} → Ring index ≡ Ring k → k ≡ index
+          same_index e = cc
+  words_of-set ws (Account account) x (of_account _ below) len i = record {
+    tail = read-other ws (Account account) x (of_account account below) Tail shared_tail (λ e. cc) i;
+    exposed = read-other ws (Account account) x (of_account account below) Exposed shared_exposed (λ e. cc) i;
+    durable = read-other ws (Account account) x (of_account account below) Durable shared_durable (λ e. cc) i;
+    stop = read-other ws (Account account) x (of_account account below) Stop shared_stop (λ e. cc) i;
+    crew = read-other ws (Account account) x (of_account account below) Crew shared_crew (λ e. cc) i;
+    ring = λ k. ring-other ws (Account account) x (of_account account below) k (λ e. cc) i;
+    account = λ k. at k i;
+  }
+    where
+      at : (k : ℕ) → cond (nat_lt k accounts) (read size (set ws (index_of size (Account account)) x) (Account k)) 0
+          ≡ put (words_of size accounts ws).account account x k
+      at = region-put ws (Account account) x (of_account account below) (words_of size accounts ws).account
+          (λ k. cond (nat_lt k accounts) (read size (set ws (index_of size (Account account)) x) (Account k)) 0) account
+          (ap (λ b. cond b (read size (set ws (index_of size (Account account)) x) (Account account)) 0) (lt-ltb account accounts below)
+          ∙ read-same ws (Account account) x (of_account account below) (omega (arith, len, below)))
+          (λ k differ. account-other ws (Account account) x (of_account account below) k (λ e. differ (same_account e)))
+        where
+          same_account : {k : ℕ} → Account account ≡ Account k → k ≡ account
+          same_account e = cc
+
+  -- what a list holds at the word's place is what the word holds
+  pub read-word : (ws : List ℕ) (word : Word) → Fits size accounts word → get_or ws (index_of size word) 0 ≡ word_at (words_of size accounts ws) word
+  read-word ws Tail fits = refl
+  read-word ws Exposed fits = refl
+  read-word ws Durable fits = refl
+  read-word ws Stop fits = refl
+  read-word ws Crew fits = refl
+  read-word ws (Ring index) (in_ring _ below) = sym (ap (λ b. cond b (get_or ws (RING + index) 0) 0) (lt-ltb index size below))
+  read-word ws (Account account) (of_account _ below) =
+      sym (ap (λ b. cond b (get_or ws (RING + size + STRIDE * account) 0) 0) (lt-ltb account accounts below))

@@ -1,8 +1,8 @@
 -- The words of the table by name, and where each lies.
-use Rattle.std.specs.Prelude.{ℕ, ◌+◌}
-use Rattle.log_table.specs.declared.layout.TheConstants.{TAIL, EXPOSED, DURABLE, STOP, CREW, RING}
+use Rattle.std.specs.Prelude.{ℕ, ◌+◌, ◌*◌}
+use Rattle.log_table.specs.declared.layout.TheConstants.{STRIDE, TAIL, EXPOSED, DURABLE, STOP, CREW, RING}
 
--- a word of the table; those of the ring by their index
+-- a word of the table; those of the ring by their index, and those of the accounts by their number
 pub data Word : Type 0 where
   Tail : Word
   Exposed : Word
@@ -10,16 +10,18 @@ pub data Word : Type 0 where
   Stop : Word
   Crew : Word
   Ring : (index : ℕ) → Word
+  Account : (account : ℕ) → Word
 
--- where the word lies
-abbrev pub index_of : Word → ℕ
-index_of Tail = TAIL
-index_of Exposed = EXPOSED
-index_of Durable = DURABLE
-index_of Stop = STOP
-index_of Crew = CREW
-index_of (Ring index) = RING + index
+-- where the word lies, in a table whose ring has `size` units
+abbrev pub index_of : ℕ → Word → ℕ
+index_of size Tail = TAIL
+index_of size Exposed = EXPOSED
+index_of size Durable = DURABLE
+index_of size Stop = STOP
+index_of size Crew = CREW
+index_of size (Ring index) = RING + index
+index_of size (Account account) = RING + size + STRIDE * account
 
--- how many words a table with a ring of so many units has
-abbrev pub word_count : ℕ → ℕ
-word_count ring = RING + ring
+-- how many words a table with such a ring and so many accounts has
+abbrev pub word_count : ℕ → ℕ → ℕ
+word_count size accounts = RING + size + STRIDE * accounts

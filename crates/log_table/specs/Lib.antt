@@ -1,8 +1,11 @@
+pub mod Accounts
+pub mod Books
 pub mod Closing
 pub mod Events
 pub mod Layout
 pub mod Log
 pub mod May
+pub mod Opening
 pub mod Seats
 pub mod Sends
 pub mod Sound

@@ -2,6 +2,8 @@
 -- One seat's range is one part; a group's range will be as many parts as it has members.
 use Rattle.std.specs.Prelude.{◌≡◌, ◌==◌, ◌&&◌, ℕ, ◌+◌, ◌-◌, ◌%◌, ◌<◌, ◌≤◌, if◌then◌else◌, nat_le, nat_lt, Bool, true, false, List, [], ◌∷◌, ◌++◌, length, slice_index}
 use Rattle.lsn_space.specs.Tiling.{IsBoundary}
+use Rattle.log_record.specs.declared.rec.Rec.{Rec}
+use Rattle.log_record.specs.Spelling.{spelling, IsSpellable}
 use Rattle.log_table.specs.declared.view.Entry.{Entry}
 
 -- a run of units, the number of the seat that owns it, and whether that seat has released it
@@ -119,9 +121,22 @@ IsRangeBoundary start ranges at = IsBoundary (λ (range : Range). range.size) st
 abbrev pub EndsWithPart : ℕ → List Part → Range → Type 0
 EndsWithPart start parts range = IsBoundary (λ (part : Part). part.entry.size) start parts (range.base + range.size)
 
--- it has no more units than were reserved
-abbrev pub Fits : Part → Type 0
-Fits part = length part.entry.units ≤ part.entry.size
+-- as many units were reserved as the record has, and those filled are its first
+pub record SpellsRecord (part : Part) : Type 0 where
+  pub spellable : IsSpellable part.entry.rec
+  pub size : part.entry.size ≡ length (spelling part.entry.rec)
+  pub rest : List ℕ
+  pub units : part.entry.units ++ rest ≡ spelling part.entry.rec
+
+-- the entry's record is in the log whole
+pub record IsSpelled (entry : Entry) : Type 0 where
+  pub spellable : IsSpellable entry.rec
+  pub units : entry.units ≡ spelling entry.rec
+
+-- the records of the parts
+abbrev pub records_in : List Part → List Rec
+records_in [] = []
+records_in (part ∷ parts) = part.entry.rec ∷ records_in parts
 
 -- each filled unit at or above durable stands in its word of the ring
 abbrev pub StandsInRing : ℕ → ℕ → (ℕ → ℕ) → Part → Type 0

@@ -1,6 +1,6 @@
 -- When a step is the next one of the call that the view shows as under way.
-use Rattle.std.specs.Prelude.{◌≡◌, ℕ, ◌+◌, ◌/◌, ◌<◌, ◌≤◌, true, false, length}
-use Rattle.std.specs.List.{list_any}
+use Rattle.std.specs.Prelude.{◌≡◌, ◌≢◌, ℕ, ◌+◌, ◌<◌, ◌≤◌, true, false, [], length, slice_index}
+use Rattle.std.specs.List.{AllByRecursion, list_any}
 use lib.Dec.{eqb}
 use Rattle.lsn_space.specs.declared.lsn.TheConstants.{LAST}
 use Rattle.log_table.specs.declared.view.Entry.{Entry}
@@ -8,6 +8,14 @@ use Rattle.log_table.specs.declared.view.Call.TheVariants.{Idle, Filling}
 use Rattle.log_table.specs.declared.view.Role.TheVariants.{Flusher, Active}
 use Rattle.log_table.specs.declared.view.Seen.{Seen}
 use Rattle.log_table.specs.declared.view.View.{View}
+use Rattle.log_record.specs.declared.rec.Entry.{Entry as Placed}
+use Rattle.log_record.specs.Spelling.{spelling}
+use Rattle.txn_script.specs.declared.job.Job.{Job}
+use Rattle.slot_word.specs.declared.account_word.AccountWord.{AccountWord}
+use Rattle.slot_word.specs.AccountWord.{word_of}
+use Rattle.log_table.specs.declared.view.TakenJob.{TakenJob}
+use Rattle.log_table.specs.Accounts.{IsAllowed, MayGive}
+use Rattle.log_table.specs.Books.{next_of, IsNote, MayEnter}
 use Rattle.log_table.specs.Log.{IsFull}
 use Rattle.log_table.specs.Views.{has_ended, read_to}
 
@@ -16,28 +24,62 @@ pub record IsAtRest (view : View) : Type 0 where
   pub active : view.standing.role ≡ Active
   pub idle : view.call ≡ Idle
 
+-- the worker has nothing under way, and holds no account
+pub record MayLeave (view : View) : Type 0 where
+  pub rests : IsAtRest view
+  pub none_held : view.books.held ≡ []
+
+-- the worker may take this job: it holds no account, the number is above all its jobs, and the table allows the job
+pub record MayTakeJob (accounts number : ℕ) (job : Job) (view : View) : Type 0 where
+  pub rests : IsAtRest view
+  pub none_held : view.books.held ≡ []
+  pub allowed : IsAllowed accounts (record { number = number; job = job })
+  pub above : AllByRecursion (λ (taken : TakenJob). taken.number < number) view.books.jobs
+
+-- the worker's last job has no record in the log but perhaps its Note
+pub record HasBegunNothing (view : View) : Type 0 where
+  pub some_job : 1 ≤ view.books.last.number
+  pub only_note : AllByRecursion (λ (entry : Placed). IsNote entry.rec) view.books.placed
+
+-- the account may be taken: its word is free, and is taken with the same values
+pub record MayTake (from to : AccountWord) (view : View) : Type 0 where
+  pub rests : IsAtRest view
+  pub begins : HasBegunNothing view
+  pub free : from.held ≡ false
+  pub taken : to.held ≡ true
+  pub balance : to.balance ≡ from.balance
+  pub mark : to.mark ≡ from.mark
+
+-- the account may be given back with these values
+pub record MayGiveBack (account : ℕ) (word : AccountWord) (view : View) : Type 0 where
+  pub rests : IsAtRest view
+  pub free : word.held ≡ false
+  pub gives : MayGive account (word_of word) view.books
+
 -- the seat's last two steps were a load of the tail and then one of durable
 pub record HasLooked (seen : Seen) : Type 0 where
   pub tail : seen.tail_step + 1 ≡ seen.steps
   pub durable : seen.durable_step ≡ seen.steps
 
--- the tail may be exchanged: it was looked at, and there is room by what was seen
+-- The tail may be exchanged for the units of the next record of the seat's last job: it was looked at, and there is room by what was
+-- seen.
 pub record MayReserve (from to : ℕ) (view : View) : Type 0 where
   pub rests : IsAtRest view
   pub alone : view.contended ≡ false
   pub looked : HasLooked view.seen
   pub tail : view.seen.tail ≡ from
-  pub some_units : from < to
-  pub quarter : to ≤ from + view.constants.ring / 4
+  pub enters : MayEnter (next_of view.books) view.books
+  pub size : to ≡ from + length (spelling (next_of view.books))
   pub within_log : to ≤ LAST
   pub within_ring : to ≤ view.seen.durable + view.constants.ring
 
--- the unit at this LSN is the next to be filled
-pub record MayFill (at : ℕ) (view : View) : Type 0 where
+-- the unit at this LSN is the next to be filled, and this is the record's
+pub record MayFill (at unit : ℕ) (view : View) : Type 0 where
   pub entry : Entry
   pub filling : view.call ≡ Filling entry
   pub next : at ≡ entry.start + length entry.units
   pub unfilled : length entry.units < entry.size
+  pub unit_is : unit ≡ slice_index (spelling entry.rec) (length entry.units)
 
 -- exposed may be raised to the end of the seat's run, which is full and starts at exposed
 pub record MayRelease (to : ℕ) (view : View) : Type 0 where
@@ -58,6 +100,12 @@ pub record MaySend (to : ℕ) (view : View) : Type 0 where
   pub flusher : view.standing.role ≡ Flusher
   pub read : to ≡ read_to view
   pub all : to ≡ view.sending.exposed
+
+-- the flusher's seat has not stopped the log, and the word tells that it does
+pub record MayStop (word : ℕ) (view : View) : Type 0 where
+  pub flusher : view.standing.role ≡ Flusher
+  pub running : view.sending.stop ≡ 0
+  pub stops : word ≢ 0
 
 -- the flusher's seat may make a worker of this number
 pub record MaySplit (worker : ℕ) (view : View) : Type 0 where

@@ -5,15 +5,17 @@ use Rattle.lsn_space.specs.Tiling.{IsTiling}
 use Rattle.log_table.specs.declared.view.Entry.{Entry}
 use Rattle.log_table.specs.declared.view.Role.TheVariants.{Flusher}
 use Rattle.log_table.specs.declared.view.View.{View}
-use Rattle.log_table.specs.Log.{IsFull, units_in}
+use Rattle.log_table.specs.Log.{IsFull, IsSpelled, units_in}
 use Rattle.log_table.specs.Views.{sent_to, read_to}
 
--- these units are whole entries, one behind another from one LSN to another, none of them empty and each filled
+-- These units are whole entries, one behind another from one LSN to another, none of them empty, each filled and the spelling of its
+-- record.
 pub record AreEntries (from to : ℕ) (units : List ℕ) : Type 0 where
   pub entries : List Entry
   pub tiles : IsTiling (λ (entry : Entry). entry.start) (λ (entry : Entry). entry.size) from entries to
   pub some_units : AllByRecursion (λ (entry : Entry). 1 ≤ entry.size) entries
   pub full : AllByRecursion IsFull entries
+  pub spelled : AllByRecursion IsSpelled entries
   pub units_are : units_in entries ≡ units
 
 -- once all units up to exposed, as the seat loaded it last, are read, they are whole entries

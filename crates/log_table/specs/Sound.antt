@@ -1,5 +1,5 @@
 -- The rule of the table, part by part. Each part speaks of exactly the words and the fields of views that it names.
-use Rattle.std.specs.Prelude.{◌≡◌, ℕ, ◌+◌, ◌/◌, ◌<◌, ◌≤◌, Bool, true, false, List, [], ◌++◌, length, get_or, count_by}
+use Rattle.std.specs.Prelude.{◌≡◌, ◌⊎◌, ℕ, ◌+◌, ◌/◌, ◌<◌, ◌≤◌, Bool, true, false, List, [], ◌++◌, map, length, get_or, count_by}
 use Rattle.std.specs.List.{AllByRecursion, list_any}
 use mathlib.Core.Option.{some}
 use lib.Dec.{eqb}
@@ -12,10 +12,16 @@ use Rattle.log_table.specs.declared.view.Role.TheVariants.{Flusher, Fresh}
 use Rattle.log_table.specs.declared.view.Seen.{Seen}
 use Rattle.log_table.specs.declared.view.Standing.{Standing}
 use Rattle.log_table.specs.declared.view.View.{View}
+use Rattle.log_record.specs.declared.rec.Entry.{Entry as Placed}
+use Rattle.lock_core.specs.History.{history_from}
+use Rattle.lock_core.specs.Settling.{row}
+use Rattle.lock_core.specs.Sums.{BaseState}
+use Rattle.log_table.specs.declared.view.Books.{Books}
+use Rattle.log_table.specs.Accounts.{KeepsAccounts}
 use Rattle.log_table.specs.Layout.{word_count}
-use Rattle.log_table.specs.Log.{Part, Range, Log, ranges_of, own, parts_of, owed, Tiles, Laid, Fits, StandsInRing, AgreesFrom, IsRangeBoundary, EndsWithPart, IsFullIfReleased, IsReleasedBelow, IsReleased, IsOwed, CountsRemaining}
+use Rattle.log_table.specs.Log.{Part, Range, Log, ranges_of, own, parts_of, owed, Tiles, Laid, SpellsRecord, records_in, StandsInRing, AgreesFrom, IsRangeBoundary, EndsWithPart, IsFullIfReleased, IsReleasedBelow, IsReleased, IsOwed, CountsRemaining}
 use Rattle.log_table.specs.Views.{is_active, is_worker, is_working, is_spent, may_own, constants_of, nobody, entries_in, claims_in}
-use Rattle.log_table.specs.Words.{Words, words_of}
+use Rattle.log_table.specs.Words.{Words, words_in}
 
 -- each seat that was made, by its number, has a view for which this holds
 abbrev pub EachView : (ℕ → View → Type 0) → List View → Type 0
@@ -53,9 +59,9 @@ pub record HasContiguousReservations (start ring tail exposed durable : ℕ) (lo
   pub remaining : AllByRecursion (CountsRemaining log.parts) log.unreleased
   pub aligned : AllByRecursion (EndsWithPart start log.parts) (ranges_of log)
 
--- a filled unit at or above durable stands in the ring
+-- each part is a record of which the first units are filled, and a filled unit at or above durable stands in the ring
 pub record KeepsFilledUnits (size durable : ℕ) (ring : ℕ → ℕ) (parts : List Part) : Type 0 where
-  pub fits : AllByRecursion Fits parts
+  pub spelled : AllByRecursion SpellsRecord parts
   pub stands : AllByRecursion (StandsInRing size durable ring) parts
 
 -- every unit below exposed is filled
@@ -81,6 +87,10 @@ SendsIfFlusher start exposed durable log view =
 
 abbrev pub StoresStop : ℕ → View → Type 0
 StoresStop stop view = view.standing.role ≡ Flusher → view.sending.stop ≡ stop
+
+-- what the seat read in stop last is 0, or this word
+abbrev pub HasReadStop : ℕ → View → Type 0
+HasReadStop stop view = (view.seen.stop ≡ 0) ⊎ (view.seen.stop ≡ stop)
 
 -- where the flusher's seat is quiet, no worker is at work, and exposed as it loaded it after that is exposed
 abbrev pub RestsIfQuiet : View → View → Type 0
@@ -127,6 +137,26 @@ pub record HasSoundRoles (seat : ℕ) (standing : Standing) (other : ℕ) (other
   pub fresh : standing.role ≡ Fresh → Lacks standing.worker others.enrolled
   pub unmerged : is_worker standing.role ≡ true → Lacks standing.worker others.merged
 
+-- a view that is not active holds no account, and only the flusher's seat and workers' have jobs
+abbrev pub HoldsIfActive : View → Type 0
+HoldsIfActive view = (is_active view.standing.role ≡ false → view.books.held ≡ []) × (may_own view.standing.role ≡ false → view.books.jobs ≡ [])
+
+-- the state of the accounts with which the table was made
+abbrev pub base_of : Start → BaseState
+base_of key = record {
+  end = key.start;
+  accounts = length key.accounts.rows;
+  balance = λ account. (row key.accounts.rows account).0;
+  last_commit = λ account. (row key.accounts.rows account).1;
+}
+
+-- the list that was inserted, newest first
+abbrev pub history_in : Start → List Part → List Placed
+history_in key parts = history_from key.start [] (records_in parts)
+
+abbrev pub books_of : View → Books
+books_of view = view.books
+
 abbrev pub is_active_view : View → Bool
 is_active_view view = is_active view.standing.role
 
@@ -151,9 +181,12 @@ pub record IsSound (key : Start) (words : Words) (views : List View) (log : Log)
   pub roles : HasSoundCrew words.crew views
   pub sends : EachView (λ _ view. SendsIfFlusher key.start words.exposed words.durable log view) views
   pub stops : EachView (λ _ view. StoresStop words.stop view) views
+  pub read_stop : EachView (λ _ view. HasReadStop words.stop view) views
   pub quiet : EachPair (λ _ view _ other. RestsIfQuiet view other) views
   pub looked : EachView (λ _ view. LookedIfQuiet words.exposed view) views
+  pub unheld : EachView (λ _ view. HoldsIfActive view) views
+  pub accounts : KeepsAccounts (base_of key) words.account (history_in key log.parts) (map books_of views)
 
 -- the table has its words, and some log goes with them and with the views
 abbrev pub Ruled : Start → State (Unit {0}) View → Type 0
-Ruled key state = (length state.words ≡ word_count key.ring) × ((log : Log) × IsSound key (words_of key.ring state.words) state.views log)
+Ruled key state = (length state.words ≡ word_count key.ring (length key.accounts.rows)) × ((log : Log) × IsSound key (words_in key state.words) state.views log)

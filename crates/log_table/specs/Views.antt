@@ -13,6 +13,11 @@ use Rattle.log_table.specs.declared.view.Standing.{Standing}
 use Rattle.log_table.specs.declared.view.Seen.{Seen}
 use Rattle.log_table.specs.declared.view.Sending.{Sending}
 use Rattle.log_table.specs.declared.view.View.{View}
+use Rattle.log_record.specs.declared.rec.Rec.{Rec}
+use Rattle.slot_word.specs.AccountWord.{balance_in, mark_in}
+use Rattle.txn_script.specs.declared.job.Job.{Job}
+use Rattle.log_table.specs.declared.view.Held.{Held}
+use Rattle.log_table.specs.Books.{no_books, next_of, placing, taking_job, taking, giving, merging}
 use Rattle.log_table.specs.Log.{Claim}
 
 abbrev pub is_active : Role → Bool
@@ -81,6 +86,8 @@ seen_at lsn = record {
   durable_step = 0;
   stop = 0;
   crew = 0;
+  account = 0;
+  account_word = 0;
   lsns = lsn ∷ [];
 }
 
@@ -98,7 +105,7 @@ flusher key = record {
   call = Idle;
   contended = false;
   sending = sending_from key.start;
-  books = record {};
+  books = no_books;
 }
 
 -- what is left of a seat that was merged; a seat that was never made has this view too
@@ -111,7 +118,7 @@ nobody = record {
   call = Idle;
   contended = false;
   sending = sending_from 0;
-  books = record {};
+  books = no_books;
 }
 
 -- the entries that the call under way has reserved
@@ -140,13 +147,13 @@ seen_exposed n seen = record seen { steps = seen.steps + 1; exposed = n; exposed
 abbrev pub seen_durable : ℕ → Seen → Seen
 seen_durable n seen = record seen { steps = seen.steps + 1; durable = n; durable_step = seen.steps + 1; lsns = n ∷ seen.lsns }
 
--- a run with no unit filled
-abbrev pub empty_entry : ℕ → ℕ → Entry
-empty_entry start size = record { start = start; size = size; units = []; contents = record {} }
+-- a run for the record with no unit filled
+abbrev pub empty_entry : ℕ → ℕ → Rec → Entry
+empty_entry start size rec = record { start = start; size = size; units = []; rec = rec }
 
 -- the entry with one more unit filled
 abbrev pub with_unit : ℕ → Entry → Entry
-with_unit unit entry = record { start = entry.start; size = entry.size; units = entry.units ++ unit ∷ []; contents = entry.contents }
+with_unit unit entry = record { start = entry.start; size = entry.size; units = entry.units ++ unit ∷ []; rec = entry.rec }
 
 -- after a load of the tail
 abbrev pub saw_tail : ℕ → View → View
@@ -163,6 +170,38 @@ saw_durable n view = record view { seen = seen_durable n view.seen }
 -- after a load of stop
 abbrev pub saw_stop : ℕ → View → View
 saw_stop n view = record view { seen = record view.seen { steps = view.seen.steps + 1; stop = n } }
+
+-- after a load of stop with which the seat takes a job
+abbrev pub took_job : ℕ → Job → ℕ → View → View
+took_job number job n view = record view {
+  seen = record view.seen { steps = view.seen.steps + 1; stop = n };
+  books = taking_job (record { number = number; job = job }) view.books;
+}
+
+-- the account's word was seen
+abbrev pub seen_account : ℕ → ℕ → Seen → Seen
+seen_account account word seen = record seen { steps = seen.steps + 1; account = account; account_word = word }
+
+-- after a load of an account's word
+abbrev pub saw_account : ℕ → ℕ → View → View
+saw_account account word view = record view { seen = seen_account account word view.seen }
+
+-- the account with the values of the word
+abbrev pub held_as : ℕ → ℕ → Held
+held_as account word = record { account = account; balance = balance_in word; mark = mark_in word }
+
+-- after an exchange of an account's word that took the account
+abbrev pub took_account : ℕ → ℕ → View → View
+took_account account word view =
+    record view { seen = seen_account account word view.seen; books = taking (held_as account word) view.books }
+
+-- after an exchange of an account's word that found n
+abbrev pub after_account : ℕ → ℕ → ℕ → View → View
+after_account account from n view = if n == from then took_account account from view else saw_account account n view
+
+-- after a store into an account's word, which gives the account back
+abbrev pub gave_account : ℕ → View → View
+gave_account account view = record view { seen = counted view.seen; books = giving account view.books }
 
 -- every worker known as made is known as enrolled
 abbrev pub knows_all_enrolled : Standing → Bool
@@ -197,9 +236,13 @@ has_sent to view = record view {
 abbrev pub has_stopped : ℕ → View → View
 has_stopped word view = record view { seen = counted view.seen; sending = record view.sending { stop = word } }
 
--- after an exchange of the tail that was made; the new tail counts as seen
+-- after an exchange of the tail that was made; the new tail counts as seen, and the next record of the seat's last job has its place
 abbrev pub reserved : ℕ → ℕ → View → View
-reserved from to view = record view { seen = seen_tail to view.seen; call = Filling (empty_entry from (to - from)) }
+reserved from to view = record view {
+  seen = seen_tail to view.seen;
+  call = Filling (empty_entry from (to - from) (next_of view.books));
+  books = placing to (next_of view.books) view.books;
+}
 
 -- after an exchange of the tail that found n
 abbrev pub after_exchange : ℕ → ℕ → ℕ → View → View
@@ -246,7 +289,7 @@ hired worker view = record {
   call = Idle;
   contended = false;
   sending = sending_from 0;
-  books = record {};
+  books = no_books;
 }
 
 -- the view of a note: it knows what the seat knows that made it, and owns nothing
@@ -259,7 +302,7 @@ noted view = record {
   call = Idle;
   contended = false;
   sending = sending_from 0;
-  books = record {};
+  books = no_books;
 }
 
 -- the entry among others in order of their starts
@@ -272,13 +315,14 @@ abbrev pub merged_entries : List Entry → List Entry → List Entry
 merged_entries entries [] = entries
 merged_entries entries (other ∷ others) = inserted other (merged_entries entries others)
 
--- what both have seen
+-- what both have seen; of the stop words the other's, unless it is 0
 abbrev pub merged_seen : Seen → Seen → Seen
 merged_seen seen other =
     record seen {
       tail = max seen.tail other.tail;
       exposed = max seen.exposed other.exposed;
       durable = max seen.durable other.durable;
+      stop = if other.stop == 0 then seen.stop else other.stop;
       lsns = seen.lsns ++ other.lsns;
     }
 
@@ -296,4 +340,5 @@ takes_in view other =
       standing = merged_standing view.standing other.standing;
       seen = merged_seen view.seen other.seen;
       entries = merged_entries view.entries other.entries;
+      books = merging view.books other.books;
     }

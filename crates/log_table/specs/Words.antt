@@ -1,8 +1,9 @@
 -- What the words hold.
-use Rattle.std.specs.Prelude.{◌==◌, ℕ, if◌then◌else◌, nat_lt, List, slice_index}
-use Rattle.log_table.specs.Layout.{Word, Tail, Exposed, Durable, Stop, Crew, Ring, index_of}
+use Rattle.std.specs.Prelude.{◌==◌, ℕ, if◌then◌else◌, nat_lt, List, length, slice_index}
+use Rattle.log_table.specs.declared.table.Start.{Start}
+use Rattle.log_table.specs.Layout.{Word, Tail, Exposed, Durable, Stop, Crew, Ring, Account, index_of}
 
--- the words by name; those of the ring as a function of their index
+-- the words by name; those of the ring as a function of their index, and those of the accounts of their number
 pub record Words : Type 0 where
   pub tail : ℕ
   pub exposed : ℕ
@@ -10,21 +11,27 @@ pub record Words : Type 0 where
   pub stop : ℕ
   pub crew : ℕ
   pub ring : ℕ → ℕ
+  pub account : ℕ → ℕ
 
--- the word of a list
-abbrev pub read : List ℕ → Word → ℕ
-read words word = slice_index words (index_of word)
+-- the word of a list of words of a table whose ring has `size` units
+abbrev pub read : ℕ → List ℕ → Word → ℕ
+read size words word = slice_index words (index_of size word)
 
--- the words of a table whose ring has `size` units
-abbrev pub words_of : ℕ → List ℕ → Words
-words_of size words = record {
-  tail = read words Tail;
-  exposed = read words Exposed;
-  durable = read words Durable;
-  stop = read words Stop;
-  crew = read words Crew;
-  ring = λ index. if nat_lt index size then read words (Ring index) else 0;
+-- the words of a table with such a ring and so many accounts
+abbrev pub words_of : ℕ → ℕ → List ℕ → Words
+words_of size accounts words = record {
+  tail = read size words Tail;
+  exposed = read size words Exposed;
+  durable = read size words Durable;
+  stop = read size words Stop;
+  crew = read size words Crew;
+  ring = λ index. if nat_lt index size then read size words (Ring index) else 0;
+  account = λ account. if nat_lt account accounts then read size words (Account account) else 0;
 }
+
+-- the words of the table that was made with this key
+abbrev pub words_in : Start → List ℕ → Words
+words_in key words = words_of key.ring (length key.accounts.rows) words
 
 -- the word of that name
 abbrev pub word_at : Words → Word → ℕ
@@ -34,6 +41,7 @@ word_at words Durable = words.durable
 word_at words Stop = words.stop
 word_at words Crew = words.crew
 word_at words (Ring index) = words.ring index
+word_at words (Account account) = words.account account
 
 -- the function, but for its value at one place
 abbrev pub put : (ℕ → ℕ) → ℕ → ℕ → ℕ → ℕ
@@ -47,3 +55,4 @@ with_word words Durable value = record words { durable = value }
 with_word words Stop value = record words { stop = value }
 with_word words Crew value = record words { crew = value }
 with_word words (Ring index) value = record words { ring = put words.ring index value }
+with_word words (Account account) value = record words { account = put words.account account value }

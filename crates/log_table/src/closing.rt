@@ -1,18 +1,25 @@
 //! The end of a table, when all workers have ended and were merged.
-ghost use Rattle.std.specs.Prelude.{◌≡◌};
-ghost use Rattle.log_table.specs.Closing.{IsGathered};
+ghost use Rattle.std.specs.Prelude.{◌≡◌, ◌<◌, ◌≤◌, length};
+ghost use Rattle.lock_core.specs.Settling.{row};
+ghost use Rattle.log_table.specs.Closing.{IsGathered, IsSettled, ReadsRows};
 ghost use Rattle.log_table.specs.May.{MayClose};
-ghost use Rattle.log_table.specs.Seats.{IsOf, view_of};
+ghost use Rattle.log_table.specs.Seats.{IsOf, view_of, key_of};
+ghost use Rattle.log_table.specs.Sound.{base_of};
+ghost use Rattle.std.specs.Slots.{slots_len, slots_items, IsFull};
+ghost use Rattle.log_table.specs.Layout.{word_count};
 
-use crate::layout::{EXPOSED, TAIL};
+use crate::layout::{EXPOSED, TAIL, account_place};
 use crate::table::{LogTable, Seat};
-use lsn_space::Lsn;
+use lsn_space::{Balances, Lsn};
+use slot_word::AccountWord;
+use std::alloc::Global;
 
 /// What the words of a closed table held.
-#[derive(Clone, Copy, Debug)]
+#[derive(Drop)]
 pub struct Closed {
     tail: Lsn,
     exposed: Lsn,
+    accounts: Balances,
 }
 
 impl Closed {
@@ -29,25 +36,72 @@ impl Closed {
     {
         self.exposed
     }
+
+    /// The accounts: their balances and last commits.
+    pub fn accounts(&self) -> &Balances
+        ensures { result.now ≡ self.now.accounts }
+    {
+        &self.accounts
+    }
+
+    /// The account's balance.
+    pub fn balance(&self, account: u32) -> u32
+        requires { account < length self.now.accounts.rows }
+        ensures { result ≡ (row self.now.accounts.rows account).0 }
+    {
+        self.accounts.at(account).0
+    }
+
+    /// The LSN at which the account's last commit ends, 0 where it has none.
+    pub fn mark(&self, account: u32) -> u32
+        requires { account < length self.now.accounts.rows }
+        ensures { result ≡ (row self.now.accounts.rows account).1 }
+    {
+        self.accounts.at(account).1
+    }
+}
+
+/// Reads the accounts from the words of a closed table whose ring has that length.
+fn read_rows(rows: &mut Balances, closed: &atomic_table::Closed<(), Global>, ring: u32)
+    requires ring { ring ≤ 1048576 }
+    requires few { length rows.old.rows ≤ 4096 }
+    requires size { slots_len closed.now.words ≡ word_count ring (length rows.old.rows) }
+    requires full { IsFull closed.now.words }
+    ensures room { rows.new.room ≡ rows.old.room }
+    ensures rows { ReadsRows ring (length rows.old.rows) (slots_items closed.now.words) rows.old.rows rows.new.rows }
+{
+    for account in 0..rows.count() {
+        let word = AccountWord::unpack(closed.word(account_place(ring, account)));
+        rows.set(account, word.balance(), word.mark());
+    }
 }
 
 impl LogTable {
     /// Ends the table: the entries gathered in the flusher's seat are the whole log, and all of it is
-    /// released. What was sent to the disk, and then what was read for it, are their first units.
+    /// released. Where no job number stands twice, the log is lawful, the jobs are run whole or cut
+    /// short, and the accounts are the log's.
     pub fn close(self, seat: Seat) -> Closed
         requires seat { IsOf self seat }
         requires may { MayClose (view_of seat) }
         ensures gathered { IsGathered result.tail (view_of seat) }
         ensures released { result.exposed ≡ result.tail }
+        ensures settled { IsSettled (base_of (key_of self)) (view_of seat) result.accounts.rows }
     {
-        let LogTable { table, ring: _ } = self;
+        let LogTable {
+            table,
+            ring,
+            accounts: _,
+            mut rows,
+        } = self;
         let closed = table.close_with(seat.base);
         let tail = closed.word(TAIL);
         let exposed = closed.word(EXPOSED);
+        read_rows(&mut rows, &closed, ring);
         closed.free();
         Closed {
             tail: Lsn::new(tail as u32),
             exposed: Lsn::new(exposed as u32),
+            accounts: rows,
         }
     }
 }

@@ -1,5 +1,8 @@
 //! Where the words lie in the table. Words that many threads write stand far enough apart to lie on
-//! cache lines of their own. `specs/Layout.antt` shows that no two words share a place.
+//! cache lines of their own. `proofs/Wording.antt` shows that no two words share a place.
+
+ghost use Rattle.std.specs.Prelude.{◌≡◌, ◌≤◌, ◌+◌, ◌*◌};
+ghost use Rattle.log_table.specs.declared.layout.TheConstants.{STRIDE, RING};
 
 /// Words from one shared word to the next, two cache lines.
 const STRIDE: usize = 16;
@@ -14,5 +17,13 @@ pub(crate) const DURABLE: usize = 2 * STRIDE;
 pub(crate) const STOP: usize = 3 * STRIDE;
 /// The number of active workers.
 pub(crate) const CREW: usize = 4 * STRIDE;
-/// The first word of the ring, which is packed and last.
+/// The first word of the ring, which is packed. The accounts' words stand behind it.
 pub(crate) const RING: usize = 5 * STRIDE;
+
+/// Where the word of an account lies.
+pub(crate) fn account_place(ring: u32, account: u32) -> usize
+    requires { (ring ≤ 1048576) × (account ≤ 4096) }
+    ensures { result ≡ RING + ring + STRIDE * account }
+{
+    RING + ring as usize + STRIDE * account as usize
+}

@@ -14,4 +14,6 @@ mod view;
 
 pub use closing::Closed;
 pub use table::{LogTable, Seat, Start};
-pub use view::{Books, Call, Constants, Contents, Entry, Role, Seen, Sending, Standing, View};
+pub use view::{
+    Books, Call, Constants, Entry, Held, Role, Seen, Sending, Standing, TakenJob, View,
+};

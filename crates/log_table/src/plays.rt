@@ -119,6 +119,18 @@ impl Play<(), View> for LoadStop {
     ghost then = { λ st old n new. (new ≡ (saw_stop n old.0, old.1)) × Unit {0} };
 }
 
+/// A load that changes nothing. The rule tells at a step alone that what the flusher's seat has read in
+/// stop, itself or by a merge, is 0 or what it stored.
+pub(crate) struct TellStop;
+
+impl Play<(), View> for TellStop {
+    ghost use Rattle.std.specs.Prelude.{◌≡◌};
+    ghost use Rattle.log_table.specs.declared.view.Role.TheVariants.{Flusher};
+    ghost use Rattle.log_table.specs.Sound.{HasReadStop};
+
+    ghost then = { λ st old n new. (new ≡ (old.0, old.1)) × (old.0.standing.role ≡ Flusher → HasReadStop old.0.sending.stop old.0) };
+}
+
 pub(crate) struct LoadCrew;
 
 impl Play<(), View> for LoadCrew {
@@ -128,7 +140,7 @@ impl Play<(), View> for LoadCrew {
     ghost then = { λ st old n new. (new ≡ (saw_crew n old.0, old.1)) × Unit {0} };
 }
 
-/// The number of a worker.
+/// The number of a worker, or of an account.
 pub trait Number {
     ghost use Rattle.std.specs.Prelude.{ℕ};
 
@@ -137,6 +149,68 @@ pub trait Number {
 
 impl Number for Brand {
     ghost number = { 0 };
+}
+
+/// A job, and its transaction number.
+pub trait Task {
+    ghost use Rattle.std.specs.Prelude.{ℕ};
+    ghost use Rattle.txn_script.specs.declared.job.Job.{Job};
+
+    ghost number: { ℕ };
+
+    ghost job: { Job };
+}
+
+impl Task for Brand {
+    ghost use Rattle.log_table.specs.Books.{no_job};
+
+    ghost number = { 0 };
+
+    ghost job = { no_job.job };
+}
+
+pub(crate) struct TakeJob<N> {
+    task: PhantomData<N>,
+}
+
+impl<N: Task> Play<(), View> for TakeJob<N> {
+    ghost use Rattle.std.specs.Prelude.{◌≡◌};
+    ghost use Rattle.log_table.specs.Views.{took_job};
+
+    ghost then = { λ st old n new. (new ≡ (took_job N.number N.job n old.0, old.1)) × Unit {0} };
+}
+
+pub(crate) struct LoadAccount<N> {
+    account: PhantomData<N>,
+}
+
+impl<N: Number> Play<(), View> for LoadAccount<N> {
+    ghost use Rattle.std.specs.Prelude.{◌≡◌};
+    ghost use Rattle.log_table.specs.Views.{saw_account};
+
+    ghost then = { λ st old n new. (new ≡ (saw_account N.number n old.0, old.1)) × Unit {0} };
+}
+
+pub(crate) struct ExchangeAccount<N> {
+    account: PhantomData<N>,
+}
+
+impl<N: Number> Play<(), View> for ExchangeAccount<N> {
+    ghost use Rattle.std.specs.Prelude.{◌≡◌};
+    ghost use Rattle.log_table.specs.Views.{after_account};
+
+    ghost then = { λ st old n new. (new ≡ (after_account N.number st.first n old.0, old.1)) × Unit {0} };
+}
+
+pub(crate) struct StoreAccount<N> {
+    account: PhantomData<N>,
+}
+
+impl<N: Number> Play<(), View> for StoreAccount<N> {
+    ghost use Rattle.std.specs.Prelude.{◌≡◌};
+    ghost use Rattle.log_table.specs.Views.{gave_account};
+
+    ghost then = { λ st old n new. (new ≡ (gave_account N.number old.0, old.1)) × Unit {0} };
 }
 
 pub(crate) struct Hire<N> {

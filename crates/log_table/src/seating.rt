@@ -1,14 +1,18 @@
 //! Seats are made, and taken in again.
-ghost use Rattle.std.specs.Prelude.{◌≡◌, ◌≤◌, ◌^◌, ℕ, [], IfOk, false};
+ghost use Rattle.std.specs.Prelude.{◌≡◌, ◌≤◌, ◌^◌, ℕ, length, IfOk, false};
+ghost use Rattle.log_table.specs.Layout.{word_count};
 ghost use Rattle.log_table.specs.May.{MaySplit, MayMerge};
-ghost use Rattle.log_table.specs.Seats.{IsOf, Becomes, view_of};
+ghost use Rattle.log_table.specs.Opening.{HasAccounts, PutsAccounts};
+ghost use Rattle.log_table.specs.Seats.{IsOf, Becomes, view_of, key_of};
+ghost use Rattle.log_table.specs.Sound.{HasReadStop};
 ghost use Rattle.log_table.specs.Views.{flusher, hires, hired, is_spent, noted, takes_in};
 
-use crate::layout::{DURABLE, EXPOSED, RING, TAIL};
-use crate::plays::{Hire, MakeNote, Number, TakeIn};
+use crate::layout::{DURABLE, EXPOSED, STOP, TAIL, account_place};
+use crate::plays::{Hire, MakeNote, Number, TakeIn, TellStop};
 use crate::table::{LogTable, Seat, Start};
 use atomic_table::Table;
 use lsn_space::NoMemory;
+use slot_word::AccountWord;
 use std::alloc::Global;
 use std::marker::Brand;
 
@@ -26,30 +30,57 @@ fn split_as<N: Number>(table: &LogTable, seat: &mut Seat, worker: u32) -> Seat
     Seat { base, worker }
 }
 
+/// Puts the accounts' words, each free with its balance and last commit.
+fn put_accounts(words: &mut Vec<u64>, start: &Start)
+    requires ring { (1024 ≤ start.now.ring) × (start.now.ring ≤ 1048576) }
+    requires accounts { HasAccounts start.now }
+    requires size { length words.old.items ≡ word_count start.now.ring (length start.now.accounts.rows) }
+    ensures { PutsAccounts start.now (length start.now.accounts.rows) words.old.items words.new.items }
+{
+    for account in 0..start.accounts.count() {
+        let (balance, mark) = start.accounts.at(account);
+        words[account_place(start.ring, account)] = AccountWord::free(balance, mark).pack();
+    }
+}
+
 impl LogTable {
     /// A table at rest, and the flusher's seat. The ring's length is a power of two; there are no
-    /// slots and no accounts yet.
+    /// slots yet.
     pub fn make(alloc: Global, start: Start) -> Result<(LogTable, Seat), NoMemory>
         requires ring { (1024 ≤ start.ring) × (start.ring ≤ 1048576) }
         requires power { (n : ℕ) × (start.ring ≡ 2 ^ n) }
         requires no_slots { start.slots ≡ 0 }
-        requires no_accounts { start.accounts.rows ≡ [] }
+        requires accounts { HasAccounts start }
         ensures seat { IfOk result (λ made. IsOf made.0 made.1) }
         ensures view { IfOk result (λ made. view_of made.1 ≡ flusher start) }
         ensures ring { IfOk result (λ made. made.0.ring ≡ start.ring) }
+        ensures accounts { IfOk result (λ made. made.0.accounts ≡ length start.accounts.rows) }
+        ensures key { IfOk result (λ made. key_of made.0 ≡ start) }
     {
-        let Ok(mut words) = vec![in alloc; 0u64; RING + start.ring as usize] else {
+        let accounts = start.accounts.count();
+        let Ok(mut words) = vec![in alloc; 0u64; account_place(start.ring, accounts)] else {
             return Err(NoMemory);
         };
         let lsn = start.start.units() as u64;
         words[TAIL] = lsn;
         words[EXPOSED] = lsn;
         words[DURABLE] = lsn;
+        put_accounts(&mut words, &start);
         let Ok((table, base)) = Table::of_words(alloc, words.as_slice(), &start) else {
             return Err(NoMemory);
         };
-        let ring = start.ring;
-        Ok((LogTable { table, ring }, Seat { base, worker: 0 }))
+        let Start {
+            ring,
+            accounts: rows,
+            ..
+        } = start;
+        let table = LogTable {
+            table,
+            ring,
+            accounts,
+            rows,
+        };
+        Ok((table, Seat { base, worker: 0 }))
     }
 
     /// A seat for a new worker of this number.
@@ -81,15 +112,18 @@ impl LogTable {
     }
 
     /// The flusher's seat takes in the seat of a worker that has ended, or a note: the entries and the
-    /// knowledge of both.
+    /// knowledge of both. A stop word that the other has read is the one that the flusher's seat stored.
     pub fn merge(&self, seat: &mut Seat, other: Seat)
         requires seat { IsOf self.now seat.old }
         requires other { IsOf self.now other }
         requires may { MayMerge (view_of seat.old) (view_of other) }
-        ensures { Becomes seat.old seat.new (takes_in (view_of seat.old) (view_of other)) }
+        ensures view { Becomes seat.old seat.new (takes_in (view_of seat.old) (view_of other)) }
+        ensures stops { HasReadStop (view_of seat.old).sending.stop (view_of other) }
     {
         self.table
             .shared
             .join_seat::<TakeIn>(&mut seat.base, other.base);
+        // Joining tells nothing of the rule, as a step does.
+        self.table.shared.load::<TellStop>(&mut seat.base, STOP);
     }
 }

@@ -1,7 +1,9 @@
 //! The steps, each one atomic action on one word.
+mod accounts;
 mod crew;
 mod durable;
 mod exposed;
+mod jobs;
 mod ring;
 mod stop;
 mod tail;

@@ -1,5 +1,5 @@
 //! The table, its rule, and a seat of it.
-ghost use Rattle.std.specs.Prelude.{◌≡◌, ◌≤◌};
+ghost use Rattle.std.specs.Prelude.{◌≡◌, ◌≤◌, length};
 ghost use Rattle.log_table.specs.Layout.{word_count};
 ghost use Rattle.log_table.specs.Views.{constants_of};
 
@@ -34,10 +34,16 @@ impl TableRule<(), View, Start> for Rule {
 pub struct LogTable {
     pub(crate) table: Table<(), View, Start, Rule, Global>,
     pub(crate) ring: u32,
+    pub(crate) accounts: u32,
+    /// The accounts as they were at first. Their room takes those at the end.
+    pub(crate) rows: Balances,
     ghost wide: { (1024 ≤ ring) × (ring ≤ 1048576) },
-    ghost sized: { table.shared.table_id.words ≡ word_count ring },
+    ghost few: { accounts ≤ 4096 },
+    ghost rowed: { length rows.rows ≡ accounts },
+    ghost sized: { table.shared.table_id.words ≡ word_count ring accounts },
     ghost slotless: { table.shared.table_id.slots ≡ 0 },
     ghost keyed: { table.shared.key.ring ≡ ring },
+    ghost counted: { length table.shared.key.accounts.rows ≡ accounts },
 }
 
 impl LogTable {
@@ -46,6 +52,13 @@ impl LogTable {
         ensures { result ≡ self.now.ring }
     {
         self.ring
+    }
+
+    /// The number of accounts.
+    pub fn accounts(&self) -> u32
+        ensures { result ≡ self.now.accounts }
+    {
+        self.accounts
     }
 }
 

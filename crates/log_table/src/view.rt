@@ -1,17 +1,16 @@
 //! What a seat knows of the table and has done in it. These types stand in contracts alone: no value
 //! of them is ever made, so their numbers have no bound and their lists take no memory.
+use log_record::Rec;
 use std::collections::LinkedList;
+use txn_script::Job;
 
-/// The record that an entry spells. Empty until entries are records.
-pub struct Contents {}
-
-/// A run of units that one seat reserved: from `start` on, `size` of them, of which `units` are
-/// copied into the ring so far.
+/// A record for which one seat reserved a run of units: from `start` on, `size` of them, of which
+/// `units` are copied into the ring so far.
 pub struct Entry {
     pub start: u64,
     pub size: u64,
     pub units: LinkedList<u64>,
-    pub contents: Contents,
+    pub rec: Rec,
 }
 
 /// The call that a seat has under way.
@@ -51,8 +50,8 @@ pub struct Standing {
     pub merged: LinkedList<u64>,
 }
 
-/// The last value seen in each word, and of the LSNs at which of the seat's steps; every LSN that was
-/// seen, newest first.
+/// The last value seen in each word, and of the LSNs at which of the seat's steps; of the accounts' words
+/// the last one, and whose it was; every LSN that was seen, newest first.
 pub struct Seen {
     pub steps: u64,
     pub tail: u64,
@@ -63,6 +62,8 @@ pub struct Seen {
     pub durable_step: u64,
     pub stop: u64,
     pub crew: u64,
+    pub account: u64,
+    pub account_word: u64,
     pub lsns: LinkedList<u64>,
 }
 
@@ -78,8 +79,27 @@ pub struct Sending {
     pub looked: bool,
 }
 
-/// The jobs that the seat took, and the accounts that it holds. Empty until there are jobs.
-pub struct Books {}
+/// A job that a seat took, under its transaction number.
+pub struct TakenJob {
+    pub number: u64,
+    pub job: Job,
+}
+
+/// An account that a seat holds, with the balance and the last commit's end as they were taken.
+pub struct Held {
+    pub account: u64,
+    pub balance: u64,
+    pub mark: u64,
+}
+
+/// The jobs that the seat took and the accounts that it holds, each newest first; the last job that it
+/// took, of number 0 where it took none, and the records of that job in the log, newest first.
+pub struct Books {
+    pub jobs: LinkedList<TakenJob>,
+    pub last: TakenJob,
+    pub placed: LinkedList<log_record::Entry>,
+    pub held: LinkedList<Held>,
+}
 
 pub struct View {
     pub constants: Constants,

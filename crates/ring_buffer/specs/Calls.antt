@@ -1,13 +1,19 @@
 -- What a seat must be ready for, and what a call leaves it with.
-use Rattle.std.specs.Prelude.{◌≡◌, ℕ, ◌+◌, ◌<◌, ◌≤◌, false, List, length}
+use Rattle.std.specs.Prelude.{◌≡◌, ℕ, ◌+◌, ◌<◌, ◌≤◌, false, List, [], ◌∷◌, ◌++◌, length, Contains}
 use Rattle.lsn_space.specs.declared.lsn.TheConstants.{LAST}
 use Rattle.log_table.specs.declared.table.Seat.{Seat}
+use Rattle.log_record.specs.declared.rec.Rec.{Rec}
+use Rattle.log_record.specs.Spelling.{spelling}
+use Rattle.log_table.specs.declared.view.Books.{Books}
+use Rattle.log_table.specs.declared.view.Call.{Call}
 use Rattle.log_table.specs.declared.view.Call.TheVariants.{Idle, Filling}
 use Rattle.log_table.specs.declared.view.Entry.{Entry}
 use Rattle.log_table.specs.declared.view.View.{View}
+use Rattle.log_table.specs.Books.{next_of, placing, MayEnter}
+use Rattle.log_table.specs.Log.{IsFull}
 use Rattle.log_table.specs.May.{IsAtRest, HasLooked}
 use Rattle.log_table.specs.Seats.{Becomes, view_of}
-use Rattle.log_table.specs.Views.{empty_entry, saw_tail, saw_durable, reserved}
+use Rattle.log_table.specs.Views.{entries_in, empty_entry, saw_tail, saw_durable, reserved}
 use Rattle.ring_buffer.specs.declared.call.Look.{Look}
 use Rattle.ring_buffer.specs.declared.call.Range.{Range}
 use Rattle.ring_buffer.specs.declared.refused.Refused.{Refused}
@@ -62,27 +68,47 @@ pub record HasRefused (old new : Seat) (ring n : ℕ) (refused : Refused) : Type
   pub refuses : Refuses ring tail durable n refused
   pub becomes : Becomes old new (looked tail durable (view_of old))
 
--- the seat reserved the range, and has filled none of it
-abbrev pub HasReserved : Range → View → Type 0
-HasReserved range view = view.call ≡ Filling (empty_entry range.start range.size)
+-- n is the number of units of the next record of the seat's last job, and that record may be placed
+pub record MayPlace (n : ℕ) (books : Books) : Type 0 where
+  pub size : n ≡ length (spelling (next_of books))
+  pub enters : MayEnter (next_of books) books
 
--- the entry of these units
-abbrev pub entry_of : ℕ → List ℕ → Entry
-entry_of start units = record { start = start; size = length units; units = units; contents = record {} }
+-- the seat reserved the range for a record of these units, and has filled none of it
+pub record HasReserved (range : Range) (units : List ℕ) (view : View) : Type 0 where
+  pub rec : Rec
+  pub call : view.call ≡ Filling (empty_entry range.start range.size rec)
+  pub size : range.size ≡ length (spelling rec)
+  pub units_are : units ≡ spelling rec
 
--- an entry of the range with these units so far
-abbrev pub entry_in : Range → List ℕ → Entry
-entry_in range units = record { start = range.start; size = range.size; units = units; contents = record {} }
+-- the range is reserved for the next record of the seat's last job, behind what the seat had seen, and none of it is filled
+pub record PlacesNext (old new : View) (n : ℕ) (range : Range) : Type 0 where
+  pub size : range.size ≡ n
+  pub behind : old.seen.tail ≤ range.start
+  pub seen : range.start + n ≤ new.seen.tail
+  pub call : new.call ≡ Filling (empty_entry range.start n (next_of old.books))
+  pub entries : new.entries ≡ old.entries
+  pub books : new.books ≡ placing (range.start + n) (next_of old.books) old.books
+
+-- the entry of the record whole
+abbrev pub entry_of : ℕ → Rec → Entry
+entry_of start rec = record { start = start; size = length (spelling rec); units = spelling rec; rec = rec }
+
+-- the call with these units filled
+abbrev pub filled_with : List ℕ → Call → Call
+filled_with units Idle = Idle
+filled_with units (Filling entry) = Filling (record { start = entry.start; size = entry.size; units = units; rec = entry.rec })
 
 -- the range is filled with these units, step by step
-abbrev pub with_units : Range → List ℕ → ℕ → View → View
-with_units range units steps view = record view { seen = record view.seen { steps = steps }; call = Filling (entry_in range units) }
+abbrev pub with_units : List ℕ → ℕ → View → View
+with_units units steps view = record view { seen = record view.seen { steps = steps }; call = filled_with units view.call }
 
 -- the seat has filled the range whole
 pub record HasFilled (range : Range) (view : View) : Type 0 where
-  pub units : List ℕ
-  pub call : view.call ≡ Filling (entry_in range units)
-  pub full : length units ≡ range.size
+  pub entry : Entry
+  pub call : view.call ≡ Filling entry
+  pub start : entry.start ≡ range.start
+  pub size : entry.size ≡ range.size
+  pub full : IsFull entry
 
 -- it is the same worker's seat, and it has seen no less
 pub record IsSameWorker (old new : Seat) : Type 0 where
@@ -94,16 +120,19 @@ pub record IsSameWorker (old new : Seat) : Type 0 where
   pub standing : (view_of new).standing ≡ (view_of old).standing
   pub contended : (view_of new).contended ≡ (view_of old).contended
   pub grows : (view_of old).seen.tail ≤ (view_of new).seen.tail
+  pub durable : (view_of old).seen.durable ≤ (view_of new).seen.durable
   pub steps : (view_of old).seen.steps ≤ (view_of new).seen.steps
 
--- the seat has nothing under way, and these entries
-pub record HasEntries (old new : Seat) (entries : List Entry) : Type 0 where
+-- the seat has nothing under way, these entries and these books
+pub record HasEntries (old new : Seat) (entries : List Entry) (books : Books) : Type 0 where
   pub same : IsSameWorker old new
   pub idle : (view_of new).call ≡ Idle
   pub entries_are : (view_of new).entries ≡ entries
+  pub books_are : (view_of new).books ≡ books
 
--- the refusal is by what the seat looked at last, in this call
+-- the refusal is by what the seat looked at last, in this call; the tail that it names is an LSN that the seat saw
 pub record IsRefusedNow (old new : Seat) (ring n : ℕ) (refused : Refused) : Type 0 where
   pub refuses : Refuses ring (view_of new).seen.tail (view_of new).seen.durable n refused
   pub looked : HasLooked (view_of new).seen
   pub now : (view_of old).seen.steps < (view_of new).seen.tail_step
+  pub told : Contains (view_of new).seen.lsns (view_of new).seen.tail

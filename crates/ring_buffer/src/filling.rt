@@ -8,13 +8,12 @@ use log_record::Units;
 use log_table::{LogTable, Seat};
 use lsn_space::Lsn;
 
-/// Copies the units into the ring. There are as many as the range has.
+/// Copies the units of the record for which the range was reserved into the ring.
 pub fn fill(table: &LogTable, seat: &mut Seat, range: Range, units: &Units) -> Filled
     requires seat { IsOf table.now seat.old }
-    requires range { HasReserved range (view_of seat.old) }
-    requires units { length units.now ≡ range.size }
+    requires range { HasReserved range units.now (view_of seat.old) }
     ensures range { result.range ≡ range }
-    ensures becomes { Becomes seat.old seat.new (with_units range units.now ((view_of seat.old).seen.steps + range.size) (view_of seat.old)) }
+    ensures becomes { Becomes seat.old seat.new (with_units units.now ((view_of seat.old).seen.steps + range.size) (view_of seat.old)) }
 {
     let list = units.as_slice();
     for i in 0..list.len() {

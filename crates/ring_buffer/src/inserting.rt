@@ -1,8 +1,10 @@
 //! A whole insert.
-ghost use Rattle.std.specs.Prelude.{◌≡◌, ◌++◌, ◌∷◌, ◌≤◌, [], length, IfOk, IfErr, OnOk};
-ghost use Rattle.log_record.specs.declared.units.TheConstants.{MOST_UNITS};
+ghost use Rattle.std.specs.Prelude.{◌≡◌, ◌++◌, ◌∷◌, ◌+◌, ◌≤◌, [], length, IfOk, IfErr, OnOk};
+ghost use Rattle.lsn_space.specs.declared.lsn.TheConstants.{LAST};
+ghost use Rattle.log_record.specs.Spelling.{spelling};
+ghost use Rattle.log_table.specs.Books.{next_of, placing};
 ghost use Rattle.log_table.specs.Seats.{IsOf, view_of};
-ghost use Rattle.ring_buffer.specs.Calls.{IsReady, HasReserved, HasEntries, IsSameWorker, IsRefusedNow, entry_of};
+ghost use Rattle.ring_buffer.specs.Calls.{IsReady, MayPlace, PlacesNext, HasEntries, IsSameWorker, IsRefusedNow, entry_of};
 
 use crate::call::Range;
 use crate::filling::fill;
@@ -15,8 +17,9 @@ use log_table::{LogTable, Seat};
 use lsn_space::Lsn;
 use std::sync::Wait;
 
-/// Inserts the units behind what other workers have reserved, and answers their LSN once they are
-/// released. It waits for those before it, and reserves again where another was faster.
+/// Inserts the next record of the seat's last job, which has these units, behind what other workers
+/// have reserved, and answers its LSN once it is released. It waits for those before it, and reserves
+/// again where another was faster.
 pub fn insert_alone<R: Wait, G: Gate>(
     rt: &R,
     table: &LogTable,
@@ -26,10 +29,13 @@ pub fn insert_alone<R: Wait, G: Gate>(
 ) -> Result<Lsn, Refused>
     requires seat { IsOf table.now seat.old }
     requires ready { IsReady (view_of seat.old) }
-    requires units { 1 ≤ length units.now }
-    ensures inserted { IfOk result (λ at. HasEntries seat.old seat.new ((view_of seat.old).entries ++ entry_of at units.now ∷ [])) }
+    requires next { MayPlace (length units.now) (view_of seat.old).books }
+    requires units { units.now ≡ spelling (next_of (view_of seat.old).books) }
+    ensures inserted { IfOk result (λ at. HasEntries seat.old seat.new ((view_of seat.old).entries ++ entry_of at (next_of (view_of seat.old).books) ∷ []) (placing (at + length units.now) (next_of (view_of seat.old).books) (view_of seat.old).books)) }
     ensures behind { IfOk result (λ at. (view_of seat.old).seen.tail ≤ at) }
-    ensures kept { IfErr result (λ e. HasEntries seat.old seat.new (view_of seat.old).entries) }
+    ensures seen { IfOk result (λ at. at + length units.now ≤ (view_of seat.new).seen.tail) }
+    ensures fits { IfOk result (λ at. at + length units.now ≤ LAST) }
+    ensures kept { IfErr result (λ e. HasEntries seat.old seat.new (view_of seat.old).entries (view_of seat.old).books) }
     ensures refused { IfErr result (IsRefusedNow seat.old seat.new table.now.ring (length units.now)) }
 {
     let n = units.as_slice().len() as u32;
@@ -43,7 +49,8 @@ pub fn insert_alone<R: Wait, G: Gate>(
     Ok(at)
 }
 
-/// Looks and reserves until no other worker is faster. It returns: each time the tail is greater.
+/// Looks and reserves for the next record of the seat's last job until no other worker is faster. It
+/// returns: each time the tail is greater.
 fn place_among<G: Gate>(
     table: &LogTable,
     seat: &mut Seat,
@@ -52,13 +59,10 @@ fn place_among<G: Gate>(
 ) -> Result<Range, Refused>
     requires seat { IsOf table.now seat.old }
     requires ready { IsReady (view_of seat.old) }
-    requires size { (1 ≤ n) × (n ≤ MOST_UNITS) }
-    ensures placed { IfOk result (λ range. HasReserved range (view_of seat.new)) }
-    ensures size { IfOk result (λ range. range.size ≡ n) }
-    ensures behind { IfOk result (λ range. (view_of seat.old).seen.tail ≤ range.start) }
+    requires next { MayPlace n (view_of seat.old).books }
+    ensures placed { IfOk result (PlacesNext (view_of seat.old) (view_of seat.new) n) }
     ensures same { OnOk result (IsSameWorker seat.old seat.new) }
-    ensures entries { OnOk result ((view_of seat.new).entries ≡ (view_of seat.old).entries) }
-    ensures kept { IfErr result (λ e. HasEntries seat.old seat.new (view_of seat.old).entries) }
+    ensures kept { IfErr result (λ e. HasEntries seat.old seat.new (view_of seat.old).entries (view_of seat.old).books) }
     ensures refused { IfErr result (IsRefusedNow seat.old seat.new table.now.ring n) }
 {
     'places: loop {

@@ -1,9 +1,8 @@
 //! A range is looked for, and reserved.
-ghost use Rattle.std.specs.Prelude.{◌≡◌, ℕ, ◌+◌, ◌<◌, ◌≤◌, OnOk, IfOk, IfErr, IfSome, IfNone};
-ghost use Rattle.log_record.specs.declared.units.TheConstants.{MOST_UNITS};
+ghost use Rattle.std.specs.Prelude.{◌≡◌, ℕ, ◌+◌, ◌<◌, ◌≤◌, Contains, OnOk, IfOk, IfErr, IfSome, IfNone};
 ghost use Rattle.log_table.specs.Seats.{IsOf, Becomes, view_of};
 ghost use Rattle.log_table.specs.Views.{saw_tail, reserved};
-ghost use Rattle.ring_buffer.specs.Calls.{IsReady, IsLastLook, HasRoom, Refuses, HasPlaced, HasLost, HasRefused, looked};
+ghost use Rattle.ring_buffer.specs.Calls.{IsReady, MayPlace, IsLastLook, HasRoom, Refuses, HasPlaced, HasLost, HasRefused, looked};
 
 use crate::call::{Look, Range};
 use crate::refused::Refused;
@@ -16,6 +15,8 @@ pub fn look(table: &LogTable, seat: &mut Seat) -> Look
     ensures becomes { Becomes seat.old seat.new (looked result.tail result.durable (view_of seat.old)) }
     ensures last { IsLastLook result (view_of seat.new) }
     ensures grows { (view_of seat.old).seen.tail ≤ result.tail }
+    ensures durable { (view_of seat.old).seen.durable ≤ result.durable }
+    ensures told { Contains (view_of seat.new).seen.lsns (view_of seat.new).seen.tail }
 {
     let tail = table.load_tail(seat);
     let durable = table.load_durable(seat);
@@ -44,7 +45,8 @@ fn end_of(look: &Look, ring: u32, n: u32) -> Result<Lsn, Refused>
     Ok(to)
 }
 
-/// Reserves `n` units by what was looked at. None: another worker has reserved meanwhile.
+/// Reserves the `n` units of the next record of the seat's last job by what was looked at. None:
+/// another worker has reserved meanwhile.
 pub fn try_place(
     table: &LogTable,
     seat: &mut Seat,
@@ -54,7 +56,7 @@ pub fn try_place(
     requires seat { IsOf table.now seat.old }
     requires ready { IsReady (view_of seat.old) }
     requires look { IsLastLook look (view_of seat.old) }
-    requires size { (1 ≤ n) × (n ≤ MOST_UNITS) }
+    requires next { MayPlace n (view_of seat.old).books }
     ensures room { OnOk result (HasRoom table.now.ring look.tail look.durable n) }
     ensures placed { IfOk result (λ o. IfSome o (λ range. (range.start ≡ look.tail) × (range.size ≡ n) × Becomes seat.old seat.new (reserved look.tail (look.tail + n) (view_of seat.old)))) }
     ensures lost { IfOk result (λ o. IfNone o ((found : ℕ) × (look.tail < found) × Becomes seat.old seat.new (saw_tail found (view_of seat.old)))) }
@@ -67,11 +69,12 @@ pub fn try_place(
     }
 }
 
-/// Looks, and reserves `n` units where there is room. None: another worker has reserved meanwhile.
+/// Looks, and reserves the `n` units of the next record of the seat's last job where there is room.
+/// None: another worker has reserved meanwhile.
 pub fn place_alone(table: &LogTable, seat: &mut Seat, n: u32) -> Result<Option<Range>, Refused>
     requires seat { IsOf table.now seat.old }
     requires ready { IsReady (view_of seat.old) }
-    requires size { (1 ≤ n) × (n ≤ MOST_UNITS) }
+    requires next { MayPlace n (view_of seat.old).books }
     ensures placed { IfOk result (λ o. IfSome o (HasPlaced seat.old seat.new table.now.ring n)) }
     ensures lost { IfOk result (λ o. IfNone o (HasLost seat.old seat.new table.now.ring n)) }
     ensures refused { IfErr result (HasRefused seat.old seat.new table.now.ring n) }

@@ -12,7 +12,7 @@ use std::sync::Wait;
 pub fn finish_in_turn<R: Wait>(rt: &R, table: &LogTable, seat: &mut Seat, filled: Filled)
     requires seat { IsOf table.now seat.old }
     requires filled { HasFilled filled.range (view_of seat.old) }
-    ensures entries { HasEntries seat.old seat.new ((view_of seat.old).entries ++ entries_in (view_of seat.old).call) }
+    ensures entries { HasEntries seat.old seat.new ((view_of seat.old).entries ++ entries_in (view_of seat.old).call) (view_of seat.old).books }
 {
     for _ in rt.forever() {
         if table.load_exposed(seat) == filled.range.start() {

@@ -1,64 +1,81 @@
 //! What a worker inserted is read and sent by the flusher's seat, on one thread.
-ghost use Rattle.std.specs.Prelude.{◌≡◌, []};
+ghost use Rattle.std.specs.Prelude.{◌≡◌, [], IfOk};
 ghost use Rattle.log_table.specs.declared.view.Role.TheVariants.{Flusher};
 ghost use Rattle.log_table.specs.Seats.{IsOf, view_of};
 ghost use Rattle.log_table.specs.Views.{sent_to};
 
-use crate::insert_alone;
-use crate::tests::{table_from, units_of, worker};
+use crate::tests::{insert_note, noted_job, table_from, worker};
 use log_disk::OpenGate;
 use log_table::{LogTable, Seat};
 use lsn_space::Lsn;
+use std::alloc::{AllocError, Global};
 use std::test::Fail;
 
-/// Reads all units that are exposed and not yet sent, tells that they are durable, and answers their
-/// digits as one number, and the LSN behind them.
-fn send_all(table: &LogTable, boss: &mut Seat, from: Lsn) -> (u64, Lsn)
+/// The units of the first note, of nine letters under number 1.
+const FIRST: [u64; 3] = [
+    0x0603_0009_0000_0001,
+    0x6162_6364_6566_6768,
+    0x6900_0000_0000_0000,
+];
+
+/// The units of the second note, of eight letters under number 2.
+const SECOND: [u64; 2] = [0x0602_0008_0000_0002, 0x6a6b_6c6d_6e6f_7071];
+
+/// Reads all units that are exposed and not yet sent, tells that they are durable, and answers them, and
+/// the LSN behind them.
+fn send_all(
+    alloc: Global,
+    table: &LogTable,
+    boss: &mut Seat,
+    from: Lsn,
+) -> Result<(Vec<u64>, Lsn), AllocError>
     requires boss { IsOf table.now boss.old }
     requires flusher { (view_of boss.old).standing.role ≡ Flusher }
     requires rests { (view_of boss.old).sending.read ≡ [] }
     requires from { sent_to (view_of boss.old) ≡ from }
-    ensures boss { IsOf table.now boss.new }
-    ensures standing { (view_of boss.new).standing ≡ (view_of boss.old).standing }
-    ensures rests { (view_of boss.new).sending.read ≡ [] }
-    ensures to { sent_to (view_of boss.new) ≡ result.1 }
+    ensures boss { IfOk result (λ sent. IsOf table.now boss.new) }
+    ensures standing { IfOk result (λ sent. (view_of boss.new).standing ≡ (view_of boss.old).standing) }
+    ensures rests { IfOk result (λ sent. (view_of boss.new).sending.read ≡ []) }
+    ensures to { IfOk result (λ sent. sent_to (view_of boss.new) ≡ sent.1) }
 {
     let to = table.load_exposed(boss);
-    let mut digits: u64 = 0;
+    let mut units = Vec::new(alloc);
     for at in from.units()..to.units() {
-        let unit = table.load_ring(boss, Lsn::new(at));
-        digits = digits.wrapping_mul(10).wrapping_add(unit);
+        units.push(table.load_ring(boss, Lsn::new(at)))?;
     }
     table.store_durable(boss, to);
-    (digits, to)
+    Ok((units, to))
 }
 
 #[test]
 fn the_flusher_reads_what_was_inserted(rt: HostRuntime) -> Result<(), Fail> {
-    let (table, mut boss) = table_from(rt.alloc(), 1022)?;
+    let alloc = rt.alloc();
+    let (table, mut boss) = table_from(alloc, 1022)?;
     let mut seat = worker(&table, &mut boss, 0);
     let note = table.note(&mut seat);
     table.merge(&mut boss, note);
     assert_eq!(rt; table.load_crew(&mut boss), 1);
-    let first = insert_alone(&rt, &table, &mut seat, &units_of(3), &OpenGate);
-    assert_eq!(rt; first.ok(), Some(Lsn::new(1022)));
-    let (digits, to) = send_all(&table, &mut boss, Lsn::new(1022));
-    assert_eq!(rt; digits, 12);
+    let (Some(first), Some(second)) = (noted_job(b"abcdefghi"), noted_job(b"jklmnopq")) else {
+        return Err(Fail::new("no job"));
+    };
+    let at = insert_note(&rt, &table, &mut seat, 1, &first, &OpenGate);
+    assert_eq!(rt; at, Ok(Lsn::new(1022)));
+    let (units, to) = send_all(alloc, &table, &mut boss, Lsn::new(1022))?;
+    assert!(rt; units.as_slice() == FIRST.as_slice(), "{units:?}");
     assert_eq!(rt; to, Lsn::new(1025));
     assert_eq!(rt; table.load_durable(&mut seat), to);
-    let second = insert_alone(&rt, &table, &mut seat, &units_of(5), &OpenGate);
-    assert_eq!(rt; second.ok(), Some(Lsn::new(1025)));
-    let (digits, to) = send_all(&table, &mut boss, to);
-    assert_eq!(rt; digits, 1234);
-    assert_eq!(rt; to, Lsn::new(1030));
-    let (digits, to) = send_all(&table, &mut boss, to);
-    assert_eq!(rt; digits, 0);
-    assert_eq!(rt; to, Lsn::new(1030));
+    let at = insert_note(&rt, &table, &mut seat, 2, &second, &OpenGate);
+    assert_eq!(rt; at, Ok(Lsn::new(1025)));
+    let (units, to) = send_all(alloc, &table, &mut boss, to)?;
+    assert!(rt; units.as_slice() == SECOND.as_slice(), "{units:?}");
+    assert_eq!(rt; to, Lsn::new(1027));
+    let (units, to) = send_all(alloc, &table, &mut boss, to)?;
+    assert_eq!(rt; (units.len(), to), (0, Lsn::new(1027)));
     table.leave(&mut seat);
     assert_eq!(rt; table.load_crew(&mut boss), 0);
     assert_eq!(rt; table.load_exposed(&mut boss), to);
     table.merge(&mut boss, seat);
     let closed = table.close(boss);
-    assert_eq!(rt; closed.lsn(), Lsn::new(1030));
+    assert_eq!(rt; closed.lsn(), Lsn::new(1027));
     Ok(())
 }

@@ -3,7 +3,7 @@ ghost use Rattle.std.specs.Prelude.{◌≡◌, ◌+◌, ◌-◌, ◌%◌, ◌^�
 ghost use Rattle.log_table.specs.declared.view.Role.TheVariants.{Fresh};
 ghost use Rattle.log_table.specs.Events.{IsStep};
 ghost use Rattle.log_table.specs.Layout.{Crew};
-ghost use Rattle.log_table.specs.May.{IsAtRest};
+ghost use Rattle.log_table.specs.May.{MayLeave};
 ghost use Rattle.log_table.specs.Seats.{IsOf, Becomes, view_of, number_of, key_of};
 ghost use Rattle.log_table.specs.Views.{enrolled, retired, saw_crew};
 
@@ -24,10 +24,10 @@ impl LogTable {
             .fetch_add::<Enroll>(&mut seat.base, CREW, 1);
     }
 
-    /// Counts an active worker, which has nothing under way, as ended.
+    /// Counts an active worker, which has nothing under way and holds no account, as ended.
     pub fn leave(&self, seat: &mut Seat)
         requires seat { IsOf self.now seat.old }
-        requires rests { IsAtRest (view_of seat.old) }
+        requires may { MayLeave (view_of seat.old) }
         ensures view { Becomes seat.old seat.new (retired (view_of seat.old)) }
         ensures event { (found : ℕ) → IsStep (key_of self.now) (number_of seat.old) Crew found (found - 1) (view_of seat.old) (retired (view_of seat.old)) None }
     {

@@ -14,10 +14,10 @@ use crate::table::{LogTable, Seat};
 use lsn_space::{Lsn, place};
 
 impl LogTable {
-    /// Copies the next unit of the seat's run into the ring.
+    /// Copies the next unit of the seat's record into the ring.
     pub fn store_ring(&self, seat: &mut Seat, at: Lsn, unit: u64)
         requires seat { IsOf self.now seat.old }
-        requires next { MayFill at (view_of seat.old) }
+        requires next { MayFill at unit (view_of seat.old) }
         ensures view { Becomes seat.old seat.new (filled unit (view_of seat.old)) }
         ensures event { (found : ℕ) → IsStep (key_of self.now) (number_of seat.old) (Ring (at % self.now.ring)) found unit (view_of seat.old) (filled unit (view_of seat.old)) (Some (Fill (number_of seat.old))) }
     {

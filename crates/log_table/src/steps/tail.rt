@@ -22,8 +22,8 @@ impl LogTable {
         Lsn::new(self.table.shared.load::<LoadTail>(&mut seat.base, TAIL) as u32)
     }
 
-    /// Reserves the units from one LSN to another, where the tail is still at the first; an Err holds
-    /// the tail found.
+    /// Reserves the units from one LSN to another for the next record of the seat's last job, where the
+    /// tail is still at the first; an Err holds the tail found.
     pub fn exchange_tail(&self, seat: &mut Seat, from: Lsn, to: Lsn) -> Result<(), Lsn>
         requires seat { IsOf self.now seat.old }
         requires next { MayReserve from to (view_of seat.old) }

@@ -1,30 +1,34 @@
-use Rattle.std.proofs.Common.{arith, refl, sym, ◌∙◌, ◌++◌, subst}
+use Rattle.std.proofs.Common.{arith, refl, sym, ◌∙◌, [], ◌++◌, subst}
 use Rattle.std.proofs.lemmas.Result.{err_from_is_err_and}
-use Rattle.std.proofs.KnownBytes.{Appends-trans}
+use Rattle.std.proofs.KnownBytes.{Appends-nil, Appends-trans}
 use Rattle.log_record.specs.Spelling.{BeginsWith}
-use Rattle.commit_pipeline.proofs.ToldLemmas.{window-within, ends-few, count_said-few, told-begins, told-more, told-cut, told-all}
+use Rattle.commit_pipeline.proofs.ToldLemmas.{window-within, ends-few, count_said-few, told-begins, told-none, told-more, told-cut, told-all}
 use Rattle.commit_pipeline.proofs.telling.tell.Goals as goal
 
-pub records-preserved-in_default : goal.records-preserved-in_default
-records-preserved-in_default g c = record {
+pub records-init : goal.records-init
+records-init g c = record {
   same = refl;
-  within = omega (arith, c.records-test.true, c.count.ensures);
-  lines_few = omega (arith, c.records.invariant.lines_few);
-  few = omega (arith, c.records.invariant.few);
+  within = omega arith;
+  lines_few = omega arith;
+  few = omega arith;
   told = (
-    c.records.invariant.told.0,
-    c.records.invariant.told.1,
-    λ records spells.
-        absurd (told-begins c.args.voice c.args.from c.records.at c.args.batch.now.units _ _ _ _ records
-        (c.records.invariant.told.2 records spells) spells.spellable
-        (omega (arith, c.records-test.true, c.count.ensures))
-        (λ rec begins. c.in_default.ensures.bad rec (subst (λ us. BeginsWith us rec) (sym (c.as_slice.ensures.units ∙ c.window.ensures)) begins))),
+    [],
+    Appends-nil (g.K.Sink.held_bytes c.args.sink.now),
+    λ records spells. told-none c.args.voice c.args.from c.args.batch.now.units _ records spells,
   );
-  later = c.records.invariant.later;
+  later = omega arith;
 }
 
-pub overflow_add-at-in-records : goal.overflow_add-at-in-records
-overflow_add-at-in-records g c =
+pub unreachable-requires : goal.unreachable-requires
+unreachable-requires g c =
+    let spelled = c.requires.spelled in
+    told-begins c.args.voice c.args.from c.records.at c.args.batch.now.units _ _ _ _ spelled.0
+    (c.records.invariant.told.2 spelled.0 spelled.1) spelled.1.spellable
+    (omega (arith, c.records-test.true, c.count.ensures))
+    (λ rec begins. c.in_default.ensures.bad rec (subst (λ us. BeginsWith us rec) (sym (c.as_slice.ensures.units ∙ c.window.ensures)) begins))
+
+pub overflow_add-at : goal.overflow_add-at
+overflow_add-at g c =
     let begins = subst (λ us. BeginsWith us c.in-Ok.rec) (c.as_slice.ensures.units ∙ c.window.ensures) c.in-Ok.ensures.found.0 in
     omega (
       arith,

@@ -1,7 +1,7 @@
 use Rattle.std.proofs.Common.{◌≡◌, ◌≤◌, ◌+◌, ◌-◌, List, ℕ, length}
 use Rattle.std.specs.Io.KnownBytes.{Appends}
 use Rattle.log_record.specs.declared.rec.Rec.{Rec}
-use Rattle.commit_pipeline.specs.EndLines.{Spells}
+use Rattle.flusher.specs.Records.{Spells}
 use Rattle.commit_pipeline.proofs.ToldLemmas.{ToldUpTo}
 use Rattle.commit_pipeline.proofs.telling.tell.Given as goal
 

@@ -4,4 +4,4 @@ use Rattle.ring_buffer.specs.Calls.{with_units}
 use Rattle.ring_buffer.proofs.filling.fill.Given as goal
 
 abbrev pub invariant-loop-i : goal.invariant-loop-i
-invariant-loop-i l = Becomes l.initial.seat l.seat (with_units l.range (take l.i l.list) ((view_of l.initial.seat).seen.steps + l.i) (view_of l.initial.seat))
+invariant-loop-i l = Becomes l.initial.seat l.seat (with_units (take l.i l.list) ((view_of l.initial.seat).seen.steps + l.i) (view_of l.initial.seat))

@@ -5,7 +5,7 @@ use Rattle.ring_buffer.specs.Calls.{HasEntries}
 use Rattle.ring_buffer.proofs.inserting.place_among.Given as goal
 
 abbrev pub invariant-places : goal.invariant-places
-invariant-places g l = HasEntries l.fn.seat l.seat (view_of l.fn.seat).entries
+invariant-places g l = HasEntries l.fn.seat l.seat (view_of l.fn.seat).entries (view_of l.fn.seat).books
 
 abbrev pub decreases-places : goal.decreases-places
 decreases-places g l = LAST - (view_of l.seat).seen.tail

@@ -1,12 +1,12 @@
-use Rattle.std.proofs.Common.{rules, ◌≡◌, ◌∙◌, ap}
-use Rattle.ring_buffer.specs.Calls.{entry_in}
+use Rattle.std.proofs.Common.{arith, rules, ◌≡◌, ◌∙◌, sym, ap}
 use Rattle.ring_buffer.proofs.releasing.finish_in_turn.Goals as goal
 
 pub store_exposed-requires-clause-next : goal.store_exposed-requires-clause-next
-store_exposed-requires-clause-next g c = let looked : c.load_exposed.result ≡ c.args.filled.range.start = search rules in record {
-  entry = entry_in c.args.filled.range c.requires.filled.units;
-  filling = ap (λ m. m.0.call) c.load_exposed.ensures.view.me ∙ (c.loop.invariant.1 ∙ c.requires.filled.call);
-  full = c.requires.filled.full;
-  turn = ap (λ m. m.0.seen.exposed) c.load_exposed.ensures.view.me ∙ looked;
-  end = c.end.ensures;
-}
+store_exposed-requires-clause-next g c = let looked : c.load_exposed.result ≡ c.args.filled.range.start = search rules in
+    let filled = c.requires.filled in record {
+      entry = filled.entry;
+      filling = ap (λ m. m.0.call) c.load_exposed.ensures.view.me ∙ (c.loop.invariant.1 ∙ filled.call);
+      full = filled.full;
+      turn = ap (λ m. m.0.seen.exposed) c.load_exposed.ensures.view.me ∙ (looked ∙ sym filled.start);
+      end = omega (arith, c.end.ensures, filled.start, filled.size);
+    }

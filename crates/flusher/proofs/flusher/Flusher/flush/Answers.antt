@@ -2,9 +2,8 @@ use Rattle.std.proofs.Common.{rules, arith, ◌≢◌, ◌∙◌, ap, refl, subs
 use Rattle.std.proofs.lemmas.Result.{err_from_is_err_and}
 use Rattle.log_table.specs.Seats.{view_of}
 use Rattle.log_table.specs.Views.{has_sent}
-use Rattle.log_table.specs.Sends.{AreEntries}
 use Rattle.flusher.specs.Sending.{read_units}
-use Rattle.flusher.proofs.Flushes.{Becomes-then, Leaves-append, AreEntries-gathered, sent_to-flushed, seen-flushed, HoldsDurablePrefix-append, MayHoldBatchInFlight-append}
+use Rattle.flusher.proofs.Flushes.{Becomes-then, Leaves-append, Reads-gathered, sent_to-flushed, seen-flushed, HoldsDurablePrefix-append, MayHoldBatchInFlight-append}
 use Rattle.flusher.proofs.flusher.Flusher.flush.Goals as goal
 
 pub returns-in_err-self-clause-lost : goal.returns-in_err-self-clause-lost
@@ -15,14 +14,15 @@ returns-in_err-self-clause-lost g c =
     let below : c.args.self.now.tail.next < c.load_exposed-to.result =
     omega (arith, (c.load_exposed-to.ensures.flusher c.requires.ready.flusher).read, c.requires.ready.next, apart) in
     let seat = Becomes-then _ _ _ _ (read_units c.gather.ensures.units) c.load_exposed-to.ensures.view c.gather.ensures.seat in
-    let entries = AreEntries-gathered (view_of c.args.self.now.seat) _ _ _ _ (ap (λ m. m.0) seat.me) c.requires.ready.unread c.requires.ready.next
+    let read_up = Reads-gathered (view_of c.args.self.now.seat) _ _ _ _ (ap (λ m. m.0) seat.me) c.requires.ready.unread c.requires.ready.next
     c.gather.ensures.whole (c.gather.ensures.entries below) in
     rw failed.1 record {
       to = c.load_exposed-to.result;
       units = c.gather.ensures.units;
       some = omega (arith, c.gather.ensures.whole, below);
       whole = c.gather.ensures.whole ∙ ap (λ n. n + length c.gather.ensures.units) c.requires.ready.next;
-      entries = subst (λ from. AreEntries from c.load_exposed-to.result c.gather.ensures.units) c.requires.ready.next entries;
+      records = read_up.records;
+      spelled = read_up.spelled;
       seat = seat;
       batch = c.append.ensures.batch ∙ c.gather.ensures.batch;
       tail = refl;
@@ -44,7 +44,7 @@ returns-clause-flushed g c =
     let below : c.args.self.now.tail.next < c.load_exposed-to.result =
     omega (arith, (c.load_exposed-to.ensures.flusher c.requires.ready.flusher).read, c.requires.ready.next, apart) in
     let read = Becomes-then _ _ _ _ (read_units c.gather.ensures.units) c.load_exposed-to.ensures.view c.gather.ensures.seat in
-    let entries = AreEntries-gathered (view_of c.args.self.now.seat) _ _ _ _ (ap (λ m. m.0) read.me) c.requires.ready.unread c.requires.ready.next
+    let read_up = Reads-gathered (view_of c.args.self.now.seat) _ _ _ _ (ap (λ m. m.0) read.me) c.requires.ready.unread c.requires.ready.next
     c.gather.ensures.whole (c.gather.ensures.entries below) in
     let seat = Becomes-then _ _ _ _ (has_sent c.load_exposed-to.result) read c.store_durable.ensures.view in
     record {
@@ -52,7 +52,8 @@ returns-clause-flushed g c =
       durable = c.requires.ready.next;
       some = below;
       whole = c.gather.ensures.whole;
-      entries = entries;
+      records = read_up.records;
+      spelled = read_up.spelled;
       seat = seat;
       batch = c.append.ensures.batch ∙ c.gather.ensures.batch;
       tail = search rules;

@@ -1,20 +1,28 @@
-use Rattle.std.proofs.Common.{arith, ◌∙◌, sym, subst}
-use Rattle.log_table.specs.Closing.{IsGathered}
+use Rattle.std.proofs.Common.{arith, length, ◌∙◌, sym, subst}
+use Rattle.std.specs.Slots.{slots_items}
+use Rattle.log_table.specs.Closing.{IsGathered, ReadsRows}
 use Rattle.log_table.specs.Seats.{view_of}
 use Rattle.log_table.proofs.Gathering.{IsClosed, closes}
 use Rattle.log_table.proofs.table.LogTable.close.Goals as goal
 
 pub overflow_cast-exposed : goal.overflow_cast-exposed
-overflow_cast-exposed c = let is : IsClosed c.word-tail.result c.word-exposed.result (view_of c.args.seat) =
+overflow_cast-exposed c = let is : IsClosed _ _ c.word-tail.result c.word-exposed.result (view_of c.args.seat) =
     closes _ _ _ _ _ _ _ c.close_with-closed.ensures.values.2 c.requires.may c.word-tail.ensures c.word-exposed.ensures in
     omega (arith, is.small, is.released)
 
 pub returns-clause-gathered : goal.returns-clause-gathered
-returns-clause-gathered c = let is : IsClosed c.word-tail.result c.word-exposed.result (view_of c.args.seat) =
+returns-clause-gathered c = let is : IsClosed _ _ c.word-tail.result c.word-exposed.result (view_of c.args.seat) =
     closes _ _ _ _ _ _ _ c.close_with-closed.ensures.values.2 c.requires.may c.word-tail.ensures c.word-exposed.ensures in
     subst (λ n. IsGathered n (view_of c.args.seat)) (sym c.new.ensures) is.gathered
 
 pub returns-clause-released : goal.returns-clause-released
-returns-clause-released c = let is : IsClosed c.word-tail.result c.word-exposed.result (view_of c.args.seat) =
+returns-clause-released c = let is : IsClosed _ _ c.word-tail.result c.word-exposed.result (view_of c.args.seat) =
     closes _ _ _ _ _ _ _ c.close_with-closed.ensures.values.2 c.requires.may c.word-tail.ensures c.word-exposed.ensures in
     c.new-2.ensures ∙ (is.released ∙ sym c.new.ensures)
+
+pub returns-clause-settled : goal.returns-clause-settled
+returns-clause-settled c = let is : IsClosed _ _ c.word-tail.result c.word-exposed.result (view_of c.args.seat) =
+    closes _ _ _ _ _ _ _ c.close_with-closed.ensures.values.2 c.requires.may c.word-tail.ensures c.word-exposed.ensures in
+    is.settled _ _ (c.args.self.rowed ∙ sym c.args.self.counted)
+    (subst (λ ring. ReadsRows ring (length c.args.self.rows.rows) (slots_items c.close_with-closed.result.words) c.args.self.rows.rows c.read_rows.new.rows.rows)
+    (sym c.args.self.keyed) c.read_rows.ensures.rows)

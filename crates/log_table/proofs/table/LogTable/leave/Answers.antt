@@ -4,7 +4,7 @@ use Rattle.log_table.proofs.Crewing.{leave-step}
 use Rattle.log_table.proofs.table.LogTable.leave.Goals as goal
 
 pub fetch_sub-requires : goal.fetch_sub-requires
-fetch_sub-requires c = (c.requires.seat.table_is, omega (arith, c.args.self.now.sized), leave-allowed _ _ _ _ c.requires.rests)
+fetch_sub-requires c = (c.requires.seat.table_is, omega (arith, c.args.self.now.sized), leave-allowed _ _ _ _ c.requires.may)
 
 pub returns-clause-event : goal.returns-clause-event
-returns-clause-event c = leave-step _ _ _ c.requires.rests
+returns-clause-event c = leave-step _ _ _ c.requires.may

@@ -1,13 +1,16 @@
-use Rattle.std.proofs.Common.{rules, ◌≤◌, ◌∙◌, set, subst, ap}
+use Rattle.std.proofs.Common.{rules, ◌≤◌, ◌∙◌, ◌*◌, ◌+◌, List, ℕ, replicate, length, subst, sym, ap}
 use Rattle.lsn_space.specs.declared.lsn.TheConstants.{LAST}
-use Rattle.log_table.specs.declared.layout.TheConstants.{TAIL, EXPOSED, DURABLE}
-use Rattle.log_table.proofs.Starting.{start-allowed}
+use Rattle.log_table.specs.declared.layout.TheConstants.{STRIDE, RING}
+use Rattle.log_table.specs.Opening.{PutsAccounts}
+use Rattle.log_table.proofs.Starting.{start-allowed, shared_words}
 use Rattle.log_table.proofs.table.LogTable.make.Goals as goal
 
 pub of_words-requires : goal.of_words-requires
 of_words-requires c =
     let fits : c.units-lsn.result ≤ LAST = search rules in
     let is = c.units-lsn.ensures in
+    let size = c.account_place.ensures ∙ ap (λ n. RING + c.args.start.ring + STRIDE * n) c.count-accounts.ensures in
     start-allowed c.args.start c.as_slice.result.now c.in-Ok.words.items c.requires.ring.0 c.requires.ring.1 (subst (λ n. n ≤ LAST) is fits)
-    (c.in-Ok.ensures.items_if_clones_equal (λ y e. e))
-    (c.as_slice.ensures.value ∙ ap (λ n. set (set (set c.in-Ok.words.items TAIL n) EXPOSED n) DURABLE n) is)
+    c.requires.accounts (c.in-Ok.ensures.items_if_clones_equal (λ y e. e) ∙ ap (λ n. replicate n 0) size)
+    (subst (λ (p : ℕ × List ℕ). PutsAccounts c.args.start (length c.args.start.accounts.rows) (shared_words c.in-Ok.words.items p.0) p.1)
+    (λ i. (is i, sym c.as_slice.ensures.value i)) c.put_accounts.ensures)

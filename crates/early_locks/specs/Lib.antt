@@ -1,0 +1,3 @@
+pub mod Locks
+pub mod Settled
+pub mod Transfers

@@ -1,0 +1,50 @@
+-- What a seat has taken, and what it may give back.
+use Rattle.std.specs.Prelude.{◌≡◌, ◌≢◌, ℕ, ◌+◌, ◌≤◌, MatchBool, true, false}
+use Rattle.slot_word.specs.declared.account_word.AccountWord.{AccountWord}
+use Rattle.slot_word.specs.AccountWord.{word_of}
+use Rattle.lock_core.specs.History.{end_from}
+use Rattle.lock_core.specs.Records.{gain, loss}
+use Rattle.lock_core.specs.Transactions.{recs_of, has_end}
+use Rattle.log_table.specs.declared.table.Seat.{Seat}
+use Rattle.log_table.specs.declared.view.Books.{Books}
+use Rattle.log_table.specs.declared.view.View.{View}
+use Rattle.log_table.specs.Accounts.{moved_if_committed, commit_in}
+use Rattle.log_table.specs.Books.{times_held, balance_taken, mark_taken, taking}
+use Rattle.log_table.specs.Seats.{Becomes, view_of}
+use Rattle.log_table.specs.Views.{saw_account, took_account}
+use Rattle.early_locks.specs.declared.taking.Taken.{Taken}
+use Rattle.early_locks.specs.declared.taking.Held.{Held}
+
+-- the seat loaded the free word of the account and took it with these values, in two steps
+pub record HasTaken (old new : Seat) (account : ℕ) (taken : Taken) : Type 0 where
+  pub account_is : taken.account ≡ account
+  pub word : AccountWord
+  pub free : word.held ≡ false
+  pub balance : taken.balance ≡ word.balance
+  pub mark : taken.mark ≡ word.mark
+  pub becomes : Becomes old new (took_account account (word_of word) (saw_account account (word_of word) (view_of old)))
+  pub books : (view_of new).books ≡ taking (record { account = account; balance = taken.balance; mark = taken.mark }) (view_of old).books
+
+-- The seat loaded the account's word; where that was held, it was found so, and else its exchange found another word. It made no other
+-- step.
+abbrev pub WasHeld : Seat → Seat → ℕ → Held → Type 0
+WasHeld old new account held = MatchBool held.loaded.held
+    ((held.found ≡ held.loaded) × Becomes old new (saw_account account (word_of held.loaded) (view_of old)))
+    ((held.found ≢ held.loaded)
+    × Becomes old new (saw_account account (word_of held.found) (saw_account account (word_of held.loaded) (view_of old))))
+
+-- the value is of an account that the seat holds
+pub record HoldsTaken (taken : Taken) (books : Books) : Type 0 where
+  pub has : 1 ≤ times_held taken.account books.held
+  pub balance : balance_taken books.held taken.account ≡ taken.balance
+  pub mark : mark_taken books.held taken.account ≡ taken.mark
+
+-- The values are those as taken with what the seat's last job made of them by its Commit; where it has no Commit, those as taken.
+pub record GivesBack (taken : Taken) (balance mark : ℕ) (books : Books) : Type 0 where
+  pub balance_is : balance + moved_if_committed loss taken.account books.placed ≡ taken.balance + moved_if_committed gain taken.account books.placed
+  pub mark_is : mark ≡ commit_in books.placed taken.account taken.mark
+
+-- the seat's last job has its end record, and the seat saw a durable LSN at or above its end
+pub record HasSeenDurable (view : View) : Type 0 where
+  pub ended : has_end (recs_of view.books.placed) ≡ true
+  pub durable : end_from 0 view.books.placed ≤ view.seen.durable

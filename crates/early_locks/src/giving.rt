@@ -1,0 +1,38 @@
+//! An account is given back.
+ghost use Rattle.std.specs.Prelude.{◌≡◌, ◌<◌, ◌^◌};
+ghost use Rattle.log_table.specs.May.{IsAtRest};
+ghost use Rattle.log_table.specs.Seats.{IsOf, Becomes, view_of};
+ghost use Rattle.log_table.specs.Views.{gave_account};
+ghost use Rattle.early_locks.specs.Locks.{HoldsTaken, GivesBack, HasSeenDurable};
+
+use crate::taking::Taken;
+use log_table::{LogTable, Seat};
+use slot_word::AccountWord;
+
+/// Gives the account back: where the seat's last job is committed, with the balance and last commit
+/// that it made, else as it was taken. The commit need not be durable.
+pub fn give(table: &LogTable, seat: &mut Seat, taken: Taken, balance: u32, mark: u32)
+    requires seat { IsOf table.now seat.old }
+    requires account { taken.account < table.now.accounts }
+    requires rests { IsAtRest (view_of seat.old) }
+    requires holds { HoldsTaken taken (view_of seat.old).books }
+    requires balance { balance < 2 ^ 31 }
+    requires values { GivesBack taken balance mark (view_of seat.old).books }
+    ensures { Becomes seat.old seat.new (gave_account taken.account (view_of seat.old)) }
+{
+    table.store_account(seat, taken.account, AccountWord::free(balance, mark));
+}
+
+/// Gives the account back once the seat has seen that the end record of its last job is on the disk.
+pub fn give_durable(table: &LogTable, seat: &mut Seat, taken: Taken, balance: u32, mark: u32)
+    requires seat { IsOf table.now seat.old }
+    requires account { taken.account < table.now.accounts }
+    requires rests { IsAtRest (view_of seat.old) }
+    requires holds { HoldsTaken taken (view_of seat.old).books }
+    requires balance { balance < 2 ^ 31 }
+    requires values { GivesBack taken balance mark (view_of seat.old).books }
+    requires durable { HasSeenDurable (view_of seat.old) }
+    ensures { Becomes seat.old seat.new (gave_account taken.account (view_of seat.old)) }
+{
+    give(table, seat, taken, balance, mark);
+}

@@ -1,0 +1,53 @@
+//! An account is taken.
+ghost use Rattle.std.specs.Prelude.{◌≡◌, ◌<◌, IfOk, IfErr};
+ghost use Rattle.log_table.specs.May.{IsAtRest, HasBegunNothing};
+ghost use Rattle.log_table.specs.Seats.{IsOf, view_of};
+ghost use Rattle.early_locks.specs.Locks.{HasTaken, HoldsTaken, WasHeld};
+
+use log_table::{LogTable, Seat};
+use slot_word::AccountWord;
+
+/// An account that the seat which got this value holds, with its balance and the end of its last
+/// commit as they were taken.
+#[derive(Drop)]
+pub struct Taken {
+    pub account: u32,
+    pub balance: u32,
+    pub mark: u32,
+}
+
+/// Why an account was not taken: another worker held it when it was loaded, and the two words are
+/// then the same, or its word had changed when it was exchanged.
+#[derive(Clone, Copy, Debug, PartialEq, Eq)]
+pub struct Held {
+    pub loaded: AccountWord,
+    pub found: AccountWord,
+}
+
+/// Takes the account, where no worker holds it.
+pub fn try_take(table: &LogTable, seat: &mut Seat, account: u32) -> Result<Taken, Held>
+    requires seat { IsOf table.now seat.old }
+    requires account { account < table.now.accounts }
+    requires rests { IsAtRest (view_of seat.old) }
+    requires begins { HasBegunNothing (view_of seat.old) }
+    ensures taken { IfOk result (HasTaken seat.old seat.new account) }
+    ensures holds { IfOk result (λ taken. HoldsTaken taken (view_of seat.new).books) }
+    ensures held { IfErr result (WasHeld seat.old seat.new account) }
+{
+    let loaded = table.load_account(seat, account);
+    if loaded.held() {
+        return Err(Held {
+            loaded,
+            found: loaded,
+        });
+    }
+    let (balance, mark) = (loaded.balance(), loaded.mark());
+    match table.exchange_account(seat, account, loaded, AccountWord::taken(balance, mark)) {
+        Ok(()) => Ok(Taken {
+            account,
+            balance,
+            mark,
+        }),
+        Err(found) => Err(Held { loaded, found }),
+    }
+}

@@ -1,0 +1,43 @@
+-- The account part of the rule over the views: a step leaves it that leaves its seat's books and the records of the log.
+use Rattle.std.proofs.Common.{◌≡◌, ℕ, ◌+◌, List, [], ◌∷◌, ◌++◌, map, set, sym, refl, ap, ◌∙◌, subst, arith}
+use Rattle.std.specs.List.{AllByRecursion}
+use mathlib.Core.Option.{some}
+use lib.ListN.{get_elem?}
+use Rattle.log_record.specs.declared.rec.Rec.{Rec}
+use Rattle.log_record.specs.declared.rec.Entry.{Entry as Placed}
+use Rattle.lock_core.specs.History.{end_from, entry_at, history_from}
+use Rattle.log_table.specs.declared.table.Start.{Start}
+use Rattle.log_table.specs.declared.view.View.{View}
+use Rattle.log_table.specs.Accounts.{KeepsAccounts}
+use Rattle.log_table.specs.Log.{Part, Laid, SpellsRecord, records_in}
+use Rattle.log_table.specs.Sound.{base_of, history_in, books_of}
+use Rattle.log_table.proofs.Bookings.{map-set_same}
+
+pub accounts-stay : (key : Start) (words : ℕ → ℕ) (parts : List Part) (views : List View) (me : ℕ) (v new : View) → get_elem? views me ≡ some v
+    → new.books ≡ v.books → KeepsAccounts (base_of key) words (history_in key parts) (map books_of views)
+    → KeepsAccounts (base_of key) words (history_in key parts) (map books_of (set views me new))
+accounts-stay key words parts views me v new at same =
+    subst (KeepsAccounts (base_of key) words (history_in key parts)) (sym (map-set_same books_of views me v new at same))
+
+-- the records of parts of which one changes, but not its record
+pub records-mid : (before behind : List Part) (old new : Part) → new.entry.rec ≡ old.entry.rec
+    → records_in (before ++ new ∷ behind) ≡ records_in (before ++ old ∷ behind)
+records-mid [] behind old new same = ap (λ rec. rec ∷ records_in behind) same
+records-mid (part ∷ before) behind old new same = ap (λ records. part.entry.rec ∷ records) (records-mid before behind old new same)
+
+pub records-push : (parts : List Part) (part : Part) → records_in (parts ++ part ∷ []) ≡ records_in parts ++ part.entry.rec ∷ []
+records-push [] part = refl
+records-push (p ∷ parts) part = ap (λ records. p.entry.rec ∷ records) (records-push parts part)
+
+pub history-push : (start : ℕ) (h : List Placed) (records : List Rec) (rec : Rec)
+    → history_from start h (records ++ rec ∷ []) ≡ entry_at (end_from start (history_from start h records)) rec ∷ history_from start h records
+history-push start h [] rec = refl
+history-push start h (r ∷ records) rec = history-push start (entry_at (end_from start h) r ∷ h) records rec
+
+-- the list ends where its last part does
+pub history-end : (start from to : ℕ) (h : List Placed) (parts : List Part) → end_from start h ≡ from → Laid from parts to
+    → AllByRecursion SpellsRecord parts → end_from start (history_from start h (records_in parts)) ≡ to
+history-end start from to h [] end laid spelled = end ∙ laid
+history-end start from to h (part ∷ parts) end laid spelled =
+    history-end start (from + part.entry.size) to (entry_at (end_from start h) part.entry.rec ∷ h) parts
+    (let size = spelled.0.size in omega (arith, end, size)) laid.2 spelled.1

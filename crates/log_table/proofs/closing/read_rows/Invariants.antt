@@ -1,0 +1,10 @@
+use Rattle.std.proofs.Common.{◌≡◌}
+use Rattle.std.specs.Slots.{slots_items}
+use Rattle.log_table.specs.Closing.{ReadsRows}
+use Rattle.log_table.proofs.closing.read_rows.Given as goal
+
+abbrev pub invariant-loop-account : goal.invariant-loop-account
+invariant-loop-account l = record {
+  room : l.rows.room ≡ l.initial.rows.room;
+  rows : ReadsRows l.ring l.account (slots_items l.closed.words) l.initial.rows.rows l.rows.rows;
+}

@@ -1,0 +1,14 @@
+use Rattle.std.proofs.Common.{rules, arith}
+use Rattle.log_table.proofs.Allowing.{exchange_account-allowed}
+use Rattle.log_table.proofs.Owing.{FitsWord}
+use Rattle.log_table.proofs.steps.accounts.exchange_account_as.Goals as goal
+
+pub compare_exchange-found-requires : goal.compare_exchange-found-requires
+compare_exchange-found-requires g c =
+    let from-fits : FitsWord c.args.from = search rules in
+    let to-fits : FitsWord c.args.to = search rules in (
+      c.requires.seat.table_is,
+      omega (arith, c.args.table.now.sized, c.account_place-place.ensures, c.requires.account),
+      exchange_account-allowed _ _ _ _ _ _ _ _ _ c.account_place-place.ensures c.args.table.now.keyed c.args.table.now.counted c.requires.account
+          c.requires.named _ _ _ _ c.pack.ensures c.pack-2.ensures from-fits to-fits c.requires.next,
+    )

@@ -1,0 +1,21 @@
+-- What a table starts with.
+use Rattle.std.specs.Prelude.{◌≡◌, ℕ, ◌<◌, ◌≤◌, false, List, length, slice_index}
+use Rattle.slot_word.specs.AccountWord.{packed}
+use Rattle.lock_core.specs.Settling.{row, AreRowsInRange}
+use Rattle.log_table.specs.declared.layout.TheConstants.{RING}
+use Rattle.log_table.specs.declared.table.Start.{Start}
+use Rattle.log_table.specs.Layout.{Account, index_of}
+
+-- 1 to 4096 accounts, with balances in their range and last commits that end at most where the log does
+pub record HasAccounts (key : Start) : Type 0 where
+  pub some_accounts : 1 ≤ length key.accounts.rows
+  pub few : length key.accounts.rows ≤ 4096
+  pub balances : AreRowsInRange key.accounts.rows
+  pub marks : (account : ℕ) → account < length key.accounts.rows → (row key.accounts.rows account).1 ≤ key.start
+
+-- the words of the first n accounts are free with their balances and last commits, and the words before the ring are as they were
+pub record PutsAccounts (key : Start) (n : ℕ) (old new : List ℕ) : Type 0 where
+  pub count : length new ≡ length old
+  pub others : (place : ℕ) → place < RING → slice_index new place ≡ slice_index old place
+  pub each : (account : ℕ) → account < n
+      → slice_index new (index_of key.ring (Account account)) ≡ packed false (row key.accounts.rows account).0 (row key.accounts.rows account).1

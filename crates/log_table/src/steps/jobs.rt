@@ -1,0 +1,36 @@
+//! A seat takes a job, and looks whether the log has stopped.
+ghost use Rattle.std.specs.Prelude.{◌≡◌, None};
+ghost use Rattle.log_table.specs.Events.{IsStep};
+ghost use Rattle.log_table.specs.Layout.{Stop};
+ghost use Rattle.log_table.specs.May.{MayTakeJob};
+ghost use Rattle.log_table.specs.Seats.{IsOf, Becomes, view_of, number_of, key_of};
+ghost use Rattle.log_table.specs.Views.{took_job};
+
+use crate::layout::STOP;
+use crate::plays::{TakeJob, Task};
+use crate::table::{LogTable, Seat};
+use std::marker::Brand;
+use txn_script::Job;
+
+/// The job and its number, which a step can't see, come by the type.
+fn take_job_as<N: Task>(table: &LogTable, seat: &mut Seat, number: u32, job: &Job) -> u64
+    requires seat { IsOf table.now seat.old }
+    requires may { MayTakeJob table.now.accounts number job.now (view_of seat.old) }
+    requires named { (N.number ≡ number) × (N.job ≡ job.now) }
+    ensures view { Becomes seat.old seat.new (took_job number job.now result (view_of seat.old)) }
+{
+    table.table.shared.load::<TakeJob<N>>(&mut seat.base, STOP)
+}
+
+impl LogTable {
+    /// Takes the job under this transaction number, and answers the stop word. An earlier job may be
+    /// left unfinished.
+    pub fn take_job(&self, seat: &mut Seat, number: u32, job: &Job) -> u64
+        requires seat { IsOf self.now seat.old }
+        requires may { MayTakeJob self.now.accounts number job.now (view_of seat.old) }
+        ensures view { Becomes seat.old seat.new (took_job number job.now result (view_of seat.old)) }
+        ensures event { IsStep (key_of self.now) (number_of seat.old) Stop result result (view_of seat.old) (took_job number job.now result (view_of seat.old)) None }
+    {
+        take_job_as::<Brand>(self, seat, number, job)
+    }
+}
