@@ -3,3 +3,5 @@ pub mod CompletenessLemmas
 pub mod CreationLemmas
 pub mod GenesisLemmas
 pub mod LawLemmas
+pub mod ServedLemmas
+pub mod WorkerLemmas

@@ -15,6 +15,7 @@ mod report;
 #[cfg(test)]
 mod tests;
 mod top;
+mod workers;
 
 use command::words_of;
 use faults::put_fault;
