@@ -1,5 +1,5 @@
 -- Workers of a run, before and after their work. Each has a number, from 0 on.
-use Rattle.std.specs.Prelude.{◌≡◌, ℕ, zero, suc, ◌<◌, ◌+◌, true, Bool, None, Some, List, [], ◌∷◌, Contains}
+use Rattle.std.specs.Prelude.{◌≡◌, ℕ, zero, suc, ◌<◌, true, List, [], ◌∷◌, Contains, MatchOption}
 use Rattle.log_table.specs.declared.table.LogTable.{LogTable}
 use Rattle.log_table.specs.declared.table.Seat.{Seat}
 use Rattle.log_table.specs.declared.table.Start.{Start}
@@ -13,6 +13,8 @@ use Rattle.txn_runner.specs.declared.cause.Worked.{Worked}
 use Rattle.txn_runner.specs.declared.jobs.Jobs.{Jobs}
 use Rattle.txn_runner.specs.Stripes.{stripe_jobs}
 use Rattle.txn_runner.specs.Working.{HasWorked, HasRoom, Works, rows_in, taken_in}
+use Rattle.aether_cli.specs.declared.serving.Started.{Started}
+use Rattle.aether_cli.specs.declared.serving.Started.TheVariants.{Running, Refused}
 use Rattle.aether_cli.specs.declared.workers.Worker.{Worker}
 
 -- the numbers below n, greatest first
@@ -58,3 +60,14 @@ pub record HasServed (table : LogTable) (jobs : Jobs) (number : ℕ) (worked : W
   pub jobs_are : (view_of worker.seat).books.jobs ≡ stripe_jobs jobs number (taken_in worker.rows)
   pub has : HasWorked jobs number (taken_in worker.rows) (view_of worker.seat)
   pub works : Works jobs number 0 (taken_in worker.rows) worked (view_of worker.seat)
+
+-- the worker of this number served, or is as it was hired
+abbrev pub ComesBack : LogTable → Jobs → ℕ → Worker → Type 0
+ComesBack table jobs number worker =
+    MatchOption worker.worked (IsHired table jobs number worker) (λ worked. HasServed table jobs number worked worker)
+
+-- the thread promises such a worker, or there is none and the worker is one
+abbrev pub IsStarted : LogTable → Jobs → ℕ → Started → Type 0
+IsStarted table jobs number (Running child) =
+    (child.promise.table.value ≡ table) × (child.promise.jobs.value ≡ jobs) × (child.promise.number ≡ number)
+IsStarted table jobs number (Refused worker) = ComesBack table jobs number worker

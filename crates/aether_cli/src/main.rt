@@ -12,6 +12,7 @@ mod new_command;
 mod pipeline_tests;
 mod recover_command;
 mod report;
+mod serving;
 #[cfg(test)]
 mod tests;
 mod top;

@@ -1,13 +1,10 @@
-//! Workers of a run: how each is made, and its whole life.
-ghost use Rattle.std.specs.Prelude.{◌≡◌, ◌+◌, ◌<◌, [], All, Some, None, IsSome, IfSome};
-ghost use Rattle.txn_script.specs.Script.{IsAllowedJob};
+//! Workers of a run, and how each is made.
+ghost use Rattle.std.specs.Prelude.{◌≡◌, ◌+◌, ◌<◌, [], None};
 ghost use Rattle.txn_runner.specs.Working.{HasRoom, rows_in, taken_in};
-ghost use Rattle.aether_cli.specs.Workers.{HasHired, IsHired, HasServed};
+ghost use Rattle.aether_cli.specs.Workers.{HasHired, IsHired};
 
-use log_disk::Gate;
 use log_table::{LogTable, Seat};
-use std::sync::Wait;
-use txn_runner::{Jobs, Relief, Rows, Worked, work};
+use txn_runner::{Jobs, Rows, Worked};
 
 /// A worker: its seat, its rows, and what its work came to, where it was done.
 #[derive(Drop)]
@@ -42,33 +39,5 @@ pub(crate) fn hire(
         seat,
         rows,
         worked: None,
-    }
-}
-
-/// A worker's whole life: its work, and its end.
-pub(crate) fn serve<R: Wait, Q: Relief, G: Gate>(
-    rt: &R,
-    table: &LogTable,
-    jobs: &Jobs,
-    worker: Worker,
-    relief: &mut Q,
-    wait: bool,
-    gate: &G,
-) -> Worker
-    requires hired { IsHired table.now jobs.now worker.seat.worker worker }
-    requires allowed { All (IsAllowedJob table.now.accounts) jobs.now.script }
-    requires relief { Q.ready relief.old }
-    ensures worked { IsSome result.worked }
-    ensures served { IfSome result.worked (λ worked. HasServed table.now jobs.now worker.seat.worker worked result) }
-    ensures relief { Q.ready relief.new }
-    ensures later { Q.later relief.old relief.new }
-{
-    let Worker { mut seat, mut rows, .. } = worker;
-    let worked = work(rt, table, &mut seat, jobs, &mut rows, relief, wait, gate);
-    table.leave(&mut seat);
-    Worker {
-        seat,
-        rows,
-        worked: Some(worked),
     }
 }

@@ -5,13 +5,13 @@ use Rattle.log_table.specs.Seats.{view_of}
 use Rattle.log_table.specs.Views.{retired}
 use Rattle.txn_runner.specs.Working.{HasWorked, Works, taken_in}
 use Rattle.aether_cli.proofs.ServedLemmas.{HasWorked-retired, Works-retired, jobs-from_none}
-use Rattle.aether_cli.proofs.workers.serve.Goals as goal
+use Rattle.aether_cli.proofs.serving.Run.serve.Goals as goal
 
 pub returns-clause-served : goal.returns-clause-served
 returns-clause-served g c =
     let hired = c.requires.hired in
     let did = c.work-worked.ensures in
-    let jobs = c.args.jobs.now in
+    let jobs = c.args.self.now.jobs.now in
     let number = c.args.worker.seat.worker in
     let taken = taken_in c.work-worked.new.rows in
     let view = view_of c.work-worked.new.seat in
