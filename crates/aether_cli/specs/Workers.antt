@@ -1,5 +1,5 @@
 -- Workers of a run, before and after their work. Each has a number, from 0 on.
-use Rattle.std.specs.Prelude.{◌≡◌, ℕ, zero, suc, ◌<◌, true, List, [], ◌∷◌, Contains, MatchOption}
+use Rattle.std.specs.Prelude.{◌≡◌, ℕ, zero, suc, ◌+◌, ◌<◌, true, List, [], ◌∷◌, Contains, None, MatchOption, IsSomeAnd}
 use Rattle.log_table.specs.declared.table.LogTable.{LogTable}
 use Rattle.log_table.specs.declared.table.Seat.{Seat}
 use Rattle.log_table.specs.declared.table.Start.{Start}
@@ -40,34 +40,53 @@ pub record HasHired (table : LogTable) (workers : ℕ) (boss : Seat) : Type 0 wh
   pub seat : IsOf table boss
   pub knows : KnowsHired (key_of table) workers (view_of boss)
 
--- the worker of this number is enrolled and has done nothing, and has room for its rows
-pub record IsHired (table : LogTable) (jobs : Jobs) (number : ℕ) (worker : Worker) : Type 0 where
+-- the worker is enrolled and has done nothing, and has room for its rows
+pub record IsHired (table : LogTable) (jobs : Jobs) (worker : Worker) : Type 0 where
   pub seat : IsOf table worker.seat
   pub ready : IsReady (view_of worker.seat)
-  pub number_is : worker.seat.worker ≡ number
-  pub below : number < jobs.workers
+  pub below : worker.seat.worker < jobs.workers
   pub entries : (view_of worker.seat).entries ≡ []
   pub books : (view_of worker.seat).books ≡ no_books
-  pub room : HasRoom jobs number worker.rows
+  pub room : HasRoom jobs worker.seat.worker worker.rows
   pub rows : rows_in worker.rows ≡ []
   pub taken : taken_in worker.rows ≡ 0
 
--- the worker of this number did its work, which came to this, and has ended
-pub record HasServed (table : LogTable) (jobs : Jobs) (number : ℕ) (worked : Worked) (worker : Worker) : Type 0 where
+-- the worker did its work, which came to this, and has ended
+pub record HasServed (table : LogTable) (jobs : Jobs) (worker : Worker) (worked : Worked) : Type 0 where
   pub seat : IsOf table worker.seat
   pub ended : (view_of worker.seat).standing.role ≡ Ended
-  pub number_is : worker.seat.worker ≡ number
-  pub jobs_are : (view_of worker.seat).books.jobs ≡ stripe_jobs jobs number (taken_in worker.rows)
-  pub has : HasWorked jobs number (taken_in worker.rows) (view_of worker.seat)
-  pub works : Works jobs number 0 (taken_in worker.rows) worked (view_of worker.seat)
+  pub jobs_are : (view_of worker.seat).books.jobs ≡ stripe_jobs jobs worker.seat.worker (taken_in worker.rows)
+  pub has : HasWorked jobs worker.seat.worker (taken_in worker.rows) (view_of worker.seat)
+  pub works : Works jobs worker.seat.worker 0 (taken_in worker.rows) worked (view_of worker.seat)
 
--- the worker of this number served, or is as it was hired
-abbrev pub ComesBack : LogTable → Jobs → ℕ → Worker → Type 0
-ComesBack table jobs number worker =
-    MatchOption worker.worked (IsHired table jobs number worker) (λ worked. HasServed table jobs number worked worker)
+-- it did not serve yet, and did
+abbrev pub IsUnused : LogTable → Jobs → Worker → Type 0
+IsUnused table jobs worker = (worker.worked ≡ None) × IsHired table jobs worker
 
--- the thread promises such a worker, or there is none and the worker is one
+abbrev pub IsDone : LogTable → Jobs → Worker → Type 0
+IsDone table jobs worker = IsSomeAnd worker.worked (HasServed table jobs worker)
+
+-- one of both
+abbrev pub ComesBack : LogTable → Jobs → Worker → Type 0
+ComesBack table jobs worker = MatchOption worker.worked (IsHired table jobs worker) (HasServed table jobs worker)
+
+-- the thread promises a worker of this number that comes back, or there is none and the worker is done
 abbrev pub IsStarted : LogTable → Jobs → ℕ → Started → Type 0
 IsStarted table jobs number (Running child) =
     (child.promise.table.value ≡ table) × (child.promise.jobs.value ≡ jobs) × (child.promise.number ≡ number)
-IsStarted table jobs number (Refused worker) = ComesBack table jobs number worker
+IsStarted table jobs number (Refused worker) = (worker.seat.worker ≡ number) × IsDone table jobs worker
+
+-- each element has this, by its number, the first by this one
+abbrev pub Numbered : {A : Type 0} → (ℕ → A → Type 0) → ℕ → List A → Type 0
+Numbered P number [] = Unit {0}
+Numbered P number (x ∷ xs) = P number x × Numbered P (number + 1) xs
+
+-- the workers have the numbers from 0 on; none was used yet; or each of them is done; or each of them was started
+abbrev pub AreUnused : LogTable → Jobs → ℕ → List Worker → Type 0
+AreUnused table jobs number workers = Numbered (λ n worker. (worker.seat.worker ≡ n) × IsUnused table jobs worker) number workers
+
+abbrev pub AreDone : LogTable → Jobs → ℕ → List Worker → Type 0
+AreDone table jobs number workers = Numbered (λ n worker. (worker.seat.worker ≡ n) × IsDone table jobs worker) number workers
+
+abbrev pub AreStarted : LogTable → Jobs → ℕ → List Started → Type 0
+AreStarted table jobs number started = Numbered (IsStarted table jobs) number started

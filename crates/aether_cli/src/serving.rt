@@ -1,8 +1,8 @@
 //! The life of a worker, in a thread of its own or not.
-ghost use Rattle.std.specs.Prelude.{◌≡◌, All, None, IsSome, IfSome};
+ghost use Rattle.std.specs.Prelude.{◌≡◌, All};
 ghost use Rattle.std.proofs.Props.{props};
 ghost use Rattle.txn_script.specs.Script.{IsAllowedJob};
-ghost use Rattle.aether_cli.specs.Workers.{IsHired, HasServed, ComesBack, IsStarted};
+ghost use Rattle.aether_cli.specs.Workers.{IsHired, IsUnused, IsDone, ComesBack, IsStarted};
 
 use crate::workers::Worker;
 use log_disk::Gate;
@@ -33,7 +33,7 @@ pub(crate) struct Comes {
 }
 
 impl Promise<Worker> for Comes {
-    ghost kept_by = { λ p worker. ComesBack p.table.value p.jobs.value p.number worker };
+    ghost kept_by = { λ p worker. (worker.seat.worker ≡ p.number) × ComesBack p.table.value p.jobs.value worker };
 }
 
 /// A worker in a thread of its own, or one that had none.
@@ -45,10 +45,10 @@ pub(crate) enum Started {
 impl<'a, R: Wait, G: Gate> Run<'a, R, G> {
     /// A worker's whole life: its work, and its end.
     pub(crate) fn serve<Q: Relief>(&self, worker: Worker, relief: &mut Q) -> Worker
-        requires hired { IsHired self.now.table.now self.now.jobs.now worker.seat.worker worker }
+        requires hired { IsHired self.now.table.now self.now.jobs.now worker }
         requires relief { Q.ready relief.old }
-        ensures worked { IsSome result.worked }
-        ensures served { IfSome result.worked (λ worked. HasServed self.now.table.now self.now.jobs.now worker.seat.worker worked result) }
+        ensures number { result.seat.worker ≡ worker.seat.worker }
+        ensures done { IsDone self.now.table.now self.now.jobs.now result }
         ensures relief { Q.ready relief.new }
         ensures later { Q.later relief.old relief.new }
     {
@@ -67,11 +67,11 @@ impl<'a, R: Wait, G: Gate> Run<'a, R, G> {
     }
 
     /// The worker once it served: here, with this relief, where it did not yet.
-    pub(crate) fn finish<Q: Relief>(&self, worker: Worker, number: u32, relief: &mut Q) -> Worker
-        requires comes { ComesBack self.now.table.now self.now.jobs.now number worker }
+    pub(crate) fn finish<Q: Relief>(&self, worker: Worker, relief: &mut Q) -> Worker
+        requires comes { ComesBack self.now.table.now self.now.jobs.now worker }
         requires relief { Q.ready relief.old }
-        ensures worked { IsSome result.worked }
-        ensures served { IfSome result.worked (λ worked. HasServed self.now.table.now self.now.jobs.now number worked result) }
+        ensures number { result.seat.worker ≡ worker.seat.worker }
+        ensures done { IsDone self.now.table.now self.now.jobs.now result }
         ensures relief { Q.ready relief.new }
         ensures later { Q.later relief.old relief.new }
     {
@@ -91,8 +91,7 @@ impl<'a, R: Wait + Sync, G: Gate + Sync> Run<'a, R, G> {
         worker: Worker,
         relief: &mut Q,
     ) -> Started
-        requires hired { IsHired self.now.table.now self.now.jobs.now worker.seat.worker worker }
-        requires unused { worker.worked ≡ None }
+        requires unused { IsUnused self.now.table.now self.now.jobs.now worker }
         requires relief { Q.ready relief.old }
         ensures started { IsStarted self.now.table.now self.now.jobs.now worker.seat.worker result }
         ensures relief { Q.ready relief.new }
@@ -115,9 +114,9 @@ impl<'a, R: Wait + Sync, G: Gate + Sync> Run<'a, R, G> {
             promise,
             move || -> Worker
                 requires allowed { All (IsAllowedJob table.now.accounts) jobs.now.script }
-                requires hired { IsHired table.now jobs.now worker.seat.worker worker }
-                requires unused { worker.worked ≡ None }
-                ensures { ComesBack table.entry.now jobs.entry.now worker.seat.worker result }
+                requires unused { IsUnused table.now jobs.now worker }
+                ensures number { result.seat.worker ≡ worker.seat.worker }
+                ensures comes { ComesBack table.entry.now jobs.entry.now result }
             {
                 // Set where no thread can be made, and this is called to have the worker back.
                 if refused.load(Ordering::SeqCst) {
@@ -137,7 +136,7 @@ impl<'a, R: Wait + Sync, G: Gate + Sync> Run<'a, R, G> {
             Err(start) => {
                 refused.store(true, Ordering::SeqCst);
                 let worker = (start.value)();
-                Started::Refused(self.finish(worker, number, relief))
+                Started::Refused(self.finish(worker, relief))
             }
         }
     }

@@ -1,7 +1,7 @@
 //! Workers of a run, and how each is made.
-ghost use Rattle.std.specs.Prelude.{◌≡◌, ◌+◌, ◌<◌, [], None};
+ghost use Rattle.std.specs.Prelude.{◌≡◌, ◌+◌, ◌<◌, []};
 ghost use Rattle.txn_runner.specs.Working.{HasRoom, rows_in, taken_in};
-ghost use Rattle.aether_cli.specs.Workers.{HasHired, IsHired};
+ghost use Rattle.aether_cli.specs.Workers.{HasHired, IsUnused};
 
 use log_table::{LogTable, Seat};
 use txn_runner::{Jobs, Rows, Worked};
@@ -28,8 +28,8 @@ pub(crate) fn hire(
     requires rows { rows_in rows ≡ [] }
     requires taken { taken_in rows ≡ 0 }
     ensures boss { HasHired table.now (number + 1) boss.new }
-    ensures hired { IsHired table.now jobs.now number result }
-    ensures unused { result.worked ≡ None }
+    ensures number { result.seat.worker ≡ number }
+    ensures unused { IsUnused table.now jobs.now result }
 {
     let mut seat = table.split(boss, number);
     table.enroll(&mut seat);

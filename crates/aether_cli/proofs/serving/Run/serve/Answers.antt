@@ -1,28 +1,24 @@
 use Rattle.std.proofs.Common.{rules, ◌≡◌, ◌∙◌, ap, sym, subst}
 use Rattle.log_table.specs.declared.view.Books.{Books}
-use Rattle.log_table.specs.declared.view.View.{View}
 use Rattle.log_table.specs.Seats.{view_of}
 use Rattle.log_table.specs.Views.{retired}
-use Rattle.txn_runner.specs.Working.{HasWorked, Works, taken_in}
-use Rattle.aether_cli.proofs.ServedLemmas.{HasWorked-retired, Works-retired, jobs-from_none}
+use Rattle.txn_runner.specs.Working.{taken_in}
+use Rattle.aether_cli.proofs.ServedLemmas.{HasDone, HasDone-left}
 use Rattle.aether_cli.proofs.serving.Run.serve.Goals as goal
 
-pub returns-clause-served : goal.returns-clause-served
-returns-clause-served g c =
+pub returns-clause-done : goal.returns-clause-done
+returns-clause-done g c =
     let hired = c.requires.hired in
     let did = c.work-worked.ensures in
     let jobs = c.args.self.now.jobs.now in
     let number = c.args.worker.seat.worker in
     let taken = taken_in c.work-worked.new.rows in
-    let view = view_of c.work-worked.new.seat in
-    let left : retired view ≡ view_of c.leave.new.seat = search rules in
-    let own_jobs = jobs-from_none jobs number _ taken _ view did.jobs hired.taken (ap (λ (books : Books). books.jobs) hired.books) in
-    record {
-      seat = search rules;
-      ended = search rules;
-      number_is = search rules;
-      jobs_are = ap (λ (v : View). v.books.jobs) (sym left) ∙ own_jobs;
-      has = subst (HasWorked jobs number taken) left (HasWorked-retired jobs number taken view did.worked);
-      works = subst (Works jobs number 0 taken c.work-worked.result) left
-          (Works-retired jobs number 0 taken c.work-worked.result view (subst (λ k. Works jobs number k taken c.work-worked.result view) hired.taken did.works));
-    }
+    let worked = c.work-worked.result in
+    let new = view_of c.work-worked.new.seat in
+    let none = ap (λ (books : Books). books.jobs) hired.books in
+    let left : view_of c.leave.new.seat ≡ retired new = search rules in
+    let same : c.leave.new.seat.worker ≡ number = search rules in
+    let done = HasDone-left jobs number _ taken worked (view_of c.args.worker.seat) new hired.taken none did.worked did.jobs did.works in
+    let all = subst (HasDone jobs number taken worked) (sym left) done in
+    let mine = subst (λ n. HasDone jobs n taken worked (view_of c.leave.new.seat)) (sym same) all in
+    record { seat = search rules; ended = search rules; jobs_are = mine.jobs_are; has = mine.has; works = mine.works }
