@@ -3,5 +3,6 @@ pub mod CompletenessLemmas
 pub mod CreationLemmas
 pub mod GenesisLemmas
 pub mod LawLemmas
+pub mod NumberedLemmas
 pub mod ServedLemmas
 pub mod WorkerLemmas

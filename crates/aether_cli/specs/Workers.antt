@@ -70,23 +70,37 @@ IsDone table jobs worker = IsSomeAnd worker.worked (HasServed table jobs worker)
 abbrev pub ComesBack : LogTable → Jobs → Worker → Type 0
 ComesBack table jobs worker = MatchOption worker.worked (IsHired table jobs worker) (HasServed table jobs worker)
 
--- the thread promises a worker of this number that comes back, or there is none and the worker is done
-abbrev pub IsStarted : LogTable → Jobs → ℕ → Started → Type 0
-IsStarted table jobs number (Running child) =
-    (child.promise.table.value ≡ table) × (child.promise.jobs.value ≡ jobs) × (child.promise.number ≡ number)
-IsStarted table jobs number (Refused worker) = (worker.seat.worker ≡ number) × IsDone table jobs worker
+-- the number of the worker that runs, or was done here
+abbrev pub number_of : Started → ℕ
+number_of (Running child) = child.promise.number
+number_of (Refused worker) = worker.seat.worker
+
+-- its thread promises a worker that comes back, or it has none and is done
+abbrev pub IsStarted : LogTable → Jobs → Started → Type 0
+IsStarted table jobs (Running child) = (child.promise.table.value ≡ table) × (child.promise.jobs.value ≡ jobs)
+IsStarted table jobs (Refused worker) = IsDone table jobs worker
 
 -- each element has this, by its number, the first by this one
 abbrev pub Numbered : {A : Type 0} → (ℕ → A → Type 0) → ℕ → List A → Type 0
 Numbered P number [] = Unit {0}
 Numbered P number (x ∷ xs) = P number x × Numbered P (number + 1) xs
 
--- the workers have the numbers from 0 on; none was used yet; or each of them is done; or each of them was started
-abbrev pub AreUnused : LogTable → Jobs → ℕ → List Worker → Type 0
-AreUnused table jobs number workers = Numbered (λ n worker. (worker.seat.worker ≡ n) × IsUnused table jobs worker) number workers
+-- the worker of this number is unused, or started, or done
+abbrev pub IsUnusedAs : LogTable → Jobs → ℕ → Worker → Type 0
+IsUnusedAs table jobs number worker = (worker.seat.worker ≡ number) × IsUnused table jobs worker
 
-abbrev pub AreDone : LogTable → Jobs → ℕ → List Worker → Type 0
-AreDone table jobs number workers = Numbered (λ n worker. (worker.seat.worker ≡ n) × IsDone table jobs worker) number workers
+abbrev pub IsStartedAs : LogTable → Jobs → ℕ → Started → Type 0
+IsStartedAs table jobs number started = (number_of started ≡ number) × IsStarted table jobs started
 
-abbrev pub AreStarted : LogTable → Jobs → ℕ → List Started → Type 0
-AreStarted table jobs number started = Numbered (IsStarted table jobs) number started
+abbrev pub IsDoneAs : LogTable → Jobs → ℕ → Worker → Type 0
+IsDoneAs table jobs number worker = (worker.seat.worker ≡ number) × IsDone table jobs worker
+
+-- all workers of a run
+abbrev pub AreUnused : LogTable → Jobs → List Worker → Type 0
+AreUnused table jobs workers = Numbered (IsUnusedAs table jobs) 0 workers
+
+abbrev pub AreStarted : LogTable → Jobs → List Started → Type 0
+AreStarted table jobs started = Numbered (IsStartedAs table jobs) 0 started
+
+abbrev pub AreDone : LogTable → Jobs → List Worker → Type 0
+AreDone table jobs workers = Numbered (IsDoneAs table jobs) 0 workers

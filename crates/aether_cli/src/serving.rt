@@ -1,8 +1,8 @@
 //! The life of a worker, in a thread of its own or not.
-ghost use Rattle.std.specs.Prelude.{◌≡◌, All};
+ghost use Rattle.std.specs.Prelude.{◌≡◌, ◌≤◌, [], All, length, vec_len, vec_capacity};
 ghost use Rattle.std.proofs.Props.{props};
 ghost use Rattle.txn_script.specs.Script.{IsAllowedJob};
-ghost use Rattle.aether_cli.specs.Workers.{IsHired, IsUnused, IsDone, ComesBack, IsStarted};
+ghost use Rattle.aether_cli.specs.Workers.{IsHired, IsUnused, IsDone, ComesBack, IsStarted, AreUnused, AreDone, AreStarted, number_of};
 
 use crate::workers::Worker;
 use log_disk::Gate;
@@ -10,7 +10,7 @@ use log_table::LogTable;
 use std::snapshot::Snapshot;
 use std::sync::Wait;
 use std::sync::atomic::{AtomicBool, Ordering};
-use std::thread::{Promise, PromisedHandle, Scope};
+use std::thread::{Promise, PromisedHandle, Scope, Threads};
 use txn_runner::{Jobs, Relief, YieldRelief, work};
 
 /// What all workers of a run share.
@@ -37,6 +37,7 @@ impl Promise<Worker> for Comes {
 }
 
 /// A worker in a thread of its own, or one that had none.
+#[derive(Drop)]
 pub(crate) enum Started {
     Running(PromisedHandle<Worker, Comes>),
     Refused(Worker),
@@ -82,10 +83,10 @@ impl<'a, R: Wait, G: Gate> Run<'a, R, G> {
     }
 }
 
-impl<'a, R: Wait + Sync, G: Gate + Sync> Run<'a, R, G> {
+impl<'a, R: Threads + Wait + Sync, G: Gate + Sync> Run<'a, R, G> {
     /// Starts a thread for the worker. Where none can be made, the worker is served here, with this relief.
-    pub(crate) fn start<E, Q: Relief>(
-        &'a self,
+    fn start<E, Q: Relief>(
+        &self,
         scope: &Scope<'a, E>,
         refused: &'a AtomicBool,
         worker: Worker,
@@ -93,7 +94,8 @@ impl<'a, R: Wait + Sync, G: Gate + Sync> Run<'a, R, G> {
     ) -> Started
         requires unused { IsUnused self.now.table.now self.now.jobs.now worker }
         requires relief { Q.ready relief.old }
-        ensures started { IsStarted self.now.table.now self.now.jobs.now worker.seat.worker result }
+        ensures number { number_of result ≡ worker.seat.worker }
+        ensures started { IsStarted self.now.table.now self.now.jobs.now result }
         ensures relief { Q.ready relief.new }
         ensures later { Q.later relief.old relief.new }
     {
@@ -139,5 +141,69 @@ impl<'a, R: Wait + Sync, G: Gate + Sync> Run<'a, R, G> {
                 Started::Refused(self.finish(worker, relief))
             }
         }
+    }
+
+    /// Starts all workers, in the order of their numbers.
+    pub(crate) fn start_all<E, Q: Relief>(
+        &self,
+        scope: &Scope<'a, E>,
+        refused: &'a [AtomicBool],
+        workers: Vec<Worker>,
+        mut started: Vec<Started>,
+        relief: &mut Q,
+    ) -> Vec<Started>
+        requires workers { AreUnused self.now.table.now self.now.jobs.now workers.items }
+        requires flags { vec_len workers ≤ length refused.now }
+        requires none { started.items ≡ [] }
+        requires room { vec_len workers ≤ vec_capacity started }
+        requires relief { Q.ready relief.old }
+        ensures started { AreStarted self.now.table.now self.now.jobs.now result.items }
+        ensures count { vec_len result ≡ vec_len workers }
+        ensures relief { Q.ready relief.new }
+        ensures later { Q.later relief.old relief.new }
+    {
+        for worker in workers {
+            let number = worker.seat.worker() as usize;
+            started.push_reserved(self.start(scope, &refused[number], worker, relief));
+        }
+        started
+    }
+
+    /// Waits for the worker, and answers it once it served. Where it comes back as it was hired it is served here, with this relief.
+    fn join<Q: Relief>(&self, started: Started, relief: &mut Q) -> Worker
+        requires started { IsStarted self.now.table.now self.now.jobs.now started }
+        requires relief { Q.ready relief.old }
+        ensures number { result.seat.worker ≡ number_of started }
+        ensures done { IsDone self.now.table.now self.now.jobs.now result }
+        ensures relief { Q.ready relief.new }
+        ensures later { Q.later relief.old relief.new }
+    {
+        let worker = match started {
+            Started::Running(child) => child.join(self.rt),
+            Started::Refused(worker) => worker,
+        };
+        self.finish(worker, relief)
+    }
+
+    /// Waits for all workers, and answers them in the order of their numbers.
+    pub(crate) fn join_all<Q: Relief>(
+        &self,
+        started: Vec<Started>,
+        mut back: Vec<Worker>,
+        relief: &mut Q,
+    ) -> Vec<Worker>
+        requires started { AreStarted self.now.table.now self.now.jobs.now started.items }
+        requires none { back.items ≡ [] }
+        requires room { vec_len started ≤ vec_capacity back }
+        requires relief { Q.ready relief.old }
+        ensures done { AreDone self.now.table.now self.now.jobs.now result.items }
+        ensures count { vec_len result ≡ vec_len started }
+        ensures relief { Q.ready relief.new }
+        ensures later { Q.later relief.old relief.new }
+    {
+        for one in started {
+            back.push_reserved(self.join(one, relief));
+        }
+        back
     }
 }
