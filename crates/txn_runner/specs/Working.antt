@@ -18,7 +18,7 @@ use Rattle.txn_runner.specs.declared.cause.Worked.TheVariants.{All, Cut}
 use Rattle.txn_runner.specs.declared.jobs.Jobs.{Jobs}
 use Rattle.txn_runner.specs.declared.rows.Row.{Row}
 use Rattle.txn_runner.specs.declared.rows.Rows.{Rows}
-use Rattle.txn_runner.specs.Running.{outcome_of}
+use Rattle.txn_runner.specs.Running.{outcome_of, LieInOrder}
 use Rattle.txn_runner.specs.Stripes.{place_of, number_at, job_at, stripe_jobs, IsOfStripe, HasStripe, IsStripeEnd}
 
 abbrev pub rows_in : Rows → List Row
@@ -34,15 +34,21 @@ taken_in rows = rows.taken
 abbrev pub HasRoom : Jobs → ℕ → Rows → Type 0
 HasRoom jobs worker rows = (k : ℕ) → HasStripe jobs worker k → length (rows_in rows) + k ≤ room_of rows + taken_in rows
 
--- The seat took the first k transfers of its stripe, after others with numbers below the first. Its records are of these, and lie
--- below the tail as it saw it last.
+-- The seat took the first k transfers of its stripe, after others with numbers below the first. Its records are of these, and lie one
+-- behind another below the tail as it saw it last.
 pub record HasWorked (jobs : Jobs) (worker k : ℕ) (view : View) : Type 0 where
   pub stripe : HasStripe jobs worker k
   pub earlier : List TakenJob
   pub taken : view.books.jobs ≡ stripe_jobs jobs worker k ++ earlier
   pub numbers : AllByRecursion (λ (taken : TakenJob). taken.number < jobs.first) earlier
   pub own : AllByRecursion (λ (entry : Entry). (txn_of entry.rec < jobs.first) ⊎ IsOfStripe jobs worker k (txn_of entry.rec)) view.entries
-  pub below : AllByRecursion (λ (entry : Entry). entry.start + entry.size ≤ view.seen.tail) view.entries
+  pub below : LieInOrder 0 view.seen.tail view.entries
+
+-- from k transfers of the stripe to n: the seat took just those, behind the jobs that it had
+pub record TakesJobs (jobs : Jobs) (worker k n : ℕ) (old new : View) : Type 0 where
+  pub earlier : List TakenJob
+  pub before : old.books.jobs ≡ stripe_jobs jobs worker k ++ earlier
+  pub after : new.books.jobs ≡ stripe_jobs jobs worker n ++ earlier
 
 -- there is an end record of this number among the entries
 pub record HasEnd (number : ℕ) (entries : List Entry) : Type 0 where
