@@ -7,6 +7,7 @@ mod job;
 mod jobs;
 mod relief;
 mod rows;
+mod stripes;
 mod worker;
 
 pub use cause::{Cause, Worked};
