@@ -4,6 +4,7 @@
 mod command;
 mod faults;
 mod finding;
+mod flushing_relief;
 mod genesis;
 mod input;
 mod laws;
