@@ -8,7 +8,9 @@ use Rattle.txn_script.specs.Script.{IsAllowedJob}
 use Rattle.log_table.specs.declared.view.TakenJob.{TakenJob}
 use Rattle.log_table.specs.Accounts.{IsAllowed}
 use Rattle.txn_runner.specs.declared.jobs.Jobs.{Jobs}
+use Rattle.txn_runner.specs.declared.rows.Rows.{Rows}
 use Rattle.txn_runner.specs.Stripes.{place_of, number_at, taken_at, stripe_jobs, HasStripe}
+use Rattle.txn_runner.specs.Working.{rows_in, room_of, taken_in, HasRoom}
 
 module _ (jobs : Jobs) (worker : ℕ) where
   -- numbers rise along a stripe
@@ -39,3 +41,11 @@ module _ (jobs : Jobs) (worker : ℕ) where
     number = (omega (arith, jobs.some), omega (arith, jobs.numbered));
     job = All-get_or (IsAllowedJob accounts) jobs.script (place_of jobs worker k) (record { legs = []; note = None }) within all;
   }
+
+  -- so room for a row of each transfer is enough for a stripe
+  pub HasStripe-few : (k : ℕ) → HasStripe jobs worker k → k ≤ length jobs.script
+  HasStripe-few zero stripe = omega arith
+  HasStripe-few (suc k) stripe = omega (arith, stripe-few k (stripe k (omega arith)))
+
+  pub HasRoom-none : (rows : Rows) → rows_in rows ≡ [] → taken_in rows ≡ 0 → length jobs.script ≤ room_of rows → HasRoom jobs worker rows
+  HasRoom-none rows empty none enough k stripe = omega (arith, HasStripe-few k stripe, ap length empty, none, enough)

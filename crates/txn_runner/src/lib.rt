@@ -8,6 +8,8 @@ mod jobs;
 mod relief;
 mod rows;
 mod stripes;
+#[cfg(test)]
+mod tests;
 mod worker;
 
 pub use cause::{Cause, Worked};
