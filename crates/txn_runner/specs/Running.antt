@@ -37,8 +37,8 @@ pub record HasInserted (number : ℕ) (job : Job) (rest : List Rec) (old new : V
   pub plan : records_of added ++ rest ≡ planned_records number (transfer_of job) marks balances
   pub jobs : new.books.jobs ≡ record { number = number; job = job } ∷ old.books.jobs
 
--- All its records were inserted, and the row tells how it ended, where its end record ends, and a durable LSN that the seat saw, which is
--- at or above that where the seat waited.
+-- All its records were inserted, and the row tells how it ended, where its end record ends, and the durable LSN that the seat saw last,
+-- which is at or above that where the seat waited.
 pub record HasRun (number : ℕ) (job : Job) (wait : Bool) (row : Row) (old new : View) : Type 0 where
   pub inserted : HasInserted number job [] old new
   pub txn : row.txn ≡ number
@@ -48,6 +48,7 @@ pub record HasRun (number : ℕ) (job : Job) (wait : Bool) (row : Row) (old new 
   pub last : inserted.added ≡ before ++ end ∷ []
   pub rec : end.rec ≡ end_record number (transfer_of job) (outcome_of row.answer)
   pub end_is : row.end ≡ end.start + end.size
+  pub above : old.seen.tail < row.end
   pub seen : row.seen ≡ new.seen.durable
   pub waited : wait ≡ true → row.end ≤ row.seen
 
