@@ -20,6 +20,7 @@ mod serving;
 #[cfg(test)]
 mod tests;
 mod top;
+mod transfers;
 mod workers;
 
 use command::words_of;
