@@ -8,6 +8,7 @@ mod dump_tests;
 mod faults;
 mod finding;
 mod flushing_relief;
+mod gathering;
 mod genesis;
 mod input;
 mod laws;
