@@ -20,8 +20,8 @@ use txn_script::parse;
 /// Where the log of two accounts ends.
 const GENESIS_END: u32 = 4;
 
-/// A note of 200 letters, the longest.
-const LONGEST: &str = "xxxxxxxxxxxxxxxxxxxxxxxxxxxxxxxxxxxxxxxxxxxxxxxxxxxxxxxxxxxxxxxxxxxxxxxxxxxxxxxxxxxxxxxxxxxxxxxxxxxxxxxxxxxxxxxxxxxxxxxxxxxxxxxxxxxxxxxxxxxxxxxxxxxxxxxxxxxxxxxxxxxxxxxxxxxxxxxxxxxxxxxxxxxxxxxx";
+/// The longest note.
+const NOTE: [u8; 200] = [b'x'; 200];
 
 /// A worker alone waits for nobody.
 #[derive(Drop)]
@@ -74,12 +74,12 @@ fn table_of<R: Abort>(
 }
 
 /// The transfers of the text, numbered from 1, for so many workers.
-fn jobs_of<R>(rt: &R, alloc: Global, text: &str, workers: u32) -> Result<Jobs, Fail>
+fn jobs_of<R>(rt: &R, alloc: Global, text: &[u8], workers: u32) -> Result<Jobs, Fail>
     requires workers { 1 ≤ workers }
     ensures allowed { IfOk result (λ jobs. All (IsAllowedJob 2) jobs.script) }
     ensures workers { IfOk result (λ jobs. jobs.workers ≡ workers) }
 {
-    let Ok(script) = parse(alloc, text.as_bytes(), 2) else {
+    let Ok(script) = parse(alloc, text, 2) else {
         return Err(Fail::new("no script"));
     };
     if script.count() > 1000 {
@@ -130,7 +130,7 @@ fn check_alone<R: Wait + Abort>(
     rt: &R,
     alloc: Global,
     balances: (u32, u32),
-    text: &str,
+    text: &[u8],
     wanted: &[(Answer, u32)],
     left: (u32, u32),
 ) -> Result<(), Fail> {
@@ -139,38 +139,149 @@ fn check_alone<R: Wait + Abort>(
     let (worked, rows, seat) = work_stripe(rt, alloc, &table, &mut boss, &jobs, 0)?;
     table.merge(&mut boss, seat);
     let closed = table.close(boss);
-    assert_eq!(rt; worked, Worked::All, "{text}");
-    assert_eq!(rt; rows.as_slice().len(), wanted.len(), "{text}");
+    assert_eq!(rt; worked, Worked::All, "{text:?}");
+    assert_eq!(rt; rows.as_slice().len(), wanted.len(), "{text:?}");
     for (row, (answer, end)) in rows.as_slice().iter().zip(wanted) {
-        assert_eq!(rt; (row.answer, row.end, row.seen), (*answer, Lsn::new(*end), Lsn::new(GENESIS_END)), "{text}");
+        assert_eq!(rt;
+            (row.answer, row.end, row.seen),
+            (*answer, Lsn::new(*end), Lsn::new(GENESIS_END)),
+            "{text:?}"
+        );
     }
     for (row, txn) in rows.as_slice().iter().zip(1u32..1000) {
-        assert_eq!(rt; row.txn, txn, "{text}");
+        assert_eq!(rt; row.txn, txn, "{text:?}");
     }
-    assert_eq!(rt; (closed.balance(0), closed.balance(1)), left, "{text}");
+    assert_eq!(rt; (closed.balance(0), closed.balance(1)), left, "{text:?}");
     Ok(())
 }
 
 #[test]
 fn a_worker_alone_makes_each_transfer(rt: HostRuntime) -> Result<(), Fail> {
-    let noted = format!(in rt.alloc(); "pay 0 1 30 : {LONGEST}")?;
-    let cases: [((u32, u32), &str, &[(Answer, u32)], (u32, u32)); 8] = [
-        ((100, 0), "pay 0 1 30\n", &[(Answer::Done, 9)], (70, 30)),
+    let mut noted = Vec::from_slice(rt.alloc(), b"pay 0 1 30 : ")?;
+    noted.extend_from_slice(&NOTE)?;
+    let cases: [((u32, u32), &[u8], &[(Answer, u32)], (u32, u32)); 8] = [
+        ((100, 0), b"pay 0 1 30\n", &[(Answer::Done, 9)], (70, 30)),
         (
             (100, 0),
-            "pay 0 1 30\n\npay 1 0 30\n",
+            b"pay 0 1 30\n\npay 1 0 30\n",
             &[(Answer::Done, 9), (Answer::Done, 14)],
             (100, 0),
         ),
-        ((100, 0), "pay 0 1 500\n", &[(Answer::Short(1), 5)], (100, 0)),
-        ((100, 0), "pay 0 1 60 1 0 200\n", &[(Answer::Short(2), 9)], (100, 0)),
-        ((100, 0), "pay 0 1 60 1 0 20\n", &[(Answer::Done, 13)], (60, 40)),
-        ((100, MOST_BALANCE), "pay 0 1 1\n", &[(Answer::Over(1), 5)], (100, MOST_BALANCE)),
-        ((100, 0), noted.as_str(), &[(Answer::Done, 35)], (70, 30)),
-        ((100, 0), "", &[], (100, 0)),
+        (
+            (100, 0),
+            b"pay 0 1 500\n",
+            &[(Answer::Short(1), 5)],
+            (100, 0),
+        ),
+        (
+            (100, 0),
+            b"pay 0 1 60 1 0 200\n",
+            &[(Answer::Short(2), 9)],
+            (100, 0),
+        ),
+        (
+            (100, 0),
+            b"pay 0 1 60 1 0 20\n",
+            &[(Answer::Done, 13)],
+            (60, 40),
+        ),
+        (
+            (100, MOST_BALANCE),
+            b"pay 0 1 1\n",
+            &[(Answer::Over(1), 5)],
+            (100, MOST_BALANCE),
+        ),
+        ((100, 0), noted.as_slice(), &[(Answer::Done, 35)], (70, 30)),
+        ((100, 0), b"", &[], (100, 0)),
     ];
     for (balances, text, wanted, left) in cases {
         check_alone(&rt, rt.alloc(), balances, text, wanted, left)?;
     }
+    Ok(())
+}
+
+/// The row of a transfer that ended while nothing was flushed.
+fn row(txn: u32, answer: Answer, end: u32) -> Row {
+    Row {
+        txn,
+        answer,
+        end: Lsn::new(end),
+        seen: Lsn::new(GENESIS_END),
+    }
+}
+
+#[test]
+fn two_workers_share_a_script(rt: HostRuntime) -> Result<(), Fail> {
+    let (table, mut boss) = table_of(&rt, rt.alloc(), (100, 0), GENESIS_END)?;
+    let jobs = jobs_of(&rt, rt.alloc(), b"pay 0 1 30\npay 0 1 80\npay 1 0 10\n", 2)?;
+    let (one, first, seat) = work_stripe(&rt, rt.alloc(), &table, &mut boss, &jobs, 0)?;
+    table.merge(&mut boss, seat);
+    let (two, second, seat) = work_stripe(&rt, rt.alloc(), &table, &mut boss, &jobs, 1)?;
+    table.merge(&mut boss, seat);
+    let closed = table.close(boss);
+    assert_eq!(rt; (one, two), (Worked::All, Worked::All));
+    let rows = [row(1, Answer::Done, 9), row(3, Answer::Done, 14)];
+    assert_eq!(rt; first.as_slice(), rows.as_slice());
+    let rows = [row(2, Answer::Done, 19)];
+    assert_eq!(rt; second.as_slice(), rows.as_slice());
+    assert_eq!(rt; (closed.balance(0), closed.balance(1)), (0, 100));
+    Ok(())
+}
+
+#[test]
+fn a_stopped_log_cuts_the_first_transfer_off(rt: HostRuntime) -> Result<(), Fail> {
+    let (table, mut boss) = table_of(&rt, rt.alloc(), (100, 0), GENESIS_END)?;
+    let jobs = jobs_of(&rt, rt.alloc(), b"pay 0 1 30\n", 1)?;
+    table.store_stop(&mut boss, 2);
+    let (worked, rows, _) = work_stripe(&rt, rt.alloc(), &table, &mut boss, &jobs, 0)?;
+    assert_eq!(rt; worked, Worked::Cut(Cause::Stop(2)));
+    assert_eq!(rt; rows.as_slice().len(), 0);
+    Ok(())
+}
+
+#[test]
+fn the_end_of_the_log_cuts_a_transfer_off(rt: HostRuntime) -> Result<(), Fail> {
+    let cases = [
+        (LAST, LAST, 2),
+        (LAST - 3, LAST - 1, 2),
+        (LAST - 4, LAST, 1),
+    ];
+    for (end, tail, total) in cases {
+        let (table, mut boss) = table_of(&rt, rt.alloc(), (100, 0), end)?;
+        let jobs = jobs_of(&rt, rt.alloc(), b"pay 0 1 30\npay 0 1 20\n", 1)?;
+        let (worked, rows, seat) = work_stripe(&rt, rt.alloc(), &table, &mut boss, &jobs, 0)?;
+        table.merge(&mut boss, seat);
+        let closed = table.close(boss);
+        let cause = Cause::LogEnd {
+            tail: Lsn::new(tail),
+            total,
+        };
+        assert_eq!(rt; worked, Worked::Cut(cause), "{end}");
+        assert_eq!(rt; rows.as_slice().len(), 0, "{end}");
+        assert_eq!(rt; (closed.balance(0), closed.balance(1)), (100, 0), "{end}");
+    }
+    Ok(())
+}
+
+/// Rests twice, through the bound.
+fn rest_twice<Q: Relief>(relief: &mut Q)
+    requires { Q.ready relief.old }
+    ensures { Q.later relief.old relief.new }
+{
+    relief.rest();
+    relief.rest();
+}
+
+#[test]
+fn a_relief_rests() {
+    rest_twice(&mut YieldRelief);
+}
+
+#[test]
+fn there_is_room_for_jobs_and_rows(rt: HostRuntime) -> Result<(), Fail> {
+    let jobs = jobs_of(&rt, rt.alloc(), b"pay 0 1 30\n\npay 1 0 5\n", 2)?;
+    assert_eq!(rt; jobs.count(), 2);
+    let rows = Rows::make(rt.alloc(), 1000)?;
+    assert_eq!(rt; rows.as_slice().len(), 0);
     Ok(())
 }
