@@ -3,6 +3,7 @@ pub mod Creation
 pub mod Ending
 pub mod FaultText
 pub mod Gathering
+pub mod Prepared
 pub mod Shares
 pub mod Transferred
 pub mod Workers

@@ -17,6 +17,7 @@ mod new_command;
 mod pipeline_tests;
 mod recover_command;
 mod report;
+mod room;
 mod scope;
 mod serving;
 #[cfg(test)]
