@@ -44,7 +44,7 @@ numbers-apart jobs worker other j k below below_too apart same = by_order (cases
         let next : k + 1 ≤ j = omega arith in let less = mul-le-mul_left jobs.workers next in absurd (omega (arith, less, same))
 
 -- what is known of a worker that is done
-served : (table : LogTable) (jobs : Jobs) (worker : Worker) → IsDone table jobs worker → HasServed table jobs worker (worked_of worker)
+pub served : (table : LogTable) (jobs : Jobs) (worker : Worker) → IsDone table jobs worker → HasServed table jobs worker (worked_of worker)
 served table jobs worker done = by_case worker.worked done
   where
     by_case : (worked : Option Worked) → IsSomeAnd worked (HasServed table jobs worker) → HasServed table jobs worker (unwrap_or worked All)

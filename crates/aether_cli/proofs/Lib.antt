@@ -1,6 +1,7 @@
 pub mod AnswerLemmas
 pub mod CompletenessLemmas
 pub mod CreationLemmas
+pub mod EndingLemmas
 pub mod GatheredShares
 pub mod GenesisLemmas
 pub mod LawLemmas
