@@ -3,7 +3,7 @@ use Rattle.std.proofs.Common.{◌≡◌, ◌⊎◌, inl, inr, refl, List, ℕ, O
 use Rattle.txn_script.specs.Balances.{IsBalancesText}
 use Rattle.txn_script.proofs.BalanceLemmas.{balances-or_bad}
 use Rattle.aether_cli.specs.declared.report.Detail.{Detail}
-use Rattle.aether_cli.specs.declared.report.Detail.TheVariants.{Fine, NoMemory, Usage, Script, Read, Write, Disk, NotALog, BadBatch, BadRec, Unlawful, Exists}
+use Rattle.aether_cli.specs.declared.report.Detail.TheVariants.{Fine, NoMemory, Usage, Script, Read, Write, Disk, NotALog, BadBatch, BadRec, Unlawful, LogEnd, TxnEnd, Exists}
 use Rattle.aether_cli.specs.Answers.{AnswersNew}
 use Rattle.aether_cli.specs.Creation.{TellsWhether}
 
@@ -27,3 +27,5 @@ new-complete (Some bytes) left_new old new opened R W D NotALog answers tells re
 new-complete (Some bytes) left_new old new opened R W D (BadBatch offset) answers tells reads writes disk closed = absurd answers
 new-complete (Some bytes) left_new old new opened R W D (BadRec lsn) answers tells reads writes disk closed = absurd answers
 new-complete (Some bytes) left_new old new opened R W D (Unlawful lsn why) answers tells reads writes disk closed = absurd answers
+new-complete (Some bytes) left_new old new opened R W D (LogEnd tail total) answers tells reads writes disk closed = absurd answers
+new-complete (Some bytes) left_new old new opened R W D (TxnEnd first count) answers tells reads writes disk closed = absurd answers

@@ -12,7 +12,7 @@ use Rattle.lsn_space.specs.Accounts.{Accounts}
 use Rattle.command_line.specs.CommandLine.{IsCommandLine}
 use Rattle.command_line.specs.declared.command.Command.TheVariants.{New}
 use Rattle.aether_cli.specs.declared.report.Detail.{Detail}
-use Rattle.aether_cli.specs.declared.report.Detail.TheVariants.{Fine, NoMemory, Usage, Script, Read, Write, Disk, NotALog, BadBatch, BadRec, Unlawful, Exists}
+use Rattle.aether_cli.specs.declared.report.Detail.TheVariants.{Fine, NoMemory, Usage, Script, Read, Write, Disk, NotALog, BadBatch, BadRec, Unlawful, LogEnd, TxnEnd, Exists}
 use Rattle.aether_cli.specs.Creation.{genesis_list}
 
 abbrev pub status_of : Detail → ℕ
@@ -27,6 +27,8 @@ status_of NotALog = 7
 status_of (BadBatch offset) = 7
 status_of (BadRec lsn) = 7
 status_of (Unlawful lsn why) = 7
+status_of (LogEnd tail total) = 8
+status_of (TxnEnd first count) = 9
 status_of Exists = 10
 
 -- the words ask `new`
@@ -38,6 +40,8 @@ abbrev pub IsOfRecover : Detail → Type 0
 IsOfRecover Usage = ⊥
 IsOfRecover (Script line) = ⊥
 IsOfRecover Disk = ⊥
+IsOfRecover (LogEnd tail total) = ⊥
+IsOfRecover (TxnEnd first count) = ⊥
 IsOfRecover Exists = ⊥
 IsOfRecover detail = Unit {0}
 
@@ -66,6 +70,8 @@ StaysSilent old new NotALog = Keeps old new
 StaysSilent old new (BadBatch offset) = Keeps old new
 StaysSilent old new (BadRec lsn) = Keeps old new
 StaysSilent old new (Unlawful lsn why) = Keeps old new
+StaysSilent old new (LogEnd tail total) = Keeps old new
+StaysSilent old new (TxnEnd first count) = Keeps old new
 
 -- what was read is all that was left
 abbrev pub ReadsAll : Option (List ℕ) → Option (List ℕ) → List ℕ → Type 0
@@ -99,6 +105,8 @@ AnswersRecover bytes left old new NoMemory = Unit {0}
 AnswersRecover bytes left old new Usage = ⊥
 AnswersRecover bytes left old new (Script line) = ⊥
 AnswersRecover bytes left old new Disk = ⊥
+AnswersRecover bytes left old new (LogEnd tail total) = ⊥
+AnswersRecover bytes left old new (TxnEnd first count) = ⊥
 AnswersRecover bytes left old new Exists = ⊥
 
 -- why the input of `new` gives no balances
@@ -135,3 +143,5 @@ AnswersNew bytes left old new NotALog = ⊥
 AnswersNew bytes left old new (BadBatch offset) = ⊥
 AnswersNew bytes left old new (BadRec lsn) = ⊥
 AnswersNew bytes left old new (Unlawful lsn why) = ⊥
+AnswersNew bytes left old new (LogEnd tail total) = ⊥
+AnswersNew bytes left old new (TxnEnd first count) = ⊥

@@ -1,4 +1,6 @@
 pub mod Answers
 pub mod Creation
 pub mod FaultText
+pub mod Opening
+pub mod Scripts
 pub mod Shares

@@ -8,10 +8,12 @@ mod genesis;
 mod input;
 mod laws;
 mod new_command;
+mod opening;
 #[cfg(test)]
 mod pipeline_tests;
 mod recover_command;
 mod report;
+mod script_input;
 #[cfg(test)]
 mod tests;
 mod top;
