@@ -3,4 +3,5 @@ pub mod CompletenessLemmas
 pub mod CreationLemmas
 pub mod GenesisLemmas
 pub mod LawLemmas
+pub mod OpenedAccounts
 pub mod OpeningLemmas
