@@ -1,4 +1,7 @@
 pub mod Answers
 pub mod Creation
 pub mod FaultText
+pub mod Run
+pub mod RunStops
 pub mod Shares
+pub mod Transferred
