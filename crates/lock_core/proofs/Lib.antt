@@ -16,6 +16,8 @@ pub mod Plainly
 pub mod Ranging
 pub mod Running
 pub mod SerialFronts
+pub mod SerialTasks
 pub mod SettlingLemmas
+pub mod SoundLemmas
 pub mod TakingLemmas
 pub mod Witnessing
