@@ -2,5 +2,8 @@ pub mod Answers
 pub mod Creation
 pub mod FaultText
 pub mod Opening
+pub mod Run
+pub mod RunStops
 pub mod Scripts
 pub mod Shares
+pub mod Transferred
