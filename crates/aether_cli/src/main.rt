@@ -2,6 +2,7 @@
 #![tactic(auto)]
 
 mod command;
+mod conclusion;
 mod faults;
 mod finding;
 mod genesis;
@@ -13,10 +14,12 @@ mod opening;
 mod pipeline_tests;
 mod recover_command;
 mod report;
+mod run_command;
 mod script_input;
 #[cfg(test)]
 mod tests;
 mod top;
+mod transfers;
 
 use command::words_of;
 use faults::put_fault;
