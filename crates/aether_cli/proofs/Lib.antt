@@ -5,3 +5,4 @@ pub mod GenesisLemmas
 pub mod LawLemmas
 pub mod OpenedAccounts
 pub mod OpeningLemmas
+pub mod ReadyLemmas
