@@ -9,6 +9,7 @@ pub mod KindLemmas
 pub mod LastCommits
 pub mod ListLemmas
 pub mod Meeting
+pub mod NextRecords
 pub mod OneMore
 pub mod OwnLemmas
 pub mod Pairing
