@@ -3,3 +3,6 @@ pub mod CompletenessLemmas
 pub mod CreationLemmas
 pub mod GenesisLemmas
 pub mod LawLemmas
+pub mod RunHistory
+pub mod RunRecords
+pub mod RunStripes
