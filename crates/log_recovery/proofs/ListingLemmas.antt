@@ -89,7 +89,7 @@ lists-whole units entries rest before empty = record {
   places = before.places;
 }
 
-spellable-history : (start : ℕ) (h : List Entry) (records : List Rec) → AllByRecursion (λ (entry : Entry). IsSpellable entry.rec) h
+pub spellable-history : (start : ℕ) (h : List Entry) (records : List Rec) → AllByRecursion (λ (entry : Entry). IsSpellable entry.rec) h
     → AllByRecursion IsSpellable records → AllByRecursion (λ (entry : Entry). IsSpellable entry.rec) (history_from start h records)
 spellable-history start h [] all each = all
 spellable-history start h (rec ∷ records) all each = spellable-history start (entry_at (end_from start h) rec ∷ h) records (each.0, all) each.1
