@@ -3,6 +3,9 @@ pub mod CompletenessLemmas
 pub mod CreationLemmas
 pub mod GenesisLemmas
 pub mod LawLemmas
+pub mod RunEnds
 pub mod RunHistory
+pub mod RunImages
+pub mod RunLedger
 pub mod RunRecords
 pub mod RunStripes
