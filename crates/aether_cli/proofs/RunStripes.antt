@@ -184,7 +184,7 @@ taken-has jobs worker (first ∷ shares) (suc i) j share at below =
 
 -- ---- all workers
 
-share-inside : (shares : List Share) (i : ℕ) (share : Share) → get_elem? shares i ≡ some share → i < length shares
+pub share-inside : (shares : List Share) (i : ℕ) (share : Share) → get_elem? shares i ≡ some share → i < length shares
 share-inside [] i share at = absurd (some-ne-none share (sym at))
 share-inside (first ∷ shares) zero share at = omega arith
 share-inside (first ∷ shares) (suc i) share at = let rest = share-inside shares i share at in omega arith
