@@ -7,5 +7,6 @@ pub mod RunEnds
 pub mod RunHistory
 pub mod RunImages
 pub mod RunLedger
+pub mod RunLemmas
 pub mod RunRecords
 pub mod RunStripes

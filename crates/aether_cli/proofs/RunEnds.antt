@@ -1,5 +1,5 @@
 -- Which transfers of a run ended, stripe by stripe. `later` is the history after the opened list.
-use Rattle.std.proofs.Common.{◌≡◌, ◌≢◌, ◌⊎◌, inl, inr, ⊎_elim, ◌<◌, ◌≤◌, ◌==◌, ℕ, zero, suc, ◌+◌, ◌*◌, Bool, true, false, List, [], ◌∷◌, ◌++◌, length, map, refl, ap, ◌∙◌, sym, subst, arith, Contains, append_assoc, length-append}
+use Rattle.std.proofs.Common.{◌≡◌, ◌≢◌, ◌⊎◌, inl, inr, ◌<◌, ◌≤◌, ℕ, zero, suc, ◌+◌, ◌*◌, true, List, [], ◌∷◌, ◌++◌, length, map, refl, ap, ◌∙◌, sym, subst, arith, Contains, append_assoc, length-append}
 use Rattle.std.specs.List.{AllByRecursion}
 use Rattle.std.proofs.Math.Nat.{mul-le-mul_left}
 use Rattle.std.proofs.lemmas.List.Elements.{All-contains, All-from_recursion}
@@ -10,14 +10,14 @@ use lib.ListN.{get_elem?}
 use Rattle.lsn_space.specs.Tiling.{IsTiling}
 use Rattle.log_record.specs.declared.rec.Rec.{Rec}
 use Rattle.log_record.specs.declared.rec.Entry.{Entry as Placed}
-use Rattle.log_record.specs.LogList.{units_of, end_of, IsBoundary}
+use Rattle.log_record.specs.LogList.{units_of, end_of}
 use Rattle.log_record.proofs.LogListLemmas.{front_is_boundary}
 use Rattle.lock_core.specs.Alone.{outcome_alone}
 use Rattle.lock_core.specs.History.{history}
 use Rattle.lock_core.specs.Records.{txn_of, without_prev}
 use Rattle.lock_core.specs.Serial.{Task, HasNoOthers}
 use Rattle.lock_core.specs.Sums.{greatest_txn}
-use Rattle.lock_core.specs.Transactions.{of_transaction, recs_of, records_of as own_records_of, has_end, all_without_prev, in_order}
+use Rattle.lock_core.specs.Transactions.{recs_of, records_of as own_records_of, has_end, all_without_prev, in_order}
 use Rattle.lock_core.proofs.Apart.{records_of-left, of_transaction-none, below-greatest}
 use Rattle.lock_core.proofs.NextRecords.{records_of-own, has_end-own, unended-next, planned-next, size-without_prev}
 use Rattle.log_recovery.proofs.ListingLemmas.{units_of-append}
@@ -26,18 +26,17 @@ use Rattle.log_table.specs.declared.view.View.{View}
 use Rattle.log_table.specs.Books.{task_of, transfer_of}
 use Rattle.log_table.specs.Closing.{records_of, IsGathered}
 use Rattle.log_table.specs.Log.{IsEntryBoundary}
-use Rattle.txn_runner.specs.declared.cause.Cause.{Cause}
 use Rattle.txn_runner.specs.declared.cause.Cause.TheVariants.{Stop, LogEnd}
 use Rattle.txn_runner.specs.declared.cause.Worked.{Worked}
 use Rattle.txn_runner.specs.declared.cause.Worked.TheVariants.{All, Cut}
 use Rattle.txn_runner.specs.declared.jobs.Jobs.{Jobs}
-use Rattle.txn_runner.specs.Stripes.{place_of, number_at, job_at, HasStripe, IsStripeEnd}
-use Rattle.txn_runner.specs.Working.{HasEnd, HaveEnded, own_records}
-use Rattle.aether_cli.specs.RunStops.{IsOfScript, EndsAs, IsWholeStripe, IsCutStripe, HasNextOf, StopsAtLogEnd}
-use Rattle.aether_cli.specs.Shares.{Share, all_taken, EndsLogAt, WasCutBy, CameTo, HasShare, HasGathered}
+use Rattle.txn_runner.specs.Stripes.{number_at, job_at, IsStripeEnd}
+use Rattle.txn_runner.specs.Working.{HasEnd, own_records}
+use Rattle.aether_cli.specs.RunStops.{IsOfScript, IsWholeStripe, IsCutStripe, HasNextOf, StopsAtLogEnd}
+use Rattle.aether_cli.specs.Shares.{Share, all_taken, EndsLogAt, CameTo, HasShare, HasGathered}
 use Rattle.aether_cli.proofs.RunHistory.{later_of, history-later}
 use Rattle.aether_cli.proofs.RunRecords.{tiling-end, boundary-front}
-use Rattle.aether_cli.proofs.RunStripes.{IsPlaced, placed, tasks_of, each-numbered, share-at, share-inside, not_taken}
+use Rattle.aether_cli.proofs.RunStripes.{placed, tasks_of, each-numbered, share-at, share-inside, not_taken}
 
 -- the record of an entry is among the records
 contains-record : (entries : List Entry) (entry : Entry) → Contains entries entry → Contains (records_of entries) entry.rec

@@ -1,6 +1,5 @@
 -- What a crash may leave of a run, and what was written, by the turns of the daemon.
-use Rattle.std.proofs.Common.{◌≡◌, ◌≢◌, ◌⊎◌, inl, inr, ⊎_elim, ◌<◌, ◌≤◌, ℕ, ◌+◌, ◌*◌, List, [], ◌∷◌, ◌++◌, length, Option, Some, None, refl, ap, ◌∙◌, sym, subst, arith, append_assoc, append-nil, length-append}
-use Rattle.std.specs.List.{AllByRecursion}
+use Rattle.std.proofs.Common.{◌≡◌, ◌⊎◌, inl, inr, ⊎_elim, ◌≤◌, ℕ, ◌+◌, ◌*◌, List, [], ◌++◌, length, Option, Some, None, refl, ap, ◌∙◌, sym, subst, arith, append_assoc, append-nil}
 use Rattle.std.specs.Io.KnownBytes.{Appends}
 use Rattle.std.proofs.KnownBytes.{Appends-nil}
 use Rattle.log_disk.specs.Disk.{Leaves}
@@ -10,9 +9,8 @@ use Rattle.log_disk.specs.declared.disk.LogDisk.{Ghosts}
 use Rattle.log_disk.specs.declared.sink.Sink.{Ghosts as SinkGhosts}
 use Rattle.log_record.specs.declared.rec.Rec.{Rec}
 use Rattle.log_record.specs.LogList.{units_of, end_of}
-use Rattle.log_record.specs.Spelling.{IsSpellable}
 use Rattle.segment_file.specs.File.{HoldsUnits}
-use Rattle.segment_file.specs.Standing.{AllStand, HoldsEither}
+use Rattle.segment_file.specs.Standing.{AllStand}
 use Rattle.segment_file.proofs.StandingLemmas.{holds}
 use Rattle.log_recovery.proofs.ListingLemmas.{units_of-append}
 use Rattle.log_table.specs.declared.view.View.{View}
@@ -23,9 +21,8 @@ use Rattle.commit_pipeline.specs.declared.daemon.DaemonFault.{DaemonFault}
 use Rattle.commit_pipeline.specs.declared.daemon.DaemonFault.TheVariants.{DiskFault, WriteFault}
 use Rattle.commit_pipeline.specs.declared.voice.Voice.{Voice}
 use Rattle.commit_pipeline.specs.EndLines.{text_of}
-use Rattle.commit_pipeline.specs.Later.{Later, Ran, HoldsFront, InFlight, extra}
+use Rattle.commit_pipeline.specs.Later.{Ran, HoldsFront, InFlight, extra}
 use Rattle.commit_pipeline.specs.Turning.{durable}
-use Rattle.commit_pipeline.specs.Telling.{TellsFront}
 use Rattle.commit_pipeline.proofs.LineLemmas.{text_of-append}
 use Rattle.commit_pipeline.proofs.RanLemmas.{none≢some}
 use Rattle.commit_pipeline.proofs.ToldLemmas.{text_of-none}
@@ -84,7 +81,7 @@ module _ {D : Type 0} {K : Type 0} (g : Ghosts D) (h : SinkGhosts K) (opened lis
   opening honest = subst (λ (units : List ℕ). AllStand old.flusher.tail units (g.images old.flusher.disk.now))
       (sym (ap (λ l. units_of opened ++ l) unsent ∙ append-nil (units_of opened))) (stand honest)
 
-  sends-still : RunSends g old.voice opened list old.flusher.disk.now old.flusher.disk.now (h.held_bytes old.sink.now) (h.held_bytes old.sink.now)
+  pub sends-still : RunSends g old.voice opened list old.flusher.disk.now old.flusher.disk.now (h.held_bytes old.sink.now) (h.held_bytes old.sink.now)
   sends-still = record {
     more = [];
     cut = [];
@@ -96,7 +93,7 @@ module _ {D : Type 0} {K : Type 0} (g : Ghosts D) (h : SinkGhosts K) (opened lis
     count = λ honest. omega arith;
   }
 
-  sent-still : RunSent g old.voice opened [] old.flusher.disk.now old.flusher.disk.now (h.held_bytes old.sink.now) (h.held_bytes old.sink.now)
+  pub sent-still : RunSent g old.voice opened [] old.flusher.disk.now old.flusher.disk.now (h.held_bytes old.sink.now) (h.held_bytes old.sink.now)
   sent-still = record {
     now = standing;
     text = subst (Appends (h.held_bytes old.sink.now) (h.held_bytes old.sink.now)) (text_of-none old.voice (end_of opened)) (Appends-nil (h.held_bytes old.sink.now));
@@ -104,10 +101,10 @@ module _ {D : Type 0} {K : Type 0} (g : Ghosts D) (h : SinkGhosts K) (opened lis
   }
 
   module _ (ran : Ran g h old new) where
-    sent-now : sent_of new.flusher ≡ units_of ran.more
+    pub sent-now : sent_of new.flusher ≡ units_of ran.more
     sent-now = ran.sent ∙ ap (λ l. l ++ units_of ran.more) unsent
 
-    read-now : (view_of new.flusher.seat).sending.read ≡ units_of ran.cut
+    pub read-now : (view_of new.flusher.seat).sending.read ≡ units_of ran.cut
     read-now = in_flight-read new.fault (view_of new.flusher.seat) ran.cut ran.in_flight
 
     torn-now : g.honest old.flusher.disk.now → (bytes : List ℕ) → g.images new.flusher.disk.now bytes
@@ -131,7 +128,7 @@ module _ {D : Type 0} {K : Type 0} (g : Ghosts D) (h : SinkGhosts K) (opened lis
         ∙ text_of-append old.voice (durable old) seen unseen ∙ ap (λ l. l ++ later) ran.front.lines ∙ append_assoc ran.text ran.front.unwritten later,
         ran.appended)
 
-    sends-ran : (rest : List Rec) → list ≡ (ran.more ++ ran.cut) ++ rest
+    pub sends-ran : (rest : List Rec) → list ≡ (ran.more ++ ran.cut) ++ rest
         → RunSends g old.voice opened list old.flusher.disk.now new.flusher.disk.now (h.held_bytes old.sink.now) (h.held_bytes new.sink.now)
     sends-ran rest splits = record {
       more = ran.more;
@@ -148,7 +145,7 @@ module _ {D : Type 0} {K : Type 0} (g : Ghosts D) (h : SinkGhosts K) (opened lis
       count = λ honest. let most = extra-few new.fault in let counted = ran.count honest in omega arith;
     }
 
-    sent-ran : new.fault ≡ None
+    pub sent-ran : new.fault ≡ None
         → RunSent g old.voice opened ran.more old.flusher.disk.now new.flusher.disk.now (h.held_bytes old.sink.now) (h.held_bytes new.sink.now)
     sent-ran fine =
         let none : ran.cut ≡ [] = (subst (λ fault. InFlight fault (view_of new.flusher.seat) ran.cut) fine ran.in_flight).0 in

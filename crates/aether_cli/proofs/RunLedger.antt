@@ -1,5 +1,5 @@
 -- What the gathered list is to the opened one: the table's base state is that of the opened list, so that its ledger goes on from it.
-use Rattle.std.proofs.Common.{◌≡◌, ◌≢◌, ◌⊎◌, ◌<◌, ◌≤◌, ℕ, ◌+◌, true, List, [], ◌∷◌, ◌++◌, length, map, Some, slice_get, slice_index_or, refl, ap, ◌∙◌, sym, subst, arith, Contains, append-nil}
+use Rattle.std.proofs.Common.{◌≡◌, ◌<◌, ◌≤◌, ℕ, true, List, [], ◌∷◌, ◌++◌, Some, refl, ap, ◌∙◌, sym, subst, arith}
 use Rattle.std.specs.List.{AllByRecursion}
 use Rattle.std.proofs.lemmas.List.{get_or_past}
 use Rattle.std.proofs.lemmas.Option.{get_or_from_slice_get}
@@ -9,10 +9,10 @@ use Rattle.log_record.specs.declared.rec.Rec.{Rec}
 use Rattle.log_record.specs.declared.rec.Entry.{Entry as Placed}
 use Rattle.log_record.specs.LogList.{end_of}
 use Rattle.log_record.specs.Spelling.{IsSpellable}
-use Rattle.lock_core.specs.History.{end_from, history_from, history}
-use Rattle.lock_core.specs.Lawful.{IsLawful, IsLawfulAfter, genesis_of, with_genesis, base_state_of}
+use Rattle.lock_core.specs.History.{end_from, history}
+use Rattle.lock_core.specs.Lawful.{IsLawful, IsLawfulAfter, genesis_of, base_state_of}
 use Rattle.lock_core.specs.Records.{txn_of}
-use Rattle.lock_core.specs.Serial.{Task, numbered, IsSerialAfter, IsPartlySerialAfter, IsSerial, IsPartlySerial}
+use Rattle.lock_core.specs.Serial.{Task, IsPartlySerialAfter}
 use Rattle.lock_core.specs.Settling.{row, KeepsRows}
 use Rattle.lock_core.specs.Soundness.{IsSoundAfter}
 use Rattle.lock_core.specs.Sums.{BaseState, ShowsAccounts, balance_of, last_commit_of, greatest_txn}
@@ -24,14 +24,11 @@ use Rattle.lock_core.proofs.ListLemmas.{all-append, all-split}
 use Rattle.lock_core.proofs.JudgingLemmas.{shows-kept}
 use Rattle.lock_core.proofs.Meeting.{met-log}
 use Rattle.lock_core.proofs.SerialFronts.{partly_serial-front, partly-serial, numbers-from, numbered-from}
-use Rattle.lock_core.proofs.SerialTasks.{partly_serial-more}
 use Rattle.lock_core.proofs.SoundLemmas.{sound-after, base_state-past}
 use Rattle.log_recovery.proofs.ListingLemmas.{spellable-history}
 use Rattle.log_recovery.proofs.TextLemmas.{rows_text-shown}
 use Rattle.log_recovery.specs.Text.{rows_text, accounts_text}
 use Rattle.log_table.specs.declared.table.Start.{Start}
-use Rattle.log_table.specs.Books.{transfer_of}
-use Rattle.log_table.specs.Closing.{IsLedger}
 use Rattle.log_table.specs.Sound.{base_of}
 use Rattle.txn_runner.specs.declared.jobs.Jobs.{Jobs}
 use Rattle.aether_cli.specs.Run.{transfers_of, GoesOn, RunsWhole}

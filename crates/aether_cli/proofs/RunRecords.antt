@@ -1,12 +1,11 @@
 -- Units and records of a run: where units are cut that are records, the records are cut, and the table's entries are records.
-use Rattle.std.proofs.Common.{◌≡◌, ◌<◌, ◌≤◌, ◌⊎◌, inl, inr, ⊎_elim, ℕ, ◌+◌, List, [], ◌∷◌, ◌++◌, length, refl, ap, ◌∙◌, sym, subst, arith, append_assoc, length-append}
+use Rattle.std.proofs.Common.{◌≡◌, ⊎_elim, ℕ, ◌+◌, List, [], ◌∷◌, ◌++◌, length, refl, ap, ◌∙◌, sym, arith, append_assoc, length-append}
 use Rattle.std.specs.List.{AllByRecursion}
 use Rattle.lsn_space.specs.Tiling.{IsTiling, IsBoundary}
 use Rattle.log_record.specs.declared.rec.Rec.{Rec}
-use Rattle.log_record.specs.LogList.{units_of, end_of, size_of, IsBoundary as IsListBoundary}
+use Rattle.log_record.specs.LogList.{units_of, end_of, size_of}
 use Rattle.log_record.specs.Spelling.{spelling, IsSpellable}
 use Rattle.log_record.proofs.SpellingLemmas.{spelling-append-injective}
-use Rattle.log_record.proofs.LogListLemmas.{front_is_boundary}
 use Rattle.log_table.specs.declared.view.Entry.{Entry}
 use Rattle.log_table.specs.Closing.{records_of}
 use Rattle.log_table.specs.Log.{IsFull, IsSpelled, units_in}
