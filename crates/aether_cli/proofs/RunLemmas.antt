@@ -32,7 +32,8 @@ use Rattle.flusher.specs.Flushing.{sent_of}
 use Rattle.commit_pipeline.specs.declared.daemon.Daemon.{Daemon}
 use Rattle.commit_pipeline.specs.EndLines.{text_of}
 use Rattle.commit_pipeline.specs.Later.{Later, HasReason}
-use Rattle.commit_pipeline.specs.Turning.{durable}
+use Rattle.commit_pipeline.specs.Turning.{IsSameDaemon, durable}
+use Rattle.commit_pipeline.proofs.RanLemmas.{Later-same, Later-reason}
 use Rattle.commit_pipeline.proofs.LineLemmas.{text_of-append}
 use Rattle.txn_runner.specs.declared.cause.Cause.TheVariants.{Stop, LogEnd}
 use Rattle.txn_runner.specs.declared.cause.Worked.TheVariants.{All, Cut}
@@ -99,11 +100,11 @@ module _ {D : Type 0} {K : Type 0} (g : Ghosts D) (h : SinkGhosts K) (opened : L
       omega (arith, start, none, known.log.start)
 
   start-view : view.constants.start ≡ end_of opened
-  start-view = ap (λ (c : Constants). c.start) (known.constants ∙ same known.later ∙ known.fresh.constants) ∙ known.log.start
+  start-view = ap (λ (c : Constants). c.start) (known.constants ∙ kept known.later ∙ known.fresh.constants) ∙ known.log.start
     where
-      same : Later g h old new → (view_of new.flusher.seat).constants ≡ (view_of old.flusher.seat).constants
-      same (inl is) = ap (λ (d : Daemon D K). (view_of d.flusher.seat).constants) is
-      same (inr ran) = ran.constants
+      kept : Later g h old new → (view_of new.flusher.seat).constants ≡ (view_of old.flusher.seat).constants
+      kept (inl is) = ap (λ (d : Daemon D K). (view_of d.flusher.seat).constants) is
+      kept (inr ran) = ran.constants
 
   sends : RunSends g old.voice opened list old.flusher.disk.now new.flusher.disk.now (h.held_bytes old.sink.now) (h.held_bytes new.sink.now)
   sends = by_later known.later
@@ -166,6 +167,14 @@ module _ {D : Type 0} {K : Type 0} (g : Ghosts D) (h : SinkGhosts K) (opened : L
         count = let long = length-append sends.more sends.cut in let counted = sends.count honest in omega arith;
       }
 
+  -- ---- what befell the daemon
+
+  pub reason : HasReason g h old new new.fault
+  reason = Later-reason g h old new known.later known.fresh.fine
+
+  pub same : IsSameDaemon g h old new
+  same = Later-same g h old new known.later
+
   -- ---- without a fault
 
   module _ (fine : new.fault ≡ None) where
@@ -210,11 +219,7 @@ module _ {D : Type 0} {K : Type 0} (g : Ghosts D) (h : SinkGhosts K) (opened : L
             omega (arith, tiles, start-view, sizes)
 
     stop-none : view.sending.stop ≡ 0
-    stop-none = ap (λ (s : Sending). s.stop) known.sending ∙ same known.later ∙ known.fresh.stop
-      where
-        same : Later g h old new → (view_of new.flusher.seat).sending.stop ≡ (view_of old.flusher.seat).sending.stop
-        same (inl is) = ap (λ (d : Daemon D K). (view_of d.flusher.seat).sending.stop) is
-        same (inr ran) = subst (HasReason g h old new) fine ran.reason
+    stop-none = ap (λ (s : Sending). s.stop) known.sending ∙ subst (HasReason g h old new) fine reason ∙ known.fresh.stop
 
     pub stops-at-end : (worker count tail total : ℕ) → get_elem? shares worker ≡ some (record { taken = count; worked = Cut (LogEnd tail total) })
         → StopsAtLogEnd opened jobs list tail total

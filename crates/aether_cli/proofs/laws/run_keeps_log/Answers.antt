@@ -1,4 +1,4 @@
-use Rattle.aether_cli.proofs.RunLemmas.{keeps, drained, whole, stops-at-end, never-stops}
+use Rattle.aether_cli.proofs.RunLemmas.{keeps, drained, whole, stops-at-end, never-stops, reason, same}
 use Rattle.aether_cli.proofs.laws.run_keeps_log.Goals as goal
 
 pub returns-clause-keeps : goal.returns-clause-keeps
@@ -15,3 +15,9 @@ returns-clause-log_end g c = stops-at-end g.D.LogDisk g.K.Sink
 
 pub returns-clause-stop : goal.returns-clause-stop
 returns-clause-stop g c = never-stops g.D.LogDisk g.K.Sink
+
+pub returns-clause-reason : goal.returns-clause-reason
+returns-clause-reason g c = reason g.D.LogDisk g.K.Sink
+
+pub returns-clause-same : goal.returns-clause-same
+returns-clause-same g c = same g.D.LogDisk g.K.Sink
