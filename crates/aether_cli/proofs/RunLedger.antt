@@ -25,14 +25,13 @@ use Rattle.lock_core.proofs.JudgingLemmas.{shows-kept}
 use Rattle.lock_core.proofs.Meeting.{met-log}
 use Rattle.lock_core.proofs.SerialFronts.{partly_serial-front, partly-serial, numbers-from, numbered-from}
 use Rattle.lock_core.proofs.SoundLemmas.{sound-after, base_state-past}
-use Rattle.log_recovery.proofs.ListingLemmas.{spellable-history}
 use Rattle.log_recovery.proofs.TextLemmas.{rows_text-shown}
 use Rattle.log_recovery.specs.Text.{rows_text, accounts_text}
 use Rattle.log_table.specs.declared.table.Start.{Start}
 use Rattle.log_table.specs.Sound.{base_of}
 use Rattle.txn_runner.specs.declared.jobs.Jobs.{Jobs}
 use Rattle.aether_cli.specs.Run.{transfers_of, GoesOn, RunsWhole}
-use Rattle.aether_cli.proofs.RunHistory.{later_of, history-later, later-append, end-opened}
+use Rattle.aether_cli.proofs.RunHistory.{later_of, history-later, later-append, end-opened, spellable-history}
 use Rattle.aether_cli.proofs.RunStripes.{tasks_of}
 
 -- ---- the base state

@@ -2,6 +2,9 @@
 #![tactic(auto)]
 
 mod command;
+mod dump_command;
+#[cfg(test)]
+mod dump_tests;
 mod faults;
 mod finding;
 mod genesis;

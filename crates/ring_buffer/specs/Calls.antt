@@ -1,5 +1,5 @@
 -- What a seat must be ready for, and what a call leaves it with.
-use Rattle.std.specs.Prelude.{◌≡◌, ℕ, ◌+◌, ◌<◌, ◌≤◌, false, List, [], ◌∷◌, ◌++◌, length}
+use Rattle.std.specs.Prelude.{◌≡◌, ℕ, ◌+◌, ◌<◌, ◌≤◌, false, List, [], ◌∷◌, ◌++◌, length, Contains}
 use Rattle.lsn_space.specs.declared.lsn.TheConstants.{LAST}
 use Rattle.log_table.specs.declared.table.Seat.{Seat}
 use Rattle.log_record.specs.declared.rec.Rec.{Rec}
@@ -84,6 +84,7 @@ pub record HasReserved (range : Range) (units : List ℕ) (view : View) : Type 0
 pub record PlacesNext (old new : View) (n : ℕ) (range : Range) : Type 0 where
   pub size : range.size ≡ n
   pub behind : old.seen.tail ≤ range.start
+  pub seen : range.start + n ≤ new.seen.tail
   pub call : new.call ≡ Filling (empty_entry range.start n (next_of old.books))
   pub entries : new.entries ≡ old.entries
   pub books : new.books ≡ placing (range.start + n) (next_of old.books) old.books
@@ -119,6 +120,7 @@ pub record IsSameWorker (old new : Seat) : Type 0 where
   pub standing : (view_of new).standing ≡ (view_of old).standing
   pub contended : (view_of new).contended ≡ (view_of old).contended
   pub grows : (view_of old).seen.tail ≤ (view_of new).seen.tail
+  pub durable : (view_of old).seen.durable ≤ (view_of new).seen.durable
   pub steps : (view_of old).seen.steps ≤ (view_of new).seen.steps
 
 -- the seat has nothing under way, these entries and these books
@@ -128,8 +130,9 @@ pub record HasEntries (old new : Seat) (entries : List Entry) (books : Books) : 
   pub entries_are : (view_of new).entries ≡ entries
   pub books_are : (view_of new).books ≡ books
 
--- the refusal is by what the seat looked at last, in this call
+-- the refusal is by what the seat looked at last, in this call; the tail that it names is an LSN that the seat saw
 pub record IsRefusedNow (old new : Seat) (ring n : ℕ) (refused : Refused) : Type 0 where
   pub refuses : Refuses ring (view_of new).seen.tail (view_of new).seen.durable n refused
   pub looked : HasLooked (view_of new).seen
   pub now : (view_of old).seen.steps < (view_of new).seen.tail_step
+  pub told : Contains (view_of new).seen.lsns (view_of new).seen.tail
