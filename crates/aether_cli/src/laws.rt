@@ -10,6 +10,8 @@ ghost use Rattle.log_table.specs.declared.table.Start.{Start};
 ghost use Rattle.log_table.specs.declared.view.View.{View};
 ghost use Rattle.log_table.specs.Closing.{records_of};
 ghost use Rattle.commit_pipeline.specs.declared.daemon.Daemon.{Daemon};
+ghost use Rattle.commit_pipeline.specs.Later.{HasReason};
+ghost use Rattle.commit_pipeline.specs.Turning.{IsSameDaemon};
 ghost use Rattle.txn_runner.specs.declared.jobs.Jobs.{Jobs};
 ghost use Rattle.txn_runner.specs.declared.cause.Cause.{Cause};
 ghost use Rattle.txn_runner.specs.declared.cause.Worked.{Worked};
@@ -36,7 +38,7 @@ pub fn new_is_recovered()
 
 /// A law: what is known of a run once all seats are gathered is what it promises. Of the records that it inserted, in order,
 /// each image holds a front behind the opened list, and all of them where the log was drained. A stop word that a worker
-/// read is the fault's.
+/// read is the fault's, and a fault has its reason.
 pub fn run_keeps_log<D: LogDisk, K: Sink>()
     ensures keeps { (opened : List Rec) (jobs : Jobs) (shares : List Share) (key : Start) (old new : Daemon D K) (view : View)
         (lsn : ℕ) (rows : List (ℕ × ℕ)) → HasTransferred D.LogDisk K.Sink opened jobs shares key old new view lsn rows
@@ -59,4 +61,10 @@ pub fn run_keeps_log<D: LogDisk, K: Sink>()
         (lsn : ℕ) (rows : List (ℕ × ℕ)) → HasTransferred D.LogDisk K.Sink opened jobs shares key old new view lsn rows
         → new.fault ≡ None
         → (worker taken word : ℕ) → get_elem? shares worker ≡ some (record { taken = taken; worked = Worked.Cut (Cause.Stop word) }) → ⊥ }
+    ensures reason { (opened : List Rec) (jobs : Jobs) (shares : List Share) (key : Start) (old new : Daemon D K) (view : View)
+        (lsn : ℕ) (rows : List (ℕ × ℕ)) → HasTransferred D.LogDisk K.Sink opened jobs shares key old new view lsn rows
+        → HasReason D.LogDisk K.Sink old new new.fault }
+    ensures same { (opened : List Rec) (jobs : Jobs) (shares : List Share) (key : Start) (old new : Daemon D K) (view : View)
+        (lsn : ℕ) (rows : List (ℕ × ℕ)) → HasTransferred D.LogDisk K.Sink opened jobs shares key old new view lsn rows
+        → IsSameDaemon D.LogDisk K.Sink old new }
 {}

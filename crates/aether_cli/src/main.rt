@@ -3,6 +3,9 @@
 
 mod command;
 mod conclusion;
+mod dump_command;
+#[cfg(test)]
+mod dump_tests;
 mod faults;
 mod finding;
 mod genesis;
