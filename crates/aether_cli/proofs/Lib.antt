@@ -1,11 +1,13 @@
 pub mod AnswerLemmas
 pub mod CompletenessLemmas
 pub mod CreationLemmas
+pub mod EndingLemmas
 pub mod GenesisLemmas
 pub mod LawLemmas
 pub mod OpenedAccounts
 pub mod OpeningLemmas
 pub mod ReadyLemmas
+pub mod RunAnswerLemmas
 pub mod RunEnds
 pub mod RunHistory
 pub mod RunImages
