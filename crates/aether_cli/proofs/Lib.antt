@@ -10,3 +10,4 @@ pub mod RunLedger
 pub mod RunLemmas
 pub mod RunRecords
 pub mod RunStripes
+pub mod RunWitness

@@ -3,5 +3,6 @@ pub mod Creation
 pub mod FaultText
 pub mod Run
 pub mod RunStops
+pub mod RunWitness
 pub mod Shares
 pub mod Transferred
