@@ -15,3 +15,4 @@ pub mod RunLedger
 pub mod RunLemmas
 pub mod RunRecords
 pub mod RunStripes
+pub mod RunWitness
