@@ -80,7 +80,7 @@ module _ {D : Type 0} {K : Type 0} (g : Ghosts D) (h : SinkGhosts K) (workers : 
       disk disk_new (λ bytes held. inr held)
       ((keeps-ended g h ready.prepared opened Lines disk disk_new sink sink_mid ended has).moments honest_mid))
 
-  ran : ((image : List ℕ) → g.images disk_new image → HoldsTold g opened jobs records old new image) → Ran g workers old new
+  abbrev ran : ((image : List ℕ) → g.images disk_new image → HoldsTold g opened jobs records old new image) → Ran g workers old new
   ran kept = record {
     opened = opened;
     held = is.held honest;
@@ -109,7 +109,7 @@ module _ {D : Type 0} {K : Type 0} (g : Ghosts D) (h : SinkGhosts K) (workers : 
     drained = drained-ended g h ready.prepared opened Lines disk disk_new sink sink_mid ended has fine
 
     -- else each image holds the whole list, of whose text a front was written
-    ran-drained : AppendsPrefix (h.held_bytes sink) (h.held_bytes sink_new) (run_text opened records) → Ran g workers old new
+    abbrev ran-drained : AppendsPrefix (h.held_bytes sink) (h.held_bytes sink_new) (run_text opened records) → Ran g workers old new
     ran-drained told = ran (λ image left_image.
         let count = is.count honest in
         let writes = drained.count honest_mid in
@@ -125,7 +125,7 @@ module _ {D : Type 0} {K : Type 0} (g : Ghosts D) (h : SinkGhosts K) (workers : 
           count = omega (arith, count, writes);
         })
 
-    out : (told : AppendsPrefix (h.held_bytes sink) (h.held_bytes sink_new) (run_text opened records)) → RanOut g workers old new
+    abbrev out : (told : AppendsPrefix (h.held_bytes sink) (h.held_bytes sink_new) (run_text opened records)) → RanOut g workers old new
     out told = record { ran = ran-drained told; all = drained.images honest_mid; goes_on = drained.goes_on }
 
     -- the accounts text is that of the whole list
