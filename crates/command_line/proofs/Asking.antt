@@ -13,6 +13,9 @@ use Rattle.command_line.proofs.OptionLemmas.{one-options}
 same-pair : {A B : Type 0} (p q : A × B) → Some p ≡ Some q → (p.0 ≡ q.0) × (p.1 ≡ q.1)
 same-pair p q same = let equal : p ≡ q = cc in (ap (λ r. r.0) equal, ap (λ r. r.1) equal)
 
+letter-at : (i : ℕ) (text other : List ℕ) → text ≡ other → get_or text i 0 ≡ get_or other i 0
+letter-at i text other same = ap (λ (l : List ℕ). get_or l i 0) same
+
 module _ (words : List (List ℕ)) where
   -- words name one subcommand, with the same matches
   one-name : (name other : List ℕ) (rows more : List Row) → NamesSubcommand words name rows → NamesSubcommand words other more
@@ -20,22 +23,22 @@ module _ (words : List (List ℕ)) where
   one-name name other rows more named also = same-pair (name, rows) (other, more) (sym named ∙ also)
 
   new-run : codes "new" ≡ codes "run" → ⊥
-  new-run same = let letter : 110 ≡ 114 = ap (λ l. get_or l 0 0) same in omega arith
+  new-run same = let letter = letter-at 0 _ _ same in omega arith
 
   new-recover : codes "new" ≡ codes "recover" → ⊥
-  new-recover same = let letter : 110 ≡ 114 = ap (λ l. get_or l 0 0) same in omega arith
+  new-recover same = let letter = letter-at 0 _ _ same in omega arith
 
   new-dump : codes "new" ≡ codes "dump" → ⊥
-  new-dump same = let letter : 110 ≡ 100 = ap (λ l. get_or l 0 0) same in omega arith
+  new-dump same = let letter = letter-at 0 _ _ same in omega arith
 
   run-recover : codes "run" ≡ codes "recover" → ⊥
-  run-recover same = let letter : 117 ≡ 101 = ap (λ l. get_or l 1 0) same in omega arith
+  run-recover same = let letter = letter-at 1 _ _ same in omega arith
 
   run-dump : codes "run" ≡ codes "dump" → ⊥
-  run-dump same = let letter : 114 ≡ 100 = ap (λ l. get_or l 0 0) same in omega arith
+  run-dump same = let letter = letter-at 0 _ _ same in omega arith
 
   recover-dump : codes "recover" ≡ codes "dump" → ⊥
-  recover-dump same = let letter : 114 ≡ 100 = ap (λ l. get_or l 0 0) same in omega arith
+  recover-dump same = let letter = letter-at 0 _ _ same in omega arith
 
   apart : {C : Type 0} (name other : List ℕ) (rows more : List Row) → (name ≡ other → ⊥) → NamesSubcommand words name rows
       → NamesSubcommand words other more → C

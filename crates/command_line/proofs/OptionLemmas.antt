@@ -1,5 +1,5 @@
 -- Numbers of options.
-use Rattle.std.proofs.Common.{◌≡◌, ◌↔◌, ◌<◌, ◌^◌, ◌∙◌, sym, refl, IsTrue, Bool, true, false, ℕ, List, Option, Some, None, codes, arith}
+use Rattle.std.proofs.Common.{◌≡◌, ◌↔◌, ◌<◌, ◌^◌, ◌∙◌, sym, refl, ap, is_some, unwrap_or, IsTrue, Bool, true, false, ℕ, List, Option, Some, None, codes, arith}
 use Rattle.std.proofs.lemmas.Fmt.{decimal_injective}
 use Rattle.clap.specs.Words.{Row, first_of}
 use Rattle.lsn_space.specs.Number.{number_text}
@@ -9,6 +9,13 @@ use Rattle.command_line.specs.declared.options.RunOptions.{RunOptions}
 pub one-number : (value : Option (List ℕ)) (default m n : ℕ) → m < 2 ^ 32 → n < 2 ^ 32 → IsNumberOf value default m → IsNumberOf value default n → m ≡ n
 one-number None default m n small_m small_n is also = is ∙ sym also
 one-number (Some text) default m n small_m small_n is also = decimal_injective m n (omega arith) (omega arith) (sym is ∙ also)
+
+-- a text behind an option is another
+pub flag-some : (result : Bool) (text word : List ℕ) → (IsTrue result ↔ (text ≡ word)) → IsTrue result ↔ (Some text ≡ Some word)
+flag-some result text word same = ((λ is. ap Some (same.0 is)), (λ equal. same.1 (ap (λ (o : Option (List ℕ)). unwrap_or o text) equal)))
+
+pub flag-none : (word : List ℕ) → IsTrue false ↔ (None ≡ Some word)
+flag-none word = ((λ is. cc), (λ equal. ap (λ (o : Option (List ℕ)). is_some o) equal))
 
 same-bool : (a b : Bool) → (IsTrue a ↔ IsTrue b) → a ≡ b
 same-bool true true both = refl

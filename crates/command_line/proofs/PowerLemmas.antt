@@ -1,11 +1,16 @@
 -- A number is a power of two where one of its binary digits is set.
-use Rattle.std.proofs.Common.{◌≡◌, ◌⊎◌, inl, inr, ◌≤◌, ℕ, zero, suc, ◌+◌, ◌*◌, ◌/◌, ◌%◌, ◌^◌, count_ones, arith, ap}
+use Rattle.std.proofs.Common.{◌≡◌, ◌⊎◌, inl, inr, refl, ◌<◌, ◌≤◌, ℕ, zero, suc, ◌+◌, ◌*◌, ◌/◌, ◌%◌, ◌^◌, count_ones, arith, ap}
 use Rattle.std.specs.Int.Count.{ones_step}
 use Rattle.std.proofs.lemmas.Nat.{ones_le_self, zero_from_ones}
 use Rattle.std.proofs.Math.Nat.{pow-suc}
 
+digit-is : (digit : ℕ) → digit < 2 → (digit ≡ 0) ⊎ (digit ≡ 1)
+digit-is zero small = inl refl
+digit-is (suc zero) small = inr refl
+digit-is (suc (suc digit)) small = absurd (omega arith)
+
 last-digit : (n : ℕ) → (n % 2 ≡ 0) ⊎ (n % 2 ≡ 1)
-last-digit n = omega arith
+last-digit n = digit-is (n % 2) (omega arith)
 
 power-of_digits : (digits n : ℕ) → n ≤ digits → count_ones n ≡ 1 → (k : ℕ) × (n ≡ 2 ^ k)
 power-of_digits zero n short one = absurd (omega (arith, ones_le_self n))

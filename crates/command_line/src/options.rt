@@ -1,4 +1,4 @@
-ghost use Rattle.std.specs.Prelude.{◌≡◌, ◌≤◌, ℕ, IfSome, IfNone};
+ghost use Rattle.std.specs.Prelude.{◌≡◌, ◌≤◌, ◌↔◌, ℕ, Some, IsTrue, IfSome, IfNone, codes};
 ghost use Rattle.clap.specs.Words.{found_of, rows_of, first_of};
 ghost use Rattle.command_line.specs.CommandLine.{AreOptions, HasNoOptions, IsNumberOf};
 
@@ -32,7 +32,7 @@ pub(crate) fn options_in(found: &ArgMatches<'_>) -> Option<RunOptions>
     if !ring.is_power_of_two() {
         return None;
     }
-    let wait = found.get_str("wait") == Some("true");
+    let wait = flag_in(found, "wait");
     Some(RunOptions {
         workers,
         ring,
@@ -59,5 +59,15 @@ fn number_in(
     match found.get_str(option) {
         Some(text) => number(text.as_bytes(), least, most),
         None => Some(default),
+    }
+}
+
+/// Whether the flag is given.
+fn flag_in(found: &ArgMatches<'_>, flag: &str) -> bool
+    ensures { IsTrue result ↔ (first_of flag.now (rows_of (found_of found.now)) ≡ Some (codes "true")) }
+{
+    match found.get_str(flag) {
+        Some(text) => text == "true",
+        None => false,
     }
 }

@@ -1,4 +1,4 @@
-use Rattle.std.proofs.Common.{rules, ◌≡◌, ◌∙◌, sym, ap, codes, count_ones, arith}
+use Rattle.std.proofs.Common.{rules, ◌≡◌, ◌∙◌, sym, ap, ℕ, codes, count_ones, arith}
 use Rattle.clap.specs.Words.{found_of, rows_of, first_of}
 use Rattle.command_line.proofs.OptionLemmas.{one-number}
 use Rattle.command_line.proofs.PowerLemmas.{power-one, one-power}
@@ -23,5 +23,5 @@ returns-clause-some c = record {
   workers = c.in_ok-workers.ensures.some;
   ring = c.in_ok-ring.ensures.some;
   slots = c.in_ok-slots.ensures.some;
-  wait = search rules;
+  wait = c.flag_in-wait.ensures;
 }
