@@ -44,13 +44,17 @@ module _ (words : List (List ℕ)) where
       → NamesSubcommand words other more → C
   apart name other rows more differ named also = absurd (differ (one-name name other rows more named also).0)
 
+  pub asks-options : (log other : List ℕ) (options more : RunOptions) → IsCommandLine words (Run log options) → IsCommandLine words (Run other more)
+      → options ≡ more
+  asks-options log other options more is also =
+      one-options also.1 options more (subst (λ r. AreOptions r options) (one-name _ _ is.1 also.1 is.2 also.2).1 is.4) also.4
+
   pub asks-one : (one other : Command) → IsCommandLine words one → IsCommandLine words other → one ≡ other
   asks-one (New log) (New other) is also =
       ap New (is.3 ∙ ap log_in (one-name _ _ is.1 also.1 is.2 also.2).1 ∙ sym also.3)
   asks-one (Run log options) (Run other more) is also =
       let rows = (one-name _ _ is.1 also.1 is.2 also.2).1 in
-      ap₂ Run (is.3 ∙ ap log_in rows ∙ sym also.3)
-      (one-options also.1 options more (subst (λ r. AreOptions r options) rows is.4) also.4)
+      ap₂ Run (is.3 ∙ ap log_in rows ∙ sym also.3) (asks-options log other options more is also)
   asks-one Recover Recover is also = refl
   asks-one Dump Dump is also = refl
   asks-one (New log) (Run other options) is also = apart _ _ is.1 also.1 new-run is.2 also.2
