@@ -2,8 +2,11 @@ pub mod AnswerLemmas
 pub mod CompletenessLemmas
 pub mod CreationLemmas
 pub mod EndingLemmas
+pub mod GatheredShares
 pub mod GenesisLemmas
 pub mod LawLemmas
+pub mod MergedEntries
+pub mod NumberedLemmas
 pub mod OpenedAccounts
 pub mod OpeningLemmas
 pub mod ReadyLemmas
@@ -16,3 +19,5 @@ pub mod RunLemmas
 pub mod RunRecords
 pub mod RunStripes
 pub mod RunWitness
+pub mod ServedLemmas
+pub mod WorkerLemmas

@@ -2,7 +2,9 @@ pub mod Answers
 pub mod Creation
 pub mod Ending
 pub mod FaultText
+pub mod Gathering
 pub mod Opening
+pub mod Prepared
 pub mod Run
 pub mod RunAnswers
 pub mod RunReady
@@ -11,3 +13,4 @@ pub mod RunWitness
 pub mod Scripts
 pub mod Shares
 pub mod Transferred
+pub mod Workers

@@ -12,6 +12,7 @@ use Rattle.aether_cli.specs.declared.report.Detail.{Detail}
 use Rattle.aether_cli.specs.declared.report.Detail.TheVariants.{Fine, Usage, Write, LogEnd, Exists}
 use Rattle.aether_cli.specs.declared.run_command.ReadyRun.{ReadyRun}
 use Rattle.aether_cli.specs.declared.transfers.Prepared.{Prepared}
+use Rattle.aether_cli.specs.Prepared.{IsPrepared}
 use Rattle.aether_cli.specs.RunAnswers.{AnswersRun, AreAsked, outside}
 use Rattle.aether_cli.specs.Transferred.{IsOpened}
 
@@ -22,6 +23,7 @@ pub record IsPreparedFor (workers : ℕ) (opened : Recovered) (script : List Job
   pub script_is : prepared.jobs.script ≡ script
   pub first : prepared.jobs.first ≡ opened.next_txn
   pub workers_are : prepared.jobs.workers ≡ workers
+  pub ready : IsPrepared prepared
 
 -- The transfers that are asked are ready to be made over the log that was opened. Each image of a moment is one of before or holds its list.
 pub record IsReadyFor {D : Type 0} (g : Ghosts D) (workers : ℕ) (old new : D) (left left_new : Option (List ℕ)) (ready : ReadyRun)
@@ -30,6 +32,7 @@ pub record IsReadyFor {D : Type 0} (g : Ghosts D) (workers : ℕ) (old new : D) 
   pub held : g.honest old → HoldsLawful (g.reads old) opened
   pub log : IsOpened g new ready.tail opened ready.prepared.jobs.first (key_of ready.prepared.table)
   pub asked : AreAsked workers opened left left_new ready.prepared.jobs
+  pub prepared : IsPrepared ready.prepared
   pub images : g.honest old → Leaves g.moment g.images_since (λ bytes. g.images old bytes ⊎ HoldsLawful bytes opened) old new
   pub count : g.honest old → g.written_count new ≤ g.written_count old + 3
 

@@ -8,6 +8,8 @@ mod dump_command;
 mod dump_tests;
 mod faults;
 mod finding;
+mod flushing_relief;
+mod gathering;
 mod genesis;
 mod input;
 mod laws;
@@ -17,12 +19,16 @@ mod opening;
 mod pipeline_tests;
 mod recover_command;
 mod report;
+mod room;
 mod run_command;
+mod scope;
 mod script_input;
+mod serving;
 #[cfg(test)]
 mod tests;
 mod top;
 mod transfers;
+mod workers;
 
 use command::words_of;
 use faults::put_fault;

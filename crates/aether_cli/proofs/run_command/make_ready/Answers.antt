@@ -40,6 +40,7 @@ returns-in-Ok-clause-ready g c =
           (λ honest. said.honest.1 (settled.honest.1 honest));
       asked = asked-prepared g.D.LogDisk _ _ _ opens _ _ prepared c.in_ok-prepared.ensures.prepared _ _ _ c.count.ensures
           c.in_ok-transfers.ensures.ok (search rules);
+      prepared = c.in_ok-prepared.ensures.prepared.ready;
       images = λ honest. leaves-settled g.D.LogDisk _ _ _ opens c.settle.new.disk (reads honest) (stood honest) (settled.count (said.honest.0 honest));
       count = λ honest. count-settled g.D.LogDisk _ _ _ opens c.settle.new.disk (reads honest) (stood honest) (settled.count (said.honest.0 honest));
     }
