@@ -3,3 +3,13 @@ pub mod CompletenessLemmas
 pub mod CreationLemmas
 pub mod GenesisLemmas
 pub mod LawLemmas
+pub mod OpenedAccounts
+pub mod OpeningLemmas
+pub mod ReadyLemmas
+pub mod RunEnds
+pub mod RunHistory
+pub mod RunImages
+pub mod RunLedger
+pub mod RunLemmas
+pub mod RunRecords
+pub mod RunStripes

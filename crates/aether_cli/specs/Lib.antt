@@ -1,3 +1,12 @@
 pub mod Answers
 pub mod Creation
+pub mod Ending
 pub mod FaultText
+pub mod Opening
+pub mod Run
+pub mod RunAnswers
+pub mod RunReady
+pub mod RunStops
+pub mod Scripts
+pub mod Shares
+pub mod Transferred

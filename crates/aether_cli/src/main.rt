@@ -2,6 +2,7 @@
 #![tactic(auto)]
 
 mod command;
+mod conclusion;
 mod dump_command;
 #[cfg(test)]
 mod dump_tests;
@@ -11,13 +12,17 @@ mod genesis;
 mod input;
 mod laws;
 mod new_command;
+mod opening;
 #[cfg(test)]
 mod pipeline_tests;
 mod recover_command;
 mod report;
+mod run_command;
+mod script_input;
 #[cfg(test)]
 mod tests;
 mod top;
+mod transfers;
 
 use command::words_of;
 use faults::put_fault;

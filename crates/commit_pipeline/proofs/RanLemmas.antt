@@ -217,3 +217,21 @@ pub Later-standing : {D : Type 0} {K : Type 0} (g : Ghosts D) (h : SinkGhosts K)
     → (view_of b.flusher.seat).standing ≡ (view_of a.flusher.seat).standing
 Later-standing g h a b (inl same) = ap (λ d. (view_of d.flusher.seat).standing) same
 Later-standing g h a b (inr ran) = ran.same.flusher.workers
+
+-- it is the same daemon, whose counts of faults never fall
+pub Later-same : {D : Type 0} {K : Type 0} (g : Ghosts D) (h : SinkGhosts K) (a b : Daemon D K) → Later g h a b → IsSameDaemon g h a b
+Later-same g h a b (inl same) = subst (IsSameDaemon g h a) (sym same) (record {
+  flusher = record { table = refl; workers = refl; disk = refl; honest = (λ honest. honest, λ honest. honest); later = omega arith };
+  sink = refl;
+  voice = refl;
+  disk_faults = omega arith;
+  sink_faults = omega arith;
+})
+Later-same g h a b (inr ran) = ran.same
+
+-- what befell it since nothing had, has its reason
+pub Later-reason : {D : Type 0} {K : Type 0} (g : Ghosts D) (h : SinkGhosts K) (a b : Daemon D K) → Later g h a b → a.fault ≡ None
+    → HasReason g h a b b.fault
+Later-reason g h a b (inl same) was_fine =
+    subst (λ d. HasReason g h a d d.fault) (sym same) (subst (HasReason g h a a) (sym was_fine) refl)
+Later-reason g h a b (inr ran) _ = ran.reason

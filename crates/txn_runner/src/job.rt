@@ -1,0 +1,43 @@
+//! One transfer, from its first account to its last.
+ghost use Rattle.std.specs.Prelude.{◌≡◌, [], IfOk, IfErr};
+ghost use Rattle.txn_script.specs.Script.{IsAllowedJob};
+ghost use Rattle.log_table.specs.May.{MayTakeJob};
+ghost use Rattle.log_table.specs.Seats.{IsOf, view_of};
+ghost use Rattle.ring_buffer.specs.Calls.{IsReady, IsSameWorker};
+ghost use Rattle.txn_runner.specs.Running.{HasRun, HasCut};
+
+use crate::cause::Cause;
+use crate::relief::Relief;
+use crate::rows::Row;
+use log_disk::Gate;
+use log_table::{LogTable, Seat};
+use std::sync::Wait;
+use txn_script::Job;
+
+/// Makes the transfer under this transaction number, and answers its row.
+pub(crate) fn run_job<R: Wait, Q: Relief, G: Gate>(
+    rt: &R,
+    table: &LogTable,
+    seat: &mut Seat,
+    number: u32,
+    job: &Job,
+    relief: &mut Q,
+    wait: bool,
+    gate: &G,
+) -> Result<Row, Cause>
+    requires seat { IsOf table.now seat.old }
+    requires ready { IsReady (view_of seat.old) }
+    requires may { MayTakeJob table.now.accounts number job.now (view_of seat.old) }
+    requires relief { Q.ready relief.old }
+    ensures seat { IsOf table.now seat.new }
+    ensures ready { IsReady (view_of seat.new) }
+    ensures none_held { (view_of seat.new).books.held ≡ [] }
+    ensures same { IsSameWorker seat.old seat.new }
+    ensures run { IfOk result (λ row. HasRun number job.now wait row (view_of seat.old) (view_of seat.new)) }
+    ensures cut { IfErr result (λ cause. HasCut number job.now cause (view_of seat.old) (view_of seat.new)) }
+    ensures relief { Q.ready relief.new }
+    ensures later { Q.later relief.old relief.new }
+{
+    for _ in rt.forever() {}
+    unreachable!()
+}
