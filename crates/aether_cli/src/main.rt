@@ -8,6 +8,7 @@ mod dump_command;
 mod dump_tests;
 mod faults;
 mod finding;
+mod flushing_relief;
 mod genesis;
 mod input;
 mod laws;

@@ -7,6 +7,9 @@ mod job;
 mod jobs;
 mod relief;
 mod rows;
+mod stripes;
+#[cfg(test)]
+mod tests;
 mod worker;
 
 pub use cause::{Cause, Worked};

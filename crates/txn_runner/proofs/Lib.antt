@@ -1,0 +1,6 @@
+pub mod EntryLemmas
+pub mod PlanLemmas
+pub mod ProgressLemmas
+pub mod RowLemmas
+pub mod StripeLemmas
+pub mod WorkLemmas
