@@ -1,3 +1,4 @@
+pub mod Accounts
 pub mod Running
 pub mod Stripes
 pub mod Working

@@ -2,11 +2,19 @@
 //! accounts, inserts the records, and gives the accounts back once the end record has its place in the log.
 #![tactic(auto)]
 
+mod accounts;
 mod cause;
+mod holding;
+mod inserting;
 mod job;
+#[cfg(test)]
+mod job_tests;
 mod jobs;
+mod legs;
+mod pausing;
 mod relief;
 mod rows;
+mod transfer;
 mod worker;
 
 pub use cause::{Cause, Worked};

@@ -1,0 +1,68 @@
+//! The records of a transfer, in order.
+use crate::cause::Cause;
+use crate::holding::Holding;
+use crate::inserting::insert_record;
+use crate::legs::make_legs;
+use crate::relief::Relief;
+use crate::rows::Answer;
+use log_disk::Gate;
+use log_record::{Rec, Text};
+use log_table::{LogTable, Seat};
+use lsn_space::Lsn;
+use std::sync::Wait;
+use txn_script::{Job, Remark};
+
+/// How a transfer ended, and where its end record does.
+#[derive(Clone, Copy, Debug)]
+pub(crate) struct Ended {
+    pub answer: Answer,
+    pub end: Lsn,
+}
+
+impl Ended {
+    /// Where its Commit ends, if it has one.
+    pub fn commit(&self) -> Option<Lsn> {
+        match self.answer {
+            Answer::Done => Some(self.end),
+            Answer::Short(_) | Answer::Over(_) => None,
+        }
+    }
+}
+
+/// Inserts the records of the transfer, whose accounts are held: its Note, if it has one, two Updates for each leg that is
+/// made, and its end record.
+pub(crate) fn insert_transfer<R: Wait, Q: Relief, G: Gate>(
+    rt: &R,
+    table: &LogTable,
+    seat: &mut Seat,
+    number: u32,
+    job: &Job,
+    holdings: &mut [Holding],
+    relief: &mut Q,
+    gate: &G,
+) -> Result<Ended, Cause> {
+    if let Some(remark) = &job.note {
+        insert_record(rt, table, seat, &note(number, remark), relief, gate)?;
+    }
+    let legs = job.legs.as_slice();
+    let answer = make_legs(rt, table, seat, number, legs, holdings, relief, gate)?;
+    let last = end_record(number, answer, legs.len() as u32);
+    let end = insert_record(rt, table, seat, &last, relief, gate)?;
+    Ok(Ended { answer, end })
+}
+
+fn note(number: u32, remark: &Remark) -> Rec {
+    Rec::Note {
+        txn: number,
+        text: Text::from_bytes(remark.as_slice()),
+    }
+}
+
+/// The end record of a transfer of so many legs.
+fn end_record(number: u32, answer: Answer, legs: u32) -> Rec {
+    match answer {
+        Answer::Done => Rec::Commit { txn: number, legs },
+        Answer::Short(leg) => Rec::Short { txn: number, leg },
+        Answer::Over(leg) => Rec::Over { txn: number, leg },
+    }
+}
