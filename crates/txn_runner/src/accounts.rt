@@ -1,7 +1,6 @@
 //! The accounts of a transfer, in the order in which every worker takes accounts.
-ghost use Rattle.std.specs.Prelude.{◌≡◌, ◌≤◌, ◌+◌, ◌<◌, All, ◌∷◌};
-ghost use Rattle.std.specs.List.{AllByRecursion};
-ghost use Rattle.std.specs.List.Sorted.{IsStrictlyIncreasing, IsPermutation};
+ghost use Rattle.std.specs.Prelude.{◌<◌, All};
+ghost use Rattle.std.specs.List.Sorted.{IsStrictlyIncreasing};
 ghost use Rattle.arrayvec.specs.ArrayVec.{array_vec_len};
 ghost use Rattle.txn_runner.specs.Accounts.{HasAccountsOf, IsAccountOf, AddsAccount};
 
@@ -11,7 +10,7 @@ use txn_script::Job;
 /// The accounts of the transfer in ascending order, none of them twice.
 pub(crate) fn accounts_of(job: &Job) -> ArrayVec<u32, 16>
     ensures rising { IsStrictlyIncreasing result.items }
-    ensures all { AllByRecursion (HasAccountsOf result.items) job.now.legs }
+    ensures all { All (HasAccountsOf result.items) job.now.legs }
     ensures only { All (IsAccountOf job.now.legs) result.items }
 {
     let mut accounts = ArrayVec::new();
