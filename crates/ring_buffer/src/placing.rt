@@ -15,6 +15,7 @@ pub fn look(table: &LogTable, seat: &mut Seat) -> Look
     ensures becomes { Becomes seat.old seat.new (looked result.tail result.durable (view_of seat.old)) }
     ensures last { IsLastLook result (view_of seat.new) }
     ensures grows { (view_of seat.old).seen.tail ≤ result.tail }
+    ensures durable { (view_of seat.old).seen.durable ≤ result.durable }
 {
     let tail = table.load_tail(seat);
     let durable = table.load_durable(seat);
