@@ -1,5 +1,5 @@
 -- What a seat must be ready for, and what a call leaves it with.
-use Rattle.std.specs.Prelude.{◌≡◌, ℕ, ◌+◌, ◌<◌, ◌≤◌, false, List, [], ◌∷◌, ◌++◌, length}
+use Rattle.std.specs.Prelude.{◌≡◌, ℕ, ◌+◌, ◌<◌, ◌≤◌, false, List, [], ◌∷◌, ◌++◌, length, Contains}
 use Rattle.lsn_space.specs.declared.lsn.TheConstants.{LAST}
 use Rattle.log_table.specs.declared.table.Seat.{Seat}
 use Rattle.log_record.specs.declared.rec.Rec.{Rec}
@@ -129,8 +129,9 @@ pub record HasEntries (old new : Seat) (entries : List Entry) (books : Books) : 
   pub entries_are : (view_of new).entries ≡ entries
   pub books_are : (view_of new).books ≡ books
 
--- the refusal is by what the seat looked at last, in this call
+-- the refusal is by what the seat looked at last, in this call; the tail that it names is an LSN that the seat saw
 pub record IsRefusedNow (old new : Seat) (ring n : ℕ) (refused : Refused) : Type 0 where
   pub refuses : Refuses ring (view_of new).seen.tail (view_of new).seen.durable n refused
   pub looked : HasLooked (view_of new).seen
   pub now : (view_of old).seen.steps < (view_of new).seen.tail_step
+  pub told : Contains (view_of new).seen.lsns (view_of new).seen.tail

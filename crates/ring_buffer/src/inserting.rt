@@ -32,6 +32,7 @@ pub fn insert_alone<R: Wait, G: Gate>(
     requires units { units.now ≡ spelling (next_of (view_of seat.old).books) }
     ensures inserted { IfOk result (λ at. HasEntries seat.old seat.new ((view_of seat.old).entries ++ entry_of at (next_of (view_of seat.old).books) ∷ []) (placing (at + length units.now) (next_of (view_of seat.old).books) (view_of seat.old).books)) }
     ensures behind { IfOk result (λ at. (view_of seat.old).seen.tail ≤ at) }
+    ensures seen { IfOk result (λ at. at + length units.now ≤ (view_of seat.new).seen.tail) }
     ensures kept { IfErr result (λ e. HasEntries seat.old seat.new (view_of seat.old).entries (view_of seat.old).books) }
     ensures refused { IfErr result (IsRefusedNow seat.old seat.new table.now.ring (length units.now)) }
 {

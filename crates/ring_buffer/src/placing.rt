@@ -1,5 +1,5 @@
 //! A range is looked for, and reserved.
-ghost use Rattle.std.specs.Prelude.{◌≡◌, ℕ, ◌+◌, ◌<◌, ◌≤◌, OnOk, IfOk, IfErr, IfSome, IfNone};
+ghost use Rattle.std.specs.Prelude.{◌≡◌, ℕ, ◌+◌, ◌<◌, ◌≤◌, Contains, OnOk, IfOk, IfErr, IfSome, IfNone};
 ghost use Rattle.log_table.specs.Seats.{IsOf, Becomes, view_of};
 ghost use Rattle.log_table.specs.Views.{saw_tail, reserved};
 ghost use Rattle.ring_buffer.specs.Calls.{IsReady, MayPlace, IsLastLook, HasRoom, Refuses, HasPlaced, HasLost, HasRefused, looked};
@@ -16,6 +16,7 @@ pub fn look(table: &LogTable, seat: &mut Seat) -> Look
     ensures last { IsLastLook result (view_of seat.new) }
     ensures grows { (view_of seat.old).seen.tail ≤ result.tail }
     ensures durable { (view_of seat.old).seen.durable ≤ result.durable }
+    ensures told { Contains (view_of seat.new).seen.lsns (view_of seat.new).seen.tail }
 {
     let tail = table.load_tail(seat);
     let durable = table.load_durable(seat);
