@@ -84,6 +84,7 @@ pub record HasReserved (range : Range) (units : List ℕ) (view : View) : Type 0
 pub record PlacesNext (old new : View) (n : ℕ) (range : Range) : Type 0 where
   pub size : range.size ≡ n
   pub behind : old.seen.tail ≤ range.start
+  pub seen : range.start + n ≤ new.seen.tail
   pub call : new.call ≡ Filling (empty_entry range.start n (next_of old.books))
   pub entries : new.entries ≡ old.entries
   pub books : new.books ≡ placing (range.start + n) (next_of old.books) old.books

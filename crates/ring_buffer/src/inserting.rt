@@ -1,5 +1,6 @@
 //! A whole insert.
 ghost use Rattle.std.specs.Prelude.{◌≡◌, ◌++◌, ◌∷◌, ◌+◌, ◌≤◌, [], length, IfOk, IfErr, OnOk};
+ghost use Rattle.lsn_space.specs.declared.lsn.TheConstants.{LAST};
 ghost use Rattle.log_record.specs.Spelling.{spelling};
 ghost use Rattle.log_table.specs.Books.{next_of, placing};
 ghost use Rattle.log_table.specs.Seats.{IsOf, view_of};
@@ -33,6 +34,7 @@ pub fn insert_alone<R: Wait, G: Gate>(
     ensures inserted { IfOk result (λ at. HasEntries seat.old seat.new ((view_of seat.old).entries ++ entry_of at (next_of (view_of seat.old).books) ∷ []) (placing (at + length units.now) (next_of (view_of seat.old).books) (view_of seat.old).books)) }
     ensures behind { IfOk result (λ at. (view_of seat.old).seen.tail ≤ at) }
     ensures seen { IfOk result (λ at. at + length units.now ≤ (view_of seat.new).seen.tail) }
+    ensures fits { IfOk result (λ at. at + length units.now ≤ LAST) }
     ensures kept { IfErr result (λ e. HasEntries seat.old seat.new (view_of seat.old).entries (view_of seat.old).books) }
     ensures refused { IfErr result (IsRefusedNow seat.old seat.new table.now.ring (length units.now)) }
 {
