@@ -1,6 +1,6 @@
 //! The accounts that a transfer holds, from before its first record until its end record has its place in the log.
 use crate::cause::Cause;
-use crate::pausing::pause;
+use crate::waiting::pause;
 use crate::relief::Relief;
 use arrayvec::ArrayVec;
 use early_locks::{Taken, give, give_durable, try_take};

@@ -1,6 +1,6 @@
 //! One record of a transfer is inserted.
 use crate::cause::Cause;
-use crate::pausing::pause;
+use crate::waiting::pause;
 use crate::relief::Relief;
 use log_disk::Gate;
 use log_record::{Rec, spell};

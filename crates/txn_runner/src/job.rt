@@ -9,7 +9,7 @@ ghost use Rattle.txn_runner.specs.Running.{HasRun, HasCut};
 use crate::accounts::accounts_of;
 use crate::cause::Cause;
 use crate::holding::{give_all, take_all};
-use crate::pausing::see_durable;
+use crate::waiting::see_durable;
 use crate::relief::Relief;
 use crate::rows::Row;
 use crate::transfer::insert_transfer;

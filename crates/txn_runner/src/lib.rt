@@ -11,10 +11,10 @@ mod job;
 mod job_tests;
 mod jobs;
 mod legs;
-mod pausing;
 mod relief;
 mod rows;
 mod transfer;
+mod waiting;
 mod worker;
 
 pub use cause::{Cause, Worked};
