@@ -1,3 +1,4 @@
+pub mod Held
 pub mod Listing
 pub mod Putting
 pub mod Staying

@@ -48,11 +48,3 @@ puts rec n at end old between new may size ends before after behind seen = recor
   where
     next : next_of (view_of between).books ≡ rec
     next = ap next_of before.books_are ∙ next-is rec (view_of old).books may.next
-
--- the log has no room for the record
-pub ends-log : (rec : Rec) (ring n : ℕ) (refused : Refused) (cause : Cause) (view : View) → n ≡ size_of rec → Refuses ring view.seen.tail view.seen.durable n refused
-    → Contains view.seen.lsns view.seen.tail → IsLogEnd refused cause → StopsFor cause (rec ∷ []) view
-ends-log rec ring n refused (Stop word) view size refuses told ends = absurd ends
-ends-log rec ring n refused (LogEnd tail total) view size refuses told ends =
-    let why = subst (Refuses ring view.seen.tail view.seen.durable n) ends refuses in
-    (why.1 ∙ size, omega (arith, why.0, why.1, why.2), why.0, subst (Contains view.seen.lsns) (sym why.0) told)

@@ -8,10 +8,11 @@ ghost use Rattle.txn_runner.specs.Running.{HasRun, HasCut};
 
 use crate::accounts::accounts_of;
 use crate::cause::Cause;
-use crate::holding::{give_all, take_all};
+use crate::giving::{Release, give_all};
 use crate::waiting::see_durable;
 use crate::relief::Relief;
 use crate::rows::Row;
+use crate::taking::take_all;
 use crate::transfer::insert_transfer;
 use log_disk::{Gate, Place};
 use log_table::{LogTable, Seat};
@@ -53,12 +54,12 @@ pub(crate) fn run_job<R: Wait, Q: Relief, G: Gate>(
     let ended = match insert_transfer(rt, table, seat, number, job, held, relief, gate) {
         Ok(ended) => ended,
         Err(cause) => {
-            give_all(table, seat, holdings, None, false);
+            give_all(table, seat, holdings, Release::Unchanged, false);
             return Err(cause);
         }
     };
     let seen = see_durable(rt, table, seat, ended.end, relief, wait);
-    give_all(table, seat, holdings, ended.commit(), wait && seen.is_ok());
+    give_all(table, seat, holdings, ended.release(), wait && seen.is_ok());
     let seen = seen?;
     gate.at(seat.worker(), Place::JobEnded);
     Ok(Row {

@@ -4,6 +4,7 @@
 
 mod accounts;
 mod cause;
+mod giving;
 mod holding;
 mod inserting;
 mod job;
@@ -13,6 +14,7 @@ mod jobs;
 mod legs;
 mod relief;
 mod rows;
+mod taking;
 mod transfer;
 mod waiting;
 mod worker;

@@ -1,5 +1,6 @@
 //! The records of a transfer, in order.
 use crate::cause::Cause;
+use crate::giving::Release;
 use crate::holding::Holding;
 use crate::inserting::insert_record;
 use crate::legs::make_legs;
@@ -20,11 +21,11 @@ pub(crate) struct Ended {
 }
 
 impl Ended {
-    /// Where its Commit ends, if it has one.
-    pub fn commit(&self) -> Option<Lsn> {
+    /// With which values the accounts go back.
+    pub fn release(&self) -> Release {
         match self.answer {
-            Answer::Done => Some(self.end),
-            Answer::Short(_) | Answer::Over(_) => None,
+            Answer::Done => Release::Committed(self.end),
+            Answer::Short(_) | Answer::Over(_) => Release::Unchanged,
         }
     }
 }

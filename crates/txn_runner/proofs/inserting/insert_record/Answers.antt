@@ -2,7 +2,7 @@ use Rattle.std.proofs.Common.{rules, ◌≡◌, ◌+◌, length, ap, subst, sym,
 use Rattle.log_record.specs.LogList.{size_of}
 use Rattle.log_table.specs.Books.{MayEnter}
 use Rattle.log_table.specs.Seats.{view_of}
-use Rattle.txn_runner.proofs.Putting.{may-place, units-next, puts, ends-log}
+use Rattle.txn_runner.proofs.Putting.{may-place, units-next, puts}
 use Rattle.txn_runner.proofs.inserting.insert_record.Goals as goal
 
 pub insert_alone-requires-clause-next : goal.insert_alone-requires-clause-next
