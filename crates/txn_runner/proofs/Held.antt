@@ -14,7 +14,7 @@ use Rattle.log_table.specs.Views.{gave_account}
 use Rattle.early_locks.specs.declared.taking.Taken.{Taken}
 use Rattle.early_locks.specs.Locks.{HoldsTaken}
 use Rattle.txn_runner.specs.declared.holding.Holding.{Holding}
-use Rattle.txn_runner.specs.Holdings.{account_of, held_of, held_behind, Lacks, AreDistinct, with_held}
+use Rattle.txn_runner.specs.Holdings.{account_of, as_held, held_behind, Lacks, AreDistinct, with_held}
 use Rattle.txn_runner.proofs.Listing.{rising-below}
 
 -- ascending accounts are distinct
@@ -42,13 +42,13 @@ without-behind : (holdings : List Holding) (front : List Held) (last : Held) →
     → AllByRecursion (λ (held : Held). held.account ≢ last.account) front
     → without last.account (held_behind holdings (front ++ last ∷ [])) ≡ held_behind holdings front
 without-behind [] front last lacks none = without-last front last none
-without-behind (holding ∷ holdings) front last lacks none = without-behind holdings (held_of holding ∷ front) last lacks.1 (lacks.0, none)
+without-behind (holding ∷ holdings) front last lacks none = without-behind holdings (as_held holding.taken ∷ front) last lacks.1 (lacks.0, none)
 
 -- what was taken later doesn't concern the account
 taken-behind : (books : Books) (holdings : List Holding) (held : List Held) (taken : Taken) → Lacks taken.account holdings
     → HoldsTaken taken (record books { held = held }) → HoldsTaken taken (record books { held = held_behind holdings held })
 taken-behind books [] held taken lacks holds = holds
-taken-behind books (holding ∷ holdings) held taken lacks holds = taken-behind books holdings (held_of holding ∷ held) taken lacks.1 record {
+taken-behind books (holding ∷ holdings) held taken lacks holds = taken-behind books holdings (as_held holding.taken ∷ held) taken lacks.1 record {
   has = omega (arith, holds.has);
   balance = (λ i. cond (other i) holding.taken.balance (balance_taken held taken.account)) ∙ holds.balance;
   mark = (λ i. cond (other i) holding.taken.mark (mark_taken held taken.account)) ∙ holds.mark;
@@ -58,7 +58,7 @@ taken-behind books (holding ∷ holdings) held taken lacks holds = taken-behind 
     other = ne_eqb holding.taken.account taken.account lacks.0
 
 -- the account taken last
-taken-first : (books : Books) (holding : Holding) (held : List Held) → HoldsTaken holding.taken (record books { held = held_of holding ∷ held })
+taken-first : (books : Books) (holding : Holding) (held : List Held) → HoldsTaken holding.taken (record books { held = as_held holding.taken ∷ held })
 taken-first books holding held = record {
   has = subst (λ b. 1 ≤ cond b 1 0 + times_held holding.taken.account held) (sym same) (omega arith);
   balance = λ i. cond (same i) holding.taken.balance (balance_taken held holding.taken.account);
@@ -85,7 +85,7 @@ module _ (first second : Seat) (holdings rest : List Holding) (holding : Holding
 
   pub holds-first : HoldsTaken holding.taken (view_of second).books
   holds-first = subst (λ m. HoldsTaken holding.taken m.0.books) (sym is-held)
-      (taken-behind view.books rest (held_of holding ∷ []) holding.taken distinct-both.0 (taken-first view.books holding []))
+      (taken-behind view.books rest (as_held holding.taken ∷ []) holding.taken distinct-both.0 (taken-first view.books holding []))
 
   pub gives-first : (third : Seat) → Becomes second third (gave_account holding.taken.account (view_of second))
       → Becomes first third (with_held (held_behind rest []) (steps + 1) view)
@@ -101,4 +101,4 @@ module _ (first second : Seat) (holdings rest : List Holding) (holding : Holding
       total = omega arith
 
       left : without holding.taken.account (held_behind (holding ∷ rest) []) ≡ held_behind rest []
-      left = without-behind rest [] (held_of holding) distinct-both.0 tt
+      left = without-behind rest [] (as_held holding.taken) distinct-both.0 tt

@@ -1,3 +1,5 @@
+pub mod Backing
+pub mod Gaining
 pub mod Held
 pub mod Listing
 pub mod Putting

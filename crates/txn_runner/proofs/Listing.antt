@@ -5,7 +5,7 @@ use native.Mathlib.Decide.{ℕ_discrete}
 use Rattle.std.specs.Ordering.{nat_cmp}
 use Rattle.std.specs.List.Sorted.{IsStrictlyIncreasing, IsPermutation, IsBinarySearchResult}
 use Rattle.std.proofs.lemmas.Bool.{cases_lt, cases_order}
-use Rattle.std.proofs.lemmas.List.{get_or_default}
+use Rattle.std.proofs.lemmas.List.{get_or_default, length-take, get_or-take}
 use Rattle.std.proofs.lemmas.List.Edits.{length-insert, get_or-insert_below, get_or-insert_at, get_or-insert_above}
 use Rattle.std.proofs.lemmas.List.Elements.{All-more, All-weaker, All-from_get_or, Contains-get_or}
 use Rattle.std.proofs.lemmas.List.Sorted.{IsPermutation-insert, IsPermutation-sym, Contains-permutation, searched}
@@ -20,6 +20,11 @@ rising-below xs rising i j less within = subst (λ k. get_or xs i 0 < get_or xs 
     far (suc gap) within =
         let nearer = far gap (omega arith) in let next = rising (i + gap + 1) (omega arith) in
         let beyond : get_or xs i 0 < get_or xs (i + gap + 1 + 1) 0 = omega arith in subst (λ k. get_or xs i 0 < get_or xs k 0) (omega arith) beyond
+
+pub rising-take : (xs : List ℕ) (n : ℕ) → IsStrictlyIncreasing xs → IsStrictlyIncreasing (take n xs)
+rising-take xs n rising k within =
+    let size = length-take n xs in let here = get_or-take n xs k 0 (omega arith) in let next = get_or-take n xs (k + 1) 0 (omega arith) in
+    let up = rising k (omega arith) in omega arith
 
 -- an account put behind those below it and before those above it
 module _ (xs : List ℕ) (i x : ℕ) (rising : IsStrictlyIncreasing xs) (within : i ≤ length xs) (below : (k : ℕ) → k < i → get_or xs k 0 < x)

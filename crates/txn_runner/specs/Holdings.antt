@@ -7,6 +7,7 @@ use Rattle.log_table.specs.declared.view.Held.{Held}
 use Rattle.log_table.specs.declared.view.View.{View}
 use Rattle.log_table.specs.Seats.{view_of}
 use Rattle.ring_buffer.specs.Calls.{HasEntries}
+use Rattle.early_locks.specs.declared.taking.Taken.{Taken}
 use Rattle.early_locks.specs.Locks.{GivesBack}
 use Rattle.txn_runner.specs.declared.giving.Release.{Release}
 use Rattle.txn_runner.specs.declared.giving.Release.TheVariants.{Unchanged, Committed}
@@ -20,13 +21,13 @@ abbrev pub IsKnown : ℕ → Holding → Type 0
 IsKnown accounts holding = holding.taken.account < accounts
 
 -- the account as a seat's books have it
-abbrev pub held_of : Holding → Held
-held_of holding = record { account = holding.taken.account; balance = holding.taken.balance; mark = holding.taken.mark }
+abbrev pub as_held : Taken → Held
+as_held taken = record { account = taken.account; balance = taken.balance; mark = taken.mark }
 
 -- the accounts taken one after another, newest first, after those that were held before
 abbrev pub held_behind : List Holding → List Held → List Held
 held_behind [] held = held
-held_behind (holding ∷ holdings) held = held_behind holdings (held_of holding ∷ held)
+held_behind (holding ∷ holdings) held = held_behind holdings (as_held holding.taken ∷ held)
 
 -- the books with these accounts held alone
 abbrev pub holding_all : List Holding → Books → Books

@@ -1,11 +1,12 @@
 //! A transfer takes its accounts.
 ghost use Rattle.std.specs.Prelude.{◌≡◌, ◌≤◌, ◌<◌, [], All, IfOk, IfErr, OnErr, length};
 ghost use Rattle.std.specs.List.Sorted.{IsStrictlyIncreasing};
+ghost use Rattle.lock_core.specs.declared.limits.TheConstants.{MOST_BALANCE};
 ghost use Rattle.log_table.specs.Books.{taking};
 ghost use Rattle.log_table.specs.May.{HasBegunNothing};
 ghost use Rattle.log_table.specs.Seats.{IsOf, view_of};
 ghost use Rattle.ring_buffer.specs.Calls.{IsReady, HasEntries};
-ghost use Rattle.txn_runner.specs.Holdings.{TakesAll};
+ghost use Rattle.txn_runner.specs.Holdings.{TakesAll, as_held};
 ghost use Rattle.txn_runner.specs.Inserts.{StopsFor};
 
 use crate::cause::Cause;
@@ -72,7 +73,8 @@ fn take_one<R: Wait, Q: Relief>(
     requires known { account < table.now.accounts }
     requires relief { Q.ready relief.old }
     ensures account { IfOk result (λ taken. taken.account ≡ account) }
-    ensures taken { IfOk result (λ taken. HasEntries seat.old seat.new (view_of seat.old).entries (taking (record { account = account; balance = taken.balance; mark = taken.mark }) (view_of seat.old).books)) }
+    ensures fits { IfOk result (λ taken. taken.balance ≤ MOST_BALANCE) }
+    ensures taken { IfOk result (λ taken. HasEntries seat.old seat.new (view_of seat.old).entries (taking (as_held taken) (view_of seat.old).books)) }
     ensures kept { OnErr result (HasEntries seat.old seat.new (view_of seat.old).entries (view_of seat.old).books) }
     ensures stopped { IfErr result (λ cause. StopsFor cause [] (view_of seat.new)) }
     ensures relief { Q.ready relief.new }
