@@ -13,6 +13,9 @@ use Rattle.txn_runner.specs.declared.giving.Release.{Release}
 use Rattle.txn_runner.specs.declared.giving.Release.TheVariants.{Unchanged, Committed}
 use Rattle.txn_runner.specs.declared.holding.Holding.{Holding}
 
+abbrev pub taken_of : Holding → Taken
+taken_of holding = holding.taken
+
 abbrev pub account_of : Holding → ℕ
 account_of holding = holding.taken.account
 

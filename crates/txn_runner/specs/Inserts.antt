@@ -32,6 +32,9 @@ pub record Adds (added : List Entry) (old new : Seat) : Type 0 where
   pub entries : HasEntries old new ((view_of old).entries ++ added) (placing_all added (view_of old).books)
   pub within : LieInOrder (view_of old).seen.tail (view_of new).seen.tail added
 
+abbrev pub HasAdded : Seat → Seat → Type 0
+HasAdded old new = (added : List Entry) × Adds added old new
+
 -- the seat inserted this record alone, which ends there
 pub record Puts (rec : Rec) (end : ℕ) (old new : Seat) : Type 0 where
   pub start : ℕ

@@ -45,9 +45,8 @@ pub(crate) fn insert_transfer<R: Wait, Q: Relief, G: Gate>(
     if let Some(remark) = &job.note {
         insert_record(rt, table, seat, &note(number, remark), relief, gate)?;
     }
-    let legs = job.legs.as_slice();
-    let answer = make_legs(rt, table, seat, number, legs, holdings, relief, gate)?;
-    let last = end_record(number, answer, legs.len() as u32);
+    let answer = make_legs(rt, table, seat, number, job, holdings, relief, gate)?;
+    let last = end_record(number, answer, job.legs.as_slice().len() as u32);
     let end = insert_record(rt, table, seat, &last, relief, gate)?;
     Ok(Ended { answer, end })
 }
