@@ -1,7 +1,9 @@
+pub mod Adding
 pub mod Backing
 pub mod Gaining
 pub mod Held
 pub mod Listing
+pub mod Making
 pub mod Moving
 pub mod Putting
 pub mod Staying

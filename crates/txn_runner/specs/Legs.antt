@@ -51,6 +51,7 @@ pub record MayMakeLeg (accounts number : ℕ) (leg : ℕ × ℕ × ℕ) (holding
   pub leg_allowed : IsAllowedLeg accounts leg
   pub both : HasAccountsOf (map account_of holdings) leg
   pub taken : All (λ (holding : Holding). HoldsTaken holding.taken books) holdings
+  pub uncommitted : has_commit (recs_of books.placed) ≡ false
   pub rest : List Rec
   pub left : IsLeft (leg_records number (mark_taken books.held) leg ++ rest) books
 

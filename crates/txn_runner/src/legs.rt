@@ -83,9 +83,9 @@ fn make_leg<R: Wait, Q: Relief, G: Gate>(
     ensures later { Q.later relief.old relief.new }
 {
     let (payer, payee, amount) = leg;
-    let less = update(number, holding_of(holdings, payer), -(amount as i32));
+    let less = debit(number, holding_of(holdings, payer), amount);
     insert_record(rt, table, seat, &less, relief, gate)?;
-    let more = update(number, holding_of(holdings, payee), amount as i32);
+    let more = credit(number, holding_of(holdings, payee), amount);
     insert_record(rt, table, seat, &more, relief, gate)?;
     Ok(())
 }
@@ -104,13 +104,28 @@ fn holding_of(holdings: &[Holding], account: u32) -> &Holding
     unreachable!()
 }
 
-fn update(number: u32, holding: &Holding, delta: i32) -> Rec
-    ensures { result ≡ Rec.Update number holding.now.taken.account delta holding.now.taken.mark }
+/// The Update of an account that pays.
+fn debit(number: u32, holding: &Holding, amount: u32) -> Rec
+    requires { amount ≤ MOST_BALANCE }
+    ensures { result ≡ Rec.Update number holding.now.taken.account (neg_ℤ (pos amount)) holding.now.taken.mark }
 {
     Rec::Update {
         txn: number,
         account: holding.taken.account,
-        delta,
+        delta: -(amount as i32),
+        prev: Lsn::new(holding.taken.mark),
+    }
+}
+
+/// The Update of an account that receives.
+fn credit(number: u32, holding: &Holding, amount: u32) -> Rec
+    requires { amount ≤ MOST_BALANCE }
+    ensures { result ≡ Rec.Update number holding.now.taken.account (pos amount) holding.now.taken.mark }
+{
+    Rec::Update {
+        txn: number,
+        account: holding.taken.account,
+        delta: amount as i32,
         prev: Lsn::new(holding.taken.mark),
     }
 }
