@@ -3,6 +3,7 @@ pub mod CompletenessLemmas
 pub mod CreationLemmas
 pub mod GenesisLemmas
 pub mod LawLemmas
+pub mod NumberedLemmas
 pub mod OpenedAccounts
 pub mod OpeningLemmas
 pub mod ReadyLemmas
@@ -13,3 +14,5 @@ pub mod RunLedger
 pub mod RunLemmas
 pub mod RunRecords
 pub mod RunStripes
+pub mod ServedLemmas
+pub mod WorkerLemmas

@@ -2,6 +2,7 @@ pub mod Answers
 pub mod Creation
 pub mod Ending
 pub mod FaultText
+pub mod Gathering
 pub mod Opening
 pub mod Run
 pub mod RunAnswers
@@ -10,3 +11,4 @@ pub mod RunStops
 pub mod Scripts
 pub mod Shares
 pub mod Transferred
+pub mod Workers

@@ -9,6 +9,7 @@ mod dump_tests;
 mod faults;
 mod finding;
 mod flushing_relief;
+mod gathering;
 mod genesis;
 mod input;
 mod laws;
@@ -20,10 +21,12 @@ mod recover_command;
 mod report;
 mod run_command;
 mod script_input;
+mod serving;
 #[cfg(test)]
 mod tests;
 mod top;
 mod transfers;
+mod workers;
 
 use command::words_of;
 use faults::put_fault;
