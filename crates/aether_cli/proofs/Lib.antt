@@ -3,6 +3,10 @@ pub mod CompletenessLemmas
 pub mod CreationLemmas
 pub mod GenesisLemmas
 pub mod LawLemmas
+pub mod NumberedLemmas
+pub mod OpenedAccounts
+pub mod OpeningLemmas
+pub mod ReadyLemmas
 pub mod RunEnds
 pub mod RunHistory
 pub mod RunImages
@@ -11,3 +15,5 @@ pub mod RunLemmas
 pub mod RunRecords
 pub mod RunStripes
 pub mod RunWitness
+pub mod ServedLemmas
+pub mod WorkerLemmas

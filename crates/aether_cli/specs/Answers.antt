@@ -13,7 +13,7 @@ use Rattle.lsn_space.specs.Accounts.{Accounts}
 use Rattle.command_line.specs.CommandLine.{IsCommandLine}
 use Rattle.command_line.specs.declared.command.Command.TheVariants.{New}
 use Rattle.aether_cli.specs.declared.report.Detail.{Detail}
-use Rattle.aether_cli.specs.declared.report.Detail.TheVariants.{Fine, NoMemory, Usage, Script, Read, Write, Disk, NotALog, BadBatch, BadRec, Unlawful, Exists}
+use Rattle.aether_cli.specs.declared.report.Detail.TheVariants.{Fine, NoMemory, Usage, Script, Read, Write, Disk, NotALog, BadBatch, BadRec, Unlawful, LogEnd, TxnEnd, Exists}
 use Rattle.aether_cli.specs.Creation.{genesis_list}
 
 abbrev pub status_of : Detail → ℕ
@@ -28,6 +28,8 @@ status_of NotALog = 7
 status_of (BadBatch offset) = 7
 status_of (BadRec lsn) = 7
 status_of (Unlawful lsn why) = 7
+status_of (LogEnd tail total) = 8
+status_of (TxnEnd first count) = 9
 status_of Exists = 10
 
 -- the words ask `new`
@@ -39,6 +41,8 @@ abbrev pub IsOfRecover : Detail → Type 0
 IsOfRecover Usage = ⊥
 IsOfRecover (Script line) = ⊥
 IsOfRecover Disk = ⊥
+IsOfRecover (LogEnd tail total) = ⊥
+IsOfRecover (TxnEnd first count) = ⊥
 IsOfRecover Exists = ⊥
 IsOfRecover detail = Unit {0}
 
@@ -72,6 +76,8 @@ StaysSilent old new NotALog = Keeps old new
 StaysSilent old new (BadBatch offset) = Keeps old new
 StaysSilent old new (BadRec lsn) = Keeps old new
 StaysSilent old new (Unlawful lsn why) = Keeps old new
+StaysSilent old new (LogEnd tail total) = Keeps old new
+StaysSilent old new (TxnEnd first count) = Keeps old new
 
 -- what was read is all that was left
 abbrev pub ReadsAll : Option (List ℕ) → Option (List ℕ) → List ℕ → Type 0
@@ -105,6 +111,8 @@ AnswersRecover bytes left old new NoMemory = Unit {0}
 AnswersRecover bytes left old new Usage = ⊥
 AnswersRecover bytes left old new (Script line) = ⊥
 AnswersRecover bytes left old new Disk = ⊥
+AnswersRecover bytes left old new (LogEnd tail total) = ⊥
+AnswersRecover bytes left old new (TxnEnd first count) = ⊥
 AnswersRecover bytes left old new Exists = ⊥
 
 -- `dump` on these bytes: the same, but the list need not be lawful, and what is written is its dump, or a prefix of it
@@ -120,6 +128,8 @@ AnswersDump bytes left old new Read = Unit {0}
 AnswersDump bytes left old new NoMemory = Unit {0}
 AnswersDump bytes left old new Usage = ⊥
 AnswersDump bytes left old new (Unlawful lsn why) = ⊥
+AnswersDump bytes left old new (LogEnd tail total) = ⊥
+AnswersDump bytes left old new (TxnEnd first count) = ⊥
 AnswersDump bytes left old new (Script line) = ⊥
 AnswersDump bytes left old new Disk = ⊥
 AnswersDump bytes left old new Exists = ⊥
@@ -158,3 +168,5 @@ AnswersNew bytes left old new NotALog = ⊥
 AnswersNew bytes left old new (BadBatch offset) = ⊥
 AnswersNew bytes left old new (BadRec lsn) = ⊥
 AnswersNew bytes left old new (Unlawful lsn why) = ⊥
+AnswersNew bytes left old new (LogEnd tail total) = ⊥
+AnswersNew bytes left old new (TxnEnd first count) = ⊥

@@ -1,8 +1,15 @@
 pub mod Answers
 pub mod Creation
+pub mod Ending
 pub mod FaultText
+pub mod Gathering
+pub mod Opening
 pub mod Run
+pub mod RunAnswers
+pub mod RunReady
 pub mod RunStops
 pub mod RunWitness
+pub mod Scripts
 pub mod Shares
 pub mod Transferred
+pub mod Workers

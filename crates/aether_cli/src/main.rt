@@ -2,22 +2,31 @@
 #![tactic(auto)]
 
 mod command;
+mod conclusion;
 mod dump_command;
 #[cfg(test)]
 mod dump_tests;
 mod faults;
 mod finding;
+mod flushing_relief;
+mod gathering;
 mod genesis;
 mod input;
 mod laws;
 mod new_command;
+mod opening;
 #[cfg(test)]
 mod pipeline_tests;
 mod recover_command;
 mod report;
+mod run_command;
+mod script_input;
+mod serving;
 #[cfg(test)]
 mod tests;
 mod top;
+mod transfers;
+mod workers;
 
 use command::words_of;
 use faults::put_fault;

@@ -5,7 +5,7 @@ use crate::report::{Detail, Report};
 use crate::top::aether;
 use log_disk::{MemoryDisk, MemorySink, MemorySource};
 use log_recovery::Why;
-use lsn_space::{Lsn, Word};
+use lsn_space::{LAST, Lsn, Word};
 use std::test::Fail;
 
 /// Two accounts, with balances 100 and 0.
@@ -260,7 +260,7 @@ fn refuses_help_and_leaves_the_disk(rt: HostRuntime) -> Result<(), Fail> {
 
 #[test]
 fn writes_the_line_of_each_report(rt: HostRuntime) -> Result<(), Fail> {
-    let cases: [(Detail, u8, &[u8]); 8] = [
+    let cases: [(Detail, u8, &[u8]); 10] = [
         (Detail::Fine, 0, b""),
         (Detail::NoMemory, 1, b"aether: out of memory\n"),
         (
@@ -272,6 +272,22 @@ fn writes_the_line_of_each_report(rt: HostRuntime) -> Result<(), Fail> {
         (Detail::Write, 5, b"aether: write failed\n"),
         (Detail::Disk, 6, b"aether: disk failed\n"),
         (Detail::NotALog, 7, b"aether: not a log\n"),
+        (
+            Detail::LogEnd {
+                tail: Lsn::new(LAST),
+                total: 26,
+            },
+            8,
+            b"aether: log end: tail 4294967295, total 26\n",
+        ),
+        (
+            Detail::TxnEnd {
+                first: 4294967296,
+                count: 0,
+            },
+            9,
+            b"aether: transaction numbers end: first 4294967296, count 0\n",
+        ),
         (Detail::Exists, 10, b"aether: log exists\n"),
     ];
     for (detail, status, line) in cases {

@@ -31,6 +31,13 @@ pub IsSameDaemon-trans : {D : Type 0} {K : Type 0} (g : Ghosts D) (h : SinkGhost
 IsSameDaemon-trans g h a b c first second = record {
   flusher = record {
     table = second.flusher.table ∙ first.flusher.table;
+    seat = record {
+      table_is = second.flusher.seat.table_is ∙ first.flusher.seat.table_is;
+      slots = second.flusher.seat.slots ∙ first.flusher.seat.slots;
+      constants = second.flusher.seat.constants ∙ first.flusher.seat.constants;
+      entries = second.flusher.seat.entries ∙ first.flusher.seat.entries;
+      books = second.flusher.seat.books ∙ first.flusher.seat.books;
+    };
     workers = second.flusher.workers ∙ first.flusher.workers;
     disk = second.flusher.disk ∙ first.flusher.disk;
     honest = (λ honest. second.flusher.honest.0 (first.flusher.honest.0 honest), λ honest. first.flusher.honest.1 (second.flusher.honest.1 honest));

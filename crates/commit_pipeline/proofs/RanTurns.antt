@@ -8,12 +8,13 @@ use Rattle.std.specs.List.{AllByRecursion}
 use Rattle.log_record.specs.declared.rec.Rec.{Rec}
 use Rattle.log_record.specs.Spelling.{IsSpellable}
 use Rattle.log_table.specs.declared.view.View.{View}
-use Rattle.log_table.specs.Seats.{view_of}
+use Rattle.log_table.specs.Seats.{Becomes, view_of}
 use Rattle.flusher.specs.declared.flusher.Drained.{Drained}
 use Rattle.flusher.specs.declared.flusher.Drained.TheVariants.{At, Active, Behind}
 use Rattle.flusher.specs.declared.flusher.Flusher.{Flusher}
-use Rattle.flusher.specs.Flushing.{Asks, sent_of}
+use Rattle.flusher.specs.Flushing.{Asks, IsSameSeat, sent_of}
 use Rattle.flusher.specs.Records.{Spells}
+use Rattle.flusher.proofs.Flushes.{IsSameSeat-becomes}
 use Rattle.commit_pipeline.specs.declared.daemon.Daemon.{Daemon}
 use Rattle.commit_pipeline.specs.declared.daemon.DaemonFault.TheVariants.{DiskFault, WriteFault}
 use Rattle.commit_pipeline.specs.declared.tally.Tally.{Tally}
@@ -143,10 +144,12 @@ module _ {D : Type 0} {K : Type 0} (g : Ghosts D) (h : SinkGhosts K) (old new : 
 
   module _ (rest : new ≡ record old { flusher = new.flusher }) (seat_alone : new.flusher ≡ record old.flusher { seat = new.flusher.seat }) where
     -- where the seat alone made steps, it is the same daemon
-    IsSameDaemon-step : (view_of new.flusher.seat).standing ≡ (view_of old.flusher.seat).standing → IsSameDaemon g h old new
-    IsSameDaemon-step workers = record {
+    IsSameDaemon-step : IsSameSeat old.flusher.seat new.flusher.seat → (view_of new.flusher.seat).standing ≡ (view_of old.flusher.seat).standing
+        → IsSameDaemon g h old new
+    IsSameDaemon-step seat workers = record {
       flusher = record {
         table = ap (λ (f : Flusher D). f.table) seat_alone;
+        seat = seat;
         workers = workers;
         disk = ap (λ (f : Flusher D). f.disk.ghost_name) seat_alone;
         honest = subst (λ (f : Flusher D). g.honest old.flusher.disk.now ↔ g.honest f.disk.now) (sym seat_alone)
@@ -160,23 +163,24 @@ module _ {D : Type 0} {K : Type 0} (g : Ghosts D) (h : SinkGhosts K) (old new : 
     }
 
     -- the view after steps that change nothing but what was seen
-    Ran-steps : (view : View) → view_of new.flusher.seat ≡ view → MayTurn g old → MayTurn g new
-        → view.constants ≡ (view_of old.flusher.seat).constants → view.standing ≡ (view_of old.flusher.seat).standing
+    Ran-steps : (view : View) → Becomes old.flusher.seat new.flusher.seat view → MayTurn g old → MayTurn g new
+        → view.constants ≡ (view_of old.flusher.seat).constants → view.entries ≡ (view_of old.flusher.seat).entries
+        → view.books ≡ (view_of old.flusher.seat).books → view.standing ≡ (view_of old.flusher.seat).standing
         → view.sending.sent ≡ sent_of old.flusher
         → view.sending.read ≡ (view_of old.flusher.seat).sending.read → view.sending.stop ≡ (view_of old.flusher.seat).sending.stop
         → Ran g h old new
-    Ran-steps view is ready may constants standing sent read stop =
+    Ran-steps view becomes ready may constants entries books standing sent read stop =
+        let is = ap (λ m. m.0) becomes.me in
         Ran-quiet ready
         (Flew-step g old.flusher new.flusher seat_alone (ap (λ (v : View). v.constants) is ∙ constants)
         (ap (λ (v : View). v.sending.sent) is ∙ sent)
         (ap (λ (v : View). v.sending.read) is ∙ read ∙ ready.flusher.unread))
-        (IsSameDaemon-step (ap (λ (v : View). v.standing) is ∙ standing)) may rest (ap (λ (v : View). v.sending.stop) is ∙ stop)
+        (IsSameDaemon-step (IsSameSeat-becomes _ _ view becomes constants entries books) (ap (λ (v : View). v.standing) is ∙ standing)) may rest (ap (λ (v : View). v.sending.stop) is ∙ stop)
 
     pub Ran-asked : (answer : Drained) → Asks old.flusher new.flusher answer → MayTurn g old → MayTurn g new → Ran g h old new
-    Ran-asked (At lsn) asks ready may = Ran-steps _ (ap (λ m. m.0) asks.2.me) ready may refl refl refl refl refl
-    Ran-asked (Active n) asks ready may = Ran-steps _ (ap (λ m. m.0) asks.1.me) ready may refl refl refl refl refl
-    Ran-asked (Behind exposed durable) asks ready may = Ran-steps _ (ap (λ m. m.0) asks.2.me) ready may refl refl refl refl refl
+    Ran-asked (At lsn) asks ready may = Ran-steps _ asks.2 ready may refl refl refl refl refl refl refl
+    Ran-asked (Active n) asks ready may = Ran-steps _ asks.1 ready may refl refl refl refl refl refl refl
+    Ran-asked (Behind exposed durable) asks ready may = Ran-steps _ asks.2 ready may refl refl refl refl refl refl refl
 
   pub Ran-idle : Idles old new → MayTurn g old → MayTurn g new → Ran g h old new
-  Ran-idle idles ready may = Ran-steps idles.rest idles.flush.rest _
-      (ap (λ m. m.0) idles.flush.seat.me) ready may refl refl refl refl refl
+  Ran-idle idles ready may = Ran-steps idles.rest idles.flush.rest _ idles.flush.seat ready may refl refl refl refl refl refl refl

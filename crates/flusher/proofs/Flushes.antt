@@ -20,7 +20,7 @@ use Rattle.log_table.specs.Sends.{AreEntries, ReadsWholeEntries}
 use Rattle.log_table.specs.Views.{sent_to, read_to}
 use Rattle.flusher.specs.Records.{Spells}
 use Rattle.flusher.specs.Sending.{gathered, flushed}
-use Rattle.flusher.specs.Flushing.{IsReady, HoldsDurablePrefix, sent_of, lsns_of}
+use Rattle.flusher.specs.Flushing.{IsReady, IsSameSeat, HoldsDurablePrefix, sent_of, lsns_of}
 
 -- one step after another
 pub Becomes-then : (a b c : Seat) (view : View) (f : View → View) → Becomes a b view → Becomes b c (f (view_of b)) → Becomes a c (f view)
@@ -29,6 +29,17 @@ Becomes-then a b c view f first second = record {
   number = second.number ∙ first.number;
   me = second.me ∙ ap (λ m. (f m.0, m.1)) first.me;
   worker = second.worker ∙ first.worker;
+}
+
+-- steps that leave entries and books as they were leave the same seat
+pub IsSameSeat-becomes : (old new : Seat) (view : View) → Becomes old new view → view.constants ≡ (view_of old).constants
+    → view.entries ≡ (view_of old).entries → view.books ≡ (view_of old).books → IsSameSeat old new
+IsSameSeat-becomes old new view becomes constants entries books = record {
+  table_is = becomes.table_is;
+  slots = ap (λ m. m.1) becomes.me;
+  constants = ap (λ m. m.0.constants) becomes.me ∙ constants;
+  entries = ap (λ m. m.0.entries) becomes.me ∙ entries;
+  books = ap (λ m. m.0.books) becomes.me ∙ books;
 }
 
 -- what stands at a tail holds its units

@@ -3,6 +3,7 @@ use Rattle.std.specs.Prelude.{◌≡◌, ◌↔◌, ℕ, ◌+◌, ◌*◌, ◌^�
 use Rattle.log_disk.specs.Disk.{IsSettled, Leaves}
 use Rattle.log_disk.specs.declared.disk.LogDisk.{Ghosts}
 use Rattle.log_record.specs.declared.rec.Rec.{Rec}
+use Rattle.log_table.specs.declared.table.Seat.{Seat}
 use Rattle.log_table.specs.declared.view.Role.TheVariants.{Flusher as FlusherRole}
 use Rattle.log_table.specs.Seats.{IsOf, Becomes, view_of}
 use Rattle.log_table.specs.Sends.{IsDrained}
@@ -35,9 +36,18 @@ pub record IsReady {D : Type 0} (g : Ghosts D) (f : Flusher D) : Type 0 where
   pub shut : g.honest f.disk.now → IsShut f.tail.at (g.images f.disk.now)
   pub room : f.table.now.ring ≤ f.batch.room
 
--- it is the same table, with the same workers, and the same disk, whose time went on
+-- it is the same seat, which took in no other's entries or jobs
+pub record IsSameSeat (old new : Seat) : Type 0 where
+  pub table_is : new.base.table_id ≡ old.base.table_id
+  pub slots : new.base.me.1 ≡ old.base.me.1
+  pub constants : (view_of new).constants ≡ (view_of old).constants
+  pub entries : (view_of new).entries ≡ (view_of old).entries
+  pub books : (view_of new).books ≡ (view_of old).books
+
+-- it is the same table and seat, with the same workers, and the same disk, whose time went on
 pub record IsSame {D : Type 0} (g : Ghosts D) (old new : Flusher D) : Type 0 where
   pub table : new.table ≡ old.table
+  pub seat : IsSameSeat old.seat new.seat
   pub workers : (view_of new.seat).standing ≡ (view_of old.seat).standing
   pub disk : new.disk.ghost_name ≡ old.disk.ghost_name
   pub honest : g.honest old.disk.now ↔ g.honest new.disk.now

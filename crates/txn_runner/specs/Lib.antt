@@ -1,3 +1,7 @@
+pub mod Accounts
+pub mod Holdings
+pub mod Inserts
+pub mod Legs
 pub mod Running
 pub mod Stripes
 pub mod Working

@@ -1,6 +1,5 @@
 -- What a seat has done of one transfer. `old` and `new` are its view before and after.
 use Rattle.std.specs.Prelude.{◌≡◌, ◌≢◌, ℕ, ◌+◌, ◌<◌, ◌≤◌, true, Bool, List, [], ◌∷◌, ◌++◌, Contains}
-use Rattle.std.specs.List.{AllByRecursion}
 use Rattle.lsn_space.specs.declared.lsn.TheConstants.{LAST}
 use Rattle.log_record.specs.declared.rec.Rec.{Rec}
 use Rattle.log_record.specs.LogList.{size_of}
@@ -22,9 +21,10 @@ outcome_of answer.Done = Done
 outcome_of (answer.Short leg) = ShortAt leg
 outcome_of (answer.Over leg) = OverAt leg
 
--- the entry lies between these two LSNs
-abbrev pub LiesWithin : ℕ → ℕ → Entry → Type 0
-LiesWithin from to entry = (from ≤ entry.start) × (entry.start + entry.size ≤ to)
+-- the entries lie one behind another, from the one LSN up to the other
+abbrev pub LieInOrder : ℕ → ℕ → List Entry → Type 0
+LieInOrder from to [] = from ≤ to
+LieInOrder from to (entry ∷ entries) = (from ≤ entry.start) × LieInOrder (entry.start + entry.size) to entries
 
 -- The seat took the transfer under this number, and inserted its records but for the rest, each behind the tail as it had seen it: those of
 -- the transfer run alone on some balances and last Commits.
@@ -33,12 +33,12 @@ pub record HasInserted (number : ℕ) (job : Job) (rest : List Rec) (old new : V
   pub marks : ℕ → ℕ
   pub added : List Entry
   pub entries : new.entries ≡ old.entries ++ added
-  pub within : AllByRecursion (LiesWithin old.seen.tail new.seen.tail) added
+  pub within : LieInOrder old.seen.tail new.seen.tail added
   pub plan : records_of added ++ rest ≡ planned_records number (transfer_of job) marks balances
   pub jobs : new.books.jobs ≡ record { number = number; job = job } ∷ old.books.jobs
 
--- All its records were inserted, and the row tells how it ended, where its end record ends, and a durable LSN that the seat saw, which is
--- at or above that where the seat waited.
+-- All its records were inserted, and the row tells how it ended, where its end record ends, and the durable LSN that the seat saw last,
+-- which is at or above that where the seat waited.
 pub record HasRun (number : ℕ) (job : Job) (wait : Bool) (row : Row) (old new : View) : Type 0 where
   pub inserted : HasInserted number job [] old new
   pub txn : row.txn ≡ number
@@ -48,6 +48,7 @@ pub record HasRun (number : ℕ) (job : Job) (wait : Bool) (row : Row) (old new 
   pub last : inserted.added ≡ before ++ end ∷ []
   pub rec : end.rec ≡ end_record number (transfer_of job) (outcome_of row.answer)
   pub end_is : row.end ≡ end.start + end.size
+  pub above : old.seen.tail < row.end
   pub seen : row.seen ≡ new.seen.durable
   pub waited : wait ≡ true → row.end ≤ row.seen
 

@@ -1,5 +1,5 @@
 -- What a worker has done of its stripe. `old` and `new` are its seat's view before and after, and `k` counts transfers of the stripe.
-use Rattle.std.specs.Prelude.{◌≡◌, ◌≢◌, ◌⊎◌, ℕ, ◌+◌, ◌<◌, ◌≤◌, ◌==◌, ◌&&◌, true, Bool, if◌then◌else◌, List, [], ◌∷◌, ◌++◌, length, map, filter, vec_capacity, Contains}
+use Rattle.std.specs.Prelude.{◌≡◌, ◌≢◌, ◌⊎◌, ℕ, ◌+◌, ◌<◌, ◌≤◌, ◌==◌, true, Bool, List, [], ◌∷◌, ◌++◌, length, filter, vec_capacity, Contains}
 use Rattle.std.specs.List.{AllByRecursion}
 use Rattle.lsn_space.specs.declared.lsn.TheConstants.{LAST}
 use Rattle.log_record.specs.declared.rec.Rec.{Rec}
@@ -18,8 +18,8 @@ use Rattle.txn_runner.specs.declared.cause.Worked.TheVariants.{All, Cut}
 use Rattle.txn_runner.specs.declared.jobs.Jobs.{Jobs}
 use Rattle.txn_runner.specs.declared.rows.Row.{Row}
 use Rattle.txn_runner.specs.declared.rows.Rows.{Rows}
-use Rattle.txn_runner.specs.Running.{outcome_of}
-use Rattle.txn_runner.specs.Stripes.{place_of, number_at, job_at, stripe_jobs, IsOfStripe, HasStripe, IsStripeEnd}
+use Rattle.txn_runner.specs.Running.{outcome_of, LieInOrder}
+use Rattle.txn_runner.specs.Stripes.{number_at, job_at, stripe_jobs, IsOfStripe, HasStripe, IsStripeEnd}
 
 abbrev pub rows_in : Rows → List Row
 rows_in rows = rows.rows.items
@@ -34,15 +34,21 @@ taken_in rows = rows.taken
 abbrev pub HasRoom : Jobs → ℕ → Rows → Type 0
 HasRoom jobs worker rows = (k : ℕ) → HasStripe jobs worker k → length (rows_in rows) + k ≤ room_of rows + taken_in rows
 
--- The seat took the first k transfers of its stripe, after others with numbers below the first. Its records are of these, and lie
--- below the tail as it saw it last.
+-- The seat took the first k transfers of its stripe, after others with numbers below the first. Its records are of these, and lie one
+-- behind another below the tail as it saw it last.
 pub record HasWorked (jobs : Jobs) (worker k : ℕ) (view : View) : Type 0 where
   pub stripe : HasStripe jobs worker k
   pub earlier : List TakenJob
   pub taken : view.books.jobs ≡ stripe_jobs jobs worker k ++ earlier
   pub numbers : AllByRecursion (λ (taken : TakenJob). taken.number < jobs.first) earlier
   pub own : AllByRecursion (λ (entry : Entry). (txn_of entry.rec < jobs.first) ⊎ IsOfStripe jobs worker k (txn_of entry.rec)) view.entries
-  pub below : AllByRecursion (λ (entry : Entry). entry.start + entry.size ≤ view.seen.tail) view.entries
+  pub below : LieInOrder 0 view.seen.tail view.entries
+
+-- from k transfers of the stripe to n: the seat took just those, behind the jobs that it had
+pub record TakesJobs (jobs : Jobs) (worker k n : ℕ) (old new : View) : Type 0 where
+  pub earlier : List TakenJob
+  pub before : old.books.jobs ≡ stripe_jobs jobs worker k ++ earlier
+  pub after : new.books.jobs ≡ stripe_jobs jobs worker n ++ earlier
 
 -- there is an end record of this number among the entries
 pub record HasEnd (number : ℕ) (entries : List Entry) : Type 0 where
@@ -82,21 +88,24 @@ abbrev pub Works : Jobs → ℕ → ℕ → ℕ → Worked → View → Type 0
 Works jobs worker k n All view = (k ≤ n) × IsStripeEnd jobs worker n × HaveEnded jobs worker k n view
 Works jobs worker k n (Cut cause) view = (j : ℕ) × (k ≤ j) × (n ≡ j + 1) × HaveEnded jobs worker k j view × IsCutBy jobs worker j cause view
 
--- the row tells of the worker's j-th transfer how it ended, by its end record among the entries, and a durable LSN that the seat saw
+-- The row tells of the worker's j-th transfer how it ended, by its end record among the entries, and an LSN that is durable: the one that
+-- the seat saw last is at or above it.
 pub record TellsEnd (jobs : Jobs) (worker j : ℕ) (wait : Bool) (view : View) (row : Row) : Type 0 where
   pub txn : row.txn ≡ number_at jobs worker j
   pub end : Entry
   pub contains : Contains view.entries end
   pub rec : end.rec ≡ end_record row.txn (transfer_of (job_at jobs worker j)) (outcome_of row.answer)
   pub end_is : row.end ≡ end.start + end.size
-  pub seen : Contains view.seen.lsns row.seen
+  pub seen : row.seen ≤ view.seen.durable
   pub waited : wait ≡ true → row.end ≤ row.seen
 
--- rows of the worker's transfers from the j-th on, each with an end above the one before, the first above this LSN
-abbrev pub AreRowsFrom : Jobs → ℕ → ℕ → Bool → View → ℕ → List Row → Type 0
-AreRowsFrom jobs worker j wait view above [] = Unit {0}
-AreRowsFrom jobs worker j wait view above (row ∷ rows) =
-    TellsEnd jobs worker j wait view row × (above < row.end) × AreRowsFrom jobs worker (j + 1) wait view row.end rows
+-- rows of the worker's transfers from the j-th on, each with an end above the one before, and a durable LSN not below the one before;
+-- the first with an end above `above`, and one not below `since`
+abbrev pub AreRowsFrom : Jobs → ℕ → ℕ → Bool → View → ℕ → ℕ → List Row → Type 0
+AreRowsFrom jobs worker j wait view above since [] = Unit {0}
+AreRowsFrom jobs worker j wait view above since (row ∷ rows) =
+    TellsEnd jobs worker j wait view row × (above < row.end) × (since ≤ row.seen)
+    × AreRowsFrom jobs worker (j + 1) wait view row.end row.seen rows
 
 -- a row for each transfer taken, but none for one that was cut off
 abbrev pub EachHasRow : ℕ → ℕ → Worked → List Row → Type 0
@@ -108,5 +117,5 @@ pub record AddsRows (jobs : Jobs) (worker : ℕ) (wait : Bool) (worked : Worked)
   pub added : List Row
   pub rows : rows_in after ≡ rows_in before ++ added
   pub room : room_of after ≡ room_of before
-  pub tell : AreRowsFrom jobs worker (taken_in before) wait new old.seen.tail added
+  pub tell : AreRowsFrom jobs worker (taken_in before) wait new old.seen.tail old.seen.durable added
   pub each : EachHasRow (taken_in before) (taken_in after) worked added

@@ -3,9 +3,10 @@ ghost use Rattle.std.specs.Prelude.{◌≡◌, ◌<◌, ◌≤◌, ◌+◌, [], 
 ghost use Rattle.txn_script.specs.Script.{IsAllowedJob};
 ghost use Rattle.log_table.specs.Seats.{IsOf, view_of};
 ghost use Rattle.ring_buffer.specs.Calls.{IsReady, IsSameWorker};
-ghost use Rattle.txn_runner.specs.Working.{HasWorked, HasRoom, Works, taken_in, rows_in, room_of, AddsRows};
+ghost use Rattle.txn_runner.specs.Working.{HasWorked, HasRoom, TakesJobs, Works, taken_in, rows_in, room_of, AddsRows};
 
 use crate::cause::Worked;
+use crate::job::run_job;
 use crate::jobs::Jobs;
 use crate::relief::Relief;
 use crate::rows::Rows;
@@ -38,11 +39,18 @@ pub fn work<R: Wait, Q: Relief, G: Gate>(
     ensures none_held { (view_of seat.new).books.held ≡ [] }
     ensures same { IsSameWorker seat.old seat.new }
     ensures worked { HasWorked jobs.now seat.old.worker (taken_in rows.new) (view_of seat.new) }
+    ensures jobs { TakesJobs jobs.now seat.old.worker (taken_in rows.old) (taken_in rows.new) (view_of seat.old) (view_of seat.new) }
     ensures works { Works jobs.now seat.old.worker (taken_in rows.old) (taken_in rows.new) result (view_of seat.new) }
     ensures rows { AddsRows jobs.now seat.old.worker wait result rows.old rows.new (view_of seat.old) (view_of seat.new) }
     ensures relief { Q.ready relief.new }
     ensures later { Q.later relief.old relief.new }
 {
-    for _ in rt.forever() {}
-    unreachable!()
+    'stripe: while let Some((number, job)) = jobs.transfer(seat.worker(), rows.taken()) {
+        rows.take();
+        match run_job(rt, table, seat, number, job, relief, wait, gate) {
+            Ok(row) => rows.push(row),
+            Err(cause) => return Worked::Cut(cause),
+        }
+    }
+    Worked::All
 }

@@ -1,0 +1,15 @@
+pub mod EntryLemmas
+pub mod PlanLemmas
+pub mod ProgressLemmas
+pub mod RowLemmas
+pub mod StripeLemmas
+pub mod WorkLemmas
+pub mod Adding
+pub mod Backing
+pub mod Gaining
+pub mod Held
+pub mod Listing
+pub mod Making
+pub mod Moving
+pub mod Putting
+pub mod Staying
