@@ -14,5 +14,6 @@ pub mod RunLedger
 pub mod RunLemmas
 pub mod RunRecords
 pub mod RunStripes
+pub mod RunWitness
 pub mod ServedLemmas
 pub mod WorkerLemmas

@@ -8,6 +8,7 @@ pub mod Run
 pub mod RunAnswers
 pub mod RunReady
 pub mod RunStops
+pub mod RunWitness
 pub mod Scripts
 pub mod Shares
 pub mod Transferred

@@ -9,6 +9,7 @@ ghost use Rattle.log_record.specs.declared.rec.Rec.{Rec};
 ghost use Rattle.log_table.specs.declared.table.Start.{Start};
 ghost use Rattle.log_table.specs.declared.view.View.{View};
 ghost use Rattle.log_table.specs.Closing.{records_of};
+ghost use Rattle.log_table.specs.Seats.{IsOf};
 ghost use Rattle.commit_pipeline.specs.declared.daemon.Daemon.{Daemon};
 ghost use Rattle.commit_pipeline.specs.Later.{HasReason};
 ghost use Rattle.commit_pipeline.specs.Turning.{IsSameDaemon};
@@ -21,6 +22,7 @@ ghost use Rattle.aether_cli.specs.Answers.{AnswersRecover, status_of};
 ghost use Rattle.aether_cli.specs.Creation.{genesis_list};
 ghost use Rattle.aether_cli.specs.Run.{RunKeepsLog, RunIsDrained, RunsWhole};
 ghost use Rattle.aether_cli.specs.RunStops.{StopsAtLogEnd};
+ghost use Rattle.aether_cli.specs.RunWitness.{HasMadePayment};
 ghost use Rattle.aether_cli.specs.Shares.{Share};
 ghost use Rattle.aether_cli.specs.Transferred.{HasTransferred};
 
@@ -67,4 +69,10 @@ pub fn run_keeps_log<D: LogDisk, K: Sink>()
     ensures same { (opened : List Rec) (jobs : Jobs) (shares : List Share) (key : Start) (old new : Daemon D K) (view : View)
         (lsn : ℕ) (rows : List (ℕ × ℕ)) → HasTransferred D.LogDisk K.Sink opened jobs shares key old new view lsn rows
         → IsSameDaemon D.LogDisk K.Sink old new }
+{}
+
+/// A witness that the premises of the law on runs can be met, all at once: with any daemon whose seat is its table's there
+/// is a run of one transfer.
+pub fn one_payment_is_made()
+    ensures { (d : Daemon ℕ (List ℕ)) → IsOf d.flusher.table.now d.flusher.seat → d.flusher.table.now.ring ≡ 1024 → HasMadePayment }
 {}

@@ -143,6 +143,7 @@ same-trans old middle new first second = record {
   standing = second.standing ∙ first.standing;
   contended = second.contended ∙ first.contended;
   grows = let one = first.grows in let two = second.grows in omega arith;
+  durable = let one = first.durable in let two = second.durable in omega arith;
   steps = let one = first.steps in let two = second.steps in omega arith;
 }
 
