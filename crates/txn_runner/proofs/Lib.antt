@@ -5,5 +5,6 @@ pub mod Held
 pub mod Listing
 pub mod Making
 pub mod Moving
+pub mod Passing
 pub mod Putting
 pub mod Staying

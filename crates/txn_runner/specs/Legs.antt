@@ -21,7 +21,7 @@ use Rattle.log_table.specs.Closing.{records_of}
 use Rattle.txn_runner.specs.declared.holding.Holding.{Holding}
 use Rattle.txn_runner.specs.declared.rows.Answer.{Answer}
 use Rattle.txn_runner.specs.declared.rows.Answer.TheVariants.{Done}
-use Rattle.txn_runner.specs.Accounts.{HasAccountsOf}
+use Rattle.txn_runner.specs.Accounts.{HasAccountsOf, IsAccountOf}
 use Rattle.txn_runner.specs.Holdings.{account_of}
 use Rattle.txn_runner.specs.Inserts.{Adds, IsLeft}
 use Rattle.txn_runner.specs.Running.{outcome_of}
@@ -31,6 +31,7 @@ pub record HoldsJob (accounts number : ℕ) (job : Job) (holdings : List Holding
   pub last : books.last ≡ record { number = number; job = job }
   pub allowed : IsAllowed accounts (record { number = number; job = job })
   pub all : All (HasAccountsOf (map account_of holdings)) job.legs
+  pub only : All (IsAccountOf job.legs) (map account_of holdings)
   pub taken : All (λ (holding : Holding). HoldsTaken holding.taken books) holdings
 
 -- the Updates of a leg's two accounts, each with the last Commit as it was taken
