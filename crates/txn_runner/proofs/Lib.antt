@@ -1,5 +1,6 @@
 pub mod Adding
 pub mod Backing
+pub mod Beginning
 pub mod Gaining
 pub mod Held
 pub mod Listing
