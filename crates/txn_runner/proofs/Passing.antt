@@ -7,6 +7,7 @@ use Rattle.std.proofs.lemmas.List.Elements.{All-contains, All-from_recursion, re
 use Rattle.log_record.specs.declared.rec.Rec.{Rec}
 use Rattle.log_record.specs.declared.rec.Rec.TheVariants.{Update, Commit, Short, Over}
 use Rattle.log_record.specs.declared.rec.Entry.{Entry as Placed}
+use Rattle.log_record.specs.Spelling.{IsLeg}
 use Rattle.lock_core.specs.declared.limits.TheConstants.{MOST_BALANCE}
 use Rattle.lock_core.specs.declared.update.Change.{Change}
 use Rattle.lock_core.specs.Alone.{outcome_from, outcome_alone, after_leg, planned_from, lacks, overfills, ShortAt, OverAt}
@@ -48,6 +49,27 @@ pub holds-accounts : (accounts number : ℕ) (job : Job) (holdings : List Holdin
 holds-accounts accounts number job holdings books holds = subst (λ (last : TakenJob). AllByRecursion (HoldsLeg books.held) last.job.legs) (sym holds.last)
     (recursion_from_All (HoldsLeg books.held) job.legs (All-weaker (HasAccountsOf (map account_of holdings)) (HoldsLeg books.held)
     (λ leg has. (contains-held books holdings leg.0 holds.taken has.0, contains-held books holdings leg.1 holds.taken has.1)) job.legs holds.all))
+
+-- records that are placed, and balances that are changed, leave the job and its accounts as they are
+pub holds-behind : (accounts number : ℕ) (job : Job) (holdings : List Holding) (books books' : Books) (added : List Entry) → books' ≡ placing_all added books
+    → HoldsJob accounts number job holdings books → HoldsJob accounts number job holdings books'
+holds-behind accounts number job holdings books books' added placed holds = subst (HoldsJob accounts number job holdings) (sym placed) record {
+  last = holds.last;
+  allowed = holds.allowed;
+  all = holds.all;
+  only = holds.only;
+  taken = λ k d within. let taken = holds.taken k d within in record { has = taken.has; balance = taken.balance; mark = taken.mark };
+}
+
+holds-same : (accounts number : ℕ) (job : Job) (old new : List Holding) (books : Books) → map taken_of new ≡ map taken_of old
+    → HoldsJob accounts number job old books → HoldsJob accounts number job new books
+holds-same accounts number job old new books same holds = record {
+  last = holds.last;
+  allowed = holds.allowed;
+  all = subst (λ list. All (HasAccountsOf list) job.legs) (sym (same-accounts old new same)) holds.all;
+  only = subst (All (IsAccountOf job.legs)) (sym (same-accounts old new same)) holds.only;
+  taken = all-same old new same (λ taken. HoldsTaken taken books) holds.taken;
+}
 
 -- the accounts of one more leg are changed
 touches-behind : (account : ℕ) (changes : List Change) (less more : Change) → touches account changes ≡ true → touches account (more ∷ less ∷ changes) ≡ true
@@ -95,6 +117,7 @@ module _ (accounts number : ℕ) (job : Job) (holdings : List Holding) (books : 
   pub reaches-done : i ≡ length job.legs → ReachesEnd answer.Done number job holdings books
   reaches-done all = record {
     left = subst (λ (k : ℕ). IsLeft (Commit number k ∷ []) books) all (subst (λ legs. IsLeft (planned_from number mark balances i legs) books) none stands.left);
+    spellable = (holds.allowed.number, (holds.allowed.job.legs.some, holds.allowed.job.legs.few));
     outcome = sym (stands.outcome ∙ ap (λ legs. outcome_from i legs balances) none);
     moved = λ _ k d within. has-moved (get_or holdings k d) (holds.taken k d within) (stands.now k d within)
         (subst (IsAccountOf job.legs) (get_or-map account_of holdings k d 0 within) (holds.only k 0 (omega (arith, length-map holdings account_of))));
@@ -140,6 +163,9 @@ module _ (accounts number : ℕ) (job : Job) (holdings : List Holding) (books : 
     pub leg-allowed : IsAllowedLeg accounts leg
     leg-allowed = subst (All (IsAllowedLeg accounts)) (sym same) (All-from_recursion (IsAllowedLeg accounts) job.legs holds.allowed.job.legs.each) i (0, 0, 0) within
 
+    leg-number : IsLeg (i + 1)
+    leg-number = (omega arith, omega (arith, ap length same, holds.allowed.job.legs.few))
+
     pub leg-accounts : HasAccountsOf (map account_of holdings) leg
     leg-accounts = subst (All (HasAccountsOf (map account_of holdings))) (sym same) holds.all i (0, 0, 0) within
 
@@ -148,6 +174,7 @@ module _ (accounts number : ℕ) (job : Job) (holdings : List Holding) (books : 
      pub reaches-short : payer.balance < leg.2 → ReachesEnd (answer.Short (i + 1)) number job holdings books
      reaches-short little = record {
        left = subst (λ records. IsLeft records books) (cond-true (lacks leg balances) _ _ short) left-at;
+       spellable = (holds.allowed.number, leg-number);
        outcome = sym (outcome-at ∙ cond-true (lacks leg balances) _ _ short);
        moved = λ is. cc;
        uncommitted = stands.uncommitted;
@@ -167,6 +194,7 @@ module _ (accounts number : ℕ) (job : Job) (holdings : List Holding) (books : 
       pub reaches-over : MOST_BALANCE - leg.2 < payee.balance → ReachesEnd (answer.Over (i + 1)) number job holdings books
       reaches-over much = record {
         left = subst (λ records. IsLeft records books) (cond-false (lacks leg balances) _ _ has ∙ cond-true (overfills leg balances) _ _ over) left-at;
+        spellable = (holds.allowed.number, leg-number);
         outcome = sym (outcome-at ∙ cond-false (lacks leg balances) _ _ has ∙ cond-true (overfills leg balances) _ _ over);
         moved = λ is. cc;
         uncommitted = stands.uncommitted;
@@ -223,15 +251,8 @@ module _ (accounts number : ℕ) (job : Job) (holdings : List Holding) (books : 
           changes' = ap changes_in records'
 
           pub still-holds : HoldsJob accounts number job holdings' books'
-          still-holds = record {
-            last = ap (λ (b : Books). b.last) placed ∙ holds.last;
-            allowed = holds.allowed;
-            all = subst (λ list. All (HasAccountsOf list) job.legs) (sym (same-accounts holdings holdings' (paid-taken leg holdings holdings' paid))) holds.all;
-            only = subst (All (IsAccountOf job.legs)) (sym (same-accounts holdings holdings' (paid-taken leg holdings holdings' paid))) holds.only;
-            taken = subst (λ (b : Books). All (λ (holding : Holding). HoldsTaken holding.taken b) holdings') (sym placed)
-                (all-same holdings holdings' (paid-taken leg holdings holdings' paid) (λ taken. HoldsTaken taken (placing_all added books))
-                (λ k d lt. let taken = holds.taken k d lt in record { has = taken.has; balance = taken.balance; mark = taken.mark }));
-          }
+          still-holds = holds-same accounts number job holdings holdings' books' (paid-taken leg holdings holdings' paid)
+              (holds-behind accounts number job holdings books books' added placed holds)
 
           touched' : All (TouchesLeg (changes_in (recs_of books'.placed))) (take (i + 1) job.legs)
           touched' = subst (λ (p : List (ℕ × ℕ × ℕ) × List Change). All (TouchesLeg p.1) (take (i + 1) p.0)) (λ k. (same k, sym changes' k))

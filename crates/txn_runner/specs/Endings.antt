@@ -1,8 +1,7 @@
 -- How a transfer ends.
 use Rattle.std.specs.Prelude.{◌≡◌, ℕ, ◌+◌, true, List, [], ◌∷◌, ◌++◌, All}
-use Rattle.log_record.specs.declared.rec.Rec.{Rec}
 use Rattle.log_record.specs.LogList.{size_of}
-use Rattle.lock_core.specs.Alone.{outcome_alone, end_record}
+use Rattle.lock_core.specs.Alone.{outcome_alone}
 use Rattle.lock_core.specs.History.{end_from}
 use Rattle.lock_core.specs.Transactions.{recs_of, has_end}
 use Rattle.txn_script.specs.declared.job.Job.{Job}
@@ -19,6 +18,7 @@ use Rattle.txn_runner.specs.declared.rows.Answer.TheVariants.{Done, Short, Over}
 use Rattle.txn_runner.specs.declared.transfer.Ended.{Ended}
 use Rattle.txn_runner.specs.Holdings.{GoesBack}
 use Rattle.txn_runner.specs.Inserts.{Adds, IsLeft}
+use Rattle.txn_runner.specs.Legs.{last_record}
 use Rattle.txn_runner.specs.Running.{outcome_of}
 
 -- with which values the accounts go back where the end record ends there
@@ -26,10 +26,6 @@ abbrev pub release_at : ℕ → Answer → Release
 release_at end Done = Committed end
 release_at end (Short leg) = Unchanged
 release_at end (Over leg) = Unchanged
-
--- the end record of a transfer with this answer
-abbrev pub last_record : ℕ → Job → Answer → Rec
-last_record number job answer = end_record number (transfer_of job) (outcome_of answer)
 
 -- The seat inserted records of the transfer, its end record last, and none is left. The answer is the outcome of the transfer run alone on the
 -- balances as taken, and the holdings have the values with which they go back.

@@ -7,8 +7,8 @@ ghost use Rattle.log_table.specs.Seats.{IsOf, view_of};
 ghost use Rattle.ring_buffer.specs.Calls.{IsReady};
 ghost use Rattle.txn_runner.specs.Holdings.{taken_of, IsUnchanged};
 ghost use Rattle.txn_runner.specs.Inserts.{HasAdded, IsCutOff};
-ghost use Rattle.txn_runner.specs.Legs.{HoldsJob, AddsRecords};
-ghost use Rattle.txn_runner.specs.Endings.{release_at, last_record, EndsTransfer};
+ghost use Rattle.txn_runner.specs.Legs.{HoldsJob, AddsRecords, last_record};
+ghost use Rattle.txn_runner.specs.Endings.{release_at, EndsTransfer};
 
 use crate::cause::Cause;
 use crate::giving::Release;
