@@ -66,6 +66,11 @@ left-behind entries rest books books' is left = subst (IsLeft rest) (sym is) (sa
     same [] placed = refl
     same (entry ∷ entries) placed = same entries (record { end = entry.start + entry.size; rec = entry.rec } ∷ placed)
 
+-- the records that are placed then, newest first
+pub records-behind : (entries : List Entry) (placed : List Placed) → recs_of (placed_behind entries placed) ≡ in_order (records_of entries) (recs_of placed)
+records-behind [] placed = refl
+records-behind (entry ∷ entries) placed = records-behind entries (record { end = entry.start + entry.size; rec = entry.rec } ∷ placed)
+
 pub uncommitted-behind : (entries : List Entry) (books books' : Books) → books' ≡ placing_all entries books → has_commit (records_of entries) ≡ false
     → has_commit (recs_of books.placed) ≡ false → has_commit (recs_of books'.placed) ≡ false
 uncommitted-behind entries books books' is none before = ap (λ (b : Books). has_commit (recs_of b.placed)) is ∙ still entries books.placed none before

@@ -14,7 +14,7 @@ use Rattle.log_table.specs.Views.{gave_account}
 use Rattle.early_locks.specs.declared.taking.Taken.{Taken}
 use Rattle.early_locks.specs.Locks.{HoldsTaken}
 use Rattle.txn_runner.specs.declared.holding.Holding.{Holding}
-use Rattle.txn_runner.specs.Holdings.{account_of, as_held, held_behind, Lacks, AreDistinct, with_held}
+use Rattle.txn_runner.specs.Holdings.{account_of, taken_of, as_held, held_behind, Lacks, AreDistinct, with_held}
 use Rattle.txn_runner.proofs.Listing.{rising-below}
 
 -- ascending accounts are distinct
@@ -102,3 +102,22 @@ module _ (first second : Seat) (holdings rest : List Holding) (holding : Holding
 
       left : without holding.taken.account (held_behind (holding ∷ rest) []) ≡ held_behind rest []
       left = without-behind rest [] (as_held holding.taken) distinct-both.0 tt
+
+-- holdings of the same accounts, taken with the same values
+module _ (old new : List Holding) (same : map taken_of new ≡ map taken_of old) where
+  same-length : length new ≡ length old
+  same-length = sym (length-map new taken_of) ∙ ap length same ∙ length-map old taken_of
+
+  pub same-taken : (k : ℕ) (d : Holding) → k < length new → (get_or new k d).taken ≡ (get_or old k d).taken
+  same-taken k d within = sym (get_or-map taken_of new k d d.taken within) ∙ ap (λ list. get_or list k d.taken) same
+      ∙ get_or-map taken_of old k d d.taken (omega (arith, same-length))
+
+  pub same-accounts : map account_of new ≡ map account_of old
+  same-accounts = accounts new ∙ ap (map (λ (taken : Taken). taken.account)) same ∙ sym (accounts old)
+    where
+      accounts : (holdings : List Holding) → map account_of holdings ≡ map (λ (taken : Taken). taken.account) (map taken_of holdings)
+      accounts [] = refl
+      accounts (holding ∷ holdings) = ap (λ list. holding.taken.account ∷ list) (accounts holdings)
+
+  pub all-same : (P : Taken → Type 0) → All (λ (holding : Holding). P holding.taken) old → All (λ (holding : Holding). P holding.taken) new
+  all-same P all k d within = subst P (sym (same-taken k d within)) (all k d (omega (arith, same-length)))

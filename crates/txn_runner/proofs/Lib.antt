@@ -6,10 +6,13 @@ pub mod StripeLemmas
 pub mod WorkLemmas
 pub mod Adding
 pub mod Backing
+pub mod Beginning
+pub mod Finishing
 pub mod Gaining
 pub mod Held
 pub mod Listing
 pub mod Making
 pub mod Moving
+pub mod Passing
 pub mod Putting
 pub mod Staying

@@ -50,10 +50,14 @@ pub record HoldsAll (holdings : List Holding) (books : Books) : Type 0 where
   pub distinct : AreDistinct holdings
   pub held : books.held ≡ held_behind holdings []
 
--- the seat, which held none, took these accounts in this order; no balance is changed yet
+-- no leg has changed the balance yet
+abbrev pub IsUnchanged : Holding → Type 0
+IsUnchanged holding = holding.balance ≡ holding.taken.balance
+
+-- the seat, which held none, took these accounts in this order
 pub record TakesAll (accounts : List ℕ) (holdings : List Holding) (old new : Seat) : Type 0 where
   pub accounts_are : map account_of holdings ≡ accounts
-  pub unchanged : All (λ (holding : Holding). holding.balance ≡ holding.taken.balance) holdings
+  pub unchanged : All IsUnchanged holdings
   pub entries : HasEntries old new (view_of old).entries (holding_all holdings (view_of old).books)
 
 -- the balance and the last commit with which an account goes back

@@ -2,7 +2,7 @@
 use Rattle.std.specs.Prelude.{◌≡◌, ℕ, ◌+◌, ◌≤◌, true, false, Bool, pos, neg_ℤ, List, [], ◌∷◌, ◌++◌, map, take, drop, All}
 use Rattle.log_record.specs.declared.rec.Rec.{Rec}
 use Rattle.log_record.specs.declared.rec.Rec.TheVariants.{Update}
-use Rattle.log_record.specs.Spelling.{IsTxn}
+use Rattle.log_record.specs.Spelling.{IsTxn, IsSpellable}
 use Rattle.lock_core.specs.declared.limits.TheConstants.{MOST_BALANCE}
 use Rattle.lock_core.specs.declared.update.Change.{Change}
 use Rattle.lock_core.specs.Alone.{outcome_from, outcome_alone, after_leg, planned_from, end_record}
@@ -21,7 +21,7 @@ use Rattle.log_table.specs.Closing.{records_of}
 use Rattle.txn_runner.specs.declared.holding.Holding.{Holding}
 use Rattle.txn_runner.specs.declared.rows.Answer.{Answer}
 use Rattle.txn_runner.specs.declared.rows.Answer.TheVariants.{Done}
-use Rattle.txn_runner.specs.Accounts.{HasAccountsOf}
+use Rattle.txn_runner.specs.Accounts.{HasAccountsOf, IsAccountOf}
 use Rattle.txn_runner.specs.Holdings.{account_of}
 use Rattle.txn_runner.specs.Inserts.{Adds, IsLeft}
 use Rattle.txn_runner.specs.Running.{outcome_of}
@@ -31,6 +31,7 @@ pub record HoldsJob (accounts number : ℕ) (job : Job) (holdings : List Holding
   pub last : books.last ≡ record { number = number; job = job }
   pub allowed : IsAllowed accounts (record { number = number; job = job })
   pub all : All (HasAccountsOf (map account_of holdings)) job.legs
+  pub only : All (IsAccountOf job.legs) (map account_of holdings)
   pub taken : All (λ (holding : Holding). HoldsTaken holding.taken books) holdings
 
 -- the Updates of a leg's two accounts, each with the last Commit as it was taken
@@ -87,9 +88,14 @@ pub record HasMoved (books : Books) (holding : Holding) : Type 0 where
       ≡ holding.taken.balance + moved gain holding.taken.account (changes_in (recs_of books.placed))
   pub touched : touches holding.taken.account (changes_in (recs_of books.placed)) ≡ true
 
+-- the end record of a transfer with this answer
+abbrev pub last_record : ℕ → Job → Answer → Rec
+last_record number job answer = end_record number (transfer_of job) (outcome_of answer)
+
 -- only the end record is left, and it is that of the answer, which is the outcome of the transfer run alone on the balances as taken
 pub record ReachesEnd (answer : Answer) (number : ℕ) (job : Job) (holdings : List Holding) (books : Books) : Type 0 where
-  pub left : IsLeft (end_record number (transfer_of job) (outcome_of answer) ∷ []) books
+  pub left : IsLeft (last_record number job answer ∷ []) books
+  pub spellable : IsSpellable (last_record number job answer)
   pub outcome : outcome_of answer ≡ outcome_alone (transfer_of job) (balance_taken books.held)
   pub moved : answer ≡ Done → All (HasMoved books) holdings
   pub uncommitted : has_commit (recs_of books.placed) ≡ false

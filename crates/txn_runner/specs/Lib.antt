@@ -1,4 +1,5 @@
 pub mod Accounts
+pub mod Endings
 pub mod Holdings
 pub mod Inserts
 pub mod Legs
