@@ -25,7 +25,7 @@ impl<'a, D: LogDisk, K: Sink> Relief for FlushingRelief<'a, D, K> {
         }
     }
 
-    ghost later_refl = { λ relief. Later-refl D.LogDisk K.Sink relief.daemon };
+    ghost later_refl = { λ relief. Later-refl D.LogDisk.own K.Sink.own relief.daemon };
 
-    ghost later_trans = { λ first mid last before after. Later-trans D.LogDisk K.Sink first.daemon mid.daemon last.daemon before after };
+    ghost later_trans = { λ first mid last before after. Later-trans D.LogDisk.own K.Sink.own first.daemon mid.daemon last.daemon before after };
 }
