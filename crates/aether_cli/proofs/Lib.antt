@@ -1,8 +1,10 @@
 pub mod AnswerLemmas
 pub mod CompletenessLemmas
 pub mod CreationLemmas
+pub mod GatheredShares
 pub mod GenesisLemmas
 pub mod LawLemmas
+pub mod MergedEntries
 pub mod NumberedLemmas
 pub mod OpenedAccounts
 pub mod OpeningLemmas

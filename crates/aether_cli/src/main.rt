@@ -21,6 +21,7 @@ mod recover_command;
 mod report;
 mod run_command;
 mod script_input;
+mod scope;
 mod serving;
 #[cfg(test)]
 mod tests;
