@@ -1,6 +1,7 @@
 pub mod AnswerLemmas
 pub mod CompletenessLemmas
 pub mod CreationLemmas
+pub mod EndingLemmas
 pub mod GatheredShares
 pub mod GenesisLemmas
 pub mod LawLemmas
@@ -9,6 +10,7 @@ pub mod NumberedLemmas
 pub mod OpenedAccounts
 pub mod OpeningLemmas
 pub mod ReadyLemmas
+pub mod RunAnswerLemmas
 pub mod RunEnds
 pub mod RunHistory
 pub mod RunImages
