@@ -41,7 +41,10 @@ fn takes_commands(rt: HostRuntime) -> Result<(), Fail> {
         );
     }
     for words in [["aether", "dump"], ["", "dump"]] {
-        assert!(rt; matches!(parsed(&rt, &words)?, Ok(Command::Dump)), "{words:?}");
+        assert!(rt;
+            matches!(parsed(&rt, &words)?, Ok(Command::Dump)),
+            "{words:?}"
+        );
     }
     Ok(())
 }

@@ -1,4 +1,4 @@
-use Rattle.std.proofs.Common.{◌≡◌, ◌∙◌, sym, subst}
+use Rattle.std.proofs.Common.{◌∙◌, sym, subst}
 use Rattle.aether_cli.specs.Answers.{IsOfDump, IsOfRecover}
 use Rattle.aether_cli.proofs.CompletenessLemmas.{dump-complete, new-complete}
 use Rattle.aether_cli.proofs.top.aether.Goals as goal
