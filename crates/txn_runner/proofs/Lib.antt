@@ -1,6 +1,7 @@
 pub mod Adding
 pub mod Backing
 pub mod Beginning
+pub mod Composing
 pub mod Finishing
 pub mod Gaining
 pub mod Held
