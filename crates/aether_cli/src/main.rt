@@ -15,6 +15,8 @@ mod new_command;
 #[cfg(test)]
 mod pipeline_tests;
 mod recover_command;
+#[cfg(test)]
+mod relief_tests;
 mod report;
 #[cfg(test)]
 mod tests;
