@@ -1,16 +1,21 @@
--- What `recover` and `new` answer, from what was read, recovered and written.
-use Rattle.std.proofs.Common.{◌≡◌, ℕ, ◌*◌, List, length, Option, Some, None, IfSome, ap, ◌∙◌, subst, arith}
+-- What `recover`, `dump` and `new` answer, from what was read, recovered and written.
+use Rattle.std.proofs.Common.{◌≡◌, ℕ, ◌*◌, List, [], length, Option, Some, None, IfSome, ap, ◌∙◌, subst, arith}
 use Rattle.std.proofs.lemmas.List.{length-map}
 use Rattle.std.specs.Io.KnownBytes.{Appends}
 use Rattle.log_disk.specs.Streams.{AppendsPrefix}
+use Rattle.log_recovery.specs.declared.list_result.Listed.{Listed}
 use Rattle.log_recovery.specs.declared.recovery.Recovered.{Recovered}
-use Rattle.log_recovery.specs.Recovery.{Recovers}
+use Rattle.log_recovery.specs.declared.recovery.RecoverFault.{RecoverFault}
+use Rattle.log_recovery.specs.declared.recovery.RecoverFault.TheVariants as fault
+use Rattle.log_recovery.specs.Dump.{dump_text}
+use Rattle.log_recovery.specs.Recovery.{HoldsList, IsListedFaultOf, ListsBytes, Recovers}
 use Rattle.log_recovery.specs.Text.{rows_text, accounts_text}
 use Rattle.lsn_space.specs.Accounts.{Accounts}
 use Rattle.txn_script.specs.Balances.{IsBalancesText}
 use Rattle.log_recovery.proofs.TextLemmas.{rows_text-shown}
-use Rattle.aether_cli.specs.declared.report.Detail.TheVariants.{Fine, Write}
-use Rattle.aether_cli.specs.Answers.{AnswersRecover, AnswersNew, AreOpening, ReadsAll}
+use Rattle.aether_cli.specs.declared.report.Detail.TheVariants.{Fine, NoMemory, Usage, Script, Read, Write, Disk, NotALog, BadBatch, BadRec, Unlawful, Exists}
+use Rattle.aether_cli.specs.declared.report.Detail.{Detail}
+use Rattle.aether_cli.specs.Answers.{AnswersRecover, AnswersDump, AnswersNew, AreOpening, IsMakingFault, IsOfDump, ReadsAll, recover_detail}
 use Rattle.aether_cli.specs.Creation.{genesis_list}
 use Rattle.aether_cli.proofs.GenesisLemmas.{genesis-text}
 
@@ -27,6 +32,34 @@ answers-write None left_new old new bytes r read recovers written = tt
 answers-write (Some all) left_new old new bytes r read recovers written =
     let found = subst (λ b. Recovers r b) read.0 recovers in
     (read.1, found.records, found.held, rw (rows_text-shown _ _ found.records found.lsn found.accounts) at written)
+
+pub answers_dump-fine : (left left_new old new : Option (List ℕ)) (bytes : List ℕ) (list : Listed) → ReadsAll left left_new bytes
+    → (found : ListsBytes list bytes) → Appends old new (dump_text found.records) → IfSome left (λ all. AnswersDump all left_new old new Fine)
+answers_dump-fine None left_new old new bytes list read found written = tt
+answers_dump-fine (Some all) left_new old new bytes list read found written =
+    (read.1, found.records, subst (λ b. HoldsList b found.records) read.0 found.held, written)
+
+pub answers_dump-write : (left left_new old new : Option (List ℕ)) (bytes : List ℕ) (list : Listed) → ReadsAll left left_new bytes
+    → (found : ListsBytes list bytes) → AppendsPrefix old new (dump_text found.records) → IfSome left (λ all. AnswersDump all left_new old new Write)
+answers_dump-write None left_new old new bytes list read found written = tt
+answers_dump-write (Some all) left_new old new bytes list read found written =
+    (read.1, found.records, subst (λ b. HoldsList b found.records) read.0 found.held, written)
+
+pub answers_dump-fault : (left left_new old new : Option (List ℕ)) (bytes : List ℕ) (f : RecoverFault) → ReadsAll left left_new bytes
+    → IsListedFaultOf bytes f → IfSome left (λ all. AnswersDump all left_new old new (recover_detail f))
+answers_dump-fault None left_new old new bytes f read is = tt
+answers_dump-fault (Some all) left_new old new bytes fault.NotALog read is = (read.1, subst (λ b. IsListedFaultOf b fault.NotALog) read.0 is)
+answers_dump-fault (Some all) left_new old new bytes (fault.BadBatch offset) read is = (read.1, subst (λ b. IsListedFaultOf b (fault.BadBatch offset)) read.0 is)
+answers_dump-fault (Some all) left_new old new bytes (fault.BadRec lsn) read is = (read.1, subst (λ b. IsListedFaultOf b (fault.BadRec lsn)) read.0 is)
+answers_dump-fault (Some all) left_new old new bytes (fault.Unlawful lsn why) read is = is
+answers_dump-fault (Some all) left_new old new bytes fault.NoMemory read is = tt
+
+pub range_dump-fault : (bytes : List ℕ) (f : RecoverFault) → IsListedFaultOf bytes f → IsOfDump (recover_detail f)
+range_dump-fault bytes fault.NotALog is = tt
+range_dump-fault bytes (fault.BadBatch offset) is = tt
+range_dump-fault bytes (fault.BadRec lsn) is = tt
+range_dump-fault bytes (fault.Unlawful lsn why) is = is
+range_dump-fault bytes fault.NoMemory is = tt
 
 -- the text of the new log's accounts
 text-opening : (left left_new : Option (List ℕ)) (accounts : Accounts) (opening : AreOpening left left_new accounts) (lsn : ℕ)

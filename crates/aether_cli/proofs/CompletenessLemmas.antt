@@ -1,10 +1,14 @@
--- Where nothing stands in its way, `new` succeeds.
+-- Where nothing stands in their way, `new` and `dump` succeed.
 use Rattle.std.proofs.Common.{◌≡◌, ◌⊎◌, inl, inr, refl, List, ℕ, Option, Some, None, IfSome}
 use Rattle.txn_script.specs.Balances.{IsBalancesText}
 use Rattle.txn_script.proofs.BalanceLemmas.{balances-or_bad}
 use Rattle.aether_cli.specs.declared.report.Detail.{Detail}
 use Rattle.aether_cli.specs.declared.report.Detail.TheVariants.{Fine, NoMemory, Usage, Script, Read, Write, Disk, NotALog, BadBatch, BadRec, Unlawful, Exists}
-use Rattle.aether_cli.specs.Answers.{AnswersNew}
+use Rattle.log_record.specs.declared.rec.Rec.{Rec}
+use Rattle.log_recovery.specs.declared.recovery.RecoverFault.TheVariants as fault
+use Rattle.log_recovery.specs.Recovery.{HoldsList}
+use Rattle.log_recovery.proofs.AnswerLemmas.{listed-fault}
+use Rattle.aether_cli.specs.Answers.{AnswersDump, AnswersNew}
 use Rattle.aether_cli.specs.Creation.{TellsWhether}
 
 -- the input is in its grammar, no log is there, and no fault was counted
@@ -27,3 +31,24 @@ new-complete (Some bytes) left_new old new opened R W D NotALog answers tells re
 new-complete (Some bytes) left_new old new opened R W D (BadBatch offset) answers tells reads writes disk closed = absurd answers
 new-complete (Some bytes) left_new old new opened R W D (BadRec lsn) answers tells reads writes disk closed = absurd answers
 new-complete (Some bytes) left_new old new opened R W D (Unlawful lsn why) answers tells reads writes disk closed = absurd answers
+
+-- the input holds a list, and no fault was counted
+pub dump-complete : (left left_new old new : Option (List ℕ)) (ReadFails WriteFails : Type 0) (detail : Detail)
+    → IfSome left (λ bytes. AnswersDump bytes left_new old new detail) → (detail ≡ Read → ReadFails) → (detail ≡ Write → WriteFails)
+    → IfSome left (λ bytes. (records : List Rec) → HoldsList bytes records → (ReadFails → ⊥) → (WriteFails → ⊥) → (detail ≡ Fine) ⊎ (detail ≡ NoMemory))
+dump-complete None left_new old new R W detail answers reads writes = tt
+dump-complete (Some bytes) left_new old new R W Fine answers reads writes = λ records held r w. inl refl
+dump-complete (Some bytes) left_new old new R W NoMemory answers reads writes = λ records held r w. inr refl
+dump-complete (Some bytes) left_new old new R W Read answers reads writes = λ records held r w. absurd (r (reads refl))
+dump-complete (Some bytes) left_new old new R W Write answers reads writes = λ records held r w. absurd (w (writes refl))
+dump-complete (Some bytes) left_new old new R W NotALog answers reads writes =
+    λ records held r w. let none = listed-fault bytes records fault.NotALog held answers.1 in cc
+dump-complete (Some bytes) left_new old new R W (BadBatch offset) answers reads writes =
+    λ records held r w. let none = listed-fault bytes records (fault.BadBatch offset) held answers.1 in cc
+dump-complete (Some bytes) left_new old new R W (BadRec lsn) answers reads writes =
+    λ records held r w. let none = listed-fault bytes records (fault.BadRec lsn) held answers.1 in cc
+dump-complete (Some bytes) left_new old new R W (Unlawful lsn why) answers reads writes = absurd answers
+dump-complete (Some bytes) left_new old new R W Usage answers reads writes = absurd answers
+dump-complete (Some bytes) left_new old new R W (Script line) answers reads writes = absurd answers
+dump-complete (Some bytes) left_new old new R W Disk answers reads writes = absurd answers
+dump-complete (Some bytes) left_new old new R W Exists answers reads writes = absurd answers

@@ -5,7 +5,8 @@ use Rattle.log_disk.specs.Streams.{AppendsPrefix}
 use Rattle.log_record.specs.declared.rec.Rec.{Rec}
 use Rattle.log_recovery.specs.declared.recovery.RecoverFault.{RecoverFault}
 use Rattle.log_recovery.specs.declared.recovery.RecoverFault.TheVariants as fault
-use Rattle.log_recovery.specs.Recovery.{HoldsLawful, IsFaultOf}
+use Rattle.log_recovery.specs.Recovery.{HoldsList, HoldsLawful, IsFaultOf}
+use Rattle.log_recovery.specs.Dump.{dump_text}
 use Rattle.log_recovery.specs.Text.{accounts_text}
 use Rattle.txn_script.specs.Balances.{IsBalancesText, IsFirstBadBalance, ReadsBalances}
 use Rattle.lsn_space.specs.Accounts.{Accounts}
@@ -40,6 +41,11 @@ IsOfRecover (Script line) = ⊥
 IsOfRecover Disk = ⊥
 IsOfRecover Exists = ⊥
 IsOfRecover detail = Unit {0}
+
+-- the answers that there are to `dump`
+abbrev pub IsOfDump : Detail → Type 0
+IsOfDump (Unlawful lsn why) = ⊥
+IsOfDump detail = IsOfRecover detail
 
 -- the answers that there are to `new`
 abbrev pub IsOfNew : Detail → Type 0
@@ -100,6 +106,23 @@ AnswersRecover bytes left old new Usage = ⊥
 AnswersRecover bytes left old new (Script line) = ⊥
 AnswersRecover bytes left old new Disk = ⊥
 AnswersRecover bytes left old new Exists = ⊥
+
+-- `dump` on these bytes: the same, but the list need not be lawful, and what is written is its dump, or a prefix of it
+abbrev pub AnswersDump : List ℕ → Option (List ℕ) → Option (List ℕ) → Option (List ℕ) → Detail → Type 0
+AnswersDump bytes left old new Fine =
+    (left ≡ Some []) × (records : List Rec) × HoldsList bytes records × Appends old new (dump_text records)
+AnswersDump bytes left old new Write =
+    (left ≡ Some []) × (records : List Rec) × HoldsList bytes records × AppendsPrefix old new (dump_text records)
+AnswersDump bytes left old new NotALog = HasFault bytes left fault.NotALog
+AnswersDump bytes left old new (BadBatch offset) = HasFault bytes left (fault.BadBatch offset)
+AnswersDump bytes left old new (BadRec lsn) = HasFault bytes left (fault.BadRec lsn)
+AnswersDump bytes left old new Read = Unit {0}
+AnswersDump bytes left old new NoMemory = Unit {0}
+AnswersDump bytes left old new Usage = ⊥
+AnswersDump bytes left old new (Unlawful lsn why) = ⊥
+AnswersDump bytes left old new (Script line) = ⊥
+AnswersDump bytes left old new Disk = ⊥
+AnswersDump bytes left old new Exists = ⊥
 
 -- why the input of `new` gives no balances
 abbrev pub IsInputFault : Option (List ℕ) → Option (List ℕ) → Detail → Type 0

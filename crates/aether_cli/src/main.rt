@@ -2,8 +2,12 @@
 #![tactic(auto)]
 
 mod command;
+mod dump_command;
+#[cfg(test)]
+mod dump_tests;
 mod faults;
 mod finding;
+mod flushing_relief;
 mod genesis;
 mod input;
 mod laws;
@@ -11,6 +15,8 @@ mod new_command;
 #[cfg(test)]
 mod pipeline_tests;
 mod recover_command;
+#[cfg(test)]
+mod relief_tests;
 mod report;
 #[cfg(test)]
 mod tests;

@@ -48,13 +48,14 @@ const TRANSFERS: u32 = 500;
 const TRANSFERS_END: u32 = 4 + 5 * 2 * TRANSFERS;
 
 /// The calls of the disk that make the log of the two accounts.
-const CREATED: u64 = 7;
+pub(crate) const CREATED: u64 = 7;
 
-fn table_from_4(alloc: Global) -> Result<(LogTable, Seat), NoMemory>
+pub(crate) fn table_from_4(alloc: Global) -> Result<(LogTable, Seat), NoMemory>
     ensures seat { IfOk result (λ made. IsOf made.0 made.1) }
     ensures flusher { IfOk result (λ made. (view_of made.1).standing.role ≡ FlusherRole) }
     ensures durable { IfOk result (λ made. sent_to (view_of made.1) ≡ 4) }
     ensures unread { IfOk result (λ made. (view_of made.1).sending.read ≡ []) }
+    ensures running { IfOk result (λ made. (view_of made.1).sending.stop ≡ 0) }
     ensures seen { IfOk result (λ made. Contains (view_of made.1).seen.lsns 4) }
     ensures made { IfOk result (λ made. (view_of made.1).standing.made ≡ []) }
     ensures enrolled { IfOk result (λ made. (view_of made.1).standing.enrolled ≡ []) }
@@ -82,6 +83,7 @@ fn two_workers(table: &LogTable, boss: &mut Seat) -> (Seat, Seat)
     requires flusher { (view_of boss.old).standing.role ≡ FlusherRole }
     requires durable { sent_to (view_of boss.old) ≡ 4 }
     requires unread { (view_of boss.old).sending.read ≡ [] }
+    requires running { (view_of boss.old).sending.stop ≡ 0 }
     requires seen { Contains (view_of boss.old).seen.lsns 4 }
     requires made { (view_of boss.old).standing.made ≡ [] }
     requires enrolled { (view_of boss.old).standing.enrolled ≡ [] }
@@ -90,6 +92,7 @@ fn two_workers(table: &LogTable, boss: &mut Seat) -> (Seat, Seat)
     ensures flusher { (view_of boss.new).standing.role ≡ FlusherRole }
     ensures durable { sent_to (view_of boss.new) ≡ 4 }
     ensures unread { (view_of boss.new).sending.read ≡ [] }
+    ensures running { (view_of boss.new).sending.stop ≡ 0 }
     ensures seen { Contains (view_of boss.new).seen.lsns 4 }
     ensures told { knows_all_enrolled (view_of boss.new).standing ≡ true }
     ensures one { IsOf table.now result.0 × IsReady (view_of result.0) × IsFreeFor 1 (view_of result.0) }
@@ -324,7 +327,7 @@ fn accounts(alloc: Global) -> Result<Batch, NoMemory>
 }
 
 /// A daemon over a disk without a log, on which the log of the two accounts is made.
-fn daemon_on<'a, D: LogDisk>(
+pub(crate) fn daemon_on<'a, D: LogDisk>(
     alloc: Global,
     table: &'a LogTable,
     seat: Seat,
@@ -335,6 +338,7 @@ fn daemon_on<'a, D: LogDisk>(
     requires flusher { (view_of seat).standing.role ≡ FlusherRole }
     requires durable { sent_to (view_of seat) ≡ 4 }
     requires unread { (view_of seat).sending.read ≡ [] }
+    requires running { (view_of seat).sending.stop ≡ 0 }
     requires seen { Contains (view_of seat).seen.lsns 4 }
     requires told { knows_all_enrolled (view_of seat).standing ≡ true }
     requires ring { table.now.ring ≡ 1024 }
@@ -445,7 +449,7 @@ fn two_threads_and_a_daemon(rt: HostRuntime) -> Result<(), Fail> {
 }
 
 /// The balances that are recovered from the disk.
-fn balances<D: LogDisk>(alloc: Global, disk: &mut D) -> Option<(u32, u32)> {
+pub(crate) fn balances<D: LogDisk>(alloc: Global, disk: &mut D) -> Option<(u32, u32)> {
     let bytes = open_image(alloc, disk).ok()?;
     let found = recover(alloc, bytes.as_slice()).ok()?;
     if found.accounts.count() != 2 {

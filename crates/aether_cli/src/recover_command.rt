@@ -33,7 +33,8 @@ pub fn recover_command<S: Source, K: Sink>(alloc: Global, script: &mut S, out: &
     }
 }
 
-fn detail_of(fault: RecoverFault) -> Detail
+/// How the program ends where nothing is read from the bytes of a log.
+pub(crate) fn detail_of(fault: RecoverFault) -> Detail
     ensures { result ≡ recover_detail fault }
 {
     match fault {

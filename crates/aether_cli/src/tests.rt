@@ -9,24 +9,24 @@ use lsn_space::{Lsn, Word};
 use std::test::Fail;
 
 /// Two accounts, with balances 100 and 0.
-const GENESIS_LOG: &[u8] =
+pub(crate) const GENESIS_LOG: &[u8] =
     b"OAETHER1\0\0\0\x04\x01\x02\0\0\0\0\0\0\0\0\0\0\0\0\0\x64\x01\x02\0\x01\0\0\0\0\0\0\0\0\0\0\0\0\0";
 
 /// Then transaction 1 moves 30 from account 0 to account 1.
-const ONE_TRANSFER: &[u8] =
+pub(crate) const ONE_TRANSFER: &[u8] =
     b"O\0\0\0\x05\x02\x02\0\0\0\0\0\x01\xff\xff\xff\xe2\0\0\0\0\x02\x02\0\x01\0\0\0\x01\0\0\0\x1e\0\0\0\0\x03\x01\0\x01\0\0\0\x01\0";
 
 /// The same transfer as transaction 7, without an end.
-const UNFINISHED_TRANSFER: &[u8] =
+pub(crate) const UNFINISHED_TRANSFER: &[u8] =
     b"O\0\0\0\x04\x02\x02\0\0\0\0\0\x07\xff\xff\xff\xe2\0\0\0\0\x02\x02\0\x01\0\0\0\x07\0\0\0\x1e\0\0\0\0\0";
 
 /// An update that names 4 as the last commit of its account, which has none.
-const WRONG_PREDECESSOR: &[u8] = b"O\0\0\0\x02\x02\x02\0\0\0\0\0\x01\xff\xff\xff\xe2\0\0\0\x04\0";
+pub(crate) const WRONG_PREDECESSOR: &[u8] = b"O\0\0\0\x02\x02\x02\0\0\0\0\0\x01\xff\xff\xff\xe2\0\0\0\x04\0";
 
 const GENESIS_TEXT: &[u8] = b"lsn 4\n0 100\n1 0\n";
 
 /// Runs the program on words, a disk and an input; calls of the source with these numbers fail.
-fn answer_on(
+pub(crate) fn answer_on(
     rt: &HostRuntime,
     words: &[&str],
     disk: &mut MemoryDisk,
@@ -49,7 +49,7 @@ fn answer_on(
 }
 
 /// The same without a disk.
-fn answer_of(
+pub(crate) fn answer_of(
     rt: &HostRuntime,
     words: &[&str],
     input: &[u8],
@@ -60,7 +60,7 @@ fn answer_of(
     answer_on(rt, words, &mut none, input, source_failing, out)
 }
 
-fn disk_of(
+pub(crate) fn disk_of(
     rt: &HostRuntime,
     bytes: &[u8],
     room: usize,
@@ -69,7 +69,7 @@ fn disk_of(
     MemoryDisk::make(rt.alloc(), bytes, room, failing).map_err(|_| Fail::new("no memory"))
 }
 
-fn sink_of(rt: &HostRuntime, failing: &[u64]) -> Result<MemorySink, Fail> {
+pub(crate) fn sink_of(rt: &HostRuntime, failing: &[u64]) -> Result<MemorySink, Fail> {
     MemorySink::make(rt.alloc(), 300, failing).map_err(|_| Fail::new("no memory"))
 }
 

@@ -1,13 +1,16 @@
 ghost use Rattle.std.specs.Prelude.{◌≡◌, ◌≤◌, ◌+◌, ◌⊎◌, ℕ, List, IfSome};
 ghost use Rattle.command_line.specs.CommandLine.{IsCommandLine, AreTaken};
-ghost use Rattle.command_line.specs.declared.command.Command.TheVariants.{New, Recover};
+ghost use Rattle.command_line.specs.declared.command.Command.TheVariants.{New, Recover, Dump};
 ghost use Rattle.log_disk.specs.Disk.{Leaves};
 ghost use Rattle.log_disk.specs.Faults.{Rose};
+ghost use Rattle.log_record.specs.declared.rec.Rec.{Rec};
+ghost use Rattle.log_recovery.specs.Recovery.{HoldsList};
 ghost use Rattle.segment_file.specs.File.{BeginsOpen};
 ghost use Rattle.txn_script.specs.Balances.{IsBalancesText};
-ghost use Rattle.aether_cli.specs.Answers.{status_of, AnswersRecover, AnswersNew, AsksNew, IsOfNew, IsOfRecover, StaysSilent};
+ghost use Rattle.aether_cli.specs.Answers.{status_of, AnswersRecover, AnswersDump, AnswersNew, AsksNew, IsOfDump, IsOfNew, IsOfRecover, StaysSilent};
 ghost use Rattle.aether_cli.specs.Creation.{AllHoldNew, FollowsLog, MayBeLeft, PrecedesLog, TellsWhether};
 
+use crate::dump_command::dump_command;
 use crate::new_command::new_command;
 use crate::recover_command::recover_command;
 use crate::report::{Detail, Report};
@@ -38,6 +41,15 @@ pub fn aether<R, D: LogDisk, S: Source, K: Sink>(
     ensures recover { IsCommandLine words.now Recover → IfSome (S.left script.old) (λ bytes.
         AnswersRecover bytes (S.left script.new) (K.held_bytes out.old) (K.held_bytes out.new) result.detail) }
     ensures of_recover { IsCommandLine words.now Recover → IsOfRecover result.detail }
+
+    // `dump`: the same, and where the bytes hold a list it is shown.
+    ensures dump { IsCommandLine words.now Dump → IfSome (S.left script.old) (λ bytes.
+        AnswersDump bytes (S.left script.new) (K.held_bytes out.old) (K.held_bytes out.new) result.detail) }
+    ensures of_dump { IsCommandLine words.now Dump → IsOfDump result.detail }
+    ensures complete_dump { IsCommandLine words.now Dump
+        → IfSome (S.left script.old) (λ bytes. (records : List Rec) → HoldsList bytes records
+        → (Rose (S.faults script.old) (S.faults script.new) → ⊥) → (Rose (K.faults out.old) (K.faults out.new) → ⊥)
+        → (result.detail ≡ Detail.Fine) ⊎ (result.detail ≡ Detail.NoMemory)) }
 
     // `new`: the same, and what a crash may leave of the disk.
     ensures new { AsksNew words.now → IfSome (S.left script.old) (λ bytes.
@@ -71,6 +83,7 @@ pub fn aether<R, D: LogDisk, S: Source, K: Sink>(
     match parse(alloc, words) {
         Ok(Command::New { log }) => Report::of(new_command(alloc, &log, disk, script, out)),
         Ok(Command::Recover) => Report::of(recover_command(alloc, script, out)),
+        Ok(Command::Dump) => Report::of(dump_command(alloc, script, out)),
         Err(Refused::Usage) => Report::of(Detail::Usage),
         Err(Refused::NoMemory) => Report::of(Detail::NoMemory),
     }

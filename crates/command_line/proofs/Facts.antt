@@ -12,7 +12,7 @@ use Rattle.clap.specs.Walk.{Names, Held, Text, finished, nothing_held, settled, 
 use Rattle.clap.specs.Words.{App, Row, Shape, is_simple, is_simple_and_free, subcommand_of, fault_of, built}
 use Rattle.command_line.specs.CommandLine.{aether_command, new_command, AreTaken, NamesSubcommand, IsCommandLine, IsRefusalOf, log_in}
 use Rattle.command_line.specs.declared.command.Command.{Command}
-use Rattle.command_line.specs.declared.command.Command.TheVariants.{New, Recover}
+use Rattle.command_line.specs.declared.command.Command.TheVariants.{New, Recover, Dump}
 use Rattle.command_line.specs.declared.command.Refused.{Refused}
 use Rattle.command_line.specs.declared.command.Refused.TheVariants.{NoMemory}
 
@@ -84,14 +84,15 @@ unfolding aether_command new_command
 named_some words taken = names_some aether_command words refl taken
 
 pub named-one : (words : List Text) (name : Text) (rows : List Row) → NamesSubcommand words name rows
-    → (name ≡ codes "new") ⊎ (name ≡ codes "recover")
+    → (name ≡ codes "new") ⊎ (name ≡ codes "recover") ⊎ (name ≡ codes "dump")
 unfolding aether_command new_command
 named-one words name rows named =
     let a = built aether_command in
     elim (entered-name a (stop_after a.top.rules (names_of a) (argument_words aether_command words)) name rows named) [
       | inl new ↦ inl new
-      | inr (inl recover) ↦ inr recover
-      | inr (inr none) ↦ elim none [ ]
+      | inr (inl recover) ↦ inr (inl recover)
+      | inr (inr (inl dump)) ↦ inr (inr dump)
+      | inr (inr (inr none)) ↦ elim none [ ]
     ]
 
 -- the text behind a reference that may be missing
@@ -125,23 +126,32 @@ some-pair : {X : Type 0} (o : Option X) → is_some o ≡ true → (x : X) × (o
 some-pair None is = cc
 some-pair (Some x) is = (x, refl)
 
-pub asks-some : (words : List (List ℕ)) → AreTaken words → IsCommandLine words Recover ⊎ (log : List ℕ) × IsCommandLine words (New log)
+pub asks-some : (words : List (List ℕ)) → AreTaken words → IsCommandLine words Recover ⊎ IsCommandLine words Dump
+    ⊎ (log : List ℕ) × IsCommandLine words (New log)
 asks-some words taken =
     let found = some-pair (subcommand_of aether_command words) (named_some words taken) in
     let named : NamesSubcommand words found.0.0 found.0.1 = found.1 in
     elim (named-one words found.0.0 found.0.1 named) [
-      | inl new ↦ inr (log_in found.0.1, (taken, found.0.1, rw new at named, refl))
-      | inr recover ↦ inl (taken, found.0.1, rw recover at named)
+      | inl new ↦ inr (inr (log_in found.0.1, (taken, found.0.1, rw new at named, refl)))
+      | inr (inl recover) ↦ inl (taken, found.0.1, rw recover at named)
+      | inr (inr dump) ↦ inr (inl (taken, found.0.1, rw dump at named))
     ]
 
 same-pair : {A B : Type 0} (p q : A × B) → Some p ≡ Some q → (p.0 ≡ q.0) × (p.1 ≡ q.1)
 same-pair p q same = let equal : p ≡ q = cc in (ap (λ r. r.0) equal, ap (λ r. r.1) equal)
 
-other-name : codes "new" ≡ codes "recover" → ⊥
-other-name same = cc
+-- words name one subcommand
+one-name : (words : List (List ℕ)) (first second : Text) (one other : List Row) → NamesSubcommand words first one → NamesSubcommand words second other → first ≡ second
+one-name words first second one other named also = (same-pair (first, one) (second, other) (sym named ∙ also)).0
 
 pub asks-apart : (words : List (List ℕ)) (log : List ℕ) → IsCommandLine words (New log) → IsCommandLine words Recover → ⊥
-asks-apart words log new recover = other-name (same-pair (codes "new", new.1) (codes "recover", recover.1) (sym new.2 ∙ recover.2)).0
+asks-apart words log new recover = let same = one-name words (codes "new") (codes "recover") new.1 recover.1 new.2 recover.2 in cc
+
+pub asks-apart_dump : (words : List (List ℕ)) (log : List ℕ) → IsCommandLine words (New log) → IsCommandLine words Dump → ⊥
+asks-apart_dump words log new dump = let same = one-name words (codes "new") (codes "dump") new.1 dump.1 new.2 dump.2 in cc
+
+pub asks-apart_reads : (words : List (List ℕ)) → IsCommandLine words Recover → IsCommandLine words Dump → ⊥
+asks-apart_reads words recover dump = let same = one-name words (codes "recover") (codes "dump") recover.1 dump.1 recover.2 dump.2 in cc
 
 pub asks-log : (words : List (List ℕ)) (one other : List ℕ) → IsCommandLine words (New one) → IsCommandLine words (New other) → one ≡ other
 asks-log words one other first second =

@@ -2,7 +2,7 @@
 use Rattle.std.specs.Prelude.{◌≡◌, ◌≢◌, ℕ, codes, Some, unwrap_or, true, List, []}
 use Rattle.clap.specs.Words.{App, Rule, Row, new_app, new_rule, with_rule, with_subcommand, fault_of, subcommand_of, first_of}
 use Rattle.command_line.specs.declared.command.Command.{Command}
-use Rattle.command_line.specs.declared.command.Command.TheVariants.{New, Recover}
+use Rattle.command_line.specs.declared.command.Command.TheVariants.{New, Recover, Dump}
 use Rattle.command_line.specs.declared.command.Refused.{Refused}
 use Rattle.command_line.specs.declared.command.Refused.TheVariants as refused
 
@@ -15,6 +15,9 @@ new_command = with_rule (new_app (codes "new")) (required_rule (codes "LOG"))
 
 abbrev pub recover_command : App
 recover_command = new_app (codes "recover")
+
+abbrev pub dump_command : App
+dump_command = new_app (codes "dump")
 
 -- the command without its subcommands: one of them is required, and it has no flag or subcommand for help or version
 abbrev pub bare_command : App
@@ -29,7 +32,7 @@ bare_command = record (new_app (codes "aether")) {
 
 -- the command of the program
 unfoldable pub aether_command : App
-aether_command = with_subcommand (with_subcommand bare_command new_command.top) recover_command.top
+aether_command = with_subcommand (with_subcommand (with_subcommand bare_command new_command.top) recover_command.top) dump_command.top
 
 -- the command takes the words
 abbrev pub AreTaken : List (List ℕ) → Type 0
@@ -47,6 +50,7 @@ log_in rows = unwrap_or (first_of (codes "LOG") rows) []
 abbrev pub IsCommandLine : List (List ℕ) → Command → Type 0
 IsCommandLine words (New log) = AreTaken words × (rows : List Row) × NamesSubcommand words (codes "new") rows × (log ≡ log_in rows)
 IsCommandLine words Recover = AreTaken words × (rows : List Row) × NamesSubcommand words (codes "recover") rows
+IsCommandLine words Dump = AreTaken words × (rows : List Row) × NamesSubcommand words (codes "dump") rows
 
 -- why words ask nothing; want of memory says nothing of them
 abbrev pub IsRefusalOf : List (List ℕ) → Refused → Type 0

@@ -8,6 +8,9 @@ pub enum Command {
 
     /// The log of the input is read.
     Recover,
+
+    /// The records of the input are shown.
+    Dump,
 }
 
 /// Why words ask nothing.

@@ -39,5 +39,6 @@ pub(crate) fn aether<'a>(alloc: Global) -> Result<Command<'a>, AllocError>
 {
     bare(alloc)
         .subcommand(new(alloc)?)?
-        .subcommand(Command::new(alloc, "recover"))
+        .subcommand(Command::new(alloc, "recover"))?
+        .subcommand(Command::new(alloc, "dump"))
 }

@@ -22,6 +22,7 @@ pub fn parse(alloc: Global, words: &[Word]) -> Result<Command, Refused>
     match name {
         "new" => new(alloc, found.get_str("LOG").unwrap_or("")),
         "recover" => Ok(Command::Recover),
+        "dump" => Ok(Command::Dump),
         _ => unreachable!(),
     }
 }

@@ -40,12 +40,15 @@ fn takes_commands(rt: HostRuntime) -> Result<(), Fail> {
             "{words:?}"
         );
     }
+    for words in [["aether", "dump"], ["", "dump"]] {
+        assert!(rt; matches!(parsed(&rt, &words)?, Ok(Command::Dump)), "{words:?}");
+    }
     Ok(())
 }
 
 #[test]
 fn refuses_other_words(rt: HostRuntime) -> Result<(), Fail> {
-    let cases: [&[&str]; 22] = [
+    let cases: [&[&str]; 26] = [
         &[],
         &["aether"],
         &["recover"],
@@ -59,6 +62,10 @@ fn refuses_other_words(rt: HostRuntime) -> Result<(), Fail> {
         &["aether", "recover", "a.log"],
         &["aether", "recover", "recover"],
         &["aether", "recover", "--help"],
+        &["aether", "dump", "a.log"],
+        &["aether", "dump", "recover"],
+        &["aether", "recover", "dump"],
+        &["aether", "dump", "--help"],
         &["aether", "--", "recover"],
         &["aether", "--help"],
         &["aether", "-h"],

@@ -20,10 +20,12 @@ use Rattle.commit_pipeline.specs.Telling.{TellsAll, TellsFront}
 abbrev pub durable : {D : Type 0} → {K : Type 0} → Daemon D K → ℕ
 durable d = sent_to (view_of d.flusher.seat)
 
--- a turn may be made: nothing has befallen the daemon, and it has counted no more end records than units were sent
+-- a turn may be made: nothing has befallen the daemon, it has not stopped the log, and it has counted no more end records than units
+-- were sent
 pub record MayTurn {D : Type 0} {K : Type 0} (g : Ghosts D) (d : Daemon D K) : Type 0 where
   pub flusher : IsReady g d.flusher
   pub fine : d.fault ≡ None
+  pub running : (view_of d.flusher.seat).sending.stop ≡ 0
   pub counted : d.tally.done + d.tally.refused ≤ length (sent_of d.flusher)
 
 -- it is the same daemon, with the same disk and sink

@@ -51,6 +51,7 @@ fn table_from_4(alloc: Global) -> Result<(LogTable, Seat), NoMemory>
     ensures flusher { IfOk result (λ made. (view_of made.1).standing.role ≡ FlusherRole) }
     ensures durable { IfOk result (λ made. sent_to (view_of made.1) ≡ 4) }
     ensures unread { IfOk result (λ made. (view_of made.1).sending.read ≡ []) }
+    ensures running { IfOk result (λ made. (view_of made.1).sending.stop ≡ 0) }
     ensures seen { IfOk result (λ made. Contains (view_of made.1).seen.lsns 4) }
     ensures made { IfOk result (λ made. (view_of made.1).standing.made ≡ []) }
     ensures enrolled { IfOk result (λ made. (view_of made.1).standing.enrolled ≡ []) }
@@ -78,6 +79,7 @@ fn worker(table: &LogTable, boss: &mut Seat) -> Seat
     requires flusher { (view_of boss.old).standing.role ≡ FlusherRole }
     requires durable { sent_to (view_of boss.old) ≡ 4 }
     requires unread { (view_of boss.old).sending.read ≡ [] }
+    requires running { (view_of boss.old).sending.stop ≡ 0 }
     requires seen { Contains (view_of boss.old).seen.lsns 4 }
     requires made { (view_of boss.old).standing.made ≡ [] }
     requires enrolled { (view_of boss.old).standing.enrolled ≡ [] }
@@ -86,6 +88,7 @@ fn worker(table: &LogTable, boss: &mut Seat) -> Seat
     ensures flusher { (view_of boss.new).standing.role ≡ FlusherRole }
     ensures durable { sent_to (view_of boss.new) ≡ 4 }
     ensures unread { (view_of boss.new).sending.read ≡ [] }
+    ensures running { (view_of boss.new).sending.stop ≡ 0 }
     ensures seen { Contains (view_of boss.new).seen.lsns 4 }
     ensures told { knows_all_enrolled (view_of boss.new).standing ≡ true }
     ensures seat { IsOf table.now result }
@@ -218,6 +221,7 @@ fn daemon_on<'a>(
     requires flusher { (view_of seat).standing.role ≡ FlusherRole }
     requires durable { sent_to (view_of seat) ≡ 4 }
     requires unread { (view_of seat).sending.read ≡ [] }
+    requires running { (view_of seat).sending.stop ≡ 0 }
     requires seen { Contains (view_of seat).seen.lsns 4 }
     requires told { knows_all_enrolled (view_of seat).standing ≡ true }
     requires ring { table.now.ring ≡ 1024 }

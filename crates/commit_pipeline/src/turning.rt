@@ -1,6 +1,6 @@
 //! A turn: one flush, and then the lines of what it sent.
 ghost use Rattle.std.specs.Prelude.{◌≡◌, IfOk, IfErr, OnOk, OnErr, Some};
-ghost use Rattle.log_table.specs.declared.view.Role.TheVariants.{Flusher as FlusherRole};
+ghost use Rattle.log_table.specs.May.{MayStop};
 ghost use Rattle.log_table.specs.Seats.{IsOf, view_of};
 ghost use Rattle.commit_pipeline.specs.Later.{Later};
 ghost use Rattle.commit_pipeline.specs.Turning.{MayTurn, IsSameDaemon, Turns, Fails, Stops};
@@ -44,7 +44,7 @@ impl<'a, D: LogDisk, K: Sink> Daemon<'a, D, K> {
     /// Tells the workers of the fault, and keeps it.
     fn stop(&mut self, fault: DaemonFault) -> DaemonFault
         requires seat { IsOf self.old.flusher.table.now self.old.flusher.seat }
-        requires flusher { (view_of self.old.flusher.seat).standing.role ≡ FlusherRole }
+        requires may { MayStop (stop_word fault) (view_of self.old.flusher.seat) }
         ensures stops { Stops (stop_word fault) self.old.flusher self.new.flusher }
         ensures rest { self.new ≡ record self.old { flusher = self.new.flusher; fault = Some fault } }
         ensures fault { result ≡ fault }

@@ -1,26 +1,36 @@
--- The transfer of the tests: 30 from account 0 to account 1, under number 1 and with no note.
-use Rattle.std.specs.Prelude.{◌≡◌, ℕ, ◌≤◌, ℤ, pos, negsuc, None, List, [], ◌∷◌}
+-- A transfer of one leg, and what a seat knows of it while it is made.
+use Rattle.std.specs.Prelude.{◌≡◌, ◌≢◌, ℕ, ◌<◌, ◌≤◌, pos, neg_ℤ, true, false, None, List, [], ◌∷◌, length}
 use Rattle.log_record.specs.declared.rec.Rec.{Rec}
 use Rattle.log_record.specs.declared.rec.Rec.TheVariants.{Update, Commit}
 use Rattle.log_record.specs.declared.rec.Entry.{Entry}
 use Rattle.log_record.specs.Spelling.{IsSpellable}
+use Rattle.lock_core.specs.declared.limits.TheConstants.{MOST_BALANCE}
+use Rattle.lock_core.specs.History.{end_from}
+use Rattle.lock_core.specs.Transactions.{recs_of, has_commit, has_end}
 use Rattle.txn_script.specs.declared.job.Job.{Job}
 use Rattle.log_table.specs.declared.view.TakenJob.{TakenJob}
+use Rattle.log_table.specs.declared.view.Held.{Held}
 use Rattle.log_table.specs.declared.view.Books.{Books}
-use Rattle.log_table.specs.declared.view.View.{View}
-use Rattle.log_table.specs.Books.{IsNext, HoldsAccounts, no_books}
+use Rattle.log_table.specs.Books.{IsNext, HoldsAccounts}
+use Rattle.early_locks.specs.Locks.{HoldsTaken, GivesBack}
+use Rattle.early_locks.specs.declared.one_transfer.Transfer.{Transfer}
+use Rattle.early_locks.specs.declared.one_transfer.Committed.{Committed}
+use Rattle.early_locks.specs.declared.taking.Taken.{Taken}
 
-abbrev pub transfer_job : Job
-transfer_job = record { legs = (0, 1, 30) ∷ []; note = None }
+abbrev pub leg_of : Transfer → ℕ × ℕ × ℕ
+leg_of transfer = (transfer.payer, transfer.payee, transfer.amount)
 
--- the books of a seat that took it first of all jobs, holds both accounts with these balances and marks, and placed these records
-abbrev pub transfer_books : ℕ → ℕ → ℕ → ℕ → List Entry → Books
-transfer_books balance mark balance' mark' placed = record {
-  jobs = record { number = 1; job = transfer_job } ∷ [];
-  last = record { number = 1; job = transfer_job };
-  placed = placed;
-  held = record { account = 1; balance = balance'; mark = mark' } ∷ record { account = 0; balance = balance; mark = mark } ∷ [];
-}
+-- the job that is the transfer, with no note
+abbrev pub job_of : Transfer → Job
+job_of transfer = record { legs = leg_of transfer ∷ []; note = None }
+
+-- the transfer, taken under this number
+abbrev pub taken_job : ℕ → Transfer → TakenJob
+taken_job number transfer = record { number = number; job = job_of transfer }
+
+-- the account as it was taken
+abbrev pub held_of : Taken → Held
+held_of taken = record { account = taken.account; balance = taken.balance; mark = taken.mark }
 
 -- the record comes next, and may be placed with the accounts held
 pub record MayPut (rec : Rec) (books : Books) : Type 0 where
@@ -28,3 +38,48 @@ pub record MayPut (rec : Rec) (books : Books) : Type 0 where
   pub next : IsNext rec books
   pub holds : HoldsAccounts books
   pub spellable : IsSpellable rec
+
+-- the seat took the transfer last, holds its two accounts and no other, and placed these records of it
+pub record IsMoving (number : ℕ) (transfer : Transfer) (payer payee : Taken) (placed : List Entry) (books : Books) : Type 0 where
+  pub last : books.last ≡ taken_job number transfer
+  pub placed_is : books.placed ≡ placed
+  pub payer_is : payer.account ≡ transfer.payer
+  pub payee_is : payee.account ≡ transfer.payee
+  pub payer_held : HoldsTaken payer books
+  pub payee_held : HoldsTaken payee books
+  pub only : length books.held ≡ 2
+
+-- the Updates of the transfer, and its Commit
+abbrev pub loss_of : ℕ → Transfer → Taken → Rec
+loss_of number transfer payer = Update number transfer.payer (neg_ℤ (pos transfer.amount)) payer.mark
+
+abbrev pub gain_of : ℕ → Transfer → Taken → Rec
+gain_of number transfer payee = Update number transfer.payee (pos transfer.amount) payee.mark
+
+-- the three records are placed, and the Commit ends here
+pub record HasMoved (number : ℕ) (transfer : Transfer) (payer payee : Taken) (books : Books) (end : ℕ) : Type 0 where
+  pub loss_end : ℕ
+  pub gain_end : ℕ
+  pub moving : IsMoving number transfer payer payee (record { end = end; rec = Commit number 1 }
+      ∷ record { end = gain_end; rec = gain_of number transfer payee } ∷ record { end = loss_end; rec = loss_of number transfer payer } ∷ []) books
+
+-- the Commit is not placed
+pub record HasStopped (number : ℕ) (transfer : Transfer) (payer payee : Taken) (books : Books) : Type 0 where
+  pub placed : List Entry
+  pub moving : IsMoving number transfer payer payee placed books
+  pub uncommitted : has_commit (recs_of placed) ≡ false
+
+-- the seat holds both accounts and no other, and may give them back with these balances, since the Commit has its place
+pub record HasCommitted (accounts : ℕ) (books : Books) (committed : Committed) : Type 0 where
+  pub payer_known : committed.payer.account < accounts
+  pub payee_known : committed.payee.account < accounts
+  pub two : committed.payer.account ≢ committed.payee.account
+  pub payer_held : HoldsTaken committed.payer books
+  pub payee_held : HoldsTaken committed.payee books
+  pub only : length books.held ≡ 2
+  pub payer_fits : committed.payer_balance ≤ MOST_BALANCE
+  pub payee_fits : committed.payee_balance ≤ MOST_BALANCE
+  pub payer_gives : GivesBack committed.payer committed.payer_balance committed.end books
+  pub payee_gives : GivesBack committed.payee committed.payee_balance committed.end books
+  pub ended : has_end (recs_of books.placed) ≡ true
+  pub end : end_from 0 books.placed ≡ committed.end

@@ -3,9 +3,11 @@
 #![tactic(auto)]
 
 mod giving;
+mod one_transfer;
 mod taking;
 #[cfg(test)]
 mod tests;
 
 pub use giving::{give, give_durable};
+pub use one_transfer::{Committed, Transfer, commit_transfer, give_back, give_back_durable};
 pub use taking::{Held, Taken, try_take};

@@ -19,7 +19,7 @@ use Rattle.lock_core.specs.History.{history}
 use Rattle.log_recovery.specs.declared.recovery.RecoverFault.{RecoverFault}
 use Rattle.log_recovery.specs.declared.recovery.RecoverFault.TheVariants as fault
 use Rattle.log_recovery.specs.Listing.{IsBadRecAt}
-use Rattle.log_recovery.specs.Recovery.{HoldsList, HoldsLawful, IsFaultOf}
+use Rattle.log_recovery.specs.Recovery.{HoldsList, HoldsLawful, IsFaultOf, IsListedFaultOf}
 use Rattle.lock_core.proofs.Fronts.{lawful-front}
 
 -- the first of these tests that fails, test by test
@@ -88,7 +88,7 @@ one-unlawful h x y s t first second =
     (first.place ∙ ap (end_from 0) both.0 ∙ sym second.place, both.1)
 
 -- a record has a unit
-some_unit : (rec : Rec) (x : List ℕ) → spelling rec ++ x ≡ [] → ⊥
+pub some_unit : (rec : Rec) (x : List ℕ) → spelling rec ++ x ≡ [] → ⊥
 some_unit (Genesis account balance) x same = cc
 some_unit (Update txn account delta prev) x same = cc
 some_unit (Commit txn legs) x same = cc
@@ -146,6 +146,13 @@ lawful-fault bytes records (fault.Unlawful lsn test) held is =
     absurd (lawful-unlawful (history records) lsn test held.lawful
     (subst (λ l. IsUnlawfulAt (history l) lsn test) (one-list bytes is.0 records is.1 held.list) is.2))
 lawful-fault bytes records fault.NoMemory held is = refl
+
+pub listed-fault : (bytes : List ℕ) (records : List Rec) (f : RecoverFault) → HoldsList bytes records → IsListedFaultOf bytes f → f ≡ fault.NoMemory
+listed-fault bytes records fault.NotALog held is = absurd (is (one_reading-log bytes (units_of records) held.holds))
+listed-fault bytes records (fault.BadBatch offset) held is = absurd (one_reading-bad bytes (units_of records) offset held.holds is)
+listed-fault bytes records (fault.BadRec lsn) held is = absurd (bad-rec-listed bytes is.0 lsn records is.1 is.2 held)
+listed-fault bytes records (fault.Unlawful lsn test) held is = absurd is
+listed-fault bytes records fault.NoMemory held is = refl
 
 abbrev pub IsSameOrNoMemory : RecoverFault → RecoverFault → Type 0
 IsSameOrNoMemory f g = (f ≡ g) ⊎ (f ≡ fault.NoMemory) ⊎ (g ≡ fault.NoMemory)

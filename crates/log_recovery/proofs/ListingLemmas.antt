@@ -7,7 +7,7 @@ use Rattle.log_record.specs.declared.rec.Entry.{Entry}
 use Rattle.log_record.specs.LogList.{units_of, end_of}
 use Rattle.log_record.specs.Spelling.{spelling, IsSpellable, BeginsWith}
 use Rattle.lock_core.specs.History.{end_from, entry_at, history_from, history}
-use Rattle.log_recovery.specs.Listing.{IsFront, IsBadRecAt, Lists}
+use Rattle.log_recovery.specs.Listing.{IsFront, IsBadRecAt}
 use Rattle.lock_core.proofs.Fronts.{history_from-append}
 use Rattle.lock_core.proofs.ListLemmas.{all-append, all-reverse}
 
@@ -46,56 +46,8 @@ front-more units records rest after rec each before begins dropped =
 pub front-end : (units : List ℕ) (records : List Rec) (rest : List ℕ) → units ≡ units_of records ++ rest → end_of records + length rest ≡ length units
 front-end units records rest whole = let lengths = ap length whole in let parts = length-append (units_of records) rest in omega arith
 
--- the records read so far, and the units that are left
-pub record ReadsFront (units : List ℕ) (entries : List Entry) (rest : List ℕ) : Type 0 where
-  pub records : List Rec
-  pub each : AllByRecursion IsSpellable records
-  pub whole : units ≡ units_of records ++ rest
-  pub places : reverse entries ≡ history records
-
-pub reads-none : (units : List ℕ) → ReadsFront units [] units
-reads-none units = record { records = []; each = tt; whole = refl; places = refl }
-
-pub reads-more : (units : List ℕ) (entries : List Entry) (rest after : List ℕ) (rec : Rec) (end : ℕ) → ReadsFront units entries rest
-    → BeginsWith rest rec → after ≡ drop (length (spelling rec)) rest → end + length after ≡ length units
-    → ReadsFront units (entries ++ record { end = end; rec = rec } ∷ []) after
-reads-more units entries rest after rec end before begins dropped place =
-    let front = front-more units before.records rest after rec before.each before.whole begins dropped in
-    let lengths = front-end units (before.records ++ rec ∷ []) after front.1 in
-    let start = end_from-history 0 [] before.records in
-    let grown = ap length (units_of-append before.records (rec ∷ [])) in
-    let sum = length-append (units_of before.records) (units_of (rec ∷ [])) in
-    let last = length-append (spelling rec) [] in
-    let end_is : end ≡ end_from 0 (history before.records) + length (spelling rec) = omega arith in
-    record {
-      records = before.records ++ rec ∷ [];
-      each = front.0;
-      whole = front.1;
-      places = reverse-append entries (record { end = end; rec = rec } ∷ [])
-          ∙ (λ i. record { end = end_is i; rec = rec } ∷ before.places i)
-          ∙ sym (history_from-append 0 [] before.records (rec ∷ []));
-    }
-
 pub bad-front : (units : List ℕ) (rest : List ℕ) (lsn : ℕ) → IsFront units rest → 0 < length rest
     → lsn + length rest ≡ length units → ((rec : Rec) → BeginsWith rest rec → ⊥) → IsBadRecAt units lsn
 bad-front units rest lsn before some place none =
     let lengths = ap length before.whole in let parts = length-append (units_of before.records) rest in
     record { front = before.records; each = before.each; rest = rest; whole = before.whole; place = omega arith; some = some; none = none }
-
-pub lists-whole : (units : List ℕ) (entries : List Entry) (rest : List ℕ) → ReadsFront units entries rest → rest ≡ [] → Lists units entries
-lists-whole units entries rest before empty = record {
-  records = before.records;
-  list = record { each = before.each; whole = before.whole ∙ ap (λ l. units_of before.records ++ l) empty ∙ append-nil (units_of before.records) };
-  places = before.places;
-}
-
-spellable-history : (start : ℕ) (h : List Entry) (records : List Rec) → AllByRecursion (λ (entry : Entry). IsSpellable entry.rec) h
-    → AllByRecursion IsSpellable records → AllByRecursion (λ (entry : Entry). IsSpellable entry.rec) (history_from start h records)
-spellable-history start h [] all each = all
-spellable-history start h (rec ∷ records) all each = spellable-history start (entry_at (end_from start h) rec ∷ h) records (each.0, all) each.1
-
--- the records that were read are spellable
-pub lists-spellable : (units : List ℕ) (entries : List Entry) → Lists units entries → AllByRecursion (λ (entry : Entry). IsSpellable entry.rec) entries
-lists-spellable units entries lists =
-    all-reverse (λ (entry : Entry). IsSpellable entry.rec) entries
-    (subst (AllByRecursion (λ (entry : Entry). IsSpellable entry.rec)) (sym lists.places) (spellable-history 0 [] lists.records tt lists.list.each))

@@ -34,7 +34,7 @@ AppendsPrefix-first old new text piece more written whole =
     (written.0, written.1 ++ more, rw (whole, written.2) (append_assoc written.0 written.1 more), written.3)
 
 -- a front behind what was written whole
-AppendsPrefix-behind : (old middle new : Option (List ℕ)) (text done piece more : List ℕ) → Appends old middle done → AppendsPrefix middle new piece
+pub AppendsPrefix-behind : (old middle new : Option (List ℕ)) (text done piece more : List ℕ) → Appends old middle done → AppendsPrefix middle new piece
     → text ≡ (done ++ piece) ++ more → AppendsPrefix old new text
 AppendsPrefix-behind old middle new text done piece more before cut whole =
     (done ++ cut.0, cut.1 ++ more, rw (whole, cut.2) (simp append_assoc), Appends-trans old middle new done cut.0 before cut.3)

@@ -5,6 +5,7 @@ use Rattle.log_record.specs.declared.rec.Rec.{Rec}
 use Rattle.log_record.specs.Spelling.{IsSpellable}
 use Rattle.log_record.specs.LogList.{units_of, end_of}
 use Rattle.segment_file.specs.File.{IsFile, HoldsUnits, BeginsAsLog, IsBadBatchAt, written}
+use Rattle.log_recovery.specs.declared.list_result.Listed.{Listed}
 use Rattle.log_recovery.specs.declared.recovery.Recovered.{Recovered}
 use Rattle.log_recovery.specs.declared.recovery.RecoverFault.{RecoverFault}
 use Rattle.log_recovery.specs.declared.recovery.RecoverFault.TheVariants as fault
@@ -12,7 +13,7 @@ use Rattle.lock_core.specs.History.{history}
 use Rattle.lock_core.specs.Sums.{ShowsAccounts, greatest_txn}
 use Rattle.lock_core.specs.Lawful.{IsLawful, genesis_of}
 use Rattle.lock_core.specs.Faults.{IsUnlawfulAt}
-use Rattle.log_recovery.specs.Listing.{IsBadRecAt}
+use Rattle.log_recovery.specs.Listing.{IsListOf, IsBadRecAt}
 
 -- the bytes are a log file that holds these records
 pub record HoldsList (bytes : List ℕ) (records : List Rec) : Type 0 where
@@ -48,3 +49,20 @@ IsFaultOf bytes (fault.BadBatch offset) = IsBadBatchAt bytes offset
 IsFaultOf bytes (fault.BadRec lsn) = (units : List ℕ) × HoldsUnits bytes units × IsBadRecAt units lsn
 IsFaultOf bytes (fault.Unlawful lsn why) = (records : List Rec) × HoldsList bytes records × IsUnlawfulAt (history records) lsn why
 IsFaultOf bytes fault.NoMemory = Unit {0}
+
+-- the units are those of these records, and the tail stands at their end
+pub record HasRecords (listed : Listed) (records : List Rec) : Type 0 where
+  pub list : IsListOf listed.units records
+  pub end : listed.tail.next ≡ end_of records
+
+-- the list that the bytes hold, lawful or not, and where they end
+pub record ListsBytes (listed : Listed) (bytes : List ℕ) : Type 0 where
+  pub records : List Rec
+  pub held : HoldsList bytes records
+  pub has : HasRecords listed records
+  pub at : EndsAt bytes listed.tail.at
+
+-- why no list is read from the bytes: a fault of recovery, but for the test of records
+abbrev pub IsListedFaultOf : List ℕ → RecoverFault → Type 0
+IsListedFaultOf bytes (fault.Unlawful lsn why) = ⊥
+IsListedFaultOf bytes fault' = IsFaultOf bytes fault'

@@ -1,10 +1,10 @@
 //! The records that units spell, judged one by one as they are read.
 
-ghost use Rattle.std.specs.Prelude.{◌≡◌, ◌+◌, ◌≤◌, length, IfOk, IfErr, IfSome, IfNone};
+ghost use Rattle.std.specs.Prelude.{◌≤◌, length, IfOk, IfErr};
 ghost use Rattle.lsn_space.specs.declared.lsn.TheConstants.{LAST};
-ghost use Rattle.log_recovery.specs.Listing.{IsFront, IsRecords, IsBadRecAt};
 ghost use Rattle.log_recovery.specs.Judging.{FailsBefore, HasTakenUnits, IsUnitsFaultOf};
 
+use crate::listing::{first_bad, place_of};
 use lock_core::{Judge, JudgeFault, Why};
 use log_record::read;
 use lsn_space::Lsn;
@@ -20,32 +20,6 @@ pub enum UnitsFault {
     Unlawful { lsn: Lsn, why: Why },
 
     NoMemory,
-}
-
-/// Where the rest of the units begins.
-fn place_of(units: &[u64], rest: &[u64]) -> Lsn
-    requires front { IsFront units.now rest.now }
-    requires fits { length units.now ≤ LAST }
-    ensures { result + length rest.now ≡ length units.now }
-{
-    Lsn::new((units.len() - rest.len()) as u32)
-}
-
-/// The first place behind a front of records at which no record begins, where there is one.
-fn first_bad(units: &[u64], front: &[u64]) -> Option<Lsn>
-    requires front { IsFront units.now front.now }
-    requires fits { length units.now ≤ LAST }
-    ensures bad { IfSome result (IsBadRecAt units.now) }
-    ensures none { IfNone result (IsRecords front.now) }
-{
-    let mut rest = front;
-    'records: while !rest.is_empty() {
-        let Ok((_, size)) = read(rest) else {
-            return Some(place_of(units, rest));
-        };
-        rest = rest.split_at(size).1;
-    }
-    None
 }
 
 /// The fault of units whose records up to this rest end with the first that fails a test: this one, unless the rest is no

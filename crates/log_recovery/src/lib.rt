@@ -2,17 +2,23 @@
 //! wrong with them.
 #![tactic(auto)]
 
+mod dump;
 mod judging;
+mod list_result;
 mod listing;
 mod recovery;
 mod texts;
 
+pub use dump::put_dump;
 pub use judging::{UnitsFault, judge_of_units};
-pub use listing::{ListFault, records};
+pub use list_result::Listed;
+pub use listing::listed;
 pub use lock_core::Why;
 pub use recovery::{RecoverFault, Recovered, one_answer, recover};
 pub use texts::put_accounts;
 
+#[cfg(test)]
+mod dump_tests;
 #[cfg(test)]
 mod hostile;
 #[cfg(test)]

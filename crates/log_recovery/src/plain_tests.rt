@@ -1,25 +1,17 @@
 //! The judge beside the definition's plain program: on the same images they answer the same.
 
-use crate::{ListFault, RecoverFault, records, recover};
+ghost use Rattle.std.specs.Prelude.{◌≤◌, length, IfOk};
+ghost use Rattle.std.specs.List.{AllByRecursion};
+ghost use Rattle.lsn_space.specs.declared.lsn.TheConstants.{LAST};
+ghost use Rattle.log_record.specs.Spelling.{IsSpellable};
+
+use crate::recovery::scan_fault;
+use crate::{RecoverFault, recover};
 use lock_core::{PlainFault, plain_accounts};
-use lsn_space::Balances;
-use segment_file::{ScanFault, scan};
+use log_record::{Entry, read};
+use lsn_space::{Balances, Lsn};
+use segment_file::scan;
 use std::alloc::Global;
-
-fn scan_fault(fault: ScanFault) -> RecoverFault {
-    match fault {
-        ScanFault::NotALog => RecoverFault::NotALog,
-        ScanFault::BadBatch { offset } => RecoverFault::BadBatch { offset },
-        ScanFault::NoMemory => RecoverFault::NoMemory,
-    }
-}
-
-fn list_fault(fault: ListFault) -> RecoverFault {
-    match fault {
-        ListFault::BadRec { lsn } => RecoverFault::BadRec { lsn },
-        ListFault::NoMemory => RecoverFault::NoMemory,
-    }
-}
 
 fn plain_fault(fault: PlainFault) -> RecoverFault {
     match fault {
@@ -28,18 +20,35 @@ fn plain_fault(fault: PlainFault) -> RecoverFault {
     }
 }
 
+/// The records that the units of a log spell, each with its end, in the order of the file.
+fn entries_of(alloc: Global, units: &[u64]) -> Result<Vec<Entry>, RecoverFault>
+    requires { length units.now ≤ LAST }
+    ensures { IfOk result (λ entries. AllByRecursion (λ entry. IsSpellable entry.rec) entries.items) }
+{
+    let mut entries = Vec::new(alloc);
+    let mut rest = units;
+    'records: while !rest.is_empty() {
+        let Ok((rec, size)) = read(rest) else {
+            let lsn = Lsn::new((units.len() - rest.len()) as u32);
+            return Err(RecoverFault::BadRec { lsn });
+        };
+        rest = rest.split_at(size).1;
+        let end = Lsn::new((units.len() - rest.len()) as u32);
+        let Ok(()) = entries.push(Entry { end, rec }) else {
+            return Err(RecoverFault::NoMemory);
+        };
+    }
+    Ok(entries)
+}
+
 /// What `recover` answers of the accounts, by the definition's plain program.
 fn plain_recover(alloc: Global, bytes: &[u8]) -> Result<Balances, RecoverFault> {
     let scan = match scan(alloc, bytes) {
         Ok(scan) => scan,
         Err(fault) => return Err(scan_fault(fault)),
     };
-    let list = match records(alloc, scan.units.as_slice()) {
-        Ok(list) => list,
-        Err(fault) => return Err(list_fault(fault)),
-    };
-    let entries = list.as_slice();
-    match plain_accounts(alloc, entries) {
+    let entries = entries_of(alloc, scan.units.as_slice())?;
+    match plain_accounts(alloc, entries.as_slice()) {
         Ok(accounts) => Ok(accounts),
         Err(fault) => Err(plain_fault(fault)),
     }

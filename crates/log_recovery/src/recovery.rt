@@ -4,7 +4,7 @@ ghost use Rattle.log_recovery.specs.declared.recovery.RecoverFault.{RecoverFault
 ghost use Rattle.segment_file.specs.File.{HoldsUnits};
 ghost use Rattle.segment_file.specs.Scan.{IsScanFaultOf};
 ghost use Rattle.log_recovery.specs.Judging.{IsUnitsFaultOf};
-ghost use Rattle.log_recovery.specs.Recovery.{HoldsList, HoldsLawful, Recovers, IsFaultOf};
+ghost use Rattle.log_recovery.specs.Recovery.{HoldsList, HoldsLawful, Recovers, IsFaultOf, IsListedFaultOf};
 
 use crate::judging::{UnitsFault, judge_of_units};
 use lock_core::Why;
@@ -46,8 +46,9 @@ pub enum RecoverFault {
     NoMemory,
 }
 
-fn scan_fault(fault: ScanFault) -> RecoverFault
-    ensures { (bytes : List ℕ) → IsScanFaultOf bytes fault → IsFaultOf bytes result }
+pub(crate) fn scan_fault(fault: ScanFault) -> RecoverFault
+    ensures fault { (bytes : List ℕ) → IsScanFaultOf bytes fault → IsFaultOf bytes result }
+    ensures listed { (bytes : List ℕ) → IsScanFaultOf bytes fault → IsListedFaultOf bytes result }
 {
     match fault {
         ScanFault::NotALog => RecoverFault::NotALog,
@@ -88,10 +89,12 @@ pub fn recover(alloc: Global, bytes: &[u8]) -> Result<Recovered, RecoverFault>
     })
 }
 
-/// A law: what `recover` answers is a function of the bytes, but for want of memory. They hold one list at most; where it
-/// is lawful they have no fault; and no bytes have two faults.
+/// A law: what `recover` answers is a function of the bytes, but for want of memory. They hold one list at most; where
+/// they hold one, nothing hides it from `listed`; where it is lawful they have no fault; and no bytes have two faults.
 pub fn one_answer()
     ensures list { (bytes : List ℕ) (xs ys : List Rec) → HoldsList bytes xs → HoldsList bytes ys → xs ≡ ys }
+    ensures listed { (bytes : List ℕ) (records : List Rec) (fault : RecoverFault) → HoldsList bytes records → IsListedFaultOf bytes fault
+        → fault ≡ RecoverFault.NoMemory }
     ensures lawful { (bytes : List ℕ) (records : List Rec) (fault : RecoverFault) → HoldsLawful bytes records → IsFaultOf bytes fault
         → fault ≡ RecoverFault.NoMemory }
     ensures fault { (bytes : List ℕ) (f g : RecoverFault) → IsFaultOf bytes f → IsFaultOf bytes g

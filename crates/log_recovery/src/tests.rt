@@ -7,10 +7,10 @@ use lsn_space::{Lsn, bytes_of};
 use std::alloc::{AllocError, Global};
 use std::test::Fail;
 
-const GENESIS: [u64; 4] = [0x0102_0000_0000_0000, 100, 0x0102_0001_0000_0000, 0];
+pub(crate) const GENESIS: [u64; 4] = [0x0102_0000_0000_0000, 100, 0x0102_0001_0000_0000, 0];
 
 /// 30 from account 0 to account 1, by transaction 1.
-const TRANSFER: [u64; 5] = [
+pub(crate) const TRANSFER: [u64; 5] = [
     0x0202_0000_0000_0001,
     0xffff_ffe2_0000_0000,
     0x0202_0001_0000_0001,
@@ -19,7 +19,7 @@ const TRANSFER: [u64; 5] = [
 ];
 
 /// A log file of these batches, and a closed gate.
-fn image(alloc: Global, batches: &[&[u64]]) -> Result<Vec<u8>, AllocError> {
+pub(crate) fn image(alloc: Global, batches: &[&[u64]]) -> Result<Vec<u8>, AllocError> {
     let mut bytes = Vec::new(alloc);
     for (i, units) in batches.iter().enumerate() {
         bytes.push(b'O')?;

@@ -37,7 +37,7 @@ fn balance_line(account: u32, balance: u32) -> Line
     line
 }
 
-fn put_end<K: Sink>(lsn: Lsn, sink: &mut K) -> Result<(), WriteFault>
+pub(crate) fn put_end<K: Sink>(lsn: Lsn, sink: &mut K) -> Result<(), WriteFault>
     ensures all { OnOk result (Appends (K.held_bytes sink.old) (K.held_bytes sink.new) (lsn_line lsn)) }
     ensures prefix { OnErr result (AppendsPrefix (K.held_bytes sink.old) (K.held_bytes sink.new) (lsn_line lsn)) }
     ensures cause { HasCause (K.faults sink.old) (K.faults sink.new) result }

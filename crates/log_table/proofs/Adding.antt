@@ -5,7 +5,7 @@ use Rattle.log_table.specs.declared.view.Call.TheVariants.{Idle}
 use Rattle.log_table.specs.declared.view.Role.TheVariants.{Flusher}
 use Rattle.log_table.specs.declared.view.View.{View}
 use Rattle.log_table.specs.Log.{Log, ranges_of, parts_of}
-use Rattle.log_table.specs.Sound.{EachPair, HasSeenBoundaries, SendsIfFlusher, StoresStop, RestsIfQuiet, LookedIfQuiet, HasWorkingOwner, HasConstants, RestsUnlessActive, OwnsIfWorker, HoldsIfActive, HasSoundCrew, IsSound, base_of, history_in, books_of}
+use Rattle.log_table.specs.Sound.{EachPair, HasSeenBoundaries, SendsIfFlusher, StoresStop, HasReadStop, RestsIfQuiet, LookedIfQuiet, HasWorkingOwner, HasConstants, RestsUnlessActive, OwnsIfWorker, HoldsIfActive, HasSoundCrew, IsSound, base_of, history_in, books_of}
 use Rattle.log_table.specs.declared.view.Books.{Books}
 use Rattle.log_table.specs.Accounts.{KeepsAccounts}
 use Rattle.log_table.specs.Books.{no_books}
@@ -29,7 +29,8 @@ nobody-there (x ∷ xs) = nobody-there xs
 
 module _ (key : Start) (words : Words) (views : List View) (log : Log) (s : IsSound key words views log) (new : View) (entries : new.entries ≡ [])
     (call : new.call ≡ Idle) (not-flusher : new.standing.role ≡ Flusher → ⊥)
-    (sees : HasSeenBoundaries key.start words.tail words.exposed words.durable (ranges_of log) new.seen) (constants : HasConstants key new)
+    (sees : HasSeenBoundaries key.start words.tail words.exposed words.durable (ranges_of log) new.seen)
+    (read : HasReadStop words.stop new) (constants : HasConstants key new)
     (roles : HasSoundCrew words.crew (views ++ new ∷ [])) (quiet : EachPair (λ _ y _ z. RestsIfQuiet y z) (views ++ new ∷ []))
     (books : new.books ≡ no_books) where
   pub adds : IsSound key words (views ++ new ∷ []) log
@@ -55,6 +56,7 @@ module _ (key : Start) (words : Words) (views : List View) (log : Log) (s : IsSo
         (λ _ z. SendsIfFlusher key.start words.exposed words.durable log z) views new s.sends (λ f. absurd (not-flusher f)) (λ _ _ _ p. p);
     stops = each_push (λ _ z. StoresStop words.stop z) (λ _ z. StoresStop words.stop z) views new s.stops (λ f. absurd (not-flusher f))
         (λ _ _ _ p. p);
+    read_stop = each_push (λ _ z. HasReadStop words.stop z) (λ _ z. HasReadStop words.stop z) views new s.read_stop read (λ _ _ _ p. p);
     quiet = quiet;
     looked = each_push (λ _ z. LookedIfQuiet words.exposed z) (λ _ z. LookedIfQuiet words.exposed z) views new s.looked
         (λ f. absurd (not-flusher f)) (λ _ _ _ p. p);

@@ -1,5 +1,5 @@
 -- Each kind of step is one that the base crate allows.
-use Rattle.std.proofs.Common.{◌≡◌, ℕ, ◌+◌, ◌-◌, ◌*◌, ◌%◌, ◌^◌, ◌≤◌, ◌<◌, eqb, None, Some, List, length, subst, sym, ap, ◌∙◌}
+use Rattle.std.proofs.Common.{◌≡◌, ℕ, ◌+◌, ◌-◌, ◌*◌, ◌%◌, ◌^◌, ◌≤◌, ◌<◌, eqb, None, Some, length, subst, sym, ap, ◌∙◌}
 use prog.Atomic.{either}
 use Rattle.atomic_table.specs.Table.{Me, Allows}
 use Rattle.lsn_space.specs.declared.lsn.TheConstants.{LAST}
@@ -9,12 +9,12 @@ use Rattle.log_table.specs.declared.table.Start.{Start}
 use Rattle.log_table.specs.declared.view.Role.TheVariants.{Flusher, Fresh}
 use Rattle.log_table.specs.declared.view.View.{View}
 use Rattle.log_table.specs.Layout.{Tail, Exposed, Durable, Stop, Crew, Ring, Account}
-use Rattle.log_table.specs.May.{MayLeave, MayReserve, MayFill, MayRelease, MayRead, MaySend, MayTakeJob, MayTake, MayGiveBack}
+use Rattle.log_table.specs.May.{MayLeave, MayReserve, MayFill, MayRelease, MayRead, MaySend, MayStop, MayTakeJob, MayTake, MayGiveBack}
 use Rattle.slot_word.specs.declared.account_word.AccountWord.{AccountWord}
 use Rattle.slot_word.specs.AccountWord.{word_of}
 use Rattle.txn_script.specs.declared.job.Job.{Job}
 use Rattle.log_table.specs.Sends.{IsExposedToFlusher, IsDurableToFlusher, ReadsWholeEntries}
-use Rattle.log_table.specs.Sound.{Ruled}
+use Rattle.log_table.specs.Sound.{HasReadStop, Ruled}
 use Rattle.log_table.specs.Views.{saw_tail, saw_exposed, saw_durable, after_exchange, filled, released, enrolled, retired, has_read, has_sent, has_stopped, saw_stop, saw_crew, took_job, saw_account, after_account, gave_account}
 use Rattle.log_table.proofs.Crewing.{enroll-adds, leave-subtracts}
 use Rattle.log_table.proofs.Filling.{fill-step}
@@ -23,7 +23,7 @@ use Rattle.log_table.proofs.Looking.{tail-looks, exposed-looks, durable-looks, s
 use Rattle.log_table.proofs.Flushing.{send-step}
 use Rattle.log_table.proofs.Reading.{read-step, read-tells}
 use Rattle.log_table.proofs.Turning.{release-step}
-use Rattle.log_table.proofs.Stopping.{stop-step, crew-looks}
+use Rattle.log_table.proofs.Stopping.{stop-stays, stop-tells, stop-step, crew-looks}
 use Rattle.log_table.proofs.Reserving.{exchange-step, exchange-event}
 use Rattle.log_table.proofs.Wording.{Fits, shared_tail, shared_exposed, shared_durable, shared_stop, shared_crew, in_ring, of_account}
 use Rattle.log_table.proofs.Owing.{FitsWord, job-step, account-looks, account-step, give-step}
@@ -90,11 +90,16 @@ module _ (key : Start) (slots seat : ℕ) (me : Me (Unit {0}) View) where
       allowed-if_step key slots seat me Durable shared_durable (λ _. to) (λ _. has_sent to me.0) (λ _. Some (Flushed to)) (λ _. Unit {0})
       (λ _ _ _ _ _. tt) (λ n _. send-step key seat me.0 to may n)
 
-  pub store_stop-allowed : (word : ℕ) → me.0.standing.role ≡ Flusher
+  pub store_stop-allowed : (word : ℕ) → MayStop word me.0
       → Allows (Ruled key) slots seat me STOP (λ _. word) (λ _ new. (new ≡ (has_stopped word me.0, me.1)) × Unit {0})
-  store_stop-allowed word flusher =
+  store_stop-allowed word may =
       allowed-if_step key slots seat me Stop shared_stop (λ _. word) (λ _. has_stopped word me.0) (λ _. None) (λ _. Unit {0})
-      (λ _ _ _ _ _. tt) (λ n _. stop-step key seat me.0 flusher word n)
+      (λ _ _ _ _ _. tt) (λ n _. stop-step key seat me.0 word may n)
+
+  pub tell_stop-allowed : Allows (Ruled key) slots seat me STOP (λ n. n)
+      (λ n new. (new ≡ (me.0, me.1)) × (me.0.standing.role ≡ Flusher → HasReadStop me.0.sending.stop me.0))
+  tell_stop-allowed = allowed-if_step key slots seat me Stop shared_stop (λ n. n) (λ _. me.0) (λ _. None)
+      (λ _. me.0.standing.role ≡ Flusher → HasReadStop me.0.sending.stop me.0) (stop-tells key seat me.0) (λ n _. stop-stays key seat me.0 n)
 
   pub load_stop-allowed : Allows (Ruled key) slots seat me STOP (λ n. n) (λ n new. (new ≡ (saw_stop n me.0, me.1)) × Unit {0})
   load_stop-allowed = allowed-if_step key slots seat me Stop shared_stop (λ n. n) (λ n. saw_stop n me.0) (λ _. None) (λ _. Unit {0})

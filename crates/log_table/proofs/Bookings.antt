@@ -1,5 +1,5 @@
 -- Lists of books, the accounts that they hold and the jobs that they took.
-use Rattle.std.proofs.Common.{◌≡◌, ◌≢◌, ℕ, zero, suc, ◌==◌, ◌+◌, ◌≤◌, ◌<◌, cond, Bool, true, false, true≢false, List, [], ◌∷◌, ◌++◌, map, set, sym, refl, ap, ◌∙◌, subst, ⊎_elim, arith, eq-eqb, ne_eqb}
+use Rattle.std.proofs.Common.{◌≡◌, ◌≢◌, ℕ, zero, suc, ◌==◌, ◌+◌, ◌≤◌, cond, Bool, true, false, List, [], ◌∷◌, ◌++◌, length, map, set, sym, refl, ap, ◌∙◌, subst, ⊎_elim, arith, eq-eqb, ne_eqb}
 use Rattle.std.specs.List.{AllByRecursion}
 use mathlib.Core.Logic.{dite}
 use mathlib.Core.Option.{some, some-injective, some-ne-none}
@@ -10,7 +10,7 @@ use Rattle.log_table.specs.declared.view.TakenJob.{TakenJob}
 use Rattle.log_table.specs.declared.view.Held.{Held}
 use Rattle.log_table.specs.declared.view.Books.{Books}
 use Rattle.log_table.specs.Books.{times_held, times_taken, balance_taken, mark_taken, without}
-use Rattle.log_table.specs.Accounts.{Everywhere, summed, holders, takers, HasDistinctJobs}
+use Rattle.log_table.specs.Accounts.{Everywhere, summed, HasDistinctJobs}
 
 module _ {A : Type 0} where
   pub everywhere-moves : (P Q : A → Type 0) (list : List A) (me : ℕ) (new : A) → Everywhere P list → Q new
@@ -156,6 +156,29 @@ times_held-without_other account other (x ∷ xs) differ = dite (ℕ_discrete x.
         ap (λ b. times_held other (cond b xs (x ∷ without account xs))) (eq-eqb x.account account same) in omega arith)
     (λ apart. ap (λ b. times_held other (cond b xs (x ∷ without account xs))) (ne_eqb x.account account apart)
     ∙ ap (λ n. cond (x.account == other) 1 0 + n) (times_held-without_other account other xs differ))
+
+pub balance_taken-without_other : (account other : ℕ) (list : List Held) → other ≢ account → balance_taken (without account list) other ≡ balance_taken list other
+balance_taken-without_other account other [] differ = refl
+balance_taken-without_other account other (x ∷ xs) differ = dite (ℕ_discrete x.account account)
+    (λ same. ap (λ b. balance_taken (cond b xs (x ∷ without account xs)) other) (eq-eqb x.account account same)
+    ∙ sym (ap (λ b. cond b x.balance (balance_taken xs other)) (ne_eqb x.account other (λ e. differ (sym e ∙ same)))))
+    (λ apart. ap (λ b. balance_taken (cond b xs (x ∷ without account xs)) other) (ne_eqb x.account account apart)
+    ∙ ap (λ n. cond (x.account == other) x.balance n) (balance_taken-without_other account other xs differ))
+
+pub mark_taken-without_other : (account other : ℕ) (list : List Held) → other ≢ account → mark_taken (without account list) other ≡ mark_taken list other
+mark_taken-without_other account other [] differ = refl
+mark_taken-without_other account other (x ∷ xs) differ = dite (ℕ_discrete x.account account)
+    (λ same. ap (λ b. mark_taken (cond b xs (x ∷ without account xs)) other) (eq-eqb x.account account same)
+    ∙ sym (ap (λ b. cond b x.mark (mark_taken xs other)) (ne_eqb x.account other (λ e. differ (sym e ∙ same)))))
+    (λ apart. ap (λ b. mark_taken (cond b xs (x ∷ without account xs)) other) (ne_eqb x.account account apart)
+    ∙ ap (λ n. cond (x.account == other) x.mark n) (mark_taken-without_other account other xs differ))
+
+pub length-without : (account : ℕ) (list : List Held) → 1 ≤ times_held account list → length (without account list) + 1 ≡ length list
+length-without account [] has = absurd (omega arith)
+length-without account (x ∷ xs) has = dite (ℕ_discrete x.account account)
+    (λ same. let gone = ap (λ b. length (cond b xs (x ∷ without account xs))) (eq-eqb x.account account same) in omega arith)
+    (λ apart. let none = none-if x.account account apart in let more = length-without account xs (omega arith) in
+    let kept = ap (λ b. length (cond b xs (x ∷ without account xs))) (ne_eqb x.account account apart) in omega arith)
 
 pub all-without : (P : Held → Type 0) (account : ℕ) (list : List Held) → AllByRecursion P list → AllByRecursion P (without account list)
 all-without P account [] all = tt

@@ -15,7 +15,7 @@ use Rattle.log_table.specs.Events.{Leads, IsStep}
 use Rattle.log_table.specs.Layout.{Crew}
 use Rattle.log_table.specs.Log.{Log}
 use Rattle.log_table.specs.May.{MayLeave}
-use Rattle.log_table.specs.Sound.{EachView, StoresStop, HasSoundRole, HasSoundRoles, HasSoundCrew, IsSound, is_active_view}
+use Rattle.log_table.specs.Sound.{EachView, StoresStop, HasReadStop, HasSoundRole, HasSoundRoles, HasSoundCrew, IsSound, is_active_view}
 use Rattle.log_table.specs.Views.{is_active, is_worker, is_working, is_spent, enrolled, retired}
 use Rattle.log_table.specs.Words.{Words}
 use Rattle.log_table.proofs.Keeping.{accounts-stay}
@@ -130,6 +130,7 @@ enrolls key words views me v log s at fresh =
           ));
     }
     (λ f. absurd (cc)) (each_set (λ _ z. StoresStop words.stop z) views me (enrolled v) s.stops (λ f. absurd (cc)))
+    (each_set (λ _ z. HasReadStop words.stop z) views me (enrolled v) s.read_stop (s.read_stop me v at))
     (quiet-moves views me v (enrolled v) s.quiet at (λ _ _ _ _ f. absurd (cc))
     (λ z h f q. absurd (true≢false (sym (ap is_working fresh) ∙ h f q)))) (λ f. absurd (cc)) ((λ off. absurd (true≢false off)), (λ off. absurd (true≢false off)))
     (accounts-stay key words.account log.parts views me v (enrolled v) at refl s.accounts)
@@ -184,6 +185,7 @@ leaves key words views me v log s at may =
           ));
     }
     (λ f. absurd (cc)) (each_set (λ _ z. StoresStop words.stop z) views me (retired v) s.stops (λ f. absurd (cc)))
+    (each_set (λ _ z. HasReadStop words.stop z) views me (retired v) s.read_stop (s.read_stop me v at))
     (quiet-moves views me v (retired v) s.quiet at (λ _ _ _ _ f. absurd (cc)) (λ z _ _ _. refl)) (λ f. absurd (cc)) ((λ _. may.none_held), (λ off. absurd (true≢false off)))
     (accounts-stay key words.account log.parts views me v (retired v) at refl s.accounts)
   where

@@ -14,7 +14,7 @@ use Rattle.log_table.specs.Events.{reservation_of, IsStep, Leads}
 use Rattle.log_table.specs.Layout.{Durable}
 use Rattle.log_table.specs.Log.{Part, Log, ranges_of, StandsInRing, AgreesFrom, EndsWithPart, IsReleased, IsRangeBoundary}
 use Rattle.log_table.specs.May.{MaySend}
-use Rattle.log_table.specs.Sound.{HasSeenBoundaries, HasContiguousReservations, SendsInsertedUnits, SendsIfFlusher, StoresStop, LookedIfQuiet, HasWorkingOwner, HasConstants, RestsUnlessActive, OwnsIfWorker, HoldsIfActive, IsSound}
+use Rattle.log_table.specs.Sound.{HasSeenBoundaries, HasContiguousReservations, SendsInsertedUnits, SendsIfFlusher, StoresStop, HasReadStop, LookedIfQuiet, HasWorkingOwner, HasConstants, RestsUnlessActive, OwnsIfWorker, HoldsIfActive, IsSound}
 use Rattle.log_table.proofs.Keeping.{accounts-stay}
 use Rattle.log_table.specs.Views.{is_spent, has_sent}
 use Rattle.log_table.specs.Words.{Words}
@@ -141,6 +141,7 @@ module _ (key : Start) (words : Words) (views : List View) (me : ℕ) (v : View)
         (λ _ z. SendsIfFlusher key.start words.exposed to after z) views me new s.sends (λ _. sends-all)
         (λ j z differ there _ f. absurd (differ (sole-flusher words.crew views me v s.roles at flusher j z there f)));
     stops = each_set (λ _ z. StoresStop words.stop z) views me new s.stops (s.stops me v at);
+    read_stop = each_set (λ _ z. HasReadStop words.stop z) views me new s.read_stop (s.read_stop me v at);
     quiet = quiet-moves views me v new s.quiet at (λ _ _ _ h. h) (λ _ h. h);
     looked = each_set (λ _ z. LookedIfQuiet words.exposed z) views me new s.looked (s.looked me v at);
     unheld = each_set (λ _ z. HoldsIfActive z) views me new s.unheld (s.unheld me v at);

@@ -18,7 +18,7 @@ use Rattle.log_table.specs.declared.view.Role.TheVariants.{Flusher, Fresh, Activ
 use Rattle.log_table.specs.declared.view.View.{View}
 use Rattle.slot_word.specs.AccountWord.{held_in, balance_in, mark_in}
 use Rattle.log_record.specs.declared.rec.Entry.{Entry as Placed}
-use Rattle.log_record.specs.Spelling.{spelling, IsBalance}
+use Rattle.log_record.specs.Spelling.{IsBalance}
 use Rattle.lock_core.specs.History.{history_from}
 use Rattle.lock_core.specs.Records.{loss}
 use Rattle.lock_core.specs.Settling.{row}

@@ -1,20 +1,18 @@
 -- An account is given back.
-use Rattle.std.proofs.Common.{◌≡◌, ◌≢◌, ◌==◌, ◌&&◌, ℕ, ◌+◌, ◌≤◌, ◌<◌, cond, ℤ, Bool, true, false, true≢false, List, [], ◌∷◌, set, sym, refl, ap, ◌∙◌, subst, arith}
+use Rattle.std.proofs.Common.{◌≡◌, ℕ, ◌+◌, ◌≤◌, ◌<◌, cond, true, false, List, set, sym, refl, ap, ◌∙◌, subst, arith}
 use Rattle.std.specs.List.{AllByRecursion}
 use mathlib.Core.Logic.{dite}
 use mathlib.Core.Option.{some}
 use native.Mathlib.Decide.{ℕ_discrete}
 use lib.ListN.{get_elem?}
-use Rattle.slot_word.specs.AccountWord.{held_in, balance_in, mark_in}
+use Rattle.slot_word.specs.AccountWord.{held_in}
 use Rattle.log_record.specs.declared.rec.Entry.{Entry}
 use Rattle.lock_core.specs.Records.{gain, loss}
-use Rattle.lock_core.specs.History.{end_from}
-use Rattle.lock_core.specs.Transactions.{recs_of, changes_in, has_commit, touches}
 use Rattle.lock_core.specs.Sums.{BaseState, total, last_commit_of}
 use Rattle.log_table.specs.declared.view.Held.{Held}
 use Rattle.log_table.specs.declared.view.Books.{Books}
-use Rattle.log_table.specs.Books.{times_held, times_taken, balance_taken, mark_taken, without, giving}
-use Rattle.log_table.specs.Accounts.{Everywhere, holders, IsAsTaken, HasOneHolder, HasDistinctJobs, moved_if_committed, commit_in, Follows, IsUpToDate, AccountsFollowList, KeepsAccounts, MayGive}
+use Rattle.log_table.specs.Books.{times_held, times_taken, without, giving}
+use Rattle.log_table.specs.Accounts.{holders, IsAsTaken, HasOneHolder, moved_if_committed, commit_in, Follows, IsUpToDate, AccountsFollowList, KeepsAccounts, MayGive}
 use Rattle.log_table.specs.Words.{put}
 use Rattle.log_table.proofs.Bookings.{everywhere-moves, everywhere-set, summed-set, summed-one, summed-two, all-held, found, all-without, times_held-without, times_held-without_other}
 use Rattle.log_table.proofs.Taking.{put-same, put-else, as_taken-else, free-else, distinct-before, Lasts, Ties, RunsPartly, FollowsAll, LastIsOne}

@@ -1,10 +1,11 @@
 mod Adding
 mod Agreeing
 mod Allowing
-mod Bookings
+pub mod Bookings
 mod Boundaries
 mod CrewMerging
 mod Crewing
+pub mod Deltas
 mod Entering
 mod Filling
 mod Flushing

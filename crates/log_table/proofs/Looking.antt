@@ -1,5 +1,5 @@
 -- Steps that change what their seat has seen, and nothing else: the loads, and an exchange that was lost.
-use Rattle.std.proofs.Common.{◌≡◌, ℕ, ◌+◌, ◌/◌, ◌≤◌, true, List, length, set, None, sym, refl, ap, ◌∙◌, subst, le_refl, arith}
+use Rattle.std.proofs.Common.{◌≡◌, inr, ℕ, ◌+◌, ◌/◌, ◌≤◌, true, List, length, set, None, sym, refl, ap, ◌∙◌, subst, le_refl, arith}
 use mathlib.Core.Option.{some}
 use lib.ListN.{get_elem?}
 use Rattle.lsn_space.specs.Tiling.{IsBoundary}
@@ -13,7 +13,7 @@ use Rattle.log_table.specs.Events.{Leads, IsStep}
 use Rattle.log_table.specs.Layout.{Tail, Exposed, Durable, Stop}
 use Rattle.log_table.specs.Log.{Log, ranges_of, IsRangeBoundary, Tiles}
 use Rattle.log_table.specs.Sends.{IsExposedToFlusher, IsDurableToFlusher}
-use Rattle.log_table.specs.Sound.{EachView, HasSeenBoundaries, HasContiguousReservations, SendsIfFlusher, StoresStop, RestsIfQuiet, LookedIfQuiet, IsSound}
+use Rattle.log_table.specs.Sound.{EachView, HasSeenBoundaries, HasContiguousReservations, SendsIfFlusher, StoresStop, HasReadStop, RestsIfQuiet, LookedIfQuiet, IsSound}
 use Rattle.log_table.specs.Views.{is_spent, seen_tail, seen_exposed, seen_durable, saw_tail, saw_exposed, saw_durable, saw_stop}
 use Rattle.log_table.specs.Words.{Words}
 use Rattle.log_table.proofs.Keeping.{accounts-stay}
@@ -50,22 +50,25 @@ pub looks : (key : Start) (words : Words) (stop : ℕ) (views : List View) (me :
     → HasSeenBoundaries key.start words.tail words.exposed words.durable (ranges_of log) seen
     → SendsIfFlusher key.start words.exposed words.durable log (record v { seen = seen; sending = sending })
     → EachView (λ _ z. StoresStop stop z) (set views me (record v { seen = seen; sending = sending }))
+    → EachView (λ _ z. HasReadStop stop z) (set views me (record v { seen = seen; sending = sending }))
     → ((j : ℕ) (z : View) → get_elem? views j ≡ some z → RestsIfQuiet v z → RestsIfQuiet (record v { seen = seen; sending = sending }) z)
     → LookedIfQuiet words.exposed (record v { seen = seen; sending = sending })
     → Leads key words (record words { stop = stop }) views (set views me (record v { seen = seen; sending = sending })) log None
-looks key words stop views me v log seen sending s at sees sends stops quiet looked =
+looks key words stop views me v log seen sending s at sees sends stops read quiet looked =
     restands key words stop words.crew words.account views me v (record v { seen = seen; sending = sending }) log s at refl refl sees (s.constants me v at)
     (s.resting me v at) (s.entries me v at)
-    (crew-same words.crew views me v (record v { seen = seen; sending = sending }) s.roles at refl) sends stops
+    (crew-same words.crew views me v (record v { seen = seen; sending = sending }) s.roles at refl) sends stops read
     (quiet-moves views me v (record v { seen = seen; sending = sending }) s.quiet at quiet (λ _ h. h)) looked (s.unheld me v at)
     (accounts-stay key words.account log.parts views me v (record v { seen = seen; sending = sending }) at refl s.accounts)
 
 -- the seat sees a word
 pub sees-word : (key : Start) (words : Words) (views : List View) (me : ℕ) (v : View) (log : Log) (seen : Seen) → IsSound key words views log
     → get_elem? views me ≡ some v → HasSeenBoundaries key.start words.tail words.exposed words.durable (ranges_of log) seen
+    → HasReadStop words.stop (record v { seen = seen })
     → Leads key words words views (set views me (record v { seen = seen })) log None
-sees-word key words views me v log seen s at sees = looks key words words.stop views me v log seen v.sending s at sees (s.sends me v at)
-    (each_set (λ _ z. StoresStop words.stop z) views me (record v { seen = seen }) s.stops (s.stops me v at)) (λ _ _ _ h. h) (s.looked me v at)
+sees-word key words views me v log seen s at sees read = looks key words words.stop views me v log seen v.sending s at sees (s.sends me v at)
+    (each_set (λ _ z. StoresStop words.stop z) views me (record v { seen = seen }) s.stops (s.stops me v at))
+    (each_set (λ _ z. HasReadStop words.stop z) views me (record v { seen = seen }) s.read_stop read) (λ _ _ _ h. h) (s.looked me v at)
 
 module _ (key : Start) (me : ℕ) (v : View) where
   pub tail-looks : (n : ℕ) → IsStep key me Tail n n v (saw_tail n v) None
@@ -77,7 +80,7 @@ module _ (key : Start) (me : ℕ) (v : View) where
           exposed_seen = old.exposed_seen;
           durable_seen = old.durable_seen;
           boundaries = (tail-boundary _ _ _ _ _ log s.contiguous, old.boundaries);
-        });
+        } (s.read_stop me v at));
   }
 
   pub exposed-looks : (n : ℕ) → IsStep key me Exposed n n v (saw_exposed n v) None
@@ -98,7 +101,8 @@ module _ (key : Start) (me : ℕ) (v : View) where
           boundary = boundary;
           sent_agrees = sends.sent_agrees;
           read_agrees = sends.read_agrees;
-        }) (each_set (λ _ z. StoresStop words.stop z) views me (saw_exposed words.exposed v) s.stops (s.stops me v at)) (λ _ _ _ h. h)
+        }) (each_set (λ _ z. StoresStop words.stop z) views me (saw_exposed words.exposed v) s.stops (s.stops me v at))
+        (each_set (λ _ z. HasReadStop words.stop z) views me (saw_exposed words.exposed v) s.read_stop (s.read_stop me v at)) (λ _ _ _ h. h)
         (λ _ _ _. refl));
   }
 
@@ -111,7 +115,7 @@ module _ (key : Start) (me : ℕ) (v : View) where
           exposed_seen = old.exposed_seen;
           durable_seen = le_refl _;
           boundaries = (durable-boundary _ _ _ _ _ log s.contiguous, old.boundaries);
-        });
+        } (s.read_stop me v at));
   }
 
   pub stop-looks : (n : ℕ) → IsStep key me Stop n n v (saw_stop n v) None
@@ -123,7 +127,7 @@ module _ (key : Start) (me : ℕ) (v : View) where
           exposed_seen = old.exposed_seen;
           durable_seen = old.durable_seen;
           boundaries = old.boundaries;
-        });
+        } (inr refl));
   }
 
   -- the rule tells that a word never goes back, and lies in the log

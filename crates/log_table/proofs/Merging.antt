@@ -1,5 +1,5 @@
 -- The flusher's seat takes in the seat of a worker that has ended, or a note.
-use Rattle.std.proofs.Common.{◌≡◌, ◌≢◌, ◌⊎◌, inl, inr, ⊎_elim, ℕ, zero, suc, ◌+◌, true, false, true≢false, List, [], ◌∷◌, ◌++◌, map, set, sym, refl, ap, ◌∙◌, subst, arith, append-nil}
+use Rattle.std.proofs.Common.{◌≡◌, ◌≢◌, ◌==◌, ◌⊎◌, inl, inr, ⊎_elim, ℕ, zero, suc, ◌+◌, true, false, true≢false, List, [], ◌∷◌, ◌++◌, map, set, sym, refl, ap, ◌∙◌, subst, arith, append-nil}
 use mathlib.Core.Option.{some}
 use lib.ListN.{get_elem?}
 use Rattle.atomic_table.specs.Table.{Joins}
@@ -13,15 +13,16 @@ use Rattle.log_table.proofs.Gathered.{joins}
 use Rattle.log_table.specs.declared.table.Start.{Start}
 use Rattle.log_table.specs.declared.view.Call.TheVariants.{Idle}
 use Rattle.log_table.specs.declared.view.View.{View}
-use Rattle.log_table.specs.Log.{Part, Log, ranges_of, parts_of, SpellsRecord, records_in, StandsInRing, IsFullIfReleased, IsReleasedBelow, CountsRemaining, AgreesFrom, EndsWithPart}
+use Rattle.log_table.specs.Log.{Part, Log, ranges_of, parts_of, SpellsRecord, StandsInRing, IsFullIfReleased, IsReleasedBelow, CountsRemaining, AgreesFrom, EndsWithPart}
 use Rattle.log_table.specs.May.{MayMerge}
-use Rattle.log_table.specs.Sound.{EachView, HasSeenBoundaries, SendsIfFlusher, StoresStop, LookedIfQuiet, HasWorkingOwner, HasConstants, RestsUnlessActive, OwnsIfWorker, HoldsIfActive, base_of, history_in, books_of, HasSoundRole, HasSoundRoles, HasSoundCrew, IsSound, Knows, Lacks, Ruled, is_active_view}
+use Rattle.log_table.specs.Sound.{EachView, HasSeenBoundaries, SendsIfFlusher, StoresStop, HasReadStop, LookedIfQuiet, HasWorkingOwner, HasConstants, RestsUnlessActive, OwnsIfWorker, HoldsIfActive, base_of, history_in, books_of, HasSoundRole, HasSoundRoles, HasSoundCrew, IsSound, Knows, Lacks, Ruled, is_active_view}
 use Rattle.log_table.specs.Views.{has_ended, is_active, is_worker, is_spent, nobody, entries_in, claims_in, merged_entries, merged_seen, merged_standing, takes_in}
 use Rattle.log_table.specs.Words.{Words, words_in}
 use Rattle.log_table.proofs.CrewMerging.{ended-rests, crew-merges}
 use Rattle.log_table.proofs.Lists.{all-append, all-weaker}
 use Rattle.log_table.proofs.Renaming.{rename, own-renamed, own-renamed-from, own-renamed-else, all-renamed, laid-renamed, unreleased_in-renamed, boundary-renamed, records-renamed}
 use Rattle.log_table.proofs.Roles.{quiet-moves}
+use Rattle.log_table.proofs.Stopping.{either-read}
 use Rattle.log_table.proofs.Viewing.{each_set, seats_move, seat_at}
 
 set-swap : (views : List View) (a b : ℕ) (x y : View) → a ≢ b → set (set views a x) b y ≡ set (set views b y) a x
@@ -158,6 +159,8 @@ module _ (key : Start) (words : Words) (views : List View) (me other : ℕ) (v o
     sends = each-merged (λ _ z. SendsIfFlusher key.start words.exposed words.durable after z) (λ j z here. sends z (s.sends j z here))
         (λ f. absurd (cc)) (sends v (s.sends me v at));
     stops = each-merged (λ _ z. StoresStop words.stop z) s.stops (λ f. absurd (cc)) (s.stops me v at);
+    read_stop = each-merged (λ _ z. HasReadStop words.stop z) s.read_stop (inl refl)
+        (either-read words.stop v.seen.stop o.seen.stop (o.seen.stop == 0) (s.read_stop me v at) (s.read_stop other o there));
     quiet = quiet-moves without me v new
         (quiet-moves views other o nobody s.quiet there (λ _ _ _ _ f. absurd (cc)) (λ _ _ _ _. refl)) at' (λ _ _ _ h. h) (λ _ h. h);
     looked = each-merged (λ _ z. LookedIfQuiet words.exposed z) s.looked (λ f. absurd (cc)) (s.looked me v at);

@@ -1,5 +1,5 @@
 -- The steps on an account's word, and the load of stop with which a seat takes a job.
-use Rattle.std.proofs.Common.{◌≡◌, ◌≢◌, ℕ, ◌==◌, ◌+◌, ◌≤◌, ◌<◌, cond, eqb, ◌||◌, ◌^◌, Bool, true, false, true≢false, List, [], ◌∷◌, length, map, set, None, Result, Ok, Err, OnOk, IfErr, sym, refl, ap, ◌∙◌, subst, arith, eq-eqb, ne_eqb}
+use Rattle.std.proofs.Common.{◌≡◌, inr, ℕ, ◌+◌, ◌≤◌, ◌<◌, cond, eqb, ◌||◌, ◌^◌, Bool, false, true≢false, List, [], ◌∷◌, length, map, set, None, Result, Ok, Err, OnOk, IfErr, sym, refl, ap, ◌∙◌, subst, eq-eqb, ne_eqb}
 use Rattle.std.specs.List.{AllByRecursion}
 use Rattle.std.proofs.lemmas.List.{map-set}
 use mathlib.Core.Logic.{dite}
@@ -22,25 +22,26 @@ use Rattle.log_table.specs.declared.view.Books.{Books}
 use Rattle.log_table.specs.declared.view.Seen.{Seen}
 use Rattle.log_table.specs.declared.view.TakenJob.{TakenJob}
 use Rattle.log_table.specs.declared.view.View.{View}
-use Rattle.log_table.specs.Accounts.{IsAllowed, HasOneHolder, KeepsAccounts}
+use Rattle.log_table.specs.Accounts.{IsAllowed, KeepsAccounts}
 use Rattle.log_table.specs.Books.{IsNote, taking_job, taking, giving}
 use Rattle.log_table.specs.Events.{Leads, IsStep}
 use Rattle.log_table.specs.Layout.{Stop, Account}
 use Rattle.log_table.specs.Log.{Log, ranges_of}
-use Rattle.log_table.specs.May.{IsAtRest, MayTakeJob, MayTake, MayGiveBack}
-use Rattle.log_table.specs.Sound.{HasSeenBoundaries, StoresStop, HoldsIfActive, IsSound, base_of, history_in, books_of}
+use Rattle.log_table.specs.May.{MayTakeJob, MayTake, MayGiveBack}
+use Rattle.log_table.specs.Sound.{HasSeenBoundaries, StoresStop, HasReadStop, HoldsIfActive, IsSound, base_of, history_in, books_of}
 use Rattle.log_table.specs.Views.{is_active, may_own, counted, took_job, seen_account, saw_account, held_as, took_account, after_account, gave_account}
 use Rattle.log_table.specs.Words.{Words, put}
 use Rattle.log_table.proofs.Looking.{sees-word}
 use Rattle.log_table.proofs.Roles.{crew-same, quiet-moves, restands}
 use Rattle.log_table.proofs.Viewing.{each_set}
-use Rattle.log_table.proofs.Taking.{takes-job, takes-account, put-same}
+use Rattle.log_table.proofs.Taking.{takes-job, takes-account}
 use Rattle.log_table.proofs.Giving.{gives}
 
 -- the seat's books change, and the accounts' words with them
 module _ (key : Start) (words : Words) (account : ℕ → ℕ) (views : List View) (me : ℕ) (v : View) (log : Log) (seen : Seen) (books : Books)
     (s : IsSound key words views log) (at : get_elem? views me ≡ some v)
-    (sees : HasSeenBoundaries key.start words.tail words.exposed words.durable (ranges_of log) seen) where
+    (sees : HasSeenBoundaries key.start words.tail words.exposed words.durable (ranges_of log) seen)
+    (read : HasReadStop words.stop (record v { seen = seen })) where
   abbrev new : View
   new = record v { seen = seen; books = books }
 
@@ -49,6 +50,7 @@ module _ (key : Start) (words : Words) (account : ℕ → ℕ) (views : List Vie
   books-change unheld accounts = restands key words words.stop words.crew account views me v new log s at refl refl sees (s.constants me v at)
       (s.resting me v at) (s.entries me v at) (crew-same words.crew views me v new s.roles at refl) (s.sends me v at)
       (each_set (λ _ z. StoresStop words.stop z) views me new s.stops (s.stops me v at))
+      (each_set (λ _ z. HasReadStop words.stop z) views me new s.read_stop read)
       (quiet-moves views me v new s.quiet at (λ _ _ _ h. h) (λ _ h. h)) (s.looked me v at) unheld
       (subst (KeepsAccounts (base_of key) account (history_in key log.parts)) (sym (map-set books_of views me new)) accounts)
 
@@ -87,7 +89,7 @@ module _ (key : Start) (me : ℕ) (v : View) where
     leads = λ words views log s at is. let taken : TakenJob = record { number = number; job = job } in
         subst (λ x. Leads key words (record words { stop = x }) views (set views me (took_job number job x v)) log None) is
         (books-change key words words.account views me v log (record v.seen { steps = v.seen.steps + 1; stop = words.stop }) (taking_job taken v.books) s at
-        (sees-same key.start words.tail words.exposed words.durable log v.seen _ (s.seen me v at) refl refl refl refl)
+        (sees-same key.start words.tail words.exposed words.durable log v.seen _ (s.seen me v at) refl refl refl refl) (inr refl)
         ((λ _. may.none_held), (λ off. absurd (true≢false (sym (ap may_own may.rests.active) ∙ off))))
         (takes-job (base_of key) words.account (history_in key log.parts) (map books_of views) me v.books (at_map books_of views me v at) taken
         (subst (λ c. IsAllowed c taken) (sym same) may.allowed) may.above may.none_held s.accounts));
@@ -99,7 +101,7 @@ module _ (key : Start) (me : ℕ) (v : View) where
         subst (λ (f : ℕ → ℕ). Leads key words (record words { account = f }) views (set views me (saw_account account n v)) log None)
         (λ i k. sym (Rattle.log_table.proofs.Reading.put-same words.account account n k is) i)
         (sees-word key words views me v log (seen_account account n v.seen) s at
-        (sees-same key.start words.tail words.exposed words.durable log v.seen _ (s.seen me v at) refl refl refl refl));
+        (sees-same key.start words.tail words.exposed words.durable log v.seen _ (s.seen me v at) refl refl refl refl) (s.read_stop me v at));
   }
 
   pub account-takes : (accounts account : ℕ) → length key.accounts.rows ≡ accounts → account < accounts → (from to : AccountWord) → FitsWord from → FitsWord to → MayTake from to v
@@ -109,7 +111,7 @@ module _ (key : Start) (me : ℕ) (v : View) where
         let free : held_in (words.account account) ≡ false = ap held_in is ∙ (held_back from.held from.balance from.mark from-fits.0 from-fits.1 ∙ may.free) in
         books-change key words (put words.account account (word_of to)) views me v log (seen_account account (word_of from) v.seen)
         (taking (held_as account (word_of from)) v.books) s at
-        (sees-same key.start words.tail words.exposed words.durable log v.seen _ (s.seen me v at) refl refl refl refl)
+        (sees-same key.start words.tail words.exposed words.durable log v.seen _ (s.seen me v at) refl refl refl refl) (s.read_stop me v at)
         ((λ off. absurd (true≢false (sym (ap is_active may.rests.active) ∙ off))), (λ off. absurd (true≢false (sym (ap may_own may.rests.active) ∙ off))))
         (takes-account (base_of key) words.account (history_in key log.parts) (map books_of views) me v.books (at_map books_of views me v at)
         (held_as account (word_of from)) (word_of to) (subst (λ c. account < c) (sym same) below) free (ap balance_in is) (ap mark_in is)
@@ -134,7 +136,7 @@ module _ (key : Start) (me : ℕ) (v : View) where
   give-step account word word-fits may n = record {
     leads = λ words views log s at is.
         books-change key words (put words.account account (word_of word)) views me v log (counted v.seen) (giving account v.books) s at
-        (sees-same key.start words.tail words.exposed words.durable log v.seen _ (s.seen me v at) refl refl refl refl)
+        (sees-same key.start words.tail words.exposed words.durable log v.seen _ (s.seen me v at) refl refl refl refl) (s.read_stop me v at)
         ((λ off. absurd (true≢false (sym (ap is_active may.rests.active) ∙ off))), (λ off. absurd (true≢false (sym (ap may_own may.rests.active) ∙ off))))
         (gives (base_of key) words.account (history_in key log.parts) (map books_of views) me v.books (at_map books_of views me v at) s.accounts.holder
         account (word_of word) (held_back word.held word.balance word.mark word-fits.0 word-fits.1 ∙ may.free) may.gives s.accounts);

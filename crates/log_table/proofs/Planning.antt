@@ -1,5 +1,5 @@
 -- The records of a plan, one after another: each meets the tests that concern its own transaction alone.
-use Rattle.std.proofs.Common.{◌≡◌, ◌≢◌, ◌==◌, ◌&&◌, ◌||◌, ℕ, zero, suc, ◌+◌, ◌-◌, ◌*◌, ◌≤◌, ◌<◌, cond, nat_lt, ℤ, pos, negsuc, neg_ℤ, Bool, true, false, true≢false, List, [], ◌∷◌, ◌++◌, length, sym, refl, ap, ◌∙◌, subst, arith, ltb-false, eqb-true, ne_eqb}
+use Rattle.std.proofs.Common.{◌≡◌, ◌≢◌, ◌==◌, ◌||◌, ℕ, ◌+◌, ◌-◌, ◌*◌, ◌≤◌, cond, ℤ, pos, neg_ℤ, Bool, true, false, List, [], ◌∷◌, length, sym, refl, ap, ◌∙◌, subst, arith, ltb-false, eqb-true, ne_eqb}
 use Rattle.std.specs.List.{AllByRecursion}
 use Rattle.std.specs.Prelude.{MatchBool}
 use Rattle.log_record.specs.declared.rec.Rec.{Rec}
@@ -11,8 +11,9 @@ use Rattle.lock_core.specs.Records.{lowers, gain, loss}
 use Rattle.lock_core.specs.Transactions.{changes_in, has_end, touches, all_without_prev, in_order}
 use Rattle.lock_core.specs.Sums.{moved}
 use Rattle.lock_core.specs.Tests.{IsPaired, IsOpposite}
-use Rattle.lock_core.specs.Alone.{Job as Transfer, lacks, overfills, after_leg, with_note, leg_updates, planned_from, planned_records}
+use Rattle.lock_core.specs.Alone.{lacks, overfills, after_leg, with_note, leg_updates, planned_from, planned_records}
 use Rattle.lock_core.specs.Serial.{Task}
+use Rattle.log_table.proofs.Deltas.{lowers-less, gain-less, loss-less, less-twice}
 
 -- each record of a list has this, with the records before it, newest first, and those behind it
 abbrev pub Walk : (List Rec → Rec → List Rec → Type 0) → List Rec → List Rec → Type 0
@@ -95,23 +96,6 @@ pub untouched : (P : ℕ → Type 0) (mark : ℕ → ℕ) (changes : List Change
 untouched P mark [] account none all = refl
 untouched P mark (change ∷ changes) account none all =
     λ i. ne_eqb change.account account (λ same. none (subst P same all.0.1)) i || untouched P mark changes account none all.1 i
-
--- the delta of a leg's payer
-lowers-less : (amount : ℕ) → 1 ≤ amount → lowers (neg_ℤ (pos amount)) ≡ true
-lowers-less zero some = absurd (omega arith)
-lowers-less (suc n) some = refl
-
-gain-less : (amount : ℕ) → gain (neg_ℤ (pos amount)) ≡ 0
-gain-less zero = refl
-gain-less (suc n) = refl
-
-loss-less : (amount : ℕ) → loss (neg_ℤ (pos amount)) ≡ amount
-loss-less zero = refl
-loss-less (suc n) = refl
-
-less-twice : (amount : ℕ) → pos amount ≡ neg_ℤ (neg_ℤ (pos amount))
-less-twice zero = refl
-less-twice (suc n) = refl
 
 -- the balances after a leg are those before it with what its Updates move
 leg-moves : (payer payee : Bool) (balance amount taken added start less : ℕ) → less ≡ amount → (payer ≡ true → amount ≤ balance)

@@ -11,7 +11,7 @@ use Rattle.log_table.specs.Layout.{Ring}
 use Rattle.log_table.specs.Log.{Part, Log, AgreesFrom, StandsInRing, IsFull, IsFullIfReleased, IsReleasedBelow}
 use Rattle.log_table.specs.May.{MayRead}
 use Rattle.log_table.specs.Sends.{AreEntries, ReadsWholeEntries}
-use Rattle.log_table.specs.Sound.{StoresStop, SendsInsertedUnits, IsSound}
+use Rattle.log_table.specs.Sound.{StoresStop, HasReadStop, SendsInsertedUnits, IsSound}
 use Rattle.log_table.specs.Views.{is_spent, counted, has_read, sent_to}
 use Rattle.log_table.specs.Words.{Words, put}
 use Rattle.log_table.proofs.Agreeing.{agrees-push, entries-from}
@@ -79,6 +79,7 @@ module _ (key : Start) (words : Words) (views : List View) (me : ℕ) (v : View)
         durable_seen = old.durable_seen;
         boundaries = old.boundaries;
       } (λ _. sends-more) (each_set (λ _ z. StoresStop words.stop z) views me (has_read unit v) s.stops (s.stops me v at))
+      (each_set (λ _ z. HasReadStop words.stop z) views me (has_read unit v) s.read_stop (s.read_stop me v at))
       (λ _ _ _ h. h) (s.looked me v at)
 
 module _ (key : Start) (me : ℕ) (v : View) (lsn ring : ℕ) (same : key.ring ≡ ring) (may : MayRead lsn v) where

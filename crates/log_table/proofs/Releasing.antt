@@ -13,7 +13,7 @@ use Rattle.log_table.specs.declared.view.Role.{Role}
 use Rattle.log_table.specs.declared.view.Role.TheVariants.{Flusher, Fresh, Active, Ended, Note, Spent}
 use Rattle.log_table.specs.declared.view.View.{View}
 use Rattle.log_table.specs.Log.{Part, Duty, Shared, Owed, Released, Range, Claim, Log, ranges_of, own, owed, owes, is_owed_by, claim_of, part_of, parts_of, unreleased_in, inside, IsFull, SpellsRecord, records_in, StandsInRing, IsFullIfReleased, IsReleasedBelow, IsReleased, IsOwed, CountsRemaining, Tiles, Laid, AgreesFrom, EndsWithPart, IsRangeBoundary}
-use Rattle.log_table.specs.Sound.{HasSeenBoundaries, HasContiguousReservations, SendsIfFlusher, StoresStop, LookedIfQuiet, HasWorkingOwner, HasConstants, RestsUnlessActive, OwnsIfWorker, HoldsIfActive, IsSound, base_of, books_of}
+use Rattle.log_table.specs.Sound.{HasSeenBoundaries, HasContiguousReservations, SendsIfFlusher, StoresStop, HasReadStop, LookedIfQuiet, HasWorkingOwner, HasConstants, RestsUnlessActive, OwnsIfWorker, HoldsIfActive, IsSound, base_of, books_of}
 use Rattle.lock_core.specs.History.{history_from}
 use Rattle.log_table.specs.Accounts.{KeepsAccounts}
 use Rattle.log_table.proofs.Keeping.{accounts-stay, records-mid}
@@ -241,6 +241,7 @@ module _ (key : Start) (words : Words) (views : List View) (me : ℕ) (v : View)
     sends = each_moves (λ _ z. SendsIfFlusher key.start words.exposed words.durable log z)
         (λ _ z. SendsIfFlusher key.start to words.durable after z) views me new s.sends (sends v (s.sends me v at)) (λ _ z _ _. sends z);
     stops = each_set (λ _ z. StoresStop words.stop z) views me new s.stops (s.stops me v at);
+    read_stop = each_set (λ _ z. HasReadStop words.stop z) views me new s.read_stop (s.read_stop me v at);
     quiet = quiet-moves views me v new s.quiet at (λ _ _ _ h. h) (λ _ h. h);
     looked = each_moves (λ _ z. LookedIfQuiet words.exposed z) (λ _ z. LookedIfQuiet to z) views me new s.looked
         (λ f q _. absurd (busy me v at f q)) (λ j z _ there _ f q _. absurd (busy j z there f q));

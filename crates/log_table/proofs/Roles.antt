@@ -10,7 +10,7 @@ use Rattle.log_table.specs.declared.view.Standing.{Standing}
 use Rattle.log_table.specs.declared.view.View.{View}
 use Rattle.log_table.specs.Events.{reservation_of, stage_in, Leads}
 use Rattle.log_table.specs.Log.{Log, ranges_of, parts_of}
-use Rattle.log_table.specs.Sound.{EachView, EachPair, HasSeenBoundaries, SendsIfFlusher, StoresStop, RestsIfQuiet, LookedIfQuiet, HasWorkingOwner, HasConstants, RestsUnlessActive, OwnsIfWorker, HoldsIfActive, base_of, history_in, books_of, HasSoundRole, HasSoundRoles, HasSoundCrew, IsSound, is_active_view}
+use Rattle.log_table.specs.Sound.{EachView, EachPair, HasSeenBoundaries, SendsIfFlusher, StoresStop, HasReadStop, RestsIfQuiet, LookedIfQuiet, HasWorkingOwner, HasConstants, RestsUnlessActive, OwnsIfWorker, HoldsIfActive, base_of, history_in, books_of, HasSoundRole, HasSoundRoles, HasSoundCrew, IsSound, is_active_view}
 use Rattle.log_table.specs.Views.{is_active, is_working, entries_in, claims_in}
 use Rattle.log_table.specs.Words.{Words}
 use Rattle.log_table.specs.Accounts.{KeepsAccounts}
@@ -70,6 +70,7 @@ module _ (key : Start) (words : Words) (stop crew : ℕ) (account : ℕ → ℕ)
     (sees : HasSeenBoundaries key.start words.tail words.exposed words.durable (ranges_of log) new.seen) (constants : HasConstants key new)
     (rests : RestsUnlessActive new) (owns : OwnsIfWorker new) (roles : HasSoundCrew crew (set views me new))
     (sends : SendsIfFlusher key.start words.exposed words.durable log new) (stops : EachView (λ _ z. StoresStop stop z) (set views me new))
+    (read_stop : EachView (λ _ z. HasReadStop stop z) (set views me new))
     (quiet : EachPair (λ _ y _ z. RestsIfQuiet y z) (set views me new)) (looked : LookedIfQuiet words.exposed new)
     (unheld : HoldsIfActive new)
     (accounts : KeepsAccounts (base_of key) account (history_in key log.parts) (map books_of (set views me new))) where
@@ -92,6 +93,7 @@ module _ (key : Start) (words : Words) (stop crew : ℕ) (account : ℕ → ℕ)
     roles = roles;
     sends = each_set (λ _ z. SendsIfFlusher key.start words.exposed words.durable log z) views me new s.sends sends;
     stops = stops;
+    read_stop = read_stop;
     quiet = quiet;
     looked = each_set (λ _ z. LookedIfQuiet words.exposed z) views me new s.looked looked;
     unheld = each_set (λ _ z. HoldsIfActive z) views me new s.unheld unheld;

@@ -10,7 +10,7 @@ use Rattle.log_table.specs.declared.view.Role.TheVariants.{Flusher}
 use Rattle.log_table.specs.declared.view.View.{View}
 use Rattle.log_table.specs.Log.{Log}
 use Rattle.log_table.specs.May.{MaySplit}
-use Rattle.log_table.specs.Sound.{StoresStop, RestsIfQuiet, HasSoundRole, HasSoundRoles, HasSoundCrew, IsSound, Knows, Lacks, Ruled, is_active_view}
+use Rattle.log_table.specs.Sound.{StoresStop, HasReadStop, RestsIfQuiet, HasSoundRole, HasSoundRoles, HasSoundCrew, IsSound, Knows, Lacks, Ruled, is_active_view}
 use Rattle.log_table.specs.Views.{is_worker, is_spent, hires, hired}
 use Rattle.log_table.specs.Words.{Words, words_in}
 use Rattle.log_table.proofs.Adding.{adds}
@@ -80,6 +80,7 @@ module _ (key : Start) (words : Words) (views : List View) (me : ℕ) (v : View)
   hired-sound = restands-sound key words words.stop words.crew words.account views me v boss log s at refl refl (s.seen me v at) (s.constants me v at)
       (s.resting me v at) (s.entries me v at) crew-hires (s.sends me v at)
       (each_set (λ _ z. StoresStop words.stop z) views me boss s.stops (s.stops me v at))
+      (each_set (λ _ z. HasReadStop words.stop z) views me boss s.read_stop (s.read_stop me v at))
       (quiet-moves views me v boss s.quiet at (λ _ _ _ _ _ q. absurd (true≢false (sym q))) (λ _ h. h)) (λ _ q. absurd (true≢false (sym q))) (s.unheld me v at)
       (accounts-stay key words.account log.parts views me v boss at refl s.accounts)
 
@@ -161,7 +162,7 @@ module _ (key : Start) (words : Words) (views : List View) (me : ℕ) (v : View)
   splits = adds key words made log hired-sound worker refl refl (λ f. absurd (cc))
       (let old = s.seen me v at in
       record { tail_seen = old.tail_seen; exposed_seen = old.exposed_seen; durable_seen = old.durable_seen; boundaries = old.boundaries })
-      (λ _. s.constants me v at (ap is_spent may.flusher)) crew-splits (pairs_push (λ _ y _ z. RestsIfQuiet y z) made worker hired-sound.quiet
+      (s.read_stop me v at) (λ _. s.constants me v at (ap is_spent may.flusher)) crew-splits (pairs_push (λ _ y _ z. RestsIfQuiet y z) made worker hired-sound.quiet
       (λ f. absurd (cc)) (λ j z there. ((λ f. absurd (cc)), (λ f q. absurd (boss-busy j z there f q))))) refl
 
 pub split-allowed : (key : Start) (seat : ℕ) (v : View) (n : ℕ) → MaySplit n v → n < 4294967296

@@ -1,5 +1,5 @@
 -- A table starts at rest: nothing is reserved, and the log ends where it started.
-use Rattle.std.proofs.Common.{◌≡◌, ◌≢◌, ℕ, zero, suc, ◌+◌, ◌<◌, ◌≤◌, true≢false, List, [], ◌∷◌, length, get_or, replicate, set, sym, refl, ap, ◌∙◌, subst, arith, cond, Bool, false, lt-ltb, length-set, get_or-set_same, get_or-set_other}
+use Rattle.std.proofs.Common.{◌≡◌, ◌≢◌, inl, ℕ, zero, suc, ◌<◌, ◌≤◌, true≢false, List, [], ◌∷◌, length, get_or, replicate, set, sym, refl, ap, ◌∙◌, subst, arith, cond, Bool, false, lt-ltb, length-set, get_or-set_same, get_or-set_other}
 use Rattle.std.proofs.lemmas.List.{length-replicate, get_or-replicate}
 use mathlib.Core.Option.{some-injective, some-ne-none}
 use Rattle.atomic_table.specs.Table.{opening}
@@ -8,7 +8,7 @@ use Rattle.log_table.specs.declared.layout.TheConstants.{TAIL, EXPOSED, DURABLE,
 use Rattle.log_table.specs.declared.table.Start.{Start}
 use Rattle.log_table.specs.declared.view.View.{View}
 use Rattle.log_table.specs.Log.{Log}
-use Rattle.log_table.specs.Sound.{EachView, HasSeenBoundaries, SendsIfFlusher, StoresStop, RestsIfQuiet, LookedIfQuiet, HasWorkingOwner, HasConstants, RestsUnlessActive, OwnsIfWorker, HoldsIfActive, base_of, HasSoundRole, HasSoundRoles, IsSound, Ruled}
+use Rattle.log_table.specs.Sound.{EachView, HasSeenBoundaries, SendsIfFlusher, StoresStop, HasReadStop, RestsIfQuiet, LookedIfQuiet, HasWorkingOwner, HasConstants, RestsUnlessActive, OwnsIfWorker, HoldsIfActive, base_of, HasSoundRole, HasSoundRoles, IsSound, Ruled}
 use Rattle.log_table.specs.Views.{flusher, nobody}
 use Rattle.log_table.specs.Words.{Words, words_in}
 use Rattle.slot_word.specs.AccountWord.{packed, held_in, balance_in, mark_in}
@@ -79,6 +79,7 @@ module _ (key : Start) (words : Words) (least : 1024 ≤ key.ring) (most : key.r
       read_agrees = tt;
     });
     stops = alone (λ _ z. StoresStop words.stop z) (λ _. sym stop);
+    read_stop = alone (λ _ z. HasReadStop words.stop z) (inl refl);
     quiet = alone _ (alone (λ _ z. RestsIfQuiet (flusher key) z) (λ _ e. absurd (true≢false (sym e))));
     looked = alone (λ _ z. LookedIfQuiet words.exposed z) (λ _ e. absurd (true≢false (sym e)));
     unheld = alone (λ _ z. HoldsIfActive z) ((λ _. refl), (λ off. absurd (true≢false off)));

@@ -1,5 +1,5 @@
--- The flusher's seat stores the stop word, and sees the crew.
-use Rattle.std.proofs.Common.{◌≡◌, ℕ, ◌==◌, ◌&&◌, ◌||◌, ◌+◌, cond, eqb, Bool, true, false, true≢false, List, [], ◌∷◌, set, None, sym, refl, ap, ◌∙◌, subst, arith, eqb-true}
+-- The flusher's seat stores the stop word, is told what it and others have read of it, and sees the crew.
+use Rattle.std.proofs.Common.{◌≡◌, ◌⊎◌, inl, ⊎_elim, ℕ, ◌==◌, ◌&&◌, ◌||◌, ◌+◌, cond, eqb, Bool, true, false, true≢false, List, [], ◌∷◌, set, None, sym, refl, ap, ◌∙◌, subst, arith, eqb-true}
 use Rattle.std.specs.Prelude.{count_by}
 use Rattle.std.specs.List.{list_all, list_any}
 use Rattle.std.proofs.lemmas.List.Sums.{sum_by-cons}
@@ -12,10 +12,12 @@ use Rattle.log_table.specs.declared.view.View.{View}
 use Rattle.log_table.specs.Events.{IsStep, Leads}
 use Rattle.log_table.specs.Layout.{Stop, Crew}
 use Rattle.log_table.specs.Log.{Log}
-use Rattle.log_table.specs.Sound.{EachView, StoresStop, IsSound, Knows, is_active_view}
+use Rattle.log_table.specs.May.{MayStop}
+use Rattle.log_table.specs.Sound.{EachView, StoresStop, HasReadStop, IsSound, Knows, is_active_view}
 use Rattle.log_table.specs.Views.{is_active, is_working, counted, knows_all_enrolled, has_stopped, saw_crew}
 use Rattle.log_table.specs.Words.{Words}
-use Rattle.log_table.proofs.Looking.{looks}
+use Rattle.log_table.proofs.Lifting.{Tells}
+use Rattle.log_table.proofs.Looking.{looks, sees-word}
 use Rattle.log_table.proofs.Roles.{sole-flusher}
 use Rattle.log_table.proofs.Viewing.{each_moves, each_set}
 
@@ -46,10 +48,32 @@ enrolled-if_made enrolled (m ∷ ms) n all knows =
     by_test true same is here later = subst (λ k. Knows k enrolled) (sym (eqb-true n m same)) here
     by_test false same is here later = later is
 
+-- while stop was 0, nothing else was read in it
+not-read : (stop word : ℕ) (z : View) → stop ≡ 0 → HasReadStop stop z → HasReadStop word z
+not-read stop word z zero-stop read = ⊎_elim inl (λ is. inl (is ∙ zero-stop)) read
+
+-- where each of two seats has read a stop word or 0, so has whichever is taken
+pub either-read : (stop mine his : ℕ) (b : Bool) → (mine ≡ 0) ⊎ (mine ≡ stop) → (his ≡ 0) ⊎ (his ≡ stop)
+    → (cond b mine his ≡ 0) ⊎ (cond b mine his ≡ stop)
+either-read stop mine his true mine-read his-read = mine-read
+either-read stop mine his false mine-read his-read = his-read
+
 module _ (key : Start) (me : ℕ) (v : View) where
-  pub stop-step : v.standing.role ≡ Flusher → (word n : ℕ) → IsStep key me Stop n word v (has_stopped word v) None
-  stop-step flusher word n = record {
-    leads = λ words views log s at is. let old = s.seen me v at in
+  -- a step that changes nothing
+  pub stop-stays : (n : ℕ) → IsStep key me Stop n n v v None
+  stop-stays n = record {
+    leads = λ words views log s at is.
+        subst (λ x. Leads key words (record words { stop = x }) views (set views me v) log None) is
+        (sees-word key words views me v log v.seen s at (s.seen me v at) (s.read_stop me v at));
+  }
+
+  -- what the flusher's seat has read is what it stored
+  pub stop-tells : Tells key me Stop v (λ _. v.standing.role ≡ Flusher → HasReadStop v.sending.stop v)
+  stop-tells words views log s at flusher = subst (λ n. HasReadStop n v) (sym (s.stops me v at flusher)) (s.read_stop me v at)
+
+  pub stop-step : (word : ℕ) → MayStop word v → (n : ℕ) → IsStep key me Stop n word v (has_stopped word v) None
+  stop-step word may n = record {
+    leads = λ words views log s at is. let old = s.seen me v at in let running : words.stop ≡ 0 = sym (s.stops me v at may.flusher) ∙ may.running in
         looks key words word views me v log (counted v.seen) (record v.sending { stop = word }) s at record {
           tail_seen = old.tail_seen;
           exposed_seen = old.exposed_seen;
@@ -57,7 +81,9 @@ module _ (key : Start) (me : ℕ) (v : View) where
           boundaries = old.boundaries;
         } (s.sends me v at)
         (each_moves (λ _ z. StoresStop words.stop z) (λ _ z. StoresStop word z) views me (has_stopped word v) s.stops (λ _. refl)
-        (λ j z differ there _ f. absurd (differ (sole-flusher words.crew views me v s.roles at flusher j z there f))))
+        (λ j z differ there _ f. absurd (differ (sole-flusher words.crew views me v s.roles at may.flusher j z there f))))
+        (each_moves (λ _ z. HasReadStop words.stop z) (λ _ z. HasReadStop word z) views me (has_stopped word v) s.read_stop
+        (not-read words.stop word v running (s.read_stop me v at)) (λ _ z _ _. not-read words.stop word z running))
         (λ _ _ _ h. h) (s.looked me v at);
   }
 
@@ -95,6 +121,7 @@ module _ (key : Start) (me : ℕ) (v : View) where
           durable_seen = old.durable_seen;
           boundaries = old.boundaries;
         } (s.sends me v at) (each_set (λ _ z. StoresStop words.stop z) views me (saw_crew words.crew v) s.stops (s.stops me v at))
+        (each_set (λ _ z. HasReadStop words.stop z) views me (saw_crew words.crew v) s.read_stop (s.read_stop me v at))
         (λ j z there _ f q. let both = both-true (words.crew == 0) (knows_all_enrolled v.standing) q in
         rests words views log s at f (eqb-true words.crew 0 both.0) both.1 j z there)
         (λ _ _ l. absurd (true≢false (sym l))));

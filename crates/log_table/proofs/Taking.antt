@@ -1,5 +1,5 @@
 -- A job or a free account is taken.
-use Rattle.std.proofs.Common.{◌≡◌, ◌≢◌, ◌⊎◌, inr, ℕ, ◌==◌, ◌&&◌, ◌+◌, ◌≤◌, ◌<◌, cond, ℤ, Bool, true, false, true≢false, List, [], ◌∷◌, set, sym, refl, ap, ◌∙◌, subst, arith, eq-eqb, ne_eqb}
+use Rattle.std.proofs.Common.{◌≡◌, ◌≢◌, ◌⊎◌, inr, ℕ, ◌==◌, ◌&&◌, ◌≤◌, ◌<◌, cond, Bool, true, false, true≢false, List, [], set, sym, refl, ap, ◌∙◌, subst, arith, eq-eqb, ne_eqb}
 use Rattle.std.specs.List.{AllByRecursion}
 use mathlib.Core.Logic.{dite}
 use mathlib.Core.Option.{some}
@@ -17,7 +17,7 @@ use Rattle.log_table.specs.declared.view.TakenJob.{TakenJob}
 use Rattle.log_table.specs.declared.view.Held.{Held}
 use Rattle.log_table.specs.declared.view.Books.{Books}
 use Rattle.log_table.specs.Books.{task_of, times_held, times_taken, taking_job, taking}
-use Rattle.log_table.specs.Accounts.{Everywhere, holders, takers, IsAsTaken, IsAllowed, HasOneHolder, HasDistinctJobs, moved_if_committed, Follows, IsUpToDate, AccountsFollowList, KeepsAccounts}
+use Rattle.log_table.specs.Accounts.{Everywhere, IsAsTaken, IsAllowed, HasOneHolder, HasDistinctJobs, moved_if_committed, Follows, IsUpToDate, AccountsFollowList, KeepsAccounts}
 use Rattle.log_table.specs.Words.{put}
 use Rattle.log_table.proofs.Bookings.{everywhere-set, summed-set, all-held, all-taken, one-if, none-if}
 

@@ -1,5 +1,5 @@
 -- When a step is the next one of the call that the view shows as under way.
-use Rattle.std.specs.Prelude.{◌≡◌, ℕ, ◌+◌, ◌<◌, ◌≤◌, true, false, [], length, slice_index}
+use Rattle.std.specs.Prelude.{◌≡◌, ◌≢◌, ℕ, ◌+◌, ◌<◌, ◌≤◌, true, false, [], length, slice_index}
 use Rattle.std.specs.List.{AllByRecursion, list_any}
 use lib.Dec.{eqb}
 use Rattle.lsn_space.specs.declared.lsn.TheConstants.{LAST}
@@ -100,6 +100,12 @@ pub record MaySend (to : ℕ) (view : View) : Type 0 where
   pub flusher : view.standing.role ≡ Flusher
   pub read : to ≡ read_to view
   pub all : to ≡ view.sending.exposed
+
+-- the flusher's seat has not stopped the log, and the word tells that it does
+pub record MayStop (word : ℕ) (view : View) : Type 0 where
+  pub flusher : view.standing.role ≡ Flusher
+  pub running : view.sending.stop ≡ 0
+  pub stops : word ≢ 0
 
 -- the flusher's seat may make a worker of this number
 pub record MaySplit (worker : ℕ) (view : View) : Type 0 where

@@ -1,5 +1,5 @@
 -- The rule of the table, part by part. Each part speaks of exactly the words and the fields of views that it names.
-use Rattle.std.specs.Prelude.{◌≡◌, ℕ, ◌+◌, ◌/◌, ◌<◌, ◌≤◌, Bool, true, false, List, [], ◌++◌, map, length, get_or, count_by}
+use Rattle.std.specs.Prelude.{◌≡◌, ◌⊎◌, ℕ, ◌+◌, ◌/◌, ◌<◌, ◌≤◌, Bool, true, false, List, [], ◌++◌, map, length, get_or, count_by}
 use Rattle.std.specs.List.{AllByRecursion, list_any}
 use mathlib.Core.Option.{some}
 use lib.Dec.{eqb}
@@ -87,6 +87,10 @@ SendsIfFlusher start exposed durable log view =
 
 abbrev pub StoresStop : ℕ → View → Type 0
 StoresStop stop view = view.standing.role ≡ Flusher → view.sending.stop ≡ stop
+
+-- what the seat read in stop last is 0, or this word
+abbrev pub HasReadStop : ℕ → View → Type 0
+HasReadStop stop view = (view.seen.stop ≡ 0) ⊎ (view.seen.stop ≡ stop)
 
 -- where the flusher's seat is quiet, no worker is at work, and exposed as it loaded it after that is exposed
 abbrev pub RestsIfQuiet : View → View → Type 0
@@ -177,6 +181,7 @@ pub record IsSound (key : Start) (words : Words) (views : List View) (log : Log)
   pub roles : HasSoundCrew words.crew views
   pub sends : EachView (λ _ view. SendsIfFlusher key.start words.exposed words.durable log view) views
   pub stops : EachView (λ _ view. StoresStop words.stop view) views
+  pub read_stop : EachView (λ _ view. HasReadStop words.stop view) views
   pub quiet : EachPair (λ _ view _ other. RestsIfQuiet view other) views
   pub looked : EachView (λ _ view. LookedIfQuiet words.exposed view) views
   pub unheld : EachView (λ _ view. HoldsIfActive view) views

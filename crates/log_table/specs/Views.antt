@@ -16,7 +16,6 @@ use Rattle.log_table.specs.declared.view.View.{View}
 use Rattle.log_record.specs.declared.rec.Rec.{Rec}
 use Rattle.slot_word.specs.AccountWord.{balance_in, mark_in}
 use Rattle.txn_script.specs.declared.job.Job.{Job}
-use Rattle.log_table.specs.declared.view.TakenJob.{TakenJob}
 use Rattle.log_table.specs.declared.view.Held.{Held}
 use Rattle.log_table.specs.Books.{no_books, next_of, placing, taking_job, taking, giving, merging}
 use Rattle.log_table.specs.Log.{Claim}
@@ -316,13 +315,14 @@ abbrev pub merged_entries : List Entry → List Entry → List Entry
 merged_entries entries [] = entries
 merged_entries entries (other ∷ others) = inserted other (merged_entries entries others)
 
--- what both have seen
+-- what both have seen; of the stop words the other's, unless it is 0
 abbrev pub merged_seen : Seen → Seen → Seen
 merged_seen seen other =
     record seen {
       tail = max seen.tail other.tail;
       exposed = max seen.exposed other.exposed;
       durable = max seen.durable other.durable;
+      stop = if other.stop == 0 then seen.stop else other.stop;
       lsns = seen.lsns ++ other.lsns;
     }
 

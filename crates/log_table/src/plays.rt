@@ -119,6 +119,17 @@ impl Play<(), View> for LoadStop {
     ghost then = { λ st old n new. (new ≡ (saw_stop n old.0, old.1)) × Unit {0} };
 }
 
+/// A load that changes nothing: the rule tells at a step alone what the stop words are that a seat knows.
+pub(crate) struct TellStop;
+
+impl Play<(), View> for TellStop {
+    ghost use Rattle.std.specs.Prelude.{◌≡◌};
+    ghost use Rattle.log_table.specs.declared.view.Role.TheVariants.{Flusher};
+    ghost use Rattle.log_table.specs.Sound.{HasReadStop};
+
+    ghost then = { λ st old n new. (new ≡ (old.0, old.1)) × (old.0.standing.role ≡ Flusher → HasReadStop old.0.sending.stop old.0) };
+}
+
 pub(crate) struct LoadCrew;
 
 impl Play<(), View> for LoadCrew {

@@ -4,10 +4,11 @@ ghost use Rattle.log_table.specs.Layout.{word_count};
 ghost use Rattle.log_table.specs.May.{MaySplit, MayMerge};
 ghost use Rattle.log_table.specs.Opening.{HasAccounts, PutsAccounts};
 ghost use Rattle.log_table.specs.Seats.{IsOf, Becomes, view_of, key_of};
+ghost use Rattle.log_table.specs.Sound.{HasReadStop};
 ghost use Rattle.log_table.specs.Views.{flusher, hires, hired, is_spent, noted, takes_in};
 
-use crate::layout::{DURABLE, EXPOSED, TAIL, account_place};
-use crate::plays::{Hire, MakeNote, Number, TakeIn};
+use crate::layout::{DURABLE, EXPOSED, STOP, TAIL, account_place};
+use crate::plays::{Hire, MakeNote, Number, TakeIn, TellStop};
 use crate::table::{LogTable, Seat, Start};
 use atomic_table::Table;
 use lsn_space::NoMemory;
@@ -111,15 +112,18 @@ impl LogTable {
     }
 
     /// The flusher's seat takes in the seat of a worker that has ended, or a note: the entries and the
-    /// knowledge of both.
+    /// knowledge of both. A stop word that the other has read is the one that the flusher's seat stored.
     pub fn merge(&self, seat: &mut Seat, other: Seat)
         requires seat { IsOf self.now seat.old }
         requires other { IsOf self.now other }
         requires may { MayMerge (view_of seat.old) (view_of other) }
-        ensures { Becomes seat.old seat.new (takes_in (view_of seat.old) (view_of other)) }
+        ensures view { Becomes seat.old seat.new (takes_in (view_of seat.old) (view_of other)) }
+        ensures stops { HasReadStop (view_of seat.old).sending.stop (view_of other) }
     {
         self.table
             .shared
             .join_seat::<TakeIn>(&mut seat.base, other.base);
+        // Joining tells nothing of the rule, as a step does.
+        self.table.shared.load::<TellStop>(&mut seat.base, STOP);
     }
 }

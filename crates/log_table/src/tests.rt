@@ -15,6 +15,7 @@ fn table_from(alloc: Global, start: u32) -> Result<(LogTable, Seat), NoMemory>
     ensures flusher { IfOk result (λ made. (view_of made.1).standing.role ≡ Flusher) }
     ensures made { IfOk result (λ made. (view_of made.1).standing.made ≡ []) }
     ensures merged { IfOk result (λ made. (view_of made.1).standing.merged ≡ []) }
+    ensures running { IfOk result (λ made. (view_of made.1).sending.stop ≡ 0) }
 {
     let mut accounts = Balances::make(alloc, 2)?;
     accounts.push(100, 0);
@@ -52,6 +53,9 @@ fn a_worker_sees_the_stop_word(rt: HostRuntime) -> Result<(), Fail> {
     table.store_stop(&mut boss, 2);
     assert_eq!(rt; table.load_stop(&mut seat), 2);
     assert_eq!(rt; table.load_stop(&mut boss), 2);
+    table.leave(&mut seat);
+    table.merge(&mut boss, seat);
+    assert_eq!(rt; table.close(boss).lsn(), Lsn::new(4));
     Ok(())
 }
 

@@ -1,5 +1,5 @@
 -- What a worker has done of its stripe. `old` and `new` are its seat's view before and after, and `k` counts transfers of the stripe.
-use Rattle.std.specs.Prelude.{◌≡◌, ◌≢◌, ◌⊎◌, ℕ, ◌+◌, ◌<◌, ◌≤◌, ◌==◌, ◌&&◌, true, Bool, if◌then◌else◌, List, [], ◌∷◌, ◌++◌, length, map, filter, vec_capacity, Contains}
+use Rattle.std.specs.Prelude.{◌≡◌, ◌≢◌, ◌⊎◌, ℕ, ◌+◌, ◌<◌, ◌≤◌, ◌==◌, true, Bool, List, [], ◌∷◌, ◌++◌, length, filter, vec_capacity, Contains}
 use Rattle.std.specs.List.{AllByRecursion}
 use Rattle.lsn_space.specs.declared.lsn.TheConstants.{LAST}
 use Rattle.log_record.specs.declared.rec.Rec.{Rec}
@@ -19,7 +19,7 @@ use Rattle.txn_runner.specs.declared.jobs.Jobs.{Jobs}
 use Rattle.txn_runner.specs.declared.rows.Row.{Row}
 use Rattle.txn_runner.specs.declared.rows.Rows.{Rows}
 use Rattle.txn_runner.specs.Running.{outcome_of, LieInOrder}
-use Rattle.txn_runner.specs.Stripes.{place_of, number_at, job_at, stripe_jobs, IsOfStripe, HasStripe, IsStripeEnd}
+use Rattle.txn_runner.specs.Stripes.{number_at, job_at, stripe_jobs, IsOfStripe, HasStripe, IsStripeEnd}
 
 abbrev pub rows_in : Rows → List Row
 rows_in rows = rows.rows.items

@@ -14,7 +14,10 @@ mod jobs;
 mod legs;
 mod relief;
 mod rows;
+mod stripes;
 mod taking;
+#[cfg(test)]
+mod tests;
 mod transfer;
 mod waiting;
 mod worker;

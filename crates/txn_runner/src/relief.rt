@@ -1,8 +1,5 @@
 //! What a worker does while it waits.
-ghost use Rattle.std.specs.Prelude.{◌≡◌};
-
-use crossbeam_utils::Backoff;
-use std::sync::Wait;
+use std::thread;
 
 /// What a worker does between two attempts.
 pub trait Relief {
@@ -23,4 +20,22 @@ pub trait Relief {
 }
 
 /// Lets other threads run.
+#[derive(Drop)]
 pub struct YieldRelief;
+
+impl Relief for YieldRelief {
+    ghost use Rattle.std.specs.Prelude.{◌≡◌, ⊤};
+    ghost use Rattle.std.proofs.Common.{refl, ◌∙◌};
+
+    ghost ready = { λ relief. ⊤ };
+
+    ghost later = { λ old new. new ≡ old };
+
+    fn rest(&mut self) {
+        thread::yield_now();
+    }
+
+    ghost later_refl = { λ relief. refl };
+
+    ghost later_trans = { λ first mid last before after. after ∙ before };
+}

@@ -1,4 +1,4 @@
-ghost use Rattle.std.specs.Prelude.{◌≡◌, ◌≤◌, [], IfOk};
+ghost use Rattle.std.specs.Prelude.{◌≡◌, ◌≤◌, ◌<◌, ◌+◌, ◌++◌, ◌∷◌, ◌^◌, [], length, IfOk};
 ghost use Rattle.txn_runner.specs.Working.{rows_in, room_of, taken_in};
 
 use lsn_space::{Lsn, NoMemory};
@@ -48,5 +48,29 @@ impl Rows {
         ensures { result.now ≡ rows_in self.now }
     {
         self.rows.as_slice()
+    }
+
+    /// How many transfers of its stripe the worker took.
+    pub(crate) fn taken(&self) -> u64
+        ensures { result ≡ taken_in self.now }
+    {
+        self.taken
+    }
+
+    /// Counts one more transfer as taken.
+    pub(crate) fn take(&mut self)
+        requires { taken_in self.old < 2 ^ 32 }
+        ensures { self.new ≡ record self.old { taken = taken_in self.old + 1 } }
+    {
+        self.taken += 1;
+    }
+
+    pub(crate) fn push(&mut self, row: Row)
+        requires room { length (rows_in self.old) < room_of self.old }
+        ensures rows { rows_in self.new ≡ rows_in self.old ++ row ∷ [] }
+        ensures room { room_of self.new ≡ room_of self.old }
+        ensures taken { taken_in self.new ≡ taken_in self.old }
+    {
+        self.rows.push_reserved(row);
     }
 }

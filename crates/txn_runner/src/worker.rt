@@ -6,6 +6,7 @@ ghost use Rattle.ring_buffer.specs.Calls.{IsReady, IsSameWorker};
 ghost use Rattle.txn_runner.specs.Working.{HasWorked, HasRoom, TakesJobs, Works, taken_in, rows_in, room_of, AddsRows};
 
 use crate::cause::Worked;
+use crate::job::run_job;
 use crate::jobs::Jobs;
 use crate::relief::Relief;
 use crate::rows::Rows;
@@ -44,6 +45,12 @@ pub fn work<R: Wait, Q: Relief, G: Gate>(
     ensures relief { Q.ready relief.new }
     ensures later { Q.later relief.old relief.new }
 {
-    for _ in rt.forever() {}
-    unreachable!()
+    'stripe: while let Some((number, job)) = jobs.transfer(seat.worker(), rows.taken()) {
+        rows.take();
+        match run_job(rt, table, seat, number, job, relief, wait, gate) {
+            Ok(row) => rows.push(row),
+            Err(cause) => return Worked::Cut(cause),
+        }
+    }
+    Worked::All
 }

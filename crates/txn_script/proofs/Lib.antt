@@ -1,4 +1,5 @@
 pub mod BalanceLemmas
+pub mod GeneratorLemmas
 pub mod JobLemmas
 pub mod LegLemmas
 pub mod LineLemmas

@@ -1,4 +1,5 @@
 pub mod Balances
+pub mod Generator
 pub mod Lines
 pub mod Reading
 pub mod Script

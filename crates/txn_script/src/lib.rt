@@ -1,7 +1,10 @@
-//! The texts that users hand in: the balances of a new log, and scripts of transfers.
+//! The texts that users hand in: the balances of a new log, and scripts of transfers; and scripts that are generated.
 #![tactic(auto)]
 
 mod fault;
+mod generator;
+#[cfg(test)]
+mod generator_tests;
 mod job;
 mod lines;
 mod numerals;
@@ -12,6 +15,7 @@ mod script;
 mod tests;
 
 pub use fault::ParseFault;
+pub use generator::{GENERATED_ACCOUNTS, generated_jobs_laws, make};
 pub use job::{Job, Legs, MOST_LEGS, Remark};
 pub use lines::written_lines;
 pub use numerals::number;

@@ -25,6 +25,12 @@ impl Model for Script {
 }
 
 impl Script {
+    pub fn new(jobs: Vec<Job>) -> Script
+        ensures { result ≡ jobs.items }
+    {
+        Script { jobs }
+    }
+
     /// The number of transfers.
     pub fn count(&self) -> u64
         ensures { result ≡ length self.now }

@@ -1,8 +1,8 @@
 //! Stop: why the log stopped, 0 while it runs.
-ghost use Rattle.std.specs.Prelude.{◌≡◌, None, ℕ};
-ghost use Rattle.log_table.specs.declared.view.Role.TheVariants.{Flusher};
+ghost use Rattle.std.specs.Prelude.{None, ℕ};
 ghost use Rattle.log_table.specs.Events.{IsStep};
 ghost use Rattle.log_table.specs.Layout.{Stop};
+ghost use Rattle.log_table.specs.May.{MayStop};
 ghost use Rattle.log_table.specs.Seats.{IsOf, Becomes, view_of, number_of, key_of};
 ghost use Rattle.log_table.specs.Views.{saw_stop, has_stopped};
 
@@ -19,10 +19,10 @@ impl LogTable {
         self.table.shared.load::<LoadStop>(&mut seat.base, STOP)
     }
 
-    /// Tells the workers to stop, and why.
+    /// Tells the workers to stop, and why. The word, once stored, stays.
     pub fn store_stop(&self, seat: &mut Seat, word: u64)
         requires seat { IsOf self.now seat.old }
-        requires flusher { (view_of seat.old).standing.role ≡ Flusher }
+        requires may { MayStop word (view_of seat.old) }
         ensures view { Becomes seat.old seat.new (has_stopped word (view_of seat.old)) }
         ensures event { (found : ℕ) → IsStep (key_of self.now) (number_of seat.old) Stop found word (view_of seat.old) (has_stopped word (view_of seat.old)) None }
     {

@@ -1,4 +1,4 @@
-use Rattle.std.proofs.Common.{rules, arith, sym, subst}
+use Rattle.std.proofs.Common.{rules, arith, sym, subst, ap, ◌∙◌}
 use Rattle.std.specs.List.{Contains}
 use Rattle.log_table.specs.Seats.{view_of}
 use Rattle.flusher.specs.Flushing.{IsReady}
@@ -17,5 +17,6 @@ returns-clause-ready g c = record {
     room = search rules;
   });
   fine = c.make-2.ensures.fine;
+  running = ap (λ f. (view_of f.seat).sending.stop) c.make-2.ensures.flusher ∙ c.requires.running;
   counted = omega (arith, c.make-2.ensures.done, c.make-2.ensures.refused);
 }

@@ -26,4 +26,8 @@ unreachable-requires-in_default-name c =
     let rows = rows_of (found_of c.in-Some.found.now) in
     let named : NamesSubcommand c.args.words.now c.in-Some.name.now rows =
     sym c.in_ok-matches.ensures.ok ∙ rows-named _ _ _ _ _ c.in-Some.ensures.name c.in-Some.ensures.rows in
-    elim (named-one _ _ _ named) [ inl new ↦ c.in_default-name.not-new new | inr recover ↦ c.in_default-name.not-recover recover ]
+    elim (named-one _ _ _ named) [
+      | inl new ↦ c.in_default-name.not-new new
+      | inr (inl recover) ↦ c.in_default-name.not-recover recover
+      | inr (inr dump) ↦ c.in_default-name.not-dump dump
+    ]

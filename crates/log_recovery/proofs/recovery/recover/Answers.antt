@@ -2,7 +2,7 @@ use Rattle.log_recovery.proofs.RecoveryLemmas.{scan-holds}
 use Rattle.log_recovery.proofs.recovery.recover.Goals as goal
 
 pub returns-in-Err-clause-fault : goal.returns-in-Err-clause-fault
-returns-in-Err-clause-fault c = c.scan_fault.ensures c.args.bytes.now c.in-Err.ensures.fault
+returns-in-Err-clause-fault c = c.scan_fault.ensures.fault c.args.bytes.now c.in-Err.ensures.fault
 
 pub returns-in-Err-judge_of_units-clause-fault : goal.returns-in-Err-judge_of_units-clause-fault
 returns-in-Err-judge_of_units-clause-fault c =

@@ -1,5 +1,6 @@
-use Rattle.std.proofs.Common.{arith}
+use Rattle.std.proofs.Common.{arith, ◌∙◌}
 use Rattle.log_table.specs.Seats.{view_of, number_of, key_of}
+use Rattle.log_table.proofs.Allowing.{tell_stop-allowed}
 use Rattle.log_table.proofs.Merging.{merge-allowed}
 use Rattle.log_table.proofs.table.LogTable.merge.Goals as goal
 
@@ -11,3 +12,6 @@ join_seat-requires c = (
   omega (arith, c.args.self.now.sized),
   merge-allowed (key_of c.args.self.now) (number_of c.args.seat.now) (view_of c.args.seat.now) _ (view_of c.args.other) c.requires.may,
 )
+
+pub load-requires : goal.load-requires
+load-requires c = (c.join_seat.ensures.0 ∙ c.requires.seat.table_is, omega (arith, c.args.self.now.sized), tell_stop-allowed _ _ _ _)

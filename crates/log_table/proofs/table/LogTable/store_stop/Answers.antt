@@ -4,7 +4,7 @@ use Rattle.log_table.proofs.Stopping.{stop-step}
 use Rattle.log_table.proofs.table.LogTable.store_stop.Goals as goal
 
 pub store-requires : goal.store-requires
-store-requires c = (c.requires.seat.table_is, omega (arith, c.args.self.now.sized), store_stop-allowed _ _ _ _ _ c.requires.flusher)
+store-requires c = (c.requires.seat.table_is, omega (arith, c.args.self.now.sized), store_stop-allowed _ _ _ _ _ c.requires.may)
 
 pub returns-clause-event : goal.returns-clause-event
-returns-clause-event c = stop-step _ _ _ c.requires.flusher _
+returns-clause-event c = stop-step _ _ _ _ c.requires.may

@@ -1,0 +1,17 @@
+use Rattle.std.proofs.Common.{◌∙◌, ap, sym, subst}
+use Rattle.log_table.specs.Books.{giving}
+use Rattle.log_table.specs.Seats.{view_of}
+use Rattle.early_locks.specs.Locks.{HoldsTaken}
+use Rattle.early_locks.proofs.Transferring.{holds-other, none-left}
+use Rattle.early_locks.proofs.one_transfer.give_back.Goals as goal
+
+pub give-requires-2-clause-holds : goal.give-requires-2-clause-holds
+give-requires-2-clause-holds c = let has = c.requires.committed in
+    subst (HoldsTaken c.args.committed.payee) (sym (ap (λ m. m.0.books) c.give.ensures.me))
+    (holds-other _ _ _ (λ same. has.two (sym same)) has.payee_held)
+
+pub returns-clause-none_held : goal.returns-clause-none_held
+returns-clause-none_held c = let has = c.requires.committed in
+    ap (λ m. m.0.books.held) c.give-2.ensures.me
+    ∙ (ap (λ m. (giving c.args.committed.payee.account m.0.books).held) c.give.ensures.me
+    ∙ none-left _ _ (view_of c.args.seat.now).books has.two has.payer_held.has has.payee_held.has has.only)

@@ -1,0 +1,307 @@
+//! One transfer made by hand, from its job to its accounts given back: the calls of a worker in the
+//! order that early lock release asks for, and how giving back at durable differs from it.
+ghost use Rattle.std.specs.Prelude.{◌≡◌, ◌≢◌, ◌<◌, ◌≤◌, ◌+◌, false, [], ◌∷◌, IfSome, IfNone, OnSome};
+ghost use Rattle.log_record.specs.Spelling.{IsTxn};
+ghost use Rattle.lock_core.specs.declared.limits.TheConstants.{MOST_BALANCE};
+ghost use Rattle.lock_core.specs.Transactions.{recs_of, has_commit};
+ghost use Rattle.txn_script.specs.Script.{IsAllowedLeg};
+ghost use Rattle.log_table.specs.Books.{placing, taking, giving};
+ghost use Rattle.log_table.specs.May.{HasBegunNothing, MayTakeJob};
+ghost use Rattle.log_table.specs.Seats.{IsOf, view_of};
+ghost use Rattle.ring_buffer.specs.Calls.{IsReady, IsSameWorker};
+ghost use Rattle.early_locks.specs.Locks.{HoldsTaken};
+ghost use Rattle.early_locks.specs.Transfers.{leg_of, job_of, taken_job, held_of, loss_of, gain_of, MayPut, IsMoving, HasMoved, HasStopped, HasCommitted};
+
+use crate::giving::{give, give_durable};
+use crate::taking::{Taken, try_take};
+use lock_core::MOST_BALANCE;
+use log_disk::Gate;
+use log_record::{Rec, spell};
+use log_table::{LogTable, Seat};
+use lsn_space::Lsn;
+use ring_buffer::{Refused, insert_alone};
+use std::sync::Wait;
+use std::thread::yield_now;
+use txn_script::{Job, Legs};
+
+/// A transfer of one leg: the account that pays, the account that receives, and the amount.
+#[derive(Clone, Copy, Debug)]
+pub struct Transfer {
+    pub payer: u32,
+    pub payee: u32,
+    pub amount: u32,
+}
+
+impl Transfer {
+    /// The job that is this transfer, with no note.
+    pub fn job(&self) -> Job
+        ensures { result ≡ job_of self.now }
+    {
+        let mut legs = Legs::new();
+        legs.push((self.payer, self.payee, self.amount));
+        Job { legs, note: None }
+    }
+
+    /// What the payer loses.
+    fn loss(&self, number: u32, payer: &Taken) -> Rec
+        requires { self.now.amount ≤ MOST_BALANCE }
+        ensures { result ≡ loss_of number self.now payer.now }
+    {
+        Rec::Update {
+            txn: number,
+            account: self.payer,
+            delta: -(self.amount as i32),
+            prev: Lsn::new(payer.mark),
+        }
+    }
+
+    /// What the payee gains.
+    fn gain(&self, number: u32, payee: &Taken) -> Rec
+        requires { self.now.amount ≤ MOST_BALANCE }
+        ensures { result ≡ gain_of number self.now payee.now }
+    {
+        Rec::Update {
+            txn: number,
+            account: self.payee,
+            delta: self.amount as i32,
+            prev: Lsn::new(payee.mark),
+        }
+    }
+}
+
+/// A transfer whose commit has its place in the log, and whose accounts are still held.
+#[derive(Drop)]
+pub struct Committed {
+    payer: Taken,
+    payer_balance: u32,
+    payee: Taken,
+    payee_balance: u32,
+    end: Lsn,
+}
+
+impl Committed {
+    /// Where the commit ends: durable here, it can't be lost.
+    pub fn end(&self) -> Lsn
+        ensures { result ≡ self.now.end }
+    {
+        self.end
+    }
+}
+
+/// Takes the transfer as the seat's job, takes its accounts, and inserts its Updates and its Commit. It
+/// waits for workers that hold the accounts, and for room in the ring. None: the balances do not allow
+/// the transfer, or the log has come to its end; the accounts are then given back as they were taken.
+pub fn commit_transfer<R: Wait, G: Gate>(
+    rt: &R,
+    table: &LogTable,
+    seat: &mut Seat,
+    number: u32,
+    transfer: Transfer,
+    gate: &G,
+) -> Option<Committed>
+    requires seat { IsOf table.now seat.old }
+    requires ready { IsReady (view_of seat.old) }
+    requires job { MayTakeJob table.now.accounts number (job_of transfer) (view_of seat.old) }
+    ensures same { IsSameWorker seat.old seat.new }
+    ensures ready { IsReady (view_of seat.new) }
+    ensures jobs { (view_of seat.new).books.jobs ≡ taken_job number transfer ∷ (view_of seat.old).books.jobs }
+    ensures committed { IfSome result (HasCommitted table.now.accounts (view_of seat.new).books) }
+    ensures none_held { IfNone result ((view_of seat.new).books.held ≡ []) }
+{
+    table.take_job(seat, number, &transfer.job());
+    let (payer, payee) = take_both(rt, table, seat, transfer);
+    let Some(end) = put_records(rt, table, seat, number, transfer, &payer, &payee, gate) else {
+        give_unchanged(table, seat, payer);
+        give_unchanged(table, seat, payee);
+        return None;
+    };
+    Some(Committed {
+        payer_balance: payer.balance - transfer.amount,
+        payee_balance: payee.balance + transfer.amount,
+        payer,
+        payee,
+        end,
+    })
+}
+
+/// Gives both accounts back at once: whoever takes them next commits behind this commit, and so is on
+/// the disk only once this commit is.
+pub fn give_back(table: &LogTable, seat: &mut Seat, committed: Committed)
+    requires seat { IsOf table.now seat.old }
+    requires ready { IsReady (view_of seat.old) }
+    requires committed { HasCommitted table.now.accounts (view_of seat.old).books committed }
+    ensures same { IsSameWorker seat.old seat.new }
+    ensures ready { IsReady (view_of seat.new) }
+    ensures jobs { (view_of seat.new).books.jobs ≡ (view_of seat.old).books.jobs }
+    ensures none_held { (view_of seat.new).books.held ≡ [] }
+{
+    let mark = committed.end.units();
+    give(table, seat, committed.payer, committed.payer_balance, mark);
+    give(table, seat, committed.payee, committed.payee_balance, mark);
+}
+
+/// Waits until the commit is on the disk, and gives both accounts back only then.
+pub fn give_back_durable<R: Wait>(rt: &R, table: &LogTable, seat: &mut Seat, committed: Committed)
+    requires seat { IsOf table.now seat.old }
+    requires ready { IsReady (view_of seat.old) }
+    requires committed { HasCommitted table.now.accounts (view_of seat.old).books committed }
+    ensures same { IsSameWorker seat.old seat.new }
+    ensures ready { IsReady (view_of seat.new) }
+    ensures jobs { (view_of seat.new).books.jobs ≡ (view_of seat.old).books.jobs }
+    ensures none_held { (view_of seat.new).books.held ≡ [] }
+{
+    let mark = committed.end.units();
+    see_durable(rt, table, seat, committed.end);
+    give_durable(table, seat, committed.payer, committed.payer_balance, mark);
+    give_durable(table, seat, committed.payee, committed.payee_balance, mark);
+}
+
+/// Takes the account, and waits while another worker holds it.
+fn take<R: Wait>(rt: &R, table: &LogTable, seat: &mut Seat, account: u32) -> Taken
+    requires seat { IsOf table.now seat.old }
+    requires account { account < table.now.accounts }
+    requires ready { IsReady (view_of seat.old) }
+    requires begins { HasBegunNothing (view_of seat.old) }
+    ensures same { IsSameWorker seat.old seat.new }
+    ensures ready { IsReady (view_of seat.new) }
+    ensures account { result.account ≡ account }
+    ensures balance { result.balance ≤ MOST_BALANCE }
+    ensures books { (view_of seat.new).books ≡ taking (held_of result) (view_of seat.old).books }
+    ensures holds { HoldsTaken result (view_of seat.new).books }
+{
+    for _ in rt.forever() {
+        if let Ok(taken) = try_take(table, seat, account) {
+            return taken;
+        }
+        yield_now();
+    }
+    unreachable!()
+}
+
+/// Takes both accounts, the lower one first: so no two workers wait for one another.
+fn take_both<R: Wait>(
+    rt: &R,
+    table: &LogTable,
+    seat: &mut Seat,
+    transfer: Transfer,
+) -> (Taken, Taken)
+    requires seat { IsOf table.now seat.old }
+    requires ready { IsReady (view_of seat.old) }
+    requires allowed { IsAllowedLeg table.now.accounts (leg_of transfer) }
+    requires job { (view_of seat.old).books.last.job ≡ job_of transfer }
+    requires number { 1 ≤ (view_of seat.old).books.last.number }
+    requires unplaced { (view_of seat.old).books.placed ≡ [] }
+    requires none_held { (view_of seat.old).books.held ≡ [] }
+    ensures same { IsSameWorker seat.old seat.new }
+    ensures ready { IsReady (view_of seat.new) }
+    ensures jobs { (view_of seat.new).books.jobs ≡ (view_of seat.old).books.jobs }
+    ensures payer { result.0.balance ≤ MOST_BALANCE }
+    ensures payee { result.1.balance ≤ MOST_BALANCE }
+    ensures moving { IsMoving (view_of seat.old).books.last.number transfer result.0 result.1 [] (view_of seat.new).books }
+{
+    if transfer.payer < transfer.payee {
+        let payer = take(rt, table, seat, transfer.payer);
+        let payee = take(rt, table, seat, transfer.payee);
+        (payer, payee)
+    } else {
+        let payee = take(rt, table, seat, transfer.payee);
+        let payer = take(rt, table, seat, transfer.payer);
+        (payer, payee)
+    }
+}
+
+/// Inserts the record, and waits for room; answers where it ends. None: the log has come to its end.
+fn put<R: Wait, G: Gate>(
+    rt: &R,
+    table: &LogTable,
+    seat: &mut Seat,
+    rec: &Rec,
+    gate: &G,
+) -> Option<Lsn>
+    requires seat { IsOf table.now seat.old }
+    requires ready { IsReady (view_of seat.old) }
+    requires next { MayPut rec.now (view_of seat.old).books }
+    ensures same { IsSameWorker seat.old seat.new }
+    ensures ready { IsReady (view_of seat.new) }
+    ensures placed { IfSome result (λ end. (view_of seat.new).books ≡ placing end rec.now (view_of seat.old).books) }
+    ensures none { IfNone result ((view_of seat.new).books ≡ (view_of seat.old).books) }
+{
+    let units = spell(rec);
+    for _ in rt.forever() {
+        match insert_alone(rt, table, seat, &units, gate) {
+            Ok(at) => return at.plus(units.as_slice().len() as u32),
+            Err(Refused::LogEnd { .. }) => return None,
+            Err(Refused::RingFull { .. }) => yield_now(),
+        }
+    }
+    unreachable!()
+}
+
+/// Inserts the transfer's three records; answers where the Commit ends. None: the balances do not allow
+/// the transfer, or the log has come to its end before the Commit.
+fn put_records<R: Wait, G: Gate>(
+    rt: &R,
+    table: &LogTable,
+    seat: &mut Seat,
+    number: u32,
+    transfer: Transfer,
+    payer: &Taken,
+    payee: &Taken,
+    gate: &G,
+) -> Option<Lsn>
+    requires seat { IsOf table.now seat.old }
+    requires ready { IsReady (view_of seat.old) }
+    requires number { IsTxn number }
+    requires allowed { IsAllowedLeg table.now.accounts (leg_of transfer) }
+    requires payee { payee.now.balance ≤ MOST_BALANCE }
+    requires moving { IsMoving number transfer payer.now payee.now [] (view_of seat.old).books }
+    ensures same { IsSameWorker seat.old seat.new }
+    ensures ready { IsReady (view_of seat.new) }
+    ensures jobs { (view_of seat.new).books.jobs ≡ (view_of seat.old).books.jobs }
+    ensures enough { OnSome result (transfer.amount ≤ payer.now.balance) }
+    ensures fits { OnSome result (payee.now.balance + transfer.amount ≤ MOST_BALANCE) }
+    ensures moved { IfSome result (HasMoved number transfer payer.now payee.now (view_of seat.new).books) }
+    ensures stopped { IfNone result (HasStopped number transfer payer.now payee.now (view_of seat.new).books) }
+{
+    let amount = transfer.amount;
+    if payer.balance < amount || payee.balance + amount > MOST_BALANCE {
+        return None;
+    }
+    put(rt, table, seat, &transfer.loss(number, payer), gate)?;
+    put(rt, table, seat, &transfer.gain(number, payee), gate)?;
+    put(rt, table, seat, &Rec::Commit { txn: number, legs: 1 }, gate)
+}
+
+/// Gives the account back as it was taken.
+fn give_unchanged(table: &LogTable, seat: &mut Seat, taken: Taken)
+    requires seat { IsOf table.now seat.old }
+    requires ready { IsReady (view_of seat.old) }
+    requires account { taken.account < table.now.accounts }
+    requires balance { taken.balance ≤ MOST_BALANCE }
+    requires holds { HoldsTaken taken (view_of seat.old).books }
+    requires uncommitted { has_commit (recs_of (view_of seat.old).books.placed) ≡ false }
+    ensures same { IsSameWorker seat.old seat.new }
+    ensures ready { IsReady (view_of seat.new) }
+    ensures books { (view_of seat.new).books ≡ giving taken.account (view_of seat.old).books }
+{
+    let (balance, mark) = (taken.balance, taken.mark);
+    give(table, seat, taken, balance, mark);
+}
+
+/// Waits until durable stands at this LSN or above it.
+fn see_durable<R: Wait>(rt: &R, table: &LogTable, seat: &mut Seat, lsn: Lsn)
+    requires seat { IsOf table.now seat.old }
+    requires ready { IsReady (view_of seat.old) }
+    ensures same { IsSameWorker seat.old seat.new }
+    ensures ready { IsReady (view_of seat.new) }
+    ensures books { (view_of seat.new).books ≡ (view_of seat.old).books }
+    ensures durable { lsn ≤ (view_of seat.new).seen.durable }
+{
+    for _ in rt.forever() {
+        if table.load_durable(seat) >= lsn {
+            return;
+        }
+        yield_now();
+    }
+    unreachable!()
+}

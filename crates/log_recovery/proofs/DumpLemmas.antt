@@ -1,0 +1,145 @@
+-- How the lines of a dump are written, record by record.
+use Rattle.std.proofs.Common.{◌≡◌, ◌≤◌, ℕ, ◌+◌, List, [], ◌∷◌, ◌++◌, length, drop, Option, refl, ap, ◌∙◌, sym, subst, arith, length-append, append_assoc}
+use Rattle.std.specs.List.{AllByRecursion}
+use Rattle.std.proofs.lemmas.List.{append-nil}
+use Rattle.std.proofs.lemmas.List.Elements.{All-from_recursion}
+use Rattle.std.proofs.KnownBytes.{Appends-nil, Appends-trans}
+use Rattle.std.specs.Io.KnownBytes.{Appends}
+use Rattle.log_disk.specs.Streams.{AppendsPrefix}
+use Rattle.log_record.specs.declared.rec.Rec.{Rec}
+use Rattle.log_record.specs.LogList.{units_of, end_of, size_of}
+use Rattle.log_record.specs.Spelling.{spelling, IsSpellable, BeginsWith}
+use Rattle.log_record.proofs.SpellingLemmas.{spelling-append-injective, units_of-injective}
+use Rattle.lock_core.proofs.ListLemmas.{all-split}
+use Rattle.log_recovery.specs.Dump.{record_line, record_lines, dump_text}
+use Rattle.log_recovery.specs.Listing.{IsListOf, IsFront}
+use Rattle.log_recovery.specs.Text.{lsn_line}
+use Rattle.log_recovery.proofs.AnswerLemmas.{some_unit}
+use Rattle.log_recovery.proofs.ListingLemmas.{front-end, units_of-append}
+use Rattle.log_recovery.proofs.TextLemmas.{AppendsPrefix-behind}
+
+record_lines-append : (at : ℕ) (xs ys : List Rec) → record_lines at (xs ++ ys) ≡ record_lines at xs ++ record_lines (at + end_of xs) ys
+record_lines-append at [] ys = let same : at ≡ at + 0 = omega arith in ap (λ n. record_lines n ys) same
+record_lines-append at (rec ∷ xs) ys =
+    let sizes = length-append (spelling rec) (units_of xs) in
+    let place : (at + size_of rec) + end_of xs ≡ at + end_of (rec ∷ xs) = omega arith in
+    ap (λ lines. record_line at rec ++ lines) (record_lines-append (at + size_of rec) xs ys ∙ ap (λ n. record_lines (at + size_of rec) xs ++ record_lines n ys) place)
+    ∙ sym (append_assoc (record_line at rec) (record_lines (at + size_of rec) xs) (record_lines (at + end_of (rec ∷ xs)) ys))
+
+one-list_of : (units : List ℕ) (xs ys : List Rec) → IsListOf units xs → IsListOf units ys → xs ≡ ys
+one-list_of units xs ys first second =
+    units_of-injective xs ys (All-from_recursion IsSpellable xs first.each) (All-from_recursion IsSpellable ys second.each) (sym first.whole ∙ second.whole)
+
+-- the lines of the records before this rest of the units are written
+pub record DumpsFront (units rest : List ℕ) (old new : Option (List ℕ)) : Type 0 where
+  pub done : List Rec
+  pub more : List Rec
+  pub list : IsListOf units (done ++ more)
+  pub left : rest ≡ units_of more
+  pub written : Appends old new (record_lines 0 done)
+
+pub dumps-none : (units : List ℕ) (records : List Rec) (old : Option (List ℕ)) → IsListOf units records → DumpsFront units units old old
+dumps-none units records old list = record { done = []; more = records; list = list; left = list.whole; written = Appends-nil old }
+
+module _ (units rest : List ℕ) (old mid : Option (List ℕ)) (before : DumpsFront units rest old mid) where
+  each : AllByRecursion IsSpellable before.done × AllByRecursion IsSpellable before.more
+  each = all-split IsSpellable before.done before.more before.list.each
+
+  dumps-front : IsFront units rest
+  dumps-front = record {
+    records = before.done;
+    each = each.0;
+    whole = before.list.whole ∙ units_of-append before.done before.more ∙ ap (λ l. units_of before.done ++ l) (sym before.left);
+  }
+
+  -- where a rest is left, it begins with a record
+  begins : (more : List Rec) → before.more ≡ more → (length rest ≡ 0 → ⊥) → (first : Rec) × (later : List Rec) × (more ≡ first ∷ later)
+  begins [] is some = absurd (some (ap length (before.left ∙ ap units_of is)))
+  begins (first ∷ later) is some = (first, later, refl)
+
+  begins-with : (first : Rec) (later : List Rec) → before.more ≡ first ∷ later → BeginsWith rest first
+  begins-with first later is = ((subst (AllByRecursion IsSpellable) is each.1).0, units_of later, before.left ∙ ap units_of is)
+
+  pub dumps-some : (length rest ≡ 0 → ⊥) → ((rec : Rec) → BeginsWith rest rec → ⊥) → ⊥
+  dumps-some some none = let parts = begins before.more refl some in none parts.0 (begins-with parts.0 parts.1 parts.2)
+
+  front-length : end_of before.done + length rest ≡ length units
+  unfolding dumps-front
+  front-length = front-end units before.done rest dumps-front.whole
+
+  pub dumps-fits : (end : ℕ) → end ≡ length units → length rest ≤ end
+  dumps-fits end is = let lengths = front-length in omega arith
+
+  -- the place of the rest
+  dumps-place : (start : ℕ) → start + length rest ≡ length units → start ≡ 0 + end_of before.done
+  dumps-place start place = let lengths = front-length in omega arith
+
+  module _ (start : ℕ) (place : start + length rest ≡ length units) (rec : Rec) (begun : BeginsWith rest rec) (some : length rest ≡ 0 → ⊥) where
+    parts : (first : Rec) × (later : List Rec) × (before.more ≡ first ∷ later)
+    parts = begins before.more refl some
+
+    same : (rec ≡ parts.0) × (begun.1 ≡ units_of parts.1)
+    same = spelling-append-injective rec parts.0 begun.1 (units_of parts.1) begun.0 (begins-with parts.0 parts.1 parts.2).0
+        (sym begun.2 ∙ before.left ∙ ap units_of parts.2)
+
+    more-is : before.more ≡ rec ∷ parts.1
+    more-is = parts.2 ∙ ap (λ r. r ∷ parts.1) (sym same.0)
+
+    lines-more : record_lines 0 (before.done ++ rec ∷ []) ≡ record_lines 0 before.done ++ record_line start rec
+    lines-more = record_lines-append 0 before.done (rec ∷ [])
+        ∙ ap (λ n. record_lines 0 before.done ++ (record_line n rec ++ [])) (sym (dumps-place start place))
+        ∙ ap (λ l. record_lines 0 before.done ++ l) (append-nil (record_line start rec))
+
+    -- one more line is written
+    pub dumps-more : (new : Option (List ℕ)) (after : List ℕ) → after ≡ drop (length (spelling rec)) rest → Appends mid new (record_line start rec)
+        → DumpsFront units after old new
+    dumps-more new after dropped line = record {
+      done = before.done ++ rec ∷ [];
+      more = parts.1;
+      list = subst (IsListOf units) (ap (λ l. before.done ++ l) more-is ∙ sym (append_assoc before.done (rec ∷ []) parts.1)) before.list;
+      left = dropped ∙ ap (drop (length (spelling rec))) begun.2 ∙ drop-front (spelling rec) begun.1 ∙ same.1;
+      written = subst (Appends old new) (sym lines-more) (Appends-trans old mid new _ _ before.written line);
+    }
+      where
+        drop-front : (xs ys : List ℕ) → drop (length xs) (xs ++ ys) ≡ ys
+        drop-front [] ys = refl
+        drop-front (x ∷ xs) ys = drop-front xs ys
+
+    whole-text : dump_text (before.done ++ before.more)
+        ≡ (record_lines 0 before.done ++ record_line start rec)
+            ++ (record_lines (0 + end_of (before.done ++ rec ∷ [])) parts.1 ++ lsn_line (end_of (before.done ++ before.more)))
+    whole-text =
+        let all : before.done ++ before.more ≡ (before.done ++ rec ∷ []) ++ parts.1 =
+            ap (λ l. before.done ++ l) more-is ∙ sym (append_assoc before.done (rec ∷ []) parts.1) in
+        ap (λ l. l ++ lsn_line (end_of (before.done ++ before.more)))
+        (ap (record_lines 0) all ∙ record_lines-append 0 (before.done ++ rec ∷ []) parts.1
+        ∙ ap (λ l. l ++ record_lines (0 + end_of (before.done ++ rec ∷ [])) parts.1) lines-more)
+        ∙ append_assoc (record_lines 0 before.done ++ record_line start rec) _ _
+
+    -- a front of one more line is written
+    pub dumps-cut : (new : Option (List ℕ)) (records : List Rec) → IsListOf units records → AppendsPrefix mid new (record_line start rec)
+        → AppendsPrefix old new (dump_text records)
+    dumps-cut new records list cut =
+        subst (λ l. AppendsPrefix old new (dump_text l)) (one-list_of units (before.done ++ before.more) records before.list list)
+        (AppendsPrefix-behind old mid new _ _ (record_line start rec) _ before.written cut whole-text)
+
+  -- the whole is written
+  module _ (empty : rest ≡ []) (records : List Rec) (list : IsListOf units records) where
+    none-left : (more : List Rec) → before.more ≡ more → more ≡ []
+    none-left [] is = refl
+    none-left (rec ∷ more) is = absurd (some_unit rec (units_of more) (sym (ap units_of is) ∙ sym before.left ∙ empty))
+
+    done-is : before.done ≡ records
+    done-is = sym (append-nil before.done) ∙ ap (λ l. before.done ++ l) (sym (none-left before.more refl))
+        ∙ one-list_of units (before.done ++ before.more) records before.list list
+
+    pub dumps-all : (new : Option (List ℕ)) (lsn : ℕ) → lsn ≡ end_of records → Appends mid new (lsn_line lsn) → Appends old new (dump_text records)
+    dumps-all new lsn end line =
+        rw (← end) (Appends-trans old mid new _ _ (subst (λ l. Appends old mid (record_lines 0 l)) done-is before.written) line)
+
+    pub dumps-end_cut : (new : Option (List ℕ)) (lsn : ℕ) → lsn ≡ end_of records → AppendsPrefix mid new (lsn_line lsn) → AppendsPrefix old new (dump_text records)
+    dumps-end_cut new lsn end cut =
+        let text : dump_text records ≡ (record_lines 0 before.done ++ lsn_line lsn) ++ [] =
+            ap (λ l. record_lines 0 l ++ lsn_line (end_of records)) (sym done-is) ∙ ap (λ n. record_lines 0 before.done ++ lsn_line n) (sym end)
+            ∙ sym (append-nil (record_lines 0 before.done ++ lsn_line lsn)) in
+        AppendsPrefix-behind old mid new _ _ (lsn_line lsn) [] before.written cut text

@@ -1,0 +1,47 @@
+use Rattle.std.proofs.Common.{◌≡◌, ◌∙◌, length, drop, ap, sym, arith}
+use Rattle.std.proofs.lemmas.Bool.{eqb-true, eqb-false}
+use Rattle.std.proofs.lemmas.List.{nil_from_length}
+use Rattle.std.proofs.lemmas.Result.{err_from_is_err_and, on_ok_weaker, on_err_weaker}
+use Rattle.log_recovery.proofs.DumpLemmas.{dumps-none, dumps-fits, dumps-some, dumps-more, dumps-cut, dumps-all, dumps-end_cut}
+use Rattle.log_recovery.proofs.dump.put_dump.Goals as goal
+
+pub records-init : goal.records-init
+records-init g c = record {
+  dumped = rw c.as_slice-rest.ensures (dumps-none _ c.requires.0 _ c.requires.1.list);
+  later = omega arith;
+}
+
+pub start_of-start-requires : goal.start_of-start-requires
+start_of-start-requires g c =
+    dumps-fits _ _ _ _ c.records.invariant.dumped c.args.listed.now.tail.next (c.requires.1.end ∙ ap length (sym c.requires.1.list.whole))
+
+pub unreachable-requires : goal.unreachable-requires
+unreachable-requires g c = dumps-some _ _ _ _ c.records.invariant.dumped (eqb-false _ _ (sym c.is_empty.ensures ∙ c.records-test.true)) c.in_default.ensures.bad
+
+pub returns-in_err-put_record-clause-prefix : goal.returns-in_err-put_record-clause-prefix
+returns-in_err-put_record-clause-prefix g c = λ records has.
+    let failed = err_from_is_err_and c.from_residual.result c.from_residual.ensures.1 in
+    let place = c.start_of-start.ensures ∙ has.end ∙ ap length (sym has.list.whole) in
+    rw failed.1 (dumps-cut _ _ _ _ c.records.invariant.dumped c.start_of-start.result place c.in-Ok.rec c.in-Ok.ensures.found.0
+    (eqb-false _ _ (sym c.is_empty.ensures ∙ c.records-test.true)) _ records has.list c.in_err-put_record.ensures.prefix)
+
+pub records-preserved : goal.records-preserved
+records-preserved g c =
+    let dropped = c.split_at.ensures.back ∙ ap (λ n. drop n c.records.rest.now) c.in-Ok.ensures.found.1 in
+    let place = c.start_of-start.ensures ∙ c.requires.1.end ∙ ap length (sym c.requires.1.list.whole) in
+    record {
+      dumped = dumps-more _ _ _ _ c.records.invariant.dumped c.start_of-start.result place c.in-Ok.rec c.in-Ok.ensures.found.0
+          (eqb-false _ _ (sym c.is_empty.ensures ∙ c.records-test.true)) _ _ dropped c.in_ok-put_record.ensures.all;
+      later = omega (arith, c.in_ok-put_record.ensures.cause.later);
+    }
+
+pub returns-clause-all : goal.returns-clause-all
+returns-clause-all g c = λ records has.
+    let empty = nil_from_length c.records.rest.now (eqb-true _ _ (sym c.is_empty.ensures ∙ c.records-test.false)) in
+    on_ok_weaker c.put_end.result (dumps-all _ _ _ _ c.records.invariant.dumped empty records has.list _ c.args.listed.now.tail.next has.end) c.put_end.ensures.all
+
+pub returns-clause-prefix : goal.returns-clause-prefix
+returns-clause-prefix g c = λ records has.
+    let empty = nil_from_length c.records.rest.now (eqb-true _ _ (sym c.is_empty.ensures ∙ c.records-test.false)) in
+    on_err_weaker c.put_end.result (dumps-end_cut _ _ _ _ c.records.invariant.dumped empty records has.list _ c.args.listed.now.tail.next has.end)
+    c.put_end.ensures.prefix

@@ -1,0 +1,12 @@
+use Rattle.std.proofs.Common.{length}
+use Rattle.log_recovery.specs.Listing.{IsFront}
+use Rattle.log_recovery.proofs.listing.first_bad.Given as goal
+
+abbrev pub invariant-records : goal.invariant-records
+invariant-records l = record {
+  units : IsFront l.units l.rest;
+  front : IsFront l.front l.rest;
+}
+
+abbrev pub decreases-records : goal.decreases-records
+decreases-records l = length l.rest

@@ -1,0 +1,11 @@
+use segment_file::{LogUnits, Tail};
+
+/// The list of records that a log holds, lawful or not.
+#[derive(Debug, Drop)]
+pub struct Listed {
+    /// The spellings of its records, joined.
+    pub units: LogUnits,
+
+    /// Where the file goes on. Its LSN is the end of the list.
+    pub tail: Tail,
+}
