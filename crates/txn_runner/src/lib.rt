@@ -8,8 +8,6 @@ mod giving;
 mod holding;
 mod inserting;
 mod job;
-#[cfg(test)]
-mod job_tests;
 mod jobs;
 mod legs;
 mod relief;
