@@ -18,6 +18,8 @@ mod opening;
 #[cfg(test)]
 mod pipeline_tests;
 mod recover_command;
+#[cfg(test)]
+mod relief_tests;
 mod report;
 mod run_command;
 mod script_input;

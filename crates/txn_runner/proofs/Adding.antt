@@ -23,7 +23,7 @@ pub lie-longer : (from to further : ℕ) (entries : List Entry) → to ≤ furth
 lie-longer from to further [] more lie = omega arith
 lie-longer from to further (entry ∷ entries) more lie = (lie.0, lie-longer (entry.start + entry.size) to further entries more lie.1)
 
-lie-sooner : (sooner from to : ℕ) (entries : List Entry) → sooner ≤ from → LieInOrder from to entries → LieInOrder sooner to entries
+pub lie-sooner : (sooner from to : ℕ) (entries : List Entry) → sooner ≤ from → LieInOrder from to entries → LieInOrder sooner to entries
 lie-sooner sooner from to [] less lie = omega arith
 lie-sooner sooner from to (entry ∷ entries) less lie = (omega (arith, lie.0), lie.1)
 
@@ -59,12 +59,13 @@ adds-trans entries more first second third before after = record {
         ∙ (λ i. record (view_of first).books { placed = sym (placed_behind-append entries more (view_of first).books.placed) i })
 
 -- what is placed is no more left
+pub placed-front : (entries : List Entry) (placed : List Placed) (rest : List Rec)
+    → in_order (recs_of (placed_behind entries placed)) rest ≡ in_order (recs_of placed) (records_of entries ++ rest)
+placed-front [] placed rest = refl
+placed-front (entry ∷ entries) placed rest = placed-front entries (record { end = entry.start + entry.size; rec = entry.rec } ∷ placed) rest
+
 pub left-behind : (entries : List Entry) (rest : List Rec) (books books' : Books) → books' ≡ placing_all entries books → IsLeft (records_of entries ++ rest) books → IsLeft rest books'
-left-behind entries rest books books' is left = subst (IsLeft rest) (sym is) (same entries books.placed ∙ left)
-  where
-    same : (entries : List Entry) (placed : List Placed) → in_order (recs_of (placed_behind entries placed)) rest ≡ in_order (recs_of placed) (records_of entries ++ rest)
-    same [] placed = refl
-    same (entry ∷ entries) placed = same entries (record { end = entry.start + entry.size; rec = entry.rec } ∷ placed)
+left-behind entries rest books books' is left = subst (IsLeft rest) (sym is) (placed-front entries books.placed rest ∙ left)
 
 -- the records that are placed then, newest first
 pub records-behind : (entries : List Entry) (placed : List Placed) → recs_of (placed_behind entries placed) ≡ in_order (records_of entries) (recs_of placed)

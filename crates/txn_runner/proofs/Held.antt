@@ -45,7 +45,7 @@ without-behind [] front last lacks none = without-last front last none
 without-behind (holding ∷ holdings) front last lacks none = without-behind holdings (as_held holding.taken ∷ front) last lacks.1 (lacks.0, none)
 
 -- what was taken later doesn't concern the account
-taken-behind : (books : Books) (holdings : List Holding) (held : List Held) (taken : Taken) → Lacks taken.account holdings
+pub taken-behind : (books : Books) (holdings : List Holding) (held : List Held) (taken : Taken) → Lacks taken.account holdings
     → HoldsTaken taken (record books { held = held }) → HoldsTaken taken (record books { held = held_behind holdings held })
 taken-behind books [] held taken lacks holds = holds
 taken-behind books (holding ∷ holdings) held taken lacks holds = taken-behind books holdings (as_held holding.taken ∷ held) taken lacks.1 record {
@@ -58,7 +58,7 @@ taken-behind books (holding ∷ holdings) held taken lacks holds = taken-behind 
     other = ne_eqb holding.taken.account taken.account lacks.0
 
 -- the account taken last
-taken-first : (books : Books) (holding : Holding) (held : List Held) → HoldsTaken holding.taken (record books { held = as_held holding.taken ∷ held })
+pub taken-first : (books : Books) (holding : Holding) (held : List Held) → HoldsTaken holding.taken (record books { held = as_held holding.taken ∷ held })
 taken-first books holding held = record {
   has = subst (λ b. 1 ≤ cond b 1 0 + times_held holding.taken.account held) (sym same) (omega arith);
   balance = λ i. cond (same i) holding.taken.balance (balance_taken held holding.taken.account);

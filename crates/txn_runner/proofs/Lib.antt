@@ -1,12 +1,8 @@
-pub mod EntryLemmas
-pub mod PlanLemmas
-pub mod ProgressLemmas
-pub mod RowLemmas
-pub mod StripeLemmas
-pub mod WorkLemmas
 pub mod Adding
 pub mod Backing
 pub mod Beginning
+pub mod Composing
+pub mod EntryLemmas
 pub mod Finishing
 pub mod Gaining
 pub mod Held
@@ -14,5 +10,10 @@ pub mod Listing
 pub mod Making
 pub mod Moving
 pub mod Passing
+pub mod PlanLemmas
+pub mod ProgressLemmas
 pub mod Putting
+pub mod RowLemmas
 pub mod Staying
+pub mod StripeLemmas
+pub mod WorkLemmas

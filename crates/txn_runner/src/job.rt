@@ -50,8 +50,8 @@ pub(crate) fn run_job<R: Wait, Q: Relief, G: Gate>(
     }
     let accounts = accounts_of(job);
     let mut holdings = take_all(rt, table, seat, accounts.as_slice(), relief, gate)?;
-    let held = holdings.as_mut_slice();
-    let ended = match insert_transfer(rt, table, seat, number, job, held, relief, gate) {
+    let list = &mut holdings;
+    let ended = match insert_transfer(rt, table, seat, number, job, list, relief, gate) {
         Ok(ended) => ended,
         Err(cause) => {
             give_all(table, seat, holdings, Release::Unchanged, false);

@@ -8,13 +8,12 @@ mod giving;
 mod holding;
 mod inserting;
 mod job;
-#[cfg(test)]
-mod job_tests;
 mod jobs;
 mod legs;
 mod relief;
 mod rows;
 mod stripes;
+mod taking;
 #[cfg(test)]
 mod tests;
 mod taking;

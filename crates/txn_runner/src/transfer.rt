@@ -17,6 +17,7 @@ use crate::inserting::insert_record;
 use crate::legs::make_legs;
 use crate::relief::Relief;
 use crate::rows::Answer;
+use arrayvec::ArrayVec;
 use log_disk::Gate;
 use log_record::{Rec, Text};
 use log_table::{LogTable, Seat};
@@ -51,25 +52,26 @@ pub(crate) fn insert_transfer<R: Wait, Q: Relief, G: Gate>(
     seat: &mut Seat,
     number: u32,
     job: &Job,
-    holdings: &mut [Holding],
+    holdings: &mut ArrayVec<Holding, 16>,
     relief: &mut Q,
     gate: &G,
 ) -> Result<Ended, Cause>
     requires seat { IsOf table.now seat.old }
     requires ready { IsReady (view_of seat.old) }
-    requires job { HoldsJob table.now.accounts number job.now holdings.old (view_of seat.old).books }
-    requires unchanged { All IsUnchanged holdings.old }
+    requires job { HoldsJob table.now.accounts number job.now holdings.old.items (view_of seat.old).books }
+    requires unchanged { All IsUnchanged holdings.old.items }
     requires begins { (view_of seat.old).books.placed ≡ [] }
     requires relief { Q.ready relief.old }
-    ensures ended { IfOk result (λ ended. EndsTransfer number job.now ended holdings.new seat.old seat.new) }
+    ensures ended { IfOk result (λ ended. EndsTransfer number job.now ended holdings.new.items seat.old seat.new) }
     ensures added { OnErr result (HasAdded seat.old seat.new) }
     ensures cut { IfErr result (λ cause. IsCutOff cause (view_of seat.new)) }
-    ensures taken { map taken_of holdings.new ≡ map taken_of holdings.old }
+    ensures taken { map taken_of holdings.new.items ≡ map taken_of holdings.old.items }
     ensures relief { Q.ready relief.new }
     ensures later { Q.later relief.old relief.new }
 {
     insert_note(rt, table, seat, number, job, relief, gate)?;
-    let answer = make_legs(rt, table, seat, number, job, holdings, relief, gate)?;
+    let list = holdings.as_mut_slice();
+    let answer = make_legs(rt, table, seat, number, job, list, relief, gate)?;
     let last = end_record(number, job, answer);
     let end = insert_record(rt, table, seat, &last, relief, gate)?;
     Ok(Ended { answer, end })
