@@ -1,7 +1,8 @@
 -- The flusher's seat and the workers that it makes.
-use Rattle.std.proofs.Common.{◌≡◌, ℕ, zero, suc, ◌+◌, ◌≤◌, ◌<◌, Bool, true, false, ◌&&◌, ◌||◌, List, [], ◌∷◌, ◌++◌, add-one, sym, refl, ap, ◌∙◌, arith, eqb, eq-eqb, ne_eqb}
+use Rattle.std.proofs.Common.{◌≡◌, ℕ, zero, suc, ◌+◌, ◌/◌, ◌≤◌, ◌<◌, length, Bool, true, false, ◌&&◌, ◌||◌, List, [], ◌∷◌, ◌++◌, add-one, sym, refl, ap, ◌∙◌, arith, eqb, eq-eqb, ne_eqb}
 use Rattle.std.proofs.lemmas.Bool.{and_parts, and_from}
 use Rattle.std.proofs.lemmas.List.Elements.{Contains-append_left}
+use Rattle.std.proofs.lemmas.Nat.{le-div}
 use Rattle.std.proofs.lemmas.List.Folds.{list_any-append}
 use Rattle.std.specs.List.{list_all, list_any}
 use Rattle.log_table.specs.declared.table.Start.{Start}
@@ -9,6 +10,8 @@ use Rattle.log_table.specs.declared.view.Books.{Books}
 use Rattle.log_table.specs.declared.view.Sending.{Sending}
 use Rattle.log_table.specs.declared.view.View.{View}
 use Rattle.log_table.specs.Books.{merging, no_books}
+use Rattle.txn_runner.specs.declared.jobs.Jobs.{Jobs}
+use Rattle.txn_runner.specs.Stripes.{HasStripe}
 use Rattle.log_table.specs.Views.{enrolled, hired, hires, noted, takes_in}
 use Rattle.aether_cli.specs.Workers.{numbers_below, KnowsHired}
 
@@ -60,3 +63,10 @@ KnowsHired-more key number view knows = record {
   entries = knows.entries;
   books = ap (λ (books : Books). merging books no_books) knows.books;
 }
+
+-- a worker has at most so many transfers
+pub stripe-most : (jobs : Jobs) (worker k : ℕ) → HasStripe jobs worker k → k ≤ length jobs.script / jobs.workers + 1
+stripe-most jobs worker zero stripe = omega arith
+stripe-most jobs worker (suc k) stripe =
+    let within = stripe k (omega arith) in
+    let few = le-div k (length jobs.script) jobs.workers jobs.shared (omega (arith, within)) in omega (arith, few)

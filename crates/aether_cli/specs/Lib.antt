@@ -4,6 +4,7 @@ pub mod Ending
 pub mod FaultText
 pub mod Gathering
 pub mod Opening
+pub mod Prepared
 pub mod Run
 pub mod RunAnswers
 pub mod RunReady

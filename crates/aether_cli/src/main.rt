@@ -23,6 +23,7 @@ mod relief_tests;
 mod report;
 mod run_command;
 mod script_input;
+mod room;
 mod scope;
 mod serving;
 #[cfg(test)]

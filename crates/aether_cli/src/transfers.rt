@@ -6,24 +6,32 @@ ghost use Rattle.log_table.specs.Seats.{key_of};
 ghost use Rattle.segment_file.specs.Standing.{IsShut};
 ghost use Rattle.txn_script.specs.Script.{IsAllowedJob};
 ghost use Rattle.aether_cli.specs.Ending.{HasEnded};
+ghost use Rattle.aether_cli.specs.Prepared.{IsPrepared};
 ghost use Rattle.aether_cli.specs.Transferred.{IsOpened};
 
+use crate::room::Room;
+use crate::workers::{Worker, hire_all};
 use commit_pipeline::{DaemonFault, Voice};
 use log_disk::{Gate, LogDisk, Sink};
-use log_table::{Closed, LogTable, Start};
+use log_table::{Closed, LogTable, Seat, Start};
 use lsn_space::NoMemory;
-use segment_file::Tail;
+use segment_file::{Batch, Tail};
 use std::alloc::Global;
 use std::sync::Wait;
 use std::thread::Threads;
 use txn_runner::{Jobs, Worked};
 use txn_script::Script;
 
-/// All that a run needs memory for.
+/// All that a run needs memory for: the table and its first seat, the transfers, a batch as long as the ring, and the workers,
+/// each of which is enrolled.
 #[derive(Drop)]
 pub struct Prepared {
     pub(crate) table: LogTable,
+    pub(crate) boss: Seat,
     pub(crate) jobs: Jobs,
+    pub(crate) batch: Batch,
+    pub(crate) workers: Vec<Worker>,
+    pub(crate) room: Room,
 }
 
 /// How a run ended: what befell the daemon, how each worker's work ended, and what the table held.
@@ -36,27 +44,39 @@ pub struct Ended {
 
 /// Makes the table, and all that workers and the daemon need.
 pub fn prepare<R>(
-    _rt: &R,
-    _alloc: Global,
-    _start: Start,
-    _script: Script,
-    _first: u64,
-    _workers: u32,
+    rt: &R,
+    alloc: Global,
+    start: Start,
+    script: Script,
+    first: u64,
+    workers: u32,
 ) -> Result<Prepared, NoMemory>
-    requires ring { (1024 ≤ _start.ring) × (_start.ring ≤ 1048576) }
-    requires power { (n : ℕ) × (_start.ring ≡ 2 ^ n) }
-    requires no_slots { _start.slots ≡ 0 }
-    requires accounts { HasAccounts _start }
-    requires some { 1 ≤ _first }
-    requires shared { (1 ≤ _workers) × (_workers ≤ 2) }
-    requires numbered { _first + length _script ≤ 4294967295 }
-    requires allowed { All (IsAllowedJob (length _start.accounts.rows)) _script }
-    ensures script { IfOk result (λ p. p.jobs.script ≡ _script) }
-    ensures first { IfOk result (λ p. p.jobs.first ≡ _first) }
-    ensures workers { IfOk result (λ p. p.jobs.workers ≡ _workers) }
-    ensures key { IfOk result (λ p. key_of p.table ≡ _start) }
+    requires ring { (1024 ≤ start.ring) × (start.ring ≤ 1048576) }
+    requires power { (n : ℕ) × (start.ring ≡ 2 ^ n) }
+    requires no_slots { start.slots ≡ 0 }
+    requires accounts { HasAccounts start }
+    requires some { 1 ≤ first }
+    requires shared { 1 ≤ workers }
+    requires numbered { first + length script ≤ 4294967295 }
+    requires allowed { All (IsAllowedJob (length start.accounts.rows)) script }
+    ensures script { IfOk result (λ p. p.jobs.script ≡ script) }
+    ensures first { IfOk result (λ p. p.jobs.first ≡ first) }
+    ensures workers { IfOk result (λ p. p.jobs.workers ≡ workers) }
+    ensures key { IfOk result (λ p. key_of p.table ≡ start) }
+    ensures prepared { IfOk result IsPrepared }
 {
-    Err(NoMemory)
+    let batch = Batch::make(alloc, start.ring)?;
+    let (table, mut boss) = LogTable::make(alloc, start)?;
+    let jobs = Jobs::make(rt, alloc, script, first, workers)?;
+    let hired = hire_all(alloc, &table, &mut boss, &jobs, workers)?;
+    Ok(Prepared {
+        table,
+        boss,
+        jobs,
+        batch,
+        workers: hired,
+        room: Room::make(alloc, workers)?,
+    })
 }
 
 /// Makes the transfers, by workers in threads, while this thread is the daemon.
@@ -70,6 +90,7 @@ pub fn run_transfers<R: Threads + Wait + Sync, D: LogDisk, K: Sink, G: Gate + Sy
     _wait: bool,
     _gate: &G,
 ) -> Ended
+    requires prepared { IsPrepared prepared }
     requires opened { (opened : List Rec) × IsOpened D.LogDisk disk.old tail opened prepared.jobs.first (key_of prepared.table) }
     ensures ended { (opened : List Rec) → IsOpened D.LogDisk disk.old tail opened prepared.jobs.first (key_of prepared.table)
         → HasEnded D.LogDisk K.Sink prepared opened voice disk.old disk.new out.old out.new result }

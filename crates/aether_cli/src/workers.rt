@@ -1,9 +1,13 @@
 //! Workers of a run, and how each is made.
-ghost use Rattle.std.specs.Prelude.{◌≡◌, ◌+◌, ◌<◌, []};
+ghost use Rattle.std.specs.Prelude.{◌≡◌, ◌+◌, ◌<◌, ◌≤◌, [], ℕ, IfOk, OnOk, vec_len};
+ghost use Rattle.txn_runner.specs.Stripes.{HasStripe};
 ghost use Rattle.txn_runner.specs.Working.{HasRoom, rows_in, taken_in};
-ghost use Rattle.aether_cli.specs.Workers.{HasHired, IsUnused};
+ghost use Rattle.aether_cli.specs.Workers.{AreUnused, HasHired, IsUnused};
 
+use crate::room::room_for;
 use log_table::{LogTable, Seat};
+use lsn_space::NoMemory;
+use std::alloc::Global;
 use txn_runner::{Jobs, Rows, Worked};
 
 /// A worker: its seat, its rows, and what its work came to, where it was done.
@@ -40,4 +44,35 @@ pub(crate) fn hire(
         rows,
         worked: None,
     }
+}
+
+/// No worker has more transfers than this.
+fn most_of_one(jobs: &Jobs, count: u32) -> u32
+    requires { count ≡ jobs.now.workers }
+    ensures { (worker k : ℕ) → HasStripe jobs.now worker k → k ≤ result }
+{
+    (jobs.count() / u64::from(count) + 1) as u32
+}
+
+/// All workers of a run, so many, in the order of their numbers.
+pub(crate) fn hire_all(
+    alloc: Global,
+    table: &LogTable,
+    boss: &mut Seat,
+    jobs: &Jobs,
+    count: u32,
+) -> Result<Vec<Worker>, NoMemory>
+    requires boss { HasHired table.now 0 boss.old }
+    requires count { count ≡ jobs.now.workers }
+    ensures boss { OnOk result (HasHired table.now count boss.new) }
+    ensures unused { IfOk result (λ workers. AreUnused table.now jobs.now workers.items) }
+    ensures count { IfOk result (λ workers. vec_len workers ≡ count) }
+{
+    let mut workers = room_for(alloc, count)?;
+    let most = most_of_one(jobs, count);
+    for number in 0..count {
+        let rows = Rows::make(alloc, most)?;
+        workers.push_reserved(hire(table, boss, jobs, number, rows));
+    }
+    Ok(workers)
 }
