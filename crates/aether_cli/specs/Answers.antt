@@ -11,7 +11,8 @@ use Rattle.log_recovery.specs.Text.{accounts_text}
 use Rattle.txn_script.specs.Balances.{IsBalancesText, IsFirstBadBalance, ReadsBalances}
 use Rattle.lsn_space.specs.Accounts.{Accounts}
 use Rattle.command_line.specs.CommandLine.{IsCommandLine}
-use Rattle.command_line.specs.declared.command.Command.TheVariants.{New}
+use Rattle.command_line.specs.declared.command.Command.TheVariants.{New, Run}
+use Rattle.command_line.specs.declared.options.RunOptions.{RunOptions}
 use Rattle.aether_cli.specs.declared.report.Detail.{Detail}
 use Rattle.aether_cli.specs.declared.report.Detail.TheVariants.{Fine, NoMemory, Usage, Script, Read, Write, Disk, NotALog, BadBatch, BadRec, Unlawful, LogEnd, TxnEnd, Exists}
 use Rattle.aether_cli.specs.Creation.{genesis_list}
@@ -35,6 +36,10 @@ status_of Exists = 10
 -- the words ask `new`
 abbrev pub AsksNew : List (List ℕ) → Type 0
 AsksNew words = (log : List ℕ) × IsCommandLine words (New log)
+
+-- the words ask `run`
+abbrev pub AsksRun : List (List ℕ) → Type 0
+AsksRun words = (log : List ℕ) × (options : RunOptions) × IsCommandLine words (Run log options)
 
 -- the answers that there are to `recover`
 abbrev pub IsOfRecover : Detail → Type 0

@@ -34,7 +34,7 @@ mod workers;
 
 use command::words_of;
 use faults::put_fault;
-use log_disk::{FileDisk, StdSink, StdSource};
+use log_disk::{FileDisk, OpenGate, StdSink, StdSource};
 use report::Report;
 use std::fs::File;
 use std::io;
@@ -65,6 +65,7 @@ fn main(rt: HostRuntime) -> ExitCode {
                 &mut disk,
                 &mut script,
                 &mut out,
+                &OpenGate,
             )
         }
         Err(detail) => Report::of(detail),

@@ -3,7 +3,7 @@
 use crate::faults::put_fault;
 use crate::report::{Detail, Report};
 use crate::top::aether;
-use log_disk::{MemoryDisk, MemorySink, MemorySource};
+use log_disk::{OpenGate, MemoryDisk, MemorySink, MemorySource};
 use log_recovery::Why;
 use lsn_space::{LAST, Lsn, Word};
 use std::test::Fail;
@@ -45,7 +45,15 @@ pub(crate) fn answer_on(
     let Ok(mut script) = MemorySource::make(rt.alloc(), input, 7, source_failing) else {
         return Err(Fail::new("no memory"));
     };
-    let report = aether(rt, rt.alloc(), line.as_slice(), disk, &mut script, out);
+    let report = aether(
+        rt,
+        rt.alloc(),
+        line.as_slice(),
+        disk,
+        &mut script,
+        out,
+        &OpenGate,
+    );
     Ok(report)
 }
 
