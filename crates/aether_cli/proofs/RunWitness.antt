@@ -306,7 +306,14 @@ module _ (d : Daemon ℕ (List ℕ)) (of : IsOf d.flusher.table.now d.flusher.se
     text = end_lines 4 transfer_records;
     spellable = transfer-spellable;
     same = record {
-      flusher = record { table = refl; workers = refl; disk = refl; honest = (λ honest. honest, λ honest. honest); later = omega arith };
+      flusher = record {
+        table = refl;
+        seat = record { table_is = refl; slots = refl; constants = refl; entries = refl; books = refl };
+        workers = refl;
+        disk = refl;
+        honest = (λ honest. honest, λ honest. honest);
+        later = omega arith;
+      };
       sink = refl;
       voice = refl;
       disk_faults = omega arith;
