@@ -7,6 +7,7 @@ pub mod NumberedLemmas
 pub mod OpenedAccounts
 pub mod OpeningLemmas
 pub mod ReadyLemmas
+pub mod RunEndWitness
 pub mod RunEnds
 pub mod RunHistory
 pub mod RunImages
