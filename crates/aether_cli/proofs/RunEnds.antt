@@ -134,14 +134,16 @@ module _ (opened : List Rec) (jobs : Jobs) (view : View) (below : greatest_txn (
       let came : CameTo jobs worker share.taken (Cut (LogEnd tail total)) view = subst (λ (w : Worked). CameTo jobs worker share.taken w view) is has.came_to in
       let j : ℕ = came.0 in
       let next = next-of worker j tail total came.3 in
-      let n : ℕ = number_at jobs worker j in
-      (record {
-        cut = j;
-        inside = has.stripe j (let count = came.1 in omega arith);
-        before = λ k less. ap has_end (own-later (number_at jobs worker k) (omega arith)) ∙ has_end-later (number_at jobs worker k) (came.2 k (omega arith) less);
-        unended = unended-next n (transfer_of (job_at jobs worker j)) next.outcome (own_records_of n (history (opened ++ list))) next.rest next.next next.plan;
-        after = λ k more. none-behind shares gathered others worker k share at (let count = came.1 in omega arith);
-      }, next)
+      let n : ℕ = number_at jobs worker j in (
+        record {
+          cut = j;
+          inside = has.stripe j (let count = came.1 in omega arith);
+          before = λ k less. ap has_end (own-later (number_at jobs worker k) (omega arith)) ∙ has_end-later (number_at jobs worker k) (came.2 k (omega arith) less);
+          unended = unended-next n (transfer_of (job_at jobs worker j)) next.outcome (own_records_of n (history (opened ++ list))) next.rest next.next next.plan;
+          after = λ k more. none-behind shares gathered others worker k share at (let count = came.1 in omega arith);
+        },
+        next,
+      )
 
   -- ---- where the log ended
 

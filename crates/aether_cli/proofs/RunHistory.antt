@@ -23,9 +23,10 @@ history-later opened records =
 
 -- more records stand before
 pub later-append : (opened front rest : List Rec) → (more : List Entry) × (later_of opened (front ++ rest) ≡ more ++ later_of opened front)
-later-append opened front rest =
-    (history_from (end_from (end_of opened) (later_of opened front)) [] rest,
-    history_from-append (end_of opened) [] front rest ∙ history_from-apart (end_of opened) (later_of opened front) rest)
+later-append opened front rest = (
+  history_from (end_from (end_of opened) (later_of opened front)) [] rest,
+  history_from-append (end_of opened) [] front rest ∙ history_from-apart (end_of opened) (later_of opened front) rest,
+)
 
 -- the entries of spellable records are spellable
 pub spellable-history : (start : ℕ) (h : List Entry) (records : List Rec) → AllByRecursion (λ (entry : Entry). IsSpellable entry.rec) h

@@ -122,11 +122,13 @@ module _ {D : Type 0} {K : Type 0} (g : Ghosts D) (h : SinkGhosts K) (opened lis
     text-front : AppendsPrefix (h.held_bytes old.sink.now) (h.held_bytes new.sink.now) (text_of old.voice (end_of opened) ran.more)
     text-front =
         let seen : List Rec = ran.front.seen in let unseen : List Rec = ran.front.unseen in
-        let later : List ℕ = text_of old.voice (durable old + length (units_of seen)) unseen in
-        (ran.text, ran.front.unwritten ++ later,
-        ap (λ at. text_of old.voice at ran.more) (sym start) ∙ ap (text_of old.voice (durable old)) ran.front.whole
-        ∙ text_of-append old.voice (durable old) seen unseen ∙ ap (λ l. l ++ later) ran.front.lines ∙ append_assoc ran.text ran.front.unwritten later,
-        ran.appended)
+        let later : List ℕ = text_of old.voice (durable old + length (units_of seen)) unseen in (
+          ran.text,
+          ran.front.unwritten ++ later,
+          ap (λ at. text_of old.voice at ran.more) (sym start) ∙ ap (text_of old.voice (durable old)) ran.front.whole
+              ∙ text_of-append old.voice (durable old) seen unseen ∙ ap (λ l. l ++ later) ran.front.lines ∙ append_assoc ran.text ran.front.unwritten later,
+          ran.appended,
+        )
 
     pub sends-ran : (rest : List Rec) → list ≡ (ran.more ++ ran.cut) ++ rest
         → RunSends g old.voice opened list old.flusher.disk.now new.flusher.disk.now (h.held_bytes old.sink.now) (h.held_bytes new.sink.now)
@@ -137,8 +139,12 @@ module _ {D : Type 0} {K : Type 0} (g : Ghosts D) (h : SinkGhosts K) (opened lis
       splits = splits;
       moments = λ honest. Leaves-weaken g.moment g.images_since (HoldsFront (units_of opened ++ sent_of old.flusher) (ran.more ++ ran.cut)) (HoldsSome opened list)
           old.flusher.disk.now new.flusher.disk.now
-          (λ bytes held. (held.front, held.rest ++ rest, splits ∙ ap (λ l. l ++ rest) held.whole ∙ append_assoc held.front held.rest rest,
-          subst (HoldsUnits bytes) (both-units opened held.front (sent_of old.flusher) (units_of held.front) unsent refl) held.holds))
+          (λ bytes held. (
+            held.front,
+            held.rest ++ rest,
+            splits ∙ ap (λ l. l ++ rest) held.whole ∙ append_assoc held.front held.rest rest,
+            subst (HoldsUnits bytes) (both-units opened held.front (sent_of old.flusher) (units_of held.front) unsent refl) held.holds,
+          ))
           (ran.moments honest (units_of opened) (opening honest));
       now = torn-now;
       text = text-front;

@@ -86,7 +86,7 @@ tail_new = record { at = length (written (units_of genesis_log ∷ units_of tran
 
 -- ---- the files
 
-genesis-counted : IsCountedBatch (units_of genesis_log)
+pub genesis-counted : IsCountedBatch (units_of genesis_log)
 genesis-counted = record { some = omega arith; most = omega arith; each = (omega arith, (omega arith, (omega arith, (omega arith, tt)))) }
 
 transfer-counted : IsCountedBatch (units_of transfer_records)
@@ -116,16 +116,18 @@ at-length : (xs : List ℕ) (x : ℕ) → slice_get (xs ++ x ∷ []) (length xs)
 at-length [] x = refl
 at-length (y ∷ xs) x = at-length xs x
 
-shut-at : (moment at : ℕ) (xs : List ℕ) → file_at moment ≡ xs ++ CLOSED ∷ [] → at ≡ length xs → IsShut at (plain_disk.images moment)
-shut-at moment at xs file place = record {
+-- a closed gate stands at the end of the file
+pub shut-at : (file : ℕ → List ℕ) (moment at : ℕ) (xs : List ℕ) → file moment ≡ xs ++ CLOSED ∷ [] → at ≡ length xs
+    → IsShut at ((plain_disk file).images moment)
+shut-at file moment at xs whole place = record {
   gate = CLOSED;
   shut = λ same. absurd (omega (arith, same));
-  stable = λ bytes is. ap (λ b. slice_get b at) (is ∙ file) ∙ ap (slice_get (xs ++ CLOSED ∷ [])) place ∙ at-length xs CLOSED;
+  stable = λ bytes is. ap (λ b. slice_get b at) (is ∙ whole) ∙ ap (slice_get (xs ++ CLOSED ∷ [])) place ∙ at-length xs CLOSED;
 }
 
 -- ---- the opened log
 
-genesis-spellable : AllByRecursion IsSpellable genesis_log
+pub genesis-spellable : AllByRecursion IsSpellable genesis_log
 genesis-spellable = ((omega arith, omega arith), ((omega arith, omega arith), tt))
 
 transfer-spellable : AllByRecursion IsSpellable transfer_records
@@ -134,7 +136,7 @@ transfer-spellable = (
   (((omega arith, omega arith), omega arith, more-delta 30 (omega arith) (omega arith), omega arith), (((omega arith, omega arith), (omega arith, omega arith)), tt)),
 )
 
-genesis-lawful : IsLawful (history genesis_log)
+pub genesis-lawful : IsLawful (history genesis_log)
 genesis-lawful =
     (passes-genesis (record { end = 2; rec = Genesis 0 100 } ∷ []) 4 1 0 (tt, tt) refl, (passes-genesis [] 2 0 100 tt refl, tt))
 
@@ -147,14 +149,14 @@ genesis-shown = record { count = refl; each = each }
     each (suc zero) inside = refl
     each (suc (suc n)) inside = absurd (omega arith)
 
-opened : IsOpened plain_disk 0 tail_old genesis_log 1 key
+opened : IsOpened (plain_disk file_at) 0 tail_old genesis_log 1 key
 opened = record {
   spellable = genesis-spellable;
   lawful = genesis-lawful;
   some_accounts = omega arith;
   below = omega arith;
   stand = λ honest bytes is. subst (StandsAt tail_old (units_of genesis_log)) (sym is) stands-old;
-  shut = λ honest. shut-at 0 tail_old.at (written (units_of genesis_log ∷ [])) refl refl;
+  shut = λ honest. shut-at file_at 0 tail_old.at (written (units_of genesis_log ∷ [])) refl refl;
   next = refl;
   place = omega (arith, length-batch (batch (units_of genesis_log) ++ []) (units_of genesis_log) [] refl, length-append (batch (units_of genesis_log)) []);
   start = refl;
@@ -211,12 +213,15 @@ gathered = record {
 has-share : (worker : ℕ) (share : Share) → get_elem? shares worker ≡ some share → HasShare jobs worker share view
 has-share zero share at = subst (λ (s : Share). HasShare jobs 0 s view) (some-injective (record { taken = 1; worked = All }) share at) (record {
   stripe = λ j below. omega arith;
-  came_to = (omega arith, λ j from below. record {
-    end = entry 8 1 (Commit 1 1);
-    contains = (2, omega arith, refl);
-    number_is = omega arith;
-    is_end = refl;
-  });
+  came_to = (
+    omega arith,
+    λ j from below. record {
+      end = entry 8 1 (Commit 1 1);
+      contains = (2, omega arith, refl);
+      number_is = omega arith;
+      is_end = refl;
+    },
+  );
 })
 has-share (suc worker) share at = absurd (some-ne-none share (sym at))
 
@@ -248,7 +253,7 @@ module _ (d : Daemon ℕ (List ℕ)) (of : IsOf d.flusher.table.now d.flusher.se
     fault = None;
   }
 
-  may-turn : MayTurn plain_disk new
+  may-turn : MayTurn (plain_disk file_at) new
   may-turn = record {
     flusher = record {
       seat = record { table_is = of.table_is; no_slots = refl; ring = sym ring };
@@ -263,7 +268,7 @@ module _ (d : Daemon ℕ (List ℕ)) (of : IsOf d.flusher.table.now d.flusher.se
         length-batch (batch (units_of genesis_log)) (units_of genesis_log) [] (sym (append-nil (batch (units_of genesis_log)))),
         length-batch (batch (units_of transfer_records)) (units_of transfer_records) [] (sym (append-nil (batch (units_of transfer_records)))),
       );
-      shut = λ honest. shut-at 1 tail_new.at (written (units_of genesis_log ∷ units_of transfer_records ∷ [])) refl refl;
+      shut = λ honest. shut-at file_at 1 tail_new.at (written (units_of genesis_log ∷ units_of transfer_records ∷ [])) refl refl;
       room = omega (arith, ring);
     };
     fine = refl;
@@ -284,7 +289,7 @@ module _ (d : Daemon ℕ (List ℕ)) (of : IsOf d.flusher.table.now d.flusher.se
       (subst (StandsAt tail_new (units_of genesis_log ++ units_of transfer_records)) (sym is) stands-new)
 
   moments : (opening : List ℕ) → ((bytes : List ℕ) → bytes ≡ file_at 0 → StandsAt tail_old (opening ++ []) bytes)
-      → Leaves plain_disk.moment plain_disk.images_since (HoldsFront (opening ++ []) (transfer_records ++ [])) 0 1
+      → Leaves (plain_disk file_at).moment (plain_disk file_at).images_since (HoldsFront (opening ++ []) (transfer_records ++ [])) 0 1
   moments opening stand = record { later = omega arith; each = each }
     where
       each : (from : ℕ) (bytes : List ℕ) → from ≤ 0 → (moment : ℕ) × (from ≤ moment) × (moment ≤ 1) × (bytes ≡ file_at moment)
@@ -298,7 +303,7 @@ module _ (d : Daemon ℕ (List ℕ)) (of : IsOf d.flusher.table.now d.flusher.se
             (holds tail_new (opening ++ units_of transfer_records) bytes (stands-later opening stand bytes is));
       })
 
-  ran : Ran plain_disk plain_sink old new
+  ran : Ran (plain_disk file_at) plain_sink old new
   ran = record {
     was_fine = refl;
     more = transfer_records;
@@ -306,7 +311,14 @@ module _ (d : Daemon ℕ (List ℕ)) (of : IsOf d.flusher.table.now d.flusher.se
     text = end_lines 4 transfer_records;
     spellable = transfer-spellable;
     same = record {
-      flusher = record { table = refl; workers = refl; disk = refl; honest = (λ honest. honest, λ honest. honest); later = omega arith };
+      flusher = record {
+        table = refl;
+        seat = record { table_is = refl; slots = refl; constants = refl; entries = refl; books = refl };
+        workers = refl;
+        disk = refl;
+        honest = (λ honest. honest, λ honest. honest);
+        later = omega arith;
+      };
       sink = refl;
       voice = refl;
       disk_faults = omega arith;

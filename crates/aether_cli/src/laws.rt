@@ -22,7 +22,7 @@ ghost use Rattle.aether_cli.specs.Answers.{AnswersRecover, status_of};
 ghost use Rattle.aether_cli.specs.Creation.{genesis_list};
 ghost use Rattle.aether_cli.specs.Run.{RunKeepsLog, RunIsDrained, RunsWhole};
 ghost use Rattle.aether_cli.specs.RunStops.{StopsAtLogEnd};
-ghost use Rattle.aether_cli.specs.RunWitness.{HasMadePayment};
+ghost use Rattle.aether_cli.specs.RunWitness.{HasMadePayment, HasHitLogEnd};
 ghost use Rattle.aether_cli.specs.Shares.{Share};
 ghost use Rattle.aether_cli.specs.Transferred.{HasTransferred};
 
@@ -72,7 +72,9 @@ pub fn run_keeps_log<D: LogDisk, K: Sink>()
 {}
 
 /// A witness that the premises of the law on runs can be met, all at once: with any daemon whose seat is its table's there
-/// is a run of one transfer.
+/// is a run of one transfer, and one that finds no room for it at the end of the log.
 pub fn one_payment_is_made()
-    ensures { (d : Daemon ℕ (List ℕ)) → IsOf d.flusher.table.now d.flusher.seat → d.flusher.table.now.ring ≡ 1024 → HasMadePayment }
+    ensures made { (d : Daemon ℕ (List ℕ)) → IsOf d.flusher.table.now d.flusher.seat → d.flusher.table.now.ring ≡ 1024
+        → HasMadePayment }
+    ensures log_end { Daemon ℕ (List ℕ) → HasHitLogEnd }
 {}

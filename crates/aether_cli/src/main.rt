@@ -18,11 +18,13 @@ mod opening;
 #[cfg(test)]
 mod pipeline_tests;
 mod recover_command;
+#[cfg(test)]
+mod relief_tests;
 mod report;
-mod room;
 mod run_command;
-mod scope;
 mod script_input;
+mod room;
+mod scope;
 mod serving;
 #[cfg(test)]
 mod tests;

@@ -21,7 +21,8 @@ pub(crate) const UNFINISHED_TRANSFER: &[u8] =
     b"O\0\0\0\x04\x02\x02\0\0\0\0\0\x07\xff\xff\xff\xe2\0\0\0\0\x02\x02\0\x01\0\0\0\x07\0\0\0\x1e\0\0\0\0\0";
 
 /// An update that names 4 as the last commit of its account, which has none.
-pub(crate) const WRONG_PREDECESSOR: &[u8] = b"O\0\0\0\x02\x02\x02\0\0\0\0\0\x01\xff\xff\xff\xe2\0\0\0\x04\0";
+pub(crate) const WRONG_PREDECESSOR: &[u8] =
+    b"O\0\0\0\x02\x02\x02\0\0\0\0\0\x01\xff\xff\xff\xe2\0\0\0\x04\0";
 
 const GENESIS_TEXT: &[u8] = b"lsn 4\n0 100\n1 0\n";
 

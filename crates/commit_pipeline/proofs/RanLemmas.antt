@@ -228,7 +228,14 @@ Later-standing g h a b (inr ran) = ran.same.flusher.workers
 -- it is the same daemon, whose counts of faults never fall
 pub Later-same : {D : Type 0} {K : Type 0} (g : Ghosts D) (h : SinkGhosts K) (a b : Daemon D K) → Later g h a b → IsSameDaemon g h a b
 Later-same g h a b (inl same) = subst (IsSameDaemon g h a) (sym same) (record {
-  flusher = record { table = refl; workers = refl; disk = refl; honest = (λ honest. honest, λ honest. honest); later = omega arith };
+  flusher = record {
+    table = refl;
+    seat = record { table_is = refl; slots = refl; constants = refl; entries = refl; books = refl };
+    workers = refl;
+    disk = refl;
+    honest = (λ honest. honest, λ honest. honest);
+    later = omega arith;
+  };
   sink = refl;
   voice = refl;
   disk_faults = omega arith;
