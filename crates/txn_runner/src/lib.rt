@@ -16,7 +16,6 @@ mod stripes;
 mod taking;
 #[cfg(test)]
 mod tests;
-mod taking;
 mod transfer;
 mod waiting;
 mod worker;
