@@ -11,6 +11,7 @@ pub mod OpenedAccounts
 pub mod OpeningLemmas
 pub mod ReadyLemmas
 pub mod RunAnswerLemmas
+pub mod RunCompleteness
 pub mod RunEndWitness
 pub mod RunEnds
 pub mod RunHistory

@@ -17,7 +17,7 @@ use Rattle.lock_core.specs.Transactions.{touches, updates_of}
 use Rattle.lock_core.proofs.KindLemmas.{accounts-genesis}
 use Rattle.lock_core.proofs.Ranging.{balance_of-is, in_range-log}
 use Rattle.log_recovery.specs.declared.recovery.Recovered.{Recovered}
-use Rattle.log_recovery.specs.Recovery.{Recovers}
+use Rattle.log_recovery.specs.Recovery.{Recovers, HoldsLawful}
 use Rattle.log_table.specs.declared.table.Start.{Start}
 use Rattle.log_table.specs.Opening.{HasAccounts}
 use Rattle.segment_file.specs.File.{HoldsUnits, IsCountedBatch, joined}
@@ -120,6 +120,10 @@ module _ (records : List Rec) (each : AllByRecursion IsSpellable records) (lawfu
       last-within (genesis_of (history records)) (history records) account (end_of records) (omega (arith, none))
       (ends-within [] records (end_of records) tt (omega arith))
 
+-- a lawful list has at most 4096 accounts
+pub few-held : (bytes : List ℕ) (records : List Rec) → HoldsLawful bytes records → (genesis_of (history records)).accounts ≤ 4096
+few-held bytes records held = few-lawful (history records) (spelled records held.list.each held.lawful) held.lawful
+
 pub some-accounts : (bytes : List ℕ) (opened : Recovered) (recovers : Recovers opened bytes) → 0 < (genesis_of (history recovers.records)).accounts
 some-accounts bytes opened recovers =
     some-lawful (history recovers.records) recovers.held.lawful (some-held bytes recovers.records recovers.held.list.holds)
@@ -139,7 +143,7 @@ has-accounts bytes opened recovers key same start =
     ∙ get_or_from_slice_get opened.accounts.rows account _ (0, 0) (recovers.accounts.each account below) in
     record {
       some_accounts = omega (arith, count, some-accounts bytes opened recovers);
-      few = omega (arith, count, few-lawful (history records) (spelled records list recovers.held.lawful) recovers.held.lawful);
+      few = omega (arith, count, few-held bytes records recovers.held);
       balances = λ account inside. let below : account < base.accounts = omega (arith, count, inside) in
           subst (λ r. IsBalance r.0) (sym (shown account below)) (balance-lawful records list recovers.held.lawful account below);
       marks = λ account inside. let below : account < base.accounts = omega (arith, count, inside) in

@@ -148,3 +148,10 @@ abbrev pub IsOfRun : Detail → Type 0
 IsOfRun Usage = ⊥
 IsOfRun Exists = ⊥
 IsOfRun detail = Unit {0}
+
+-- the answers that there are to `run` where nothing stands in its way
+abbrev pub IsRunDone : Detail → Type 0
+IsRunDone Fine = Unit {0}
+IsRunDone NoMemory = Unit {0}
+IsRunDone (LogEnd tail total) = Unit {0}
+IsRunDone detail = ⊥

@@ -1,16 +1,18 @@
-ghost use Rattle.std.specs.Prelude.{◌≡◌, ◌≤◌, ◌+◌, ◌⊎◌, ℕ, List, IfSome};
+ghost use Rattle.std.specs.Prelude.{◌≡◌, ◌≤◌, ◌+◌, ◌⊎◌, ℕ, List, length, IfSome};
 ghost use Rattle.command_line.specs.CommandLine.{IsCommandLine, AreTaken};
 ghost use Rattle.command_line.specs.declared.command.Command.TheVariants.{New, Run, Recover, Dump};
 ghost use Rattle.command_line.specs.declared.options.RunOptions.{RunOptions};
 ghost use Rattle.log_disk.specs.Disk.{Leaves};
 ghost use Rattle.log_disk.specs.Faults.{Rose};
 ghost use Rattle.log_record.specs.declared.rec.Rec.{Rec};
-ghost use Rattle.log_recovery.specs.Recovery.{HoldsList};
+ghost use Rattle.log_recovery.specs.Recovery.{HoldsLawful, HoldsList};
 ghost use Rattle.segment_file.specs.File.{BeginsOpen};
 ghost use Rattle.txn_script.specs.Balances.{IsBalancesText};
 ghost use Rattle.aether_cli.specs.Answers.{status_of, AnswersRecover, AnswersDump, AnswersNew, AsksNew, IsOfDump, AsksRun, IsOfNew, IsOfRecover, StaysSilent};
 ghost use Rattle.aether_cli.specs.Creation.{AllHoldNew, FollowsLog, MayBeLeft, PrecedesLog, TellsWhether};
-ghost use Rattle.aether_cli.specs.RunAnswers.{AnswersRun, IsOfRun, RunStaysSilent, outside};
+ghost use Rattle.aether_cli.specs.RunAnswers.{AnswersRun, IsOfRun, IsRunDone, RunStaysSilent, accounts_of, next_txn, outside};
+ghost use Rattle.txn_script.specs.declared.job.Job.{Job};
+ghost use Rattle.txn_script.specs.Script.{IsScriptText};
 
 use crate::dump_command::dump_command;
 use crate::new_command::new_command;
@@ -82,6 +84,12 @@ pub fn aether<R: Threads + Wait + Sync, D: LogDisk, S: Source, K: Sink, G: Gate 
         (outside disk.new (S.left script.new) (K.held_bytes out.new)) result.detail }
     ensures of_run { AsksRun words.now → IsOfRun result.detail }
     ensures quiet { AsksRun words.now → RunStaysSilent (K.held_bytes out.old) (K.held_bytes out.new) result.detail }
+
+    ensures complete_run { AsksRun words.now → D.honest disk.old
+        → IfSome (S.left script.old) (λ bytes. (opened : List Rec) (jobs : List Job) → HoldsLawful (D.reads disk.old) opened
+        → IsScriptText (accounts_of opened) bytes jobs → next_txn opened + length jobs ≤ 4294967295
+        → (Rose (S.faults script.old) (S.faults script.new) → ⊥) → (Rose (K.faults out.old) (K.faults out.new) → ⊥)
+        → (Rose (D.faults disk.old) (D.faults disk.new) → ⊥) → IsRunDone result.detail) }
 
     // Nothing is written but where all is fine or the writing failed.
     ensures silent { (AsksRun words.now → ⊥) → StaysSilent (K.held_bytes out.old) (K.held_bytes out.new) result.detail }
