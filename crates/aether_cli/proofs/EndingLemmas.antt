@@ -37,9 +37,10 @@ share-at (share ∷ shares) (suc k) other below = share-at shares k other (omega
 
 all-whole : (shares : List Share) → AreWhole (map work_of shares) → AllByRecursion (λ (share : Share). share.worked ≡ worked.All) shares
 all-whole [] whole = tt
-all-whole (share ∷ shares) whole =
-    (All-head (λ end. end ≡ worked.All) share.worked (map work_of shares) whole,
-    all-whole shares (All-tail (λ end. end ≡ worked.All) share.worked (map work_of shares) whole))
+all-whole (share ∷ shares) whole = (
+  All-head (λ end. end ≡ worked.All) share.worked (map work_of shares) whole,
+  all-whole shares (All-tail (λ end. end ≡ worked.All) share.worked (map work_of shares) whole),
+)
 
 -- what stands behind a list
 get_or-behind : (below above : List Worked) (end other : Worked) → get_or (below ++ end ∷ above) (length below) other ≡ end

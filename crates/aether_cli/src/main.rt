@@ -21,10 +21,12 @@ mod recover_command;
 #[cfg(test)]
 mod relief_tests;
 mod report;
-mod run_command;
-mod script_input;
 mod room;
+mod run_command;
+#[cfg(test)]
+mod run_tests;
 mod scope;
+mod script_input;
 mod serving;
 #[cfg(test)]
 mod tests;

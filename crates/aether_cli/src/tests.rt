@@ -3,10 +3,13 @@
 use crate::faults::put_fault;
 use crate::report::{Detail, Report};
 use crate::top::aether;
-use log_disk::{OpenGate, MemoryDisk, MemorySink, MemorySource};
+use log_disk::{Gate, MemoryDisk, MemorySink, MemorySource, OpenGate};
 use log_recovery::Why;
 use lsn_space::{LAST, Lsn, Word};
+use std::alloc::AllocGlobal;
+use std::sync::Wait;
 use std::test::Fail;
+use std::thread::Threads;
 
 /// Two accounts, with balances 100 and 0.
 pub(crate) const GENESIS_LOG: &[u8] =
@@ -27,13 +30,26 @@ pub(crate) const WRONG_PREDECESSOR: &[u8] =
 const GENESIS_TEXT: &[u8] = b"lsn 4\n0 100\n1 0\n";
 
 /// Runs the program on words, a disk and an input; calls of the source with these numbers fail.
-pub(crate) fn answer_on(
-    rt: &HostRuntime,
+pub(crate) fn answer_on<R: Threads + Wait + Sync + AllocGlobal>(
+    rt: &R,
     words: &[&str],
     disk: &mut MemoryDisk,
     input: &[u8],
     source_failing: &[u64],
     out: &mut MemorySink,
+) -> Result<Report, Fail> {
+    answer_at(rt, words, disk, input, source_failing, out, &OpenGate)
+}
+
+/// The same with a hook that workers pass.
+pub(crate) fn answer_at<R: Threads + Wait + Sync + AllocGlobal, G: Gate + Sync>(
+    rt: &R,
+    words: &[&str],
+    disk: &mut MemoryDisk,
+    input: &[u8],
+    source_failing: &[u64],
+    out: &mut MemorySink,
+    gate: &G,
 ) -> Result<Report, Fail> {
     let mut line = Vec::new(rt.alloc());
     for text in words {
@@ -45,21 +61,13 @@ pub(crate) fn answer_on(
     let Ok(mut script) = MemorySource::make(rt.alloc(), input, 7, source_failing) else {
         return Err(Fail::new("no memory"));
     };
-    let report = aether(
-        rt,
-        rt.alloc(),
-        line.as_slice(),
-        disk,
-        &mut script,
-        out,
-        &OpenGate,
-    );
-    Ok(report)
+    let alloc = rt.alloc();
+    Ok(aether(rt, alloc, line.as_slice(), disk, &mut script, out, gate))
 }
 
 /// The same without a disk.
-pub(crate) fn answer_of(
-    rt: &HostRuntime,
+pub(crate) fn answer_of<R: Threads + Wait + Sync + AllocGlobal>(
+    rt: &R,
     words: &[&str],
     input: &[u8],
     source_failing: &[u64],
@@ -69,8 +77,8 @@ pub(crate) fn answer_of(
     answer_on(rt, words, &mut none, input, source_failing, out)
 }
 
-pub(crate) fn disk_of(
-    rt: &HostRuntime,
+pub(crate) fn disk_of<R: AllocGlobal>(
+    rt: &R,
     bytes: &[u8],
     room: usize,
     failing: &[u64],
@@ -78,7 +86,7 @@ pub(crate) fn disk_of(
     MemoryDisk::make(rt.alloc(), bytes, room, failing).map_err(|_| Fail::new("no memory"))
 }
 
-pub(crate) fn sink_of(rt: &HostRuntime, failing: &[u64]) -> Result<MemorySink, Fail> {
+pub(crate) fn sink_of<R: AllocGlobal>(rt: &R, failing: &[u64]) -> Result<MemorySink, Fail> {
     MemorySink::make(rt.alloc(), 300, failing).map_err(|_| Fail::new("no memory"))
 }
 
