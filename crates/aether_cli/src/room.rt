@@ -9,11 +9,9 @@ use std::alloc::Global;
 use std::sync::atomic::AtomicBool;
 use txn_runner::Worked;
 
-/// A flag for each worker, that no thread could be made for it; and room for the workers once they are started, once they
-/// are back, and for what the work of each came to.
+/// Room for the workers once they are started, once they are back, and for what the work of each came to.
 #[derive(Drop)]
 pub(crate) struct Room {
-    pub(crate) refused: Vec<AtomicBool>,
     pub(crate) started: Vec<Started>,
     pub(crate) back: Vec<Worker>,
     pub(crate) ends: Vec<Worked>,
@@ -31,7 +29,7 @@ pub(crate) fn room_for<T>(alloc: Global, count: u32) -> Result<Vec<T>, NoMemory>
 }
 
 /// So many flags that are not set.
-fn flags(alloc: Global, count: u32) -> Result<Vec<AtomicBool>, NoMemory>
+pub(crate) fn flags(alloc: Global, count: u32) -> Result<Vec<AtomicBool>, NoMemory>
     ensures { IfOk result (λ flags. vec_len flags ≡ count) }
 {
     let mut flags = room_for(alloc, count)?;
@@ -47,7 +45,6 @@ impl Room {
         ensures { IfOk result (HasRoomFor count) }
     {
         Ok(Room {
-            refused: flags(alloc, count)?,
             started: room_for(alloc, count)?,
             back: room_for(alloc, count)?,
             ends: room_for(alloc, count)?,

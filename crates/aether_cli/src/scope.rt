@@ -1,11 +1,10 @@
 //! The workers in their threads, and the daemon beside them.
-ghost use Rattle.std.specs.Prelude.{◌≡◌, ◌≤◌, [], None, true, length, vec_len, vec_capacity};
-ghost use Rattle.std.specs.List.{AllByRecursion};
+ghost use Rattle.std.specs.Prelude.{◌≡◌, ◌≤◌, [], None, true, vec_len, vec_capacity};
 ghost use Rattle.log_table.specs.Seats.{view_of};
 ghost use Rattle.log_table.specs.Sends.{IsDrained};
 ghost use Rattle.log_table.specs.Views.{knows_all_enrolled};
 ghost use Rattle.commit_pipeline.specs.Later.{Later};
-ghost use Rattle.commit_pipeline.specs.Turning.{MayTurn};
+ghost use Rattle.commit_pipeline.specs.Turning.{IsSameDaemon, MayTurn};
 ghost use Rattle.aether_cli.specs.Workers.{AreDone, AreUnused};
 
 use crate::flushing_relief::FlushingRelief;
@@ -14,7 +13,6 @@ use crate::workers::Worker;
 use commit_pipeline::Daemon;
 use log_disk::{Gate, LogDisk, Sink};
 use std::sync::Wait;
-use std::sync::atomic::AtomicBool;
 use std::thread;
 use std::thread::Threads;
 
@@ -40,14 +38,12 @@ pub(crate) fn serve_all<
     G: Gate + Sync,
 >(
     run: Run<'a, R, G>,
-    refused: &'a [AtomicBool],
     workers: Vec<Worker>,
     started: Vec<Started>,
     back: Vec<Worker>,
     relief: FlushingRelief<'a, D, K>,
 ) -> (FlushingRelief<'a, D, K>, Vec<Worker>)
     requires workers { AreUnused run.table.now run.jobs.now workers.items }
-    requires flags { vec_len workers ≤ length refused.now }
     requires none { (started.items ≡ []) × (back.items ≡ []) }
     requires room { (vec_len workers ≤ vec_capacity started) × (vec_len workers ≤ vec_capacity back) }
     requires ready { relief.daemon.fault ≡ None → MayTurn D.LogDisk relief.daemon }
@@ -56,14 +52,14 @@ pub(crate) fn serve_all<
     ensures count { vec_len result.1 ≡ vec_len workers }
     ensures drained { result.0.daemon.fault ≡ None → IsDrained (view_of result.0.daemon.flusher.seat) }
     ensures later { Later D.LogDisk K.Sink relief.entry.daemon result.0.daemon }
+    ensures same { IsSameDaemon D.LogDisk K.Sink relief.entry.daemon result.0.daemon }
 {
     thread::scope(
         thread::scope_env(),
         run.rt,
         move |scope| -> (FlushingRelief<D, K>, Vec<Worker>)
             requires workers { AreUnused run.table.now run.jobs.now workers.items }
-            requires flags { vec_len workers ≤ length refused.now }
-            requires none { (started.items ≡ []) × (back.items ≡ []) }
+                    requires none { (started.items ≡ []) × (back.items ≡ []) }
             requires room { (vec_len workers ≤ vec_capacity started) × (vec_len workers ≤ vec_capacity back) }
             requires ready { relief.daemon.fault ≡ None → MayTurn D.LogDisk relief.daemon }
             requires told { knows_all_enrolled (view_of relief.daemon.flusher.seat).standing ≡ true }
@@ -71,9 +67,10 @@ pub(crate) fn serve_all<
             ensures count { vec_len result.1 ≡ vec_len workers }
             ensures drained { result.0.daemon.fault ≡ None → IsDrained (view_of result.0.daemon.flusher.seat) }
             ensures later { Later D.LogDisk K.Sink relief.entry.daemon result.0.daemon }
+            ensures same { IsSameDaemon D.LogDisk K.Sink relief.entry.daemon result.0.daemon }
         {
             let mut relief = relief;
-            let started = run.start_all(scope, refused, workers, started, &mut relief);
+            let started = run.start_all(scope, workers, started, &mut relief);
             drain(run.rt, &mut relief.daemon);
             let workers = run.join_all(started, back, &mut relief);
             // A worker that came back as it was hired was served here, and what it released is to be sent as well.

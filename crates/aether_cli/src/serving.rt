@@ -19,9 +19,12 @@ pub(crate) struct Run<'a, R, G> {
     pub(crate) rt: &'a R,
     pub(crate) table: &'a LogTable,
     pub(crate) jobs: &'a Jobs,
+    /// For each worker, whether no thread could be made for it.
+    pub(crate) refused: &'a [AtomicBool],
     pub(crate) wait: bool,
     pub(crate) gate: &'a G,
     ghost allowed: { All (IsAllowedJob table.now.accounts) jobs.now.script } by { Prim.hlevel props },
+    ghost flagged: { jobs.now.workers ≤ length refused.now },
 }
 
 /// What a worker's thread brings: the worker of this number, which served or is as it was hired.
@@ -88,7 +91,6 @@ impl<'a, R: Threads + Wait + Sync, G: Gate + Sync> Run<'a, R, G> {
     fn start<E, Q: Relief>(
         &self,
         scope: &Scope<'a, E>,
-        refused: &'a AtomicBool,
         worker: Worker,
         relief: &mut Q,
     ) -> Started
@@ -103,10 +105,12 @@ impl<'a, R: Threads + Wait + Sync, G: Gate + Sync> Run<'a, R, G> {
             rt,
             table,
             jobs,
+            refused,
             wait,
             gate,
         } = *self;
         let number = worker.seat.worker();
+        let flag = &refused[number as usize];
         let promise = Comes {
             table: Snapshot::of(table),
             jobs: Snapshot::of(jobs),
@@ -116,18 +120,20 @@ impl<'a, R: Threads + Wait + Sync, G: Gate + Sync> Run<'a, R, G> {
             promise,
             move || -> Worker
                 requires allowed { All (IsAllowedJob table.now.accounts) jobs.now.script }
+                requires flagged { jobs.now.workers ≤ length refused.now }
                 requires unused { IsUnused table.now jobs.now worker }
                 ensures number { result.seat.worker ≡ worker.seat.worker }
                 ensures comes { ComesBack table.entry.now jobs.entry.now result }
             {
                 // Set where no thread can be made, and this is called to have the worker back.
-                if refused.load(Ordering::SeqCst) {
+                if flag.load(Ordering::SeqCst) {
                     return worker;
                 }
                 let run = Run {
                     rt,
                     table,
                     jobs,
+                    refused,
                     wait,
                     gate,
                 };
@@ -136,7 +142,7 @@ impl<'a, R: Threads + Wait + Sync, G: Gate + Sync> Run<'a, R, G> {
         ) {
             Ok(child) => Started::Running(child),
             Err(start) => {
-                refused.store(true, Ordering::SeqCst);
+                flag.store(true, Ordering::SeqCst);
                 let worker = (start.value)();
                 Started::Refused(self.finish(worker, relief))
             }
@@ -147,13 +153,11 @@ impl<'a, R: Threads + Wait + Sync, G: Gate + Sync> Run<'a, R, G> {
     pub(crate) fn start_all<E, Q: Relief>(
         &self,
         scope: &Scope<'a, E>,
-        refused: &'a [AtomicBool],
         workers: Vec<Worker>,
         mut started: Vec<Started>,
         relief: &mut Q,
     ) -> Vec<Started>
         requires workers { AreUnused self.now.table.now self.now.jobs.now workers.items }
-        requires flags { vec_len workers ≤ length refused.now }
         requires none { started.items ≡ [] }
         requires room { vec_len workers ≤ vec_capacity started }
         requires relief { Q.ready relief.old }
@@ -163,8 +167,7 @@ impl<'a, R: Threads + Wait + Sync, G: Gate + Sync> Run<'a, R, G> {
         ensures later { Q.later relief.old relief.new }
     {
         for worker in workers {
-            let number = worker.seat.worker() as usize;
-            started.push_reserved(self.start(scope, &refused[number], worker, relief));
+            started.push_reserved(self.start(scope, worker, relief));
         }
         started
     }
