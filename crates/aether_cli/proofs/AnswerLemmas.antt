@@ -1,5 +1,5 @@
 -- What `recover`, `dump` and `new` answer, from what was read, recovered and written.
-use Rattle.std.proofs.Common.{◌≡◌, ℕ, ◌*◌, List, [], length, Option, Some, None, IfSome, ap, ◌∙◌, subst, arith}
+use Rattle.std.proofs.Common.{◌≡◌, ℕ, ◌*◌, List, length, Option, Some, None, IfSome, ap, ◌∙◌, subst, arith}
 use Rattle.std.proofs.lemmas.List.{length-map}
 use Rattle.std.specs.Io.KnownBytes.{Appends}
 use Rattle.log_disk.specs.Streams.{AppendsPrefix}
@@ -13,9 +13,8 @@ use Rattle.log_recovery.specs.Text.{rows_text, accounts_text}
 use Rattle.lsn_space.specs.Accounts.{Accounts}
 use Rattle.txn_script.specs.Balances.{IsBalancesText}
 use Rattle.log_recovery.proofs.TextLemmas.{rows_text-shown}
-use Rattle.aether_cli.specs.declared.report.Detail.TheVariants.{Fine, NoMemory, Usage, Script, Read, Write, Disk, NotALog, BadBatch, BadRec, Unlawful, Exists}
-use Rattle.aether_cli.specs.declared.report.Detail.{Detail}
-use Rattle.aether_cli.specs.Answers.{AnswersRecover, AnswersDump, AnswersNew, AreOpening, IsMakingFault, IsOfDump, ReadsAll, recover_detail}
+use Rattle.aether_cli.specs.declared.report.Detail.TheVariants.{Fine, Write}
+use Rattle.aether_cli.specs.Answers.{AnswersRecover, AnswersDump, AnswersNew, AreOpening, IsOfDump, ReadsAll, recover_detail}
 use Rattle.aether_cli.specs.Creation.{genesis_list}
 use Rattle.aether_cli.proofs.GenesisLemmas.{genesis-text}
 

@@ -3,7 +3,14 @@ pub mod Creation
 pub mod Ending
 pub mod FaultText
 pub mod Gathering
+pub mod Opening
 pub mod Prepared
+pub mod Run
+pub mod RunAnswers
+pub mod RunReady
+pub mod RunStops
+pub mod RunWitness
+pub mod Scripts
 pub mod Shares
 pub mod Transferred
 pub mod Workers

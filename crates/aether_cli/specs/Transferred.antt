@@ -20,7 +20,6 @@ use Rattle.log_table.specs.Sound.{base_of}
 use Rattle.log_table.specs.Views.{constants_of}
 use Rattle.flusher.specs.Flushing.{sent_of}
 use Rattle.commit_pipeline.specs.declared.daemon.Daemon.{Daemon}
-use Rattle.commit_pipeline.specs.declared.voice.Voice.{Voice}
 use Rattle.commit_pipeline.specs.Later.{Later}
 use Rattle.txn_runner.specs.declared.jobs.Jobs.{Jobs}
 use Rattle.aether_cli.specs.Shares.{Share, HasGathered}

@@ -2,8 +2,8 @@
 
 use crate::report::{Detail, Report};
 use crate::tests::{
-    GENESIS_LOG, ONE_TRANSFER, UNFINISHED_TRANSFER, WRONG_PREDECESSOR, answer_of, answer_on, disk_of,
-    sink_of,
+    GENESIS_LOG, ONE_TRANSFER, UNFINISHED_TRANSFER, WRONG_PREDECESSOR, answer_of, answer_on,
+    disk_of, sink_of,
 };
 use lsn_space::Lsn;
 use std::alloc::{AllocError, Global};

@@ -5,19 +5,17 @@ ghost use Rattle.log_table.specs.Seats.{IsOf, view_of};
 ghost use Rattle.log_table.specs.Views.{knows_all_enrolled, sent_to};
 ghost use Rattle.log_record.specs.declared.rec.Rec.{Rec};
 ghost use Rattle.log_record.specs.Spelling.{spelling, IsTxn};
-ghost use Rattle.log_table.specs.Books.{taking, placing};
-ghost use Rattle.log_table.specs.May.{HasBegunNothing};
 ghost use Rattle.ring_buffer.specs.Calls.{IsReady};
 ghost use Rattle.ring_buffer.specs.NotedJobs.{IsNotedJob, IsFreeFor};
-ghost use Rattle.early_locks.specs.Transfers.{MayPut};
-ghost use Rattle.commit_pipeline.specs.Transfers.{transfer_job, transfer_of, held_as_taken};
+ghost use Rattle.early_locks.specs.Transfers.{taken_job};
 ghost use Rattle.segment_file.specs.Standing.{IsStableGate};
+ghost use Rattle.aether_cli.specs.declared.pipeline_tests.TheConstants.{THIRTY};
 ghost use Rattle.commit_pipeline.specs.Turning.{MayTurn};
 
 use commit_pipeline::{Daemon, DaemonFault, Voice};
+use early_locks::{Transfer, commit_transfer, give_back};
 use flusher::Flusher;
 use log_disk::{FileDisk, LogDisk, MemoryDisk, MemorySink, OpenGate};
-use early_locks::{Taken, give, try_take};
 use log_record::{Rec, Text, Units, spell};
 use log_recovery::recover;
 use log_table::{LogTable, Seat, Start};
@@ -35,6 +33,13 @@ use txn_script::{Job, Legs, Remark};
 /// Two accounts of balances 100000 and 0.
 const ACCOUNTS: [u64; 4] = [0x0102_0000_0000_0000, 100_000, 0x0102_0001_0000_0000, 0];
 
+/// 30 from account 0 to account 1.
+const THIRTY: Transfer = Transfer {
+    payer: 0,
+    payee: 1,
+    amount: 30,
+};
+
 /// How many notes each thread inserts, of two units each.
 const NOTES: u32 = 20;
 
@@ -48,9 +53,9 @@ const TRANSFERS: u32 = 500;
 const TRANSFERS_END: u32 = 4 + 5 * 2 * TRANSFERS;
 
 /// The calls of the disk that make the log of the two accounts.
-const CREATED: u64 = 7;
+pub(crate) const CREATED: u64 = 7;
 
-fn table_from_4(alloc: Global) -> Result<(LogTable, Seat), NoMemory>
+pub(crate) fn table_from_4(alloc: Global) -> Result<(LogTable, Seat), NoMemory>
     ensures seat { IfOk result (λ made. IsOf made.0 made.1) }
     ensures flusher { IfOk result (λ made. (view_of made.1).standing.role ≡ FlusherRole) }
     ensures durable { IfOk result (λ made. sent_to (view_of made.1) ≡ 4) }
@@ -160,99 +165,21 @@ fn insert_note<R: Wait>(
     insert_alone(rt, table, seat, &note_units(number, job), &OpenGate)
 }
 
-/// The transfer of 30 from account 0 to account 1.
-fn transfer_job() -> Job
-    ensures { result ≡ transfer_job }
-{
-    let mut legs = Legs::new();
-    legs.push((0, 1, 30));
-    Job { legs, note: None }
-}
-
-/// Takes the account, and waits for a worker that holds it.
-fn take<R: Wait>(rt: &R, table: &LogTable, seat: &mut Seat, account: u32) -> Taken
-    requires seat { IsOf table.now seat.old }
-    requires account { account < table.now.accounts }
-    requires ready { IsReady (view_of seat.old) }
-    requires begins { HasBegunNothing (view_of seat.old) }
-    ensures seat { IsOf table.now seat.new }
-    ensures ready { IsReady (view_of seat.new) }
-    ensures standing { (view_of seat.new).standing ≡ (view_of seat.old).standing }
-    ensures account { result.account ≡ account }
-    ensures books { (view_of seat.new).books ≡ taking (held_as_taken account result) (view_of seat.old).books }
-{
-    for _ in rt.forever() {
-        match try_take(table, seat, account) {
-            Ok(taken) => return taken,
-            Err(_) => {}
-        }
-    }
-    unreachable!()
-}
-
-/// Inserts the record, and waits for room; answers where it starts and ends.
-fn put<R: Wait + Abort>(rt: &R, table: &LogTable, seat: &mut Seat, rec: &Rec) -> (Lsn, Lsn)
-    requires seat { IsOf table.now seat.old }
-    requires ready { IsReady (view_of seat.old) }
-    requires next { MayPut rec.now (view_of seat.old).books }
-    ensures seat { IsOf table.now seat.new }
-    ensures ready { IsReady (view_of seat.new) }
-    ensures standing { (view_of seat.new).standing ≡ (view_of seat.old).standing }
-    ensures books { (view_of seat.new).books ≡ placing result.1 rec.now (view_of seat.old).books }
-{
-    let units = spell(rec);
-    for _ in rt.forever() {
-        match insert_alone(rt, table, seat, &units, &OpenGate) {
-            Ok(at) => {
-                let Some(end) = at.plus(units.as_slice().len() as u32) else {
-                    panic!(rt; "no record ends behind the last LSN");
-                };
-                return (at, end);
-            }
-            Err(_) => {}
-        }
-    }
-    unreachable!()
-}
-
-/// Makes the transfer under this number, and answers where its three records start.
-fn transfer<R: Wait + Abort>(rt: &R, table: &LogTable, seat: &mut Seat, number: u32) -> [Lsn; 3]
+/// Moves 30 from account 0 to account 1 under this number.
+fn transfer<R: Wait + Abort>(rt: &R, table: &LogTable, seat: &mut Seat, number: u32)
     requires seat { IsOf table.now seat.old }
     requires accounts { table.now.accounts ≡ 2 }
     requires ready { IsReady (view_of seat.old) }
     requires free { IsFreeFor number (view_of seat.old) }
     ensures seat { IsOf table.now seat.new }
     ensures ready { IsReady (view_of seat.new) }
-    ensures standing { (view_of seat.new).standing ≡ (view_of seat.old).standing }
     ensures none_held { (view_of seat.new).books.held ≡ [] }
-    ensures jobs { (view_of seat.new).books.jobs ≡ transfer_of number ∷ (view_of seat.old).books.jobs }
+    ensures jobs { (view_of seat.new).books.jobs ≡ taken_job number THIRTY ∷ (view_of seat.old).books.jobs }
 {
-    table.take_job(seat, number, &transfer_job());
-    let payer = take(rt, table, seat, 0);
-    let payee = take(rt, table, seat, 1);
-    if payer.balance < 30 || payer.balance > 2_147_483_647 || payee.balance > 2_147_483_617 {
+    let Some(committed) = commit_transfer(rt, table, seat, number, THIRTY, &OpenGate) else {
         panic!(rt; "the balances do not allow the transfer");
-    }
-    let (less, more) = (payer.balance - 30, payee.balance + 30);
-    let (txn, prev, prev_too) = (number, Lsn::new(payer.mark), Lsn::new(payee.mark));
-    let loss = Rec::Update {
-        txn,
-        account: 0,
-        delta: -30,
-        prev,
     };
-    let gain = Rec::Update {
-        txn,
-        account: 1,
-        delta: 30,
-        prev: prev_too,
-    };
-    let first = put(rt, table, seat, &loss);
-    let second = put(rt, table, seat, &gain);
-    let third = put(rt, table, seat, &Rec::Commit { txn, legs: 1 });
-    give(table, seat, payer, less, third.1.units());
-    give(table, seat, payee, more, third.1.units());
-    [first.0, second.0, third.0]
+    give_back(table, seat, committed);
 }
 
 /// What each thread does: it inserts so many notes, or makes so many transfers.
@@ -304,7 +231,11 @@ fn work_all<R: Wait + Abort>(
     requires numbers { first < 1000 }
     requires job { IsNotedJob job.now }
 {
-    let times = if work == Work::Notes { NOTES } else { TRANSFERS };
+    let times = if work == Work::Notes {
+        NOTES
+    } else {
+        TRANSFERS
+    };
     let mut done = 0;
     for i in 0..times {
         if work_once(rt, table, &mut seat, first + i, work, job) {
@@ -327,7 +258,7 @@ fn accounts(alloc: Global) -> Result<Batch, NoMemory>
 }
 
 /// A daemon over a disk without a log, on which the log of the two accounts is made.
-fn daemon_on<'a, D: LogDisk>(
+pub(crate) fn daemon_on<'a, D: LogDisk>(
     alloc: Global,
     table: &'a LogTable,
     seat: Seat,
@@ -439,7 +370,13 @@ fn two_threads_and_a_daemon(rt: HostRuntime) -> Result<(), Fail> {
     let alloc = rt.alloc();
     let mut disk = MemoryDisk::make(alloc, &[], 20_000, &[])?;
     let mut sink = MemorySink::make(alloc, 100, &[])?;
-    let Some((inserted, (answer, durable, _))) = run_both(&rt, alloc, &mut disk, &mut sink, Work::Notes) else {
+    let Some((inserted, (answer, durable, _))) = run_both(
+        &rt,
+        alloc,
+        &mut disk,
+        &mut sink,
+        Work::Notes,
+    ) else {
         return Err(Fail::new("no memory"));
     };
     let end = Lsn::new(END);
@@ -449,7 +386,7 @@ fn two_threads_and_a_daemon(rt: HostRuntime) -> Result<(), Fail> {
 }
 
 /// The balances that are recovered from the disk.
-fn balances<D: LogDisk>(alloc: Global, disk: &mut D) -> Option<(u32, u32)> {
+pub(crate) fn balances<D: LogDisk>(alloc: Global, disk: &mut D) -> Option<(u32, u32)> {
     let bytes = open_image(alloc, disk).ok()?;
     let found = recover(alloc, bytes.as_slice()).ok()?;
     if found.accounts.count() != 2 {
@@ -481,8 +418,13 @@ fn the_disk_fails_beside_two_threads(rt: HostRuntime) -> Result<(), Fail> {
         for pick in [0, 1, 77, 12_345] {
             let mut disk = MemoryDisk::make(alloc, &[], 20_000, &[CREATED + call])?;
             let mut sink = MemorySink::make(alloc, 100, &[])?;
-            let Some((_, (answer, durable, flying))) = run_both(&rt, alloc, &mut disk, &mut sink, Work::Notes)
-            else {
+            let Some((_, (answer, durable, flying))) = run_both(
+                &rt,
+                alloc,
+                &mut disk,
+                &mut sink,
+                Work::Notes,
+            ) else {
                 return Err(Fail::new("no memory"));
             };
             let mut left = disk.crash(pick);
@@ -511,7 +453,8 @@ fn two_threads_and_a_real_file(rt: HostRuntime) -> Result<(), Fail> {
     let mut disk = FileDisk::make(rt);
     assert_eq!(rt; disk.attach(&name, true), Ok(()));
     let mut sink = MemorySink::make(rt.alloc(), 100, &[])?;
-    let Some((_, (answer, _, _))) = run_both(&rt, rt.alloc(), &mut disk, &mut sink, Work::Notes) else {
+    let Some((_, (answer, _, _))) = run_both(&rt, rt.alloc(), &mut disk, &mut sink, Work::Notes)
+    else {
         return Err(Fail::new("no memory"));
     };
     let end = Lsn::new(END);

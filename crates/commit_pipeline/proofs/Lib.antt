@@ -4,4 +4,3 @@ pub mod RanLemmas
 pub mod RanTurns
 pub mod ToldLemmas
 pub mod TurnLemmas
-pub mod Transferring

@@ -49,22 +49,6 @@ IsSameDaemon-trans g h a b c first second = record {
   sink_faults = omega (arith, first.sink_faults, second.sink_faults);
 }
 
-IsSameDaemon-refl : {D : Type 0} {K : Type 0} (g : Ghosts D) (h : SinkGhosts K) (d : Daemon D K) → IsSameDaemon g h d d
-IsSameDaemon-refl g h d = record {
-  flusher = record {
-    table = refl;
-    seat = record { table_is = refl; slots = refl; constants = refl; entries = refl; books = refl };
-    workers = refl;
-    disk = refl;
-    honest = (λ honest. honest, λ honest. honest);
-    later = omega arith;
-  };
-  sink = refl;
-  voice = refl;
-  disk_faults = omega arith;
-  sink_faults = omega arith;
-}
-
 -- a front of the first few is a front of all
 HoldsFront-more : (before : List ℕ) (more rest : List Rec) (bytes : List ℕ) → HoldsFront before more bytes
     → HoldsFront before (more ++ rest) bytes
@@ -235,13 +219,33 @@ Later-trans g h a b c (inl same) second = subst (λ d. Later g h d c) same secon
 Later-trans g h a b c (inr first) (inl same) = inr (subst (λ d. Ran g h a d) (sym same) first)
 Later-trans g h a b c (inr first) (inr second) = inr (Ran-trans g h a b c first second)
 
--- turns leave the same daemon
-pub Later-same : {D : Type 0} {K : Type 0} (g : Ghosts D) (h : SinkGhosts K) (a b : Daemon D K) → Later g h a b → IsSameDaemon g h a b
-Later-same g h a b (inl same) = subst (IsSameDaemon g h a) (sym same) (IsSameDaemon-refl g h a)
-Later-same g h a b (inr ran) = ran.same
-
 -- turns leave the numbers of workers as they were
 pub Later-standing : {D : Type 0} {K : Type 0} (g : Ghosts D) (h : SinkGhosts K) (a b : Daemon D K) → Later g h a b
     → (view_of b.flusher.seat).standing ≡ (view_of a.flusher.seat).standing
 Later-standing g h a b (inl same) = ap (λ d. (view_of d.flusher.seat).standing) same
 Later-standing g h a b (inr ran) = ran.same.flusher.workers
+
+-- it is the same daemon, whose counts of faults never fall
+pub Later-same : {D : Type 0} {K : Type 0} (g : Ghosts D) (h : SinkGhosts K) (a b : Daemon D K) → Later g h a b → IsSameDaemon g h a b
+Later-same g h a b (inl same) = subst (IsSameDaemon g h a) (sym same) (record {
+  flusher = record {
+    table = refl;
+    seat = record { table_is = refl; slots = refl; constants = refl; entries = refl; books = refl };
+    workers = refl;
+    disk = refl;
+    honest = (λ honest. honest, λ honest. honest);
+    later = omega arith;
+  };
+  sink = refl;
+  voice = refl;
+  disk_faults = omega arith;
+  sink_faults = omega arith;
+})
+Later-same g h a b (inr ran) = ran.same
+
+-- what befell it since nothing had, has its reason
+pub Later-reason : {D : Type 0} {K : Type 0} (g : Ghosts D) (h : SinkGhosts K) (a b : Daemon D K) → Later g h a b → a.fault ≡ None
+    → HasReason g h a b b.fault
+Later-reason g h a b (inl same) was_fine =
+    subst (λ d. HasReason g h a d d.fault) (sym same) (subst (HasReason g h a a) (sym was_fine) refl)
+Later-reason g h a b (inr ran) _ = ran.reason

@@ -3,4 +3,3 @@ pub mod Later
 pub mod Stopping
 pub mod Telling
 pub mod Turning
-pub mod Transfers

@@ -1,35 +1,35 @@
 //! A transfer that a worker inserts and a daemon reports, with faults of the disk and of the sink.
-ghost use Rattle.std.specs.Prelude.{◌≡◌, ◌≤◌, ◌<◌, [], ◌∷◌, length, true, IfOk, IfSome, OnOk, Contains};
+ghost use Rattle.std.specs.Prelude.{◌≡◌, [], length, true, IfOk, IfSome, OnOk, Contains};
 ghost use Rattle.log_disk.specs.Disk.{IsSettled};
 ghost use Rattle.log_disk.specs.MemoryDisks.{ImagesOf};
 ghost use Rattle.log_table.specs.declared.view.Role.TheVariants.{Flusher as FlusherRole};
 ghost use Rattle.log_table.specs.Seats.{IsOf, view_of};
 ghost use Rattle.log_table.specs.Views.{knows_all_enrolled, sent_to};
-ghost use Rattle.log_table.specs.Books.{taking, placing};
-ghost use Rattle.log_table.specs.May.{HasBegunNothing};
 ghost use Rattle.ring_buffer.specs.Calls.{IsReady};
 ghost use Rattle.ring_buffer.specs.NotedJobs.{IsFreeFor};
-ghost use Rattle.early_locks.specs.Transfers.{MayPut};
-ghost use Rattle.commit_pipeline.specs.Transfers.{transfer_job, transfer_of, held_as_taken};
 ghost use Rattle.commit_pipeline.specs.Turning.{MayTurn};
 
 use crate::{Daemon, DaemonFault, Turn, Voice};
+use early_locks::{Transfer, commit_transfer, give_back};
 use flusher::{Drained, Flusher};
 use log_disk::{LogDisk, MemoryDisk, MemorySink, OpenGate};
-use early_locks::{Taken, give, try_take};
-use log_record::{Rec, spell};
 use log_table::{LogTable, Seat, Start};
 use lsn_space::{Balances, Lsn, NoMemory};
-use ring_buffer::insert_alone;
 use segment_file::{Batch, create};
 use std::alloc::Global;
 use std::process::Abort;
 use std::sync::Wait;
 use std::test::Fail;
-use txn_script::{Job, Legs};
 
 /// Two accounts of balances 100 and 0.
 const ACCOUNTS: [u64; 4] = [0x0102_0000_0000_0000, 100, 0x0102_0001_0000_0000, 0];
+
+/// 30 from account 0 to account 1.
+const THIRTY: Transfer = Transfer {
+    payer: 0,
+    payee: 1,
+    amount: 30,
+};
 
 /// The log of the two accounts, and the transfer behind it.
 const ONE_TRANSFER_LOG: [u8; 90] = [
@@ -113,62 +113,7 @@ fn accounts(alloc: Global) -> Result<Batch, NoMemory>
     Ok(batch)
 }
 
-/// The transfer of 30 from account 0 to account 1.
-fn transfer_job() -> Job
-    ensures { result ≡ transfer_job }
-{
-    let mut legs = Legs::new();
-    legs.push((0, 1, 30));
-    Job { legs, note: None }
-}
-
-/// Takes the account, and waits for a worker that holds it.
-fn take<R: Wait>(rt: &R, table: &LogTable, seat: &mut Seat, account: u32) -> Taken
-    requires seat { IsOf table.now seat.old }
-    requires account { account < table.now.accounts }
-    requires ready { IsReady (view_of seat.old) }
-    requires begins { HasBegunNothing (view_of seat.old) }
-    ensures seat { IsOf table.now seat.new }
-    ensures ready { IsReady (view_of seat.new) }
-    ensures standing { (view_of seat.new).standing ≡ (view_of seat.old).standing }
-    ensures account { result.account ≡ account }
-    ensures books { (view_of seat.new).books ≡ taking (held_as_taken account result) (view_of seat.old).books }
-{
-    for _ in rt.forever() {
-        match try_take(table, seat, account) {
-            Ok(taken) => return taken,
-            Err(_) => {}
-        }
-    }
-    unreachable!()
-}
-
-/// Inserts the record, and waits for room; answers where it starts and ends.
-fn put<R: Wait + Abort>(rt: &R, table: &LogTable, seat: &mut Seat, rec: &Rec) -> (Lsn, Lsn)
-    requires seat { IsOf table.now seat.old }
-    requires ready { IsReady (view_of seat.old) }
-    requires next { MayPut rec.now (view_of seat.old).books }
-    ensures seat { IsOf table.now seat.new }
-    ensures ready { IsReady (view_of seat.new) }
-    ensures standing { (view_of seat.new).standing ≡ (view_of seat.old).standing }
-    ensures books { (view_of seat.new).books ≡ placing result.1 rec.now (view_of seat.old).books }
-{
-    let units = spell(rec);
-    for _ in rt.forever() {
-        match insert_alone(rt, table, seat, &units, &OpenGate) {
-            Ok(at) => {
-                let Some(end) = at.plus(units.as_slice().len() as u32) else {
-                    panic!(rt; "no record ends behind the last LSN");
-                };
-                return (at, end);
-            }
-            Err(_) => {}
-        }
-    }
-    unreachable!()
-}
-
-/// Makes the transfer under this number, and answers where its three records start.
+/// Moves 30 from account 0 to account 1 under this number, and answers where its three records start.
 fn transfer<R: Wait + Abort>(rt: &R, table: &LogTable, seat: &mut Seat, number: u32) -> [Lsn; 3]
     requires seat { IsOf table.now seat.old }
     requires accounts { table.now.accounts ≡ 2 }
@@ -176,36 +121,14 @@ fn transfer<R: Wait + Abort>(rt: &R, table: &LogTable, seat: &mut Seat, number: 
     requires free { IsFreeFor number (view_of seat.old) }
     ensures seat { IsOf table.now seat.new }
     ensures ready { IsReady (view_of seat.new) }
-    ensures standing { (view_of seat.new).standing ≡ (view_of seat.old).standing }
     ensures none_held { (view_of seat.new).books.held ≡ [] }
-    ensures jobs { (view_of seat.new).books.jobs ≡ transfer_of number ∷ (view_of seat.old).books.jobs }
 {
-    table.take_job(seat, number, &transfer_job());
-    let payer = take(rt, table, seat, 0);
-    let payee = take(rt, table, seat, 1);
-    if payer.balance < 30 || payer.balance > 2_147_483_647 || payee.balance > 2_147_483_617 {
+    let Some(committed) = commit_transfer(rt, table, seat, number, THIRTY, &OpenGate) else {
         panic!(rt; "the balances do not allow the transfer");
-    }
-    let (less, more) = (payer.balance - 30, payee.balance + 30);
-    let (txn, prev, prev_too) = (number, Lsn::new(payer.mark), Lsn::new(payee.mark));
-    let loss = Rec::Update {
-        txn,
-        account: 0,
-        delta: -30,
-        prev,
     };
-    let gain = Rec::Update {
-        txn,
-        account: 1,
-        delta: 30,
-        prev: prev_too,
-    };
-    let first = put(rt, table, seat, &loss);
-    let second = put(rt, table, seat, &gain);
-    let third = put(rt, table, seat, &Rec::Commit { txn, legs: 1 });
-    give(table, seat, payer, less, third.1.units());
-    give(table, seat, payee, more, third.1.units());
-    [first.0, second.0, third.0]
+    let placed = committed.placed();
+    give_back(table, seat, committed);
+    [placed.loss, placed.gain, placed.commit]
 }
 
 /// A daemon over an empty disk, on which the log of the two accounts is made.

@@ -1,5 +1,6 @@
 -- A transfer, record by record, and its accounts given back.
-use Rattle.std.proofs.Common.{◌≡◌, ◌≢◌, ℕ, ◌+◌, ◌-◌, ◌<◌, ◌≤◌, cond, nat_lt, ℤ, pos, neg_ℤ, false, Option, Some, None, IfSome, List, [], ◌∷◌, length, inr, refl, sym, ap, ◌∙◌, subst, arith, le-ltb, eq-eqb, ne_eqb}
+use Rattle.std.proofs.Common.{◌≡◌, ◌≢◌, ℕ, ◌+◌, ◌-◌, ◌<◌, ◌≤◌, cond, nat_lt, ℤ, pos, neg_ℤ, false, Option, Some, None, IfSome, List, [], ◌∷◌, ◌++◌, length, inr, refl, sym, ap, ◌∙◌, subst, arith, le-ltb, eq-eqb, ne_eqb}
+use Rattle.std.proofs.lemmas.List.{append_assoc}
 use Rattle.std.specs.List.{AllByRecursion}
 use Rattle.log_record.specs.declared.rec.Rec.{Rec}
 use Rattle.log_record.specs.declared.rec.Rec.TheVariants.{Update, Commit, Short, Over}
@@ -19,11 +20,14 @@ use Rattle.log_table.specs.Books.{times_held, balance_taken, mark_taken, plan_of
 use Rattle.log_table.proofs.Bookings.{times_held-without_other, balance_taken-without_other, mark_taken-without_other, length-without}
 use Rattle.log_table.proofs.Deltas.{more-delta, less-delta, gain-less, loss-less}
 use Rattle.log_table.proofs.Nexting.{next-is, may-enter}
-use Rattle.ring_buffer.specs.Calls.{MayPlace}
+use Rattle.log_table.specs.declared.table.Seat.{Seat}
+use Rattle.log_table.specs.Seats.{view_of}
+use Rattle.ring_buffer.specs.Calls.{MayPlace, IsSameWorker, HasEntries, entry_of}
+use Rattle.early_locks.specs.declared.one_transfer.Run.{Run}
 use Rattle.early_locks.specs.declared.one_transfer.Transfer.{Transfer}
 use Rattle.early_locks.specs.declared.taking.Taken.{Taken}
 use Rattle.early_locks.specs.Locks.{HoldsTaken, GivesBack}
-use Rattle.early_locks.specs.Transfers.{leg_of, job_of, taken_job, loss_of, gain_of, MayPut, IsMoving, HasMoved}
+use Rattle.early_locks.specs.Transfers.{leg_of, job_of, taken_job, loss_of, gain_of, MayPut, HasPut, IsMoving}
 
 pub puts-next : (rec : Rec) (books : Books) → MayPut rec books → next_of books ≡ rec
 puts-next rec books may = next-is rec books may.next
@@ -91,9 +95,13 @@ module _ (number : ℕ) (transfer : Transfer) (payer payee : Taken) (enough : tr
         overfills-none = ap (λ b. nat_lt MOST_BALANCE (b + transfer.amount)) payee-balance ∙ le-ltb MOST_BALANCE (payee.balance + transfer.amount) fits
 
     holds-accounts : HoldsAccounts books
-    holds-accounts = subst (λ (taken : TakenJob). AllByRecursion (HoldsLeg books.held) taken.job.legs) (sym moving.last)
-        ((subst (λ a. 1 ≤ times_held a books.held) moving.payer_is moving.payer_held.has,
-        subst (λ a. 1 ≤ times_held a books.held) moving.payee_is moving.payee_held.has), tt)
+    holds-accounts = subst (λ (taken : TakenJob). AllByRecursion (HoldsLeg books.held) taken.job.legs) (sym moving.last) (
+      (
+        subst (λ a. 1 ≤ times_held a books.held) moving.payer_is moving.payer_held.has,
+        subst (λ a. 1 ≤ times_held a books.held) moving.payee_is moving.payee_held.has,
+      ),
+      tt,
+    )
 
     pub puts : (rec : Rec) (rest : List Rec) → IsTxn number → in_order (recs_of placed) (rec ∷ rest) ≡ less ∷ more ∷ commit ∷ [] → IsSpellable rec → MayPut rec books
     puts rec rest txn next spellable = record {
@@ -125,19 +133,45 @@ module _ (number accounts : ℕ) (transfer : Transfer) (txn : IsTxn number) (all
   pub gain-spellable : (payee : Taken) → payee.mark ≤ LAST → IsSpellable (gain_of number transfer payee)
   gain-spellable payee low = (txn, (let below = allowed.payee in omega arith), more-delta transfer.amount allowed.some allowed.most, low)
 
--- the Commit has its place, where the answer says so
-pub moved-at : (number : ℕ) (transfer : Transfer) (payer payee : Taken) (books new : Books) (loss_end gain_end : ℕ) (answer : Option ℕ)
-    → IsMoving number transfer payer payee (record { end = gain_end; rec = gain_of number transfer payee } ∷ record { end = loss_end; rec = loss_of number transfer payer } ∷ []) books
-    → IfSome answer (λ end. new ≡ placing end (Commit number 1) books) → IfSome answer (HasMoved number transfer payer payee new)
-moved-at number transfer payer payee books new loss_end gain_end None moving is = tt
-moved-at number transfer payer payee books new loss_end gain_end (Some end) moving is = record {
-  loss_end = loss_end;
-  gain_end = gain_end;
-  moving = moving-placed number transfer payer payee _ books new (Commit number 1) end moving is;
+same-trans : (old middle new : Seat) → IsSameWorker old middle → IsSameWorker middle new → IsSameWorker old new
+same-trans old middle new first second = record {
+  table_is = second.table_is ∙ first.table_is;
+  number = second.number ∙ first.number;
+  slots = second.slots ∙ first.slots;
+  worker = second.worker ∙ first.worker;
+  constants = second.constants ∙ first.constants;
+  standing = second.standing ∙ first.standing;
+  contended = second.contended ∙ first.contended;
+  grows = let one = first.grows in let two = second.grows in omega arith;
+  durable = let one = first.durable in let two = second.durable in omega arith;
+  steps = let one = first.steps in let two = second.steps in omega arith;
 }
 
--- where a record of which the place is known ends
-pub placed-at : (old new : Books) (rec next : Rec) (end : ℕ) (answer : Option ℕ) {sum : ℕ} → next ≡ rec → new ≡ placing end next old → sum ≡ end
-    → IfSome answer (λ at. at ≡ sum) → IfSome answer (λ at. new ≡ placing at rec old)
-placed-at old new rec next end None same books is found = tt
-placed-at old new rec next end (Some at) {sum} same books is found = books ∙ (λ i. placing (sym (found ∙ is) i) (same i) old)
+-- what was inserted behind attempts that left the seat as it was
+pub put-is : (rec : Rec) (old middle new : Seat) (run : Run) (n : ℕ) → HasEntries old middle (view_of old).entries (view_of old).books
+    → next_of (view_of middle).books ≡ rec → run.end ≡ run.start + length (spelling rec)
+    → HasEntries middle new ((view_of middle).entries ++ entry_of run.start (next_of (view_of middle).books) ∷ [])
+    (placing (run.start + n) (next_of (view_of middle).books) (view_of middle).books)
+    → run.start + n ≡ run.end → HasPut rec old new run
+put-is rec old middle new run n before next end inserted size = record {
+  end = end;
+  entries = record {
+    same = same-trans old middle new before.same inserted.same;
+    idle = inserted.idle;
+    entries_are = inserted.entries_are ∙ (λ i. before.entries_are i ++ entry_of run.start (next i) ∷ []);
+    books_are = inserted.books_are ∙ (λ i. placing (size i) (next i) (before.books_are i));
+  };
+}
+
+-- a record of the transfer is inserted
+pub put-moves : (number : ℕ) (transfer : Transfer) (payer payee : Taken) (placed : List Entry) (rec is : Rec) (old new : Seat) (run : Run) → is ≡ rec
+    → HasPut is old new run → IsMoving number transfer payer payee placed (view_of old).books
+    → IsMoving number transfer payer payee (record { end = run.end; rec = rec } ∷ placed) (view_of new).books
+put-moves number transfer payer payee placed rec is old new run same put moving = moving-placed number transfer payer payee placed _ _ rec run.end moving
+    (put.entries.books_are ∙ ap (λ r. placing run.end r (view_of old).books) same)
+
+pub three-behind : {A : Type 0} (before one two three : List A) (a b c : A) → one ≡ before ++ a ∷ [] → two ≡ one ++ b ∷ [] → three ≡ two ++ c ∷ []
+    → three ≡ before ++ a ∷ b ∷ c ∷ []
+three-behind before one two three a b c first second third =
+    third ∙ (ap (λ l. l ++ c ∷ []) (second ∙ ap (λ l. l ++ b ∷ []) first)
+    ∙ (append_assoc (before ++ a ∷ []) (b ∷ []) (c ∷ []) ∙ append_assoc before (a ∷ []) (b ∷ c ∷ [])))

@@ -1,2 +1,3 @@
 pub mod Locks
+pub mod Settled
 pub mod Transfers

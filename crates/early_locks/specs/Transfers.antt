@@ -1,9 +1,9 @@
 -- A transfer of one leg, and what a seat knows of it while it is made.
-use Rattle.std.specs.Prelude.{◌≡◌, ◌≢◌, ℕ, ◌<◌, ◌≤◌, pos, neg_ℤ, true, false, None, List, [], ◌∷◌, length}
+use Rattle.std.specs.Prelude.{◌≡◌, ◌≢◌, ℕ, ◌<◌, ◌≤◌, pos, neg_ℤ, true, false, None, List, [], ◌∷◌, ◌++◌, length, ◌+◌}
 use Rattle.log_record.specs.declared.rec.Rec.{Rec}
 use Rattle.log_record.specs.declared.rec.Rec.TheVariants.{Update, Commit}
 use Rattle.log_record.specs.declared.rec.Entry.{Entry}
-use Rattle.log_record.specs.Spelling.{IsSpellable}
+use Rattle.log_record.specs.Spelling.{IsSpellable, spelling}
 use Rattle.lock_core.specs.declared.limits.TheConstants.{MOST_BALANCE}
 use Rattle.lock_core.specs.History.{end_from}
 use Rattle.lock_core.specs.Transactions.{recs_of, has_commit, has_end}
@@ -11,10 +11,17 @@ use Rattle.txn_script.specs.declared.job.Job.{Job}
 use Rattle.log_table.specs.declared.view.TakenJob.{TakenJob}
 use Rattle.log_table.specs.declared.view.Held.{Held}
 use Rattle.log_table.specs.declared.view.Books.{Books}
-use Rattle.log_table.specs.Books.{IsNext, HoldsAccounts}
+use Rattle.log_table.specs.declared.view.Entry.{Entry as TableEntry}
+use Rattle.log_table.specs.declared.view.View.{View}
+use Rattle.log_table.specs.declared.table.Seat.{Seat}
+use Rattle.log_table.specs.Books.{IsNext, HoldsAccounts, placing}
+use Rattle.log_table.specs.Seats.{view_of}
+use Rattle.ring_buffer.specs.Calls.{HasEntries, entry_of}
 use Rattle.early_locks.specs.Locks.{HoldsTaken, GivesBack}
 use Rattle.early_locks.specs.declared.one_transfer.Transfer.{Transfer}
 use Rattle.early_locks.specs.declared.one_transfer.Committed.{Committed}
+use Rattle.early_locks.specs.declared.one_transfer.Placed.{Placed}
+use Rattle.early_locks.specs.declared.one_transfer.Run.{Run}
 use Rattle.early_locks.specs.declared.taking.Taken.{Taken}
 
 abbrev pub leg_of : Transfer → ℕ × ℕ × ℕ
@@ -56,12 +63,24 @@ loss_of number transfer payer = Update number transfer.payer (neg_ℤ (pos trans
 abbrev pub gain_of : ℕ → Transfer → Taken → Rec
 gain_of number transfer payee = Update number transfer.payee (pos transfer.amount) payee.mark
 
--- the three records are placed, and the Commit ends here
-pub record HasMoved (number : ℕ) (transfer : Transfer) (payer payee : Taken) (books : Books) (end : ℕ) : Type 0 where
+-- the record is inserted behind the seat's others, and starts and ends here
+pub record HasPut (rec : Rec) (old new : Seat) (run : Run) : Type 0 where
+  pub end : run.end ≡ run.start + length (spelling rec)
+  pub entries : HasEntries old new ((view_of old).entries ++ entry_of run.start rec ∷ []) (placing run.end rec (view_of old).books)
+
+-- the transfer's records, where they start
+abbrev pub entries_of : ℕ → Transfer → Taken → Taken → Placed → List TableEntry
+entries_of number transfer payer payee placed = entry_of placed.loss (loss_of number transfer payer)
+    ∷ entry_of placed.gain (gain_of number transfer payee) ∷ entry_of placed.commit (Commit number 1) ∷ []
+
+-- the three records are inserted behind those entries, here
+pub record HasMoved (number : ℕ) (transfer : Transfer) (payer payee : Taken) (entries : List TableEntry) (view : View) (placed : Placed) : Type 0 where
   pub loss_end : ℕ
   pub gain_end : ℕ
-  pub moving : IsMoving number transfer payer payee (record { end = end; rec = Commit number 1 }
-      ∷ record { end = gain_end; rec = gain_of number transfer payee } ∷ record { end = loss_end; rec = loss_of number transfer payer } ∷ []) books
+  pub moving : IsMoving number transfer payer payee (record { end = placed.end; rec = Commit number 1 }
+      ∷ record { end = gain_end; rec = gain_of number transfer payee } ∷ record { end = loss_end; rec = loss_of number transfer payer } ∷ []) view.books
+  pub end : placed.end ≡ placed.commit + length (spelling (Commit number 1))
+  pub entries_are : view.entries ≡ entries ++ entries_of number transfer payer payee placed
 
 -- the Commit is not placed
 pub record HasStopped (number : ℕ) (transfer : Transfer) (payer payee : Taken) (books : Books) : Type 0 where
@@ -79,7 +98,7 @@ pub record HasCommitted (accounts : ℕ) (books : Books) (committed : Committed)
   pub only : length books.held ≡ 2
   pub payer_fits : committed.payer_balance ≤ MOST_BALANCE
   pub payee_fits : committed.payee_balance ≤ MOST_BALANCE
-  pub payer_gives : GivesBack committed.payer committed.payer_balance committed.end books
-  pub payee_gives : GivesBack committed.payee committed.payee_balance committed.end books
+  pub payer_gives : GivesBack committed.payer committed.payer_balance committed.placed.end books
+  pub payee_gives : GivesBack committed.payee committed.payee_balance committed.placed.end books
   pub ended : has_end (recs_of books.placed) ≡ true
-  pub end : end_from 0 books.placed ≡ committed.end
+  pub end : end_from 0 books.placed ≡ committed.placed.end

@@ -1,16 +1,16 @@
 //! One transfer made by hand, from its job to its accounts given back: the calls of a worker in the
 //! order that early lock release asks for, and how giving back at durable differs from it.
-ghost use Rattle.std.specs.Prelude.{◌≡◌, ◌≢◌, ◌<◌, ◌≤◌, ◌+◌, false, [], ◌∷◌, IfSome, IfNone, OnSome};
+ghost use Rattle.std.specs.Prelude.{◌≡◌, ◌≢◌, ◌<◌, ◌≤◌, ◌+◌, false, [], ◌∷◌, ◌++◌, IfSome, IfNone, OnSome};
 ghost use Rattle.log_record.specs.Spelling.{IsTxn};
 ghost use Rattle.lock_core.specs.declared.limits.TheConstants.{MOST_BALANCE};
 ghost use Rattle.lock_core.specs.Transactions.{recs_of, has_commit};
 ghost use Rattle.txn_script.specs.Script.{IsAllowedLeg};
-ghost use Rattle.log_table.specs.Books.{placing, taking, giving};
+ghost use Rattle.log_table.specs.Books.{taking, giving};
 ghost use Rattle.log_table.specs.May.{HasBegunNothing, MayTakeJob};
 ghost use Rattle.log_table.specs.Seats.{IsOf, view_of};
-ghost use Rattle.ring_buffer.specs.Calls.{IsReady, IsSameWorker};
+ghost use Rattle.ring_buffer.specs.Calls.{IsReady, IsSameWorker, HasEntries};
 ghost use Rattle.early_locks.specs.Locks.{HoldsTaken};
-ghost use Rattle.early_locks.specs.Transfers.{leg_of, job_of, taken_job, held_of, loss_of, gain_of, MayPut, IsMoving, HasMoved, HasStopped, HasCommitted};
+ghost use Rattle.early_locks.specs.Transfers.{leg_of, job_of, taken_job, held_of, loss_of, gain_of, entries_of, MayPut, HasPut, IsMoving, HasMoved, HasStopped, HasCommitted};
 
 use crate::giving::{give, give_durable};
 use crate::taking::{Taken, try_take};
@@ -69,6 +69,15 @@ impl Transfer {
     }
 }
 
+/// Where the Updates of payer and payee start, where the Commit does, and where that ends.
+#[derive(Clone, Copy, Debug)]
+pub struct Placed {
+    pub loss: Lsn,
+    pub gain: Lsn,
+    pub commit: Lsn,
+    pub end: Lsn,
+}
+
 /// A transfer whose commit has its place in the log, and whose accounts are still held.
 #[derive(Drop)]
 pub struct Committed {
@@ -76,15 +85,14 @@ pub struct Committed {
     payer_balance: u32,
     payee: Taken,
     payee_balance: u32,
-    end: Lsn,
+    placed: Placed,
 }
 
 impl Committed {
-    /// Where the commit ends: durable here, it can't be lost.
-    pub fn end(&self) -> Lsn
-        ensures { result ≡ self.now.end }
+    pub fn placed(&self) -> Placed
+        ensures { result ≡ self.now.placed }
     {
-        self.end
+        self.placed
     }
 }
 
@@ -106,11 +114,12 @@ pub fn commit_transfer<R: Wait, G: Gate>(
     ensures ready { IsReady (view_of seat.new) }
     ensures jobs { (view_of seat.new).books.jobs ≡ taken_job number transfer ∷ (view_of seat.old).books.jobs }
     ensures committed { IfSome result (HasCommitted table.now.accounts (view_of seat.new).books) }
+    ensures entries { IfSome result (λ committed. (view_of seat.new).entries ≡ (view_of seat.old).entries ++ entries_of number transfer committed.payer committed.payee committed.placed) }
     ensures none_held { IfNone result ((view_of seat.new).books.held ≡ []) }
 {
     table.take_job(seat, number, &transfer.job());
     let (payer, payee) = take_both(rt, table, seat, transfer);
-    let Some(end) = put_records(rt, table, seat, number, transfer, &payer, &payee, gate) else {
+    let Some(placed) = put_records(rt, table, seat, number, transfer, &payer, &payee, gate) else {
         give_unchanged(table, seat, payer);
         give_unchanged(table, seat, payee);
         return None;
@@ -120,7 +129,7 @@ pub fn commit_transfer<R: Wait, G: Gate>(
         payee_balance: payee.balance + transfer.amount,
         payer,
         payee,
-        end,
+        placed,
     })
 }
 
@@ -135,7 +144,7 @@ pub fn give_back(table: &LogTable, seat: &mut Seat, committed: Committed)
     ensures jobs { (view_of seat.new).books.jobs ≡ (view_of seat.old).books.jobs }
     ensures none_held { (view_of seat.new).books.held ≡ [] }
 {
-    let mark = committed.end.units();
+    let mark = committed.placed.end.units();
     give(table, seat, committed.payer, committed.payer_balance, mark);
     give(table, seat, committed.payee, committed.payee_balance, mark);
 }
@@ -150,8 +159,9 @@ pub fn give_back_durable<R: Wait>(rt: &R, table: &LogTable, seat: &mut Seat, com
     ensures jobs { (view_of seat.new).books.jobs ≡ (view_of seat.old).books.jobs }
     ensures none_held { (view_of seat.new).books.held ≡ [] }
 {
-    let mark = committed.end.units();
-    see_durable(rt, table, seat, committed.end);
+    let end = committed.placed.end;
+    let mark = end.units();
+    see_durable(rt, table, seat, end);
     give_durable(table, seat, committed.payer, committed.payer_balance, mark);
     give_durable(table, seat, committed.payee, committed.payee_balance, mark);
 }
@@ -162,11 +172,9 @@ fn take<R: Wait>(rt: &R, table: &LogTable, seat: &mut Seat, account: u32) -> Tak
     requires account { account < table.now.accounts }
     requires ready { IsReady (view_of seat.old) }
     requires begins { HasBegunNothing (view_of seat.old) }
-    ensures same { IsSameWorker seat.old seat.new }
-    ensures ready { IsReady (view_of seat.new) }
     ensures account { result.account ≡ account }
     ensures balance { result.balance ≤ MOST_BALANCE }
-    ensures books { (view_of seat.new).books ≡ taking (held_of result) (view_of seat.old).books }
+    ensures entries { HasEntries seat.old seat.new (view_of seat.old).entries (taking (held_of result) (view_of seat.old).books) }
     ensures holds { HoldsTaken result (view_of seat.new).books }
 {
     for _ in rt.forever() {
@@ -195,6 +203,7 @@ fn take_both<R: Wait>(
     ensures same { IsSameWorker seat.old seat.new }
     ensures ready { IsReady (view_of seat.new) }
     ensures jobs { (view_of seat.new).books.jobs ≡ (view_of seat.old).books.jobs }
+    ensures entries { (view_of seat.new).entries ≡ (view_of seat.old).entries }
     ensures payer { result.0.balance ≤ MOST_BALANCE }
     ensures payee { result.1.balance ≤ MOST_BALANCE }
     ensures moving { IsMoving (view_of seat.old).books.last.number transfer result.0 result.1 [] (view_of seat.new).books }
@@ -210,26 +219,34 @@ fn take_both<R: Wait>(
     }
 }
 
-/// Inserts the record, and waits for room; answers where it ends. None: the log has come to its end.
+/// Where a record starts and ends.
+#[derive(Clone, Copy)]
+struct Run {
+    start: Lsn,
+    end: Lsn,
+}
+
+/// Inserts the record, and waits for room. None: the log has come to its end.
 fn put<R: Wait, G: Gate>(
     rt: &R,
     table: &LogTable,
     seat: &mut Seat,
     rec: &Rec,
     gate: &G,
-) -> Option<Lsn>
+) -> Option<Run>
     requires seat { IsOf table.now seat.old }
     requires ready { IsReady (view_of seat.old) }
     requires next { MayPut rec.now (view_of seat.old).books }
-    ensures same { IsSameWorker seat.old seat.new }
-    ensures ready { IsReady (view_of seat.new) }
-    ensures placed { IfSome result (λ end. (view_of seat.new).books ≡ placing end rec.now (view_of seat.old).books) }
-    ensures none { IfNone result ((view_of seat.new).books ≡ (view_of seat.old).books) }
+    ensures put { IfSome result (HasPut rec.now seat.old seat.new) }
+    ensures none { IfNone result (HasEntries seat.old seat.new (view_of seat.old).entries (view_of seat.old).books) }
 {
     let units = spell(rec);
     for _ in rt.forever() {
         match insert_alone(rt, table, seat, &units, gate) {
-            Ok(at) => return at.plus(units.as_slice().len() as u32),
+            Ok(start) => {
+                let end = start.plus(units.as_slice().len() as u32)?;
+                return Some(Run { start, end });
+            }
             Err(Refused::LogEnd { .. }) => return None,
             Err(Refused::RingFull { .. }) => yield_now(),
         }
@@ -237,8 +254,8 @@ fn put<R: Wait, G: Gate>(
     unreachable!()
 }
 
-/// Inserts the transfer's three records; answers where the Commit ends. None: the balances do not allow
-/// the transfer, or the log has come to its end before the Commit.
+/// Inserts the transfer's three records. None: the balances do not allow the transfer, or the log has
+/// come to its end before the Commit.
 fn put_records<R: Wait, G: Gate>(
     rt: &R,
     table: &LogTable,
@@ -248,7 +265,7 @@ fn put_records<R: Wait, G: Gate>(
     payer: &Taken,
     payee: &Taken,
     gate: &G,
-) -> Option<Lsn>
+) -> Option<Placed>
     requires seat { IsOf table.now seat.old }
     requires ready { IsReady (view_of seat.old) }
     requires number { IsTxn number }
@@ -260,16 +277,26 @@ fn put_records<R: Wait, G: Gate>(
     ensures jobs { (view_of seat.new).books.jobs ≡ (view_of seat.old).books.jobs }
     ensures enough { OnSome result (transfer.amount ≤ payer.now.balance) }
     ensures fits { OnSome result (payee.now.balance + transfer.amount ≤ MOST_BALANCE) }
-    ensures moved { IfSome result (HasMoved number transfer payer.now payee.now (view_of seat.new).books) }
+    ensures moved { IfSome result (HasMoved number transfer payer.now payee.now (view_of seat.old).entries (view_of seat.new)) }
     ensures stopped { IfNone result (HasStopped number transfer payer.now payee.now (view_of seat.new).books) }
 {
     let amount = transfer.amount;
     if payer.balance < amount || payee.balance + amount > MOST_BALANCE {
         return None;
     }
-    put(rt, table, seat, &transfer.loss(number, payer), gate)?;
-    put(rt, table, seat, &transfer.gain(number, payee), gate)?;
-    put(rt, table, seat, &Rec::Commit { txn: number, legs: 1 }, gate)
+    let commit = Rec::Commit {
+        txn: number,
+        legs: 1,
+    };
+    let loss = put(rt, table, seat, &transfer.loss(number, payer), gate)?;
+    let gain = put(rt, table, seat, &transfer.gain(number, payee), gate)?;
+    let last = put(rt, table, seat, &commit, gate)?;
+    Some(Placed {
+        loss: loss.start,
+        gain: gain.start,
+        commit: last.start,
+        end: last.end,
+    })
 }
 
 /// Gives the account back as it was taken.

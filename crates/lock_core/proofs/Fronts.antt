@@ -1,5 +1,5 @@
 -- Fronts of lawful lists are lawful.
-use Rattle.std.proofs.Common.{◌≡◌, ℕ, List, [], ◌∷◌, ◌++◌, refl, ◌∙◌, sym, subst, append_assoc}
+use Rattle.std.proofs.Common.{◌≡◌, ℕ, List, [], ◌∷◌, ◌++◌, refl, ap, ◌∙◌, sym, subst, append_assoc}
 use Rattle.log_record.specs.declared.rec.Rec.{Rec}
 use Rattle.log_record.specs.declared.rec.Entry.{Entry}
 use Rattle.lock_core.specs.History.{end_from, entry_at, history_from, history}
@@ -31,3 +31,19 @@ pub lawful-records : (front later : List Rec) → IsLawful (history (front ++ la
 lawful-records front later lawful =
     let rest = history_from-onto 0 (history front) later in
     lawful-front rest.0 (history front) (subst IsLawful (history_from-append 0 [] front later ∙ rest.1) lawful)
+
+-- a history goes on as one of its own does that starts where it ends
+pub history_from-apart : (start : ℕ) (h : List Entry) (records : List Rec) → history_from start h records ≡ history_from (end_from start h) [] records ++ h
+history_from-apart start h records = onto [] records
+  where
+    -- behind some entries more
+    onto : (more : List Entry) (records : List Rec)
+        → history_from start (more ++ h) records ≡ history_from (end_from start h) more records ++ h
+    onto more [] = refl
+    onto more (rec ∷ records) =
+        ap (λ end. history_from start (entry_at end rec ∷ more ++ h) records) (ends more)
+        ∙ onto (entry_at (end_from (end_from start h) more) rec ∷ more) records
+      where
+        ends : (more : List Entry) → end_from start (more ++ h) ≡ end_from (end_from start h) more
+        ends [] = refl
+        ends (entry ∷ more) = refl

@@ -9,6 +9,7 @@ pub mod KindLemmas
 pub mod LastCommits
 pub mod ListLemmas
 pub mod Meeting
+pub mod NextRecords
 pub mod OneMore
 pub mod OwnLemmas
 pub mod Pairing
@@ -16,6 +17,8 @@ pub mod Plainly
 pub mod Ranging
 pub mod Running
 pub mod SerialFronts
+pub mod SerialTasks
 pub mod SettlingLemmas
+pub mod SoundLemmas
 pub mod TakingLemmas
 pub mod Witnessing

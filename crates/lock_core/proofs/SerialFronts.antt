@@ -89,7 +89,7 @@ ends-without_prev (Short txn leg) = refl
 ends-without_prev (Over txn leg) = refl
 ends-without_prev (Note txn text) = refl
 
-has_end-without_prev : (records : List Rec) → has_end (all_without_prev records) ≡ has_end records
+pub has_end-without_prev : (records : List Rec) → has_end (all_without_prev records) ≡ has_end records
 has_end-without_prev [] = refl
 has_end-without_prev (rec ∷ records) = λ i. ends-without_prev rec i || has_end-without_prev records i
 

@@ -9,6 +9,7 @@ pub mod Plain
 pub mod Records
 pub mod Serial
 pub mod Settling
+pub mod Soundness
 pub mod Sums
 pub mod Taking
 pub mod Tests

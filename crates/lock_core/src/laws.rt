@@ -1,18 +1,20 @@
-ghost use Rattle.std.specs.Prelude.{◌≡◌, ◌++◌, [], ◌∷◌, ◌↔◌, ◌<◌, ◌≤◌, ◌+◌, ◌==◌, ◌||◌, true, false, ℕ, ℤ, List, if◌then◌else◌};
+ghost use Rattle.std.specs.Prelude.{◌≡◌, ◌≢◌, ◌++◌, [], ◌∷◌, ◌↔◌, ◌⊎◌, ◌<◌, ◌≤◌, ◌+◌, ◌==◌, ◌||◌, true, false, ℕ, ℤ, List, if◌then◌else◌, Contains};
 ghost use Rattle.std.specs.List.{AllByRecursion};
 ghost use Rattle.log_record.specs.declared.rec.Rec.{Rec};
 ghost use Rattle.log_record.specs.declared.rec.Entry.{Entry};
+ghost use Rattle.log_record.specs.LogList.{size_of};
 ghost use Rattle.log_record.specs.Spelling.{IsSpellable, IsBalance};
 ghost use Rattle.lock_core.specs.declared.update.Change.{Change};
 ghost use Rattle.lock_core.specs.History.{history};
-ghost use Rattle.lock_core.specs.Records.{txn_of, commits};
-ghost use Rattle.lock_core.specs.Transactions.{records_of, updates_of, has_end, is_committed, touches, all_without_prev, ShareNoTransaction};
+ghost use Rattle.lock_core.specs.Records.{txn_of, commits, without_prev};
+ghost use Rattle.lock_core.specs.Transactions.{records_of, updates_of, has_end, is_committed, touches, all_without_prev, in_order, ShareNoTransaction};
 ghost use Rattle.lock_core.specs.Sums.{BaseState, base_after, moved, total, IsBalanceOf, balance_of, AreInRange, last_commit_of, IsLastCommit, sum_below, greatest_txn};
 ghost use Rattle.lock_core.specs.Tests.{IsPaired};
 ghost use Rattle.lock_core.specs.Lawful.{IsLawful, IsLawfulAfter, genesis_of, base_state_of};
 ghost use Rattle.lock_core.specs.Plain.{plain_last_commit, IsPlainlyPaired};
-ghost use Rattle.lock_core.specs.Alone.{Job, IsAllowed, outcome_alone, outcome_records, planned_records};
+ghost use Rattle.lock_core.specs.Alone.{Job, Outcome, IsAllowed, outcome_alone, outcome_records, planned_records};
 ghost use Rattle.lock_core.specs.Serial.{Task, numbered, IsSerialAfter, IsPartlySerialAfter};
+ghost use Rattle.lock_core.specs.Soundness.{IsSoundAfter};
 ghost use Rattle.lock_core.specs.Witness.{genesis_log, transfer, transfer_history};
 
 /// A law: a front of a lawful list is lawful.
@@ -130,6 +132,38 @@ pub fn own_accounts_alone()
 pub fn planned_records_are()
     ensures { (txn : ℕ) (job : Job) (last_commit balance : ℕ → ℕ)
         → all_without_prev (planned_records txn job last_commit balance) ≡ outcome_records txn job (outcome_alone job balance) }
+{}
+
+/// A law: what is lawful after a lawful list of records keeps the list sound, where the two share no transaction.
+pub fn sound_after()
+    ensures { (before later : List Entry) → IsLawful before → 0 < (genesis_of before).accounts
+        → AllByRecursion (λ entry. IsSpellable entry.rec) (later ++ before) → IsLawfulAfter (base_state_of before) later
+        → ShareNoTransaction later before → IsSoundAfter before (later ++ before) }
+{}
+
+/// A law: an account that a lawful list doesn't have has a balance of 0, and no Commit.
+pub fn no_more_accounts()
+    ensures { (h : List Entry) (account : ℕ) → IsLawful h → (genesis_of h).accounts ≤ account
+        → ((base_state_of h).balance account ≡ 0) × ((base_state_of h).last_commit account ≡ 0) }
+{}
+
+/// A law: a history that is partly serial for some transfers is so for more, of which it has no record.
+pub fn partly_serial_for_more()
+    ensures { (base : BaseState) (some all : List Task) (h : List Entry) → AllByRecursion (Contains all) some
+        → AllByRecursion (λ task. Contains some task ⊎ AllByRecursion (λ other. other.number ≢ task.number) some) all
+        → IsPartlySerialAfter base some h → IsPartlySerialAfter base all h }
+{}
+
+/// A law: a transfer of which records are to come has no end record; and what is to come by its records leg by leg is to come
+/// by those of its outcome, in as many units.
+pub fn records_to_come()
+    ensures unended { (txn : ℕ) (job : Job) (outcome : Outcome) (records rest : List Rec) (next : Rec)
+        → in_order (all_without_prev records) (next ∷ rest) ≡ outcome_records txn job outcome → has_end records ≡ false }
+    ensures planned { (txn : ℕ) (job : Job) (last_commit balance : ℕ → ℕ) (records rest : List Rec) (next : Rec)
+        → in_order records (next ∷ rest) ≡ planned_records txn job last_commit balance
+        → in_order (all_without_prev records) (without_prev next ∷ all_without_prev rest)
+        ≡ outcome_records txn job (outcome_alone job balance) }
+    ensures size { (rec : Rec) → size_of (without_prev rec) ≡ size_of rec }
 {}
 
 /// A law: a front of a partly serial history is partly serial. A serial history is one in which each transfer has its end

@@ -107,10 +107,10 @@ module _ (units rest : List ℕ) (old mid : Option (List ℕ)) (before : DumpsFr
 
     whole-text : dump_text (before.done ++ before.more)
         ≡ (record_lines 0 before.done ++ record_line start rec)
-            ++ (record_lines (0 + end_of (before.done ++ rec ∷ [])) parts.1 ++ lsn_line (end_of (before.done ++ before.more)))
+        ++ (record_lines (0 + end_of (before.done ++ rec ∷ [])) parts.1 ++ lsn_line (end_of (before.done ++ before.more)))
     whole-text =
         let all : before.done ++ before.more ≡ (before.done ++ rec ∷ []) ++ parts.1 =
-            ap (λ l. before.done ++ l) more-is ∙ sym (append_assoc before.done (rec ∷ []) parts.1) in
+        ap (λ l. before.done ++ l) more-is ∙ sym (append_assoc before.done (rec ∷ []) parts.1) in
         ap (λ l. l ++ lsn_line (end_of (before.done ++ before.more)))
         (ap (record_lines 0) all ∙ record_lines-append 0 (before.done ++ rec ∷ []) parts.1
         ∙ ap (λ l. l ++ record_lines (0 + end_of (before.done ++ rec ∷ [])) parts.1) lines-more)
@@ -140,6 +140,6 @@ module _ (units rest : List ℕ) (old mid : Option (List ℕ)) (before : DumpsFr
     pub dumps-end_cut : (new : Option (List ℕ)) (lsn : ℕ) → lsn ≡ end_of records → AppendsPrefix mid new (lsn_line lsn) → AppendsPrefix old new (dump_text records)
     dumps-end_cut new lsn end cut =
         let text : dump_text records ≡ (record_lines 0 before.done ++ lsn_line lsn) ++ [] =
-            ap (λ l. record_lines 0 l ++ lsn_line (end_of records)) (sym done-is) ∙ ap (λ n. record_lines 0 before.done ++ lsn_line n) (sym end)
-            ∙ sym (append-nil (record_lines 0 before.done ++ lsn_line lsn)) in
+        ap (λ l. record_lines 0 l ++ lsn_line (end_of records)) (sym done-is) ∙ ap (λ n. record_lines 0 before.done ++ lsn_line n) (sym end)
+        ∙ sym (append-nil (record_lines 0 before.done ++ lsn_line lsn)) in
         AppendsPrefix-behind old mid new _ _ (lsn_line lsn) [] before.written cut text

@@ -1,15 +1,14 @@
 -- How a list is read from units, record by record.
-use Rattle.std.proofs.Common.{◌≡◌, ◌<◌, ℕ, ◌+◌, List, [], ◌∷◌, ◌++◌, length, drop, reverse, refl, ap, ◌∙◌, sym, subst, arith, length-append, append_assoc}
+use Rattle.std.proofs.Common.{◌≡◌, ◌<◌, ℕ, ◌+◌, List, [], ◌∷◌, ◌++◌, length, drop, refl, ap, ◌∙◌, sym, arith, length-append, append_assoc}
 use Rattle.std.specs.List.{AllByRecursion}
-use Rattle.std.proofs.lemmas.List.{reverse-append, append-nil}
+use Rattle.std.proofs.lemmas.List.{append-nil}
 use Rattle.log_record.specs.declared.rec.Rec.{Rec}
 use Rattle.log_record.specs.declared.rec.Entry.{Entry}
 use Rattle.log_record.specs.LogList.{units_of, end_of}
 use Rattle.log_record.specs.Spelling.{spelling, IsSpellable, BeginsWith}
-use Rattle.lock_core.specs.History.{end_from, entry_at, history_from, history}
+use Rattle.lock_core.specs.History.{end_from, entry_at, history_from}
 use Rattle.log_recovery.specs.Listing.{IsFront, IsBadRecAt}
-use Rattle.lock_core.proofs.Fronts.{history_from-append}
-use Rattle.lock_core.proofs.ListLemmas.{all-append, all-reverse}
+use Rattle.lock_core.proofs.ListLemmas.{all-append}
 
 pub units_of-append : (xs ys : List Rec) → units_of (xs ++ ys) ≡ units_of xs ++ units_of ys
 units_of-append [] ys = refl

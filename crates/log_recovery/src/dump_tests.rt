@@ -42,7 +42,11 @@ fn dumps_each_kind_of_record(rt: HostRuntime) -> Result<(), Fail> {
         // A record may lie across two batches.
         (&[&GENESIS, front, back], TRANSFER_DUMP),
         (
-            &[&GENESIS, &[0x0602_0002_0000_0001, 0x6869_0000_0000_0000], &TRANSFER],
+            &[
+                &GENESIS,
+                &[0x0602_0002_0000_0001, 0x6869_0000_0000_0000],
+                &TRANSFER,
+            ],
             b"0 genesis 0 100\n2 genesis 1 0\n4 note 1 hi\n6 update 1 0 -30 0\n8 update 1 1 30 0\n10 commit 1 1\nlsn 11\n",
         ),
         (

@@ -23,7 +23,7 @@ mod Noting
 mod Owing
 mod Owning
 mod PlanFronts
-mod Planning
+pub mod Planning
 mod Ranging
 mod Reading
 mod Releasing

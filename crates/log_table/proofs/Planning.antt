@@ -107,6 +107,20 @@ leg-moves true false balance amount taken added start less is enough apart sums 
 leg-moves false true balance amount taken added start less is enough apart sums = omega arith
 leg-moves false false balance amount taken added start less is enough apart sums = omega arith
 
+pub leg-sums : (leg : ℕ × ℕ × ℕ) (balance start : ℕ → ℕ) (changes : List Change) (prev prev' account : ℕ) → leg.0 ≢ leg.1 → leg.2 ≤ balance leg.0
+    → balance account + moved loss account changes ≡ start account + moved gain account changes
+    → after_leg leg balance account
+    + moved loss account (record { account = leg.1; delta = pos leg.2; prev = prev' } ∷ record { account = leg.0; delta = neg_ℤ (pos leg.2); prev = prev } ∷ changes)
+    ≡ start account
+    + moved gain account (record { account = leg.1; delta = pos leg.2; prev = prev' } ∷ record { account = leg.0; delta = neg_ℤ (pos leg.2); prev = prev } ∷ changes)
+leg-sums leg balance start changes prev prev' account two enough sums =
+    subst (λ (amount : ℕ). after_leg leg balance account + (cond (leg.1 == account) 0 0 + (cond (leg.0 == account) (loss (neg_ℤ (pos leg.2))) 0 + moved loss account changes))
+    ≡ start account + (cond (leg.1 == account) leg.2 0 + (cond (leg.0 == account) amount 0 + moved gain account changes)))
+    (sym (gain-less leg.2))
+    (leg-moves (leg.0 == account) (leg.1 == account) (balance account) leg.2 (moved loss account changes) (moved gain account changes) (start account)
+    (loss (neg_ℤ (pos leg.2))) (loss-less leg.2) (λ is. subst (λ a. leg.2 ≤ balance a) (eqb-true leg.0 account is) enough)
+    (λ payer payee. two (eqb-true leg.0 account payer ∙ sym (eqb-true leg.1 account payee))) sums)
+
 leg-range : (payer payee : Bool) (balance amount : ℕ) → balance ≤ MOST_BALANCE → (payee ≡ true → balance + amount ≤ MOST_BALANCE)
     → cond payer (balance - amount) (cond payee (balance + amount) balance) ≤ MOST_BALANCE
 leg-range true payee balance amount range fits = omega arith
@@ -180,12 +194,7 @@ module _ (task : Task) (P : ℕ → Type 0) (mark start : ℕ → ℕ) where
           },
           go (λ account. leg-range (leg.0 == account) (leg.1 == account) (balance account) leg.2 (range account)
               (λ is. subst (λ a. balance a + leg.2 ≤ MOST_BALANCE) (eqb-true leg.1 account is) fits))
-              (λ account. subst (λ (amount : ℕ). after_leg leg balance account + (cond (leg.1 == account) 0 0 + (cond (leg.0 == account) (loss (neg_ℤ (pos leg.2))) 0 + moved loss account (changes_in before)))
-              ≡ start account + (cond (leg.1 == account) leg.2 0 + (cond (leg.0 == account) amount 0 + moved gain account (changes_in before))))
-              (sym (gain-less leg.2))
-              (leg-moves (leg.0 == account) (leg.1 == account) (balance account) leg.2 (moved loss account (changes_in before)) (moved gain account (changes_in before))
-              (start account) (loss (neg_ℤ (pos leg.2))) (loss-less leg.2) (λ is. subst (λ a. leg.2 ≤ balance a) (eqb-true leg.0 account is) enough)
-              (λ payer payee. held.0.0 (eqb-true leg.0 account payer ∙ sym (eqb-true leg.1 account payee))) (sums account))),
+              (λ account. leg-sums leg balance start (changes_in before) (mark leg.0) (mark leg.1) account held.0.0 enough (sums account)),
         ),
       )
 

@@ -37,6 +37,13 @@ impl Closed {
         self.exposed
     }
 
+    /// The accounts: their balances and last commits.
+    pub fn accounts(&self) -> &Balances
+        ensures { result.now ≡ self.now.accounts }
+    {
+        &self.accounts
+    }
+
     /// The account's balance.
     pub fn balance(&self, account: u32) -> u32
         requires { account < length self.now.accounts.rows }

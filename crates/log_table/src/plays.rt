@@ -119,7 +119,8 @@ impl Play<(), View> for LoadStop {
     ghost then = { λ st old n new. (new ≡ (saw_stop n old.0, old.1)) × Unit {0} };
 }
 
-/// A load that changes nothing: the rule tells at a step alone what the stop words are that a seat knows.
+/// A load that changes nothing. The rule tells at a step alone that what the flusher's seat has read in
+/// stop, itself or by a merge, is 0 or what it stored.
 pub(crate) struct TellStop;
 
 impl Play<(), View> for TellStop {

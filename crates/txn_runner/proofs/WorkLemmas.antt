@@ -160,3 +160,14 @@ IsCutBy-next jobs worker k (LogEnd tail total) old new worked cut = record {
   tail_is = cut.5;
   seen = cut.6;
 }
+
+-- a worker that has done nothing yet
+pub HasWorked-none : (jobs : Jobs) (worker : ℕ) (view : View) → view.entries ≡ [] → view.books.jobs ≡ [] → HasWorked jobs worker 0 view
+HasWorked-none jobs worker view no_entries no_jobs = record {
+  stripe = λ j less. absurd (omega arith);
+  earlier = [];
+  taken = no_jobs;
+  numbers = tt;
+  own = subst (AllByRecursion (IsOwnEntry jobs worker 0)) (sym no_entries) tt;
+  below = subst (LieInOrder 0 view.seen.tail) (sym no_entries) (omega arith);
+}

@@ -2,14 +2,22 @@
 //! accounts, inserts the records, and gives the accounts back once the end record has its place in the log.
 #![tactic(auto)]
 
+mod accounts;
 mod cause;
+mod giving;
+mod holding;
+mod inserting;
 mod job;
 mod jobs;
+mod legs;
 mod relief;
 mod rows;
 mod stripes;
+mod taking;
 #[cfg(test)]
 mod tests;
+mod transfer;
+mod waiting;
 mod worker;
 
 pub use cause::{Cause, Worked};

@@ -46,7 +46,11 @@ fn mix_of(script: &Script) -> u64 {
 
 #[test]
 fn makes_transfers_of_a_known_mix(rt: HostRuntime) -> Result<(), Fail> {
-    let cases = [(0, 2_080_000_000), (3, 2_080_000_080), (5000, 2_079_991_273)];
+    let cases = [
+        (0, 2_080_000_000),
+        (3, 2_080_000_080),
+        (5000, 2_079_991_273),
+    ];
     for (n, mix) in cases {
         let script = script_of(&rt, n, 7)?;
         assert_eq!(rt; script.count(), n as u64);

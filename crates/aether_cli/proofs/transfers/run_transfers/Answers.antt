@@ -3,7 +3,7 @@ use Rattle.log_table.specs.May.{MayClose}
 use Rattle.log_table.specs.Seats.{key_of, view_of}
 use Rattle.aether_cli.specs.Gathering.{share_of}
 use Rattle.aether_cli.specs.Prepared.{IsServed}
-use Rattle.aether_cli.proofs.EndingLemmas.{HasLeft-all, HasTaken, HasTaken-turned, HasTransferred-gathered, MayClose-all, ends-of_shares}
+use Rattle.aether_cli.proofs.TransferredLemmas.{HasLeft-all, HasTaken, HasTaken-turned, HasTransferred-gathered, MayClose-all, ends-of_shares}
 use Rattle.aether_cli.proofs.transfers.run_transfers.Goals as goal
 
 pub gather-ends-requires-clause-workers : goal.gather-ends-requires-clause-workers

@@ -1,4 +1,4 @@
-use Rattle.std.proofs.Common.{◌≡◌, ◌∙◌, ap, sym, subst}
+use Rattle.std.proofs.Common.{rules, ◌≡◌, ◌∙◌, ap, sym, subst}
 use Rattle.log_table.specs.Books.{giving}
 use Rattle.log_table.specs.Seats.{view_of}
 use Rattle.early_locks.specs.Locks.{HoldsTaken}
@@ -7,12 +7,12 @@ use Rattle.early_locks.proofs.one_transfer.give_back_durable.Goals as goal
 
 pub give_durable-requires-2-clause-holds : goal.give_durable-requires-2-clause-holds
 give_durable-requires-2-clause-holds g c = let has = c.requires.committed in
-    subst (HoldsTaken c.args.committed.payee) (sym (ap (λ m. m.0.books) c.give_durable.ensures.me ∙ ap (giving c.args.committed.payer.account) c.see_durable.ensures.books))
-    (holds-other _ _ _ (λ same. has.two (sym same)) has.payee_held)
+    let gave : (view_of c.give_durable.new.seat).books ≡ giving c.args.committed.payer.account (view_of c.args.seat.now).books = search rules in
+    subst (HoldsTaken c.args.committed.payee) (sym gave) (holds-other _ _ _ (λ same. has.two (sym same)) has.payee_held)
 
 pub returns-clause-none_held : goal.returns-clause-none_held
 returns-clause-none_held g c = let has = c.requires.committed in
+    let gave : (view_of c.give_durable.new.seat).books ≡ giving c.args.committed.payer.account (view_of c.args.seat.now).books = search rules in
     ap (λ m. m.0.books.held) c.give_durable-2.ensures.me
-    ∙ (ap (λ m. (giving c.args.committed.payee.account m.0.books).held) c.give_durable.ensures.me
-    ∙ (ap (λ books. (giving c.args.committed.payee.account (giving c.args.committed.payer.account books)).held) c.see_durable.ensures.books
-    ∙ none-left _ _ (view_of c.args.seat.now).books has.two has.payer_held.has has.payee_held.has has.only))
+    ∙ (ap (λ books. (giving c.args.committed.payee.account books).held) gave
+    ∙ none-left _ _ (view_of c.args.seat.now).books has.two has.payer_held.has has.payee_held.has has.only)
