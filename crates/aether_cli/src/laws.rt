@@ -20,7 +20,7 @@ ghost use Rattle.log_recovery.specs.Recovery.{HoldsLawful};
 ghost use Rattle.log_recovery.specs.Text.{accounts_text};
 ghost use Rattle.aether_cli.specs.Answers.{AnswersRecover, status_of};
 ghost use Rattle.aether_cli.specs.Creation.{genesis_list};
-ghost use Rattle.aether_cli.specs.Run.{RunKeepsLog, RunIsDrained, RunsWhole};
+ghost use Rattle.aether_cli.specs.Run.{HoldsRun, RunKeepsLog, RunIsDrained, RunsWhole};
 ghost use Rattle.aether_cli.specs.RunStops.{StopsAtLogEnd};
 ghost use Rattle.aether_cli.specs.RunWitness.{HasMadePayment, HasHitLogEnd};
 ghost use Rattle.aether_cli.specs.Shares.{Share};
@@ -36,6 +36,12 @@ pub fn new_is_recovered()
         → AnswersRecover bytes left old new detail → status_of detail ≢ 7 }
     ensures text { (bytes balances : List ℕ) (left old new : Option (List ℕ)) → HoldsLawful bytes (genesis_list balances)
         → AnswersRecover bytes left old new Detail.Fine → Appends old new (accounts_text (genesis_list balances)) }
+{}
+
+/// A law: `recover` finds no fault in what `run` left.
+pub fn run_is_recovered()
+    ensures { (bytes : List ℕ) (opened list : List Rec) (jobs : Jobs) (left old new : Option (List ℕ)) (detail : Detail)
+        → HoldsRun opened jobs list bytes → AnswersRecover bytes left old new detail → status_of detail ≢ 7 }
 {}
 
 /// A law: what is known of a run once all seats are gathered is what it promises. Of the records that it inserted, in order,
