@@ -3,7 +3,7 @@ use Rattle.std.proofs.Common.{◌≡◌, ◌⊎◌, inl, inr, refl, List, ℕ, O
 use Rattle.txn_script.specs.Balances.{IsBalancesText}
 use Rattle.txn_script.proofs.BalanceLemmas.{balances-or_bad}
 use Rattle.aether_cli.specs.declared.report.Detail.{Detail}
-use Rattle.aether_cli.specs.declared.report.Detail.TheVariants.{Fine, NoMemory, Usage, Script, Read, Write, Disk, NotALog, BadBatch, BadRec, Unlawful, Exists}
+use Rattle.aether_cli.specs.declared.report.Detail.TheVariants.{Fine, NoMemory, Usage, Script, Read, Write, Disk, NotALog, BadBatch, BadRec, Unlawful, LogEnd, TxnEnd, Exists}
 use Rattle.log_record.specs.declared.rec.Rec.{Rec}
 use Rattle.log_recovery.specs.declared.recovery.RecoverFault.TheVariants as fault
 use Rattle.log_recovery.specs.Recovery.{HoldsList}
@@ -31,6 +31,8 @@ new-complete (Some bytes) left_new old new opened R W D NotALog answers tells re
 new-complete (Some bytes) left_new old new opened R W D (BadBatch offset) answers tells reads writes disk closed = absurd answers
 new-complete (Some bytes) left_new old new opened R W D (BadRec lsn) answers tells reads writes disk closed = absurd answers
 new-complete (Some bytes) left_new old new opened R W D (Unlawful lsn why) answers tells reads writes disk closed = absurd answers
+new-complete (Some bytes) left_new old new opened R W D (LogEnd tail total) answers tells reads writes disk closed = absurd answers
+new-complete (Some bytes) left_new old new opened R W D (TxnEnd first count) answers tells reads writes disk closed = absurd answers
 
 -- the input holds a list, and no fault was counted
 pub dump-complete : (left left_new old new : Option (List ℕ)) (ReadFails WriteFails : Type 0) (detail : Detail)
@@ -52,3 +54,5 @@ dump-complete (Some bytes) left_new old new R W Usage answers reads writes = abs
 dump-complete (Some bytes) left_new old new R W (Script line) answers reads writes = absurd answers
 dump-complete (Some bytes) left_new old new R W Disk answers reads writes = absurd answers
 dump-complete (Some bytes) left_new old new R W Exists answers reads writes = absurd answers
+dump-complete (Some bytes) left_new old new R W (LogEnd tail total) answers reads writes = absurd answers
+dump-complete (Some bytes) left_new old new R W (TxnEnd first count) answers reads writes = absurd answers

@@ -7,7 +7,7 @@ use Rattle.log_recovery.specs.Recovery.{HoldsLawful}
 use Rattle.log_recovery.specs.Text.{accounts_text}
 use Rattle.log_recovery.proofs.AnswerLemmas.{lawful-fault, one-list}
 use Rattle.aether_cli.specs.declared.report.Detail.{Detail}
-use Rattle.aether_cli.specs.declared.report.Detail.TheVariants.{Fine, NoMemory, Usage, Script, Read, Write, Disk, NotALog, BadBatch, BadRec, Unlawful, Exists}
+use Rattle.aether_cli.specs.declared.report.Detail.TheVariants.{Fine, NoMemory, Usage, Script, Read, Write, Disk, NotALog, BadBatch, BadRec, Unlawful, LogEnd, TxnEnd, Exists}
 use Rattle.aether_cli.specs.Answers.{AnswersRecover, status_of}
 
 -- the answer is not a fault of the bytes
@@ -29,6 +29,8 @@ lawful-status bytes records left old new Usage held answers = absurd answers
 lawful-status bytes records left old new (Script line) held answers = absurd answers
 lawful-status bytes records left old new Disk held answers = absurd answers
 lawful-status bytes records left old new Exists held answers = absurd answers
+lawful-status bytes records left old new (LogEnd tail total) held answers = absurd answers
+lawful-status bytes records left old new (TxnEnd first count) held answers = absurd answers
 
 -- the text is that of the list
 pub lawful-text : (bytes : List ℕ) (records : List Rec) (left old new : Option (List ℕ)) → HoldsLawful bytes records

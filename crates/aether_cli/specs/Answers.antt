@@ -11,9 +11,10 @@ use Rattle.log_recovery.specs.Text.{accounts_text}
 use Rattle.txn_script.specs.Balances.{IsBalancesText, IsFirstBadBalance, ReadsBalances}
 use Rattle.lsn_space.specs.Accounts.{Accounts}
 use Rattle.command_line.specs.CommandLine.{IsCommandLine}
-use Rattle.command_line.specs.declared.command.Command.TheVariants.{New}
+use Rattle.command_line.specs.declared.command.Command.TheVariants.{New, Run}
+use Rattle.command_line.specs.declared.options.RunOptions.{RunOptions}
 use Rattle.aether_cli.specs.declared.report.Detail.{Detail}
-use Rattle.aether_cli.specs.declared.report.Detail.TheVariants.{Fine, NoMemory, Usage, Script, Read, Write, Disk, NotALog, BadBatch, BadRec, Unlawful, Exists}
+use Rattle.aether_cli.specs.declared.report.Detail.TheVariants.{Fine, NoMemory, Usage, Script, Read, Write, Disk, NotALog, BadBatch, BadRec, Unlawful, LogEnd, TxnEnd, Exists}
 use Rattle.aether_cli.specs.Creation.{genesis_list}
 
 abbrev pub status_of : Detail → ℕ
@@ -28,17 +29,25 @@ status_of NotALog = 7
 status_of (BadBatch offset) = 7
 status_of (BadRec lsn) = 7
 status_of (Unlawful lsn why) = 7
+status_of (LogEnd tail total) = 8
+status_of (TxnEnd first count) = 9
 status_of Exists = 10
 
 -- the words ask `new`
 abbrev pub AsksNew : List (List ℕ) → Type 0
 AsksNew words = (log : List ℕ) × IsCommandLine words (New log)
 
+-- the words ask `run`
+abbrev pub AsksRun : List (List ℕ) → Type 0
+AsksRun words = (log : List ℕ) × (options : RunOptions) × IsCommandLine words (Run log options)
+
 -- the answers that there are to `recover`
 abbrev pub IsOfRecover : Detail → Type 0
 IsOfRecover Usage = ⊥
 IsOfRecover (Script line) = ⊥
 IsOfRecover Disk = ⊥
+IsOfRecover (LogEnd tail total) = ⊥
+IsOfRecover (TxnEnd first count) = ⊥
 IsOfRecover Exists = ⊥
 IsOfRecover detail = Unit {0}
 
@@ -72,6 +81,8 @@ StaysSilent old new NotALog = Keeps old new
 StaysSilent old new (BadBatch offset) = Keeps old new
 StaysSilent old new (BadRec lsn) = Keeps old new
 StaysSilent old new (Unlawful lsn why) = Keeps old new
+StaysSilent old new (LogEnd tail total) = Keeps old new
+StaysSilent old new (TxnEnd first count) = Keeps old new
 
 -- what was read is all that was left
 abbrev pub ReadsAll : Option (List ℕ) → Option (List ℕ) → List ℕ → Type 0
@@ -105,6 +116,8 @@ AnswersRecover bytes left old new NoMemory = Unit {0}
 AnswersRecover bytes left old new Usage = ⊥
 AnswersRecover bytes left old new (Script line) = ⊥
 AnswersRecover bytes left old new Disk = ⊥
+AnswersRecover bytes left old new (LogEnd tail total) = ⊥
+AnswersRecover bytes left old new (TxnEnd first count) = ⊥
 AnswersRecover bytes left old new Exists = ⊥
 
 -- `dump` on these bytes: the same, but the list need not be lawful, and what is written is its dump, or a prefix of it
@@ -120,6 +133,8 @@ AnswersDump bytes left old new Read = Unit {0}
 AnswersDump bytes left old new NoMemory = Unit {0}
 AnswersDump bytes left old new Usage = ⊥
 AnswersDump bytes left old new (Unlawful lsn why) = ⊥
+AnswersDump bytes left old new (LogEnd tail total) = ⊥
+AnswersDump bytes left old new (TxnEnd first count) = ⊥
 AnswersDump bytes left old new (Script line) = ⊥
 AnswersDump bytes left old new Disk = ⊥
 AnswersDump bytes left old new Exists = ⊥
@@ -158,3 +173,5 @@ AnswersNew bytes left old new NotALog = ⊥
 AnswersNew bytes left old new (BadBatch offset) = ⊥
 AnswersNew bytes left old new (BadRec lsn) = ⊥
 AnswersNew bytes left old new (Unlawful lsn why) = ⊥
+AnswersNew bytes left old new (LogEnd tail total) = ⊥
+AnswersNew bytes left old new (TxnEnd first count) = ⊥

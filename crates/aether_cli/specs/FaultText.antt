@@ -4,7 +4,7 @@ use Rattle.lsn_space.specs.Number.{number_text}
 use Rattle.lock_core.specs.declared.reason.Why.{Why}
 use Rattle.lock_core.specs.declared.reason.Why.TheVariants as why
 use Rattle.aether_cli.specs.declared.report.Detail.{Detail}
-use Rattle.aether_cli.specs.declared.report.Detail.TheVariants.{Fine, NoMemory, Usage, Script, Read, Write, Disk, NotALog, BadBatch, BadRec, Unlawful, Exists}
+use Rattle.aether_cli.specs.declared.report.Detail.TheVariants.{Fine, NoMemory, Usage, Script, Read, Write, Disk, NotALog, BadBatch, BadRec, Unlawful, LogEnd, TxnEnd, Exists}
 
 abbrev pub usage_line : List ℕ
 usage_line = codes "usage: aether new LOG | run LOG [--workers N] [--ring R] [--slots K] [--wait] | recover | dump | demo LOG N SEED [--workers N] [--ring R] [--slots K]\n"
@@ -32,4 +32,8 @@ fault_line NotALog = codes "aether: not a log\n"
 fault_line (BadBatch offset) = codes "aether: bad batch at byte " ++ number_text offset ++ codes "\n"
 fault_line (BadRec lsn) = codes "aether: bad record at lsn " ++ number_text lsn ++ codes "\n"
 fault_line (Unlawful lsn test) = codes "aether: unlawful record at lsn " ++ number_text lsn ++ (codes ": " ++ why_text test ++ codes "\n")
+fault_line (LogEnd tail total) =
+    codes "aether: log end: tail " ++ number_text tail ++ (codes ", total " ++ number_text total ++ codes "\n")
+fault_line (TxnEnd first count) =
+    codes "aether: transaction numbers end: first " ++ number_text first ++ (codes ", count " ++ number_text count ++ codes "\n")
 fault_line Exists = codes "aether: log exists\n"

@@ -1,3 +1,16 @@
 pub mod Answers
 pub mod Creation
+pub mod Ending
 pub mod FaultText
+pub mod Gathering
+pub mod Opening
+pub mod Prepared
+pub mod Run
+pub mod RunAnswers
+pub mod RunReady
+pub mod RunStops
+pub mod RunWitness
+pub mod Scripts
+pub mod Shares
+pub mod Transferred
+pub mod Workers

@@ -40,6 +40,23 @@ fn numbered(before: &[u8], number: u64, after: &[u8]) -> Line
     line
 }
 
+/// Two numbers, each behind a text, to the end of the line.
+fn two_numbered(before: &[u8], number: u64, between: &[u8], other: u64) -> Line
+    requires before { length before.now ≤ 40 }
+    requires between { length between.now ≤ 20 }
+    ensures { result.items ≡ before.now ++ number_text number ++ (between.now ++ number_text other ++ codes "\n") }
+{
+    let mut line = ArrayVec::new();
+    line.try_extend_from_slice(before).unwrap();
+    line.try_extend_from_slice(decimal(number).as_slice())
+        .unwrap();
+    line.try_extend_from_slice(between).unwrap();
+    line.try_extend_from_slice(decimal(other).as_slice())
+        .unwrap();
+    line.push(b'\n');
+    line
+}
+
 /// The word for the test that a record failed, to the end of the line.
 fn reason(why: Why) -> &'static [u8]
     ensures text { result.now ≡ codes ": " ++ why_text why ++ codes "\n" }
@@ -77,6 +94,14 @@ fn line_of(detail: Detail) -> Line
         Detail::Unlawful { lsn, why } => {
             let before = b"aether: unlawful record at lsn ";
             numbered(before, lsn.units() as u64, reason(why))
+        }
+        Detail::LogEnd { tail, total } => {
+            let before = b"aether: log end: tail ";
+            two_numbered(before, tail.units() as u64, b", total ", total as u64)
+        }
+        Detail::TxnEnd { first, count } => {
+            let before = b"aether: transaction numbers end: first ";
+            two_numbered(before, first, b", count ", count)
         }
         Detail::Exists => text(b"aether: log exists\n"),
     }

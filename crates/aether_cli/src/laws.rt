@@ -1,13 +1,33 @@
 //! Laws of the definitions. The functions do nothing.
 
-ghost use Rattle.std.specs.Prelude.{◌≡◌, ◌≢◌, ℕ, List, Option};
+ghost use Rattle.std.specs.Prelude.{◌≡◌, ◌≢◌, ℕ, List, Option, None};
 ghost use Rattle.std.specs.Io.KnownBytes.{Appends};
+ghost use Rattle.std.specs.List.{AllByRecursion};
+ghost use mathlib.Core.Option.{some};
+ghost use lib.ListN.{get_elem?};
+ghost use Rattle.log_record.specs.declared.rec.Rec.{Rec};
+ghost use Rattle.log_table.specs.declared.table.Start.{Start};
+ghost use Rattle.log_table.specs.declared.view.View.{View};
+ghost use Rattle.log_table.specs.Closing.{records_of};
+ghost use Rattle.log_table.specs.Seats.{IsOf};
+ghost use Rattle.commit_pipeline.specs.declared.daemon.Daemon.{Daemon};
+ghost use Rattle.commit_pipeline.specs.Later.{HasReason};
+ghost use Rattle.commit_pipeline.specs.Turning.{IsSameDaemon};
+ghost use Rattle.txn_runner.specs.declared.jobs.Jobs.{Jobs};
+ghost use Rattle.txn_runner.specs.declared.cause.Cause.{Cause};
+ghost use Rattle.txn_runner.specs.declared.cause.Worked.{Worked};
 ghost use Rattle.log_recovery.specs.Recovery.{HoldsLawful};
 ghost use Rattle.log_recovery.specs.Text.{accounts_text};
 ghost use Rattle.aether_cli.specs.Answers.{AnswersRecover, status_of};
 ghost use Rattle.aether_cli.specs.Creation.{genesis_list};
+ghost use Rattle.aether_cli.specs.Run.{HoldsRun, RunKeepsLog, RunIsDrained, RunsWhole};
+ghost use Rattle.aether_cli.specs.RunStops.{StopsAtLogEnd};
+ghost use Rattle.aether_cli.specs.RunWitness.{HasMadePayment, HasHitLogEnd};
+ghost use Rattle.aether_cli.specs.Shares.{Share};
+ghost use Rattle.aether_cli.specs.Transferred.{HasTransferred};
 
 use crate::report::Detail;
+use log_disk::{LogDisk, Sink};
 
 /// A law: `recover` reads what `new` left. It finds no fault in it, and what it writes of it is the text of the new log.
 pub fn new_is_recovered()
@@ -16,4 +36,51 @@ pub fn new_is_recovered()
         → AnswersRecover bytes left old new detail → status_of detail ≢ 7 }
     ensures text { (bytes balances : List ℕ) (left old new : Option (List ℕ)) → HoldsLawful bytes (genesis_list balances)
         → AnswersRecover bytes left old new Detail.Fine → Appends old new (accounts_text (genesis_list balances)) }
+{}
+
+/// A law: `recover` finds no fault in what `run` left.
+pub fn run_is_recovered()
+    ensures { (bytes : List ℕ) (opened list : List Rec) (jobs : Jobs) (left old new : Option (List ℕ)) (detail : Detail)
+        → HoldsRun opened jobs list bytes → AnswersRecover bytes left old new detail → status_of detail ≢ 7 }
+{}
+
+/// A law: what is known of a run once all seats are gathered is what it promises. Of the records that it inserted, in order,
+/// each image holds a front behind the opened list, and all of them where the log was drained. A stop word that a worker
+/// read is the fault's, and a fault has its reason.
+pub fn run_keeps_log<D: LogDisk, K: Sink>()
+    ensures keeps { (opened : List Rec) (jobs : Jobs) (shares : List Share) (key : Start) (old new : Daemon D K) (view : View)
+        (lsn : ℕ) (rows : List (ℕ × ℕ)) → HasTransferred D.LogDisk K.Sink opened jobs shares key old new view lsn rows
+        → RunKeepsLog D.LogDisk old.voice opened jobs (records_of view.entries) old.flusher.disk.now new.flusher.disk.now
+        (K.held_bytes old.sink.now) (K.held_bytes new.sink.now) }
+    ensures drained { (opened : List Rec) (jobs : Jobs) (shares : List Share) (key : Start) (old new : Daemon D K) (view : View)
+        (lsn : ℕ) (rows : List (ℕ × ℕ)) → HasTransferred D.LogDisk K.Sink opened jobs shares key old new view lsn rows
+        → new.fault ≡ None
+        → RunIsDrained D.LogDisk old.voice opened jobs (records_of view.entries) old.flusher.disk.now new.flusher.disk.now
+        (K.held_bytes old.sink.now) (K.held_bytes new.sink.now) lsn rows }
+    ensures whole { (opened : List Rec) (jobs : Jobs) (shares : List Share) (key : Start) (old new : Daemon D K) (view : View)
+        (lsn : ℕ) (rows : List (ℕ × ℕ)) → HasTransferred D.LogDisk K.Sink opened jobs shares key old new view lsn rows
+        → AllByRecursion (λ (share : Share). share.worked ≡ Worked.All) shares → RunsWhole opened jobs (records_of view.entries) }
+    ensures log_end { (opened : List Rec) (jobs : Jobs) (shares : List Share) (key : Start) (old new : Daemon D K) (view : View)
+        (lsn : ℕ) (rows : List (ℕ × ℕ)) → HasTransferred D.LogDisk K.Sink opened jobs shares key old new view lsn rows
+        → new.fault ≡ None
+        → (worker taken tail total : ℕ) → get_elem? shares worker ≡ some (record { taken = taken; worked = Worked.Cut (Cause.LogEnd tail total) })
+        → StopsAtLogEnd opened jobs (records_of view.entries) tail total }
+    ensures stop { (opened : List Rec) (jobs : Jobs) (shares : List Share) (key : Start) (old new : Daemon D K) (view : View)
+        (lsn : ℕ) (rows : List (ℕ × ℕ)) → HasTransferred D.LogDisk K.Sink opened jobs shares key old new view lsn rows
+        → new.fault ≡ None
+        → (worker taken word : ℕ) → get_elem? shares worker ≡ some (record { taken = taken; worked = Worked.Cut (Cause.Stop word) }) → ⊥ }
+    ensures reason { (opened : List Rec) (jobs : Jobs) (shares : List Share) (key : Start) (old new : Daemon D K) (view : View)
+        (lsn : ℕ) (rows : List (ℕ × ℕ)) → HasTransferred D.LogDisk K.Sink opened jobs shares key old new view lsn rows
+        → HasReason D.LogDisk K.Sink old new new.fault }
+    ensures same { (opened : List Rec) (jobs : Jobs) (shares : List Share) (key : Start) (old new : Daemon D K) (view : View)
+        (lsn : ℕ) (rows : List (ℕ × ℕ)) → HasTransferred D.LogDisk K.Sink opened jobs shares key old new view lsn rows
+        → IsSameDaemon D.LogDisk K.Sink old new }
+{}
+
+/// A witness that the premises of the law on runs can be met, all at once: with any daemon whose seat is its table's there
+/// is a run of one transfer, and one that finds no room for it at the end of the log.
+pub fn one_payment_is_made()
+    ensures made { (d : Daemon ℕ (List ℕ)) → IsOf d.flusher.table.now d.flusher.seat → d.flusher.table.now.ring ≡ 1024
+        → HasMadePayment }
+    ensures log_end { Daemon ℕ (List ℕ) → HasHitLogEnd }
 {}

@@ -2,26 +2,41 @@
 #![tactic(auto)]
 
 mod command;
+mod conclusion;
 mod dump_command;
 #[cfg(test)]
 mod dump_tests;
 mod faults;
 mod finding;
+mod flushing_relief;
+mod gathering;
 mod genesis;
 mod input;
 mod laws;
 mod new_command;
+mod opening;
 #[cfg(test)]
 mod pipeline_tests;
 mod recover_command;
+#[cfg(test)]
+mod relief_tests;
 mod report;
+mod room;
+mod run_command;
+#[cfg(test)]
+mod run_tests;
+mod scope;
+mod script_input;
+mod serving;
 #[cfg(test)]
 mod tests;
 mod top;
+mod transfers;
+mod workers;
 
 use command::words_of;
 use faults::put_fault;
-use log_disk::{FileDisk, StdSink, StdSource};
+use log_disk::{FileDisk, OpenGate, StdSink, StdSource};
 use report::Report;
 use std::fs::File;
 use std::io;
@@ -52,6 +67,7 @@ fn main(rt: HostRuntime) -> ExitCode {
                 &mut disk,
                 &mut script,
                 &mut out,
+                &OpenGate,
             )
         }
         Err(detail) => Report::of(detail),

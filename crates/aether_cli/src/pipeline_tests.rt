@@ -53,9 +53,9 @@ const TRANSFERS: u32 = 500;
 const TRANSFERS_END: u32 = 4 + 5 * 2 * TRANSFERS;
 
 /// The calls of the disk that make the log of the two accounts.
-const CREATED: u64 = 7;
+pub(crate) const CREATED: u64 = 7;
 
-fn table_from_4(alloc: Global) -> Result<(LogTable, Seat), NoMemory>
+pub(crate) fn table_from_4(alloc: Global) -> Result<(LogTable, Seat), NoMemory>
     ensures seat { IfOk result (λ made. IsOf made.0 made.1) }
     ensures flusher { IfOk result (λ made. (view_of made.1).standing.role ≡ FlusherRole) }
     ensures durable { IfOk result (λ made. sent_to (view_of made.1) ≡ 4) }
@@ -258,7 +258,7 @@ fn accounts(alloc: Global) -> Result<Batch, NoMemory>
 }
 
 /// A daemon over a disk without a log, on which the log of the two accounts is made.
-fn daemon_on<'a, D: LogDisk>(
+pub(crate) fn daemon_on<'a, D: LogDisk>(
     alloc: Global,
     table: &'a LogTable,
     seat: Seat,
@@ -386,7 +386,7 @@ fn two_threads_and_a_daemon(rt: HostRuntime) -> Result<(), Fail> {
 }
 
 /// The balances that are recovered from the disk.
-fn balances<D: LogDisk>(alloc: Global, disk: &mut D) -> Option<(u32, u32)> {
+pub(crate) fn balances<D: LogDisk>(alloc: Global, disk: &mut D) -> Option<(u32, u32)> {
     let bytes = open_image(alloc, disk).ok()?;
     let found = recover(alloc, bytes.as_slice()).ok()?;
     if found.accounts.count() != 2 {

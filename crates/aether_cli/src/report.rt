@@ -39,6 +39,12 @@ pub enum Detail {
     /// The record that starts at this LSN is the first that fails a test, and this is the first that it fails.
     Unlawful { lsn: Lsn, why: Why },
 
+    /// The next record of a transfer has so many units, and they do not fit between this tail and the last LSN.
+    LogEnd { tail: Lsn, total: u32 },
+
+    /// The script has so many transfers, and the numbers from the first on pass the last transaction number.
+    TxnEnd { first: u64, count: u64 },
+
     /// A log is there already: the file begins with an open gate.
     Exists,
 }
@@ -60,6 +66,8 @@ impl Detail {
             | Detail::BadBatch { .. }
             | Detail::BadRec { .. }
             | Detail::Unlawful { .. } => 7,
+            Detail::LogEnd { .. } => 8,
+            Detail::TxnEnd { .. } => 9,
             Detail::Exists => 10,
         }
     }

@@ -3,10 +3,13 @@
 use crate::faults::put_fault;
 use crate::report::{Detail, Report};
 use crate::top::aether;
-use log_disk::{MemoryDisk, MemorySink, MemorySource};
+use log_disk::{Gate, MemoryDisk, MemorySink, MemorySource, OpenGate};
 use log_recovery::Why;
-use lsn_space::{Lsn, Word};
+use lsn_space::{LAST, Lsn, Word};
+use std::alloc::AllocGlobal;
+use std::sync::Wait;
 use std::test::Fail;
+use std::thread::Threads;
 
 /// Two accounts, with balances 100 and 0.
 pub(crate) const GENESIS_LOG: &[u8] =
@@ -27,13 +30,26 @@ pub(crate) const WRONG_PREDECESSOR: &[u8] =
 const GENESIS_TEXT: &[u8] = b"lsn 4\n0 100\n1 0\n";
 
 /// Runs the program on words, a disk and an input; calls of the source with these numbers fail.
-pub(crate) fn answer_on(
-    rt: &HostRuntime,
+pub(crate) fn answer_on<R: Threads + Wait + Sync + AllocGlobal>(
+    rt: &R,
     words: &[&str],
     disk: &mut MemoryDisk,
     input: &[u8],
     source_failing: &[u64],
     out: &mut MemorySink,
+) -> Result<Report, Fail> {
+    answer_at(rt, words, disk, input, source_failing, out, &OpenGate)
+}
+
+/// The same with a hook that workers pass.
+pub(crate) fn answer_at<R: Threads + Wait + Sync + AllocGlobal, G: Gate + Sync>(
+    rt: &R,
+    words: &[&str],
+    disk: &mut MemoryDisk,
+    input: &[u8],
+    source_failing: &[u64],
+    out: &mut MemorySink,
+    gate: &G,
 ) -> Result<Report, Fail> {
     let mut line = Vec::new(rt.alloc());
     for text in words {
@@ -45,13 +61,13 @@ pub(crate) fn answer_on(
     let Ok(mut script) = MemorySource::make(rt.alloc(), input, 7, source_failing) else {
         return Err(Fail::new("no memory"));
     };
-    let report = aether(rt, rt.alloc(), line.as_slice(), disk, &mut script, out);
-    Ok(report)
+    let alloc = rt.alloc();
+    Ok(aether(rt, alloc, line.as_slice(), disk, &mut script, out, gate))
 }
 
 /// The same without a disk.
-pub(crate) fn answer_of(
-    rt: &HostRuntime,
+pub(crate) fn answer_of<R: Threads + Wait + Sync + AllocGlobal>(
+    rt: &R,
     words: &[&str],
     input: &[u8],
     source_failing: &[u64],
@@ -61,8 +77,8 @@ pub(crate) fn answer_of(
     answer_on(rt, words, &mut none, input, source_failing, out)
 }
 
-pub(crate) fn disk_of(
-    rt: &HostRuntime,
+pub(crate) fn disk_of<R: AllocGlobal>(
+    rt: &R,
     bytes: &[u8],
     room: usize,
     failing: &[u64],
@@ -70,7 +86,7 @@ pub(crate) fn disk_of(
     MemoryDisk::make(rt.alloc(), bytes, room, failing).map_err(|_| Fail::new("no memory"))
 }
 
-pub(crate) fn sink_of(rt: &HostRuntime, failing: &[u64]) -> Result<MemorySink, Fail> {
+pub(crate) fn sink_of<R: AllocGlobal>(rt: &R, failing: &[u64]) -> Result<MemorySink, Fail> {
     MemorySink::make(rt.alloc(), 300, failing).map_err(|_| Fail::new("no memory"))
 }
 
@@ -261,7 +277,7 @@ fn refuses_help_and_leaves_the_disk(rt: HostRuntime) -> Result<(), Fail> {
 
 #[test]
 fn writes_the_line_of_each_report(rt: HostRuntime) -> Result<(), Fail> {
-    let cases: [(Detail, u8, &[u8]); 8] = [
+    let cases: [(Detail, u8, &[u8]); 10] = [
         (Detail::Fine, 0, b""),
         (Detail::NoMemory, 1, b"aether: out of memory\n"),
         (
@@ -273,6 +289,22 @@ fn writes_the_line_of_each_report(rt: HostRuntime) -> Result<(), Fail> {
         (Detail::Write, 5, b"aether: write failed\n"),
         (Detail::Disk, 6, b"aether: disk failed\n"),
         (Detail::NotALog, 7, b"aether: not a log\n"),
+        (
+            Detail::LogEnd {
+                tail: Lsn::new(LAST),
+                total: 26,
+            },
+            8,
+            b"aether: log end: tail 4294967295, total 26\n",
+        ),
+        (
+            Detail::TxnEnd {
+                first: 4294967296,
+                count: 0,
+            },
+            9,
+            b"aether: transaction numbers end: first 4294967296, count 0\n",
+        ),
         (Detail::Exists, 10, b"aether: log exists\n"),
     ];
     for (detail, status, line) in cases {

@@ -1,32 +1,40 @@
-ghost use Rattle.std.specs.Prelude.{◌≡◌, ◌≤◌, ◌+◌, ◌⊎◌, ℕ, List, IfSome};
+ghost use Rattle.std.specs.Prelude.{◌≡◌, ◌≤◌, ◌+◌, ◌⊎◌, ℕ, List, length, IfSome};
 ghost use Rattle.command_line.specs.CommandLine.{IsCommandLine, AreTaken};
-ghost use Rattle.command_line.specs.declared.command.Command.TheVariants.{New, Recover, Dump};
+ghost use Rattle.command_line.specs.declared.command.Command.TheVariants.{New, Run, Recover, Dump};
+ghost use Rattle.command_line.specs.declared.options.RunOptions.{RunOptions};
 ghost use Rattle.log_disk.specs.Disk.{Leaves};
 ghost use Rattle.log_disk.specs.Faults.{Rose};
 ghost use Rattle.log_record.specs.declared.rec.Rec.{Rec};
-ghost use Rattle.log_recovery.specs.Recovery.{HoldsList};
+ghost use Rattle.log_recovery.specs.Recovery.{HoldsLawful, HoldsList};
 ghost use Rattle.segment_file.specs.File.{BeginsOpen};
 ghost use Rattle.txn_script.specs.Balances.{IsBalancesText};
-ghost use Rattle.aether_cli.specs.Answers.{status_of, AnswersRecover, AnswersDump, AnswersNew, AsksNew, IsOfDump, IsOfNew, IsOfRecover, StaysSilent};
+ghost use Rattle.aether_cli.specs.Answers.{status_of, AnswersRecover, AnswersDump, AnswersNew, AsksNew, IsOfDump, AsksRun, IsOfNew, IsOfRecover, StaysSilent};
 ghost use Rattle.aether_cli.specs.Creation.{AllHoldNew, FollowsLog, MayBeLeft, PrecedesLog, TellsWhether};
+ghost use Rattle.aether_cli.specs.RunAnswers.{AnswersRun, IsOfRun, IsRunDone, RunStaysSilent, accounts_of, next_txn, outside};
+ghost use Rattle.txn_script.specs.declared.job.Job.{Job};
+ghost use Rattle.txn_script.specs.Script.{IsScriptText};
 
 use crate::dump_command::dump_command;
 use crate::new_command::new_command;
 use crate::recover_command::recover_command;
 use crate::report::{Detail, Report};
+use crate::run_command::run_command;
 use command_line::{Command, Refused, parse};
-use log_disk::{LogDisk, Sink, Source};
+use log_disk::{Gate, LogDisk, Sink, Source};
 use lsn_space::Word;
 use std::alloc::Global;
+use std::sync::Wait;
+use std::thread::Threads;
 
 /// All that the program does, on its words, the program's name first, on a disk, and on what it reads and writes.
-pub fn aether<R, D: LogDisk, S: Source, K: Sink>(
-    _rt: &R,
+pub fn aether<R: Threads + Wait + Sync, D: LogDisk, S: Source, K: Sink, G: Gate + Sync>(
+    rt: &R,
     alloc: Global,
     words: &[Word],
     disk: &mut D,
     script: &mut S,
     out: &mut K,
+    gate: &G,
 ) -> Report
     ensures status { result.status ≡ status_of result.detail }
 
@@ -35,7 +43,7 @@ pub fn aether<R, D: LogDisk, S: Source, K: Sink>(
     ensures refused { (AreTaken words.now → ⊥) → (result.detail ≡ Detail.Usage) ⊎ (result.detail ≡ Detail.NoMemory) }
     ensures unread { (AreTaken words.now → ⊥) → script.new ≡ script.old }
     ensures unwritten { (AreTaken words.now → ⊥) → out.new ≡ out.old }
-    ensures untouched { (AsksNew words.now → ⊥) → disk.new ≡ disk.old }
+    ensures untouched { (AsksNew words.now → ⊥) → (AsksRun words.now → ⊥) → disk.new ≡ disk.old }
 
     // `recover`: for the bytes of the input, the text that is written, and what is left of both.
     ensures recover { IsCommandLine words.now Recover → IfSome (S.left script.old) (λ bytes.
@@ -63,15 +71,28 @@ pub fn aether<R, D: LogDisk, S: Source, K: Sink>(
         → Leaves D.moment D.images_since (D.images disk.old) disk.old disk.new }
     ensures unchanged { AsksNew words.now → D.honest disk.old → PrecedesLog result.detail → D.reads disk.new ≡ D.reads disk.old }
     ensures exists { AsksNew words.now → D.honest disk.old → TellsWhether (BeginsOpen (D.reads disk.old)) result.detail }
-    ensures count { D.honest disk.old → D.written_count disk.new ≤ D.written_count disk.old + 7 }
+    ensures count { (AsksRun words.now → ⊥) → D.honest disk.old → D.written_count disk.new ≤ D.written_count disk.old + 7 }
     ensures complete { AsksNew words.now → D.honest disk.old → (BeginsOpen (D.reads disk.old) → ⊥)
         → IfSome (S.left script.old) (λ bytes. (balances : List ℕ) → IsBalancesText bytes balances
         → (Rose (S.faults script.old) (S.faults script.new) → ⊥) → (Rose (K.faults out.old) (K.faults out.new) → ⊥)
         → (Rose (D.faults disk.old) (D.faults disk.new) → ⊥)
         → (result.detail ≡ Detail.Fine) ⊎ (result.detail ≡ Detail.NoMemory)) }
 
+    // `run`: what a crash may leave of the disk at each moment, what was written, and why it ended.
+    ensures run { (log : List ℕ) (options : RunOptions) → IsCommandLine words.now (Run log options) → D.honest disk.old
+        → AnswersRun D.LogDisk options.workers (outside disk.old (S.left script.old) (K.held_bytes out.old))
+        (outside disk.new (S.left script.new) (K.held_bytes out.new)) result.detail }
+    ensures of_run { AsksRun words.now → IsOfRun result.detail }
+    ensures quiet { AsksRun words.now → RunStaysSilent (K.held_bytes out.old) (K.held_bytes out.new) result.detail }
+
+    ensures complete_run { AsksRun words.now → D.honest disk.old
+        → IfSome (S.left script.old) (λ bytes. (opened : List Rec) (jobs : List Job) → HoldsLawful (D.reads disk.old) opened
+        → IsScriptText (accounts_of opened) bytes jobs → next_txn opened + length jobs ≤ 4294967295
+        → (Rose (S.faults script.old) (S.faults script.new) → ⊥) → (Rose (K.faults out.old) (K.faults out.new) → ⊥)
+        → (Rose (D.faults disk.old) (D.faults disk.new) → ⊥) → IsRunDone result.detail) }
+
     // Nothing is written but where all is fine or the writing failed.
-    ensures silent { StaysSilent (K.held_bytes out.old) (K.held_bytes out.new) result.detail }
+    ensures silent { (AsksRun words.now → ⊥) → StaysSilent (K.held_bytes out.old) (K.held_bytes out.new) result.detail }
 
     // A fault comes only where the object that it names counted one in this call.
     ensures read { result.detail ≡ Detail.Read → Rose (S.faults script.old) (S.faults script.new) }
@@ -82,6 +103,9 @@ pub fn aether<R, D: LogDisk, S: Source, K: Sink>(
 {
     match parse(alloc, words) {
         Ok(Command::New { log }) => Report::of(new_command(alloc, &log, disk, script, out)),
+        Ok(Command::Run { log, options }) => Report::of(run_command(
+            rt, alloc, &log, &options, disk, script, out, gate,
+        )),
         Ok(Command::Recover) => Report::of(recover_command(alloc, script, out)),
         Ok(Command::Dump) => Report::of(dump_command(alloc, script, out)),
         Err(Refused::Usage) => Report::of(Detail::Usage),

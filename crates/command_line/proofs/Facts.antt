@@ -10,18 +10,14 @@ use Rattle.clap.specs.Kinds.{Kinds, or_else}
 use Rattle.clap.specs.Simple.{entered, rows_at, names_of, argument_words}
 use Rattle.clap.specs.Walk.{Names, Held, Text, finished, nothing_held, settled, stop_after, walk, walk_from}
 use Rattle.clap.specs.Words.{App, Row, Shape, is_simple, is_simple_and_free, subcommand_of, fault_of, built}
-use Rattle.command_line.specs.CommandLine.{aether_command, new_command, AreTaken, NamesSubcommand, IsCommandLine, IsRefusalOf, log_in}
-use Rattle.command_line.specs.declared.command.Command.{Command}
-use Rattle.command_line.specs.declared.command.Command.TheVariants.{New, Recover, Dump}
-use Rattle.command_line.specs.declared.command.Refused.{Refused}
-use Rattle.command_line.specs.declared.command.Refused.TheVariants.{NoMemory}
+use Rattle.command_line.specs.CommandLine.{aether_command, new_command, run_command, AreKnown, NamesSubcommand}
 
 pub is_simple-aether : is_simple aether_command ≡ true
-unfolding aether_command new_command
+unfolding aether_command new_command run_command
 is_simple-aether = refl
 
 pub is_free-aether : is_simple_and_free aether_command ≡ true
-unfolding aether_command new_command
+unfolding aether_command new_command run_command
 is_free-aether = refl
 
 pub both_false : (a b x : Bool) → x ≡ (a || b) → a ≡ false → b ≡ false → x ≡ false
@@ -79,33 +75,27 @@ entered-name : (a : App) (stop : Option (Text × List Text)) (name : Text) (rows
 entered-name a None name rows found = cc
 entered-name a (Some p) name rows found = found-one (λ s. rows_at s p.1) a.subs _ (name, rows) found
 
-pub named_some : (words : List Text) → AreTaken words → is_some (subcommand_of aether_command words) ≡ true
-unfolding aether_command new_command
-named_some words taken = names_some aether_command words refl taken
+pub named_some : (words : List Text) → AreKnown words → is_some (subcommand_of aether_command words) ≡ true
+unfolding aether_command new_command run_command
+named_some words known = names_some aether_command words refl known
 
 pub named-one : (words : List Text) (name : Text) (rows : List Row) → NamesSubcommand words name rows
-    → (name ≡ codes "new") ⊎ (name ≡ codes "recover") ⊎ (name ≡ codes "dump")
-unfolding aether_command new_command
+    → (name ≡ codes "new") ⊎ (name ≡ codes "run") ⊎ (name ≡ codes "recover") ⊎ (name ≡ codes "dump")
+unfolding aether_command new_command run_command
 named-one words name rows named =
     let a = built aether_command in
     elim (entered-name a (stop_after a.top.rules (names_of a) (argument_words aether_command words)) name rows named) [
       | inl new ↦ inl new
-      | inr (inl recover) ↦ inr (inl recover)
-      | inr (inr (inl dump)) ↦ inr (inr dump)
-      | inr (inr (inr none)) ↦ elim none [ ]
+      | inr (inl run) ↦ inr (inl run)
+      | inr (inr (inl recover)) ↦ inr (inr (inl recover))
+      | inr (inr (inr (inl dump))) ↦ inr (inr (inr dump))
+      | inr (inr (inr (inr none))) ↦ elim none [ ]
     ]
 
 -- the text behind a reference that may be missing
 pub unwrap_or-text : (text : Option (Bor Text)) (other : Bor Text) → (unwrap_or text other).now ≡ unwrap_or (option_map (λ s. s.now) text) other.now
 unwrap_or-text None other = refl
 unwrap_or-text (Some text) other = refl
-
--- `new` is answered with the name of its log
-pub answers-new : (words : List Text) (result : Result Command Refused) (log : Text) → IsCommandLine words (New log)
-    → MatchResult result (λ command. command ≡ New log) (λ fault. fault ≡ NoMemory)
-    → MatchResult result (IsCommandLine words) (IsRefusalOf words)
-answers-new words (Ok command) log asked is = subst (IsCommandLine words) (sym is) asked
-answers-new words (Err fault) log asked is = subst (IsRefusalOf words) (sym is) tt
 
 module _ {B : Type 0} (name_of : B → Text) (rows_of : B → List Row) where
   abbrev both : B → Text × List Row
@@ -120,40 +110,3 @@ module _ {B : Type 0} (name_of : B → Text) (rows_of : B → List Row) where
   pub rows-none : (sub : Option B) → false ≡ is_some sub → is_some (option_map both sub) ≡ false
   rows-none None none = refl
   rows-none (Some b) none = cc
-
--- words that are taken ask something
-some-pair : {X : Type 0} (o : Option X) → is_some o ≡ true → (x : X) × (o ≡ Some x)
-some-pair None is = cc
-some-pair (Some x) is = (x, refl)
-
-pub asks-some : (words : List (List ℕ)) → AreTaken words → IsCommandLine words Recover ⊎ IsCommandLine words Dump
-    ⊎ (log : List ℕ) × IsCommandLine words (New log)
-asks-some words taken =
-    let found = some-pair (subcommand_of aether_command words) (named_some words taken) in
-    let named : NamesSubcommand words found.0.0 found.0.1 = found.1 in
-    elim (named-one words found.0.0 found.0.1 named) [
-      | inl new ↦ inr (inr (log_in found.0.1, (taken, found.0.1, rw new at named, refl)))
-      | inr (inl recover) ↦ inl (taken, found.0.1, rw recover at named)
-      | inr (inr dump) ↦ inr (inl (taken, found.0.1, rw dump at named))
-    ]
-
-same-pair : {A B : Type 0} (p q : A × B) → Some p ≡ Some q → (p.0 ≡ q.0) × (p.1 ≡ q.1)
-same-pair p q same = let equal : p ≡ q = cc in (ap (λ r. r.0) equal, ap (λ r. r.1) equal)
-
--- words name one subcommand
-one-name : (words : List (List ℕ)) (first second : Text) (one other : List Row) → NamesSubcommand words first one → NamesSubcommand words second other → first ≡ second
-one-name words first second one other named also = (same-pair (first, one) (second, other) (sym named ∙ also)).0
-
-pub asks-apart : (words : List (List ℕ)) (log : List ℕ) → IsCommandLine words (New log) → IsCommandLine words Recover → ⊥
-asks-apart words log new recover = let same = one-name words (codes "new") (codes "recover") new.1 recover.1 new.2 recover.2 in cc
-
-pub asks-apart_dump : (words : List (List ℕ)) (log : List ℕ) → IsCommandLine words (New log) → IsCommandLine words Dump → ⊥
-asks-apart_dump words log new dump = let same = one-name words (codes "new") (codes "dump") new.1 dump.1 new.2 dump.2 in cc
-
-pub asks-apart_reads : (words : List (List ℕ)) → IsCommandLine words Recover → IsCommandLine words Dump → ⊥
-asks-apart_reads words recover dump = let same = one-name words (codes "recover") (codes "dump") recover.1 dump.1 recover.2 dump.2 in cc
-
-pub asks-log : (words : List (List ℕ)) (one other : List ℕ) → IsCommandLine words (New one) → IsCommandLine words (New other) → one ≡ other
-asks-log words one other first second =
-    let same = (same-pair (codes "new", first.1) (codes "new", second.1) (sym first.2 ∙ second.2)).1 in
-    first.3 ∙ ap log_in same ∙ sym second.3

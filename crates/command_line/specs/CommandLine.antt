@@ -1,8 +1,12 @@
 -- The command line of the program: the command that is defined, and what words ask by it. Words have the program's name first.
-use Rattle.std.specs.Prelude.{◌≡◌, ◌≢◌, ℕ, codes, Some, unwrap_or, true, List, []}
+use Rattle.std.specs.Prelude.{◌≡◌, ◌≢◌, ◌↔◌, IsTrue, ℕ, codes, Option, Some, None, unwrap_or, true, List, []}
 use Rattle.clap.specs.Words.{App, Rule, Row, new_app, new_rule, with_rule, with_subcommand, fault_of, subcommand_of, first_of}
+use Rattle.clap.specs.declared.builder.action.ArgAction.TheVariants.{SetTrue}
+use Rattle.lsn_space.specs.Number.{number_text}
+use Rattle.command_line.specs.Ranges.{AreInRange}
+use Rattle.command_line.specs.declared.options.RunOptions.{RunOptions}
 use Rattle.command_line.specs.declared.command.Command.{Command}
-use Rattle.command_line.specs.declared.command.Command.TheVariants.{New, Recover, Dump}
+use Rattle.command_line.specs.declared.command.Command.TheVariants.{New, Run, Recover, Dump}
 use Rattle.command_line.specs.declared.command.Refused.{Refused}
 use Rattle.command_line.specs.declared.command.Refused.TheVariants as refused
 
@@ -10,8 +14,20 @@ use Rattle.command_line.specs.declared.command.Refused.TheVariants as refused
 abbrev pub required_rule : List ℕ → Rule
 required_rule id = record (new_rule id) { required = true }
 
+-- an option with a value
+abbrev pub option_rule : List ℕ → Rule
+option_rule id = record (new_rule id) { long = Some id }
+
+-- an option without one
+abbrev pub flag_rule : List ℕ → Rule
+flag_rule id = record (new_rule id) { long = Some id; action = Some SetTrue }
+
 unfoldable pub new_command : App
 new_command = with_rule (new_app (codes "new")) (required_rule (codes "LOG"))
+
+unfoldable pub run_command : App
+run_command = with_rule (with_rule (with_rule (with_rule (with_rule (new_app (codes "run")) (required_rule (codes "LOG")))
+    (option_rule (codes "workers"))) (option_rule (codes "ring"))) (option_rule (codes "slots"))) (flag_rule (codes "wait"))
 
 abbrev pub recover_command : App
 recover_command = new_app (codes "recover")
@@ -32,11 +48,12 @@ bare_command = record (new_app (codes "aether")) {
 
 -- the command of the program
 unfoldable pub aether_command : App
-aether_command = with_subcommand (with_subcommand (with_subcommand bare_command new_command.top) recover_command.top) dump_command.top
+aether_command =
+    with_subcommand (with_subcommand (with_subcommand (with_subcommand bare_command new_command.top) run_command.top) recover_command.top) dump_command.top
 
 -- the command takes the words
-abbrev pub AreTaken : List (List ℕ) → Type 0
-AreTaken words = fault_of aether_command words ≡ []
+abbrev pub AreKnown : List (List ℕ) → Type 0
+AreKnown words = fault_of aether_command words ≡ []
 
 -- the words name this subcommand, with these matches
 abbrev pub NamesSubcommand : List (List ℕ) → List ℕ → List Row → Type 0
@@ -46,13 +63,45 @@ NamesSubcommand words name rows = subcommand_of aether_command words ≡ Some (n
 abbrev pub log_in : List Row → List ℕ
 log_in rows = unwrap_or (first_of (codes "LOG") rows) []
 
--- the words are taken, and ask this
-abbrev pub IsCommandLine : List (List ℕ) → Command → Type 0
-IsCommandLine words (New log) = AreTaken words × (rows : List Row) × NamesSubcommand words (codes "new") rows × (log ≡ log_in rows)
-IsCommandLine words Recover = AreTaken words × (rows : List Row) × NamesSubcommand words (codes "recover") rows
-IsCommandLine words Dump = AreTaken words × (rows : List Row) × NamesSubcommand words (codes "dump") rows
+-- the number of an option: its value is the text of the number; without a value it is the default
+abbrev pub IsNumberOf : Option (List ℕ) → ℕ → ℕ → Type 0
+IsNumberOf None default number = number ≡ default
+IsNumberOf (Some text) default number = text ≡ number_text number
 
--- why words ask nothing; want of memory says nothing of them
+-- what `run` is given: 2 workers, a ring of 65536 units and 4 slots where the words say nothing else
+pub record AreOptions (rows : List Row) (options : RunOptions) : Type 0 where
+  pub range : AreInRange options
+  pub workers : IsNumberOf (first_of (codes "workers") rows) 2 options.workers
+  pub ring : IsNumberOf (first_of (codes "ring") rows) 65536 options.ring
+  pub slots : IsNumberOf (first_of (codes "slots") rows) 4 options.slots
+  pub wait : IsTrue options.wait ↔ (first_of (codes "wait") rows ≡ Some (codes "true"))
+
+-- a number is written otherwise, or outside its range
+abbrev pub HasNoOptions : List Row → Type 0
+HasNoOptions rows = (options : RunOptions) → AreOptions rows options → ⊥
+
+-- the command takes the words, and they ask this
+abbrev pub IsCommandLine : List (List ℕ) → Command → Type 0
+IsCommandLine words (New log) = AreKnown words × (rows : List Row) × NamesSubcommand words (codes "new") rows × (log ≡ log_in rows)
+IsCommandLine words (Run log options) =
+    AreKnown words × (rows : List Row) × NamesSubcommand words (codes "run") rows × (log ≡ log_in rows) × AreOptions rows options
+IsCommandLine words Recover = AreKnown words × (rows : List Row) × NamesSubcommand words (codes "recover") rows
+IsCommandLine words Dump = AreKnown words × (rows : List Row) × NamesSubcommand words (codes "dump") rows
+
+-- the words ask something
+abbrev pub AreTaken : List (List ℕ) → Type 0
+AreTaken words = (command : Command) × IsCommandLine words command
+
+-- the words name `run`, but with numbers that it doesn't take
+abbrev pub NamesBadRun : List (List ℕ) → Type 0
+NamesBadRun words = (rows : List Row) × NamesSubcommand words (codes "run") rows × HasNoOptions rows
+
+-- why the command doesn't take words; want of memory says nothing of them
+abbrev pub IsMismatchOf : List (List ℕ) → Refused → Type 0
+IsMismatchOf words refused.Usage = fault_of aether_command words ≢ []
+IsMismatchOf words refused.NoMemory = Unit {0}
+
+-- why words ask nothing
 abbrev pub IsRefusalOf : List (List ℕ) → Refused → Type 0
-IsRefusalOf words refused.Usage = fault_of aether_command words ≢ []
+IsRefusalOf words refused.Usage = AreTaken words → ⊥
 IsRefusalOf words refused.NoMemory = Unit {0}

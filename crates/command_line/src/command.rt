@@ -1,3 +1,4 @@
+use crate::options::RunOptions;
 use lsn_space::Word;
 
 /// What the words of the command line ask.
@@ -5,6 +6,9 @@ use lsn_space::Word;
 pub enum Command {
     /// A log is made at this place.
     New { log: Word },
+
+    /// The transfers of the input are made over the log at this place.
+    Run { log: Word, options: RunOptions },
 
     /// The log of the input is read.
     Recover,
@@ -16,7 +20,7 @@ pub enum Command {
 /// Why words ask nothing.
 #[derive(Clone, Copy, Debug, PartialEq, Eq)]
 pub enum Refused {
-    /// The command doesn't take them.
+    /// The command doesn't take them, or a number isn't written as it should be, or is outside its range.
     Usage,
 
     NoMemory,

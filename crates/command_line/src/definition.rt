@@ -2,9 +2,9 @@
 ghost use Rattle.std.specs.Prelude.{◌≡◌, IfOk, false};
 ghost use Rattle.clap.specs.Words.{app_of, rule_of};
 ghost use Rattle.clap.specs.declared.builder.command.Command.TheViews.{out-Command};
-ghost use Rattle.command_line.specs.CommandLine.{aether_command, bare_command, new_command, required_rule};
+ghost use Rattle.command_line.specs.CommandLine.{aether_command, bare_command, flag_rule, new_command, option_rule, required_rule, run_command};
 
-use clap::{Arg, Command};
+use clap::{Arg, ArgAction, Command};
 use std::alloc::{AllocError, Global};
 
 /// A value that must be given, by its place.
@@ -15,11 +15,39 @@ fn required<'a>(alloc: Global, name: &'a str) -> Arg<'a>
     Arg::new(alloc, name).required(true)
 }
 
+/// An option with a value.
+fn option<'a>(alloc: Global, name: &'a str) -> Arg<'a>
+    ensures rule { rule_of result ≡ option_rule name.entry.now }
+    ensures local { result.global ≡ false }
+{
+    Arg::new(alloc, name).long(name)
+}
+
+/// An option without one.
+fn flag<'a>(alloc: Global, name: &'a str) -> Arg<'a>
+    ensures rule { rule_of result ≡ flag_rule name.entry.now }
+    ensures local { result.global ≡ false }
+{
+    Arg::new(alloc, name).long(name).action(ArgAction::SetTrue)
+}
+
 fn new<'a>(alloc: Global) -> Result<Command<'a>, AllocError>
     ensures app { IfOk result (λ r. app_of r ≡ new_command) }
     ensures local { IfOk result (λ r. (out-Command r).has_globals ≡ false) }
 {
     Command::new(alloc, "new").arg(required(alloc, "LOG"))
+}
+
+fn run<'a>(alloc: Global) -> Result<Command<'a>, AllocError>
+    ensures app { IfOk result (λ r. app_of r ≡ run_command) }
+    ensures local { IfOk result (λ r. (out-Command r).has_globals ≡ false) }
+{
+    Command::new(alloc, "run")
+        .arg(required(alloc, "LOG"))?
+        .arg(option(alloc, "workers"))?
+        .arg(option(alloc, "ring"))?
+        .arg(option(alloc, "slots"))?
+        .arg(flag(alloc, "wait"))
 }
 
 /// A command line that asks for help is a faulty one, so nothing here stands for help or for a version.
@@ -39,6 +67,7 @@ pub(crate) fn aether<'a>(alloc: Global) -> Result<Command<'a>, AllocError>
 {
     bare(alloc)
         .subcommand(new(alloc)?)?
+        .subcommand(run(alloc)?)?
         .subcommand(Command::new(alloc, "recover"))?
         .subcommand(Command::new(alloc, "dump"))
 }

@@ -1,16 +1,14 @@
 //! Laws of the definitions. The function does nothing.
 
-ghost use Rattle.std.specs.Prelude.{◌≡◌, ◌⊎◌, ℕ, List};
-ghost use Rattle.command_line.specs.CommandLine.{AreTaken, IsCommandLine};
-ghost use Rattle.command_line.specs.declared.command.Command.TheVariants.{New, Recover, Dump};
+ghost use Rattle.std.specs.Prelude.{◌≡◌, ◌⊎◌, ℕ, List, codes};
+ghost use Rattle.clap.specs.Words.{Row};
+ghost use Rattle.command_line.specs.CommandLine.{AreKnown, AreTaken, IsCommandLine, NamesSubcommand};
+ghost use Rattle.command_line.specs.declared.command.Command.{Command};
 
-/// A law: words that are taken ask one of the commands, and only one.
+/// A law: words ask one thing at most. Those that the command takes ask something, but for `run` with numbers that it
+/// doesn't take.
 pub fn one_command()
-    ensures some { (words : List (List ℕ)) → AreTaken words → IsCommandLine words Recover ⊎ IsCommandLine words Dump
-        ⊎ (log : List ℕ) × IsCommandLine words (New log) }
-    ensures apart { (words : List (List ℕ)) (log : List ℕ) → IsCommandLine words (New log) → IsCommandLine words Recover → ⊥ }
-    ensures apart_dump { (words : List (List ℕ)) (log : List ℕ) → IsCommandLine words (New log) → IsCommandLine words Dump → ⊥ }
-    ensures apart_reads { (words : List (List ℕ)) → IsCommandLine words Recover → IsCommandLine words Dump → ⊥ }
-    ensures log { (words : List (List ℕ)) (one other : List ℕ) → IsCommandLine words (New one) → IsCommandLine words (New other)
-        → one ≡ other }
+    ensures one { (words : List (List ℕ)) (one other : Command) → IsCommandLine words one → IsCommandLine words other → one ≡ other }
+    ensures some { (words : List (List ℕ)) → AreKnown words
+        → AreTaken words ⊎ (rows : List Row) × NamesSubcommand words (codes "run") rows }
 {}

@@ -4,10 +4,12 @@
 mod command;
 mod definition;
 mod laws;
+mod options;
 mod parsing;
 #[cfg(test)]
 mod tests;
 
 pub use command::{Command, Refused};
 pub use laws::one_command;
+pub use options::RunOptions;
 pub use parsing::parse;

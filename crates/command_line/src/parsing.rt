@@ -1,10 +1,12 @@
 ghost use Rattle.std.specs.Prelude.{◌≡◌, ◌≢◌, ◌⊎◌, [], IfErr, IfOk, MatchResult, map, true};
-ghost use Rattle.clap.specs.Words.{fault_of, subcommand_of, subcommand_rows_of, takes};
-ghost use Rattle.command_line.specs.CommandLine.{aether_command, IsCommandLine, IsRefusalOf};
-ghost use Rattle.command_line.specs.declared.command.Command.TheVariants.{New};
+ghost use Rattle.clap.specs.Words.{fault_of, found_of, rows_of, subcommand_of, subcommand_rows_of, takes};
+ghost use Rattle.command_line.specs.CommandLine.{aether_command, log_in, AreKnown, AreOptions, HasNoOptions, IsCommandLine, IsMismatchOf, IsRefusalOf, NamesBadRun};
+ghost use Rattle.command_line.specs.declared.command.Command.TheVariants.{New, Run};
+ghost use Rattle.command_line.specs.declared.options.RunOptions.{RunOptions};
 
 use crate::command::{Command, Refused};
 use crate::definition::aether;
+use crate::options::options_in;
 use clap::ArgMatches;
 use clap::error::ErrorKind;
 use lsn_space::Word;
@@ -13,25 +15,47 @@ use std::alloc::Global;
 /// What the words ask.
 pub fn parse(alloc: Global, words: &[Word]) -> Result<Command, Refused>
     ensures exact { MatchResult result (IsCommandLine words.now) (IsRefusalOf words.now) }
-    ensures taken { takes aether_command words.now ≡ true → IfErr result (λ e. e ≡ Refused.NoMemory) }
+    ensures taken { takes aether_command words.now ≡ true → IfErr result (λ e. (e ≡ Refused.NoMemory) ⊎ NamesBadRun words.now) }
 {
     let matches = matches_of(alloc, words)?;
     let Some((name, found)) = matches.subcommand() else {
         unreachable!()
     };
     match name {
-        "new" => new(alloc, found.get_str("LOG").unwrap_or("")),
+        "new" => new(alloc, found),
+        "run" => run(alloc, found),
         "recover" => Ok(Command::Recover),
         "dump" => Ok(Command::Dump),
         _ => unreachable!(),
     }
 }
 
-fn new(alloc: Global, log: &str) -> Result<Command, Refused>
-    ensures { MatchResult result (λ c. c ≡ New log.now) (λ e. e ≡ Refused.NoMemory) }
+fn new(alloc: Global, found: &ArgMatches<'_>) -> Result<Command, Refused>
+    ensures { MatchResult result (λ c. c ≡ New (log_in (rows_of (found_of found.now)))) (λ e. e ≡ Refused.NoMemory) }
 {
-    match Word::make(alloc, log) {
-        Ok(log) => Ok(Command::New { log }),
+    let log = log_of(alloc, found)?;
+    Ok(Command::New { log })
+}
+
+fn run(alloc: Global, found: &ArgMatches<'_>) -> Result<Command, Refused>
+    ensures { MatchResult result
+        (λ c. (options : RunOptions) × AreOptions (rows_of (found_of found.now)) options
+        × (c ≡ Run (log_in (rows_of (found_of found.now))) options))
+        (λ e. (e ≡ Refused.NoMemory) ⊎ ((e ≡ Refused.Usage) × HasNoOptions (rows_of (found_of found.now)))) }
+{
+    let Some(options) = options_in(found) else {
+        return Err(Refused::Usage);
+    };
+    let log = log_of(alloc, found)?;
+    Ok(Command::Run { log, options })
+}
+
+/// The value of LOG.
+fn log_of(alloc: Global, found: &ArgMatches<'_>) -> Result<Word, Refused>
+    ensures { MatchResult result (λ log. log ≡ log_in (rows_of (found_of found.now))) (λ e. e ≡ Refused.NoMemory) }
+{
+    match Word::make(alloc, found.get_str("LOG").unwrap_or("")) {
+        Ok(log) => Ok(log),
         Err(_) => Err(Refused::NoMemory),
     }
 }
@@ -39,7 +63,7 @@ fn new(alloc: Global, log: &str) -> Result<Command, Refused>
 /// What the command finds in the words.
 fn matches_of<'a>(alloc: Global, words: &'a [Word]) -> Result<ArgMatches<'a>, Refused>
     ensures ok { IfOk result (λ m. subcommand_rows_of m ≡ subcommand_of aether_command words.entry.now) }
-    ensures exact { MatchResult result (λ _. fault_of aether_command words.entry.now ≡ []) (IsRefusalOf words.entry.now) }
+    ensures exact { MatchResult result (λ _. AreKnown words.entry.now) (IsMismatchOf words.entry.now) }
     ensures taken { takes aether_command words.entry.now ≡ true → IfErr result (λ e. e ≡ Refused.NoMemory) }
 {
     let Ok(command) = aether(alloc) else {

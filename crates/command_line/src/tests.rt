@@ -1,6 +1,6 @@
 //! Which words are a command.
 
-use crate::{Command, Refused, parse};
+use crate::{Command, Refused, RunOptions, parse};
 use lsn_space::Word;
 use std::test::Fail;
 
@@ -43,6 +43,124 @@ fn takes_commands(rt: HostRuntime) -> Result<(), Fail> {
     for words in [["aether", "dump"], ["", "dump"]] {
         assert!(rt;
             matches!(parsed(&rt, &words)?, Ok(Command::Dump)),
+            "{words:?}"
+        );
+    }
+    Ok(())
+}
+
+/// A case of `run`: the words, its workers, ring and slots, and whether it waits.
+type Case<'a> = (&'a [&'a str], u32, u32, u32, bool);
+
+#[test]
+fn takes_options_of_run(rt: HostRuntime) -> Result<(), Fail> {
+    let cases: [Case<'_>; 10] = [
+        (&["aether", "run", "log"], 2, 65536, 4, false),
+        (&["aether", "run", "log", "--wait"], 2, 65536, 4, true),
+        (&["aether", "run", "--wait", "log"], 2, 65536, 4, true),
+        (
+            &["aether", "run", "log", "--workers", "1"],
+            1,
+            65536,
+            4,
+            false,
+        ),
+        (&["aether", "run", "--workers=2", "log"], 2, 65536, 4, false),
+        (&["aether", "run", "log", "--ring=1024"], 2, 1024, 4, false),
+        (
+            &["aether", "run", "log", "--ring", "1048576"],
+            2,
+            1048576,
+            4,
+            false,
+        ),
+        (
+            &["aether", "run", "log", "--slots", "0"],
+            2,
+            65536,
+            0,
+            false,
+        ),
+        (
+            &["aether", "run", "log", "--slots", "16"],
+            2,
+            65536,
+            16,
+            false,
+        ),
+        (
+            &[
+                "",
+                "run",
+                "--slots=1",
+                "--ring=2048",
+                "--workers=1",
+                "--wait",
+                "--",
+                "log",
+            ],
+            1,
+            2048,
+            1,
+            true,
+        ),
+    ];
+    for (words, workers, ring, slots, wait) in cases {
+        let want = RunOptions {
+            workers,
+            ring,
+            slots,
+            wait,
+        };
+        let command = parsed(&rt, words)?;
+        assert!(rt;
+            matches!(&command, Ok(Command::Run { log, options }) if log.text() == "log" && *options == want),
+            "{words:?}"
+        );
+    }
+    Ok(())
+}
+
+#[test]
+fn refuses_other_options_of_run(rt: HostRuntime) -> Result<(), Fail> {
+    let cases: [&[&str]; 33] = [
+        &["aether", "run"],
+        &["aether", "run", "--wait"],
+        &["aether", "run", "log", "log"],
+        &["aether", "run", "log", "--workers"],
+        &["aether", "run", "log", "--workers="],
+        &["aether", "run", "log", "--workers", "0"],
+        &["aether", "run", "log", "--workers", "3"],
+        &["aether", "run", "log", "--workers", "16"],
+        &["aether", "run", "log", "--workers", "01"],
+        &["aether", "run", "log", "--workers", "+2"],
+        &["aether", "run", "log", "--workers", "-1"],
+        &["aether", "run", "log", "--workers=-1"],
+        &["aether", "run", "log", "--workers", " 1"],
+        &["aether", "run", "log", "--workers", "1 "],
+        &["aether", "run", "log", "--workers", "two"],
+        &["aether", "run", "log", "--workers", "4294967297"],
+        &["aether", "run", "log", "--workers", "1", "--workers", "1"],
+        &["aether", "run", "log", "--work", "1"],
+        &["aether", "run", "log", "--ring", "1000"],
+        &["aether", "run", "log", "--ring", "512"],
+        &["aether", "run", "log", "--ring", "1536"],
+        &["aether", "run", "log", "--ring", "2097152"],
+        &["aether", "run", "log", "--ring", "01024"],
+        &["aether", "run", "log", "--slots", "17"],
+        &["aether", "run", "log", "--slots", "00"],
+        &["aether", "run", "log", "--slots", ""],
+        &["aether", "run", "log", "--wait=x"],
+        &["aether", "run", "log", "--wait=true"],
+        &["aether", "run", "log", "--wait", "--wait"],
+        &["aether", "--wait", "run", "log"],
+        &["aether", "run", "log", "--help"],
+        &["aether", "recover", "--wait"],
+        &["aether", "new", "log", "--ring", "1024"],
+    ];
+    for words in cases {
+        assert!(rt;
+            matches!(parsed(&rt, words)?, Err(Refused::Usage)),
             "{words:?}"
         );
     }

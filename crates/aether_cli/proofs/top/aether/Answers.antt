@@ -1,6 +1,10 @@
-use Rattle.std.proofs.Common.{◌∙◌, sym, subst}
+use Rattle.std.proofs.Common.{◌≡◌, ◌∙◌, sym, subst}
+use Rattle.command_line.specs.CommandLine.{IsCommandLine, IsRefusalOf}
+use Rattle.command_line.proofs.Asking.{asks-options}
+use Rattle.command_line.specs.declared.command.Command.TheVariants.{New, Run, Dump}
 use Rattle.aether_cli.specs.Answers.{IsOfDump, IsOfRecover}
 use Rattle.aether_cli.proofs.CompletenessLemmas.{dump-complete, new-complete}
+use Rattle.aether_cli.proofs.RunCompleteness.{run-complete}
 use Rattle.aether_cli.proofs.top.aether.Goals as goal
 
 pub returns-in-Ok-New-clause-complete : goal.returns-in-Ok-New-clause-complete
@@ -21,3 +25,47 @@ pub returns-in-Ok-Dump-clause-complete_dump : goal.returns-in-Ok-Dump-clause-com
 returns-in-Ok-Dump-clause-complete_dump g c = λ asked.
     let called = c.dump_command.ensures in
     rw c.of-in-Ok-Dump.ensures.detail (dump-complete _ _ _ _ _ _ c.dump_command.result called.answer called.read called.write)
+
+pub returns-in-Ok-Run-clause-run : goal.returns-in-Ok-Run-clause-run
+returns-in-Ok-Run-clause-run g c = λ log options asked honest.
+    let same = asks-options c.args.words.now log c.in-Ok-Run.log options c.in-Ok-Run.options asked
+    (subst (IsCommandLine c.args.words.now) c.in-Ok-Run.field-0-is c.in-Ok-Run.ensures.exact) in
+    rw (same, c.of-in-Ok-Run.ensures.detail) (c.run_command.ensures.answer honest)
+
+pub returns-in-Ok-Run-clause-complete_run : goal.returns-in-Ok-Run-clause-complete_run
+returns-in-Ok-Run-clause-complete_run g c = λ asked honest.
+    let called = c.run_command.ensures in
+    rw c.of-in-Ok-Run.ensures.detail (run-complete g.D.LogDisk _ _ _ _ _ _ _ _ _ _ c.run_command.result (called.answer honest)
+    called.read called.write called.disk)
+
+-- words that ask nothing
+pub returns-in-Err-Usage-clause-dump : goal.returns-in-Err-Usage-clause-dump
+returns-in-Err-Usage-clause-dump g c = λ asked. absurd (subst (IsRefusalOf c.args.words.now) c.in-Err-Usage.field-0-is c.in-Err-Usage.ensures.exact (Dump, asked))
+
+pub returns-in-Err-Usage-clause-of_dump : goal.returns-in-Err-Usage-clause-of_dump
+returns-in-Err-Usage-clause-of_dump g c = λ asked. absurd (subst (IsRefusalOf c.args.words.now) c.in-Err-Usage.field-0-is c.in-Err-Usage.ensures.exact (Dump, asked))
+
+pub returns-in-Err-Usage-clause-complete_dump : goal.returns-in-Err-Usage-clause-complete_dump
+returns-in-Err-Usage-clause-complete_dump g c = λ asked. absurd (subst (IsRefusalOf c.args.words.now) c.in-Err-Usage.field-0-is c.in-Err-Usage.ensures.exact (Dump, asked))
+
+pub returns-in-Err-Usage-clause-new : goal.returns-in-Err-Usage-clause-new
+returns-in-Err-Usage-clause-new g c = λ asked. absurd (subst (IsRefusalOf c.args.words.now) c.in-Err-Usage.field-0-is c.in-Err-Usage.ensures.exact (New asked.0, asked.1))
+
+pub returns-in-Err-Usage-clause-of_new : goal.returns-in-Err-Usage-clause-of_new
+returns-in-Err-Usage-clause-of_new g c = λ asked. absurd (subst (IsRefusalOf c.args.words.now) c.in-Err-Usage.field-0-is c.in-Err-Usage.ensures.exact (New asked.0, asked.1))
+
+pub returns-in-Err-Usage-clause-exists : goal.returns-in-Err-Usage-clause-exists
+returns-in-Err-Usage-clause-exists g c = λ asked. absurd (subst (IsRefusalOf c.args.words.now) c.in-Err-Usage.field-0-is c.in-Err-Usage.ensures.exact (New asked.0, asked.1))
+
+pub returns-in-Err-Usage-clause-complete : goal.returns-in-Err-Usage-clause-complete
+returns-in-Err-Usage-clause-complete g c = λ asked. absurd (subst (IsRefusalOf c.args.words.now) c.in-Err-Usage.field-0-is c.in-Err-Usage.ensures.exact (New asked.0, asked.1))
+
+pub returns-in-Err-Usage-clause-of_run : goal.returns-in-Err-Usage-clause-of_run
+returns-in-Err-Usage-clause-of_run g c = λ asked. absurd (subst (IsRefusalOf c.args.words.now) c.in-Err-Usage.field-0-is c.in-Err-Usage.ensures.exact (Run asked.0 asked.1, asked.2))
+
+pub returns-in-Err-Usage-clause-run : goal.returns-in-Err-Usage-clause-run
+returns-in-Err-Usage-clause-run g c = λ log options asked. absurd (subst (IsRefusalOf c.args.words.now) c.in-Err-Usage.field-0-is c.in-Err-Usage.ensures.exact (Run log options, asked))
+
+pub returns-in-Err-Usage-clause-complete_run : goal.returns-in-Err-Usage-clause-complete_run
+returns-in-Err-Usage-clause-complete_run g c = λ asked. absurd (subst (IsRefusalOf c.args.words.now) c.in-Err-Usage.field-0-is
+    c.in-Err-Usage.ensures.exact (Run asked.0 asked.1, asked.2))

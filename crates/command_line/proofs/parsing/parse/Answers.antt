@@ -1,8 +1,8 @@
-use Rattle.std.proofs.Common.{◌≡◌, ◌∙◌, inl, inr, sym, ap, false, codes, is_some, unwrap_or, []}
-use Rattle.clap.proofs.WalkLemmas.{first_value-rows}
+use Rattle.std.proofs.Common.{◌≡◌, ◌∙◌, inl, inr, refl, sym, ap, false, is_some}
 use Rattle.clap.specs.Words.{subcommand_of, found_of, rows_of}
 use Rattle.command_line.specs.CommandLine.{aether_command, NamesSubcommand}
-use Rattle.command_line.proofs.Facts.{rows-named, rows-none, named-one, named_some, answers-new, unwrap_or-text}
+use Rattle.command_line.proofs.Asking.{answers-new, answers-run, refuses-run, known-taken}
+use Rattle.command_line.proofs.Facts.{rows-named, rows-none, named-one, named_some}
 use Rattle.command_line.proofs.parsing.parse.Goals as goal
 
 pub unreachable-requires : goal.unreachable-requires
@@ -17,9 +17,21 @@ returns-in-new-clause-exact c =
     let rows = rows_of (found_of c.in-Some.found.now) in
     let named : NamesSubcommand c.args.words.now c.in-Some.name.now rows =
     sym c.in_ok-matches.ensures.ok ∙ rows-named _ _ _ _ _ c.in-Some.ensures.name c.in-Some.ensures.rows in
-    let text = ap (λ o. unwrap_or o []) (c.get_str.ensures ∙ first_value-rows (found_of c.in-Some.found.now) (codes "LOG")) in
-    let log = ap (λ t. t.now) c.unwrap_or.ensures ∙ unwrap_or-text c.get_str.result _ ∙ text in
-    answers-new _ _ _ (c.in_ok-matches.ensures.exact, rows, rw c.in-new.is at named, log) c.new.ensures
+    answers-new c.args.words.now c.new.result _ (c.in_ok-matches.ensures.exact, rows, rw c.in-new.is at named, refl) c.new.ensures
+
+pub returns-in-run-clause-exact : goal.returns-in-run-clause-exact
+returns-in-run-clause-exact c =
+    let rows = rows_of (found_of c.in-Some.found.now) in
+    let named : NamesSubcommand c.args.words.now c.in-Some.name.now rows =
+    sym c.in_ok-matches.ensures.ok ∙ rows-named _ _ _ _ _ c.in-Some.ensures.name c.in-Some.ensures.rows in
+    answers-run c.args.words.now rows c.in_ok-matches.ensures.exact (rw c.in-run.is at named) c.run.result c.run.ensures
+
+pub returns-in-run-clause-taken : goal.returns-in-run-clause-taken
+returns-in-run-clause-taken c = λ takes.
+    let rows = rows_of (found_of c.in-Some.found.now) in
+    let named : NamesSubcommand c.args.words.now c.in-Some.name.now rows =
+    sym c.in_ok-matches.ensures.ok ∙ rows-named _ _ _ _ _ c.in-Some.ensures.name c.in-Some.ensures.rows in
+    refuses-run c.args.words.now rows c.in_ok-matches.ensures.exact (rw c.in-run.is at named) c.run.result c.run.ensures
 
 pub unreachable-requires-in_default-name : goal.unreachable-requires-in_default-name
 unreachable-requires-in_default-name c =
@@ -28,6 +40,7 @@ unreachable-requires-in_default-name c =
     sym c.in_ok-matches.ensures.ok ∙ rows-named _ _ _ _ _ c.in-Some.ensures.name c.in-Some.ensures.rows in
     elim (named-one _ _ _ named) [
       | inl new ↦ c.in_default-name.not-new new
-      | inr (inl recover) ↦ c.in_default-name.not-recover recover
-      | inr (inr dump) ↦ c.in_default-name.not-dump dump
+      | inr (inl run) ↦ c.in_default-name.not-run run
+      | inr (inr (inl recover)) ↦ c.in_default-name.not-recover recover
+      | inr (inr (inr dump)) ↦ c.in_default-name.not-dump dump
     ]

@@ -1,0 +1,109 @@
+-- What is promised of transfers that have ended, in the words of what came of them.
+use Rattle.std.proofs.Common.{◌≡◌, ◌<◌, ◌∙◌, ap, sym, subst, refl, ℕ, zero, suc, List, [], ◌∷◌, ◌++◌, length, map, get_or, All, None, Some, arith}
+use Rattle.std.specs.List.{AllByRecursion}
+use Rattle.std.proofs.lemmas.List.{length-map}
+use Rattle.std.proofs.lemmas.List.Elements.{All-head, All-tail}
+use mathlib.Core.Option.{some}
+use lib.ListN.{get_elem?}
+use Rattle.log_disk.specs.declared.disk.LogDisk.{Ghosts}
+use Rattle.log_disk.specs.declared.sink.Sink.{Ghosts as SinkGhosts}
+use Rattle.log_disk.specs.Faults.{Rose}
+use Rattle.log_record.specs.declared.rec.Rec.{Rec}
+use Rattle.log_table.specs.Closing.{records_of}
+use Rattle.log_table.specs.Seats.{key_of}
+use Rattle.commit_pipeline.specs.declared.daemon.DaemonFault.TheVariants.{DiskFault, WriteFault}
+use Rattle.commit_pipeline.specs.declared.voice.Voice.{Voice}
+use Rattle.commit_pipeline.specs.Later.{HasReason}
+use Rattle.txn_runner.specs.declared.cause.Cause.TheVariants.{Stop, LogEnd}
+use Rattle.txn_runner.specs.declared.cause.Worked.{Worked}
+use Rattle.txn_runner.specs.declared.cause.Worked.TheVariants as worked
+use Rattle.aether_cli.specs.declared.transfers.Ended.{Ended}
+use Rattle.aether_cli.specs.declared.transfers.Prepared.{Prepared}
+use Rattle.aether_cli.specs.Ending.{HasEnded, AreWhole, NoneStopped, IsFirstLogEnd}
+use Rattle.aether_cli.specs.Run.{RunKeepsLog, RunIsDrained, RunsWhole}
+use Rattle.aether_cli.specs.RunStops.{StopsAtLogEnd}
+use Rattle.aether_cli.specs.Shares.{Share}
+use Rattle.aether_cli.proofs.RunLemmas.{keeps, drained, whole, stops-at-end, never-stops, reason, same}
+
+abbrev work_of : Share → Worked
+work_of share = share.worked
+
+-- the k-th worker's share
+share-at : (shares : List Share) (k : ℕ) (other : Worked) → k < length shares
+    → (share : Share) × (get_elem? shares k ≡ some share) × (get_or (map work_of shares) k other ≡ share.worked)
+share-at [] k other below = absurd (omega arith)
+share-at (share ∷ shares) zero other below = (share, refl, refl)
+share-at (share ∷ shares) (suc k) other below = share-at shares k other (omega arith)
+
+all-whole : (shares : List Share) → AreWhole (map work_of shares) → AllByRecursion (λ (share : Share). share.worked ≡ worked.All) shares
+all-whole [] whole = tt
+all-whole (share ∷ shares) whole = (
+  All-head (λ end. end ≡ worked.All) share.worked (map work_of shares) whole,
+  all-whole shares (All-tail (λ end. end ≡ worked.All) share.worked (map work_of shares) whole),
+)
+
+-- what stands behind a list
+get_or-behind : (below above : List Worked) (end other : Worked) → get_or (below ++ end ∷ above) (length below) other ≡ end
+get_or-behind [] above end other = refl
+get_or-behind (first ∷ below) above end other = get_or-behind below above end other
+
+length-behind : (below above : List Worked) (end : Worked) → length below < length (below ++ end ∷ above)
+length-behind [] above end = omega arith
+length-behind (first ∷ below) above end = let shorter = length-behind below above end in omega arith
+
+module _ {D : Type 0} {K : Type 0} (g : Ghosts D) (h : SinkGhosts K) (prepared : Prepared) (opened : List Rec) (voice : Voice)
+    (disk disk_new : D) (sink sink_new : K) (ended : Ended) (has : HasEnded g h prepared opened voice disk disk_new sink sink_new ended) where
+  abbrev pub list : List Rec
+  list = records_of has.view.entries
+
+  pub keeps-ended : RunKeepsLog g voice opened prepared.jobs list disk disk_new (h.held_bytes sink) (h.held_bytes sink_new)
+  keeps-ended = rw (← has.speaks, ← has.disk_old, ← has.disk_is, ← has.sink_old, ← has.sink_is)
+      (keeps g h opened prepared.jobs has.shares (key_of prepared.table) has.first has.last has.view ended.closed.tail
+      ended.closed.accounts.rows has.transferred)
+
+  pub whole-ended : AreWhole ended.ends.items → RunsWhole opened prepared.jobs list
+  whole-ended all = whole g h opened prepared.jobs has.shares (key_of prepared.table) has.first has.last has.view ended.closed.tail
+      ended.closed.accounts.rows has.transferred (all-whole has.shares (subst AreWhole (sym has.ends) all))
+
+  -- why the daemon failed
+  pub reason-disk : ended.fault ≡ Some DiskFault → Rose (g.faults disk) (g.faults disk_new)
+  reason-disk fault =
+      let why = subst (HasReason g h has.first has.last) (has.fault ∙ fault) (reason g h opened prepared.jobs has.shares (key_of prepared.table)
+      has.first has.last has.view ended.closed.tail ended.closed.accounts.rows has.transferred) in
+      rw (← has.disk_old, ← has.disk_is) why.0
+
+  pub reason-write : ended.fault ≡ Some WriteFault → Rose (h.faults sink) (h.faults sink_new)
+  reason-write fault =
+      let why = subst (HasReason g h has.first has.last) (has.fault ∙ fault) (reason g h opened prepared.jobs has.shares (key_of prepared.table)
+      has.first has.last has.view ended.closed.tail ended.closed.accounts.rows has.transferred) in
+      rw (← has.sink_old, ← has.sink_is) why.0
+
+  module _ (fine : ended.fault ≡ None) where
+    pub drained-ended : RunIsDrained g voice opened prepared.jobs list disk disk_new (h.held_bytes sink) (h.held_bytes sink_new)
+        ended.closed.tail ended.closed.accounts.rows
+    drained-ended = rw (← has.speaks, ← has.disk_old, ← has.disk_is, ← has.sink_old, ← has.sink_is)
+        (drained g h opened prepared.jobs has.shares (key_of prepared.table) has.first has.last has.view ended.closed.tail
+        ended.closed.accounts.rows has.transferred (has.fault ∙ fine))
+
+    pub none_stopped-ended : NoneStopped ended.ends.items
+    none_stopped-ended = subst NoneStopped has.ends each
+      where
+        each : NoneStopped (map work_of has.shares)
+        each k other below word at =
+            let found = share-at has.shares k other (omega (arith, below, length-map has.shares work_of)) in
+            let stopped : found.0.worked ≡ worked.Cut (Stop word) = sym found.2 ∙ at in
+            never-stops g h opened prepared.jobs has.shares (key_of prepared.table) has.first has.last has.view ended.closed.tail
+            ended.closed.accounts.rows has.transferred (has.fault ∙ fine) k found.0.taken word
+            (found.1 ∙ (λ i. some (record { taken = found.0.taken; worked = stopped i })))
+
+    pub stops-ended : (tail total : ℕ) → IsFirstLogEnd ended.ends.items tail total → StopsAtLogEnd opened prepared.jobs list tail total
+    stops-ended tail total first =
+        let ends = has.ends ∙ first.whole in
+        let counted = ap length ends in
+        let found = share-at has.shares (length first.below) worked.All
+        (omega (arith, counted, length-map has.shares work_of, length-behind first.below first.above (worked.Cut (LogEnd tail total)))) in
+        let stopped : found.0.worked ≡ worked.Cut (LogEnd tail total) =
+        sym found.2 ∙ ap (λ list. get_or list (length first.below) worked.All) ends ∙ get_or-behind first.below first.above _ worked.All in
+        stops-at-end g h opened prepared.jobs has.shares (key_of prepared.table) has.first has.last has.view ended.closed.tail
+        ended.closed.accounts.rows has.transferred (has.fault ∙ fine) (length first.below) found.0.taken tail total
+        (found.1 ∙ (λ i. some (record { taken = found.0.taken; worked = stopped i })))

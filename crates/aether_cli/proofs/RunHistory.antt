@@ -1,0 +1,35 @@
+-- The history of a list that goes on from the opened one.
+use Rattle.std.proofs.Common.{◌≡◌, ℕ, List, [], ◌∷◌, ◌++◌, ap, ◌∙◌, arith}
+use Rattle.std.specs.List.{AllByRecursion}
+use Rattle.log_record.specs.declared.rec.Rec.{Rec}
+use Rattle.log_record.specs.declared.rec.Entry.{Entry}
+use Rattle.log_record.specs.LogList.{end_of}
+use Rattle.log_record.specs.Spelling.{IsSpellable}
+use Rattle.lock_core.specs.History.{end_from, entry_at, history_from, history}
+use Rattle.lock_core.proofs.Fronts.{history_from-append, history_from-apart}
+use Rattle.log_recovery.proofs.ListingLemmas.{end_from-history}
+
+-- what follows the opened list
+abbrev pub later_of : List Rec → List Rec → List Entry
+later_of opened records = history_from (end_of opened) [] records
+
+pub end-opened : (opened : List Rec) → end_from 0 (history opened) ≡ end_of opened
+end-opened opened = end_from-history 0 [] opened ∙ omega arith
+
+pub history-later : (opened records : List Rec) → history (opened ++ records) ≡ later_of opened records ++ history opened
+history-later opened records =
+    history_from-append 0 [] opened records ∙ history_from-apart 0 (history opened) records
+    ∙ ap (λ end. history_from end [] records ++ history opened) (end-opened opened)
+
+-- more records stand before
+pub later-append : (opened front rest : List Rec) → (more : List Entry) × (later_of opened (front ++ rest) ≡ more ++ later_of opened front)
+later-append opened front rest = (
+  history_from (end_from (end_of opened) (later_of opened front)) [] rest,
+  history_from-append (end_of opened) [] front rest ∙ history_from-apart (end_of opened) (later_of opened front) rest,
+)
+
+-- the entries of spellable records are spellable
+pub spellable-history : (start : ℕ) (h : List Entry) (records : List Rec) → AllByRecursion (λ (entry : Entry). IsSpellable entry.rec) h
+    → AllByRecursion IsSpellable records → AllByRecursion (λ (entry : Entry). IsSpellable entry.rec) (history_from start h records)
+spellable-history start h [] all each = all
+spellable-history start h (rec ∷ records) all each = spellable-history start (entry_at (end_from start h) rec ∷ h) records (each.0, all) each.1

@@ -1,0 +1,167 @@
+-- What a crash may leave of a run, and what was written, by the turns of the daemon.
+use Rattle.std.proofs.Common.{◌≡◌, ◌⊎◌, inl, inr, ⊎_elim, ◌≤◌, ℕ, ◌+◌, ◌*◌, List, [], ◌++◌, length, Option, Some, None, refl, ap, ◌∙◌, sym, subst, arith, append_assoc, append-nil}
+use Rattle.std.specs.Io.KnownBytes.{Appends}
+use Rattle.std.proofs.KnownBytes.{Appends-nil}
+use Rattle.log_disk.specs.Disk.{Leaves}
+use Rattle.log_disk.proofs.Moments.{Leaves-refl, Leaves-weaken}
+use Rattle.log_disk.specs.Streams.{AppendsPrefix}
+use Rattle.log_disk.specs.declared.disk.LogDisk.{Ghosts}
+use Rattle.log_disk.specs.declared.sink.Sink.{Ghosts as SinkGhosts}
+use Rattle.log_record.specs.declared.rec.Rec.{Rec}
+use Rattle.log_record.specs.LogList.{units_of, end_of}
+use Rattle.segment_file.specs.File.{HoldsUnits}
+use Rattle.segment_file.specs.Standing.{AllStand}
+use Rattle.segment_file.proofs.StandingLemmas.{holds}
+use Rattle.log_recovery.proofs.ListingLemmas.{units_of-append}
+use Rattle.log_table.specs.declared.view.View.{View}
+use Rattle.log_table.specs.Seats.{view_of}
+use Rattle.flusher.specs.Flushing.{sent_of}
+use Rattle.commit_pipeline.specs.declared.daemon.Daemon.{Daemon}
+use Rattle.commit_pipeline.specs.declared.daemon.DaemonFault.{DaemonFault}
+use Rattle.commit_pipeline.specs.declared.daemon.DaemonFault.TheVariants.{DiskFault, WriteFault}
+use Rattle.commit_pipeline.specs.declared.voice.Voice.{Voice}
+use Rattle.commit_pipeline.specs.EndLines.{text_of}
+use Rattle.commit_pipeline.specs.Later.{Ran, HoldsFront, InFlight, extra}
+use Rattle.commit_pipeline.specs.Turning.{durable}
+use Rattle.commit_pipeline.proofs.LineLemmas.{text_of-append}
+use Rattle.commit_pipeline.proofs.RanLemmas.{none≢some}
+use Rattle.commit_pipeline.proofs.ToldLemmas.{text_of-none}
+
+-- the bytes hold the opened records and these
+abbrev pub HoldsBoth : List Rec → List Rec → List ℕ → Type 0
+HoldsBoth opened records bytes = HoldsUnits bytes (units_of (opened ++ records))
+
+-- the bytes hold the opened records and a front of these
+abbrev pub HoldsSome : List Rec → List Rec → List ℕ → Type 0
+HoldsSome opened list bytes = (front rest : List Rec) × (list ≡ front ++ rest) × HoldsBoth opened front bytes
+
+-- What turns do with the records of a run: they sent the first of them, and may have written some more. Of the first, a front of the lines
+-- was written.
+pub record RunSends {D : Type 0} (g : Ghosts D) (voice : Voice) (opened list : List Rec) (before after : D) (old new : Option (List ℕ)) : Type 0 where
+  pub more : List Rec
+  pub cut : List Rec
+  pub rest : List Rec
+  pub splits : list ≡ (more ++ cut) ++ rest
+  pub moments : g.honest before → Leaves g.moment g.images_since (HoldsSome opened list) before after
+  pub now : g.honest before → (bytes : List ℕ) → g.images after bytes → HoldsBoth opened more bytes ⊎ HoldsBoth opened (more ++ cut) bytes
+  pub text : AppendsPrefix old new (text_of voice (end_of opened) more)
+  pub count : g.honest before → g.written_count after ≤ g.written_count before + 4 * length more + 4
+
+-- and where nothing failed, all lines of the first
+pub record RunSent {D : Type 0} (g : Ghosts D) (voice : Voice) (opened more : List Rec) (before after : D) (old new : Option (List ℕ)) : Type 0 where
+  pub now : g.honest before → (bytes : List ℕ) → g.images after bytes → HoldsBoth opened more bytes
+  pub text : Appends old new (text_of voice (end_of opened) more)
+  pub count : g.honest before → g.written_count after ≤ g.written_count before + 4 * length more
+
+-- units sent and read, behind the opened ones, as records
+both-units : (opened records : List Rec) (sent units : List ℕ) → sent ≡ [] → units ≡ units_of records
+    → (units_of opened ++ sent) ++ units ≡ units_of (opened ++ records)
+both-units opened records sent units none is =
+    ap (λ l. (units_of opened ++ l) ++ units) none ∙ (λ i. append-nil (units_of opened) i ++ is i) ∙ sym (units_of-append opened records)
+
+in_flight-read : (fault : Option DaemonFault) (view : View) (cut : List Rec) → InFlight fault view cut → view.sending.read ≡ units_of cut
+in_flight-read None view cut flight = flight.1 ∙ ap units_of (sym flight.0)
+in_flight-read (Some DiskFault) view cut flight = flight
+in_flight-read (Some WriteFault) view cut flight = flight.1 ∙ ap units_of (sym flight.0)
+
+extra-few : (fault : Option DaemonFault) → extra fault ≤ 4
+extra-few None = omega arith
+extra-few (Some DiskFault) = omega arith
+extra-few (Some WriteFault) = omega arith
+
+module _ {D : Type 0} {K : Type 0} (g : Ghosts D) (h : SinkGhosts K) (opened list : List Rec) (old new : Daemon D K)
+    (stand : g.honest old.flusher.disk.now → AllStand old.flusher.tail (units_of opened) (g.images old.flusher.disk.now))
+    (unsent : sent_of old.flusher ≡ []) (start : durable old ≡ end_of opened) where
+  standing : g.honest old.flusher.disk.now → (bytes : List ℕ) → g.images old.flusher.disk.now bytes → HoldsBoth opened [] bytes
+  standing honest bytes image =
+      subst (HoldsUnits bytes) (ap units_of (sym (append-nil opened))) (holds old.flusher.tail (units_of opened) bytes (stand honest bytes image))
+
+  -- as the turns see it
+  opening : g.honest old.flusher.disk.now → AllStand old.flusher.tail (units_of opened ++ sent_of old.flusher) (g.images old.flusher.disk.now)
+  opening honest = subst (λ (units : List ℕ). AllStand old.flusher.tail units (g.images old.flusher.disk.now))
+      (sym (ap (λ l. units_of opened ++ l) unsent ∙ append-nil (units_of opened))) (stand honest)
+
+  pub sends-still : RunSends g old.voice opened list old.flusher.disk.now old.flusher.disk.now (h.held_bytes old.sink.now) (h.held_bytes old.sink.now)
+  sends-still = record {
+    more = [];
+    cut = [];
+    rest = list;
+    splits = refl;
+    moments = λ honest. Leaves-refl g.moment g.images_since (HoldsSome opened list) old.flusher.disk.now;
+    now = λ honest bytes image. inl (standing honest bytes image);
+    text = ([], text_of old.voice (end_of opened) [], refl, Appends-nil (h.held_bytes old.sink.now));
+    count = λ honest. omega arith;
+  }
+
+  pub sent-still : RunSent g old.voice opened [] old.flusher.disk.now old.flusher.disk.now (h.held_bytes old.sink.now) (h.held_bytes old.sink.now)
+  sent-still = record {
+    now = standing;
+    text = subst (Appends (h.held_bytes old.sink.now) (h.held_bytes old.sink.now)) (text_of-none old.voice (end_of opened)) (Appends-nil (h.held_bytes old.sink.now));
+    count = λ honest. omega arith;
+  }
+
+  module _ (ran : Ran g h old new) where
+    pub sent-now : sent_of new.flusher ≡ units_of ran.more
+    sent-now = ran.sent ∙ ap (λ l. l ++ units_of ran.more) unsent
+
+    pub read-now : (view_of new.flusher.seat).sending.read ≡ units_of ran.cut
+    read-now = in_flight-read new.fault (view_of new.flusher.seat) ran.cut ran.in_flight
+
+    torn-now : g.honest old.flusher.disk.now → (bytes : List ℕ) → g.images new.flusher.disk.now bytes
+        → HoldsBoth opened ran.more bytes ⊎ HoldsBoth opened (ran.more ++ ran.cut) bytes
+    torn-now honest bytes image =
+        let first : units_of opened ++ sent_of new.flusher ≡ units_of (opened ++ ran.more) =
+        ap (λ l. units_of opened ++ l) sent-now ∙ sym (units_of-append opened ran.more) in
+        let both : (units_of opened ++ sent_of new.flusher) ++ (view_of new.flusher.seat).sending.read ≡ units_of (opened ++ (ran.more ++ ran.cut)) =
+        (λ i. (units_of opened ++ sent-now i) ++ read-now i) ∙ append_assoc (units_of opened) (units_of ran.more) (units_of ran.cut)
+        ∙ ap (λ l. units_of opened ++ l) (sym (units_of-append ran.more ran.cut)) ∙ sym (units_of-append opened (ran.more ++ ran.cut)) in
+        ⊎_elim (λ held. inl (subst (HoldsUnits bytes) first held)) (λ held. inr (subst (HoldsUnits bytes) both held))
+        (ran.torn honest (units_of opened) (opening honest) bytes image)
+
+    -- the text is a front of the lines of what was sent
+    text-front : AppendsPrefix (h.held_bytes old.sink.now) (h.held_bytes new.sink.now) (text_of old.voice (end_of opened) ran.more)
+    text-front =
+        let seen : List Rec = ran.front.seen in let unseen : List Rec = ran.front.unseen in
+        let later : List ℕ = text_of old.voice (durable old + length (units_of seen)) unseen in (
+          ran.text,
+          ran.front.unwritten ++ later,
+          ap (λ at. text_of old.voice at ran.more) (sym start) ∙ ap (text_of old.voice (durable old)) ran.front.whole
+              ∙ text_of-append old.voice (durable old) seen unseen ∙ ap (λ l. l ++ later) ran.front.lines ∙ append_assoc ran.text ran.front.unwritten later,
+          ran.appended,
+        )
+
+    pub sends-ran : (rest : List Rec) → list ≡ (ran.more ++ ran.cut) ++ rest
+        → RunSends g old.voice opened list old.flusher.disk.now new.flusher.disk.now (h.held_bytes old.sink.now) (h.held_bytes new.sink.now)
+    sends-ran rest splits = record {
+      more = ran.more;
+      cut = ran.cut;
+      rest = rest;
+      splits = splits;
+      moments = λ honest. Leaves-weaken g.moment g.images_since (HoldsFront (units_of opened ++ sent_of old.flusher) (ran.more ++ ran.cut)) (HoldsSome opened list)
+          old.flusher.disk.now new.flusher.disk.now
+          (λ bytes held. (
+            held.front,
+            held.rest ++ rest,
+            splits ∙ ap (λ l. l ++ rest) held.whole ∙ append_assoc held.front held.rest rest,
+            subst (HoldsUnits bytes) (both-units opened held.front (sent_of old.flusher) (units_of held.front) unsent refl) held.holds,
+          ))
+          (ran.moments honest (units_of opened) (opening honest));
+      now = torn-now;
+      text = text-front;
+      count = λ honest. let most = extra-few new.fault in let counted = ran.count honest in omega arith;
+    }
+
+    pub sent-ran : new.fault ≡ None
+        → RunSent g old.voice opened ran.more old.flusher.disk.now new.flusher.disk.now (h.held_bytes old.sink.now) (h.held_bytes new.sink.now)
+    sent-ran fine =
+        let none : ran.cut ≡ [] = (subst (λ fault. InFlight fault (view_of new.flusher.seat) ran.cut) fine ran.in_flight).0 in
+        let all = ran.all (λ is. none≢some WriteFault (sym fine ∙ is)) in
+        let extra_none : extra new.fault ≡ 0 = ap extra fine in
+        record {
+          now = λ honest bytes image. ⊎_elim (λ held. held)
+              (λ held. subst (λ (records : List Rec). HoldsBoth opened records bytes) (ap (λ l. ran.more ++ l) none ∙ append-nil ran.more) held)
+              (torn-now honest bytes image);
+          text = subst (Appends (h.held_bytes old.sink.now) (h.held_bytes new.sink.now))
+              (all.0 ∙ ap (λ at. text_of old.voice at ran.more) start) ran.appended;
+          count = λ honest. let counted = ran.count honest in omega arith;
+        }

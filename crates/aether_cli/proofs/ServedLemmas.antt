@@ -1,0 +1,62 @@
+-- What a worker did stands once it has ended.
+use Rattle.std.proofs.Common.{◌≡◌, ℕ, ◌++◌, [], append-nil, sym, ap, subst, ◌∙◌}
+use Rattle.log_table.specs.declared.view.View.{View}
+use Rattle.log_table.specs.Views.{retired}
+use Rattle.txn_runner.specs.declared.cause.Cause.{Cause}
+use Rattle.txn_runner.specs.declared.cause.Cause.TheVariants.{Stop, LogEnd}
+use Rattle.txn_runner.specs.declared.cause.Worked.{Worked}
+use Rattle.txn_runner.specs.declared.cause.Worked.TheVariants.{All, Cut}
+use Rattle.txn_runner.specs.declared.jobs.Jobs.{Jobs}
+use Rattle.txn_runner.specs.Stripes.{stripe_jobs}
+use Rattle.txn_runner.specs.Working.{HasWorked, IsCutBy, TakesJobs, Works}
+
+module _ (jobs : Jobs) (number : ℕ) where
+  HasWorked-retired : (k : ℕ) (view : View) → HasWorked jobs number k view → HasWorked jobs number k (retired view)
+  HasWorked-retired k view has = record {
+    stripe = has.stripe;
+    earlier = has.earlier;
+    taken = has.taken;
+    numbers = has.numbers;
+    own = has.own;
+    below = has.below;
+  }
+
+  IsCutBy-retired : (j : ℕ) (cause : Cause) (view : View) → IsCutBy jobs number j cause view → IsCutBy jobs number j cause (retired view)
+  IsCutBy-retired j (Stop word) view is = is
+  IsCutBy-retired j (LogEnd tail total) view is = record {
+    balances = is.balances;
+    marks = is.marks;
+    next = is.next;
+    rest = is.rest;
+    plan = is.plan;
+    size = is.size;
+    too_long = is.too_long;
+    tail_is = is.tail_is;
+    seen = is.seen;
+  }
+
+  Works-retired : (k n : ℕ) (worked : Worked) (view : View) → Works jobs number k n worked view → Works jobs number k n worked (retired view)
+  Works-retired k n All view works = works
+  Works-retired k n (Cut cause) view works = (works.0, works.1, works.2, works.3, IsCutBy-retired works.0 cause view works.4)
+
+  -- a seat that had no job has just those that it took
+  jobs-from_none : (k n : ℕ) (old new : View) → TakesJobs jobs number k n old new → k ≡ 0 → old.books.jobs ≡ []
+      → new.books.jobs ≡ stripe_jobs jobs number n
+  jobs-from_none k n old new takes none no_jobs =
+      let no_earlier : takes.earlier ≡ [] = sym (ap (λ x. stripe_jobs jobs number x ++ takes.earlier) none) ∙ (sym takes.before ∙ no_jobs) in
+      takes.after ∙ (ap (λ l. stripe_jobs jobs number n ++ l) no_earlier ∙ append-nil _)
+
+  -- what is said of a worker that has ended, but for its seat
+  pub record HasDone (taken : ℕ) (worked : Worked) (view : View) : Type 0 where
+    pub jobs_are : view.books.jobs ≡ stripe_jobs jobs number taken
+    pub has : HasWorked jobs number taken view
+    pub works : Works jobs number 0 taken worked view
+
+  -- a worker that took no transfer before did its work, and left
+  pub HasDone-left : (before taken : ℕ) (worked : Worked) (old new : View) → before ≡ 0 → old.books.jobs ≡ [] → HasWorked jobs number taken new
+      → TakesJobs jobs number before taken old new → Works jobs number before taken worked new → HasDone taken worked (retired new)
+  HasDone-left before taken worked old new none no_jobs has takes works = record {
+    jobs_are = jobs-from_none before taken old new takes none no_jobs;
+    has = HasWorked-retired taken new has;
+    works = Works-retired 0 taken worked new (subst (λ k. Works jobs number k taken worked new) none works);
+  }

@@ -1,0 +1,17 @@
+use Rattle.aether_cli.proofs.EndingLemmas.{none_stopped-ended}
+use Rattle.aether_cli.proofs.RunAnswerLemmas.{answers-concluded}
+use Rattle.aether_cli.proofs.run_command.run_command.Goals as goal
+
+pub returns-in-Err-clause-answer : goal.returns-in-Err-clause-answer
+returns-in-Err-clause-answer g c = λ honest. c.in-Err.ensures.none honest (g.K.Sink.held_bytes c.args.out.now)
+
+pub conclude-requires : goal.conclude-requires
+conclude-requires g c = λ fine.
+    let ready = c.in-Ok.ensures.ready in
+    none_stopped-ended g.D.LogDisk g.K.Sink _ ready.opened _ _ _ _ _ _ (c.run_transfers-ended.ensures.ended ready.opened ready.log) fine
+
+pub returns-clause-answer : goal.returns-clause-answer
+returns-clause-answer g c = λ honest.
+    let ready = c.in-Ok.ensures.ready in
+    answers-concluded g.D.LogDisk g.K.Sink _ c.in-Ok.ready _ _ _ _ _ _ _ _ _ ready
+    (c.run_transfers-ended.ensures.ended ready.opened ready.log) honest (c.in-Ok.ensures.honest.0 honest) c.conclude.result c.conclude.ensures.concludes

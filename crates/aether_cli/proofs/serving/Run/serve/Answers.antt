@@ -1,0 +1,24 @@
+use Rattle.std.proofs.Common.{rules, ◌≡◌, ◌∙◌, ap, sym, subst}
+use Rattle.log_table.specs.declared.view.Books.{Books}
+use Rattle.log_table.specs.Seats.{view_of}
+use Rattle.log_table.specs.Views.{retired}
+use Rattle.txn_runner.specs.Working.{taken_in}
+use Rattle.aether_cli.proofs.ServedLemmas.{HasDone, HasDone-left}
+use Rattle.aether_cli.proofs.serving.Run.serve.Goals as goal
+
+pub returns-clause-done : goal.returns-clause-done
+returns-clause-done g c =
+    let hired = c.requires.hired in
+    let did = c.work-worked.ensures in
+    let jobs = c.args.self.now.jobs.now in
+    let number = c.args.worker.seat.worker in
+    let taken = taken_in c.work-worked.new.rows in
+    let worked = c.work-worked.result in
+    let new = view_of c.work-worked.new.seat in
+    let none = ap (λ (books : Books). books.jobs) hired.books in
+    let left : view_of c.leave.new.seat ≡ retired new = search rules in
+    let same : c.leave.new.seat.worker ≡ number = search rules in
+    let done = HasDone-left jobs number _ taken worked (view_of c.args.worker.seat) new hired.taken none did.worked did.jobs did.works in
+    let all = subst (HasDone jobs number taken worked) (sym left) done in
+    let mine = subst (λ n. HasDone jobs n taken worked (view_of c.leave.new.seat)) (sym same) all in
+    record { seat = search rules; ended = search rules; jobs_are = mine.jobs_are; has = mine.has; works = mine.works }

@@ -1,0 +1,22 @@
+use Rattle.std.proofs.Common.{rules, ◌≡◌, ◌∙◌, ap, sym, subst}
+use Rattle.std.specs.List.{list_any}
+use lib.Dec.{eqb}
+use Rattle.log_table.specs.Seats.{view_of, key_of}
+use Rattle.aether_cli.specs.Workers.{KnowsHired}
+use Rattle.aether_cli.proofs.WorkerLemmas.{numbers_below-lacks, KnowsHired-more, after_hire}
+use Rattle.aether_cli.proofs.workers.hire.Goals as goal
+
+pub split-seat-requires-clause-may : goal.split-seat-requires-clause-may
+split-seat-requires-clause-may c = record {
+  flusher = c.requires.boss.knows.flusher;
+  new = ap (list_any (eqb c.args.number)) c.requires.boss.knows.made ∙ numbers_below-lacks c.args.number c.args.number (search rules);
+}
+
+pub returns-clause-boss : goal.returns-clause-boss
+returns-clause-boss c =
+    let view = view_of c.args.boss.now in
+    let is : view_of c.merge.new.seat ≡ after_hire c.args.number view = search rules in
+    record {
+      seat = search rules;
+      knows = subst (KnowsHired (key_of c.args.table.now) _) (sym is) (KnowsHired-more _ c.args.number view c.requires.boss.knows);
+    }

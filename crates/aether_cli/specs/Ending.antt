@@ -1,0 +1,65 @@
+-- How a run ended, and what the program answers then. `g` is what a disk shows and `h` what a sink shows.
+use Rattle.std.specs.Prelude.{◌≡◌, ◌⊎◌, ℕ, List, [], ◌∷◌, ◌++◌, map, All, Some, None}
+use Rattle.std.specs.Io.KnownBytes.{Appends}
+use Rattle.log_disk.specs.Streams.{AppendsPrefix}
+use Rattle.log_disk.specs.declared.disk.LogDisk.{Ghosts}
+use Rattle.log_disk.specs.declared.sink.Sink.{Ghosts as SinkGhosts}
+use Rattle.log_record.specs.declared.rec.Rec.{Rec}
+use Rattle.log_recovery.specs.Text.{rows_text}
+use Rattle.log_table.specs.declared.view.View.{View}
+use Rattle.log_table.specs.Seats.{key_of}
+use Rattle.commit_pipeline.specs.declared.daemon.Daemon.{Daemon}
+use Rattle.commit_pipeline.specs.declared.daemon.DaemonFault.TheVariants.{DiskFault, WriteFault}
+use Rattle.commit_pipeline.specs.declared.voice.Voice.{Voice}
+use Rattle.txn_runner.specs.declared.cause.Cause.TheVariants as cause
+use Rattle.txn_runner.specs.declared.cause.Worked.{Worked}
+use Rattle.txn_runner.specs.declared.cause.Worked.TheVariants as worked
+use Rattle.aether_cli.specs.declared.report.Detail.{Detail}
+use Rattle.aether_cli.specs.declared.report.Detail.TheVariants.{Fine, Write, Disk, LogEnd}
+use Rattle.aether_cli.specs.declared.transfers.Ended.{Ended}
+use Rattle.aether_cli.specs.declared.transfers.Prepared.{Prepared}
+use Rattle.aether_cli.specs.Shares.{Share}
+use Rattle.aether_cli.specs.Transferred.{HasTransferred}
+
+-- Turns led from a daemon over the one disk and sink to one over the other, and the transfers ended so.
+pub record HasEnded {D : Type 0} {K : Type 0} (g : Ghosts D) (h : SinkGhosts K) (prepared : Prepared) (opened : List Rec) (voice : Voice)
+    (disk disk_new : D) (sink sink_new : K) (ended : Ended) : Type 0 where
+  pub shares : List Share
+  pub first : Daemon D K
+  pub last : Daemon D K
+  pub view : View
+  pub transferred : HasTransferred g h opened prepared.jobs shares (key_of prepared.table) first last view ended.closed.tail ended.closed.accounts.rows
+  pub ends : map (λ (share : Share). share.worked) shares ≡ ended.ends.items
+  pub fault : last.fault ≡ ended.fault
+  pub speaks : first.voice ≡ voice
+  pub disk_old : first.flusher.disk.now ≡ disk
+  pub disk_is : last.flusher.disk.now ≡ disk_new
+  pub sink_old : first.sink.now ≡ sink
+  pub sink_is : last.sink.now ≡ sink_new
+
+-- all workers came to the end of their stripes
+abbrev pub AreWhole : List Worked → Type 0
+AreWhole ends = All (λ end. end ≡ worked.All) ends
+
+-- no worker read a stop word
+abbrev pub NoneStopped : List Worked → Type 0
+NoneStopped ends = All (λ end. (word : ℕ) → end ≡ worked.Cut (cause.Stop word) → ⊥) ends
+
+-- the lowest worker that did not come to its end found no room for so many units behind this tail
+pub record IsFirstLogEnd (ends : List Worked) (tail total : ℕ) : Type 0 where
+  pub below : List Worked
+  pub above : List Worked
+  pub whole : ends ≡ below ++ worked.Cut (cause.LogEnd tail total) ∷ above
+  pub all_whole : AreWhole below
+
+-- What the program answers once the transfers have ended: the daemon's fault before all else; then the end of the log that the lowest worker
+-- met; and else the accounts of the closed table are written.
+abbrev pub Concludes : {K : Type 0} → SinkGhosts K → Ended → K → K → Detail → Type 0
+Concludes h ended old new Disk = (ended.fault ≡ Some DiskFault) × (new ≡ old)
+Concludes h ended old new Write = ((ended.fault ≡ Some WriteFault) × (new ≡ old))
+    ⊎ ((ended.fault ≡ None) × AreWhole ended.ends.items
+    × AppendsPrefix (h.held_bytes old) (h.held_bytes new) (rows_text ended.closed.tail ended.closed.accounts.rows))
+Concludes h ended old new (LogEnd tail total) = (ended.fault ≡ None) × IsFirstLogEnd ended.ends.items tail total × (new ≡ old)
+Concludes h ended old new Fine = (ended.fault ≡ None) × AreWhole ended.ends.items
+    × Appends (h.held_bytes old) (h.held_bytes new) (rows_text ended.closed.tail ended.closed.accounts.rows)
+Concludes h ended old new detail = ⊥

@@ -1,0 +1,31 @@
+//! A worker that waits keeps the daemon at work, where no other thread does.
+use commit_pipeline::Daemon;
+use log_disk::{LogDisk, Sink};
+use txn_runner::Relief;
+
+/// A daemon that makes a turn at each rest, until something befalls it. The daemon keeps what befell it.
+#[derive(Drop)]
+pub struct FlushingRelief<'a, D, K> {
+    pub daemon: Daemon<'a, D, K>,
+}
+
+impl<'a, D: LogDisk, K: Sink> Relief for FlushingRelief<'a, D, K> {
+    ghost use Rattle.std.specs.Prelude.{◌≡◌, None};
+    ghost use Rattle.commit_pipeline.specs.Later.{Later};
+    ghost use Rattle.commit_pipeline.specs.Turning.{MayTurn};
+    ghost use Rattle.commit_pipeline.proofs.RanLemmas.{Later-refl, Later-trans};
+
+    ghost ready = { λ relief. relief.daemon.fault ≡ None → MayTurn D.LogDisk relief.daemon };
+
+    ghost later = { λ old new. Later D.LogDisk K.Sink old.daemon new.daemon };
+
+    fn rest(&mut self) {
+        if self.daemon.fault().is_none() {
+            let _ = self.daemon.turn();
+        }
+    }
+
+    ghost later_refl = { λ relief. Later-refl D.LogDisk.own K.Sink.own relief.daemon };
+
+    ghost later_trans = { λ first mid last before after. Later-trans D.LogDisk.own K.Sink.own first.daemon mid.daemon last.daemon before after };
+}

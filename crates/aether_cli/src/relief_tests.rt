@@ -1,0 +1,147 @@
+//! A worker that waits for the disk, in the one thread that flushes.
+ghost use Rattle.std.specs.Prelude.{◌≡◌, [], true, All, Contains, IfSome};
+ghost use Rattle.txn_script.specs.Script.{IsAllowedJob};
+ghost use Rattle.log_table.specs.declared.view.Role.TheVariants.{Flusher as FlusherRole};
+ghost use Rattle.log_table.specs.Books.{no_books};
+ghost use Rattle.log_table.specs.Seats.{IsOf, view_of};
+ghost use Rattle.log_table.specs.Views.{knows_all_enrolled, sent_to};
+ghost use Rattle.ring_buffer.specs.Calls.{IsReady};
+ghost use Rattle.segment_file.specs.Standing.{IsStableGate};
+
+use crate::flushing_relief::FlushingRelief;
+use crate::pipeline_tests::{CREATED, balances, daemon_on, table_from_4};
+use commit_pipeline::DaemonFault;
+use log_disk::{LogDisk, MemoryDisk, MemorySink, OpenGate};
+use log_table::{LogTable, Seat};
+use lsn_space::Lsn;
+use std::alloc::Global;
+use std::sync::Wait;
+use std::test::Fail;
+use txn_runner::{Answer, Cause, Jobs, Row, Rows, Worked, work};
+use txn_script::parse;
+
+/// A worker, which the flusher's seat knows to be enrolled.
+fn one_worker(table: &LogTable, boss: &mut Seat) -> Seat
+    requires boss { IsOf table.now boss.old }
+    requires flusher { (view_of boss.old).standing.role ≡ FlusherRole }
+    requires durable { sent_to (view_of boss.old) ≡ 4 }
+    requires unread { (view_of boss.old).sending.read ≡ [] }
+    requires running { (view_of boss.old).sending.stop ≡ 0 }
+    requires seen { Contains (view_of boss.old).seen.lsns 4 }
+    requires made { (view_of boss.old).standing.made ≡ [] }
+    requires enrolled { (view_of boss.old).standing.enrolled ≡ [] }
+    requires merged { (view_of boss.old).standing.merged ≡ [] }
+    ensures boss { IsOf table.now boss.new }
+    ensures flusher { (view_of boss.new).standing.role ≡ FlusherRole }
+    ensures durable { sent_to (view_of boss.new) ≡ 4 }
+    ensures unread { (view_of boss.new).sending.read ≡ [] }
+    ensures running { (view_of boss.new).sending.stop ≡ 0 }
+    ensures seen { Contains (view_of boss.new).seen.lsns 4 }
+    ensures told { knows_all_enrolled (view_of boss.new).standing ≡ true }
+    ensures seat { IsOf table.now result }
+    ensures ready { IsReady (view_of result) }
+    ensures books { (view_of result).books ≡ no_books }
+    ensures entries { (view_of result).entries ≡ [] }
+    ensures worker { result.worker ≡ 0 }
+{
+    let mut seat = table.split(boss, 0);
+    table.enroll(&mut seat);
+    let told = table.note(&mut seat);
+    table.merge(boss, told);
+    seat
+}
+
+/// Two transfers, for one worker.
+fn two_jobs<R>(rt: &R, alloc: Global) -> Option<Jobs>
+    ensures allowed { IfSome result (λ jobs. All (IsAllowedJob 2) jobs.script) }
+    ensures workers { IfSome result (λ jobs. jobs.workers ≡ 1) }
+{
+    let Ok(script) = parse(alloc, b"pay 0 1 30\npay 0 1 20\n", 2) else {
+        return None;
+    };
+    if script.count() != 2 {
+        return None;
+    }
+    Jobs::make(rt, alloc, script, 1, 1).ok()
+}
+
+/// What a worker came to, its rows, and what befell the daemon.
+type Outcome = (Worked, Rows, Option<DaemonFault>);
+
+/// A worker makes both transfers, and waits for the disk after each; only its relief flushes.
+fn work_and_flush<R: Wait, D: LogDisk>(
+    rt: &R,
+    alloc: Global,
+    disk: &mut D,
+    sink: &mut MemorySink,
+) -> Option<Outcome>
+    requires { D.honest disk.old → IsStableGate 0 (D.images disk.old) }
+{
+    let (table, mut boss) = table_from_4(alloc).ok()?;
+    let jobs = two_jobs(rt, alloc)?;
+    let Ok(mut rows) = Rows::make(alloc, jobs.count() as u32) else {
+        return None;
+    };
+    let mut seat = one_worker(&table, &mut boss);
+    let daemon = daemon_on(alloc, &table, boss, disk, sink)?;
+    let mut relief = FlushingRelief { daemon };
+    let worked = work(
+        rt,
+        &table,
+        &mut seat,
+        &jobs,
+        &mut rows,
+        &mut relief,
+        true,
+        &OpenGate,
+    );
+    table.leave(&mut seat);
+    Some((worked, rows, relief.daemon.fault()))
+}
+
+/// The row of a transfer that was seen to be durable.
+fn durable_row(txn: u32, end: u32) -> Row {
+    Row {
+        txn,
+        answer: Answer::Done,
+        end: Lsn::new(end),
+        seen: Lsn::new(end),
+    }
+}
+
+#[test]
+fn a_waiting_worker_flushes(rt: HostRuntime) -> Result<(), Fail> {
+    let alloc = rt.alloc();
+    let mut disk = MemoryDisk::make(alloc, &[], 20_000, &[])?;
+    let mut sink = MemorySink::make(alloc, 100, &[])?;
+    let Some((worked, rows, fault)) = work_and_flush(&rt, alloc, &mut disk, &mut sink) else {
+        return Err(Fail::new("no memory"));
+    };
+    assert_eq!(rt; (worked, fault), (Worked::All, None));
+    let wanted = [durable_row(1, 9), durable_row(2, 14)];
+    assert_eq!(rt; rows.as_slice(), wanted.as_slice());
+    assert_eq!(rt; sink.bytes(), b"done 1 9\ndone 2 14\n".as_slice());
+    assert_eq!(rt; balances(alloc, &mut disk), Some((99_950, 50)));
+    Ok(())
+}
+
+/// A flush makes four calls of the disk. Where one fails, the relief flushes no more, and the worker reads the stop word.
+#[test]
+fn a_waiting_worker_stops_where_the_disk_fails(rt: HostRuntime) -> Result<(), Fail> {
+    let alloc = rt.alloc();
+    for (call, made) in [(1, 0), (4, 0), (5, 1), (8, 1), (9, 2)] {
+        let mut disk = MemoryDisk::make(alloc, &[], 20_000, &[CREATED + call])?;
+        let mut sink = MemorySink::make(alloc, 100, &[])?;
+        let Some((worked, rows, fault)) = work_and_flush(&rt, alloc, &mut disk, &mut sink) else {
+            return Err(Fail::new("no memory"));
+        };
+        assert_eq!(rt; rows.as_slice().len(), made, "call {call}");
+        if made < 2 {
+            assert_eq!(rt; worked, Worked::Cut(Cause::Stop(1)), "call {call}");
+            assert_eq!(rt; fault, Some(DaemonFault::DiskFault), "call {call}");
+        } else {
+            assert_eq!(rt; (worked, fault), (Worked::All, None), "call {call}");
+        }
+    }
+    Ok(())
+}

@@ -1,0 +1,124 @@
+-- What words ask, from the subcommand that they name.
+use Rattle.std.proofs.Common.{◌≡◌, ◌⊎◌, inl, inr, ◌∙◌, ap, ap₂, sym, subst, refl, true, ℕ, List, codes, Option, Some, None, is_some, get_or, arith, Result, Ok, Err, IfErr, MatchResult}
+use Rattle.clap.specs.Words.{Row, subcommand_of}
+use Rattle.command_line.specs.CommandLine.{aether_command, AreKnown, AreOptions, AreTaken, HasNoOptions, IsCommandLine, IsRefusalOf, NamesBadRun, NamesSubcommand, log_in}
+use Rattle.command_line.specs.declared.command.Command.{Command}
+use Rattle.command_line.specs.declared.command.Command.TheVariants.{New, Run, Recover, Dump}
+use Rattle.command_line.specs.declared.command.Refused.{Refused}
+use Rattle.command_line.specs.declared.command.Refused.TheVariants.{NoMemory, Usage}
+use Rattle.command_line.specs.declared.options.RunOptions.{RunOptions}
+use Rattle.command_line.proofs.Facts.{named_some, named-one}
+use Rattle.command_line.proofs.OptionLemmas.{one-options}
+
+same-pair : {A B : Type 0} (p q : A × B) → Some p ≡ Some q → (p.0 ≡ q.0) × (p.1 ≡ q.1)
+same-pair p q same = let equal : p ≡ q = cc in (ap (λ r. r.0) equal, ap (λ r. r.1) equal)
+
+letter-at : (i : ℕ) (text other : List ℕ) → text ≡ other → get_or text i 0 ≡ get_or other i 0
+letter-at i text other same = ap (λ (l : List ℕ). get_or l i 0) same
+
+module _ (words : List (List ℕ)) where
+  -- words name one subcommand, with the same matches
+  one-name : (name other : List ℕ) (rows more : List Row) → NamesSubcommand words name rows → NamesSubcommand words other more
+      → (name ≡ other) × (rows ≡ more)
+  one-name name other rows more named also = same-pair (name, rows) (other, more) (sym named ∙ also)
+
+  new-run : codes "new" ≡ codes "run" → ⊥
+  new-run same = let letter = letter-at 0 _ _ same in omega arith
+
+  new-recover : codes "new" ≡ codes "recover" → ⊥
+  new-recover same = let letter = letter-at 0 _ _ same in omega arith
+
+  new-dump : codes "new" ≡ codes "dump" → ⊥
+  new-dump same = let letter = letter-at 0 _ _ same in omega arith
+
+  run-recover : codes "run" ≡ codes "recover" → ⊥
+  run-recover same = let letter = letter-at 1 _ _ same in omega arith
+
+  run-dump : codes "run" ≡ codes "dump" → ⊥
+  run-dump same = let letter = letter-at 0 _ _ same in omega arith
+
+  recover-dump : codes "recover" ≡ codes "dump" → ⊥
+  recover-dump same = let letter = letter-at 0 _ _ same in omega arith
+
+  apart : {C : Type 0} (name other : List ℕ) (rows more : List Row) → (name ≡ other → ⊥) → NamesSubcommand words name rows
+      → NamesSubcommand words other more → C
+  apart name other rows more differ named also = absurd (differ (one-name name other rows more named also).0)
+
+  pub asks-options : (log other : List ℕ) (options more : RunOptions) → IsCommandLine words (Run log options) → IsCommandLine words (Run other more)
+      → options ≡ more
+  asks-options log other options more is also =
+      one-options also.1 options more (subst (λ r. AreOptions r options) (one-name _ _ is.1 also.1 is.2 also.2).1 is.4) also.4
+
+  pub asks-one : (one other : Command) → IsCommandLine words one → IsCommandLine words other → one ≡ other
+  asks-one (New log) (New other) is also =
+      ap New (is.3 ∙ ap log_in (one-name _ _ is.1 also.1 is.2 also.2).1 ∙ sym also.3)
+  asks-one (Run log options) (Run other more) is also =
+      let rows = (one-name _ _ is.1 also.1 is.2 also.2).1 in
+      ap₂ Run (is.3 ∙ ap log_in rows ∙ sym also.3) (asks-options log other options more is also)
+  asks-one Recover Recover is also = refl
+  asks-one Dump Dump is also = refl
+  asks-one (New log) (Run other options) is also = apart _ _ is.1 also.1 new-run is.2 also.2
+  asks-one (New log) Recover is also = apart _ _ is.1 also.1 new-recover is.2 also.2
+  asks-one (New log) Dump is also = apart _ _ is.1 also.1 new-dump is.2 also.2
+  asks-one (Run log options) (New other) is also = apart _ _ also.1 is.1 new-run also.2 is.2
+  asks-one (Run log options) Recover is also = apart _ _ is.1 also.1 run-recover is.2 also.2
+  asks-one (Run log options) Dump is also = apart _ _ is.1 also.1 run-dump is.2 also.2
+  asks-one Recover (New other) is also = apart _ _ also.1 is.1 new-recover also.2 is.2
+  asks-one Recover (Run other options) is also = apart _ _ also.1 is.1 run-recover also.2 is.2
+  asks-one Recover Dump is also = apart _ _ is.1 also.1 recover-dump is.2 also.2
+  asks-one Dump (New other) is also = apart _ _ also.1 is.1 new-dump also.2 is.2
+  asks-one Dump (Run other options) is also = apart _ _ also.1 is.1 run-dump also.2 is.2
+  asks-one Dump Recover is also = apart _ _ also.1 is.1 recover-dump also.2 is.2
+
+  -- words that are known ask something, but for `run` perhaps
+  some-pair : {X : Type 0} (o : Option X) → is_some o ≡ true → (x : X) × (o ≡ Some x)
+  some-pair None is = cc
+  some-pair (Some x) is = (x, refl)
+
+  pub asks-some : AreKnown words → AreTaken words ⊎ (rows : List Row) × NamesSubcommand words (codes "run") rows
+  asks-some known =
+      let found = some-pair (subcommand_of aether_command words) (named_some words known) in
+      let named : NamesSubcommand words found.0.0 found.0.1 = found.1 in
+      elim (named-one words found.0.0 found.0.1 named) [
+        | inl new ↦ inl (New (log_in found.0.1), (known, found.0.1, rw new at named, refl))
+        | inr (inl run) ↦ inr (found.0.1, rw run at named)
+        | inr (inr (inl recover)) ↦ inl (Recover, (known, found.0.1, rw recover at named))
+        | inr (inr (inr dump)) ↦ inl (Dump, (known, found.0.1, rw dump at named))
+      ]
+
+  -- words that the command doesn't take ask nothing
+  pub known-taken : AreTaken words → AreKnown words
+  known-taken (New log, is) = is.0
+  known-taken (Run log options, is) = is.0
+  known-taken (Recover, is) = is.0
+  known-taken (Dump, is) = is.0
+
+  -- `new` is answered with the name of its log
+  pub answers-new : (result : Result Command Refused) (log : List ℕ) → IsCommandLine words (New log)
+      → MatchResult result (λ command. command ≡ New log) (λ fault. fault ≡ NoMemory)
+      → MatchResult result (IsCommandLine words) (IsRefusalOf words)
+  answers-new (Ok command) log asked is = subst (IsCommandLine words) (sym is) asked
+  answers-new (Err fault) log asked is = subst (IsRefusalOf words) (sym is) tt
+
+  module _ (rows : List Row) (known : AreKnown words) (named : NamesSubcommand words (codes "run") rows) where
+    abbrev Answers : Result Command Refused → Type 0
+    Answers result = MatchResult result (λ command. (options : RunOptions) × AreOptions rows options × (command ≡ Run (log_in rows) options))
+        (λ fault. (fault ≡ NoMemory) ⊎ ((fault ≡ Usage) × HasNoOptions rows))
+
+    -- with bad numbers `run` is asked by nothing
+    none-asked : HasNoOptions rows → AreTaken words → ⊥
+    none-asked none (Run log options, is) = none options (subst (λ r. AreOptions r options) (one-name _ _ is.1 rows is.2 named).1 is.4)
+    none-asked none (New log, is) = apart _ _ is.1 rows new-run is.2 named
+    none-asked none (Recover, is) = apart _ _ rows is.1 run-recover named is.2
+    none-asked none (Dump, is) = apart _ _ rows is.1 run-dump named is.2
+
+    -- and else it is answered with its log and its options
+    pub answers-run : (result : Result Command Refused) → Answers result → MatchResult result (IsCommandLine words) (IsRefusalOf words)
+    answers-run (Ok command) is = subst (IsCommandLine words) (sym is.2) (known, rows, named, refl, is.1)
+    answers-run (Err fault) (inl memory) = subst (IsRefusalOf words) (sym memory) tt
+    answers-run (Err fault) (inr usage) = subst (IsRefusalOf words) (sym usage.0) (none-asked usage.1)
+
+    pub refuses-run : (result : Result Command Refused) → Answers result → IfErr result (λ fault. (fault ≡ NoMemory) ⊎ NamesBadRun words)
+    refuses-run (Ok command) is = tt
+    refuses-run (Err fault) (inl memory) = inl memory
+    refuses-run (Err fault) (inr usage) = inr (rows, named, usage.1)

@@ -1,0 +1,35 @@
+-- Numbers of options.
+use Rattle.std.proofs.Common.{◌≡◌, ◌↔◌, ◌<◌, ◌^◌, ◌∙◌, sym, refl, ap, is_some, unwrap_or, IsTrue, Bool, true, false, ℕ, List, Option, Some, None, codes, arith}
+use Rattle.std.proofs.lemmas.Fmt.{decimal_injective}
+use Rattle.clap.specs.Words.{Row, first_of}
+use Rattle.lsn_space.specs.Number.{number_text}
+use Rattle.command_line.specs.CommandLine.{AreOptions, IsNumberOf}
+use Rattle.command_line.specs.declared.options.RunOptions.{RunOptions}
+
+pub one-number : (value : Option (List ℕ)) (default m n : ℕ) → m < 2 ^ 32 → n < 2 ^ 32 → IsNumberOf value default m → IsNumberOf value default n → m ≡ n
+one-number None default m n small_m small_n is also = is ∙ sym also
+one-number (Some text) default m n small_m small_n is also = decimal_injective m n (omega arith) (omega arith) (sym is ∙ also)
+
+-- a text behind an option is another
+pub flag-some : (result : Bool) (text word : List ℕ) → (IsTrue result ↔ (text ≡ word)) → IsTrue result ↔ (Some text ≡ Some word)
+flag-some result text word same = ((λ is. ap Some (same.0 is)), (λ equal. same.1 (ap (λ (o : Option (List ℕ)). unwrap_or o text) equal)))
+
+pub flag-none : (word : List ℕ) → IsTrue false ↔ (None ≡ Some word)
+flag-none word = ((λ is. cc), (λ equal. ap (λ (o : Option (List ℕ)). is_some o) equal))
+
+same-bool : (a b : Bool) → (IsTrue a ↔ IsTrue b) → a ≡ b
+same-bool true true both = refl
+same-bool true false both = sym (both.0 refl)
+same-bool false true both = both.1 refl
+same-bool false false both = refl
+
+pub one-options : (rows : List Row) (one other : RunOptions) → AreOptions rows one → AreOptions rows other → one ≡ other
+one-options rows one other are also = λ i. record {
+  workers = one-number (first_of (codes "workers") rows) 2 one.workers other.workers (omega (arith, are.range.workers))
+      (omega (arith, also.range.workers)) are.workers also.workers i;
+  ring = one-number (first_of (codes "ring") rows) 65536 one.ring other.ring (omega (arith, are.range.ring))
+      (omega (arith, also.range.ring)) are.ring also.ring i;
+  slots = one-number (first_of (codes "slots") rows) 4 one.slots other.slots (omega (arith, are.range.slots))
+      (omega (arith, also.range.slots)) are.slots also.slots i;
+  wait = same-bool one.wait other.wait ((λ is. also.wait.1 (are.wait.0 is)), (λ is. are.wait.1 (also.wait.0 is))) i;
+}

@@ -1,0 +1,73 @@
+ghost use Rattle.std.specs.Prelude.{◌≡◌, ◌≤◌, ◌↔◌, ℕ, Some, IsTrue, IfSome, IfNone, codes};
+ghost use Rattle.clap.specs.Words.{found_of, rows_of, first_of};
+ghost use Rattle.command_line.specs.CommandLine.{AreOptions, HasNoOptions, IsNumberOf};
+
+use clap::ArgMatches;
+use txn_script::number;
+
+/// How `run` is to work.
+#[derive(Clone, Copy, Debug, PartialEq, Eq)]
+pub struct RunOptions {
+    /// How many workers there are, 1 or 2.
+    pub workers: u32,
+
+    /// The length of the ring in units, a power of two from 1024 to 1048576.
+    pub ring: u32,
+
+    /// How many slots there are, at most 16. They have no effect yet.
+    pub slots: u32,
+
+    /// Whether a worker gives accounts back only once the end of its transaction is durable.
+    pub wait: bool,
+}
+
+/// What is found of `run`'s options, where each number is written as it should be and in its range.
+pub(crate) fn options_in(found: &ArgMatches<'_>) -> Option<RunOptions>
+    ensures some { IfSome result (AreOptions (rows_of (found_of found.now))) }
+    ensures none { IfNone result (HasNoOptions (rows_of (found_of found.now))) }
+{
+    let workers = number_in(found, "workers", 2, 1, 2)?;
+    let ring = number_in(found, "ring", 65536, 1024, 1048576)?;
+    let slots = number_in(found, "slots", 4, 0, 16)?;
+    if !ring.is_power_of_two() {
+        return None;
+    }
+    let wait = flag_in(found, "wait");
+    Some(RunOptions {
+        workers,
+        ring,
+        slots,
+        wait,
+    })
+}
+
+/// The number, from `least` to `most`, that an option gives, or its default where it isn't given.
+fn number_in(
+    found: &ArgMatches<'_>,
+    option: &str,
+    default: u32,
+    least: u32,
+    most: u32,
+) -> Option<u32>
+    requires { (least ≤ default) × (default ≤ most) }
+    ensures least { IfSome result (λ n. least ≤ n) }
+    ensures most { IfSome result (λ n. n ≤ most) }
+    ensures some { IfSome result (IsNumberOf (first_of option.now (rows_of (found_of found.now))) default) }
+    ensures none { IfNone result ((n : ℕ) → least ≤ n → n ≤ most
+        → IsNumberOf (first_of option.now (rows_of (found_of found.now))) default n → ⊥) }
+{
+    match found.get_str(option) {
+        Some(text) => number(text.as_bytes(), least, most),
+        None => Some(default),
+    }
+}
+
+/// Whether the flag is given.
+fn flag_in(found: &ArgMatches<'_>, flag: &str) -> bool
+    ensures { IsTrue result ↔ (first_of flag.now (rows_of (found_of found.now)) ≡ Some (codes "true")) }
+{
+    match found.get_str(flag) {
+        Some(text) => text == "true",
+        None => false,
+    }
+}

@@ -1,0 +1,54 @@
+-- Entries behind others: their records, by numbers, and their places.
+use Rattle.std.proofs.Common.{◌≡◌, ◌≢◌, ◌∙◌, ℕ, ◌+◌, ◌≤◌, ◌==◌, cond, List, [], ◌∷◌, ◌++◌, filter, refl, ap, arith, eq-eqb}
+use Rattle.std.proofs.lemmas.Bool.{ne_eqb}
+use Rattle.std.proofs.lemmas.List.Elements.{filter-append}
+use Rattle.std.specs.List.{AllByRecursion}
+use Rattle.log_record.specs.declared.rec.Rec.{Rec}
+use Rattle.lock_core.specs.Records.{txn_of}
+use Rattle.log_table.specs.declared.view.Entry.{Entry}
+use Rattle.log_table.specs.Closing.{records_of}
+use Rattle.txn_runner.specs.Running.{LieInOrder}
+use Rattle.txn_runner.specs.Working.{own_records}
+
+pub records_of-append : (xs ys : List Entry) → records_of (xs ++ ys) ≡ records_of xs ++ records_of ys
+records_of-append [] ys = refl
+records_of-append (x ∷ xs) ys = ap (λ records. x.rec ∷ records) (records_of-append xs ys)
+
+-- what holds of the records holds of each entry's
+pub all-records : (P : Rec → Type 0) (xs : List Entry) → AllByRecursion P (records_of xs) → AllByRecursion (λ (entry : Entry). P entry.rec) xs
+all-records P [] all = tt
+all-records P (x ∷ xs) all = (all.0, all-records P xs all.1)
+
+pub own_records-append : (number : ℕ) (xs ys : List Entry) → own_records number (xs ++ ys) ≡ own_records number xs ++ own_records number ys
+own_records-append number xs ys = ap (filter (λ rec. txn_of rec == number)) (records_of-append xs ys)
+    ∙ filter-append (λ rec. txn_of rec == number) (records_of xs) (records_of ys)
+
+pub own_records-none : (number : ℕ) (xs : List Entry) → AllByRecursion (λ (entry : Entry). txn_of entry.rec ≢ number) xs → own_records number xs ≡ []
+own_records-none number [] others = refl
+own_records-none number (x ∷ xs) others =
+    ap (λ b. cond b (x.rec ∷ own_records number xs) (own_records number xs)) (ne_eqb (txn_of x.rec) number others.0)
+    ∙ own_records-none number xs others.1
+
+pub own_records-all : (number : ℕ) (xs : List Entry) → AllByRecursion (λ (entry : Entry). txn_of entry.rec ≡ number) xs
+    → own_records number xs ≡ records_of xs
+own_records-all number [] own = refl
+own_records-all number (x ∷ xs) own =
+    ap (λ b. cond b (x.rec ∷ own_records number xs) (own_records number xs)) (eq-eqb (txn_of x.rec) number own.0)
+    ∙ ap (λ records. x.rec ∷ records) (own_records-all number xs own.1)
+
+pub LieInOrder-grows : (from to : ℕ) (xs : List Entry) → LieInOrder from to xs → from ≤ to
+LieInOrder-grows from to [] order = order
+LieInOrder-grows from to (x ∷ xs) order = omega (arith, order.0, LieInOrder-grows (x.start + x.size) to xs order.1)
+
+pub LieInOrder-from : (from since to : ℕ) (xs : List Entry) → from ≤ since → LieInOrder since to xs → LieInOrder from to xs
+LieInOrder-from from since to [] before order = omega (arith, before, order)
+LieInOrder-from from since to (x ∷ xs) before order = (omega (arith, before, order.0), order.1)
+
+pub LieInOrder-append : (from mid to : ℕ) (xs ys : List Entry) → LieInOrder from mid xs → LieInOrder mid to ys → LieInOrder from to (xs ++ ys)
+LieInOrder-append from mid to [] ys first second = LieInOrder-from from mid to ys first second
+LieInOrder-append from mid to (x ∷ xs) ys first second = (first.0, LieInOrder-append (x.start + x.size) mid to xs ys first.1 second)
+
+-- each ends at or below the last LSN
+pub LieInOrder-ends : (from to : ℕ) (xs : List Entry) → LieInOrder from to xs → AllByRecursion (λ (entry : Entry). entry.start + entry.size ≤ to) xs
+LieInOrder-ends from to [] order = tt
+LieInOrder-ends from to (x ∷ xs) order = (LieInOrder-grows (x.start + x.size) to xs order.1, LieInOrder-ends (x.start + x.size) to xs order.1)

@@ -1,0 +1,123 @@
+-- Accounts that are held, and given back in the order in which they were taken.
+use Rattle.std.proofs.Common.{◌≡◌, ◌≢◌, ◌==◌, ℕ, suc, ◌+◌, ◌<◌, ◌≤◌, cond, true, false, List, [], ◌∷◌, ◌++◌, length, get_or, map, All, sym, refl, ap, ◌∙◌, subst, arith, eq-eqb, ne_eqb}
+use Rattle.std.specs.List.{AllByRecursion}
+use Rattle.std.specs.List.Sorted.{IsStrictlyIncreasing}
+use Rattle.std.proofs.lemmas.List.{length-map, get_or-map}
+use Rattle.std.proofs.lemmas.List.Elements.{All-from_recursion, recursion_from_All}
+use Rattle.log_table.specs.declared.table.Seat.{Seat}
+use Rattle.log_table.specs.declared.view.Books.{Books}
+use Rattle.log_table.specs.declared.view.Held.{Held}
+use Rattle.log_table.specs.declared.view.View.{View}
+use Rattle.log_table.specs.Books.{times_held, balance_taken, mark_taken, without}
+use Rattle.log_table.specs.Seats.{Becomes, view_of}
+use Rattle.log_table.specs.Views.{gave_account}
+use Rattle.early_locks.specs.declared.taking.Taken.{Taken}
+use Rattle.early_locks.specs.Locks.{HoldsTaken}
+use Rattle.txn_runner.specs.declared.holding.Holding.{Holding}
+use Rattle.txn_runner.specs.Holdings.{account_of, taken_of, as_held, held_behind, Lacks, AreDistinct, with_held}
+use Rattle.txn_runner.proofs.Listing.{rising-below}
+
+-- ascending accounts are distinct
+pub distinct : (holdings : List Holding) → IsStrictlyIncreasing (map account_of holdings) → AreDistinct holdings
+distinct holdings rising = apart holdings (rising-below (map account_of holdings) rising)
+  where
+    apart : (holdings : List Holding) → ((i j : ℕ) → i < j → j < length (map account_of holdings) → get_or (map account_of holdings) i 0 < get_or (map account_of holdings) j 0)
+        → AreDistinct holdings
+    apart [] less = tt
+    apart (holding ∷ holdings) less = (
+      recursion_from_All (λ (other : Holding). other.taken.account ≢ holding.taken.account) holdings (λ k d within same. let up = less 0 (suc k) (omega arith) (omega (arith, length-map holdings account_of)) in
+          let at = get_or-map account_of holdings k d 0 within in omega arith),
+      apart holdings (λ i j up within. less (suc i) (suc j) (omega arith) (omega arith)),
+    )
+
+-- the account given back is the one that was taken first of all
+without-last : (front : List Held) (last : Held) → AllByRecursion (λ (held : Held). held.account ≢ last.account) front
+    → without last.account (front ++ last ∷ []) ≡ front
+without-last [] last none = λ i. cond (eq-eqb last.account last.account refl i) [] (last ∷ [])
+without-last (held ∷ front) last none =
+    (λ i. cond (ne_eqb held.account last.account none.0 i) (front ++ last ∷ []) (held ∷ without last.account (front ++ last ∷ [])))
+    ∙ ap (λ more. held ∷ more) (without-last front last none.1)
+
+without-behind : (holdings : List Holding) (front : List Held) (last : Held) → Lacks last.account holdings
+    → AllByRecursion (λ (held : Held). held.account ≢ last.account) front
+    → without last.account (held_behind holdings (front ++ last ∷ [])) ≡ held_behind holdings front
+without-behind [] front last lacks none = without-last front last none
+without-behind (holding ∷ holdings) front last lacks none = without-behind holdings (as_held holding.taken ∷ front) last lacks.1 (lacks.0, none)
+
+-- what was taken later doesn't concern the account
+pub taken-behind : (books : Books) (holdings : List Holding) (held : List Held) (taken : Taken) → Lacks taken.account holdings
+    → HoldsTaken taken (record books { held = held }) → HoldsTaken taken (record books { held = held_behind holdings held })
+taken-behind books [] held taken lacks holds = holds
+taken-behind books (holding ∷ holdings) held taken lacks holds = taken-behind books holdings (as_held holding.taken ∷ held) taken lacks.1 record {
+  has = omega (arith, holds.has);
+  balance = (λ i. cond (other i) holding.taken.balance (balance_taken held taken.account)) ∙ holds.balance;
+  mark = (λ i. cond (other i) holding.taken.mark (mark_taken held taken.account)) ∙ holds.mark;
+}
+  where
+    other : (holding.taken.account == taken.account) ≡ false
+    other = ne_eqb holding.taken.account taken.account lacks.0
+
+-- the account taken last
+pub taken-first : (books : Books) (holding : Holding) (held : List Held) → HoldsTaken holding.taken (record books { held = as_held holding.taken ∷ held })
+taken-first books holding held = record {
+  has = subst (λ b. 1 ≤ cond b 1 0 + times_held holding.taken.account held) (sym same) (omega arith);
+  balance = λ i. cond (same i) holding.taken.balance (balance_taken held holding.taken.account);
+  mark = λ i. cond (same i) holding.taken.mark (mark_taken held holding.taken.account);
+}
+  where
+    same : (holding.taken.account == holding.taken.account) ≡ true
+    same = eq-eqb holding.taken.account holding.taken.account refl
+
+-- the first of the holdings that are left, and the others once it is given back
+module _ (first second : Seat) (holdings rest : List Holding) (holding : Holding) (steps : ℕ) (is : holdings ≡ holding ∷ rest) (apart : AreDistinct holdings)
+    (before : Becomes first second (with_held (held_behind holdings []) steps (view_of first))) where
+  abbrev view : View
+  view = view_of first
+
+  distinct-both : AreDistinct (holding ∷ rest)
+  distinct-both = subst AreDistinct is apart
+
+  pub distinct-rest : AreDistinct rest
+  distinct-rest = distinct-both.1
+
+  is-held : second.base.me ≡ (with_held (held_behind (holding ∷ rest) []) steps view, first.base.me.1)
+  is-held = before.me ∙ (λ i. (with_held (held_behind (is i) []) steps view, first.base.me.1))
+
+  pub holds-first : HoldsTaken holding.taken (view_of second).books
+  holds-first = subst (λ m. HoldsTaken holding.taken m.0.books) (sym is-held)
+      (taken-behind view.books rest (as_held holding.taken ∷ []) holding.taken distinct-both.0 (taken-first view.books holding []))
+
+  pub gives-first : (third : Seat) → Becomes second third (gave_account holding.taken.account (view_of second))
+      → Becomes first third (with_held (held_behind rest []) (steps + 1) view)
+  gives-first third after = record {
+    table_is = after.table_is ∙ before.table_is;
+    number = after.number ∙ before.number;
+    me = after.me ∙ ap (λ m. (gave_account holding.taken.account m.0, m.1)) is-held
+        ∙ (λ i. (record view { seen = record view.seen { steps = total i }; books = record view.books { held = left i } }, first.base.me.1));
+    worker = after.worker ∙ before.worker;
+  }
+    where
+      total : view.seen.steps + steps + 1 ≡ view.seen.steps + (steps + 1)
+      total = omega arith
+
+      left : without holding.taken.account (held_behind (holding ∷ rest) []) ≡ held_behind rest []
+      left = without-behind rest [] (as_held holding.taken) distinct-both.0 tt
+
+-- holdings of the same accounts, taken with the same values
+module _ (old new : List Holding) (same : map taken_of new ≡ map taken_of old) where
+  same-length : length new ≡ length old
+  same-length = sym (length-map new taken_of) ∙ ap length same ∙ length-map old taken_of
+
+  pub same-taken : (k : ℕ) (d : Holding) → k < length new → (get_or new k d).taken ≡ (get_or old k d).taken
+  same-taken k d within = sym (get_or-map taken_of new k d d.taken within) ∙ ap (λ list. get_or list k d.taken) same
+      ∙ get_or-map taken_of old k d d.taken (omega (arith, same-length))
+
+  pub same-accounts : map account_of new ≡ map account_of old
+  same-accounts = accounts new ∙ ap (map (λ (taken : Taken). taken.account)) same ∙ sym (accounts old)
+    where
+      accounts : (holdings : List Holding) → map account_of holdings ≡ map (λ (taken : Taken). taken.account) (map taken_of holdings)
+      accounts [] = refl
+      accounts (holding ∷ holdings) = ap (λ list. holding.taken.account ∷ list) (accounts holdings)
+
+  pub all-same : (P : Taken → Type 0) → All (λ (holding : Holding). P holding.taken) old → All (λ (holding : Holding). P holding.taken) new
+  all-same P all k d within = subst P (sym (same-taken k d within)) (all k d (omega (arith, same-length)))

@@ -1,0 +1,88 @@
+-- A worker's progress along its stripe. `first` and `before` are its seat's view and its rows at the start, `old` and `mid` those before
+-- one transfer, `new` and `after` those behind it.
+use Rattle.std.proofs.Common.{◌≡◌, ℕ, ◌+◌, ◌≤◌, Bool, List, [], ◌∷◌, ◌++◌, length, sym, ap, subst, arith, length-append}
+use Rattle.log_record.specs.declared.rec.Rec.{Rec}
+use Rattle.txn_script.specs.declared.job.Job.{Job}
+use Rattle.log_table.specs.declared.view.View.{View}
+use Rattle.txn_runner.specs.declared.cause.Cause.{Cause}
+use Rattle.txn_runner.specs.declared.cause.Cause.TheVariants.{Stop, LogEnd}
+use Rattle.txn_runner.specs.declared.cause.Worked.TheVariants.{All, Cut}
+use Rattle.txn_runner.specs.declared.jobs.Jobs.{Jobs}
+use Rattle.txn_runner.specs.declared.rows.Row.{Row}
+use Rattle.txn_runner.specs.declared.rows.Rows.{Rows}
+use Rattle.txn_runner.specs.Running.{HasInserted, HasRun, HasCut}
+use Rattle.txn_runner.specs.Stripes.{number_at, job_at}
+use Rattle.txn_runner.specs.Working.{rows_in, room_of, taken_in, HasWorked, HasRoom, TakesJobs, HaveEnded, Works, AddsRows}
+use Rattle.txn_runner.proofs.RowLemmas.{AddsRows-push, AddsRows-cut}
+use Rattle.txn_runner.proofs.WorkLemmas.{IsNextJob, at-stripe, HasWorked-next, TakesJobs-next, HaveEnded-next, HaveEnded-still, IsCutBy-next}
+
+-- so far each transfer taken has its end record and its row
+pub record Progress (jobs : Jobs) (worker : ℕ) (wait : Bool) (before rows : Rows) (first view : View) : Type 0 where
+  pub worked : HasWorked jobs worker (taken_in rows) view
+  pub room : HasRoom jobs worker rows
+  pub takes : TakesJobs jobs worker (taken_in before) (taken_in rows) first view
+  pub ended : HaveEnded jobs worker (taken_in before) (taken_in rows) view
+  pub adds : AddsRows jobs worker wait All before rows first view
+
+-- the transfer taken last was cut off
+pub record Stopped (jobs : Jobs) (worker : ℕ) (wait : Bool) (before rows : Rows) (first view : View) (cause : Cause) : Type 0 where
+  pub worked : HasWorked jobs worker (taken_in rows) view
+  pub takes : TakesJobs jobs worker (taken_in before) (taken_in rows) first view
+  pub works : Works jobs worker (taken_in before) (taken_in rows) (Cut cause) view
+  pub adds : AddsRows jobs worker wait (Cut cause) before rows first view
+
+-- the seat has seen no smaller LSNs
+pub record SawNoLess (old new : View) : Type 0 where
+  pub tail : old.seen.tail ≤ new.seen.tail
+  pub durable : old.seen.durable ≤ new.seen.durable
+
+inserted-in : (number : ℕ) (job : Job) (cause : Cause) (old new : View) → HasCut number job cause old new
+    → (rest : List Rec) × HasInserted number job rest old new
+inserted-in number job (Stop word) old new cut = (cut.0, cut.1)
+inserted-in number job (LogEnd tail total) old new cut = (cut.0 ∷ cut.1, cut.2)
+
+module _ (jobs : Jobs) (worker : ℕ) (wait : Bool) (before mid after : Rows) (first old new : View)
+    (progress : Progress jobs worker wait before mid first old) (number : ℕ) (job : Job) (next : IsNextJob jobs worker (taken_in mid) number job)
+    (since : SawNoLess first old) (later : SawNoLess old new) (room : room_of after ≡ room_of mid) (taken : taken_in after ≡ taken_in mid + 1) where
+  -- one transfer more was run, and its row put
+  pub Progress-next : (row : Row) → HasRun number job wait row old new → rows_in after ≡ rows_in mid ++ row ∷ []
+      → Progress jobs worker wait before after first new
+  Progress-next row has_run rows = record {
+    worked = subst (λ k. HasWorked jobs worker k new) (sym taken)
+        (HasWorked-next jobs worker (taken_in mid) [] old new run.inserted progress.worked next.within);
+    room = λ k stripe. omega (arith, progress.room k stripe, ap length rows, length-append (rows_in mid) (row ∷ []), room, taken);
+    takes = subst (λ k. TakesJobs jobs worker (taken_in before) k first new) (sym taken)
+        (TakesJobs-next jobs worker (taken_in mid) [] old new run.inserted (taken_in before) first progress.takes);
+    ended = subst (λ k. HaveEnded jobs worker (taken_in before) k new) (sym taken)
+        (HaveEnded-next jobs worker (taken_in before) (taken_in mid) wait row old new run progress.ended);
+    adds = AddsRows-push jobs worker wait before mid after first old new progress.adds room taken row run progress.worked.below
+        since.tail since.durable later.durable rows;
+  }
+    where
+      run : HasRun (number_at jobs worker (taken_in mid)) (job_at jobs worker (taken_in mid)) wait row old new
+      run = at-stripe jobs worker (taken_in mid) number job next (λ n j. HasRun n j wait row old new) has_run
+
+  -- one transfer more was taken, and cut off
+  pub Progress-cut : (cause : Cause) → HasCut number job cause old new → rows_in after ≡ rows_in mid
+      → Stopped jobs worker wait before after first new cause
+  Progress-cut cause has_cut rows = record {
+    worked = subst (λ k. HasWorked jobs worker k new) (sym taken)
+        (HasWorked-next jobs worker (taken_in mid) (inserted.0) old new inserted.1 progress.worked next.within);
+    takes = subst (λ k. TakesJobs jobs worker (taken_in before) k first new) (sym taken)
+        (TakesJobs-next jobs worker (taken_in mid) (inserted.0) old new inserted.1 (taken_in before) first progress.takes);
+    works = (
+      taken_in mid,
+      omega (arith, progress.adds.each),
+      taken,
+      HaveEnded-still jobs worker (taken_in mid) (inserted.0) old new inserted.1 (taken_in before) (taken_in mid) progress.ended,
+      IsCutBy-next jobs worker (taken_in mid) cause old new progress.worked cut,
+    );
+    adds = AddsRows-cut jobs worker wait before mid after first old new progress.adds room taken cause
+        record { added = inserted.1.added; entries = inserted.1.entries; durable = later.durable } rows;
+  }
+    where
+      cut : HasCut (number_at jobs worker (taken_in mid)) (job_at jobs worker (taken_in mid)) cause old new
+      cut = at-stripe jobs worker (taken_in mid) number job next (λ n j. HasCut n j cause old new) has_cut
+
+      inserted : (rest : List Rec) × HasInserted (number_at jobs worker (taken_in mid)) (job_at jobs worker (taken_in mid)) rest old new
+      inserted = inserted-in (number_at jobs worker (taken_in mid)) (job_at jobs worker (taken_in mid)) cause old new cut

@@ -1,0 +1,109 @@
+-- A worker's rows, and one more behind them. `old` and `new` are its seat's view before and after the transfer that it tells.
+use Rattle.std.proofs.Common.{◌≡◌, ◌∙◌, ℕ, ◌+◌, ◌<◌, ◌≤◌, Bool, List, [], ◌∷◌, ◌++◌, length, Contains, sym, ap, subst, arith, length-append, append_assoc}
+use Rattle.std.proofs.lemmas.List.Elements.{Contains-append_left, Contains-append_right, Contains-push, All-contains, All-from_recursion}
+use Rattle.lock_core.specs.Alone.{end_record}
+use Rattle.log_table.specs.declared.view.Entry.{Entry}
+use Rattle.log_table.specs.declared.view.View.{View}
+use Rattle.log_table.specs.Books.{transfer_of}
+use Rattle.txn_runner.specs.declared.cause.Cause.{Cause}
+use Rattle.txn_runner.specs.declared.cause.Worked.TheVariants.{All, Cut}
+use Rattle.txn_runner.specs.declared.jobs.Jobs.{Jobs}
+use Rattle.txn_runner.specs.declared.rows.Row.{Row}
+use Rattle.txn_runner.specs.declared.rows.Rows.{Rows}
+use Rattle.txn_runner.specs.Running.{outcome_of, LieInOrder, HasRun}
+use Rattle.txn_runner.specs.Stripes.{number_at, job_at}
+use Rattle.txn_runner.specs.Working.{rows_in, room_of, taken_in, TellsEnd, AreRowsFrom, AddsRows}
+use Rattle.txn_runner.proofs.EntryLemmas.{LieInOrder-ends}
+
+-- the view has more entries, and has seen no smaller durable LSN
+pub record Goes (old new : View) : Type 0 where
+  pub added : List Entry
+  pub entries : new.entries ≡ old.entries ++ added
+  pub durable : old.seen.durable ≤ new.seen.durable
+
+module _ (jobs : Jobs) (worker : ℕ) (wait : Bool) (old : View) where
+  -- what a row tells lies below what the seat saw last
+  row-ends : (j : ℕ) (row : Row) → LieInOrder 0 old.seen.tail old.entries → TellsEnd jobs worker j wait old row → row.end ≤ old.seen.tail
+  row-ends j row order tells = omega (
+    arith,
+    tells.end_is,
+    All-contains (λ (entry : Entry). entry.start + entry.size ≤ old.seen.tail) old.entries tells.end
+        (All-from_recursion (λ (entry : Entry). entry.start + entry.size ≤ old.seen.tail) old.entries (LieInOrder-ends 0 old.seen.tail old.entries order))
+        tells.contains,
+  )
+
+module _ (jobs : Jobs) (worker : ℕ) (wait : Bool) (old new : View) (goes : Goes old new) where
+  TellsEnd-still : (j : ℕ) (row : Row) → TellsEnd jobs worker j wait old row → TellsEnd jobs worker j wait new row
+  TellsEnd-still j row tells = record {
+    txn = tells.txn;
+    end = tells.end;
+    contains = subst (λ l. Contains l tells.end) (sym goes.entries) (Contains-append_left old.entries goes.added tells.end tells.contains);
+    rec = tells.rec;
+    end_is = tells.end_is;
+    seen = omega (arith, tells.seen, goes.durable);
+    waited = tells.waited;
+  }
+
+  AreRowsFrom-still : (j above since : ℕ) (rows : List Row) → AreRowsFrom jobs worker j wait old above since rows
+      → AreRowsFrom jobs worker j wait new above since rows
+  AreRowsFrom-still j above since [] tell = tt
+  AreRowsFrom-still j above since (row ∷ rows) tell =
+      (TellsEnd-still j row tell.0, tell.1, tell.2, AreRowsFrom-still (j + 1) row.end row.seen rows tell.3)
+
+  -- a row behind the others, of a transfer that was run behind theirs
+  module _ (order : LieInOrder 0 old.seen.tail old.entries) (row : Row) (above_tail : old.seen.tail < row.end)
+      (since_durable : old.seen.durable ≤ row.seen) where
+    AreRowsFrom-push : (k j above since : ℕ) (rows : List Row) → k ≡ j + length rows → above ≤ old.seen.tail → since ≤ old.seen.durable
+        → TellsEnd jobs worker k wait new row → AreRowsFrom jobs worker j wait old above since rows
+        → AreRowsFrom jobs worker j wait new above since (rows ++ row ∷ [])
+    AreRowsFrom-push k j above since [] count below saw tells tell =
+        (subst (λ i. TellsEnd jobs worker i wait new row) (omega arith) tells, omega arith, omega arith, tt)
+    AreRowsFrom-push k j above since (other ∷ rows) count below saw tells tell = (
+      TellsEnd-still j other tell.0,
+      tell.1,
+      tell.2,
+      AreRowsFrom-push k (j + 1) other.end other.seen rows (omega arith) (row-ends jobs worker wait old j other order tell.0) tell.0.seen tells tell.3,
+    )
+
+TellsEnd-run : (jobs : Jobs) (worker k : ℕ) (wait : Bool) (row : Row) (old new : View)
+    → HasRun (number_at jobs worker k) (job_at jobs worker k) wait row old new → TellsEnd jobs worker k wait new row
+TellsEnd-run jobs worker k wait row old new run = record {
+  txn = run.txn;
+  end = run.end;
+  contains = subst (λ l. Contains l run.end) (sym (run.inserted.entries ∙ ap (λ l. old.entries ++ l) run.last))
+      (Contains-append_right old.entries (run.before ++ run.end ∷ []) run.end (Contains-push run.before run.end));
+  rec = run.rec ∙ ap (λ n. end_record n (transfer_of (job_at jobs worker k)) (outcome_of row.answer)) (sym run.txn);
+  end_is = run.end_is;
+  seen = omega (arith, run.seen);
+  waited = run.waited;
+}
+
+module _ (jobs : Jobs) (worker : ℕ) (wait : Bool) (before mid after : Rows) (first old new : View)
+    (adds : AddsRows jobs worker wait All before mid first old) (room : room_of after ≡ room_of mid) (taken : taken_in after ≡ taken_in mid + 1) where
+  -- one more transfer was taken, and its row put
+  pub AddsRows-push : (row : Row) → HasRun (number_at jobs worker (taken_in mid)) (job_at jobs worker (taken_in mid)) wait row old new
+      → LieInOrder 0 old.seen.tail old.entries → first.seen.tail ≤ old.seen.tail → first.seen.durable ≤ old.seen.durable
+      → old.seen.durable ≤ new.seen.durable → rows_in after ≡ rows_in mid ++ row ∷ []
+      → AddsRows jobs worker wait All before after first new
+  AddsRows-push row run order tails durables durable rows = record {
+    added = adds.added ++ row ∷ [];
+    rows = rows ∙ ap (λ l. l ++ row ∷ []) adds.rows ∙ append_assoc (rows_in before) adds.added (row ∷ []);
+    room = room ∙ adds.room;
+    tell = AreRowsFrom-push jobs worker wait old new goes order row run.above (omega (arith, run.seen, durable)) (taken_in mid) (taken_in before)
+        first.seen.tail first.seen.durable adds.added (sym adds.each) tails durables
+        (TellsEnd-run jobs worker (taken_in mid) wait row old new run) adds.tell;
+    each = omega (arith, length-append adds.added (row ∷ []), adds.each, taken);
+  }
+    where
+      goes : Goes old new
+      goes = record { added = run.inserted.added; entries = run.inserted.entries; durable = durable }
+
+  -- one more transfer was taken, and cut off
+  pub AddsRows-cut : (cause : Cause) → Goes old new → rows_in after ≡ rows_in mid → AddsRows jobs worker wait (Cut cause) before after first new
+  AddsRows-cut cause goes rows = record {
+    added = adds.added;
+    rows = rows ∙ adds.rows;
+    room = room ∙ adds.room;
+    tell = AreRowsFrom-still jobs worker wait old new goes (taken_in before) first.seen.tail first.seen.durable adds.added adds.tell;
+    each = omega (arith, adds.each, taken);
+  }

@@ -1,0 +1,21 @@
+use Rattle.std.proofs.Common.{All, subst, arith, ◌∙◌}
+use Rattle.std.proofs.lemmas.List.{take_all}
+use Rattle.txn_runner.specs.Accounts.{HasAccountsOf, IsAccountOf}
+use Rattle.txn_runner.proofs.Listing.{all-more, only-more}
+use Rattle.txn_runner.proofs.accounts.accounts_of.Goals as goal
+
+pub legs-preserved : goal.legs-preserved
+legs-preserved c =
+    let first = c.add.ensures.added in
+    let second = c.add-in-legs.ensures.added in record {
+      rising = c.add-in-legs.ensures.rising;
+      all = all-more _ _ c.legs-test.true _ _ _ first second c.legs.invariant.all;
+      only = only-more _ _ c.legs-test.true _ _ _ first second c.legs.invariant.only;
+      few = omega (arith, first.longer, second.longer);
+    }
+
+pub returns-clause-all : goal.returns-clause-all
+returns-clause-all c = subst (All (HasAccountsOf c.legs.accounts.items)) (take_all _ _ c.legs-test.false ∙ c.as_slice-leg-items.ensures.legs) c.legs.invariant.all
+
+pub returns-clause-only : goal.returns-clause-only
+returns-clause-only c = subst (λ legs. All (IsAccountOf legs) c.legs.accounts.items) c.as_slice-leg-items.ensures.legs c.legs.invariant.only

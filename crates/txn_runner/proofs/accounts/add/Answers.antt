@@ -1,0 +1,13 @@
+use Rattle.std.proofs.Common.{rules, ◌≡◌, ◌≤◌, length, insert, subst, sym}
+use Rattle.std.specs.List.Sorted.{IsStrictlyIncreasing}
+use Rattle.txn_runner.proofs.Listing.{rising-searched, adds-insert}
+use Rattle.txn_runner.proofs.accounts.add.Goals as goal
+
+pub returns-in-Err-clause-rising : goal.returns-in-Err-clause-rising
+returns-in-Err-clause-rising c = subst IsStrictlyIncreasing (sym c.insert.ensures.items)
+    (rising-searched c.args.accounts.now.items c.as_slice.result.now c.in-Err.place c.args.account c.requires.rising c.as_slice.ensures.value c.in-Err.ensures.position)
+
+pub returns-in-Err-clause-added : goal.returns-in-Err-clause-added
+returns-in-Err-clause-added c =
+    let within : c.in-Err.place ≤ length c.args.accounts.now.items = search rules in
+    adds-insert c.args.account c.args.accounts.now.items c.insert.new.self.items c.in-Err.place within c.insert.ensures.items

@@ -1,0 +1,82 @@
+use Rattle.std.proofs.Common.{◌≡◌, ℕ, ◌<◌, ◌≤◌, ◌∙◌, [], All, refl, ap, sym, subst}
+use Rattle.std.proofs.lemmas.Result.{err_from_is_err_and}
+use Rattle.log_table.specs.declared.view.Books.{Books}
+use Rattle.log_table.specs.Seats.{view_of}
+use Rattle.txn_runner.specs.declared.cause.Cause.TheVariants.{Stop}
+use Rattle.txn_runner.specs.Holdings.{TakesAll}
+use Rattle.txn_runner.specs.Running.{HasRun}
+use Rattle.txn_runner.proofs.Composing.{accounts-known, holds-job, holds-still, all-still-known, took, still-taken, keeps-held, keeps-then, has-inserted, still-stops, has-cut, cut-early, has-run}
+use Rattle.txn_runner.proofs.job.run_job.Goals as goal
+
+pub returns-then-word-ne0-clause-cut : goal.returns-then-word-ne0-clause-cut
+returns-then-word-ne0-clause-cut g c =
+    let job = took _ _ _ c.args.seat.now c.take_job-word.new.seat c.take_job-word.ensures.view in
+    cut-early _ _ (Stop c.take_job-word.result) _ _ job (c.if-word-ne0.true, ap (λ m. m.0.seen.stop) c.take_job-word.ensures.view.me)
+
+pub take_all-requires-clause-known : goal.take_all-requires-clause-known
+take_all-requires-clause-known g c = subst (All (λ account. account < c.args.table.now.accounts)) (sym c.as_slice.ensures.value)
+    (accounts-known _ _ _ c.requires.may.allowed.job.legs.each c.accounts_of-accounts.ensures.only)
+
+pub returns-in_err-holdings-clause-cut : goal.returns-in_err-holdings-clause-cut
+returns-in_err-holdings-clause-cut g c =
+    let failed = err_from_is_err_and c.from_residual.result c.from_residual.ensures.1 in
+    let job = took _ _ _ c.args.seat.now c.take_job-word.new.seat c.take_job-word.ensures.view in
+    let err = c.in_err-holdings.ensures in
+    rw (failed.1, failed.2) (cut-early _ _ _ _ _ (still-taken _ _ _ _ _ _ job err.kept refl refl refl) err.stopped)
+
+pub insert_transfer-requires-clause-job : goal.insert_transfer-requires-clause-job
+insert_transfer-requires-clause-job g c =
+    let job = took _ _ _ c.args.seat.now c.take_job-word.new.seat c.take_job-word.ensures.view in
+    let list = c.accounts_of-accounts.ensures in
+    let takes = subst (λ xs. TakesAll xs c.in_ok-holdings.holdings.items c.take_job-word.new.seat c.take_all.new.seat) c.as_slice.ensures.value c.in_ok-holdings.ensures.taken in
+    holds-job _ _ _ _ _ _ _ list.rising list.all list.only c.requires.may.allowed job.last takes
+
+pub give_all-requires-clause-holds : goal.give_all-requires-clause-holds
+give_all-requires-clause-holds g c =
+    let takes = subst (λ xs. TakesAll xs c.in_ok-holdings.holdings.items c.take_job-word.new.seat c.take_all.new.seat) c.as_slice.ensures.value c.in_ok-holdings.ensures.taken in
+    holds-still _ _ _ _ _ _ c.accounts_of-accounts.ensures.rising takes c.in-Err.ensures.taken (ap (λ (books : Books). books.held) c.in-Err.ensures.added.1.entries.books_are)
+
+pub give_all-requires-clause-known : goal.give_all-requires-clause-known
+give_all-requires-clause-known g c =
+    let takes = subst (λ xs. TakesAll xs c.in_ok-holdings.holdings.items c.take_job-word.new.seat c.take_all.new.seat) c.as_slice.ensures.value c.in_ok-holdings.ensures.taken in
+    all-still-known _ _ _ _ _ _ _ c.requires.may.allowed.job.legs.each c.accounts_of-accounts.ensures.only takes c.in-Err.ensures.taken
+
+pub returns-in-Err-clause-cut : goal.returns-in-Err-clause-cut
+returns-in-Err-clause-cut g c =
+    let job = took _ _ _ c.args.seat.now c.take_job-word.new.seat c.take_job-word.ensures.view in
+    let taken = still-taken _ _ _ _ c.take_all.new.seat _ job c.in_ok-holdings.ensures.taken.entries refl refl refl in
+    let added = c.in-Err.ensures.added in
+    let cut = c.in-Err.ensures.cut in
+    has-cut _ _ _ cut.rest _ _ (has-inserted _ _ _ _ _ _ _ _ taken added.1 cut.left (keeps-held _ _ _ _ c.give_all.ensures))
+    (still-stops _ _ _ _ _ _ c.give_all.ensures cut.stops)
+
+pub give_all-requires-2-clause-holds : goal.give_all-requires-2-clause-holds
+give_all-requires-2-clause-holds g c =
+    let takes = subst (λ xs. TakesAll xs c.in_ok-holdings.holdings.items c.take_job-word.new.seat c.take_all.new.seat) c.as_slice.ensures.value c.in_ok-holdings.ensures.taken in
+    holds-still _ _ _ _ _ _ c.accounts_of-accounts.ensures.rising takes c.in-Ok.ensures.taken
+    (ap (λ (books : Books). books.held) (c.see_durable-seen.ensures.kept.books_are ∙ c.in-Ok.ensures.ended.adds.entries.books_are))
+
+pub give_all-requires-2-clause-known : goal.give_all-requires-2-clause-known
+give_all-requires-2-clause-known g c =
+    let takes = subst (λ xs. TakesAll xs c.in_ok-holdings.holdings.items c.take_job-word.new.seat c.take_all.new.seat) c.as_slice.ensures.value c.in_ok-holdings.ensures.taken in
+    all-still-known _ _ _ _ _ _ _ c.requires.may.allowed.job.legs.each c.accounts_of-accounts.ensures.only takes c.in-Ok.ensures.taken
+
+pub returns-in_err-seen-clause-cut : goal.returns-in_err-seen-clause-cut
+returns-in_err-seen-clause-cut g c =
+    let failed = err_from_is_err_and c.from_residual-in_err-seen.result c.from_residual-in_err-seen.ensures.1 in
+    let job = took _ _ _ c.args.seat.now c.take_job-word.new.seat c.take_job-word.ensures.view in
+    let taken = still-taken _ _ _ _ c.take_all.new.seat _ job c.in_ok-holdings.ensures.taken.entries refl refl refl in
+    let ends = c.in-Ok.ensures.ended in
+    let keeps = keeps-then _ _ _ c.see_durable-seen.ensures.kept (keeps-held _ _ _ _ c.give_all-2.ensures) in
+    rw (failed.1, failed.2) (has-cut _ _ _ [] _ _ (has-inserted _ _ _ _ _ _ _ _ taken ends.adds ends.left keeps)
+    (still-stops _ _ _ _ _ _ c.give_all-2.ensures c.in_err-seen.ensures.stopped))
+
+pub returns-clause-run : goal.returns-clause-run
+returns-clause-run g c =
+    let job = took _ _ _ c.args.seat.now c.take_job-word.new.seat c.take_job-word.ensures.view in
+    let taken = still-taken _ _ _ _ c.take_all.new.seat _ job c.in_ok-holdings.ensures.taken.entries refl refl refl in
+    let keeps = keeps-then _ _ _ c.see_durable-seen.ensures.kept (keeps-held _ _ _ _ c.give_all-2.ensures) in
+    let seen : c.in_ok-seen.seen ≡ (view_of c.give_all-2.new.seat).seen.durable = c.in_ok-seen.ensures.seen ∙ sym (ap (λ m. m.0.seen.durable) c.give_all-2.ensures.me) in
+    subst (λ (n : ℕ). HasRun c.args.number c.args.job.now c.args.wait (record { txn = c.args.number; answer = c.in-Ok.ended.answer; end = c.in-Ok.ended.end; seen = n })
+    (view_of c.args.seat.now) (view_of c.give_all-2.new.seat)) (sym seen)
+    (has-run _ _ _ _ _ _ _ _ _ taken c.in-Ok.ensures.ended keeps (λ waits. subst (λ (n : ℕ). c.in-Ok.ended.end ≤ n) seen (c.in_ok-seen.ensures.waited waits)))

@@ -1,0 +1,71 @@
+use Rattle.std.proofs.Common.{◌∙◌, ap, subst, arith, rules, length, ◌+◌, ◌++◌, ◌∷◌, []}
+use Rattle.log_table.specs.Seats.{view_of}
+use Rattle.txn_runner.specs.Working.{taken_in, rows_in, room_of}
+use Rattle.txn_runner.proofs.ProgressLemmas.{Progress-next, Progress-cut, Stopped}
+use Rattle.txn_runner.proofs.StripeLemmas.{HasStripe-more}
+use Rattle.txn_runner.proofs.WorkLemmas.{IsNextJob, MayTakeJob-next}
+use Rattle.txn_runner.proofs.worker.work.Goals as goal
+use Rattle.txn_runner.proofs.worker.work.Goals.{In-Some, In-Err}
+
+-- the transfer is the worker's next
+next-is : (g : _) (c : In-Some g) → IsNextJob c.args.jobs.now c.args.seat.now.worker (taken_in c.stripe.rows) c.in-Some.number c.in-Some.job.now
+next-is g c =
+    subst (λ worker. IsNextJob c.args.jobs.now worker (taken_in c.stripe.rows) c.in-Some.number c.in-Some.job.now)
+    (c.worker.ensures.worker ∙ c.stripe.invariant.same.worker)
+    (subst (λ k. IsNextJob c.args.jobs.now c.worker.result k c.in-Some.number c.in-Some.job.now) c.taken.ensures
+    record { within = c.in-Some.ensures.within; number_is = c.in-Some.ensures.number; job_is = c.in-Some.ensures.job })
+
+pub run_job-requires-clause-may : goal.run_job-requires-clause-may
+run_job-requires-clause-may g c = MayTakeJob-next c.args.jobs.now c.args.seat.now.worker (taken_in c.stripe.rows) c.in-Some.number c.in-Some.job.now
+    (next-is g (goal.at.run_job-requires-clause-may g c).In-Some) c.args.table.now.accounts (view_of c.stripe.seat) c.stripe.invariant.ready
+    c.stripe.invariant.none_held c.requires.allowed c.stripe.invariant.progress.worked
+
+pub push-requires : goal.push-requires
+push-requires g c = record {
+  room = omega (
+    arith,
+    c.stripe.invariant.progress.room (taken_in c.stripe.rows + 1) (HasStripe-more c.args.jobs.now c.args.seat.now.worker
+        (taken_in c.stripe.rows) c.stripe.invariant.progress.worked.stripe (next-is g (goal.at.push-requires g c).In-Some).within),
+    ap (λ rows. length (rows_in rows)) c.take.ensures,
+    ap room_of c.take.ensures,
+  );
+}
+
+pub stripe-preserved : goal.stripe-preserved
+stripe-preserved g c = record {
+  seat = c.in-Ok.ensures.seat;
+  ready = c.in-Ok.ensures.ready;
+  none_held = c.in-Ok.ensures.none_held;
+  same = search rules;
+  progress = Progress-next c.args.jobs.now c.args.seat.now.worker c.args.wait c.args.rows.now c.stripe.rows c.push.new.self
+      (view_of c.args.seat.now) (view_of c.stripe.seat) (view_of c.run_job.new.seat) c.stripe.invariant.progress c.in-Some.number c.in-Some.job.now
+      (next-is g (goal.at.stripe-preserved g c).In-Some)
+      record { tail = c.stripe.invariant.same.grows; durable = c.stripe.invariant.same.durable }
+      record { tail = c.in-Ok.ensures.same.grows; durable = c.in-Ok.ensures.same.durable }
+      (c.push.ensures.room ∙ ap room_of c.take.ensures) (c.push.ensures.taken ∙ ap taken_in c.take.ensures) c.in-Ok.row c.in-Ok.ensures.run
+      (c.push.ensures.rows ∙ ap (λ rows. rows_in rows ++ c.in-Ok.row ∷ []) c.take.ensures);
+  relief = c.in-Ok.ensures.relief;
+  later = g.met.Q.Relief.later_trans c.args.relief.now c.stripe.relief c.run_job.new.relief c.stripe.invariant.later c.in-Ok.ensures.later;
+}
+
+-- the transfer that was cut off
+stopped : (g : _) (c : In-Err g) → Stopped c.args.jobs.now c.args.seat.now.worker c.args.wait c.args.rows.now c.take.new.self
+    (view_of c.args.seat.now) (view_of c.run_job.new.seat) c.in-Err.cause
+stopped g c = Progress-cut c.args.jobs.now c.args.seat.now.worker c.args.wait c.args.rows.now c.stripe.rows c.take.new.self
+    (view_of c.args.seat.now) (view_of c.stripe.seat) (view_of c.run_job.new.seat) c.stripe.invariant.progress c.in-Some.number c.in-Some.job.now
+    (next-is g (goal.at.returns-in-Err-clause-worked g c).In-Some)
+    record { tail = c.stripe.invariant.same.grows; durable = c.stripe.invariant.same.durable }
+    record { tail = c.in-Err.ensures.same.grows; durable = c.in-Err.ensures.same.durable }
+    (ap room_of c.take.ensures) (ap taken_in c.take.ensures) c.in-Err.cause c.in-Err.ensures.cut (ap rows_in c.take.ensures)
+
+pub returns-in-Err-clause-worked : goal.returns-in-Err-clause-worked
+returns-in-Err-clause-worked g c = (stopped g c).worked
+
+pub returns-in-Err-clause-jobs : goal.returns-in-Err-clause-jobs
+returns-in-Err-clause-jobs g c = (stopped g c).takes
+
+pub returns-in-Err-clause-works : goal.returns-in-Err-clause-works
+returns-in-Err-clause-works g c = (stopped g c).works
+
+pub returns-in-Err-clause-rows : goal.returns-in-Err-clause-rows
+returns-in-Err-clause-rows g c = (stopped g c).adds

@@ -1,0 +1,41 @@
+-- How a transfer ends.
+use Rattle.std.specs.Prelude.{◌≡◌, ℕ, ◌+◌, true, List, [], ◌∷◌, ◌++◌, All}
+use Rattle.log_record.specs.LogList.{size_of}
+use Rattle.lock_core.specs.Alone.{outcome_alone}
+use Rattle.lock_core.specs.History.{end_from}
+use Rattle.lock_core.specs.Transactions.{recs_of, has_end}
+use Rattle.txn_script.specs.declared.job.Job.{Job}
+use Rattle.log_table.specs.declared.table.Seat.{Seat}
+use Rattle.log_table.specs.declared.view.Entry.{Entry}
+use Rattle.log_table.specs.Books.{transfer_of, balance_taken}
+use Rattle.log_table.specs.Seats.{view_of}
+use Rattle.ring_buffer.specs.Calls.{entry_of}
+use Rattle.txn_runner.specs.declared.giving.Release.{Release}
+use Rattle.txn_runner.specs.declared.giving.Release.TheVariants.{Unchanged, Committed}
+use Rattle.txn_runner.specs.declared.holding.Holding.{Holding}
+use Rattle.txn_runner.specs.declared.rows.Answer.{Answer}
+use Rattle.txn_runner.specs.declared.rows.Answer.TheVariants.{Done, Short, Over}
+use Rattle.txn_runner.specs.declared.transfer.Ended.{Ended}
+use Rattle.txn_runner.specs.Holdings.{GoesBack}
+use Rattle.txn_runner.specs.Inserts.{Adds, IsLeft}
+use Rattle.txn_runner.specs.Legs.{last_record}
+use Rattle.txn_runner.specs.Running.{outcome_of}
+
+-- with which values the accounts go back where the end record ends there
+abbrev pub release_at : ℕ → Answer → Release
+release_at end Done = Committed end
+release_at end (Short leg) = Unchanged
+release_at end (Over leg) = Unchanged
+
+-- The seat inserted records of the transfer, its end record last, and none is left. The answer is the outcome of the transfer run alone on the
+-- balances as taken, and the holdings have the values with which they go back.
+pub record EndsTransfer (number : ℕ) (job : Job) (ended : Ended) (holdings : List Holding) (old new : Seat) : Type 0 where
+  pub before : List Entry
+  pub start : ℕ
+  pub end_is : ended.end ≡ start + size_of (last_record number job ended.answer)
+  pub adds : Adds (before ++ entry_of start (last_record number job ended.answer) ∷ []) old new
+  pub left : IsLeft [] (view_of new).books
+  pub outcome : outcome_of ended.answer ≡ outcome_alone (transfer_of job) (balance_taken (view_of old).books.held)
+  pub back : All (GoesBack (release_at ended.end ended.answer) (view_of new).books) holdings
+  pub is_last : end_from 0 (view_of new).books.placed ≡ ended.end
+  pub has_ended : has_end (recs_of (view_of new).books.placed) ≡ true

@@ -1,0 +1,65 @@
+-- What a seat has inserted of its last job, and what is left.
+use Rattle.std.specs.Prelude.{◌≡◌, ◌≢◌, ℕ, ◌+◌, ◌<◌, false, List, [], ◌∷◌, ◌++◌, Contains}
+use Rattle.lsn_space.specs.declared.lsn.TheConstants.{LAST}
+use Rattle.log_record.specs.declared.rec.Rec.{Rec}
+use Rattle.log_record.specs.declared.rec.Entry.{Entry as Placed}
+use Rattle.log_record.specs.LogList.{size_of}
+use Rattle.lock_core.specs.Transactions.{recs_of, in_order, has_commit}
+use Rattle.log_table.specs.declared.table.Seat.{Seat}
+use Rattle.log_table.specs.declared.view.Books.{Books}
+use Rattle.log_table.specs.declared.view.Entry.{Entry}
+use Rattle.log_table.specs.declared.view.View.{View}
+use Rattle.log_table.specs.Books.{plan_of}
+use Rattle.log_table.specs.Seats.{view_of}
+use Rattle.ring_buffer.specs.Calls.{HasEntries, entry_of}
+use Rattle.ring_buffer.specs.declared.refused.Refused.{Refused}
+use Rattle.ring_buffer.specs.declared.refused.Refused.TheVariants as refusal
+use Rattle.txn_runner.specs.declared.cause.Cause.{Cause}
+use Rattle.txn_runner.specs.declared.cause.Cause.TheVariants.{Stop, LogEnd}
+use Rattle.txn_runner.specs.Running.{LieInOrder}
+
+-- the entries behind those that were placed before, newest first
+abbrev pub placed_behind : List Entry → List Placed → List Placed
+placed_behind [] placed = placed
+placed_behind (entry ∷ entries) placed = placed_behind entries (record { end = entry.start + entry.size; rec = entry.rec } ∷ placed)
+
+-- the entries are placed, one after another
+abbrev pub placing_all : List Entry → Books → Books
+placing_all entries books = record books { placed = placed_behind entries books.placed }
+
+-- the seat inserted these entries, each behind the tail as it had seen it
+pub record Adds (added : List Entry) (old new : Seat) : Type 0 where
+  pub entries : HasEntries old new ((view_of old).entries ++ added) (placing_all added (view_of old).books)
+  pub within : LieInOrder (view_of old).seen.tail (view_of new).seen.tail added
+
+abbrev pub HasAdded : Seat → Seat → Type 0
+HasAdded old new = (added : List Entry) × Adds added old new
+
+-- the seat inserted this record alone, which ends there
+pub record Puts (rec : Rec) (end : ℕ) (old new : Seat) : Type 0 where
+  pub start : ℕ
+  pub ends : end ≡ start + size_of rec
+  pub adds : Adds (entry_of start rec ∷ []) old new
+
+-- these records of the seat's last job are left: with those in the log before them they are all
+abbrev pub IsLeft : List Rec → Books → Type 0
+IsLeft rest books = in_order (recs_of books.placed) rest ≡ plan_of books
+
+-- the refusal says that the log is at its end, and so does the cause, with the same numbers
+abbrev pub IsLogEnd : Refused → Cause → Type 0
+IsLogEnd refused (Stop word) = ⊥
+IsLogEnd refused (LogEnd tail total) = refused ≡ refusal.LogEnd tail total
+
+-- The log stopped; or the next of the records that are left doesn't fit in the log behind the tail that the seat saw last.
+abbrev pub StopsFor : Cause → List Rec → View → Type 0
+StopsFor (Stop word) rest view = (word ≢ 0) × (view.seen.stop ≡ word)
+StopsFor (LogEnd tail total) [] view = ⊥
+StopsFor (LogEnd tail total) (next ∷ rest) view =
+    (total ≡ size_of next) × (LAST < tail + total) × (tail ≡ view.seen.tail) × Contains view.seen.lsns tail
+
+-- some records of the seat's last job are left for that cause, its Commit among them
+pub record IsCutOff (cause : Cause) (view : View) : Type 0 where
+  pub rest : List Rec
+  pub left : IsLeft rest view.books
+  pub stops : StopsFor cause rest view
+  pub uncommitted : has_commit (recs_of view.books.placed) ≡ false

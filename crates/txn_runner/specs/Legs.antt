@@ -1,0 +1,101 @@
+-- The legs of a transfer, one after another.
+use Rattle.std.specs.Prelude.{◌≡◌, ℕ, ◌+◌, ◌≤◌, true, false, Bool, pos, neg_ℤ, List, [], ◌∷◌, ◌++◌, map, take, drop, All}
+use Rattle.log_record.specs.declared.rec.Rec.{Rec}
+use Rattle.log_record.specs.declared.rec.Rec.TheVariants.{Update}
+use Rattle.log_record.specs.Spelling.{IsTxn, IsSpellable}
+use Rattle.lock_core.specs.declared.limits.TheConstants.{MOST_BALANCE}
+use Rattle.lock_core.specs.declared.update.Change.{Change}
+use Rattle.lock_core.specs.Alone.{outcome_from, outcome_alone, after_leg, planned_from, end_record}
+use Rattle.lock_core.specs.Records.{gain, loss}
+use Rattle.lock_core.specs.Sums.{moved}
+use Rattle.lock_core.specs.Transactions.{recs_of, changes_in, has_commit, touches, in_order}
+use Rattle.txn_script.specs.declared.job.Job.{Job}
+use Rattle.txn_script.specs.Script.{IsAllowedLeg}
+use Rattle.early_locks.specs.Locks.{HoldsTaken}
+use Rattle.log_table.specs.declared.table.Seat.{Seat}
+use Rattle.log_table.specs.declared.view.Books.{Books}
+use Rattle.log_table.specs.declared.view.Entry.{Entry}
+use Rattle.log_table.specs.Accounts.{IsAllowed}
+use Rattle.log_table.specs.Books.{transfer_of, balance_taken, mark_taken, HoldsAccounts}
+use Rattle.log_table.specs.Closing.{records_of}
+use Rattle.txn_runner.specs.declared.holding.Holding.{Holding}
+use Rattle.txn_runner.specs.declared.rows.Answer.{Answer}
+use Rattle.txn_runner.specs.declared.rows.Answer.TheVariants.{Done}
+use Rattle.txn_runner.specs.Accounts.{HasAccountsOf, IsAccountOf}
+use Rattle.txn_runner.specs.Holdings.{account_of}
+use Rattle.txn_runner.specs.Inserts.{Adds, IsLeft}
+use Rattle.txn_runner.specs.Running.{outcome_of}
+
+-- The seat's last job is this one under this number, which a table of so many accounts allows; these are its accounts, and are held.
+pub record HoldsJob (accounts number : ℕ) (job : Job) (holdings : List Holding) (books : Books) : Type 0 where
+  pub last : books.last ≡ record { number = number; job = job }
+  pub allowed : IsAllowed accounts (record { number = number; job = job })
+  pub all : All (HasAccountsOf (map account_of holdings)) job.legs
+  pub only : All (IsAccountOf job.legs) (map account_of holdings)
+  pub taken : All (λ (holding : Holding). HoldsTaken holding.taken books) holdings
+
+-- the Updates of a leg's two accounts, each with the last Commit as it was taken
+abbrev pub leg_records : ℕ → (ℕ → ℕ) → ℕ × ℕ × ℕ → List Rec
+leg_records number mark leg = Update number leg.0 (neg_ℤ (pos leg.2)) (mark leg.0) ∷ Update number leg.1 (pos leg.2) (mark leg.1) ∷ []
+
+-- the seat inserted these records
+pub record AddsRecords (records : List Rec) (old new : Seat) : Type 0 where
+  pub added : List Entry
+  pub adds : Adds added old new
+  pub records_are : records_of added ≡ records
+
+-- The leg may be made: its accounts are among these holdings, of which each is held, and its Updates come next.
+pub record MayMakeLeg (accounts number : ℕ) (leg : ℕ × ℕ × ℕ) (holdings : List Holding) (books : Books) : Type 0 where
+  pub some_job : 1 ≤ books.last.number
+  pub holds : HoldsAccounts books
+  pub txn : IsTxn number
+  pub leg_allowed : IsAllowedLeg accounts leg
+  pub both : HasAccountsOf (map account_of holdings) leg
+  pub taken : All (λ (holding : Holding). HoldsTaken holding.taken books) holdings
+  pub uncommitted : has_commit (recs_of books.placed) ≡ false
+  pub rest : List Rec
+  pub left : IsLeft (leg_records number (mark_taken books.held) leg ++ rest) books
+
+-- what a leg makes of a holding
+pub record IsAfter (leg : ℕ × ℕ × ℕ) (old new : Holding) : Type 0 where
+  pub taken : new.taken ≡ old.taken
+  pub balance : new.balance ≡ after_leg leg (λ account. old.balance) old.taken.account
+
+-- an account that pays has enough, and one that receives has room
+pub record CanBear (leg : ℕ × ℕ × ℕ) (holding : Holding) : Type 0 where
+  pub pays : holding.taken.account ≡ leg.0 → leg.2 ≤ holding.balance
+  pub receives : holding.taken.account ≡ leg.1 → holding.balance + leg.2 ≤ MOST_BALANCE
+
+-- both accounts of the leg are changed
+abbrev pub TouchesLeg : List Change → ℕ × ℕ × ℕ → Type 0
+TouchesLeg changes leg = (touches leg.0 changes ≡ true) × (touches leg.1 changes ≡ true)
+
+-- The transfer stands before its i-th leg, from 0: what is left of the plan, and the outcome of it, are those of the legs from there on, run on
+-- balances which the holdings have by now. They are those as taken with what the records so far move, and these move each account of the legs before.
+pub record StandsBefore (i number : ℕ) (job : Job) (holdings : List Holding) (books : Books) : Type 0 where
+  pub balances : ℕ → ℕ
+  pub left : IsLeft (planned_from number (mark_taken books.held) balances i (drop i job.legs)) books
+  pub outcome : outcome_alone (transfer_of job) (balance_taken books.held) ≡ outcome_from i (drop i job.legs) balances
+  pub now : All (λ (holding : Holding). holding.balance ≡ balances holding.taken.account) holdings
+  pub sums : (account : ℕ) → balances account + moved loss account (changes_in (recs_of books.placed))
+      ≡ balance_taken books.held account + moved gain account (changes_in (recs_of books.placed))
+  pub touched : All (TouchesLeg (changes_in (recs_of books.placed))) (take i job.legs)
+  pub uncommitted : has_commit (recs_of books.placed) ≡ false
+
+-- the holding's balance is the one as taken with what the records move, and they do change the account
+pub record HasMoved (books : Books) (holding : Holding) : Type 0 where
+  pub sum : holding.balance + moved loss holding.taken.account (changes_in (recs_of books.placed))
+      ≡ holding.taken.balance + moved gain holding.taken.account (changes_in (recs_of books.placed))
+  pub touched : touches holding.taken.account (changes_in (recs_of books.placed)) ≡ true
+
+-- the end record of a transfer with this answer
+abbrev pub last_record : ℕ → Job → Answer → Rec
+last_record number job answer = end_record number (transfer_of job) (outcome_of answer)
+
+-- only the end record is left, and it is that of the answer, which is the outcome of the transfer run alone on the balances as taken
+pub record ReachesEnd (answer : Answer) (number : ℕ) (job : Job) (holdings : List Holding) (books : Books) : Type 0 where
+  pub left : IsLeft (last_record number job answer ∷ []) books
+  pub spellable : IsSpellable (last_record number job answer)
+  pub outcome : outcome_of answer ≡ outcome_alone (transfer_of job) (balance_taken books.held)
+  pub moved : answer ≡ Done → All (HasMoved books) holdings
+  pub uncommitted : has_commit (recs_of books.placed) ≡ false

@@ -1,0 +1,8 @@
+pub mod Accounts
+pub mod Endings
+pub mod Holdings
+pub mod Inserts
+pub mod Legs
+pub mod Running
+pub mod Stripes
+pub mod Working

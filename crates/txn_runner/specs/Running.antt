@@ -1,0 +1,62 @@
+-- What a seat has done of one transfer. `old` and `new` are its view before and after.
+use Rattle.std.specs.Prelude.{◌≡◌, ◌≢◌, ℕ, ◌+◌, ◌<◌, ◌≤◌, true, Bool, List, [], ◌∷◌, ◌++◌, Contains}
+use Rattle.lsn_space.specs.declared.lsn.TheConstants.{LAST}
+use Rattle.log_record.specs.declared.rec.Rec.{Rec}
+use Rattle.log_record.specs.LogList.{size_of}
+use Rattle.lock_core.specs.Alone.{Outcome, Done, ShortAt, OverAt, outcome_alone, end_record, planned_records}
+use Rattle.txn_script.specs.declared.job.Job.{Job}
+use Rattle.log_table.specs.declared.view.Entry.{Entry}
+use Rattle.log_table.specs.declared.view.View.{View}
+use Rattle.log_table.specs.Books.{transfer_of}
+use Rattle.log_table.specs.Closing.{records_of}
+use Rattle.txn_runner.specs.declared.cause.Cause.{Cause}
+use Rattle.txn_runner.specs.declared.cause.Cause.TheVariants.{Stop, LogEnd}
+use Rattle.txn_runner.specs.declared.rows.Answer.{Answer}
+use Rattle.txn_runner.specs.declared.rows.Answer.TheVariants as answer
+use Rattle.txn_runner.specs.declared.rows.Row.{Row}
+
+-- the outcome that an answer tells
+abbrev pub outcome_of : Answer → Outcome
+outcome_of answer.Done = Done
+outcome_of (answer.Short leg) = ShortAt leg
+outcome_of (answer.Over leg) = OverAt leg
+
+-- the entries lie one behind another, from the one LSN up to the other
+abbrev pub LieInOrder : ℕ → ℕ → List Entry → Type 0
+LieInOrder from to [] = from ≤ to
+LieInOrder from to (entry ∷ entries) = (from ≤ entry.start) × LieInOrder (entry.start + entry.size) to entries
+
+-- The seat took the transfer under this number, and inserted its records but for the rest, each behind the tail as it had seen it: those of
+-- the transfer run alone on some balances and last Commits.
+pub record HasInserted (number : ℕ) (job : Job) (rest : List Rec) (old new : View) : Type 0 where
+  pub balances : ℕ → ℕ
+  pub marks : ℕ → ℕ
+  pub added : List Entry
+  pub entries : new.entries ≡ old.entries ++ added
+  pub within : LieInOrder old.seen.tail new.seen.tail added
+  pub plan : records_of added ++ rest ≡ planned_records number (transfer_of job) marks balances
+  pub jobs : new.books.jobs ≡ record { number = number; job = job } ∷ old.books.jobs
+
+-- All its records were inserted, and the row tells how it ended, where its end record ends, and the durable LSN that the seat saw last,
+-- which is at or above that where the seat waited.
+pub record HasRun (number : ℕ) (job : Job) (wait : Bool) (row : Row) (old new : View) : Type 0 where
+  pub inserted : HasInserted number job [] old new
+  pub txn : row.txn ≡ number
+  pub outcome : outcome_of row.answer ≡ outcome_alone (transfer_of job) inserted.balances
+  pub before : List Entry
+  pub end : Entry
+  pub last : inserted.added ≡ before ++ end ∷ []
+  pub rec : end.rec ≡ end_record number (transfer_of job) (outcome_of row.answer)
+  pub end_is : row.end ≡ end.start + end.size
+  pub above : old.seen.tail < row.end
+  pub seen : row.seen ≡ new.seen.durable
+  pub waited : wait ≡ true → row.end ≤ row.seen
+
+-- Why the transfer was cut off: the seat read a stop word that isn't 0; or its next record has so many units, and by the tail as it saw
+-- it last they do not fit in the log.
+abbrev pub HasCut : ℕ → Job → Cause → View → View → Type 0
+HasCut number job (Stop word) old new =
+    (rest : List Rec) × HasInserted number job rest old new × (word ≢ 0) × (new.seen.stop ≡ word)
+HasCut number job (LogEnd tail total) old new =
+    (next : Rec) × (rest : List Rec) × HasInserted number job (next ∷ rest) old new
+    × (total ≡ size_of next) × (LAST < tail + total) × (tail ≡ new.seen.tail) × Contains new.seen.lsns tail

@@ -1,0 +1,58 @@
+//! The accounts of a transfer, in the order in which every worker takes accounts.
+ghost use Rattle.std.specs.Prelude.{◌<◌, All};
+ghost use Rattle.std.specs.List.Sorted.{IsStrictlyIncreasing};
+ghost use Rattle.arrayvec.specs.ArrayVec.{array_vec_len};
+ghost use Rattle.txn_runner.specs.Accounts.{HasAccountsOf, IsAccountOf, AddsAccount};
+
+use arrayvec::ArrayVec;
+use txn_script::Job;
+
+/// The accounts of the transfer in ascending order, none of them twice.
+pub(crate) fn accounts_of(job: &Job) -> ArrayVec<u32, 16>
+    ensures rising { IsStrictlyIncreasing result.items }
+    ensures all { All (HasAccountsOf result.items) job.now.legs }
+    ensures only { All (IsAccountOf job.now.legs) result.items }
+{
+    let mut accounts = ArrayVec::new();
+    'legs: for leg in job.legs.as_slice() {
+        add(&mut accounts, leg.0);
+        add(&mut accounts, leg.1);
+    }
+    accounts
+}
+
+/// Puts the account in its place among the others, where it isn't one of them.
+fn add(accounts: &mut ArrayVec<u32, 16>, account: u32)
+    requires rising { IsStrictlyIncreasing accounts.old.items }
+    requires room { array_vec_len accounts.old < 16 }
+    ensures rising { IsStrictlyIncreasing accounts.new.items }
+    ensures added { AddsAccount account accounts.old.items accounts.new.items }
+{
+    if let Err(place) = accounts.as_slice().binary_search(&account) {
+        accounts.insert(place, account);
+    }
+}
+
+#[cfg(test)]
+mod tests {
+    use super::*;
+    use txn_script::Legs;
+
+    #[test]
+    fn each_account_stands_once_and_in_order(rt: HostRuntime) {
+        let cases: [(&[(u32, u32, u32)], &[u32]); 4] = [
+            (&[(0, 1, 30)], &[0, 1]),
+            (&[(4095, 0, 1)], &[0, 4095]),
+            (&[(0, 1, 60), (1, 0, 20)], &[0, 1]),
+            (&[(5, 2, 1), (2, 7, 3), (5, 7, 1), (0, 9, 1)], &[0, 2, 5, 7, 9]),
+        ];
+        for (list, wanted) in cases {
+            let mut legs = Legs::new();
+            for leg in &list[..list.len().min(8)] {
+                legs.push(*leg);
+            }
+            let accounts = accounts_of(&Job { legs, note: None });
+            assert_eq!(rt; accounts.as_slice(), wanted);
+        }
+    }
+}

@@ -1,0 +1,83 @@
+//! A transfer gives its accounts back.
+ghost use Rattle.std.specs.Prelude.{◌≡◌, ◌<◌, ◌≤◌, [], true, All, length};
+ghost use Rattle.lock_core.specs.declared.limits.TheConstants.{MOST_BALANCE};
+ghost use Rattle.log_table.specs.Seats.{IsOf, Becomes, view_of};
+ghost use Rattle.log_table.specs.Views.{gave_account};
+ghost use Rattle.ring_buffer.specs.Calls.{IsReady};
+ghost use Rattle.early_locks.specs.Locks.{HoldsTaken, GivesBack, HasSeenDurable};
+ghost use Rattle.txn_runner.specs.Holdings.{HoldsAll, IsKnown, GoesBack, back_of, with_held};
+
+use crate::holding::Holding;
+use arrayvec::ArrayVec;
+use early_locks::{Taken, give, give_durable};
+use log_table::{LogTable, Seat};
+use lsn_space::Lsn;
+
+/// With which values accounts go back.
+#[derive(Clone, Copy, Debug, PartialEq, Eq)]
+pub(crate) enum Release {
+    /// As they were taken.
+    Unchanged,
+    /// With their new balances. The transfer's Commit ends there.
+    Committed(Lsn),
+}
+
+impl Release {
+    /// The balance and the last commit with which this account goes back.
+    fn values(&self, holding: &Holding) -> (u32, u32)
+        ensures values { result ≡ back_of self.now holding.now }
+        ensures fits { result.0 ≤ MOST_BALANCE }
+    {
+        match *self {
+            Release::Unchanged => (holding.taken.balance, holding.taken.mark),
+            Release::Committed(end) => (holding.balance, end.units()),
+        }
+    }
+}
+
+/// Gives the accounts back in the order in which they were taken. `durable`: the worker has seen that the end record of the
+/// transfer is on the disk.
+pub(crate) fn give_all(
+    table: &LogTable,
+    seat: &mut Seat,
+    holdings: ArrayVec<Holding, 16>,
+    release: Release,
+    durable: bool,
+)
+    requires seat { IsOf table.now seat.old }
+    requires ready { IsReady (view_of seat.old) }
+    requires holds { HoldsAll holdings.items (view_of seat.old).books }
+    requires known { All (IsKnown table.now.accounts) holdings.items }
+    requires values { All (GoesBack release (view_of seat.old).books) holdings.items }
+    requires durable { durable ≡ true → HasSeenDurable (view_of seat.old) }
+    ensures { Becomes seat.old seat.new (with_held [] (length holdings.items) (view_of seat.old)) }
+{
+    'holdings: for holding in holdings {
+        let (balance, mark) = release.values(&holding);
+        give_one(table, seat, holding.taken, balance, mark, durable);
+    }
+}
+
+fn give_one(
+    table: &LogTable,
+    seat: &mut Seat,
+    taken: Taken,
+    balance: u32,
+    mark: u32,
+    durable: bool,
+)
+    requires seat { IsOf table.now seat.old }
+    requires ready { IsReady (view_of seat.old) }
+    requires holds { HoldsTaken taken (view_of seat.old).books }
+    requires known { taken.account < table.now.accounts }
+    requires balance { balance ≤ MOST_BALANCE }
+    requires values { GivesBack taken balance mark (view_of seat.old).books }
+    requires durable { durable ≡ true → HasSeenDurable (view_of seat.old) }
+    ensures { Becomes seat.old seat.new (gave_account taken.account (view_of seat.old)) }
+{
+    if durable {
+        give_durable(table, seat, taken, balance, mark);
+    } else {
+        give(table, seat, taken, balance, mark);
+    }
+}

@@ -1,0 +1,59 @@
+//! One record of a transfer is inserted.
+ghost use Rattle.std.specs.Prelude.{[], ◌∷◌, IfOk, IfErr, OnErr};
+ghost use Rattle.log_record.specs.Spelling.{IsSpellable};
+ghost use Rattle.log_table.specs.Books.{MayEnter};
+ghost use Rattle.log_table.specs.Seats.{IsOf, view_of};
+ghost use Rattle.ring_buffer.specs.Calls.{IsReady, HasEntries};
+ghost use Rattle.txn_runner.specs.Inserts.{Puts, StopsFor, IsLogEnd};
+
+use crate::cause::Cause;
+use crate::relief::Relief;
+use crate::waiting::pause;
+use log_disk::Gate;
+use log_record::{Rec, spell};
+use log_table::{LogTable, Seat};
+use lsn_space::Lsn;
+use ring_buffer::{Refused, insert_alone};
+use std::sync::Wait;
+
+/// Inserts the record, which is the next of the seat's last job, and answers where it ends. While the ring is full it waits.
+pub(crate) fn insert_record<R: Wait, Q: Relief, G: Gate>(
+    rt: &R,
+    table: &LogTable,
+    seat: &mut Seat,
+    rec: &Rec,
+    relief: &mut Q,
+    gate: &G,
+) -> Result<Lsn, Cause>
+    requires seat { IsOf table.now seat.old }
+    requires ready { IsReady (view_of seat.old) }
+    requires next { MayEnter rec.now (view_of seat.old).books }
+    requires spellable { IsSpellable rec.now }
+    requires relief { Q.ready relief.old }
+    ensures put { IfOk result (λ end. Puts rec.now end seat.old seat.new) }
+    ensures kept { OnErr result (HasEntries seat.old seat.new (view_of seat.old).entries (view_of seat.old).books) }
+    ensures stopped { IfErr result (λ cause. StopsFor cause (rec.now ∷ []) (view_of seat.new)) }
+    ensures relief { Q.ready relief.new }
+    ensures later { Q.later relief.old relief.new }
+{
+    let units = spell(rec);
+    let count = units.as_slice().len() as u32;
+    for _ in rt.forever() {
+        match insert_alone(rt, table, seat, &units, gate) {
+            Ok(at) => return Ok(Lsn::new(at.units() + count)),
+            Err(refused) => may_come(refused)?,
+        }
+        pause(table, seat, relief)?;
+    }
+    unreachable!()
+}
+
+/// Whether there may be room once more is on the disk. Err: there is no use in another attempt.
+fn may_come(refused: Refused) -> Result<(), Cause>
+    ensures { IfErr result (IsLogEnd refused) }
+{
+    match refused {
+        Refused::LogEnd { tail, total } => Err(Cause::LogEnd { tail, total }),
+        Refused::RingFull { .. } => Ok(()),
+    }
+}

@@ -1,0 +1,62 @@
+//! A worker waits: between two attempts it looks whether the log has stopped, and rests.
+ghost use Rattle.std.specs.Prelude.{◌≡◌, ◌≤◌, [], true, IfOk, IfErr};
+ghost use Rattle.log_table.specs.Seats.{IsOf, view_of};
+ghost use Rattle.ring_buffer.specs.Calls.{IsReady, HasEntries};
+ghost use Rattle.txn_runner.specs.Inserts.{StopsFor};
+
+use crate::cause::Cause;
+use crate::relief::Relief;
+use log_table::{LogTable, Seat};
+use lsn_space::Lsn;
+use std::sync::Wait;
+
+/// What a worker does between two attempts. Err: the log has stopped.
+pub(crate) fn pause<Q: Relief>(
+    table: &LogTable,
+    seat: &mut Seat,
+    relief: &mut Q,
+) -> Result<(), Cause>
+    requires seat { IsOf table.now seat.old }
+    requires ready { IsReady (view_of seat.old) }
+    requires relief { Q.ready relief.old }
+    ensures kept { HasEntries seat.old seat.new (view_of seat.old).entries (view_of seat.old).books }
+    ensures stopped { IfErr result (λ cause. StopsFor cause [] (view_of seat.new)) }
+    ensures relief { Q.ready relief.new }
+    ensures later { Q.later relief.old relief.new }
+{
+    let word = table.load_stop(seat);
+    if word != 0 {
+        return Err(Cause::Stop(word));
+    }
+    relief.rest();
+    Ok(())
+}
+
+/// The durable LSN as the worker sees it now; where it is to `wait`, once that is at or above the end.
+pub(crate) fn see_durable<R: Wait, Q: Relief>(
+    rt: &R,
+    table: &LogTable,
+    seat: &mut Seat,
+    end: Lsn,
+    relief: &mut Q,
+    wait: bool,
+) -> Result<Lsn, Cause>
+    requires seat { IsOf table.now seat.old }
+    requires ready { IsReady (view_of seat.old) }
+    requires relief { Q.ready relief.old }
+    ensures kept { HasEntries seat.old seat.new (view_of seat.old).entries (view_of seat.old).books }
+    ensures seen { IfOk result (λ seen. seen ≡ (view_of seat.new).seen.durable) }
+    ensures waited { IfOk result (λ seen. wait ≡ true → end ≤ seen) }
+    ensures stopped { IfErr result (λ cause. StopsFor cause [] (view_of seat.new)) }
+    ensures relief { Q.ready relief.new }
+    ensures later { Q.later relief.old relief.new }
+{
+    for _ in rt.forever() {
+        let seen = table.load_durable(seat);
+        if !wait || end <= seen {
+            return Ok(seen);
+        }
+        pause(table, seat, relief)?;
+    }
+    unreachable!()
+}

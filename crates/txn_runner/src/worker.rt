@@ -1,0 +1,56 @@
+//! A worker: the transfers of its stripe, one after another.
+ghost use Rattle.std.specs.Prelude.{◌≡◌, ◌<◌, ◌≤◌, ◌+◌, [], All};
+ghost use Rattle.txn_script.specs.Script.{IsAllowedJob};
+ghost use Rattle.log_table.specs.Seats.{IsOf, view_of};
+ghost use Rattle.ring_buffer.specs.Calls.{IsReady, IsSameWorker};
+ghost use Rattle.txn_runner.specs.Working.{HasWorked, HasRoom, TakesJobs, Works, taken_in, rows_in, room_of, AddsRows};
+
+use crate::cause::Worked;
+use crate::job::run_job;
+use crate::jobs::Jobs;
+use crate::relief::Relief;
+use crate::rows::Rows;
+use log_disk::Gate;
+use log_table::{LogTable, Seat};
+use std::sync::Wait;
+
+/// Makes the transfers of the worker's stripe, as many as are left, and puts a row for each that came to its end. It waits:
+/// for accounts that others hold, for room in the ring, and, where asked, for the disk.
+pub fn work<R: Wait, Q: Relief, G: Gate>(
+    rt: &R,
+    table: &LogTable,
+    seat: &mut Seat,
+    jobs: &Jobs,
+    rows: &mut Rows,
+    relief: &mut Q,
+    wait: bool,
+    gate: &G,
+) -> Worked
+    requires seat { IsOf table.now seat.old }
+    requires ready { IsReady (view_of seat.old) }
+    requires none_held { (view_of seat.old).books.held ≡ [] }
+    requires worker { seat.old.worker < jobs.now.workers }
+    requires allowed { All (IsAllowedJob table.now.accounts) jobs.now.script }
+    requires worked { HasWorked jobs.now seat.old.worker (taken_in rows.old) (view_of seat.old) }
+    requires room { HasRoom jobs.now seat.old.worker rows.old }
+    requires relief { Q.ready relief.old }
+    ensures seat { IsOf table.now seat.new }
+    ensures ready { IsReady (view_of seat.new) }
+    ensures none_held { (view_of seat.new).books.held ≡ [] }
+    ensures same { IsSameWorker seat.old seat.new }
+    ensures worked { HasWorked jobs.now seat.old.worker (taken_in rows.new) (view_of seat.new) }
+    ensures jobs { TakesJobs jobs.now seat.old.worker (taken_in rows.old) (taken_in rows.new) (view_of seat.old) (view_of seat.new) }
+    ensures works { Works jobs.now seat.old.worker (taken_in rows.old) (taken_in rows.new) result (view_of seat.new) }
+    ensures rows { AddsRows jobs.now seat.old.worker wait result rows.old rows.new (view_of seat.old) (view_of seat.new) }
+    ensures relief { Q.ready relief.new }
+    ensures later { Q.later relief.old relief.new }
+{
+    'stripe: while let Some((number, job)) = jobs.transfer(seat.worker(), rows.taken()) {
+        rows.take();
+        match run_job(rt, table, seat, number, job, relief, wait, gate) {
+            Ok(row) => rows.push(row),
+            Err(cause) => return Worked::Cut(cause),
+        }
+    }
+    Worked::All
+}
