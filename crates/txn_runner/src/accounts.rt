@@ -36,7 +36,7 @@ fn add(accounts: &mut ArrayVec<u32, 16>, account: u32)
 #[cfg(test)]
 mod tests {
     use super::*;
-    use txn_script::Legs;
+    use txn_script::{Legs, MOST_LEGS};
 
     #[test]
     fn each_account_stands_once_and_in_order(rt: HostRuntime) {
@@ -48,8 +48,10 @@ mod tests {
         ];
         for (list, wanted) in cases {
             let mut legs = Legs::new();
-            for leg in &list[..list.len().min(8)] {
-                legs.push(*leg);
+            for leg in list {
+                if legs.as_slice().len() < MOST_LEGS {
+                    legs.push(*leg);
+                }
             }
             let accounts = accounts_of(&Job { legs, note: None });
             assert_eq!(rt; accounts.as_slice(), wanted);
