@@ -56,6 +56,7 @@ fn table_of<R: Abort>(
     ensures flusher { IfOk result (λ made. (view_of made.1).standing.role ≡ Flusher) }
     ensures made { IfOk result (λ made. (view_of made.1).standing.made ≡ []) }
     ensures merged { IfOk result (λ made. (view_of made.1).standing.merged ≡ []) }
+    ensures running { IfOk result (λ made. (view_of made.1).sending.stop ≡ 0) }
     ensures accounts { IfOk result (λ made. made.0.accounts ≡ 2) }
 {
     assert!(rt; balances.0 <= MOST_BALANCE && balances.1 <= MOST_BALANCE);
