@@ -49,9 +49,8 @@ mod tests {
         for (list, wanted) in cases {
             let mut legs = Legs::new();
             for leg in list {
-                if legs.as_slice().len() < MOST_LEGS {
-                    legs.push(*leg);
-                }
+                assert!(rt; legs.as_slice().len() < MOST_LEGS);
+                legs.push(*leg);
             }
             let accounts = accounts_of(&Job { legs, note: None });
             assert_eq!(rt; accounts.as_slice(), wanted);
