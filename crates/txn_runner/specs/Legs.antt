@@ -86,13 +86,15 @@ pub record StandsBefore (i number : ℕ) (job : Job) (holdings : List Holding) (
   pub left : IsLeft (planned_from number (mark_taken books.held) balances i (drop i job.legs)) books
   pub outcome : outcome_alone (transfer_of job) (balance_taken books.held) ≡ outcome_from i (drop i job.legs) balances
   pub now : All (λ (holding : Holding). holding.balance ≡ balances holding.taken.account) holdings
-  pub sums : (account : ℕ) → balances account + moved loss account (changes_by books) ≡ balance_taken books.held account + moved gain account (changes_by books)
+  pub sums : (account : ℕ) → balances account + moved loss account (changes_by books)
+      ≡ balance_taken books.held account + moved gain account (changes_by books)
   pub touched : All (TouchesLeg (changes_by books)) (take i job.legs)
   pub uncommitted : has_commit (recs_of books.placed) ≡ false
 
 -- the holding's balance is the one as taken with what the records change, and they do change the account
 pub record HasMoved (books : Books) (holding : Holding) : Type 0 where
-  pub sum : holding.balance + moved loss holding.taken.account (changes_by books) ≡ holding.taken.balance + moved gain holding.taken.account (changes_by books)
+  pub sum : holding.balance + moved loss holding.taken.account (changes_by books)
+      ≡ holding.taken.balance + moved gain holding.taken.account (changes_by books)
   pub touched : touches holding.taken.account (changes_by books) ≡ true
 
 -- the end record of a transfer with this answer
