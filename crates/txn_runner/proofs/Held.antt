@@ -53,10 +53,10 @@ pub taken-behind : (books : Books) (holdings : List Holding) (held : List Held) 
 taken-behind books [] held taken lacks holds = holds
 taken-behind books (holding ∷ holdings) held taken lacks holds = taken-behind books holdings
     (as_held holding.taken ∷ held) taken lacks.1 record {
-  has = omega (arith, holds.has);
-  balance = (λ i. cond (other i) holding.taken.balance (balance_taken held taken.account)) ∙ holds.balance;
-  mark = (λ i. cond (other i) holding.taken.mark (mark_taken held taken.account)) ∙ holds.mark;
-}
+      has = omega (arith, holds.has);
+      balance = (λ i. cond (other i) holding.taken.balance (balance_taken held taken.account)) ∙ holds.balance;
+      mark = (λ i. cond (other i) holding.taken.mark (mark_taken held taken.account)) ∙ holds.mark;
+    }
   where
     other : (holding.taken.account == taken.account) ≡ false
     other = ne_eqb holding.taken.account taken.account lacks.0
@@ -99,8 +99,14 @@ module _ (first second : Seat) (holdings rest : List Holding) (holding : Holding
     table_is = after.table_is ∙ before.table_is;
     number = after.number ∙ before.number;
     me = after.me ∙ ap (λ m. (gave_account holding.taken.account m.0, m.1)) is-held
-        ∙ (λ i. (record view { seen = record view.seen { steps = total i }; books = record view.books
-        { held = left i } }, first.base.me.1));
+        ∙ (λ i. (
+          record view {
+            seen = record view.seen { steps = total i };
+            books = record view.books
+                { held = left i };
+          },
+          first.base.me.1,
+        ));
     worker = after.worker ∙ before.worker;
   }
     where

@@ -60,12 +60,12 @@ pub holds-behind : (accounts number : ℕ) (job : Job) (holdings : List Holding)
     → HoldsJob accounts number job holdings books → HoldsJob accounts number job holdings books'
 holds-behind accounts number job holdings books books' added placed holds = subst (HoldsJob accounts number job holdings)
     (sym placed) record {
-  last = holds.last;
-  allowed = holds.allowed;
-  all = holds.all;
-  only = holds.only;
-  taken = λ k d within. let taken = holds.taken k d within in record { has = taken.has; balance = taken.balance; mark = taken.mark };
-}
+      last = holds.last;
+      allowed = holds.allowed;
+      all = holds.all;
+      only = holds.only;
+      taken = λ k d within. let taken = holds.taken k d within in record { has = taken.has; balance = taken.balance; mark = taken.mark };
+    }
 
 holds-same : (accounts number : ℕ) (job : Job) (old new : List Holding) (books : Books) → map taken_of new ≡ map taken_of old
     → HoldsJob accounts number job old books → HoldsJob accounts number job new books
@@ -89,9 +89,11 @@ touches-more : (legs : List (ℕ × ℕ × ℕ)) (i : ℕ) (changes : List Chang
     → All (TouchesLeg (more ∷ less ∷ changes)) (take (i + 1) legs)
 touches-more legs i changes less more within pays receives before = All-more (TouchesLeg (more ∷ less ∷ changes)) legs i (0, 0, 0) within
     (All-weaker (TouchesLeg changes) (TouchesLeg (more ∷ less ∷ changes))
-    (λ leg both. (touches-behind leg.0 changes less more both.0, touches-behind leg.1 changes less more both.1)) (take i legs) before)
-    (or_right (more.account == _) _ (or_left (less.account == _) (touches _ changes) (eq-eqb less.account _ pays)), or_left
-    (more.account == _) _ (eq-eqb more.account _ receives))
+    (λ leg both. (touches-behind leg.0 changes less more both.0, touches-behind leg.1 changes less more both.1)) (take i legs) before) (
+      or_right (more.account == _) _ (or_left (less.account == _) (touches _ changes) (eq-eqb less.account _ pays)),
+      or_left
+          (more.account == _) _ (eq-eqb more.account _ receives),
+    )
 
 -- what a leg makes of each holding
 pub paid-taken : (leg : ℕ × ℕ × ℕ) (old new : List Holding) → AllZip (IsAfter leg) old new → map taken_of new ≡ map taken_of old
@@ -149,8 +151,11 @@ module _ (accounts number : ℕ) (job : Job) (holdings : List Holding) (books : 
 
       of-leg : (account : ℕ) → IsAccountOf job.legs account → touches account changes ≡ true
       of-leg account (k, leg, within, is, side) = let both = subst (TouchesLeg changes) is (touched k leg within) in
-          elim side [ inl pays ↦ subst (λ a. touches a changes ≡ true) pays both.0 | inr receives ↦ subst
-              (λ a. touches a changes ≡ true) receives both.1 ]
+          elim side [
+            | inl pays ↦ subst (λ a. touches a changes ≡ true) pays both.0
+            | inr receives ↦ subst
+                (λ a. touches a changes ≡ true) receives both.1
+          ]
 
       has-moved : (holding : Holding) → HoldsTaken holding.taken books → holding.balance ≡ balances holding.taken.account
           → IsAccountOf job.legs holding.taken.account

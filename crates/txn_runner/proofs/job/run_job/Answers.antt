@@ -79,5 +79,5 @@ returns-clause-run g c =
     let taken = still-taken _ _ _ _ c.take_all.new.seat _ job c.in_ok-holdings.ensures.taken.entries refl refl refl in
     let keeps = keeps-then _ _ _ c.see_durable-seen.ensures.kept (keeps-held _ _ _ _ c.give_all-2.ensures) in
     let seen : c.in_ok-seen.seen ≡ (view_of c.give_all-2.new.seat).seen.durable =
-        c.in_ok-seen.ensures.seen ∙ sym (ap (λ m. m.0.seen.durable) c.give_all-2.ensures.me) in
+    c.in_ok-seen.ensures.seen ∙ sym (ap (λ m. m.0.seen.durable) c.give_all-2.ensures.me) in
     has-run _ _ _ _ _ _ _ _ _ _ taken c.in-Ok.ensures.ended keeps seen c.in_ok-seen.ensures.waited

@@ -11,5 +11,5 @@ returns-in_err-insert_record-clause-cut g c =
     let failed = err_from_is_err_and c.from_residual.result c.from_residual.ensures.1 in
     let err = c.in_err-insert_record.ensures in
     rw (failed.1, failed.2) (cut-note _ _ _ c.args.seat.now _ c.note.ensures.note c.requires.job c.in-Some.is c.requires.begins
-        c.note.ensures.text.0 _
+    c.note.ensures.text.0 _
     c.insert_record.new.seat err.kept.books_are err.stopped)
