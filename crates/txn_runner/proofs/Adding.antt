@@ -27,13 +27,17 @@ pub lie-sooner : (sooner from to : ℕ) (entries : List Entry) → sooner ≤ fr
 lie-sooner sooner from to [] less lie = omega arith
 lie-sooner sooner from to (entry ∷ entries) less lie = (omega (arith, lie.0), lie.1)
 
-lie-append : (from mid to : ℕ) (entries more : List Entry) → LieInOrder from mid entries → LieInOrder mid to more → LieInOrder from to (entries ++ more)
+lie-append : (from mid to : ℕ) (entries more : List Entry) → LieInOrder from mid entries → LieInOrder mid to more
+    → LieInOrder from to (entries ++ more)
 lie-append from mid to [] more before after = lie-sooner from mid to more before after
-lie-append from mid to (entry ∷ entries) more before after = (before.0, lie-append (entry.start + entry.size) mid to entries more before.1 after)
+lie-append from mid to (entry ∷ entries) more before after =
+    (before.0, lie-append (entry.start + entry.size) mid to entries more before.1 after)
 
-placed_behind-append : (entries more : List Entry) (placed : List Placed) → placed_behind (entries ++ more) placed ≡ placed_behind more (placed_behind entries placed)
+placed_behind-append : (entries more : List Entry) (placed : List Placed)
+    → placed_behind (entries ++ more) placed ≡ placed_behind more (placed_behind entries placed)
 placed_behind-append [] more placed = refl
-placed_behind-append (entry ∷ entries) more placed = placed_behind-append entries more (record { end = entry.start + entry.size; rec = entry.rec } ∷ placed)
+placed_behind-append (entry ∷ entries) more placed = placed_behind-append entries more
+    (record { end = entry.start + entry.size; rec = entry.rec } ∷ placed)
 
 pub records_of-append : (entries more : List Entry) → records_of (entries ++ more) ≡ records_of entries ++ records_of more
 records_of-append [] more = refl
@@ -45,9 +49,11 @@ adds-none old new kept = record {
   within = kept.same.grows;
 }
 
-pub adds-trans : (entries more : List Entry) (first second third : Seat) → Adds entries first second → Adds more second third → Adds (entries ++ more) first third
+pub adds-trans : (entries more : List Entry) (first second third : Seat) → Adds entries first second → Adds more second third
+    → Adds (entries ++ more) first third
 adds-trans entries more first second third before after = record {
-  entries = subst (λ (p : List Entry × Books). HasEntries first third p.0 p.1) (λ i. (list i, books i)) (entries-trans _ _ _ _ _ _ _ before.entries after.entries);
+  entries = subst (λ (p : List Entry × Books). HasEntries first third p.0 p.1) (λ i. (list i, books i))
+      (entries-trans _ _ _ _ _ _ _ before.entries after.entries);
   within = lie-append _ _ _ entries more before.within after.within;
 }
   where
@@ -64,17 +70,21 @@ pub placed-front : (entries : List Entry) (placed : List Placed) (rest : List Re
 placed-front [] placed rest = refl
 placed-front (entry ∷ entries) placed rest = placed-front entries (record { end = entry.start + entry.size; rec = entry.rec } ∷ placed) rest
 
-pub left-behind : (entries : List Entry) (rest : List Rec) (books books' : Books) → books' ≡ placing_all entries books → IsLeft (records_of entries ++ rest) books → IsLeft rest books'
+pub left-behind : (entries : List Entry) (rest : List Rec) (books books' : Books) → books' ≡ placing_all entries books
+    → IsLeft (records_of entries ++ rest) books → IsLeft rest books'
 left-behind entries rest books books' is left = subst (IsLeft rest) (sym is) (placed-front entries books.placed rest ∙ left)
 
 -- the records that are placed then, newest first
-pub records-behind : (entries : List Entry) (placed : List Placed) → recs_of (placed_behind entries placed) ≡ in_order (records_of entries) (recs_of placed)
+pub records-behind : (entries : List Entry) (placed : List Placed) → recs_of (placed_behind entries placed)
+    ≡ in_order (records_of entries) (recs_of placed)
 records-behind [] placed = refl
 records-behind (entry ∷ entries) placed = records-behind entries (record { end = entry.start + entry.size; rec = entry.rec } ∷ placed)
 
-pub uncommitted-behind : (entries : List Entry) (books books' : Books) → books' ≡ placing_all entries books → has_commit (records_of entries) ≡ false
+pub uncommitted-behind : (entries : List Entry) (books books' : Books) → books' ≡ placing_all entries books
+    → has_commit (records_of entries) ≡ false
     → has_commit (recs_of books.placed) ≡ false → has_commit (recs_of books'.placed) ≡ false
-uncommitted-behind entries books books' is none before = ap (λ (b : Books). has_commit (recs_of b.placed)) is ∙ still entries books.placed none before
+uncommitted-behind entries books books' is none before = ap (λ (b : Books). has_commit (recs_of b.placed)) is
+    ∙ still entries books.placed none before
   where
     still : (entries : List Entry) (placed : List Placed) → has_commit (records_of entries) ≡ false → has_commit (recs_of placed) ≡ false
         → has_commit (recs_of (placed_behind entries placed)) ≡ false
@@ -83,7 +93,8 @@ uncommitted-behind entries books books' is none before = ap (λ (b : Books). has
         still entries (record { end = entry.start + entry.size; rec = entry.rec } ∷ placed) parts.1 (λ i. parts.0 i || before i)
 
 -- the next record was not inserted
-pub cut-off : (rec : Rec) (rest : List Rec) (cause : Cause) (old new : Seat) → IsLeft (rec ∷ rest) (view_of old).books → has_commit (recs_of (view_of old).books.placed) ≡ false
+pub cut-off : (rec : Rec) (rest : List Rec) (cause : Cause) (old new : Seat) → IsLeft (rec ∷ rest) (view_of old).books
+    → has_commit (recs_of (view_of old).books.placed) ≡ false
     → (view_of new).books ≡ (view_of old).books → StopsFor cause (rec ∷ []) (view_of new) → IsCutOff cause (view_of new)
 cut-off rec rest cause old new left uncommitted same stops = record {
   rest = rec ∷ rest;

@@ -24,7 +24,8 @@ note-uncommitted (Over txn leg) note = refl
 note-uncommitted (Commit txn legs) note = absurd note
 
 -- a Note is no Commit
-pub notes-uncommitted : (placed : List Entry) → AllByRecursion (λ (entry : Entry). IsNote entry.rec) placed → has_commit (recs_of placed) ≡ false
+pub notes-uncommitted : (placed : List Entry) → AllByRecursion (λ (entry : Entry). IsNote entry.rec) placed
+    → has_commit (recs_of placed) ≡ false
 notes-uncommitted [] notes = refl
 notes-uncommitted (entry ∷ placed) notes = λ i. note-uncommitted entry.rec notes.0 i || notes-uncommitted placed notes.1 i
 
@@ -38,8 +39,11 @@ back-unchanged books none holding = record {
     changes : List Change
     changes = changes_in (recs_of books.placed)
 
-    both : cond (has_commit (recs_of books.placed)) (moved loss holding.taken.account changes) 0 ≡ cond (has_commit (recs_of books.placed)) (moved gain holding.taken.account changes) 0
-    both = (λ i. cond (none i) (moved loss holding.taken.account changes) 0) ∙ (λ i. cond (sym none i) (moved gain holding.taken.account changes) 0)
+    both : cond (has_commit (recs_of books.placed)) (moved loss holding.taken.account changes) 0
+        ≡ cond (has_commit (recs_of books.placed)) (moved gain holding.taken.account changes) 0
+    both = (λ i. cond (none i) (moved loss holding.taken.account changes) 0)
+        ∙ (λ i. cond (sym none i) (moved gain holding.taken.account changes) 0)
 
-pub all-unchanged : (books : Books) → has_commit (recs_of books.placed) ≡ false → (holdings : List Holding) → All (GoesBack Unchanged books) holdings
+pub all-unchanged : (books : Books) → has_commit (recs_of books.placed) ≡ false → (holdings : List Holding)
+    → All (GoesBack Unchanged books) holdings
 all-unchanged books none holdings k d within = back-unchanged books none (get_or holdings k d)

@@ -21,10 +21,11 @@ use Rattle.txn_runner.specs.declared.cause.Cause.{Cause}
 use Rattle.txn_runner.specs.declared.holding.Holding.{Holding}
 use Rattle.txn_runner.specs.Holdings.{IsUnchanged}
 use Rattle.txn_runner.specs.Inserts.{placing_all, IsLeft, StopsFor, IsCutOff}
-use Rattle.txn_runner.specs.Legs.{HoldsJob, StandsBefore, TouchesLeg}
+use Rattle.txn_runner.specs.Legs.{changes_by, HoldsJob, StandsBefore, TouchesLeg}
 use Rattle.txn_runner.proofs.Adding.{left-behind, records-behind, cut-off}
 
-module _ (number : ℕ) (job : Job) (text : List ℕ) (old : Seat) (rec : Rec) (is : rec ≡ Note number text) (last : (view_of old).books.last ≡ record { number = number; job = job })
+module _ (number : ℕ) (job : Job) (text : List ℕ) (old : Seat) (rec : Rec) (is : rec ≡ Note number text)
+    (last : (view_of old).books.last ≡ record { number = number; job = job })
     (noted : job.note ≡ Some text) (none : (view_of old).books.placed ≡ []) (some : 1 ≤ length text) where
   next : IsNext rec (view_of old).books
   next = subst (λ r. IsNext r (view_of old).books) (ap (λ (taken : TakenJob). Note taken.number text) last ∙ sym is)
@@ -37,7 +38,8 @@ module _ (number : ℕ) (job : Job) (text : List ℕ) (old : Seat) (rec : Rec) (
     accounts = inl (subst IsNote (sym is) tt);
   }
 
-  pub cut-note : (cause : Cause) (new : Seat) → (view_of new).books ≡ (view_of old).books → StopsFor cause (rec ∷ []) (view_of new) → IsCutOff cause (view_of new)
+  pub cut-note : (cause : Cause) (new : Seat) → (view_of new).books ≡ (view_of old).books
+      → StopsFor cause (rec ∷ []) (view_of new) → IsCutOff cause (view_of new)
   cut-note cause new = cut-off rec next.rest cause old new next.plan (ap (λ placed. has_commit (recs_of placed)) none)
 
 no-changes : (number : ℕ) (text : List ℕ) → changes_in (in_order (with_note number text []) []) ≡ []
@@ -53,8 +55,10 @@ note-first number [] rest = refl
 note-first number (byte ∷ bytes) rest = refl
 
 -- behind its Note the transfer stands before its first leg
-module _ (accounts number : ℕ) (job : Job) (holdings : List Holding) (start books : Books) (added : List Entry) (placed : books ≡ placing_all added start)
-    (records-are : records_of added ≡ with_note number (note_of job.note) []) (none : start.placed ≡ []) (holds : HoldsJob accounts number job holdings start) where
+module _ (accounts number : ℕ) (job : Job) (holdings : List Holding) (start books : Books) (added : List Entry)
+    (placed : books ≡ placing_all added start)
+    (records-are : records_of added ≡ with_note number (note_of job.note) []) (none : start.placed ≡ [])
+    (holds : HoldsJob accounts number job holdings start) where
   abbrev rest : List Rec
   rest = planned_from number (mark_taken start.held) (balance_taken start.held) 0 job.legs
 
@@ -62,23 +66,28 @@ module _ (accounts number : ℕ) (job : Job) (holdings : List Holding) (start bo
   held = ap (λ (b : Books). b.held) placed
 
   records : recs_of books.placed ≡ in_order (with_note number (note_of job.note) []) []
-  records = ap (λ (b : Books). recs_of b.placed) placed ∙ records-behind added start.placed ∙ (λ i. in_order (records-are i) (recs_of (none i)))
+  records = ap (λ (b : Books). recs_of b.placed) placed ∙ records-behind added start.placed
+      ∙ (λ i. in_order (records-are i) (recs_of (none i)))
 
-  changes : changes_in (recs_of books.placed) ≡ []
+  changes : changes_by books ≡ []
   changes = ap changes_in records ∙ no-changes number (note_of job.note)
 
   left-first : IsLeft (records_of added ++ rest) start
   left-first = subst (λ list. IsLeft list start) (sym (note-first number (note_of job.note) rest) ∙ (λ i. sym records-are i ++ rest))
       ((λ i. in_order (recs_of (none i)) (planned_records number (transfer_of job) (mark_taken start.held) (balance_taken start.held)))
-      ∙ (λ i. planned_records (sym holds.last i).number (transfer_of (sym holds.last i).job) (mark_taken start.held) (balance_taken start.held)))
+      ∙ (λ i. planned_records (sym holds.last i).number (transfer_of (sym holds.last i).job) (mark_taken start.held)
+      (balance_taken start.held)))
 
   pub stands-first : All IsUnchanged holdings → StandsBefore 0 number job holdings books
   stands-first unchanged = record {
     balances = balance_taken books.held;
-    left = subst (λ list. IsLeft (planned_from number (mark_taken list) (balance_taken list) 0 job.legs) books) (sym held) (left-behind added rest start books placed left-first);
+    left = subst (λ list. IsLeft (planned_from number (mark_taken list) (balance_taken list) 0 job.legs) books) (sym held)
+        (left-behind added rest start books placed left-first);
     outcome = refl;
-    now = λ k d within. unchanged k d within ∙ sym (holds.taken k d within).balance ∙ ap (λ list. balance_taken list (get_or holdings k d).taken.account) (sym held);
-    sums = λ account. subst (λ list. balance_taken books.held account + moved loss account list ≡ balance_taken books.held account + moved gain account list) (sym changes) refl;
-    touched = All-nil (TouchesLeg (changes_in (recs_of books.placed)));
+    now = λ k d within. unchanged k d within ∙ sym (holds.taken k d within).balance
+        ∙ ap (λ list. balance_taken list (get_or holdings k d).taken.account) (sym held);
+    sums = λ account. subst (λ list. balance_taken books.held account + moved loss account list
+        ≡ balance_taken books.held account + moved gain account list) (sym changes) refl;
+    touched = All-nil (TouchesLeg (changes_by books));
     uncommitted = ap has_commit records ∙ no-commit number (note_of job.note);
   }

@@ -33,19 +33,21 @@ use Rattle.txn_runner.specs.Accounts.{HasAccountsOf, IsAccountOf}
 use Rattle.txn_runner.specs.Endings.{EndsTransfer}
 use Rattle.txn_runner.specs.Holdings.{account_of, taken_of, IsKnown, as_held, held_behind, holding_all, AreDistinct, HoldsAll, TakesAll, with_held}
 use Rattle.txn_runner.specs.Inserts.{placed_behind, placing_all, Adds, IsLeft, StopsFor}
-use Rattle.txn_runner.specs.Legs.{HoldsJob, last_record}
+use Rattle.txn_runner.specs.Legs.{AreHeld, HoldsJob, last_record}
 use Rattle.txn_runner.specs.Running.{LieInOrder, HasInserted, HasRun, HasCut}
 use Rattle.txn_runner.proofs.Adding.{lie-longer, lie-sooner, placed-front}
 use Rattle.txn_runner.proofs.Gaining.{all-known}
 use Rattle.txn_runner.proofs.Held.{distinct, same-accounts, all-same, taken-behind, taken-first}
 
 -- every account of a job that the table allows is one of the table's
-pub accounts-known : (accounts : ℕ) (legs : List (ℕ × ℕ × ℕ)) (list : List ℕ) → AllByRecursion (IsAllowedLeg accounts) legs → All (IsAccountOf legs) list
+pub accounts-known : (accounts : ℕ) (legs : List (ℕ × ℕ × ℕ)) (list : List ℕ) → AllByRecursion (IsAllowedLeg accounts) legs
+    → All (IsAccountOf legs) list
     → All (λ account. account < accounts) list
 accounts-known accounts legs list allowed only k d within = known (only k d within)
   where
     known : {account : ℕ} → IsAccountOf legs account → account < accounts
-    known (j, leg, inside, is, side) = let a = subst (IsAllowedLeg accounts) is (All-from_recursion (IsAllowedLeg accounts) legs allowed j leg inside) in
+    known (j, leg, inside, is, side) = let a = subst (IsAllowedLeg accounts) is
+        (All-from_recursion (IsAllowedLeg accounts) legs allowed j leg inside) in
         elim side [ inl pays ↦ subst (λ n. n < accounts) pays a.payer | inr receives ↦ subst (λ n. n < accounts) receives a.payee ]
 
 -- each account that was taken is held with its values
@@ -57,41 +59,47 @@ all-held books (holding ∷ holdings) held apart = (
   all-held books holdings (as_held holding.taken ∷ held) apart.1,
 )
 
--- with its accounts taken the job may be run
-pub holds-job : (accounts number : ℕ) (job : Job) (list : List ℕ) (holdings : List Holding) (old new : Seat) → IsStrictlyIncreasing list
-    → All (HasAccountsOf list) job.legs → All (IsAccountOf job.legs) list → IsAllowed accounts (record { number = number; job = job })
-    → (view_of old).books.last ≡ record { number = number; job = job } → TakesAll list holdings old new → HoldsJob accounts number job holdings (view_of new).books
-holds-job accounts number job list holdings old new rising all only allowed last takes = record {
-  last = ap (λ (books : Books). books.last) takes.entries.books_are ∙ last;
-  allowed = allowed;
-  all = subst (λ xs. All (HasAccountsOf xs) job.legs) (sym takes.accounts_are) all;
-  only = subst (All (IsAccountOf job.legs)) (sym takes.accounts_are) only;
-  taken = subst (λ (books : Books). All (λ (holding : Holding). HoldsTaken holding.taken books) holdings) (sym takes.entries.books_are)
-      (All-from_recursion (λ (holding : Holding). HoldsTaken holding.taken (holding_all holdings (view_of old).books)) holdings
-      (all-held (view_of old).books holdings [] (distinct holdings (subst IsStrictlyIncreasing (sym takes.accounts_are) rising))));
-}
+-- The accounts of the job were listed, and taken.
+module _ (accounts number : ℕ) (job : Job) (list slice : List ℕ) (holdings : List Holding) (old new : Seat) (same-list : slice ≡ list)
+    (rising : IsStrictlyIncreasing list) (only : All (IsAccountOf job.legs) list) (allowed : IsAllowed accounts (record { number = number; job = job }))
+    (takes : TakesAll slice holdings old new) where
+  listed : map account_of holdings ≡ list
+  listed = takes.accounts_are ∙ same-list
 
--- the accounts of the holdings are the table's, also with other balances
-pub all-still-known : (accounts : ℕ) (legs : List (ℕ × ℕ × ℕ)) (list : List ℕ) (old new : List Holding) (first second : Seat) → AllByRecursion (IsAllowedLeg accounts) legs
-    → All (IsAccountOf legs) list → TakesAll list old first second → map taken_of new ≡ map taken_of old → All (IsKnown accounts) new
-all-still-known accounts legs list old new first second allowed only takes same = all-same old new same (λ taken. taken.account < accounts)
-    (all-known accounts old list takes.accounts_are (accounts-known accounts legs list allowed only))
+  -- the job may be run
+  pub holds-job : All (HasAccountsOf list) job.legs → (view_of old).books.last ≡ record { number = number; job = job }
+      → HoldsJob accounts number job holdings (view_of new).books
+  holds-job all last = record {
+    last = ap (λ (books : Books). books.last) takes.entries.books_are ∙ last;
+    allowed = allowed;
+    all = subst (λ xs. All (HasAccountsOf xs) job.legs) (sym listed) all;
+    only = subst (All (IsAccountOf job.legs)) (sym listed) only;
+    taken = subst (AreHeld holdings) (sym takes.entries.books_are)
+        (All-from_recursion (λ (holding : Holding). HoldsTaken holding.taken (holding_all holdings (view_of old).books)) holdings
+        (all-held (view_of old).books holdings [] (distinct holdings (subst IsStrictlyIncreasing (sym listed) rising))));
+  }
 
--- the same accounts, with other balances, are still all that is held
-pub holds-still : (list : List ℕ) (old new : List Holding) (first second : Seat) (books : Books) → IsStrictlyIncreasing list → TakesAll list old first second
-    → map taken_of new ≡ map taken_of old → books.held ≡ (view_of second).books.held → HoldsAll new books
-holds-still list old new first second books rising takes same held = record {
-  distinct = distinct new (subst IsStrictlyIncreasing (sym (same-accounts old new same ∙ takes.accounts_are)) rising);
-  held = held ∙ ap (λ (b : Books). b.held) takes.entries.books_are ∙ behind old [] ∙ ap (λ (list : List Taken). onto list []) (sym same) ∙ sym (behind new []);
-}
-  where
-    onto : List Taken → List Held → List Held
-    onto [] held = held
-    onto (taken ∷ list) held = onto list (as_held taken ∷ held)
+  module _ (paid : List Holding) (same : map taken_of paid ≡ map taken_of holdings) where
+    -- with other balances they are still the table's accounts
+    pub still-known : All (IsKnown accounts) paid
+    still-known = all-same holdings paid same (λ taken. taken.account < accounts)
+        (all-known accounts holdings list listed (accounts-known accounts job.legs list allowed.job.legs.each only))
 
-    behind : (holdings : List Holding) (held : List Held) → held_behind holdings held ≡ onto (map taken_of holdings) held
-    behind [] held = refl
-    behind (holding ∷ holdings) held = behind holdings (as_held holding.taken ∷ held)
+    -- and all that is held
+    pub still-held : (books : Books) → books.held ≡ (view_of new).books.held → HoldsAll paid books
+    still-held books held = record {
+      distinct = distinct paid (subst IsStrictlyIncreasing (sym (same-accounts holdings paid same ∙ listed)) rising);
+      held = held ∙ ap (λ (b : Books). b.held) takes.entries.books_are ∙ behind holdings []
+          ∙ ap (λ (list : List Taken). onto list []) (sym same) ∙ sym (behind paid []);
+    }
+      where
+        onto : List Taken → List Held → List Held
+        onto [] held = held
+        onto (taken ∷ list) held = onto list (as_held taken ∷ held)
+
+        behind : (holdings : List Holding) (held : List Held) → held_behind holdings held ≡ onto (map taken_of holdings) held
+        behind [] held = refl
+        behind (holding ∷ holdings) held = behind holdings (as_held holding.taken ∷ held)
 
 -- the seat took the job, and has nothing of it in the log
 pub record HasTakenJob (number : ℕ) (job : Job) (old new : View) : Type 0 where
@@ -113,8 +121,10 @@ took number word job first second becomes = subst (HasTakenJob number job (view_
     record { entries = refl; grows = omega arith; jobs = refl; last = refl; none = refl }
 
 -- accounts are taken after the job
-pub still-taken : (number : ℕ) (job : Job) (first : View) (second third : Seat) (books : Books) → HasTakenJob number job first (view_of second)
-    → HasEntries second third (view_of second).entries books → books.jobs ≡ (view_of second).books.jobs → books.last ≡ (view_of second).books.last
+pub still-taken : (number : ℕ) (job : Job) (first : View) (second third : Seat) (books : Books)
+    → HasTakenJob number job first (view_of second)
+    → HasEntries second third (view_of second).entries books → books.jobs ≡ (view_of second).books.jobs
+    → books.last ≡ (view_of second).books.last
     → books.placed ≡ (view_of second).books.placed → HasTakenJob number job first (view_of third)
 still-taken number job first second third books taken kept jobs last placed = record {
   entries = kept.entries_are ∙ taken.entries;
@@ -124,10 +134,13 @@ still-taken number job first second third books taken kept jobs last placed = re
   none = ap (λ (b : Books). b.placed) kept.books_are ∙ placed ∙ taken.none;
 }
 
-pub keeps-held : (steps : ℕ) (held : List Held) (first second : Seat) → Becomes first second (with_held held steps (view_of first)) → Keeps (view_of first) (view_of second)
-keeps-held steps held first second becomes = subst (Keeps (view_of first)) (sym (ap (λ m. m.0) becomes.me)) record { entries = refl; grows = omega arith; jobs = refl }
+pub keeps-held : (steps : ℕ) (held : List Held) (first second : Seat)
+    → Becomes first second (with_held held steps (view_of first)) → Keeps (view_of first) (view_of second)
+keeps-held steps held first second becomes = subst (Keeps (view_of first))
+    (sym (ap (λ m. m.0) becomes.me)) record { entries = refl; grows = omega arith; jobs = refl }
 
-pub keeps-then : (first second : Seat) (third : View) → HasEntries first second (view_of first).entries (view_of first).books → Keeps (view_of second) third
+pub keeps-then : (first second : Seat) (third : View) → HasEntries first second (view_of first).entries (view_of first).books
+    → Keeps (view_of second) third
     → Keeps (view_of first) third
 keeps-then first second third kept keeps = record {
   entries = keeps.entries ∙ kept.entries_are;
@@ -135,7 +148,8 @@ keeps-then first second third kept keeps = record {
   jobs = keeps.jobs ∙ ap (λ (b : Books). b.jobs) kept.books_are;
 }
 
-module _ (number : ℕ) (job : Job) (rest : List Rec) (first last : View) (second third : Seat) (added : List Entry) (taken : HasTakenJob number job first (view_of second))
+module _ (number : ℕ) (job : Job) (rest : List Rec) (first last : View) (second third : Seat) (added : List Entry)
+    (taken : HasTakenJob number job first (view_of second))
     (adds : Adds added second third) (left : IsLeft rest (view_of third).books) (keeps : Keeps (view_of third) last) where
   abbrev held : List Held
   held = (view_of second).books.held
@@ -150,7 +164,8 @@ module _ (number : ℕ) (job : Job) (rest : List Rec) (first last : View) (secon
   all-jobs = keeps.jobs ∙ ap (λ (b : Books). b.jobs) adds.entries.books_are ∙ taken.jobs
 
   pub all-planned : records_of added ++ rest ≡ planned_records number (transfer_of job) (mark_taken held) (balance_taken held)
-  all-planned = sym (placed-front added (view_of second).books.placed rest ∙ (λ i. in_order (recs_of (taken.none i)) (records_of added ++ rest)))
+  all-planned = sym (placed-front added (view_of second).books.placed rest
+      ∙ (λ i. in_order (recs_of (taken.none i)) (records_of added ++ rest)))
       ∙ subst (IsLeft rest) adds.entries.books_are left
       ∙ (λ i. planned_records (taken.last i).number (transfer_of (taken.last i).job) (mark_taken held) (balance_taken held))
 
@@ -166,24 +181,28 @@ module _ (number : ℕ) (job : Job) (rest : List Rec) (first last : View) (secon
     jobs = all-jobs;
   }
 
-stops-held : (cause : Cause) (rest : List Rec) (held : List Held) (steps : ℕ) (view : View) → StopsFor cause rest view → StopsFor cause rest (with_held held steps view)
+stops-held : (cause : Cause) (rest : List Rec) (held : List Held) (steps : ℕ) (view : View) → StopsFor cause rest view
+    → StopsFor cause rest (with_held held steps view)
 stops-held (Stop word) rest list steps view stops = stops
 stops-held (LogEnd tail total) [] list steps view stops = stops
 stops-held (LogEnd tail total) (next ∷ rest) list steps view stops = stops
 
-pub still-stops : (cause : Cause) (rest : List Rec) (held : List Held) (steps : ℕ) (first second : Seat) → Becomes first second (with_held held steps (view_of first))
+pub still-stops : (cause : Cause) (rest : List Rec) (held : List Held) (steps : ℕ) (first second : Seat)
+    → Becomes first second (with_held held steps (view_of first))
     → StopsFor cause rest (view_of first) → StopsFor cause rest (view_of second)
 still-stops cause rest held steps first second becomes stops =
     subst (StopsFor cause rest) (sym (ap (λ m. m.0) becomes.me)) (stops-held cause rest held steps (view_of first) stops)
 
-pub has-cut : (number : ℕ) (job : Job) (cause : Cause) (rest : List Rec) (old new : View) → HasInserted number job rest old new → StopsFor cause rest new
+pub has-cut : (number : ℕ) (job : Job) (cause : Cause) (rest : List Rec) (old new : View) → HasInserted number job rest old new
+    → StopsFor cause rest new
     → HasCut number job cause old new
 has-cut number job (Stop word) rest old new inserted stops = (rest, inserted, stops.0, stops.1)
 has-cut number job (LogEnd tail total) [] old new inserted stops = absurd stops
 has-cut number job (LogEnd tail total) (next ∷ rest) old new inserted stops = (next, rest, inserted, stops.0, stops.1, stops.2, stops.3)
 
 -- the transfer is cut off before its first record
-pub cut-early : (number : ℕ) (job : Job) (cause : Cause) (old new : View) → HasTakenJob number job old new → StopsFor cause [] new → HasCut number job cause old new
+pub cut-early : (number : ℕ) (job : Job) (cause : Cause) (old new : View) → HasTakenJob number job old new
+    → StopsFor cause [] new → HasCut number job cause old new
 cut-early number job (Stop word) old new taken stops = (
   planned_records number (transfer_of job) (λ _. 0) (λ _. 0),
   record {
@@ -207,13 +226,14 @@ one-unit number job (answer.Over leg) = refl
 
 lie-last : (from to : ℕ) (entries : List Entry) (entry : Entry) → LieInOrder from to (entries ++ entry ∷ []) → from ≤ entry.start
 lie-last from to [] entry lie = lie.0
-lie-last from to (other ∷ entries) entry lie = let after = lie-last (other.start + other.size) to entries entry lie.1 in omega (arith, lie.0, after)
+lie-last from to (other ∷ entries) entry lie = let after = lie-last (other.start + other.size) to entries entry lie.1 in
+    omega (arith, lie.0, after)
 
-pub has-run : (number : ℕ) (job : Job) (wait : Bool) (ended : Ended) (holdings : List Holding) (first last : View) (second third : Seat)
+pub has-run : (number : ℕ) (job : Job) (wait : Bool) (ended : Ended) (seen : ℕ) (holdings : List Holding) (first last : View) (second third : Seat)
     → HasTakenJob number job first (view_of second) → EndsTransfer number job ended holdings second third → Keeps (view_of third) last
-    → (wait ≡ true → ended.end ≤ last.seen.durable)
-    → HasRun number job wait (record { txn = number; answer = ended.answer; end = ended.end; seen = last.seen.durable }) first last
-has-run number job wait ended holdings first last second third taken ends keeps waited = record {
+    → seen ≡ last.seen.durable → (wait ≡ true → ended.end ≤ seen)
+    → HasRun number job wait (record { txn = number; answer = ended.answer; end = ended.end; seen = seen }) first last
+has-run number job wait ended seen holdings first last second third taken ends keeps durable waited = record {
   inserted = has-inserted number job [] first last second third (ends.before ++ end ∷ []) taken ends.adds ends.left keeps;
   txn = refl;
   outcome = ends.outcome;
@@ -223,7 +243,7 @@ has-run number job wait ended holdings first last second third taken ends keeps 
   rec = refl;
   end_is = ends.end_is;
   above = omega (arith, taken.grows, lie-last _ _ ends.before end ends.adds.within, ends.end_is, one-unit number job ended.answer);
-  seen = refl;
+  seen = durable;
   waited = waited;
 }
   where

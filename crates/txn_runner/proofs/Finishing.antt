@@ -42,38 +42,50 @@ back-moved number legs start books holding has = record {
   mark_is = λ i. cond (sym has.touched i) (start + size_of (Commit number legs)) holding.taken.mark;
 }
 
-all-back : (number : ℕ) (job : Job) (answer : Answer) (holdings : List Holding) (books : Books) (start : ℕ) → ReachesEnd answer number job holdings books
-    → All (GoesBack (release_at (start + size_of (last_record number job answer)) answer) (placing_all (entry_of start (last_record number job answer) ∷ []) books)) holdings
-all-back number job Done holdings books start reaches = λ k d within. back-moved number (length job.legs) start books (get_or holdings k d) (reaches.moved refl k d within)
-all-back number job (Short leg) holdings books start reaches = all-unchanged (placing_all (entry_of start (last_record number job (Short leg)) ∷ []) books) reaches.uncommitted holdings
-all-back number job (Over leg) holdings books start reaches = all-unchanged (placing_all (entry_of start (last_record number job (Over leg)) ∷ []) books) reaches.uncommitted holdings
+all-back : (number : ℕ) (job : Job) (answer : Answer) (holdings : List Holding) (books : Books) (start : ℕ)
+    → ReachesEnd answer number job holdings books
+    → All (GoesBack (release_at (start + size_of (last_record number job answer)) answer)
+    (placing_all (entry_of start (last_record number job answer) ∷ []) books)) holdings
+all-back number job Done holdings books start reaches = λ k d within. back-moved number (length job.legs) start books
+    (get_or holdings k d) (reaches.moved refl k d within)
+all-back number job (Short leg) holdings books start reaches = all-unchanged
+    (placing_all (entry_of start (last_record number job (Short leg)) ∷ []) books) reaches.uncommitted holdings
+all-back number job (Over leg) holdings books start reaches = all-unchanged
+    (placing_all (entry_of start (last_record number job (Over leg)) ∷ []) books) reaches.uncommitted holdings
 
 -- the end record comes next
-pub enters-last : (accounts number : ℕ) (job : Job) (answer : Answer) (holdings holdings' : List Holding) (old between : Seat) (before : List Entry) (rec : Rec)
-    → Adds before old between → HoldsJob accounts number job holdings (view_of old).books → ReachesEnd answer number job holdings' (view_of between).books
+pub enters-last : (accounts number : ℕ) (job : Job) (answer : Answer) (holdings holdings' : List Holding) (old between : Seat)
+    (before : List Entry) (rec : Rec)
+    → Adds before old between → HoldsJob accounts number job holdings (view_of old).books
+    → ReachesEnd answer number job holdings' (view_of between).books
     → rec ≡ last_record number job answer → MayEnter rec (view_of between).books
 enters-last accounts number job answer holdings holdings' old between before rec adds holds reaches is =
     enters rec [] (view_of between).books (subst (λ (last : TakenJob). 1 ≤ last.number) (sym still.last) holds.allowed.number.0)
-    (holds-accounts accounts number job holdings (view_of between).books still) (subst (λ r. IsLeft (r ∷ []) (view_of between).books) (sym is) reaches.left)
+    (holds-accounts accounts number job holdings (view_of between).books still)
+    (subst (λ r. IsLeft (r ∷ []) (view_of between).books) (sym is) reaches.left)
   where
     still : HoldsJob accounts number job holdings (view_of between).books
     still = holds-behind accounts number job holdings (view_of old).books (view_of between).books before adds.entries.books_are holds
 
-pub ends-transfer : (number : ℕ) (job : Job) (ended : Ended) (holdings : List Holding) (old between new : Seat) (before : List Entry) (rec : Rec)
-    → Adds before old between → ReachesEnd ended.answer number job holdings (view_of between).books → rec ≡ last_record number job ended.answer
+pub ends-transfer : (number : ℕ) (job : Job) (ended : Ended) (holdings : List Holding) (old between new : Seat)
+    (before : List Entry) (rec : Rec)
+    → Adds before old between → ReachesEnd ended.answer number job holdings (view_of between).books
+    → rec ≡ last_record number job ended.answer
     → Puts rec ended.end between new → EndsTransfer number job ended holdings old new
 ends-transfer number job ended holdings old between new before rec adds reaches is put = record {
   before = before;
   start = put.start;
   end_is = end;
-  adds = subst (λ r. Adds (before ++ entry_of put.start r ∷ []) old new) is (adds-trans before (entry_of put.start rec ∷ []) old between new adds put.adds);
+  adds = subst (λ r. Adds (before ++ entry_of put.start r ∷ []) old new) is
+      (adds-trans before (entry_of put.start rec ∷ []) old between new adds put.adds);
   left = left-behind (entry_of put.start rec ∷ []) [] (view_of between).books (view_of new).books put.adds.entries.books_are
       (subst (λ r. IsLeft (r ∷ []) (view_of between).books) (sym is) reaches.left);
   outcome = reaches.outcome ∙ ap (λ (b : Books). outcome_alone (transfer_of job) (balance_taken b.held)) adds.entries.books_are;
   back = subst (λ (p : ℕ × Books). All (GoesBack (release_at p.0 ended.answer) p.1) holdings) (λ i. (sym end i, sym placed i))
       (all-back number job ended.answer holdings (view_of between).books put.start reaches);
   is_last = ap (λ (b : Books). end_from 0 b.placed) placed ∙ sym end;
-  has_ended = ap (λ (b : Books). has_end (recs_of b.placed)) placed ∙ (λ i. ends-last number job ended.answer i || has_end (recs_of (view_of between).books.placed));
+  has_ended = ap (λ (b : Books). has_end (recs_of b.placed)) placed
+      ∙ (λ i. ends-last number job ended.answer i || has_end (recs_of (view_of between).books.placed));
 }
   where
     end : ended.end ≡ put.start + size_of (last_record number job ended.answer)

@@ -16,7 +16,8 @@ use Rattle.txn_runner.proofs.Held.{distinct}
 use Rattle.txn_runner.proofs.Staying.{entries-trans}
 
 -- what is known of each account is known of each holding
-pub all-known : (accounts : ℕ) (holdings : List Holding) (list : List ℕ) → map account_of holdings ≡ list → All (λ account. account < accounts) list
+pub all-known : (accounts : ℕ) (holdings : List Holding) (list : List ℕ) → map account_of holdings ≡ list
+    → All (λ account. account < accounts) list
     → All (IsKnown accounts) holdings
 all-known accounts holdings list is known k d within =
     subst (λ account. account < accounts) (ap (λ xs. get_or xs k 0) (sym is) ∙ get_or-map account_of holdings k d 0 within)
@@ -29,16 +30,19 @@ held-push (first ∷ holdings) holding held = held-push holdings holding (as_hel
 
 module _ (accounts : List ℕ) (holdings : List Holding) (first second third : Seat) (before : TakesAll accounts holdings first second) where
   -- after a call that took no account they may all be given back
-  pub holds-all : IsStrictlyIncreasing accounts → HasEntries second third (view_of second).entries (view_of second).books → HoldsAll holdings (view_of third).books
+  pub holds-all : IsStrictlyIncreasing accounts → HasEntries second third (view_of second).entries (view_of second).books
+      → HoldsAll holdings (view_of third).books
   holds-all rising after = record {
     distinct = distinct holdings (subst IsStrictlyIncreasing (sym before.accounts_are) rising);
     held = ap (λ (books : Books). books.held) (after.books_are ∙ before.entries.books_are);
   }
 
   -- one more is taken
-  pub takes-more : (more : List ℕ) (holding : Holding) (all : List Holding) → all ≡ holdings ++ holding ∷ [] → more ≡ accounts ++ holding.taken.account ∷ []
+  pub takes-more : (more : List ℕ) (holding : Holding) (all : List Holding) → all ≡ holdings ++ holding ∷ []
+      → more ≡ accounts ++ holding.taken.account ∷ []
       → holding.balance ≡ holding.taken.balance
-      → HasEntries second third (view_of second).entries (taking (as_held holding.taken) (view_of second).books) → TakesAll more all first third
+      → HasEntries second third (view_of second).entries (taking (as_held holding.taken) (view_of second).books)
+      → TakesAll more all first third
   takes-more more holding all pushed is unchanged after = subst (λ list. TakesAll more list first third) (sym pushed) record {
     accounts_are = map-append account_of holdings (holding ∷ []) ∙ (λ i. before.accounts_are i ++ holding.taken.account ∷ []) ∙ sym is;
     unchanged = All-push (λ (holding : Holding). holding.balance ≡ holding.taken.balance) holdings holding before.unchanged unchanged;

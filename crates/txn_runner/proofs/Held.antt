@@ -21,11 +21,13 @@ use Rattle.txn_runner.proofs.Listing.{rising-below}
 pub distinct : (holdings : List Holding) → IsStrictlyIncreasing (map account_of holdings) → AreDistinct holdings
 distinct holdings rising = apart holdings (rising-below (map account_of holdings) rising)
   where
-    apart : (holdings : List Holding) → ((i j : ℕ) → i < j → j < length (map account_of holdings) → get_or (map account_of holdings) i 0 < get_or (map account_of holdings) j 0)
+    apart : (holdings : List Holding) → ((i j : ℕ) → i < j → j < length (map account_of holdings)
+        → get_or (map account_of holdings) i 0 < get_or (map account_of holdings) j 0)
         → AreDistinct holdings
     apart [] less = tt
     apart (holding ∷ holdings) less = (
-      recursion_from_All (λ (other : Holding). other.taken.account ≢ holding.taken.account) holdings (λ k d within same. let up = less 0 (suc k) (omega arith) (omega (arith, length-map holdings account_of)) in
+      recursion_from_All (λ (other : Holding). other.taken.account ≢ holding.taken.account) holdings
+          (λ k d within same. let up = less 0 (suc k) (omega arith) (omega (arith, length-map holdings account_of)) in
           let at = get_or-map account_of holdings k d 0 within in omega arith),
       apart holdings (λ i j up within. less (suc i) (suc j) (omega arith) (omega arith)),
     )
@@ -42,23 +44,26 @@ without-behind : (holdings : List Holding) (front : List Held) (last : Held) →
     → AllByRecursion (λ (held : Held). held.account ≢ last.account) front
     → without last.account (held_behind holdings (front ++ last ∷ [])) ≡ held_behind holdings front
 without-behind [] front last lacks none = without-last front last none
-without-behind (holding ∷ holdings) front last lacks none = without-behind holdings (as_held holding.taken ∷ front) last lacks.1 (lacks.0, none)
+without-behind (holding ∷ holdings) front last lacks none = without-behind holdings (as_held holding.taken ∷ front) last lacks.1
+    (lacks.0, none)
 
 -- what was taken later doesn't concern the account
 pub taken-behind : (books : Books) (holdings : List Holding) (held : List Held) (taken : Taken) → Lacks taken.account holdings
     → HoldsTaken taken (record books { held = held }) → HoldsTaken taken (record books { held = held_behind holdings held })
 taken-behind books [] held taken lacks holds = holds
-taken-behind books (holding ∷ holdings) held taken lacks holds = taken-behind books holdings (as_held holding.taken ∷ held) taken lacks.1 record {
-  has = omega (arith, holds.has);
-  balance = (λ i. cond (other i) holding.taken.balance (balance_taken held taken.account)) ∙ holds.balance;
-  mark = (λ i. cond (other i) holding.taken.mark (mark_taken held taken.account)) ∙ holds.mark;
-}
+taken-behind books (holding ∷ holdings) held taken lacks holds = taken-behind books holdings
+    (as_held holding.taken ∷ held) taken lacks.1 record {
+      has = omega (arith, holds.has);
+      balance = (λ i. cond (other i) holding.taken.balance (balance_taken held taken.account)) ∙ holds.balance;
+      mark = (λ i. cond (other i) holding.taken.mark (mark_taken held taken.account)) ∙ holds.mark;
+    }
   where
     other : (holding.taken.account == taken.account) ≡ false
     other = ne_eqb holding.taken.account taken.account lacks.0
 
 -- the account taken last
-pub taken-first : (books : Books) (holding : Holding) (held : List Held) → HoldsTaken holding.taken (record books { held = as_held holding.taken ∷ held })
+pub taken-first : (books : Books) (holding : Holding) (held : List Held)
+    → HoldsTaken holding.taken (record books { held = as_held holding.taken ∷ held })
 taken-first books holding held = record {
   has = subst (λ b. 1 ≤ cond b 1 0 + times_held holding.taken.account held) (sym same) (omega arith);
   balance = λ i. cond (same i) holding.taken.balance (balance_taken held holding.taken.account);
@@ -69,7 +74,8 @@ taken-first books holding held = record {
     same = eq-eqb holding.taken.account holding.taken.account refl
 
 -- the first of the holdings that are left, and the others once it is given back
-module _ (first second : Seat) (holdings rest : List Holding) (holding : Holding) (steps : ℕ) (is : holdings ≡ holding ∷ rest) (apart : AreDistinct holdings)
+module _ (first second : Seat) (holdings rest : List Holding) (holding : Holding) (steps : ℕ) (is : holdings ≡ holding ∷ rest)
+    (apart : AreDistinct holdings)
     (before : Becomes first second (with_held (held_behind holdings []) steps (view_of first))) where
   abbrev view : View
   view = view_of first
@@ -93,7 +99,14 @@ module _ (first second : Seat) (holdings rest : List Holding) (holding : Holding
     table_is = after.table_is ∙ before.table_is;
     number = after.number ∙ before.number;
     me = after.me ∙ ap (λ m. (gave_account holding.taken.account m.0, m.1)) is-held
-        ∙ (λ i. (record view { seen = record view.seen { steps = total i }; books = record view.books { held = left i } }, first.base.me.1));
+        ∙ (λ i. (
+          record view {
+            seen = record view.seen { steps = total i };
+            books = record view.books
+                { held = left i };
+          },
+          first.base.me.1,
+        ));
     worker = after.worker ∙ before.worker;
   }
     where
@@ -108,7 +121,7 @@ module _ (old new : List Holding) (same : map taken_of new ≡ map taken_of old)
   same-length : length new ≡ length old
   same-length = sym (length-map new taken_of) ∙ ap length same ∙ length-map old taken_of
 
-  pub same-taken : (k : ℕ) (d : Holding) → k < length new → (get_or new k d).taken ≡ (get_or old k d).taken
+  same-taken : (k : ℕ) (d : Holding) → k < length new → (get_or new k d).taken ≡ (get_or old k d).taken
   same-taken k d within = sym (get_or-map taken_of new k d d.taken within) ∙ ap (λ list. get_or list k d.taken) same
       ∙ get_or-map taken_of old k d d.taken (omega (arith, same-length))
 

@@ -19,7 +19,8 @@ rising-below xs rising i j less within = subst (λ k. get_or xs i 0 < get_or xs 
     far zero within = subst (λ k. get_or xs i 0 < get_or xs k 0) (omega arith) (rising i (omega arith))
     far (suc gap) within =
         let nearer = far gap (omega arith) in let next = rising (i + gap + 1) (omega arith) in
-        let beyond : get_or xs i 0 < get_or xs (i + gap + 1 + 1) 0 = omega arith in subst (λ k. get_or xs i 0 < get_or xs k 0) (omega arith) beyond
+        let beyond : get_or xs i 0 < get_or xs (i + gap + 1 + 1) 0 = omega arith in
+        subst (λ k. get_or xs i 0 < get_or xs k 0) (omega arith) beyond
 
 pub rising-take : (xs : List ℕ) (n : ℕ) → IsStrictlyIncreasing xs → IsStrictlyIncreasing (take n xs)
 rising-take xs n rising k within =
@@ -33,18 +34,20 @@ module _ (xs : List ℕ) (i x : ℕ) (rising : IsStrictlyIncreasing xs) (within 
   at k same = ap (λ j. get_or (insert xs i x) j 0) same ∙ get_or-insert_at xs i x 0 within
 
   behind : (k : ℕ) → i < k → get_or (insert xs i x) k 0 ≡ get_or xs (k - 1) 0
-  behind k more = subst (λ j. get_or (insert xs i x) j 0 ≡ get_or xs (k - 1) 0) (omega arith) (get_or-insert_above xs i x 0 (k - 1) (omega arith) within)
+  behind k more = subst (λ j. get_or (insert xs i x) j 0 ≡ get_or xs (k - 1) 0) (omega arith)
+      (get_or-insert_above xs i x 0 (k - 1) (omega arith) within)
 
-  pub rising-insert : IsStrictlyIncreasing (insert xs i x)
+  rising-insert : IsStrictlyIncreasing (insert xs i x)
   rising-insert k last = let size = length-insert xs i x within in elim (cases_order k i) [
-      inl same ↦ let here = at k same in let next = get_or-insert_above xs i x 0 k (omega arith) within in let up = above k (omega arith) (omega arith) in omega arith
+    | inl same ↦ let here = at k same in let next = get_or-insert_above xs i x 0 k (omega arith) within in
+        let up = above k (omega arith) (omega arith) in omega arith
     | inr (inl less) ↦ let here = get_or-insert_below xs i x 0 k less within in elim (cases_lt (k + 1) i) [
-          inl far ↦ let next = get_or-insert_below xs i x 0 (k + 1) far within in let up = rising k (omega arith) in omega arith
-        | inr near ↦ let next = at (k + 1) (omega arith) in let up = below k less in omega arith
-        ]
-    | inr (inr more) ↦ let here = behind k more in let next = get_or-insert_above xs i x 0 k (omega arith) within in
-          let up = rising-below xs rising (k - 1) k (omega arith) (omega arith) in omega arith
+      | inl far ↦ let next = get_or-insert_below xs i x 0 (k + 1) far within in let up = rising k (omega arith) in omega arith
+      | inr near ↦ let next = at (k + 1) (omega arith) in let up = below k less in omega arith
     ]
+    | inr (inr more) ↦ let here = behind k more in let next = get_or-insert_above xs i x 0 k (omega arith) within in
+        let up = rising-below xs rising (k - 1) k (omega arith) (omega arith) in omega arith
+  ]
 
 -- the place that a binary search answers is such a one
 pub rising-searched : (xs ys : List ℕ) (i x : ℕ) → IsStrictlyIncreasing xs → ys ≡ xs → IsBinarySearchResult (λ y. nat_cmp y x) ys (Err i)
@@ -91,7 +94,11 @@ module _ (legs : List (ℕ × ℕ × ℕ)) (i : ℕ) (within : i < length legs) 
   of-leg account is = (i, get_or legs i (0, 0, 0), within, get_or_default legs i _ _ within, is)
 
   pub only-more : All (IsAccountOf legs) before → All (IsAccountOf legs) after
-  only-more only = All-from_get_or (IsAccountOf legs) after 0 (λ k lt. elim (second.only (get_or after k 0) (Contains-get_or after k 0 lt)) [
-      inl same ↦ of-leg _ (inr (sym same))
-    | inr earlier ↦ elim (first.only _ earlier) [ inl same ↦ of-leg _ (inl (sym same)) | inr old ↦ subst (IsAccountOf legs) old.2 (only old.0 _ old.1) ]
-    ])
+  only-more only = All-from_get_or (IsAccountOf legs) after 0 (λ k lt.
+      elim (second.only (get_or after k 0) (Contains-get_or after k 0 lt)) [
+        | inl same ↦ of-leg _ (inr (sym same))
+        | inr earlier ↦ elim (first.only _ earlier) [
+          | inl same ↦ of-leg _ (inl (sym same))
+          | inr old ↦ subst (IsAccountOf legs) old.2 (only old.0 _ old.1)
+        ]
+      ])

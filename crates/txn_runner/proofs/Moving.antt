@@ -13,10 +13,13 @@ module _ {X : Type 0} (R : X → X → Type 0) (xs ys : List X) (i : ℕ) (withi
   pub within-old : i < length xs
   within-old = omega (arith, length-drop i ys, length-drop i xs, ap length same)
 
-  pub changes-more : (x y : X) → R (get_or ys i x) y → AllZip R (take i xs) (take i ys) → AllZip R (take (i + 1) xs) (take (i + 1) (set ys i y))
+  pub changes-more : (x y : X) → R (get_or ys i x) y → AllZip R (take i xs) (take i ys)
+      → AllZip R (take (i + 1) xs) (take (i + 1) (set ys i y))
   changes-more x y related before = subst (AllZip R (take (i + 1) xs)) (sym (take_more_set ys i y within))
-      (all_zip_more R xs (take i ys) i (get_or xs i x) y within-old (get_or_default xs i x _ within-old) before (subst (λ z. R z y) (here x) related))
+      (all_zip_more R xs (take i ys) i (get_or xs i x) y within-old (get_or_default xs i x _ within-old) before
+      (subst (λ z. R z y) (here x) related))
 
   pub same-behind : (y : X) → drop (i + 1) (set ys i y) ≡ drop (i + 1) xs
-  same-behind y = drop-set-lt (i + 1) ys i y (omega arith) ∙ ap (λ n. drop n ys) (omega arith) ∙ sym (drop-drop 1 i ys) ∙ ap (drop 1) same ∙ drop-drop 1 i xs
+  same-behind y = drop-set-lt (i + 1) ys i y (omega arith) ∙ ap (λ n. drop n ys) (omega arith) ∙ sym (drop-drop 1 i ys)
+      ∙ ap (drop 1) same ∙ drop-drop 1 i xs
       ∙ ap (λ n. drop n xs) (omega arith)

@@ -34,7 +34,8 @@ module _ (rec : Rec) (units : List ℕ) (spelled : units ≡ spelling rec) (book
 -- the record is inserted after attempts that left all as it was
 pub puts : (rec : Rec) (n at end : ℕ) (old between new : Seat) → MayEnter rec (view_of old).books → n ≡ size_of rec → end ≡ at + n
     → HasEntries old between (view_of old).entries (view_of old).books
-    → HasEntries between new ((view_of between).entries ++ entry_of at (next_of (view_of between).books) ∷ []) (placing (at + n) (next_of (view_of between).books) (view_of between).books)
+    → HasEntries between new ((view_of between).entries ++ entry_of at (next_of (view_of between).books) ∷ [])
+    (placing (at + n) (next_of (view_of between).books) (view_of between).books)
     → (view_of between).seen.tail ≤ at → at + n ≤ (view_of new).seen.tail → Puts rec end old new
 puts rec n at end old between new may size ends before after behind seen = record {
   start = at;

@@ -6,7 +6,7 @@ use Rattle.log_table.specs.declared.view.Entry.{Entry}
 use Rattle.log_table.specs.Seats.{view_of}
 use Rattle.ring_buffer.specs.Calls.{IsSameWorker, HasEntries}
 
-pub same-trans : (first second third : Seat) → IsSameWorker first second → IsSameWorker second third → IsSameWorker first third
+same-trans : (first second third : Seat) → IsSameWorker first second → IsSameWorker second third → IsSameWorker first third
 same-trans first second third before after = record {
   table_is = after.table_is ∙ before.table_is;
   number = after.number ∙ before.number;
@@ -21,7 +21,8 @@ same-trans first second third before after = record {
 }
 
 -- the entries and books are those of the later call
-pub entries-trans : (first second third : Seat) (entries entries' : List Entry) (books books' : Books) → HasEntries first second entries books
+pub entries-trans : (first second third : Seat) (entries entries' : List Entry) (books books' : Books)
+    → HasEntries first second entries books
     → HasEntries second third entries' books' → HasEntries first third entries' books'
 entries-trans first second third entries entries' books books' before after = record {
   same = same-trans first second third before.same after.same;

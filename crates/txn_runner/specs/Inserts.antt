@@ -32,6 +32,7 @@ pub record Adds (added : List Entry) (old new : Seat) : Type 0 where
   pub entries : HasEntries old new ((view_of old).entries ++ added) (placing_all added (view_of old).books)
   pub within : LieInOrder (view_of old).seen.tail (view_of new).seen.tail added
 
+-- the seat inserted some entries so
 abbrev pub HasAdded : Seat → Seat → Type 0
 HasAdded old new = (added : List Entry) × Adds added old new
 
@@ -57,7 +58,7 @@ StopsFor (LogEnd tail total) [] view = ⊥
 StopsFor (LogEnd tail total) (next ∷ rest) view =
     (total ≡ size_of next) × (LAST < tail + total) × (tail ≡ view.seen.tail) × Contains view.seen.lsns tail
 
--- some records of the seat's last job are left for that cause, its Commit among them
+-- the seat's last job has no Commit, and for that cause these records of it are left
 pub record IsCutOff (cause : Cause) (view : View) : Type 0 where
   pub rest : List Rec
   pub left : IsLeft rest view.books

@@ -26,13 +26,21 @@ use Rattle.txn_runner.specs.Holdings.{account_of}
 use Rattle.txn_runner.specs.Inserts.{Adds, IsLeft}
 use Rattle.txn_runner.specs.Running.{outcome_of}
 
+-- these accounts are held with these values
+abbrev pub AreHeld : List Holding → Books → Type 0
+AreHeld holdings books = All (λ (holding : Holding). HoldsTaken holding.taken books) holdings
+
+-- what the records of the seat's last job change so far
+abbrev pub changes_by : Books → List Change
+changes_by books = changes_in (recs_of books.placed)
+
 -- The seat's last job is this one under this number, which a table of so many accounts allows; these are its accounts, and are held.
 pub record HoldsJob (accounts number : ℕ) (job : Job) (holdings : List Holding) (books : Books) : Type 0 where
   pub last : books.last ≡ record { number = number; job = job }
   pub allowed : IsAllowed accounts (record { number = number; job = job })
   pub all : All (HasAccountsOf (map account_of holdings)) job.legs
   pub only : All (IsAccountOf job.legs) (map account_of holdings)
-  pub taken : All (λ (holding : Holding). HoldsTaken holding.taken books) holdings
+  pub taken : AreHeld holdings books
 
 -- the Updates of a leg's two accounts, each with the last Commit as it was taken
 abbrev pub leg_records : ℕ → (ℕ → ℕ) → ℕ × ℕ × ℕ → List Rec
@@ -51,7 +59,7 @@ pub record MayMakeLeg (accounts number : ℕ) (leg : ℕ × ℕ × ℕ) (holding
   pub txn : IsTxn number
   pub leg_allowed : IsAllowedLeg accounts leg
   pub both : HasAccountsOf (map account_of holdings) leg
-  pub taken : All (λ (holding : Holding). HoldsTaken holding.taken books) holdings
+  pub taken : AreHeld holdings books
   pub uncommitted : has_commit (recs_of books.placed) ≡ false
   pub rest : List Rec
   pub left : IsLeft (leg_records number (mark_taken books.held) leg ++ rest) books
@@ -70,29 +78,30 @@ pub record CanBear (leg : ℕ × ℕ × ℕ) (holding : Holding) : Type 0 where
 abbrev pub TouchesLeg : List Change → ℕ × ℕ × ℕ → Type 0
 TouchesLeg changes leg = (touches leg.0 changes ≡ true) × (touches leg.1 changes ≡ true)
 
--- The transfer stands before its i-th leg, from 0: what is left of the plan, and the outcome of it, are those of the legs from there on, run on
--- balances which the holdings have by now. They are those as taken with what the records so far move, and these move each account of the legs before.
+-- The transfer stands before its i-th leg, from 0. What is left of it, and its outcome, are those of the legs from there on, run alone on
+-- balances that the holdings have by now. These are the balances as taken with what the records so far change, and each account of the
+-- legs before is changed.
 pub record StandsBefore (i number : ℕ) (job : Job) (holdings : List Holding) (books : Books) : Type 0 where
   pub balances : ℕ → ℕ
   pub left : IsLeft (planned_from number (mark_taken books.held) balances i (drop i job.legs)) books
   pub outcome : outcome_alone (transfer_of job) (balance_taken books.held) ≡ outcome_from i (drop i job.legs) balances
   pub now : All (λ (holding : Holding). holding.balance ≡ balances holding.taken.account) holdings
-  pub sums : (account : ℕ) → balances account + moved loss account (changes_in (recs_of books.placed))
-      ≡ balance_taken books.held account + moved gain account (changes_in (recs_of books.placed))
-  pub touched : All (TouchesLeg (changes_in (recs_of books.placed))) (take i job.legs)
+  pub sums : (account : ℕ) → balances account + moved loss account (changes_by books)
+      ≡ balance_taken books.held account + moved gain account (changes_by books)
+  pub touched : All (TouchesLeg (changes_by books)) (take i job.legs)
   pub uncommitted : has_commit (recs_of books.placed) ≡ false
 
--- the holding's balance is the one as taken with what the records move, and they do change the account
+-- the holding's balance is the one as taken with what the records change, and they do change the account
 pub record HasMoved (books : Books) (holding : Holding) : Type 0 where
-  pub sum : holding.balance + moved loss holding.taken.account (changes_in (recs_of books.placed))
-      ≡ holding.taken.balance + moved gain holding.taken.account (changes_in (recs_of books.placed))
-  pub touched : touches holding.taken.account (changes_in (recs_of books.placed)) ≡ true
+  pub sum : holding.balance + moved loss holding.taken.account (changes_by books)
+      ≡ holding.taken.balance + moved gain holding.taken.account (changes_by books)
+  pub touched : touches holding.taken.account (changes_by books) ≡ true
 
 -- the end record of a transfer with this answer
 abbrev pub last_record : ℕ → Job → Answer → Rec
 last_record number job answer = end_record number (transfer_of job) (outcome_of answer)
 
--- only the end record is left, and it is that of the answer, which is the outcome of the transfer run alone on the balances as taken
+-- Only the end record is left, which is that of the answer. The answer is the outcome of the transfer run alone on the balances as taken.
 pub record ReachesEnd (answer : Answer) (number : ℕ) (job : Job) (holdings : List Holding) (books : Books) : Type 0 where
   pub left : IsLeft (last_record number job answer ∷ []) books
   pub spellable : IsSpellable (last_record number job answer)

@@ -36,7 +36,7 @@ fn add(accounts: &mut ArrayVec<u32, 16>, account: u32)
 #[cfg(test)]
 mod tests {
     use super::*;
-    use txn_script::Legs;
+    use txn_script::{Legs, MOST_LEGS};
 
     #[test]
     fn each_account_stands_once_and_in_order(rt: HostRuntime) {
@@ -44,11 +44,15 @@ mod tests {
             (&[(0, 1, 30)], &[0, 1]),
             (&[(4095, 0, 1)], &[0, 4095]),
             (&[(0, 1, 60), (1, 0, 20)], &[0, 1]),
-            (&[(5, 2, 1), (2, 7, 3), (5, 7, 1), (0, 9, 1)], &[0, 2, 5, 7, 9]),
+            (
+                &[(5, 2, 1), (2, 7, 3), (5, 7, 1), (0, 9, 1)],
+                &[0, 2, 5, 7, 9],
+            ),
         ];
         for (list, wanted) in cases {
             let mut legs = Legs::new();
-            for leg in &list[..list.len().min(8)] {
+            for leg in list {
+                assert!(rt; legs.as_slice().len() < MOST_LEGS);
                 legs.push(*leg);
             }
             let accounts = accounts_of(&Job { legs, note: None });

@@ -58,14 +58,7 @@ pub(crate) fn give_all(
     }
 }
 
-fn give_one(
-    table: &LogTable,
-    seat: &mut Seat,
-    taken: Taken,
-    balance: u32,
-    mark: u32,
-    durable: bool,
-)
+fn give_one(table: &LogTable, seat: &mut Seat, taken: Taken, balance: u32, mark: u32, durable: bool)
     requires seat { IsOf table.now seat.old }
     requires ready { IsReady (view_of seat.old) }
     requires holds { HoldsTaken taken (view_of seat.old).books }

@@ -9,11 +9,11 @@ ghost use Rattle.txn_runner.specs.Running.{HasRun, HasCut};
 use crate::accounts::accounts_of;
 use crate::cause::Cause;
 use crate::giving::{Release, give_all};
-use crate::waiting::see_durable;
 use crate::relief::Relief;
 use crate::rows::Row;
 use crate::taking::take_all;
 use crate::transfer::insert_transfer;
+use crate::waiting::see_durable;
 use log_disk::{Gate, Place};
 use log_table::{LogTable, Seat};
 use std::sync::Wait;
@@ -58,6 +58,7 @@ pub(crate) fn run_job<R: Wait, Q: Relief, G: Gate>(
             return Err(cause);
         }
     };
+    // The row tells what was durable just before the accounts went back.
     let seen = see_durable(rt, table, seat, ended.end, relief, wait);
     give_all(table, seat, holdings, ended.release(), wait && seen.is_ok());
     let seen = seen?;

@@ -15,7 +15,8 @@ legs-preserved c =
     }
 
 pub returns-clause-all : goal.returns-clause-all
-returns-clause-all c = subst (All (HasAccountsOf c.legs.accounts.items)) (take_all _ _ c.legs-test.false ∙ c.as_slice-leg-items.ensures.legs) c.legs.invariant.all
+returns-clause-all c = subst (All (HasAccountsOf c.legs.accounts.items))
+    (take_all _ _ c.legs-test.false ∙ c.as_slice-leg-items.ensures.legs) c.legs.invariant.all
 
 pub returns-clause-only : goal.returns-clause-only
 returns-clause-only c = subst (λ legs. All (IsAccountOf legs) c.legs.accounts.items) c.as_slice-leg-items.ensures.legs c.legs.invariant.only

@@ -5,7 +5,8 @@ use Rattle.txn_runner.proofs.accounts.add.Goals as goal
 
 pub returns-in-Err-clause-rising : goal.returns-in-Err-clause-rising
 returns-in-Err-clause-rising c = subst IsStrictlyIncreasing (sym c.insert.ensures.items)
-    (rising-searched c.args.accounts.now.items c.as_slice.result.now c.in-Err.place c.args.account c.requires.rising c.as_slice.ensures.value c.in-Err.ensures.position)
+    (rising-searched c.args.accounts.now.items c.as_slice.result.now c.in-Err.place c.args.account c.requires.rising
+    c.as_slice.ensures.value c.in-Err.ensures.position)
 
 pub returns-in-Err-clause-added : goal.returns-in-Err-clause-added
 returns-in-Err-clause-added c =

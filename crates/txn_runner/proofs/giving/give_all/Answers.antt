@@ -15,7 +15,8 @@ holdings-preserved c =
     let is = c.in-Some.ensures.steps in
     let more = length-append c.holdings.yielded (c.in-Some.holding ∷ []) in record {
       count = omega (arith, more, ap length is, i.count);
-      seat = subst (λ n. Becomes c.args.seat.now c.give_one.new.seat (with_held (held_behind c.next.new.self []) n (view_of c.args.seat.now))) (sym more)
+      seat = subst (λ n. Becomes c.args.seat.now c.give_one.new.seat (with_held (held_behind c.next.new.self []) n
+          (view_of c.args.seat.now))) (sym more)
           (gives-first _ _ _ _ _ _ is i.distinct i.seat _ c.give_one.ensures);
       distinct = distinct-rest _ _ _ _ _ _ is i.distinct i.seat;
       known = All-rest (IsKnown c.args.table.now.accounts) _ _ _ is i.known;

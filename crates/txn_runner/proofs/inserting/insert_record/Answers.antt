@@ -17,5 +17,6 @@ pub returns-in-Ok-clause-put : goal.returns-in-Ok-clause-put
 returns-in-Ok-clause-put g c =
     let size : length c.spell-units.result ≡ size_of c.args.rec.now = ap length c.spell-units.ensures.units in
     let end : c.new.result ≡ c.in-Ok.at + length c.spell-units.result = search rules in
-    puts c.args.rec.now (length c.spell-units.result) c.in-Ok.at c.new.result c.args.seat.now c.loop.seat c.insert_alone.new.seat c.requires.next size end
+    puts c.args.rec.now (length c.spell-units.result) c.in-Ok.at c.new.result c.args.seat.now c.loop.seat
+    c.insert_alone.new.seat c.requires.next size end
     c.loop.invariant.0 c.in-Ok.ensures.inserted c.in-Ok.ensures.behind c.in-Ok.ensures.seen

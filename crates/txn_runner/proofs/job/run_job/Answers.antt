@@ -3,9 +3,8 @@ use Rattle.std.proofs.lemmas.Result.{err_from_is_err_and}
 use Rattle.log_table.specs.declared.view.Books.{Books}
 use Rattle.log_table.specs.Seats.{view_of}
 use Rattle.txn_runner.specs.declared.cause.Cause.TheVariants.{Stop}
-use Rattle.txn_runner.specs.Holdings.{TakesAll}
 use Rattle.txn_runner.specs.Running.{HasRun}
-use Rattle.txn_runner.proofs.Composing.{accounts-known, holds-job, holds-still, all-still-known, took, still-taken, keeps-held, keeps-then, has-inserted, still-stops, has-cut, cut-early, has-run}
+use Rattle.txn_runner.proofs.Composing.{accounts-known, holds-job, still-known, still-held, took, still-taken, keeps-held, keeps-then, has-inserted, still-stops, has-cut, cut-early, has-run}
 use Rattle.txn_runner.proofs.job.run_job.Goals as goal
 
 pub returns-then-word-ne0-clause-cut : goal.returns-then-word-ne0-clause-cut
@@ -28,18 +27,19 @@ pub insert_transfer-requires-clause-job : goal.insert_transfer-requires-clause-j
 insert_transfer-requires-clause-job g c =
     let job = took _ _ _ c.args.seat.now c.take_job-word.new.seat c.take_job-word.ensures.view in
     let list = c.accounts_of-accounts.ensures in
-    let takes = subst (λ xs. TakesAll xs c.in_ok-holdings.holdings.items c.take_job-word.new.seat c.take_all.new.seat) c.as_slice.ensures.value c.in_ok-holdings.ensures.taken in
-    holds-job _ _ _ _ _ _ _ list.rising list.all list.only c.requires.may.allowed job.last takes
+    holds-job _ _ _ _ _ _ _ _ c.as_slice.ensures.value list.rising list.only c.requires.may.allowed c.in_ok-holdings.ensures.taken list.all job.last
 
 pub give_all-requires-clause-holds : goal.give_all-requires-clause-holds
 give_all-requires-clause-holds g c =
-    let takes = subst (λ xs. TakesAll xs c.in_ok-holdings.holdings.items c.take_job-word.new.seat c.take_all.new.seat) c.as_slice.ensures.value c.in_ok-holdings.ensures.taken in
-    holds-still _ _ _ _ _ _ c.accounts_of-accounts.ensures.rising takes c.in-Err.ensures.taken (ap (λ (books : Books). books.held) c.in-Err.ensures.added.1.entries.books_are)
+    let list = c.accounts_of-accounts.ensures in
+    still-held _ _ _ _ _ _ _ _ c.as_slice.ensures.value list.rising list.only c.requires.may.allowed c.in_ok-holdings.ensures.taken
+    _ c.in-Err.ensures.taken _ (ap (λ (books : Books). books.held) c.in-Err.ensures.added.1.entries.books_are)
 
 pub give_all-requires-clause-known : goal.give_all-requires-clause-known
 give_all-requires-clause-known g c =
-    let takes = subst (λ xs. TakesAll xs c.in_ok-holdings.holdings.items c.take_job-word.new.seat c.take_all.new.seat) c.as_slice.ensures.value c.in_ok-holdings.ensures.taken in
-    all-still-known _ _ _ _ _ _ _ c.requires.may.allowed.job.legs.each c.accounts_of-accounts.ensures.only takes c.in-Err.ensures.taken
+    let list = c.accounts_of-accounts.ensures in
+    still-known _ _ _ _ _ _ _ _ c.as_slice.ensures.value list.rising list.only c.requires.may.allowed c.in_ok-holdings.ensures.taken
+    _ c.in-Err.ensures.taken
 
 pub returns-in-Err-clause-cut : goal.returns-in-Err-clause-cut
 returns-in-Err-clause-cut g c =
@@ -52,14 +52,16 @@ returns-in-Err-clause-cut g c =
 
 pub give_all-requires-2-clause-holds : goal.give_all-requires-2-clause-holds
 give_all-requires-2-clause-holds g c =
-    let takes = subst (λ xs. TakesAll xs c.in_ok-holdings.holdings.items c.take_job-word.new.seat c.take_all.new.seat) c.as_slice.ensures.value c.in_ok-holdings.ensures.taken in
-    holds-still _ _ _ _ _ _ c.accounts_of-accounts.ensures.rising takes c.in-Ok.ensures.taken
-    (ap (λ (books : Books). books.held) (c.see_durable-seen.ensures.kept.books_are ∙ c.in-Ok.ensures.ended.adds.entries.books_are))
+    let list = c.accounts_of-accounts.ensures in
+    let books = c.see_durable-seen.ensures.kept.books_are ∙ c.in-Ok.ensures.ended.adds.entries.books_are in
+    still-held _ _ _ _ _ _ _ _ c.as_slice.ensures.value list.rising list.only c.requires.may.allowed c.in_ok-holdings.ensures.taken
+    _ c.in-Ok.ensures.taken _ (ap (λ (b : Books). b.held) books)
 
 pub give_all-requires-2-clause-known : goal.give_all-requires-2-clause-known
 give_all-requires-2-clause-known g c =
-    let takes = subst (λ xs. TakesAll xs c.in_ok-holdings.holdings.items c.take_job-word.new.seat c.take_all.new.seat) c.as_slice.ensures.value c.in_ok-holdings.ensures.taken in
-    all-still-known _ _ _ _ _ _ _ c.requires.may.allowed.job.legs.each c.accounts_of-accounts.ensures.only takes c.in-Ok.ensures.taken
+    let list = c.accounts_of-accounts.ensures in
+    still-known _ _ _ _ _ _ _ _ c.as_slice.ensures.value list.rising list.only c.requires.may.allowed c.in_ok-holdings.ensures.taken
+    _ c.in-Ok.ensures.taken
 
 pub returns-in_err-seen-clause-cut : goal.returns-in_err-seen-clause-cut
 returns-in_err-seen-clause-cut g c =
@@ -76,7 +78,6 @@ returns-clause-run g c =
     let job = took _ _ _ c.args.seat.now c.take_job-word.new.seat c.take_job-word.ensures.view in
     let taken = still-taken _ _ _ _ c.take_all.new.seat _ job c.in_ok-holdings.ensures.taken.entries refl refl refl in
     let keeps = keeps-then _ _ _ c.see_durable-seen.ensures.kept (keeps-held _ _ _ _ c.give_all-2.ensures) in
-    let seen : c.in_ok-seen.seen ≡ (view_of c.give_all-2.new.seat).seen.durable = c.in_ok-seen.ensures.seen ∙ sym (ap (λ m. m.0.seen.durable) c.give_all-2.ensures.me) in
-    subst (λ (n : ℕ). HasRun c.args.number c.args.job.now c.args.wait (record { txn = c.args.number; answer = c.in-Ok.ended.answer; end = c.in-Ok.ended.end; seen = n })
-    (view_of c.args.seat.now) (view_of c.give_all-2.new.seat)) (sym seen)
-    (has-run _ _ _ _ _ _ _ _ _ taken c.in-Ok.ensures.ended keeps (λ waits. subst (λ (n : ℕ). c.in-Ok.ended.end ≤ n) seen (c.in_ok-seen.ensures.waited waits)))
+    let seen : c.in_ok-seen.seen ≡ (view_of c.give_all-2.new.seat).seen.durable =
+    c.in_ok-seen.ensures.seen ∙ sym (ap (λ m. m.0.seen.durable) c.give_all-2.ensures.me) in
+    has-run _ _ _ _ _ _ _ _ _ _ taken c.in-Ok.ensures.ended keeps seen c.in_ok-seen.ensures.waited

@@ -10,7 +10,8 @@ found : (holdings : List Holding) (account n : ℕ) → length holdings ≤ n �
     → AllWithin (λ (holding : Holding). holding.taken.account ≢ account) holdings 0 n → ⊥
 found [] account n all has none = absurd (omega (arith, has.1))
 found (first ∷ holdings) account n all has none =
-    none has.0 first (omega arith) (omega (arith, within)) (sym (get_or-map account_of (first ∷ holdings) has.0 first account within) ∙ has.2)
+    none has.0 first (omega arith) (omega (arith, within))
+    (sym (get_or-map account_of (first ∷ holdings) has.0 first account within) ∙ has.2)
   where
     within : has.0 < length (first ∷ holdings)
     within = omega (arith, has.1, length-map (first ∷ holdings) account_of)

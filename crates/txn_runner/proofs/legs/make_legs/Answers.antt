@@ -7,19 +7,22 @@ pub holding_of-requires : goal.holding_of-requires
 holding_of-requires g c = let i = c.legs.invariant in (leg-accounts _ _ _ _ _ _ i.1 i.2 _ c.as_slice-legs.ensures.legs c.legs-test.true).0
 
 pub holding_of-requires-in-legs : goal.holding_of-requires-in-legs
-holding_of-requires-in-legs g c = let i = c.legs.invariant in (leg-accounts _ _ _ _ _ _ i.1 i.2 _ c.as_slice-legs.ensures.legs c.legs-test.true).1
+holding_of-requires-in-legs g c = let i = c.legs.invariant in
+    (leg-accounts _ _ _ _ _ _ i.1 i.2 _ c.as_slice-legs.ensures.legs c.legs-test.true).1
 
 pub returns-then-holding_of-leg-clause-ended : goal.returns-then-holding_of-leg-clause-ended
 returns-then-holding_of-leg-clause-ended g c = let i = c.legs.invariant in let payer = c.holding_of.ensures in
     reaches-short _ _ _ _ _ _ i.1 i.2 _ c.as_slice-legs.ensures.legs c.legs-test.true _ payer.found payer.account c.if-holding_of-leg.true
 
 pub returns-then-holding_of-leg-2-clause-ended : goal.returns-then-holding_of-leg-2-clause-ended
-returns-then-holding_of-leg-2-clause-ended g c = let i = c.legs.invariant in let payer = c.holding_of.ensures in let payee = c.holding_of-in-legs.ensures in
+returns-then-holding_of-leg-2-clause-ended g c = let i = c.legs.invariant in let payer = c.holding_of.ensures in
+    let payee = c.holding_of-in-legs.ensures in
     reaches-over _ _ _ _ _ _ i.1 i.2 _ c.as_slice-legs.ensures.legs c.legs-test.true _ payer.found payer.account c.if-holding_of-leg.false
     _ payee.found payee.account c.if-holding_of-leg-2.true
 
 pub make_leg-requires-clause-leg : goal.make_leg-requires-clause-leg
-make_leg-requires-clause-leg g c = let i = c.legs.invariant in let payer = c.holding_of.ensures in let payee = c.holding_of-in-legs.ensures in
+make_leg-requires-clause-leg g c = let i = c.legs.invariant in let payer = c.holding_of.ensures in
+    let payee = c.holding_of-in-legs.ensures in
     may-make _ _ _ _ _ _ i.1 i.2 _ c.as_slice-legs.ensures.legs c.legs-test.true _ payer.found payer.account c.if-holding_of-leg.false
     _ payee.found payee.account c.if-holding_of-leg-2.false
 
@@ -28,7 +31,8 @@ returns-in_err-make_leg-clause-added g c = let before = c.legs.invariant.0 in le
     (before.0 ++ more.0, adds-trans _ _ _ _ _ before.1 more.1)
 
 pub legs-preserved : goal.legs-preserved
-legs-preserved g c = let i = c.legs.invariant in let payer = c.holding_of.ensures in let payee = c.holding_of-in-legs.ensures in let made = c.in_ok-make_leg.ensures.made in (
+legs-preserved g c = let i = c.legs.invariant in let payer = c.holding_of.ensures in let payee = c.holding_of-in-legs.ensures in
+    let made = c.in_ok-make_leg.ensures.made in (
       (i.0.0 ++ made.added, adds-trans _ _ _ _ _ i.0.1 made.adds),
       still-holds _ _ _ _ _ _ i.1 i.2 _ c.as_slice-legs.ensures.legs c.legs-test.true _ payer.found payer.account c.if-holding_of-leg.false
           _ payee.found payee.account c.if-holding_of-leg-2.false _ c.move_amount.ensures _ _ made.adds.entries.books_are made.records_are,

@@ -6,7 +6,8 @@ use Rattle.txn_runner.proofs.legs.move_amount.Goals as goal
 pub bear-requires : goal.bear-requires
 bear-requires c =
     let within : c.holdings.holding-index < length c.holdings.holdings = omega arith in
-    subst (CanBear c.args.leg) (sym (here (IsAfter c.args.leg) _ _ _ within c.holdings.invariant.behind c.holding-item.result)) (c.requires _ _ c.holdings-test.true)
+    subst (CanBear c.args.leg) (sym (here (IsAfter c.args.leg) _ _ _ within c.holdings.invariant.behind c.holding-item.result))
+    (c.requires _ _ c.holdings-test.true)
 
 pub holdings-preserved : goal.holdings-preserved
 holdings-preserved c =

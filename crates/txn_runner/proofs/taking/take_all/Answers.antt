@@ -14,7 +14,8 @@ pub give_all-requires-clause-holds : goal.give_all-requires-clause-holds
 give_all-requires-clause-holds g c = holds-all _ _ _ _ _ c.accounts.invariant.0 (rising-take _ _ c.requires.rising) c.in-Err.ensures.kept
 
 pub give_all-requires-clause-known : goal.give_all-requires-clause-known
-give_all-requires-clause-known g c = all-known _ _ _ c.accounts.invariant.0.accounts_are (All-take (λ account. account < c.args.table.now.accounts) _ _ c.requires.known)
+give_all-requires-clause-known g c = all-known _ _ _ c.accounts.invariant.0.accounts_are
+    (All-take (λ account. account < c.args.table.now.accounts) _ _ c.requires.known)
 
 pub give_all-requires-clause-values : goal.give_all-requires-clause-values
 give_all-requires-clause-values g c = all-unchanged _ (
@@ -25,7 +26,8 @@ pub accounts-preserved : goal.accounts-preserved
 accounts-preserved g c =
     let account : c.in-Ok.taken.account ≡ get_or c.args.accounts.now c.accounts.account-index 0 = c.in-Ok.ensures.account in (
       takes-more _ _ _ _ _ c.accounts.invariant.0 _ _ _ c.push.ensures.items
-          (take_more c.args.accounts.now c.accounts.account-index 0 c.accounts-test.true ∙ (λ i. take c.accounts.account-index c.args.accounts.now ++ sym account i ∷ []))
+          (take_more c.args.accounts.now c.accounts.account-index 0 c.accounts-test.true
+          ∙ (λ i. take c.accounts.account-index c.args.accounts.now ++ sym account i ∷ []))
           refl c.in-Ok.ensures.taken,
       c.in-Ok.ensures.relief,
       g.met.Q.Relief.later_trans _ _ _ c.accounts.invariant.2 c.in-Ok.ensures.later,

@@ -3,11 +3,13 @@ use Rattle.txn_runner.proofs.Beginning.{enters-note, cut-note}
 use Rattle.txn_runner.proofs.transfer.insert_note.Goals as goal
 
 pub insert_record-requires-clause-next : goal.insert_record-requires-clause-next
-insert_record-requires-clause-next g c = enters-note _ _ _ c.args.seat.now _ c.note.ensures.note c.requires.job c.in-Some.is c.requires.begins c.note.ensures.text.0 c.requires.number.0
+insert_record-requires-clause-next g c = enters-note _ _ _ c.args.seat.now _ c.note.ensures.note c.requires.job c.in-Some.is
+    c.requires.begins c.note.ensures.text.0 c.requires.number.0
 
 pub returns-in_err-insert_record-clause-cut : goal.returns-in_err-insert_record-clause-cut
 returns-in_err-insert_record-clause-cut g c =
     let failed = err_from_is_err_and c.from_residual.result c.from_residual.ensures.1 in
     let err = c.in_err-insert_record.ensures in
-    rw (failed.1, failed.2) (cut-note _ _ _ c.args.seat.now _ c.note.ensures.note c.requires.job c.in-Some.is c.requires.begins c.note.ensures.text.0 _
+    rw (failed.1, failed.2) (cut-note _ _ _ c.args.seat.now _ c.note.ensures.note c.requires.job c.in-Some.is c.requires.begins
+    c.note.ensures.text.0 _
     c.insert_record.new.seat err.kept.books_are err.stopped)

@@ -14,14 +14,17 @@ use Rattle.txn_runner.proofs.transfer.insert_transfer.Goals as goal
 pub make_legs-requires-clause-job : goal.make_legs-requires-clause-job
 make_legs-requires-clause-job g c =
     let noted = c.in_ok-insert_note.ensures.noted in
-    subst (λ list. HoldsJob c.args.table.now.accounts c.args.number c.args.job.now list (view_of c.insert_note.new.seat).books) (sym c.as_mut_slice-list.ensures.value)
+    subst (λ list. HoldsJob c.args.table.now.accounts c.args.number c.args.job.now list (view_of c.insert_note.new.seat).books)
+    (sym c.as_mut_slice-list.ensures.value)
     (holds-behind _ _ _ _ _ _ noted.added noted.adds.entries.books_are c.requires.job)
 
 pub make_legs-requires-clause-first : goal.make_legs-requires-clause-first
 make_legs-requires-clause-first g c =
     let noted = c.in_ok-insert_note.ensures.noted in
-    subst (λ list. StandsBefore 0 c.args.number c.args.job.now list (view_of c.insert_note.new.seat).books) (sym c.as_mut_slice-list.ensures.value)
-    (stands-first _ _ _ _ _ _ noted.added noted.adds.entries.books_are noted.records_are c.requires.begins c.requires.job c.requires.unchanged)
+    subst (λ list. StandsBefore 0 c.args.number c.args.job.now list (view_of c.insert_note.new.seat).books)
+    (sym c.as_mut_slice-list.ensures.value)
+    (stands-first _ _ _ _ _ _ noted.added noted.adds.entries.books_are noted.records_are c.requires.begins c.requires.job
+    c.requires.unchanged)
 
 pub returns-in_err-answer-clause-added : goal.returns-in_err-answer-clause-added
 returns-in_err-answer-clause-added g c =
@@ -34,7 +37,8 @@ pub insert_record-requires-clause-next : goal.insert_record-requires-clause-next
 insert_record-requires-clause-next g c =
     let noted = c.in_ok-insert_note.ensures.noted in
     let legs = c.in_ok-answer.ensures.added in
-    enters-last _ _ _ _ _ _ _ _ _ _ (adds-trans _ _ _ _ _ noted.adds legs.1) c.requires.job c.in_ok-answer.ensures.ended c.end_record-last.ensures
+    enters-last _ _ _ _ _ _ _ _ _ _ (adds-trans _ _ _ _ _ noted.adds legs.1) c.requires.job c.in_ok-answer.ensures.ended
+    c.end_record-last.ensures
 
 pub returns-in_err-end-clause-added : goal.returns-in_err-end-clause-added
 returns-in_err-end-clause-added g c =
@@ -50,7 +54,9 @@ pub returns-clause-ended : goal.returns-clause-ended
 returns-clause-ended g c =
     let noted = c.in_ok-insert_note.ensures.noted in
     let legs = c.in_ok-answer.ensures.added in
-    let same = items-with_items c.args.holdings.now c.make_legs.new.holdings (c.make_legs.auto.holdings ∙ ap length c.as_mut_slice-list.ensures.value) in
+    let same = items-with_items c.args.holdings.now c.make_legs.new.holdings
+    (c.make_legs.auto.holdings ∙ ap length c.as_mut_slice-list.ensures.value) in
     let ended : Ended = record { answer = c.in_ok-answer.answer; end = c.in_ok-end.end } in
     subst (λ list. EndsTransfer c.args.number c.args.job.now ended list c.args.seat.now c.insert_record.new.seat) (sym same)
-    (ends-transfer _ _ ended _ _ _ _ _ _ (adds-trans _ _ _ _ _ noted.adds legs.1) c.in_ok-answer.ensures.ended c.end_record-last.ensures c.in_ok-end.ensures.put)
+    (ends-transfer _ _ ended _ _ _ _ _ _ (adds-trans _ _ _ _ _ noted.adds legs.1) c.in_ok-answer.ensures.ended
+    c.end_record-last.ensures c.in_ok-end.ensures.put)
