@@ -2,6 +2,7 @@ pub mod Apart
 pub mod Appending
 pub mod ChainLemmas
 pub mod Conserving
+pub mod Doing
 pub mod Fronts
 pub mod JudgingLemmas
 pub mod KeepingLemmas
@@ -19,3 +20,4 @@ pub mod SerialFronts
 pub mod SettlingLemmas
 pub mod TakingLemmas
 pub mod Witnessing
+pub mod Weighing

@@ -15,7 +15,7 @@ use Rattle.lock_core.proofs.OneMore.{of_transaction-same, of_transaction-other}
 use Rattle.lock_core.proofs.Apart.{of_transaction-older}
 use Rattle.lock_core.proofs.Running.{before-end, has_end-front}
 
-all-map : {X : Type 0} (P Q : X → Type 0) → ((x : X) → P x → Q x) → (xs : List X) → AllByRecursion P xs → AllByRecursion Q xs
+pub all-map : {X : Type 0} (P Q : X → Type 0) → ((x : X) → P x → Q x) → (xs : List X) → AllByRecursion P xs → AllByRecursion Q xs
 all-map P Q f [] all = tt
 all-map P Q f (x ∷ xs) all = (f x all.0, all-map P Q f xs all.1)
 
@@ -89,7 +89,7 @@ ends-without_prev (Short txn leg) = refl
 ends-without_prev (Over txn leg) = refl
 ends-without_prev (Note txn text) = refl
 
-has_end-without_prev : (records : List Rec) → has_end (all_without_prev records) ≡ has_end records
+pub has_end-without_prev : (records : List Rec) → has_end (all_without_prev records) ≡ has_end records
 has_end-without_prev [] = refl
 has_end-without_prev (rec ∷ records) = λ i. ends-without_prev rec i || has_end-without_prev records i
 
