@@ -13,10 +13,10 @@ use Rattle.log_record.specs.Spelling.{spelling}
 use Rattle.log_record.specs.declared.rec.Rec.TheVariants.{Genesis, Update, Commit, Short, Over, Note}
 use Rattle.lock_core.specs.declared.limits.TheConstants.{MOST_BALANCE}
 use Rattle.lock_core.specs.History.{history_from}
-use Rattle.lock_core.specs.Records.{txn_of, ends, commits, changes_of, without_prev, gain, loss}
-use Rattle.lock_core.specs.Transactions.{of_transaction, recs_of, records_of, has_commit, is_committed, all_without_prev, in_order}
+use Rattle.lock_core.specs.Records.{txn_of, ends, commits, changes_of, gain, loss}
+use Rattle.lock_core.specs.Transactions.{recs_of, records_of, has_commit, is_committed, all_without_prev, in_order}
 use Rattle.lock_core.specs.Sums.{BaseState, moved, moved_by, total, balance_of}
-use Rattle.lock_core.specs.Alone.{Job, IsAllowedLeg, IsAllowed, Done, ShortAt, OverAt, lacks, overfills, after_leg, outcome_from, outcome_alone, with_note, leg_updates, outcome_records}
+use Rattle.lock_core.specs.Alone.{Job, IsAllowedLeg, IsAllowed, Done, ShortAt, OverAt, lacks, overfills, after_leg, outcome_from, with_note, leg_updates, outcome_records}
 use Rattle.lock_core.specs.Serial.{Task, numbered, IsRunWhole, IsCutShort, HasNoOthers, IsSerialAfter, IsPartlySerialAfter}
 use Rattle.lock_core.specs.AnyOrder.{given, taken, legs_of, HasRoomFor, IsDoneIn, done_records, weight_of}
 use Rattle.lock_core.proofs.OneMore.{neither, of_transaction-same, has_commit-unended}
@@ -137,7 +137,7 @@ module _ (side : ℤ → ℕ) (account : ℕ) where
       let parts = weight_of-in_order (moves side account) (all_without_prev (records_of task.number h)) cut.rest in
       let same = weight_of-without_prev (moves side account) (records_of task.number h) (moves-prev side account) in
       let whole = ap (weight_of (moves side account)) cut.front ∙ moves-note task.number task.job.note (leg_updates task.number task.job.legs)
-          ∙ moves-updates task.number task.job.legs in
+      ∙ moves-updates task.number task.job.legs in
       omega arith
 
   moves-partly : (base : BaseState) (h : List Entry) (task : Task) → IsRunPartly base h task
@@ -209,8 +209,8 @@ total-but : (side : ℤ → ℕ) (account : ℕ) (base : BaseState) (tasks : Lis
 total-but side account base tasks h task distinct serial one cut =
     let sum = total-tasks side account tasks h distinct serial.others in
     let bound = all-map (IsRunPartly base h) (λ t. counted side account h t ≤ legs_move side account t.job.legs)
-        (λ t run. let most = moves-partly side account base h t run in
-        let few = counted-le (is_committed t.number h) (weight_of (moves side account) (records_of t.number h)) in omega arith) tasks serial.each in
+    (λ t run. let most = moves-partly side account base h t run in
+    let few = counted-le (is_committed t.number h) (weight_of (moves side account) (records_of t.number h)) in omega arith) tasks serial.each in
     let none : counted side account h task ≡ 0
     = ap (λ b. cond {A = ℕ} b (weight_of (moves side account) (records_of task.number h)) 0) (uncommitted-cut h task cut) in
     let left = each_task-but (counted side account h) (λ t. legs_move side account t.job.legs) tasks task bound one none in
@@ -421,7 +421,7 @@ size_of-prev (Short txn leg) = refl
 size_of-prev (Over txn leg) = refl
 size_of-prev (Note txn text) = refl
 
-end_of-weight : (records : List Rec) → end_of records ≡ weight_of size_of records
+pub end_of-weight : (records : List Rec) → end_of records ≡ weight_of size_of records
 end_of-weight [] = refl
 end_of-weight (rec ∷ records) = let more = end_of-weight records in let parts = length-append (spelling rec) (units_of records) in omega arith
 
