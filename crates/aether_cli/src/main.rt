@@ -15,6 +15,9 @@ mod new_command;
 mod pipeline_tests;
 mod recover_command;
 mod report;
+mod summary;
+#[cfg(test)]
+mod summary_tests;
 #[cfg(test)]
 mod tests;
 mod top;

@@ -116,12 +116,17 @@ payees-known : (n seed : ℕ) → AllByRecursion (λ (leg : ℕ × ℕ × ℕ). 
 payees-known zero seed = tt
 payees-known (suc n) seed = (omega arith, payees-known n (number_after seed))
 
+-- with what is taken, a balance is that of the opening with what is given
+pub generated_balance-is : (n seed account : ℕ) → n ≤ 100000
+    → generated_balance n seed account + taken account (generated_legs n seed) ≡ 1000000 + given account (generated_legs n seed)
+generated_balance-is n seed account few = let most = taken-most account n seed in omega arith
+
 -- the balances have the sum that they had at first
 pub generated-sum : (n seed : ℕ) → n ≤ 100000 → sum_below 64 (generated_balance n seed) ≡ 64000000
 generated-sum n seed few =
     let legs : List (ℕ × ℕ × ℕ) = generated_legs n seed in
     let each = sum_below-same 64 (λ account. generated_balance n seed account + taken account legs) (λ account. 1000000 + given account legs)
-    (λ account below. let most = taken-most account n seed in omega arith) in
+    (λ account below. generated_balance-is n seed account few) in
     let before = sum_below-add 64 (generated_balance n seed) (λ account. taken account legs) in
     let after = sum_below-add 64 (λ account. 1000000) (λ account. given account legs) in
     let takes = sum_below-taken 64 legs (payers-known n seed) in
