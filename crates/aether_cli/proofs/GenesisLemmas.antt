@@ -110,6 +110,9 @@ module _ (balances : List ℕ) (few : length balances ≤ 4096) (each : All IsBa
   opens-genesis : Opens (history (genesis_list balances)) (opening_rows balances)
   opens-genesis = opens-more [] [] 0 balances tt refl range (record { lawful = tt; kept = keeps-none })
 
+  pub genesis-kept : KeepsRows (opening_rows balances) (genesis_of (history (genesis_list balances))) (history (genesis_list balances))
+  genesis-kept = opens-genesis.kept
+
   -- bytes that hold its units hold the list, which is lawful
   pub genesis-holds : (c : List ℕ) → HoldsUnits c (units_of (genesis_list balances)) → HoldsLawful c (genesis_list balances)
   genesis-holds c held = record {

@@ -24,3 +24,4 @@ pub mod RunWitness
 pub mod ServedLemmas
 pub mod TransferredLemmas
 pub mod WorkerLemmas
+pub mod SummaryLemmas

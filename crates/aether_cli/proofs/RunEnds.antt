@@ -23,7 +23,8 @@ use Rattle.lock_core.proofs.NextRecords.{records_of-own, has_end-own, unended-ne
 use Rattle.log_recovery.proofs.ListingLemmas.{units_of-append}
 use Rattle.log_table.specs.declared.view.Entry.{Entry}
 use Rattle.log_table.specs.declared.view.View.{View}
-use Rattle.log_table.specs.Books.{task_of, transfer_of}
+use Rattle.log_table.specs.Books.{task_of}
+use Rattle.txn_script.specs.Transfers.{transfer_of}
 use Rattle.log_table.specs.Closing.{records_of, IsGathered}
 use Rattle.log_table.specs.Log.{IsEntryBoundary}
 use Rattle.txn_runner.specs.declared.cause.Cause.TheVariants.{Stop, LogEnd}

@@ -10,7 +10,8 @@ use native.Mathlib.Decide.{ℕ_discrete, dec_lt}
 use lib.ListN.{get_elem?}
 use Rattle.lock_core.specs.Serial.{Task, numbered}
 use Rattle.log_table.specs.declared.view.TakenJob.{TakenJob}
-use Rattle.log_table.specs.Books.{task_of, transfer_of, times_taken}
+use Rattle.log_table.specs.Books.{task_of, times_taken}
+use Rattle.txn_script.specs.Transfers.{transfer_of}
 use Rattle.txn_script.specs.declared.job.Job.{Job}
 use Rattle.txn_runner.specs.declared.jobs.Jobs.{Jobs}
 use Rattle.txn_runner.specs.Stripes.{place_of, number_at, taken_at, stripe_jobs, HasStripe}

@@ -14,3 +14,4 @@ pub mod Scripts
 pub mod Shares
 pub mod Transferred
 pub mod Workers
+pub mod Summary

@@ -13,7 +13,7 @@ use Rattle.lock_core.specs.Serial.{IsSerial, IsPartlySerial}
 use Rattle.lock_core.specs.Soundness.{IsSoundAfter}
 use Rattle.log_recovery.specs.Recovery.{HoldsLawful}
 use Rattle.log_recovery.specs.Text.{accounts_text, rows_text}
-use Rattle.log_table.specs.Books.{transfer_of}
+use Rattle.txn_script.specs.Transfers.{transfer_of}
 use Rattle.commit_pipeline.specs.declared.voice.Voice.{Voice}
 use Rattle.commit_pipeline.specs.EndLines.{text_of}
 use Rattle.txn_runner.specs.declared.jobs.Jobs.{Jobs}

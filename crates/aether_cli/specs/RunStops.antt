@@ -7,7 +7,7 @@ use Rattle.log_record.specs.LogList.{size_of, end_of, IsBoundary}
 use Rattle.lock_core.specs.Alone.{Outcome, outcome_records}
 use Rattle.lock_core.specs.History.{history}
 use Rattle.lock_core.specs.Transactions.{records_of, has_end, all_without_prev, in_order}
-use Rattle.log_table.specs.Books.{transfer_of}
+use Rattle.txn_script.specs.Transfers.{transfer_of}
 use Rattle.txn_runner.specs.declared.jobs.Jobs.{Jobs}
 use Rattle.txn_runner.specs.Stripes.{place_of, number_at, job_at}
 

@@ -10,7 +10,7 @@ use Rattle.lock_core.specs.Alone.{planned_records}
 use Rattle.log_table.specs.declared.view.Entry.{Entry}
 use Rattle.log_table.specs.declared.view.TakenJob.{TakenJob}
 use Rattle.log_table.specs.declared.view.View.{View}
-use Rattle.log_table.specs.Books.{transfer_of}
+use Rattle.txn_script.specs.Transfers.{transfer_of}
 use Rattle.txn_runner.specs.declared.cause.Cause.{Cause}
 use Rattle.txn_runner.specs.declared.cause.Cause.TheVariants.{Stop, LogEnd}
 use Rattle.txn_runner.specs.declared.cause.Worked.{Worked}

@@ -28,6 +28,9 @@ mod run_tests;
 mod scope;
 mod script_input;
 mod serving;
+mod summary;
+#[cfg(test)]
+mod summary_tests;
 #[cfg(test)]
 mod tests;
 mod top;

@@ -16,7 +16,8 @@ use Rattle.txn_script.specs.Script.{IsAllowedLeg}
 use Rattle.log_table.specs.declared.view.Held.{Held}
 use Rattle.log_table.specs.declared.view.TakenJob.{TakenJob}
 use Rattle.log_table.specs.declared.view.Books.{Books}
-use Rattle.log_table.specs.Books.{times_held, balance_taken, mark_taken, plan_of, next_of, transfer_of, placing, giving, without, HoldsLeg, HoldsAccounts}
+use Rattle.log_table.specs.Books.{times_held, balance_taken, mark_taken, plan_of, next_of, placing, giving, without, HoldsLeg, HoldsAccounts}
+use Rattle.txn_script.specs.Transfers.{transfer_of}
 use Rattle.log_table.proofs.Bookings.{times_held-without_other, balance_taken-without_other, mark_taken-without_other, length-without}
 use Rattle.log_table.proofs.Deltas.{more-delta, less-delta, gain-less, loss-less}
 use Rattle.log_table.proofs.Nexting.{next-is, may-enter}

@@ -26,7 +26,7 @@ sum_below-same zero f g same = refl
 sum_below-same (suc n) f g same =
     let more = sum_below-same n f g (λ a below. same a (omega arith)) in let last = same n (omega arith) in omega arith
 
-sum_below-none : (n : ℕ) → sum_below n (λ a. 0) ≡ 0
+pub sum_below-none : (n : ℕ) → sum_below n (λ a. 0) ≡ 0
 sum_below-none zero = refl
 sum_below-none (suc n) = let more = sum_below-none n in omega arith
 
@@ -37,7 +37,7 @@ sum_below-past (suc n) account amount past =
     let last : cond {A = ℕ} (account == n) amount 0 ≡ 0 = ap (λ b. cond {A = ℕ} b amount 0) (ne_eqb account n (λ e. omega arith)) in omega arith
 
 -- an amount at one account
-sum_below-at : (n account amount : ℕ) → account < n → sum_below n (λ a. cond (account == a) amount 0) ≡ amount
+pub sum_below-at : (n account amount : ℕ) → account < n → sum_below n (λ a. cond (account == a) amount 0) ≡ amount
 sum_below-at zero account amount below = absurd (omega arith)
 sum_below-at (suc n) account amount below = dite (ℕ_discrete account n)
     (λ same.

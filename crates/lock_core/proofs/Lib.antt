@@ -2,6 +2,7 @@ pub mod Apart
 pub mod Appending
 pub mod ChainLemmas
 pub mod Conserving
+pub mod Doing
 pub mod Fronts
 pub mod JudgingLemmas
 pub mod KeepingLemmas
@@ -22,3 +23,4 @@ pub mod SettlingLemmas
 pub mod SoundLemmas
 pub mod TakingLemmas
 pub mod Witnessing
+pub mod Weighing

@@ -1,5 +1,5 @@
 -- One transfer after a log of two accounts.
-use Rattle.std.proofs.Common.{◌≢◌, ℕ, zero, suc, ◌∙◌, pos, negsuc, true≢false, inl, List, [], ◌∷◌, refl, sym, arith}
+use Rattle.std.proofs.Common.{◌≢◌, ◌<◌, ◌≤◌, ◌+◌, ℕ, zero, suc, ◌∙◌, pos, negsuc, true≢false, inl, List, [], ◌∷◌, refl, sym, arith}
 use Rattle.log_record.specs.declared.rec.Entry.{Entry}
 use Rattle.log_record.specs.declared.rec.Rec.TheVariants.{Update, Commit}
 use Rattle.lock_core.specs.History.{history}
@@ -8,6 +8,8 @@ use Rattle.lock_core.specs.Sums.{AreInRange}
 use Rattle.lock_core.specs.Lawful.{IsLawfulAfter, genesis_of, base_state_of}
 use Rattle.lock_core.specs.Alone.{IsAllowed}
 use Rattle.lock_core.specs.Serial.{numbered, HasNoOthers, IsSerialAfter}
+use Rattle.lock_core.specs.AnyOrder.{taken, given, legs_of, HasRoomFor}
+use Rattle.lock_core.specs.declared.limits.TheConstants.{MOST_BALANCE}
 use Rattle.lock_core.specs.Witness.{genesis_log, transfer, transfer_history}
 use Rattle.lock_core.proofs.OneMore.{of_transaction-other}
 
@@ -69,3 +71,16 @@ transfer-allowed = record {
   legs = (record { payer = omega arith; payee = omega arith; two = λ same. other (sym same); some = omega arith; most = omega arith }, tt);
   note = inl refl;
 }
+
+pub transfer-room : HasRoomFor (base_state_of (history genesis_log)) (transfer ∷ [])
+transfer-room = record { allowed = (transfer-allowed, tt); covered = covered; room = room }
+  where
+    covered : (account : ℕ) → account < 2 → taken account (legs_of (transfer ∷ [])) ≤ (base_state_of (history genesis_log)).balance account
+    covered zero below = omega arith
+    covered (suc zero) below = omega arith
+    covered (suc (suc n)) below = absurd (omega arith)
+
+    room : (account : ℕ) → account < 2 → (base_state_of (history genesis_log)).balance account + given account (legs_of (transfer ∷ [])) ≤ MOST_BALANCE
+    room zero below = omega arith
+    room (suc zero) below = omega arith
+    room (suc (suc n)) below = absurd (omega arith)

@@ -2,10 +2,10 @@ ghost use Rattle.std.specs.Prelude.{◌≡◌, ◌≢◌, ◌++◌, [], ◌∷�
 ghost use Rattle.std.specs.List.{AllByRecursion};
 ghost use Rattle.log_record.specs.declared.rec.Rec.{Rec};
 ghost use Rattle.log_record.specs.declared.rec.Entry.{Entry};
-ghost use Rattle.log_record.specs.LogList.{size_of};
+ghost use Rattle.log_record.specs.LogList.{size_of, end_of};
 ghost use Rattle.log_record.specs.Spelling.{IsSpellable, IsBalance};
 ghost use Rattle.lock_core.specs.declared.update.Change.{Change};
-ghost use Rattle.lock_core.specs.History.{history};
+ghost use Rattle.lock_core.specs.History.{history, history_from};
 ghost use Rattle.lock_core.specs.Records.{txn_of, commits, without_prev};
 ghost use Rattle.lock_core.specs.Transactions.{records_of, updates_of, has_end, is_committed, touches, all_without_prev, in_order, ShareNoTransaction};
 ghost use Rattle.lock_core.specs.Sums.{BaseState, base_after, moved, total, IsBalanceOf, balance_of, AreInRange, last_commit_of, IsLastCommit, sum_below, greatest_txn};
@@ -13,8 +13,9 @@ ghost use Rattle.lock_core.specs.Tests.{IsPaired};
 ghost use Rattle.lock_core.specs.Lawful.{IsLawful, IsLawfulAfter, genesis_of, base_state_of};
 ghost use Rattle.lock_core.specs.Plain.{plain_last_commit, IsPlainlyPaired};
 ghost use Rattle.lock_core.specs.Alone.{Job, Outcome, IsAllowed, outcome_alone, outcome_records, planned_records};
-ghost use Rattle.lock_core.specs.Serial.{Task, numbered, IsSerialAfter, IsPartlySerialAfter};
+ghost use Rattle.lock_core.specs.Serial.{Task, numbered, IsSerialAfter, IsPartlySerialAfter, IsCutShort};
 ghost use Rattle.lock_core.specs.Soundness.{IsSoundAfter};
+ghost use Rattle.lock_core.specs.AnyOrder.{taken, given, legs_of, HasRoomFor, IsDoneIn, done_records, weight_of};
 ghost use Rattle.lock_core.specs.Witness.{genesis_log, transfer, transfer_history};
 
 /// A law: a front of a lawful list is lawful.
@@ -178,6 +179,26 @@ pub fn partly_serial_front()
         → IsSerialAfter base tasks h }
 {}
 
+/// A law: transfers for which there is room are all done, in whatever order they come. What they leave doesn't depend on it:
+/// each balance, each sum over the records that doesn't ask for `prev`, and the end of the list.
+pub fn done_in_any_order()
+    ensures partly { (base : BaseState) (first : ℕ) (jobs : List Job) (h : List Entry) → HasRoomFor base jobs
+        → IsPartlySerialAfter base (numbered first jobs) h
+        → AllByRecursion (λ task. IsDoneIn h task ⊎ IsCutShort h task) (numbered first jobs) }
+    ensures done { (base : BaseState) (first : ℕ) (jobs : List Job) (h : List Entry) → HasRoomFor base jobs
+        → IsSerialAfter base (numbered first jobs) h → AllByRecursion (IsDoneIn h) (numbered first jobs) }
+    ensures balance { (base : BaseState) (first : ℕ) (jobs : List Job) (h : List Entry) (account : ℕ) → HasRoomFor base jobs
+        → IsSerialAfter base (numbered first jobs) h → account < base.accounts
+        → balance_of base h account + taken account (legs_of jobs) ≡ base.balance account + given account (legs_of jobs) }
+    ensures sums { (base : BaseState) (first : ℕ) (jobs : List Job) (records : List Rec) (weight : Rec → ℕ) → HasRoomFor base jobs
+        → IsSerialAfter base (numbered first jobs) (history_from base.end [] records)
+        → ((rec : Rec) → weight (without_prev rec) ≡ weight rec)
+        → weight_of weight records ≡ weight_of weight (done_records (numbered first jobs)) }
+    ensures end { (base : BaseState) (first : ℕ) (jobs : List Job) (records : List Rec) → HasRoomFor base jobs
+        → IsSerialAfter base (numbered first jobs) (history_from base.end [] records)
+        → end_of records ≡ end_of (done_records (numbered first jobs)) }
+{}
+
 /// A witness that the premises of these laws can be met: the log of two accounts, of balances 100 and 0.
 pub fn genesis_log_is_lawful()
     ensures lawful { IsLawful (history genesis_log) }
@@ -191,4 +212,5 @@ pub fn one_transfer_is_serial()
     ensures serial { IsSerialAfter (base_state_of (history genesis_log)) (numbered 1 (transfer ∷ [])) transfer_history }
     ensures apart { ShareNoTransaction transfer_history (history genesis_log) }
     ensures allowed { IsAllowed (genesis_of (history genesis_log)).accounts transfer }
+    ensures room { HasRoomFor (base_state_of (history genesis_log)) (transfer ∷ []) }
 {}

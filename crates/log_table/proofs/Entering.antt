@@ -26,7 +26,8 @@ use Rattle.lock_core.proofs.SettlingLemmas.{moved-untouched}
 use Rattle.txn_script.specs.Script.{IsAllowedLeg}
 use Rattle.log_table.specs.declared.view.Held.{Held}
 use Rattle.log_table.specs.declared.view.Books.{Books}
-use Rattle.log_table.specs.Books.{note_of, task_of, times_held, balance_taken, mark_taken, plan_of, IsNext, HoldsLeg, HoldsAccounts, IsNote, MayEnter, placing}
+use Rattle.log_table.specs.Books.{task_of, times_held, balance_taken, mark_taken, plan_of, IsNext, HoldsLeg, HoldsAccounts, IsNote, MayEnter, placing}
+use Rattle.txn_script.specs.Transfers.{note_of}
 use Rattle.log_table.specs.Accounts.{IsAsTaken, HasOneHolder, HasDistinctJobs, moved_if_committed, Follows, AccountsFollowList, KeepsAccounts, IsAllowed}
 use Rattle.log_table.proofs.Bookings.{everywhere-set, summed-set, found, balance_taken-none, mark_taken-all}
 use Rattle.log_table.proofs.Growing.{IsSameAt, grows}

@@ -3,22 +3,13 @@ use Rattle.std.specs.Prelude.{◌≡◌, ◌==◌, ℕ, ◌+◌, ◌≤◌, if�
 use Rattle.std.specs.List.{AllByRecursion}
 use Rattle.log_record.specs.declared.rec.Rec.{Rec}
 use Rattle.log_record.specs.declared.rec.Rec.TheVariants.{Genesis, Update, Commit, Short, Over, Note}
-use Rattle.txn_script.specs.declared.job.Job.{Job}
-use Rattle.lock_core.specs.Alone.{Job as Transfer, planned_records}
+use Rattle.txn_script.specs.Transfers.{transfer_of}
+use Rattle.lock_core.specs.Alone.{planned_records}
 use Rattle.lock_core.specs.Serial.{Task}
 use Rattle.lock_core.specs.Transactions.{recs_of, in_order}
 use Rattle.log_table.specs.declared.view.TakenJob.{TakenJob}
 use Rattle.log_table.specs.declared.view.Held.{Held}
 use Rattle.log_table.specs.declared.view.Books.{Books}
-
--- the bytes of a remark, none where there is none
-abbrev pub note_of : Option (List ℕ) → List ℕ
-note_of None = []
-note_of (Some text) = text
-
--- a job of a script as a transfer
-abbrev pub transfer_of : Job → Transfer
-transfer_of job = record { legs = job.legs; note = note_of job.note }
 
 -- a job that was taken, as a transfer under its number
 abbrev pub task_of : TakenJob → Task

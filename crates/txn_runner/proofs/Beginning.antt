@@ -13,7 +13,8 @@ use Rattle.log_table.specs.declared.table.Seat.{Seat}
 use Rattle.log_table.specs.declared.view.Books.{Books}
 use Rattle.log_table.specs.declared.view.Entry.{Entry}
 use Rattle.log_table.specs.declared.view.TakenJob.{TakenJob}
-use Rattle.log_table.specs.Books.{transfer_of, note_of, balance_taken, mark_taken, IsNote, IsNext, MayEnter}
+use Rattle.log_table.specs.Books.{balance_taken, mark_taken, IsNote, IsNext, MayEnter}
+use Rattle.txn_script.specs.Transfers.{transfer_of, note_of}
 use Rattle.log_table.specs.Closing.{records_of}
 use Rattle.log_table.specs.Seats.{view_of}
 use Rattle.log_table.proofs.Nexting.{note-next}

@@ -18,7 +18,8 @@ use Rattle.log_table.specs.declared.view.Held.{Held}
 use Rattle.log_table.specs.declared.view.TakenJob.{TakenJob}
 use Rattle.log_table.specs.declared.view.View.{View}
 use Rattle.log_table.specs.Accounts.{IsAllowed}
-use Rattle.log_table.specs.Books.{transfer_of, balance_taken, mark_taken, plan_of, taking_job}
+use Rattle.log_table.specs.Books.{balance_taken, mark_taken, plan_of, taking_job}
+use Rattle.txn_script.specs.Transfers.{transfer_of}
 use Rattle.log_table.specs.Closing.{records_of}
 use Rattle.log_table.specs.Seats.{Becomes, view_of}
 use Rattle.log_table.specs.Views.{took_job}

@@ -12,7 +12,8 @@ use Rattle.log_table.specs.declared.table.Seat.{Seat}
 use Rattle.log_table.specs.declared.view.Books.{Books}
 use Rattle.log_table.specs.declared.view.Entry.{Entry}
 use Rattle.log_table.specs.declared.view.TakenJob.{TakenJob}
-use Rattle.log_table.specs.Books.{transfer_of, balance_taken, MayEnter}
+use Rattle.log_table.specs.Books.{balance_taken, MayEnter}
+use Rattle.txn_script.specs.Transfers.{transfer_of}
 use Rattle.log_table.specs.Seats.{view_of}
 use Rattle.ring_buffer.specs.Calls.{entry_of}
 use Rattle.txn_runner.specs.declared.giving.Release.TheVariants.{Committed}

@@ -22,7 +22,8 @@ use Rattle.log_table.specs.declared.view.Books.{Books}
 use Rattle.log_table.specs.declared.view.Entry.{Entry}
 use Rattle.log_table.specs.declared.view.Held.{Held}
 use Rattle.log_table.specs.declared.view.TakenJob.{TakenJob}
-use Rattle.log_table.specs.Books.{transfer_of, times_held, balance_taken, mark_taken, HoldsLeg, HoldsAccounts}
+use Rattle.log_table.specs.Books.{times_held, balance_taken, mark_taken, HoldsLeg, HoldsAccounts}
+use Rattle.txn_script.specs.Transfers.{transfer_of}
 use Rattle.log_table.specs.Closing.{records_of}
 use Rattle.log_table.proofs.Planning.{leg-sums}
 use Rattle.txn_runner.specs.declared.holding.Holding.{Holding}

@@ -13,7 +13,7 @@ use Rattle.log_table.specs.declared.view.Entry.{Entry}
 use Rattle.log_table.specs.declared.view.TakenJob.{TakenJob}
 use Rattle.log_table.specs.declared.view.View.{View}
 use Rattle.log_table.specs.Accounts.{IsAllowed}
-use Rattle.log_table.specs.Books.{transfer_of}
+use Rattle.txn_script.specs.Transfers.{transfer_of}
 use Rattle.log_table.specs.Closing.{records_of}
 use Rattle.log_table.specs.May.{MayTakeJob}
 use Rattle.ring_buffer.specs.Calls.{IsReady}

@@ -7,7 +7,8 @@ use Rattle.lock_core.specs.Transactions.{recs_of, has_end}
 use Rattle.txn_script.specs.declared.job.Job.{Job}
 use Rattle.log_table.specs.declared.table.Seat.{Seat}
 use Rattle.log_table.specs.declared.view.Entry.{Entry}
-use Rattle.log_table.specs.Books.{transfer_of, balance_taken}
+use Rattle.log_table.specs.Books.{balance_taken}
+use Rattle.txn_script.specs.Transfers.{transfer_of}
 use Rattle.log_table.specs.Seats.{view_of}
 use Rattle.ring_buffer.specs.Calls.{entry_of}
 use Rattle.txn_runner.specs.declared.giving.Release.{Release}

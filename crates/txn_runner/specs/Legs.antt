@@ -16,7 +16,8 @@ use Rattle.log_table.specs.declared.table.Seat.{Seat}
 use Rattle.log_table.specs.declared.view.Books.{Books}
 use Rattle.log_table.specs.declared.view.Entry.{Entry}
 use Rattle.log_table.specs.Accounts.{IsAllowed}
-use Rattle.log_table.specs.Books.{transfer_of, balance_taken, mark_taken, HoldsAccounts}
+use Rattle.log_table.specs.Books.{balance_taken, mark_taken, HoldsAccounts}
+use Rattle.txn_script.specs.Transfers.{transfer_of}
 use Rattle.log_table.specs.Closing.{records_of}
 use Rattle.txn_runner.specs.declared.holding.Holding.{Holding}
 use Rattle.txn_runner.specs.declared.rows.Answer.{Answer}

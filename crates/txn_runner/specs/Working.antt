@@ -9,7 +9,7 @@ use Rattle.lock_core.specs.Alone.{planned_records, end_record}
 use Rattle.log_table.specs.declared.view.Entry.{Entry}
 use Rattle.log_table.specs.declared.view.TakenJob.{TakenJob}
 use Rattle.log_table.specs.declared.view.View.{View}
-use Rattle.log_table.specs.Books.{transfer_of}
+use Rattle.txn_script.specs.Transfers.{transfer_of}
 use Rattle.log_table.specs.Closing.{records_of}
 use Rattle.txn_runner.specs.declared.cause.Cause.{Cause}
 use Rattle.txn_runner.specs.declared.cause.Cause.TheVariants.{Stop, LogEnd}

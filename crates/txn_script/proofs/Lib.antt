@@ -4,4 +4,5 @@ pub mod JobLemmas
 pub mod LegLemmas
 pub mod LineLemmas
 pub mod NumberLemmas
+pub mod OrderLemmas
 pub mod ScriptLemmas

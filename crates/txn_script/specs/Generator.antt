@@ -1,5 +1,10 @@
 -- Transfers that are made from a number: it begins a row of numbers, and each number of the row makes a transfer.
-use Rattle.std.specs.Prelude.{ℕ, zero, suc, ◌+◌, ◌*◌, ◌/◌, ◌%◌, None, List, [], ◌∷◌, map}
+use Rattle.std.specs.Prelude.{◌≡◌, ℕ, zero, suc, ◌+◌, ◌-◌, ◌*◌, ◌/◌, ◌%◌, ◌<◌, None, List, [], ◌∷◌, map}
+use Rattle.lock_core.specs.Alone.{Job as Transfer}
+use Rattle.lock_core.specs.AnyOrder.{given, taken}
+use Rattle.lock_core.specs.Sums.{BaseState}
+use Rattle.txn_script.specs.Transfers.{transfer_of}
+use Rattle.txn_script.specs.declared.generator.TheConstants.{GENERATED_ACCOUNTS, GENERATED_BALANCE}
 use Rattle.txn_script.specs.declared.job.Job.{Job}
 
 -- the number that follows this one
@@ -22,3 +27,20 @@ job_from x = record { legs = leg_from x ∷ []; note = None }
 -- the transfers of a seed
 abbrev pub generated_jobs : ℕ → ℕ → List Job
 generated_jobs n seed = map job_from (numbers_after n seed)
+
+-- the same as a log runs them
+abbrev pub generated_transfers : ℕ → ℕ → List Transfer
+generated_transfers n seed = map transfer_of (generated_jobs n seed)
+
+-- their legs
+abbrev pub generated_legs : ℕ → ℕ → List (ℕ × ℕ × ℕ)
+generated_legs n seed = map leg_from (numbers_after n seed)
+
+-- 64 accounts, each with the balance that they begin with
+pub record OpensGenerated (base : BaseState) : Type 0 where
+  pub accounts : base.accounts ≡ GENERATED_ACCOUNTS
+  pub balance : (account : ℕ) → account < GENERATED_ACCOUNTS → base.balance account ≡ GENERATED_BALANCE
+
+-- the balance of the account once all of them are done
+abbrev pub generated_balance : ℕ → ℕ → ℕ → ℕ
+generated_balance n seed account = GENERATED_BALANCE + given account (generated_legs n seed) - taken account (generated_legs n seed)

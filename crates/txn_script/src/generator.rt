@@ -1,7 +1,15 @@
 //! Transfers that are made from a number, the same at each run.
 
-ghost use Rattle.std.specs.Prelude.{◌≡◌, ◌<◌, ℕ, length, All, IfOk};
-ghost use Rattle.txn_script.specs.Generator.{number_after, job_from, generated_jobs};
+ghost use Rattle.std.specs.Prelude.{◌≡◌, ◌<◌, ◌≤◌, ◌*◌, ℕ, List, [], length, All, IfOk};
+ghost use Rattle.std.specs.List.{AllByRecursion};
+ghost use Rattle.log_record.specs.declared.rec.Rec.{Rec};
+ghost use Rattle.log_record.specs.declared.rec.Entry.{Entry};
+ghost use Rattle.log_record.specs.LogList.{end_of};
+ghost use Rattle.lock_core.specs.AnyOrder.{HasRoomFor, IsDoneIn};
+ghost use Rattle.lock_core.specs.History.{history_from};
+ghost use Rattle.lock_core.specs.Serial.{numbered, IsSerialAfter};
+ghost use Rattle.lock_core.specs.Sums.{BaseState, balance_of, sum_below};
+ghost use Rattle.txn_script.specs.Generator.{number_after, job_from, generated_balance, generated_jobs, generated_transfers, OpensGenerated};
 ghost use Rattle.txn_script.specs.Script.{IsAllowedJob};
 
 use crate::job::{Job, Legs};
@@ -11,6 +19,12 @@ use std::alloc::Global;
 
 /// The accounts between which generated transfers go, from 0 on.
 pub const GENERATED_ACCOUNTS: u32 = 64;
+
+/// The balance with which each of them begins.
+pub const GENERATED_BALANCE: u32 = 1_000_000;
+
+/// The most transfers of which it is known that they are done in every order.
+pub const MOST_GENERATED: u32 = 100_000;
 
 /// So many transfers, generated from a seed.
 pub fn make(alloc: Global, n: u32, seed: u32) -> Result<Script, NoMemory>
@@ -50,4 +64,22 @@ fn job_of(x: u32) -> Job
 pub fn generated_jobs_laws()
     ensures count { (n seed : ℕ) → length (generated_jobs n seed) ≡ n }
     ensures allowed { (n seed : ℕ) → All (IsAllowedJob GENERATED_ACCOUNTS) (generated_jobs n seed) }
+{}
+
+/// A law: on accounts that begin with the same balance all generated transfers are done, in whatever order they come. What they
+/// leave is told by their number and seed alone: each balance, and 5 units of the log for each of them. The balances keep their sum.
+pub fn generated_in_any_order()
+    ensures room { (n seed : ℕ) (base : BaseState) → n ≤ MOST_GENERATED → OpensGenerated base
+        → HasRoomFor base (generated_transfers n seed) }
+    ensures done { (n seed first : ℕ) (base : BaseState) (h : List Entry) → n ≤ MOST_GENERATED → OpensGenerated base
+        → IsSerialAfter base (numbered first (generated_transfers n seed)) h
+        → AllByRecursion (IsDoneIn h) (numbered first (generated_transfers n seed)) }
+    ensures balance { (n seed first : ℕ) (base : BaseState) (h : List Entry) (account : ℕ) → n ≤ MOST_GENERATED
+        → OpensGenerated base → IsSerialAfter base (numbered first (generated_transfers n seed)) h
+        → account < GENERATED_ACCOUNTS → balance_of base h account ≡ generated_balance n seed account }
+    ensures end { (n seed first : ℕ) (base : BaseState) (records : List Rec) → n ≤ MOST_GENERATED → OpensGenerated base
+        → IsSerialAfter base (numbered first (generated_transfers n seed)) (history_from base.end [] records)
+        → end_of records ≡ 5 * n }
+    ensures sum { (n seed : ℕ) → n ≤ MOST_GENERATED
+        → sum_below GENERATED_ACCOUNTS (generated_balance n seed) ≡ GENERATED_ACCOUNTS * GENERATED_BALANCE }
 {}

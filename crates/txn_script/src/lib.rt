@@ -15,7 +15,10 @@ mod script;
 mod tests;
 
 pub use fault::ParseFault;
-pub use generator::{GENERATED_ACCOUNTS, generated_jobs_laws, make};
+pub use generator::{
+    GENERATED_ACCOUNTS, GENERATED_BALANCE, MOST_GENERATED, generated_in_any_order,
+    generated_jobs_laws, make,
+};
 pub use job::{Job, Legs, MOST_LEGS, Remark};
 pub use lines::written_lines;
 pub use numerals::number;

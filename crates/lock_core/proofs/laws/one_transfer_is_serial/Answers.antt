@@ -1,4 +1,4 @@
-use Rattle.lock_core.proofs.Witnessing.{transfer-lawful, transfer-serial, transfer-apart, transfer-allowed}
+use Rattle.lock_core.proofs.Witnessing.{transfer-lawful, transfer-serial, transfer-apart, transfer-allowed, transfer-room}
 use Rattle.lock_core.proofs.laws.one_transfer_is_serial.Goals as goal
 
 pub returns-clause-lawful : goal.returns-clause-lawful
@@ -12,3 +12,6 @@ returns-clause-apart c = transfer-apart
 
 pub returns-clause-allowed : goal.returns-clause-allowed
 returns-clause-allowed c = transfer-allowed
+
+pub returns-clause-room : goal.returns-clause-room
+returns-clause-room c = transfer-room

@@ -1,0 +1,63 @@
+//! Summaries of generated transfers, beside numbers that were reckoned by hand.
+
+ghost use Rattle.std.specs.Prelude.{◌≤◌, length, IfOk};
+
+use crate::summary::{Counts, put_summary};
+use crate::tests::sink_of;
+use lsn_space::{Balances, Lsn};
+use std::test::Fail;
+use txn_script::{GENERATED_ACCOUNTS, GENERATED_BALANCE, Script, make};
+
+fn opening(rt: &HostRuntime) -> Result<Balances, Fail>
+    ensures { IfOk result (λ accounts. length accounts.rows ≤ 4096) }
+{
+    let Ok(mut accounts) = Balances::make(rt.alloc(), GENERATED_ACCOUNTS) else {
+        return Err(Fail::new("no memory"));
+    };
+    for _ in 0..GENERATED_ACCOUNTS {
+        accounts.push(GENERATED_BALANCE, 0);
+    }
+    Ok(accounts)
+}
+
+/// Moves what the transfers say, one after another.
+fn run(script: &Script, accounts: &mut Balances)
+    ensures { length accounts.new.rows ≡ length accounts.old.rows }
+{
+    for place in 0..script.count() {
+        for (payer, payee, amount) in script.job(place).legs.as_slice() {
+            if *payer < accounts.count() && *payee < accounts.count() {
+                let (from, _) = accounts.at(*payer);
+                accounts.set(*payer, from.saturating_sub(*amount), 0);
+                let (to, _) = accounts.at(*payee);
+                accounts.set(*payee, to.saturating_add(*amount), 0);
+            }
+        }
+    }
+}
+
+#[test]
+fn sums_generated_transfers(rt: HostRuntime) -> Result<(), Fail> {
+    let cases: [(u32, &[u8]); 3] = [
+        (0, b"transfers 0\ndone 0\nrefused 0\nlsn 128\ntotal 64000000\nmix 2080000000\n"),
+        (3, b"transfers 3\ndone 3\nrefused 0\nlsn 143\ntotal 64000000\nmix 2080000080\n"),
+        (5000, b"transfers 5000\ndone 5000\nrefused 0\nlsn 25128\ntotal 64000000\nmix 2079991273\n"),
+    ];
+    for (n, text) in cases {
+        let Ok(script) = make(rt.alloc(), n, 7) else {
+            return Err(Fail::new("no memory"));
+        };
+        let mut accounts = opening(&rt)?;
+        run(&script, &mut accounts);
+        let mut out = sink_of(&rt, &[])?;
+        let counts = Counts {
+            transfers: script.count(),
+            done: script.count(),
+            refused: 0,
+            lsn: Lsn::new(128 + 5 * n),
+        };
+        assert!(rt; put_summary(counts, &accounts, &mut out).is_ok(), "{n}");
+        assert_eq!(rt; out.bytes(), text);
+    }
+    Ok(())
+}
