@@ -1,5 +1,5 @@
 -- Lists of books, the accounts that they hold and the jobs that they took.
-use Rattle.std.proofs.Common.{◌≡◌, ◌≢◌, ℕ, zero, suc, ◌==◌, ◌+◌, ◌≤◌, ◌<◌, cond, Bool, true, false, true≢false, List, [], ◌∷◌, ◌++◌, length, map, set, sym, refl, ap, ◌∙◌, subst, ⊎_elim, arith, eq-eqb, ne_eqb}
+use Rattle.std.proofs.Common.{◌≡◌, ◌≢◌, ℕ, zero, suc, ◌==◌, ◌+◌, ◌≤◌, cond, Bool, true, false, List, [], ◌∷◌, ◌++◌, length, map, set, sym, refl, ap, ◌∙◌, subst, ⊎_elim, arith, eq-eqb, ne_eqb}
 use Rattle.std.specs.List.{AllByRecursion}
 use mathlib.Core.Logic.{dite}
 use mathlib.Core.Option.{some, some-injective, some-ne-none}
@@ -10,7 +10,7 @@ use Rattle.log_table.specs.declared.view.TakenJob.{TakenJob}
 use Rattle.log_table.specs.declared.view.Held.{Held}
 use Rattle.log_table.specs.declared.view.Books.{Books}
 use Rattle.log_table.specs.Books.{times_held, times_taken, balance_taken, mark_taken, without}
-use Rattle.log_table.specs.Accounts.{Everywhere, summed, holders, takers, HasDistinctJobs}
+use Rattle.log_table.specs.Accounts.{Everywhere, summed, HasDistinctJobs}
 
 module _ {A : Type 0} where
   pub everywhere-moves : (P Q : A → Type 0) (list : List A) (me : ℕ) (new : A) → Everywhere P list → Q new
@@ -142,10 +142,10 @@ times_held-without account [] has = absurd (omega arith)
 times_held-without account (x ∷ xs) has = dite (ℕ_discrete x.account account)
     (λ same. let one = one-if x.account account same in
     let gone : times_held account (without account (x ∷ xs)) ≡ times_held account xs =
-        ap (λ b. times_held account (cond b xs (x ∷ without account xs))) (eq-eqb x.account account same) in omega arith)
+    ap (λ b. times_held account (cond b xs (x ∷ without account xs))) (eq-eqb x.account account same) in omega arith)
     (λ differ. let none = none-if x.account account differ in
     let kept : times_held account (without account (x ∷ xs)) ≡ cond {A = ℕ} (x.account == account) 1 0 + times_held account (without account xs) =
-        ap (λ b. times_held account (cond b xs (x ∷ without account xs))) (ne_eqb x.account account differ) in
+    ap (λ b. times_held account (cond b xs (x ∷ without account xs))) (ne_eqb x.account account differ) in
     let more = times_held-without account xs (omega arith) in omega arith)
 
 pub times_held-without_other : (account other : ℕ) (list : List Held) → other ≢ account → times_held other (without account list) ≡ times_held other list
@@ -153,7 +153,7 @@ times_held-without_other account other [] differ = refl
 times_held-without_other account other (x ∷ xs) differ = dite (ℕ_discrete x.account account)
     (λ same. let none = none-if x.account other (λ e. differ (sym e ∙ same)) in
     let gone : times_held other (without account (x ∷ xs)) ≡ times_held other xs =
-        ap (λ b. times_held other (cond b xs (x ∷ without account xs))) (eq-eqb x.account account same) in omega arith)
+    ap (λ b. times_held other (cond b xs (x ∷ without account xs))) (eq-eqb x.account account same) in omega arith)
     (λ apart. ap (λ b. times_held other (cond b xs (x ∷ without account xs))) (ne_eqb x.account account apart)
     ∙ ap (λ n. cond (x.account == other) 1 0 + n) (times_held-without_other account other xs differ))
 

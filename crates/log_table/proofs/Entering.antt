@@ -1,5 +1,5 @@
 -- The next record of a seat's last job enters the log: each kind keeps the account part of the rule.
-use Rattle.std.proofs.Common.{◌≡◌, ◌≢◌, ◌⊎◌, inl, inr, ◌==◌, ◌&&◌, ◌||◌, ℕ, zero, suc, ◌+◌, ◌-◌, ◌*◌, ◌≤◌, ◌<◌, cond, ℤ, Bool, true, false, true≢false, List, [], ◌∷◌, ◌++◌, length, set, Option, Some, None, IfSome, sym, refl, ap, ◌∙◌, subst, arith}
+use Rattle.std.proofs.Common.{◌≡◌, ◌≢◌, ◌⊎◌, inl, inr, ◌&&◌, ◌||◌, ℕ, ◌+◌, ◌≤◌, ◌<◌, cond, ℤ, true, false, true≢false, List, [], ◌∷◌, length, set, Option, Some, None, IfSome, sym, refl, ap, ◌∙◌, subst, arith}
 use Rattle.std.specs.List.{AllByRecursion}
 use mathlib.Core.Logic.{dite}
 use mathlib.Core.Option.{some}
@@ -8,29 +8,26 @@ use lib.ListN.{get_elem?}
 use Rattle.log_record.specs.declared.rec.Rec.{Rec}
 use Rattle.log_record.specs.declared.rec.Rec.TheVariants.{Genesis, Update, Commit, Short, Over, Note}
 use Rattle.log_record.specs.declared.rec.Entry.{Entry}
-use Rattle.log_record.specs.Spelling.{IsBalance, IsNoteText, IsSpellable}
+use Rattle.log_record.specs.Spelling.{IsNoteText, IsSpellable}
 use Rattle.lock_core.specs.declared.limits.TheConstants.{MOST_BALANCE}
-use Rattle.lock_core.specs.declared.update.Change.{Change}
 use Rattle.lock_core.specs.Records.{txn_of, commits, ends, gain, loss}
 use Rattle.lock_core.specs.History.{end_from}
-use Rattle.lock_core.specs.Transactions.{of_transaction, recs_of, records_of, updates_of, changes_in, has_end, has_commit, is_committed, touches, all_without_prev, in_order}
+use Rattle.lock_core.specs.Transactions.{recs_of, records_of, changes_in, has_end, has_commit, is_committed, touches, all_without_prev, in_order}
 use Rattle.lock_core.specs.Sums.{BaseState, moved, total, AreInRange, balance_of, last_commit_of}
 use Rattle.lock_core.specs.Tests.{IsCurrent, IsGenesis}
-use Rattle.lock_core.specs.Lawful.{tests, PassesAfter}
-use Rattle.lock_core.specs.Alone.{outcome_alone, outcome_records, planned_from, planned_records, with_note, leg_updates}
-use Rattle.lock_core.specs.Serial.{Task, IsRunWhole, IsCutShort}
+use Rattle.lock_core.specs.Alone.{with_note}
+use Rattle.lock_core.specs.Serial.{Task, IsRunWhole}
 use Rattle.lock_core.proofs.Appending.{passes-after}
 use Rattle.lock_core.proofs.Meeting.{MeetsTests}
 use Rattle.lock_core.proofs.OneMore.{of_transaction-same, has_commit-unended, total-plain, total-commit, last_commit_of-plain, last_commit_of-commit}
 use Rattle.lock_core.proofs.Running.{AgreesOn, planned_from-agrees, planned_records-without_prev, planned_records-outcome, all_without_prev-in_order, no_commit}
 use Rattle.lock_core.proofs.SerialFronts.{IsRunPartly}
 use Rattle.lock_core.proofs.SettlingLemmas.{moved-untouched}
-use Rattle.txn_script.specs.Script.{IsAllowedJob, IsAllowedLeg}
-use Rattle.log_table.specs.declared.view.TakenJob.{TakenJob}
+use Rattle.txn_script.specs.Script.{IsAllowedLeg}
 use Rattle.log_table.specs.declared.view.Held.{Held}
 use Rattle.log_table.specs.declared.view.Books.{Books}
-use Rattle.log_table.specs.Books.{note_of, transfer_of, task_of, times_held, balance_taken, mark_taken, plan_of, IsNext, HoldsLeg, HoldsAccounts, IsNote, MayEnter, placing}
-use Rattle.log_table.specs.Accounts.{IsAsTaken, HasOneHolder, HasDistinctJobs, moved_if_committed, commit_in, Follows, AccountsFollowList, KeepsAccounts, IsAllowed}
+use Rattle.log_table.specs.Books.{note_of, task_of, times_held, balance_taken, mark_taken, plan_of, IsNext, HoldsLeg, HoldsAccounts, IsNote, MayEnter, placing}
+use Rattle.log_table.specs.Accounts.{IsAsTaken, HasOneHolder, HasDistinctJobs, moved_if_committed, Follows, AccountsFollowList, KeepsAccounts, IsAllowed}
 use Rattle.log_table.proofs.Bookings.{everywhere-set, summed-set, found, balance_taken-none, mark_taken-all}
 use Rattle.log_table.proofs.Growing.{IsSameAt, grows}
 use Rattle.log_table.proofs.Lists.{all-weaker, all-both}
@@ -38,7 +35,7 @@ use Rattle.log_table.proofs.Taking.{LastIsOne, distinct-before}
 use Rattle.lsn_space.specs.declared.lsn.TheConstants.{LAST}
 use Rattle.slot_word.specs.AccountWord.{mark_in}
 use Rattle.log_table.proofs.PlanFronts.{IsPlanned, IsSmallLeg, next-planned}
-use Rattle.log_table.proofs.Planning.{Walk, walk-at, walk-plan, walk-marked, untouched, IsHeldLeg, IsMarked, IsFront, Step, HasBalance}
+use Rattle.log_table.proofs.Planning.{Walk, walk-at, walk-plan, walk-marked, untouched, IsHeldLeg, IsMarked, IsFront, Step}
 
 module _ (base : BaseState) (words : ℕ → ℕ) (h : List Entry) (all : List Books) (me : ℕ) (mine : Books) (distinct : HasDistinctJobs all)
     (holder : HasOneHolder base.accounts words all) (s : AccountsFollowList base words h all) (at : get_elem? all me ≡ some mine)
@@ -76,8 +73,8 @@ module _ (base : BaseState) (words : ℕ → ℕ) (h : List Entry) (all : List B
         let f = found (Follows base h mine.placed) account mine.held has (s.held me mine at) in
         let old : Follows base h mine.placed f.held = f.known in
         let is : f.held.balance + moved_if_committed gain account mine.placed + total loss account h
-            ≡ base.balance account + total gain account h + moved_if_committed loss account mine.placed =
-            subst (λ a. f.held.balance + moved_if_committed gain a mine.placed + total loss a h ≡ base.balance a + total gain a h + moved_if_committed loss a mine.placed) f.is old.balance in
+        ≡ base.balance account + total gain account h + moved_if_committed loss account mine.placed =
+        subst (λ a. f.held.balance + moved_if_committed gain a mine.placed + total loss a h ≡ base.balance a + total gain a h + moved_if_committed loss a mine.placed) f.is old.balance in
         let up = nothing gain account in let down = nothing loss account in let balance = f.balance in omega arith
 
     mark-taken : (account : ℕ) → Mine account → mark_taken mine.held account ≡ last_commit_of base h account

@@ -1,9 +1,7 @@
 -- Seats are added and joined, and what is known where one seat has all jobs.
 use Rattle.std.proofs.Common.{◌≡◌, ◌≢◌, ◌⊎◌, ℕ, ◌+◌, ◌≤◌, ◌<◌, cond, Bool, false, List, [], ◌∷◌, ◌++◌, set, sym, refl, ap, ◌∙◌, subst, arith}
 use Rattle.std.specs.List.{AllByRecursion}
-use mathlib.Core.Logic.{dite}
 use mathlib.Core.Option.{some}
-use native.Mathlib.Decide.{ℕ_discrete}
 use lib.ListN.{get_elem?}
 use Rattle.atomic_table.proofs.Lists.{set_else}
 use Rattle.slot_word.specs.AccountWord.{held_in, balance_in, mark_in}
@@ -14,9 +12,9 @@ use Rattle.lock_core.specs.Serial.{Task, HasNoOthers, IsPartlySerialAfter}
 use Rattle.log_table.specs.declared.view.TakenJob.{TakenJob}
 use Rattle.log_table.specs.declared.view.Books.{Books}
 use Rattle.log_table.specs.Books.{no_books, task_of, times_held, times_taken, merging}
-use Rattle.log_table.specs.Accounts.{Everywhere, summed, holders, takers, IsAsTaken, HasOneHolder, HasDistinctJobs, AccountsFollowList, KeepsAccounts}
-use Rattle.log_table.proofs.Bookings.{everywhere-moves, everywhere-set, everywhere-push, everywhere-one, summed-set, summed-push, all-taken, one-taker, none-if, times_taken-append}
-use Rattle.log_table.proofs.Lists.{all-append, all-weaker}
+use Rattle.log_table.specs.Accounts.{Everywhere, summed, takers, IsAsTaken, HasDistinctJobs, AccountsFollowList, KeepsAccounts}
+use Rattle.log_table.proofs.Bookings.{everywhere-set, everywhere-push, everywhere-one, summed-set, summed-push, all-taken, one-taker, none-if, times_taken-append}
+use Rattle.log_table.proofs.Lists.{all-append}
 use Rattle.log_table.proofs.Taking.{RunsPartly, Lasts, Ties, FollowsAll, LastIsOne}
 
 -- a seat that has nothing is added

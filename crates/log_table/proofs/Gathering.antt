@@ -18,7 +18,7 @@ use Rattle.log_table.specs.declared.view.Role.TheVariants.{Flusher, Fresh, Activ
 use Rattle.log_table.specs.declared.view.View.{View}
 use Rattle.slot_word.specs.AccountWord.{held_in, balance_in, mark_in}
 use Rattle.log_record.specs.declared.rec.Entry.{Entry as Placed}
-use Rattle.log_record.specs.Spelling.{spelling, IsBalance}
+use Rattle.log_record.specs.Spelling.{IsBalance}
 use Rattle.lock_core.specs.History.{history_from}
 use Rattle.lock_core.specs.Records.{loss}
 use Rattle.lock_core.specs.Settling.{row}
@@ -275,8 +275,8 @@ module _ (key : Start) (words : Words) (views : List View) (me : ℕ) (v : View)
       up-to-date f account below =
           let old' = f.free account below (free account below) in
           let word-is : words.account account ≡ slice_index ws (index_of key.ring (Account account)) =
-              ap (λ (w : Words). w.account account) words-are
-              ∙ ap (λ t. cond t (slice_index ws (index_of key.ring (Account account))) 0) (lt-ltb account (length key.accounts.rows) below) in
+          ap (λ (w : Words). w.account account) words-are
+          ∙ ap (λ t. cond t (slice_index ws (index_of key.ring (Account account))) 0) (lt-ltb account (length key.accounts.rows) below) in
           let row-is = reads.each account (subst (λ n. account < n) (sym same) below) in
           record {
             balance = subst (IsBalanceOf (base_of key) (history_in key log.parts) account) (ap balance_in word-is ∙ sym (ap (λ (r : ℕ × ℕ). r.0) row-is)) old'.balance;

@@ -1,20 +1,18 @@
 -- An account is given back.
-use Rattle.std.proofs.Common.{◌≡◌, ◌≢◌, ◌==◌, ◌&&◌, ℕ, ◌+◌, ◌≤◌, ◌<◌, cond, ℤ, Bool, true, false, true≢false, List, [], ◌∷◌, set, sym, refl, ap, ◌∙◌, subst, arith}
+use Rattle.std.proofs.Common.{◌≡◌, ℕ, ◌+◌, ◌≤◌, ◌<◌, cond, true, false, List, set, sym, refl, ap, ◌∙◌, subst, arith}
 use Rattle.std.specs.List.{AllByRecursion}
 use mathlib.Core.Logic.{dite}
 use mathlib.Core.Option.{some}
 use native.Mathlib.Decide.{ℕ_discrete}
 use lib.ListN.{get_elem?}
-use Rattle.slot_word.specs.AccountWord.{held_in, balance_in, mark_in}
+use Rattle.slot_word.specs.AccountWord.{held_in}
 use Rattle.log_record.specs.declared.rec.Entry.{Entry}
 use Rattle.lock_core.specs.Records.{gain, loss}
-use Rattle.lock_core.specs.History.{end_from}
-use Rattle.lock_core.specs.Transactions.{recs_of, changes_in, has_commit, touches}
 use Rattle.lock_core.specs.Sums.{BaseState, total, last_commit_of}
 use Rattle.log_table.specs.declared.view.Held.{Held}
 use Rattle.log_table.specs.declared.view.Books.{Books}
-use Rattle.log_table.specs.Books.{times_held, times_taken, balance_taken, mark_taken, without, giving}
-use Rattle.log_table.specs.Accounts.{Everywhere, holders, IsAsTaken, HasOneHolder, HasDistinctJobs, moved_if_committed, commit_in, Follows, IsUpToDate, AccountsFollowList, KeepsAccounts, MayGive}
+use Rattle.log_table.specs.Books.{times_held, times_taken, without, giving}
+use Rattle.log_table.specs.Accounts.{holders, IsAsTaken, HasOneHolder, moved_if_committed, commit_in, Follows, IsUpToDate, AccountsFollowList, KeepsAccounts, MayGive}
 use Rattle.log_table.specs.Words.{put}
 use Rattle.log_table.proofs.Bookings.{everywhere-moves, everywhere-set, summed-set, summed-one, summed-two, all-held, found, all-without, times_held-without, times_held-without_other}
 use Rattle.log_table.proofs.Taking.{put-same, put-else, as_taken-else, free-else, distinct-before, Lasts, Ties, RunsPartly, FollowsAll, LastIsOne}
@@ -54,7 +52,7 @@ module _ (base : BaseState) (words : ℕ → ℕ) (h : List Entry) (all : List B
         (λ differ. let sum = summed-set (λ (books : Books). times_held other books.held) all me mine new at in
         let count = holder.counts other below in let same = times_held-without_other account other mine.held differ in
         let now : cond {A = ℕ} (held_in (words' other)) 1 0 ≡ cond {A = ℕ} (held_in (words other)) 1 0 =
-            ap (λ w. cond {A = ℕ} (held_in w) 1 0) (put-else words account word other differ) in omega arith);
+        ap (λ w. cond {A = ℕ} (held_in w) 1 0) (put-else words account word other differ) in omega arith);
     taken = everywhere-moves (λ (books : Books). AllByRecursion (IsAsTaken base.accounts words) books.held)
         (λ (books : Books). AllByRecursion (IsAsTaken base.accounts words') books.held) all me new holder.taken
         (others-taken mine (without account mine.held)
@@ -72,8 +70,8 @@ module _ (base : BaseState) (words : ℕ → ℕ) (h : List Entry) (all : List B
     now-free = let f = found (Follows base h mine.placed) account mine.held may.has (s.held me mine at) in
         let old : Follows base h mine.placed f.held = f.known in
         let is : f.held.balance + moved_if_committed gain account mine.placed + total loss account h
-            ≡ base.balance account + total gain account h + moved_if_committed loss account mine.placed =
-            subst (λ a. f.held.balance + moved_if_committed gain a mine.placed + total loss a h ≡ base.balance a + total gain a h + moved_if_committed loss a mine.placed) f.is old.balance in
+        ≡ base.balance account + total gain account h + moved_if_committed loss account mine.placed =
+        subst (λ a. f.held.balance + moved_if_committed gain a mine.placed + total loss a h ≡ base.balance a + total gain a h + moved_if_committed loss a mine.placed) f.is old.balance in
         let as-taken = f.balance in let gives = may.balance in record {
           balance = omega arith;
           mark = subst (λ a. last_commit_of base h a ≡ commit_in mine.placed a f.held.mark) f.is old.mark

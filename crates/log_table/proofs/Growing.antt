@@ -1,24 +1,24 @@
 -- A record of a seat's last job enters the log, whatever its kind.
-use Rattle.std.proofs.Common.{◌≡◌, ◌≢◌, ◌⊎◌, ℕ, ◌+◌, ◌≤◌, ◌<◌, cond, Bool, true, false, List, [], ◌∷◌, set, sym, refl, ap, ◌∙◌, subst, arith}
+use Rattle.std.proofs.Common.{◌≡◌, ◌≢◌, ◌⊎◌, ℕ, ◌+◌, ◌≤◌, ◌<◌, cond, Bool, true, false, List, ◌∷◌, set, sym, ap, ◌∙◌, subst, arith}
 use Rattle.std.specs.List.{AllByRecursion}
 use mathlib.Core.Logic.{dite}
 use mathlib.Core.Option.{some}
 use native.Mathlib.Decide.{ℕ_discrete}
 use lib.ListN.{get_elem?}
-use Rattle.slot_word.specs.AccountWord.{held_in, balance_in}
+use Rattle.slot_word.specs.AccountWord.{held_in}
 use Rattle.log_record.specs.declared.rec.Entry.{Entry}
 use Rattle.lock_core.specs.Records.{txn_of, gain, loss}
-use Rattle.lock_core.specs.Transactions.{of_transaction, changes_in, recs_of}
+use Rattle.lock_core.specs.Transactions.{of_transaction}
 use Rattle.lock_core.specs.Sums.{BaseState, total, AreInRange, last_commit_of}
 use Rattle.lock_core.specs.Lawful.{tests, PassesAfter}
-use Rattle.lock_core.specs.Serial.{Task, IsRunWhole, IsCutShort}
+use Rattle.lock_core.specs.Serial.{IsRunWhole, IsCutShort}
 use Rattle.lock_core.proofs.OneMore.{of_transaction-same, of_transaction-other}
 use Rattle.lock_core.proofs.SerialFronts.{IsRunPartly, run_partly-other}
 use Rattle.log_table.specs.declared.view.TakenJob.{TakenJob}
 use Rattle.log_table.specs.declared.view.Held.{Held}
 use Rattle.log_table.specs.declared.view.Books.{Books}
 use Rattle.log_table.specs.Books.{task_of, times_held, times_taken}
-use Rattle.log_table.specs.Accounts.{Everywhere, holders, takers, IsAsTaken, HasOneHolder, HasDistinctJobs, moved_if_committed, Follows, IsUpToDate, AccountsFollowList}
+use Rattle.log_table.specs.Accounts.{takers, IsAsTaken, HasOneHolder, HasDistinctJobs, Follows, AccountsFollowList}
 use Rattle.log_table.proofs.Bookings.{everywhere-moves, everywhere-set, summed-set, summed-one, summed-two, all-held, all-taken, one-taker}
 use Rattle.log_table.proofs.Lists.{all-both}
 

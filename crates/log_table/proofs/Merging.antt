@@ -13,7 +13,7 @@ use Rattle.log_table.proofs.Gathered.{joins}
 use Rattle.log_table.specs.declared.table.Start.{Start}
 use Rattle.log_table.specs.declared.view.Call.TheVariants.{Idle}
 use Rattle.log_table.specs.declared.view.View.{View}
-use Rattle.log_table.specs.Log.{Part, Log, ranges_of, parts_of, SpellsRecord, records_in, StandsInRing, IsFullIfReleased, IsReleasedBelow, CountsRemaining, AgreesFrom, EndsWithPart}
+use Rattle.log_table.specs.Log.{Part, Log, ranges_of, parts_of, SpellsRecord, StandsInRing, IsFullIfReleased, IsReleasedBelow, CountsRemaining, AgreesFrom, EndsWithPart}
 use Rattle.log_table.specs.May.{MayMerge}
 use Rattle.log_table.specs.Sound.{EachView, HasSeenBoundaries, SendsIfFlusher, StoresStop, LookedIfQuiet, HasWorkingOwner, HasConstants, RestsUnlessActive, OwnsIfWorker, HoldsIfActive, base_of, history_in, books_of, HasSoundRole, HasSoundRoles, HasSoundCrew, IsSound, Knows, Lacks, Ruled, is_active_view}
 use Rattle.log_table.specs.Views.{has_ended, is_active, is_worker, is_spent, nobody, entries_in, claims_in, merged_entries, merged_seen, merged_standing, takes_in}

@@ -1,12 +1,12 @@
 -- What a worker knows of the records that it has still to place.
-use Rattle.std.proofs.Common.{◌≡◌, ◌⊎◌, inl, ℕ, zero, suc, ◌+◌, ◌≤◌, List, [], ◌∷◌, length, get_or, Option, Some, sym, refl, ap, ◌∙◌, subst, arith}
+use Rattle.std.proofs.Common.{◌≡◌, ◌⊎◌, ℕ, suc, ◌+◌, ◌≤◌, List, [], ◌∷◌, length, get_or, Option, Some, sym, ap, ◌∙◌, subst, arith}
 use Rattle.log_record.specs.declared.rec.Rec.{Rec}
 use Rattle.log_record.specs.declared.rec.Rec.TheVariants.{Note}
 use Rattle.log_record.specs.declared.rec.Entry.{Entry as Placed}
 use Rattle.lock_core.specs.Alone.{planned_from, with_note}
 use Rattle.lock_core.specs.Transactions.{recs_of, in_order}
 use Rattle.log_table.specs.declared.view.Books.{Books}
-use Rattle.log_table.specs.Books.{note_of, balance_taken, mark_taken, plan_of, next_of, IsNext, IsNote, HoldsAccounts, MayEnter}
+use Rattle.log_table.specs.Books.{note_of, balance_taken, mark_taken, next_of, IsNext, IsNote, HoldsAccounts, MayEnter}
 
 get_or-in_order : (placed : List Placed) (records : List Rec) (other : Rec) → get_or (in_order (recs_of placed) records) (length placed) other ≡ get_or records 0 other
 get_or-in_order placed records other = ap (λ n. get_or (in_order (recs_of placed) records) n other) (omega arith) ∙ behind placed records 0

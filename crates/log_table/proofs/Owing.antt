@@ -1,5 +1,5 @@
 -- The steps on an account's word, and the load of stop with which a seat takes a job.
-use Rattle.std.proofs.Common.{◌≡◌, ◌≢◌, ℕ, ◌==◌, ◌+◌, ◌≤◌, ◌<◌, cond, eqb, ◌||◌, ◌^◌, Bool, true, false, true≢false, List, [], ◌∷◌, length, map, set, None, Result, Ok, Err, OnOk, IfErr, sym, refl, ap, ◌∙◌, subst, arith, eq-eqb, ne_eqb}
+use Rattle.std.proofs.Common.{◌≡◌, ℕ, ◌+◌, ◌≤◌, ◌<◌, cond, eqb, ◌||◌, ◌^◌, Bool, false, true≢false, List, [], ◌∷◌, length, map, set, None, Result, Ok, Err, OnOk, IfErr, sym, refl, ap, ◌∙◌, subst, eq-eqb, ne_eqb}
 use Rattle.std.specs.List.{AllByRecursion}
 use Rattle.std.proofs.lemmas.List.{map-set}
 use mathlib.Core.Logic.{dite}
@@ -22,19 +22,19 @@ use Rattle.log_table.specs.declared.view.Books.{Books}
 use Rattle.log_table.specs.declared.view.Seen.{Seen}
 use Rattle.log_table.specs.declared.view.TakenJob.{TakenJob}
 use Rattle.log_table.specs.declared.view.View.{View}
-use Rattle.log_table.specs.Accounts.{IsAllowed, HasOneHolder, KeepsAccounts}
+use Rattle.log_table.specs.Accounts.{IsAllowed, KeepsAccounts}
 use Rattle.log_table.specs.Books.{IsNote, taking_job, taking, giving}
 use Rattle.log_table.specs.Events.{Leads, IsStep}
 use Rattle.log_table.specs.Layout.{Stop, Account}
 use Rattle.log_table.specs.Log.{Log, ranges_of}
-use Rattle.log_table.specs.May.{IsAtRest, MayTakeJob, MayTake, MayGiveBack}
+use Rattle.log_table.specs.May.{MayTakeJob, MayTake, MayGiveBack}
 use Rattle.log_table.specs.Sound.{HasSeenBoundaries, StoresStop, HoldsIfActive, IsSound, base_of, history_in, books_of}
 use Rattle.log_table.specs.Views.{is_active, may_own, counted, took_job, seen_account, saw_account, held_as, took_account, after_account, gave_account}
 use Rattle.log_table.specs.Words.{Words, put}
 use Rattle.log_table.proofs.Looking.{sees-word}
 use Rattle.log_table.proofs.Roles.{crew-same, quiet-moves, restands}
 use Rattle.log_table.proofs.Viewing.{each_set}
-use Rattle.log_table.proofs.Taking.{takes-job, takes-account, put-same}
+use Rattle.log_table.proofs.Taking.{takes-job, takes-account}
 use Rattle.log_table.proofs.Giving.{gives}
 
 -- the seat's books change, and the accounts' words with them

@@ -1,18 +1,17 @@
 -- What is known of each record of a plan whatever the balances are: no record before it ends the transaction, it can be spelled, and a
 -- Note is the first.
-use Rattle.std.proofs.Common.{◌≡◌, ◌≢◌, ◌⊎◌, inl, inr, ⊎_elim, ℕ, zero, suc, ◌+◌, ◌≤◌, ◌<◌, cond, ℤ, pos, negsuc, neg_ℤ, ◌≤ℤ◌, Bool, true, false, List, [], ◌∷◌, length, sym, refl, ap, ◌∙◌, subst, arith}
-use Rattle.std.proofs.lemmas.Int.{ints}
+use Rattle.std.proofs.Common.{◌≡◌, ◌⊎◌, ⊎_elim, ℕ, ◌+◌, ◌≤◌, ◌<◌, cond, pos, neg_ℤ, Bool, true, false, List, [], ◌∷◌, length, sym, refl, ap, ◌∙◌, subst, arith}
 use Rattle.std.specs.List.{AllByRecursion}
 use Rattle.log_record.specs.declared.rec.Rec.{Rec}
 use Rattle.log_record.specs.declared.rec.Rec.TheVariants.{Genesis, Update, Commit, Short, Over, Note}
-use Rattle.log_record.specs.Spelling.{IsTxn, IsNoteText, IsDelta, IsSpellable}
+use Rattle.log_record.specs.Spelling.{IsTxn, IsNoteText, IsSpellable}
 use Rattle.lsn_space.specs.declared.lsn.TheConstants.{LAST}
 use Rattle.lock_core.specs.declared.limits.TheConstants.{MOST_BALANCE}
 use Rattle.lock_core.specs.Transactions.{has_end, in_order}
 use Rattle.lock_core.specs.Alone.{lacks, overfills, after_leg, with_note, leg_updates, planned_from, planned_records}
 use Rattle.lock_core.specs.Serial.{Task}
 use Rattle.log_table.proofs.Deltas.{more-delta, less-delta}
-use Rattle.log_table.proofs.Planning.{Walk, walk-at, IsFront, IsNoteStep}
+use Rattle.log_table.proofs.Planning.{Walk, walk-at, IsNoteStep}
 
 abbrev pub FirstIfNote : Task → List Rec → Rec → Type 0
 FirstIfNote task before (Note txn text) = IsNoteStep task before txn text

@@ -1,5 +1,5 @@
 -- The records of a plan, one after another: each meets the tests that concern its own transaction alone.
-use Rattle.std.proofs.Common.{◌≡◌, ◌≢◌, ◌==◌, ◌&&◌, ◌||◌, ℕ, zero, suc, ◌+◌, ◌-◌, ◌*◌, ◌≤◌, ◌<◌, cond, nat_lt, ℤ, pos, negsuc, neg_ℤ, Bool, true, false, true≢false, List, [], ◌∷◌, ◌++◌, length, sym, refl, ap, ◌∙◌, subst, arith, ltb-false, eqb-true, ne_eqb}
+use Rattle.std.proofs.Common.{◌≡◌, ◌≢◌, ◌==◌, ◌||◌, ℕ, ◌+◌, ◌-◌, ◌*◌, ◌≤◌, cond, ℤ, pos, neg_ℤ, Bool, true, false, List, [], ◌∷◌, length, sym, refl, ap, ◌∙◌, subst, arith, ltb-false, eqb-true, ne_eqb}
 use Rattle.std.specs.List.{AllByRecursion}
 use Rattle.std.specs.Prelude.{MatchBool}
 use Rattle.log_record.specs.declared.rec.Rec.{Rec}
@@ -11,7 +11,7 @@ use Rattle.lock_core.specs.Records.{lowers, gain, loss}
 use Rattle.lock_core.specs.Transactions.{changes_in, has_end, touches, all_without_prev, in_order}
 use Rattle.lock_core.specs.Sums.{moved}
 use Rattle.lock_core.specs.Tests.{IsPaired, IsOpposite}
-use Rattle.lock_core.specs.Alone.{Job as Transfer, lacks, overfills, after_leg, with_note, leg_updates, planned_from, planned_records}
+use Rattle.lock_core.specs.Alone.{lacks, overfills, after_leg, with_note, leg_updates, planned_from, planned_records}
 use Rattle.lock_core.specs.Serial.{Task}
 use Rattle.log_table.proofs.Deltas.{lowers-less, gain-less, loss-less, less-twice}
 

@@ -1,5 +1,5 @@
 -- A table starts at rest: nothing is reserved, and the log ends where it started.
-use Rattle.std.proofs.Common.{◌≡◌, ◌≢◌, ℕ, zero, suc, ◌+◌, ◌<◌, ◌≤◌, true≢false, List, [], ◌∷◌, length, get_or, replicate, set, sym, refl, ap, ◌∙◌, subst, arith, cond, Bool, false, lt-ltb, length-set, get_or-set_same, get_or-set_other}
+use Rattle.std.proofs.Common.{◌≡◌, ◌≢◌, ℕ, zero, suc, ◌<◌, ◌≤◌, true≢false, List, [], ◌∷◌, length, get_or, replicate, set, sym, refl, ap, ◌∙◌, subst, arith, cond, Bool, false, lt-ltb, length-set, get_or-set_same, get_or-set_other}
 use Rattle.std.proofs.lemmas.List.{length-replicate, get_or-replicate}
 use mathlib.Core.Option.{some-injective, some-ne-none}
 use Rattle.atomic_table.specs.Table.{opening}
@@ -149,7 +149,7 @@ start-allowed key ws zeros least most small has zero-is puts = (
         × (mark_in ((words_in key ws).account account) ≡ (base_of key).last_commit account) × IsBalance ((base_of key).balance account)
     first account below = let range = has.balances account below in let mark = has.marks account below in
         let is : (words_in key ws).account account ≡ packed false (row key.accounts.rows account).0 (row key.accounts.rows account).1 =
-            ap (λ (t : Bool). cond t (get_or ws (index_of key.ring (Account account)) 0) 0) (lt-ltb account count below) ∙ puts.each account below in (
+        ap (λ (t : Bool). cond t (get_or ws (index_of key.ring (Account account)) 0) 0) (lt-ltb account count below) ∙ puts.each account below in (
           ap held_in is ∙ held_back false _ _ (omega arith) (omega arith),
           ap balance_in is ∙ balance_back false _ _ (omega arith) (omega arith),
           ap mark_in is ∙ mark_back false _ _ (omega arith) (omega arith),

@@ -1,5 +1,5 @@
 -- A job or a free account is taken.
-use Rattle.std.proofs.Common.{◌≡◌, ◌≢◌, ◌⊎◌, inr, ℕ, ◌==◌, ◌&&◌, ◌+◌, ◌≤◌, ◌<◌, cond, ℤ, Bool, true, false, true≢false, List, [], ◌∷◌, set, sym, refl, ap, ◌∙◌, subst, arith, eq-eqb, ne_eqb}
+use Rattle.std.proofs.Common.{◌≡◌, ◌≢◌, ◌⊎◌, inr, ℕ, ◌==◌, ◌&&◌, ◌≤◌, ◌<◌, cond, Bool, true, false, true≢false, List, [], set, sym, refl, ap, ◌∙◌, subst, arith, eq-eqb, ne_eqb}
 use Rattle.std.specs.List.{AllByRecursion}
 use mathlib.Core.Logic.{dite}
 use mathlib.Core.Option.{some}
@@ -17,7 +17,7 @@ use Rattle.log_table.specs.declared.view.TakenJob.{TakenJob}
 use Rattle.log_table.specs.declared.view.Held.{Held}
 use Rattle.log_table.specs.declared.view.Books.{Books}
 use Rattle.log_table.specs.Books.{task_of, times_held, times_taken, taking_job, taking}
-use Rattle.log_table.specs.Accounts.{Everywhere, holders, takers, IsAsTaken, IsAllowed, HasOneHolder, HasDistinctJobs, moved_if_committed, Follows, IsUpToDate, AccountsFollowList, KeepsAccounts}
+use Rattle.log_table.specs.Accounts.{Everywhere, IsAsTaken, IsAllowed, HasOneHolder, HasDistinctJobs, moved_if_committed, Follows, IsUpToDate, AccountsFollowList, KeepsAccounts}
 use Rattle.log_table.specs.Words.{put}
 use Rattle.log_table.proofs.Bookings.{everywhere-set, summed-set, all-held, all-taken, one-if, none-if}
 
@@ -137,7 +137,7 @@ module _ (base : BaseState) (words : ℕ → ℕ) (h : List Entry) (all : List B
           let now : cond {A = ℕ} (held_in (words' account)) 1 0 ≡ 1 = ap (λ b. cond {A = ℕ} b 1 0) (ap held_in (put-same words held.account word account same) ∙ is-held) in omega arith)
           (λ differ. let none = none-if held.account account (λ e. differ (sym e)) in
           let now : cond {A = ℕ} (held_in (words' account)) 1 0 ≡ cond {A = ℕ} (held_in (words account)) 1 0 =
-              ap (λ w. cond {A = ℕ} (held_in w) 1 0) (put-else words held.account word account differ) in omega arith);
+          ap (λ w. cond {A = ℕ} (held_in w) 1 0) (put-else words held.account word account differ) in omega arith);
       taken = everywhere-moves' (λ (books : Books). AllByRecursion (IsAsTaken base.accounts words) books.held)
           (λ (books : Books). AllByRecursion (IsAsTaken base.accounts words') books.held) s.taken (
             record {

@@ -13,7 +13,7 @@ use Rattle.lock_core.specs.History.{end_from}
 use Rattle.lock_core.specs.Transactions.{of_transaction, recs_of, changes_in, has_commit, touches}
 use Rattle.lock_core.specs.Sums.{BaseState, moved, total, IsBalanceOf, AreInRange, last_commit_of}
 use Rattle.lock_core.specs.Lawful.{IsLawfulAfter}
-use Rattle.lock_core.specs.Serial.{Task, IsRunWhole, IsCutShort}
+use Rattle.lock_core.specs.Serial.{IsRunWhole, IsCutShort}
 use Rattle.log_table.specs.declared.view.TakenJob.{TakenJob}
 use Rattle.log_table.specs.declared.view.Held.{Held}
 use Rattle.log_table.specs.declared.view.Books.{Books}

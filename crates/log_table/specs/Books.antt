@@ -3,7 +3,6 @@ use Rattle.std.specs.Prelude.{◌≡◌, ◌==◌, ℕ, ◌+◌, ◌≤◌, if�
 use Rattle.std.specs.List.{AllByRecursion}
 use Rattle.log_record.specs.declared.rec.Rec.{Rec}
 use Rattle.log_record.specs.declared.rec.Rec.TheVariants.{Genesis, Update, Commit, Short, Over, Note}
-use Rattle.log_record.specs.declared.rec.Entry.{Entry}
 use Rattle.txn_script.specs.declared.job.Job.{Job}
 use Rattle.lock_core.specs.Alone.{Job as Transfer, planned_records}
 use Rattle.lock_core.specs.Serial.{Task}

@@ -1,5 +1,5 @@
 -- What a table starts with.
-use Rattle.std.specs.Prelude.{◌≡◌, ℕ, ◌+◌, ◌<◌, ◌≤◌, false, List, length, slice_index}
+use Rattle.std.specs.Prelude.{◌≡◌, ℕ, ◌<◌, ◌≤◌, false, List, length, slice_index}
 use Rattle.slot_word.specs.AccountWord.{packed}
 use Rattle.lock_core.specs.Settling.{row, AreRowsInRange}
 use Rattle.log_table.specs.declared.layout.TheConstants.{RING}

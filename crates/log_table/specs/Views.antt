@@ -16,7 +16,6 @@ use Rattle.log_table.specs.declared.view.View.{View}
 use Rattle.log_record.specs.declared.rec.Rec.{Rec}
 use Rattle.slot_word.specs.AccountWord.{balance_in, mark_in}
 use Rattle.txn_script.specs.declared.job.Job.{Job}
-use Rattle.log_table.specs.declared.view.TakenJob.{TakenJob}
 use Rattle.log_table.specs.declared.view.Held.{Held}
 use Rattle.log_table.specs.Books.{no_books, next_of, placing, taking_job, taking, giving, merging}
 use Rattle.log_table.specs.Log.{Claim}

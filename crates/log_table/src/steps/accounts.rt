@@ -44,12 +44,10 @@ fn exchange_account_as<N: Number>(
     ensures err { IfErr result (λ found. (found ≢ from) × Becomes seat.old seat.new (saw_account account (word_of found) (view_of seat.old))) }
 {
     let place = account_place(table.ring, account);
-    let found = table.table.shared.compare_exchange::<ExchangeAccount<N>>(
-        &mut seat.base,
-        place,
-        from.pack(),
-        to.pack(),
-    );
+    let found = table
+        .table
+        .shared
+        .compare_exchange::<ExchangeAccount<N>>(&mut seat.base, place, from.pack(), to.pack());
     if found == from.pack() {
         Ok(())
     } else {

@@ -19,10 +19,7 @@ fn take_job_as<N: Task>(table: &LogTable, seat: &mut Seat, number: u32, job: &Jo
     requires named { (N.number ≡ number) × (N.job ≡ job.now) }
     ensures view { Becomes seat.old seat.new (took_job number job.now result (view_of seat.old)) }
 {
-    table
-        .table
-        .shared
-        .load::<TakeJob<N>>(&mut seat.base, STOP)
+    table.table.shared.load::<TakeJob<N>>(&mut seat.base, STOP)
 }
 
 impl LogTable {

@@ -24,5 +24,5 @@ pub returns-clause-settled : goal.returns-clause-settled
 returns-clause-settled c = let is : IsClosed _ _ c.word-tail.result c.word-exposed.result (view_of c.args.seat) =
     closes _ _ _ _ _ _ _ c.close_with-closed.ensures.values.2 c.requires.may c.word-tail.ensures c.word-exposed.ensures in
     is.settled _ _ (c.args.self.rowed ∙ sym c.args.self.counted)
-        (subst (λ ring. ReadsRows ring (length c.args.self.rows.rows) (slots_items c.close_with-closed.result.words) c.args.self.rows.rows c.read_rows.new.rows.rows)
-        (sym c.args.self.keyed) c.read_rows.ensures.rows)
+    (subst (λ ring. ReadsRows ring (length c.args.self.rows.rows) (slots_items c.close_with-closed.result.words) c.args.self.rows.rows c.read_rows.new.rows.rows)
+    (sym c.args.self.keyed) c.read_rows.ensures.rows)

@@ -1,4 +1,4 @@
-use Rattle.std.proofs.Common.{rules, ◌≡◌, ◌≤◌, ◌∙◌, ◌*◌, ◌+◌, List, ℕ, set, replicate, length, subst, sym, ap}
+use Rattle.std.proofs.Common.{rules, ◌≤◌, ◌∙◌, ◌*◌, ◌+◌, List, ℕ, replicate, length, subst, sym, ap}
 use Rattle.lsn_space.specs.declared.lsn.TheConstants.{LAST}
 use Rattle.log_table.specs.declared.layout.TheConstants.{STRIDE, RING}
 use Rattle.log_table.specs.Opening.{PutsAccounts}
