@@ -1,5 +1,5 @@
 -- A transfer, record by record, and its accounts given back.
-use Rattle.std.proofs.Common.{◌≡◌, ◌≢◌, ℕ, ◌+◌, ◌-◌, ◌<◌, ◌≤◌, cond, nat_lt, ℤ, pos, neg_ℤ, false, Option, Some, None, IfSome, List, [], ◌∷◌, ◌++◌, length, inr, refl, sym, ap, ◌∙◌, subst, arith, le-ltb, eq-eqb, ne_eqb}
+use Rattle.std.proofs.Common.{◌≡◌, ◌≢◌, ℕ, ◌+◌, ◌≤◌, cond, nat_lt, pos, neg_ℤ, false, List, [], ◌∷◌, ◌++◌, length, inr, refl, sym, ap, ◌∙◌, subst, arith, le-ltb}
 use Rattle.std.proofs.lemmas.List.{append_assoc}
 use Rattle.std.specs.List.{AllByRecursion}
 use Rattle.log_record.specs.declared.rec.Rec.{Rec}
@@ -8,18 +8,15 @@ use Rattle.log_record.specs.declared.rec.Entry.{Entry}
 use Rattle.log_record.specs.Spelling.{IsTxn, IsSpellable, spelling}
 use Rattle.lsn_space.specs.declared.lsn.TheConstants.{LAST}
 use Rattle.lock_core.specs.declared.limits.TheConstants.{MOST_BALANCE}
-use Rattle.lock_core.specs.Records.{gain, loss}
 use Rattle.lock_core.specs.Alone.{planned_records}
-use Rattle.lock_core.specs.Transactions.{recs_of, changes_in, touches, in_order}
-use Rattle.lock_core.specs.Sums.{moved}
+use Rattle.lock_core.specs.Transactions.{recs_of, in_order}
 use Rattle.txn_script.specs.Script.{IsAllowedLeg}
-use Rattle.log_table.specs.declared.view.Held.{Held}
 use Rattle.log_table.specs.declared.view.TakenJob.{TakenJob}
 use Rattle.log_table.specs.declared.view.Books.{Books}
 use Rattle.log_table.specs.Books.{times_held, balance_taken, mark_taken, plan_of, next_of, placing, giving, without, HoldsLeg, HoldsAccounts}
 use Rattle.txn_script.specs.Transfers.{transfer_of}
 use Rattle.log_table.proofs.Bookings.{times_held-without_other, balance_taken-without_other, mark_taken-without_other, length-without}
-use Rattle.log_table.proofs.Deltas.{more-delta, less-delta, gain-less, loss-less}
+use Rattle.log_table.proofs.Deltas.{more-delta, less-delta}
 use Rattle.log_table.proofs.Nexting.{next-is, may-enter}
 use Rattle.log_table.specs.declared.table.Seat.{Seat}
 use Rattle.log_table.specs.Seats.{view_of}
@@ -27,8 +24,8 @@ use Rattle.ring_buffer.specs.Calls.{MayPlace, IsSameWorker, HasEntries, entry_of
 use Rattle.early_locks.specs.declared.one_transfer.Run.{Run}
 use Rattle.early_locks.specs.declared.one_transfer.Transfer.{Transfer}
 use Rattle.early_locks.specs.declared.taking.Taken.{Taken}
-use Rattle.early_locks.specs.Locks.{HoldsTaken, GivesBack}
-use Rattle.early_locks.specs.Transfers.{leg_of, job_of, taken_job, loss_of, gain_of, MayPut, HasPut, IsMoving}
+use Rattle.early_locks.specs.Locks.{HoldsTaken}
+use Rattle.early_locks.specs.Transfers.{leg_of, loss_of, gain_of, MayPut, HasPut, IsMoving}
 
 pub puts-next : (rec : Rec) (books : Books) → MayPut rec books → next_of books ≡ rec
 puts-next rec books may = next-is rec books may.next

@@ -118,8 +118,10 @@ pub fn commit_transfer<R: Wait, G: Gate>(
     ensures none_held { IfNone result ((view_of seat.new).books.held ≡ []) }
 {
     table.take_job(seat, number, &transfer.job());
-    let (payer, payee) = take_both(rt, table, seat, transfer);
-    let Some(placed) = put_records(rt, table, seat, number, transfer, &payer, &payee, gate) else {
+    let both = take_both(rt, table, seat, transfer);
+    let placed = put_records(rt, table, seat, number, transfer, &both, gate);
+    let Both { payer, payee } = both;
+    let Some(placed) = placed else {
         give_unchanged(table, seat, payer);
         give_unchanged(table, seat, payee);
         return None;
@@ -186,13 +188,15 @@ fn take<R: Wait>(rt: &R, table: &LogTable, seat: &mut Seat, account: u32) -> Tak
     unreachable!()
 }
 
+/// The accounts of a transfer, as they were taken.
+#[derive(Drop)]
+struct Both {
+    payer: Taken,
+    payee: Taken,
+}
+
 /// Takes both accounts, the lower one first: so no two workers wait for one another.
-fn take_both<R: Wait>(
-    rt: &R,
-    table: &LogTable,
-    seat: &mut Seat,
-    transfer: Transfer,
-) -> (Taken, Taken)
+fn take_both<R: Wait>(rt: &R, table: &LogTable, seat: &mut Seat, transfer: Transfer) -> Both
     requires seat { IsOf table.now seat.old }
     requires ready { IsReady (view_of seat.old) }
     requires allowed { IsAllowedLeg table.now.accounts (leg_of transfer) }
@@ -204,18 +208,18 @@ fn take_both<R: Wait>(
     ensures ready { IsReady (view_of seat.new) }
     ensures jobs { (view_of seat.new).books.jobs ≡ (view_of seat.old).books.jobs }
     ensures entries { (view_of seat.new).entries ≡ (view_of seat.old).entries }
-    ensures payer { result.0.balance ≤ MOST_BALANCE }
-    ensures payee { result.1.balance ≤ MOST_BALANCE }
-    ensures moving { IsMoving (view_of seat.old).books.last.number transfer result.0 result.1 [] (view_of seat.new).books }
+    ensures payer { result.payer.balance ≤ MOST_BALANCE }
+    ensures payee { result.payee.balance ≤ MOST_BALANCE }
+    ensures moving { IsMoving (view_of seat.old).books.last.number transfer result.payer result.payee [] (view_of seat.new).books }
 {
     if transfer.payer < transfer.payee {
         let payer = take(rt, table, seat, transfer.payer);
         let payee = take(rt, table, seat, transfer.payee);
-        (payer, payee)
+        Both { payer, payee }
     } else {
         let payee = take(rt, table, seat, transfer.payee);
         let payer = take(rt, table, seat, transfer.payer);
-        (payer, payee)
+        Both { payer, payee }
     }
 }
 
@@ -262,34 +266,33 @@ fn put_records<R: Wait, G: Gate>(
     seat: &mut Seat,
     number: u32,
     transfer: Transfer,
-    payer: &Taken,
-    payee: &Taken,
+    both: &Both,
     gate: &G,
 ) -> Option<Placed>
     requires seat { IsOf table.now seat.old }
     requires ready { IsReady (view_of seat.old) }
     requires number { IsTxn number }
     requires allowed { IsAllowedLeg table.now.accounts (leg_of transfer) }
-    requires payee { payee.now.balance ≤ MOST_BALANCE }
-    requires moving { IsMoving number transfer payer.now payee.now [] (view_of seat.old).books }
+    requires payee { both.now.payee.balance ≤ MOST_BALANCE }
+    requires moving { IsMoving number transfer both.now.payer both.now.payee [] (view_of seat.old).books }
     ensures same { IsSameWorker seat.old seat.new }
     ensures ready { IsReady (view_of seat.new) }
     ensures jobs { (view_of seat.new).books.jobs ≡ (view_of seat.old).books.jobs }
-    ensures enough { OnSome result (transfer.amount ≤ payer.now.balance) }
-    ensures fits { OnSome result (payee.now.balance + transfer.amount ≤ MOST_BALANCE) }
-    ensures moved { IfSome result (HasMoved number transfer payer.now payee.now (view_of seat.old).entries (view_of seat.new)) }
-    ensures stopped { IfNone result (HasStopped number transfer payer.now payee.now (view_of seat.new).books) }
+    ensures enough { OnSome result (transfer.amount ≤ both.now.payer.balance) }
+    ensures fits { OnSome result (both.now.payee.balance + transfer.amount ≤ MOST_BALANCE) }
+    ensures moved { IfSome result (HasMoved number transfer both.now.payer both.now.payee (view_of seat.old).entries (view_of seat.new)) }
+    ensures stopped { IfNone result (HasStopped number transfer both.now.payer both.now.payee (view_of seat.new).books) }
 {
     let amount = transfer.amount;
-    if payer.balance < amount || payee.balance + amount > MOST_BALANCE {
+    if both.payer.balance < amount || both.payee.balance + amount > MOST_BALANCE {
         return None;
     }
     let commit = Rec::Commit {
         txn: number,
         legs: 1,
     };
-    let loss = put(rt, table, seat, &transfer.loss(number, payer), gate)?;
-    let gain = put(rt, table, seat, &transfer.gain(number, payee), gate)?;
+    let loss = put(rt, table, seat, &transfer.loss(number, &both.payer), gate)?;
+    let gain = put(rt, table, seat, &transfer.gain(number, &both.payee), gate)?;
     let last = put(rt, table, seat, &commit, gate)?;
     Some(Placed {
         loss: loss.start,

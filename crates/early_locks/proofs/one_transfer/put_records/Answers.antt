@@ -9,19 +9,19 @@ use Rattle.early_locks.proofs.one_transfer.put_records.Goals as goal
 
 pub put-requires-clause-next : goal.put-requires-clause-next
 put-requires-clause-next g c =
-    let low : c.args.payer.now.mark ≤ LAST = search rules in
+    let low : c.args.both.now.payer.mark ≤ LAST = search rules in
     subst (λ rec. MayPut rec (view_of c.args.seat.now).books) (sym c.loss.ensures)
-    (puts _ _ _ _ c.if-payer-amount.false c.if-payee-amount-gt-MOST_BALANCE.false _ _ c.requires.moving _
-    (gain_of c.args.number c.args.transfer c.args.payee.now ∷ Commit c.args.number 1 ∷ []) c.requires.number refl
-    (loss-spellable _ _ _ c.requires.number c.requires.allowed c.args.table.now.few c.args.payer.now low))
+    (puts _ _ _ _ c.if-both-amount.false c.if-both-amount-gt-MOST_BALANCE.false _ _ c.requires.moving _
+    (gain_of c.args.number c.args.transfer c.args.both.now.payee ∷ Commit c.args.number 1 ∷ []) c.requires.number refl
+    (loss-spellable _ _ _ c.requires.number c.requires.allowed c.args.table.now.few c.args.both.now.payer low))
 
 pub put-requires-2-clause-next : goal.put-requires-2-clause-next
 put-requires-2-clause-next g c =
-    let low : c.args.payee.now.mark ≤ LAST = search rules in
+    let low : c.args.both.now.payee.mark ≤ LAST = search rules in
     let one = put-moves _ _ _ _ _ _ _ _ _ _ c.loss.ensures c.in_ok-loss.ensures.put c.requires.moving in
     subst (λ rec. MayPut rec (view_of c.put.new.seat).books) (sym c.gain.ensures)
-    (puts _ _ _ _ c.if-payer-amount.false c.if-payee-amount-gt-MOST_BALANCE.false _ _ one _ (Commit c.args.number 1 ∷ []) c.requires.number refl
-    (gain-spellable _ _ _ c.requires.number c.requires.allowed c.args.table.now.few c.args.payee.now low))
+    (puts _ _ _ _ c.if-both-amount.false c.if-both-amount-gt-MOST_BALANCE.false _ _ one _ (Commit c.args.number 1 ∷ []) c.requires.number refl
+    (gain-spellable _ _ _ c.requires.number c.requires.allowed c.args.table.now.few c.args.both.now.payee low))
 
 pub returns-clause-moved : goal.returns-clause-moved
 returns-clause-moved g c =

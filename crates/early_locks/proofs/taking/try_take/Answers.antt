@@ -1,5 +1,4 @@
-use Rattle.std.proofs.Common.{rules, ◌≡◌, ◌<◌, ◌^◌, ◌∙◌, ap, sym}
-use Rattle.log_table.specs.declared.view.Held.{Held}
+use Rattle.std.proofs.Common.{rules, ◌<◌, ◌^◌, ◌∙◌, ap, sym}
 use Rattle.log_table.specs.Books.{taking}
 use Rattle.log_table.specs.Seats.{Becomes, view_of}
 use Rattle.log_table.specs.Views.{saw_account, took_account}
