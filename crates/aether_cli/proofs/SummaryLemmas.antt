@@ -97,17 +97,17 @@ module _ (n seed first : ℕ) (base : BaseState) (records : List Rec) (rows : Li
       λ i. summary_lines n (all_done i) (none_refused i) (lsn i) (total i) (mix i)
 
 -- the list of accounts on which generated transfers run opens them
-opening-row : (n account balance : ℕ) → account < n → (row (opening_rows (replicate n balance)) account).0 ≡ balance
-opening-row zero account balance below = absurd (omega arith)
-opening-row (suc n) zero balance below = refl
-opening-row (suc n) (suc account) balance below = opening-row n account balance (omega arith)
+first_balance : (n account balance : ℕ) → account < n → (row (opening_rows (replicate n balance)) account).0 ≡ balance
+first_balance zero account balance below = absurd (omega arith)
+first_balance (suc n) zero balance below = refl
+first_balance (suc n) (suc account) balance below = first_balance n account balance (omega arith)
 
 pub opening-generated : OpensGenerated (base_state_of (history generated_opening))
 opening-generated =
     let h = history generated_opening in
     let kept = genesis-kept (replicate 64 1000000) (omega arith) (All-replicate IsBalance 64 1000000 (omega arith)) in record {
       accounts = refl;
-      balance = λ account below. balance_of-is (genesis_of h) h account _ (kept.balance account below) ∙ opening-row 64 account 1000000 below;
+      balance = λ account below. balance_of-is (genesis_of h) h account _ (kept.balance account below) ∙ first_balance 64 account 1000000 below;
     }
 
 pub opening-end : (base_state_of (history generated_opening)).end ≡ 128

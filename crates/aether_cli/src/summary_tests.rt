@@ -1,6 +1,6 @@
 //! Summaries of generated transfers, beside numbers that were reckoned by hand.
 
-ghost use Rattle.std.specs.Prelude.{◌≤◌, length, IfOk};
+ghost use Rattle.std.specs.Prelude.{◌≡◌, ◌≤◌, length, IfOk};
 
 use crate::summary::{Counts, put_summary};
 use crate::tests::sink_of;
