@@ -6,8 +6,8 @@ use Rattle.log_record.specs.declared.rec.Rec.{Rec}
 use Rattle.log_record.specs.declared.rec.Rec.TheVariants.{Update, Commit, Short, Over}
 use Rattle.log_record.specs.declared.rec.Entry.{Entry}
 use Rattle.log_record.specs.Spelling.{IsTxn, IsSpellable, spelling}
+use Rattle.log_record.specs.declared.limits.TheConstants.{MOST_ACCOUNTS, MOST_BALANCE}
 use Rattle.lsn_space.specs.declared.lsn.TheConstants.{LAST}
-use Rattle.lock_core.specs.declared.limits.TheConstants.{MOST_BALANCE}
 use Rattle.lock_core.specs.Alone.{planned_records}
 use Rattle.lock_core.specs.Transactions.{recs_of, in_order}
 use Rattle.txn_script.specs.Script.{IsAllowedLeg}
@@ -124,7 +124,7 @@ moving-placed number transfer payer payee placed books new rec end moving is =
     }
 
 -- the Updates can be spelled
-module _ (number accounts : ℕ) (transfer : Transfer) (txn : IsTxn number) (allowed : IsAllowedLeg accounts (leg_of transfer)) (few : accounts ≤ 4096) where
+module _ (number accounts : ℕ) (transfer : Transfer) (txn : IsTxn number) (allowed : IsAllowedLeg accounts (leg_of transfer)) (few : accounts ≤ MOST_ACCOUNTS) where
   pub loss-spellable : (payer : Taken) → payer.mark ≤ LAST → IsSpellable (loss_of number transfer payer)
   loss-spellable payer low = (txn, (let below = allowed.payer in omega arith), less-delta transfer.amount allowed.some allowed.most, low)
 

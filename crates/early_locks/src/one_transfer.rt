@@ -2,7 +2,7 @@
 //! order that early lock release asks for, and how giving back at durable differs from it.
 ghost use Rattle.std.specs.Prelude.{◌≡◌, ◌≢◌, ◌<◌, ◌≤◌, ◌+◌, false, [], ◌∷◌, ◌++◌, IfSome, IfNone, OnSome};
 ghost use Rattle.log_record.specs.Spelling.{IsTxn};
-ghost use Rattle.lock_core.specs.declared.limits.TheConstants.{MOST_BALANCE};
+ghost use Rattle.log_record.specs.declared.limits.TheConstants.{MOST_BALANCE};
 ghost use Rattle.lock_core.specs.Transactions.{recs_of, has_commit};
 ghost use Rattle.txn_script.specs.Script.{IsAllowedLeg};
 ghost use Rattle.log_table.specs.Books.{taking, giving};
@@ -14,9 +14,8 @@ ghost use Rattle.early_locks.specs.Transfers.{leg_of, job_of, taken_job, held_of
 
 use crate::giving::{give, give_durable};
 use crate::taking::{Taken, try_take};
-use lock_core::MOST_BALANCE;
 use log_disk::Gate;
-use log_record::{Rec, spell};
+use log_record::{MOST_BALANCE, Rec, spell};
 use log_table::{LogTable, Seat};
 use lsn_space::Lsn;
 use ring_buffer::{Refused, insert_alone};

@@ -11,7 +11,7 @@ use Rattle.log_record.specs.declared.rec.Entry.{Entry}
 use Rattle.log_record.specs.LogList.{units_of, end_of, size_of}
 use Rattle.log_record.specs.Spelling.{spelling}
 use Rattle.log_record.specs.declared.rec.Rec.TheVariants.{Genesis, Update, Commit, Short, Over, Note}
-use Rattle.lock_core.specs.declared.limits.TheConstants.{MOST_BALANCE}
+use Rattle.log_record.specs.declared.limits.TheConstants.{MOST_BALANCE}
 use Rattle.lock_core.specs.History.{history_from}
 use Rattle.lock_core.specs.Records.{txn_of, ends, commits, changes_of, gain, loss}
 use Rattle.lock_core.specs.Transactions.{recs_of, records_of, has_commit, is_committed, all_without_prev, in_order}

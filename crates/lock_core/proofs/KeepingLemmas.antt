@@ -6,7 +6,7 @@ use native.Mathlib.Decide.{ℕ_discrete}
 use Rattle.log_record.specs.declared.rec.Rec.{Rec}
 use Rattle.log_record.specs.declared.rec.Entry.{Entry}
 use Rattle.log_record.specs.declared.rec.Rec.TheVariants.{Update}
-use Rattle.lock_core.specs.declared.limits.TheConstants.{ENDED}
+use Rattle.lock_core.specs.declared.update_links.TheConstants.{ENDED}
 use Rattle.lock_core.specs.declared.txn_table.TxnTable.{TxnTable}
 use Rattle.lock_core.specs.declared.update_links.UpdateLink.{UpdateLink}
 use Rattle.lock_core.specs.declared.transactions.Transactions.{Transactions}

@@ -1,15 +1,22 @@
--- The last Commit that an Update names is the base state's, or a Commit of the list.
-use Rattle.std.proofs.Common.{◌≡◌, inl, inr, ◌&&◌, ℕ, cond, Bool, true, false, List, [], ◌∷◌, refl, ap}
+-- The last Commit on an account is the base state's, or a Commit of the list; in a whole log it is 0, or a Commit of the log.
+use Rattle.std.proofs.Common.{◌≡◌, ◌⊎◌, inl, inr, ◌&&◌, ℕ, cond, Bool, true, false, List, [], ◌∷◌, refl, ap, ◌∙◌}
+use Rattle.log_record.specs.declared.rec.Rec.{Rec}
 use Rattle.log_record.specs.declared.rec.Entry.{Entry}
+use Rattle.log_record.specs.declared.rec.Rec.TheVariants.{Genesis, Update, Commit, Short, Over, Note}
 use Rattle.lock_core.specs.Records.{txn_of, commits}
 use Rattle.lock_core.specs.Transactions.{updates_of, touches}
-use Rattle.lock_core.specs.Sums.{BaseState, last_commit_of, IsLastCommit}
+use Rattle.lock_core.specs.Sums.{BaseState, last_commit_of, IsCommitOn}
+use Rattle.lock_core.specs.Lawful.{genesis_of, with_genesis}
 
-pub last_commit_of-is : (base : BaseState) (h : List Entry) (account : ℕ) → IsLastCommit base h account (last_commit_of base h account)
+-- the base state's last Commit on the account, or one of the history
+abbrev IsBaseOrCommitOn : BaseState → List Entry → ℕ → ℕ → Type 0
+IsBaseOrCommitOn base h account end = (end ≡ base.last_commit account) ⊎ IsCommitOn h account end
+
+last_commit_of-is : (base : BaseState) (h : List Entry) (account : ℕ) → IsBaseOrCommitOn base h account (last_commit_of base h account)
 last_commit_of-is base [] account = inl refl
 last_commit_of-is base (entry ∷ h) account = by_case (commits entry.rec) (touches account (updates_of (txn_of entry.rec) h)) refl refl (last_commit_of-is base h account)
   where
-    older : (end : ℕ) → IsLastCommit base h account end → IsLastCommit base (entry ∷ h) account end
+    older : (end : ℕ) → IsBaseOrCommitOn base h account end → IsBaseOrCommitOn base (entry ∷ h) account end
     older end (inl is) = inl is
     older end (inr found) = inr (record {
       commit = found.commit;
@@ -22,9 +29,30 @@ last_commit_of-is base (entry ∷ h) account = by_case (commits entry.rec) (touc
     })
 
     by_case : (is_commit changes : Bool) → commits entry.rec ≡ is_commit → touches account (updates_of (txn_of entry.rec) h) ≡ changes
-        → IsLastCommit base h account (last_commit_of base h account)
-        → IsLastCommit base (entry ∷ h) account (cond (is_commit && changes) entry.end (last_commit_of base h account))
+        → IsBaseOrCommitOn base h account (last_commit_of base h account)
+        → IsBaseOrCommitOn base (entry ∷ h) account (cond (is_commit && changes) entry.end (last_commit_of base h account))
     by_case true true is on before =
         inr (record { commit = entry; later = []; front = h; whole = refl; is_commit = is; changes = on; place = refl })
     by_case true false is off before = older (last_commit_of base h account) before
     by_case false changes is on before = older (last_commit_of base h account) before
+
+pub genesis_of-last_commit : (h : List Entry) (account : ℕ) → (genesis_of h).last_commit account ≡ 0
+genesis_of-last_commit [] account = refl
+genesis_of-last_commit (entry ∷ h) account = by_kind entry.rec (genesis_of-last_commit h account)
+  where
+    by_kind : (rec : Rec) → (genesis_of h).last_commit account ≡ 0 → (with_genesis rec (genesis_of h)).last_commit account ≡ 0
+    by_kind (Genesis account balance) before = before
+    by_kind (Update txn account delta prev) before = before
+    by_kind (Commit txn legs) before = before
+    by_kind (Short txn leg) before = before
+    by_kind (Over txn leg) before = before
+    by_kind (Note txn text) before = before
+
+pub genesis_commit-is : (h : List Entry) (account : ℕ)
+    → (last_commit_of (genesis_of h) h account ≡ 0) ⊎ IsCommitOn h account (last_commit_of (genesis_of h) h account)
+genesis_commit-is h account = by_case (last_commit_of-is (genesis_of h) h account)
+  where
+    by_case : IsBaseOrCommitOn (genesis_of h) h account (last_commit_of (genesis_of h) h account)
+        → (last_commit_of (genesis_of h) h account ≡ 0) ⊎ IsCommitOn h account (last_commit_of (genesis_of h) h account)
+    by_case (inl is) = inl (is ∙ genesis_of-last_commit h account)
+    by_case (inr on) = inr on

@@ -1,5 +1,5 @@
 -- What a lawful list keeps that goes on from another; and that nothing moves an account that it doesn't have.
-use Rattle.std.proofs.Common.{◌≡◌, ◌<◌, ◌≤◌, ◌==◌, ◌&&◌, ◌||◌, ℕ, ◌+◌, cond, ℤ, Bool, true, false, List, [], ◌∷◌, ◌++◌, refl, ap, ◌∙◌, sym, subst, arith, ne_eqb}
+use Rattle.std.proofs.Common.{◌≡◌, ◌⊎◌, ◌<◌, ◌≤◌, ◌==◌, ◌&&◌, ◌||◌, ℕ, ◌+◌, cond, ℤ, Bool, true, false, List, [], ◌∷◌, ◌++◌, refl, ap, ◌∙◌, sym, subst, arith, ne_eqb}
 use Rattle.std.specs.List.{AllByRecursion}
 use Rattle.log_record.specs.declared.rec.Rec.{Rec}
 use Rattle.log_record.specs.declared.rec.Entry.{Entry}
@@ -8,12 +8,12 @@ use Rattle.log_record.specs.Spelling.{IsSpellable}
 use Rattle.lock_core.specs.declared.update.Change.{Change}
 use Rattle.lock_core.specs.Records.{txn_of, commits, changes_of, gain, loss}
 use Rattle.lock_core.specs.Transactions.{updates_of, touches, is_committed, ShareNoTransaction}
-use Rattle.lock_core.specs.Tests.{KnowsAccount, OpensLedger}
-use Rattle.lock_core.specs.Sums.{BaseState, moved, moved_by, sum_below, last_commit_of, IsLastCommit}
+use Rattle.lock_core.specs.Tests.{KnowsAccount, OpensLedger, IsCurrent}
+use Rattle.lock_core.specs.Sums.{BaseState, moved, moved_by, sum_below, last_commit_of, IsCommitOn}
 use Rattle.lock_core.specs.Lawful.{IsLawful, IsLawfulAfter, genesis_of, with_genesis, base_state_of}
-use Rattle.lock_core.specs.Soundness.{HasPredecessors, IsSoundAfter}
+use Rattle.lock_core.specs.Soundness.{IsBuiltOn, HasPredecessors, IsSoundAfter}
 use Rattle.lock_core.proofs.Meeting.{AreMet, meets-log, met-log}
-use Rattle.lock_core.proofs.LastCommits.{last_commit_of-is}
+use Rattle.lock_core.proofs.LastCommits.{genesis_of-last_commit, genesis_commit-is}
 use Rattle.lock_core.proofs.Fronts.{lawful-front}
 use Rattle.lock_core.proofs.ListLemmas.{all-split}
 use Rattle.lock_core.proofs.Appending.{genesis_of-append, lawful-append}
@@ -22,11 +22,18 @@ use Rattle.lock_core.proofs.Conserving.{sum_below-log}
 use Rattle.lock_core.proofs.KindLemmas.{accounts-genesis}
 use Rattle.lock_core.proofs.Pairing.{updates_of-fits}
 
+built-on : (front : List Entry) (changes : List Change) → AllByRecursion (IsCurrent (genesis_of front) front) changes
+    → AllByRecursion (IsBuiltOn front) changes
+built-on front [] current = tt
+built-on front (change ∷ changes) current =
+    let there = subst (λ end. (end ≡ 0) ⊎ IsCommitOn front change.account end) (sym current.0) (genesis_commit-is front change.account) in
+    (record { last = current.0; there = there }, built-on front changes current.1)
+
 pub predecessors-lawful : (h : List Entry) → IsLawful h → HasPredecessors h
-predecessors-lawful h lawful later front end txn account delta prev whole =
-    let entry : Entry = record { end = end; rec = Update txn account delta prev } in
+predecessors-lawful h lawful later front end txn legs whole =
+    let entry : Entry = record { end = end; rec = Commit txn legs } in
     let before = lawful-front later (entry ∷ front) (subst IsLawful whole lawful) in
-    subst (IsLastCommit (genesis_of front) front account) (sym (meets-log front entry before.0).prev) (last_commit_of-is (genesis_of front) front account)
+    built-on front (updates_of txn front) (meets-log front entry before.0).stale
 
 pub sound-after : (before later : List Entry) → IsLawful before → 0 < (genesis_of before).accounts
     → AllByRecursion (λ (entry : Entry). IsSpellable entry.rec) (later ++ before) → IsLawfulAfter (base_state_of before) later
@@ -89,18 +96,6 @@ module _ (base : BaseState) (account : ℕ) (past : base.accounts ≤ account) w
       by_kind : (is on : Bool) → on ≡ false → cond (is && on) entry.end (last_commit_of base h account) ≡ last_commit_of base h account
       by_kind true on off = ap (λ b. cond b entry.end (last_commit_of base h account)) off
       by_kind false on off = refl
-
-genesis_of-last_commit : (h : List Entry) (account : ℕ) → (genesis_of h).last_commit account ≡ 0
-genesis_of-last_commit [] account = refl
-genesis_of-last_commit (entry ∷ h) account = by_kind entry.rec (genesis_of-last_commit h account)
-  where
-    by_kind : (rec : Rec) → (genesis_of h).last_commit account ≡ 0 → (with_genesis rec (genesis_of h)).last_commit account ≡ 0
-    by_kind (Genesis account balance) before = before
-    by_kind (Update txn account delta prev) before = before
-    by_kind (Commit txn legs) before = before
-    by_kind (Short txn leg) before = before
-    by_kind (Over txn leg) before = before
-    by_kind (Note txn text) before = before
 
 genesis_of-past : (h : List Entry) (account : ℕ) → IsLawful h → (genesis_of h).accounts ≤ account → (genesis_of h).balance account ≡ 0
 genesis_of-past [] account lawful past = refl

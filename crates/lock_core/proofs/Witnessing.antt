@@ -2,6 +2,7 @@
 use Rattle.std.proofs.Common.{◌≢◌, ◌<◌, ◌≤◌, ◌+◌, ℕ, zero, suc, ◌∙◌, pos, negsuc, true≢false, inl, List, [], ◌∷◌, refl, sym, arith}
 use Rattle.log_record.specs.declared.rec.Entry.{Entry}
 use Rattle.log_record.specs.declared.rec.Rec.TheVariants.{Update, Commit}
+use Rattle.log_record.specs.declared.limits.TheConstants.{MOST_BALANCE}
 use Rattle.lock_core.specs.History.{history}
 use Rattle.lock_core.specs.Transactions.{ShareNoTransaction}
 use Rattle.lock_core.specs.Sums.{AreInRange}
@@ -9,7 +10,6 @@ use Rattle.lock_core.specs.Lawful.{IsLawfulAfter, genesis_of, base_state_of}
 use Rattle.lock_core.specs.Alone.{IsAllowed}
 use Rattle.lock_core.specs.Serial.{numbered, HasNoOthers, IsSerialAfter}
 use Rattle.lock_core.specs.AnyOrder.{taken, given, legs_of, HasRoomFor}
-use Rattle.lock_core.specs.declared.limits.TheConstants.{MOST_BALANCE}
 use Rattle.lock_core.specs.Witness.{genesis_log, transfer, transfer_history}
 use Rattle.lock_core.proofs.OneMore.{of_transaction-other}
 

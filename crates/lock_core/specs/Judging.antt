@@ -3,7 +3,7 @@ use Rattle.std.specs.Prelude.{◌≡◌, ◌<◌, ℕ, ◌*◌, false, List, len
 use Rattle.std.specs.List.{AllByRecursion}
 use Rattle.lsn_space.specs.Accounts.{Accounts}
 use Rattle.log_record.specs.declared.rec.Entry.{Entry}
-use Rattle.lock_core.specs.declared.limits.TheConstants.{MOST_ACCOUNTS}
+use Rattle.log_record.specs.declared.limits.TheConstants.{MOST_ACCOUNTS}
 use Rattle.lock_core.specs.declared.reason.Why.{Why}
 use Rattle.lock_core.specs.declared.update.Change.{Change}
 use Rattle.lock_core.specs.Transactions.{records_of, updates_of, has_end}

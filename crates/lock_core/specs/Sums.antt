@@ -1,11 +1,11 @@
 -- What a history says of the accounts: balances as sums over the committed transactions, and last Commits.
-use Rattle.std.specs.Prelude.{◌≡◌, ◌==◌, ◌&&◌, ℕ, zero, suc, ◌+◌, ◌-◌, ◌<◌, max, ℤ, if◌then◌else◌, Bool, true, ◌⊎◌, List, [], ◌∷◌, ◌++◌, length, slice_get, Some, Contains}
+use Rattle.std.specs.Prelude.{◌≡◌, ◌==◌, ◌&&◌, ℕ, zero, suc, ◌+◌, ◌-◌, ◌<◌, max, ℤ, if◌then◌else◌, Bool, true, List, [], ◌∷◌, ◌++◌, length, slice_get, Some}
 use Rattle.log_record.specs.declared.rec.Entry.{Entry}
 use Rattle.log_record.specs.Spelling.{IsBalance}
 use Rattle.lock_core.specs.declared.update.Change.{Change}
 use Rattle.lock_core.specs.History.{end_from}
 use Rattle.lock_core.specs.Records.{txn_of, commits, changes_of, gain, loss}
-use Rattle.lock_core.specs.Transactions.{of_transaction, updates_of, is_committed, touches}
+use Rattle.lock_core.specs.Transactions.{updates_of, is_committed, touches}
 
 -- a log before the history: where it ends, how many accounts it has, and what it says of each of them
 pub record BaseState : Type 0 where
@@ -62,23 +62,10 @@ pub record IsCommitOn (h : List Entry) (account end : ℕ) : Type 0 where
   pub changes : touches account (updates_of (txn_of commit.rec) front) ≡ true
   pub place : end ≡ commit.end
 
--- the base state's last Commit on the account, or one of the history
-abbrev pub IsLastCommit : BaseState → List Entry → ℕ → ℕ → Type 0
-IsLastCommit base h account end = (end ≡ base.last_commit account) ⊎ IsCommitOn h account end
-
 -- the base state that a history which follows a base state leaves
 abbrev pub base_after : BaseState → List Entry → BaseState
 base_after base h =
     record { end = end_from base.end h; accounts = base.accounts; balance = balance_of base h; last_commit = last_commit_of base h }
-
--- transaction x depends on y: an Update of x names the Commit of y
-pub record DependsOn (h : List Entry) (x y : ℕ) : Type 0 where
-  pub update : Change
-  pub of_x : Contains (updates_of x h) update
-  pub commit : Entry
-  pub of_y : Contains (of_transaction y h) commit
-  pub is_commit : commits commit.rec ≡ true
-  pub named : update.prev ≡ commit.end
 
 -- the greatest transaction number, 0 where there is none
 abbrev pub greatest_txn : List Entry → ℕ

@@ -8,13 +8,13 @@ ghost use Rattle.lock_core.specs.declared.update.Change.{Change};
 ghost use Rattle.lock_core.specs.History.{history, history_from};
 ghost use Rattle.lock_core.specs.Records.{txn_of, commits, without_prev};
 ghost use Rattle.lock_core.specs.Transactions.{records_of, updates_of, has_end, is_committed, touches, all_without_prev, in_order, ShareNoTransaction};
-ghost use Rattle.lock_core.specs.Sums.{BaseState, base_after, moved, total, IsBalanceOf, balance_of, AreInRange, last_commit_of, IsLastCommit, sum_below, greatest_txn};
+ghost use Rattle.lock_core.specs.Sums.{BaseState, base_after, moved, total, IsBalanceOf, balance_of, AreInRange, last_commit_of, sum_below, greatest_txn};
 ghost use Rattle.lock_core.specs.Tests.{IsPaired};
 ghost use Rattle.lock_core.specs.Lawful.{IsLawful, IsLawfulAfter, genesis_of, base_state_of};
 ghost use Rattle.lock_core.specs.Plain.{plain_last_commit, IsPlainlyPaired};
 ghost use Rattle.lock_core.specs.Alone.{Job, Outcome, IsAllowed, outcome_alone, outcome_records, planned_records};
 ghost use Rattle.lock_core.specs.Serial.{Task, numbered, IsSerialAfter, IsPartlySerialAfter, IsCutShort};
-ghost use Rattle.lock_core.specs.Soundness.{IsSoundAfter};
+ghost use Rattle.lock_core.specs.Soundness.{HasPredecessors, IsSoundAfter};
 ghost use Rattle.lock_core.specs.AnyOrder.{taken, given, legs_of, HasRoomFor, IsDoneIn, done_records, weight_of};
 ghost use Rattle.lock_core.specs.Witness.{genesis_log, transfer, transfer_history};
 
@@ -98,14 +98,9 @@ pub fn plain_words()
         → IsPaired (updates_of txn h) change ↔ IsPlainlyPaired (updates_of txn h) change }
 {}
 
-/// A law: the last Commit that an Update names is the base state's, or a Commit of the list before it.
+/// A law: in a lawful list what a Commit commits names the last Commit on each account before it, which is there.
 pub fn predecessors()
-    ensures log { (h : List Entry) (end txn account : ℕ) (delta : ℤ) (prev : ℕ)
-        → IsLawful (record { end = end; rec = Rec.Update txn account delta prev } ∷ h)
-        → IsLastCommit (genesis_of h) h account prev }
-    ensures after { (base : BaseState) (h : List Entry) (end txn account : ℕ) (delta : ℤ) (prev : ℕ)
-        → IsLawfulAfter base (record { end = end; rec = Rec.Update txn account delta prev } ∷ h)
-        → IsLastCommit base h account prev }
+    ensures { (h : List Entry) → IsLawful h → HasPredecessors h }
 {}
 
 /// A law: lists share no transaction where the numbers of the one are below a number, and those of the other are not. What

@@ -8,12 +8,11 @@ ghost use Rattle.lock_core.specs.Keeping.{KeepsTransactions, KeepsLedger};
 ghost use Rattle.lock_core.specs.Taking.{TakesEntry};
 
 use crate::checks::{are_current, is_current, is_paired};
-use crate::limits::MOST_ACCOUNTS;
 use crate::reason::{JudgeFault, Why};
 use crate::settling::settle;
 use crate::transactions::Transactions;
 use crate::update::Change;
-use log_record::Rec;
+use log_record::{MOST_ACCOUNTS, Rec};
 use lsn_space::{Balances, Lsn, NoMemory};
 use std::alloc::Global;
 

@@ -6,7 +6,6 @@ mod checks;
 mod judge;
 mod laws;
 mod ledger;
-mod limits;
 mod plain;
 mod reason;
 mod settling;
@@ -21,7 +20,6 @@ pub use laws::{
     one_more_record, one_transfer_is_serial, own_accounts_alone, partly_serial_front, plain_words,
     planned_records_are, predecessors, sum_is_kept, sums_go_on,
 };
-pub use limits::{MOST_ACCOUNTS, MOST_BALANCE};
 pub use plain::{PlainFault, plain_accounts};
 pub use reason::{JudgeFault, Why};
 pub use update::{Change, txn_of};

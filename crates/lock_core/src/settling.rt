@@ -7,8 +7,8 @@ ghost use Rattle.lock_core.specs.Transactions.{touches};
 ghost use Rattle.lock_core.specs.Sums.{moved};
 ghost use Rattle.lock_core.specs.Settling.{row, IsBalanceAfter, LeavesRange, SettlesAccount, Settles, AreRowsInRange, LeavesSome};
 
-use crate::limits::MOST_BALANCE;
 use crate::update::Change;
+use log_record::MOST_BALANCE;
 use lsn_space::{Balances, Lsn};
 
 /// What the change adds to the account.

@@ -5,10 +5,9 @@ ghost use Rattle.lock_core.specs.Records.{txn_of, ends};
 ghost use Rattle.lock_core.specs.Transactions.{records_of, updates_of, has_end};
 ghost use Rattle.lock_core.specs.Keeping.{update_at, link_at, IsOpenAt, KeepsTransactions};
 
-use crate::limits::ENDED;
 use crate::txn_table::TxnTable;
 use crate::update::Change;
-use crate::update_links::{UpdateLink, UpdateLinks};
+use crate::update_links::{ENDED, UpdateLink, UpdateLinks};
 use arrayvec::ArrayVec;
 use lsn_space::NoMemory;
 use std::alloc::Global;

@@ -1,16 +1,18 @@
 ghost use Rattle.std.specs.Prelude.{◌≡◌, ◌<◌, ◌≤◌, ◌++◌, ◌∷◌, [], List, length, IfOk};
 ghost use Rattle.log_record.specs.Spelling.{IsAccount};
 ghost use Rattle.lock_core.specs.declared.update.Change.{Change};
-ghost use Rattle.lock_core.specs.declared.limits.TheConstants.{ENDED};
+ghost use Rattle.lock_core.specs.declared.update_links.TheConstants.{ENDED};
 ghost use Rattle.lock_core.specs.Packing.{unpacked};
 ghost use Rattle.lock_core.specs.Keeping.{no_link, link_at, HasChain};
 
-use crate::limits::ENDED;
 use crate::update::Change;
 use arrayvec::ArrayVec;
 use lsn_space::{Lsn, NoMemory};
 use std::alloc::Global;
 use std::marker::Model;
+
+/// What stands in the place of a transaction's newest Update once the transaction has its end record.
+pub const ENDED: u32 = u32::MAX;
 
 /// What an Update says, how many Updates its transaction has with it, and the place of the one before it, 0 where it is the
 /// first.

@@ -1,7 +1,9 @@
 -- Records, and how they are spelled in units of 64 bits.
-use Rattle.std.specs.Prelude.{◌≡◌, ◌≢◌, ℕ, zero, suc, ◌+◌, ◌-◌, ◌*◌, ◌/◌, ◌<◌, ◌≤◌, ◌^◌, ℤ, pos, negsuc, ◌≤ℤ◌, List, [], ◌∷◌, ◌++◌, length, take, drop, replicate, All}
+use Rattle.std.specs.Prelude.{◌≡◌, ◌≢◌, ℕ, zero, suc, ◌+◌, ◌-◌, ◌*◌, ◌/◌, ◌<◌, ◌≤◌, ◌^◌, ℤ, pos, neg_ℤ, ◌≤ℤ◌, List, [], ◌∷◌, ◌++◌, length, take, drop, replicate, All}
 use Rattle.std.specs.Int.{w32, cast_unsigned}
+use Rattle.lsn_space.specs.declared.lsn.TheConstants.{LAST}
 use Rattle.lsn_space.specs.Unit.{unit_value}
+use Rattle.log_record.specs.declared.limits.TheConstants.{MOST_ACCOUNTS, MOST_BALANCE, LAST_TXN}
 use Rattle.log_record.specs.declared.rec.Rec.{Rec}
 use Rattle.log_record.specs.declared.rec.Rec.TheVariants.{Genesis, Update, Commit, Short, Over, Note}
 
@@ -37,20 +39,20 @@ spelling (Over txn leg) = header 5 1 leg txn ∷ []
 spelling (Note txn text) = header 6 (1 + units_for (length text)) (length text) txn ∷ text_units text
 
 abbrev pub IsAccount : ℕ → Type 0
-IsAccount account = account < 4096
+IsAccount account = account < MOST_ACCOUNTS
 
 abbrev pub IsBalance : ℕ → Type 0
-IsBalance balance = balance ≤ 2147483647
+IsBalance balance = balance ≤ MOST_BALANCE
 
 abbrev pub IsTxn : ℕ → Type 0
-IsTxn txn = (1 ≤ txn) × (txn ≤ 4294967295)
+IsTxn txn = (1 ≤ txn) × (txn ≤ LAST_TXN)
 
 -- a number of legs, or the number of a leg
 abbrev pub IsLeg : ℕ → Type 0
 IsLeg leg = (1 ≤ leg) × (leg ≤ 8)
 
 abbrev pub IsDelta : ℤ → Type 0
-IsDelta delta = (pos 0 ≢ delta) × (negsuc 2147483646 ≤ℤ delta) × (delta ≤ℤ pos 2147483647)
+IsDelta delta = (pos 0 ≢ delta) × (neg_ℤ (pos MOST_BALANCE) ≤ℤ delta) × (delta ≤ℤ pos MOST_BALANCE)
 
 -- a byte of printable ASCII
 abbrev pub IsPrintable : ℕ → Type 0
@@ -62,7 +64,7 @@ IsNoteText text = (1 ≤ length text) × (length text ≤ 200) × All IsPrintabl
 -- the fields of the record are in their ranges, so that its spelling is one
 abbrev pub IsSpellable : Rec → Type 0
 IsSpellable (Genesis account balance) = IsAccount account × IsBalance balance
-IsSpellable (Update txn account delta prev) = IsTxn txn × IsAccount account × IsDelta delta × (prev ≤ 4294967295)
+IsSpellable (Update txn account delta prev) = IsTxn txn × IsAccount account × IsDelta delta × (prev ≤ LAST)
 IsSpellable (Commit txn legs) = IsTxn txn × IsLeg legs
 IsSpellable (Short txn leg) = IsTxn txn × IsLeg leg
 IsSpellable (Over txn leg) = IsTxn txn × IsLeg leg

@@ -1,11 +1,6 @@
 ghost use Rattle.std.specs.Prelude.{◌≡◌};
 ghost use Rattle.log_record.specs.Spelling.{header};
 
-/// An account is below this.
-pub const ACCOUNTS: u16 = 4096;
-
-pub const MOST_BALANCE: u64 = 2147483647;
-
 /// The most legs of a transaction.
 pub const MOST_LEGS: u16 = 8;
 

@@ -6,9 +6,8 @@ ghost use Rattle.log_record.specs.Spelling.{spelling, IsTxn, IsLeg, BeginsWith};
 ghost use Rattle.log_record.specs.declared.header.TheConstants.{COMMIT, GENESIS, NOTE, OVER, SHORT, UPDATE};
 ghost use Rattle.log_record.specs.Reading.{header_unit, Spells};
 
-use crate::header::{
-    ACCOUNTS, COMMIT, GENESIS, Header, MOST_BALANCE, MOST_LEGS, NOTE, OVER, SHORT, UPDATE,
-};
+use crate::header::{COMMIT, GENESIS, Header, MOST_LEGS, NOTE, OVER, SHORT, UPDATE};
+use crate::limits::{MOST_ACCOUNTS, MOST_BALANCE};
 use crate::note::{note_units, read_text};
 use crate::rec::Rec;
 use crate::text::LONGEST_NOTE;
@@ -66,15 +65,17 @@ fn genesis(header: Header, body: &[u64]) -> Result<Rec, BadRec>
     ensures found { IfOk result (Spells header body.now) }
     ensures bad { OnErr result ((r : Rec) → Spells header body.now r → ⊥) }
 {
-    match body {
-        [balance] if header.txn == 0 && header.field < ACCOUNTS && *balance <= MOST_BALANCE => {
-            Ok(Rec::Genesis {
-                account: header.field as u32,
-                balance: *balance as u32,
-            })
-        }
-        _ => Err(BadRec),
+    let [balance] = body else {
+        return Err(BadRec);
+    };
+    let account = u32::from(header.field);
+    if header.txn != 0 || account >= MOST_ACCOUNTS || *balance > u64::from(MOST_BALANCE) {
+        return Err(BadRec);
     }
+    Ok(Rec::Genesis {
+        account,
+        balance: *balance as u32,
+    })
 }
 
 fn update(header: Header, body: &[u64]) -> Result<Rec, BadRec>
@@ -86,13 +87,14 @@ fn update(header: Header, body: &[u64]) -> Result<Rec, BadRec>
     let [unit] = body else {
         return Err(BadRec);
     };
+    let account = u32::from(header.field);
     let delta = ((*unit >> 32) as u32).cast_signed();
-    if header.txn == 0 || header.field >= ACCOUNTS || delta == 0 || delta == i32::MIN {
+    if header.txn == 0 || account >= MOST_ACCOUNTS || delta == 0 || delta == i32::MIN {
         return Err(BadRec);
     }
     Ok(Rec::Update {
         txn: header.txn,
-        account: header.field as u32,
+        account,
         delta,
         prev: Lsn::new((*unit & 0xffff_ffff) as u32),
     })

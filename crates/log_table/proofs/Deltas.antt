@@ -2,7 +2,7 @@
 use Rattle.std.proofs.Common.{◌≡◌, ℕ, zero, suc, ◌≤◌, pos, neg_ℤ, true, refl, arith}
 use Rattle.std.proofs.lemmas.Int.{ints}
 use Rattle.log_record.specs.Spelling.{IsDelta}
-use Rattle.lock_core.specs.declared.limits.TheConstants.{MOST_BALANCE}
+use Rattle.log_record.specs.declared.limits.TheConstants.{MOST_BALANCE}
 use Rattle.lock_core.specs.Records.{lowers, gain, loss}
 
 pub more-delta : (amount : ℕ) → 1 ≤ amount → amount ≤ MOST_BALANCE → IsDelta (pos amount)

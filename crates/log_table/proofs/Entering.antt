@@ -9,7 +9,7 @@ use Rattle.log_record.specs.declared.rec.Rec.{Rec}
 use Rattle.log_record.specs.declared.rec.Rec.TheVariants.{Genesis, Update, Commit, Short, Over, Note}
 use Rattle.log_record.specs.declared.rec.Entry.{Entry}
 use Rattle.log_record.specs.Spelling.{IsNoteText, IsSpellable}
-use Rattle.lock_core.specs.declared.limits.TheConstants.{MOST_BALANCE}
+use Rattle.log_record.specs.declared.limits.TheConstants.{MOST_BALANCE}
 use Rattle.lock_core.specs.Records.{txn_of, commits, ends, gain, loss}
 use Rattle.lock_core.specs.History.{end_from}
 use Rattle.lock_core.specs.Transactions.{recs_of, records_of, changes_in, has_end, has_commit, is_committed, touches, all_without_prev, in_order}

@@ -5,6 +5,7 @@ use mathlib.Core.Option.{some}
 use lib.ListN.{get_elem?}
 use Rattle.atomic_table.proofs.Lists.{set_else}
 use Rattle.slot_word.specs.AccountWord.{held_in, balance_in, mark_in}
+use Rattle.log_record.specs.declared.limits.TheConstants.{MOST_ACCOUNTS}
 use Rattle.log_record.specs.declared.rec.Entry.{Entry}
 use Rattle.log_record.specs.Spelling.{IsBalance}
 use Rattle.lock_core.specs.Sums.{BaseState}
@@ -92,7 +93,7 @@ module _ (base : BaseState) (words : ℕ → ℕ) (h : List Entry) (all : List B
         anything (job ∷ jobs) = (tt, anything jobs)
 
 -- at first nothing is held or taken, and the words are those of the base state
-pub starts-free : (base : BaseState) (words : ℕ → ℕ) → base.accounts ≤ 4096
+pub starts-free : (base : BaseState) (words : ℕ → ℕ) → base.accounts ≤ MOST_ACCOUNTS
     → ((account : ℕ) → account < base.accounts → (held_in (words account) ≡ false) × (balance_in (words account) ≡ base.balance account)
     × (mark_in (words account) ≡ base.last_commit account) × IsBalance (base.balance account))
     → KeepsAccounts base words [] (no_books ∷ [])

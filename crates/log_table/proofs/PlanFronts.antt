@@ -5,8 +5,8 @@ use Rattle.std.specs.List.{AllByRecursion}
 use Rattle.log_record.specs.declared.rec.Rec.{Rec}
 use Rattle.log_record.specs.declared.rec.Rec.TheVariants.{Genesis, Update, Commit, Short, Over, Note}
 use Rattle.log_record.specs.Spelling.{IsTxn, IsNoteText, IsSpellable}
+use Rattle.log_record.specs.declared.limits.TheConstants.{MOST_ACCOUNTS, MOST_BALANCE}
 use Rattle.lsn_space.specs.declared.lsn.TheConstants.{LAST}
-use Rattle.lock_core.specs.declared.limits.TheConstants.{MOST_BALANCE}
 use Rattle.lock_core.specs.Transactions.{has_end, in_order}
 use Rattle.lock_core.specs.Alone.{lacks, overfills, after_leg, with_note, leg_updates, planned_from, planned_records}
 use Rattle.lock_core.specs.Serial.{Task}
@@ -28,8 +28,8 @@ pub record IsPlanned (task : Task) (before : List Rec) (rec : Rec) (rest : List 
 
 -- a leg whose Updates can be spelled
 pub record IsSmallLeg (leg : ℕ × ℕ × ℕ) : Type 0 where
-  pub payer : leg.0 < 4096
-  pub payee : leg.1 < 4096
+  pub payer : leg.0 < MOST_ACCOUNTS
+  pub payee : leg.1 < MOST_ACCOUNTS
   pub least : 1 ≤ leg.2
   pub most : leg.2 ≤ MOST_BALANCE
 

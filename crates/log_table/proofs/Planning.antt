@@ -5,7 +5,7 @@ use Rattle.std.specs.Prelude.{MatchBool}
 use Rattle.log_record.specs.declared.rec.Rec.{Rec}
 use Rattle.log_record.specs.declared.rec.Rec.TheVariants.{Genesis, Update, Commit, Short, Over, Note}
 use Rattle.log_record.specs.Spelling.{IsBalance}
-use Rattle.lock_core.specs.declared.limits.TheConstants.{MOST_BALANCE}
+use Rattle.log_record.specs.declared.limits.TheConstants.{MOST_BALANCE}
 use Rattle.lock_core.specs.declared.update.Change.{Change}
 use Rattle.lock_core.specs.Records.{lowers, gain, loss}
 use Rattle.lock_core.specs.Transactions.{changes_in, has_end, touches, all_without_prev, in_order}

@@ -5,6 +5,7 @@ use Rattle.std.specs.List.{AllByRecursion}
 use mathlib.Core.Option.{some}
 use lib.ListN.{get_elem?}
 use Rattle.slot_word.specs.AccountWord.{held_in, balance_in, mark_in}
+use Rattle.log_record.specs.declared.limits.TheConstants.{MOST_ACCOUNTS}
 use Rattle.log_record.specs.declared.rec.Entry.{Entry}
 use Rattle.log_record.specs.Spelling.{IsTxn}
 use Rattle.txn_script.specs.Script.{IsAllowedJob}
@@ -50,7 +51,7 @@ pub record IsAllowed (accounts : ℕ) (taken : TakenJob) : Type 0 where
 -- A held account is held by exactly one seat, with the word's values as taken; a free one by none. A seat's last job is one of its
 -- jobs, and an allowed one.
 pub record HasOneHolder (accounts : ℕ) (words : ℕ → ℕ) (all : List Books) : Type 0 where
-  pub few : accounts ≤ 4096
+  pub few : accounts ≤ MOST_ACCOUNTS
   pub counts : (account : ℕ) → account < accounts → holders account all ≡ (if held_in (words account) then 1 else 0)
   pub taken : Everywhere (λ (books : Books). AllByRecursion (IsAsTaken accounts words) books.held) all
   pub last : Everywhere (λ (books : Books). 1 ≤ books.last.number → IsAllowed accounts books.last × (1 ≤ times_taken books.last.number books.jobs)) all

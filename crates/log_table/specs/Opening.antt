@@ -1,15 +1,16 @@
 -- What a table starts with.
 use Rattle.std.specs.Prelude.{◌≡◌, ℕ, ◌<◌, ◌≤◌, false, List, length, slice_index}
 use Rattle.slot_word.specs.AccountWord.{packed}
+use Rattle.log_record.specs.declared.limits.TheConstants.{MOST_ACCOUNTS}
 use Rattle.lock_core.specs.Settling.{row, AreRowsInRange}
 use Rattle.log_table.specs.declared.layout.TheConstants.{RING}
 use Rattle.log_table.specs.declared.table.Start.{Start}
 use Rattle.log_table.specs.Layout.{Account, index_of}
 
--- 1 to 4096 accounts, with balances in their range and last commits that end at most where the log does
+-- 1 to MOST_ACCOUNTS accounts, with balances in their range and last commits that end at most where the log does
 pub record HasAccounts (key : Start) : Type 0 where
   pub some_accounts : 1 ≤ length key.accounts.rows
-  pub few : length key.accounts.rows ≤ 4096
+  pub few : length key.accounts.rows ≤ MOST_ACCOUNTS
   pub balances : AreRowsInRange key.accounts.rows
   pub marks : (account : ℕ) → account < length key.accounts.rows → (row key.accounts.rows account).1 ≤ key.start
 

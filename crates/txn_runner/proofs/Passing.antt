@@ -8,7 +8,7 @@ use Rattle.log_record.specs.declared.rec.Rec.{Rec}
 use Rattle.log_record.specs.declared.rec.Rec.TheVariants.{Update, Commit, Short, Over}
 use Rattle.log_record.specs.declared.rec.Entry.{Entry as Placed}
 use Rattle.log_record.specs.Spelling.{IsLeg}
-use Rattle.lock_core.specs.declared.limits.TheConstants.{MOST_BALANCE}
+use Rattle.log_record.specs.declared.limits.TheConstants.{MOST_BALANCE}
 use Rattle.lock_core.specs.declared.update.Change.{Change}
 use Rattle.lock_core.specs.Alone.{outcome_from, outcome_alone, after_leg, planned_from, lacks, overfills, ShortAt, OverAt}
 use Rattle.lock_core.specs.Records.{gain, loss}

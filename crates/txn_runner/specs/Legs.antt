@@ -3,7 +3,7 @@ use Rattle.std.specs.Prelude.{◌≡◌, ℕ, ◌+◌, ◌≤◌, true, false, B
 use Rattle.log_record.specs.declared.rec.Rec.{Rec}
 use Rattle.log_record.specs.declared.rec.Rec.TheVariants.{Update}
 use Rattle.log_record.specs.Spelling.{IsTxn, IsSpellable}
-use Rattle.lock_core.specs.declared.limits.TheConstants.{MOST_BALANCE}
+use Rattle.log_record.specs.declared.limits.TheConstants.{MOST_BALANCE}
 use Rattle.lock_core.specs.declared.update.Change.{Change}
 use Rattle.lock_core.specs.Alone.{outcome_from, outcome_alone, after_leg, planned_from, end_record}
 use Rattle.lock_core.specs.Records.{gain, loss}

@@ -1,6 +1,6 @@
 //! A transfer gives its accounts back.
 ghost use Rattle.std.specs.Prelude.{◌≡◌, ◌<◌, ◌≤◌, [], true, All, length};
-ghost use Rattle.lock_core.specs.declared.limits.TheConstants.{MOST_BALANCE};
+ghost use Rattle.log_record.specs.declared.limits.TheConstants.{MOST_BALANCE};
 ghost use Rattle.log_table.specs.Seats.{IsOf, Becomes, view_of};
 ghost use Rattle.log_table.specs.Views.{gave_account};
 ghost use Rattle.ring_buffer.specs.Calls.{IsReady};

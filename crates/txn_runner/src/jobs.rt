@@ -1,4 +1,5 @@
 ghost use Rattle.std.specs.Prelude.{◌≡◌, ◌≤◌, ◌+◌, ◌<◌, length, IfOk};
+ghost use Rattle.log_record.specs.declared.limits.TheConstants.{LAST_TXN};
 
 use lsn_space::NoMemory;
 use std::alloc::Global;
@@ -13,7 +14,7 @@ pub struct Jobs {
     pub(crate) workers: u32,
     ghost some: { 1 ≤ first },
     ghost shared: { 1 ≤ workers },
-    ghost numbered: { first + length script ≤ 4294967295 },
+    ghost numbered: { first + length script ≤ LAST_TXN },
 }
 
 impl Jobs {
@@ -27,7 +28,7 @@ impl Jobs {
     ) -> Result<Jobs, NoMemory>
         requires some { 1 ≤ first }
         requires shared { 1 ≤ workers }
-        requires numbered { first + length script ≤ 4294967295 }
+        requires numbered { first + length script ≤ LAST_TXN }
         ensures script { IfOk result (λ jobs. jobs.script ≡ script) }
         ensures first { IfOk result (λ jobs. jobs.first ≡ first) }
         ensures workers { IfOk result (λ jobs. jobs.workers ≡ workers) }

@@ -7,16 +7,15 @@ ghost use Rattle.txn_runner.specs.Holdings.{account_of, taken_of};
 ghost use Rattle.txn_runner.specs.Inserts.{HasAdded, IsCutOff};
 ghost use Rattle.txn_runner.specs.Legs.{HoldsJob, StandsBefore, ReachesEnd, MayMakeLeg, AddsRecords, leg_records, CanBear, IsAfter};
 ghost use Rattle.log_table.specs.Books.{mark_taken};
-ghost use Rattle.lock_core.specs.declared.limits.TheConstants.{MOST_BALANCE};
+ghost use Rattle.log_record.specs.declared.limits.TheConstants.{MOST_BALANCE};
 
 use crate::cause::Cause;
 use crate::holding::Holding;
 use crate::inserting::insert_record;
 use crate::relief::Relief;
 use crate::rows::Answer;
-use lock_core::MOST_BALANCE;
 use log_disk::Gate;
-use log_record::Rec;
+use log_record::{MOST_BALANCE, Rec};
 use log_table::{LogTable, Seat};
 use lsn_space::Lsn;
 use std::sync::Wait;

@@ -7,8 +7,8 @@ ghost use Rattle.log_table.specs.Seats.{IsOf, view_of};
 ghost use Rattle.log_table.specs.Views.{hires};
 
 use crate::{Answer, Cause, Jobs, Relief, Row, Rows, Worked, YieldRelief, work};
-use lock_core::MOST_BALANCE;
 use log_disk::OpenGate;
+use log_record::MOST_BALANCE;
 use log_table::{LogTable, Seat, Start};
 use lsn_space::{Balances, LAST, Lsn, NoMemory};
 use std::alloc::Global;

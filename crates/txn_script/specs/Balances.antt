@@ -3,12 +3,12 @@ use Rattle.std.specs.Prelude.{◌≡◌, ◌<◌, ◌≤◌, ℕ, ◌+◌, List,
 use Rattle.lsn_space.specs.Accounts.{Accounts}
 use Rattle.lsn_space.specs.Number.{number_text}
 use Rattle.log_record.specs.Spelling.{IsBalance}
+use Rattle.log_record.specs.declared.limits.TheConstants.{MOST_ACCOUNTS}
 use Rattle.txn_script.specs.Lines.{lines}
-use Rattle.txn_script.specs.declared.opening.TheConstants.{MOST_ACCOUNTS}
 use Rattle.txn_script.specs.declared.fault.ParseFault.{ParseFault}
 use Rattle.txn_script.specs.declared.fault.ParseFault.TheVariants.{Line, NoMemory}
 
--- the lines of the text are these balances, 1 to 4096 of them
+-- the lines of the text are these balances, 1 to MOST_ACCOUNTS of them
 pub record IsBalancesText (bytes balances : List ℕ) : Type 0 where
   pub some : 0 < length balances
   pub most : length balances ≤ MOST_ACCOUNTS

@@ -2,11 +2,12 @@
 use Rattle.std.specs.Prelude.{◌≡◌, ◌≢◌, ◌<◌, ◌≤◌, ◌==◌, ℕ, ◌+◌, Option, Some, None, IfSome, List, [], ◌∷◌, ◌++◌, ◌⊎◌, codes, length, map, filter, not, All}
 use Rattle.std.specs.List.{flat_map, AllByRecursion}
 use Rattle.lsn_space.specs.Number.{number_text}
+use Rattle.log_record.specs.declared.limits.TheConstants.{MOST_BALANCE}
 use Rattle.log_record.specs.Spelling.{IsNoteText}
 use Rattle.txn_script.specs.Lines.{lines}
 use Rattle.txn_script.specs.declared.job.TheConstants.{MOST_LEGS}
 use Rattle.txn_script.specs.declared.job.Job.{Job}
-use Rattle.txn_script.specs.declared.pay.TheConstants.{SPACE, MOST_AMOUNT}
+use Rattle.txn_script.specs.declared.pay.TheConstants.{SPACE}
 use Rattle.txn_script.specs.declared.fault.ParseFault.{ParseFault}
 use Rattle.txn_script.specs.declared.fault.ParseFault.TheVariants.{Line, NoMemory}
 
@@ -36,7 +37,7 @@ pub record IsAllowedLeg (accounts : ℕ) (leg : ℕ × ℕ × ℕ) : Type 0 wher
   pub payee : leg.1 < accounts
   pub two : leg.0 ≢ leg.1
   pub some : 1 ≤ leg.2
-  pub most : leg.2 ≤ MOST_AMOUNT
+  pub most : leg.2 ≤ MOST_BALANCE
 
 -- 1 to 8 such legs
 pub record AreAllowedLegs (accounts : ℕ) (legs : List (ℕ × ℕ × ℕ)) : Type 0 where

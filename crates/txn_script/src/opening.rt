@@ -1,4 +1,5 @@
 ghost use Rattle.std.specs.Prelude.{◌≡◌, ◌≤◌, ◌<◌, ◌+◌, ℕ, List, length, IfSome, IfNone, IfOk, IfErr};
+ghost use Rattle.log_record.specs.declared.limits.TheConstants.{MOST_ACCOUNTS};
 ghost use Rattle.log_record.specs.Spelling.{IsBalance};
 ghost use Rattle.lsn_space.specs.Number.{number_text};
 ghost use Rattle.txn_script.specs.Balances.{IsBalancesText, IsBalanceLine, IsFirstBadBalance, ReadsBalances, IsBalancesFault};
@@ -7,13 +8,9 @@ ghost use Rattle.txn_script.specs.declared.fault.ParseFault.TheVariants.{Line};
 use crate::fault::ParseFault;
 use crate::lines::take_line;
 use crate::numerals::number;
+use log_record::{MOST_ACCOUNTS, MOST_BALANCE};
 use lsn_space::Balances;
 use std::alloc::Global;
-
-/// The most accounts of a log.
-pub const MOST_ACCOUNTS: u32 = 4096;
-
-const MOST_BALANCE: u32 = 2147483647;
 
 /// The balances of a new log's accounts, from account 0 on: a line with a number for each. No account has a commit yet.
 pub fn balances(alloc: Global, bytes: &[u8]) -> Result<Balances, ParseFault>

@@ -8,12 +8,10 @@ ghost use Rattle.txn_script.specs.declared.job.Job.{Job};
 
 use crate::job::{Job, Legs, MOST_LEGS, Remark};
 use crate::numerals::number;
+use log_record::MOST_BALANCE;
 
 /// What stands between the parts of a line.
 pub const SPACE: u8 = b' ';
-
-/// The greatest amount of a leg.
-pub const MOST_AMOUNT: u32 = 2147483647;
 
 /// The transfer that a line is, if a log of so many accounts allows it.
 pub fn read_job(line: &[u8], accounts: u32) -> Option<Job>
@@ -91,7 +89,7 @@ fn is_allowed(leg: (u32, u32, u32), accounts: u32) -> bool
     ensures { IsTrue result ↔ IsAllowedLeg accounts leg }
 {
     let (from, to, amount) = leg;
-    from < accounts && to < accounts && from != to && amount >= 1 && amount <= MOST_AMOUNT
+    from < accounts && to < accounts && from != to && amount >= 1 && amount <= MOST_BALANCE
 }
 
 /// The number that the bytes begin with, behind a space, and what follows it.

@@ -7,10 +7,9 @@ ghost use Rattle.lock_core.specs.Faults.{IsFirstFailing};
 ghost use Rattle.lock_core.specs.Judging.{IsJudged, IsPlainFaultOf};
 
 use super::kinds::{admit_commit, admit_genesis, admit_note, admit_refusal, admit_update};
-use crate::limits::MOST_ACCOUNTS;
 use crate::reason::Why;
 use crate::update::Change;
-use log_record::{Entry, Rec};
+use log_record::{Entry, MOST_ACCOUNTS, Rec};
 use lsn_space::{Balances, Lsn};
 use std::alloc::Global;
 

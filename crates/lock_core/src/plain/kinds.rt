@@ -1,7 +1,7 @@
 ghost use Rattle.std.specs.Prelude.{◌≡◌, ◌<◌, ◌↔◌, ◌∷◌, ℕ, length, reverse, IsTrue, IfOk, IfErr, OnOk};
 ghost use Rattle.std.specs.List.{AllByRecursion};
 ghost use Rattle.log_record.specs.Spelling.{IsAccount, IsBalance, IsLeg};
-ghost use Rattle.lock_core.specs.declared.limits.TheConstants.{MOST_ACCOUNTS};
+ghost use Rattle.log_record.specs.declared.limits.TheConstants.{MOST_ACCOUNTS};
 ghost use Rattle.lock_core.specs.declared.update.Change.{Change};
 ghost use Rattle.lock_core.specs.Tests.{IsPaired};
 ghost use Rattle.lock_core.specs.Lawful.{Passes, IsLawful, genesis_of};
@@ -11,12 +11,11 @@ ghost use Rattle.lock_core.specs.Judging.{IsJudged, Judges, IsCommitting};
 
 use super::own::own_records;
 use crate::checks::{are_current, is_current, is_paired};
-use crate::limits::MOST_ACCOUNTS;
 use crate::reason::Why;
 use crate::settling::settle;
 use crate::update::Change;
 use arrayvec::ArrayVec;
-use log_record::{Entry, Rec, Text};
+use log_record::{Entry, MOST_ACCOUNTS, Rec, Text};
 use lsn_space::{Balances, Lsn};
 
 /// Tests a Genesis, and keeps its account.

@@ -1,8 +1,0 @@
-/// The most accounts of a log.
-pub const MOST_ACCOUNTS: u32 = 4096;
-
-/// The greatest balance of an account.
-pub const MOST_BALANCE: u32 = 2147483647;
-
-/// What stands in the place of a transaction's newest Update once the transaction has its end record.
-pub const ENDED: u32 = u32::MAX;
