@@ -1,11 +1,13 @@
 pub mod AnswerLemmas
 pub mod CompletenessLemmas
 pub mod CreationLemmas
+pub mod DoneLines
 pub mod EndingLemmas
 pub mod GatheredShares
 pub mod GenesisLemmas
 pub mod LawLemmas
 pub mod MergedEntries
+pub mod NumberTexts
 pub mod NumberedLemmas
 pub mod OpenedAccounts
 pub mod OpeningLemmas
@@ -22,6 +24,9 @@ pub mod RunRecords
 pub mod RunStripes
 pub mod RunWitness
 pub mod ServedLemmas
+pub mod ToldLemmas
+pub mod ToldWitness
 pub mod TransferredLemmas
+pub mod WholeLines
 pub mod WorkerLemmas
 pub mod SummaryLemmas

@@ -47,7 +47,7 @@ use Rattle.aether_cli.proofs.RunLedger.{base-opened}
 
 -- ---- the data
 
-abbrev jobs : Jobs
+abbrev pub jobs : Jobs
 jobs = record { script = payment ∷ []; first = 1; workers = 1; some = omega arith; shared = omega arith; numbered = omega arith }
 
 abbrev shares : List Share
@@ -81,7 +81,7 @@ view = record view_new {
 abbrev tail_old : Tail
 tail_old = record { at = length (written (units_of genesis_log ∷ [])); next = 4 }
 
-abbrev tail_new : Tail
+abbrev pub tail_new : Tail
 tail_new = record { at = length (written (units_of genesis_log ∷ units_of transfer_records ∷ [])); next = 9 }
 
 -- ---- the files
@@ -102,7 +102,7 @@ stands-old = record {
   next = refl;
 }
 
-stands-new : StandsAt tail_new (units_of genesis_log ++ units_of transfer_records) (file_at 1)
+pub stands-new : StandsAt tail_new (units_of genesis_log ++ units_of transfer_records) (file_at 1)
 stands-new = record {
   batches = units_of genesis_log ∷ units_of transfer_records ∷ [];
   rest = CLOSED ∷ [];
@@ -130,7 +130,7 @@ shut-at file moment at xs whole place = record {
 pub genesis-spellable : AllByRecursion IsSpellable genesis_log
 genesis-spellable = ((omega arith, omega arith), ((omega arith, omega arith), tt))
 
-transfer-spellable : AllByRecursion IsSpellable transfer_records
+pub transfer-spellable : AllByRecursion IsSpellable transfer_records
 transfer-spellable = (
   ((omega arith, omega arith), omega arith, less-delta 30 (omega arith) (omega arith), omega arith),
   (((omega arith, omega arith), omega arith, more-delta 30 (omega arith) (omega arith), omega arith), (((omega arith, omega arith), (omega arith, omega arith)), tt)),

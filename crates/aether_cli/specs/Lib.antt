@@ -15,3 +15,4 @@ pub mod Shares
 pub mod Transferred
 pub mod Workers
 pub mod Summary
+pub mod Told

@@ -1,6 +1,6 @@
 //! Laws of the definitions. The functions do nothing.
 
-ghost use Rattle.std.specs.Prelude.{◌≡◌, ◌≢◌, ◌++◌, ℕ, List, Option, None, ◌≤◌, ◌+◌, ◌*◌, []};
+ghost use Rattle.std.specs.Prelude.{◌≡◌, ◌≢◌, ◌++◌, ℕ, List, Option, None, ◌≤◌, ◌+◌, ◌*◌, [], Some};
 ghost use Rattle.std.specs.Io.KnownBytes.{Appends};
 ghost use Rattle.std.specs.List.{AllByRecursion};
 ghost use mathlib.Core.Option.{some};
@@ -16,7 +16,7 @@ ghost use Rattle.commit_pipeline.specs.Turning.{IsSameDaemon};
 ghost use Rattle.txn_runner.specs.declared.jobs.Jobs.{Jobs};
 ghost use Rattle.txn_runner.specs.declared.cause.Cause.{Cause};
 ghost use Rattle.txn_runner.specs.declared.cause.Worked.{Worked};
-ghost use Rattle.commit_pipeline.specs.EndLines.{done_in, refused_in};
+ghost use Rattle.commit_pipeline.specs.EndLines.{done_in, done_line, refused_in};
 ghost use Rattle.lock_core.specs.History.{history, history_from};
 ghost use Rattle.lock_core.specs.Lawful.{base_state_of};
 ghost use Rattle.lock_core.specs.Serial.{numbered, IsSerialAfter};
@@ -30,9 +30,11 @@ ghost use Rattle.txn_script.specs.Generator.{generated_balance, generated_transf
 ghost use Rattle.aether_cli.specs.Answers.{AnswersRecover, status_of};
 ghost use Rattle.aether_cli.specs.Creation.{genesis_list};
 ghost use Rattle.aether_cli.specs.Run.{HoldsRun, RunKeepsLog, RunIsDrained, RunsWhole};
+ghost use Rattle.aether_cli.specs.RunAnswers.{Outside, HoldsTold, run_text};
 ghost use Rattle.aether_cli.specs.RunStops.{StopsAtLogEnd};
 ghost use Rattle.aether_cli.specs.RunWitness.{HasMadePayment, HasHitLogEnd};
 ghost use Rattle.aether_cli.specs.Shares.{Share};
+ghost use Rattle.aether_cli.specs.Told.{HasLine, HasCommitAt, HasToldPayment};
 ghost use Rattle.aether_cli.specs.Transferred.{HasTransferred};
 ghost use Rattle.aether_cli.specs.Summary.{generated_opening, mix_below, summary_of, summary_text};
 
@@ -89,6 +91,17 @@ pub fn run_keeps_log<D: LogDisk, K: Sink>()
     ensures same { (opened : List Rec) (jobs : Jobs) (shares : List Share) (key : Start) (old new : Daemon D K) (view : View)
         (lsn : ℕ) (rows : List (ℕ × ℕ)) → HasTransferred D.LogDisk K.Sink opened jobs shares key old new view lsn rows
         → IsSameDaemon D.LogDisk K.Sink old new }
+{}
+
+/// A law: a `done` line that was written whole is of a Commit in the list of each image, which ends at the LSN of the line.
+/// `text` says so of a front of the text of an image's list, `image` of what a run told its sink. One transfer was told: `met`.
+pub fn told_commits_are_held<D: LogDisk>()
+    ensures text { (bytes text rest : List ℕ) (opened front : List Rec) (txn end : ℕ) → HoldsLawful bytes (opened ++ front)
+        → run_text opened front ≡ text ++ rest → HasLine text (done_line txn end) → HasCommitAt (end_of opened) front txn end }
+    ensures image { (opened list : List Rec) (jobs : Jobs) (old new : Outside D) (image before text : List ℕ) (txn end : ℕ)
+        → (held : HoldsTold D.LogDisk opened jobs list old new image) → old.text ≡ Some before → new.text ≡ Some (before ++ text)
+        → HasLine text (done_line txn end) → HasCommitAt (end_of opened) held.run.front txn end }
+    ensures met { HasToldPayment }
 {}
 
 /// A witness that the premises of the law on runs can be met, all at once: with any daemon whose seat is its table's there
