@@ -134,7 +134,7 @@ impl<'a, R: Threads + Wait + Sync, G: Gate + Sync> Run<'a, R, G> {
                     wait,
                     gate,
                 };
-                run.serve(worker, &mut YieldRelief)
+                run.serve(worker, &mut YieldRelief::new())
             },
         ) {
             Ok(child) => Started::Running(child),

@@ -1,5 +1,5 @@
 //! What a worker does while it waits.
-use std::thread;
+use crossbeam_utils::Backoff;
 
 /// What a worker does between two attempts.
 pub trait Relief {
@@ -9,6 +9,7 @@ pub trait Relief {
     /// What any number of rests leave; reflexive and transitive.
     ghost later: { Self → Self → Type 0 };
 
+    /// Rests once, and returns.
     fn rest(&mut self)
         requires ready { ready self.old }
         ensures ready { ready self.new }
@@ -19,23 +20,33 @@ pub trait Relief {
     ghost later_trans: { (p q r : Self) → later p q → later q r → later p r };
 }
 
-/// Lets other threads run.
+/// Spins for a moment, and after a few rests lets other threads run.
 #[derive(Drop)]
-pub struct YieldRelief;
+pub struct YieldRelief {
+    backoff: Backoff,
+}
+
+impl YieldRelief {
+    pub fn new() -> YieldRelief {
+        YieldRelief {
+            backoff: Backoff::new(),
+        }
+    }
+}
 
 impl Relief for YieldRelief {
-    ghost use Rattle.std.specs.Prelude.{◌≡◌, ⊤};
-    ghost use Rattle.std.proofs.Common.{refl, ◌∙◌};
+    ghost use Rattle.std.specs.Prelude.{⊤};
 
     ghost ready = { λ relief. ⊤ };
 
-    ghost later = { λ old new. new ≡ old };
+    // Nothing is known of how long it paused.
+    ghost later = { λ old new. ⊤ };
 
     fn rest(&mut self) {
-        thread::yield_now();
+        self.backoff.snooze();
     }
 
-    ghost later_refl = { λ relief. refl };
+    ghost later_refl = { λ relief. tt };
 
-    ghost later_trans = { λ first mid last before after. after ∙ before };
+    ghost later_trans = { λ first mid last before after. tt };
 }

@@ -275,7 +275,7 @@ fn rest_twice<Q: Relief>(relief: &mut Q)
 
 #[test]
 fn a_relief_rests() {
-    rest_twice(&mut YieldRelief);
+    rest_twice(&mut YieldRelief::new());
 }
 
 #[test]
