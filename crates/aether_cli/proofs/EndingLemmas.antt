@@ -1,5 +1,5 @@
 -- What is promised of transfers that have ended, in the words of what came of them.
-use Rattle.std.proofs.Common.{◌≡◌, ◌<◌, ◌∙◌, ap, sym, subst, refl, ℕ, zero, suc, List, [], ◌∷◌, ◌++◌, length, map, get_or, All, None, Some, arith}
+use Rattle.std.proofs.Common.{◌≡◌, ◌↔◌, ◌<◌, ◌∙◌, ap, sym, subst, refl, ℕ, zero, suc, List, [], ◌∷◌, ◌++◌, length, map, get_or, All, None, Some, arith}
 use Rattle.std.specs.List.{AllByRecursion}
 use Rattle.std.proofs.lemmas.List.{length-map}
 use Rattle.std.proofs.lemmas.List.Elements.{All-head, All-tail}
@@ -77,6 +77,11 @@ module _ {D : Type 0} {K : Type 0} (g : Ghosts D) (h : SinkGhosts K) (prepared :
       let why = subst (HasReason g h has.first has.last) (has.fault ∙ fault) (reason g h opened prepared.jobs has.shares (key_of prepared.table)
       has.first has.last has.view ended.closed.tail ended.closed.accounts.rows has.transferred) in
       rw (← has.sink_old, ← has.sink_is) why.0
+
+  -- the disk is as honest as it was
+  pub honest-ended : g.honest disk ↔ g.honest disk_new
+  honest-ended = rw (← has.disk_old, ← has.disk_is) (same g h opened prepared.jobs has.shares (key_of prepared.table) has.first has.last
+      has.view ended.closed.tail ended.closed.accounts.rows has.transferred).flusher.honest
 
   module _ (fine : ended.fault ≡ None) where
     pub drained-ended : RunIsDrained g voice opened prepared.jobs list disk disk_new (h.held_bytes sink) (h.held_bytes sink_new)

@@ -1,6 +1,7 @@
 -- From the opened log to what is ready before the first transfer of a run, or to the answer that there is no run.
 use Rattle.std.proofs.Common.{◌≡◌, ◌≤◌, ◌⊎◌, ⊎_elim, inl, inr, refl, ap, sym, ◌∙◌, subst, ℕ, ◌+◌, ◌*◌, ◌^◌, List, length, Option, Some, None, arith}
 use Rattle.std.specs.Io.KnownBytes.{Keeps}
+use Rattle.command_line.specs.declared.options.RunOptions.{RunOptions}
 use Rattle.log_disk.specs.Disk.{Leaves}
 use Rattle.log_disk.specs.declared.disk.LogDisk.{Ghosts}
 use Rattle.log_disk.proofs.Moments.{Leaves-trans, Leaves-weaken}
@@ -59,7 +60,7 @@ module _ {D : Type 0} (g : Ghosts D) (old mid : D) where
       answers-opening (BadRec lsn) has honest = (only-reads, subst (λ bytes. IsFaultOf bytes (fault.BadRec lsn)) (has.1 honest) has.2)
       answers-opening (Unlawful lsn why) has honest = (only-reads, subst (λ bytes. IsFaultOf bytes (fault.Unlawful lsn why)) (has.1 honest) has.2)
       answers-opening Disk has honest = inl only-settles
-      answers-opening NoMemory has honest = only-settles
+      answers-opening NoMemory has honest = only-reads
       answers-opening Fine has honest = absurd has.2
       answers-opening Usage has honest = absurd has.2
       answers-opening (Script line) has honest = absurd has.2
@@ -74,7 +75,7 @@ module _ {D : Type 0} (g : Ghosts D) (old mid : D) where
           → HasNoScript (accounts_of opened) left left_new detail → AnswersRun g workers (outside old left text) (outside mid left_new text) detail
       answers-script opened (Script line) held has = (only-reads, (opened, held, has))
       answers-script opened Read held has = only-reads
-      answers-script opened NoMemory held has = only-settles
+      answers-script opened NoMemory held has = only-reads
       answers-script opened Fine held has = absurd has
       answers-script opened Usage held has = absurd has
       answers-script opened Write held has = absurd has
@@ -121,10 +122,10 @@ module _ {D : Type 0} (g : Ghosts D) (old mid : D) (opened : Recovered) (opens :
       count = count-settled;
     }
 
-  module _ (workers : ℕ) (script : List Job) (prepared : Prepared) (is : IsPreparedFor workers opened script prepared) where
+  module _ (options : RunOptions) (script : List Job) (prepared : Prepared) (is : IsPreparedFor options opened script prepared) where
     pub asked-prepared : (accounts : ℕ) (left left_new : Option (List ℕ)) → accounts ≡ length opened.accounts.rows
         → IsWholeScript accounts left left_new script → opened.next_txn + length script ≤ 4294967295
-        → AreAsked workers records left left_new prepared.jobs
+        → AreAsked options.workers records left left_new prepared.jobs
     asked-prepared accounts left left_new counted whole fits =
         let same : accounts ≡ accounts_of records = counted ∙ opens.recovers.accounts.count in
         let first : prepared.jobs.first ≡ next_txn records = is.first ∙ opens.recovers.next_txn in

@@ -57,7 +57,7 @@ each-generated weight amount one first (suc n) seed =
     let here = one first (number_after seed) in
     let more = each-generated weight amount one (first + 1) n (number_after seed) in
     let parts = weight_of-append weight (outcome_records first (transfer_of (job_from (number_after seed))) Done)
-        (done_records (numbered (first + 1) (generated_transfers n (number_after seed)))) in
+    (done_records (numbered (first + 1) (generated_transfers n (number_after seed)))) in
     omega arith
 
 module _ (n seed first : ℕ) (base : BaseState) (records : List Rec) (rows : List (ℕ × ℕ)) (few : n ≤ 100000) (opens : OpensGenerated base)
@@ -93,21 +93,21 @@ module _ (n seed first : ℕ) (base : BaseState) (records : List Rec) (rows : Li
       let mix : mix_below (length rows) (balance_in rows) ≡ mix_below 64 (generated_balance n seed)
       = ap (λ k. mix_below k (balance_in rows)) count
       ∙ sum_below-same 64 (λ account. (account + 1) * balance_in rows account) (λ account. (account + 1) * generated_balance n seed account)
-          (λ account below. ap (λ balance. (account + 1) * balance) (each-balance account below)) in
+      (λ account below. ap (λ balance. (account + 1) * balance) (each-balance account below)) in
       λ i. summary_lines n (all_done i) (none_refused i) (lsn i) (total i) (mix i)
 
 -- the list of accounts on which generated transfers run opens them
-opening-row : (n account balance : ℕ) → account < n → (row (opening_rows (replicate n balance)) account).0 ≡ balance
-opening-row zero account balance below = absurd (omega arith)
-opening-row (suc n) zero balance below = refl
-opening-row (suc n) (suc account) balance below = opening-row n account balance (omega arith)
+first_balance : (n account balance : ℕ) → account < n → (row (opening_rows (replicate n balance)) account).0 ≡ balance
+first_balance zero account balance below = absurd (omega arith)
+first_balance (suc n) zero balance below = refl
+first_balance (suc n) (suc account) balance below = first_balance n account balance (omega arith)
 
 pub opening-generated : OpensGenerated (base_state_of (history generated_opening))
 opening-generated =
     let h = history generated_opening in
     let kept = genesis-kept (replicate 64 1000000) (omega arith) (All-replicate IsBalance 64 1000000 (omega arith)) in record {
       accounts = refl;
-      balance = λ account below. balance_of-is (genesis_of h) h account _ (kept.balance account below) ∙ opening-row 64 account 1000000 below;
+      balance = λ account below. balance_of-is (genesis_of h) h account _ (kept.balance account below) ∙ first_balance 64 account 1000000 below;
     }
 
 pub opening-end : (base_state_of (history generated_opening)).end ≡ 128

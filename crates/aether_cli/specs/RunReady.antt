@@ -1,6 +1,7 @@
 -- What stands before the first transfer of a run, and why there may be none. `g` is what a disk shows; `old` and `new` are the disk before
 -- and after, `left` and `left_new` what the input has left.
 use Rattle.std.specs.Prelude.{◌≡◌, ◌≤◌, ◌⊎◌, ℕ, ◌+◌, List, Option}
+use Rattle.command_line.specs.declared.options.RunOptions.{RunOptions}
 use Rattle.log_disk.specs.Disk.{Leaves}
 use Rattle.log_disk.specs.declared.disk.LogDisk.{Ghosts}
 use Rattle.log_record.specs.declared.rec.Rec.{Rec}
@@ -16,13 +17,14 @@ use Rattle.aether_cli.specs.Prepared.{IsPrepared}
 use Rattle.aether_cli.specs.RunAnswers.{AnswersRun, AreAsked, outside}
 use Rattle.aether_cli.specs.Transferred.{IsOpened}
 
--- the table starts where the opened log ends, with its accounts, and these are the transfers, for so many workers
-pub record IsPreparedFor (workers : ℕ) (opened : Recovered) (script : List Job) (prepared : Prepared) : Type 0 where
+-- the table starts where the opened log ends, with its accounts and a ring as it was asked, and these are the transfers, for the workers asked
+pub record IsPreparedFor (options : RunOptions) (opened : Recovered) (script : List Job) (prepared : Prepared) : Type 0 where
   pub start : (key_of prepared.table).start ≡ opened.lsn
   pub accounts : (key_of prepared.table).accounts ≡ opened.accounts
+  pub ring : (key_of prepared.table).ring ≡ options.ring
   pub script_is : prepared.jobs.script ≡ script
   pub first : prepared.jobs.first ≡ opened.next_txn
-  pub workers_are : prepared.jobs.workers ≡ workers
+  pub workers_are : prepared.jobs.workers ≡ options.workers
   pub ready : IsPrepared prepared
 
 -- The transfers that are asked are ready to be made over the log that was opened. Each image of a moment is one of before or holds its list.

@@ -1,6 +1,6 @@
 //! Laws of the definitions. The functions do nothing.
 
-ghost use Rattle.std.specs.Prelude.{◌≡◌, ◌≢◌, ℕ, List, Option, None, ◌≤◌, ◌+◌, ◌*◌, []};
+ghost use Rattle.std.specs.Prelude.{◌≡◌, ◌≢◌, ◌++◌, ℕ, List, Option, None, ◌≤◌, ◌+◌, ◌*◌, []};
 ghost use Rattle.std.specs.Io.KnownBytes.{Appends};
 ghost use Rattle.std.specs.List.{AllByRecursion};
 ghost use mathlib.Core.Option.{some};
@@ -48,10 +48,14 @@ pub fn new_is_recovered()
         → AnswersRecover bytes left old new Detail.Fine → Appends old new (accounts_text (genesis_list balances)) }
 {}
 
-/// A law: `recover` finds no fault in what `run` left.
+/// A law: `recover` reads what `run` left. It finds no fault in it, and what it writes of it is the text of the opened list and
+/// the front that the bytes hold. So it does where the bytes hold the opened list alone.
 pub fn run_is_recovered()
-    ensures { (bytes : List ℕ) (opened list : List Rec) (jobs : Jobs) (left old new : Option (List ℕ)) (detail : Detail)
-        → HoldsRun opened jobs list bytes → AnswersRecover bytes left old new detail → status_of detail ≢ 7 }
+    ensures status { (bytes : List ℕ) (records : List Rec) (left old new : Option (List ℕ)) (detail : Detail)
+        → HoldsLawful bytes records → AnswersRecover bytes left old new detail → status_of detail ≢ 7 }
+    ensures text { (bytes : List ℕ) (opened list : List Rec) (jobs : Jobs) (left old new : Option (List ℕ))
+        → (held : HoldsRun opened jobs list bytes) → AnswersRecover bytes left old new Detail.Fine
+        → Appends old new (accounts_text (opened ++ held.front)) }
 {}
 
 /// A law: what is known of a run once all seats are gathered is what it promises. Of the records that it inserted, in order,

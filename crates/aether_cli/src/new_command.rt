@@ -35,6 +35,7 @@ pub fn new_command<D: LogDisk, S: Source, K: Sink>(
     ensures unchanged { D.honest disk.old → PrecedesLog result → D.reads disk.new ≡ D.reads disk.old }
     ensures exists { D.honest disk.old → TellsWhether (BeginsOpen (D.reads disk.old)) result }
     ensures count { D.honest disk.old → D.written_count disk.new ≤ D.written_count disk.old + 7 }
+    ensures honest { D.honest disk.old ↔ D.honest disk.new }
     ensures read { result ≡ Detail.Read → Rose (S.faults script.old) (S.faults script.new) }
     ensures write { result ≡ Detail.Write → Rose (K.faults out.old) (K.faults out.new) }
     ensures disk { result ≡ Detail.Disk → Rose (D.faults disk.old) (D.faults disk.new) }
@@ -69,6 +70,7 @@ fn make_log<D: LogDisk, S: Source>(
     ensures exists { D.honest disk.old
         → MatchResult result (λ _. BeginsOpen (D.reads disk.old) → ⊥) (TellsWhether (BeginsOpen (D.reads disk.old))) }
     ensures count { D.honest disk.old → D.written_count disk.new ≤ D.written_count disk.old + 7 }
+    ensures honest { D.honest disk.old ↔ D.honest disk.new }
     ensures read { IsErrOf result Detail.Read → Rose (S.faults script.old) (S.faults script.new) }
     ensures disk { IsErrOf result Detail.Disk → Rose (D.faults disk.old) (D.faults disk.new) }
     ensures later { S.faults script.old ≤ S.faults script.new }

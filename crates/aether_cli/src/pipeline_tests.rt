@@ -3,6 +3,7 @@ ghost use Rattle.std.specs.Prelude.{◌≡◌, ◌≤◌, ◌<◌, ◌+◌, ℕ,
 ghost use Rattle.log_table.specs.declared.view.Role.TheVariants.{Flusher as FlusherRole};
 ghost use Rattle.log_table.specs.Seats.{IsOf, view_of};
 ghost use Rattle.log_table.specs.Views.{knows_all_enrolled, sent_to};
+ghost use Rattle.lock_core.specs.declared.limits.TheConstants.{MOST_BALANCE};
 ghost use Rattle.log_record.specs.declared.rec.Rec.{Rec};
 ghost use Rattle.log_record.specs.Spelling.{spelling, IsTxn};
 ghost use Rattle.ring_buffer.specs.Calls.{IsReady};
@@ -30,8 +31,11 @@ use std::test::Fail;
 use std::thread::{Threads, join};
 use txn_script::{Job, Legs, Remark};
 
-/// Two accounts of balances 100000 and 0.
-const ACCOUNTS: [u64; 4] = [0x0102_0000_0000_0000, 100_000, 0x0102_0001_0000_0000, 0];
+/// What account 0 begins with; account 1 begins with nothing.
+const RICH: u32 = 100_000;
+
+/// The first units of the Genesis records of the two accounts.
+const HEADERS: [u64; 2] = [0x0102_0000_0000_0000, 0x0102_0001_0000_0000];
 
 /// 30 from account 0 to account 1.
 const THIRTY: Transfer = Transfer {
@@ -55,7 +59,9 @@ const TRANSFERS_END: u32 = 4 + 5 * 2 * TRANSFERS;
 /// The calls of the disk that make the log of the two accounts.
 pub(crate) const CREATED: u64 = 7;
 
-pub(crate) fn table_from_4(alloc: Global) -> Result<(LogTable, Seat), NoMemory>
+/// A table whose log ends at 4, with a ring of 1024 units. Account 0 has this balance, account 1 has nothing.
+pub(crate) fn table_from_4(alloc: Global, balance: u32) -> Result<(LogTable, Seat), NoMemory>
+    requires { balance ≤ MOST_BALANCE }
     ensures seat { IfOk result (λ made. IsOf made.0 made.1) }
     ensures flusher { IfOk result (λ made. (view_of made.1).standing.role ≡ FlusherRole) }
     ensures durable { IfOk result (λ made. sent_to (view_of made.1) ≡ 4) }
@@ -69,7 +75,7 @@ pub(crate) fn table_from_4(alloc: Global) -> Result<(LogTable, Seat), NoMemory>
     ensures accounts { IfOk result (λ made. made.0.accounts ≡ 2) }
 {
     let mut accounts = Balances::make(alloc, 2)?;
-    accounts.push(100_000, 0);
+    accounts.push(balance, 0);
     accounts.push(0, 0);
     LogTable::make(
         alloc,
@@ -246,20 +252,21 @@ fn work_all<R: Wait + Abort>(
     done
 }
 
-fn accounts(alloc: Global) -> Result<Batch, NoMemory>
+fn accounts(alloc: Global, balance: u32) -> Result<Batch, NoMemory>
     ensures { IfOk result (λ batch. length batch.units ≡ 4) }
 {
     let mut batch = Batch::make(alloc, 4)?;
-    batch.push(ACCOUNTS[0]);
-    batch.push(ACCOUNTS[1]);
-    batch.push(ACCOUNTS[2]);
-    batch.push(ACCOUNTS[3]);
+    batch.push(HEADERS[0]);
+    batch.push(balance as u64);
+    batch.push(HEADERS[1]);
+    batch.push(0);
     Ok(batch)
 }
 
 /// A daemon over a disk without a log, on which the log of the two accounts is made.
 pub(crate) fn daemon_on<'a, D: LogDisk>(
     alloc: Global,
+    balance: u32,
     table: &'a LogTable,
     seat: Seat,
     disk: &'a mut D,
@@ -277,7 +284,7 @@ pub(crate) fn daemon_on<'a, D: LogDisk>(
     ensures ready { IfSome result (MayTurn D.LogDisk) }
     ensures told { IfSome result (λ daemon. knows_all_enrolled (view_of daemon.flusher.seat).standing ≡ true) }
 {
-    let mut genesis = accounts(alloc).ok()?;
+    let mut genesis = accounts(alloc, balance).ok()?;
     let batch = Batch::make(alloc, 1024).ok()?;
     let Ok(tail) = create(disk, &mut genesis) else {
         return None;
@@ -342,9 +349,9 @@ fn run_both<R: Threads + Wait + Sync + Abort, D: LogDisk>(
 ) -> Option<(u32, Outcome)>
     requires { D.honest disk.old → IsStableGate 0 (D.images disk.old) }
 {
-    let (table, mut boss) = table_from_4(alloc).ok()?;
+    let (table, mut boss) = table_from_4(alloc, RICH).ok()?;
     let (one, two) = two_workers(&table, &mut boss);
-    let mut daemon = daemon_on(alloc, &table, boss, disk, sink)?;
+    let mut daemon = daemon_on(alloc, RICH, &table, boss, disk, sink)?;
     let note = noted_job(b"a")?;
     let (t, job) = (&table, &note);
     Some(join(

@@ -10,6 +10,7 @@ ghost use Rattle.segment_file.specs.Standing.{IsStableGate};
 
 use crate::flushing_relief::FlushingRelief;
 use crate::pipeline_tests::{CREATED, balances, daemon_on, table_from_4};
+use crate::tests::{answer_of, sink_of};
 use commit_pipeline::DaemonFault;
 use log_disk::{LogDisk, MemoryDisk, MemorySink, OpenGate};
 use log_table::{LogTable, Seat};
@@ -51,12 +52,12 @@ fn one_worker(table: &LogTable, boss: &mut Seat) -> Seat
     seat
 }
 
-/// Two transfers, for one worker.
+/// A transfer and one that takes it back, for one worker.
 fn two_jobs<R>(rt: &R, alloc: Global) -> Option<Jobs>
     ensures allowed { IfSome result (λ jobs. All (IsAllowedJob 2) jobs.script) }
     ensures workers { IfSome result (λ jobs. jobs.workers ≡ 1) }
 {
-    let Ok(script) = parse(alloc, b"pay 0 1 30\npay 0 1 20\n", 2) else {
+    let Ok(script) = parse(alloc, b"pay 0 1 30\npay 1 0 30\n", 2) else {
         return None;
     };
     if script.count() != 2 {
@@ -77,13 +78,13 @@ fn work_and_flush<R: Wait, D: LogDisk>(
 ) -> Option<Outcome>
     requires { D.honest disk.old → IsStableGate 0 (D.images disk.old) }
 {
-    let (table, mut boss) = table_from_4(alloc).ok()?;
+    let (table, mut boss) = table_from_4(alloc, 100).ok()?;
     let jobs = two_jobs(rt, alloc)?;
     let Ok(mut rows) = Rows::make(alloc, jobs.count() as u32) else {
         return None;
     };
     let mut seat = one_worker(&table, &mut boss);
-    let daemon = daemon_on(alloc, &table, boss, disk, sink)?;
+    let daemon = daemon_on(alloc, 100, &table, boss, disk, sink)?;
     let mut relief = FlushingRelief { daemon };
     let worked = work(
         rt,
@@ -121,7 +122,7 @@ fn a_waiting_worker_flushes(rt: HostRuntime) -> Result<(), Fail> {
     let wanted = [durable_row(1, 9), durable_row(2, 14)];
     assert_eq!(rt; rows.as_slice(), wanted.as_slice());
     assert_eq!(rt; sink.bytes(), b"done 1 9\ndone 2 14\n".as_slice());
-    assert_eq!(rt; balances(alloc, &mut disk), Some((99_950, 50)));
+    assert_eq!(rt; balances(alloc, &mut disk), Some((100, 0)));
     Ok(())
 }
 
@@ -142,6 +143,29 @@ fn a_waiting_worker_stops_where_the_disk_fails(rt: HostRuntime) -> Result<(), Fa
         } else {
             assert_eq!(rt; (worked, fault), (Worked::All, None), "call {call}");
         }
+    }
+    Ok(())
+}
+
+/// The fourth sync is that of the second flush's gate. Its line is not written, and a crash leaves one transfer or both.
+#[test]
+fn no_line_after_a_failed_sync(rt: HostRuntime) -> Result<(), Fail> {
+    let alloc = rt.alloc();
+    let first: &[u8] = b"lsn 9\n0 70\n1 30\n";
+    let both: &[u8] = b"lsn 14\n0 100\n1 0\n";
+    for pick in [0, 1, 2, 3, 77, 12_345] {
+        let mut disk = MemoryDisk::make(alloc, &[], 20_000, &[CREATED + 8])?;
+        let mut sink = MemorySink::make(alloc, 100, &[])?;
+        let Some((_, _, fault)) = work_and_flush(&rt, alloc, &mut disk, &mut sink) else {
+            return Err(Fail::new("no memory"));
+        };
+        assert_eq!(rt; fault, Some(DaemonFault::DiskFault));
+        assert_eq!(rt; sink.bytes(), b"done 1 9\n".as_slice());
+        let left = disk.crash(pick);
+        let mut text = sink_of(&rt, &[])?;
+        answer_of(&rt, &["aether", "recover"], left.bytes(), &[], &mut text)?;
+        let text = text.bytes();
+        assert!(rt; text == first || text == both, "{pick}: {text:?}");
     }
     Ok(())
 }

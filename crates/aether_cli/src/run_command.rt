@@ -51,6 +51,7 @@ pub fn run_command<R: Threads + Wait + Sync, D: LogDisk, S: Source, K: Sink, G: 
         (outside disk.new (S.left script.new) (K.held_bytes out.new)) result }
     ensures silent { RunStaysSilent (K.held_bytes out.old) (K.held_bytes out.new) result }
     ensures range { IsOfRun result }
+    ensures honest { D.honest disk.old ↔ D.honest disk.new }
     ensures read { result ≡ Detail.Read → Rose (S.faults script.old) (S.faults script.new) }
     ensures write { result ≡ Detail.Write → Rose (K.faults out.old) (K.faults out.new) }
     ensures disk { result ≡ Detail.Disk → Rose (D.faults disk.old) (D.faults disk.new) }
@@ -120,7 +121,7 @@ fn prepare_run<R>(
     requires opened { (bytes : List ℕ) × Recovers opened bytes }
     requires numbered { opened.next_txn + length script ≤ 4294967295 }
     requires allowed { All (IsAllowedJob (length opened.accounts.rows)) script }
-    ensures prepared { IfOk result (IsPreparedFor options.now.workers opened script) }
+    ensures prepared { IfOk result (IsPreparedFor options.now opened script) }
     ensures memory { IfErr result (λ detail. detail ≡ Detail.NoMemory) }
 {
     let start = Start {

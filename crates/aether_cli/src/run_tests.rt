@@ -292,7 +292,8 @@ fn refuses_other_words_of_run(rt: HostRuntime) -> Result<(), Fail> {
 
 #[test]
 fn faults_out_of_the_run(rt: HostRuntime) -> Result<(), Fail> {
-    // The sixth call of the disk is the first write of a batch: attach, sync, length, two reads, and the gate that is looked at.
+    // The sixth call of the disk is the first write of a batch, behind attach, sync, length, a read of the file and one of the gate
+    // at the tail.
     let mut disk = disk_of(&rt, GENESIS_LOG, ROOM, &[6])?;
     let mut out = sink_of(&rt, &[])?;
     let report = answer_on(&rt, ALONE, &mut disk, b"pay 0 1 30\n", &[], &mut out)?;
@@ -366,9 +367,40 @@ fn workers_overlap(rt: HostRuntime) -> Result<(), Fail> {
         !gate.gave_up.load(Ordering::SeqCst),
         "no worker went past the other"
     );
+    assert_eq!(rt; gate.taken.load(Ordering::SeqCst), 2);
     let first: &[u8] = b"done 1 13\ndone 2 18\nlsn 18\n0 90\n1 10\n2 80\n3 20\n";
     let second: &[u8] = b"done 2 13\ndone 1 18\nlsn 18\n0 90\n1 10\n2 80\n3 20\n";
     let text = out.bytes();
     assert!(rt; text == first || text == second, "{text:?}");
+    Ok(())
+}
+
+/// Counts the transfers that were taken.
+#[derive(Drop)]
+struct Takes {
+    count: AtomicU32,
+}
+
+impl Gate for Takes {
+    fn at(&self, _worker: u32, place: Place) {
+        if place == Place::JobTaken {
+            self.count.fetch_add(1, Ordering::SeqCst);
+        }
+    }
+}
+
+/// The first write of a batch fails, so nothing becomes durable: a worker that waits takes no second transfer.
+#[test]
+fn waits_for_the_disk_where_asked(rt: HostRuntime) -> Result<(), Fail> {
+    let wait: &[&str] = &["aether", "run", "bank.log", "--workers", "1", "--wait"];
+    let mut disk = disk_of(&rt, GENESIS_LOG, ROOM, &[6])?;
+    let mut out = sink_of(&rt, &[])?;
+    let gate = Takes {
+        count: AtomicU32::new(0),
+    };
+    let script = b"pay 0 1 30\npay 0 1 20\n";
+    let report = answer_at(&rt, wait, &mut disk, script, &[], &mut out, &gate)?;
+    assert_eq!(rt; report, Report::of(Detail::Disk));
+    assert_eq!(rt; gate.count.load(Ordering::SeqCst), 1);
     Ok(())
 }

@@ -1,6 +1,6 @@
 //! Summaries of generated transfers, beside numbers that were reckoned by hand.
 
-ghost use Rattle.std.specs.Prelude.{◌≤◌, length, IfOk};
+ghost use Rattle.std.specs.Prelude.{◌≡◌, ◌≤◌, length, IfOk};
 
 use crate::summary::{Counts, put_summary};
 use crate::tests::sink_of;
@@ -39,9 +39,18 @@ fn run(script: &Script, accounts: &mut Balances)
 #[test]
 fn sums_generated_transfers(rt: HostRuntime) -> Result<(), Fail> {
     let cases: [(u32, &[u8]); 3] = [
-        (0, b"transfers 0\ndone 0\nrefused 0\nlsn 128\ntotal 64000000\nmix 2080000000\n"),
-        (3, b"transfers 3\ndone 3\nrefused 0\nlsn 143\ntotal 64000000\nmix 2080000080\n"),
-        (5000, b"transfers 5000\ndone 5000\nrefused 0\nlsn 25128\ntotal 64000000\nmix 2079991273\n"),
+        (
+            0,
+            b"transfers 0\ndone 0\nrefused 0\nlsn 128\ntotal 64000000\nmix 2080000000\n",
+        ),
+        (
+            3,
+            b"transfers 3\ndone 3\nrefused 0\nlsn 143\ntotal 64000000\nmix 2080000080\n",
+        ),
+        (
+            5000,
+            b"transfers 5000\ndone 5000\nrefused 0\nlsn 25128\ntotal 64000000\nmix 2079991273\n",
+        ),
     ];
     for (n, text) in cases {
         let Ok(script) = make(rt.alloc(), n, 7) else {

@@ -1,4 +1,4 @@
-ghost use Rattle.std.specs.Prelude.{◌≡◌, ◌≤◌, ◌+◌, ◌⊎◌, ℕ, List, length, IfSome};
+ghost use Rattle.std.specs.Prelude.{◌≡◌, ◌≤◌, ◌+◌, ◌⊎◌, ◌↔◌, ℕ, List, length, IfSome};
 ghost use Rattle.command_line.specs.CommandLine.{IsCommandLine, AreTaken};
 ghost use Rattle.command_line.specs.declared.command.Command.TheVariants.{New, Run, Recover, Dump};
 ghost use Rattle.command_line.specs.declared.options.RunOptions.{RunOptions};
@@ -93,6 +93,9 @@ pub fn aether<R: Threads + Wait + Sync, D: LogDisk, S: Source, K: Sink, G: Gate 
 
     // Nothing is written but where all is fine or the writing failed.
     ensures silent { (AsksRun words.now → ⊥) → StaysSilent (K.held_bytes out.old) (K.held_bytes out.new) result.detail }
+
+    // What is said of an honest disk may be said of it again at the next call.
+    ensures honest { D.honest disk.old ↔ D.honest disk.new }
 
     // A fault comes only where the object that it names counted one in this call.
     ensures read { result.detail ≡ Detail.Read → Rose (S.faults script.old) (S.faults script.new) }

@@ -218,9 +218,7 @@ pub fn run_transfers<R: Threads + Wait + Sync, D: LogDisk, K: Sink, G: Gate + Sy
     };
     let mut served = None;
     let _outside = serve_crew(run, crew, tail, voice, Outside { disk, out }, &mut served);
-    let Some(served) = served else {
-        unreachable!()
-    };
+    let Some(served) = served else { unreachable!() };
     let mut boss = served.boss;
     let ends = gather(&table, &mut boss, served.workers, served.ends);
     Ended {

@@ -1,4 +1,4 @@
-use Rattle.aether_cli.proofs.EndingLemmas.{none_stopped-ended}
+use Rattle.aether_cli.proofs.EndingLemmas.{honest-ended, none_stopped-ended}
 use Rattle.aether_cli.proofs.RunAnswerLemmas.{answers-concluded}
 use Rattle.aether_cli.proofs.run_command.run_command.Goals as goal
 
@@ -15,3 +15,9 @@ returns-clause-answer g c = λ honest.
     let ready = c.in-Ok.ensures.ready in
     answers-concluded g.D.LogDisk g.K.Sink _ c.in-Ok.ready _ _ _ _ _ _ _ _ _ ready
     (c.run_transfers-ended.ensures.ended ready.opened ready.log) honest (c.in-Ok.ensures.honest.0 honest) c.conclude.result c.conclude.ensures.concludes
+
+pub returns-clause-honest : goal.returns-clause-honest
+returns-clause-honest g c =
+    let ready = c.in-Ok.ensures.ready in
+    let same = honest-ended g.D.LogDisk g.K.Sink _ ready.opened _ _ _ _ _ _ (c.run_transfers-ended.ensures.ended ready.opened ready.log) in
+    (λ honest. same.0 (c.in-Ok.ensures.honest.0 honest), λ honest. c.in-Ok.ensures.honest.1 (same.1 honest))
