@@ -30,8 +30,6 @@ mod script_input;
 mod serving;
 mod summary;
 #[cfg(test)]
-mod summary_tests;
-#[cfg(test)]
 mod tests;
 mod top;
 mod transfers;

@@ -10,6 +10,7 @@ ghost use Rattle.segment_file.specs.Standing.{IsStableGate};
 
 use crate::flushing_relief::FlushingRelief;
 use crate::pipeline_tests::{CREATED, balances, daemon_on, table_from_4};
+use crate::report::{Detail, Report};
 use crate::tests::{answer_of, sink_of};
 use commit_pipeline::DaemonFault;
 use log_disk::{LogDisk, MemoryDisk, MemorySink, OpenGate};
@@ -163,7 +164,8 @@ fn no_line_after_a_failed_sync(rt: HostRuntime) -> Result<(), Fail> {
         assert_eq!(rt; sink.bytes(), b"done 1 9\n".as_slice());
         let left = disk.crash(pick);
         let mut text = sink_of(&rt, &[])?;
-        answer_of(&rt, &["aether", "recover"], left.bytes(), &[], &mut text)?;
+        let report = answer_of(&rt, &["aether", "recover"], left.bytes(), &[], &mut text)?;
+        assert_eq!(rt; report, Report::of(Detail::Fine));
         let text = text.bytes();
         assert!(rt; text == first || text == both, "{pick}: {text:?}");
     }
