@@ -3,7 +3,7 @@ ghost use Rattle.std.specs.Prelude.{◌≡◌, ◌≤◌, ◌<◌, ◌+◌, ℕ,
 ghost use Rattle.log_table.specs.declared.view.Role.TheVariants.{Flusher as FlusherRole};
 ghost use Rattle.log_table.specs.Seats.{IsOf, view_of};
 ghost use Rattle.log_table.specs.Views.{knows_all_enrolled, sent_to};
-ghost use Rattle.lock_core.specs.declared.limits.TheConstants.{MOST_BALANCE};
+ghost use Rattle.log_record.specs.declared.limits.TheConstants.{MOST_BALANCE};
 ghost use Rattle.log_record.specs.declared.rec.Rec.{Rec};
 ghost use Rattle.log_record.specs.Spelling.{spelling, IsTxn};
 ghost use Rattle.ring_buffer.specs.Calls.{IsReady};
