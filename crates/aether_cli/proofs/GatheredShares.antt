@@ -190,7 +190,7 @@ module _ (jobs : Jobs) where
     HasShare-all number (worker ∷ workers) done few view lacks first sized stops zero share at =
         let is = done.0.0 in
         let taken = HasShare-taken table view worker (omega (arith, few, is)) (served table jobs worker done.0.1)
-            (subst (λ n. LacksFrom n view.entries) (sym is) lacks) (λ one. first (omega (arith, one, few))) sized.0 stops.0 in
+        (subst (λ n. LacksFrom n view.entries) (sym is) lacks) (λ one. first (omega (arith, one, few))) sized.0 stops.0 in
         let mine = subst (λ s. HasShare jobs worker.seat.worker s (takes_in view (view_in worker))) (some-injective (share_of worker) share at) taken in
         let here = subst (λ n. HasShare jobs n share (takes_in view (view_in worker))) is mine in
         subst (λ n. HasShare jobs n share (takes_all view (map view_in (worker ∷ workers)))) (sym (add-zero number))

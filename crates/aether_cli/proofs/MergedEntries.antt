@@ -107,9 +107,10 @@ above-in_order from least to (entry ∷ entries) below order =
 pub Rises-in_order : (from to : ℕ) (entries : List Entry) → LieInOrder from to entries → AllByRecursion (λ (entry : Entry). 1 ≤ entry.size) entries
     → Rises entries
 Rises-in_order from to [] order some = tt
-Rises-in_order from to (entry ∷ entries) order some =
-    (above-in_order (entry.start + entry.size) entry.start to entries (omega (arith, some.0)) order.1,
-    Rises-in_order (entry.start + entry.size) to entries order.1 some.1)
+Rises-in_order from to (entry ∷ entries) order some = (
+  above-in_order (entry.start + entry.size) entry.start to entries (omega (arith, some.0)) order.1,
+  Rises-in_order (entry.start + entry.size) to entries order.1 some.1,
+)
 
 module _ (number : ℕ) where
   abbrev IsOther : Entry → Type 0

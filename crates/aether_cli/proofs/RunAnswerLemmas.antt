@@ -25,7 +25,7 @@ use Rattle.aether_cli.specs.declared.report.Detail.{Detail}
 use Rattle.aether_cli.specs.declared.report.Detail.TheVariants.{Fine, NoMemory, Usage, Script, Read, Write, Disk, NotALog, BadBatch, BadRec, Unlawful, LogEnd, TxnEnd, Exists}
 use Rattle.aether_cli.specs.declared.run_command.ReadyRun.{ReadyRun}
 use Rattle.aether_cli.specs.declared.transfers.Ended.{Ended}
-use Rattle.aether_cli.specs.Ending.{Concludes, HasEnded}
+use Rattle.aether_cli.specs.Ending.{Concludes, HasEnded, closed_text}
 use Rattle.aether_cli.specs.Run.{HoldsRun, GoesOn, RunIsDrained, transfers_of}
 use Rattle.aether_cli.specs.RunAnswers.{AnswersRun, HoldsTold, Ran, RanOut, RanWhole, RanIntoEnd, Outside, outside, run_text}
 use Rattle.aether_cli.specs.RunReady.{IsReadyFor}
@@ -143,22 +143,22 @@ module _ {D : Type 0} {K : Type 0} (g : Ghosts D) (h : SinkGhosts K) (workers : 
     told-lines : sink_new ≡ sink_mid → Appends (h.held_bytes sink) (h.held_bytes sink_new) (end_lines (end_of opened) records)
     told-lines same = subst (λ text. Appends (h.held_bytes sink) text (end_lines (end_of opened) records)) (sym (ap h.held_bytes same)) drained.text
 
-  pub answers-concluded : (detail : Detail) → Concludes h ended sink_mid sink_new detail → AnswersRun g workers old new detail
+  pub answers-concluded : (detail : Detail) → Concludes h ended (closed_text ended) sink_mid sink_new detail → AnswersRun g workers old new detail
   answers-concluded Disk said = inr (ran-failed said.1)
   answers-concluded Write (inl said) = ran-failed said.1
-  answers-concluded Write (inr said) = ran-drained said.0 (told-part said.0 said.2)
+  answers-concluded Write (inr said) = ran-drained said.0.0 (told-part said.0.0 said.1)
   answers-concluded (LogEnd tail total) said =
-      let text = told-lines said.0 said.2 in
+      let text = told-lines said.0.0 said.1 in
       record {
-        out = out said.0 (end_lines (end_of opened) records, accounts_text (opened ++ records), refl, text);
-        stops = stops-ended g h ready.prepared opened Lines disk disk_new sink sink_mid ended has said.0 tail total said.1;
+        out = out said.0.0 (end_lines (end_of opened) records, accounts_text (opened ++ records), refl, text);
+        stops = stops-ended g h ready.prepared opened Lines disk disk_new sink sink_mid ended has said.0.0 tail total said.0.1;
         text = text;
       }
   answers-concluded Fine said =
-      let text = told-whole said.0 said.2 in
+      let text = told-whole said.0.0 said.1 in
       record {
-        out = out said.0 (run_text opened records, [], sym (append-nil (run_text opened records)), text);
-        whole = whole-ended g h ready.prepared opened Lines disk disk_new sink sink_mid ended has said.1;
+        out = out said.0.0 (run_text opened records, [], sym (append-nil (run_text opened records)), text);
+        whole = whole-ended g h ready.prepared opened Lines disk disk_new sink sink_mid ended has said.0.1;
         text = text;
       }
   answers-concluded NoMemory said = absurd said

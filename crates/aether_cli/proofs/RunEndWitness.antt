@@ -243,17 +243,22 @@ module _ (n : ℕ) (full : 4 + 2 * n ≤ LAST) (near : LAST < 4 + 2 * n + 2) whe
   has-share : (worker : ℕ) (share : Share) → get_elem? (cut ∷ []) worker ≡ some share → HasShare jobs worker share view
   has-share zero share at = subst (λ (s : Share). HasShare jobs 0 s view) (some-injective cut share at) (record {
     stripe = λ j below. omega arith;
-    came_to = (0, refl, λ j from below. absurd (omega arith), record {
-      balances = λ account. 100;
-      marks = λ account. 0;
-      next = Update 2 0 (negsuc 29) 0;
-      rest = Update 2 1 (pos 30) 0 ∷ Commit 2 1 ∷ [];
-      plan = refl;
-      size = refl;
-      too_long = near;
-      seen = (0, omega arith, refl);
-      alone = λ one. tt;
-    });
+    came_to = (
+      0,
+      refl,
+      λ j from below. absurd (omega arith),
+      record {
+        balances = λ account. 100;
+        marks = λ account. 0;
+        next = Update 2 0 (negsuc 29) 0;
+        rest = Update 2 1 (pos 30) 0 ∷ Commit 2 1 ∷ [];
+        plan = refl;
+        size = refl;
+        too_long = near;
+        seen = (0, omega arith, refl);
+        alone = λ one. tt;
+      },
+    );
   })
   has-share (suc worker) share at = absurd (some-ne-none share (sym at))
 

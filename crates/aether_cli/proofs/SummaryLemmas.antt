@@ -57,7 +57,7 @@ each-generated weight amount one first (suc n) seed =
     let here = one first (number_after seed) in
     let more = each-generated weight amount one (first + 1) n (number_after seed) in
     let parts = weight_of-append weight (outcome_records first (transfer_of (job_from (number_after seed))) Done)
-        (done_records (numbered (first + 1) (generated_transfers n (number_after seed)))) in
+    (done_records (numbered (first + 1) (generated_transfers n (number_after seed)))) in
     omega arith
 
 module _ (n seed first : ℕ) (base : BaseState) (records : List Rec) (rows : List (ℕ × ℕ)) (few : n ≤ 100000) (opens : OpensGenerated base)
@@ -93,7 +93,7 @@ module _ (n seed first : ℕ) (base : BaseState) (records : List Rec) (rows : Li
       let mix : mix_below (length rows) (balance_in rows) ≡ mix_below 64 (generated_balance n seed)
       = ap (λ k. mix_below k (balance_in rows)) count
       ∙ sum_below-same 64 (λ account. (account + 1) * balance_in rows account) (λ account. (account + 1) * generated_balance n seed account)
-          (λ account below. ap (λ balance. (account + 1) * balance) (each-balance account below)) in
+      (λ account below. ap (λ balance. (account + 1) * balance) (each-balance account below)) in
       λ i. summary_lines n (all_done i) (none_refused i) (lsn i) (total i) (mix i)
 
 -- the list of accounts on which generated transfers run opens them

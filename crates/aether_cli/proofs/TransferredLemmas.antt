@@ -146,7 +146,7 @@ module _ {D : Type 0} {K : Type 0} (g : Ghosts D) (h : SinkGhosts K) (tail : Tai
       let sending = ap (λ (v : View). v.sending) is ∙ takes_all-sending (view_of served'.boss) others in
       let constants = ap (λ (v : View). v.constants) is ∙ takes_all-constants (view_of served'.boss) others in
       let shares = HasGathered-all table jobs served'.workers.items done count (view_of served'.boss) taken.entries taken.jobs stops lsn
-          (subst (IsGathered lsn) is gathered) in
+      (subst (IsGathered lsn) is gathered) in
       record {
         log = subst (λ d. IsOpened g d turned.first.flusher.tail opened jobs.first key) (sym turned.disk_old)
             (subst (λ t. IsOpened g disk t opened jobs.first key) (sym turned.tail_is) log);

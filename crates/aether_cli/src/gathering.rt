@@ -30,9 +30,7 @@ pub(crate) fn gather(
     for worker in workers {
         let Worker { seat, worked, .. } = worker;
         table.merge(boss, seat);
-        let Some(worked) = worked else {
-            unreachable!()
-        };
+        let Some(worked) = worked else { unreachable!() };
         ends.push_reserved(worked);
     }
     ends

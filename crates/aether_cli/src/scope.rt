@@ -30,13 +30,7 @@ fn drain<'a, R: Wait, D: LogDisk, K: Sink>(rt: &R, daemon: &mut Daemon<'a, D, K>
 }
 
 /// Starts all workers, and is the daemon until all of them have served.
-pub(crate) fn serve_all<
-    'a,
-    R: Threads + Wait + Sync,
-    D: LogDisk,
-    K: Sink,
-    G: Gate + Sync,
->(
+pub(crate) fn serve_all<'a, R: Threads + Wait + Sync, D: LogDisk, K: Sink, G: Gate + Sync>(
     run: Run<'a, R, G>,
     workers: Vec<Worker>,
     started: Vec<Started>,
@@ -59,7 +53,7 @@ pub(crate) fn serve_all<
         run.rt,
         move |scope| -> (FlushingRelief<D, K>, Vec<Worker>)
             requires workers { AreUnused run.table.now run.jobs.now workers.items }
-                    requires none { (started.items ≡ []) × (back.items ≡ []) }
+            requires none { (started.items ≡ []) × (back.items ≡ []) }
             requires room { (vec_len workers ≤ vec_capacity started) × (vec_len workers ≤ vec_capacity back) }
             requires ready { relief.daemon.fault ≡ None → MayTurn D.LogDisk relief.daemon }
             requires told { knows_all_enrolled (view_of relief.daemon.flusher.seat).standing ≡ true }

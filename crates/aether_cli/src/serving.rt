@@ -57,7 +57,9 @@ impl<'a, R: Wait, G: Gate> Run<'a, R, G> {
         ensures later { Q.later relief.old relief.new }
     {
         let Worker {
-            mut seat, mut rows, ..
+            mut seat,
+            mut rows,
+            ..
         } = worker;
         let worked = work(
             self.rt, self.table, &mut seat, self.jobs, &mut rows, relief, self.wait, self.gate,
@@ -88,12 +90,7 @@ impl<'a, R: Wait, G: Gate> Run<'a, R, G> {
 
 impl<'a, R: Threads + Wait + Sync, G: Gate + Sync> Run<'a, R, G> {
     /// Starts a thread for the worker. Where none can be made, the worker is served here, with this relief.
-    fn start<E, Q: Relief>(
-        &self,
-        scope: &Scope<'a, E>,
-        worker: Worker,
-        relief: &mut Q,
-    ) -> Started
+    fn start<E, Q: Relief>(&self, scope: &Scope<'a, E>, worker: Worker, relief: &mut Q) -> Started
         requires unused { IsUnused self.now.table.now self.now.jobs.now worker }
         requires relief { Q.ready relief.old }
         ensures number { number_of result ≡ worker.seat.worker }

@@ -27,7 +27,11 @@ pub struct Counts {
 }
 
 /// Writes the summary of a run that left these accounts, or a prefix of it at a fault.
-pub fn put_summary<K: Sink>(counts: Counts, accounts: &Balances, sink: &mut K) -> Result<(), WriteFault>
+pub fn put_summary<K: Sink>(
+    counts: Counts,
+    accounts: &Balances,
+    sink: &mut K,
+) -> Result<(), WriteFault>
     requires { length accounts.now.rows ≤ 4096 }
     ensures all { OnOk result (Appends (K.held_bytes sink.old) (K.held_bytes sink.new) (summary_of counts accounts.now.rows)) }
     ensures prefix { OnErr result (AppendsPrefix (K.held_bytes sink.old) (K.held_bytes sink.new) (summary_of counts accounts.now.rows)) }

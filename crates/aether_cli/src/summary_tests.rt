@@ -1,24 +1,13 @@
 //! Summaries of generated transfers, beside numbers that were reckoned by hand.
 
-ghost use Rattle.std.specs.Prelude.{◌≤◌, length, IfOk};
+ghost use Rattle.std.specs.Prelude.{◌≡◌, length};
 
+use crate::demo_command::generated_accounts;
 use crate::summary::{Counts, put_summary};
 use crate::tests::sink_of;
 use lsn_space::{Balances, Lsn};
 use std::test::Fail;
-use txn_script::{GENERATED_ACCOUNTS, GENERATED_BALANCE, Script, make};
-
-fn opening(rt: &HostRuntime) -> Result<Balances, Fail>
-    ensures { IfOk result (λ accounts. length accounts.rows ≤ 4096) }
-{
-    let Ok(mut accounts) = Balances::make(rt.alloc(), GENERATED_ACCOUNTS) else {
-        return Err(Fail::new("no memory"));
-    };
-    for _ in 0..GENERATED_ACCOUNTS {
-        accounts.push(GENERATED_BALANCE, 0);
-    }
-    Ok(accounts)
-}
+use txn_script::{Script, make};
 
 /// Moves what the transfers say, one after another.
 fn run(script: &Script, accounts: &mut Balances)
@@ -39,15 +28,26 @@ fn run(script: &Script, accounts: &mut Balances)
 #[test]
 fn sums_generated_transfers(rt: HostRuntime) -> Result<(), Fail> {
     let cases: [(u32, &[u8]); 3] = [
-        (0, b"transfers 0\ndone 0\nrefused 0\nlsn 128\ntotal 64000000\nmix 2080000000\n"),
-        (3, b"transfers 3\ndone 3\nrefused 0\nlsn 143\ntotal 64000000\nmix 2080000080\n"),
-        (5000, b"transfers 5000\ndone 5000\nrefused 0\nlsn 25128\ntotal 64000000\nmix 2079991273\n"),
+        (
+            0,
+            b"transfers 0\ndone 0\nrefused 0\nlsn 128\ntotal 64000000\nmix 2080000000\n",
+        ),
+        (
+            3,
+            b"transfers 3\ndone 3\nrefused 0\nlsn 143\ntotal 64000000\nmix 2080000080\n",
+        ),
+        (
+            5000,
+            b"transfers 5000\ndone 5000\nrefused 0\nlsn 25128\ntotal 64000000\nmix 2079991273\n",
+        ),
     ];
     for (n, text) in cases {
         let Ok(script) = make(rt.alloc(), n, 7) else {
             return Err(Fail::new("no memory"));
         };
-        let mut accounts = opening(&rt)?;
+        let Ok(mut accounts) = generated_accounts(rt.alloc()) else {
+            return Err(Fail::new("no memory"));
+        };
         run(&script, &mut accounts);
         let mut out = sink_of(&rt, &[])?;
         let counts = Counts {

@@ -36,19 +36,22 @@ returns g c =
     let gathered = c.gather-ends.ensures in
     record {
       ended = λ opened log. record {
-          shares = map share_of workers.items;
-          first = turned.first;
-          last = turned.last;
-          view = view_of c.gather-ends.new.boss;
-          transferred = HasTransferred-gathered g.D.LogDisk g.K.Sink _ _ _ _ _ _ _ _ turned (key_of table) table jobs
-              c.requires.prepared.crew.boss.knows opened log served.done count gathered.stops (view_of c.gather-ends.new.boss) gathered.view
-              c.close.result.tail c.close.result.accounts.rows c.close.ensures.gathered c.close.ensures.settled;
-          ends = ends-of_shares workers.items ∙ sym gathered.ends;
-          fault = turned.fault_is;
-          speaks = turned.speaks;
-          disk_old = turned.disk_old;
-          disk_is = turned.disk_is ∙ search rules;
-          sink_old = turned.sink_old;
-          sink_is = turned.sink_is ∙ search rules;
-        };
+        shares = map share_of workers.items;
+        first = turned.first;
+        last = turned.last;
+        view = view_of c.gather-ends.new.boss;
+        transferred = HasTransferred-gathered g.D.LogDisk g.K.Sink _ _ _ _ _ _ _ _ turned (key_of table) table jobs
+            c.requires.prepared.crew.boss.knows opened log served.done count gathered.stops (view_of c.gather-ends.new.boss) gathered.view
+            c.close.result.tail c.close.result.accounts.rows c.close.ensures.gathered c.close.ensures.settled;
+        ends = ends-of_shares workers.items ∙ sym gathered.ends;
+        fault = turned.fault_is;
+        none_counted = turned.none_counted;
+        done_is = turned.done_is;
+        refused_is = turned.refused_is;
+        speaks = turned.speaks;
+        disk_old = turned.disk_old;
+        disk_is = turned.disk_is ∙ search rules;
+        sink_old = turned.sink_old;
+        sink_is = turned.sink_is ∙ search rules;
+      };
     }
