@@ -1,8 +1,12 @@
 pub mod AnswerLemmas
 pub mod CompletenessLemmas
 pub mod CreationLemmas
+pub mod DemoAsked
+pub mod DemoCompleteness
+pub mod DemoLemmas
 pub mod EndingLemmas
 pub mod GatheredShares
+pub mod GeneratedEnd
 pub mod GenesisLemmas
 pub mod LawLemmas
 pub mod MergedEntries
@@ -11,6 +15,7 @@ pub mod OpenedAccounts
 pub mod OpeningLemmas
 pub mod ReadyLemmas
 pub mod RunAnswerLemmas
+pub mod RunBegun
 pub mod RunCompleteness
 pub mod RunEndWitness
 pub mod RunEnds
@@ -22,6 +27,6 @@ pub mod RunRecords
 pub mod RunStripes
 pub mod RunWitness
 pub mod ServedLemmas
+pub mod SummaryLemmas
 pub mod TransferredLemmas
 pub mod WorkerLemmas
-pub mod SummaryLemmas

@@ -18,8 +18,8 @@ pub fn conclude<K: Sink>(ended: &Ended, out: &mut K) -> Detail
     ensures write { result ≡ Detail.Write → ended.now.fault ≡ None → Rose (K.faults out.old) (K.faults out.new) }
     ensures later { K.faults out.old ≤ K.faults out.new }
 {
-    if let Some(detail) = stopped(ended) {
-        return detail;
+    if let Some(why) = stopped(ended) {
+        return why;
     }
     match put_accounts(ended.closed.lsn(), ended.closed.accounts(), out) {
         Ok(()) => Detail::Fine,
