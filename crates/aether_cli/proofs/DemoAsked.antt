@@ -10,14 +10,14 @@ use Rattle.aether_cli.specs.declared.report.Detail.TheVariants.{Fine, NoMemory, 
 use Rattle.aether_cli.specs.Answers.{StaysSilent}
 use Rattle.aether_cli.specs.Demo.{TellsSummary}
 
-numbers_in : Command → ℕ × ℕ
+abbrev numbers_in : Command → ℕ × ℕ
 numbers_in (Demo log n seed options) = (n, seed)
 numbers_in (New log) = (0, 0)
 numbers_in (Run log options) = (0, 0)
 numbers_in Recover = (0, 0)
 numbers_in Dump = (0, 0)
 
-options_in : RunOptions → Command → RunOptions
+abbrev options_in : RunOptions → Command → RunOptions
 options_in other (Demo log n seed options) = options
 options_in other (New log) = other
 options_in other (Run log options) = other

@@ -57,7 +57,7 @@ abbrev balances : List ℕ
 balances = replicate 64 1000000
 
 few-balances : length balances ≤ 4096
-few-balances = let count = length-replicate 64 1000000 in omega arith
+few-balances = let count = length-replicate {A = ℕ} 64 1000000 in omega arith
 
 each-balance : All IsBalance balances
 each-balance = All-replicate IsBalance 64 1000000 (omega arith)
@@ -75,14 +75,14 @@ pub list-generated : (rows : List (ℕ × ℕ)) → rows ≡ generated_rows → 
 list-generated rows same = ap (λ rs. genesis_list (map (λ (row : ℕ × ℕ). row.0) rs)) same ∙ ap genesis_list (firsts-replicate 64 1000000)
 
 pub few-generated : (rows : List (ℕ × ℕ)) → rows ≡ generated_rows → length rows ≡ 64
-few-generated rows same = ap length same ∙ length-replicate 64 (1000000, 0)
+few-generated rows same = ap length same ∙ length-replicate {A = ℕ × ℕ} 64 (1000000, 0)
 
 pub each-generated : (rows : List (ℕ × ℕ)) → rows ≡ generated_rows → All (λ (row : ℕ × ℕ). IsBalance row.0) rows
 each-generated rows same = subst (All (λ (row : ℕ × ℕ). IsBalance row.0)) (sym same)
     (All-replicate (λ (row : ℕ × ℕ). IsBalance row.0) 64 (1000000, 0) (omega arith))
 
 pub end-opening : end_of generated_opening ≡ 128
-end-opening = end_of-genesis 0 balances ∙ ap (λ n. 2 * n) (length-replicate 64 1000000)
+end-opening = end_of-genesis 0 balances ∙ ap (λ n. 2 * n) (length-replicate {A = ℕ} 64 1000000)
 
 marks-none : (n balance account : ℕ) → (row (replicate n (balance, 0)) account).1 ≡ 0
 marks-none zero balance account = refl
@@ -359,6 +359,7 @@ module _ {D : Type 0} {K : Type 0} (g : Ghosts D) (h : SinkGhosts K) (n seed wor
 
     pub answers-demo : (detail : Detail) → Concludes h ended (counted_text n ended) sink_mid sink_new detail
         → AnswersDemo g n seed workers entry disk_new detail
+    unfolding ran
     answers-demo Disk said = inr ran
     answers-demo Write said = ran
     answers-demo Fine said = record {

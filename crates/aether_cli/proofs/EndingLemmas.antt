@@ -128,10 +128,9 @@ module _ {D : Type 0} {K : Type 0} (g : Ghosts D) (h : SinkGhosts K) (prepared :
     counted-ended =
         let all = tally-all g h opened prepared.jobs has.shares (key_of prepared.table) has.first has.last has.view ended.closed.tail
         ended.closed.accounts.rows has.transferred (has.fault ∙ fine) in
-        (
-          sym has.done_is ∙ ap (λ (t : Tally). t.done) all ∙ ap (λ n. n + done_in list) has.none_counted.0,
-          sym has.refused_is ∙ ap (λ (t : Tally). t.refused) all ∙ ap (λ n. n + refused_in list) has.none_counted.1,
-        )
+        let done = ap (λ (t : Tally). t.done) all in
+        let refused = ap (λ (t : Tally). t.refused) all in
+        (omega (arith, done, has.done_is, has.none_counted.0), omega (arith, refused, has.refused_is, has.none_counted.1))
 
     pub none_stopped-ended : NoneStopped ended.ends.items
     none_stopped-ended = subst NoneStopped has.ends each

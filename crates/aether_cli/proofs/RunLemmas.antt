@@ -33,6 +33,7 @@ use Rattle.log_table.specs.Sound.{base_of}
 use Rattle.flusher.specs.Flushing.{sent_of}
 use Rattle.commit_pipeline.specs.declared.daemon.Daemon.{Daemon}
 use Rattle.commit_pipeline.specs.EndLines.{text_of}
+use Rattle.commit_pipeline.specs.declared.daemon.DaemonFault.TheVariants.{WriteFault}
 use Rattle.commit_pipeline.specs.declared.tally.Tally.{Tally}
 use Rattle.commit_pipeline.specs.Later.{Later, Ran, HasReason}
 use Rattle.commit_pipeline.specs.Telling.{counted}
@@ -218,8 +219,8 @@ module _ {D : Type 0} {K : Type 0} (g : Ghosts D) (h : SinkGhosts K) (opened : L
         counted-none tally = λ i. record { done = sym (add-zero tally.done) i; refused = sym (add-zero tally.refused) i }
 
         by_later : Later g h old new → new.tally ≡ counted old.tally list
-        by_later (inl same) = ap (λ (d : Daemon D K). d.tally) same ∙ counted-none old.tally ∙ ap (counted old.tally) (list-none same)
-        by_later (inr ran) = (ran.all (λ failed. none≢some (sym fine ∙ failed))).1 ∙ ap (counted old.tally) (list-more ran)
+        by_later (inl still) = ap (λ (d : Daemon D K). d.tally) still ∙ counted-none old.tally ∙ ap (counted old.tally) (list-none still)
+        by_later (inr ran) = (ran.all (λ failed. none≢some WriteFault (sym fine ∙ failed))).1 ∙ ap (counted old.tally) (list-more ran)
 
     pub drained : RunIsDrained g old.voice opened jobs list old.flusher.disk.now new.flusher.disk.now (h.held_bytes old.sink.now) (h.held_bytes new.sink.now) lsn rows
     drained = record {
