@@ -17,12 +17,12 @@ prepare-requires-clause-accounts g c = accounts-generated _ c.in_ok-accounts.ens
 
 pub prepare-requires-clause-numbered : goal.prepare-requires-clause-numbered
 prepare-requires-clause-numbered g c =
-    omega (arith, ap length c.in_ok-script.ensures, length-generated c.args.transfers c.args.seed, c.requires.few)
+    omega (arith, ap length c.in_ok-script.ensures.jobs, length-generated c.args.transfers c.args.seed, c.requires.few)
 
 pub prepare-requires-clause-allowed : goal.prepare-requires-clause-allowed
 prepare-requires-clause-allowed g c =
     subst (λ n. All (IsAllowedJob n) c.in_ok-script.script) (sym (few-generated _ c.in_ok-accounts.ensures))
-    (subst (All (IsAllowedJob 64)) (sym c.in_ok-script.ensures) (generated-allowed c.args.transfers c.args.seed))
+    (subst (All (IsAllowedJob 64)) (sym c.in_ok-script.ensures.jobs) (generated-allowed c.args.transfers c.args.seed))
 
 pub returns-clause-prepared : goal.returns-clause-prepared
 returns-clause-prepared g c =
@@ -30,7 +30,7 @@ returns-clause-prepared g c =
     record {
       start = ap (λ (key : Start). key.start) made.key ∙ c.new.ensures;
       accounts = ap (λ (key : Start). key.accounts.rows) made.key ∙ c.in_ok-accounts.ensures;
-      generated = record { script = made.script ∙ c.in_ok-script.ensures; first = made.first; workers_are = made.workers };
+      generated = record { script = made.script ∙ c.in_ok-script.ensures.jobs; first = made.first; workers_are = made.workers };
       ready = made.prepared;
     }
 
