@@ -10,7 +10,7 @@ conclude_counted-requires-clause-stopped g c = λ fine.
 
 pub conclude_counted-requires-clause-few : goal.conclude_counted-requires-clause-few
 conclude_counted-requires-clause-few g c =
-    rows-ended g.D.LogDisk g.K.Sink _ _ _ c.requires.few c.in-Ok.ready _ _ _ _ _ _ _ c.in-Ok.ensures.ready
+    rows-ended g.D.LogDisk g.K.Sink _ _ _ c.requires.few c.in-Ok.ready _ _ _ _ _ c.args.out.now _ c.in-Ok.ensures.ready
     (c.run_transfers-ended.ensures.ended _ c.in-Ok.ensures.ready.log)
 
 pub returns-clause-answer : goal.returns-clause-answer
