@@ -290,9 +290,12 @@ module _ {D : Type 0} {K : Type 0} (g : Ghosts D) (h : SinkGhosts K) (n seed wor
   text-concluded Write (inl said) =
       ([], summary_text n seed, refl, subst (λ s. Appends (h.held_bytes sink) (h.held_bytes s) []) (sym said.1) silent)
   text-concluded Write (inr said) =
-      let text = said.1 in
-      (text.0, text.1, sym (summary-ended said.0.0 said.0.1) ∙ text.2,
-      Appends-trans (h.held_bytes sink) (h.held_bytes sink_mid) (h.held_bytes sink_new) [] text.0 silent text.3)
+      let text = said.1 in (
+        text.0,
+        text.1,
+        sym (summary-ended said.0.0 said.0.1) ∙ text.2,
+        Appends-trans (h.held_bytes sink) (h.held_bytes sink_mid) (h.held_bytes sink_new) [] text.0 silent text.3,
+      )
   text-concluded Fine said = subst (Appends (h.held_bytes sink) (h.held_bytes sink_new)) (summary-ended said.0.0 said.0.1)
       (Appends-trans (h.held_bytes sink) (h.held_bytes sink_mid) (h.held_bytes sink_new) [] (counted_text n ended) silent said.1)
   text-concluded (LogEnd tail total) said = absurd (no-log_end tail total said.0.0 said.0.1)

@@ -41,10 +41,16 @@ updates-most txn (suc (suc k)) leg = omega arith
 
 outcome-most : (txn x : ℕ) (outcome : Outcome) → weight_of size_of (outcome_records txn (transfer_of (job_from x)) outcome) ≤ 5
 outcome-most txn x Done = omega arith
-outcome-most txn x (ShortAt leg) = omega (arith, updates-most txn (leg - 1) (leg_from x),
-    weight_of-append size_of (leg_updates txn (take (leg - 1) (leg_from x ∷ []))) (Short txn leg ∷ []))
-outcome-most txn x (OverAt leg) = omega (arith, updates-most txn (leg - 1) (leg_from x),
-    weight_of-append size_of (leg_updates txn (take (leg - 1) (leg_from x ∷ []))) (Over txn leg ∷ []))
+outcome-most txn x (ShortAt leg) = omega (
+  arith,
+  updates-most txn (leg - 1) (leg_from x),
+  weight_of-append size_of (leg_updates txn (take (leg - 1) (leg_from x ∷ []))) (Short txn leg ∷ []),
+)
+outcome-most txn x (OverAt leg) = omega (
+  arith,
+  updates-most txn (leg - 1) (leg_from x),
+  weight_of-append size_of (leg_updates txn (take (leg - 1) (leg_from x ∷ []))) (Over txn leg ∷ []),
+)
 
 -- the records of a transaction that go on to these ones weigh what these do, or less
 records-most : (h : List Entry) (n : ℕ) (rest planned : List Rec) → in_order (all_without_prev (records_of n h)) rest ≡ planned
