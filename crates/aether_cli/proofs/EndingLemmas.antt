@@ -1,5 +1,5 @@
 -- What is promised of transfers that have ended, in the words of what came of them.
-use Rattle.std.proofs.Common.{◌≡◌, ◌↔◌, ◌<◌, ◌∙◌, ap, sym, subst, refl, ℕ, zero, suc, List, [], ◌∷◌, ◌++◌, length, map, get_or, All, None, Some, arith}
+use Rattle.std.proofs.Common.{◌≡◌, ◌↔◌, ◌<◌, ◌∙◌, ap, sym, subst, refl, ℕ, zero, suc, List, [], ◌∷◌, ◌++◌, length, map, get_or, All, None, Some, arith, ◌≤◌, ◌+◌, inl, inr}
 use Rattle.std.specs.List.{AllByRecursion}
 use Rattle.std.proofs.lemmas.List.{length-map}
 use Rattle.std.proofs.lemmas.List.Elements.{All-head, All-tail}
@@ -8,22 +8,34 @@ use lib.ListN.{get_elem?}
 use Rattle.log_disk.specs.declared.disk.LogDisk.{Ghosts}
 use Rattle.log_disk.specs.declared.sink.Sink.{Ghosts as SinkGhosts}
 use Rattle.log_disk.specs.Faults.{Rose}
+use Rattle.log_disk.specs.Streams.{AppendsPrefix}
 use Rattle.log_record.specs.declared.rec.Rec.{Rec}
+use Rattle.log_record.specs.LogList.{end_of}
+use Rattle.lock_core.specs.History.{history}
+use Rattle.lock_core.specs.Lawful.{base_state_of}
+use Rattle.lock_core.specs.Serial.{IsPartlySerialAfter, IsSerialAfter}
+use Rattle.lock_core.specs.Settling.{KeepsRows}
 use Rattle.log_table.specs.Closing.{records_of}
 use Rattle.log_table.specs.Seats.{key_of}
 use Rattle.commit_pipeline.specs.declared.daemon.DaemonFault.TheVariants.{DiskFault, WriteFault}
+use Rattle.commit_pipeline.specs.declared.tally.Tally.{Tally}
 use Rattle.commit_pipeline.specs.declared.voice.Voice.{Voice}
+use Rattle.commit_pipeline.specs.EndLines.{done_in, refused_in, text_of}
 use Rattle.commit_pipeline.specs.Later.{HasReason}
-use Rattle.txn_runner.specs.declared.cause.Cause.TheVariants.{Stop, LogEnd}
+use Rattle.txn_runner.specs.declared.cause.Cause.TheVariants as cause
 use Rattle.txn_runner.specs.declared.cause.Worked.{Worked}
 use Rattle.txn_runner.specs.declared.cause.Worked.TheVariants as worked
+use Rattle.aether_cli.specs.declared.report.Detail.{Detail}
+use Rattle.aether_cli.specs.declared.report.Detail.TheVariants.{Fine, NoMemory, Usage, Script, Read, Write, Disk, NotALog, BadBatch, BadRec, Unlawful, LogEnd, TxnEnd, Exists}
 use Rattle.aether_cli.specs.declared.transfers.Ended.{Ended}
 use Rattle.aether_cli.specs.declared.transfers.Prepared.{Prepared}
-use Rattle.aether_cli.specs.Ending.{HasEnded, AreWhole, NoneStopped, IsFirstLogEnd}
+use Rattle.aether_cli.specs.Ending.{HasEnded, AreWhole, Concludes, NoneStopped, IsFirstLogEnd}
 use Rattle.aether_cli.specs.Run.{RunKeepsLog, RunIsDrained, RunsWhole}
 use Rattle.aether_cli.specs.RunStops.{StopsAtLogEnd}
 use Rattle.aether_cli.specs.Shares.{Share}
-use Rattle.aether_cli.proofs.RunLemmas.{keeps, drained, whole, stops-at-end, never-stops, reason, same}
+use Rattle.aether_cli.proofs.RunLemmas.{sends, serial, kept, whole_after, tally-all, keeps, drained, whole, stops-at-end, never-stops, reason, same}
+use Rattle.aether_cli.proofs.RunHistory.{later_of}
+use Rattle.aether_cli.proofs.RunStripes.{tasks_of}
 
 abbrev work_of : Share → Worked
 work_of share = share.worked
@@ -65,6 +77,32 @@ module _ {D : Type 0} {K : Type 0} (g : Ghosts D) (h : SinkGhosts K) (prepared :
   whole-ended all = whole g h opened prepared.jobs has.shares (key_of prepared.table) has.first has.last has.view ended.closed.tail
       ended.closed.accounts.rows has.transferred (all-whole has.shares (subst AreWhole (sym has.ends) all))
 
+  -- what was written of the transfers, whatever befell the daemon
+  pub told-ended : (more : List Rec) × AppendsPrefix (h.held_bytes sink) (h.held_bytes sink_new) (text_of voice (end_of opened) more)
+  told-ended =
+      let sent = sends g h opened prepared.jobs has.shares (key_of prepared.table) has.first has.last has.view ended.closed.tail
+      ended.closed.accounts.rows has.transferred in
+      (sent.more, rw (← has.speaks, ← has.sink_old, ← has.sink_is) sent.text)
+
+  pub serial-ended : IsPartlySerialAfter (base_state_of (history opened)) (tasks_of prepared.jobs) (later_of opened list)
+  serial-ended = serial g h opened prepared.jobs has.shares (key_of prepared.table) has.first has.last has.view ended.closed.tail
+      ended.closed.accounts.rows has.transferred
+
+  pub kept-ended : KeepsRows ended.closed.accounts.rows (base_state_of (history opened)) (later_of opened list)
+  kept-ended = kept g h opened prepared.jobs has.shares (key_of prepared.table) has.first has.last has.view ended.closed.tail
+      ended.closed.accounts.rows has.transferred
+
+  pub whole_after-ended : AreWhole ended.ends.items → IsSerialAfter (base_state_of (history opened)) (tasks_of prepared.jobs) (later_of opened list)
+  whole_after-ended all = whole_after g h opened prepared.jobs has.shares (key_of prepared.table) has.first has.last has.view ended.closed.tail
+      ended.closed.accounts.rows has.transferred (all-whole has.shares (subst AreWhole (sym has.ends) all))
+
+  -- no count of faults fell
+  pub later-ended : (g.faults disk ≤ g.faults disk_new) × (h.faults sink ≤ h.faults sink_new)
+  later-ended =
+      let is = same g h opened prepared.jobs has.shares (key_of prepared.table) has.first has.last has.view ended.closed.tail
+      ended.closed.accounts.rows has.transferred in
+      rw (← has.disk_old, ← has.disk_is, ← has.sink_old, ← has.sink_is) (is.disk_faults, is.sink_faults)
+
   -- why the daemon failed
   pub reason-disk : ended.fault ≡ Some DiskFault → Rose (g.faults disk) (g.faults disk_new)
   reason-disk fault =
@@ -90,13 +128,22 @@ module _ {D : Type 0} {K : Type 0} (g : Ghosts D) (h : SinkGhosts K) (prepared :
         (drained g h opened prepared.jobs has.shares (key_of prepared.table) has.first has.last has.view ended.closed.tail
         ended.closed.accounts.rows has.transferred (has.fault ∙ fine))
 
+    -- each end record was counted
+    pub counted-ended : (ended.done ≡ done_in list) × (ended.refused ≡ refused_in list)
+    counted-ended =
+        let all = tally-all g h opened prepared.jobs has.shares (key_of prepared.table) has.first has.last has.view ended.closed.tail
+        ended.closed.accounts.rows has.transferred (has.fault ∙ fine) in
+        let done = ap (λ (t : Tally). t.done) all in
+        let refused = ap (λ (t : Tally). t.refused) all in
+        (omega (arith, done, has.done_is, has.none_counted.0), omega (arith, refused, has.refused_is, has.none_counted.1))
+
     pub none_stopped-ended : NoneStopped ended.ends.items
     none_stopped-ended = subst NoneStopped has.ends each
       where
         each : NoneStopped (map work_of has.shares)
         each k other below word at =
             let found = share-at has.shares k other (omega (arith, below, length-map has.shares work_of)) in
-            let stopped : found.0.worked ≡ worked.Cut (Stop word) = sym found.2 ∙ at in
+            let stopped : found.0.worked ≡ worked.Cut (cause.Stop word) = sym found.2 ∙ at in
             never-stops g h opened prepared.jobs has.shares (key_of prepared.table) has.first has.last has.view ended.closed.tail
             ended.closed.accounts.rows has.transferred (has.fault ∙ fine) k found.0.taken word
             (found.1 ∙ (λ i. some (record { taken = found.0.taken; worked = stopped i })))
@@ -106,9 +153,50 @@ module _ {D : Type 0} {K : Type 0} (g : Ghosts D) (h : SinkGhosts K) (prepared :
         let ends = has.ends ∙ first.whole in
         let counted = ap length ends in
         let found = share-at has.shares (length first.below) worked.All
-        (omega (arith, counted, length-map has.shares work_of, length-behind first.below first.above (worked.Cut (LogEnd tail total)))) in
-        let stopped : found.0.worked ≡ worked.Cut (LogEnd tail total) =
+        (omega (arith, counted, length-map has.shares work_of, length-behind first.below first.above (worked.Cut (cause.LogEnd tail total)))) in
+        let stopped : found.0.worked ≡ worked.Cut (cause.LogEnd tail total) =
         sym found.2 ∙ ap (λ list. get_or list (length first.below) worked.All) ends ∙ get_or-behind first.below first.above _ worked.All in
         stops-at-end g h opened prepared.jobs has.shares (key_of prepared.table) has.first has.last has.view ended.closed.tail
         ended.closed.accounts.rows has.transferred (has.fault ∙ fine) (length first.below) found.0.taken tail total
         (found.1 ∙ (λ i. some (record { taken = found.0.taken; worked = stopped i })))
+
+  -- what is answered where a fault is answered
+  module _ (text : List ℕ) (sink_end : K) where
+    rose-later : (before mid now : ℕ) → before ≤ mid → Rose mid now → Rose before now
+    rose-later before mid now later rose = omega arith
+
+    pub disk-concluded : (detail : Detail) → Concludes h ended text sink_new sink_end detail → detail ≡ Disk → Rose (g.faults disk) (g.faults disk_new)
+    disk-concluded Disk said same = reason-disk said.0
+    disk-concluded Write said same = cc
+    disk-concluded (LogEnd tail total) said same = cc
+    disk-concluded Fine said same = cc
+    disk-concluded NoMemory said same = absurd said
+    disk-concluded Usage said same = absurd said
+    disk-concluded (Script line) said same = absurd said
+    disk-concluded Read said same = absurd said
+    disk-concluded NotALog said same = absurd said
+    disk-concluded (BadBatch offset) said same = absurd said
+    disk-concluded (BadRec lsn) said same = absurd said
+    disk-concluded (Unlawful lsn why) said same = absurd said
+    disk-concluded (TxnEnd first count) said same = absurd said
+    disk-concluded Exists said same = absurd said
+
+    pub write-concluded : (detail : Detail) → Concludes h ended text sink_new sink_end detail
+        → (detail ≡ Write → ended.fault ≡ None → Rose (h.faults sink_new) (h.faults sink_end)) → detail ≡ Write
+        → Rose (h.faults sink) (h.faults sink_end)
+    write-concluded Write (inl said) ends same = subst (λ s. Rose (h.faults sink) (h.faults s)) (sym said.1) (reason-write said.0)
+    write-concluded Write (inr said) ends same =
+        rose-later (h.faults sink) (h.faults sink_new) (h.faults sink_end) later-ended.1 (ends same said.0.0)
+    write-concluded Disk said ends same = cc
+    write-concluded (LogEnd tail total) said ends same = cc
+    write-concluded Fine said ends same = cc
+    write-concluded NoMemory said ends same = absurd said
+    write-concluded Usage said ends same = absurd said
+    write-concluded (Script line) said ends same = absurd said
+    write-concluded Read said ends same = absurd said
+    write-concluded NotALog said ends same = absurd said
+    write-concluded (BadBatch offset) said ends same = absurd said
+    write-concluded (BadRec lsn) said ends same = absurd said
+    write-concluded (Unlawful lsn why) said ends same = absurd said
+    write-concluded (TxnEnd first count) said ends same = absurd said
+    write-concluded Exists said ends same = absurd said

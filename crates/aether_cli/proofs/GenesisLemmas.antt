@@ -110,14 +110,20 @@ module _ (balances : List ℕ) (few : length balances ≤ 4096) (each : All IsBa
   opens-genesis : Opens (history (genesis_list balances)) (opening_rows balances)
   opens-genesis = opens-more [] [] 0 balances tt refl range (record { lawful = tt; kept = keeps-none })
 
+  pub genesis-spellable : AllByRecursion IsSpellable (genesis_list balances)
+  genesis-spellable = spellable-genesis 0 balances (omega arith) range
+
+  pub genesis-lawful : IsLawful (history (genesis_list balances))
+  genesis-lawful = opens-genesis.lawful
+
   pub genesis-kept : KeepsRows (opening_rows balances) (genesis_of (history (genesis_list balances))) (history (genesis_list balances))
   genesis-kept = opens-genesis.kept
 
   -- bytes that hold its units hold the list, which is lawful
   pub genesis-holds : (c : List ℕ) → HoldsUnits c (units_of (genesis_list balances)) → HoldsLawful c (genesis_list balances)
   genesis-holds c held = record {
-    list = record { each = spellable-genesis 0 balances (omega arith) range; holds = held };
-    lawful = opens-genesis.lawful;
+    list = record { each = genesis-spellable; holds = held };
+    lawful = genesis-lawful;
   }
 
   pub genesis-text : (lsn : ℕ) → lsn ≡ 2 * length balances → rows_text lsn (opening_rows balances) ≡ accounts_text (genesis_list balances)

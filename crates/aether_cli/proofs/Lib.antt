@@ -2,8 +2,12 @@ pub mod AnswerLemmas
 pub mod CompletenessLemmas
 pub mod CreationLemmas
 pub mod DoneLines
+pub mod DemoAsked
+pub mod DemoCompleteness
+pub mod DemoLemmas
 pub mod EndingLemmas
 pub mod GatheredShares
+pub mod GeneratedEnd
 pub mod GenesisLemmas
 pub mod LawLemmas
 pub mod MergedEntries
@@ -13,6 +17,7 @@ pub mod OpenedAccounts
 pub mod OpeningLemmas
 pub mod ReadyLemmas
 pub mod RunAnswerLemmas
+pub mod RunBegun
 pub mod RunCompleteness
 pub mod RunEndWitness
 pub mod RunEnds
@@ -26,7 +31,7 @@ pub mod RunWitness
 pub mod ServedLemmas
 pub mod ToldLemmas
 pub mod ToldWitness
+pub mod SummaryLemmas
 pub mod TransferredLemmas
 pub mod WholeLines
 pub mod WorkerLemmas
-pub mod SummaryLemmas

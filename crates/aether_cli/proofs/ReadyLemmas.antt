@@ -41,7 +41,7 @@ module _ {D : Type 0} (g : Ghosts D) (old mid : D) where
 
   module _ (reads : Reads) (left left_new text : Option (List ℕ)) where
     pub only-reads : OnlyReads g (outside old left text) (outside mid left_new text)
-    only-reads = record { silent = keeps-refl text; images = reads.1; reads = reads.0; count = reads.2 }
+    only-reads = record { silent = keeps-refl text; disk = record { images = reads.1; reads = reads.0; count = reads.2 } }
 
     pub only-settles : OnlySettles g (outside old left text) (outside mid left_new text)
     only-settles = record {

@@ -7,37 +7,23 @@ use Rattle.log_disk.specs.Disk.{Leaves}
 use Rattle.log_disk.specs.Streams.{AppendsPrefix}
 use Rattle.log_disk.specs.declared.disk.LogDisk.{Ghosts}
 use Rattle.log_disk.specs.declared.sink.Sink.{Ghosts as SinkGhosts}
-use Rattle.log_disk.proofs.Moments.{Leaves-trans, Leaves-weaken}
 use Rattle.log_record.specs.declared.rec.Rec.{Rec}
 use Rattle.log_record.specs.LogList.{end_of}
-use Rattle.log_record.specs.Spelling.{IsSpellable}
-use Rattle.std.specs.List.{AllByRecursion}
-use Rattle.log_recovery.specs.Recovery.{HoldsLawful}
 use Rattle.log_recovery.specs.Text.{accounts_text, rows_text}
 use Rattle.log_recovery.proofs.TextLemmas.{AppendsPrefix-first, AppendsPrefix-behind}
 use Rattle.txn_runner.specs.declared.jobs.Jobs.{Jobs}
-use Rattle.lock_core.specs.Alone.{Job as Transfer, with_note, leg_updates}
-use Rattle.lock_core.specs.Serial.{numbered, IsRunWhole, IsCutShort}
-use Rattle.lock_core.specs.Sums.{BaseState}
 use Rattle.commit_pipeline.specs.EndLines.{end_lines}
 use Rattle.commit_pipeline.specs.declared.voice.Voice.TheVariants.{Lines}
 use Rattle.aether_cli.specs.declared.report.Detail.{Detail}
 use Rattle.aether_cli.specs.declared.report.Detail.TheVariants.{Fine, NoMemory, Usage, Script, Read, Write, Disk, NotALog, BadBatch, BadRec, Unlawful, LogEnd, TxnEnd, Exists}
 use Rattle.aether_cli.specs.declared.run_command.ReadyRun.{ReadyRun}
 use Rattle.aether_cli.specs.declared.transfers.Ended.{Ended}
-use Rattle.aether_cli.specs.Ending.{Concludes, HasEnded}
-use Rattle.aether_cli.specs.Run.{HoldsRun, GoesOn, RunIsDrained, transfers_of}
+use Rattle.aether_cli.specs.Ending.{Concludes, HasEnded, closed_text}
+use Rattle.aether_cli.specs.Run.{HoldsRun, RunIsDrained}
 use Rattle.aether_cli.specs.RunAnswers.{AnswersRun, HoldsTold, Ran, RanOut, RanWhole, RanIntoEnd, Outside, outside, run_text}
 use Rattle.aether_cli.specs.RunReady.{IsReadyFor}
 use Rattle.aether_cli.proofs.EndingLemmas.{list, keeps-ended, whole-ended, drained-ended, stops-ended}
-use Rattle.aether_cli.proofs.RunLedger.{goes-on}
-
--- of no records, each transfer is cut short before its first
-partly-none : (base : BaseState) (first : ℕ) (jobs : List Transfer)
-    → AllByRecursion (λ task. IsRunWhole base [] task ⊎ IsCutShort [] task) (numbered first jobs)
-partly-none base first [] = tt
-partly-none base first (job ∷ jobs) =
-    (inr (record { rest = with_note first job.note (leg_updates first job.legs); front = refl }), partly-none base (first + 1) jobs)
+use Rattle.aether_cli.proofs.RunBegun.{images-begun}
 
 module _ {D : Type 0} {K : Type 0} (g : Ghosts D) (h : SinkGhosts K) (workers : ℕ) (ready : ReadyRun) (entry disk disk_new : D)
     (left left_new : Option (List ℕ)) (sink sink_mid sink_new : K) (ended : Ended) (is : IsReadyFor g workers entry disk left left_new ready)
@@ -57,28 +43,9 @@ module _ {D : Type 0} {K : Type 0} (g : Ghosts D) (h : SinkGhosts K) (workers : 
   abbrev new : Outside D
   new = outside disk_new left_new (h.held_bytes sink_new)
 
-  nothing-goes_on : GoesOn opened jobs (opened ++ [])
-  nothing-goes_on = goes-on opened [] jobs is.log.lawful is.log.some_accounts is.log.below
-      (subst (AllByRecursion IsSpellable) (sym (append-nil opened)) is.log.spellable) tt
-      (record { each = partly-none _ jobs.first (transfers_of jobs); others = λ txn apart. refl })
-
-  holds-nothing : (bytes : List ℕ) → HoldsLawful bytes opened → HoldsRun opened jobs records bytes
-  holds-nothing bytes held = record {
-    front = [];
-    rest = records;
-    whole = refl;
-    holds = subst (HoldsLawful bytes) (sym (append-nil opened)) held;
-    goes_on = nothing-goes_on;
-  }
-
   images-ran : Leaves g.moment g.images_since (λ bytes. g.images entry bytes ⊎ HoldsRun opened jobs records bytes) entry disk_new
-  images-ran = Leaves-trans g.moment g.images_since (λ bytes. g.images entry bytes ⊎ HoldsRun opened jobs records bytes) entry disk disk_new
-      (Leaves-weaken g.moment g.images_since (λ bytes. g.images entry bytes ⊎ HoldsLawful bytes opened)
-      (λ bytes. g.images entry bytes ⊎ HoldsRun opened jobs records bytes) entry disk
-      (λ bytes. ⊎_elim (λ image. inl image) (λ held. inr (holds-nothing bytes held))) (is.images honest))
-      (Leaves-weaken g.moment g.images_since (HoldsRun opened jobs records) (λ bytes. g.images entry bytes ⊎ HoldsRun opened jobs records bytes)
-      disk disk_new (λ bytes held. inr held)
-      ((keeps-ended g h ready.prepared opened Lines disk disk_new sink sink_mid ended has).moments honest_mid))
+  images-ran = images-begun g disk ready.tail opened jobs _ is.log records (g.images entry) entry disk_new (is.images honest)
+      ((keeps-ended g h ready.prepared opened Lines disk disk_new sink sink_mid ended has).moments honest_mid)
 
   abbrev ran : ((image : List ℕ) → g.images disk_new image → HoldsTold g opened jobs records old new image) → Ran g workers old new
   ran kept = record {
@@ -143,22 +110,22 @@ module _ {D : Type 0} {K : Type 0} (g : Ghosts D) (h : SinkGhosts K) (workers : 
     told-lines : sink_new ≡ sink_mid → Appends (h.held_bytes sink) (h.held_bytes sink_new) (end_lines (end_of opened) records)
     told-lines same = subst (λ text. Appends (h.held_bytes sink) text (end_lines (end_of opened) records)) (sym (ap h.held_bytes same)) drained.text
 
-  pub answers-concluded : (detail : Detail) → Concludes h ended sink_mid sink_new detail → AnswersRun g workers old new detail
+  pub answers-concluded : (detail : Detail) → Concludes h ended (closed_text ended) sink_mid sink_new detail → AnswersRun g workers old new detail
   answers-concluded Disk said = inr (ran-failed said.1)
   answers-concluded Write (inl said) = ran-failed said.1
-  answers-concluded Write (inr said) = ran-drained said.0 (told-part said.0 said.2)
+  answers-concluded Write (inr said) = ran-drained said.0.0 (told-part said.0.0 said.1)
   answers-concluded (LogEnd tail total) said =
-      let text = told-lines said.0 said.2 in
+      let text = told-lines said.0.0 said.1 in
       record {
-        out = out said.0 (end_lines (end_of opened) records, accounts_text (opened ++ records), refl, text);
-        stops = stops-ended g h ready.prepared opened Lines disk disk_new sink sink_mid ended has said.0 tail total said.1;
+        out = out said.0.0 (end_lines (end_of opened) records, accounts_text (opened ++ records), refl, text);
+        stops = stops-ended g h ready.prepared opened Lines disk disk_new sink sink_mid ended has said.0.0 tail total said.0.1;
         text = text;
       }
   answers-concluded Fine said =
-      let text = told-whole said.0 said.2 in
+      let text = told-whole said.0.0 said.1 in
       record {
-        out = out said.0 (run_text opened records, [], sym (append-nil (run_text opened records)), text);
-        whole = whole-ended g h ready.prepared opened Lines disk disk_new sink sink_mid ended has said.1;
+        out = out said.0.0 (run_text opened records, [], sym (append-nil (run_text opened records)), text);
+        whole = whole-ended g h ready.prepared opened Lines disk disk_new sink sink_mid ended has said.0.1;
         text = text;
       }
   answers-concluded NoMemory said = absurd said

@@ -1,5 +1,5 @@
 -- What a run promises, from what is known once all seats are gathered.
-use Rattle.std.proofs.Common.{◌≡◌, inl, inr, ⊎_elim, ◌≤◌, ℕ, ◌+◌, List, [], ◌++◌, length, map, None, refl, ap, ◌∙◌, sym, subst, arith, append_assoc, length-append}
+use Rattle.std.proofs.Common.{◌≡◌, inl, inr, ⊎_elim, ◌≤◌, ℕ, ◌+◌, List, [], ◌++◌, length, map, None, refl, ap, ◌∙◌, sym, subst, arith, add-zero, append_assoc, length-append}
 use Rattle.std.specs.List.{AllByRecursion}
 use Rattle.std.proofs.lemmas.List.Elements.{All-from_recursion}
 use mathlib.Core.Option.{some}
@@ -13,9 +13,11 @@ use Rattle.log_record.specs.Spelling.{IsSpellable}
 use Rattle.log_record.proofs.SpellingLemmas.{units_of-injective}
 use Rattle.lock_core.specs.History.{history, history_from}
 use Rattle.lock_core.specs.Lawful.{IsLawfulAfter, base_state_of}
-use Rattle.lock_core.specs.Serial.{Task, IsPartlySerialAfter}
+use Rattle.lock_core.specs.Serial.{Task, IsPartlySerialAfter, IsSerialAfter}
+use Rattle.lock_core.specs.Settling.{KeepsRows}
 use Rattle.lock_core.specs.Sums.{BaseState}
 use Rattle.lock_core.proofs.ListLemmas.{all-append, all-split}
+use Rattle.lock_core.proofs.SerialFronts.{partly-serial}
 use Rattle.lock_core.proofs.SerialTasks.{partly_serial-more}
 use Rattle.log_recovery.proofs.ListingLemmas.{units_of-append}
 use Rattle.log_recovery.proofs.TextLemmas.{AppendsPrefix-first}
@@ -31,9 +33,12 @@ use Rattle.log_table.specs.Sound.{base_of}
 use Rattle.flusher.specs.Flushing.{sent_of}
 use Rattle.commit_pipeline.specs.declared.daemon.Daemon.{Daemon}
 use Rattle.commit_pipeline.specs.EndLines.{text_of}
-use Rattle.commit_pipeline.specs.Later.{Later, HasReason}
+use Rattle.commit_pipeline.specs.declared.daemon.DaemonFault.TheVariants.{WriteFault}
+use Rattle.commit_pipeline.specs.declared.tally.Tally.{Tally}
+use Rattle.commit_pipeline.specs.Later.{Later, Ran, HasReason}
+use Rattle.commit_pipeline.specs.Telling.{counted}
 use Rattle.commit_pipeline.specs.Turning.{IsSameDaemon, durable}
-use Rattle.commit_pipeline.proofs.RanLemmas.{Later-same, Later-reason}
+use Rattle.commit_pipeline.proofs.RanLemmas.{Later-same, Later-reason, none≢some}
 use Rattle.commit_pipeline.proofs.LineLemmas.{text_of-append}
 use Rattle.txn_runner.specs.declared.cause.Cause.TheVariants.{Stop, LogEnd}
 use Rattle.txn_runner.specs.declared.cause.Worked.TheVariants.{All, Cut}
@@ -83,7 +88,7 @@ module _ {D : Type 0} {K : Type 0} (g : Ghosts D) (h : SinkGhosts K) (opened : L
       (subst (λ jobs. IsLedger (base_of key) (history_from key.start [] list) (map task_of jobs) rows) known.workers.taken
       (known.settled.ledger once)))
 
-  serial : IsPartlySerialAfter base (tasks_of jobs) (later_of opened list)
+  pub serial : IsPartlySerialAfter base (tasks_of jobs) (later_of opened list)
   serial = partly_serial-more base taken (tasks_of jobs) (later_of opened list)
       (taken-numbered jobs shares known.workers.count (λ i share at. (known.workers.each i share at).stripe))
       (each-numbered _ jobs.first jobs.script (λ place inside. taken-or_not jobs shares known.workers.count place inside jobs.shared))
@@ -91,6 +96,9 @@ module _ {D : Type 0} {K : Type 0} (g : Ghosts D) (h : SinkGhosts K) (opened : L
 
   lawful_after : IsLawfulAfter base (later_of opened list)
   lawful_after = ledger.lawful
+
+  pub kept : KeepsRows rows base (later_of opened list)
+  kept = ledger.accounts
 
   -- ---- the turns
 
@@ -106,7 +114,7 @@ module _ {D : Type 0} {K : Type 0} (g : Ghosts D) (h : SinkGhosts K) (opened : L
       kept (inl is) = ap (λ (d : Daemon D K). (view_of d.flusher.seat).constants) is
       kept (inr ran) = ran.constants
 
-  sends : RunSends g old.voice opened list old.flusher.disk.now new.flusher.disk.now (h.held_bytes old.sink.now) (h.held_bytes new.sink.now)
+  pub sends : RunSends g old.voice opened list old.flusher.disk.now new.flusher.disk.now (h.held_bytes old.sink.now) (h.held_bytes new.sink.now)
   sends = by_later known.later
     where
       by_later : Later g h old new
@@ -178,26 +186,41 @@ module _ {D : Type 0} {K : Type 0} (g : Ghosts D) (h : SinkGhosts K) (opened : L
   -- ---- without a fault
 
   module _ (fine : new.fault ≡ None) where
+    -- all records were sent
+    list-is : (records : List Rec) → AllByRecursion IsSpellable records → view.sending.sent ≡ units_of records → records ≡ list
+    list-is records each sent = units_of-injective records list (All-from_recursion IsSpellable records each)
+        (All-from_recursion IsSpellable list list-spellable) (sym sent ∙ sym (known.gathered.drained (known.drained fine)) ∙ list-units)
+
+    list-none : new ≡ old → [] ≡ list
+    list-none same = list-is [] tt (ap (λ (s : Sending). s.sent) known.sending ∙ ap (λ (d : Daemon D K). sent_of d.flusher) same ∙ known.fresh.sent)
+
+    list-more : (ran : Ran g h old new) → ran.more ≡ list
+    list-more ran = list-is ran.more (all-split IsSpellable ran.more ran.cut ran.spellable).0
+        (ap (λ (s : Sending). s.sent) known.sending ∙ sent-now g h opened list old new known.log.stand known.fresh.sent start-old ran)
+
     sent-all : RunSent g old.voice opened list old.flusher.disk.now new.flusher.disk.now (h.held_bytes old.sink.now) (h.held_bytes new.sink.now)
     sent-all = by_later known.later
       where
-        list-is : (records : List Rec) → AllByRecursion IsSpellable records → view.sending.sent ≡ units_of records → records ≡ list
-        list-is records each sent = units_of-injective records list (All-from_recursion IsSpellable records each)
-            (All-from_recursion IsSpellable list list-spellable) (sym sent ∙ sym (known.gathered.drained (known.drained fine)) ∙ list-units)
-
         by_later : Later g h old new
             → RunSent g old.voice opened list old.flusher.disk.now new.flusher.disk.now (h.held_bytes old.sink.now) (h.held_bytes new.sink.now)
         by_later (inl same) =
-            let none : view.sending.sent ≡ [] = ap (λ (s : Sending). s.sent) known.sending ∙ ap (λ (d : Daemon D K). sent_of d.flusher) same ∙ known.fresh.sent in
             subst (λ (d : Daemon D K). RunSent g old.voice opened list old.flusher.disk.now d.flusher.disk.now (h.held_bytes old.sink.now) (h.held_bytes d.sink.now)) (sym same)
             (subst (λ (records : List Rec). RunSent g old.voice opened records old.flusher.disk.now old.flusher.disk.now (h.held_bytes old.sink.now) (h.held_bytes old.sink.now))
-            (list-is [] tt none) (sent-still g h opened list old old known.log.stand known.fresh.sent start-old))
+            (list-none same) (sent-still g h opened list old old known.log.stand known.fresh.sent start-old))
         by_later (inr ran) =
-            let sent : view.sending.sent ≡ units_of ran.more =
-            ap (λ (s : Sending). s.sent) known.sending ∙ sent-now g h opened list old new known.log.stand known.fresh.sent start-old ran in
             subst (λ (records : List Rec). RunSent g old.voice opened records old.flusher.disk.now new.flusher.disk.now (h.held_bytes old.sink.now) (h.held_bytes new.sink.now))
-            (list-is ran.more (all-split IsSpellable ran.more ran.cut ran.spellable).0 sent)
-            (sent-ran g h opened list old new known.log.stand known.fresh.sent start-old ran fine)
+            (list-more ran) (sent-ran g h opened list old new known.log.stand known.fresh.sent start-old ran fine)
+
+    -- and the end record of each was counted
+    pub tally-all : new.tally ≡ counted old.tally list
+    tally-all = by_later known.later
+      where
+        counted-none : (tally : Tally) → tally ≡ counted tally []
+        counted-none tally = λ i. record { done = sym (add-zero tally.done) i; refused = sym (add-zero tally.refused) i }
+
+        by_later : Later g h old new → new.tally ≡ counted old.tally list
+        by_later (inl still) = ap (λ (d : Daemon D K). d.tally) still ∙ counted-none old.tally ∙ ap (counted old.tally) (list-none still)
+        by_later (inr ran) = (ran.all (λ failed. none≢some WriteFault (sym fine ∙ failed))).1 ∙ ap (counted old.tally) (list-more ran)
 
     pub drained : RunIsDrained g old.voice opened jobs list old.flusher.disk.now new.flusher.disk.now (h.held_bytes old.sink.now) (h.held_bytes new.sink.now) lsn rows
     drained = record {
@@ -229,6 +252,10 @@ module _ {D : Type 0} {K : Type 0} (g : Ghosts D) (h : SinkGhosts K) (opened : L
     pub never-stops : (worker count word : ℕ) → get_elem? shares worker ≡ some (record { taken = count; worked = Cut (Stop word) }) → ⊥
     never-stops worker count word at =
         no-stop opened jobs view known.log.below shares known.workers stop-none worker word (record { taken = count; worked = Cut (Stop word) }) at refl
+
+  pub whole_after : AllByRecursion (λ (share : Share). share.worked ≡ All) shares → IsSerialAfter base (tasks_of jobs) (later_of opened list)
+  whole_after all = partly-serial base (tasks_of jobs) (later_of opened list)
+      (all-ended opened jobs view known.log.below shares known.workers jobs.shared all) serial
 
   pub whole : AllByRecursion (λ (share : Share). share.worked ≡ All) shares → RunsWhole opened jobs list
   whole all = runs-whole opened list jobs known.log.lawful known.log.some_accounts known.log.below spellable lawful_after serial

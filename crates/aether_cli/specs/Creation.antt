@@ -53,3 +53,9 @@ TellsWhether opened Exists = opened
 TellsWhether opened NoMemory = Unit {0}
 TellsWhether opened Disk = Unit {0}
 TellsWhether opened detail = opened → ⊥
+
+-- why it isn't found that no log is there
+abbrev pub IsFindingFault : Detail → Type 0
+IsFindingFault Disk = Unit {0}
+IsFindingFault Exists = Unit {0}
+IsFindingFault detail = ⊥

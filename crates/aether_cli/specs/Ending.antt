@@ -19,6 +19,7 @@ use Rattle.aether_cli.specs.declared.report.Detail.TheVariants.{Fine, Write, Dis
 use Rattle.aether_cli.specs.declared.transfers.Ended.{Ended}
 use Rattle.aether_cli.specs.declared.transfers.Prepared.{Prepared}
 use Rattle.aether_cli.specs.Shares.{Share}
+use Rattle.aether_cli.specs.Summary.{summary_of}
 use Rattle.aether_cli.specs.Transferred.{HasTransferred}
 
 -- Turns led from a daemon over the one disk and sink to one over the other, and the transfers ended so.
@@ -31,6 +32,9 @@ pub record HasEnded {D : Type 0} {K : Type 0} (g : Ghosts D) (h : SinkGhosts K) 
   pub transferred : HasTransferred g h opened prepared.jobs shares (key_of prepared.table) first last view ended.closed.tail ended.closed.accounts.rows
   pub ends : map (λ (share : Share). share.worked) shares ≡ ended.ends.items
   pub fault : last.fault ≡ ended.fault
+  pub none_counted : (first.tally.done ≡ 0) × (first.tally.refused ≡ 0)
+  pub done_is : last.tally.done ≡ ended.done
+  pub refused_is : last.tally.refused ≡ ended.refused
   pub speaks : first.voice ≡ voice
   pub disk_old : first.flusher.disk.now ≡ disk
   pub disk_is : last.flusher.disk.now ≡ disk_new
@@ -52,14 +56,31 @@ pub record IsFirstLogEnd (ends : List Worked) (tail total : ℕ) : Type 0 where
   pub whole : ends ≡ below ++ worked.Cut (cause.LogEnd tail total) ∷ above
   pub all_whole : AreWhole below
 
--- What the program answers once the transfers have ended: the daemon's fault before all else; then the end of the log that the lowest worker
--- met; and else the accounts of the closed table are written.
-abbrev pub Concludes : {K : Type 0} → SinkGhosts K → Ended → K → K → Detail → Type 0
-Concludes h ended old new Disk = (ended.fault ≡ Some DiskFault) × (new ≡ old)
-Concludes h ended old new Write = ((ended.fault ≡ Some WriteFault) × (new ≡ old))
-    ⊎ ((ended.fault ≡ None) × AreWhole ended.ends.items
-    × AppendsPrefix (h.held_bytes old) (h.held_bytes new) (rows_text ended.closed.tail ended.closed.accounts.rows))
-Concludes h ended old new (LogEnd tail total) = (ended.fault ≡ None) × IsFirstLogEnd ended.ends.items tail total × (new ≡ old)
-Concludes h ended old new Fine = (ended.fault ≡ None) × AreWhole ended.ends.items
-    × Appends (h.held_bytes old) (h.held_bytes new) (rows_text ended.closed.tail ended.closed.accounts.rows)
-Concludes h ended old new detail = ⊥
+-- why the transfers were stopped: the daemon's fault before all else, and then the end of the log that the lowest worker met
+abbrev pub StoppedAs : Ended → Detail → Type 0
+StoppedAs ended Disk = ended.fault ≡ Some DiskFault
+StoppedAs ended Write = ended.fault ≡ Some WriteFault
+StoppedAs ended (LogEnd tail total) = (ended.fault ≡ None) × IsFirstLogEnd ended.ends.items tail total
+StoppedAs ended detail = ⊥
+
+-- nothing stopped them
+abbrev pub NothingStopped : Ended → Type 0
+NothingStopped ended = (ended.fault ≡ None) × AreWhole ended.ends.items
+
+-- What the program answers once the transfers have ended: why they were stopped; and where nothing stopped them, this text is written.
+abbrev pub Concludes : {K : Type 0} → SinkGhosts K → Ended → List ℕ → K → K → Detail → Type 0
+Concludes h ended text old new Disk = StoppedAs ended Disk × (new ≡ old)
+Concludes h ended text old new Write =
+    (StoppedAs ended Write × (new ≡ old)) ⊎ (NothingStopped ended × AppendsPrefix (h.held_bytes old) (h.held_bytes new) text)
+Concludes h ended text old new (LogEnd tail total) = StoppedAs ended (LogEnd tail total) × (new ≡ old)
+Concludes h ended text old new Fine = NothingStopped ended × Appends (h.held_bytes old) (h.held_bytes new) text
+Concludes h ended text old new detail = ⊥
+
+-- the text of the accounts of the closed table
+abbrev pub closed_text : Ended → List ℕ
+closed_text ended = rows_text ended.closed.tail ended.closed.accounts.rows
+
+-- the summary of so many transfers: what the daemon counted of them, and the accounts of the closed table
+abbrev pub counted_text : ℕ → Ended → List ℕ
+counted_text transfers ended =
+    summary_of (record { transfers = transfers; done = ended.done; refused = ended.refused; lsn = ended.closed.tail }) ended.closed.accounts.rows

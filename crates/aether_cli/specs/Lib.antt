@@ -1,5 +1,6 @@
 pub mod Answers
 pub mod Creation
+pub mod Demo
 pub mod Ending
 pub mod FaultText
 pub mod Gathering

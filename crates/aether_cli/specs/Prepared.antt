@@ -63,4 +63,7 @@ pub record HasTurned {D : Type 0} {K : Type 0} (g : Ghosts D) (h : SinkGhosts K)
   pub sink_old : first.sink.now ≡ sink
   pub sink_is : last.sink.now ≡ sink_new
   pub fault_is : last.fault ≡ served.fault
+  pub none_counted : (first.tally.done ≡ 0) × (first.tally.refused ≡ 0)
+  pub done_is : last.tally.done ≡ served.done
+  pub refused_is : last.tally.refused ≡ served.refused
   pub drained : served.fault ≡ None → IsDrained (view_of served.boss)

@@ -42,12 +42,16 @@ pub record Outside (D : Type 0) : Type 0 where
 abbrev pub outside : {D : Type 0} → D → Option (List ℕ) → Option (List ℕ) → Outside D
 outside disk left text = record { disk = disk; left = left; text = text }
 
--- nothing was written, and the disk was only attached, synced and read
+-- the disk was only attached, synced and read
+pub record OnlyLooks {D : Type 0} (g : Ghosts D) (old new : D) : Type 0 where
+  pub images : Leaves g.moment g.images_since (g.images old) old new
+  pub reads : g.reads new ≡ g.reads old
+  pub count : g.written_count new ≤ g.written_count old + 1
+
+-- and nothing was written
 pub record OnlyReads {D : Type 0} (g : Ghosts D) (old new : Outside D) : Type 0 where
   pub silent : Keeps old.text new.text
-  pub images : Leaves g.moment g.images_since (g.images old.disk) old.disk new.disk
-  pub reads : g.reads new.disk ≡ g.reads old.disk
-  pub count : g.written_count new.disk ≤ g.written_count old.disk + 1
+  pub disk : OnlyLooks g old.disk new.disk
 
 -- the bytes hold the list that a read gave
 abbrev pub HoldsAsRead : {D : Type 0} → Ghosts D → D → List ℕ → Type 0

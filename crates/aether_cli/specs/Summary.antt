@@ -13,6 +13,10 @@ use Rattle.aether_cli.specs.Creation.{genesis_list}
 abbrev pub generated_opening : List Rec
 generated_opening = genesis_list (replicate GENERATED_ACCOUNTS GENERATED_BALANCE)
 
+-- the rows of these accounts, none of which has a commit
+abbrev pub generated_rows : List (ℕ × ℕ)
+generated_rows = replicate GENERATED_ACCOUNTS (GENERATED_BALANCE, 0)
+
 -- the sum over so many accounts, each balance as often as the account's number and 1 say: it tells which account has what
 abbrev pub mix_below : ℕ → (ℕ → ℕ) → ℕ
 mix_below accounts balance = sum_below accounts (λ account. (account + 1) * balance account)

@@ -1,8 +1,9 @@
-ghost use Rattle.std.specs.Prelude.{◌≡◌, ◌≤◌, IfSome, IfNone, None};
+ghost use Rattle.std.specs.Prelude.{◌≡◌, ◌≤◌, length, IfSome, IfNone, None};
 ghost use Rattle.log_disk.specs.Faults.{Rose};
-ghost use Rattle.aether_cli.specs.Ending.{AreWhole, Concludes, IsFirstLogEnd, NoneStopped};
+ghost use Rattle.aether_cli.specs.Ending.{AreWhole, Concludes, IsFirstLogEnd, NoneStopped, NothingStopped, StoppedAs, closed_text, counted_text};
 
 use crate::report::Detail;
+use crate::summary::{Counts, put_summary};
 use crate::transfers::Ended;
 use commit_pipeline::DaemonFault;
 use log_disk::Sink;
@@ -13,21 +14,55 @@ use txn_runner::{Cause, Worked};
 /// What the program answers once the transfers have ended. Where nothing befell them it writes the accounts text.
 pub fn conclude<K: Sink>(ended: &Ended, out: &mut K) -> Detail
     requires { ended.now.fault ≡ None → NoneStopped ended.now.ends.items }
-    ensures concludes { Concludes K.Sink ended.now out.old out.new result }
+    ensures concludes { Concludes K.Sink ended.now (closed_text ended.now) out.old out.new result }
     ensures write { result ≡ Detail.Write → ended.now.fault ≡ None → Rose (K.faults out.old) (K.faults out.new) }
     ensures later { K.faults out.old ≤ K.faults out.new }
 {
-    match ended.fault {
-        Some(DaemonFault::DiskFault) => return Detail::Disk,
-        Some(DaemonFault::WriteFault) => return Detail::Write,
-        None => {}
-    }
-    if let Some((tail, total)) = first_log_end(ended.ends.as_slice()) {
-        return Detail::LogEnd { tail, total };
+    if let Some(why) = stopped(ended) {
+        return why;
     }
     match put_accounts(ended.closed.lsn(), ended.closed.accounts(), out) {
         Ok(()) => Detail::Fine,
         Err(_) => Detail::Write,
+    }
+}
+
+/// The same where so many transfers are counted and not told: then the text is their summary.
+pub fn conclude_counted<K: Sink>(ended: &Ended, transfers: u32, out: &mut K) -> Detail
+    requires stopped { ended.now.fault ≡ None → NoneStopped ended.now.ends.items }
+    requires few { length ended.now.closed.accounts.rows ≤ 4096 }
+    ensures concludes { Concludes K.Sink ended.now (counted_text transfers ended.now) out.old out.new result }
+    ensures write { result ≡ Detail.Write → ended.now.fault ≡ None → Rose (K.faults out.old) (K.faults out.new) }
+    ensures later { K.faults out.old ≤ K.faults out.new }
+{
+    if let Some(detail) = stopped(ended) {
+        return detail;
+    }
+    let counts = Counts {
+        transfers: transfers as u64,
+        done: ended.done as u64,
+        refused: ended.refused as u64,
+        lsn: ended.closed.lsn(),
+    };
+    match put_summary(counts, ended.closed.accounts(), out) {
+        Ok(()) => Detail::Fine,
+        Err(_) => Detail::Write,
+    }
+}
+
+/// Why the transfers were stopped, if they were: what befell the daemon, or else the end of the log.
+fn stopped(ended: &Ended) -> Option<Detail>
+    requires { ended.now.fault ≡ None → NoneStopped ended.now.ends.items }
+    ensures some { IfSome result (StoppedAs ended.now) }
+    ensures none { IfNone result (NothingStopped ended.now) }
+{
+    match ended.fault {
+        Some(DaemonFault::DiskFault) => Some(Detail::Disk),
+        Some(DaemonFault::WriteFault) => Some(Detail::Write),
+        None => {
+            let (tail, total) = first_log_end(ended.ends.as_slice())?;
+            Some(Detail::LogEnd { tail, total })
+        }
     }
 }
 

@@ -3,6 +3,9 @@
 
 mod command;
 mod conclusion;
+mod demo_command;
+#[cfg(test)]
+mod demo_tests;
 mod dump_command;
 #[cfg(test)]
 mod dump_tests;

@@ -5,7 +5,7 @@ ghost use Rattle.segment_file.specs.File.{BeginsOpen};
 ghost use Rattle.aether_cli.specs.Answers.{AnswersNew, AreOpening, IsInputFault, IsMakingFault, IsOfNew, StaysSilent};
 ghost use Rattle.aether_cli.specs.Creation.{AllHoldNew, FollowsLog, MayBeLeft, PrecedesLog, TellsWhether};
 
-use crate::finding::finds_log;
+use crate::finding::finds_none;
 use crate::genesis::genesis;
 use crate::input::{ReadFault, read_all};
 use crate::report::Detail;
@@ -76,11 +76,7 @@ fn make_log<D: LogDisk, S: Source>(
     ensures later { S.faults script.old ≤ S.faults script.new }
     ensures later_disk { D.faults disk.old ≤ D.faults disk.new }
 {
-    match finds_log(disk, log) {
-        Ok(false) => {}
-        Ok(true) => return Err(Detail::Exists),
-        Err(_) => return Err(Detail::Disk),
-    }
+    finds_none(disk, log)?;
     let accounts = read_balances(alloc, script)?;
     let Ok(mut batch) = genesis(alloc, &accounts) else {
         return Err(Detail::NoMemory);

@@ -29,8 +29,8 @@ const LAST_TXN: u64 = 4294967295;
 /// A run before its first transfer: all memory is there, and the log goes on at this tail.
 #[derive(Drop)]
 pub struct ReadyRun {
-    prepared: Prepared,
-    tail: Tail,
+    pub(crate) prepared: Prepared,
+    pub(crate) tail: Tail,
 }
 
 /// Makes the transfers of a script over a log, tells each that is durable, and then answers the accounts. It waits for the

@@ -1,6 +1,6 @@
 ghost use Rattle.std.specs.Prelude.{◌≡◌, ◌≤◌, ◌+◌, ◌⊎◌, ◌↔◌, ℕ, List, length, IfSome};
 ghost use Rattle.command_line.specs.CommandLine.{IsCommandLine, AreTaken};
-ghost use Rattle.command_line.specs.declared.command.Command.TheVariants.{New, Run, Recover, Dump};
+ghost use Rattle.command_line.specs.declared.command.Command.TheVariants.{New, Run, Recover, Dump, Demo};
 ghost use Rattle.command_line.specs.declared.options.RunOptions.{RunOptions};
 ghost use Rattle.log_disk.specs.Disk.{Leaves};
 ghost use Rattle.log_disk.specs.Faults.{Rose};
@@ -9,11 +9,13 @@ ghost use Rattle.log_recovery.specs.Recovery.{HoldsLawful, HoldsList};
 ghost use Rattle.segment_file.specs.File.{BeginsOpen};
 ghost use Rattle.txn_script.specs.Balances.{IsBalancesText};
 ghost use Rattle.aether_cli.specs.Answers.{status_of, AnswersRecover, AnswersDump, AnswersNew, AsksNew, IsOfDump, AsksRun, IsOfNew, IsOfRecover, StaysSilent};
+ghost use Rattle.aether_cli.specs.Demo.{AnswersDemo, AsksDemo, IsOfDemo, TellsSummary};
 ghost use Rattle.aether_cli.specs.Creation.{AllHoldNew, FollowsLog, MayBeLeft, PrecedesLog, TellsWhether};
 ghost use Rattle.aether_cli.specs.RunAnswers.{AnswersRun, IsOfRun, IsRunDone, RunStaysSilent, accounts_of, next_txn, outside};
 ghost use Rattle.txn_script.specs.declared.job.Job.{Job};
 ghost use Rattle.txn_script.specs.Script.{IsScriptText};
 
+use crate::demo_command::demo_command;
 use crate::dump_command::dump_command;
 use crate::new_command::new_command;
 use crate::recover_command::recover_command;
@@ -43,7 +45,7 @@ pub fn aether<R: Threads + Wait + Sync, D: LogDisk, S: Source, K: Sink, G: Gate 
     ensures refused { (AreTaken words.now → ⊥) → (result.detail ≡ Detail.Usage) ⊎ (result.detail ≡ Detail.NoMemory) }
     ensures unread { (AreTaken words.now → ⊥) → script.new ≡ script.old }
     ensures unwritten { (AreTaken words.now → ⊥) → out.new ≡ out.old }
-    ensures untouched { (AsksNew words.now → ⊥) → (AsksRun words.now → ⊥) → disk.new ≡ disk.old }
+    ensures untouched { (AsksNew words.now → ⊥) → (AsksRun words.now → ⊥) → (AsksDemo words.now → ⊥) → disk.new ≡ disk.old }
 
     // `recover`: for the bytes of the input, the text that is written, and what is left of both.
     ensures recover { IsCommandLine words.now Recover → IfSome (S.left script.old) (λ bytes.
@@ -71,7 +73,7 @@ pub fn aether<R: Threads + Wait + Sync, D: LogDisk, S: Source, K: Sink, G: Gate 
         → Leaves D.moment D.images_since (D.images disk.old) disk.old disk.new }
     ensures unchanged { AsksNew words.now → D.honest disk.old → PrecedesLog result.detail → D.reads disk.new ≡ D.reads disk.old }
     ensures exists { AsksNew words.now → D.honest disk.old → TellsWhether (BeginsOpen (D.reads disk.old)) result.detail }
-    ensures count { (AsksRun words.now → ⊥) → D.honest disk.old → D.written_count disk.new ≤ D.written_count disk.old + 7 }
+    ensures count { (AsksRun words.now → ⊥) → (AsksDemo words.now → ⊥) → D.honest disk.old → D.written_count disk.new ≤ D.written_count disk.old + 7 }
     ensures complete { AsksNew words.now → D.honest disk.old → (BeginsOpen (D.reads disk.old) → ⊥)
         → IfSome (S.left script.old) (λ bytes. (balances : List ℕ) → IsBalancesText bytes balances
         → (Rose (S.faults script.old) (S.faults script.new) → ⊥) → (Rose (K.faults out.old) (K.faults out.new) → ⊥)
@@ -90,6 +92,18 @@ pub fn aether<R: Threads + Wait + Sync, D: LogDisk, S: Source, K: Sink, G: Gate 
         → IsScriptText (accounts_of opened) bytes jobs → next_txn opened + length jobs ≤ 4294967295
         → (Rose (S.faults script.old) (S.faults script.new) → ⊥) → (Rose (K.faults out.old) (K.faults out.new) → ⊥)
         → (Rose (D.faults disk.old) (D.faults disk.new) → ⊥) → IsRunDone result.detail) }
+
+    // `demo`: what a crash may leave of the disk at each moment, and the summary, which is the same whatever the options. It reads nothing.
+    ensures demo { (log : List ℕ) (n seed : ℕ) (options : RunOptions) → IsCommandLine words.now (Demo log n seed options)
+        → D.honest disk.old → AnswersDemo D.LogDisk n seed options.workers disk.old disk.new result.detail }
+    ensures summary { (log : List ℕ) (n seed : ℕ) (options : RunOptions) → IsCommandLine words.now (Demo log n seed options)
+        → TellsSummary n seed (K.held_bytes out.old) (K.held_bytes out.new) result.detail }
+    ensures of_demo { AsksDemo words.now → IsOfDemo result.detail }
+    ensures exists_demo { AsksDemo words.now → D.honest disk.old → TellsWhether (BeginsOpen (D.reads disk.old)) result.detail }
+    ensures unread_demo { AsksDemo words.now → script.new ≡ script.old }
+    ensures complete_demo { AsksDemo words.now → D.honest disk.old → (BeginsOpen (D.reads disk.old) → ⊥)
+        → (Rose (K.faults out.old) (K.faults out.new) → ⊥) → (Rose (D.faults disk.old) (D.faults disk.new) → ⊥)
+        → (result.detail ≡ Detail.Fine) ⊎ (result.detail ≡ Detail.NoMemory) }
 
     // Nothing is written but where all is fine or the writing failed.
     ensures silent { (AsksRun words.now → ⊥) → StaysSilent (K.held_bytes out.old) (K.held_bytes out.new) result.detail }
@@ -111,6 +125,14 @@ pub fn aether<R: Threads + Wait + Sync, D: LogDisk, S: Source, K: Sink, G: Gate 
         )),
         Ok(Command::Recover) => Report::of(recover_command(alloc, script, out)),
         Ok(Command::Dump) => Report::of(dump_command(alloc, script, out)),
+        Ok(
+            Command::Demo {
+                log,
+                transfers,
+                seed,
+                options,
+            },
+        ) => Report::of(demo_command(rt, alloc, &log, transfers, seed, &options, disk, out, gate)),
         Err(Refused::Usage) => Report::of(Detail::Usage),
         Err(Refused::NoMemory) => Report::of(Detail::NoMemory),
     }

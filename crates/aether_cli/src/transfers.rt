@@ -56,19 +56,24 @@ struct Outside<'a, D, K> {
     out: &'a mut K,
 }
 
-/// What befell the daemon, the table's first seat, the workers, and room for what the work of each came to.
+/// What befell the daemon, what it counted, the table's first seat, the workers, and room for what the work of each came to.
 #[derive(Drop)]
 struct Served {
     fault: Option<DaemonFault>,
+    done: u32,
+    refused: u32,
     boss: Seat,
     workers: Vec<Worker>,
     ends: Vec<Worked>,
 }
 
-/// How a run ended: what befell the daemon, how each worker's work ended, and what the table held.
+/// How a run ended: what befell the daemon, how many transfers it counted as done and as refused, how each worker's work ended,
+/// and what the table held.
 #[derive(Drop)]
 pub struct Ended {
     pub(crate) fault: Option<DaemonFault>,
+    pub(crate) done: u32,
+    pub(crate) refused: u32,
     pub(crate) ends: Vec<Worked>,
     pub(crate) closed: Closed,
 }
@@ -130,6 +135,7 @@ fn relief_of<'a, D: LogDisk, K: Sink>(
     ensures ready { MayTurn D.LogDisk result.daemon }
     ensures fine { result.daemon.fault ≡ None }
     ensures voice { result.daemon.voice ≡ voice }
+    ensures none { (result.daemon.tally.done ≡ 0) × (result.daemon.tally.refused ≡ 0) }
     ensures flusher { result.daemon.flusher ≡ flusher.entry }
     ensures sink { result.daemon.sink ≡ out.entry }
 {
@@ -175,10 +181,14 @@ fn serve_crew<'a, R: Threads + Wait + Sync, D: LogDisk, K: Sink, G: Gate + Sync>
     let (relief, workers) = serve_all(run, workers, room.started, room.back, relief);
     let FlushingRelief { daemon } = relief;
     let fault = daemon.fault();
+    let done = daemon.done();
+    let refused = daemon.refused();
     let Daemon { flusher, sink, .. } = daemon;
     let Flusher { seat, disk, .. } = flusher;
     *served = Some(Served {
         fault,
+        done,
+        refused,
         boss: seat,
         workers,
         ends: room.ends,
@@ -223,6 +233,8 @@ pub fn run_transfers<R: Threads + Wait + Sync, D: LogDisk, K: Sink, G: Gate + Sy
     let ends = gather(&table, &mut boss, served.workers, served.ends);
     Ended {
         fault: served.fault,
+        done: served.done,
+        refused: served.refused,
         ends,
         closed: table.close(boss),
     }

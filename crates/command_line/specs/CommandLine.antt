@@ -1,12 +1,14 @@
 -- The command line of the program: the command that is defined, and what words ask by it. Words have the program's name first.
-use Rattle.std.specs.Prelude.{◌≡◌, ◌≢◌, ◌↔◌, IsTrue, ℕ, codes, Option, Some, None, unwrap_or, true, List, []}
+use Rattle.std.specs.Prelude.{◌≡◌, ◌≢◌, ◌≤◌, ◌⊎◌, ◌↔◌, IsTrue, ℕ, codes, Option, Some, None, unwrap_or, true, List, []}
 use Rattle.clap.specs.Words.{App, Rule, Row, new_app, new_rule, with_rule, with_subcommand, fault_of, subcommand_of, first_of}
 use Rattle.clap.specs.declared.builder.action.ArgAction.TheVariants.{SetTrue}
 use Rattle.lsn_space.specs.Number.{number_text}
+use Rattle.txn_script.specs.declared.generator.TheConstants.{MOST_GENERATED}
 use Rattle.command_line.specs.Ranges.{AreInRange}
+use Rattle.command_line.specs.declared.parsing.TheConstants.{GREATEST_SEED}
 use Rattle.command_line.specs.declared.options.RunOptions.{RunOptions}
 use Rattle.command_line.specs.declared.command.Command.{Command}
-use Rattle.command_line.specs.declared.command.Command.TheVariants.{New, Run, Recover, Dump}
+use Rattle.command_line.specs.declared.command.Command.TheVariants.{New, Run, Recover, Dump, Demo}
 use Rattle.command_line.specs.declared.command.Refused.{Refused}
 use Rattle.command_line.specs.declared.command.Refused.TheVariants as refused
 
@@ -35,6 +37,11 @@ recover_command = new_app (codes "recover")
 abbrev pub dump_command : App
 dump_command = new_app (codes "dump")
 
+unfoldable pub demo_command : App
+demo_command = with_rule (with_rule (with_rule (with_rule (with_rule (with_rule (new_app (codes "demo")) (required_rule (codes "LOG")))
+    (required_rule (codes "N"))) (required_rule (codes "SEED"))) (option_rule (codes "workers"))) (option_rule (codes "ring")))
+    (option_rule (codes "slots"))
+
 -- the command without its subcommands: one of them is required, and it has no flag or subcommand for help or version
 abbrev pub bare_command : App
 bare_command = record (new_app (codes "aether")) {
@@ -49,7 +56,8 @@ bare_command = record (new_app (codes "aether")) {
 -- the command of the program
 unfoldable pub aether_command : App
 aether_command =
-    with_subcommand (with_subcommand (with_subcommand (with_subcommand bare_command new_command.top) run_command.top) recover_command.top) dump_command.top
+    with_subcommand (with_subcommand (with_subcommand (with_subcommand (with_subcommand bare_command new_command.top) run_command.top)
+    recover_command.top) dump_command.top) demo_command.top
 
 -- the command takes the words
 abbrev pub AreKnown : List (List ℕ) → Type 0
@@ -68,7 +76,7 @@ abbrev pub IsNumberOf : Option (List ℕ) → ℕ → ℕ → Type 0
 IsNumberOf None default number = number ≡ default
 IsNumberOf (Some text) default number = text ≡ number_text number
 
--- what `run` is given: 2 workers, a ring of 65536 units and 4 slots where the words say nothing else
+-- how to work: 2 workers, a ring of 65536 units and 4 slots where the words say nothing else
 pub record AreOptions (rows : List Row) (options : RunOptions) : Type 0 where
   pub range : AreInRange options
   pub workers : IsNumberOf (first_of (codes "workers") rows) 2 options.workers
@@ -80,6 +88,17 @@ pub record AreOptions (rows : List Row) (options : RunOptions) : Type 0 where
 abbrev pub HasNoOptions : List Row → Type 0
 HasNoOptions rows = (options : RunOptions) → AreOptions rows options → ⊥
 
+-- what `demo` is given besides its log
+pub record IsDemo (rows : List Row) (transfers seed : ℕ) (options : RunOptions) : Type 0 where
+  pub range : (transfers ≤ MOST_GENERATED) × (seed ≤ GREATEST_SEED)
+  pub transfers_are : first_of (codes "N") rows ≡ Some (number_text transfers)
+  pub seed_is : first_of (codes "SEED") rows ≡ Some (number_text seed)
+  pub options_are : AreOptions rows options
+
+-- one of its numbers is written otherwise, or outside its range
+abbrev pub HasNoDemo : List Row → Type 0
+HasNoDemo rows = (transfers seed : ℕ) (options : RunOptions) → IsDemo rows transfers seed options → ⊥
+
 -- the command takes the words, and they ask this
 abbrev pub IsCommandLine : List (List ℕ) → Command → Type 0
 IsCommandLine words (New log) = AreKnown words × (rows : List Row) × NamesSubcommand words (codes "new") rows × (log ≡ log_in rows)
@@ -87,14 +106,17 @@ IsCommandLine words (Run log options) =
     AreKnown words × (rows : List Row) × NamesSubcommand words (codes "run") rows × (log ≡ log_in rows) × AreOptions rows options
 IsCommandLine words Recover = AreKnown words × (rows : List Row) × NamesSubcommand words (codes "recover") rows
 IsCommandLine words Dump = AreKnown words × (rows : List Row) × NamesSubcommand words (codes "dump") rows
+IsCommandLine words (Demo log transfers seed options) = AreKnown words × (rows : List Row) × NamesSubcommand words (codes "demo") rows
+    × (log ≡ log_in rows) × IsDemo rows transfers seed options
 
 -- the words ask something
 abbrev pub AreTaken : List (List ℕ) → Type 0
 AreTaken words = (command : Command) × IsCommandLine words command
 
--- the words name `run`, but with numbers that it doesn't take
-abbrev pub NamesBadRun : List (List ℕ) → Type 0
-NamesBadRun words = (rows : List Row) × NamesSubcommand words (codes "run") rows × HasNoOptions rows
+-- the words name `run` or `demo`, but with numbers that it doesn't take
+abbrev pub NamesBadNumbers : List (List ℕ) → Type 0
+NamesBadNumbers words = (rows : List Row)
+    × (NamesSubcommand words (codes "run") rows × HasNoOptions rows ⊎ NamesSubcommand words (codes "demo") rows × HasNoDemo rows)
 
 -- why the command doesn't take words; want of memory says nothing of them
 abbrev pub IsMismatchOf : List (List ℕ) → Refused → Type 0

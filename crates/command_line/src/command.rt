@@ -5,16 +5,29 @@ use lsn_space::Word;
 #[derive(Drop)]
 pub enum Command {
     /// A log is made at this place.
-    New { log: Word },
+    New {
+        log: Word,
+    },
 
     /// The transfers of the input are made over the log at this place.
-    Run { log: Word, options: RunOptions },
+    Run {
+        log: Word,
+        options: RunOptions,
+    },
 
     /// The log of the input is read.
     Recover,
 
     /// The records of the input are shown.
     Dump,
+
+    /// A log of generated accounts is made at this place, and so many transfers, which this seed generates, are made over it.
+    Demo {
+        log: Word,
+        transfers: u32,
+        seed: u32,
+        options: RunOptions,
+    },
 }
 
 /// Why words ask nothing.

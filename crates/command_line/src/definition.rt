@@ -2,7 +2,7 @@
 ghost use Rattle.std.specs.Prelude.{◌≡◌, IfOk, false};
 ghost use Rattle.clap.specs.Words.{app_of, rule_of};
 ghost use Rattle.clap.specs.declared.builder.command.Command.TheViews.{out-Command};
-ghost use Rattle.command_line.specs.CommandLine.{aether_command, bare_command, flag_rule, new_command, option_rule, required_rule, run_command};
+ghost use Rattle.command_line.specs.CommandLine.{aether_command, bare_command, demo_command, flag_rule, new_command, option_rule, required_rule, run_command};
 
 use clap::{Arg, ArgAction, Command};
 use std::alloc::{AllocError, Global};
@@ -50,6 +50,19 @@ fn run<'a>(alloc: Global) -> Result<Command<'a>, AllocError>
         .arg(flag(alloc, "wait"))
 }
 
+fn demo<'a>(alloc: Global) -> Result<Command<'a>, AllocError>
+    ensures app { IfOk result (λ r. app_of r ≡ demo_command) }
+    ensures local { IfOk result (λ r. (out-Command r).has_globals ≡ false) }
+{
+    Command::new(alloc, "demo")
+        .arg(required(alloc, "LOG"))?
+        .arg(required(alloc, "N"))?
+        .arg(required(alloc, "SEED"))?
+        .arg(option(alloc, "workers"))?
+        .arg(option(alloc, "ring"))?
+        .arg(option(alloc, "slots"))
+}
+
 /// A command line that asks for help is a faulty one, so nothing here stands for help or for a version.
 fn bare<'a>(alloc: Global) -> Command<'a>
     ensures { app_of result ≡ bare_command }
@@ -69,5 +82,6 @@ pub(crate) fn aether<'a>(alloc: Global) -> Result<Command<'a>, AllocError>
         .subcommand(new(alloc)?)?
         .subcommand(run(alloc)?)?
         .subcommand(Command::new(alloc, "recover"))?
-        .subcommand(Command::new(alloc, "dump"))
+        .subcommand(Command::new(alloc, "dump"))?
+        .subcommand(demo(alloc)?)
 }

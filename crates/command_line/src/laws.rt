@@ -5,10 +5,10 @@ ghost use Rattle.clap.specs.Words.{Row};
 ghost use Rattle.command_line.specs.CommandLine.{AreKnown, AreTaken, IsCommandLine, NamesSubcommand};
 ghost use Rattle.command_line.specs.declared.command.Command.{Command};
 
-/// A law: words ask one thing at most. Those that the command takes ask something, but for `run` with numbers that it
-/// doesn't take.
+/// A law: words ask one thing at most. Those that the command takes ask something, but for `run` and `demo` with numbers that
+/// they don't take.
 pub fn one_command()
     ensures one { (words : List (List ℕ)) (one other : Command) → IsCommandLine words one → IsCommandLine words other → one ≡ other }
     ensures some { (words : List (List ℕ)) → AreKnown words
-        → AreTaken words ⊎ (rows : List Row) × NamesSubcommand words (codes "run") rows }
+        → AreTaken words ⊎ (rows : List Row) × (NamesSubcommand words (codes "run") rows ⊎ NamesSubcommand words (codes "demo") rows) }
 {}

@@ -12,4 +12,4 @@ mod tests;
 pub use command::{Command, Refused};
 pub use laws::one_command;
 pub use options::RunOptions;
-pub use parsing::parse;
+pub use parsing::{GREATEST_SEED, parse};

@@ -1,11 +1,12 @@
 ghost use Rattle.std.specs.Prelude.{◌≡◌, ◌≤◌, ◌↔◌, ℕ, Some, IsTrue, IfSome, IfNone, codes};
 ghost use Rattle.clap.specs.Words.{found_of, rows_of, first_of};
+ghost use Rattle.lsn_space.specs.Number.{number_text};
 ghost use Rattle.command_line.specs.CommandLine.{AreOptions, HasNoOptions, IsNumberOf};
 
 use clap::ArgMatches;
 use txn_script::number;
 
-/// How `run` is to work.
+/// How `run` and `demo` are to work.
 #[derive(Clone, Copy, Debug, PartialEq, Eq)]
 pub struct RunOptions {
     /// How many workers there are, 1 or 2.
@@ -17,11 +18,11 @@ pub struct RunOptions {
     /// How many slots there are, at most 16. They have no effect yet.
     pub slots: u32,
 
-    /// Whether a worker gives accounts back only once the end of its transaction is durable.
+    /// Whether a worker gives accounts back only once the end of its transaction is durable. `demo` has no such flag.
     pub wait: bool,
 }
 
-/// What is found of `run`'s options, where each number is written as it should be and in its range.
+/// What is found of these options, where each number is written as it should be and in its range.
 pub(crate) fn options_in(found: &ArgMatches<'_>) -> Option<RunOptions>
     ensures some { IfSome result (AreOptions (rows_of (found_of found.now))) }
     ensures none { IfNone result (HasNoOptions (rows_of (found_of found.now))) }
@@ -59,6 +60,19 @@ fn number_in(
     match found.get_str(option) {
         Some(text) => number(text.as_bytes(), least, most),
         None => Some(default),
+    }
+}
+
+/// The number up to `most` that is given by its place.
+pub(crate) fn given_in(found: &ArgMatches<'_>, name: &str, most: u32) -> Option<u32>
+    ensures most { IfSome result (λ n. n ≤ most) }
+    ensures some { IfSome result (λ n. first_of name.now (rows_of (found_of found.now)) ≡ Some (number_text n)) }
+    ensures none { IfNone result ((n : ℕ) → n ≤ most
+        → first_of name.now (rows_of (found_of found.now)) ≡ Some (number_text n) → ⊥) }
+{
+    match found.get_str(name) {
+        Some(text) => number(text.as_bytes(), 0, most),
+        None => None,
     }
 }
 

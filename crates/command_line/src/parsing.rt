@@ -1,21 +1,25 @@
-ghost use Rattle.std.specs.Prelude.{◌≡◌, ◌≢◌, ◌⊎◌, [], IfErr, IfOk, MatchResult, map, true};
+ghost use Rattle.std.specs.Prelude.{◌≡◌, ◌≢◌, ◌⊎◌, ℕ, [], IfErr, IfOk, MatchResult, map, true};
 ghost use Rattle.clap.specs.Words.{fault_of, found_of, rows_of, subcommand_of, subcommand_rows_of, takes};
-ghost use Rattle.command_line.specs.CommandLine.{aether_command, log_in, AreKnown, AreOptions, HasNoOptions, IsCommandLine, IsMismatchOf, IsRefusalOf, NamesBadRun};
-ghost use Rattle.command_line.specs.declared.command.Command.TheVariants.{New, Run};
+ghost use Rattle.command_line.specs.CommandLine.{aether_command, log_in, AreKnown, AreOptions, HasNoDemo, HasNoOptions, IsCommandLine, IsDemo, IsMismatchOf, IsRefusalOf, NamesBadNumbers};
+ghost use Rattle.command_line.specs.declared.command.Command.TheVariants.{Demo, New, Run};
 ghost use Rattle.command_line.specs.declared.options.RunOptions.{RunOptions};
 
 use crate::command::{Command, Refused};
 use crate::definition::aether;
-use crate::options::options_in;
+use crate::options::{given_in, options_in};
 use clap::ArgMatches;
 use clap::error::ErrorKind;
 use lsn_space::Word;
 use std::alloc::Global;
+use txn_script::MOST_GENERATED;
+
+/// The greatest seed of generated transfers.
+pub const GREATEST_SEED: u32 = 65536;
 
 /// What the words ask.
 pub fn parse(alloc: Global, words: &[Word]) -> Result<Command, Refused>
     ensures exact { MatchResult result (IsCommandLine words.now) (IsRefusalOf words.now) }
-    ensures taken { takes aether_command words.now ≡ true → IfErr result (λ e. (e ≡ Refused.NoMemory) ⊎ NamesBadRun words.now) }
+    ensures taken { takes aether_command words.now ≡ true → IfErr result (λ e. (e ≡ Refused.NoMemory) ⊎ NamesBadNumbers words.now) }
 {
     let matches = matches_of(alloc, words)?;
     let Some((name, found)) = matches.subcommand() else {
@@ -26,6 +30,7 @@ pub fn parse(alloc: Global, words: &[Word]) -> Result<Command, Refused>
         "run" => run(alloc, found),
         "recover" => Ok(Command::Recover),
         "dump" => Ok(Command::Dump),
+        "demo" => demo(alloc, found),
         _ => unreachable!(),
     }
 }
@@ -48,6 +53,30 @@ fn run(alloc: Global, found: &ArgMatches<'_>) -> Result<Command, Refused>
     };
     let log = log_of(alloc, found)?;
     Ok(Command::Run { log, options })
+}
+
+fn demo(alloc: Global, found: &ArgMatches<'_>) -> Result<Command, Refused>
+    ensures { MatchResult result
+        (λ c. (transfers seed : ℕ) × (options : RunOptions) × IsDemo (rows_of (found_of found.now)) transfers seed options
+        × (c ≡ Demo (log_in (rows_of (found_of found.now))) transfers seed options))
+        (λ e. (e ≡ Refused.NoMemory) ⊎ ((e ≡ Refused.Usage) × HasNoDemo (rows_of (found_of found.now)))) }
+{
+    let Some(transfers) = given_in(found, "N", MOST_GENERATED) else {
+        return Err(Refused::Usage);
+    };
+    let Some(seed) = given_in(found, "SEED", GREATEST_SEED) else {
+        return Err(Refused::Usage);
+    };
+    let Some(options) = options_in(found) else {
+        return Err(Refused::Usage);
+    };
+    let log = log_of(alloc, found)?;
+    Ok(Command::Demo {
+        log,
+        transfers,
+        seed,
+        options,
+    })
 }
 
 /// The value of LOG.

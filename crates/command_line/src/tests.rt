@@ -121,6 +121,91 @@ fn takes_options_of_run(rt: HostRuntime) -> Result<(), Fail> {
     Ok(())
 }
 
+/// A case of `demo`: the words, its transfers and seed, and its workers, ring and slots.
+type DemoCase<'a> = (&'a [&'a str], u32, u32, (u32, u32, u32));
+
+#[test]
+fn takes_demo(rt: HostRuntime) -> Result<(), Fail> {
+    let cases: [DemoCase<'_>; 5] = [
+        (&["aether", "demo", "log", "3", "7"], 3, 7, (2, 65536, 4)),
+        (&["", "demo", "log", "0", "0"], 0, 0, (2, 65536, 4)),
+        (
+            &["aether", "demo", "log", "100000", "65536"],
+            100000,
+            65536,
+            (2, 65536, 4),
+        ),
+        (
+            &[
+                "aether",
+                "demo",
+                "--workers=1",
+                "log",
+                "3",
+                "--ring",
+                "1024",
+                "7",
+            ],
+            3,
+            7,
+            (1, 1024, 4),
+        ),
+        (
+            &["aether", "demo", "--slots=0", "--", "log", "3", "7"],
+            3,
+            7,
+            (2, 65536, 0),
+        ),
+    ];
+    for (words, want_transfers, want_seed, (workers, ring, slots)) in cases {
+        let want = RunOptions {
+            workers,
+            ring,
+            slots,
+            wait: false,
+        };
+        let command = parsed(&rt, words)?;
+        assert!(rt;
+            matches!(&command, Ok(Command::Demo { log, transfers, seed, options })
+                if log.text() == "log" && *transfers == want_transfers && *seed == want_seed && *options == want),
+            "{words:?}"
+        );
+    }
+    Ok(())
+}
+
+#[test]
+fn refuses_other_words_of_demo(rt: HostRuntime) -> Result<(), Fail> {
+    let cases: [&[&str]; 19] = [
+        &["aether", "demo"],
+        &["aether", "demo", "log"],
+        &["aether", "demo", "log", "3"],
+        &["aether", "demo", "log", "3", "7", "1"],
+        &["aether", "demo", "log", "100001", "7"],
+        &["aether", "demo", "log", "3", "65537"],
+        &["aether", "demo", "log", "-3", "7"],
+        &["aether", "demo", "log", "--", "-3", "7"],
+        &["aether", "demo", "log", "03", "7"],
+        &["aether", "demo", "log", "3", "+7"],
+        &["aether", "demo", "log", "3", ""],
+        &["aether", "demo", "log", "three", "7"],
+        &["aether", "demo", "log", "3 ", "7"],
+        &["aether", "demo", "log", "4294967299", "7"],
+        &["aether", "demo", "log", "3", "7", "--wait"],
+        &["aether", "demo", "log", "3", "7", "--workers", "3"],
+        &["aether", "demo", "log", "3", "7", "--ring", "1000"],
+        &["aether", "demo", "log", "3", "7", "--slots", "17"],
+        &["aether", "demo", "log", "3", "7", "--help"],
+    ];
+    for words in cases {
+        assert!(rt;
+            matches!(parsed(&rt, words)?, Err(Refused::Usage)),
+            "{words:?}"
+        );
+    }
+    Ok(())
+}
+
 #[test]
 fn refuses_other_options_of_run(rt: HostRuntime) -> Result<(), Fail> {
     let cases: [&[&str]; 33] = [

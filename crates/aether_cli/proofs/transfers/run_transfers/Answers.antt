@@ -45,6 +45,9 @@ returns g c =
             c.close.result.tail c.close.result.accounts.rows c.close.ensures.gathered c.close.ensures.settled;
         ends = ends-of_shares workers.items ∙ sym gathered.ends;
         fault = turned.fault_is;
+        none_counted = turned.none_counted;
+        done_is = turned.done_is;
+        refused_is = turned.refused_is;
         speaks = turned.speaks;
         disk_old = turned.disk_old;
         disk_is = turned.disk_is ∙ search rules;

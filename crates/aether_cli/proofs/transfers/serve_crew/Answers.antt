@@ -19,5 +19,8 @@ returns-clause-turned g c =
       sink_old = search rules;
       sink_is = search rules;
       fault_is = search rules;
+      none_counted = began.none;
+      done_is = search rules;
+      refused_is = search rules;
       drained = search rules;
     }

@@ -12,5 +12,6 @@ returns c =
     let run = c.in_ok-subcommand-2.ensures.shape c.in_ok-run.ensures.local
     ∙ ap₂ with_subcommand new (ap (λ (a : App). a.top) c.in_ok-run.ensures.app) in
     let recover = c.in_ok-subcommand-3.ensures.shape c.new-2.ensures.local ∙ ap₂ with_subcommand run (ap (λ (a : App). a.top) c.new-2.ensures.app) in
-    IfOk-weaker c.subcommand-4.result _ _
-    (λ r h. h.shape c.new-3.ensures.local ∙ ap₂ with_subcommand recover (ap (λ (a : App). a.top) c.new-3.ensures.app)) c.subcommand-4.ensures
+    let dump = c.in_ok-subcommand-4.ensures.shape c.new-3.ensures.local ∙ ap₂ with_subcommand recover (ap (λ (a : App). a.top) c.new-3.ensures.app) in
+    IfOk-weaker c.subcommand-5.result _ _
+    (λ r h. h.shape c.in_ok-demo.ensures.local ∙ ap₂ with_subcommand dump (ap (λ (a : App). a.top) c.in_ok-demo.ensures.app)) c.subcommand-5.ensures

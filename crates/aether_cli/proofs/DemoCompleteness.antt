@@ -1,0 +1,24 @@
+-- Where nothing stands in its way, `demo` succeeds.
+use Rattle.std.proofs.Common.{◌≡◌, ◌⊎◌, inl, inr, refl}
+use Rattle.aether_cli.specs.declared.report.Detail.{Detail}
+use Rattle.aether_cli.specs.declared.report.Detail.TheVariants.{Fine, NoMemory, Usage, Script, Read, Write, Disk, NotALog, BadBatch, BadRec, Unlawful, LogEnd, TxnEnd, Exists}
+use Rattle.aether_cli.specs.Creation.{TellsWhether}
+use Rattle.aether_cli.specs.Demo.{IsOfDemo}
+
+pub demo-complete : (opened WriteFails DiskFails : Type 0) (detail : Detail) → IsOfDemo detail → TellsWhether opened detail
+    → (detail ≡ Write → WriteFails) → (detail ≡ Disk → DiskFails) → (opened → ⊥) → (WriteFails → ⊥) → (DiskFails → ⊥)
+    → (detail ≡ Fine) ⊎ (detail ≡ NoMemory)
+demo-complete opened W F Fine is tells writes disks closed no_write no_disk = inl refl
+demo-complete opened W F NoMemory is tells writes disks closed no_write no_disk = inr refl
+demo-complete opened W F Write is tells writes disks closed no_write no_disk = absurd (no_write (writes refl))
+demo-complete opened W F Disk is tells writes disks closed no_write no_disk = absurd (no_disk (disks refl))
+demo-complete opened W F Exists is tells writes disks closed no_write no_disk = absurd (closed tells)
+demo-complete opened W F Usage is tells writes disks closed no_write no_disk = absurd is
+demo-complete opened W F (Script line) is tells writes disks closed no_write no_disk = absurd is
+demo-complete opened W F Read is tells writes disks closed no_write no_disk = absurd is
+demo-complete opened W F NotALog is tells writes disks closed no_write no_disk = absurd is
+demo-complete opened W F (BadBatch offset) is tells writes disks closed no_write no_disk = absurd is
+demo-complete opened W F (BadRec lsn) is tells writes disks closed no_write no_disk = absurd is
+demo-complete opened W F (Unlawful lsn why) is tells writes disks closed no_write no_disk = absurd is
+demo-complete opened W F (LogEnd tail total) is tells writes disks closed no_write no_disk = absurd is
+demo-complete opened W F (TxnEnd first count) is tells writes disks closed no_write no_disk = absurd is

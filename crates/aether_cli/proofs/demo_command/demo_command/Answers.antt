@@ -1,0 +1,57 @@
+use Rattle.std.proofs.Common.{refl, arith}
+use Rattle.aether_cli.specs.Ending.{counted_text}
+use Rattle.aether_cli.proofs.EndingLemmas.{disk-concluded, later-ended, none_stopped-ended, write-concluded}
+use Rattle.aether_cli.proofs.DemoLemmas.{answers-demo, range-concluded, rows-ended, tells-concluded, text-concluded}
+use Rattle.aether_cli.proofs.demo_command.demo_command.Goals as goal
+
+pub conclude_counted-requires-clause-stopped : goal.conclude_counted-requires-clause-stopped
+conclude_counted-requires-clause-stopped g c = λ fine.
+    none_stopped-ended g.D.LogDisk g.K.Sink _ _ _ _ _ _ _ _ (c.run_transfers-ended.ensures.ended _ c.in-Ok.ensures.ready.log) fine
+
+pub conclude_counted-requires-clause-few : goal.conclude_counted-requires-clause-few
+conclude_counted-requires-clause-few g c =
+    rows-ended g.D.LogDisk g.K.Sink _ _ _ c.requires.few c.in-Ok.ready _ _ _ _ _ c.args.out.now _ c.in-Ok.ensures.ready
+    (c.run_transfers-ended.ensures.ended _ c.in-Ok.ensures.ready.log)
+
+pub returns-clause-answer : goal.returns-clause-answer
+returns-clause-answer g c = λ honest.
+    answers-demo g.D.LogDisk g.K.Sink _ _ _ c.requires.few c.in-Ok.ready _ _ _ _ _ _ _ c.in-Ok.ensures.ready
+    (c.run_transfers-ended.ensures.ended _ c.in-Ok.ensures.ready.log) honest (c.in-Ok.ensures.honest.0 honest)
+    c.conclude_counted.result c.conclude_counted.ensures.concludes
+
+pub returns-clause-text : goal.returns-clause-text
+returns-clause-text g c =
+    text-concluded g.D.LogDisk g.K.Sink _ _ _ c.requires.few c.in-Ok.ready _ _ _ _ _ _ _ c.in-Ok.ensures.ready
+    (c.run_transfers-ended.ensures.ended _ c.in-Ok.ensures.ready.log) c.conclude_counted.result c.conclude_counted.ensures.concludes
+
+pub returns-clause-range : goal.returns-clause-range
+returns-clause-range g c =
+    range-concluded g.D.LogDisk g.K.Sink _ _ _ c.requires.few c.in-Ok.ready _ _ _ _ _ _ _ c.in-Ok.ensures.ready
+    (c.run_transfers-ended.ensures.ended _ c.in-Ok.ensures.ready.log) c.conclude_counted.result c.conclude_counted.ensures.concludes
+
+pub returns-clause-exists : goal.returns-clause-exists
+returns-clause-exists g c = λ honest.
+    tells-concluded g.D.LogDisk g.K.Sink _ _ _ c.requires.few c.in-Ok.ready _ _ _ _ _ _ _ c.in-Ok.ensures.ready
+    (c.run_transfers-ended.ensures.ended _ c.in-Ok.ensures.ready.log) _ (c.in-Ok.ensures.closed honest)
+    c.conclude_counted.result c.conclude_counted.ensures.concludes
+
+pub returns-clause-write : goal.returns-clause-write
+returns-clause-write g c =
+    write-concluded g.D.LogDisk g.K.Sink _ _ _ _ _ _ _ _ (c.run_transfers-ended.ensures.ended _ c.in-Ok.ensures.ready.log) _ _
+    c.conclude_counted.result c.conclude_counted.ensures.concludes c.conclude_counted.ensures.write
+
+pub returns-clause-disk : goal.returns-clause-disk
+returns-clause-disk g c = λ is.
+    let rose = disk-concluded g.D.LogDisk g.K.Sink _ _ _ _ _ _ _ _ (c.run_transfers-ended.ensures.ended _ c.in-Ok.ensures.ready.log) _ _
+    c.conclude_counted.result c.conclude_counted.ensures.concludes is in
+    omega (arith, rose, c.in-Ok.ensures.later)
+
+pub returns-clause-later : goal.returns-clause-later
+returns-clause-later g c =
+    let later = later-ended g.D.LogDisk g.K.Sink _ _ _ _ _ _ _ _ (c.run_transfers-ended.ensures.ended _ c.in-Ok.ensures.ready.log) in
+    omega (arith, later.1, c.conclude_counted.ensures.later)
+
+pub returns-clause-later_disk : goal.returns-clause-later_disk
+returns-clause-later_disk g c =
+    let later = later-ended g.D.LogDisk g.K.Sink _ _ _ _ _ _ _ _ (c.run_transfers-ended.ensures.ended _ c.in-Ok.ensures.ready.log) in
+    omega (arith, later.0, c.in-Ok.ensures.later)
