@@ -4,6 +4,7 @@ use Rattle.std.specs.List.{AllByRecursion}
 use Rattle.std.proofs.lemmas.List.{append-nil, length-map, map-append, take_more}
 use Rattle.std.proofs.lemmas.List.Elements.{All-tail}
 use Rattle.std.proofs.lemmas.Option.{get_or_from_slice_get, slice_get_within}
+use Rattle.log_record.specs.declared.limits.TheConstants.{MOST_ACCOUNTS}
 use Rattle.log_record.specs.declared.rec.Entry.{Entry}
 use Rattle.log_record.specs.declared.rec.Rec.TheVariants.{Genesis}
 use Rattle.log_record.specs.LogList.{units_of, end_of}
@@ -92,18 +93,18 @@ keeps-none = record {
   last = λ a inside. absurd (omega arith);
 }
 
-spellable-genesis : (account : ℕ) (balances : List ℕ) → account + length balances ≤ 4096 → AllByRecursion IsBalance balances
+spellable-genesis : (account : ℕ) (balances : List ℕ) → account + length balances ≤ MOST_ACCOUNTS → AllByRecursion IsBalance balances
     → AllByRecursion IsSpellable (genesis_from account balances)
 spellable-genesis account [] few range = tt
 spellable-genesis account (balance ∷ balances) few range =
-    let below : account < 4096 = omega arith in
+    let below : account < MOST_ACCOUNTS = omega arith in
     ((below, range.0), spellable-genesis (account + 1) balances (omega arith) range.1)
 
 all-each : {X : Type 0} (P : X → Type 0) (xs : List X) → All P xs → AllByRecursion P xs
 all-each P [] all = tt
 all-each P (x ∷ xs) all = (all 0 x (omega arith), all-each P xs (All-tail P x xs all))
 
-module _ (balances : List ℕ) (few : length balances ≤ 4096) (each : All IsBalance balances) where
+module _ (balances : List ℕ) (few : length balances ≤ MOST_ACCOUNTS) (each : All IsBalance balances) where
   range : AllByRecursion IsBalance balances
   range = all-each IsBalance balances each
 

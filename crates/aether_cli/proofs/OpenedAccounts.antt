@@ -2,6 +2,7 @@
 use Rattle.std.proofs.Common.{◌≡◌, ◌≤◌, ◌<◌, ◌&&◌, refl, ap, sym, ◌∙◌, subst, ℕ, ◌+◌, Bool, true, false, cond, List, [], ◌∷◌, length, arith, length-append}
 use Rattle.std.specs.List.{AllByRecursion}
 use Rattle.std.proofs.lemmas.Option.{get_or_from_slice_get}
+use Rattle.log_record.specs.declared.limits.TheConstants.{MOST_ACCOUNTS}
 use Rattle.log_record.specs.declared.rec.Entry.{Entry}
 use Rattle.log_record.specs.declared.rec.Rec.{Rec}
 use Rattle.log_record.specs.declared.rec.Rec.TheVariants.{Genesis, Update, Commit, Short, Over, Note}
@@ -40,11 +41,11 @@ some-lawful (entry ∷ h) lawful some = by_kind entry.rec lawful.0.0 (some-lawfu
     by_kind (Over txn leg) opens before = before opens
     by_kind (Note txn text) opens before = before opens
 
-few-lawful : (h : List Entry) → IsSpelled h → IsLawful h → (genesis_of h).accounts ≤ 4096
+few-lawful : (h : List Entry) → IsSpelled h → IsLawful h → (genesis_of h).accounts ≤ MOST_ACCOUNTS
 few-lawful [] spelled lawful = omega arith
 few-lawful (entry ∷ h) spelled lawful = by_kind entry.rec spelled.0 lawful.0.0 (few-lawful h spelled.1 lawful.1)
   where
-    by_kind : (rec : Rec) → IsSpellable rec → OpensLedger h rec → (genesis_of h).accounts ≤ 4096 → (with_genesis rec (genesis_of h)).accounts ≤ 4096
+    by_kind : (rec : Rec) → IsSpellable rec → OpensLedger h rec → (genesis_of h).accounts ≤ MOST_ACCOUNTS → (with_genesis rec (genesis_of h)).accounts ≤ MOST_ACCOUNTS
     by_kind (Genesis account balance) own opens before = omega (arith, own.0, opens.1, accounts-genesis h opens.0)
     by_kind (Update txn account delta prev) own opens before = before
     by_kind (Commit txn legs) own opens before = before
@@ -121,7 +122,7 @@ module _ (records : List Rec) (each : AllByRecursion IsSpellable records) (lawfu
       (ends-within [] records (end_of records) tt (omega arith))
 
 -- a lawful list has at most 4096 accounts
-pub few-held : (bytes : List ℕ) (records : List Rec) → HoldsLawful bytes records → (genesis_of (history records)).accounts ≤ 4096
+pub few-held : (bytes : List ℕ) (records : List Rec) → HoldsLawful bytes records → (genesis_of (history records)).accounts ≤ MOST_ACCOUNTS
 few-held bytes records held = few-lawful (history records) (spelled records held.list.each held.lawful) held.lawful
 
 pub some-accounts : (bytes : List ℕ) (opened : Recovered) (recovers : Recovers opened bytes) → 0 < (genesis_of (history recovers.records)).accounts

@@ -5,6 +5,7 @@ use Rattle.command_line.specs.declared.options.RunOptions.{RunOptions}
 use Rattle.log_disk.specs.Disk.{Leaves}
 use Rattle.log_disk.specs.declared.disk.LogDisk.{Ghosts}
 use Rattle.log_disk.proofs.Moments.{Leaves-trans, Leaves-weaken}
+use Rattle.log_record.specs.declared.limits.TheConstants.{LAST_TXN}
 use Rattle.log_record.specs.declared.rec.Rec.{Rec}
 use Rattle.lock_core.specs.History.{history}
 use Rattle.lock_core.specs.Lawful.{genesis_of}
@@ -124,7 +125,7 @@ module _ {D : Type 0} (g : Ghosts D) (old mid : D) (opened : Recovered) (opens :
 
   module _ (options : RunOptions) (script : List Job) (prepared : Prepared) (is : IsPreparedFor options opened script prepared) where
     pub asked-prepared : (accounts : ℕ) (left left_new : Option (List ℕ)) → accounts ≡ length opened.accounts.rows
-        → IsWholeScript accounts left left_new script → opened.next_txn + length script ≤ 4294967295
+        → IsWholeScript accounts left left_new script → opened.next_txn + length script ≤ LAST_TXN
         → AreAsked options.workers records left left_new prepared.jobs
     asked-prepared accounts left left_new counted whole fits =
         let same : accounts ≡ accounts_of records = counted ∙ opens.recovers.accounts.count in

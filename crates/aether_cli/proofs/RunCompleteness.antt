@@ -1,6 +1,7 @@
 -- Where nothing stands in its way, `run` succeeds, or comes to the end of the log.
 use Rattle.std.proofs.Common.{◌≡◌, ◌≤◌, ◌⊎◌, inl, inr, refl, ap, sym, subst, ◌∙◌, ℕ, ◌+◌, List, length, Option, Some, None, IfSome, arith}
 use Rattle.log_disk.specs.declared.disk.LogDisk.{Ghosts}
+use Rattle.log_record.specs.declared.limits.TheConstants.{LAST_TXN}
 use Rattle.log_record.specs.declared.rec.Rec.{Rec}
 use Rattle.log_recovery.specs.declared.recovery.RecoverFault.{RecoverFault}
 use Rattle.log_recovery.specs.declared.recovery.RecoverFault.TheVariants as fault
@@ -27,7 +28,7 @@ no-fault bytes records found held is = subst IsMemory (sym (lawful-fault bytes r
 
 module _ {D : Type 0} (g : Ghosts D) (workers : ℕ) (disk disk_new : D) (bytes : List ℕ) (left_new text text_new : Option (List ℕ))
     (ReadFails WriteFails DiskFails : Type 0) (opened : List Rec) (held : HoldsLawful (g.reads disk) opened) (jobs : List Job)
-    (script : IsScriptText (accounts_of opened) bytes jobs) (numbers : next_txn opened + length jobs ≤ 4294967295)
+    (script : IsScriptText (accounts_of opened) bytes jobs) (numbers : next_txn opened + length jobs ≤ LAST_TXN)
     (no_read : ReadFails → ⊥) (no_write : WriteFails → ⊥) (no_disk : DiskFails → ⊥) where
   abbrev old : Outside D
   old = outside disk (Some bytes) text
@@ -73,7 +74,7 @@ pub run-complete : {D : Type 0} (g : Ghosts D) (workers : ℕ) (disk disk_new : 
     (ReadFails WriteFails DiskFails : Type 0) (detail : Detail) → AnswersRun g workers (outside disk left text) (outside disk_new left_new text_new) detail
     → (detail ≡ Read → ReadFails) → (detail ≡ Write → WriteFails) → (detail ≡ Disk → DiskFails)
     → IfSome left (λ bytes. (opened : List Rec) (jobs : List Job) → HoldsLawful (g.reads disk) opened → IsScriptText (accounts_of opened) bytes jobs
-    → next_txn opened + length jobs ≤ 4294967295 → (ReadFails → ⊥) → (WriteFails → ⊥) → (DiskFails → ⊥) → IsRunDone detail)
+    → next_txn opened + length jobs ≤ LAST_TXN → (ReadFails → ⊥) → (WriteFails → ⊥) → (DiskFails → ⊥) → IsRunDone detail)
 run-complete g workers disk disk_new None left_new text text_new R W F detail answers reads writes disks = tt
 run-complete g workers disk disk_new (Some bytes) left_new text text_new R W F detail answers reads writes disks =
     λ opened jobs held script numbers no_read no_write no_disk.

@@ -4,6 +4,7 @@ use Rattle.std.specs.Io.KnownBytes.{Keeps, Appends}
 use Rattle.log_disk.specs.Disk.{Leaves}
 use Rattle.log_disk.specs.Streams.{AppendsPrefix}
 use Rattle.log_disk.specs.declared.disk.LogDisk.{Ghosts}
+use Rattle.log_record.specs.declared.limits.TheConstants.{LAST_TXN}
 use Rattle.log_record.specs.declared.rec.Rec.{Rec}
 use Rattle.log_record.specs.LogList.{end_of}
 use Rattle.lock_core.specs.History.{history}
@@ -67,7 +68,7 @@ pub record OnlySettles {D : Type 0} (g : Ghosts D) (old new : Outside D) : Type 
 pub record AreAsked (workers : ℕ) (opened : List Rec) (left left_new : Option (List ℕ)) (jobs : Jobs) : Type 0 where
   pub script : IsWholeScript (accounts_of opened) left left_new jobs.script
   pub first : jobs.first ≡ next_txn opened
-  pub numbered : jobs.first + length jobs.script ≤ 4294967295
+  pub numbered : jobs.first + length jobs.script ≤ LAST_TXN
   pub workers_are : jobs.workers ≡ workers
 
 -- The image holds the opened list and a front of what the run inserted. What was written is a prefix of the text of the image's list, so each
@@ -115,7 +116,7 @@ pub record RunsOutOfNumbers {D : Type 0} (g : Ghosts D) (first count : ℕ) (old
   pub script : IsWholeScript (accounts_of opened) old.left new.left jobs
   pub first_is : first ≡ next_txn opened
   pub count_is : count ≡ length jobs
-  pub past : 4294967295 < first + count
+  pub past : LAST_TXN < first + count
 
 -- this line of the input is the first that is neither empty nor a transfer of the log that a read gave
 abbrev pub IsFirstOutside : {D : Type 0} → Ghosts D → ℕ → Outside D → Outside D → Type 0

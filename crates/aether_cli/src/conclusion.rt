@@ -1,5 +1,6 @@
 ghost use Rattle.std.specs.Prelude.{◌≡◌, ◌≤◌, length, IfSome, IfNone, None};
 ghost use Rattle.log_disk.specs.Faults.{Rose};
+ghost use Rattle.log_record.specs.declared.limits.TheConstants.{MOST_ACCOUNTS};
 ghost use Rattle.aether_cli.specs.Ending.{AreWhole, Concludes, IsFirstLogEnd, NoneStopped, NothingStopped, StoppedAs, closed_text, counted_text};
 
 use crate::report::Detail;
@@ -30,7 +31,7 @@ pub fn conclude<K: Sink>(ended: &Ended, out: &mut K) -> Detail
 /// The same where so many transfers are counted and not told: then the text is their summary.
 pub fn conclude_counted<K: Sink>(ended: &Ended, transfers: u32, out: &mut K) -> Detail
     requires stopped { ended.now.fault ≡ None → NoneStopped ended.now.ends.items }
-    requires few { length ended.now.closed.accounts.rows ≤ 4096 }
+    requires few { length ended.now.closed.accounts.rows ≤ MOST_ACCOUNTS }
     ensures concludes { Concludes K.Sink ended.now (counted_text transfers ended.now) out.old out.new result }
     ensures write { result ≡ Detail.Write → ended.now.fault ≡ None → Rose (K.faults out.old) (K.faults out.new) }
     ensures later { K.faults out.old ≤ K.faults out.new }

@@ -44,6 +44,7 @@ pub fn demo_command<R: Threads + Wait + Sync, D: LogDisk, K: Sink, G: Gate + Syn
     ensures answer { D.honest disk.old → AnswersDemo D.LogDisk transfers seed options.now.workers disk.old disk.new result }
     ensures text { TellsSummary transfers seed (K.held_bytes out.old) (K.held_bytes out.new) result }
     ensures range { IsOfDemo result }
+    ensures honest { D.honest disk.old ↔ D.honest disk.new }
     ensures exists { D.honest disk.old → TellsWhether (BeginsOpen (D.reads disk.old)) result }
     ensures write { result ≡ Detail.Write → Rose (K.faults out.old) (K.faults out.new) }
     ensures disk { result ≡ Detail.Disk → Rose (D.faults disk.old) (D.faults disk.new) }

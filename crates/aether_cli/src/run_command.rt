@@ -1,6 +1,7 @@
 ghost use Rattle.std.specs.Prelude.{◌≡◌, ◌≤◌, ◌+◌, ◌<◌, ◌↔◌, ℕ, List, All, length, IfOk, IfErr, OnOk, IsErrOf};
 ghost use Rattle.command_line.specs.Ranges.{AreInRange};
 ghost use Rattle.log_disk.specs.Faults.{Rose};
+ghost use Rattle.log_record.specs.declared.limits.TheConstants.{LAST_TXN};
 ghost use Rattle.log_recovery.specs.Recovery.{Recovers};
 ghost use Rattle.txn_script.specs.Script.{IsAllowedJob};
 ghost use Rattle.aether_cli.specs.RunAnswers.{AnswersRun, IsOfRun, RunStaysSilent, outside};
@@ -14,6 +15,7 @@ use crate::transfers::{Prepared, prepare, run_transfers};
 use command_line::RunOptions;
 use commit_pipeline::Voice;
 use log_disk::{Gate, LogDisk, Sink, Source};
+use log_record::LAST_TXN;
 use log_recovery::Recovered;
 use log_table::Start;
 use lsn_space::Word;
@@ -22,9 +24,6 @@ use std::alloc::Global;
 use std::sync::Wait;
 use std::thread::Threads;
 use txn_script::Script;
-
-/// The greatest transaction number that a run gives is below this.
-const LAST_TXN: u64 = 4294967295;
 
 /// A run before its first transfer: all memory is there, and the log goes on at this tail.
 #[derive(Drop)]
@@ -98,13 +97,13 @@ fn make_ready<R, D: LogDisk, S: Source>(
     }
 }
 
-/// Whether so many transfers have numbers, from the first on.
+/// Whether so many transfers have numbers, from the first on, and one is left for what comes after.
 fn check_numbers(first: u64, count: u64) -> Result<(), Detail>
-    ensures fit { OnOk result (first + count ≤ 4294967295) }
-    ensures past { IfErr result (λ detail. (detail ≡ Detail.TxnEnd first count) × (4294967295 < first + count)) }
+    ensures fit { OnOk result (first + count ≤ LAST_TXN) }
+    ensures past { IfErr result (λ detail. (detail ≡ Detail.TxnEnd first count) × (LAST_TXN < first + count)) }
 {
     match first.checked_add(count) {
-        Some(end) if end <= LAST_TXN => Ok(()),
+        Some(end) if end <= LAST_TXN as u64 => Ok(()),
         _ => Err(Detail::TxnEnd { first, count }),
     }
 }
@@ -119,7 +118,7 @@ fn prepare_run<R>(
 ) -> Result<Prepared, Detail>
     requires options { AreInRange options.now }
     requires opened { (bytes : List ℕ) × Recovers opened bytes }
-    requires numbered { opened.next_txn + length script ≤ 4294967295 }
+    requires numbered { opened.next_txn + length script ≤ LAST_TXN }
     requires allowed { All (IsAllowedJob (length opened.accounts.rows)) script }
     ensures prepared { IfOk result (IsPreparedFor options.now opened script) }
     ensures memory { IfErr result (λ detail. detail ≡ Detail.NoMemory) }

@@ -6,6 +6,7 @@ ghost use Rattle.lsn_space.specs.Number.{number_text};
 ghost use Rattle.log_disk.specs.Faults.{HasCause};
 ghost use Rattle.log_disk.specs.Streams.{AppendsPrefix};
 ghost use Rattle.lock_core.specs.Sums.{sum_below};
+ghost use Rattle.log_record.specs.declared.limits.TheConstants.{MOST_ACCOUNTS};
 ghost use Rattle.aether_cli.specs.Summary.{balance_in, count_line, mix_below, summary_of};
 
 use arrayvec::ArrayVec;
@@ -32,7 +33,7 @@ pub fn put_summary<K: Sink>(
     accounts: &Balances,
     sink: &mut K,
 ) -> Result<(), WriteFault>
-    requires { length accounts.now.rows ≤ 4096 }
+    requires { length accounts.now.rows ≤ MOST_ACCOUNTS }
     ensures all { OnOk result (Appends (K.held_bytes sink.old) (K.held_bytes sink.new) (summary_of counts accounts.now.rows)) }
     ensures prefix { OnErr result (AppendsPrefix (K.held_bytes sink.old) (K.held_bytes sink.new) (summary_of counts accounts.now.rows)) }
     ensures cause { HasCause (K.faults sink.old) (K.faults sink.new) result }
@@ -42,7 +43,7 @@ pub fn put_summary<K: Sink>(
 
 /// The six lines.
 fn text_of(counts: Counts, accounts: &Balances) -> Text
-    requires { length accounts.now.rows ≤ 4096 }
+    requires { length accounts.now.rows ≤ MOST_ACCOUNTS }
     ensures { result.items ≡ summary_of counts accounts.now.rows }
 {
     let mut text = Text::new();
@@ -72,7 +73,7 @@ fn push_line(text: &mut Text, word: &[u8], number: u64)
 
 /// The sum of all balances.
 fn total_of(accounts: &Balances) -> u64
-    requires { length accounts.now.rows ≤ 4096 }
+    requires { length accounts.now.rows ≤ MOST_ACCOUNTS }
     ensures { result ≡ sum_below (length accounts.now.rows) (balance_in accounts.now.rows) }
 {
     let mut total = 0u64;
@@ -85,7 +86,7 @@ fn total_of(accounts: &Balances) -> u64
 
 /// The sum over all accounts of the account's number and 1, times its balance.
 fn mix_of(accounts: &Balances) -> u64
-    requires { length accounts.now.rows ≤ 4096 }
+    requires { length accounts.now.rows ≤ MOST_ACCOUNTS }
     ensures { result ≡ mix_below (length accounts.now.rows) (balance_in accounts.now.rows) }
 {
     let mut mix = 0u64;

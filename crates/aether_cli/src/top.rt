@@ -4,6 +4,7 @@ ghost use Rattle.command_line.specs.declared.command.Command.TheVariants.{New, R
 ghost use Rattle.command_line.specs.declared.options.RunOptions.{RunOptions};
 ghost use Rattle.log_disk.specs.Disk.{Leaves};
 ghost use Rattle.log_disk.specs.Faults.{Rose};
+ghost use Rattle.log_record.specs.declared.limits.TheConstants.{LAST_TXN};
 ghost use Rattle.log_record.specs.declared.rec.Rec.{Rec};
 ghost use Rattle.log_recovery.specs.Recovery.{HoldsLawful, HoldsList};
 ghost use Rattle.segment_file.specs.File.{BeginsOpen};
@@ -89,7 +90,7 @@ pub fn aether<R: Threads + Wait + Sync, D: LogDisk, S: Source, K: Sink, G: Gate 
 
     ensures complete_run { AsksRun words.now → D.honest disk.old
         → IfSome (S.left script.old) (λ bytes. (opened : List Rec) (jobs : List Job) → HoldsLawful (D.reads disk.old) opened
-        → IsScriptText (accounts_of opened) bytes jobs → next_txn opened + length jobs ≤ 4294967295
+        → IsScriptText (accounts_of opened) bytes jobs → next_txn opened + length jobs ≤ LAST_TXN
         → (Rose (S.faults script.old) (S.faults script.new) → ⊥) → (Rose (K.faults out.old) (K.faults out.new) → ⊥)
         → (Rose (D.faults disk.old) (D.faults disk.new) → ⊥) → IsRunDone result.detail) }
 

@@ -1,5 +1,6 @@
 //! The transfers of a run.
 ghost use Rattle.std.specs.Prelude.{◌≡◌, ◌≤◌, ◌<◌, ◌+◌, ◌*◌, ◌^◌, ℕ, List, All, length, None, IfOk, IfSome, IsSomeAnd};
+ghost use Rattle.log_record.specs.declared.limits.TheConstants.{LAST_TXN};
 ghost use Rattle.log_record.specs.declared.rec.Rec.{Rec};
 ghost use Rattle.log_table.specs.Opening.{HasAccounts};
 ghost use Rattle.log_table.specs.Seats.{key_of};
@@ -93,7 +94,7 @@ pub fn prepare<R>(
     requires accounts { HasAccounts start }
     requires some { 1 ≤ first }
     requires shared { 1 ≤ workers }
-    requires numbered { first + length script ≤ 4294967295 }
+    requires numbered { first + length script ≤ LAST_TXN }
     requires allowed { All (IsAllowedJob (length start.accounts.rows)) script }
     ensures script { IfOk result (λ p. p.jobs.script ≡ script) }
     ensures first { IfOk result (λ p. p.jobs.first ≡ first) }

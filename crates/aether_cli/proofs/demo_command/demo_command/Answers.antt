@@ -1,6 +1,6 @@
 use Rattle.std.proofs.Common.{refl, arith}
 use Rattle.aether_cli.specs.Ending.{counted_text}
-use Rattle.aether_cli.proofs.EndingLemmas.{disk-concluded, later-ended, none_stopped-ended, write-concluded}
+use Rattle.aether_cli.proofs.EndingLemmas.{disk-concluded, honest-ended, later-ended, none_stopped-ended, write-concluded}
 use Rattle.aether_cli.proofs.DemoLemmas.{answers-demo, range-concluded, rows-ended, tells-concluded, text-concluded}
 use Rattle.aether_cli.proofs.demo_command.demo_command.Goals as goal
 
@@ -55,3 +55,8 @@ pub returns-clause-later_disk : goal.returns-clause-later_disk
 returns-clause-later_disk g c =
     let later = later-ended g.D.LogDisk g.K.Sink _ _ _ _ _ _ _ _ (c.run_transfers-ended.ensures.ended _ c.in-Ok.ensures.ready.log) in
     omega (arith, later.0, c.in-Ok.ensures.later)
+
+pub returns-clause-honest : goal.returns-clause-honest
+returns-clause-honest g c =
+    let same = honest-ended g.D.LogDisk g.K.Sink _ _ _ _ _ _ _ _ (c.run_transfers-ended.ensures.ended _ c.in-Ok.ensures.ready.log) in
+    (λ honest. same.0 (c.in-Ok.ensures.honest.0 honest), λ honest. c.in-Ok.ensures.honest.1 (same.1 honest))
