@@ -1,5 +1,5 @@
 -- What follows of the program's command where it takes the words: a subcommand is named, one of those that there are.
-use Rattle.std.proofs.Common.{◌≡◌, ◌⊎◌, ◌||◌, ◌∙◌, ap, ap₂, sym, inl, inr, Bool, true, false, refl, ℕ, List, [], ◌∷◌, codes, Option, Some, None, is_some, subst, Result, Ok, Err, MatchResult}
+use Rattle.std.proofs.Common.{◌≡◌, ◌⊎◌, ◌||◌, ◌∙◌, ap₂, sym, inl, inr, Bool, true, false, refl, List, [], ◌∷◌, codes, Option, Some, None, is_some}
 use Rattle.std.specs.Prelude.{◌&&◌, not, unwrap_or, find, option_map, map}
 use Rattle.std.specs.List.{list_any}
 use Rattle.clap.specs.declared.error.kind.ErrorKind.TheVariants.{DisplayHelpOnMissingArgumentOrSubcommand, MissingSubcommand}

@@ -1,5 +1,5 @@
 -- The values with which accounts go back.
-use Rattle.std.proofs.Common.{◌≡◌, ◌&&◌, ◌||◌, ◌+◌, cond, false, List, [], ◌∷◌, get_or, All, refl, sym, ap, ◌∙◌}
+use Rattle.std.proofs.Common.{◌≡◌, ◌&&◌, ◌||◌, ◌+◌, cond, false, List, [], ◌∷◌, get_or, All, refl, sym, ◌∙◌}
 use Rattle.std.specs.List.{AllByRecursion}
 use Rattle.log_record.specs.declared.rec.Rec.{Rec}
 use Rattle.log_record.specs.declared.rec.Rec.TheVariants.{Genesis, Update, Commit, Short, Over, Note}
@@ -11,7 +11,7 @@ use Rattle.lock_core.specs.Sums.{moved}
 use Rattle.lock_core.specs.Transactions.{recs_of, changes_in, has_commit, touches}
 use Rattle.log_table.specs.declared.view.Books.{Books}
 use Rattle.log_table.specs.Books.{IsNote}
-use Rattle.txn_runner.specs.declared.giving.Release.TheVariants.{Unchanged, Committed}
+use Rattle.txn_runner.specs.declared.giving.Release.TheVariants.{Unchanged}
 use Rattle.txn_runner.specs.declared.holding.Holding.{Holding}
 use Rattle.txn_runner.specs.Holdings.{GoesBack}
 

@@ -1,5 +1,5 @@
 -- One transfer, from its first account to its last: what the seat's steps come to.
-use Rattle.std.proofs.Common.{◌≡◌, ◌≢◌, ◌⊎◌, inl, inr, ℕ, zero, suc, ◌+◌, ◌<◌, ◌≤◌, Bool, true, List, [], ◌∷◌, ◌++◌, length, get_or, map, All, Contains, refl, sym, ap, ◌∙◌, subst, arith, append-nil}
+use Rattle.std.proofs.Common.{◌≡◌, inl, inr, ℕ, ◌+◌, ◌<◌, ◌≤◌, Bool, true, List, [], ◌∷◌, ◌++◌, map, All, refl, sym, ap, ◌∙◌, subst, arith, append-nil}
 use Rattle.std.specs.List.{AllByRecursion}
 use Rattle.std.specs.List.Sorted.{IsStrictlyIncreasing}
 use Rattle.std.proofs.lemmas.List.Elements.{All-from_recursion}
@@ -8,17 +8,16 @@ use Rattle.log_record.specs.LogList.{size_of}
 use Rattle.lock_core.specs.Alone.{planned_records}
 use Rattle.lock_core.specs.Transactions.{recs_of, in_order}
 use Rattle.txn_script.specs.declared.job.Job.{Job}
-use Rattle.txn_script.specs.Script.{IsAllowedLeg, IsAllowedJob}
+use Rattle.txn_script.specs.Script.{IsAllowedLeg}
 use Rattle.early_locks.specs.declared.taking.Taken.{Taken}
 use Rattle.early_locks.specs.Locks.{HoldsTaken}
 use Rattle.log_table.specs.declared.table.Seat.{Seat}
 use Rattle.log_table.specs.declared.view.Books.{Books}
 use Rattle.log_table.specs.declared.view.Entry.{Entry}
 use Rattle.log_table.specs.declared.view.Held.{Held}
-use Rattle.log_table.specs.declared.view.TakenJob.{TakenJob}
 use Rattle.log_table.specs.declared.view.View.{View}
 use Rattle.log_table.specs.Accounts.{IsAllowed}
-use Rattle.log_table.specs.Books.{balance_taken, mark_taken, plan_of, taking_job}
+use Rattle.log_table.specs.Books.{balance_taken, mark_taken}
 use Rattle.txn_script.specs.Transfers.{transfer_of}
 use Rattle.log_table.specs.Closing.{records_of}
 use Rattle.log_table.specs.Seats.{Becomes, view_of}
@@ -33,7 +32,7 @@ use Rattle.txn_runner.specs.declared.transfer.Ended.{Ended}
 use Rattle.txn_runner.specs.Accounts.{HasAccountsOf, IsAccountOf}
 use Rattle.txn_runner.specs.Endings.{EndsTransfer}
 use Rattle.txn_runner.specs.Holdings.{account_of, taken_of, IsKnown, as_held, held_behind, holding_all, AreDistinct, HoldsAll, TakesAll, with_held}
-use Rattle.txn_runner.specs.Inserts.{placed_behind, placing_all, Adds, IsLeft, StopsFor}
+use Rattle.txn_runner.specs.Inserts.{Adds, IsLeft, StopsFor}
 use Rattle.txn_runner.specs.Legs.{AreHeld, HoldsJob, last_record}
 use Rattle.txn_runner.specs.Running.{LieInOrder, HasInserted, HasRun, HasCut}
 use Rattle.txn_runner.proofs.Adding.{lie-longer, lie-sooner, placed-front}

@@ -1,9 +1,9 @@
 -- The two Updates of a leg.
-use Rattle.std.proofs.Common.{◌≡◌, ℕ, ◌≤◌, false, pos, neg_ℤ, ℤ, List, [], ◌∷◌, ◌++◌, All, Contains, inr, refl, sym, ap, ◌∙◌, subst}
+use Rattle.std.proofs.Common.{◌≡◌, ℕ, ◌≤◌, pos, neg_ℤ, ℤ, List, [], ◌∷◌, Contains, inr, sym, ap, ◌∙◌, subst}
 use Rattle.std.proofs.lemmas.List.Elements.{All-contains}
 use Rattle.log_record.specs.declared.rec.Rec.{Rec}
 use Rattle.log_record.specs.declared.rec.Rec.TheVariants.{Update}
-use Rattle.lock_core.specs.Transactions.{recs_of, has_commit}
+use Rattle.lock_core.specs.Transactions.{has_commit}
 use Rattle.log_table.specs.declared.table.Seat.{Seat}
 use Rattle.log_table.specs.declared.view.Books.{Books}
 use Rattle.log_table.specs.Books.{mark_taken, HoldsAccounts, MayEnter}

@@ -1,5 +1,5 @@
 -- A leg's amount moves, holding by holding.
-use Rattle.std.proofs.Common.{◌≡◌, ℕ, ◌+◌, ◌-◌, ◌<◌, ◌≤◌, List, [], ◌∷◌, ◌++◌, length, get_or, set, take, drop, sym, ap, ◌∙◌, subst, arith}
+use Rattle.std.proofs.Common.{◌≡◌, ℕ, ◌+◌, ◌<◌, List, length, get_or, set, take, drop, sym, ap, ◌∙◌, subst, arith}
 use Rattle.std.specs.List.{AllZip}
 use Rattle.std.proofs.lemmas.List.{length-drop, drop-drop, drop-set-lt, get_or-drop, get_or_default, take_more_set}
 use Rattle.std.proofs.lemmas.List.Elements.{all_zip_more}

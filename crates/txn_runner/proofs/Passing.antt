@@ -1,16 +1,15 @@
 -- The legs of a transfer, one after another.
-use Rattle.std.proofs.Common.{◌≡◌, ◌≢◌, ◌==◌, ◌||◌, ◌⊎◌, inl, inr, ℕ, zero, suc, ◌+◌, ◌-◌, ◌<◌, ◌≤◌, cond, Bool, true, false, pos, neg_ℤ, List, [], ◌∷◌, ◌++◌, length, get_or, take, drop, map, All, Contains, refl, sym, ap, ◌∙◌, subst, arith, lt-ltb, le-ltb, eq-eqb}
+use Rattle.std.proofs.Common.{◌≡◌, ◌==◌, inl, inr, ℕ, ◌+◌, ◌-◌, ◌<◌, ◌≤◌, cond, true, false, pos, neg_ℤ, List, [], ◌∷◌, ◌++◌, length, get_or, take, drop, map, All, Contains, refl, sym, ap, ◌∙◌, subst, arith, lt-ltb, le-ltb, eq-eqb}
 use Rattle.std.specs.List.{AllZip, AllByRecursion}
 use Rattle.std.proofs.lemmas.Bool.{or_left, or_right, cond-true, cond-false}
 use Rattle.std.proofs.lemmas.List.{drop_more, drop_all, take_all, get_or-map, length-map}
 use Rattle.std.proofs.lemmas.List.Elements.{All-contains, All-from_recursion, recursion_from_All, All-more, All-weaker, AllZip-get_or, length_all_zip}
 use Rattle.log_record.specs.declared.rec.Rec.{Rec}
-use Rattle.log_record.specs.declared.rec.Rec.TheVariants.{Update, Commit, Short, Over}
-use Rattle.log_record.specs.declared.rec.Entry.{Entry as Placed}
+use Rattle.log_record.specs.declared.rec.Rec.TheVariants.{Update, Commit}
 use Rattle.log_record.specs.Spelling.{IsLeg}
 use Rattle.log_record.specs.declared.limits.TheConstants.{MOST_BALANCE}
 use Rattle.lock_core.specs.declared.update.Change.{Change}
-use Rattle.lock_core.specs.Alone.{outcome_from, outcome_alone, after_leg, planned_from, lacks, overfills, ShortAt, OverAt}
+use Rattle.lock_core.specs.Alone.{outcome_from, outcome_alone, after_leg, planned_from, lacks, overfills}
 use Rattle.lock_core.specs.Records.{gain, loss}
 use Rattle.lock_core.specs.Sums.{moved}
 use Rattle.lock_core.specs.Transactions.{recs_of, changes_in, has_commit, touches, in_order}
@@ -30,8 +29,8 @@ use Rattle.txn_runner.specs.declared.holding.Holding.{Holding}
 use Rattle.txn_runner.specs.declared.rows.Answer.TheVariants as answer
 use Rattle.txn_runner.specs.Accounts.{HasAccountsOf, IsAccountOf}
 use Rattle.txn_runner.specs.Holdings.{account_of, taken_of}
-use Rattle.txn_runner.specs.Inserts.{placed_behind, placing_all, IsLeft}
-use Rattle.txn_runner.specs.Legs.{AreHeld, changes_by, HoldsJob, leg_records, MayMakeLeg, IsAfter, CanBear, TouchesLeg, StandsBefore, HasMoved, ReachesEnd}
+use Rattle.txn_runner.specs.Inserts.{placing_all, IsLeft}
+use Rattle.txn_runner.specs.Legs.{AreHeld, changes_by, HoldsJob, leg_records, MayMakeLeg, IsAfter, TouchesLeg, StandsBefore, HasMoved, ReachesEnd}
 use Rattle.txn_runner.proofs.Adding.{left-behind, records-behind, uncommitted-behind}
 use Rattle.txn_runner.proofs.Held.{same-accounts, all-same}
 

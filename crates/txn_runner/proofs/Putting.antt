@@ -1,21 +1,16 @@
 -- One record more.
-use Rattle.std.proofs.Common.{◌≡◌, ◌∙◌, ℕ, ◌+◌, ◌≤◌, List, [], ◌∷◌, ◌++◌, length, Contains, sym, refl, ap, subst, arith}
-use Rattle.lsn_space.specs.declared.lsn.TheConstants.{LAST}
+use Rattle.std.proofs.Common.{◌≡◌, ◌∙◌, ℕ, ◌+◌, ◌≤◌, List, [], ◌∷◌, ◌++◌, length, sym, ap, subst, arith}
 use Rattle.log_record.specs.declared.rec.Rec.{Rec}
 use Rattle.log_record.specs.LogList.{size_of}
 use Rattle.log_record.specs.Spelling.{spelling}
 use Rattle.log_table.specs.declared.table.Seat.{Seat}
 use Rattle.log_table.specs.declared.view.Books.{Books}
 use Rattle.log_table.specs.declared.view.Entry.{Entry}
-use Rattle.log_table.specs.declared.view.View.{View}
 use Rattle.log_table.specs.Books.{next_of, placing, MayEnter}
 use Rattle.log_table.specs.Seats.{view_of}
 use Rattle.log_table.proofs.Nexting.{next-is, may-enter}
-use Rattle.ring_buffer.specs.declared.refused.Refused.{Refused}
-use Rattle.ring_buffer.specs.Calls.{MayPlace, HasEntries, Refuses, entry_of}
-use Rattle.txn_runner.specs.declared.cause.Cause.{Cause}
-use Rattle.txn_runner.specs.declared.cause.Cause.TheVariants.{Stop, LogEnd}
-use Rattle.txn_runner.specs.Inserts.{Puts, StopsFor, IsLogEnd}
+use Rattle.ring_buffer.specs.Calls.{MayPlace, HasEntries, entry_of}
+use Rattle.txn_runner.specs.Inserts.{Puts}
 use Rattle.txn_runner.proofs.Staying.{entries-trans}
 
 module _ (rec : Rec) (units : List ℕ) (spelled : units ≡ spelling rec) (books : Books) (may : MayEnter rec books) where

@@ -1,5 +1,5 @@
 -- The legs of a transfer, one after another.
-use Rattle.std.specs.Prelude.{◌≡◌, ℕ, ◌+◌, ◌≤◌, true, false, Bool, pos, neg_ℤ, List, [], ◌∷◌, ◌++◌, map, take, drop, All}
+use Rattle.std.specs.Prelude.{◌≡◌, ℕ, ◌+◌, ◌≤◌, true, false, pos, neg_ℤ, List, [], ◌∷◌, ◌++◌, map, take, drop, All}
 use Rattle.log_record.specs.declared.rec.Rec.{Rec}
 use Rattle.log_record.specs.declared.rec.Rec.TheVariants.{Update}
 use Rattle.log_record.specs.Spelling.{IsTxn, IsSpellable}
@@ -8,7 +8,7 @@ use Rattle.lock_core.specs.declared.update.Change.{Change}
 use Rattle.lock_core.specs.Alone.{outcome_from, outcome_alone, after_leg, planned_from, end_record}
 use Rattle.lock_core.specs.Records.{gain, loss}
 use Rattle.lock_core.specs.Sums.{moved}
-use Rattle.lock_core.specs.Transactions.{recs_of, changes_in, has_commit, touches, in_order}
+use Rattle.lock_core.specs.Transactions.{recs_of, changes_in, has_commit, touches}
 use Rattle.txn_script.specs.declared.job.Job.{Job}
 use Rattle.txn_script.specs.Script.{IsAllowedLeg}
 use Rattle.early_locks.specs.Locks.{HoldsTaken}

@@ -1,4 +1,4 @@
-use Rattle.std.proofs.Common.{rules, ◌≡◌, ◌∙◌, sym, ap, ℕ, codes, count_ones, arith}
+use Rattle.std.proofs.Common.{rules, ◌≡◌, ◌∙◌, ap, codes, count_ones, arith}
 use Rattle.clap.specs.Words.{found_of, rows_of, first_of}
 use Rattle.command_line.proofs.OptionLemmas.{one-number}
 use Rattle.command_line.proofs.PowerLemmas.{power-one, one-power}

@@ -1,7 +1,7 @@
 use Rattle.std.proofs.Common.{◌≡◌, ◌∙◌, inl, inr, refl, sym, ap, false, is_some}
 use Rattle.clap.specs.Words.{subcommand_of, found_of, rows_of}
 use Rattle.command_line.specs.CommandLine.{aether_command, NamesSubcommand}
-use Rattle.command_line.proofs.Asking.{answers-demo, answers-new, answers-run, refuses-demo, refuses-run, known-taken}
+use Rattle.command_line.proofs.Asking.{answers-demo, answers-new, answers-run, refuses-demo, refuses-run}
 use Rattle.command_line.proofs.Facts.{rows-named, rows-none, named-one, named_some}
 use Rattle.command_line.proofs.parsing.parse.Goals as goal
 

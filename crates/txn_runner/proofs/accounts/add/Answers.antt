@@ -1,4 +1,4 @@
-use Rattle.std.proofs.Common.{rules, ◌≡◌, ◌≤◌, length, insert, subst, sym}
+use Rattle.std.proofs.Common.{rules, ◌≤◌, length, subst, sym}
 use Rattle.std.specs.List.Sorted.{IsStrictlyIncreasing}
 use Rattle.txn_runner.proofs.Listing.{rising-searched, adds-insert}
 use Rattle.txn_runner.proofs.accounts.add.Goals as goal

@@ -1,4 +1,4 @@
-use Rattle.std.proofs.Common.{rules, ◌≡◌, ◌+◌, ◌∷◌, ◌++◌, [], length, All, sym, ap, subst, arith, length-append}
+use Rattle.std.proofs.Common.{◌∷◌, [], length, sym, ap, subst, arith, length-append}
 use Rattle.std.proofs.lemmas.List.Elements.{All-rest}
 use Rattle.log_table.specs.Seats.{Becomes, view_of}
 use Rattle.txn_runner.specs.Holdings.{held_behind, IsKnown, GoesBack, with_held}

@@ -1,7 +1,6 @@
-use Rattle.std.proofs.Common.{rules, ◌≡◌, ◌+◌, length, ap, subst, sym, ◌∙◌}
+use Rattle.std.proofs.Common.{rules, ◌≡◌, ◌+◌, length, ap, subst, sym}
 use Rattle.log_record.specs.LogList.{size_of}
 use Rattle.log_table.specs.Books.{MayEnter}
-use Rattle.log_table.specs.Seats.{view_of}
 use Rattle.txn_runner.proofs.Putting.{may-place, units-next, puts}
 use Rattle.txn_runner.proofs.inserting.insert_record.Goals as goal
 

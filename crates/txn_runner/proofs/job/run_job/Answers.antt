@@ -1,9 +1,8 @@
-use Rattle.std.proofs.Common.{◌≡◌, ℕ, ◌<◌, ◌≤◌, ◌∙◌, [], All, refl, ap, sym, subst}
+use Rattle.std.proofs.Common.{◌≡◌, ◌<◌, ◌∙◌, [], All, refl, ap, sym, subst}
 use Rattle.std.proofs.lemmas.Result.{err_from_is_err_and}
 use Rattle.log_table.specs.declared.view.Books.{Books}
 use Rattle.log_table.specs.Seats.{view_of}
 use Rattle.txn_runner.specs.declared.cause.Cause.TheVariants.{Stop}
-use Rattle.txn_runner.specs.Running.{HasRun}
 use Rattle.txn_runner.proofs.Composing.{accounts-known, holds-job, still-known, still-held, took, still-taken, keeps-held, keeps-then, has-inserted, still-stops, has-cut, cut-early, has-run}
 use Rattle.txn_runner.proofs.job.run_job.Goals as goal
 

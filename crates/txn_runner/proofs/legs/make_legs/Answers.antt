@@ -1,4 +1,4 @@
-use Rattle.std.proofs.Common.{rules, ◌++◌, ◌∙◌, arith}
+use Rattle.std.proofs.Common.{rules, ◌++◌, ◌∙◌}
 use Rattle.txn_runner.proofs.Adding.{adds-trans}
 use Rattle.txn_runner.proofs.Passing.{leg-accounts, reaches-short, reaches-over, reaches-done, may-make, still-holds, stands-next, paid-taken}
 use Rattle.txn_runner.proofs.legs.make_legs.Goals as goal

@@ -3,7 +3,6 @@ use Rattle.log_table.specs.Seats.{view_of}
 use Rattle.txn_runner.specs.Holdings.{taken_of}
 use Rattle.txn_runner.specs.Inserts.{HasAdded}
 use Rattle.txn_runner.specs.Legs.{HoldsJob, StandsBefore}
-use Rattle.txn_runner.proofs.Passing.{may-make}
 use Rattle.txn_runner.proofs.legs.make_legs.Given as goal
 
 abbrev pub invariant-legs : goal.invariant-legs

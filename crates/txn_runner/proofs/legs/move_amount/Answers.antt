@@ -1,6 +1,6 @@
 use Rattle.std.proofs.Common.{◌<◌, length, sym, subst, arith}
 use Rattle.txn_runner.specs.Legs.{CanBear, IsAfter}
-use Rattle.txn_runner.proofs.Moving.{here, within-old, changes-more, same-behind}
+use Rattle.txn_runner.proofs.Moving.{here, changes-more, same-behind}
 use Rattle.txn_runner.proofs.legs.move_amount.Goals as goal
 
 pub bear-requires : goal.bear-requires

@@ -3,8 +3,6 @@ use Rattle.lock_core.specs.Transactions.{recs_of, has_commit}
 use Rattle.log_table.specs.declared.view.Books.{Books}
 use Rattle.std.proofs.lemmas.List.{take_more}
 use Rattle.std.proofs.lemmas.List.Elements.{All-take}
-use Rattle.log_table.specs.Seats.{view_of}
-use Rattle.txn_runner.specs.Holdings.{TakesAll}
 use Rattle.txn_runner.proofs.Backing.{notes-uncommitted, all-unchanged}
 use Rattle.txn_runner.proofs.Gaining.{all-known, holds-all, takes-more}
 use Rattle.txn_runner.proofs.Listing.{rising-take}
