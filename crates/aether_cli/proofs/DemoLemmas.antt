@@ -1,5 +1,5 @@
 -- What `demo` answers: the log that it makes, what is promised of the transfers, and what was concluded.
-use Rattle.std.proofs.Common.{◌≡◌, ◌≤◌, ◌<◌, ◌⊎◌, ⊎_elim, inl, inr, refl, ap, sym, ◌∙◌, subst, ℕ, zero, suc, ◌+◌, ◌*◌, ◌^◌, List, [], ◌∷◌, ◌++◌, length, map, replicate, All, Option, Some, None, arith, append-nil, length-append}
+use Rattle.std.proofs.Common.{◌≡◌, ◌≤◌, ◌⊎◌, ⊎_elim, inl, inr, refl, ap, sym, ◌∙◌, subst, ℕ, zero, suc, ◌+◌, ◌*◌, List, [], ◌∷◌, length, map, replicate, All, Option, Some, None, arith, append-nil, length-append}
 use Rattle.std.proofs.KnownBytes.{Appends-trans, Keeps-refl}
 use Rattle.std.proofs.lemmas.List.{length-replicate}
 use Rattle.std.proofs.lemmas.List.Elements.{All-replicate}
@@ -16,7 +16,7 @@ use Rattle.lock_core.specs.History.{history, history_from}
 use Rattle.lock_core.specs.Lawful.{base_state_of, genesis_of}
 use Rattle.lock_core.specs.Serial.{numbered, IsPartlySerialAfter, IsSerialAfter}
 use Rattle.lock_core.specs.Settling.{row, KeepsRows}
-use Rattle.lock_core.specs.Sums.{BaseState, ShowsAccounts, greatest_txn}
+use Rattle.lock_core.specs.Sums.{BaseState, greatest_txn}
 use Rattle.lock_core.proofs.JudgingLemmas.{shows-kept}
 use Rattle.log_recovery.specs.Recovery.{HoldsLawful}
 use Rattle.log_recovery.proofs.ListingLemmas.{units_of-append}
@@ -26,7 +26,6 @@ use Rattle.log_table.specs.Seats.{key_of}
 use Rattle.segment_file.specs.File.{HoldsUnits}
 use Rattle.segment_file.specs.Standing.{AllStand, HoldsNoneOr, IsShut}
 use Rattle.segment_file.specs.declared.scan_result.Tail.{Tail}
-use Rattle.commit_pipeline.specs.EndLines.{done_in, refused_in}
 use Rattle.commit_pipeline.specs.declared.voice.Voice.TheVariants.{Count}
 use Rattle.txn_runner.specs.declared.jobs.Jobs.{Jobs}
 use Rattle.txn_script.specs.Generator.{generated_transfers}
@@ -39,7 +38,6 @@ use Rattle.aether_cli.specs.declared.transfers.Prepared.{Prepared}
 use Rattle.aether_cli.specs.Creation.{IsFindingFault, TellsWhether, genesis_list}
 use Rattle.aether_cli.specs.Demo.{AnswersDemo, IsBeforeDemo, IsOfDemo, IsPreparedDemo, IsReadyDemo, MayPrecede, OnlyMakes, RanGenerated, TellsSummary}
 use Rattle.aether_cli.specs.Ending.{AreWhole, Concludes, HasEnded, IsFirstLogEnd, counted_text}
-use Rattle.aether_cli.specs.Run.{HoldsRun}
 use Rattle.aether_cli.specs.RunAnswers.{OnlyLooks}
 use Rattle.aether_cli.specs.Summary.{generated_opening, generated_rows, summary_of, summary_text}
 use Rattle.aether_cli.specs.Transferred.{IsOpened}

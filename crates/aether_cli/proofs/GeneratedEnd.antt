@@ -1,7 +1,6 @@
 -- Generated transfers end far below the last LSN, also where some were cut short.
-use Rattle.std.proofs.Common.{◌≡◌, ◌≤◌, ◌<◌, ℕ, zero, suc, ◌==◌, ◌||◌, ◌+◌, ◌*◌, Bool, true, false, ◌⊎◌, inl, inr, ⊎_elim, List, [], ◌∷◌, ◌++◌, length, map, take, get_or, None, ◌-◌, refl, ap, ◌∙◌, sym, subst, arith, ne_eqb, length-append}
+use Rattle.std.proofs.Common.{◌≡◌, ◌≤◌, ◌<◌, ℕ, zero, suc, ◌||◌, ◌+◌, ◌*◌, false, ◌⊎◌, inl, inr, List, [], ◌∷◌, ◌++◌, length, take, get_or, None, ◌-◌, refl, ap, ◌∙◌, arith, ne_eqb, length-append}
 use Rattle.std.specs.List.{AllByRecursion}
-use Rattle.lsn_space.specs.declared.lsn.TheConstants.{LAST}
 use Rattle.log_record.specs.declared.rec.Rec.{Rec}
 use Rattle.log_record.specs.declared.rec.Rec.TheVariants.{Genesis, Update, Commit, Short, Over, Note}
 use Rattle.log_record.specs.declared.rec.Entry.{Entry}
@@ -13,7 +12,7 @@ use Rattle.lock_core.specs.AnyOrder.{IsDoneIn, weight_of}
 use Rattle.lock_core.specs.History.{history, history_from}
 use Rattle.lock_core.specs.Serial.{Task, numbered, IsCutShort, IsPartlySerialAfter}
 use Rattle.lock_core.specs.Sums.{BaseState}
-use Rattle.lock_core.specs.Transactions.{records_of, all_without_prev, in_order, recs_of}
+use Rattle.lock_core.specs.Transactions.{records_of, all_without_prev, in_order}
 use Rattle.lock_core.proofs.Doing.{end_of-weight, partly-done}
 use Rattle.lock_core.proofs.Weighing.{AreDistinct, IgnoresPrev, each_task, has_number, weight_of-append, weight_of-history, weight_of-in_order, weight_of-tasks, weight_of-without_prev}
 use Rattle.txn_script.specs.declared.job.Job.{Job}

@@ -1,5 +1,5 @@
 -- From the opened log to what is ready before the first transfer of a run, or to the answer that there is no run.
-use Rattle.std.proofs.Common.{◌≡◌, ◌≤◌, ◌⊎◌, ⊎_elim, inl, inr, refl, ap, sym, ◌∙◌, subst, ℕ, ◌+◌, ◌*◌, ◌^◌, List, length, Option, Some, None, arith}
+use Rattle.std.proofs.Common.{◌≡◌, ◌≤◌, ◌⊎◌, ⊎_elim, inl, inr, refl, ap, sym, ◌∙◌, subst, ℕ, ◌+◌, List, length, Option, Some, None, arith}
 use Rattle.std.specs.Io.KnownBytes.{Keeps}
 use Rattle.command_line.specs.declared.options.RunOptions.{RunOptions}
 use Rattle.log_disk.specs.Disk.{Leaves}
@@ -10,7 +10,6 @@ use Rattle.log_record.specs.declared.rec.Rec.{Rec}
 use Rattle.lock_core.specs.History.{history}
 use Rattle.lock_core.specs.Lawful.{genesis_of}
 use Rattle.lock_core.specs.Sums.{ShowsAccounts}
-use Rattle.log_recovery.specs.declared.recovery.RecoverFault.{RecoverFault}
 use Rattle.log_recovery.specs.declared.recovery.RecoverFault.TheVariants as fault
 use Rattle.log_recovery.specs.Recovery.{HoldsLawful, IsFaultOf}
 use Rattle.aether_cli.specs.declared.report.Detail.{Detail}

@@ -1,5 +1,5 @@
 -- What `run` answers, from what was ready, what is promised of the transfers, and what was concluded.
-use Rattle.std.proofs.Common.{◌≡◌, ◌≤◌, ◌⊎◌, ⊎_elim, inl, inr, refl, ap, sym, ◌∙◌, subst, ℕ, ◌+◌, ◌*◌, List, [], ◌∷◌, ◌++◌, length, Option, None, Some, arith}
+use Rattle.std.proofs.Common.{◌≡◌, ◌⊎◌, inl, inr, refl, ap, sym, subst, ℕ, List, [], ◌++◌, Option, None, arith}
 use Rattle.std.proofs.KnownBytes.{Appends-trans}
 use Rattle.std.proofs.lemmas.List.{append-nil}
 use Rattle.std.specs.Io.KnownBytes.{Appends}
@@ -20,7 +20,7 @@ use Rattle.aether_cli.specs.declared.run_command.ReadyRun.{ReadyRun}
 use Rattle.aether_cli.specs.declared.transfers.Ended.{Ended}
 use Rattle.aether_cli.specs.Ending.{Concludes, HasEnded, closed_text}
 use Rattle.aether_cli.specs.Run.{HoldsRun, RunIsDrained}
-use Rattle.aether_cli.specs.RunAnswers.{AnswersRun, HoldsTold, Ran, RanOut, RanWhole, RanIntoEnd, Outside, outside, run_text}
+use Rattle.aether_cli.specs.RunAnswers.{AnswersRun, HoldsTold, Ran, RanOut, Outside, outside, run_text}
 use Rattle.aether_cli.specs.RunReady.{IsReadyFor}
 use Rattle.aether_cli.proofs.EndingLemmas.{list, keeps-ended, whole-ended, drained-ended, stops-ended}
 use Rattle.aether_cli.proofs.RunBegun.{images-begun}

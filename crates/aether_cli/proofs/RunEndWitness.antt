@@ -14,22 +14,20 @@ use Rattle.lock_core.specs.History.{end_from, entry_at, history_from, history}
 use Rattle.lock_core.specs.Lawful.{IsLawful, genesis_of}
 use Rattle.lock_core.specs.Records.{gain, loss}
 use Rattle.lock_core.specs.Settling.{row}
-use Rattle.lock_core.specs.Sums.{ShowsAccounts, IsBalanceOf, balance_of, last_commit_of, greatest_txn, total}
+use Rattle.lock_core.specs.Sums.{ShowsAccounts, balance_of, last_commit_of, greatest_txn, total}
 use Rattle.lock_core.specs.Transactions.{records_of, has_end}
 use Rattle.lock_core.specs.Witness.{genesis_log}
 use Rattle.lock_core.proofs.Fronts.{history_from-append}
 use Rattle.lock_core.proofs.ListLemmas.{all-append}
 use Rattle.lock_core.proofs.OneMore.{total-empty}
-use Rattle.lock_core.specs.Alone.{with_note, leg_updates}
-use Rattle.segment_file.specs.File.{written, batch, gated, joined, IsCountedBatch, IsFile}
+use Rattle.lock_core.specs.Alone.{leg_updates}
+use Rattle.segment_file.specs.File.{written, batch, gated, joined, IsCountedBatch}
 use Rattle.segment_file.specs.Standing.{StandsAt}
-use Rattle.segment_file.specs.declared.layout.TheConstants.{OPEN, CLOSED}
+use Rattle.segment_file.specs.declared.layout.TheConstants.{CLOSED}
 use Rattle.segment_file.specs.declared.scan_result.Tail.{Tail}
 use Rattle.segment_file.proofs.BatchLemmas.{length-batch}
-use Rattle.log_recovery.proofs.ListingLemmas.{units_of-append}
 use Rattle.log_table.specs.declared.table.Start.{Start}
 use Rattle.log_table.specs.declared.view.View.{View}
-use Rattle.log_table.specs.Books.{task_of}
 use Rattle.log_table.specs.Closing.{IsGathered, IsSettled}
 use Rattle.log_table.specs.Sound.{base_of}
 use Rattle.log_table.specs.Views.{flusher}
@@ -38,9 +36,9 @@ use Rattle.commit_pipeline.specs.declared.voice.Voice.TheVariants.{Lines}
 use Rattle.txn_runner.specs.declared.cause.Cause.TheVariants.{LogEnd}
 use Rattle.txn_runner.specs.declared.cause.Worked.TheVariants.{Cut}
 use Rattle.txn_runner.specs.declared.jobs.Jobs.{Jobs}
-use Rattle.aether_cli.specs.RunWitness.{payment, plain_disk, plain_sink, HasHitLogEnd}
-use Rattle.aether_cli.specs.Shares.{Share, HasShare, HasGathered}
-use Rattle.aether_cli.specs.Transferred.{IsOpened, HasTransferred}
+use Rattle.aether_cli.specs.RunWitness.{payment, plain_disk, HasHitLogEnd}
+use Rattle.aether_cli.specs.Shares.{Share, HasShare}
+use Rattle.aether_cli.specs.Transferred.{IsOpened}
 use Rattle.aether_cli.proofs.RunWitness.{genesis-counted, genesis-spellable, genesis-lawful, shut-at}
 
 -- ---- the log

@@ -1,5 +1,5 @@
 -- The summary of generated transfers is told by their number and seed.
-use Rattle.std.proofs.Common.{◌≡◌, ◌≤◌, ◌<◌, ℕ, zero, suc, ◌+◌, ◌*◌, List, [], ◌∷◌, length, map, replicate, refl, ap, ◌∙◌, sym, arith}
+use Rattle.std.proofs.Common.{◌≡◌, ◌≤◌, ◌<◌, ℕ, zero, suc, ◌+◌, ◌*◌, List, [], ◌∷◌, length, replicate, refl, ap, ◌∙◌, sym, arith}
 use Rattle.std.proofs.lemmas.List.Elements.{All-replicate}
 use Rattle.log_record.specs.declared.rec.Rec.{Rec}
 use Rattle.log_record.specs.declared.rec.Rec.TheVariants.{Genesis, Update, Commit, Short, Over, Note}
@@ -20,8 +20,6 @@ use Rattle.commit_pipeline.specs.EndLines.{is_done, is_refused, done_in, refused
 use Rattle.txn_script.specs.Generator.{number_after, job_from, generated_transfers, generated_balance, OpensGenerated}
 use Rattle.txn_script.specs.Transfers.{transfer_of}
 use Rattle.txn_script.proofs.OrderLemmas.{room-generated, generated-balance, generated-end}
-use Rattle.aether_cli.specs.declared.summary.Counts.{Counts}
-use Rattle.aether_cli.specs.Creation.{genesis_list}
 use Rattle.aether_cli.specs.Summary.{generated_opening, balance_in, mix_below, summary_lines, summary_of, summary_text}
 use Rattle.aether_cli.proofs.GenesisLemmas.{opening_rows, genesis-kept}
 

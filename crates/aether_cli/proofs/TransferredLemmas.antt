@@ -1,5 +1,5 @@
 -- A run's end: the seats are gathered, the table is closed, and what is known then.
-use Rattle.std.proofs.Common.{◌≡◌, ◌∙◌, ℕ, ◌+◌, Bool, true, cond, eqb, List, [], ◌∷◌, length, map, sym, refl, ap, subst, arith, add-one, add-zero, Option, None, Some, IsSome, IsSomeAnd}
+use Rattle.std.proofs.Common.{◌≡◌, ◌∙◌, ℕ, ◌+◌, true, cond, eqb, List, [], ◌∷◌, length, map, sym, refl, ap, subst, arith, add-one, add-zero, Option, None, Some, IsSome, IsSomeAnd}
 use Rattle.std.specs.List.{AllByRecursion, list_any}
 use Rattle.log_disk.specs.declared.disk.LogDisk.{Ghosts}
 use Rattle.log_disk.specs.declared.sink.Sink.{Ghosts as SinkGhosts}
@@ -20,7 +20,6 @@ use Rattle.log_table.specs.Seats.{view_of}
 use Rattle.log_table.specs.Sends.{IsDrained}
 use Rattle.log_table.specs.Sound.{HasReadStop, base_of}
 use Rattle.log_table.specs.Views.{constants_of, is_worker, takes_in, sent_to}
-use Rattle.commit_pipeline.specs.declared.daemon.Daemon.{Daemon}
 use Rattle.commit_pipeline.specs.declared.voice.Voice.{Voice}
 use Rattle.commit_pipeline.specs.Turning.{IsSameDaemon}
 use Rattle.commit_pipeline.proofs.RanLemmas.{Later-same}

@@ -13,17 +13,17 @@ use crate::pipeline_tests::{CREATED, balances, daemon_on, table_from_4};
 use crate::report::{Detail, Report};
 use crate::tests::{answer_of, sink_of};
 use commit_pipeline::DaemonFault;
-use log_disk::{LogDisk, MemoryDisk, MemorySink, OpenGate};
+use log_disk::{LogDisk, MemoryDisk, MemorySink, OpenGate, Sink};
 use log_table::{LogTable, Seat};
 use lsn_space::Lsn;
 use std::alloc::Global;
 use std::sync::Wait;
 use std::test::Fail;
-use txn_runner::{Answer, Cause, Jobs, Row, Rows, Worked, work};
+use txn_runner::{Answer, Cause, Jobs, Relief, Row, Rows, Worked, work};
 use txn_script::parse;
 
-/// A worker, which the flusher's seat knows to be enrolled.
-fn one_worker(table: &LogTable, boss: &mut Seat) -> Seat
+/// A worker, which the flusher's seat knows to be enrolled, and a seat that only looks.
+fn one_worker(table: &LogTable, boss: &mut Seat) -> (Seat, Seat)
     requires boss { IsOf table.now boss.old }
     requires flusher { (view_of boss.old).standing.role ≡ FlusherRole }
     requires durable { sent_to (view_of boss.old) ≡ 4 }
@@ -40,17 +40,51 @@ fn one_worker(table: &LogTable, boss: &mut Seat) -> Seat
     ensures running { (view_of boss.new).sending.stop ≡ 0 }
     ensures seen { Contains (view_of boss.new).seen.lsns 4 }
     ensures told { knows_all_enrolled (view_of boss.new).standing ≡ true }
-    ensures seat { IsOf table.now result }
-    ensures ready { IsReady (view_of result) }
-    ensures books { (view_of result).books ≡ no_books }
-    ensures entries { (view_of result).entries ≡ [] }
-    ensures worker { result.worker ≡ 0 }
+    ensures seat { IsOf table.now result.0 }
+    ensures ready { IsReady (view_of result.0) }
+    ensures books { (view_of result.0).books ≡ no_books }
+    ensures entries { (view_of result.0).entries ≡ [] }
+    ensures worker { result.0.worker ≡ 0 }
+    ensures looker { IsOf table.now result.1 }
 {
     let mut seat = table.split(boss, 0);
     table.enroll(&mut seat);
     let told = table.note(&mut seat);
     table.merge(boss, told);
-    seat
+    let looker = table.note(&mut seat);
+    (seat, looker)
+}
+
+/// A relief that flushes, and first looks whether account 0 is held.
+#[derive(Drop)]
+struct Looking<'a, D, K> {
+    flushing: FlushingRelief<'a, D, K>,
+    table: &'a LogTable,
+    seat: Seat,
+
+    /// Whether each rest found it held.
+    held: bool,
+}
+
+impl<'a, D: LogDisk, K: Sink> Relief for Looking<'a, D, K> {
+    ghost use Rattle.std.specs.Prelude.{◌≡◌, ◌<◌, None, ⊤};
+    ghost use Rattle.commit_pipeline.specs.Turning.{MayTurn};
+    ghost use Rattle.log_table.specs.Seats.{IsOf};
+
+    ghost ready = { λ relief. (relief.flushing.daemon.fault ≡ None → MayTurn D.LogDisk relief.flushing.daemon)
+        × IsOf relief.table.now relief.seat × (0 < relief.table.now.accounts) };
+
+    ghost later = { λ old new. ⊤ };
+
+    fn rest(&mut self) {
+        let word = self.table.load_account(&mut self.seat, 0);
+        self.held = self.held && word.held();
+        self.flushing.rest();
+    }
+
+    ghost later_refl = { λ relief. tt };
+
+    ghost later_trans = { λ first mid last before after. tt };
 }
 
 /// A transfer and one that takes it back, for one worker.
@@ -67,8 +101,8 @@ fn two_jobs<R>(rt: &R, alloc: Global) -> Option<Jobs>
     Jobs::make(rt, alloc, script, 1, 1).ok()
 }
 
-/// What a worker came to, its rows, and what befell the daemon.
-type Outcome = (Worked, Rows, Option<DaemonFault>);
+/// What a worker came to, its rows, what befell the daemon, and whether its accounts were held while it waited.
+type Outcome = (Worked, Rows, Option<DaemonFault>, bool);
 
 /// A worker makes both transfers, and waits for the disk after each; only its relief flushes.
 fn work_and_flush<R: Wait, D: LogDisk>(
@@ -84,9 +118,14 @@ fn work_and_flush<R: Wait, D: LogDisk>(
     let Ok(mut rows) = Rows::make(alloc, jobs.count() as u32) else {
         return None;
     };
-    let mut seat = one_worker(&table, &mut boss);
+    let (mut seat, looker) = one_worker(&table, &mut boss);
     let daemon = daemon_on(alloc, 100, &table, boss, disk, sink)?;
-    let mut relief = FlushingRelief { daemon };
+    let mut relief = Looking {
+        flushing: FlushingRelief { daemon },
+        table: &table,
+        seat: looker,
+        held: true,
+    };
     let worked = work(
         rt,
         &table,
@@ -98,7 +137,8 @@ fn work_and_flush<R: Wait, D: LogDisk>(
         &OpenGate,
     );
     table.leave(&mut seat);
-    Some((worked, rows, relief.daemon.fault()))
+    let fault = relief.flushing.daemon.fault();
+    Some((worked, rows, fault, relief.held))
 }
 
 /// The row of a transfer that was seen to be durable.
@@ -116,10 +156,12 @@ fn a_waiting_worker_flushes(rt: HostRuntime) -> Result<(), Fail> {
     let alloc = rt.alloc();
     let mut disk = MemoryDisk::make(alloc, &[], 20_000, &[])?;
     let mut sink = MemorySink::make(alloc, 100, &[])?;
-    let Some((worked, rows, fault)) = work_and_flush(&rt, alloc, &mut disk, &mut sink) else {
+    let outcome = work_and_flush(&rt, alloc, &mut disk, &mut sink);
+    let Some((worked, rows, fault, held)) = outcome else {
         return Err(Fail::new("no memory"));
     };
     assert_eq!(rt; (worked, fault), (Worked::All, None));
+    assert!(rt; held, "the accounts went back before the end was durable");
     let wanted = [durable_row(1, 9), durable_row(2, 14)];
     assert_eq!(rt; rows.as_slice(), wanted.as_slice());
     assert_eq!(rt; sink.bytes(), b"done 1 9\ndone 2 14\n".as_slice());
@@ -134,7 +176,8 @@ fn a_waiting_worker_stops_where_the_disk_fails(rt: HostRuntime) -> Result<(), Fa
     for (call, made) in [(1, 0), (4, 0), (5, 1), (8, 1), (9, 2)] {
         let mut disk = MemoryDisk::make(alloc, &[], 20_000, &[CREATED + call])?;
         let mut sink = MemorySink::make(alloc, 100, &[])?;
-        let Some((worked, rows, fault)) = work_and_flush(&rt, alloc, &mut disk, &mut sink) else {
+        let outcome = work_and_flush(&rt, alloc, &mut disk, &mut sink);
+        let Some((worked, rows, fault, _)) = outcome else {
             return Err(Fail::new("no memory"));
         };
         assert_eq!(rt; rows.as_slice().len(), made, "call {call}");
@@ -157,7 +200,8 @@ fn no_line_after_a_failed_sync(rt: HostRuntime) -> Result<(), Fail> {
     for pick in [0, 1, 2, 3, 77, 12_345] {
         let mut disk = MemoryDisk::make(alloc, &[], 20_000, &[CREATED + 8])?;
         let mut sink = MemorySink::make(alloc, 100, &[])?;
-        let Some((_, _, fault)) = work_and_flush(&rt, alloc, &mut disk, &mut sink) else {
+        let outcome = work_and_flush(&rt, alloc, &mut disk, &mut sink);
+        let Some((_, _, fault, _)) = outcome else {
             return Err(Fail::new("no memory"));
         };
         assert_eq!(rt; fault, Some(DaemonFault::DiskFault));

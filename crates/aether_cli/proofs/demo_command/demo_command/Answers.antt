@@ -1,5 +1,4 @@
-use Rattle.std.proofs.Common.{refl, arith}
-use Rattle.aether_cli.specs.Ending.{counted_text}
+use Rattle.std.proofs.Common.{arith}
 use Rattle.aether_cli.proofs.EndingLemmas.{disk-concluded, honest-ended, later-ended, none_stopped-ended, write-concluded}
 use Rattle.aether_cli.proofs.DemoLemmas.{answers-demo, range-concluded, rows-ended, tells-concluded, text-concluded}
 use Rattle.aether_cli.proofs.demo_command.demo_command.Goals as goal

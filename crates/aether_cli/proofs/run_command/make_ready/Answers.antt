@@ -1,7 +1,7 @@
-use Rattle.std.proofs.Common.{rules, ◌≡◌, ◌∙◌, refl, ap, sym, inl}
+use Rattle.std.proofs.Common.{rules, ◌≡◌, ◌∙◌, inl}
 use Rattle.std.proofs.lemmas.Result.{err_from_is_err_and}
 use Rattle.log_record.specs.LogList.{units_of}
-use Rattle.aether_cli.proofs.ReadyLemmas.{Reads, answers-opening, answers-script, held-read, leaves-settled, count-settled, settles, asked-prepared, opened-prepared, records}
+use Rattle.aether_cli.proofs.ReadyLemmas.{Reads, answers-opening, answers-script, held-read, leaves-settled, count-settled, settles, asked-prepared, opened-prepared}
 use Rattle.aether_cli.proofs.run_command.make_ready.Goals as goal
 
 pub returns-in_err-opened-clause-none : goal.returns-in_err-opened-clause-none

@@ -1,4 +1,4 @@
-use Rattle.std.proofs.Common.{◌≡◌, ◌∙◌, sym, subst}
+use Rattle.std.proofs.Common.{◌∙◌, sym, subst}
 use Rattle.command_line.specs.CommandLine.{IsCommandLine, IsRefusalOf}
 use Rattle.command_line.proofs.Asking.{asks-options}
 use Rattle.command_line.specs.declared.command.Command.TheVariants.{New, Run, Dump, Demo}

@@ -1,4 +1,4 @@
-use Rattle.std.proofs.Common.{rules, ◌≡◌, ◌∙◌, ap, length, map, sym, subst, IsSomeAnd}
+use Rattle.std.proofs.Common.{rules, ◌≡◌, ◌∙◌, length, map, sym, subst, IsSomeAnd}
 use Rattle.log_table.specs.May.{MayClose}
 use Rattle.log_table.specs.Seats.{key_of, view_of}
 use Rattle.aether_cli.specs.Gathering.{share_of}

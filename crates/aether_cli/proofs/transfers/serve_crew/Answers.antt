@@ -1,4 +1,4 @@
-use Rattle.std.proofs.Common.{rules, ◌≡◌, ◌∙◌, ap, refl}
+use Rattle.std.proofs.Common.{rules, ap, refl}
 use Rattle.flusher.specs.declared.flusher.Flusher.{Flusher}
 use Rattle.aether_cli.proofs.transfers.serve_crew.Goals as goal
 

@@ -1,4 +1,4 @@
-use Rattle.std.proofs.Common.{rules, arith, ◌≡◌, ◌∙◌, ◌+◌, length, sym, subst}
+use Rattle.std.proofs.Common.{arith, ◌≡◌, ◌∙◌, ◌+◌, length, sym, subst}
 use Rattle.aether_cli.specs.Workers.{AreUnused, IsUnusedAs}
 use Rattle.aether_cli.proofs.NumberedLemmas.{Numbered-push}
 use Rattle.aether_cli.proofs.workers.hire_all.Goals as goal

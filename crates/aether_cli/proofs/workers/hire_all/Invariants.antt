@@ -1,4 +1,4 @@
-use Rattle.std.proofs.Common.{◌≡◌, ◌≤◌, length, vec_len, vec_capacity}
+use Rattle.std.proofs.Common.{◌≡◌, vec_len, vec_capacity}
 use Rattle.aether_cli.specs.Workers.{AreUnused, HasHired}
 use Rattle.aether_cli.proofs.workers.hire_all.Given as goal
 

@@ -1,4 +1,4 @@
-use Rattle.std.proofs.Common.{rules, ◌≡◌, ◌∙◌, ◌+◌, ◌/◌, ◌≤◌, length, subst, sym}
+use Rattle.std.proofs.Common.{rules, ◌≡◌, ◌+◌, ◌/◌, ◌≤◌, length, subst, sym}
 use Rattle.aether_cli.proofs.WorkerLemmas.{stripe-most}
 use Rattle.aether_cli.proofs.workers.most_of_one.Goals as goal
 

@@ -1,4 +1,4 @@
-use Rattle.std.proofs.Common.{rules, ◌≡◌, ◌∙◌, ap, sym, subst}
+use Rattle.std.proofs.Common.{rules, ◌≡◌, ap, sym, subst}
 use Rattle.log_table.specs.declared.view.Books.{Books}
 use Rattle.log_table.specs.Seats.{view_of}
 use Rattle.log_table.specs.Views.{retired}
