@@ -7,10 +7,10 @@ use Rattle.aether_cli.proofs.relief_tests.work_and_flush.Goals as goal
 
 pub work-worked-requires-clause-worked : goal.work-worked-requires-clause-worked
 work-worked-requires-clause-worked g c =
-    subst (λ k. HasWorked c.in_ok-jobs.jobs c.one_worker.result.0.worker k (view_of c.one_worker.result.0)) (sym c.in-Ok.ensures.taken)
-    (HasWorked-none c.in_ok-jobs.jobs c.one_worker.result.0.worker (view_of c.one_worker.result.0) c.one_worker.ensures.entries
-    (ap (λ books. books.jobs) c.one_worker.ensures.books))
+    subst (λ k. HasWorked c.in_ok-jobs.jobs c.one_worker-seat.result.0.worker k (view_of c.one_worker-seat.result.0)) (sym c.in-Ok.ensures.taken)
+    (HasWorked-none c.in_ok-jobs.jobs c.one_worker-seat.result.0.worker (view_of c.one_worker-seat.result.0) c.one_worker-seat.ensures.entries
+    (ap (λ books. books.jobs) c.one_worker-seat.ensures.books))
 
 pub work-worked-requires-clause-room : goal.work-worked-requires-clause-room
-work-worked-requires-clause-room g c = HasRoom-none c.in_ok-jobs.jobs c.one_worker.result.0.worker c.in-Ok.rows c.in-Ok.ensures.rows
+work-worked-requires-clause-room g c = HasRoom-none c.in_ok-jobs.jobs c.one_worker-seat.result.0.worker c.in-Ok.rows c.in-Ok.ensures.rows
     c.in-Ok.ensures.taken (search rules)
