@@ -31,7 +31,7 @@ use Rattle.aether_cli.specs.Gathering.{HasLeft, share_of, takes_all, view_in, wo
 use Rattle.aether_cli.specs.Prepared.{HasTurned}
 use Rattle.aether_cli.specs.Shares.{Share, HasGathered}
 use Rattle.aether_cli.specs.Transferred.{HasTransferred, IsFresh, IsOpened}
-use Rattle.aether_cli.specs.Workers.{AreDone, HasServed, IsDone, IsDoneAs, KnowsHired, Numbered, numbers_below}
+use Rattle.aether_cli.specs.Workers.{AreDone, HasServed, IsDone, IsDoneAs, KnowsHired, Numbered, hired_numbers}
 use Rattle.aether_cli.proofs.GatheredShares.{HasGathered-all, served}
 
 -- a worker that is done has left
@@ -67,18 +67,18 @@ takes_all-made view (other ∷ others) = takes_all-made (takes_in view other) ot
 
 -- the numbers of the workers whose seats it took in
 takes_all-merged : (table : LogTable) (jobs : Jobs) (number : ℕ) (workers : List Worker) → Numbered (IsDoneAs table jobs) number workers
-    → (view : View) → view.standing.merged ≡ numbers_below number
-    → (takes_all view (map view_in workers)).standing.merged ≡ numbers_below (number + length workers)
-takes_all-merged table jobs number [] done view below = below ∙ ap numbers_below (sym (add-zero number))
+    → (view : View) → view.standing.merged ≡ hired_numbers number
+    → (takes_all view (map view_in workers)).standing.merged ≡ hired_numbers (number + length workers)
+takes_all-merged table jobs number [] done view below = below ∙ ap hired_numbers (sym (add-zero number))
 takes_all-merged table jobs number (worker ∷ workers) done view below =
     let own = view_in worker in
     let ended = (served table jobs worker done.0.1).ended in
     let one : (takes_in view own).standing.merged ≡ own.standing.worker ∷ view.standing.merged =
     ap (λ (role : Role). cond (is_worker role) (own.standing.worker ∷ view.standing.merged) view.standing.merged) ended in
     let named : own.standing.worker ≡ number = sym worker.seat.named ∙ done.0.0 in
-    let next : (takes_in view own).standing.merged ≡ numbers_below (number + 1) =
-    one ∙ ((λ i. named i ∷ below i) ∙ ap numbers_below (sym (add-one number))) in
-    takes_all-merged table jobs (number + 1) workers done.1 (takes_in view own) next ∙ ap numbers_below (omega arith)
+    let next : (takes_in view own).standing.merged ≡ hired_numbers (number + 1) =
+    one ∙ ((λ i. named i ∷ below i) ∙ ap hired_numbers (sym (add-one number))) in
+    takes_all-merged table jobs (number + 1) workers done.1 (takes_in view own) next ∙ ap hired_numbers (omega arith)
 
 -- a view that sends as another, from the same start, is drained where that is
 IsDrained-same : (view other : View) → view.sending ≡ other.sending → view.constants ≡ other.constants → IsDrained other → IsDrained view
@@ -93,7 +93,7 @@ IsDrained-same view other sending constants drained =
 -- what is left of what the flusher's seat knew before the turns: it made so many workers, and took in nothing
 pub record HasTaken (key : Start) (workers : ℕ) (view : View) : Type 0 where
   pub flusher : view.standing.role ≡ Flusher
-  pub made : view.standing.made ≡ numbers_below workers
+  pub made : view.standing.made ≡ hired_numbers workers
   pub merged : view.standing.merged ≡ []
   pub constants : view.constants ≡ constants_of key
   pub entries : view.entries ≡ []
@@ -169,7 +169,7 @@ MayClose-all table jobs key workers done view taken =
     let count : 0 + length workers ≡ length workers = omega arith in
     record {
       flusher = takes_all-role view (map view_in workers) ∙ taken.flusher;
-      all_merged = λ worker known. subst (λ l. list_any (eqb worker) l ≡ true) (made ∙ sym (merged ∙ ap numbers_below count)) known;
+      all_merged = λ worker known. subst (λ l. list_any (eqb worker) l ≡ true) (made ∙ sym (merged ∙ ap hired_numbers count)) known;
     }
 
 -- the shares are those of what the works came to

@@ -13,13 +13,13 @@ use Rattle.log_table.specs.Books.{merging, no_books}
 use Rattle.txn_runner.specs.declared.jobs.Jobs.{Jobs}
 use Rattle.txn_runner.specs.Stripes.{HasStripe}
 use Rattle.log_table.specs.Views.{enrolled, hired, hires, noted, takes_in}
-use Rattle.aether_cli.specs.Workers.{numbers_below, KnowsHired}
+use Rattle.aether_cli.specs.Workers.{hired_numbers, KnowsHired}
 
 -- a number is not among those below it
-pub numbers_below-lacks : (n number : ℕ) → n ≤ number → list_any (eqb number) (numbers_below n) ≡ false
-numbers_below-lacks zero number above = refl
-numbers_below-lacks (suc n) number above =
-    (λ i. ne_eqb number n (λ e. absurd (omega arith)) i || numbers_below-lacks n number (omega arith) i)
+pub hired_numbers-lacks : (n number : ℕ) → n ≤ number → list_any (eqb number) (hired_numbers n) ≡ false
+hired_numbers-lacks zero number above = refl
+hired_numbers-lacks (suc n) number above =
+    (λ i. ne_eqb number n (λ e. absurd (omega arith)) i || hired_numbers-lacks n number (omega arith) i)
 
 or-true : (b c : Bool) → c ≡ true → (b || c) ≡ true
 or-true true c is = refl
@@ -54,7 +54,7 @@ after_hire number view = takes_in (hires number view) (noted (enrolled (hired nu
 pub KnowsHired-more : (key : Start) (number : ℕ) (view : View) → KnowsHired key number view → KnowsHired key (number + 1) (after_hire number view)
 KnowsHired-more key number view knows = record {
   flusher = knows.flusher;
-  made = ap (λ l. number ∷ l) knows.made ∙ ap numbers_below (sym (add-one number));
+  made = ap (λ l. number ∷ l) knows.made ∙ ap hired_numbers (sym (add-one number));
   told = knows_all-more view.standing.enrolled view.standing.made number knows.told;
   merged = knows.merged;
   constants = knows.constants;

@@ -17,16 +17,16 @@ use Rattle.aether_cli.specs.declared.serving.Started.{Started}
 use Rattle.aether_cli.specs.declared.serving.Started.TheVariants.{Running, Refused}
 use Rattle.aether_cli.specs.declared.workers.Worker.{Worker}
 
--- the numbers below n, greatest first
-abbrev pub numbers_below : ℕ → List ℕ
-numbers_below zero = []
-numbers_below (suc n) = n ∷ numbers_below n
+-- the numbers of n workers, the last first
+abbrev pub hired_numbers : ℕ → List ℕ
+hired_numbers zero = []
+hired_numbers (suc n) = n ∷ hired_numbers n
 
 -- The flusher's seat made the workers below this number and no others, and knows each of them as enrolled. It took in none of their work,
 -- and sent nothing.
 pub record KnowsHired (key : Start) (workers : ℕ) (view : View) : Type 0 where
   pub flusher : view.standing.role ≡ Flusher
-  pub made : view.standing.made ≡ numbers_below workers
+  pub made : view.standing.made ≡ hired_numbers workers
   pub told : knows_all_enrolled view.standing ≡ true
   pub merged : view.standing.merged ≡ []
   pub constants : view.constants ≡ constants_of key

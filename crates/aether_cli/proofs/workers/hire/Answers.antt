@@ -3,13 +3,13 @@ use Rattle.std.specs.List.{list_any}
 use lib.Dec.{eqb}
 use Rattle.log_table.specs.Seats.{view_of, key_of}
 use Rattle.aether_cli.specs.Workers.{KnowsHired}
-use Rattle.aether_cli.proofs.WorkerLemmas.{numbers_below-lacks, KnowsHired-more, after_hire}
+use Rattle.aether_cli.proofs.WorkerLemmas.{hired_numbers-lacks, KnowsHired-more, after_hire}
 use Rattle.aether_cli.proofs.workers.hire.Goals as goal
 
 pub split-seat-requires-clause-may : goal.split-seat-requires-clause-may
 split-seat-requires-clause-may c = record {
   flusher = c.requires.boss.knows.flusher;
-  new = ap (list_any (eqb c.args.number)) c.requires.boss.knows.made ∙ numbers_below-lacks c.args.number c.args.number (search rules);
+  new = ap (list_any (eqb c.args.number)) c.requires.boss.knows.made ∙ hired_numbers-lacks c.args.number c.args.number (search rules);
 }
 
 pub returns-clause-boss : goal.returns-clause-boss
