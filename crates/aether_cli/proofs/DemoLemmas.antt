@@ -144,55 +144,6 @@ fault-found g n seed workers old new (Unlawful lsn why) is looks = absurd is
 fault-found g n seed workers old new (LogEnd tail total) is looks = absurd is
 fault-found g n seed workers old new (TxnEnd first count) is looks = absurd is
 
-pub before-found : (detail : Detail) → IsFindingFault detail → IsBeforeDemo detail
-before-found Disk is = tt
-before-found Exists is = tt
-before-found Fine is = absurd is
-before-found NoMemory is = absurd is
-before-found Usage is = absurd is
-before-found (Script line) is = absurd is
-before-found Read is = absurd is
-before-found Write is = absurd is
-before-found NotALog is = absurd is
-before-found (BadBatch offset) is = absurd is
-before-found (BadRec lsn) is = absurd is
-before-found (Unlawful lsn why) is = absurd is
-before-found (LogEnd tail total) is = absurd is
-before-found (TxnEnd first count) is = absurd is
-
--- an answer before any transfer is one of `demo`, and nothing is written
-pub of-before : (detail : Detail) → IsBeforeDemo detail → IsOfDemo detail
-of-before Disk is = tt
-of-before Exists is = tt
-of-before NoMemory is = tt
-of-before Fine is = absurd is
-of-before Usage is = absurd is
-of-before (Script line) is = absurd is
-of-before Read is = absurd is
-of-before Write is = absurd is
-of-before NotALog is = absurd is
-of-before (BadBatch offset) is = absurd is
-of-before (BadRec lsn) is = absurd is
-of-before (Unlawful lsn why) is = absurd is
-of-before (LogEnd tail total) is = absurd is
-of-before (TxnEnd first count) is = absurd is
-
-pub silent-before : (n seed : ℕ) (text : Option (List ℕ)) (detail : Detail) → IsBeforeDemo detail → TellsSummary n seed text text detail
-silent-before n seed text Disk is = Keeps-refl text
-silent-before n seed text Exists is = Keeps-refl text
-silent-before n seed text NoMemory is = Keeps-refl text
-silent-before n seed text Fine is = absurd is
-silent-before n seed text Usage is = absurd is
-silent-before n seed text (Script line) is = absurd is
-silent-before n seed text Read is = absurd is
-silent-before n seed text Write is = absurd is
-silent-before n seed text NotALog is = absurd is
-silent-before n seed text (BadBatch offset) is = absurd is
-silent-before n seed text (BadRec lsn) is = absurd is
-silent-before n seed text (Unlawful lsn why) is = absurd is
-silent-before n seed text (LogEnd tail total) is = absurd is
-silent-before n seed text (TxnEnd first count) is = absurd is
-
 module _ {D : Type 0} (g : Ghosts D) (n seed workers : ℕ) (prepared : Prepared) (is : IsPreparedDemo n seed workers prepared) (disk : D) (tail : Tail)
     (units : List ℕ) (made : units ≡ units_of generated_opening) where
   pub opened-generated : (g.honest disk → AllStand tail units (g.images disk)) → (g.honest disk → IsShut tail.at (g.images disk))
