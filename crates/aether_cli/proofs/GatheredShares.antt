@@ -1,5 +1,5 @@
 -- The workers' shares, once the flusher's seat took in their seats.
-use Rattle.std.proofs.Common.{◌≡◌, ◌≢◌, ◌⊎◌, ◌∙◌, inl, inr, ℕ, zero, suc, ◌+◌, ◌*◌, ◌≤◌, ◌<◌, List, [], ◌∷◌, ◌++◌, length, map, sym, ap, subst, arith, append_assoc, append-nil, add-zero, zero-add, Contains, IsSomeAnd, Option, None, Some}
+use Rattle.std.proofs.Common.{◌≡◌, ◌≢◌, ◌⊎◌, ◌∙◌, inl, inr, ℕ, zero, suc, ◌+◌, ◌*◌, ◌≤◌, ◌<◌, List, [], ◌∷◌, ◌++◌, length, map, sym, ap, subst, arith, append_assoc, append-nil, add-zero, zero-add, Contains, IsSomeAnd, Option, None, Some, true, refl}
 use Rattle.std.proofs.Math.Nat.{mul-le-mul_left}
 use Rattle.std.proofs.lemmas.Bool.{cases_order}
 use Rattle.std.proofs.lemmas.List.{length-map}
@@ -129,12 +129,12 @@ module _ (jobs : Jobs) where
         (subst (λ n. AllByRecursion (λ (entry : Entry). entry.start + entry.size ≤ n) own.entries) (sym is)
         (LieInOrder-ends 0 own.seen.tail own.entries done.has.below))
 
-    WasCutBy-taken : (j : ℕ) (cause : Cause) → IsCutBy jobs worker.seat.worker j cause own → WasCutBy jobs worker.seat.worker j cause taken_in'
-    WasCutBy-taken j (Stop word) cut = (cut.0, by_stop stop)
+    WasCutBy-taken : (j : ℕ) (cause : Cause) → IsCutBy jobs worker.seat.worker j true cause own → WasCutBy jobs worker.seat.worker j cause taken_in'
+    WasCutBy-taken j (Stop word) cut = (cut.1, by_stop stop)
       where
         by_stop : HasReadStop view.sending.stop own → view.sending.stop ≡ word
-        by_stop (inl none) = absurd (cut.0 (sym cut.1 ∙ none))
-        by_stop (inr same) = sym same ∙ cut.1
+        by_stop (inl none) = absurd (cut.1 (sym cut.2 ∙ none))
+        by_stop (inr same) = sym same ∙ cut.2
     WasCutBy-taken j (LogEnd tail total) cut = record {
       balances = cut.balances;
       marks = cut.marks;
@@ -149,7 +149,7 @@ module _ (jobs : Jobs) where
       alone = alone-ends tail cut.tail_is;
     }
 
-    CameTo-taken : (n : ℕ) (worked : Worked) → Works jobs worker.seat.worker 0 n worked own → CameTo jobs worker.seat.worker n worked taken_in'
+    CameTo-taken : (n : ℕ) (worked : Worked) → Works jobs worker.seat.worker 0 n true worked own → CameTo jobs worker.seat.worker n worked taken_in'
     CameTo-taken n All works = (works.1, HaveEnded-taken 0 n works.2)
     CameTo-taken n (Cut cause) works = (works.0, works.2, HaveEnded-taken 0 works.0 works.3, WasCutBy-taken works.0 cause works.4)
 

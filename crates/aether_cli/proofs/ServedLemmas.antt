@@ -1,5 +1,5 @@
 -- What a worker did stands once it has ended.
-use Rattle.std.proofs.Common.{◌≡◌, ℕ, ◌++◌, [], append-nil, sym, ap, subst, ◌∙◌}
+use Rattle.std.proofs.Common.{◌≡◌, ℕ, Bool, true, ◌++◌, [], append-nil, sym, ap, subst, ◌∙◌}
 use Rattle.log_table.specs.declared.view.View.{View}
 use Rattle.log_table.specs.Views.{retired}
 use Rattle.txn_runner.specs.declared.cause.Cause.{Cause}
@@ -9,6 +9,7 @@ use Rattle.txn_runner.specs.declared.cause.Worked.TheVariants.{All, Cut}
 use Rattle.txn_runner.specs.declared.jobs.Jobs.{Jobs}
 use Rattle.txn_runner.specs.Stripes.{stripe_jobs}
 use Rattle.txn_runner.specs.Working.{HasWorked, IsCutBy, TakesJobs, Works}
+use Rattle.txn_runner.proofs.WorkLemmas.{Works-may_wait}
 
 module _ (jobs : Jobs) (number : ℕ) where
   HasWorked-retired : (k : ℕ) (view : View) → HasWorked jobs number k view → HasWorked jobs number k (retired view)
@@ -21,7 +22,7 @@ module _ (jobs : Jobs) (number : ℕ) where
     below = has.below;
   }
 
-  IsCutBy-retired : (j : ℕ) (cause : Cause) (view : View) → IsCutBy jobs number j cause view → IsCutBy jobs number j cause (retired view)
+  IsCutBy-retired : (j : ℕ) (cause : Cause) (view : View) → IsCutBy jobs number j true cause view → IsCutBy jobs number j true cause (retired view)
   IsCutBy-retired j (Stop word) view is = is
   IsCutBy-retired j (LogEnd tail total) view is = record {
     balances = is.balances;
@@ -35,7 +36,7 @@ module _ (jobs : Jobs) (number : ℕ) where
     seen = is.seen;
   }
 
-  Works-retired : (k n : ℕ) (worked : Worked) (view : View) → Works jobs number k n worked view → Works jobs number k n worked (retired view)
+  Works-retired : (k n : ℕ) (worked : Worked) (view : View) → Works jobs number k n true worked view → Works jobs number k n true worked (retired view)
   Works-retired k n All view works = works
   Works-retired k n (Cut cause) view works = (works.0, works.1, works.2, works.3, IsCutBy-retired works.0 cause view works.4)
 
@@ -50,13 +51,14 @@ module _ (jobs : Jobs) (number : ℕ) where
   pub record HasDone (taken : ℕ) (worked : Worked) (view : View) : Type 0 where
     pub jobs_are : view.books.jobs ≡ stripe_jobs jobs number taken
     pub has : HasWorked jobs number taken view
-    pub works : Works jobs number 0 taken worked view
+    pub works : Works jobs number 0 taken true worked view
 
   -- a worker that took no transfer before did its work, and left
-  pub HasDone-left : (before taken : ℕ) (worked : Worked) (old new : View) → before ≡ 0 → old.books.jobs ≡ [] → HasWorked jobs number taken new
-      → TakesJobs jobs number before taken old new → Works jobs number before taken worked new → HasDone taken worked (retired new)
-  HasDone-left before taken worked old new none no_jobs has takes works = record {
+  pub HasDone-left : (before taken : ℕ) (wait : Bool) (worked : Worked) (old new : View) → before ≡ 0 → old.books.jobs ≡ [] → HasWorked jobs number taken new
+      → TakesJobs jobs number before taken old new → Works jobs number before taken wait worked new → HasDone taken worked (retired new)
+  HasDone-left before taken wait worked old new none no_jobs has takes works = record {
     jobs_are = jobs-from_none before taken old new takes none no_jobs;
     has = HasWorked-retired taken new has;
-    works = Works-retired 0 taken worked new (subst (λ k. Works jobs number k taken worked new) none works);
+    works = Works-retired 0 taken worked new (Works-may_wait jobs number 0 taken wait worked new
+        (subst (λ k. Works jobs number k taken wait worked new) none works));
   }

@@ -51,13 +51,13 @@ pub record IsHired (table : LogTable) (jobs : Jobs) (worker : Worker) : Type 0 w
   pub rows : rows_in worker.rows ≡ []
   pub taken : taken_in worker.rows ≡ 0
 
--- the worker did its work, which came to this, and has ended
+-- the worker did its work, which came to this, and has ended; it may be one that waits
 pub record HasServed (table : LogTable) (jobs : Jobs) (worker : Worker) (worked : Worked) : Type 0 where
   pub seat : IsOf table worker.seat
   pub ended : (view_of worker.seat).standing.role ≡ Ended
   pub jobs_are : (view_of worker.seat).books.jobs ≡ stripe_jobs jobs worker.seat.worker (taken_in worker.rows)
   pub has : HasWorked jobs worker.seat.worker (taken_in worker.rows) (view_of worker.seat)
-  pub works : Works jobs worker.seat.worker 0 (taken_in worker.rows) worked (view_of worker.seat)
+  pub works : Works jobs worker.seat.worker 0 (taken_in worker.rows) true worked (view_of worker.seat)
 
 -- it did not serve yet, and did
 abbrev pub IsUnused : LogTable → Jobs → Worker → Type 0

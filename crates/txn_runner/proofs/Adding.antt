@@ -1,5 +1,5 @@
 -- Entries that are inserted one after another, and what is left behind them.
-use Rattle.std.proofs.Common.{◌≡◌, ◌||◌, ℕ, ◌+◌, ◌≤◌, false, List, [], ◌∷◌, ◌++◌, refl, sym, ap, ◌∙◌, subst, arith, append-nil, append_assoc}
+use Rattle.std.proofs.Common.{◌≡◌, ◌||◌, ℕ, ◌+◌, ◌≤◌, false, List, [], ◌∷◌, ◌++◌, length, refl, sym, ap, ◌∙◌, subst, arith, append-nil, append_assoc}
 use Rattle.std.proofs.lemmas.Bool.{or_parts}
 use Rattle.log_record.specs.declared.rec.Rec.{Rec}
 use Rattle.log_record.specs.declared.rec.Entry.{Entry as Placed}
@@ -97,6 +97,7 @@ pub cut-off : (rec : Rec) (rest : List Rec) (cause : Cause) (old new : Seat) →
 cut-off rec rest cause old new left uncommitted same stops = record {
   rest = rec ∷ rest;
   left = subst (IsLeft (rec ∷ rest)) (sym same) left;
+  some = λ none. absurd (omega (arith, ap length none));
   stops = longer cause stops;
   uncommitted = ap (λ (books : Books). has_commit (recs_of books.placed)) same ∙ uncommitted;
 }

@@ -37,6 +37,7 @@ use Rattle.txn_runner.specs.Legs.{AreHeld, HoldsJob, last_record}
 use Rattle.txn_runner.specs.Running.{LieInOrder, HasInserted, HasRun, HasCut}
 use Rattle.txn_runner.proofs.Adding.{lie-longer, lie-sooner, placed-front}
 use Rattle.txn_runner.proofs.Gaining.{all-known}
+use Rattle.txn_runner.proofs.PlanLemmas.{planned_records-some}
 use Rattle.txn_runner.proofs.Held.{distinct, same-accounts, all-same, taken-behind, taken-first}
 
 -- every account of a job that the table allows is one of the table's
@@ -193,17 +194,17 @@ pub still-stops : (cause : Cause) (rest : List Rec) (held : List Held) (steps : 
 still-stops cause rest held steps first second becomes stops =
     subst (StopsFor cause rest) (sym (ap (λ m. m.0) becomes.me)) (stops-held cause rest held steps (view_of first) stops)
 
-pub has-cut : (number : ℕ) (job : Job) (cause : Cause) (rest : List Rec) (old new : View) → HasInserted number job rest old new
-    → StopsFor cause rest new
-    → HasCut number job cause old new
-has-cut number job (Stop word) rest old new inserted stops = (rest, inserted, stops.0, stops.1)
-has-cut number job (LogEnd tail total) [] old new inserted stops = absurd stops
-has-cut number job (LogEnd tail total) (next ∷ rest) old new inserted stops = (next, rest, inserted, stops.0, stops.1, stops.2, stops.3)
+pub has-cut : (number : ℕ) (job : Job) (wait : Bool) (cause : Cause) (rest : List Rec) (old new : View) → HasInserted number job rest old new
+    → (rest ≡ [] → wait ≡ true) → StopsFor cause rest new
+    → HasCut number job wait cause old new
+has-cut number job wait (Stop word) rest old new inserted none stops = (rest, inserted, none, stops.0, stops.1)
+has-cut number job wait (LogEnd tail total) [] old new inserted none stops = absurd stops
+has-cut number job wait (LogEnd tail total) (next ∷ rest) old new inserted none stops = (next, rest, inserted, stops.0, stops.1, stops.2, stops.3)
 
 -- the transfer is cut off before its first record
-pub cut-early : (number : ℕ) (job : Job) (cause : Cause) (old new : View) → HasTakenJob number job old new
-    → StopsFor cause [] new → HasCut number job cause old new
-cut-early number job (Stop word) old new taken stops = (
+pub cut-early : (number : ℕ) (job : Job) (wait : Bool) (cause : Cause) (old new : View) → HasTakenJob number job old new
+    → StopsFor cause [] new → HasCut number job wait cause old new
+cut-early number job wait (Stop word) old new taken stops = (
   planned_records number (transfer_of job) (λ _. 0) (λ _. 0),
   record {
     balances = λ _. 0;
@@ -214,10 +215,11 @@ cut-early number job (Stop word) old new taken stops = (
     plan = refl;
     jobs = taken.jobs;
   },
+  λ none. absurd (planned_records-some number (transfer_of job) (λ _. 0) (λ _. 0) none),
   stops.0,
   stops.1,
 )
-cut-early number job (LogEnd tail total) old new taken stops = absurd stops
+cut-early number job wait (LogEnd tail total) old new taken stops = absurd stops
 
 one-unit : (number : ℕ) (job : Job) (answer : Answer) → size_of (last_record number job answer) ≡ 1
 one-unit number job answer.Done = refl

@@ -1,8 +1,8 @@
--- The records of one transfer are of its number.
-use Rattle.std.proofs.Common.{◌≡◌, ℕ, ◌+◌, cond, pos, neg_ℤ, Bool, true, false, List, [], ◌∷◌, refl}
+-- The records of one transfer are of its number, and only the last of them ends it.
+use Rattle.std.proofs.Common.{◌≡◌, ◌≢◌, ℕ, ◌+◌, cond, pos, neg_ℤ, Bool, true, false, List, [], ◌∷◌, ◌++◌, refl, sym, subst}
 use Rattle.std.specs.List.{AllByRecursion}
 use Rattle.log_record.specs.declared.rec.Rec.{Rec}
-use Rattle.log_record.specs.declared.rec.Rec.TheVariants.{Update, Short, Over}
+use Rattle.log_record.specs.declared.rec.Rec.TheVariants.{Update, Short, Over, Note}
 use Rattle.lock_core.specs.Alone.{Job, Outcome, Done, ShortAt, OverAt, lacks, overfills, after_leg, with_note, planned_from, planned_records, end_record}
 use Rattle.lock_core.specs.Records.{txn_of, ends}
 
@@ -32,6 +32,57 @@ planned_records-own txn job mark balance = by_note job.note
     by_note : (note : List ℕ) → AllByRecursion (IsRecordOf txn) (with_note txn note (planned_from txn mark balance 0 job.legs))
     by_note [] = planned_from-own txn mark balance 0 job.legs
     by_note (byte ∷ bytes) = (refl, planned_from-own txn mark balance 0 job.legs)
+
+-- the last record of a list that isn't empty is the only one that may end the transaction
+abbrev EndsOnlyLast : List Rec → Type 0
+EndsOnlyLast [] = ⊥
+EndsOnlyLast (rec ∷ []) = Unit {0}
+EndsOnlyLast (rec ∷ other ∷ records) = (ends rec ≡ false) × EndsOnlyLast (other ∷ records)
+
+ends_only_last-more : (rec : Rec) (records : List Rec) → ends rec ≡ false → EndsOnlyLast records → EndsOnlyLast (rec ∷ records)
+ends_only_last-more rec [] off last = absurd last
+ends_only_last-more rec (other ∷ records) off last = (off, last)
+
+ends_only_last-front : (records : List Rec) (next : Rec) (rest : List Rec) → EndsOnlyLast (records ++ next ∷ rest)
+    → AllByRecursion (λ rec. ends rec ≡ false) records
+ends_only_last-front [] next rest last = tt
+ends_only_last-front (rec ∷ []) next rest last = (last.0, tt)
+ends_only_last-front (rec ∷ other ∷ records) next rest last = (last.0, ends_only_last-front (other ∷ records) next rest last.1)
+
+planned_from-last : (txn : ℕ) (mark balance : ℕ → ℕ) (k : ℕ) (legs : List (ℕ × ℕ × ℕ)) → EndsOnlyLast (planned_from txn mark balance k legs)
+planned_from-last txn mark balance k [] = tt
+planned_from-last txn mark balance k (leg ∷ legs) =
+    by_case (lacks leg balance) (overfills leg balance) (planned_from-last txn mark (after_leg leg balance) (k + 1) legs)
+  where
+    by_case : (short over : Bool) → EndsOnlyLast (planned_from txn mark (after_leg leg balance) (k + 1) legs)
+        → EndsOnlyLast (cond short (Short txn (k + 1) ∷ []) (cond over (Over txn (k + 1) ∷ [])
+        (Update txn leg.0 (neg_ℤ (pos leg.2)) (mark leg.0) ∷ Update txn leg.1 (pos leg.2) (mark leg.1) ∷ planned_from txn mark (after_leg leg balance) (k + 1) legs)))
+    by_case true over last = tt
+    by_case false true last = tt
+    by_case false false last = (
+      refl,
+      ends_only_last-more (Update txn leg.1 (pos leg.2) (mark leg.1))
+          (planned_from txn mark (after_leg leg balance) (k + 1) legs) refl last,
+    )
+
+planned_records-last : (txn : ℕ) (job : Job) (mark balance : ℕ → ℕ) → EndsOnlyLast (planned_records txn job mark balance)
+planned_records-last txn job mark balance = by_note job.note
+  where
+    by_note : (note : List ℕ) → EndsOnlyLast (with_note txn note (planned_from txn mark balance 0 job.legs))
+    by_note [] = planned_from-last txn mark balance 0 job.legs
+    by_note (byte ∷ bytes) = ends_only_last-more (Note txn (byte ∷ bytes)) (planned_from txn mark balance 0 job.legs) refl
+        (planned_from-last txn mark balance 0 job.legs)
+
+-- a transfer has a record
+pub planned_records-some : (txn : ℕ) (job : Job) (mark balance : ℕ → ℕ) → planned_records txn job mark balance ≢ []
+planned_records-some txn job mark balance none = subst EndsOnlyLast none (planned_records-last txn job mark balance)
+
+-- where records of it are left, none of those before them is its end record
+pub planned_records-front : (txn : ℕ) (job : Job) (mark balance : ℕ → ℕ) (records rest : List Rec)
+    → records ++ rest ≡ planned_records txn job mark balance → rest ≢ [] → AllByRecursion (λ rec. ends rec ≡ false) records
+planned_records-front txn job mark balance records [] are some = absurd (some refl)
+planned_records-front txn job mark balance records (next ∷ rest) are some = ends_only_last-front records next rest
+    (subst EndsOnlyLast (sym are) (planned_records-last txn job mark balance))
 
 pub end_record-own : (txn : ℕ) (job : Job) (outcome : Outcome) → txn_of (end_record txn job outcome) ≡ txn
 end_record-own txn job Done = refl

@@ -28,7 +28,7 @@ pub record Progress (jobs : Jobs) (worker : ℕ) (wait : Bool) (before rows : Ro
 pub record Stopped (jobs : Jobs) (worker : ℕ) (wait : Bool) (before rows : Rows) (first view : View) (cause : Cause) : Type 0 where
   pub worked : HasWorked jobs worker (taken_in rows) view
   pub takes : TakesJobs jobs worker (taken_in before) (taken_in rows) first view
-  pub works : Works jobs worker (taken_in before) (taken_in rows) (Cut cause) view
+  pub works : Works jobs worker (taken_in before) (taken_in rows) wait (Cut cause) view
   pub adds : AddsRows jobs worker wait (Cut cause) before rows first view
 
 -- the seat has seen no smaller LSNs
@@ -36,10 +36,10 @@ pub record SawNoLess (old new : View) : Type 0 where
   pub tail : old.seen.tail ≤ new.seen.tail
   pub durable : old.seen.durable ≤ new.seen.durable
 
-inserted-in : (number : ℕ) (job : Job) (cause : Cause) (old new : View) → HasCut number job cause old new
+inserted-in : (number : ℕ) (job : Job) (wait : Bool) (cause : Cause) (old new : View) → HasCut number job wait cause old new
     → (rest : List Rec) × HasInserted number job rest old new
-inserted-in number job (Stop word) old new cut = (cut.0, cut.1)
-inserted-in number job (LogEnd tail total) old new cut = (cut.0 ∷ cut.1, cut.2)
+inserted-in number job wait (Stop word) old new cut = (cut.0, cut.1)
+inserted-in number job wait (LogEnd tail total) old new cut = (cut.0 ∷ cut.1, cut.2)
 
 module _ (jobs : Jobs) (worker : ℕ) (wait : Bool) (before mid after : Rows) (first old new : View)
     (progress : Progress jobs worker wait before mid first old) (number : ℕ) (job : Job) (next : IsNextJob jobs worker (taken_in mid) number job)
@@ -63,7 +63,7 @@ module _ (jobs : Jobs) (worker : ℕ) (wait : Bool) (before mid after : Rows) (f
       run = at-stripe jobs worker (taken_in mid) number job next (λ n j. HasRun n j wait row old new) has_run
 
   -- one transfer more was taken, and cut off
-  pub Progress-cut : (cause : Cause) → HasCut number job cause old new → rows_in after ≡ rows_in mid
+  pub Progress-cut : (cause : Cause) → HasCut number job wait cause old new → rows_in after ≡ rows_in mid
       → Stopped jobs worker wait before after first new cause
   Progress-cut cause has_cut rows = record {
     worked = subst (λ k. HasWorked jobs worker k new) (sym taken)
@@ -75,14 +75,14 @@ module _ (jobs : Jobs) (worker : ℕ) (wait : Bool) (before mid after : Rows) (f
       omega (arith, progress.adds.each),
       taken,
       HaveEnded-still jobs worker (taken_in mid) (inserted.0) old new inserted.1 (taken_in before) (taken_in mid) progress.ended,
-      IsCutBy-next jobs worker (taken_in mid) cause old new progress.worked cut,
+      IsCutBy-next jobs worker (taken_in mid) wait cause old new progress.worked cut,
     );
     adds = AddsRows-cut jobs worker wait before mid after first old new progress.adds room taken cause
         record { added = inserted.1.added; entries = inserted.1.entries; durable = later.durable } rows;
   }
     where
-      cut : HasCut (number_at jobs worker (taken_in mid)) (job_at jobs worker (taken_in mid)) cause old new
-      cut = at-stripe jobs worker (taken_in mid) number job next (λ n j. HasCut n j cause old new) has_cut
+      cut : HasCut (number_at jobs worker (taken_in mid)) (job_at jobs worker (taken_in mid)) wait cause old new
+      cut = at-stripe jobs worker (taken_in mid) number job next (λ n j. HasCut n j wait cause old new) has_cut
 
       inserted : (rest : List Rec) × HasInserted (number_at jobs worker (taken_in mid)) (job_at jobs worker (taken_in mid)) rest old new
-      inserted = inserted-in (number_at jobs worker (taken_in mid)) (job_at jobs worker (taken_in mid)) cause old new cut
+      inserted = inserted-in (number_at jobs worker (taken_in mid)) (job_at jobs worker (taken_in mid)) wait cause old new cut

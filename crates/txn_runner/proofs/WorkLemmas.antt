@@ -1,6 +1,6 @@
 -- A worker's next transfer, behind those that it worked before. `old` and `new` are its seat's view before and after that transfer.
-use Rattle.std.proofs.Common.{◌≡◌, ◌≢◌, ◌⊎◌, inl, inr, ◌∙◌, ℕ, ◌+◌, ◌<◌, ◌≤◌, List, [], ◌∷◌, ◌++◌, length, All, Contains, sym, ap, subst, arith, refl, Bool}
-use Rattle.std.proofs.lemmas.List.Elements.{Contains-append_left, Contains-append_right, Contains-push}
+use Rattle.std.proofs.Common.{◌≡◌, ◌≢◌, ◌⊎◌, inl, inr, ◌∙◌, ℕ, ◌+◌, ◌<◌, ◌≤◌, List, [], ◌∷◌, ◌++◌, length, All, Contains, sym, ap, subst, arith, refl, Bool, true, false, true≢false}
+use Rattle.std.proofs.lemmas.List.Elements.{All-contains, All-from_recursion, Contains-append_left, Contains-append_right, Contains-push}
 use Rattle.std.specs.List.{AllByRecursion}
 use borrow.Author.Count.{below_more}
 use Rattle.lsn_space.proofs.TilingLemmas.{all-weaker}
@@ -19,13 +19,15 @@ use Rattle.log_table.specs.May.{MayTakeJob}
 use Rattle.ring_buffer.specs.Calls.{IsReady}
 use Rattle.txn_runner.specs.declared.cause.Cause.{Cause}
 use Rattle.txn_runner.specs.declared.cause.Cause.TheVariants.{Stop, LogEnd}
+use Rattle.txn_runner.specs.declared.cause.Worked.{Worked}
+use Rattle.txn_runner.specs.declared.cause.Worked.TheVariants as worked
 use Rattle.txn_runner.specs.declared.jobs.Jobs.{Jobs}
 use Rattle.txn_runner.specs.declared.rows.Row.{Row}
 use Rattle.txn_runner.specs.Running.{outcome_of, LieInOrder, HasInserted, HasRun, HasCut}
 use Rattle.txn_runner.specs.Stripes.{place_of, number_at, job_at, taken_at, stripe_jobs, IsOfStripe}
-use Rattle.txn_runner.specs.Working.{HasWorked, TakesJobs, HasEnd, HaveEnded, own_records, IsCutBy}
+use Rattle.txn_runner.specs.Working.{HasWorked, TakesJobs, HasEnd, HaveEnded, own_records, IsCutBy, Works}
 use Rattle.txn_runner.proofs.EntryLemmas.{all-records, own_records-append, own_records-none, own_records-all, LieInOrder-append}
-use Rattle.txn_runner.proofs.PlanLemmas.{IsRecordOf, planned_records-own, end_record-own, end_record-ends}
+use Rattle.txn_runner.proofs.PlanLemmas.{IsRecordOf, planned_records-own, planned_records-front, end_record-own, end_record-ends}
 use Rattle.txn_runner.proofs.StripeLemmas.{number_at-rises, HasStripe-more, stripe_jobs-more, stripe_jobs-below, taken_at-allowed}
 
 -- this is the worker's k-th transfer, under its number
@@ -114,18 +116,34 @@ module _ (jobs : Jobs) (worker k : ℕ) (rest : List Rec) (old new : View)
   HaveEnded-still from to ended j low high = subst (HasEnd (number_at jobs worker j)) (sym inserted.entries)
       (HasEnd-append (number_at jobs worker j) old.entries inserted.added (ended j low high))
 
-  -- all records of its number are those inserted for it
-  own_records-next : HasWorked jobs worker k old → own_records (number_at jobs worker k) new.entries ≡ records_of inserted.added
-  own_records-next worked = ap (own_records (number_at jobs worker k)) inserted.entries
-      ∙ own_records-append (number_at jobs worker k) old.entries inserted.added
-      ∙ (λ i. own_records-none (number_at jobs worker k) old.entries others i ++ own_records-all (number_at jobs worker k) inserted.added added-own i)
+  -- the records before are of other numbers
+  before-other : HasWorked jobs worker k old → AllByRecursion (λ (entry : Entry). txn_of entry.rec ≢ number_at jobs worker k) old.entries
+  before-other worked = all-weaker (IsOwnEntry jobs worker k) (λ (entry : Entry). txn_of entry.rec ≢ number_at jobs worker k) old.entries other worked.own
     where
       other : (entry : Entry) → IsOwnEntry jobs worker k entry → txn_of entry.rec ≢ number_at jobs worker k
       other entry (inl earlier) is = absurd (omega (arith, earlier, is))
       other entry (inr own) is = absurd (omega (arith, number_at-rises jobs worker own.0 k own.1, own.2, is))
 
-      others : AllByRecursion (λ (entry : Entry). txn_of entry.rec ≢ number_at jobs worker k) old.entries
-      others = all-weaker (IsOwnEntry jobs worker k) (λ (entry : Entry). txn_of entry.rec ≢ number_at jobs worker k) old.entries other worked.own
+  -- all records of its number are those inserted for it
+  own_records-next : HasWorked jobs worker k old → own_records (number_at jobs worker k) new.entries ≡ records_of inserted.added
+  own_records-next worked = ap (own_records (number_at jobs worker k)) inserted.entries
+      ∙ own_records-append (number_at jobs worker k) old.entries inserted.added
+      ∙ (λ i. own_records-none (number_at jobs worker k) old.entries (before-other worked) i
+      ++ own_records-all (number_at jobs worker k) inserted.added added-own i)
+
+  -- where a record of it is left, its end record isn't there
+  unended-next : HasWorked jobs worker k old → rest ≢ [] → HasEnd (number_at jobs worker k) new.entries → ⊥
+  unended-next worked some ended = All-contains IsNoEnd (old.entries ++ inserted.added) ended.end
+      (All-from_recursion IsNoEnd (old.entries ++ inserted.added) (all-append IsNoEnd old.entries inserted.added
+      (all-weaker (λ (entry : Entry). txn_of entry.rec ≢ number_at jobs worker k) IsNoEnd old.entries (λ entry other is on. other is) (before-other worked))
+      (all-weaker (λ (entry : Entry). ends entry.rec ≡ false) IsNoEnd inserted.added (λ entry off is on. true≢false (sym on ∙ off))
+      (all-records (λ rec. ends rec ≡ false) inserted.added
+      (planned_records-front (number_at jobs worker k) (transfer_of (job_at jobs worker k)) inserted.marks inserted.balances
+      (records_of inserted.added) rest inserted.plan some)))))
+      (subst (λ l. Contains l ended.end) inserted.entries ended.contains) ended.number_is ended.is_end
+    where
+      IsNoEnd : Entry → Type 0
+      IsNoEnd entry = txn_of entry.rec ≡ number_at jobs worker k → ends entry.rec ≡ true → ⊥
 
 -- the transfer was run to its end
 HasEnd-run : (number : ℕ) (job : Job) (wait : Bool) (row : Row) (old new : View) → HasRun number job wait row old new → HasEnd number new.entries
@@ -146,10 +164,16 @@ HaveEnded-next jobs worker from k wait row old new run ended j low high =
     (λ from_on. HasEnd-run (number_at jobs worker k) (job_at jobs worker k) wait row old new run) j high low
 
 -- the transfer was cut off
-pub IsCutBy-next : (jobs : Jobs) (worker k : ℕ) (cause : Cause) (old new : View) → HasWorked jobs worker k old
-    → HasCut (number_at jobs worker k) (job_at jobs worker k) cause old new → IsCutBy jobs worker k cause new
-IsCutBy-next jobs worker k (Stop word) old new worked cut = (cut.2, cut.3)
-IsCutBy-next jobs worker k (LogEnd tail total) old new worked cut = record {
+pub IsCutBy-next : (jobs : Jobs) (worker k : ℕ) (wait : Bool) (cause : Cause) (old new : View) → HasWorked jobs worker k old
+    → HasCut (number_at jobs worker k) (job_at jobs worker k) wait cause old new → IsCutBy jobs worker k wait cause new
+IsCutBy-next jobs worker k wait (Stop word) old new worked cut = (waits cut.0 cut.1 cut.2, cut.3, cut.4)
+  where
+    waits : (rest : List Rec) → HasInserted (number_at jobs worker k) (job_at jobs worker k) rest old new → (rest ≡ [] → wait ≡ true)
+        → HasEnd (number_at jobs worker k) new.entries → wait ≡ true
+    waits [] inserted none ended = none refl
+    waits (rec ∷ rest) inserted none ended =
+        absurd (unended-next jobs worker k (rec ∷ rest) old new inserted worked (λ none. absurd (omega (arith, ap length none))) ended)
+IsCutBy-next jobs worker k wait (LogEnd tail total) old new worked cut = record {
   balances = cut.2.balances;
   marks = cut.2.marks;
   next = cut.0;
@@ -160,6 +184,18 @@ IsCutBy-next jobs worker k (LogEnd tail total) old new worked cut = record {
   tail_is = cut.5;
   seen = cut.6;
 }
+
+-- a cut is a cut of a worker that may wait
+IsCutBy-may_wait : (jobs : Jobs) (worker j : ℕ) (wait : Bool) (cause : Cause) (view : View) → IsCutBy jobs worker j wait cause view
+    → IsCutBy jobs worker j true cause view
+IsCutBy-may_wait jobs worker j wait (Stop word) view cut = (λ ended. refl, cut.1, cut.2)
+IsCutBy-may_wait jobs worker j wait (LogEnd tail total) view cut = cut
+
+pub Works-may_wait : (jobs : Jobs) (worker k n : ℕ) (wait : Bool) (worked : Worked) (view : View) → Works jobs worker k n wait worked view
+    → Works jobs worker k n true worked view
+Works-may_wait jobs worker k n wait worked.All view works = works
+Works-may_wait jobs worker k n wait (worked.Cut cause) view works =
+    (works.0, works.1, works.2, works.3, IsCutBy-may_wait jobs worker works.0 wait cause view works.4)
 
 -- a worker that has done nothing yet
 pub HasWorked-none : (jobs : Jobs) (worker : ℕ) (view : View) → view.entries ≡ [] → view.books.jobs ≡ [] → HasWorked jobs worker 0 view

@@ -58,9 +58,10 @@ StopsFor (LogEnd tail total) [] view = ⊥
 StopsFor (LogEnd tail total) (next ∷ rest) view =
     (total ≡ size_of next) × (LAST < tail + total) × (tail ≡ view.seen.tail) × Contains view.seen.lsns tail
 
--- the seat's last job has no Commit, and for that cause these records of it are left
+-- the seat's last job has no Commit, and for that cause these records of it are left, one at least
 pub record IsCutOff (cause : Cause) (view : View) : Type 0 where
   pub rest : List Rec
   pub left : IsLeft rest view.books
+  pub some : rest ≢ []
   pub stops : StopsFor cause rest view
   pub uncommitted : has_commit (recs_of view.books.placed) ≡ false

@@ -52,11 +52,11 @@ pub record HasRun (number : ℕ) (job : Job) (wait : Bool) (row : Row) (old new 
   pub seen : row.seen ≡ new.seen.durable
   pub waited : wait ≡ true → row.end ≤ row.seen
 
--- Why the transfer was cut off: the seat read a stop word that isn't 0; or its next record has so many units, and by the tail as it saw
--- it last they do not fit in the log.
-abbrev pub HasCut : ℕ → Job → Cause → View → View → Type 0
-HasCut number job (Stop word) old new =
-    (rest : List Rec) × HasInserted number job rest old new × (word ≢ 0) × (new.seen.stop ≡ word)
-HasCut number job (LogEnd tail total) old new =
+-- Why the transfer was cut off: the seat read a stop word that isn't 0, where records are left or the worker waits; or its next record has
+-- so many units, and by the tail as the seat saw it last they do not fit in the log.
+abbrev pub HasCut : ℕ → Job → Bool → Cause → View → View → Type 0
+HasCut number job wait (Stop word) old new =
+    (rest : List Rec) × HasInserted number job rest old new × (rest ≡ [] → wait ≡ true) × (word ≢ 0) × (new.seen.stop ≡ word)
+HasCut number job wait (LogEnd tail total) old new =
     (next : Rec) × (rest : List Rec) × HasInserted number job (next ∷ rest) old new
     × (total ≡ size_of next) × (LAST < tail + total) × (tail ≡ new.seen.tail) × Contains new.seen.lsns tail

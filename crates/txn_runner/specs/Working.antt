@@ -78,15 +78,17 @@ pub record EndsLog (jobs : Jobs) (worker j tail total : ℕ) (view : View) : Typ
   pub tail_is : tail ≡ view.seen.tail
   pub seen : Contains view.seen.lsns tail
 
--- why the worker's j-th transfer was cut off
-abbrev pub IsCutBy : Jobs → ℕ → ℕ → Cause → View → Type 0
-IsCutBy jobs worker j (Stop word) view = (word ≢ 0) × (view.seen.stop ≡ word)
-IsCutBy jobs worker j (LogEnd tail total) view = EndsLog jobs worker j tail total view
+-- why the worker's j-th transfer was cut off; at a stop it has its end record only where the worker waits
+abbrev pub IsCutBy : Jobs → ℕ → ℕ → Bool → Cause → View → Type 0
+IsCutBy jobs worker j wait (Stop word) view =
+    (HasEnd (number_at jobs worker j) view.entries → wait ≡ true) × (word ≢ 0) × (view.seen.stop ≡ word)
+IsCutBy jobs worker j wait (LogEnd tail total) view = EndsLog jobs worker j tail total view
 
 -- from k transfers of the stripe to n: all of it, or up to one that was cut off
-abbrev pub Works : Jobs → ℕ → ℕ → ℕ → Worked → View → Type 0
-Works jobs worker k n All view = (k ≤ n) × IsStripeEnd jobs worker n × HaveEnded jobs worker k n view
-Works jobs worker k n (Cut cause) view = (j : ℕ) × (k ≤ j) × (n ≡ j + 1) × HaveEnded jobs worker k j view × IsCutBy jobs worker j cause view
+abbrev pub Works : Jobs → ℕ → ℕ → ℕ → Bool → Worked → View → Type 0
+Works jobs worker k n wait All view = (k ≤ n) × IsStripeEnd jobs worker n × HaveEnded jobs worker k n view
+Works jobs worker k n wait (Cut cause) view =
+    (j : ℕ) × (k ≤ j) × (n ≡ j + 1) × HaveEnded jobs worker k j view × IsCutBy jobs worker j wait cause view
 
 -- The row tells of the worker's j-th transfer how it ended, by its end record among the entries, and an LSN that is durable: the one that
 -- the seat saw last is at or above it.

@@ -39,7 +39,7 @@ pub(crate) fn run_job<R: Wait, Q: Relief, G: Gate>(
     ensures none_held { (view_of seat.new).books.held ≡ [] }
     ensures same { IsSameWorker seat.old seat.new }
     ensures run { IfOk result (λ row. HasRun number job.now wait row (view_of seat.old) (view_of seat.new)) }
-    ensures cut { IfErr result (λ cause. HasCut number job.now cause (view_of seat.old) (view_of seat.new)) }
+    ensures cut { IfErr result (λ cause. HasCut number job.now wait cause (view_of seat.old) (view_of seat.new)) }
     ensures relief { Q.ready relief.new }
     ensures later { Q.later relief.old relief.new }
 {

@@ -1,5 +1,5 @@
 //! A worker waits: between two attempts it looks whether the log has stopped, and rests.
-ghost use Rattle.std.specs.Prelude.{◌≡◌, ◌≤◌, [], true, IfOk, IfErr};
+ghost use Rattle.std.specs.Prelude.{◌≡◌, ◌≤◌, [], true, IfOk, IfErr, OnErr};
 ghost use Rattle.log_table.specs.Seats.{IsOf, view_of};
 ghost use Rattle.ring_buffer.specs.Calls.{IsReady, HasEntries};
 ghost use Rattle.txn_runner.specs.Inserts.{StopsFor};
@@ -47,6 +47,7 @@ pub(crate) fn see_durable<R: Wait, Q: Relief>(
     ensures kept { HasEntries seat.old seat.new (view_of seat.old).entries (view_of seat.old).books }
     ensures seen { IfOk result (λ seen. seen ≡ (view_of seat.new).seen.durable) }
     ensures waited { IfOk result (λ seen. wait ≡ true → end ≤ seen) }
+    ensures waits { OnErr result (wait ≡ true) }
     ensures stopped { IfErr result (λ cause. StopsFor cause [] (view_of seat.new)) }
     ensures relief { Q.ready relief.new }
     ensures later { Q.later relief.old relief.new }

@@ -14,8 +14,9 @@ use log_disk::Gate;
 use log_table::{LogTable, Seat};
 use std::sync::Wait;
 
-/// Makes the transfers of the worker's stripe, as many as are left, and puts a row for each that came to its end. It waits:
-/// for accounts that others hold, for room in the ring, and, where asked, for the disk.
+/// Makes the transfers of the worker's stripe, as many as are left, and for each that ended there is a row, but for the
+/// last one where the worker waits and the log stops before it saw that end durable. It waits: for accounts that others hold,
+/// for room in the ring, and, where asked, for the disk.
 pub fn work<R: Wait, Q: Relief, G: Gate>(
     rt: &R,
     table: &LogTable,
@@ -40,7 +41,7 @@ pub fn work<R: Wait, Q: Relief, G: Gate>(
     ensures same { IsSameWorker seat.old seat.new }
     ensures worked { HasWorked jobs.now seat.old.worker (taken_in rows.new) (view_of seat.new) }
     ensures jobs { TakesJobs jobs.now seat.old.worker (taken_in rows.old) (taken_in rows.new) (view_of seat.old) (view_of seat.new) }
-    ensures works { Works jobs.now seat.old.worker (taken_in rows.old) (taken_in rows.new) result (view_of seat.new) }
+    ensures works { Works jobs.now seat.old.worker (taken_in rows.old) (taken_in rows.new) wait result (view_of seat.new) }
     ensures rows { AddsRows jobs.now seat.old.worker wait result rows.old rows.new (view_of seat.old) (view_of seat.new) }
     ensures relief { Q.ready relief.new }
     ensures later { Q.later relief.old relief.new }

@@ -9,7 +9,7 @@ use Rattle.txn_runner.proofs.job.run_job.Goals as goal
 pub returns-then-word-ne0-clause-cut : goal.returns-then-word-ne0-clause-cut
 returns-then-word-ne0-clause-cut g c =
     let job = took _ _ _ c.args.seat.now c.take_job-word.new.seat c.take_job-word.ensures.view in
-    cut-early _ _ (Stop c.take_job-word.result) _ _ job (c.if-word-ne0.true, ap (λ m. m.0.seen.stop) c.take_job-word.ensures.view.me)
+    cut-early _ _ _ (Stop c.take_job-word.result) _ _ job (c.if-word-ne0.true, ap (λ m. m.0.seen.stop) c.take_job-word.ensures.view.me)
 
 pub take_all-requires-clause-known : goal.take_all-requires-clause-known
 take_all-requires-clause-known g c = subst (All (λ account. account < c.args.table.now.accounts)) (sym c.as_slice.ensures.value)
@@ -20,7 +20,7 @@ returns-in_err-holdings-clause-cut g c =
     let failed = err_from_is_err_and c.from_residual.result c.from_residual.ensures.1 in
     let job = took _ _ _ c.args.seat.now c.take_job-word.new.seat c.take_job-word.ensures.view in
     let err = c.in_err-holdings.ensures in
-    rw (failed.1, failed.2) (cut-early _ _ _ _ _ (still-taken _ _ _ _ _ _ job err.kept refl refl refl) err.stopped)
+    rw (failed.1, failed.2) (cut-early _ _ _ _ _ _ (still-taken _ _ _ _ _ _ job err.kept refl refl refl) err.stopped)
 
 pub insert_transfer-requires-clause-job : goal.insert_transfer-requires-clause-job
 insert_transfer-requires-clause-job g c =
@@ -46,7 +46,8 @@ returns-in-Err-clause-cut g c =
     let taken = still-taken _ _ _ _ c.take_all.new.seat _ job c.in_ok-holdings.ensures.taken.entries refl refl refl in
     let added = c.in-Err.ensures.added in
     let cut = c.in-Err.ensures.cut in
-    has-cut _ _ _ cut.rest _ _ (has-inserted _ _ _ _ _ _ _ _ taken added.1 cut.left (keeps-held _ _ _ _ c.give_all.ensures))
+    has-cut _ _ _ _ cut.rest _ _ (has-inserted _ _ _ _ _ _ _ _ taken added.1 cut.left (keeps-held _ _ _ _ c.give_all.ensures))
+    (λ none. absurd (cut.some none))
     (still-stops _ _ _ _ _ _ c.give_all.ensures cut.stops)
 
 pub give_all-requires-2-clause-holds : goal.give_all-requires-2-clause-holds
@@ -69,7 +70,8 @@ returns-in_err-seen-clause-cut g c =
     let taken = still-taken _ _ _ _ c.take_all.new.seat _ job c.in_ok-holdings.ensures.taken.entries refl refl refl in
     let ends = c.in-Ok.ensures.ended in
     let keeps = keeps-then _ _ _ c.see_durable-seen.ensures.kept (keeps-held _ _ _ _ c.give_all-2.ensures) in
-    rw (failed.1, failed.2) (has-cut _ _ _ [] _ _ (has-inserted _ _ _ _ _ _ _ _ taken ends.adds ends.left keeps)
+    rw (failed.1, failed.2) (has-cut _ _ _ _ [] _ _ (has-inserted _ _ _ _ _ _ _ _ taken ends.adds ends.left keeps)
+    (λ none. c.in_err-seen.ensures.waits)
     (still-stops _ _ _ _ _ _ c.give_all-2.ensures c.in_err-seen.ensures.stopped))
 
 pub returns-clause-run : goal.returns-clause-run

@@ -18,7 +18,7 @@ returns-clause-done g c =
     let none = ap (λ (books : Books). books.jobs) hired.books in
     let left : view_of c.leave.new.seat ≡ retired new = search rules in
     let same : c.leave.new.seat.worker ≡ number = search rules in
-    let done = HasDone-left jobs number _ taken worked (view_of c.args.worker.seat) new hired.taken none did.worked did.jobs did.works in
+    let done = HasDone-left jobs number _ taken _ worked (view_of c.args.worker.seat) new hired.taken none did.worked did.jobs did.works in
     let all = subst (HasDone jobs number taken worked) (sym left) done in
     let mine = subst (λ n. HasDone jobs n taken worked (view_of c.leave.new.seat)) (sym same) all in
     record { seat = search rules; ended = search rules; jobs_are = mine.jobs_are; has = mine.has; works = mine.works }
