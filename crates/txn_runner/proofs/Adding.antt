@@ -37,10 +37,6 @@ placed_behind-append [] more placed = refl
 placed_behind-append (entry ∷ entries) more placed = placed_behind-append entries more
     (record { end = entry.start + entry.size; rec = entry.rec } ∷ placed)
 
-pub records_of-append : (entries more : List Entry) → records_of (entries ++ more) ≡ records_of entries ++ records_of more
-records_of-append [] more = refl
-records_of-append (entry ∷ entries) more = ap (λ records. entry.rec ∷ records) (records_of-append entries more)
-
 pub adds-none : (old new : Seat) → HasEntries old new (view_of old).entries (view_of old).books → Adds [] old new
 adds-none old new kept = record {
   entries = subst (λ list. HasEntries old new list (view_of old).books) (sym (append-nil (view_of old).entries)) kept;
