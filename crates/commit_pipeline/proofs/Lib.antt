@@ -1,4 +1,5 @@
 pub mod FlewLemmas
+pub mod HeadLemmas
 pub mod LineLemmas
 pub mod RanLemmas
 pub mod RanTurns

@@ -1,13 +1,12 @@
 -- How far the records of a batch were told, one record after another.
 use Rattle.std.proofs.Common.{◌≡◌, ◌∙◌, sym, ap, refl, subst, ℕ, ◌+◌, ◌-◌, ◌≤◌, ◌<◌, List, [], ◌∷◌, ◌++◌, length, take, drop, min, length-append, length-drop, length-take, append_assoc, append-nil, arith}
 use Rattle.std.specs.List.{AllByRecursion}
-use Rattle.std.proofs.Math.Seq.{take-append-add, drop-append_seam}
-use Rattle.std.proofs.lemmas.List.{take_min, drop-drop}
+use Rattle.std.proofs.Math.Seq.{drop-append_seam}
+use Rattle.std.proofs.lemmas.List.{drop-drop}
 use Rattle.log_record.specs.declared.rec.Rec.{Rec}
 use Rattle.log_record.specs.declared.rec.Rec.TheVariants.{Genesis, Update, Commit, Short, Over, Note}
 use Rattle.log_record.specs.LogList.{units_of, size_of}
 use Rattle.log_record.specs.Spelling.{spelling, IsSpellable, BeginsWith}
-use Rattle.log_record.proofs.BoundLemmas.{length-spelling}
 use Rattle.log_record.proofs.Fronts.{spelling-parts_of}
 use Rattle.log_record.proofs.SpellingLemmas.{spelling-append-injective}
 use Rattle.flusher.specs.Records.{Spells}
@@ -16,14 +15,8 @@ use Rattle.commit_pipeline.specs.declared.voice.Voice.{Voice}
 use Rattle.commit_pipeline.specs.declared.voice.Voice.TheVariants.{Lines, Count}
 use Rattle.commit_pipeline.specs.EndLines.{text_of, lines_in, line_said, count_said, is_done, is_refused}
 use Rattle.commit_pipeline.specs.Telling.{TellsAll, TellsFront, counted}
+use Rattle.commit_pipeline.proofs.HeadLemmas.{Silent}
 use Rattle.commit_pipeline.proofs.LineLemmas.{text_of-append, text_of-one, lines_in-append, lines_in-one, counted-append}
-
--- the units from one index to another, where there are so many, are those of the window
-pub window-whole : (units : List ℕ) (at to : ℕ) → at ≤ length units → to ≡ min (length units) (at + 26)
-    → take (to - at) (drop at units) ≡ take 26 (drop at units)
-window-whole units at to within whole =
-    let some : to - at ≡ min 26 (length (drop at units)) = omega (arith, within, whole, length-drop at units) in
-    ap (λ n. take n (drop at units)) some ∙ take_min 26 (drop at units)
 
 -- a spelling has at least one unit
 pub size_of-some : (rec : Rec) → 0 < size_of rec
@@ -33,10 +26,10 @@ pub size_of-begins : (units : List ℕ) (rec : Rec) → BeginsWith units rec →
 size_of-begins units rec begins = omega (arith, ap length begins.2, length-append (spelling rec) begins.1)
 
 -- the record ends within the units
-pub window-within : (units : List ℕ) (at : ℕ) (rec : Rec) → at ≤ length units → BeginsWith (take 26 (drop at units)) rec
+pub window-within : (units : List ℕ) (at : ℕ) (rec : Rec) → at ≤ length units → BeginsWith (drop at units) rec
     → at + size_of rec ≤ length units
 window-within units at rec within begins =
-    omega (arith, within, size_of-begins _ rec begins, length-take 26 (drop at units), length-drop at units)
+    omega (arith, within, size_of-begins _ rec begins, length-drop at units)
 
 -- it ends at most one transaction
 ends-one : (rec : Rec) → is_done rec + is_refused rec ≤ 1
@@ -106,43 +99,35 @@ told-none voice from units before records spells = record {
   counts = counted-none before;
 }
 
--- what follows are the units of a record, whole
-window-begins : (rec : Rec) (units more : List ℕ) → IsSpellable rec → units ≡ spelling rec ++ more → take 26 units ≡ spelling rec
-    ++ take (26 - size_of rec) more
-window-begins rec units more spellable is =
-    let short : 26 ≡ size_of rec + (26 - size_of rec) = omega (arith, length-spelling rec spellable) in
-    ap (take 26) is ∙ ap (λ n. take n (spelling rec ++ more)) short ∙ take-append-add (spelling rec) more (26 - size_of rec)
-
 module _ (voice : Voice) (from at : ℕ) (units text : List ℕ) (lines : ℕ) (before after : Tally) (records : List Rec)
     (told : ToldUpTo voice from at units text lines before after records) (spellable : AllByRecursion IsSpellable records) where
   unseen-spellable : AllByRecursion IsSpellable told.unseen
   unseen-spellable = AllByRecursion-behind IsSpellable told.seen told.unseen (subst (AllByRecursion IsSpellable) told.whole spellable)
 
   -- where units are left, they begin with a record
-  pub told-begins : at < length units → ((rec : Rec) → BeginsWith (take 26 (drop at units)) rec → ⊥) → ⊥
-  told-begins within none = by-unseen told.unseen unseen-spellable told.left
+  pub told-begins : at < length units → (rec : Rec) × BeginsWith (drop at units) rec
+  told-begins within = by-unseen told.unseen unseen-spellable told.left
     where
-      by-unseen : (unseen : List Rec) → AllByRecursion IsSpellable unseen → drop at units ≡ units_of unseen → ⊥
+      by-unseen : (unseen : List Rec) → AllByRecursion IsSpellable unseen → drop at units ≡ units_of unseen → (rec : Rec) × BeginsWith (drop at units) rec
       by-unseen [] all left = absurd (omega (arith, within, length-drop at units, ap length left))
-      by-unseen (rec ∷ unseen) all left =
-          none rec (all.0, take (26 - size_of rec) (units_of unseen), window-begins rec (drop at units) (units_of unseen) all.0 left)
+      by-unseen (rec ∷ unseen) all left = (rec, (all.0, units_of unseen, left))
 
   -- one more record was read
   record Goes (rec : Rec) : Type 0 where
     unseen : List Rec
     whole : told.unseen ≡ rec ∷ unseen
 
-  goes : (rec : Rec) → BeginsWith (take 26 (drop at units)) rec → Goes rec
+  goes : (rec : Rec) → BeginsWith (drop at units) rec → Goes rec
   goes rec begins = by-unseen told.unseen unseen-spellable told.left refl
     where
       by-unseen : (unseen : List Rec) → AllByRecursion IsSpellable unseen → drop at units ≡ units_of unseen → told.unseen ≡ unseen → Goes rec
-      by-unseen [] all left is = absurd (omega (arith, size_of-some rec, size_of-begins _ rec begins, ap (λ us. length (take 26 us)) left))
+      by-unseen [] all left is = absurd (omega (arith, size_of-some rec, size_of-begins _ rec begins, ap length left))
       by-unseen (next ∷ unseen) all left is =
           let same = spelling-append-injective next rec _ _ all.0 begins.0
-          (sym (window-begins next (drop at units) (units_of unseen) all.0 left) ∙ begins.2) in
+          (sym left ∙ begins.2) in
           record { unseen = unseen; whole = is ∙ ap (λ r. r ∷ unseen) same.0 }
 
-  module _ (rec : Rec) (begins : BeginsWith (take 26 (drop at units)) rec) (size end : ℕ) (next : Tally) (size_is : size ≡ size_of rec)
+  module _ (rec : Rec) (begins : BeginsWith (drop at units) rec) (size end : ℕ) (next : Tally) (size_is : size ≡ size_of rec)
       (end_is : end ≡ from + (at + size)) (done_is : next.done ≡ after.done + is_done rec)
       (refused_is : next.refused ≡ after.refused + is_refused rec) where
     abbrev rest : List Rec
@@ -191,6 +176,22 @@ module _ (voice : Voice) (from at : ℕ) (units text : List ℕ) (lines : ℕ) (
       lines = said-more ∙ ap (λ us. text ++ us) line ∙ sym (append_assoc text cut unwritten);
       counts = counts-more;
     }
+
+  -- one that ends no transaction
+  pub told-still : (rec : Rec) → BeginsWith (drop at units) rec → (size end : ℕ) → size ≡ size_of rec → end ≡ from + (at + size)
+      → Silent voice end rec → ToldUpTo voice from (at + size) units text lines before after records
+  told-still rec begins size end size_is end_is silent =
+      let more = told-more rec begins size end after size_is end_is (omega (arith, silent.done)) (omega (arith, silent.refused)) 0 (sym silent.lines) in
+      record {
+        seen = more.seen;
+        unseen = more.unseen;
+        whole = more.whole;
+        left = more.left;
+        place = more.place;
+        said = sym (append-nil text) ∙ ap (λ us. text ++ us) (sym silent.said) ∙ more.said;
+        lines_are = omega (arith, more.lines_are);
+        counts = more.counts;
+      }
 
   -- no units are left
   pub told-all : length units ≤ at → TellsAll voice from records text lines before after

@@ -1,6 +1,7 @@
 -- What is told of records: their lines, and how many ended a transaction.
-use Rattle.std.specs.Prelude.{◌≡◌, ℕ, ◌+◌, List, ◌++◌}
+use Rattle.std.specs.Prelude.{◌≡◌, ℕ, ◌+◌, List, ◌++◌, Option, Some, None}
 use Rattle.log_record.specs.declared.rec.Rec.{Rec}
+use Rattle.log_record.specs.declared.rec.Rec.TheVariants.{Genesis, Update, Commit, Short, Over, Note}
 use Rattle.commit_pipeline.specs.declared.tally.Tally.{Tally}
 use Rattle.commit_pipeline.specs.declared.voice.Voice.{Voice}
 use Rattle.commit_pipeline.specs.EndLines.{text_of, lines_in, done_in, refused_in}
@@ -23,3 +24,12 @@ pub record TellsFront (voice : Voice) (at : ℕ) (records : List Rec) (text : Li
   pub unwritten : List ℕ
   pub lines : text_of voice at seen ≡ text ++ unwritten
   pub counts : after ≡ counted before seen
+
+-- the record, where it ends a transaction
+abbrev pub ended : Rec → Option Rec
+ended (Genesis account balance) = None
+ended (Update txn account delta prev) = None
+ended (Commit txn legs) = Some (Commit txn legs)
+ended (Short txn leg) = Some (Short txn leg)
+ended (Over txn leg) = Some (Over txn leg)
+ended (Note txn text) = None

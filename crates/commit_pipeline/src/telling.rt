@@ -1,21 +1,29 @@
 //! The lines of what a flush sent.
-ghost use Rattle.std.specs.Prelude.{◌≡◌, ◌≤◌, ◌<◌, ◌+◌, ◌^◌, [], List, ℕ, length, take, drop, IfOk, OnErr};
+ghost use Rattle.std.specs.Prelude.{◌≡◌, ◌≤◌, ◌+◌, ◌∷◌, List, ℕ, length, drop, IfOk, OnErr};
 ghost use Rattle.std.specs.Io.KnownBytes.{Appends};
 ghost use Rattle.lsn_space.specs.declared.lsn.TheConstants.{LAST};
 ghost use Rattle.log_disk.specs.Faults.{HasCause};
 ghost use Rattle.log_disk.specs.Streams.{AppendsPrefix};
 ghost use Rattle.log_record.specs.declared.rec.Rec.{Rec};
+ghost use Rattle.log_record.specs.Spelling.{header, spelling, IsSpellable, BeginsWith};
 ghost use Rattle.flusher.specs.Records.{Spells};
 ghost use Rattle.commit_pipeline.specs.EndLines.{line_said, count_said};
-ghost use Rattle.commit_pipeline.specs.Telling.{TellsAll, TellsFront};
+ghost use Rattle.commit_pipeline.specs.Telling.{TellsAll, TellsFront, ended};
 
 use crate::end_line::line_of;
 use crate::tally::Tally;
 use crate::voice::Voice;
 use log_disk::{Sink, WriteFault, put_all};
-use log_record::{MOST_UNITS, Rec, Units, read};
+use log_record::Rec;
 use lsn_space::Lsn;
 use segment_file::Batch;
+
+/// The kinds of the records that end a transaction, as the first of their units has them.
+const COMMIT: u8 = 3;
+
+const SHORT: u8 = 4;
+
+const OVER: u8 = 5;
 
 /// Counts the end records of the batch, whose first unit is at this LSN, and writes a line for each.
 pub(crate) fn tell<K: Sink>(
@@ -38,27 +46,69 @@ pub(crate) fn tell<K: Sink>(
     let mut at = 0;
     let mut lines = 0;
     'records: while at < batch.count() {
-        let Ok((rec, size)) = read(window(batch, at).as_slice()) else {
-            unreachable!()
+        let (end, size) = end_at(batch, at);
+        at += u32::from(size);
+        let Some(rec) = &end else {
+            continue;
         };
-        at += size as u32;
-        tally.count(&rec);
-        lines += tell_record(&rec, Lsn::new(from.units() + at), voice, sink)?;
+        tally.count(rec);
+        lines += tell_record(rec, Lsn::new(from.units() + at), voice, sink)?;
     }
     Ok(lines)
 }
 
-/// The units of the batch from that index on, no more than a record may have.
-fn window(batch: &Batch, at: u32) -> Units
-    requires { at ≤ length batch.now.units }
-    ensures { result ≡ take 26 (drop at batch.now.units) }
+/// The record that begins at that index, where it ends a transaction, and how many units it has. Its first unit alone
+/// says that, so the units of the other records aren't read.
+fn end_at(batch: &Batch, at: u32) -> (Option<Rec>, u8)
+    requires { (rec : Rec) × BeginsWith (drop at batch.now.units) rec }
+    ensures { (rec : Rec) × BeginsWith (drop at batch.now.units) rec × (result.0 ≡ ended rec) × (result.1 ≡ length (spelling rec)) }
 {
-    let mut units = Units::new();
-    let end = batch.count().min(at.saturating_add(MOST_UNITS as u32));
-    for i in at..end {
-        units.push(batch.at(i));
+    let head = Head::of(batch.at(at));
+    (head.end(), head.units)
+}
+
+/// The first unit of a record, in its four parts.
+#[derive(Clone, Copy, Debug)]
+struct Head {
+    kind: u8,
+    units: u8,
+    field: u16,
+    txn: u32,
+}
+
+impl Head {
+    fn of(unit: u64) -> Head
+        ensures { unit ≡ header result.kind result.units result.field result.txn }
+    {
+        Head {
+            kind: (unit >> 56) as u8,
+            units: (unit >> 48 & 0xff) as u8,
+            field: (unit >> 32 & 0xffff) as u16,
+            txn: (unit & 0xffff_ffff) as u32,
+        }
     }
-    units
+
+    /// The record of one unit that ends a transaction, where this is one's.
+    fn end(self) -> Option<Rec>
+        ensures { (rec : Rec) → (body : List ℕ) → IsSpellable rec
+            → spelling rec ≡ header self.kind self.units self.field self.txn ∷ body → result ≡ ended rec }
+    {
+        match self.kind {
+            COMMIT => Some(Rec::Commit {
+                txn: self.txn,
+                legs: u32::from(self.field),
+            }),
+            SHORT => Some(Rec::Short {
+                txn: self.txn,
+                leg: u32::from(self.field),
+            }),
+            OVER => Some(Rec::Over {
+                txn: self.txn,
+                leg: u32::from(self.field),
+            }),
+            _ => None,
+        }
+    }
 }
 
 /// Writes the line of a record that ends at this LSN, where it ends a transaction, and answers how many lines that is.

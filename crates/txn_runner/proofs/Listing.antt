@@ -1,5 +1,5 @@
 -- Ascending lists of accounts, and one more account.
-use Rattle.std.proofs.Common.{◌≡◌, ℕ, zero, suc, ◌+◌, ◌-◌, ◌<◌, ◌≤◌, ◌⊎◌, inl, inr, List, ◌∷◌, length, get_or, take, insert, All, Contains, Err, ◌∙◌, sym, refl, ap, subst, arith}
+use Rattle.std.proofs.Common.{◌≡◌, ℕ, zero, suc, ◌+◌, ◌-◌, ◌<◌, ◌≤◌, ◌⊎◌, inl, inr, List, [], ◌∷◌, length, get_or, min, max, take, insert, All, Contains, Err, ◌∙◌, sym, refl, ap, subst, arith}
 use mathlib.Core.Logic.{dite}
 use native.Mathlib.Decide.{ℕ_discrete}
 use Rattle.std.specs.Ordering.{nat_cmp}
@@ -7,7 +7,7 @@ use Rattle.std.specs.List.Sorted.{IsStrictlyIncreasing, IsPermutation, IsBinaryS
 use Rattle.std.proofs.lemmas.Bool.{cases_lt, cases_order}
 use Rattle.std.proofs.lemmas.List.{get_or_default, length-take, get_or-take}
 use Rattle.std.proofs.lemmas.List.Edits.{length-insert, get_or-insert_below, get_or-insert_at, get_or-insert_above}
-use Rattle.std.proofs.lemmas.List.Elements.{All-more, All-weaker, All-from_get_or, Contains-get_or}
+use Rattle.std.proofs.lemmas.List.Elements.{All-nil, All-cons, All-more, All-weaker, All-from_get_or, Contains-get_or}
 use Rattle.std.proofs.lemmas.List.Sorted.{IsPermutation-insert, IsPermutation-sym, Contains-permutation, searched}
 use Rattle.txn_runner.specs.Accounts.{HasAccountsOf, IsAccountOf, AddsAccount}
 
@@ -102,3 +102,28 @@ module _ (legs : List (ℕ × ℕ × ℕ)) (i : ℕ) (within : i < length legs) 
           | inr old ↦ subst (IsAccountOf legs) old.2 (only old.0 _ old.1)
         ]
       ])
+
+-- both accounts of a leg are in the list of the lower and the higher
+module _ (payer payee amount : ℕ) where
+  abbrev leg : ℕ × ℕ × ℕ
+  leg = (payer, payee, amount)
+
+  pub two-has : HasAccountsOf (min payer payee ∷ max payer payee ∷ []) leg
+  two-has = elim (cases_lt payer payee) [
+    | inl less ↦ ((0, omega arith, omega arith), (1, omega arith, omega arith))
+    | inr more ↦ ((1, omega arith, omega arith), (0, omega arith, omega arith))
+  ]
+
+-- where there is one leg, its accounts are all
+module _ (xs : List ℕ) where
+  pub all-of-one : (legs : List (ℕ × ℕ × ℕ)) → length legs ≡ 1
+      → ((amount : ℕ) → HasAccountsOf xs ((get_or legs 0 (0, 0, 0)).0, (get_or legs 0 (0, 0, 0)).1, amount)) → All (HasAccountsOf xs) legs
+  all-of-one [] len has = absurd (omega arith)
+  all-of-one (leg ∷ []) len has = All-cons (HasAccountsOf xs) leg [] (has 0) (All-nil (HasAccountsOf xs))
+  all-of-one (leg ∷ more ∷ legs) len has = absurd (omega arith)
+
+  pub only-of-one : (legs : List (ℕ × ℕ × ℕ)) → length legs ≡ 1
+      → ((amount : ℕ) → All (IsAccountOf (((get_or legs 0 (0, 0, 0)).0, (get_or legs 0 (0, 0, 0)).1, amount) ∷ [])) xs) → All (IsAccountOf legs) xs
+  only-of-one [] len only = absurd (omega arith)
+  only-of-one (leg ∷ []) len only = only leg.2
+  only-of-one (leg ∷ more ∷ legs) len only = absurd (omega arith)

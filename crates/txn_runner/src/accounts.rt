@@ -1,5 +1,5 @@
 //! The accounts of a transfer, in the order in which every worker takes accounts.
-ghost use Rattle.std.specs.Prelude.{◌<◌, All};
+ghost use Rattle.std.specs.Prelude.{◌<◌, ◌∷◌, [], ℕ, All};
 ghost use Rattle.std.specs.List.Sorted.{IsStrictlyIncreasing};
 ghost use Rattle.arrayvec.specs.ArrayVec.{array_vec_len};
 ghost use Rattle.txn_runner.specs.Accounts.{HasAccountsOf, IsAccountOf, AddsAccount};
@@ -13,11 +13,31 @@ pub(crate) fn accounts_of(job: &Job) -> ArrayVec<u32, 16>
     ensures all { All (HasAccountsOf result.items) job.now.legs }
     ensures only { All (IsAccountOf job.now.legs) result.items }
 {
+    // Most transfers have one leg, and one comparison puts its two accounts in order.
+    if let [leg] = job.legs.as_slice() {
+        return pair(leg.0, leg.1);
+    }
     let mut accounts = ArrayVec::new();
     'legs: for leg in job.legs.as_slice() {
         add(&mut accounts, leg.0);
         add(&mut accounts, leg.1);
     }
+    accounts
+}
+
+/// Both accounts in ascending order, or the one that they are.
+fn pair(payer: u32, payee: u32) -> ArrayVec<u32, 16>
+    ensures rising { IsStrictlyIncreasing result.items }
+    ensures all { (amount : ℕ) → HasAccountsOf result.items (payer, payee, amount) }
+    ensures only { (amount : ℕ) → All (IsAccountOf ((payer, payee, amount) ∷ [])) result.items }
+{
+    let mut accounts = ArrayVec::new();
+    if payer == payee {
+        accounts.push(payer);
+        return accounts;
+    }
+    accounts.push(payer.min(payee));
+    accounts.push(payer.max(payee));
     accounts
 }
 

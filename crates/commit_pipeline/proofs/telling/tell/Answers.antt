@@ -1,8 +1,9 @@
-use Rattle.std.proofs.Common.{arith, refl, sym, ◌∙◌, [], ◌++◌, subst}
+use Rattle.std.proofs.Common.{arith, refl, sym, ap, ◌≡◌, ◌∙◌, ◌+◌, [], ◌++◌, length, drop, subst}
 use Rattle.std.proofs.lemmas.Result.{err_from_is_err_and}
 use Rattle.std.proofs.KnownBytes.{Appends-nil, Appends-trans}
-use Rattle.log_record.specs.Spelling.{BeginsWith}
-use Rattle.commit_pipeline.proofs.ToldLemmas.{window-within, ends-few, count_said-few, told-begins, told-none, told-more, told-cut, told-all}
+use Rattle.log_record.specs.Spelling.{spelling, BeginsWith}
+use Rattle.commit_pipeline.proofs.ToldLemmas.{window-within, ends-few, count_said-few, told-begins, told-none, told-more, told-still, told-cut, told-all}
+use Rattle.commit_pipeline.proofs.HeadLemmas.{ended-silent, ended-same}
 use Rattle.commit_pipeline.proofs.telling.tell.Goals as goal
 
 pub records-init : goal.records-init
@@ -19,38 +20,41 @@ records-init g c = record {
   later = omega arith;
 }
 
-pub unreachable-requires : goal.unreachable-requires
-unreachable-requires g c =
+pub end_at-end-requires : goal.end_at-end-requires
+end_at-end-requires g c =
     let spelled = c.requires.spelled in
     told-begins c.args.voice c.args.from c.records.at c.args.batch.now.units _ _ _ _ spelled.0
     (c.records.invariant.told.2 spelled.0 spelled.1) spelled.1.spellable
     (omega (arith, c.records-test.true, c.count.ensures))
-    (λ rec begins. c.in_default.ensures.bad rec (subst (λ us. BeginsWith us rec) (sym (c.as_slice.ensures.units ∙ c.window.ensures)) begins))
 
-pub overflow_add-at : goal.overflow_add-at
-overflow_add-at g c =
-    let begins = subst (λ us. BeginsWith us c.in-Ok.rec) (c.as_slice.ensures.units ∙ c.window.ensures) c.in-Ok.ensures.found.0 in
-    omega (
-      arith,
-      window-within c.args.batch.now.units c.records.at c.in-Ok.rec c.records.invariant.within begins,
-      c.in-Ok.ensures.found.1,
-      c.requires.end,
-    )
-
-pub overflow_add-units : goal.overflow_add-units
-overflow_add-units g c =
-    let begins = subst (λ us. BeginsWith us c.in-Ok.rec) (c.as_slice.ensures.units ∙ c.window.ensures) c.in-Ok.ensures.found.0 in
-    omega (
-      arith,
-      window-within c.args.batch.now.units c.records.at c.in-Ok.rec c.records.invariant.within begins,
-      c.in-Ok.ensures.found.1,
-      c.requires.end,
-      c.units.ensures,
-    )
+pub records-preserved-in_default : goal.records-preserved-in_default
+records-preserved-in_default g c =
+    let seen = c.end_at-end.ensures in
+    let before = c.records.invariant.told in
+    let size : c.from.result ≡ length (spelling seen.0) = omega (arith, c.from.ensures, seen.3) in
+    let end = c.args.from + (c.records.at + c.from.result) in
+    let silent = ended-silent c.args.voice end seen.0 (sym seen.2 ∙ c.in_default.is) in
+    record {
+      same = refl;
+      within = omega (arith, window-within c.args.batch.now.units c.records.at seen.0 c.records.invariant.within seen.1, size);
+      lines_few = omega (arith, c.records.invariant.lines_few);
+      few = omega (arith, c.records.invariant.few);
+      told = (
+        before.0,
+        before.1,
+        λ records spells.
+            told-still c.args.voice c.args.from c.records.at c.args.batch.now.units _ _ _ _ records
+            (before.2 records spells) spells.spellable seen.0 seen.1 c.from.result end size refl silent,
+      );
+      later = c.records.invariant.later;
+    }
 
 pub returns-in_err-lines-clause-front : goal.returns-in_err-lines-clause-front
 returns-in_err-lines-clause-front g c =
-    let begins = subst (λ us. BeginsWith us c.in-Ok.rec) (c.as_slice.ensures.units ∙ c.window.ensures) c.in-Ok.ensures.found.0 in
+    let seen = c.end_at-end.ensures in
+    let same = ended-same seen.0 c.in-Some.rec (sym seen.2 ∙ c.in-Some.is) in
+    let begins = subst (BeginsWith (drop c.records.at c.args.batch.now.units)) (sym same) seen.1 in
+    let size : c.from.result ≡ length (spelling c.in-Some.rec) = omega (arith, c.from.ensures, seen.3 ∙ ap (λ r. length (spelling r)) (sym same)) in
     let failed = err_from_is_err_and c.from_residual.result c.from_residual.ensures.1 in
     let before = c.records.invariant.told in
     let cut = c.in_err-lines.ensures.prefix in
@@ -59,39 +63,42 @@ returns-in_err-lines-clause-front g c =
       Appends-trans _ _ _ before.0 cut.0 before.1 cut.3,
       λ records spells.
           told-cut c.args.voice c.args.from c.records.at c.args.batch.now.units _ _ _ _ records
-          (before.2 records spells) spells.spellable c.in-Ok.rec begins
-          c.in-Ok.size c.new.result c.count-in-records.new.self c.in-Ok.ensures.found.1 (omega (arith, c.new.ensures, c.units.ensures))
+          (before.2 records spells) spells.spellable c.in-Some.rec begins
+          c.from.result c.new.result c.count-in-records.new.self size (omega (arith, c.new.ensures, c.units.ensures))
           c.count-in-records.ensures.done c.count-in-records.ensures.refused cut.0 cut.1 cut.2,
     )
 
 pub records-preserved : goal.records-preserved
 records-preserved g c =
-    let begins = subst (λ us. BeginsWith us c.in-Ok.rec) (c.as_slice.ensures.units ∙ c.window.ensures) c.in-Ok.ensures.found.0 in
+    let seen = c.end_at-end.ensures in
+    let same = ended-same seen.0 c.in-Some.rec (sym seen.2 ∙ c.in-Some.is) in
+    let begins = subst (BeginsWith (drop c.records.at c.args.batch.now.units)) (sym same) seen.1 in
+    let size : c.from.result ≡ length (spelling c.in-Some.rec) = omega (arith, c.from.ensures, seen.3 ∙ ap (λ r. length (spelling r)) (sym same)) in
     let before = c.records.invariant.told in
     let line = c.in_ok-lines.ensures.all in
     record {
       same = refl;
       within = omega (
         arith,
-        window-within c.args.batch.now.units c.records.at c.in-Ok.rec c.records.invariant.within begins,
-        c.in-Ok.ensures.found.1,
+        window-within c.args.batch.now.units c.records.at c.in-Some.rec c.records.invariant.within begins,
+        size,
       );
-      lines_few = omega (arith, c.records.invariant.lines_few, line.1, count_said-few c.args.voice c.in-Ok.rec, c.in-Ok.ensures.found.1);
+      lines_few = omega (arith, c.records.invariant.lines_few, line.1, count_said-few c.args.voice c.in-Some.rec, size);
       few = omega (
         arith,
         c.records.invariant.few,
         c.count-in-records.ensures.done,
         c.count-in-records.ensures.refused,
-        ends-few c.in-Ok.rec,
-        c.in-Ok.ensures.found.1,
+        ends-few c.in-Some.rec,
+        size,
       );
       told = (
         _,
         Appends-trans _ _ _ before.0 _ before.1 line.0,
         λ records spells.
             told-more c.args.voice c.args.from c.records.at c.args.batch.now.units _ _ _ _ records
-            (before.2 records spells) spells.spellable c.in-Ok.rec begins
-            c.in-Ok.size c.new.result c.count-in-records.new.self c.in-Ok.ensures.found.1 (omega (arith, c.new.ensures, c.units.ensures))
+            (before.2 records spells) spells.spellable c.in-Some.rec begins
+            c.from.result c.new.result c.count-in-records.new.self size (omega (arith, c.new.ensures, c.units.ensures))
             c.count-in-records.ensures.done c.count-in-records.ensures.refused c.in_ok-lines.field-0 line.1,
       );
       later = omega (arith, c.records.invariant.later, c.in_ok-lines.ensures.cause.later);
