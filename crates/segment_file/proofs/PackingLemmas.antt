@@ -16,11 +16,6 @@ unfolding units_in
 units_in-unit_bytes [] each = refl
 units_in-unit_bytes (unit ∷ units) each = rw (from_be_bytes-to_be_bytes_8 unit each.0, units_in-unit_bytes units each.1) refl
 
--- the bytes of a batch give its units back
-pub units_in-batch : (units : List ℕ) → AreUnits units → units_in (drop 11 (magic ++ batch units)) ≡ units
-unfolding batch
-units_in-batch units each = units_in-unit_bytes units each
-
 -- the unit at an index stands at eight times its place
 unit-at_index : (units : List ℕ) (index unit : ℕ) (rest : List ℕ) → AreUnits units → index < length units → unit < 2 ^ 64
     → drop (8 * index) (flat_map unit_bytes units) ≡ unit_bytes unit ++ rest → unit ≡ slice_index units index
@@ -50,16 +45,10 @@ packed-view bytes units room capacity now packed view = subst (λ s. IsPacked by
 
 module _ (bytes units : List ℕ) (room capacity : ℕ) (packed : IsPacked bytes units room capacity) where
   pub length-packed : length bytes ≡ 11 + 8 * length units
-  unfolding batch
   length-packed = omega (arith, ap length packed.whole, length-unit_bytes units)
 
-  -- with another number in front of the units
-  pub length-counted : (count : ℕ) → length (take 7 bytes ++ to_be_bytes w32 count ++ drop 11 bytes) ≡ length bytes
-  unfolding batch
-  length-counted count = rw packed.whole refl
-
   pub units_in-packed : units_in (drop 11 bytes) ≡ units
-  units_in-packed = ap (λ bs. units_in (drop 11 bs)) packed.whole ∙ units_in-batch units packed.each
+  units_in-packed = ap (λ bs. units_in (drop 11 bs)) packed.whole ∙ units_in-unit_bytes units packed.each
 
   -- the invariant of a batch, in which the units are read from the bytes
   pub packed-units_in : IsPacked bytes (units_in (drop 11 bytes)) room capacity
@@ -70,41 +59,54 @@ module _ (bytes units : List ℕ) (room capacity : ℕ) (packed : IsPacked bytes
 
   pub unit-at : (index unit : ℕ) (rest : List ℕ) → index < length units → unit < 2 ^ 64 → drop (11 + 8 * index) bytes ≡ unit_bytes unit ++ rest
       → unit ≡ slice_index units index
-  unfolding batch
   unit-at index unit rest within small is =
       let longer : 11 + 8 * index ≡ suc (suc (suc (suc (suc (suc (suc (suc (suc (suc (suc (8 * index))))))))))) = omega arith in
       unit-at_index units index unit rest packed.each within small
-      (sym (ap (λ n. drop n (magic ++ batch units)) longer) ∙ sym (ap (drop (11 + 8 * index)) packed.whole) ∙ is)
+      (sym (ap (λ n. drop n (magic ++ to_be_bytes w32 packed.number ++ flat_map unit_bytes units)) longer) ∙ sym (ap (drop (11 + 8 * index)) packed.whole) ∙ is)
 
-  -- with the next gate behind
-  pub packed-sealed : bytes ++ CLOSED ∷ [] ≡ magic ++ sealed units
-  packed-sealed = ap (λ bs. bs ++ CLOSED ∷ []) packed.whole ∙ append_assoc magic (batch units) (CLOSED ∷ [])
-
-  pub packed-body : (full body : List ℕ) → full ≡ bytes ++ CLOSED ∷ [] → body ≡ drop 7 full → body ≡ sealed units
-  packed-body full body is back = back ∙ ap (drop 7) (is ∙ packed-sealed)
-
-  pub packed-push : (unit now : ℕ) (new : List ℕ) → unit < 2 ^ 64 → length units < room → capacity ≤ now
-      → new ≡ (take 7 bytes ++ to_be_bytes w32 (length units + 1) ++ drop 11 bytes) ++ unit_bytes unit → IsPacked new (units ++ unit ∷ []) room now
-  unfolding batch
+  pub packed-push : (unit now : ℕ) (new : List ℕ) → unit < 2 ^ 64 → length units < room → capacity ≤ now → new ≡ bytes ++ unit_bytes unit
+      → IsPacked new (units ++ unit ∷ []) room now
   packed-push unit now new small few grown is = record {
     each = AreUnits-more units unit packed.each small;
-    whole = rw (is, packed.whole, length-append units (unit ∷ []), flat_map-append unit_bytes units (unit ∷ [])) refl;
+    number = packed.number;
+    whole = rw (is, packed.whole, flat_map-append unit_bytes units (unit ∷ [])) refl;
     few = omega (arith, length-append units (unit ∷ []));
     small = packed.small;
     fits = omega (arith, packed.fits, grown);
   }
 
-  pub packed-clear : (now : ℕ) (new : List ℕ) → capacity ≤ now → new ≡ take 7 (take 11 bytes) ++ to_be_bytes w32 0 ++ drop 11 (take 11 bytes)
-      → IsPacked new [] room now
-  unfolding batch
+  pub packed-clear : (now : ℕ) (new : List ℕ) → capacity ≤ now → new ≡ take 11 bytes → IsPacked new [] room now
   packed-clear now new grown is = record {
     each = tt;
+    number = packed.number;
     whole = rw (is, packed.whole) refl;
     few = omega arith;
     small = packed.small;
     fits = omega (arith, packed.fits, grown);
   }
 
+  -- with the number of units put in front of them
+  module _ (count : ℕ) (new : List ℕ) (count_is : count ≡ length units) (is : new ≡ take 7 bytes ++ to_be_bytes w32 count ++ drop 11 bytes) where
+    pub counted-batch : new ≡ magic ++ batch units
+    unfolding batch
+    counted-batch = rw (is, count_is, packed.whole) refl
+
+    pub packed-counted : (now : ℕ) → capacity ≤ now → IsPacked new units room now
+    packed-counted now grown = record {
+      each = packed.each;
+      number = count;
+      whole = rw (is, packed.whole) refl;
+      few = packed.few;
+      small = packed.small;
+      fits = omega (arith, packed.fits, grown);
+    }
+
+    -- and with the next gate behind
+    pub counted-sealed : new ++ CLOSED ∷ [] ≡ magic ++ sealed units
+    counted-sealed = ap (λ bs. bs ++ CLOSED ∷ []) counted-batch ∙ append_assoc magic (batch units) (CLOSED ∷ [])
+
+    pub counted-body : (full body : List ℕ) → full ≡ new ++ CLOSED ∷ [] → body ≡ drop 7 full → body ≡ sealed units
+    counted-body full body full_is back = back ∙ ap (drop 7) (full_is ∙ counted-sealed)
+
 pub packed-none : (room capacity : ℕ) (bytes : List ℕ) → bytes ≡ magic ++ to_be_bytes w32 0 → room < 2 ^ 32 → 13 + 8 * room ≤ capacity → IsPacked bytes [] room capacity
-unfolding batch
-packed-none room capacity bytes is small fits = record { each = tt; whole = is; few = omega arith; small = small; fits = fits }
+packed-none room capacity bytes is small fits = record { each = tt; number = 0; whole = is; few = omega arith; small = small; fits = fits }

@@ -4,7 +4,7 @@ ghost use Rattle.log_disk.specs.Disk.{put, IsSettled, Leaves};
 ghost use Rattle.lsn_space.specs.declared.lsn.TheConstants.{LAST};
 ghost use Rattle.segment_file.specs.Standing.{tail_after, AllStand, IsShut, HoldsEither};
 
-use crate::batch::Batch;
+use crate::batch::{Batch, put_count};
 use crate::gated_write::{DiskFault, write_gated};
 use crate::layout::{CLOSED, MOST_UNITS};
 use crate::scan_result::Tail;
@@ -61,6 +61,8 @@ fn append_sealed<D: LogDisk>(disk: &mut D, tail: Tail, batch: &mut Batch) -> Res
     ensures honest { D.honest disk.old ↔ D.honest disk.new }
     ensures cause { HasCause (D.faults disk.old) (D.faults disk.new) result }
 {
+    let count = batch.count();
+    put_count(&mut batch.bytes, count);
     let len = batch.bytes.len();
     batch.bytes.push_reserved(CLOSED);
     let appended = write_gated(disk, tail.at, batch.bytes.as_slice().split_at(7).1);

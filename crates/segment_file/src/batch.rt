@@ -12,7 +12,8 @@ use std::marker::Model;
 /// Units that go to the disk in one piece. Contracts see them, and for how many there is room.
 #[derive(Drop)]
 pub struct Batch {
-    /// The magic bytes, the number of units in four bytes, and the units.
+    /// The magic bytes, four bytes for the number of units, and the units. The number is put in when the batch goes to
+    /// the disk (`put_count`), so that a batch that is gathered unit by unit is written once.
     pub(crate) bytes: Vec<u8>,
     room: u32,
 }
@@ -42,8 +43,6 @@ impl Batch {
         requires { length self.old.units < self.old.room }
         ensures { self.new ≡ record self.old { units = self.old.units ++ unit ∷ [] } }
     {
-        let count = self.count() + 1;
-        put_count(&mut self.bytes, count);
         put_unit(&mut self.bytes, unit);
     }
 
@@ -52,7 +51,6 @@ impl Batch {
         ensures { self.new ≡ record self.old { units = [] } }
     {
         self.bytes.truncate(HEAD);
-        put_count(&mut self.bytes, 0);
     }
 
     /// The number of units.
@@ -96,7 +94,7 @@ fn head(alloc: Global, capacity: usize) -> Result<Vec<u8>, NoMemory>
 }
 
 /// Writes the number of units in front of them.
-fn put_count(bytes: &mut Vec<u8>, count: u32)
+pub(crate) fn put_count(bytes: &mut Vec<u8>, count: u32)
     requires { HEAD ≤ length bytes.old.items }
     ensures bytes { bytes.new.items ≡ take 7 bytes.old.items ++ to_be_bytes w32 count ++ drop 11 bytes.old.items }
     ensures capacity { vec_capacity bytes.old ≤ vec_capacity bytes.new }

@@ -3,7 +3,7 @@ ghost use Rattle.log_disk.specs.Faults.{HasCause};
 ghost use Rattle.log_disk.specs.Disk.{IsSettled, Leaves};
 ghost use Rattle.segment_file.specs.Standing.{tail_at, AllStand, IsShut, IsStableGate, HoldsNoneOr};
 
-use crate::batch::Batch;
+use crate::batch::{Batch, put_count};
 use crate::gated_write::{DiskFault, write_gated};
 use crate::layout::{CLOSED, MOST_UNITS};
 use crate::scan_result::Tail;
@@ -58,6 +58,8 @@ fn create_sealed<D: LogDisk>(disk: &mut D, batch: &mut Batch) -> Result<(), Disk
     ensures honest { D.honest disk.old ↔ D.honest disk.new }
     ensures cause { HasCause (D.faults disk.old) (D.faults disk.new) result }
 {
+    let count = batch.count();
+    put_count(&mut batch.bytes, count);
     let len = batch.bytes.len();
     batch.bytes.push_reserved(CLOSED);
     let created = write_gated(disk, 0, batch.bytes.as_slice());

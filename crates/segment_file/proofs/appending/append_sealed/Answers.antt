@@ -1,14 +1,17 @@
-use Rattle.std.proofs.Common.{◌∙◌, ap, length, arith}
+use Rattle.std.proofs.Common.{◌∙◌, vec_capacity, ap, length, arith}
 use Rattle.log_disk.proofs.Moments.{Leaves-weaken}
 use Rattle.segment_file.specs.File.{batch}
 use Rattle.segment_file.proofs.Appends.{holds-either, all_stand-more}
 use Rattle.segment_file.proofs.GateBytes.{shut-within, next-shut}
-use Rattle.segment_file.proofs.PackingLemmas.{packed-view, packed-body, length-packed, length-sealed, counted}
+use Rattle.segment_file.proofs.PackingLemmas.{packed-view, counted-body, packed-counted, length-packed, length-sealed, counted}
 use Rattle.segment_file.proofs.Results.{OnOk-both}
 use Rattle.segment_file.proofs.appending.append_sealed.Goals as goal
 
 pub push_reserved-requires : goal.push_reserved-requires
-push_reserved-requires g c = omega (arith, length-packed _ _ _ _ c.batch.invariant, c.batch.invariant.few, c.batch.invariant.fits)
+push_reserved-requires g c =
+    let packed = packed-view _ _ _ _ _ c.batch.invariant c.batch.view_is in
+    let numbered = packed-counted _ _ _ _ packed _ _ c.count-count.ensures c.put_count.ensures.bytes (vec_capacity c.put_count.new.bytes) c.put_count.ensures.capacity in
+    omega (arith, length-packed _ _ _ _ numbered, numbered.few, numbered.fits)
 
 pub write_gated-appended-requires-clause-within : goal.write_gated-appended-requires-clause-within
 write_gated-appended-requires-clause-within g c = λ honest. shut-within _ _ (c.requires.shut honest) _ (g.met.D.LogDisk.read_is_image _ honest)
@@ -16,7 +19,7 @@ write_gated-appended-requires-clause-within g c = λ honest. shut-within _ _ (c.
 pub returns-clause-moments : goal.returns-clause-moments
 returns-clause-moments g c = λ honest units stand.
     let packed = packed-view _ _ _ _ _ c.batch.invariant c.batch.view_is in
-    let body = packed-body _ _ _ _ packed _ _ (c.as_slice.ensures.value ∙ c.push_reserved.ensures.items) c.split_at.ensures.back in
+    let body = counted-body _ _ _ _ packed _ _ c.count-count.ensures c.put_count.ensures.bytes _ _ (c.as_slice.ensures.value ∙ c.push_reserved.ensures.items) c.split_at.ensures.back in
     let moments = rw body at (c.write_gated-appended.ensures.moments honest) in
     Leaves-weaken g.D.LogDisk.moment g.D.LogDisk.images_since _ _ _ _
     (holds-either c.args.tail units _ _ _ (g.met.D.LogDisk.read_is_image _ honest) (c.requires.shut honest) (counted _ _ _ _ packed c.requires.some c.requires.most) c.requires.fits stand)
@@ -25,7 +28,7 @@ returns-clause-moments g c = λ honest units stand.
 pub returns-clause-appended : goal.returns-clause-appended
 returns-clause-appended g c = λ honest.
     let packed = packed-view _ _ _ _ _ c.batch.invariant c.batch.view_is in
-    let body = packed-body _ _ _ _ packed _ _ (c.as_slice.ensures.value ∙ c.push_reserved.ensures.items) c.split_at.ensures.back in
+    let body = counted-body _ _ _ _ packed _ _ c.count-count.ensures c.put_count.ensures.bytes _ _ (c.as_slice.ensures.value ∙ c.push_reserved.ensures.items) c.split_at.ensures.back in
     let written = rw body at (c.write_gated-appended.ensures.written honest) in
     OnOk-both c.write_gated-appended.result (λ written settled units stand.
     all_stand-more c.args.tail units _ _ _ (g.met.D.LogDisk.read_is_image _ honest) (c.requires.shut honest) (counted _ _ _ _ packed c.requires.some c.requires.most) c.requires.fits stand
@@ -34,7 +37,7 @@ returns-clause-appended g c = λ honest.
 pub returns-clause-shut : goal.returns-clause-shut
 returns-clause-shut g c = λ honest.
     let packed = packed-view _ _ _ _ _ c.batch.invariant c.batch.view_is in
-    let body = packed-body _ _ _ _ packed _ _ (c.as_slice.ensures.value ∙ c.push_reserved.ensures.items) c.split_at.ensures.back in
+    let body = counted-body _ _ _ _ packed _ _ c.count-count.ensures c.put_count.ensures.bytes _ _ (c.as_slice.ensures.value ∙ c.push_reserved.ensures.items) c.split_at.ensures.back in
     OnOk-both c.write_gated-appended.result
     (λ written settled. next-shut _ _ (c.requires.shut honest) _ _ (g.met.D.LogDisk.read_is_image _ honest) (batch c.args.batch.now.units) _ _ _ body written settled
     (omega (arith, ap length body, length-sealed c.args.batch.now.units)))
@@ -43,5 +46,5 @@ returns-clause-shut g c = λ honest.
 pub returns-clause-length : goal.returns-clause-length
 returns-clause-length g c = λ honest.
     let packed = packed-view _ _ _ _ _ c.batch.invariant c.batch.view_is in
-    let body = packed-body _ _ _ _ packed _ _ (c.as_slice.ensures.value ∙ c.push_reserved.ensures.items) c.split_at.ensures.back in
+    let body = counted-body _ _ _ _ packed _ _ c.count-count.ensures c.put_count.ensures.bytes _ _ (c.as_slice.ensures.value ∙ c.push_reserved.ensures.items) c.split_at.ensures.back in
     omega (arith, c.write_gated-appended.ensures.length honest, ap length body, length-sealed c.args.batch.now.units)

@@ -1,4 +1,4 @@
-use Rattle.std.proofs.Common.{rules, arith, length, ◌≡◌, ap}
+use Rattle.std.proofs.Common.{rules, arith, length, ap}
 use Rattle.segment_file.proofs.PackingLemmas.{packed-view, length-packed, unit-at}
 use Rattle.segment_file.proofs.batch.Batch.at.Goals as goal
 
