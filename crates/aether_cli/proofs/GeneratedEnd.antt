@@ -14,6 +14,7 @@ use Rattle.lock_core.specs.Serial.{Task, numbered, IsCutShort, IsPartlySerialAft
 use Rattle.lock_core.specs.Sums.{BaseState}
 use Rattle.lock_core.specs.Transactions.{records_of, all_without_prev, in_order}
 use Rattle.lock_core.proofs.Doing.{end_of-weight, partly-done}
+use Rattle.lock_core.proofs.NextRecords.{size-without_prev}
 use Rattle.lock_core.proofs.Weighing.{AreDistinct, IgnoresPrev, each_task, has_number, weight_of-append, weight_of-history, weight_of-in_order, weight_of-tasks, weight_of-without_prev}
 use Rattle.txn_script.specs.declared.job.Job.{Job}
 use Rattle.txn_script.specs.Generator.{number_after, leg_from, job_from, generated_jobs, generated_transfers, OpensGenerated}
@@ -22,14 +23,6 @@ use Rattle.txn_script.proofs.OrderLemmas.{room-generated}
 use Rattle.txn_runner.specs.declared.jobs.Jobs.{Jobs}
 use Rattle.txn_runner.specs.Stripes.{number_at, place_of, job_at}
 use Rattle.aether_cli.specs.RunStops.{HasNextOf, StopsAtLogEnd}
-
-size_of-prev : IgnoresPrev size_of
-size_of-prev (Genesis account balance) = refl
-size_of-prev (Update txn account delta prev) = refl
-size_of-prev (Commit txn legs) = refl
-size_of-prev (Short txn leg) = refl
-size_of-prev (Over txn leg) = refl
-size_of-prev (Note txn text) = refl
 
 -- ---- one transfer has 5 units at most, whatever its outcome
 
@@ -56,7 +49,7 @@ records-most : (h : List Entry) (n : ℕ) (rest planned : List Rec) → in_order
     → weight_of size_of (records_of n h) + weight_of size_of rest ≡ weight_of size_of planned
 records-most h n rest planned same =
     let parts = weight_of-in_order size_of (all_without_prev (records_of n h)) rest in
-    let plain = weight_of-without_prev size_of (records_of n h) size_of-prev in
+    let plain = weight_of-without_prev size_of (records_of n h) size-without_prev in
     let whole = ap (weight_of size_of) same in
     omega arith
 

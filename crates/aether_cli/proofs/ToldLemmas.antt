@@ -8,7 +8,8 @@ use Rattle.log_disk.specs.declared.disk.LogDisk.{Ghosts}
 use Rattle.log_record.specs.declared.rec.Rec.{Rec}
 use Rattle.log_record.specs.declared.rec.Rec.TheVariants.{Genesis, Update, Commit, Short, Over, Note}
 use Rattle.log_record.specs.LogList.{units_of, end_of, size_of}
-use Rattle.log_record.specs.Spelling.{spelling, IsSpellable}
+use Rattle.log_record.specs.Spelling.{IsSpellable}
+use Rattle.log_record.proofs.LogListLemmas.{end_of-cons}
 use Rattle.lock_core.proofs.ListLemmas.{all-split}
 use Rattle.log_recovery.specs.Recovery.{HoldsLawful}
 use Rattle.log_recovery.specs.Text.{lsn_line, account_line, accounts_text}
@@ -60,9 +61,6 @@ end_line-commit at (Short other leg) rest txn end fits room has =
 end_line-commit at (Over other leg) rest txn end fits room has =
     ⊎_elim (λ same. absurd (done-over txn end other leg at same)) (λ behind. inr behind)
     (HasLine-first (over_line other leg at) rest (done_line txn end) (over-whole other leg at) (done-whole txn end) has)
-
-end_of-cons : (rec : Rec) (records : List Rec) → end_of (rec ∷ records) ≡ size_of rec + end_of records
-end_of-cons rec records = length-append (spelling rec) (units_of records)
 
 HasCommitAt-first : (at : ℕ) (rec : Rec) (records : List Rec) (txn end legs : ℕ) → rec ≡ Commit txn legs → end ≡ at + size_of rec
     → HasCommitAt at (rec ∷ records) txn end

@@ -1,5 +1,5 @@
 -- Transfers for which there is room are done, whatever their order, and what they leave doesn't depend on it.
-use Rattle.std.proofs.Common.{◌≡◌, ◌≤◌, ◌<◌, ℕ, zero, suc, ◌==◌, ◌||◌, ◌+◌, ◌-◌, cond, ℤ, pos, neg_ℤ, Bool, true, false, true≢false, ◌⊎◌, inl, inr, List, [], ◌∷◌, ◌++◌, length, take, Contains, length-append, refl, ap, ◌∙◌, sym, subst, arith, append_assoc, eq-eqb, ne_eqb}
+use Rattle.std.proofs.Common.{◌≡◌, ◌≤◌, ◌<◌, ℕ, zero, suc, ◌==◌, ◌||◌, ◌+◌, ◌-◌, cond, ℤ, pos, neg_ℤ, Bool, true, false, true≢false, ◌⊎◌, inl, inr, List, [], ◌∷◌, ◌++◌, length, take, Contains, refl, ap, ◌∙◌, sym, subst, arith, append_assoc, eq-eqb, ne_eqb}
 use Rattle.std.specs.List.{AllByRecursion}
 use Rattle.std.proofs.lemmas.Bool.{le-ltb}
 use Rattle.std.proofs.lemmas.List.{take_all}
@@ -8,8 +8,8 @@ use mathlib.Core.Logic.{dite}
 use native.Mathlib.Decide.{ℕ_discrete}
 use Rattle.log_record.specs.declared.rec.Rec.{Rec}
 use Rattle.log_record.specs.declared.rec.Entry.{Entry}
-use Rattle.log_record.specs.LogList.{units_of, end_of, size_of}
-use Rattle.log_record.specs.Spelling.{spelling}
+use Rattle.log_record.specs.LogList.{end_of, size_of}
+use Rattle.log_record.proofs.LogListLemmas.{end_of-cons}
 use Rattle.log_record.specs.declared.rec.Rec.TheVariants.{Genesis, Update, Commit, Short, Over, Note}
 use Rattle.log_record.specs.declared.limits.TheConstants.{MOST_BALANCE}
 use Rattle.lock_core.specs.History.{history_from}
@@ -21,6 +21,7 @@ use Rattle.lock_core.specs.Serial.{Task, numbered, IsRunWhole, IsCutShort, HasNo
 use Rattle.lock_core.specs.AnyOrder.{given, taken, legs_of, HasRoomFor, IsDoneIn, done_records, weight_of}
 use Rattle.lock_core.proofs.OneMore.{neither, of_transaction-same, has_commit-unended}
 use Rattle.lock_core.proofs.Apart.{records_of-right}
+use Rattle.lock_core.proofs.NextRecords.{size-without_prev}
 use Rattle.lock_core.proofs.Running.{has_end-front}
 use Rattle.lock_core.proofs.SerialFronts.{IsRunPartly, all-map, cut_short-end, has_end-without_prev, partly_serial-front, serial-partly}
 use Rattle.lock_core.proofs.Weighing.{has_number, AreDistinct, each_task, each_task-same, IgnoresPrev, weight_of-entry, weight_of-tasks, weight_of-append, weight_of-in_order, weight_of-without_prev, weight_of-history}
@@ -413,20 +414,12 @@ module _ (base : BaseState) (first : ℕ) (jobs : List Job) (room : HasRoomFor b
       let whole = weight-done weight (history_from base.end [] records) ignores serial in
       let order = weight_of-history weight base.end [] records in omega arith
 
-size_of-prev : IgnoresPrev size_of
-size_of-prev (Genesis account balance) = refl
-size_of-prev (Update txn account delta prev) = refl
-size_of-prev (Commit txn legs) = refl
-size_of-prev (Short txn leg) = refl
-size_of-prev (Over txn leg) = refl
-size_of-prev (Note txn text) = refl
-
 pub end_of-weight : (records : List Rec) → end_of records ≡ weight_of size_of records
 end_of-weight [] = refl
-end_of-weight (rec ∷ records) = let more = end_of-weight records in let parts = length-append (spelling rec) (units_of records) in omega arith
+end_of-weight (rec ∷ records) = omega (arith, end_of-weight records, end_of-cons rec records)
 
 -- the list ends where the records of all transfers, one after another, do
 pub end-done : (base : BaseState) (first : ℕ) (jobs : List Job) (records : List Rec) → HasRoomFor base jobs
     → IsSerialAfter base (numbered first jobs) (history_from base.end [] records) → end_of records ≡ end_of (done_records (numbered first jobs))
 end-done base first jobs records room serial =
-    end_of-weight records ∙ records-done base first jobs room size_of records size_of-prev serial ∙ sym (end_of-weight (done_records (numbered first jobs)))
+    end_of-weight records ∙ records-done base first jobs room size_of records size-without_prev serial ∙ sym (end_of-weight (done_records (numbered first jobs)))

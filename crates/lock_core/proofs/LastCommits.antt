@@ -1,5 +1,5 @@
--- The last Commit on an account is the base state's, or a Commit of the list; in a whole log it is 0, or a Commit of the log.
-use Rattle.std.proofs.Common.{◌≡◌, ◌⊎◌, inl, inr, ◌&&◌, ℕ, cond, Bool, true, false, List, [], ◌∷◌, refl, ap, ◌∙◌}
+-- The last Commit on an account is the base state's, or a Commit of the list; a whole log begins with none.
+use Rattle.std.proofs.Common.{◌≡◌, ◌⊎◌, inl, inr, ◌&&◌, ℕ, cond, Bool, true, false, List, [], ◌∷◌, refl, ap}
 use Rattle.log_record.specs.declared.rec.Rec.{Rec}
 use Rattle.log_record.specs.declared.rec.Entry.{Entry}
 use Rattle.log_record.specs.declared.rec.Rec.TheVariants.{Genesis, Update, Commit, Short, Over, Note}
@@ -9,10 +9,10 @@ use Rattle.lock_core.specs.Sums.{BaseState, last_commit_of, IsCommitOn}
 use Rattle.lock_core.specs.Lawful.{genesis_of, with_genesis}
 
 -- the base state's last Commit on the account, or one of the history
-abbrev IsBaseOrCommitOn : BaseState → List Entry → ℕ → ℕ → Type 0
+abbrev pub IsBaseOrCommitOn : BaseState → List Entry → ℕ → ℕ → Type 0
 IsBaseOrCommitOn base h account end = (end ≡ base.last_commit account) ⊎ IsCommitOn h account end
 
-last_commit_of-is : (base : BaseState) (h : List Entry) (account : ℕ) → IsBaseOrCommitOn base h account (last_commit_of base h account)
+pub last_commit_of-is : (base : BaseState) (h : List Entry) (account : ℕ) → IsBaseOrCommitOn base h account (last_commit_of base h account)
 last_commit_of-is base [] account = inl refl
 last_commit_of-is base (entry ∷ h) account = by_case (commits entry.rec) (touches account (updates_of (txn_of entry.rec) h)) refl refl (last_commit_of-is base h account)
   where
@@ -47,12 +47,3 @@ genesis_of-last_commit (entry ∷ h) account = by_kind entry.rec (genesis_of-las
     by_kind (Short txn leg) before = before
     by_kind (Over txn leg) before = before
     by_kind (Note txn text) before = before
-
-pub genesis_commit-is : (h : List Entry) (account : ℕ)
-    → (last_commit_of (genesis_of h) h account ≡ 0) ⊎ IsCommitOn h account (last_commit_of (genesis_of h) h account)
-genesis_commit-is h account = by_case (last_commit_of-is (genesis_of h) h account)
-  where
-    by_case : IsBaseOrCommitOn (genesis_of h) h account (last_commit_of (genesis_of h) h account)
-        → (last_commit_of (genesis_of h) h account ≡ 0) ⊎ IsCommitOn h account (last_commit_of (genesis_of h) h account)
-    by_case (inl is) = inl (is ∙ genesis_of-last_commit h account)
-    by_case (inr on) = inr on

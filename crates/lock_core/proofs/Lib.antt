@@ -15,6 +15,7 @@ pub mod OneMore
 pub mod OwnLemmas
 pub mod Pairing
 pub mod Plainly
+pub mod Preceding
 pub mod Ranging
 pub mod Running
 pub mod SerialFronts

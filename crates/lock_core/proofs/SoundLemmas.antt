@@ -1,5 +1,5 @@
 -- What a lawful list keeps that goes on from another; and that nothing moves an account that it doesn't have.
-use Rattle.std.proofs.Common.{◌≡◌, ◌⊎◌, ◌<◌, ◌≤◌, ◌==◌, ◌&&◌, ◌||◌, ℕ, ◌+◌, cond, ℤ, Bool, true, false, List, [], ◌∷◌, ◌++◌, refl, ap, ◌∙◌, sym, subst, arith, ne_eqb}
+use Rattle.std.proofs.Common.{◌≡◌, ◌<◌, ◌≤◌, ◌==◌, ◌&&◌, ◌||◌, ℕ, ◌+◌, cond, ℤ, Bool, true, false, List, [], ◌∷◌, ◌++◌, refl, ap, ◌∙◌, sym, arith, ne_eqb}
 use Rattle.std.specs.List.{AllByRecursion}
 use Rattle.log_record.specs.declared.rec.Rec.{Rec}
 use Rattle.log_record.specs.declared.rec.Entry.{Entry}
@@ -8,13 +8,13 @@ use Rattle.log_record.specs.Spelling.{IsSpellable}
 use Rattle.lock_core.specs.declared.update.Change.{Change}
 use Rattle.lock_core.specs.Records.{txn_of, commits, changes_of, gain, loss}
 use Rattle.lock_core.specs.Transactions.{updates_of, touches, is_committed, ShareNoTransaction}
-use Rattle.lock_core.specs.Tests.{KnowsAccount, OpensLedger, IsCurrent}
-use Rattle.lock_core.specs.Sums.{BaseState, moved, moved_by, sum_below, last_commit_of, IsCommitOn}
+use Rattle.lock_core.specs.Tests.{KnowsAccount, OpensLedger}
+use Rattle.lock_core.specs.Sums.{BaseState, moved, moved_by, sum_below, last_commit_of}
 use Rattle.lock_core.specs.Lawful.{IsLawful, IsLawfulAfter, genesis_of, with_genesis, base_state_of}
-use Rattle.lock_core.specs.Soundness.{IsBuiltOn, HasPredecessors, IsSoundAfter}
-use Rattle.lock_core.proofs.Meeting.{AreMet, meets-log, met-log}
-use Rattle.lock_core.proofs.LastCommits.{genesis_of-last_commit, genesis_commit-is}
-use Rattle.lock_core.proofs.Fronts.{lawful-front}
+use Rattle.lock_core.specs.Soundness.{IsSoundAfter}
+use Rattle.lock_core.proofs.Meeting.{AreMet, met-log}
+use Rattle.lock_core.proofs.LastCommits.{genesis_of-last_commit}
+use Rattle.lock_core.proofs.Preceding.{predecessors-log}
 use Rattle.lock_core.proofs.ListLemmas.{all-split}
 use Rattle.lock_core.proofs.Appending.{genesis_of-append, lawful-append}
 use Rattle.lock_core.proofs.Ranging.{in_range-log}
@@ -22,24 +22,13 @@ use Rattle.lock_core.proofs.Conserving.{sum_below-log}
 use Rattle.lock_core.proofs.KindLemmas.{accounts-genesis}
 use Rattle.lock_core.proofs.Pairing.{updates_of-fits}
 
-built-on : (front : List Entry) (changes : List Change) → AllByRecursion (IsCurrent (genesis_of front) front) changes
-    → AllByRecursion (IsBuiltOn front) changes
-built-on front [] current = tt
-built-on front (change ∷ changes) current =
-    let there = subst (λ end. (end ≡ 0) ⊎ IsCommitOn front change.account end) (sym current.0) (genesis_commit-is front change.account) in
-    (record { last = current.0; there = there }, built-on front changes current.1)
-
-pub predecessors-lawful : (h : List Entry) → IsLawful h → HasPredecessors h
-predecessors-lawful h lawful later front end txn legs whole =
-    let entry : Entry = record { end = end; rec = Commit txn legs } in
-    let before = lawful-front later (entry ∷ front) (subst IsLawful whole lawful) in
-    built-on front (updates_of txn front) (meets-log front entry before.0).stale
-
 pub sound-after : (before later : List Entry) → IsLawful before → 0 < (genesis_of before).accounts
     → AllByRecursion (λ (entry : Entry). IsSpellable entry.rec) (later ++ before) → IsLawfulAfter (base_state_of before) later
     → ShareNoTransaction later before → IsSoundAfter before (later ++ before)
 sound-after before later lawful some spellable after apart = record {
-  predecessors = predecessors-lawful (later ++ before) whole;
+  later = later;
+  whole = refl;
+  predecessors = predecessors-log (later ++ before) whole;
   range = in_range-log (later ++ before) spellable whole;
   sum = sum_below-log (later ++ before) spellable whole
       ∙ ap (λ (base : BaseState). sum_below base.accounts base.balance) (genesis_of-append (base_state_of before) later before after)

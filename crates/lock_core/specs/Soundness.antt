@@ -1,30 +1,38 @@
--- What a lawful list that goes on from another keeps: the Commits that others were built on, ranges, and the sum of all balances.
-use Rattle.std.specs.Prelude.{◌≡◌, ℕ, ◌⊎◌, List, ◌∷◌, ◌++◌}
+-- What a lawful list keeps that goes on from another: the Commits that others were built on, ranges, and the sum of all balances.
+use Rattle.std.specs.Prelude.{◌≡◌, ℕ, true, ◌⊎◌, List, [], ◌∷◌, ◌++◌}
 use Rattle.std.specs.List.{AllByRecursion}
-use Rattle.log_record.specs.declared.rec.Rec.TheVariants.{Commit}
 use Rattle.log_record.specs.declared.rec.Entry.{Entry}
 use Rattle.lock_core.specs.declared.update.Change.{Change}
-use Rattle.lock_core.specs.Transactions.{updates_of}
-use Rattle.lock_core.specs.Sums.{IsCommitOn, AreInRange, sum_below, balance_of, last_commit_of}
+use Rattle.lock_core.specs.Records.{txn_of, commits, ends, changes_of}
+use Rattle.lock_core.specs.Transactions.{of_transaction, updates_of}
+use Rattle.lock_core.specs.Sums.{BaseState, IsCommitOn, AreInRange, sum_below, balance_of, last_commit_of}
 use Rattle.lock_core.specs.Lawful.{genesis_of}
 
--- the change names the last Commit on its account in the list before, and that Commit is there; 0 where there is none
-pub record IsBuiltOn (front : List Entry) (change : Change) : Type 0 where
-  pub last : change.prev ≡ last_commit_of (genesis_of front) front change.account
-  pub there : (change.prev ≡ 0) ⊎ IsCommitOn front change.account change.prev
+-- the change names the last Commit on its account in the list before, and that Commit is there; the base state's where there is none
+pub record IsBuiltOn (base : BaseState) (front : List Entry) (change : Change) : Type 0 where
+  pub last : change.prev ≡ last_commit_of base front change.account
+  pub there : (change.prev ≡ base.last_commit change.account) ⊎ IsCommitOn front change.account change.prev
 
--- each Commit stands behind those whose accounts it took over
-abbrev pub HasPredecessors : List Entry → Type 0
-HasPredecessors h = (later front : List Entry) (end txn legs : ℕ)
-    → h ≡ later ++ record { end = end; rec = Commit txn legs } ∷ front → AllByRecursion (IsBuiltOn front) (updates_of txn front)
+-- Between what stands before and behind it, an entry that is an Update is built on the list before; a Commit stands behind those whose
+-- accounts it took over, as what it commits is built on the list before it too; and behind an end record nothing of its transaction stands.
+pub record StandsBetween (base : BaseState) (front later : List Entry) (entry : Entry) : Type 0 where
+  pub update : AllByRecursion (IsBuiltOn base front) (changes_of entry.rec)
+  pub commit : commits entry.rec ≡ true → AllByRecursion (IsBuiltOn base front) (updates_of (txn_of entry.rec) front)
+  pub last : ends entry.rec ≡ true → of_transaction (txn_of entry.rec) later ≡ []
+
+-- each entry of a history that follows a base state stands so
+abbrev pub HasPredecessors : BaseState → List Entry → Type 0
+HasPredecessors base h = (later front : List Entry) (entry : Entry) → h ≡ later ++ entry ∷ front → StandsBetween base front later entry
 
 -- the sum of all balances
 abbrev pub sum_of_balances : List Entry → ℕ
 sum_of_balances h = sum_below (genesis_of h).accounts (balance_of (genesis_of h) h)
 
--- each Commit stands behind those whose accounts it took over, no balance is outside its range, and nothing was made or lost since the list
--- before
+-- The list goes on from the one before. Each Commit stands behind those whose accounts it took over, no balance is outside its range, and
+-- nothing was made or lost since the list before.
 pub record IsSoundAfter (before h : List Entry) : Type 0 where
-  pub predecessors : HasPredecessors h
+  pub later : List Entry
+  pub whole : h ≡ later ++ before
+  pub predecessors : HasPredecessors (genesis_of h) h
   pub range : AreInRange (genesis_of h) h
   pub sum : sum_of_balances h ≡ sum_of_balances before

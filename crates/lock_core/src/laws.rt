@@ -98,9 +98,13 @@ pub fn plain_words()
         → IsPaired (updates_of txn h) change ↔ IsPlainlyPaired (updates_of txn h) change }
 {}
 
-/// A law: in a lawful list what a Commit commits names the last Commit on each account before it, which is there.
+/// A law: in a lawful list each Update, committed or not, names the last Commit on its account before it, which is there, and
+/// still does at a Commit that commits it; where there is none it names the base state's, which in a whole log is 0. Nothing of
+/// a transaction stands behind its end record.
 pub fn predecessors()
-    ensures { (h : List Entry) → IsLawful h → HasPredecessors h }
+    ensures log { (h : List Entry) → IsLawful h → HasPredecessors (genesis_of h) h }
+    ensures after { (base : BaseState) (h : List Entry) → IsLawfulAfter base h → HasPredecessors base h }
+    ensures none { (h : List Entry) (account : ℕ) → (genesis_of h).last_commit account ≡ 0 }
 {}
 
 /// A law: lists share no transaction where the numbers of the one are below a number, and those of the other are not. What

@@ -1,9 +1,6 @@
 ghost use Rattle.std.specs.Prelude.{◌≡◌};
 ghost use Rattle.log_record.specs.Spelling.{header};
 
-/// The most legs of a transaction.
-pub const MOST_LEGS: u16 = 8;
-
 pub const GENESIS: u8 = 1;
 
 pub const UPDATE: u8 = 2;

@@ -14,7 +14,7 @@ mod units;
 mod writing;
 
 pub use laws::{log_list_laws, one_spelling, spelling_bounds};
-pub use limits::{LAST_TXN, MOST_ACCOUNTS, MOST_BALANCE};
+pub use limits::{LAST_TXN, MOST_ACCOUNTS, MOST_BALANCE, MOST_LEGS};
 pub use reading::{BadRec, read};
 pub use rec::{Entry, Rec};
 pub use text::{LONGEST_NOTE, Text};

@@ -6,8 +6,8 @@ ghost use Rattle.log_record.specs.Spelling.{spelling, IsTxn, IsLeg, BeginsWith};
 ghost use Rattle.log_record.specs.declared.header.TheConstants.{COMMIT, GENESIS, NOTE, OVER, SHORT, UPDATE};
 ghost use Rattle.log_record.specs.Reading.{header_unit, Spells};
 
-use crate::header::{COMMIT, GENESIS, Header, MOST_LEGS, NOTE, OVER, SHORT, UPDATE};
-use crate::limits::{MOST_ACCOUNTS, MOST_BALANCE};
+use crate::header::{COMMIT, GENESIS, Header, NOTE, OVER, SHORT, UPDATE};
+use crate::limits::{MOST_ACCOUNTS, MOST_BALANCE, MOST_LEGS};
 use crate::note::{note_units, read_text};
 use crate::rec::Rec;
 use crate::text::LONGEST_NOTE;

@@ -56,7 +56,8 @@ fn add(accounts: &mut ArrayVec<u32, 16>, account: u32)
 #[cfg(test)]
 mod tests {
     use super::*;
-    use txn_script::{Legs, MOST_LEGS};
+    use log_record::MOST_LEGS;
+    use txn_script::Legs;
 
     #[test]
     fn each_account_stands_once_and_in_order(rt: HostRuntime) {
@@ -72,7 +73,7 @@ mod tests {
         for (list, wanted) in cases {
             let mut legs = Legs::new();
             for leg in list {
-                assert!(rt; legs.as_slice().len() < MOST_LEGS);
+                assert!(rt; legs.as_slice().len() < usize::from(MOST_LEGS));
                 legs.push(*leg);
             }
             let accounts = accounts_of(&Job { legs, note: None });

@@ -2,10 +2,9 @@
 use Rattle.std.specs.Prelude.{◌≡◌, ◌≢◌, ◌<◌, ◌≤◌, ◌==◌, ℕ, ◌+◌, Option, Some, None, IfSome, List, [], ◌∷◌, ◌++◌, ◌⊎◌, codes, length, map, filter, not, All}
 use Rattle.std.specs.List.{flat_map, AllByRecursion}
 use Rattle.lsn_space.specs.Number.{number_text}
-use Rattle.log_record.specs.declared.limits.TheConstants.{MOST_BALANCE}
+use Rattle.log_record.specs.declared.limits.TheConstants.{MOST_BALANCE, MOST_LEGS}
 use Rattle.log_record.specs.Spelling.{IsNoteText}
 use Rattle.txn_script.specs.Lines.{lines}
-use Rattle.txn_script.specs.declared.job.TheConstants.{MOST_LEGS}
 use Rattle.txn_script.specs.declared.job.Job.{Job}
 use Rattle.txn_script.specs.declared.pay.TheConstants.{SPACE}
 use Rattle.txn_script.specs.declared.fault.ParseFault.{ParseFault}

@@ -1,13 +1,10 @@
 ghost use Rattle.std.specs.Prelude.{◌≡◌, ◌<◌, ◌≤◌, ◌++◌, ◌∷◌, [], length, All, IsTrue, ◌↔◌, IfSome, IfNone};
+ghost use Rattle.log_record.specs.declared.limits.TheConstants.{MOST_LEGS};
 ghost use Rattle.log_record.specs.Spelling.{IsNoteText, IsPrintable};
-ghost use Rattle.txn_script.specs.declared.job.TheConstants.{MOST_LEGS};
 
 use arrayvec::ArrayVec;
-use log_record::{LONGEST_NOTE, Text};
+use log_record::{LONGEST_NOTE, MOST_LEGS, Text};
 use std::marker::Model;
-
-/// The most legs of a transfer.
-pub const MOST_LEGS: usize = 8;
 
 /// The legs of a transfer, at most `MOST_LEGS`. Contracts see the list of them.
 #[derive(Debug, Drop)]

@@ -19,7 +19,7 @@ pub use generator::{
     GENERATED_ACCOUNTS, GENERATED_BALANCE, MOST_GENERATED, generated_in_any_order,
     generated_jobs_laws, make,
 };
-pub use job::{Job, Legs, MOST_LEGS, Remark};
+pub use job::{Job, Legs, Remark};
 pub use lines::written_lines;
 pub use numerals::number;
 pub use opening::{balances, balances_one_reading};

@@ -6,9 +6,9 @@ ghost use Rattle.txn_script.specs.Reading.{IsDigit, EndsNumber, BeginsLeg, EndsL
 ghost use Rattle.txn_script.specs.Script.{spaced, leg_text, legs_text, note_text, job_text, IsAllowedLeg, AreAllowedLegs, IsAllowedJob};
 ghost use Rattle.txn_script.specs.declared.job.Job.{Job};
 
-use crate::job::{Job, Legs, MOST_LEGS, Remark};
+use crate::job::{Job, Legs, Remark};
 use crate::numerals::number;
-use log_record::MOST_BALANCE;
+use log_record::{MOST_BALANCE, MOST_LEGS};
 
 /// What stands between the parts of a line.
 pub const SPACE: u8 = b' ';
@@ -47,7 +47,7 @@ fn take_legs(bytes: &[u8], accounts: u32) -> Option<(Legs, &[u8])>
     let mut legs = Legs::new();
     let mut rest = bytes;
     'legs: while begins_leg(rest) {
-        if legs.as_slice().len() == MOST_LEGS {
+        if legs.as_slice().len() == usize::from(MOST_LEGS) {
             return None;
         }
         let (leg, after) = take_leg(rest, accounts)?;

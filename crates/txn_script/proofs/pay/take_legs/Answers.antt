@@ -6,12 +6,12 @@ use Rattle.txn_script.specs.Script.{legs_text, IsAllowedLeg}
 use Rattle.txn_script.proofs.LegLemmas.{next-leg, legs-begin, more-text, all-push}
 use Rattle.txn_script.proofs.pay.take_legs.Goals as goal
 
-pub returns-then-as_slice-eq-MOST_LEGS-clause-none : goal.returns-then-as_slice-eq-MOST_LEGS-clause-none
-returns-then-as_slice-eq-MOST_LEGS-clause-none c = λ legs rest allowed ends same.
+pub returns-then-as_slice-from-clause-none : goal.returns-then-as_slice-from-clause-none
+returns-then-as_slice-from-clause-none c = λ legs rest allowed ends same.
     let before = c.legs.invariant in
     let next = next-leg c.args.accounts c.ranges.accounts.fits c.legs.legs legs c.legs.rest.now rest before.each allowed.each before.whole
     ends (sym before.text ∙ same) (c.legs-test.ensures.0 refl) in
-    let full : length c.legs.legs ≡ 8 = sym (ap length c.as_slice.ensures.legs) ∙ c.if-as_slice-eq-MOST_LEGS.true in
+    let full : length c.legs.legs ≡ 8 = sym (ap length c.as_slice.ensures.legs) ∙ c.if-as_slice-from.true ∙ c.from.ensures in
     omega (arith, next.5, allowed.few, full)
 
 pub returns-in_err-leg-clause-none : goal.returns-in_err-leg-clause-none
@@ -31,7 +31,8 @@ legs-preserved c =
         before.few,
         length-append c.legs.legs (c.in_ok-leg.leg ∷ []),
         ap length c.as_slice.ensures.legs,
-        c.if-as_slice-eq-MOST_LEGS.false,
+        c.if-as_slice-from.false,
+        c.from.ensures,
       );
       each = all-push (IsAllowedLeg c.args.accounts) c.legs.legs c.in_ok-leg.leg before.each taken.allowed;
       whole = λ some. taken.whole;
