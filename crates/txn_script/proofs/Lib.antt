@@ -6,3 +6,4 @@ pub mod LineLemmas
 pub mod NumberLemmas
 pub mod OrderLemmas
 pub mod ScriptLemmas
+pub mod StoringLemmas

@@ -3,4 +3,5 @@ pub mod Generator
 pub mod Lines
 pub mod Reading
 pub mod Script
+pub mod Storing
 pub mod Transfers

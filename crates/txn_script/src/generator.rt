@@ -12,7 +12,7 @@ ghost use Rattle.lock_core.specs.Sums.{BaseState, balance_of, sum_below};
 ghost use Rattle.txn_script.specs.Generator.{number_after, job_from, generated_balance, generated_jobs, generated_transfers, OpensGenerated};
 ghost use Rattle.txn_script.specs.Script.{IsAllowedJob};
 
-use crate::job::{Job, Legs};
+use crate::job::Job;
 use crate::script::Script;
 use lsn_space::NoMemory;
 use std::alloc::Global;
@@ -30,15 +30,13 @@ pub const MOST_GENERATED: u32 = 100_000;
 pub fn make(alloc: Global, n: u32, seed: u32) -> Result<Script, NoMemory>
     ensures jobs { IfOk result (λ script. script ≡ generated_jobs n seed) }
 {
-    let Ok(mut jobs) = Vec::with_capacity(alloc, n as usize) else {
-        return Err(NoMemory);
-    };
+    let mut script = Script::with_room(alloc, n)?;
     let mut x = seed;
     'jobs: for _ in 0..n {
         x = following(x);
-        jobs.push_reserved(job_of(x));
+        script.push(job_of(x))?;
     }
-    Ok(Script::new(jobs))
+    Ok(script)
 }
 
 /// The number that follows this one.
@@ -55,9 +53,7 @@ fn job_of(x: u32) -> Job
     let payer = x % 64;
     let payee = (payer + 1 + x / 64 % 63) % 64;
     let amount = 1 + x / 4096 % 9;
-    let mut legs = Legs::new();
-    legs.push((payer, payee, amount));
-    Job { legs, note: None }
+    Job::of_leg((payer, payee, amount))
 }
 
 /// A law: generated transfers are as many as were asked for, and a log of 64 accounts allows each.

@@ -36,7 +36,8 @@ fn mix_of(script: &Script) -> u64 {
     let mut given = 0u64;
     let mut taken = 0u64;
     for place in 0..script.count() {
-        for (payer, payee, amount) in script.job(place).legs.as_slice() {
+        let job = script.job(place);
+        for (payer, payee, amount) in job.legs.as_slice() {
             taken = taken.saturating_add((*payer as u64).saturating_mul(*amount as u64));
             given = given.saturating_add((*payee as u64).saturating_mul(*amount as u64));
         }

@@ -37,6 +37,15 @@ impl Legs {
         self.legs.push(leg);
     }
 
+    /// The same legs once more.
+    fn copy(&self) -> Legs
+        ensures { result ≡ self.now }
+    {
+        let mut legs = ArrayVec::new();
+        legs.try_extend_from_slice(self.legs.as_slice()).unwrap();
+        Legs { legs }
+    }
+
     pub fn as_slice(&self) -> &[(u32, u32, u32)]
         ensures legs { result.now ≡ self.now }
         ensures few { length self.now ≤ MOST_LEGS }
@@ -76,6 +85,15 @@ impl Remark {
         })
     }
 
+    /// The same remark once more.
+    fn copy(&self) -> Remark
+        ensures { result ≡ self.now }
+    {
+        Remark {
+            text: Text::from_bytes(self.text.as_slice()),
+        }
+    }
+
     pub fn as_slice(&self) -> &[u8]
         ensures bytes { result.now ≡ self.now }
         ensures note { IsNoteText self.now }
@@ -89,6 +107,22 @@ impl Remark {
 pub struct Job {
     pub legs: Legs,
     pub note: Option<Remark>,
+}
+
+impl Job {
+    /// The same transfer once more.
+    pub(crate) fn copy(&self) -> Job
+        ensures { result ≡ self.now }
+    {
+        let note = match &self.note {
+            Some(remark) => Some(remark.copy()),
+            None => None,
+        };
+        Job {
+            legs: self.legs.copy(),
+            note,
+        }
+    }
 }
 
 fn is_printable(text: &[u8]) -> bool

@@ -11,6 +11,7 @@ mod numerals;
 mod opening;
 mod pay;
 mod script;
+mod stored;
 #[cfg(test)]
 mod tests;
 

@@ -1,4 +1,4 @@
-ghost use Rattle.std.specs.Prelude.{◌≡◌, ◌<◌, ◌≤◌, ◌^◌, ℕ, List, Some, length, slice_get, IfOk, IfErr};
+ghost use Rattle.std.specs.Prelude.{◌≡◌, ◌<◌, ◌≤◌, ◌^◌, ◌++◌, ◌∷◌, [], ℕ, List, Some, length, slice_get, IfOk, IfErr, OnErr};
 ghost use Rattle.txn_script.specs.Script.{IsScriptText, IsFirstBadLine, IsScriptFault};
 ghost use Rattle.txn_script.specs.declared.job.Job.{Job};
 
@@ -6,44 +6,82 @@ use crate::fault::ParseFault;
 use crate::job::Job;
 use crate::lines::take_line;
 use crate::pay::read_job;
+use crate::stored::Stored;
+use lsn_space::NoMemory;
 use std::alloc::Global;
 use std::marker::Model;
 
 /// Transfers, in order. Contracts see the list of them.
 #[derive(Debug, Drop)]
 pub struct Script {
-    jobs: Vec<Job>,
+    stored: Vec<Stored>,
+    long: Vec<Job>,
 }
 
 impl Model for Script {
-    ghost use Rattle.std.specs.Prelude.{List};
+    ghost use Rattle.std.specs.Prelude.{List, All, map};
     ghost use Rattle.txn_script.specs.declared.job.Job.{Job};
+    ghost use Rattle.txn_script.specs.Storing.{job_stored, IsStored};
 
     ghost Value = { List Job };
 
-    ghost view = { λ script. script.jobs.items };
+    ghost view = { λ script. map (job_stored script.long.items) script.stored.items };
+
+    ghost invariant = { λ script. All (IsStored script.long.items) script.stored.items };
 }
 
 impl Script {
-    pub fn new(jobs: Vec<Job>) -> Script
-        ensures { result ≡ jobs.items }
+    /// No transfers, and room for so many.
+    pub fn with_room(alloc: Global, n: u32) -> Result<Script, NoMemory>
+        ensures { IfOk result (λ script. script ≡ []) }
     {
-        Script { jobs }
+        match Vec::with_capacity(alloc, n as usize) {
+            Ok(stored) => Ok(Script {
+                stored,
+                long: Vec::new(alloc),
+            }),
+            Err(_) => Err(NoMemory),
+        }
+    }
+
+    /// Adds a transfer behind the others.
+    pub fn push(&mut self, job: Job) -> Result<(), NoMemory>
+        ensures { IfOk result (λ _. self.new ≡ self.old ++ job ∷ []) }
+    {
+        if let Some(leg) = job.single() {
+            return put(&mut self.stored, Stored::Single(leg));
+        }
+        let at = self.long.len();
+        put(&mut self.long, job)?;
+        put(&mut self.stored, Stored::Long(at))
     }
 
     /// The number of transfers.
     pub fn count(&self) -> u64
         ensures { result ≡ length self.now }
     {
-        self.jobs.len() as u64
+        self.stored.len() as u64
     }
 
     /// The transfer at this place, from 0 on.
-    pub fn job(&self, place: u64) -> &Job
+    pub fn job(&self, place: u64) -> Job
         requires { place < length self.now }
-        ensures { slice_get self.now place ≡ Some result.now }
+        ensures { slice_get self.now place ≡ Some result }
     {
-        &self.jobs[place as usize]
+        match self.stored[place as usize] {
+            Stored::Single(leg) => Job::of_leg(leg),
+            Stored::Long(at) => self.long[at].copy(),
+        }
+    }
+}
+
+fn put<T: Drop>(list: &mut Vec<T>, element: T) -> Result<(), NoMemory>
+    ensures put { IfOk result (λ _. list.new.items ≡ list.old.items ++ element ∷ []) }
+    ensures kept { OnErr result (list.new.items ≡ list.old.items) }
+{
+    match list.push(element) {
+        Ok(()) => Ok(()),
+        Err(_) => Err(NoMemory),
     }
 }
 
@@ -52,7 +90,7 @@ pub fn parse(alloc: Global, bytes: &[u8], accounts: u32) -> Result<Script, Parse
     ensures read { IfOk result (IsScriptText accounts bytes.now) }
     ensures fault { IfErr result (IsScriptFault accounts bytes.now) }
 {
-    let mut jobs = Vec::new(alloc);
+    let mut script = Script::with_room(alloc, 0)?;
     let mut rest = bytes;
     let mut number = 0;
     'lines: while let Some((line, after)) = take_line(rest) {
@@ -61,11 +99,11 @@ pub fn parse(alloc: Global, bytes: &[u8], accounts: u32) -> Result<Script, Parse
             let Some(job) = read_job(line, accounts) else {
                 return Err(ParseFault::Line { line: number });
             };
-            jobs.push(job)?;
+            script.push(job)?;
         }
         rest = after;
     }
-    Ok(Script { jobs })
+    Ok(script)
 }
 
 /// A law: a text has one list of transfers, or one first line outside, and not both.

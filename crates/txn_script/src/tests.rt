@@ -91,7 +91,7 @@ fn reads_numbers_in_a_range(rt: HostRuntime) {
 }
 
 /// The transfer of a script that has one alone.
-fn only_job(script: &Script) -> Option<&Job> {
+fn only_job(script: &Script) -> Option<Job> {
     if script.count() == 1 {
         Some(script.job(0))
     } else {
@@ -129,7 +129,31 @@ fn reads_transfers(rt: HostRuntime) -> Result<(), Fail> {
             return Err(Fail::new("not one transfer"));
         };
         assert_eq!(rt; job.legs.as_slice(), legs, "{text:?}");
-        assert_eq!(rt; note_of(job), note, "{text:?}");
+        assert_eq!(rt; note_of(&job), note, "{text:?}");
+    }
+    Ok(())
+}
+
+#[test]
+fn keeps_short_and_long_transfers_in_order(rt: HostRuntime) -> Result<(), Fail> {
+    let text = b"pay 0 1 1\npay 1 0 2 : two\npay 0 1 3\npay 0 1 4 1 0 5\npay 1 0 6 : six\n";
+    let wanted: [(&[(u32, u32, u32)], &[u8]); 5] = [
+        (&[(0, 1, 1)], b""),
+        (&[(1, 0, 2)], b"two"),
+        (&[(0, 1, 3)], b""),
+        (&[(0, 1, 4), (1, 0, 5)], b""),
+        (&[(1, 0, 6)], b"six"),
+    ];
+    let Ok(script) = parse(rt.alloc(), text, 2) else {
+        return Err(Fail::new("no script"));
+    };
+    assert_eq!(rt; script.count(), 5);
+    for (place, (legs, note)) in wanted.iter().enumerate() {
+        if (place as u64) < script.count() {
+            let job = script.job(place as u64);
+            assert_eq!(rt; job.legs.as_slice(), *legs, "{place}");
+            assert_eq!(rt; note_of(&job), *note, "{place}");
+        }
     }
     Ok(())
 }

@@ -1,10 +1,6 @@
-use Rattle.std.proofs.Common.{◌≡◌, ◌-◌, ◌++◌, vec_len, vec_capacity}
+use Rattle.std.proofs.Common.{◌≡◌, ◌-◌, ◌++◌}
 use Rattle.txn_script.specs.Generator.{generated_jobs}
 use Rattle.txn_script.proofs.generator.make.Given as goal
 
 abbrev pub invariant-jobs : goal.invariant-jobs
-invariant-jobs l = record {
-  whole : l.jobs.items ++ generated_jobs (l.fn.n - l.counter) l.x ≡ generated_jobs l.fn.n l.fn.seed;
-  len : vec_len l.jobs ≡ l.counter;
-  room : vec_capacity l.jobs ≡ l.fn.n;
-}
+invariant-jobs l = l.script ++ generated_jobs (l.fn.n - l.counter) l.x ≡ generated_jobs l.fn.n l.fn.seed

@@ -11,13 +11,13 @@ lines-preserved-in_ok-push c =
     let before = c.lines.invariant in
     let line = c.in-Some.line.now in
     let read = c.in-Some-read_job.ensures in
-    let grown = c.in_ok-push.ensures.items in
+    let grown = c.in_ok-push.ensures in
     record {
       before = before.before ++ line ∷ [];
       each = All-push (IsScriptLine c.args.accounts) before.before line before.each (inr (c.in-Some-read_job.job, read.allowed, read.text));
       text = lines-grow c.args.bytes.now c.lines.rest.now c.in-Some.after.now line before.before before.text c.in-Some.ensures.line;
-      allowed = rw grown (All-push (IsAllowedJob c.args.accounts) c.lines.jobs.items c.in-Some-read_job.job before.allowed read.allowed);
-      jobs = rw grown (jobs-grow before.before line c.lines.jobs.items c.in-Some-read_job.job c.if-not-is_empty.ensures read.text before.jobs);
+      allowed = rw grown (All-push (IsAllowedJob c.args.accounts) c.lines.script c.in-Some-read_job.job before.allowed read.allowed);
+      jobs = rw grown (jobs-grow before.before line c.lines.script c.in-Some-read_job.job c.if-not-is_empty.ensures read.text before.jobs);
       number = omega (arith, before.number, length-append before.before (line ∷ []));
       bound = omega (arith, before.bound, c.in-Some.ensures.shorter);
     }
@@ -32,7 +32,7 @@ lines-preserved c =
       each = All-push (IsScriptLine c.args.accounts) before.before line before.each (inl none);
       text = lines-grow c.args.bytes.now c.lines.rest.now c.in-Some.after.now line before.before before.text c.in-Some.ensures.line;
       allowed = before.allowed;
-      jobs = jobs-kept before.before line c.lines.jobs.items none before.jobs;
+      jobs = jobs-kept before.before line c.lines.script none before.jobs;
       number = omega (arith, before.number, length-append before.before (line ∷ []));
       bound = omega (arith, before.bound, c.in-Some.ensures.shorter);
     }

@@ -8,8 +8,8 @@ invariant-lines l = record {
   before : List (List ℕ);
   each : All (IsScriptLine l.accounts) before;
   text : lines l.bytes ≡ before ++ lines l.rest;
-  allowed : All (IsAllowedJob l.accounts) l.jobs.items;
-  jobs : filled before ≡ map job_text l.jobs.items;
+  allowed : All (IsAllowedJob l.accounts) l.script;
+  jobs : filled before ≡ map job_text l.script;
   number : l.number ≡ length before;
   bound : l.number + length l.rest ≤ length l.bytes;
 }
