@@ -1,5 +1,5 @@
 -- A transfer, record by record, and its accounts given back.
-use Rattle.std.proofs.Common.{◌≡◌, ◌≢◌, ℕ, ◌+◌, ◌≤◌, cond, nat_lt, pos, neg_ℤ, false, List, [], ◌∷◌, ◌++◌, length, inr, refl, sym, ap, ◌∙◌, subst, arith, le-ltb}
+use Rattle.std.proofs.Common.{◌≡◌, ◌≢◌, ℕ, ◌+◌, ◌≤◌, cond, nat_lt, pos, neg_ℤ, false, List, [], ◌∷◌, ◌++◌, length, inl, inr, refl, sym, ap, ◌∙◌, subst, arith, le-ltb}
 use Rattle.std.proofs.lemmas.List.{append_assoc}
 use Rattle.std.specs.List.{AllByRecursion}
 use Rattle.log_record.specs.declared.rec.Rec.{Rec}
@@ -20,12 +20,14 @@ use Rattle.log_table.proofs.Deltas.{more-delta, less-delta}
 use Rattle.log_table.proofs.Nexting.{next-is, may-enter}
 use Rattle.log_table.specs.declared.table.Seat.{Seat}
 use Rattle.log_table.specs.Seats.{view_of}
+use Rattle.log_table.specs.declared.view.View.{View}
+use Rattle.log_table.specs.Views.{given_as, gave_account}
 use Rattle.ring_buffer.specs.Calls.{MayPlace, IsSameWorker, HasEntries, entry_of}
 use Rattle.early_locks.specs.declared.one_transfer.Run.{Run}
 use Rattle.early_locks.specs.declared.one_transfer.Transfer.{Transfer}
 use Rattle.early_locks.specs.declared.taking.Taken.{Taken}
 use Rattle.early_locks.specs.Locks.{HoldsTaken}
-use Rattle.early_locks.specs.Transfers.{leg_of, loss_of, gain_of, MayPut, HasPut, IsMoving}
+use Rattle.early_locks.specs.Transfers.{leg_of, given_at, loss_of, gain_of, MayPut, HasPut, IsMoving, IsNotMade}
 
 pub puts-next : (rec : Rec) (books : Books) → MayPut rec books → next_of books ≡ rec
 puts-next rec books may = next-is rec books may.next
@@ -43,6 +45,19 @@ holds-other taken account books differ holds = record {
   balance = balance_taken-without_other account taken.account books.held differ ∙ holds.balance;
   mark = mark_taken-without_other account taken.account books.held differ ∙ holds.mark;
 }
+
+-- both accounts go back where the seat sees durable as it did before
+pub gives-both : (first second third : View) (payer payee : Taken) → payer.account ≢ payee.account
+    → HoldsTaken payer first.books → HoldsTaken payee first.books
+    → second ≡ gave_account payer.account first → third ≡ gave_account payee.account second
+    → third.seen.given ≡ given_at first.seen.durable payee ∷ given_at first.seen.durable payer ∷ first.seen.given
+gives-both first second third payer payee two pays receives gave-first gave-second =
+    ap (λ (view : View). view.seen.given) gave-second ∙ ap (λ (view : View). given_as payee.account view ∷ view.seen.given) gave-first
+    ∙ (λ i. record { account = payee.account; balance = other.balance i; durable = first.seen.durable }
+    ∷ record { account = payer.account; balance = pays.balance i; durable = first.seen.durable } ∷ first.seen.given)
+  where
+    other : HoldsTaken payee (giving payer.account first.books)
+    other = holds-other payee payer.account first.books (λ same. two (sym same)) receives
 
 empty : {A : Type 0} (list : List A) → length list ≡ 0 → list ≡ []
 empty [] none = refl
@@ -158,6 +173,7 @@ put-is rec old middle new run n before next end inserted size = record {
     idle = inserted.idle;
     entries_are = inserted.entries_are ∙ (λ i. before.entries_are i ++ entry_of run.start (next i) ∷ []);
     books_are = inserted.books_are ∙ (λ i. placing (size i) (next i) (before.books_are i));
+    given_are = inserted.given_are ∙ before.given_are;
   };
 }
 
@@ -173,3 +189,18 @@ pub three-behind : {A : Type 0} (before one two three : List A) (a b c : A) → 
 three-behind before one two three a b c first second third =
     third ∙ (ap (λ l. l ++ c ∷ []) (second ∙ ap (λ l. l ++ b ∷ []) first)
     ∙ (append_assoc (before ++ a ∷ []) (b ∷ []) (c ∷ []) ∙ append_assoc before (a ∷ []) (b ∷ c ∷ [])))
+
+-- why the transfer isn't made stays the same, seen from before, and once both accounts went back
+pub not-made-back : (transfer : Transfer) (payer payee : ℕ) (one two : ℕ) (first second third : View) → first.seen.steps ≤ second.seen.steps
+    → IsNotMade transfer payer payee second third → IsNotMade transfer payer payee first (gave_account two (gave_account one third))
+not-made-back transfer payer payee one two first second third before not = elim not [
+  | inl short ↦ inl short
+  | inr other ↦ elim other [
+    | inl over ↦ inr (inl over)
+    | inr meets ↦ inr (inr record {
+      too_long = meets.too_long;
+      now = let now = meets.now in omega arith;
+      told = meets.told;
+    })
+  ]
+]

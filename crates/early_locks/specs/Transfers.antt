@@ -1,5 +1,6 @@
 -- A transfer of one leg, and what a seat knows of it while it is made.
-use Rattle.std.specs.Prelude.{◌≡◌, ◌≢◌, ℕ, ◌<◌, ◌≤◌, pos, neg_ℤ, true, false, None, List, [], ◌∷◌, ◌++◌, length, ◌+◌}
+use Rattle.std.specs.Prelude.{◌≡◌, ◌≢◌, ◌⊎◌, ℕ, ◌<◌, ◌≤◌, pos, neg_ℤ, true, false, None, List, [], ◌∷◌, ◌++◌, length, ◌+◌, Contains}
+use Rattle.lsn_space.specs.declared.lsn.TheConstants.{LAST}
 use Rattle.log_record.specs.declared.rec.Rec.{Rec}
 use Rattle.log_record.specs.declared.rec.Rec.TheVariants.{Update, Commit}
 use Rattle.log_record.specs.declared.rec.Entry.{Entry}
@@ -10,6 +11,7 @@ use Rattle.lock_core.specs.Transactions.{recs_of, has_commit, has_end}
 use Rattle.txn_script.specs.declared.job.Job.{Job}
 use Rattle.log_table.specs.declared.view.TakenJob.{TakenJob}
 use Rattle.log_table.specs.declared.view.Held.{Held}
+use Rattle.log_table.specs.declared.view.Given.{Given}
 use Rattle.log_table.specs.declared.view.Books.{Books}
 use Rattle.log_table.specs.declared.view.Entry.{Entry as TableEntry}
 use Rattle.log_table.specs.declared.view.View.{View}
@@ -38,6 +40,10 @@ taken_job number transfer = record { number = number; job = job_of transfer }
 -- the account as it was taken
 abbrev pub held_of : Taken → Held
 held_of taken = record { account = taken.account; balance = taken.balance; mark = taken.mark }
+
+-- the account as it goes back where durable is seen there
+abbrev pub given_at : ℕ → Taken → Given
+given_at durable taken = record { account = taken.account; balance = taken.balance; durable = durable }
 
 -- the record comes next, and may be placed with the accounts held
 pub record MayPut (rec : Rec) (books : Books) : Type 0 where
@@ -102,3 +108,36 @@ pub record HasCommitted (accounts : ℕ) (books : Books) (committed : Committed)
   pub payee_gives : GivesBack committed.payee committed.payee_balance committed.placed.end books
   pub ended : has_end (recs_of books.placed) ≡ true
   pub end : end_from 0 books.placed ≡ committed.placed.end
+
+-- both accounts went back, the payer's first, where the seat had seen durable at or above the end of the commit
+pub record HasGivenDurable (committed : Committed) (old new : View) : Type 0 where
+  pub durable : ℕ
+  pub given : new.seen.given ≡ given_at durable committed.payee ∷ given_at durable committed.payer ∷ old.seen.given
+  pub above : committed.placed.end ≤ durable
+
+-- The seat loaded the tail since, and so many units do not fit behind it in the log.
+pub record MeetsEnd (units : ℕ) (old new : View) : Type 0 where
+  pub too_long : LAST < new.seen.tail + units
+  pub now : old.seen.steps < new.seen.tail_step
+  pub told : Contains new.seen.lsns new.seen.tail
+
+-- the units of the next record behind those that the log has of the transfer: its two Updates have two each, its Commit has one
+abbrev pub units_behind : List Entry → ℕ
+units_behind [] = 2
+units_behind (loss ∷ []) = 2
+units_behind (gain ∷ loss ∷ placed) = 1
+
+-- the payer has too little, the payee would have too much, or the transfer's next record meets the end of the log
+abbrev pub IsNotMade : Transfer → ℕ → ℕ → View → View → Type 0
+IsNotMade transfer payer payee old new =
+    (payer < transfer.amount) ⊎ (MOST_BALANCE < payee + transfer.amount) ⊎ MeetsEnd (units_behind new.books.placed) old new
+
+-- The seat took both accounts of the transfer and gave them back, the payer's first; with the balances as they were taken, or by the tail
+-- as it was loaded, the transfer can't be made.
+pub record HasGivenUp (transfer : Transfer) (old new : View) : Type 0 where
+  pub payer : Given
+  pub payee : Given
+  pub given : new.seen.given ≡ payee ∷ payer ∷ []
+  pub payer_is : payer.account ≡ transfer.payer
+  pub payee_is : payee.account ≡ transfer.payee
+  pub cause : IsNotMade transfer payer.balance payee.balance old new

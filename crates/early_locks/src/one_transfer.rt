@@ -1,16 +1,17 @@
 //! One transfer made by hand, from its job to its accounts given back: the calls of a worker in the
 //! order that early lock release asks for, and how giving back at durable differs from it.
-ghost use Rattle.std.specs.Prelude.{◌≡◌, ◌≢◌, ◌<◌, ◌≤◌, ◌+◌, false, [], ◌∷◌, ◌++◌, IfSome, IfNone, OnSome};
-ghost use Rattle.log_record.specs.Spelling.{IsTxn};
+ghost use Rattle.std.specs.Prelude.{◌≡◌, ◌≢◌, ◌<◌, ◌≤◌, ◌+◌, false, [], ◌∷◌, ◌++◌, length, IfSome, IfNone, OnSome};
+ghost use Rattle.log_record.specs.Spelling.{IsTxn, spelling};
 ghost use Rattle.log_record.specs.declared.limits.TheConstants.{MOST_BALANCE};
 ghost use Rattle.lock_core.specs.Transactions.{recs_of, has_commit};
 ghost use Rattle.txn_script.specs.Script.{IsAllowedLeg};
-ghost use Rattle.log_table.specs.Books.{taking, giving};
+ghost use Rattle.log_table.specs.Books.{taking};
 ghost use Rattle.log_table.specs.May.{HasBegunNothing, MayTakeJob};
-ghost use Rattle.log_table.specs.Seats.{IsOf, view_of};
+ghost use Rattle.log_table.specs.Seats.{IsOf, Becomes, view_of};
+ghost use Rattle.log_table.specs.Views.{gave_account};
 ghost use Rattle.ring_buffer.specs.Calls.{IsReady, IsSameWorker, HasEntries};
 ghost use Rattle.early_locks.specs.Locks.{HoldsTaken};
-ghost use Rattle.early_locks.specs.Transfers.{leg_of, job_of, taken_job, held_of, loss_of, gain_of, entries_of, MayPut, HasPut, IsMoving, HasMoved, HasStopped, HasCommitted};
+ghost use Rattle.early_locks.specs.Transfers.{leg_of, job_of, taken_job, held_of, loss_of, gain_of, entries_of, MayPut, HasPut, IsMoving, HasMoved, HasStopped, HasCommitted, HasGivenDurable, MeetsEnd, IsNotMade, HasGivenUp};
 
 use crate::giving::{give, give_durable};
 use crate::taking::{Taken, try_take};
@@ -115,6 +116,7 @@ pub fn commit_transfer<R: Wait, G: Gate>(
     ensures committed { IfSome result (HasCommitted table.now.accounts (view_of seat.new).books) }
     ensures entries { IfSome result (λ committed. (view_of seat.new).entries ≡ (view_of seat.old).entries ++ entries_of number transfer committed.payer committed.payee committed.placed) }
     ensures none_held { IfNone result ((view_of seat.new).books.held ≡ []) }
+    ensures given_up { IfNone result (HasGivenUp transfer (view_of seat.old) (view_of seat.new)) }
 {
     table.take_job(seat, number, &transfer.job());
     let both = take_both(rt, table, seat, transfer);
@@ -159,6 +161,7 @@ pub fn give_back_durable<R: Wait>(rt: &R, table: &LogTable, seat: &mut Seat, com
     ensures ready { IsReady (view_of seat.new) }
     ensures jobs { (view_of seat.new).books.jobs ≡ (view_of seat.old).books.jobs }
     ensures none_held { (view_of seat.new).books.held ≡ [] }
+    ensures durable { HasGivenDurable committed (view_of seat.old) (view_of seat.new) }
 {
     let end = committed.placed.end;
     let mark = end.units();
@@ -207,6 +210,7 @@ fn take_both<R: Wait>(rt: &R, table: &LogTable, seat: &mut Seat, transfer: Trans
     ensures ready { IsReady (view_of seat.new) }
     ensures jobs { (view_of seat.new).books.jobs ≡ (view_of seat.old).books.jobs }
     ensures entries { (view_of seat.new).entries ≡ (view_of seat.old).entries }
+    ensures given { (view_of seat.new).seen.given ≡ (view_of seat.old).seen.given }
     ensures payer { result.payer.balance ≤ MOST_BALANCE }
     ensures payee { result.payee.balance ≤ MOST_BALANCE }
     ensures moving { IsMoving (view_of seat.old).books.last.number transfer result.payer result.payee [] (view_of seat.new).books }
@@ -242,6 +246,7 @@ fn put<R: Wait, G: Gate>(
     requires next { MayPut rec.now (view_of seat.old).books }
     ensures put { IfSome result (HasPut rec.now seat.old seat.new) }
     ensures none { IfNone result (HasEntries seat.old seat.new (view_of seat.old).entries (view_of seat.old).books) }
+    ensures ends { IfNone result (MeetsEnd (length (spelling rec.now)) (view_of seat.old) (view_of seat.new)) }
 {
     let units = spell(rec);
     for _ in rt.forever() {
@@ -281,6 +286,8 @@ fn put_records<R: Wait, G: Gate>(
     ensures fits { OnSome result (both.now.payee.balance + transfer.amount ≤ MOST_BALANCE) }
     ensures moved { IfSome result (HasMoved number transfer both.now.payer both.now.payee (view_of seat.old).entries (view_of seat.new)) }
     ensures stopped { IfNone result (HasStopped number transfer both.now.payer both.now.payee (view_of seat.new).books) }
+    ensures given { (view_of seat.new).seen.given ≡ (view_of seat.old).seen.given }
+    ensures cause { IfNone result (IsNotMade transfer both.now.payer.balance both.now.payee.balance (view_of seat.old) (view_of seat.new)) }
 {
     let amount = transfer.amount;
     if both.payer.balance < amount || both.payee.balance + amount > MOST_BALANCE {
@@ -309,9 +316,7 @@ fn give_unchanged(table: &LogTable, seat: &mut Seat, taken: Taken)
     requires balance { taken.balance ≤ MOST_BALANCE }
     requires holds { HoldsTaken taken (view_of seat.old).books }
     requires uncommitted { has_commit (recs_of (view_of seat.old).books.placed) ≡ false }
-    ensures same { IsSameWorker seat.old seat.new }
-    ensures ready { IsReady (view_of seat.new) }
-    ensures books { (view_of seat.new).books ≡ giving taken.account (view_of seat.old).books }
+    ensures { Becomes seat.old seat.new (gave_account taken.account (view_of seat.old)) }
 {
     let (balance, mark) = (taken.balance, taken.mark);
     give(table, seat, taken, balance, mark);
@@ -324,6 +329,7 @@ fn see_durable<R: Wait>(rt: &R, table: &LogTable, seat: &mut Seat, lsn: Lsn)
     ensures same { IsSameWorker seat.old seat.new }
     ensures ready { IsReady (view_of seat.new) }
     ensures books { (view_of seat.new).books ≡ (view_of seat.old).books }
+    ensures given { (view_of seat.new).seen.given ≡ (view_of seat.old).seen.given }
     ensures durable { lsn ≤ (view_of seat.new).seen.durable }
 {
     for _ in rt.forever() {

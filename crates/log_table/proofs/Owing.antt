@@ -29,7 +29,7 @@ use Rattle.log_table.specs.Layout.{Stop, Account}
 use Rattle.log_table.specs.Log.{Log, ranges_of}
 use Rattle.log_table.specs.May.{MayTakeJob, MayTake, MayGiveBack}
 use Rattle.log_table.specs.Sound.{HasSeenBoundaries, StoresStop, HasReadStop, HoldsIfActive, IsSound, base_of, history_in, books_of}
-use Rattle.log_table.specs.Views.{is_active, may_own, counted, took_job, seen_account, saw_account, held_as, took_account, after_account, gave_account}
+use Rattle.log_table.specs.Views.{is_active, may_own, took_job, seen_account, saw_account, held_as, took_account, after_account, given_as, seen_given, gave_account}
 use Rattle.log_table.specs.Words.{Words, put}
 use Rattle.log_table.proofs.Looking.{sees-word}
 use Rattle.log_table.proofs.Roles.{crew-same, quiet-moves, restands}
@@ -88,7 +88,7 @@ module _ (key : Start) (me : ℕ) (v : View) where
   job-step accounts number job same may n = record {
     leads = λ words views log s at is. let taken : TakenJob = record { number = number; job = job } in
         subst (λ x. Leads key words (record words { stop = x }) views (set views me (took_job number job x v)) log None) is
-        (books-change key words words.account views me v log (record v.seen { steps = v.seen.steps + 1; stop = words.stop }) (taking_job taken v.books) s at
+        (books-change key words words.account views me v log (record v.seen { steps = v.seen.steps + 1; stop = words.stop; given = [] }) (taking_job taken v.books) s at
         (sees-same key.start words.tail words.exposed words.durable log v.seen _ (s.seen me v at) refl refl refl refl) (inr refl)
         ((λ _. may.none_held), (λ off. absurd (true≢false (sym (ap may_own may.rests.active) ∙ off))))
         (takes-job (base_of key) words.account (history_in key log.parts) (map books_of views) me v.books (at_map books_of views me v at) taken
@@ -135,7 +135,7 @@ module _ (key : Start) (me : ℕ) (v : View) where
       → IsStep key me (Account account) n (word_of word) v (gave_account account v) None
   give-step account word word-fits may n = record {
     leads = λ words views log s at is.
-        books-change key words (put words.account account (word_of word)) views me v log (counted v.seen) (giving account v.books) s at
+        books-change key words (put words.account account (word_of word)) views me v log (seen_given (given_as account v) v.seen) (giving account v.books) s at
         (sees-same key.start words.tail words.exposed words.durable log v.seen _ (s.seen me v at) refl refl refl refl) (s.read_stop me v at)
         ((λ off. absurd (true≢false (sym (ap is_active may.rests.active) ∙ off))), (λ off. absurd (true≢false (sym (ap may_own may.rests.active) ∙ off))))
         (gives (base_of key) words.account (history_in key log.parts) (map books_of views) me v.books (at_map books_of views me v at) s.accounts.holder

@@ -10,6 +10,7 @@ use Rattle.log_table.specs.declared.view.Role.{Role}
 use Rattle.log_table.specs.declared.view.Role.TheVariants.{Flusher, Fresh, Active, Ended, Note, Spent}
 use Rattle.log_table.specs.declared.view.Constants.{Constants}
 use Rattle.log_table.specs.declared.view.Standing.{Standing}
+use Rattle.log_table.specs.declared.view.Given.{Given}
 use Rattle.log_table.specs.declared.view.Seen.{Seen}
 use Rattle.log_table.specs.declared.view.Sending.{Sending}
 use Rattle.log_table.specs.declared.view.View.{View}
@@ -17,7 +18,7 @@ use Rattle.log_record.specs.declared.rec.Rec.{Rec}
 use Rattle.slot_word.specs.AccountWord.{balance_in, mark_in}
 use Rattle.txn_script.specs.declared.job.Job.{Job}
 use Rattle.log_table.specs.declared.view.Held.{Held}
-use Rattle.log_table.specs.Books.{no_books, next_of, placing, taking_job, taking, giving, merging}
+use Rattle.log_table.specs.Books.{no_books, balance_taken, next_of, placing, taking_job, taking, giving, merging}
 use Rattle.log_table.specs.Log.{Claim}
 
 abbrev pub is_active : Role → Bool
@@ -88,6 +89,7 @@ seen_at lsn = record {
   crew = 0;
   account = 0;
   account_word = 0;
+  given = [];
   lsns = lsn ∷ [];
 }
 
@@ -171,10 +173,10 @@ saw_durable n view = record view { seen = seen_durable n view.seen }
 abbrev pub saw_stop : ℕ → View → View
 saw_stop n view = record view { seen = record view.seen { steps = view.seen.steps + 1; stop = n } }
 
--- after a load of stop with which the seat takes a job
+-- after a load of stop with which the seat takes a job; of that it has given no account back
 abbrev pub took_job : ℕ → Job → ℕ → View → View
 took_job number job n view = record view {
-  seen = record view.seen { steps = view.seen.steps + 1; stop = n };
+  seen = record view.seen { steps = view.seen.steps + 1; stop = n; given = [] };
   books = taking_job (record { number = number; job = job }) view.books;
 }
 
@@ -199,9 +201,17 @@ took_account account word view =
 abbrev pub after_account : ℕ → ℕ → ℕ → View → View
 after_account account from n view = if n == from then took_account account from view else saw_account account n view
 
+-- the account as it goes back: with its balance as it was taken, and durable as it is seen now
+abbrev pub given_as : ℕ → View → Given
+given_as account view = record { account = account; balance = balance_taken view.books.held account; durable = view.seen.durable }
+
+-- the account was given back
+abbrev pub seen_given : Given → Seen → Seen
+seen_given given seen = record seen { steps = seen.steps + 1; given = given ∷ seen.given }
+
 -- after a store into an account's word, which gives the account back
 abbrev pub gave_account : ℕ → View → View
-gave_account account view = record view { seen = counted view.seen; books = giving account view.books }
+gave_account account view = record view { seen = seen_given (given_as account view) view.seen; books = giving account view.books }
 
 -- every worker known as made is known as enrolled
 abbrev pub knows_all_enrolled : Standing → Bool
@@ -284,7 +294,7 @@ abbrev pub hired : ℕ → View → View
 hired worker view = record {
   constants = view.constants;
   standing = record { role = Fresh; worker = worker; made = []; enrolled = []; merged = [] };
-  seen = record view.seen { steps = 0; tail_step = 0; exposed_step = 0; durable_step = 0 };
+  seen = record view.seen { steps = 0; tail_step = 0; exposed_step = 0; durable_step = 0; given = [] };
   entries = [];
   call = Idle;
   contended = false;

@@ -15,5 +15,5 @@ mod view;
 pub use closing::Closed;
 pub use table::{LogTable, Seat, Start};
 pub use view::{
-    Books, Call, Constants, Entry, Held, Role, Seen, Sending, Standing, TakenJob, View,
+    Books, Call, Constants, Entry, Given, Held, Role, Seen, Sending, Standing, TakenJob, View,
 };

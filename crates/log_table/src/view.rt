@@ -50,8 +50,16 @@ pub struct Standing {
     pub merged: LinkedList<u64>,
 }
 
+/// An account that a seat gave back, with the balance as it was taken, and durable as the seat had seen it then.
+pub struct Given {
+    pub account: u64,
+    pub balance: u64,
+    pub durable: u64,
+}
+
 /// The last value seen in each word, and of the LSNs at which of the seat's steps; of the accounts' words
-/// the last one, and whose it was; every LSN that was seen, newest first.
+/// the last one, and whose it was; the accounts given back since the seat took its last job, and every LSN
+/// that was seen, each newest first.
 pub struct Seen {
     pub steps: u64,
     pub tail: u64,
@@ -64,6 +72,7 @@ pub struct Seen {
     pub crew: u64,
     pub account: u64,
     pub account_word: u64,
+    pub given: LinkedList<Given>,
     pub lsns: LinkedList<u64>,
 }
 

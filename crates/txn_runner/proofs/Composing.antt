@@ -11,9 +11,11 @@ use Rattle.txn_script.specs.declared.job.Job.{Job}
 use Rattle.txn_script.specs.Script.{IsAllowedLeg}
 use Rattle.early_locks.specs.declared.taking.Taken.{Taken}
 use Rattle.early_locks.specs.Locks.{HoldsTaken}
+use Rattle.early_locks.specs.Transfers.{held_of}
 use Rattle.log_table.specs.declared.table.Seat.{Seat}
 use Rattle.log_table.specs.declared.view.Books.{Books}
 use Rattle.log_table.specs.declared.view.Entry.{Entry}
+use Rattle.log_table.specs.declared.view.Given.{Given}
 use Rattle.log_table.specs.declared.view.Held.{Held}
 use Rattle.log_table.specs.declared.view.View.{View}
 use Rattle.log_table.specs.Accounts.{IsAllowed}
@@ -31,14 +33,14 @@ use Rattle.txn_runner.specs.declared.rows.Answer.TheVariants as answer
 use Rattle.txn_runner.specs.declared.transfer.Ended.{Ended}
 use Rattle.txn_runner.specs.Accounts.{HasAccountsOf, IsAccountOf}
 use Rattle.txn_runner.specs.Endings.{EndsTransfer}
-use Rattle.txn_runner.specs.Holdings.{account_of, taken_of, IsKnown, as_held, held_behind, holding_all, AreDistinct, HoldsAll, TakesAll, with_held}
+use Rattle.txn_runner.specs.Holdings.{account_of, taken_of, IsKnown, held_behind, given_behind, holding_all, AreDistinct, HoldsAll, TakesAll, with_held}
 use Rattle.txn_runner.specs.Inserts.{Adds, IsLeft, StopsFor}
 use Rattle.txn_runner.specs.Legs.{AreHeld, HoldsJob, last_record}
-use Rattle.txn_runner.specs.Running.{LieInOrder, HasInserted, HasRun, HasCut}
+use Rattle.txn_runner.specs.Running.{LieInOrder, account_given, HasInserted, HasRun, HasCut}
 use Rattle.txn_runner.proofs.Adding.{lie-longer, lie-sooner, placed-front}
 use Rattle.txn_runner.proofs.Gaining.{all-known}
 use Rattle.txn_runner.proofs.PlanLemmas.{planned_records-some}
-use Rattle.txn_runner.proofs.Held.{distinct, same-accounts, all-same, taken-behind, taken-first}
+use Rattle.txn_runner.proofs.Held.{distinct, given-all, given-durable, same-accounts, all-same, taken-behind, taken-first}
 
 -- every account of a job that the table allows is one of the table's
 pub accounts-known : (accounts : ℕ) (legs : List (ℕ × ℕ × ℕ)) (list : List ℕ) → AllByRecursion (IsAllowedLeg accounts) legs
@@ -56,8 +58,8 @@ all-held : (books : Books) (holdings : List Holding) (held : List Held) → AreD
     → AllByRecursion (λ (holding : Holding). HoldsTaken holding.taken (record books { held = held_behind holdings held })) holdings
 all-held books [] held apart = tt
 all-held books (holding ∷ holdings) held apart = (
-  taken-behind books holdings (as_held holding.taken ∷ held) holding.taken apart.0 (taken-first books holding held),
-  all-held books holdings (as_held holding.taken ∷ held) apart.1,
+  taken-behind books holdings (held_of holding.taken ∷ held) holding.taken apart.0 (taken-first books holding held),
+  all-held books holdings (held_of holding.taken ∷ held) apart.1,
 )
 
 -- The accounts of the job were listed, and taken.
@@ -86,6 +88,10 @@ module _ (accounts number : ℕ) (job : Job) (list slice : List ℕ) (holdings :
     still-known = all-same holdings paid same (λ taken. taken.account < accounts)
         (all-known accounts holdings list listed (accounts-known accounts job.legs list allowed.job.legs.each only))
 
+    -- those of every leg
+    pub still-all : All (HasAccountsOf list) job.legs → All (HasAccountsOf (map account_of paid)) job.legs
+    still-all all = subst (λ xs. All (HasAccountsOf xs) job.legs) (sym (same-accounts holdings paid same ∙ listed)) all
+
     -- and all that is held
     pub still-held : (books : Books) → books.held ≡ (view_of new).books.held → HoldsAll paid books
     still-held books held = record {
@@ -96,11 +102,11 @@ module _ (accounts number : ℕ) (job : Job) (list slice : List ℕ) (holdings :
       where
         onto : List Taken → List Held → List Held
         onto [] held = held
-        onto (taken ∷ list) held = onto list (as_held taken ∷ held)
+        onto (taken ∷ list) held = onto list (held_of taken ∷ held)
 
         behind : (holdings : List Holding) (held : List Held) → held_behind holdings held ≡ onto (map taken_of holdings) held
         behind [] held = refl
-        behind (holding ∷ holdings) held = behind holdings (as_held holding.taken ∷ held)
+        behind (holding ∷ holdings) held = behind holdings (held_of holding.taken ∷ held)
 
 -- the seat took the job, and has nothing of it in the log
 pub record HasTakenJob (number : ℕ) (job : Job) (old new : View) : Type 0 where
@@ -122,22 +128,21 @@ took number word job first second becomes = subst (HasTakenJob number job (view_
     record { entries = refl; grows = omega arith; jobs = refl; last = refl; none = refl }
 
 -- accounts are taken after the job
-pub still-taken : (number : ℕ) (job : Job) (first : View) (second third : Seat) (books : Books)
-    → HasTakenJob number job first (view_of second)
-    → HasEntries second third (view_of second).entries books → books.jobs ≡ (view_of second).books.jobs
-    → books.last ≡ (view_of second).books.last
-    → books.placed ≡ (view_of second).books.placed → HasTakenJob number job first (view_of third)
-still-taken number job first second third books taken kept jobs last placed = record {
-  entries = kept.entries_are ∙ taken.entries;
-  grows = omega (arith, taken.grows, kept.same.grows);
-  jobs = ap (λ (b : Books). b.jobs) kept.books_are ∙ jobs ∙ taken.jobs;
-  last = ap (λ (b : Books). b.last) kept.books_are ∙ last ∙ taken.last;
-  none = ap (λ (b : Books). b.placed) kept.books_are ∙ placed ∙ taken.none;
+pub still-taken : (number : ℕ) (job : Job) (first second third : View) (books : Books) → HasTakenJob number job first second
+    → third.entries ≡ second.entries → second.seen.tail ≤ third.seen.tail → third.books ≡ books
+    → books.jobs ≡ second.books.jobs → books.last ≡ second.books.last → books.placed ≡ second.books.placed
+    → HasTakenJob number job first third
+still-taken number job first second third books taken entries grows books-are jobs last placed = record {
+  entries = entries ∙ taken.entries;
+  grows = omega (arith, taken.grows, grows);
+  jobs = ap (λ (b : Books). b.jobs) books-are ∙ jobs ∙ taken.jobs;
+  last = ap (λ (b : Books). b.last) books-are ∙ last ∙ taken.last;
+  none = ap (λ (b : Books). b.placed) books-are ∙ placed ∙ taken.none;
 }
 
-pub keeps-held : (steps : ℕ) (held : List Held) (first second : Seat)
-    → Becomes first second (with_held held steps (view_of first)) → Keeps (view_of first) (view_of second)
-keeps-held steps held first second becomes = subst (Keeps (view_of first))
+pub keeps-held : (back : List Holding) (held : List Held) (first second : Seat)
+    → Becomes first second (with_held held back (view_of first)) → Keeps (view_of first) (view_of second)
+keeps-held back held first second becomes = subst (Keeps (view_of first))
     (sym (ap (λ m. m.0) becomes.me)) record { entries = refl; grows = omega arith; jobs = refl }
 
 pub keeps-then : (first second : Seat) (third : View) → HasEntries first second (view_of first).entries (view_of first).books
@@ -182,17 +187,17 @@ module _ (number : ℕ) (job : Job) (rest : List Rec) (first last : View) (secon
     jobs = all-jobs;
   }
 
-stops-held : (cause : Cause) (rest : List Rec) (held : List Held) (steps : ℕ) (view : View) → StopsFor cause rest view
-    → StopsFor cause rest (with_held held steps view)
-stops-held (Stop word) rest list steps view stops = stops
-stops-held (LogEnd tail total) [] list steps view stops = stops
-stops-held (LogEnd tail total) (next ∷ rest) list steps view stops = stops
+stops-held : (cause : Cause) (rest : List Rec) (held : List Held) (back : List Holding) (view : View) → StopsFor cause rest view
+    → StopsFor cause rest (with_held held back view)
+stops-held (Stop word) rest list back view stops = stops
+stops-held (LogEnd tail total) [] list back view stops = stops
+stops-held (LogEnd tail total) (next ∷ rest) list back view stops = stops
 
-pub still-stops : (cause : Cause) (rest : List Rec) (held : List Held) (steps : ℕ) (first second : Seat)
-    → Becomes first second (with_held held steps (view_of first))
+pub still-stops : (cause : Cause) (rest : List Rec) (held : List Held) (back : List Holding) (first second : Seat)
+    → Becomes first second (with_held held back (view_of first))
     → StopsFor cause rest (view_of first) → StopsFor cause rest (view_of second)
-still-stops cause rest held steps first second becomes stops =
-    subst (StopsFor cause rest) (sym (ap (λ m. m.0) becomes.me)) (stops-held cause rest held steps (view_of first) stops)
+still-stops cause rest held back first second becomes stops =
+    subst (StopsFor cause rest) (sym (ap (λ m. m.0) becomes.me)) (stops-held cause rest held back (view_of first) stops)
 
 pub has-cut : (number : ℕ) (job : Job) (wait : Bool) (cause : Cause) (rest : List Rec) (old new : View) → HasInserted number job rest old new
     → (rest ≡ [] → wait ≡ true) → StopsFor cause rest new
@@ -234,8 +239,9 @@ lie-last from to (other ∷ entries) entry lie = let after = lie-last (other.sta
 pub has-run : (number : ℕ) (job : Job) (wait : Bool) (ended : Ended) (seen : ℕ) (holdings : List Holding) (first last : View) (second third : Seat)
     → HasTakenJob number job first (view_of second) → EndsTransfer number job ended holdings second third → Keeps (view_of third) last
     → seen ≡ last.seen.durable → (wait ≡ true → ended.end ≤ seen)
+    → (paid : List Holding) → last.seen.given ≡ given_behind seen paid [] → All (HasAccountsOf (map account_of paid)) job.legs
     → HasRun number job wait (record { txn = number; answer = ended.answer; end = ended.end; seen = seen }) first last
-has-run number job wait ended seen holdings first last second third taken ends keeps durable waited = record {
+has-run number job wait ended seen holdings first last second third taken ends keeps durable waited paid given all = record {
   inserted = has-inserted number job [] first last second third (ends.before ++ end ∷ []) taken ends.adds ends.left keeps;
   txn = refl;
   outcome = ends.outcome;
@@ -247,6 +253,10 @@ has-run number job wait ended seen holdings first last second third taken ends k
   above = omega (arith, taken.grows, lie-last _ _ ends.before end ends.adds.within, ends.end_is, one-unit number job ended.answer);
   seen = durable;
   waited = waited;
+  given = subst (λ list. All (HasAccountsOf (map account_given list)) job.legs) (sym given)
+      (λ k d within. let both = all k d within in (given-all seen paid [] _ both.0, given-all seen paid [] _ both.1));
+  durable_first = λ waits. subst (All (λ (given : Given). ended.end ≤ given.durable)) (sym given)
+      (given-durable ended.end seen (waited waits) paid [] (All-from_recursion (λ (given : Given). ended.end ≤ given.durable) [] tt));
 }
   where
     end : Entry

@@ -11,7 +11,8 @@ use Rattle.log_table.specs.Books.{taking}
 use Rattle.log_table.specs.Seats.{view_of}
 use Rattle.ring_buffer.specs.Calls.{HasEntries}
 use Rattle.txn_runner.specs.declared.holding.Holding.{Holding}
-use Rattle.txn_runner.specs.Holdings.{account_of, as_held, held_behind, holding_all, IsKnown, HoldsAll, TakesAll}
+use Rattle.early_locks.specs.Transfers.{held_of}
+use Rattle.txn_runner.specs.Holdings.{account_of, held_behind, holding_all, IsKnown, HoldsAll, TakesAll}
 use Rattle.txn_runner.proofs.Held.{distinct}
 use Rattle.txn_runner.proofs.Staying.{entries-trans}
 
@@ -24,9 +25,9 @@ all-known accounts holdings list is known k d within =
     (known k 0 (subst (λ n. k < n) (sym (length-map holdings account_of) ∙ ap length is) within))
 
 held-push : (holdings : List Holding) (holding : Holding) (held : List Held)
-    → held_behind (holdings ++ holding ∷ []) held ≡ as_held holding.taken ∷ held_behind holdings held
+    → held_behind (holdings ++ holding ∷ []) held ≡ held_of holding.taken ∷ held_behind holdings held
 held-push [] holding held = refl
-held-push (first ∷ holdings) holding held = held-push holdings holding (as_held first.taken ∷ held)
+held-push (first ∷ holdings) holding held = held-push holdings holding (held_of first.taken ∷ held)
 
 module _ (accounts : List ℕ) (holdings : List Holding) (first second third : Seat) (before : TakesAll accounts holdings first second) where
   -- after a call that took no account they may all be given back
@@ -41,7 +42,7 @@ module _ (accounts : List ℕ) (holdings : List Holding) (first second third : S
   pub takes-more : (more : List ℕ) (holding : Holding) (all : List Holding) → all ≡ holdings ++ holding ∷ []
       → more ≡ accounts ++ holding.taken.account ∷ []
       → holding.balance ≡ holding.taken.balance
-      → HasEntries second third (view_of second).entries (taking (as_held holding.taken) (view_of second).books)
+      → HasEntries second third (view_of second).entries (taking (held_of holding.taken) (view_of second).books)
       → TakesAll more all first third
   takes-more more holding all pushed is unchanged after = subst (λ list. TakesAll more list first third) (sym pushed) record {
     accounts_are = map-append account_of holdings (holding ∷ []) ∙ (λ i. before.accounts_are i ++ holding.taken.account ∷ []) ∙ sym is;
@@ -50,6 +51,6 @@ module _ (accounts : List ℕ) (holdings : List Holding) (first second third : S
         (entries-trans _ _ _ _ _ _ _ before.entries after);
   }
     where
-      books : taking (as_held holding.taken) (view_of second).books ≡ holding_all (holdings ++ holding ∷ []) (view_of first).books
-      books = ap (taking (as_held holding.taken)) before.entries.books_are
+      books : taking (held_of holding.taken) (view_of second).books ≡ holding_all (holdings ++ holding ∷ []) (view_of first).books
+      books = ap (taking (held_of holding.taken)) before.entries.books_are
           ∙ (λ i. record (view_of first).books { held = sym (held-push holdings holding []) i })

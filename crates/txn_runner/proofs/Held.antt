@@ -1,11 +1,12 @@
 -- Accounts that are held, and given back in the order in which they were taken.
-use Rattle.std.proofs.Common.{◌≡◌, ◌≢◌, ◌==◌, ℕ, suc, ◌+◌, ◌<◌, ◌≤◌, cond, true, false, List, [], ◌∷◌, ◌++◌, length, get_or, map, All, sym, refl, ap, ◌∙◌, subst, arith, eq-eqb, ne_eqb}
+use Rattle.std.proofs.Common.{◌≡◌, ◌≢◌, ◌==◌, ℕ, suc, ◌+◌, ◌<◌, ◌≤◌, inl, inr, cond, true, false, List, [], ◌∷◌, ◌++◌, length, get_or, map, All, Contains, sym, refl, ap, ◌∙◌, subst, arith, eq-eqb, ne_eqb, length-append}
 use Rattle.std.specs.List.{AllByRecursion}
 use Rattle.std.specs.List.Sorted.{IsStrictlyIncreasing}
 use Rattle.std.proofs.lemmas.List.{length-map, get_or-map}
-use Rattle.std.proofs.lemmas.List.Elements.{recursion_from_All}
+use Rattle.std.proofs.lemmas.List.Elements.{recursion_from_All, All-cons, Contains-append_left, Contains-append_right, Contains-append_cases}
 use Rattle.log_table.specs.declared.table.Seat.{Seat}
 use Rattle.log_table.specs.declared.view.Books.{Books}
+use Rattle.log_table.specs.declared.view.Given.{Given}
 use Rattle.log_table.specs.declared.view.Held.{Held}
 use Rattle.log_table.specs.declared.view.View.{View}
 use Rattle.log_table.specs.Books.{times_held, balance_taken, mark_taken, without}
@@ -14,7 +15,9 @@ use Rattle.log_table.specs.Views.{gave_account}
 use Rattle.early_locks.specs.declared.taking.Taken.{Taken}
 use Rattle.early_locks.specs.Locks.{HoldsTaken}
 use Rattle.txn_runner.specs.declared.holding.Holding.{Holding}
-use Rattle.txn_runner.specs.Holdings.{account_of, taken_of, as_held, held_behind, Lacks, AreDistinct, with_held}
+use Rattle.early_locks.specs.Transfers.{held_of, given_at}
+use Rattle.txn_runner.specs.Holdings.{account_of, taken_of, held_behind, given_behind, Lacks, AreDistinct, with_held}
+use Rattle.txn_runner.specs.Running.{account_given}
 use Rattle.txn_runner.proofs.Listing.{rising-below}
 
 -- ascending accounts are distinct
@@ -44,7 +47,7 @@ without-behind : (holdings : List Holding) (front : List Held) (last : Held) →
     → AllByRecursion (λ (held : Held). held.account ≢ last.account) front
     → without last.account (held_behind holdings (front ++ last ∷ [])) ≡ held_behind holdings front
 without-behind [] front last lacks none = without-last front last none
-without-behind (holding ∷ holdings) front last lacks none = without-behind holdings (as_held holding.taken ∷ front) last lacks.1
+without-behind (holding ∷ holdings) front last lacks none = without-behind holdings (held_of holding.taken ∷ front) last lacks.1
     (lacks.0, none)
 
 -- what was taken later doesn't concern the account
@@ -52,7 +55,7 @@ pub taken-behind : (books : Books) (holdings : List Holding) (held : List Held) 
     → HoldsTaken taken (record books { held = held }) → HoldsTaken taken (record books { held = held_behind holdings held })
 taken-behind books [] held taken lacks holds = holds
 taken-behind books (holding ∷ holdings) held taken lacks holds = taken-behind books holdings
-    (as_held holding.taken ∷ held) taken lacks.1 record {
+    (held_of holding.taken ∷ held) taken lacks.1 record {
       has = omega (arith, holds.has);
       balance = (λ i. cond (other i) holding.taken.balance (balance_taken held taken.account)) ∙ holds.balance;
       mark = (λ i. cond (other i) holding.taken.mark (mark_taken held taken.account)) ∙ holds.mark;
@@ -63,7 +66,7 @@ taken-behind books (holding ∷ holdings) held taken lacks holds = taken-behind 
 
 -- the account taken last
 pub taken-first : (books : Books) (holding : Holding) (held : List Held)
-    → HoldsTaken holding.taken (record books { held = as_held holding.taken ∷ held })
+    → HoldsTaken holding.taken (record books { held = held_of holding.taken ∷ held })
 taken-first books holding held = record {
   has = subst (λ b. 1 ≤ cond b 1 0 + times_held holding.taken.account held) (sym same) (omega arith);
   balance = λ i. cond (same i) holding.taken.balance (balance_taken held holding.taken.account);
@@ -73,10 +76,40 @@ taken-first books holding held = record {
     same : (holding.taken.account == holding.taken.account) ≡ true
     same = eq-eqb holding.taken.account holding.taken.account refl
 
+given-push : (durable : ℕ) (holdings : List Holding) (holding : Holding) (given : List Given)
+    → given_behind durable (holdings ++ holding ∷ []) given ≡ given_at durable holding.taken ∷ given_behind durable holdings given
+given-push durable [] holding given = refl
+given-push durable (first ∷ holdings) holding given = given-push durable holdings holding (given_at durable first.taken ∷ given)
+
+-- what went back before stays among what went back
+still-given : (durable : ℕ) (holdings : List Holding) (given : List Given) (account : ℕ) → Contains (map account_given given) account
+    → Contains (map account_given (given_behind durable holdings given)) account
+still-given durable [] given account has = has
+still-given durable (holding ∷ holdings) given account has = still-given durable holdings (given_at durable holding.taken ∷ given) account
+    (Contains-append_right (holding.taken.account ∷ []) (map account_given given) account has)
+
+-- each account went back
+pub given-all : (durable : ℕ) (holdings : List Holding) (given : List Given) (account : ℕ) → Contains (map account_of holdings) account
+    → Contains (map account_given (given_behind durable holdings given)) account
+given-all durable [] given account has = absurd (omega (arith, has.1))
+given-all durable (holding ∷ holdings) given account has =
+    elim (Contains-append_cases (holding.taken.account ∷ []) (map account_of holdings) account has) [
+      | inl first ↦ still-given durable holdings (given_at durable holding.taken ∷ given) account
+          (Contains-append_left (holding.taken.account ∷ []) (map account_given given) account first)
+      | inr later ↦ given-all durable holdings (given_at durable holding.taken ∷ given) account later
+    ]
+
+-- each went back where durable was seen at this LSN or above it
+pub given-durable : (end durable : ℕ) → end ≤ durable → (holdings : List Holding) (given : List Given)
+    → All (λ (given : Given). end ≤ given.durable) given → All (λ (given : Given). end ≤ given.durable) (given_behind durable holdings given)
+given-durable end durable above [] given all = all
+given-durable end durable above (holding ∷ holdings) given all = given-durable end durable above holdings
+    (given_at durable holding.taken ∷ given) (All-cons (λ (given : Given). end ≤ given.durable) (given_at durable holding.taken) given above all)
+
 -- the first of the holdings that are left, and the others once it is given back
-module _ (first second : Seat) (holdings rest : List Holding) (holding : Holding) (steps : ℕ) (is : holdings ≡ holding ∷ rest)
+module _ (first second : Seat) (back holdings rest : List Holding) (holding : Holding) (is : holdings ≡ holding ∷ rest)
     (apart : AreDistinct holdings)
-    (before : Becomes first second (with_held (held_behind holdings []) steps (view_of first))) where
+    (before : Becomes first second (with_held (held_behind holdings []) back (view_of first))) where
   abbrev view : View
   view = view_of first
 
@@ -86,22 +119,24 @@ module _ (first second : Seat) (holdings rest : List Holding) (holding : Holding
   pub distinct-rest : AreDistinct rest
   distinct-rest = distinct-both.1
 
-  is-held : second.base.me ≡ (with_held (held_behind (holding ∷ rest) []) steps view, first.base.me.1)
-  is-held = before.me ∙ (λ i. (with_held (held_behind (is i) []) steps view, first.base.me.1))
+  is-held : second.base.me ≡ (with_held (held_behind (holding ∷ rest) []) back view, first.base.me.1)
+  is-held = before.me ∙ (λ i. (with_held (held_behind (is i) []) back view, first.base.me.1))
+
+  held-first : HoldsTaken holding.taken (record view.books { held = held_behind (holding ∷ rest) [] })
+  held-first = taken-behind view.books rest (held_of holding.taken ∷ []) holding.taken distinct-both.0 (taken-first view.books holding [])
 
   pub holds-first : HoldsTaken holding.taken (view_of second).books
-  holds-first = subst (λ m. HoldsTaken holding.taken m.0.books) (sym is-held)
-      (taken-behind view.books rest (as_held holding.taken ∷ []) holding.taken distinct-both.0 (taken-first view.books holding []))
+  holds-first = subst (λ m. HoldsTaken holding.taken m.0.books) (sym is-held) held-first
 
   pub gives-first : (third : Seat) → Becomes second third (gave_account holding.taken.account (view_of second))
-      → Becomes first third (with_held (held_behind rest []) (steps + 1) view)
+      → Becomes first third (with_held (held_behind rest []) (back ++ holding ∷ []) view)
   gives-first third after = record {
     table_is = after.table_is ∙ before.table_is;
     number = after.number ∙ before.number;
     me = after.me ∙ ap (λ m. (gave_account holding.taken.account m.0, m.1)) is-held
         ∙ (λ i. (
           record view {
-            seen = record view.seen { steps = total i };
+            seen = record view.seen { steps = total i; given = gone i };
             books = record view.books
                 { held = left i };
           },
@@ -110,11 +145,21 @@ module _ (first second : Seat) (holdings rest : List Holding) (holding : Holding
     worker = after.worker ∙ before.worker;
   }
     where
-      total : view.seen.steps + steps + 1 ≡ view.seen.steps + (steps + 1)
-      total = omega arith
+      total : view.seen.steps + length back + 1 ≡ view.seen.steps + length (back ++ holding ∷ [])
+      total = omega (arith, length-append back (holding ∷ []))
+
+      gone : record {
+        account = holding.taken.account;
+        balance = balance_taken (held_behind (holding ∷ rest) []) holding.taken.account;
+        durable = view.seen.durable;
+      } ∷ given_behind view.seen.durable back view.seen.given
+          ≡ given_behind view.seen.durable (back ++ holding ∷ []) view.seen.given
+      gone = (λ i. record { account = holding.taken.account; balance = held-first.balance i; durable = view.seen.durable }
+          ∷ given_behind view.seen.durable back view.seen.given)
+          ∙ sym (given-push view.seen.durable back holding view.seen.given)
 
       left : without holding.taken.account (held_behind (holding ∷ rest) []) ≡ held_behind rest []
-      left = without-behind rest [] (as_held holding.taken) distinct-both.0 tt
+      left = without-behind rest [] (held_of holding.taken) distinct-both.0 tt
 
 -- holdings of the same accounts, taken with the same values
 module _ (old new : List Holding) (same : map taken_of new ≡ map taken_of old) where

@@ -28,4 +28,5 @@ entries-trans first second third entries entries' books books' before after = re
   idle = after.idle;
   entries_are = after.entries_are;
   books_are = after.books_are;
+  given_are = after.given_are ∙ before.given_are;
 }

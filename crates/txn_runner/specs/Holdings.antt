@@ -1,14 +1,18 @@
 -- The accounts that a transfer holds.
-use Rattle.std.specs.Prelude.{◌≡◌, ◌≢◌, ℕ, ◌+◌, ◌<◌, List, [], ◌∷◌, map, All}
+use Rattle.std.specs.Prelude.{◌≡◌, ◌≢◌, ℕ, ◌+◌, ◌<◌, List, [], ◌∷◌, length, map, All}
 use Rattle.std.specs.List.{AllByRecursion}
 use Rattle.log_table.specs.declared.table.Seat.{Seat}
 use Rattle.log_table.specs.declared.view.Books.{Books}
+use Rattle.log_table.specs.declared.view.Call.TheVariants.{Idle}
+use Rattle.log_table.specs.declared.view.Given.{Given}
 use Rattle.log_table.specs.declared.view.Held.{Held}
+use Rattle.log_table.specs.declared.view.Seen.{Seen}
 use Rattle.log_table.specs.declared.view.View.{View}
 use Rattle.log_table.specs.Seats.{view_of}
-use Rattle.ring_buffer.specs.Calls.{HasEntries}
+use Rattle.ring_buffer.specs.Calls.{IsSameWorker, HasEntries}
 use Rattle.early_locks.specs.declared.taking.Taken.{Taken}
 use Rattle.early_locks.specs.Locks.{GivesBack}
+use Rattle.early_locks.specs.Transfers.{held_of, given_at}
 use Rattle.txn_runner.specs.declared.giving.Release.{Release}
 use Rattle.txn_runner.specs.declared.giving.Release.TheVariants.{Unchanged, Committed}
 use Rattle.txn_runner.specs.declared.holding.Holding.{Holding}
@@ -23,14 +27,10 @@ account_of holding = holding.taken.account
 abbrev pub IsKnown : ℕ → Holding → Type 0
 IsKnown accounts holding = holding.taken.account < accounts
 
--- the account as a seat's books have it
-abbrev pub as_held : Taken → Held
-as_held taken = record { account = taken.account; balance = taken.balance; mark = taken.mark }
-
 -- the accounts taken one after another, newest first, after those that were held before
 abbrev pub held_behind : List Holding → List Held → List Held
 held_behind [] held = held
-held_behind (holding ∷ holdings) held = held_behind holdings (as_held holding.taken ∷ held)
+held_behind (holding ∷ holdings) held = held_behind holdings (held_of holding.taken ∷ held)
 
 -- the books with these accounts held alone
 abbrev pub holding_all : List Holding → Books → Books
@@ -69,6 +69,22 @@ back_of (Committed end) holding = (holding.balance, end)
 abbrev pub GoesBack : Release → Books → Holding → Type 0
 GoesBack release books holding = GivesBack holding.taken (back_of release holding).0 (back_of release holding).1 books
 
--- after so many more steps, with these accounts held
-abbrev pub with_held : List Held → ℕ → View → View
-with_held held steps view = record view { seen = record view.seen { steps = view.seen.steps + steps }; books = record view.books { held = held } }
+-- the accounts given back one after another where durable is seen there, newest first, after those that were given back before
+abbrev pub given_behind : ℕ → List Holding → List Given → List Given
+given_behind durable [] given = given
+given_behind durable (holding ∷ holdings) given = given_behind durable holdings (given_at durable holding.taken ∷ given)
+
+-- after one that gave these accounts back, and so took a step for each
+abbrev pub seen_back : List Holding → Seen → Seen
+seen_back back seen = record seen { steps = seen.steps + length back; given = given_behind seen.durable back seen.given }
+
+-- after these accounts were given back, with those held
+abbrev pub with_held : List Held → List Holding → View → View
+with_held held back view = record view { seen = seen_back back view.seen; books = record view.books { held = held } }
+
+-- the seat has nothing under way, and the entries and books that it had; it may have given accounts back
+pub record KeepsBooks (old new : Seat) : Type 0 where
+  pub same : IsSameWorker old new
+  pub idle : (view_of new).call ≡ Idle
+  pub entries : (view_of new).entries ≡ (view_of old).entries
+  pub books : (view_of new).books ≡ (view_of old).books

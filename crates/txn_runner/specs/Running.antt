@@ -1,11 +1,12 @@
 -- What a seat has done of one transfer. `old` and `new` are its view before and after.
-use Rattle.std.specs.Prelude.{◌≡◌, ◌≢◌, ℕ, ◌+◌, ◌<◌, ◌≤◌, true, Bool, List, [], ◌∷◌, ◌++◌, Contains}
+use Rattle.std.specs.Prelude.{◌≡◌, ◌≢◌, ℕ, ◌+◌, ◌<◌, ◌≤◌, true, Bool, List, [], ◌∷◌, ◌++◌, map, All, Contains}
 use Rattle.lsn_space.specs.declared.lsn.TheConstants.{LAST}
 use Rattle.log_record.specs.declared.rec.Rec.{Rec}
 use Rattle.log_record.specs.LogList.{size_of}
 use Rattle.lock_core.specs.Alone.{Outcome, Done, ShortAt, OverAt, outcome_alone, end_record, planned_records}
 use Rattle.txn_script.specs.declared.job.Job.{Job}
 use Rattle.log_table.specs.declared.view.Entry.{Entry}
+use Rattle.log_table.specs.declared.view.Given.{Given}
 use Rattle.log_table.specs.declared.view.View.{View}
 use Rattle.txn_script.specs.Transfers.{transfer_of}
 use Rattle.log_table.specs.Closing.{records_of}
@@ -14,6 +15,7 @@ use Rattle.txn_runner.specs.declared.cause.Cause.TheVariants.{Stop, LogEnd}
 use Rattle.txn_runner.specs.declared.rows.Answer.{Answer}
 use Rattle.txn_runner.specs.declared.rows.Answer.TheVariants as answer
 use Rattle.txn_runner.specs.declared.rows.Row.{Row}
+use Rattle.txn_runner.specs.Accounts.{HasAccountsOf}
 
 -- the outcome that an answer tells
 abbrev pub outcome_of : Answer → Outcome
@@ -37,8 +39,12 @@ pub record HasInserted (number : ℕ) (job : Job) (rest : List Rec) (old new : V
   pub plan : records_of added ++ rest ≡ planned_records number (transfer_of job) marks balances
   pub jobs : new.books.jobs ≡ record { number = number; job = job } ∷ old.books.jobs
 
+abbrev pub account_given : Given → ℕ
+account_given given = given.account
+
 -- All its records were inserted, and the row tells how it ended, where its end record ends, and the durable LSN that the seat saw last,
--- which is at or above that where the seat waited.
+-- which is at or above that where the seat waited. Since it took the transfer the seat gave each account of it back; where it waited, each
+-- only once it had seen durable at or above the end.
 pub record HasRun (number : ℕ) (job : Job) (wait : Bool) (row : Row) (old new : View) : Type 0 where
   pub inserted : HasInserted number job [] old new
   pub txn : row.txn ≡ number
@@ -51,6 +57,8 @@ pub record HasRun (number : ℕ) (job : Job) (wait : Bool) (row : Row) (old new 
   pub above : old.seen.tail < row.end
   pub seen : row.seen ≡ new.seen.durable
   pub waited : wait ≡ true → row.end ≤ row.seen
+  pub given : All (HasAccountsOf (map account_given new.seen.given)) job.legs
+  pub durable_first : wait ≡ true → All (λ (given : Given). row.end ≤ given.durable) new.seen.given
 
 -- Why the transfer was cut off: the seat read a stop word that isn't 0, where records are left or the worker waits; or its next record has
 -- so many units, and by the tail as the seat saw it last they do not fit in the log.

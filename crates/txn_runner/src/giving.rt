@@ -1,5 +1,5 @@
 //! A transfer gives its accounts back.
-ghost use Rattle.std.specs.Prelude.{◌≡◌, ◌<◌, ◌≤◌, [], true, All, length};
+ghost use Rattle.std.specs.Prelude.{◌≡◌, ◌<◌, ◌≤◌, [], true, All};
 ghost use Rattle.log_record.specs.declared.limits.TheConstants.{MOST_BALANCE};
 ghost use Rattle.log_table.specs.Seats.{IsOf, Becomes, view_of};
 ghost use Rattle.log_table.specs.Views.{gave_account};
@@ -50,7 +50,7 @@ pub(crate) fn give_all(
     requires known { All (IsKnown table.now.accounts) holdings.items }
     requires values { All (GoesBack release (view_of seat.old).books) holdings.items }
     requires durable { durable ≡ true → HasSeenDurable (view_of seat.old) }
-    ensures { Becomes seat.old seat.new (with_held [] (length holdings.items) (view_of seat.old)) }
+    ensures { Becomes seat.old seat.new (with_held [] holdings.items (view_of seat.old)) }
 {
     'holdings: for holding in holdings {
         let (balance, mark) = release.values(&holding);

@@ -6,7 +6,8 @@ ghost use Rattle.log_table.specs.Books.{taking};
 ghost use Rattle.log_table.specs.May.{HasBegunNothing};
 ghost use Rattle.log_table.specs.Seats.{IsOf, view_of};
 ghost use Rattle.ring_buffer.specs.Calls.{IsReady, HasEntries};
-ghost use Rattle.txn_runner.specs.Holdings.{TakesAll, as_held};
+ghost use Rattle.early_locks.specs.Transfers.{held_of};
+ghost use Rattle.txn_runner.specs.Holdings.{TakesAll, KeepsBooks};
 ghost use Rattle.txn_runner.specs.Inserts.{StopsFor};
 
 use crate::cause::Cause;
@@ -38,7 +39,7 @@ pub(crate) fn take_all<R: Wait, Q: Relief, G: Gate>(
     requires few { length accounts.now ≤ 16 }
     requires relief { Q.ready relief.old }
     ensures taken { IfOk result (λ holdings. TakesAll accounts.now holdings.items seat.old seat.new) }
-    ensures kept { OnErr result (HasEntries seat.old seat.new (view_of seat.old).entries (view_of seat.old).books) }
+    ensures kept { OnErr result (KeepsBooks seat.old seat.new) }
     ensures stopped { IfErr result (λ cause. StopsFor cause [] (view_of seat.new)) }
     ensures relief { Q.ready relief.new }
     ensures later { Q.later relief.old relief.new }
@@ -74,7 +75,7 @@ fn take_one<R: Wait, Q: Relief>(
     requires relief { Q.ready relief.old }
     ensures account { IfOk result (λ taken. taken.account ≡ account) }
     ensures fits { IfOk result (λ taken. taken.balance ≤ MOST_BALANCE) }
-    ensures taken { IfOk result (λ taken. HasEntries seat.old seat.new (view_of seat.old).entries (taking (as_held taken) (view_of seat.old).books)) }
+    ensures taken { IfOk result (λ taken. HasEntries seat.old seat.new (view_of seat.old).entries (taking (held_of taken) (view_of seat.old).books)) }
     ensures kept { OnErr result (HasEntries seat.old seat.new (view_of seat.old).entries (view_of seat.old).books) }
     ensures stopped { IfErr result (λ cause. StopsFor cause [] (view_of seat.new)) }
     ensures relief { Q.ready relief.new }

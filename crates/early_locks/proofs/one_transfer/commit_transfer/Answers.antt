@@ -1,18 +1,43 @@
-use Rattle.std.proofs.Common.{◌∙◌, ap, sym, subst}
+use Rattle.std.proofs.Common.{arith, ◌≡◌, ◌∙◌, [], ◌∷◌, ap, sym, subst}
 use Rattle.log_table.specs.Books.{giving}
 use Rattle.log_table.specs.Seats.{view_of}
+use Rattle.log_table.specs.Views.{gave_account}
 use Rattle.early_locks.specs.Locks.{HoldsTaken}
-use Rattle.early_locks.proofs.Transferring.{holds-other, none-left}
+use Rattle.early_locks.specs.Transfers.{given_at, IsNotMade}
+use Rattle.early_locks.proofs.Transferring.{holds-other, none-left, gives-both, not-made-back}
 use Rattle.early_locks.proofs.one_transfer.commit_transfer.Goals as goal
 
 pub give_unchanged-requires-in_default-clause-holds : goal.give_unchanged-requires-in_default-clause-holds
 give_unchanged-requires-in_default-clause-holds g c = let has = c.in_default.ensures.stopped.moving in
-    subst (HoldsTaken c.take_both-both.result.payee) (sym c.give_unchanged.ensures.books)
+    subst (HoldsTaken c.take_both-both.result.payee) (sym (ap (λ m. m.0.books) c.give_unchanged.ensures.me))
     (holds-other _ _ _ (λ same. c.requires.job.allowed.job.legs.each.0.two (sym has.payer_is ∙ (sym same ∙ has.payee_is))) has.payee_held)
 
 pub returns-in_default-clause-none_held : goal.returns-in_default-clause-none_held
 returns-in_default-clause-none_held g c = let has = c.in_default.ensures.stopped.moving in
-    ap (λ books. books.held) c.give_unchanged-in_default.ensures.books
-    ∙ (ap (λ books. (giving c.take_both-both.result.payee.account books).held) c.give_unchanged.ensures.books
+    ap (λ m. m.0.books.held) c.give_unchanged-in_default.ensures.me
+    ∙ (ap (λ m. (giving c.take_both-both.result.payee.account m.0.books).held) c.give_unchanged.ensures.me
     ∙ none-left _ _ (view_of c.put_records-placed.new.seat).books (λ same. c.requires.job.allowed.job.legs.each.0.two (sym has.payer_is ∙ (same ∙ has.payee_is)))
     has.payer_held.has has.payee_held.has has.only)
+
+pub returns-in_default-clause-given_up : goal.returns-in_default-clause-given_up
+returns-in_default-clause-given_up g c =
+    let has = c.in_default.ensures.stopped.moving in
+    let both = c.take_both-both.result in
+    let put = view_of c.put_records-placed.new.seat in
+    let first : view_of c.give_unchanged.new.seat ≡ gave_account both.payer.account put = ap (λ m. m.0) c.give_unchanged.ensures.me in
+    let second : view_of c.give_unchanged-in_default.new.seat ≡ gave_account both.payee.account (view_of c.give_unchanged.new.seat) =
+    ap (λ m. m.0) c.give_unchanged-in_default.ensures.me in
+    let steps = ap (λ m. m.0.seen.steps) c.take_job.ensures.view.me in
+    let none : put.seen.given ≡ [] = c.put_records-placed.ensures.given ∙ c.take_both-both.ensures.given
+    ∙ ap (λ m. m.0.seen.given) c.take_job.ensures.view.me in record {
+      payer = given_at put.seen.durable both.payer;
+      payee = given_at put.seen.durable both.payee;
+      given = gives-both put _ _ both.payer both.payee (λ same. c.requires.job.allowed.job.legs.each.0.two (sym has.payer_is ∙ (same ∙ has.payee_is)))
+          has.payer_held has.payee_held first second
+          ∙ (λ i. given_at put.seen.durable both.payee ∷ given_at put.seen.durable both.payer ∷ none i);
+      payer_is = has.payer_is;
+      payee_is = has.payee_is;
+      cause = subst (IsNotMade c.args.transfer both.payer.balance both.payee.balance (view_of c.args.seat.now))
+          (sym (second ∙ ap (gave_account both.payee.account) first))
+          (not-made-back c.args.transfer _ _ _ _ _ _ _ (omega (arith, steps, c.take_both-both.ensures.same.steps)) c.in_default.ensures.cause);
+    }

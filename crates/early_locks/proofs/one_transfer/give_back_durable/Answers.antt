@@ -1,8 +1,9 @@
-use Rattle.std.proofs.Common.{rules, ◌≡◌, ◌∙◌, ap, sym, subst}
+use Rattle.std.proofs.Common.{rules, ◌≡◌, ◌∙◌, ◌∷◌, ap, sym, subst}
 use Rattle.log_table.specs.Books.{giving}
 use Rattle.log_table.specs.Seats.{view_of}
 use Rattle.early_locks.specs.Locks.{HoldsTaken}
-use Rattle.early_locks.proofs.Transferring.{holds-other, none-left}
+use Rattle.early_locks.specs.Transfers.{given_at}
+use Rattle.early_locks.proofs.Transferring.{holds-other, none-left, gives-both}
 use Rattle.early_locks.proofs.one_transfer.give_back_durable.Goals as goal
 
 pub give_durable-requires-2-clause-holds : goal.give_durable-requires-2-clause-holds
@@ -16,3 +17,17 @@ returns-clause-none_held g c = let has = c.requires.committed in
     ap (λ m. m.0.books.held) c.give_durable-2.ensures.me
     ∙ (ap (λ books. (giving c.args.committed.payee.account books).held) gave
     ∙ none-left _ _ (view_of c.args.seat.now).books has.two has.payer_held.has has.payee_held.has has.only)
+
+pub returns-clause-durable : goal.returns-clause-durable
+returns-clause-durable g c =
+    let has = c.requires.committed in
+    let committed = c.args.committed in
+    let see = view_of c.see_durable.new.seat in record {
+      durable = see.seen.durable;
+      given = gives-both see _ _ committed.payer committed.payee has.two
+          (subst (HoldsTaken committed.payer) (sym c.see_durable.ensures.books) has.payer_held)
+          (subst (HoldsTaken committed.payee) (sym c.see_durable.ensures.books) has.payee_held)
+          (ap (λ m. m.0) c.give_durable.ensures.me) (ap (λ m. m.0) c.give_durable-2.ensures.me)
+          ∙ (λ i. given_at see.seen.durable committed.payee ∷ given_at see.seen.durable committed.payer ∷ c.see_durable.ensures.given i);
+      above = c.see_durable.ensures.durable;
+    }

@@ -9,4 +9,5 @@ invariant-loop g l = record {
   same : IsSameWorker l.initial.seat l.seat;
   ready : IsReady (view_of l.seat);
   books : (view_of l.seat).books ≡ (view_of l.initial.seat).books;
+  given : (view_of l.seat).seen.given ≡ (view_of l.initial.seat).seen.given;
 }

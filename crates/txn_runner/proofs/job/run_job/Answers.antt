@@ -3,7 +3,8 @@ use Rattle.std.proofs.lemmas.Result.{err_from_is_err_and}
 use Rattle.log_table.specs.declared.view.Books.{Books}
 use Rattle.log_table.specs.Seats.{view_of}
 use Rattle.txn_runner.specs.declared.cause.Cause.TheVariants.{Stop}
-use Rattle.txn_runner.proofs.Composing.{accounts-known, holds-job, still-known, still-held, took, still-taken, keeps-held, keeps-then, has-inserted, still-stops, has-cut, cut-early, has-run}
+use Rattle.txn_runner.specs.Holdings.{given_behind}
+use Rattle.txn_runner.proofs.Composing.{accounts-known, holds-job, still-known, still-all, still-held, took, still-taken, keeps-held, keeps-then, has-inserted, still-stops, has-cut, cut-early, has-run}
 use Rattle.txn_runner.proofs.job.run_job.Goals as goal
 
 pub returns-then-word-ne0-clause-cut : goal.returns-then-word-ne0-clause-cut
@@ -20,7 +21,7 @@ returns-in_err-holdings-clause-cut g c =
     let failed = err_from_is_err_and c.from_residual.result c.from_residual.ensures.1 in
     let job = took _ _ _ c.args.seat.now c.take_job-word.new.seat c.take_job-word.ensures.view in
     let err = c.in_err-holdings.ensures in
-    rw (failed.1, failed.2) (cut-early _ _ _ _ _ _ (still-taken _ _ _ _ _ _ job err.kept refl refl refl) err.stopped)
+    rw (failed.1, failed.2) (cut-early _ _ _ _ _ _ (still-taken _ _ _ _ _ _ job err.kept.entries err.kept.same.grows err.kept.books refl refl refl) err.stopped)
 
 pub insert_transfer-requires-clause-job : goal.insert_transfer-requires-clause-job
 insert_transfer-requires-clause-job g c =
@@ -43,7 +44,8 @@ give_all-requires-clause-known g c =
 pub returns-in-Err-clause-cut : goal.returns-in-Err-clause-cut
 returns-in-Err-clause-cut g c =
     let job = took _ _ _ c.args.seat.now c.take_job-word.new.seat c.take_job-word.ensures.view in
-    let taken = still-taken _ _ _ _ c.take_all.new.seat _ job c.in_ok-holdings.ensures.taken.entries refl refl refl in
+    let all = c.in_ok-holdings.ensures.taken.entries in
+    let taken = still-taken _ _ _ _ (view_of c.take_all.new.seat) _ job all.entries_are all.same.grows all.books_are refl refl refl in
     let added = c.in-Err.ensures.added in
     let cut = c.in-Err.ensures.cut in
     has-cut _ _ _ _ cut.rest _ _ (has-inserted _ _ _ _ _ _ _ _ taken added.1 cut.left (keeps-held _ _ _ _ c.give_all.ensures))
@@ -67,7 +69,8 @@ pub returns-in_err-seen-clause-cut : goal.returns-in_err-seen-clause-cut
 returns-in_err-seen-clause-cut g c =
     let failed = err_from_is_err_and c.from_residual-in_err-seen.result c.from_residual-in_err-seen.ensures.1 in
     let job = took _ _ _ c.args.seat.now c.take_job-word.new.seat c.take_job-word.ensures.view in
-    let taken = still-taken _ _ _ _ c.take_all.new.seat _ job c.in_ok-holdings.ensures.taken.entries refl refl refl in
+    let all = c.in_ok-holdings.ensures.taken.entries in
+    let taken = still-taken _ _ _ _ (view_of c.take_all.new.seat) _ job all.entries_are all.same.grows all.books_are refl refl refl in
     let ends = c.in-Ok.ensures.ended in
     let keeps = keeps-then _ _ _ c.see_durable-seen.ensures.kept (keeps-held _ _ _ _ c.give_all-2.ensures) in
     rw (failed.1, failed.2) (has-cut _ _ _ _ [] _ _ (has-inserted _ _ _ _ _ _ _ _ taken ends.adds ends.left keeps)
@@ -77,8 +80,18 @@ returns-in_err-seen-clause-cut g c =
 pub returns-clause-run : goal.returns-clause-run
 returns-clause-run g c =
     let job = took _ _ _ c.args.seat.now c.take_job-word.new.seat c.take_job-word.ensures.view in
-    let taken = still-taken _ _ _ _ c.take_all.new.seat _ job c.in_ok-holdings.ensures.taken.entries refl refl refl in
+    let all = c.in_ok-holdings.ensures.taken.entries in
+    let taken = still-taken _ _ _ _ (view_of c.take_all.new.seat) _ job all.entries_are all.same.grows all.books_are refl refl refl in
     let keeps = keeps-then _ _ _ c.see_durable-seen.ensures.kept (keeps-held _ _ _ _ c.give_all-2.ensures) in
     let seen : c.in_ok-seen.seen ≡ (view_of c.give_all-2.new.seat).seen.durable =
     c.in_ok-seen.ensures.seen ∙ sym (ap (λ m. m.0.seen.durable) c.give_all-2.ensures.me) in
-    has-run _ _ _ _ _ _ _ _ _ _ taken c.in-Ok.ensures.ended keeps seen c.in_ok-seen.ensures.waited
+    let none : (view_of c.see_durable-seen.new.seat).seen.given ≡ [] =
+    c.see_durable-seen.ensures.kept.given_are ∙ c.in-Ok.ensures.ended.adds.entries.given_are ∙ all.given_are
+    ∙ ap (λ m. m.0.seen.given) c.take_job-word.ensures.view.me in
+    let paid = c.insert_transfer.new.holdings.items in
+    let given : (view_of c.give_all-2.new.seat).seen.given ≡ given_behind c.in_ok-seen.seen paid [] =
+    ap (λ m. m.0.seen.given) c.give_all-2.ensures.me ∙ (λ i. given_behind (sym c.in_ok-seen.ensures.seen i) paid (none i)) in
+    let list = c.accounts_of-accounts.ensures in
+    has-run _ _ _ _ _ _ _ _ _ _ taken c.in-Ok.ensures.ended keeps seen c.in_ok-seen.ensures.waited paid given
+    (still-all _ _ _ _ _ _ _ _ c.as_slice.ensures.value list.rising list.only c.requires.may.allowed c.in_ok-holdings.ensures.taken
+    _ c.in-Ok.ensures.taken list.all)
