@@ -20,7 +20,7 @@ use Rattle.log_table.specs.Sends.{AreEntries, ReadsWholeEntries}
 use Rattle.log_table.specs.Views.{sent_to, read_to}
 use Rattle.flusher.specs.Records.{Spells}
 use Rattle.flusher.specs.Sending.{gathered, flushed}
-use Rattle.flusher.specs.Flushing.{IsReady, IsSameSeat, HoldsDurablePrefix, sent_of, lsns_of}
+use Rattle.flusher.specs.Flushing.{MayFlush, IsSameSeat, HoldsDurablePrefix, sent_of, lsns_of}
 
 -- one step after another
 pub Becomes-then : (a b c : Seat) (view : View) (f : View → View) → Becomes a b view → Becomes b c (f (view_of b)) → Becomes a c (f view)
@@ -108,11 +108,11 @@ Reads-gathered view now from to units is unread start whole entries =
     }
 
 -- a step of the seat alone, which leaves what was sent and read as it was, leaves the flusher ready
-pub IsReady-step : {D : Type 0} (g : Ghosts D) (f : Flusher D) (seat : Seat) (view : View) → IsReady g f → Becomes f.seat seat view
+pub MayFlush-step : {D : Type 0} (g : Ghosts D) (f : Flusher D) (seat : Seat) (view : View) → MayFlush g f → Becomes f.seat seat view
     → view.constants ≡ (view_of f.seat).constants → view.standing ≡ (view_of f.seat).standing → view.sending.sent ≡ sent_of f
     → view.sending.read ≡ (view_of f.seat).sending.read → ((x : ℕ) → Contains (lsns_of f) x → Contains view.seen.lsns x)
-    → IsReady g (record f { seat = seat })
-IsReady-step g f seat view ready becomes constants standing sent read seen =
+    → MayFlush g (record f { seat = seat })
+MayFlush-step g f seat view ready becomes constants standing sent read seen =
     let view_is : view_of seat ≡ view = ap (λ m. m.0) becomes.me in
     let constants_are : (view_of seat).constants ≡ (view_of f.seat).constants = ap (λ v. v.constants) view_is ∙ constants in
     let durable_is : sent_to (view_of seat) ≡ sent_to (view_of f.seat) =

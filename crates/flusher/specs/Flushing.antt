@@ -26,7 +26,7 @@ lsns_of f = (view_of f.seat).seen.lsns
 
 -- a flush may be made: the seat is the table's first and saw durable, its last flush did not fail, the log goes on at durable
 -- behind a gate that stays shut, and the batch has room for the ring
-pub record IsReady {D : Type 0} (g : Ghosts D) (f : Flusher D) : Type 0 where
+pub record MayFlush {D : Type 0} (g : Ghosts D) (f : Flusher D) : Type 0 where
   pub seat : IsOf f.table.now f.seat
   pub flusher : (view_of f.seat).standing.role ≡ FlusherRole
   pub unread : (view_of f.seat).sending.read ≡ []

@@ -9,7 +9,7 @@ ghost use Rattle.log_table.specs.Seats.{IsOf, view_of};
 ghost use Rattle.log_table.specs.Views.{knows_all_enrolled, sent_to};
 ghost use Rattle.ring_buffer.specs.Calls.{IsReady};
 ghost use Rattle.ring_buffer.specs.NotedJobs.{IsNotedJob, IsFreeFor};
-ghost use Rattle.flusher.specs.Flushing.{IsReady as MayFlush};
+ghost use Rattle.flusher.specs.Flushing.{MayFlush};
 
 use crate::{Flushed, Flusher};
 use log_disk::{LogDisk, MemoryDisk, OpenGate};
