@@ -14,7 +14,6 @@ use Rattle.segment_file.specs.Standing.{AllStand, HoldsEither}
 use Rattle.flusher.specs.declared.flusher.Flusher.{Flusher}
 use Rattle.flusher.specs.Flushing.{MayFlush, HoldsDurablePrefix, MayHoldBatchInFlight, Sends, Loses, sent_of}
 use Rattle.flusher.specs.Sending.{gathered, flushed}
-use Rattle.flusher.specs.Records.{Spells}
 use Rattle.flusher.proofs.Flushes.{StandsAt-holds}
 use Rattle.commit_pipeline.specs.Later.{HoldsFront}
 use Rattle.commit_pipeline.specs.Turning.{Stops}

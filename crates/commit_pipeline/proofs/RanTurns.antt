@@ -13,7 +13,7 @@ use Rattle.flusher.specs.declared.flusher.Drained.{Drained}
 use Rattle.flusher.specs.declared.flusher.Drained.TheVariants.{At, Active, Behind}
 use Rattle.flusher.specs.declared.flusher.Flusher.{Flusher}
 use Rattle.flusher.specs.Flushing.{Asks, IsSameSeat, sent_of}
-use Rattle.flusher.specs.Records.{Spells}
+use Rattle.log_record.specs.LogList.{AreUnitsOf}
 use Rattle.flusher.proofs.Flushes.{IsSameSeat-becomes}
 use Rattle.commit_pipeline.specs.declared.daemon.Daemon.{Daemon}
 use Rattle.commit_pipeline.specs.declared.daemon.DaemonFault.TheVariants.{DiskFault, WriteFault}
@@ -97,7 +97,7 @@ module _ {D : Type 0} {K : Type 0} (g : Ghosts D) (h : SinkGhosts K) (old new : 
       (subst (HasReason g h old new) (sym may.fine) stop) (omega (arith, ap extra may.fine))
 
   -- what some units spell is some record
-  some-records : (units : List ℕ) (records : List Rec) → Spells units records → 0 < length units → 1 ≤ length records
+  some-records : (units : List ℕ) (records : List Rec) → AreUnitsOf units records → 0 < length units → 1 ≤ length records
   some-records units [] spelled some = absurd (omega (arith, some, ap length spelled.units_are))
   some-records units (record_ ∷ records) spelled some = omega arith
 

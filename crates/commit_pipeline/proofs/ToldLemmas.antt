@@ -5,11 +5,10 @@ use Rattle.std.proofs.Math.Seq.{drop-append_seam}
 use Rattle.std.proofs.lemmas.List.{drop-drop}
 use Rattle.log_record.specs.declared.rec.Rec.{Rec}
 use Rattle.log_record.specs.declared.rec.Rec.TheVariants.{Genesis, Update, Commit, Short, Over, Note}
-use Rattle.log_record.specs.LogList.{units_of, size_of}
+use Rattle.log_record.specs.LogList.{AreUnitsOf, units_of, size_of}
 use Rattle.log_record.specs.Spelling.{spelling, IsSpellable, BeginsWith}
 use Rattle.log_record.proofs.Fronts.{spelling-parts_of}
 use Rattle.log_record.proofs.SpellingLemmas.{spelling-append-injective}
-use Rattle.flusher.specs.Records.{Spells}
 use Rattle.commit_pipeline.specs.declared.tally.Tally.{Tally}
 use Rattle.commit_pipeline.specs.declared.voice.Voice.{Voice}
 use Rattle.commit_pipeline.specs.declared.voice.Voice.TheVariants.{Lines, Count}
@@ -86,7 +85,7 @@ counted-one tally rec i = record { done = same tally.done (is_done rec) i; refus
     same : (n m : ℕ) → n + (m + 0) ≡ n + m
     same n m = omega arith
 
-pub told-none : (voice : Voice) (from : ℕ) (units : List ℕ) (before : Tally) (records : List Rec) → Spells units records
+pub told-none : (voice : Voice) (from : ℕ) (units : List ℕ) (before : Tally) (records : List Rec) → AreUnitsOf units records
     → ToldUpTo voice from 0 units [] 0 before before records
 told-none voice from units before records spells = record {
   seen = [];

@@ -18,7 +18,7 @@ use Rattle.segment_file.specs.declared.scan_result.Tail.{Tail}
 use Rattle.flusher.specs.declared.flusher.Flusher.{Flusher}
 use Rattle.log_table.specs.Sends.{AreEntries, ReadsWholeEntries}
 use Rattle.log_table.specs.Views.{sent_to, read_to}
-use Rattle.flusher.specs.Records.{Spells}
+use Rattle.log_record.specs.LogList.{AreUnitsOf}
 use Rattle.flusher.specs.Sending.{gathered, flushed}
 use Rattle.flusher.specs.Flushing.{MayFlush, IsSameSeat, HoldsDurablePrefix, sent_of, lsns_of}
 
@@ -82,7 +82,7 @@ MayHoldBatchInFlight-append g counts_now only_now old disk units sent read momen
     (λ c image. inl (StandsAt-holds _ _ c (stand c image))) (moments opening stand)))
 
 -- entries whose units are the spellings of their records spell those
-spelled-records : (entries : List Entry) → AllByRecursion IsSpelled entries → Spells (units_in entries) (records_of entries)
+spelled-records : (entries : List Entry) → AllByRecursion IsSpelled entries → AreUnitsOf (units_in entries) (records_of entries)
 spelled-records [] spelled = record { spellable = tt; units_are = refl }
 spelled-records (entry ∷ entries) spelled =
     let rest = spelled-records entries spelled.1 in record {
@@ -93,7 +93,7 @@ spelled-records (entry ∷ entries) spelled =
 -- the records of the units read up to exposed
 pub record Reads (units : List ℕ) : Type 0 where
   pub records : List Rec
-  pub spelled : Spells units records
+  pub spelled : AreUnitsOf units records
 
 -- the units read up to exposed spell records
 pub Reads-gathered : (view now : View) (from to : ℕ) (units : List ℕ) → now ≡ gathered to units view → view.sending.read ≡ []
@@ -104,7 +104,7 @@ Reads-gathered view now from to units is unread start whole entries =
     let found : AreEntries (sent_to view) to (view.sending.read ++ units) = subst ReadsWholeEntries is entries all in
     record {
       records = records_of found.entries;
-      spelled = subst (λ us. Spells us (records_of found.entries)) (found.units_are ∙ read) (spelled-records found.entries found.spelled);
+      spelled = subst (λ us. AreUnitsOf us (records_of found.entries)) (found.units_are ∙ read) (spelled-records found.entries found.spelled);
     }
 
 -- a step of the seat alone, which leaves what was sent and read as it was, leaves the flusher ready

@@ -14,7 +14,7 @@ use Rattle.flusher.specs.declared.flusher.Flushed.{Flushed}
 use Rattle.flusher.specs.declared.flusher.Flushed.TheVariants.{Nothing, To}
 use Rattle.flusher.specs.declared.flusher.Drained.{Drained}
 use Rattle.flusher.specs.declared.flusher.Drained.TheVariants.{At, Active, Behind}
-use Rattle.flusher.specs.Records.{Spells}
+use Rattle.log_record.specs.LogList.{AreUnitsOf}
 use Rattle.flusher.specs.Sending.{gathered, flushed, asked}
 
 -- what the flusher's seat sent, and the LSNs that it saw
@@ -82,7 +82,7 @@ pub record Sends {D : Type 0} (g : Ghosts D) (old new : Flusher D) (from to : �
   pub some : from < to
   pub whole : to ≡ from + length units
   pub records : List Rec
-  pub spelled : Spells units records
+  pub spelled : AreUnitsOf units records
   pub seat : Becomes old.seat new.seat (flushed to units (view_of old.seat))
   pub batch : new.batch ≡ record old.batch { units = units }
   pub tail : new.tail ≡ tail_after old.tail units
@@ -98,7 +98,7 @@ pub record Loses {D : Type 0} (g : Ghosts D) (old new : Flusher D) : Type 0 wher
   pub some : 0 < length units
   pub whole : to ≡ sent_to (view_of old.seat) + length units
   pub records : List Rec
-  pub spelled : Spells units records
+  pub spelled : AreUnitsOf units records
   pub seat : Becomes old.seat new.seat (gathered to units (view_of old.seat))
   pub batch : new.batch ≡ record old.batch { units = units }
   pub tail : new.tail ≡ old.tail
