@@ -1,6 +1,6 @@
 -- What a flush asks for, and what it leaves. `g` is what a disk shows; `old` and `new` are the flusher before and after.
 use Rattle.std.specs.Prelude.{◌≡◌, ◌↔◌, ℕ, ◌+◌, ◌*◌, ◌^◌, ◌<◌, ◌≤◌, List, [], ◌++◌, length, Contains}
-use Rattle.log_disk.specs.Disk.{IsSettled, Leaves}
+use Rattle.log_disk.specs.Disk.{IsOnlyImage, Leaves}
 use Rattle.log_disk.specs.declared.disk.LogDisk.{Ghosts}
 use Rattle.log_record.specs.declared.rec.Rec.{Rec}
 use Rattle.log_table.specs.declared.table.Seat.{Seat}
@@ -88,7 +88,7 @@ pub record Sends {D : Type 0} (g : Ghosts D) (old new : Flusher D) (from to : �
   pub tail : new.tail ≡ tail_after old.tail units
   pub writes : WritesWhole g units old new
   pub prefix : g.honest old.disk.now → (opening : List ℕ) → HoldsDurablePrefix g old opening → HoldsDurablePrefix g new opening
-  pub settled : g.honest old.disk.now → IsSettled (g.reads new.disk.now) (g.images new.disk.now)
+  pub settled : g.honest old.disk.now → IsOnlyImage (g.reads new.disk.now) (g.images new.disk.now)
 
 -- the units up to exposed, as loaded, were read, which spell records, and the disk failed to take them; durable stands, and the seat
 -- keeps what it read
