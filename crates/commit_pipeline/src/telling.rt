@@ -3,7 +3,7 @@ ghost use Rattle.std.specs.Prelude.{◌≡◌, ◌≤◌, ◌+◌, ◌∷◌, Li
 ghost use Rattle.std.specs.Io.KnownBytes.{Appends};
 ghost use Rattle.lsn_space.specs.declared.lsn.TheConstants.{LAST};
 ghost use Rattle.log_disk.specs.Faults.{HasCause};
-ghost use Rattle.log_disk.specs.Streams.{AppendsPrefix};
+ghost use Rattle.log_disk.specs.Streams.{AppendsPart};
 ghost use Rattle.log_record.specs.declared.rec.Rec.{Rec};
 ghost use Rattle.log_record.specs.Spelling.{header, spelling, IsSpellable, BeginsWith};
 ghost use Rattle.log_record.specs.LogList.{AreUnitsOf};
@@ -115,7 +115,7 @@ impl Head {
 fn tell_record<K: Sink>(rec: &Rec, end: Lsn, voice: Voice, sink: &mut K) -> Result<u32, WriteFault>
     ensures all { IfOk result (λ lines. Appends (K.held_bytes sink.old) (K.held_bytes sink.new) (line_said voice end rec.now)
         × (lines ≡ count_said voice rec.now)) }
-    ensures prefix { OnErr result (AppendsPrefix (K.held_bytes sink.old) (K.held_bytes sink.new) (line_said voice end rec.now)) }
+    ensures prefix { OnErr result (AppendsPart (K.held_bytes sink.old) (K.held_bytes sink.new) (line_said voice end rec.now)) }
     ensures cause { HasCause (K.faults sink.old) (K.faults sink.new) result }
 {
     if voice == Voice::Count {
