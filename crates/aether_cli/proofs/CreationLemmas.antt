@@ -1,7 +1,7 @@
 -- What `new` leaves on a disk, from what it read, found, and created.
 use Rattle.std.proofs.Common.{◌≡◌, inl, inr, ℕ, ◌*◌, ◌≤◌, ◌<◌, List, [], ◌∷◌, length, map, All, Option, Some, None, slice_get, refl, ap, ◌∙◌, sym, subst, arith}
 use Rattle.std.proofs.lemmas.List.Elements.{All-map}
-use Rattle.log_disk.specs.Disk.{IsSettled, Leaves}
+use Rattle.log_disk.specs.Disk.{IsOnlyImage, Leaves}
 use Rattle.log_disk.proofs.Moments.{Leaves-trans, Leaves-weaken}
 use Rattle.log_record.specs.LogList.{units_of}
 use Rattle.log_record.specs.Spelling.{IsBalance}
@@ -17,7 +17,7 @@ use Rattle.aether_cli.specs.Creation.{genesis_list, AllHoldNew, IsInput, MayBeLe
 use Rattle.aether_cli.proofs.GenesisLemmas.{opening_rows, end_of-genesis, genesis-holds}
 
 -- on a settled disk the first gate is stable
-pub gate-settled : (file : List ℕ) (images : List ℕ → Type 0) → IsSettled file images → (BeginsOpen file → ⊥) → IsStableGate 0 images
+pub gate-settled : (file : List ℕ) (images : List ℕ → Type 0) → IsOnlyImage file images → (BeginsOpen file → ⊥) → IsStableGate 0 images
 gate-settled file images settled closed = record {
   gate = slice_get file 0;
   stable = λ c image. ap (λ bytes. slice_get bytes 0) (settled c image);

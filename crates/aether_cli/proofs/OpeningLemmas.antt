@@ -2,7 +2,7 @@
 use Rattle.std.proofs.Common.{◌≡◌, ◌≤◌, ◌^◌, refl, ap, sym, ◌∙◌, subst, ℕ, List, ◌++◌, length, drop, slice_get, arith, length-append}
 use Rattle.std.proofs.Math.Seq.{drop-append_seam}
 use Rattle.log_disk.specs.declared.disk.LogDisk.{Ghosts}
-use Rattle.log_disk.specs.Disk.{IsSettled}
+use Rattle.log_disk.specs.Disk.{IsOnlyImage}
 use Rattle.log_record.specs.LogList.{units_of}
 use Rattle.log_recovery.specs.declared.recovery.Recovered.{Recovered}
 use Rattle.log_recovery.specs.Recovery.{Recovers}
@@ -32,7 +32,7 @@ module _ (tail : Tail) (units bytes : List ℕ) (stands : StandsAt tail units by
   rest-stands = ap (drop tail.at) stands.file.whole ∙ ap (λ n. drop n (written stands.batches ++ stands.rest)) stands.place
       ∙ drop-append_seam (written stands.batches) stands.rest
 
-  module _ (images : List ℕ → Type 0) (settled : IsSettled bytes images) where
+  module _ (images : List ℕ → Type 0) (settled : IsOnlyImage bytes images) where
     pub all-stand : AllStand tail units images
     all-stand c image = subst (StandsAt tail units) (sym (settled c image)) stands
 
@@ -47,13 +47,13 @@ module _ (tail : Tail) (units bytes : List ℕ) (stands : StandsAt tail units by
 
 -- a disk whose bytes were read, and from then on stand alone
 pub opens : {D : Type 0} (g : Ghosts D) (opened : Recovered) (old new : D) (bytes : List ℕ) → length bytes ≤ 2 ^ 63 → MayHold g old bytes
-    → Recovers opened bytes → (g.honest old → g.reads new ≡ g.reads old) → (g.honest old → IsSettled (g.reads new) (g.images new))
+    → Recovers opened bytes → (g.honest old → g.reads new ≡ g.reads old) → (g.honest old → IsOnlyImage (g.reads new) (g.images new))
     → Opens g opened old new
 opens g opened old new bytes short read recovers reads settled =
     let stands = stands-recovered opened bytes recovers in
     let within = within-stands opened.tail (units_of recovers.records) bytes stands in
     let same = λ (honest : g.honest old). read honest ∙ sym (reads honest) in
-    let alone = λ (honest : g.honest old). subst (λ file. IsSettled file (g.images new)) (sym (same honest)) (settled honest) in
+    let alone = λ (honest : g.honest old). subst (λ file. IsOnlyImage file (g.images new)) (sym (same honest)) (settled honest) in
     record {
       bytes = bytes;
       read = read;

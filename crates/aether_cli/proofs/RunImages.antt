@@ -23,8 +23,7 @@ use Rattle.commit_pipeline.specs.declared.voice.Voice.{Voice}
 use Rattle.commit_pipeline.specs.EndLines.{text_of}
 use Rattle.commit_pipeline.specs.Later.{Ran, HoldsFront, InFlight, extra}
 use Rattle.commit_pipeline.specs.Turning.{durable}
-use Rattle.commit_pipeline.proofs.LineLemmas.{text_of-append}
-use Rattle.commit_pipeline.proofs.RanLemmas.{none≢some}
+use Rattle.commit_pipeline.proofs.RanLemmas.{none≢some, Ran-text}
 use Rattle.commit_pipeline.proofs.ToldLemmas.{text_of-none}
 
 -- the bytes hold the opened records and these
@@ -121,14 +120,8 @@ module _ {D : Type 0} {K : Type 0} (g : Ghosts D) (h : SinkGhosts K) (opened lis
     -- the text is a front of the lines of what was sent
     text-front : AppendsPrefix (h.held_bytes old.sink.now) (h.held_bytes new.sink.now) (text_of old.voice (end_of opened) ran.more)
     text-front =
-        let seen : List Rec = ran.front.seen in let unseen : List Rec = ran.front.unseen in
-        let later : List ℕ = text_of old.voice (durable old + length (units_of seen)) unseen in (
-          ran.text,
-          ran.front.unwritten ++ later,
-          ap (λ at. text_of old.voice at ran.more) (sym start) ∙ ap (text_of old.voice (durable old)) ran.front.whole
-              ∙ text_of-append old.voice (durable old) seen unseen ∙ ap (λ l. l ++ later) ran.front.lines ∙ append_assoc ran.text ran.front.unwritten later,
-          ran.appended,
-        )
+        let (rest, lines) = Ran-text g h old new ran in
+        (ran.text, rest, ap (λ at. text_of old.voice at ran.more) (sym start) ∙ lines, ran.appended)
 
     pub sends-ran : (rest : List Rec) → list ≡ (ran.more ++ ran.cut) ++ rest
         → RunSends g old.voice opened list old.flusher.disk.now new.flusher.disk.now (h.held_bytes old.sink.now) (h.held_bytes new.sink.now)

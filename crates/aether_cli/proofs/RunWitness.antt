@@ -34,10 +34,12 @@ use Rattle.log_table.specs.Sound.{base_of}
 use Rattle.log_table.specs.Views.{flusher}
 use Rattle.log_table.proofs.Deltas.{more-delta, less-delta}
 use Rattle.commit_pipeline.specs.declared.daemon.Daemon.{Daemon}
+use Rattle.commit_pipeline.specs.declared.daemon.DaemonFault.TheVariants.{WriteFault}
 use Rattle.commit_pipeline.specs.declared.voice.Voice.TheVariants.{Lines}
 use Rattle.commit_pipeline.specs.EndLines.{done_line, end_lines}
 use Rattle.commit_pipeline.specs.Later.{Ran, HoldsFront}
 use Rattle.commit_pipeline.specs.Turning.{MayTurn}
+use Rattle.commit_pipeline.proofs.RanLemmas.{none≢some}
 use Rattle.txn_runner.specs.declared.cause.Worked.TheVariants.{All}
 use Rattle.txn_runner.specs.declared.jobs.Jobs.{Jobs}
 use Rattle.aether_cli.specs.RunWitness.{payment, file_at, plain_disk, plain_sink, HasMadePayment}
@@ -332,14 +334,7 @@ module _ (d : Daemon ℕ (List ℕ)) (of : IsOf d.flusher.table.now d.flusher.se
     prefix = λ fault honest opening stand. stands-later opening stand;
     torn = λ honest opening stand bytes is. inl (holds tail_new (opening ++ units_of transfer_records) bytes (stands-later opening stand bytes is));
     appended = refl;
-    front = record {
-      seen = transfer_records;
-      unseen = [];
-      whole = refl;
-      unwritten = [];
-      lines = sym (append-nil (end_lines 4 transfer_records));
-      counts = refl;
-    };
+    front = λ failed. absurd (none≢some WriteFault failed);
     all = λ fault. (refl, refl);
     reason = refl;
     count = λ honest. omega arith;

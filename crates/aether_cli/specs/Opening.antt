@@ -1,7 +1,7 @@
 -- How a log is opened. `g` is what a disk shows; `old` and `new` are the disk before and after.
 use Rattle.std.specs.Prelude.{◌≡◌, ◌≤◌, ◌^◌, ℕ, List, length}
 use Rattle.log_disk.specs.declared.disk.LogDisk.{Ghosts}
-use Rattle.log_disk.specs.Disk.{IsSettled}
+use Rattle.log_disk.specs.Disk.{IsOnlyImage}
 use Rattle.log_record.specs.LogList.{units_of}
 use Rattle.log_recovery.specs.declared.recovery.Recovered.{Recovered}
 use Rattle.log_recovery.specs.declared.recovery.RecoverFault.TheVariants as fault
@@ -21,7 +21,7 @@ pub record Opens {D : Type 0} (g : Ghosts D) (opened : Recovered) (old new : D) 
   pub read : MayHold g old bytes
   pub recovers : Recovers opened bytes
   pub place : opened.tail.at ≤ 2 ^ 63
-  pub settled : g.honest old → IsSettled (g.reads new) (g.images new)
+  pub settled : g.honest old → IsOnlyImage (g.reads new) (g.images new)
   pub within : g.honest old → opened.tail.at ≤ length (g.reads new)
   pub stand : g.honest old → AllStand opened.tail (units_of recovers.records) (g.images new)
   pub gate : g.honest old → IsStableGate opened.tail.at (g.images new)

@@ -1,6 +1,6 @@
 ghost use Rattle.std.specs.Prelude.{◌≡◌, ◌≤◌, ◌+◌, ◌↔◌, ℕ, List, IfOk, IfErr, OnOk, IsErrOf, IsTrue};
 ghost use Rattle.log_disk.specs.Faults.{HasCause, Rose};
-ghost use Rattle.log_disk.specs.Disk.{IsSettled, Leaves};
+ghost use Rattle.log_disk.specs.Disk.{IsOnlyImage, Leaves};
 ghost use Rattle.segment_file.specs.File.{BeginsOpen};
 ghost use Rattle.segment_file.specs.Standing.{IsStableGate};
 ghost use Rattle.aether_cli.specs.Creation.{IsFindingFault, TellsWhether};
@@ -15,7 +15,7 @@ use segment_file::{DiskFault, has_open_gate};
 fn finds_log<D: LogDisk>(disk: &mut D, log: &Word) -> Result<bool, DiskFault>
     ensures opens { D.honest disk.old → IfOk result (λ yes. IsTrue yes ↔ BeginsOpen (D.reads disk.old)) }
     ensures reads { D.honest disk.old → D.reads disk.new ≡ D.reads disk.old }
-    ensures settled { D.honest disk.old → OnOk result (IsSettled (D.reads disk.new) (D.images disk.new)) }
+    ensures settled { D.honest disk.old → OnOk result (IsOnlyImage (D.reads disk.new) (D.images disk.new)) }
     ensures images { (c : List ℕ) → D.images disk.new c → D.images disk.old c }
     ensures moments { Leaves D.moment D.images_since (D.images disk.old) disk.old disk.new }
     ensures count { D.honest disk.old → D.written_count disk.new ≤ D.written_count disk.old + 1 }

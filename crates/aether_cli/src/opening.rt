@@ -1,5 +1,5 @@
 ghost use Rattle.std.specs.Prelude.{◌≡◌, ◌≤◌, ◌+◌, ◌↔◌, List, ℕ, IfOk, IfErr, OnOk, IsErrOf};
-ghost use Rattle.log_disk.specs.Disk.{IsSettled, Leaves};
+ghost use Rattle.log_disk.specs.Disk.{IsOnlyImage, Leaves};
 ghost use Rattle.log_disk.specs.Faults.{Rose};
 ghost use Rattle.aether_cli.specs.Opening.{Opens, HasOpeningFault, MayHold};
 
@@ -37,7 +37,7 @@ pub fn open_log<D: LogDisk>(alloc: Global, log: &Word, disk: &mut D) -> Result<R
 /// All bytes of the file of that name, after a sync that makes them stable.
 fn image_of<D: LogDisk>(alloc: Global, log: &Word, disk: &mut D) -> Result<Vec<u8>, OpenFault>
     ensures bytes { IfOk result (λ bytes. MayHold D.LogDisk disk.old bytes.items) }
-    ensures settled { D.honest disk.old → OnOk result (IsSettled (D.reads disk.new) (D.images disk.new)) }
+    ensures settled { D.honest disk.old → OnOk result (IsOnlyImage (D.reads disk.new) (D.images disk.new)) }
     ensures reads { D.honest disk.old → D.reads disk.new ≡ D.reads disk.old }
     ensures images { (c : List ℕ) → D.images disk.new c → D.images disk.old c }
     ensures moments { Leaves D.moment D.images_since (D.images disk.old) disk.old disk.new }

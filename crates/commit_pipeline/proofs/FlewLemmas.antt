@@ -1,6 +1,5 @@
 -- What a flush, or a step of the seat alone, does to a flusher, in the words of what turns leave.
-use Rattle.std.proofs.Common.{◌≡◌, ◌∙◌, sym, ap, refl, subst, inl, inr, ℕ, ◌+◌, ◌≤◌, List, [], ◌∷◌, ◌++◌, length, append-nil, arith}
-use Rattle.std.specs.List.{AllByRecursion}
+use Rattle.std.proofs.Common.{◌≡◌, ◌∙◌, sym, ap, refl, subst, inl, inr, ℕ, ◌+◌, ◌≤◌, List, [], ◌++◌, length, append-nil, arith}
 use Rattle.log_disk.specs.Disk.{Leaves}
 use Rattle.log_disk.specs.declared.disk.LogDisk.{Ghosts}
 use Rattle.log_disk.proofs.Moments.{Leaves-refl, Leaves-weaken}
@@ -12,9 +11,8 @@ use Rattle.log_table.specs.Views.{has_stopped}
 use Rattle.segment_file.specs.File.{HoldsUnits}
 use Rattle.segment_file.specs.Standing.{AllStand, HoldsEither}
 use Rattle.flusher.specs.declared.flusher.Flusher.{Flusher}
-use Rattle.flusher.specs.Flushing.{IsReady, HoldsDurablePrefix, MayHoldBatchInFlight, Sends, Loses, sent_of}
+use Rattle.flusher.specs.Flushing.{MayFlush, HoldsDurablePrefix, MayHoldBatchInFlight, Sends, Loses, sent_of}
 use Rattle.flusher.specs.Sending.{gathered, flushed}
-use Rattle.flusher.specs.Records.{Spells}
 use Rattle.flusher.proofs.Flushes.{StandsAt-holds}
 use Rattle.commit_pipeline.specs.Later.{HoldsFront}
 use Rattle.commit_pipeline.specs.Turning.{Stops}
@@ -71,7 +69,7 @@ HoldsFront-either before units records bytes same (inr held) = record {
   holds = subst (λ us. HoldsUnits bytes (before ++ us)) same held;
 }
 
-pub Flew-sends : {D : Type 0} (g : Ghosts D) (old new : Flusher D) (from to : ℕ) → IsReady g old → (sends : Sends g old new from to)
+pub Flew-sends : {D : Type 0} (g : Ghosts D) (old new : Flusher D) (from to : ℕ) → MayFlush g old → (sends : Sends g old new from to)
     → Flew g sends.records [] 4 old new
 Flew-sends g old new from to ready sends =
     let is : view_of new.seat ≡ flushed to sends.units (view_of old.seat) = ap (λ m. m.0) sends.seat.me in
@@ -91,7 +89,7 @@ Flew-sends g old new from to ready sends =
       count = sends.writes.count;
     }
 
-pub Flew-loses : {D : Type 0} (g : Ghosts D) (old new : Flusher D) → IsReady g old → (loses : Loses g old new)
+pub Flew-loses : {D : Type 0} (g : Ghosts D) (old new : Flusher D) → MayFlush g old → (loses : Loses g old new)
     → Flew g [] loses.records 4 old new
 Flew-loses g old new ready loses =
     let is : view_of new.seat ≡ gathered loses.to loses.units (view_of old.seat) = ap (λ m. m.0) loses.seat.me in

@@ -8,7 +8,7 @@ use Rattle.log_disk.specs.declared.disk.LogDisk.{Ghosts}
 use Rattle.log_disk.specs.declared.sink.Sink.{Ghosts as SinkGhosts}
 use Rattle.log_disk.proofs.Moments.{Leaves-trans, Leaves-weaken}
 use Rattle.log_record.specs.declared.rec.Rec.{Rec}
-use Rattle.log_record.specs.LogList.{units_of}
+use Rattle.log_record.specs.LogList.{units_of, size_of}
 use Rattle.log_record.specs.Spelling.{spelling, IsSpellable}
 use Rattle.log_table.specs.Seats.{view_of}
 use Rattle.log_table.specs.declared.view.Constants.{Constants}
@@ -20,11 +20,11 @@ use Rattle.commit_pipeline.specs.declared.daemon.DaemonFault.{DaemonFault}
 use Rattle.commit_pipeline.specs.declared.daemon.DaemonFault.TheVariants.{DiskFault, WriteFault}
 use Rattle.commit_pipeline.specs.declared.tally.Tally.{Tally}
 use Rattle.commit_pipeline.specs.declared.voice.Voice.{Voice}
-use Rattle.commit_pipeline.specs.EndLines.{text_of}
+use Rattle.commit_pipeline.specs.EndLines.{text_of, line_said}
 use Rattle.commit_pipeline.specs.Later.{HoldsFront, InFlight, HasReason, extra, Ran, Later}
 use Rattle.commit_pipeline.specs.Telling.{TellsFront, counted}
 use Rattle.commit_pipeline.specs.Turning.{IsSameDaemon, durable}
-use Rattle.commit_pipeline.proofs.LineLemmas.{text_of-append, counted-append}
+use Rattle.commit_pipeline.proofs.LineLemmas.{text_of-append, text_of-cons, counted-append}
 
 pub IsSameDaemon-trans : {D : Type 0} {K : Type 0} (g : Ghosts D) (h : SinkGhosts K) (a b c : Daemon D K)
     → IsSameDaemon g h a b → IsSameDaemon g h b c → IsSameDaemon g h a c
@@ -79,14 +79,40 @@ spellable-append (x ∷ xs) ys first second = (first.0, spellable-append xs ys f
 TellsFront-behind : (voice : Voice) (at : ℕ) (before after : List Rec) (text more : List ℕ) (old mid new : Tally)
     → text ≡ text_of voice at before → mid ≡ counted old before → TellsFront voice (at + length (units_of before)) after more mid new
     → TellsFront voice at (before ++ after) (text ++ more) old new
-TellsFront-behind voice at before after text more old mid new told counts front = record {
-  seen = before ++ front.seen;
-  unseen = front.unseen;
-  whole = ap (λ rs. before ++ rs) front.whole ∙ sym (append_assoc before front.seen front.unseen);
-  unwritten = front.unwritten;
-  lines = text_of-append voice at before front.seen ∙ (λ i. sym told i ++ front.lines i) ∙ sym (append_assoc text more front.unwritten);
-  counts = front.counts ∙ ap (λ t. counted t front.seen) counts ∙ sym (counted-append old before front.seen);
-}
+TellsFront-behind voice at before after text more old mid new told counts front =
+    let behind : List Rec = front.told ++ front.failed ∷ [] in
+    let place : (at + length (units_of (before ++ front.told))) + size_of front.failed
+    ≡ ((at + length (units_of before)) + length (units_of front.told)) + size_of front.failed =
+    omega (arith, ap length (flat_map-append spelling before front.told), length-append (units_of before) (units_of front.told)) in
+    record {
+      told = before ++ front.told;
+      failed = front.failed;
+      untold = front.untold;
+      whole = ap (λ rs. before ++ rs) front.whole ∙ sym (append_assoc before front.told (front.failed ∷ front.untold));
+      written = front.written;
+      unwritten = front.unwritten;
+      text_is = (λ i. told i ++ front.text_is i)
+          ∙ sym (append_assoc (text_of voice at before) (text_of voice (at + length (units_of before)) front.told) front.written)
+          ∙ ap (λ us. us ++ front.written) (sym (text_of-append voice at before front.told));
+      line = ap (λ n. line_said voice n front.failed) place ∙ front.line;
+      some = front.some;
+      counts = front.counts ∙ ap (λ t. counted t behind) counts ∙ sym (counted-append old before behind)
+          ∙ ap (counted old) (sym (append_assoc before front.told (front.failed ∷ [])));
+    }
+
+-- what was written then is a front of the lines of all the records
+TellsFront-text : (voice : Voice) (at : ℕ) (records : List Rec) (text : List ℕ) (before after : Tally) → TellsFront voice at records text before after
+    → (rest : List ℕ) × (text_of voice at records ≡ text ++ rest)
+TellsFront-text voice at records text before after front =
+    let lines : List ℕ = text_of voice at front.told in
+    let from : ℕ = at + length (units_of front.told) in
+    let later : List ℕ = text_of voice (from + size_of front.failed) front.untold in (
+      front.unwritten ++ later,
+      ap (text_of voice at) front.whole ∙ text_of-append voice at front.told (front.failed ∷ front.untold)
+          ∙ ap (λ us. lines ++ us) (text_of-cons voice from front.failed front.untold ∙ ap (λ us. us ++ later) front.line
+          ∙ append_assoc front.written front.unwritten later)
+          ∙ sym (append_assoc lines front.written (front.unwritten ++ later)) ∙ ap (λ us. us ++ (front.unwritten ++ later)) (sym front.text_is),
+    )
 
 pub none≢some : (fault : DaemonFault) → None ≢ Some fault
 none≢some fault same = subst (λ o. IsNone o) same tt
@@ -94,13 +120,6 @@ none≢some fault same = subst (λ o. IsNone o) same tt
     IsNone : Option DaemonFault → Type 0
     IsNone None = Unit {0}
     IsNone (Some fault) = ⊥
-
-pub disk≢write : DiskFault ≢ WriteFault
-disk≢write same = subst (λ f. IsDisk f) same tt
-  where
-    IsDisk : DaemonFault → Type 0
-    IsDisk DiskFault = Unit {0}
-    IsDisk WriteFault = ⊥
 
 -- without a fault no records are in flight
 none-in_flight : (fault : Option DaemonFault) (view : View) (cut : List Rec) → fault ≡ None → InFlight fault view cut → cut ≡ []
@@ -153,11 +172,11 @@ module _ {D : Type 0} {K : Type 0} (g : Ghosts D) (h : SinkGhosts K) (a b c : Da
   told : (first.text ≡ text_of a.voice (durable a) first.more) × (b.tally ≡ counted a.tally first.more)
   told = first.all (kept WriteFault)
 
-  front : TellsFront a.voice (durable a) (first.more ++ second.more) (first.text ++ second.text) a.tally c.tally
-  front =
+  front : c.fault ≡ Some WriteFault → TellsFront a.voice (durable a) (first.more ++ second.more) (first.text ++ second.text) a.tally c.tally
+  front failed =
       TellsFront-behind a.voice (durable a) first.more second.more first.text second.text a.tally b.tally c.tally told.0 told.1
       (subst (λ n. TellsFront a.voice n second.more second.text b.tally c.tally) place
-      (subst (λ v. TellsFront v (durable b) second.more second.text b.tally c.tally) first.same.voice second.front))
+      (subst (λ v. TellsFront v (durable b) second.more second.text b.tally c.tally) first.same.voice (second.front failed)))
 
   all : c.fault ≢ Some WriteFault → (first.text ++ second.text ≡ text_of a.voice (durable a) (first.more ++ second.more))
       × (c.tally ≡ counted a.tally (first.more ++ second.more))
@@ -210,6 +229,19 @@ module _ {D : Type 0} {K : Type 0} (g : Ghosts D) (h : SinkGhosts K) (a b c : Da
       length-append first.more second.more,
     );
   }
+
+-- what turns wrote is a front of the lines of the records that they sent
+pub Ran-text : {D : Type 0} {K : Type 0} (g : Ghosts D) (h : SinkGhosts K) (old new : Daemon D K) (ran : Ran g h old new)
+    → (rest : List ℕ) × (text_of old.voice (durable old) ran.more ≡ ran.text ++ rest)
+Ran-text g h old new ran = by-fault new.fault refl
+  where
+    whole : new.fault ≢ Some WriteFault → (rest : List ℕ) × (text_of old.voice (durable old) ran.more ≡ ran.text ++ rest)
+    whole written = ([], sym (ran.all written).0 ∙ sym (append-nil ran.text))
+
+    by-fault : (fault : Option DaemonFault) → new.fault ≡ fault → (rest : List ℕ) × (text_of old.voice (durable old) ran.more ≡ ran.text ++ rest)
+    by-fault None is = whole (λ failed. absurd cc)
+    by-fault (Some DiskFault) is = whole (λ failed. absurd cc)
+    by-fault (Some WriteFault) is = TellsFront-text old.voice (durable old) ran.more ran.text old.tally new.tally (ran.front is)
 
 pub Later-refl : {D : Type 0} {K : Type 0} (g : Ghosts D) (h : SinkGhosts K) (d : Daemon D K) → Later g h d d
 Later-refl g h d = inl refl

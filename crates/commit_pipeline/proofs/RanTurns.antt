@@ -13,12 +13,10 @@ use Rattle.flusher.specs.declared.flusher.Drained.{Drained}
 use Rattle.flusher.specs.declared.flusher.Drained.TheVariants.{At, Active, Behind}
 use Rattle.flusher.specs.declared.flusher.Flusher.{Flusher}
 use Rattle.flusher.specs.Flushing.{Asks, IsSameSeat, sent_of}
-use Rattle.flusher.specs.Records.{Spells}
+use Rattle.log_record.specs.LogList.{AreUnitsOf}
 use Rattle.flusher.proofs.Flushes.{IsSameSeat-becomes}
 use Rattle.commit_pipeline.specs.declared.daemon.Daemon.{Daemon}
 use Rattle.commit_pipeline.specs.declared.daemon.DaemonFault.TheVariants.{DiskFault, WriteFault}
-use Rattle.commit_pipeline.specs.declared.tally.Tally.{Tally}
-use Rattle.commit_pipeline.specs.declared.voice.Voice.{Voice}
 use Rattle.commit_pipeline.specs.EndLines.{text_of}
 use Rattle.commit_pipeline.specs.Later.{InFlight, HasReason, extra, Ran}
 use Rattle.commit_pipeline.specs.Telling.{TellsFront, counted}
@@ -32,7 +30,7 @@ module _ {D : Type 0} {K : Type 0} (g : Ghosts D) (h : SinkGhosts K) (old new : 
       → Flew g more cut most old.flusher new.flusher
       → IsSameDaemon g h old new → InFlight new.fault (view_of new.flusher.seat) cut → (new.fault ≡ None → MayTurn g new)
       → (new.fault ≢ Some DiskFault → cut ≡ []) → Appends (h.held_bytes old.sink.now) (h.held_bytes new.sink.now) text
-      → TellsFront old.voice (durable old) more text old.tally new.tally
+      → (new.fault ≡ Some WriteFault → TellsFront old.voice (durable old) more text old.tally new.tally)
       → (new.fault ≢ Some WriteFault → (text ≡ text_of old.voice (durable old) more) × (new.tally ≡ counted old.tally more))
       → HasReason g h old new new.fault → most ≤ 4 * length more + extra new.fault → Ran g h old new
   Ran-of more cut text most fine spellable flew same in_flight may_turn cuts appended front all reason count = record {
@@ -60,27 +58,9 @@ module _ {D : Type 0} {K : Type 0} (g : Ghosts D) (h : SinkGhosts K) (old new : 
   nothing-all : new.tally ≡ old.tally → ([] ≡ text_of old.voice (durable old) []) × (new.tally ≡ counted old.tally [])
   nothing-all same = (text_of-none old.voice (durable old), same ∙ counted-none old.tally)
 
-  nothing-front : new.tally ≡ old.tally → TellsFront old.voice (durable old) [] [] old.tally new.tally
-  nothing-front same = record {
-    seen = [];
-    unseen = [];
-    whole = refl;
-    unwritten = [];
-    lines = sym (text_of-none old.voice (durable old));
-    counts = same ∙ counted-none old.tally;
-  }
-
-  -- whatever is told whole is told in front
-  front-whole : (voice : Voice) (at : ℕ) (records : List Rec) (text : List ℕ) (before after : Tally)
-      → text ≡ text_of voice at records → after ≡ counted before records → TellsFront voice at records text before after
-  front-whole voice at records text before after told counts = record {
-    seen = records;
-    unseen = [];
-    whole = sym (append-nil records);
-    unwritten = [];
-    lines = sym told ∙ sym (append-nil text);
-    counts = counts;
-  }
+  -- without a fault no line failed
+  fine-front : {T : Type 0} → new.fault ≡ None → new.fault ≡ Some WriteFault → T
+  fine-front fine failed = absurd (none≢some WriteFault (sym fine ∙ failed))
 
   fine-flight : new.fault ≡ None → (view_of new.flusher.seat).sending.read ≡ [] → InFlight new.fault (view_of new.flusher.seat) []
   fine-flight fine read = subst (λ f. InFlight f (view_of new.flusher.seat) []) (sym fine) (refl, read)
@@ -93,11 +73,11 @@ module _ {D : Type 0} {K : Type 0} (g : Ghosts D) (h : SinkGhosts K) (old new : 
       Ran-of [] [] [] 0 ready.fine tt flew same (fine-flight may.fine flew.read) (λ fine. may) (λ sent. refl)
       (subst (λ (d : Daemon D K). Appends (h.held_bytes old.sink.now) (h.held_bytes d.sink.now) []) (sym rest)
       (Appends-nil (h.held_bytes old.sink.now)))
-      (nothing-front (ap (λ (d : Daemon D K). d.tally) rest)) (λ written. nothing-all (ap (λ (d : Daemon D K). d.tally) rest))
+      (fine-front may.fine) (λ written. nothing-all (ap (λ (d : Daemon D K). d.tally) rest))
       (subst (HasReason g h old new) (sym may.fine) stop) (omega (arith, ap extra may.fine))
 
   -- what some units spell is some record
-  some-records : (units : List ℕ) (records : List Rec) → Spells units records → 0 < length units → 1 ≤ length records
+  some-records : (units : List ℕ) (records : List Rec) → AreUnitsOf units records → 0 < length units → 1 ≤ length records
   some-records units [] spelled some = absurd (omega (arith, some, ap length spelled.units_are))
   some-records units (record_ ∷ records) spelled some = omega arith
 
@@ -109,8 +89,7 @@ module _ {D : Type 0} {K : Type 0} (g : Ghosts D) (h : SinkGhosts K) (old new : 
       Ran-of sent.flush.records [] sent.text 4 ready.fine
       (subst (AllByRecursion IsSpellable) (sym (append-nil sent.flush.records)) sent.flush.spelled.spellable) flew same
       (fine-flight may.fine flew.read) (λ fine. may) (λ disk. refl) sent.appended
-      (front-whole old.voice (durable old) sent.flush.records sent.text old.tally new.tally sent.tells.text_is sent.tells.counts)
-      (λ written. (sent.tells.text_is, sent.tells.counts))
+      (fine-front may.fine) (λ written. (sent.tells.text_is, sent.tells.counts))
       (subst (HasReason g h old new) (sym may.fine) (ap (λ (v : View). v.sending.stop) is)) (omega (arith, some, ap extra may.fine))
 
   -- the disk failed
@@ -125,7 +104,7 @@ module _ {D : Type 0} {K : Type 0} (g : Ghosts D) (h : SinkGhosts K) (old new : 
       (λ fine. absurd (none≢some DiskFault (sym fine ∙ fault))) (λ sent. absurd (sent fault))
       (subst (λ (d : Daemon D K). Appends (h.held_bytes old.sink.now) (h.held_bytes d.sink.now) []) (sym lost.rest)
       (Appends-nil (h.held_bytes old.sink.now)))
-      (nothing-front (ap (λ (d : Daemon D K). d.tally) lost.rest)) (λ written. nothing-all (ap (λ (d : Daemon D K). d.tally) lost.rest))
+      (λ failed. absurd cc) (λ written. nothing-all (ap (λ (d : Daemon D K). d.tally) lost.rest))
       (subst (HasReason g h old new) (sym fault) (lost.rose, ap (λ (v : View). v.sending.stop) is)) (omega (arith, ap extra fault))
 
   -- the sink failed
@@ -139,7 +118,7 @@ module _ {D : Type 0} {K : Type 0} (g : Ghosts D) (h : SinkGhosts K) (old new : 
       (subst (AllByRecursion IsSpellable) (sym (append-nil lost.flush.records)) lost.flush.spelled.spellable) flew same
       (subst (λ f. InFlight f (view_of new.flusher.seat) []) (sym lost.fault) (refl, flew.read))
       (λ fine. absurd (none≢some WriteFault (sym fine ∙ lost.fault))) (λ sent. refl) lost.appended
-      lost.tells (λ written. absurd (written lost.fault))
+      (λ failed. lost.tells) (λ written. absurd (written lost.fault))
       (subst (HasReason g h old new) (sym lost.fault) (lost.rose, ap (λ (v : View). v.sending.stop) is)) (omega (arith, some, ap extra lost.fault))
 
   module _ (rest : new ≡ record old { flusher = new.flusher }) (seat_alone : new.flusher ≡ record old.flusher { seat = new.flusher.seat }) where

@@ -1,15 +1,14 @@
 -- How far the records of a batch were told, one record after another.
-use Rattle.std.proofs.Common.{◌≡◌, ◌∙◌, sym, ap, refl, subst, ℕ, ◌+◌, ◌-◌, ◌≤◌, ◌<◌, List, [], ◌∷◌, ◌++◌, length, take, drop, min, length-append, length-drop, length-take, append_assoc, append-nil, arith}
+use Rattle.std.proofs.Common.{◌≡◌, ◌∙◌, sym, ap, refl, subst, ℕ, ◌+◌, ◌≤◌, ◌<◌, List, [], ◌∷◌, ◌++◌, length, drop, length-append, length-drop, append_assoc, append-nil, arith}
 use Rattle.std.specs.List.{AllByRecursion}
 use Rattle.std.proofs.Math.Seq.{drop-append_seam}
 use Rattle.std.proofs.lemmas.List.{drop-drop}
 use Rattle.log_record.specs.declared.rec.Rec.{Rec}
 use Rattle.log_record.specs.declared.rec.Rec.TheVariants.{Genesis, Update, Commit, Short, Over, Note}
-use Rattle.log_record.specs.LogList.{units_of, size_of}
+use Rattle.log_record.specs.LogList.{AreUnitsOf, units_of, size_of}
 use Rattle.log_record.specs.Spelling.{spelling, IsSpellable, BeginsWith}
 use Rattle.log_record.proofs.Fronts.{spelling-parts_of}
 use Rattle.log_record.proofs.SpellingLemmas.{spelling-append-injective}
-use Rattle.flusher.specs.Records.{Spells}
 use Rattle.commit_pipeline.specs.declared.tally.Tally.{Tally}
 use Rattle.commit_pipeline.specs.declared.voice.Voice.{Voice}
 use Rattle.commit_pipeline.specs.declared.voice.Voice.TheVariants.{Lines, Count}
@@ -86,7 +85,7 @@ counted-one tally rec i = record { done = same tally.done (is_done rec) i; refus
     same : (n m : ℕ) → n + (m + 0) ≡ n + m
     same n m = omega arith
 
-pub told-none : (voice : Voice) (from : ℕ) (units : List ℕ) (before : Tally) (records : List Rec) → Spells units records
+pub told-none : (voice : Voice) (from : ℕ) (units : List ℕ) (before : Tally) (records : List Rec) → AreUnitsOf units records
     → ToldUpTo voice from 0 units [] 0 before before records
 told-none voice from units before records spells = record {
   seen = [];
@@ -136,12 +135,14 @@ module _ (voice : Voice) (from at : ℕ) (units text : List ℕ) (lines : ℕ) (
     seen-more : records ≡ (told.seen ++ rec ∷ []) ++ rest
     seen-more = told.whole ∙ ap (λ rs. told.seen ++ rs) (goes rec begins).whole ∙ sym (append_assoc told.seen (rec ∷ []) rest)
 
+    end-more : (from + length (units_of told.seen)) + size_of rec ≡ end
+    end-more = omega (arith, told.place, size_is, end_is)
+
     said-more : text_of voice from (told.seen ++ rec ∷ []) ≡ text ++ line_said voice end rec
     said-more =
-        let same : (from + length (units_of told.seen)) + size_of rec ≡ end = omega (arith, told.place, size_is, end_is) in
         text_of-append voice from told.seen (rec ∷ []) ∙ ap (λ us. us ++ text_of voice (from + length (units_of told.seen)) (rec ∷ []))
         (sym told.said)
-        ∙ ap (λ us. text ++ us) (text_of-one voice (from + length (units_of told.seen)) rec ∙ ap (λ n. line_said voice n rec) same)
+        ∙ ap (λ us. text ++ us) (text_of-one voice (from + length (units_of told.seen)) rec ∙ ap (λ n. line_said voice n rec) end-more)
 
     counts-more : next ≡ counted before (told.seen ++ rec ∷ [])
     counts-more = (λ i. record { done = done_is i; refused = refused_is i })
@@ -166,14 +167,19 @@ module _ (voice : Voice) (from at : ℕ) (units text : List ℕ) (lines : ℕ) (
       counts = counts-more;
     }
 
-    -- of its line a front was written
-    pub told-cut : (cut unwritten : List ℕ) → line_said voice end rec ≡ cut ++ unwritten → TellsFront voice from records (text ++ cut) before next
-    told-cut cut unwritten line = record {
-      seen = told.seen ++ rec ∷ [];
-      unseen = rest;
-      whole = seen-more;
+    -- of its line a part was written
+    pub told-cut : (cut unwritten : List ℕ) → line_said voice end rec ≡ cut ++ unwritten → 0 < length unwritten
+        → TellsFront voice from records (text ++ cut) before next
+    told-cut cut unwritten line some = record {
+      told = told.seen;
+      failed = rec;
+      untold = rest;
+      whole = told.whole ∙ ap (λ rs. told.seen ++ rs) (goes rec begins).whole;
+      written = cut;
       unwritten = unwritten;
-      lines = said-more ∙ ap (λ us. text ++ us) line ∙ sym (append_assoc text cut unwritten);
+      text_is = ap (λ us. us ++ cut) told.said;
+      line = ap (λ n. line_said voice n rec) end-more ∙ line;
+      some = some;
       counts = counts-more;
     }
 

@@ -69,7 +69,7 @@ pub record Ran {D : Type 0} {K : Type 0} (g : Ghosts D) (h : SinkGhosts K) (old 
   pub torn : g.honest old.flusher.disk.now → (opening : List ℕ)
       → HoldsDurablePrefix g old.flusher opening → MayHoldBatchInFlight g new.flusher opening
   pub appended : Appends (h.held_bytes old.sink.now) (h.held_bytes new.sink.now) text
-  pub front : TellsFront old.voice (durable old) more text old.tally new.tally
+  pub front : new.fault ≡ Some WriteFault → TellsFront old.voice (durable old) more text old.tally new.tally
   pub all : new.fault ≢ Some WriteFault
       → (text ≡ text_of old.voice (durable old) more) × (new.tally ≡ counted old.tally more)
   pub reason : HasReason g h old new new.fault

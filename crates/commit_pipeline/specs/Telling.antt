@@ -1,10 +1,11 @@
 -- What is told of records: their lines, and how many ended a transaction.
-use Rattle.std.specs.Prelude.{◌≡◌, ℕ, ◌+◌, List, ◌++◌, Option, Some, None}
+use Rattle.std.specs.Prelude.{◌≡◌, ◌<◌, ℕ, ◌+◌, List, [], ◌∷◌, ◌++◌, length, Option, Some, None}
 use Rattle.log_record.specs.declared.rec.Rec.{Rec}
 use Rattle.log_record.specs.declared.rec.Rec.TheVariants.{Genesis, Update, Commit, Short, Over, Note}
+use Rattle.log_record.specs.LogList.{end_of, size_of}
 use Rattle.commit_pipeline.specs.declared.tally.Tally.{Tally}
 use Rattle.commit_pipeline.specs.declared.voice.Voice.{Voice}
-use Rattle.commit_pipeline.specs.EndLines.{text_of, lines_in, done_in, refused_in}
+use Rattle.commit_pipeline.specs.EndLines.{text_of, line_said, lines_in, done_in, refused_in}
 
 -- the tally with the end records among these
 abbrev pub counted : Tally → List Rec → Tally
@@ -16,14 +17,19 @@ pub record TellsAll (voice : Voice) (at : ℕ) (records : List Rec) (text : List
   pub lines_are : lines ≡ lines_in voice records
   pub counts : after ≡ counted before records
 
--- the writing stopped at a fault: of a front of the records the end records were counted, and a front of their lines was written
+-- the writing stopped at a fault: the lines of the records before one were written whole, and of this one's line a part, not all; the end
+-- records up to this one were counted
 pub record TellsFront (voice : Voice) (at : ℕ) (records : List Rec) (text : List ℕ) (before after : Tally) : Type 0 where
-  pub seen : List Rec
-  pub unseen : List Rec
-  pub whole : records ≡ seen ++ unseen
+  pub told : List Rec
+  pub failed : Rec
+  pub untold : List Rec
+  pub whole : records ≡ told ++ failed ∷ untold
+  pub written : List ℕ
   pub unwritten : List ℕ
-  pub lines : text_of voice at seen ≡ text ++ unwritten
-  pub counts : after ≡ counted before seen
+  pub text_is : text ≡ text_of voice at told ++ written
+  pub line : line_said voice ((at + end_of told) + size_of failed) failed ≡ written ++ unwritten
+  pub some : 0 < length unwritten
+  pub counts : after ≡ counted before (told ++ failed ∷ [])
 
 -- the record, where it ends a transaction
 abbrev pub ended : Rec → Option Rec

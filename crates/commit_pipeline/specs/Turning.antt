@@ -8,7 +8,7 @@ use Rattle.log_disk.specs.Faults.{Rose}
 use Rattle.log_table.specs.Seats.{Becomes, view_of}
 use Rattle.log_table.specs.Views.{sent_to, has_stopped}
 use Rattle.flusher.specs.declared.flusher.Flusher.{Flusher}
-use Rattle.flusher.specs.Flushing.{IsReady, IsSame, FindsNothing, Sends, Loses, sent_of}
+use Rattle.flusher.specs.Flushing.{MayFlush, IsSame, FindsNothing, Sends, Loses, sent_of}
 use Rattle.commit_pipeline.specs.declared.daemon.Daemon.{Daemon}
 use Rattle.commit_pipeline.specs.declared.daemon.DaemonFault.{DaemonFault}
 use Rattle.commit_pipeline.specs.declared.daemon.DaemonFault.TheVariants.{DiskFault, WriteFault}
@@ -23,7 +23,7 @@ durable d = sent_to (view_of d.flusher.seat)
 -- a turn may be made: nothing has befallen the daemon, it has not stopped the log, and it has counted no more end records than units
 -- were sent
 pub record MayTurn {D : Type 0} {K : Type 0} (g : Ghosts D) (d : Daemon D K) : Type 0 where
-  pub flusher : IsReady g d.flusher
+  pub flusher : MayFlush g d.flusher
   pub fine : d.fault ≡ None
   pub running : (view_of d.flusher.seat).sending.stop ≡ 0
   pub counted : d.tally.done + d.tally.refused ≤ length (sent_of d.flusher)

@@ -3,10 +3,10 @@ ghost use Rattle.std.specs.Prelude.{◌≡◌, ◌≤◌, ◌+◌, ◌∷◌, Li
 ghost use Rattle.std.specs.Io.KnownBytes.{Appends};
 ghost use Rattle.lsn_space.specs.declared.lsn.TheConstants.{LAST};
 ghost use Rattle.log_disk.specs.Faults.{HasCause};
-ghost use Rattle.log_disk.specs.Streams.{AppendsPrefix};
+ghost use Rattle.log_disk.specs.Streams.{AppendsPart};
 ghost use Rattle.log_record.specs.declared.rec.Rec.{Rec};
 ghost use Rattle.log_record.specs.Spelling.{header, spelling, IsSpellable, BeginsWith};
-ghost use Rattle.flusher.specs.Records.{Spells};
+ghost use Rattle.log_record.specs.LogList.{AreUnitsOf};
 ghost use Rattle.commit_pipeline.specs.EndLines.{line_said, count_said};
 ghost use Rattle.commit_pipeline.specs.Telling.{TellsAll, TellsFront, ended};
 
@@ -33,13 +33,13 @@ pub(crate) fn tell<K: Sink>(
     sink: &mut K,
     tally: &mut Tally,
 ) -> Result<u32, WriteFault>
-    requires spelled { (records : List Rec) × Spells batch.now.units records }
+    requires spelled { (records : List Rec) × AreUnitsOf batch.now.units records }
     requires end { from + length batch.now.units ≤ LAST }
     requires few { tally.old.done + tally.old.refused + length batch.now.units ≤ LAST }
     ensures told { IfOk result (λ lines. (text : List ℕ) × Appends (K.held_bytes sink.old) (K.held_bytes sink.new) text
-        × ((records : List Rec) → Spells batch.now.units records → TellsAll voice from records text lines tally.old tally.new)) }
+        × ((records : List Rec) → AreUnitsOf batch.now.units records → TellsAll voice from records text lines tally.old tally.new)) }
     ensures front { OnErr result ((text : List ℕ) × Appends (K.held_bytes sink.old) (K.held_bytes sink.new) text
-        × ((records : List Rec) → Spells batch.now.units records → TellsFront voice from records text tally.old tally.new)) }
+        × ((records : List Rec) → AreUnitsOf batch.now.units records → TellsFront voice from records text tally.old tally.new)) }
     ensures few { tally.new.done + tally.new.refused ≤ tally.old.done + tally.old.refused + length batch.now.units }
     ensures cause { HasCause (K.faults sink.old) (K.faults sink.new) result }
 {
@@ -115,7 +115,7 @@ impl Head {
 fn tell_record<K: Sink>(rec: &Rec, end: Lsn, voice: Voice, sink: &mut K) -> Result<u32, WriteFault>
     ensures all { IfOk result (λ lines. Appends (K.held_bytes sink.old) (K.held_bytes sink.new) (line_said voice end rec.now)
         × (lines ≡ count_said voice rec.now)) }
-    ensures prefix { OnErr result (AppendsPrefix (K.held_bytes sink.old) (K.held_bytes sink.new) (line_said voice end rec.now)) }
+    ensures prefix { OnErr result (AppendsPart (K.held_bytes sink.old) (K.held_bytes sink.new) (line_said voice end rec.now)) }
     ensures cause { HasCause (K.faults sink.old) (K.faults sink.new) result }
 {
     if voice == Voice::Count {

@@ -1,6 +1,6 @@
 //! A transfer that a worker inserts and a daemon reports, with faults of the disk and of the sink.
 ghost use Rattle.std.specs.Prelude.{◌≡◌, [], length, true, IfOk, IfSome, OnOk, Contains};
-ghost use Rattle.log_disk.specs.Disk.{IsSettled};
+ghost use Rattle.log_disk.specs.Disk.{IsOnlyImage};
 ghost use Rattle.log_disk.specs.MemoryDisks.{ImagesOf};
 ghost use Rattle.log_table.specs.declared.view.Role.TheVariants.{Flusher as FlusherRole};
 ghost use Rattle.log_table.specs.Seats.{IsOf, view_of};
@@ -148,7 +148,7 @@ fn daemon_on<'a>(
     requires seen { Contains (view_of seat).seen.lsns 4 }
     requires told { knows_all_enrolled (view_of seat).standing ≡ true }
     requires ring { table.now.ring ≡ 1024 }
-    requires disk { IsSettled [] (ImagesOf disk.old) }
+    requires disk { IsOnlyImage [] (ImagesOf disk.old) }
     ensures ready { IfSome result (MayTurn ⟦<MemoryDisk as LogDisk>⟧) }
     ensures told { IfSome result (λ daemon. knows_all_enrolled (view_of daemon.flusher.seat).standing ≡ true) }
 {
@@ -194,7 +194,7 @@ fn report_one<R: Wait + Abort>(
     disk: &mut MemoryDisk,
     sink: &mut MemorySink,
 ) -> Option<[(Drained, Turn); 2]>
-    requires { IsSettled [] (ImagesOf disk.old) }
+    requires { IsOnlyImage [] (ImagesOf disk.old) }
 {
     let (table, mut boss) = table_from_4(alloc).ok()?;
     let mut seat = worker(&table, &mut boss);
@@ -237,7 +237,7 @@ fn count_one<R: Wait + Abort>(
     disk: &mut MemoryDisk,
     sink: &mut MemorySink,
 ) -> Option<(Drained, Lsn, [u32; 2])>
-    requires { IsSettled [] (ImagesOf disk.old) }
+    requires { IsOnlyImage [] (ImagesOf disk.old) }
 {
     let (table, mut boss) = table_from_4(alloc).ok()?;
     let mut seat = worker(&table, &mut boss);

@@ -18,9 +18,9 @@ use Rattle.segment_file.specs.declared.scan_result.Tail.{Tail}
 use Rattle.flusher.specs.declared.flusher.Flusher.{Flusher}
 use Rattle.log_table.specs.Sends.{AreEntries, ReadsWholeEntries}
 use Rattle.log_table.specs.Views.{sent_to, read_to}
-use Rattle.flusher.specs.Records.{Spells}
+use Rattle.log_record.specs.LogList.{AreUnitsOf}
 use Rattle.flusher.specs.Sending.{gathered, flushed}
-use Rattle.flusher.specs.Flushing.{IsReady, IsSameSeat, HoldsDurablePrefix, sent_of, lsns_of}
+use Rattle.flusher.specs.Flushing.{MayFlush, IsSameSeat, HoldsDurablePrefix, sent_of, lsns_of}
 
 -- one step after another
 pub Becomes-then : (a b c : Seat) (view : View) (f : View → View) → Becomes a b view → Becomes b c (f (view_of b)) → Becomes a c (f view)
@@ -82,7 +82,7 @@ MayHoldBatchInFlight-append g counts_now only_now old disk units sent read momen
     (λ c image. inl (StandsAt-holds _ _ c (stand c image))) (moments opening stand)))
 
 -- entries whose units are the spellings of their records spell those
-spelled-records : (entries : List Entry) → AllByRecursion IsSpelled entries → Spells (units_in entries) (records_of entries)
+spelled-records : (entries : List Entry) → AllByRecursion IsSpelled entries → AreUnitsOf (units_in entries) (records_of entries)
 spelled-records [] spelled = record { spellable = tt; units_are = refl }
 spelled-records (entry ∷ entries) spelled =
     let rest = spelled-records entries spelled.1 in record {
@@ -93,7 +93,7 @@ spelled-records (entry ∷ entries) spelled =
 -- the records of the units read up to exposed
 pub record Reads (units : List ℕ) : Type 0 where
   pub records : List Rec
-  pub spelled : Spells units records
+  pub spelled : AreUnitsOf units records
 
 -- the units read up to exposed spell records
 pub Reads-gathered : (view now : View) (from to : ℕ) (units : List ℕ) → now ≡ gathered to units view → view.sending.read ≡ []
@@ -104,15 +104,15 @@ Reads-gathered view now from to units is unread start whole entries =
     let found : AreEntries (sent_to view) to (view.sending.read ++ units) = subst ReadsWholeEntries is entries all in
     record {
       records = records_of found.entries;
-      spelled = subst (λ us. Spells us (records_of found.entries)) (found.units_are ∙ read) (spelled-records found.entries found.spelled);
+      spelled = subst (λ us. AreUnitsOf us (records_of found.entries)) (found.units_are ∙ read) (spelled-records found.entries found.spelled);
     }
 
 -- a step of the seat alone, which leaves what was sent and read as it was, leaves the flusher ready
-pub IsReady-step : {D : Type 0} (g : Ghosts D) (f : Flusher D) (seat : Seat) (view : View) → IsReady g f → Becomes f.seat seat view
+pub MayFlush-step : {D : Type 0} (g : Ghosts D) (f : Flusher D) (seat : Seat) (view : View) → MayFlush g f → Becomes f.seat seat view
     → view.constants ≡ (view_of f.seat).constants → view.standing ≡ (view_of f.seat).standing → view.sending.sent ≡ sent_of f
     → view.sending.read ≡ (view_of f.seat).sending.read → ((x : ℕ) → Contains (lsns_of f) x → Contains view.seen.lsns x)
-    → IsReady g (record f { seat = seat })
-IsReady-step g f seat view ready becomes constants standing sent read seen =
+    → MayFlush g (record f { seat = seat })
+MayFlush-step g f seat view ready becomes constants standing sent read seen =
     let view_is : view_of seat ≡ view = ap (λ m. m.0) becomes.me in
     let constants_are : (view_of seat).constants ≡ (view_of f.seat).constants = ap (λ v. v.constants) view_is ∙ constants in
     let durable_is : sent_to (view_of seat) ≡ sent_to (view_of f.seat) =

@@ -1,6 +1,6 @@
 -- What a flush asks for, and what it leaves. `g` is what a disk shows; `old` and `new` are the flusher before and after.
 use Rattle.std.specs.Prelude.{◌≡◌, ◌↔◌, ℕ, ◌+◌, ◌*◌, ◌^◌, ◌<◌, ◌≤◌, List, [], ◌++◌, length, Contains}
-use Rattle.log_disk.specs.Disk.{IsSettled, Leaves}
+use Rattle.log_disk.specs.Disk.{IsOnlyImage, Leaves}
 use Rattle.log_disk.specs.declared.disk.LogDisk.{Ghosts}
 use Rattle.log_record.specs.declared.rec.Rec.{Rec}
 use Rattle.log_table.specs.declared.table.Seat.{Seat}
@@ -14,7 +14,7 @@ use Rattle.flusher.specs.declared.flusher.Flushed.{Flushed}
 use Rattle.flusher.specs.declared.flusher.Flushed.TheVariants.{Nothing, To}
 use Rattle.flusher.specs.declared.flusher.Drained.{Drained}
 use Rattle.flusher.specs.declared.flusher.Drained.TheVariants.{At, Active, Behind}
-use Rattle.flusher.specs.Records.{Spells}
+use Rattle.log_record.specs.LogList.{AreUnitsOf}
 use Rattle.flusher.specs.Sending.{gathered, flushed, asked}
 
 -- what the flusher's seat sent, and the LSNs that it saw
@@ -26,7 +26,7 @@ lsns_of f = (view_of f.seat).seen.lsns
 
 -- a flush may be made: the seat is the table's first and saw durable, its last flush did not fail, the log goes on at durable
 -- behind a gate that stays shut, and the batch has room for the ring
-pub record IsReady {D : Type 0} (g : Ghosts D) (f : Flusher D) : Type 0 where
+pub record MayFlush {D : Type 0} (g : Ghosts D) (f : Flusher D) : Type 0 where
   pub seat : IsOf f.table.now f.seat
   pub flusher : (view_of f.seat).standing.role ≡ FlusherRole
   pub unread : (view_of f.seat).sending.read ≡ []
@@ -82,13 +82,13 @@ pub record Sends {D : Type 0} (g : Ghosts D) (old new : Flusher D) (from to : �
   pub some : from < to
   pub whole : to ≡ from + length units
   pub records : List Rec
-  pub spelled : Spells units records
+  pub spelled : AreUnitsOf units records
   pub seat : Becomes old.seat new.seat (flushed to units (view_of old.seat))
   pub batch : new.batch ≡ record old.batch { units = units }
   pub tail : new.tail ≡ tail_after old.tail units
   pub writes : WritesWhole g units old new
   pub prefix : g.honest old.disk.now → (opening : List ℕ) → HoldsDurablePrefix g old opening → HoldsDurablePrefix g new opening
-  pub settled : g.honest old.disk.now → IsSettled (g.reads new.disk.now) (g.images new.disk.now)
+  pub settled : g.honest old.disk.now → IsOnlyImage (g.reads new.disk.now) (g.images new.disk.now)
 
 -- the units up to exposed, as loaded, were read, which spell records, and the disk failed to take them; durable stands, and the seat
 -- keeps what it read
@@ -98,7 +98,7 @@ pub record Loses {D : Type 0} (g : Ghosts D) (old new : Flusher D) : Type 0 wher
   pub some : 0 < length units
   pub whole : to ≡ sent_to (view_of old.seat) + length units
   pub records : List Rec
-  pub spelled : Spells units records
+  pub spelled : AreUnitsOf units records
   pub seat : Becomes old.seat new.seat (gathered to units (view_of old.seat))
   pub batch : new.batch ≡ record old.batch { units = units }
   pub tail : new.tail ≡ old.tail

@@ -1,4 +1,3 @@
 pub mod Flushing
 pub mod Gathering
-pub mod Records
 pub mod Sending

@@ -3,7 +3,7 @@ ghost use Rattle.std.specs.Prelude.{◌≡◌, true};
 ghost use Rattle.log_disk.specs.Faults.{HasCause};
 ghost use Rattle.log_table.specs.Seats.{IsOf, view_of};
 ghost use Rattle.log_table.specs.Views.{knows_all_enrolled};
-ghost use Rattle.flusher.specs.Flushing.{IsReady, Asks};
+ghost use Rattle.flusher.specs.Flushing.{MayFlush, Asks};
 
 use crate::flusher::{Drained, Flusher};
 use log_disk::LogDisk;
@@ -12,11 +12,11 @@ impl<'a, D: LogDisk> Flusher<'a, D> {
     /// Whether workers are active, and where none is, whether all that is released is on the disk. At is the end of the
     /// log: no worker was active when exposed was loaded, and none will be.
     pub fn drained(&mut self) -> Drained
-        requires ready { IsReady D.LogDisk self.old }
+        requires ready { MayFlush D.LogDisk self.old }
         requires told { knows_all_enrolled (view_of self.old.seat).standing ≡ true }
         ensures asks { Asks self.old self.new result }
         ensures rest { self.new ≡ record self.old { seat = self.new.seat } }
-        ensures ready { IsReady D.LogDisk self.new }
+        ensures ready { MayFlush D.LogDisk self.new }
     {
         let active = self.table.load_crew(&mut self.seat);
         if active > 0 {

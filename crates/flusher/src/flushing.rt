@@ -3,7 +3,7 @@ ghost use Rattle.std.specs.Prelude.{◌≡◌, ◌≤◌, ◌<◌, ◌+◌, ◌-
 ghost use Rattle.log_disk.specs.Faults.{HasCause};
 ghost use Rattle.log_table.specs.Seats.{IsOf, Becomes, view_of};
 ghost use Rattle.log_table.specs.Views.{sent_to};
-ghost use Rattle.flusher.specs.Flushing.{IsReady, IsSame, Flushes, Loses};
+ghost use Rattle.flusher.specs.Flushing.{MayFlush, IsSame, Flushes, Loses};
 ghost use Rattle.flusher.specs.Gathering.{MayGather, Gathers};
 
 use crate::flusher::{Flushed, Flusher};
@@ -16,9 +16,9 @@ impl<'a, D: LogDisk> Flusher<'a, D> {
     /// Writes what is released beyond durable to the disk as one batch, and then raises durable to its end. After an
     /// Err durable stands where it was, and no further flush may be made.
     pub fn flush(&mut self) -> Result<Flushed, DiskFault>
-        requires ready { IsReady D.LogDisk self.old }
+        requires ready { MayFlush D.LogDisk self.old }
         ensures flushed { IfOk result (Flushes D.LogDisk self.old self.new) }
-        ensures ready { OnOk result (IsReady D.LogDisk self.new) }
+        ensures ready { OnOk result (MayFlush D.LogDisk self.new) }
         ensures lost { OnErr result (Loses D.LogDisk self.old self.new) }
         ensures same { IsSame D.LogDisk self.old self.new }
         ensures cause { HasCause (D.faults self.old.disk.now) (D.faults self.new.disk.now) result }

@@ -2,14 +2,14 @@
 ghost use Rattle.std.specs.Prelude.{◌≡◌, ◌≤◌, ◌+◌, ℕ, List, [], ◌∷◌, length, true, IfOk, IfSome, Some, Contains};
 ghost use Rattle.log_record.specs.declared.rec.Rec.{Rec};
 ghost use Rattle.log_record.specs.Spelling.{spelling, IsTxn};
-ghost use Rattle.log_disk.specs.Disk.{IsSettled};
+ghost use Rattle.log_disk.specs.Disk.{IsOnlyImage};
 ghost use Rattle.log_disk.specs.MemoryDisks.{ImagesOf};
 ghost use Rattle.log_table.specs.declared.view.Role.TheVariants.{Flusher as FlusherRole};
 ghost use Rattle.log_table.specs.Seats.{IsOf, view_of};
 ghost use Rattle.log_table.specs.Views.{knows_all_enrolled, sent_to};
 ghost use Rattle.ring_buffer.specs.Calls.{IsReady};
 ghost use Rattle.ring_buffer.specs.NotedJobs.{IsNotedJob, IsFreeFor};
-ghost use Rattle.flusher.specs.Flushing.{IsReady as MayFlush};
+ghost use Rattle.flusher.specs.Flushing.{MayFlush};
 
 use crate::{Flushed, Flusher};
 use log_disk::{LogDisk, MemoryDisk, OpenGate};
@@ -176,7 +176,7 @@ fn flusher_on<'a>(
     requires unread { (view_of seat).sending.read ≡ [] }
     requires seen { Contains (view_of seat).seen.lsns 4 }
     requires ring { table.now.ring ≡ 1024 }
-    requires disk { IsSettled [] (ImagesOf disk.old) }
+    requires disk { IsOnlyImage [] (ImagesOf disk.old) }
     ensures { IfSome result (MayFlush ⟦<MemoryDisk as LogDisk>⟧) }
 {
     let mut genesis = accounts(alloc).ok()?;

@@ -16,9 +16,9 @@ pub record IsTorn (at n : ℕ) (old new : List ℕ) : Type 0 where
 abbrev pub MayBeTorn : ℕ → ℕ → (List ℕ → Type 0) → List ℕ → Type 0
 MayBeTorn at n images c = (image : List ℕ) × images image × IsTorn at n image c
 
--- a crash leaves this file and nothing else
-abbrev pub IsSettled : List ℕ → (List ℕ → Type 0) → Type 0
-IsSettled file images = (c : List ℕ) → images c → c ≡ file
+-- a crash leaves this file and nothing else: it is the only image
+abbrev pub IsOnlyImage : List ℕ → (List ℕ → Type 0) → Type 0
+IsOnlyImage file images = (c : List ℕ) → images c → c ≡ file
 
 -- Time goes on: the images since an earlier moment stay, those of now join them and no others, and while the moment stands no image is new.
 pub record Elapses {D : Type 0} (moment : D → ℕ) (images : D → List ℕ → Type 0) (images_since : D → ℕ → List ℕ → Type 0) (old new : D) : Type 0 where

@@ -1,5 +1,5 @@
 -- What reads and writes do to allowances and to bytes.
-use Rattle.std.specs.Prelude.{◌≡◌, ℕ, ◌-◌, List, ◌++◌, Option, Result, MatchResult, if◌then◌else◌, ◌==◌}
+use Rattle.std.specs.Prelude.{◌≡◌, ◌<◌, ℕ, ◌-◌, List, length, ◌++◌, Option, Result, MatchResult, if◌then◌else◌, ◌==◌}
 use Rattle.std.specs.Io.KnownBytes.{Appends}
 
 -- a read that gives bytes takes one from the allowance, and no other does
@@ -9,3 +9,7 @@ SpendsAllowance before now result = MatchResult result (λ n. now ≡ (if n == 0
 -- known bytes grow by a prefix of these
 abbrev pub AppendsPrefix : Option (List ℕ) → Option (List ℕ) → List ℕ → Type 0
 AppendsPrefix old new bytes = (prefix rest : List ℕ) × (bytes ≡ prefix ++ rest) × Appends old new prefix
+
+-- known bytes grow by a prefix of these, and not by all of them
+abbrev pub AppendsPart : Option (List ℕ) → Option (List ℕ) → List ℕ → Type 0
+AppendsPart old new bytes = (prefix rest : List ℕ) × (bytes ≡ prefix ++ rest) × Appends old new prefix × (0 < length rest)

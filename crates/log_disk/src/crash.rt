@@ -1,5 +1,5 @@
 ghost use Rattle.std.specs.Prelude.{◌≡◌, ◌≤◌, ◌<◌, ◌+◌, [], length, vec_capacity};
-ghost use Rattle.log_disk.specs.Disk.{IsTorn, IsSettled};
+ghost use Rattle.log_disk.specs.Disk.{IsTorn, IsOnlyImage};
 ghost use Rattle.log_disk.specs.History.{Images};
 ghost use Rattle.log_disk.specs.MemoryDisks.{file_of, ImagesOf, total_len, recorded};
 
@@ -35,7 +35,7 @@ impl MemoryDisk {
     /// So a small pick is the number of bytes that landed of the first write, and later ones did not.
     pub fn crash(self, pick: u64) -> MemoryDisk
         ensures image { ImagesOf self (file_of result) }
-        ensures settled { IsSettled (file_of result) (ImagesOf result) }
+        ensures settled { IsOnlyImage (file_of result) (ImagesOf result) }
         ensures history { result.history ≡ [] }
         ensures room { result.room ≡ self.room }
         ensures failing { result.failing ≡ self.failing }

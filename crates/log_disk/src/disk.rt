@@ -1,6 +1,6 @@
 ghost use Rattle.std.specs.Prelude.{◌≡◌, ◌≤◌, ◌-◌, ◌↔◌, List, ℕ, length, min, take, drop, IfOk, OnOk};
 ghost use Rattle.log_disk.specs.Faults.{HasCause};
-ghost use Rattle.log_disk.specs.Disk.{put, IsTorn, MayBeTorn, IsSettled, Elapses, Keeps, CountsOne};
+ghost use Rattle.log_disk.specs.Disk.{put, IsTorn, MayBeTorn, IsOnlyImage, Elapses, Keeps, CountsOne};
 
 use crate::Failed;
 use lsn_space::Word;
@@ -71,7 +71,7 @@ pub trait LogDisk {
 
     /// After it a crash leaves what a read gives. A sync that fails adds no image.
     fn sync(&mut self) -> Result<(), Failed>
-        ensures settled { honest self.old → OnOk result (IsSettled (reads self.old) (images self.new)) }
+        ensures settled { honest self.old → OnOk result (IsOnlyImage (reads self.old) (images self.new)) }
         ensures reads { honest self.old → reads self.new ≡ reads self.old }
         ensures images { (c : List ℕ) → images self.new c → images self.old c }
         ensures count { honest self.old → CountsOne (written_count self.old) (written_count self.new) result }

@@ -1,5 +1,5 @@
 ghost use Rattle.std.specs.Prelude.{◌≡◌, ◌≤◌, ◌<◌, ◌+◌, ◌-◌, ◌↔◌, ⊤, ℕ, List, [], ◌∷◌, min, take, drop, length, vec_capacity, if◌then◌else◌, is_ok, IsErr, IfOk, OnOk};
-ghost use Rattle.log_disk.specs.Disk.{put, IsTorn, MayBeTorn, IsSettled, Elapses, Keeps, CountsOne};
+ghost use Rattle.log_disk.specs.Disk.{put, IsTorn, MayBeTorn, IsOnlyImage, Elapses, Keeps, CountsOne};
 ghost use Rattle.log_disk.specs.Faults.{HasCause, raised};
 ghost use Rattle.log_disk.specs.History.Event.{Wrote, Synced};
 ghost use Rattle.log_disk.specs.MemoryDisks.{file_of, ImagesOf, ImagesSinceOf, moment_of, written_count_of, CallFails, CountsCall};
@@ -61,7 +61,7 @@ impl MemoryDisk {
         room: usize,
         failing: &[u64],
     ) -> Result<MemoryDisk, NoMemory>
-        ensures settled { IfOk result (λ disk. IsSettled bytes.now (ImagesOf disk)) }
+        ensures settled { IfOk result (λ disk. IsOnlyImage bytes.now (ImagesOf disk)) }
         ensures reads { IfOk result (λ disk. file_of disk ≡ bytes.now) }
         ensures start { IfOk result (λ disk. disk.start ≡ bytes.now) }
         ensures history { IfOk result (λ disk. disk.history ≡ []) }
@@ -251,7 +251,7 @@ impl LogDisk for MemoryDisk {
     }
 
     fn sync(&mut self) -> Result<(), Failed>
-        ensures settled { OnOk result (IsSettled (file_of self.old) (ImagesOf self.new)) }
+        ensures settled { OnOk result (IsOnlyImage (file_of self.old) (ImagesOf self.new)) }
         ensures reads { file_of self.new ≡ file_of self.old }
         ensures images { (c : List ℕ) → ImagesOf self.new c → ImagesOf self.old c }
         ensures count { CountsOne self.old.written_count self.new.written_count result }

@@ -1,12 +1,17 @@
 -- A log list: records, one after another. An address in it counts units.
-use Rattle.std.specs.Prelude.{ℕ, ◌+◌, ◌-◌, List, [], ◌∷◌, ◌++◌, length, map, if◌then◌else◌, nat_le, Contains}
-use Rattle.std.specs.List.{flat_map, zip}
+use Rattle.std.specs.Prelude.{◌≡◌, ℕ, ◌+◌, ◌-◌, List, [], ◌∷◌, ◌++◌, length, map, if◌then◌else◌, nat_le, Contains}
+use Rattle.std.specs.List.{AllByRecursion, flat_map, zip}
 use Rattle.log_record.specs.declared.rec.Rec.{Rec}
-use Rattle.log_record.specs.Spelling.{spelling}
+use Rattle.log_record.specs.Spelling.{spelling, IsSpellable}
 
 -- the units of a log list: the spellings of its records, joined
 abbrev pub units_of : List Rec → List ℕ
 units_of records = flat_map spelling records
+
+-- the units are the spellings of these records, joined
+pub record AreUnitsOf (units : List ℕ) (records : List Rec) : Type 0 where
+  pub spellable : AllByRecursion IsSpellable records
+  pub units_are : units ≡ units_of records
 
 -- the end of a log list: how many units it has
 abbrev pub end_of : List Rec → ℕ

@@ -7,12 +7,12 @@ use Rattle.std.proofs.KnownBytes.{Appends-nil, Appends-trans}
 use Rattle.std.specs.Io.KnownBytes.{Appends}
 use Rattle.log_disk.specs.Streams.{AppendsPrefix}
 use Rattle.log_record.specs.declared.rec.Rec.{Rec}
-use Rattle.log_record.specs.LogList.{units_of, end_of, size_of}
+use Rattle.log_record.specs.LogList.{AreUnitsOf, units_of, end_of, size_of}
 use Rattle.log_record.specs.Spelling.{spelling, IsSpellable, BeginsWith}
 use Rattle.log_record.proofs.SpellingLemmas.{spelling-append-injective, units_of-injective}
 use Rattle.lock_core.proofs.ListLemmas.{all-split}
 use Rattle.log_recovery.specs.Dump.{record_line, record_lines, dump_text}
-use Rattle.log_recovery.specs.Listing.{IsListOf, IsFront}
+use Rattle.log_recovery.specs.Listing.{IsFront}
 use Rattle.log_recovery.specs.Text.{lsn_line}
 use Rattle.log_recovery.proofs.AnswerLemmas.{some_unit}
 use Rattle.log_recovery.proofs.ListingLemmas.{front-end, units_of-append}
@@ -26,30 +26,30 @@ record_lines-append at (rec ∷ xs) ys =
     ap (λ lines. record_line at rec ++ lines) (record_lines-append (at + size_of rec) xs ys ∙ ap (λ n. record_lines (at + size_of rec) xs ++ record_lines n ys) place)
     ∙ sym (append_assoc (record_line at rec) (record_lines (at + size_of rec) xs) (record_lines (at + end_of (rec ∷ xs)) ys))
 
-one-list_of : (units : List ℕ) (xs ys : List Rec) → IsListOf units xs → IsListOf units ys → xs ≡ ys
+one-list_of : (units : List ℕ) (xs ys : List Rec) → AreUnitsOf units xs → AreUnitsOf units ys → xs ≡ ys
 one-list_of units xs ys first second =
-    units_of-injective xs ys (All-from_recursion IsSpellable xs first.each) (All-from_recursion IsSpellable ys second.each) (sym first.whole ∙ second.whole)
+    units_of-injective xs ys (All-from_recursion IsSpellable xs first.spellable) (All-from_recursion IsSpellable ys second.spellable) (sym first.units_are ∙ second.units_are)
 
 -- the lines of the records before this rest of the units are written
 pub record DumpsFront (units rest : List ℕ) (old new : Option (List ℕ)) : Type 0 where
   pub done : List Rec
   pub more : List Rec
-  pub list : IsListOf units (done ++ more)
+  pub list : AreUnitsOf units (done ++ more)
   pub left : rest ≡ units_of more
   pub written : Appends old new (record_lines 0 done)
 
-pub dumps-none : (units : List ℕ) (records : List Rec) (old : Option (List ℕ)) → IsListOf units records → DumpsFront units units old old
-dumps-none units records old list = record { done = []; more = records; list = list; left = list.whole; written = Appends-nil old }
+pub dumps-none : (units : List ℕ) (records : List Rec) (old : Option (List ℕ)) → AreUnitsOf units records → DumpsFront units units old old
+dumps-none units records old list = record { done = []; more = records; list = list; left = list.units_are; written = Appends-nil old }
 
 module _ (units rest : List ℕ) (old mid : Option (List ℕ)) (before : DumpsFront units rest old mid) where
   each : AllByRecursion IsSpellable before.done × AllByRecursion IsSpellable before.more
-  each = all-split IsSpellable before.done before.more before.list.each
+  each = all-split IsSpellable before.done before.more before.list.spellable
 
   dumps-front : IsFront units rest
   dumps-front = record {
     records = before.done;
     each = each.0;
-    whole = before.list.whole ∙ units_of-append before.done before.more ∙ ap (λ l. units_of before.done ++ l) (sym before.left);
+    whole = before.list.units_are ∙ units_of-append before.done before.more ∙ ap (λ l. units_of before.done ++ l) (sym before.left);
   }
 
   -- where a rest is left, it begins with a record
@@ -96,7 +96,7 @@ module _ (units rest : List ℕ) (old mid : Option (List ℕ)) (before : DumpsFr
     dumps-more new after dropped line = record {
       done = before.done ++ rec ∷ [];
       more = parts.1;
-      list = subst (IsListOf units) (ap (λ l. before.done ++ l) more-is ∙ sym (append_assoc before.done (rec ∷ []) parts.1)) before.list;
+      list = subst (AreUnitsOf units) (ap (λ l. before.done ++ l) more-is ∙ sym (append_assoc before.done (rec ∷ []) parts.1)) before.list;
       left = dropped ∙ ap (drop (length (spelling rec))) begun.2 ∙ drop-front (spelling rec) begun.1 ∙ same.1;
       written = subst (Appends old new) (sym lines-more) (Appends-trans old mid new _ _ before.written line);
     }
@@ -117,14 +117,14 @@ module _ (units rest : List ℕ) (old mid : Option (List ℕ)) (before : DumpsFr
         ∙ append_assoc (record_lines 0 before.done ++ record_line start rec) _ _
 
     -- a front of one more line is written
-    pub dumps-cut : (new : Option (List ℕ)) (records : List Rec) → IsListOf units records → AppendsPrefix mid new (record_line start rec)
+    pub dumps-cut : (new : Option (List ℕ)) (records : List Rec) → AreUnitsOf units records → AppendsPrefix mid new (record_line start rec)
         → AppendsPrefix old new (dump_text records)
     dumps-cut new records list cut =
         subst (λ l. AppendsPrefix old new (dump_text l)) (one-list_of units (before.done ++ before.more) records before.list list)
         (AppendsPrefix-behind old mid new _ _ (record_line start rec) _ before.written cut whole-text)
 
   -- the whole is written
-  module _ (empty : rest ≡ []) (records : List Rec) (list : IsListOf units records) where
+  module _ (empty : rest ≡ []) (records : List Rec) (list : AreUnitsOf units records) where
     none-left : (more : List Rec) → before.more ≡ more → more ≡ []
     none-left [] is = refl
     none-left (rec ∷ more) is = absurd (some_unit rec (units_of more) (sym (ap units_of is) ∙ sym before.left ∙ empty))

@@ -3,7 +3,7 @@ use Rattle.std.proofs.Common.{◌≡◌, ◌≤◌, ℕ, ◌+◌, List, [], ◌�
 use Rattle.std.specs.List.{AllByRecursion}
 use Rattle.std.proofs.lemmas.List.{append-nil}
 use Rattle.log_record.specs.declared.rec.Rec.{Rec}
-use Rattle.log_record.specs.LogList.{units_of}
+use Rattle.log_record.specs.LogList.{AreUnitsOf, units_of}
 use Rattle.log_record.specs.Spelling.{spelling, IsSpellable, BeginsWith}
 use Rattle.lock_core.specs.declared.judge.Judge.{Judge}
 use Rattle.lock_core.specs.declared.reason.Why.{Why}
@@ -12,7 +12,7 @@ use Rattle.lock_core.specs.Lawful.{Passes}
 use Rattle.lock_core.specs.Faults.{IsFirstFailing, IsUnlawfulAt}
 use Rattle.lock_core.specs.Taking.{HasTaken}
 use Rattle.lock_core.proofs.Fronts.{history_from-append, history_from-onto}
-use Rattle.log_recovery.specs.Listing.{IsListOf, IsFront, IsRecords}
+use Rattle.log_recovery.specs.Listing.{IsFront, IsRecords}
 use Rattle.log_recovery.specs.Judging.{HasTakenFront, HasTakenUnits, FailsBefore}
 use Rattle.lock_core.proofs.ListLemmas.{all-append}
 use Rattle.log_recovery.proofs.ListingLemmas.{units_of-append, end_from-history, front-more, front-end}
@@ -24,7 +24,7 @@ front-next units rest after rec front begins dropped =
 
 pub front-all : (units rest : List ℕ) → rest ≡ [] → IsFront units rest → IsRecords units
 front-all units rest empty front =
-    (front.records, record { each = front.each; whole = front.whole ∙ ap (λ l. units_of front.records ++ l) empty ∙ append-nil (units_of front.records) })
+    (front.records, record { spellable = front.each; units_are = front.whole ∙ ap (λ l. units_of front.records ++ l) empty ∙ append-nil (units_of front.records) })
 
 pub taken-none : (units : List ℕ) (judge : Judge) → HasTaken judge [] → HasTakenFront units units judge
 taken-none units judge taken = record { records = []; each = tt; whole = refl; taken = taken }
@@ -68,20 +68,20 @@ module _ (units rest : List ℕ) (judge : Judge) (lsn : ℕ) (before : HasTakenF
 pub taken-all : (units rest : List ℕ) (judge : Judge) → rest ≡ [] → HasTakenFront units rest judge → HasTakenUnits units judge
 taken-all units rest judge empty front = record {
   records = front.records;
-  list = record { each = front.each; whole = front.whole ∙ ap (λ l. units_of front.records ++ l) empty ∙ append-nil (units_of front.records) };
+  list = record { spellable = front.each; units_are = front.whole ∙ ap (λ l. units_of front.records ++ l) empty ∙ append-nil (units_of front.records) };
   taken = front.taken;
 }
 
 -- a record that fails, and then the rest of a list
 pub unlawful-list : (units rest : List ℕ) (lsn : ℕ) (why : Why) → FailsBefore units rest lsn why → IsRecords rest
-    → (records : List Rec) × IsListOf units records × IsUnlawfulAt (history records) lsn why
+    → (records : List Rec) × AreUnitsOf units records × IsUnlawfulAt (history records) lsn why
 unlawful-list units rest lsn why fails more =
     let all : List Rec = (fails.front ++ fails.rec ∷ []) ++ more.0 in
     let onto = history_from-onto 0 (history (fails.front ++ fails.rec ∷ [])) more.0 in (
       all,
       record {
-        each = all-append IsSpellable (fails.front ++ fails.rec ∷ []) more.0 fails.each more.1.each;
-        whole = fails.whole ∙ ap (λ l. units_of (fails.front ++ fails.rec ∷ []) ++ l) more.1.whole ∙ sym (units_of-append (fails.front ++ fails.rec ∷ []) more.0);
+        spellable = all-append IsSpellable (fails.front ++ fails.rec ∷ []) more.0 fails.each more.1.spellable;
+        units_are = fails.whole ∙ ap (λ l. units_of (fails.front ++ fails.rec ∷ []) ++ l) more.1.units_are ∙ sym (units_of-append (fails.front ++ fails.rec ∷ []) more.0);
       },
       record {
         later = onto.0;

@@ -2,7 +2,7 @@
 use Rattle.std.specs.Prelude.{◌≡◌, ℕ, List, [], ◌∷◌, ◌++◌}
 use Rattle.std.specs.List.{AllByRecursion}
 use Rattle.log_record.specs.declared.rec.Rec.{Rec}
-use Rattle.log_record.specs.LogList.{units_of}
+use Rattle.log_record.specs.LogList.{AreUnitsOf, units_of}
 use Rattle.log_record.specs.Spelling.{IsSpellable}
 use Rattle.lock_core.specs.declared.judge.Judge.{Judge}
 use Rattle.lock_core.specs.declared.reason.Why.{Why}
@@ -12,7 +12,7 @@ use Rattle.lock_core.specs.Faults.{IsFirstFailing, IsUnlawfulAt}
 use Rattle.lock_core.specs.Taking.{HasTaken}
 use Rattle.log_recovery.specs.declared.judging.UnitsFault.{UnitsFault}
 use Rattle.log_recovery.specs.declared.judging.UnitsFault.TheVariants as fault
-use Rattle.log_recovery.specs.Listing.{IsListOf, IsBadRecAt}
+use Rattle.log_recovery.specs.Listing.{IsBadRecAt}
 
 -- the judge has taken the records before this rest of the units
 pub record HasTakenFront (units rest : List ℕ) (judge : Judge) : Type 0 where
@@ -24,7 +24,7 @@ pub record HasTakenFront (units rest : List ℕ) (judge : Judge) : Type 0 where
 -- the judge has taken the records of the units
 pub record HasTakenUnits (units : List ℕ) (judge : Judge) : Type 0 where
   pub records : List Rec
-  pub list : IsListOf units records
+  pub list : AreUnitsOf units records
   pub taken : HasTaken judge (history records)
 
 -- of the records before this rest of the units the last starts at this address, and is the first that fails a test
@@ -40,5 +40,5 @@ pub record FailsBefore (units rest : List ℕ) (lsn : ℕ) (test : Why) : Type 0
 -- why no judge takes the units; want of memory says nothing of them
 abbrev pub IsUnitsFaultOf : List ℕ → UnitsFault → Type 0
 IsUnitsFaultOf units (fault.BadRec lsn) = IsBadRecAt units lsn
-IsUnitsFaultOf units (fault.Unlawful lsn why) = (records : List Rec) × IsListOf units records × IsUnlawfulAt (history records) lsn why
+IsUnitsFaultOf units (fault.Unlawful lsn why) = (records : List Rec) × AreUnitsOf units records × IsUnlawfulAt (history records) lsn why
 IsUnitsFaultOf units fault.NoMemory = Unit {0}

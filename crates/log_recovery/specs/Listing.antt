@@ -2,13 +2,8 @@
 use Rattle.std.specs.Prelude.{◌≡◌, ◌<◌, ℕ, List, ◌++◌, length}
 use Rattle.std.specs.List.{AllByRecursion}
 use Rattle.log_record.specs.declared.rec.Rec.{Rec}
-use Rattle.log_record.specs.LogList.{units_of, end_of}
+use Rattle.log_record.specs.LogList.{AreUnitsOf, units_of, end_of}
 use Rattle.log_record.specs.Spelling.{IsSpellable, BeginsWith}
-
--- the units are the spellings of these records, joined
-pub record IsListOf (units : List ℕ) (records : List Rec) : Type 0 where
-  pub each : AllByRecursion IsSpellable records
-  pub whole : units ≡ units_of records
 
 -- some records spell what stands before this rest of the units
 pub record IsFront (units rest : List ℕ) : Type 0 where
@@ -18,7 +13,7 @@ pub record IsFront (units rest : List ℕ) : Type 0 where
 
 -- the units are the spellings of some records
 abbrev pub IsRecords : List ℕ → Type 0
-IsRecords units = (records : List Rec) × IsListOf units records
+IsRecords units = (records : List Rec) × AreUnitsOf units records
 
 -- records lead to this address, and the units from there on begin with no record
 pub record IsBadRecAt (units : List ℕ) (lsn : ℕ) : Type 0 where

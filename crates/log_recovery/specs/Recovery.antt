@@ -3,7 +3,7 @@ use Rattle.std.specs.Prelude.{◌≡◌, ℕ, ◌+◌, List, length}
 use Rattle.std.specs.List.{AllByRecursion}
 use Rattle.log_record.specs.declared.rec.Rec.{Rec}
 use Rattle.log_record.specs.Spelling.{IsSpellable}
-use Rattle.log_record.specs.LogList.{units_of, end_of}
+use Rattle.log_record.specs.LogList.{AreUnitsOf, units_of, end_of}
 use Rattle.segment_file.specs.File.{IsFile, HoldsUnits, BeginsAsLog, IsBadBatchAt, written}
 use Rattle.log_recovery.specs.declared.list_result.Listed.{Listed}
 use Rattle.log_recovery.specs.declared.recovery.Recovered.{Recovered}
@@ -13,7 +13,7 @@ use Rattle.lock_core.specs.History.{history}
 use Rattle.lock_core.specs.Sums.{ShowsAccounts, greatest_txn}
 use Rattle.lock_core.specs.Lawful.{IsLawful, genesis_of}
 use Rattle.lock_core.specs.Faults.{IsUnlawfulAt}
-use Rattle.log_recovery.specs.Listing.{IsListOf, IsBadRecAt}
+use Rattle.log_recovery.specs.Listing.{IsBadRecAt}
 
 -- the bytes are a log file that holds these records
 pub record HoldsList (bytes : List ℕ) (records : List Rec) : Type 0 where
@@ -52,7 +52,7 @@ IsFaultOf bytes fault.NoMemory = Unit {0}
 
 -- the units are those of these records, and the tail stands at their end
 pub record HasRecords (listed : Listed) (records : List Rec) : Type 0 where
-  pub list : IsListOf listed.units records
+  pub list : AreUnitsOf listed.units records
   pub end : listed.tail.next ≡ end_of records
 
 -- the list that the bytes hold, lawful or not, and where they end

@@ -1,7 +1,7 @@
 -- A batch that is appended to a log that stands.
 use Rattle.std.proofs.Common.{◌≡◌, inl, inr, ◌≤◌, ◌∙◌, ap, ℕ, ◌+◌, ◌*◌, List, [], ◌∷◌, ◌++◌, length, take, arith, append_assoc}
 use Rattle.std.proofs.lemmas.Bool.{cases_eq}
-use Rattle.log_disk.specs.Disk.{put, IsSettled}
+use Rattle.log_disk.specs.Disk.{put, IsOnlyImage}
 use Rattle.lsn_space.specs.declared.lsn.TheConstants.{LAST}
 use Rattle.segment_file.specs.declared.layout.TheConstants.{OPEN, CLOSED}
 use Rattle.segment_file.specs.declared.scan_result.Tail.{Tail}
@@ -35,6 +35,6 @@ module _ (tail : Tail) (units more file : List ℕ) (images : List ℕ → Type 
 
   -- after both writes each image stands at the new tail
   pub all_stand-more : (new : Tail) → new.at ≡ tail.at + (5 + 8 * length more) → new.next ≡ tail.next + length more → (last : List ℕ) (lasts : List ℕ → Type 0)
-      → last ≡ put tail.at (OPEN ∷ []) (put (tail.at + 1) (sealed more) file) → IsSettled last lasts → AllStand new (units ++ more) lasts
+      → last ≡ put tail.at (OPEN ∷ []) (put (tail.at + 1) (sealed more) file) → IsOnlyImage last lasts → AllStand new (units ++ more) lasts
   all_stand-more new at next last lasts written settled c left =
       stands-opened new at next c (settled c left ∙ written ∙ put-gate tail.at images shut (sealed more) file image)

@@ -1,7 +1,7 @@
 -- A first batch that is written where no log is.
 use Rattle.std.proofs.Common.{◌≡◌, ◌≢◌, inl, inr, ◌∙◌, ap, subst, ℕ, ◌+◌, ◌*◌, List, [], ◌∷◌, ◌++◌, length, get_or, arith, append_assoc}
 use Rattle.std.proofs.lemmas.Bool.{cases_eq}
-use Rattle.log_disk.specs.Disk.{put, IsSettled}
+use Rattle.log_disk.specs.Disk.{put, IsOnlyImage}
 use Rattle.segment_file.specs.declared.layout.TheConstants.{OPEN, CLOSED}
 use Rattle.segment_file.specs.declared.scan_result.Tail.{Tail}
 use Rattle.segment_file.specs.File.{magic, batch, IsCountedBatch, BeginsAsLog}
@@ -37,6 +37,6 @@ module _ (units file : List ℕ) (images : List ℕ → Type 0) (image : images 
 
   -- after both writes each image holds it
   pub all_stand-first : (tail : Tail) → tail.at ≡ 12 + 8 * length units → tail.next ≡ length units → (last : List ℕ) (lasts : List ℕ → Type 0)
-      → last ≡ put 0 (OPEN ∷ []) (put 1 (magic ++ sealed units) file) → IsSettled last lasts → AllStand tail units lasts
+      → last ≡ put 0 (OPEN ∷ []) (put 1 (magic ++ sealed units) file) → IsOnlyImage last lasts → AllStand tail units lasts
   all_stand-first tail at next last lasts written settled c left =
       stands-opened tail at next c (settled c left ∙ written ∙ put-gate 0 images shut (magic ++ sealed units) file image)

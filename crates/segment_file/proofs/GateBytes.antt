@@ -3,7 +3,7 @@ use Rattle.std.proofs.Common.{◌≡◌, ◌≢◌, ◌⊎◌, inl, inr, ◌≤�
 use Rattle.std.specs.List.{slice_get}
 use Rattle.std.proofs.lemmas.List.{length-take-le}
 use Rattle.std.proofs.lemmas.Option.{slice_get_within}
-use Rattle.log_disk.specs.Disk.{put, IsTorn, IsSettled}
+use Rattle.log_disk.specs.Disk.{put, IsTorn, IsOnlyImage}
 use Rattle.segment_file.specs.declared.layout.TheConstants.{OPEN, CLOSED}
 use Rattle.segment_file.specs.File.{BeginsOpen}
 use Rattle.segment_file.specs.Gates.{Midway}
@@ -55,7 +55,7 @@ module _ (at : ℕ) (images : List ℕ → Type 0) (shut : IsShut at images) whe
 
     -- the last byte of the body is the next gate
     pub next-shut : (front new : List ℕ) (news : List ℕ → Type 0) (next : ℕ) → body ≡ front ++ CLOSED ∷ [] → new ≡ put at (OPEN ∷ []) (put (at + 1) body file)
-        → IsSettled new news → next ≡ at + length body → IsShut next news
+        → IsOnlyImage new news → next ≡ at + length body → IsShut next news
     next-shut front new news next body_is written settled place = record {
       gate = CLOSED;
       shut = omega arith;

@@ -2,13 +2,13 @@
 use Rattle.std.proofs.Common.{◌≡◌, ◌∙◌, sym, ap, subst, List, ℕ, drop, length}
 use Rattle.std.specs.List.{slice_get}
 use Rattle.std.proofs.lemmas.List.{drop_at}
-use Rattle.log_disk.specs.Disk.{IsSettled}
+use Rattle.log_disk.specs.Disk.{IsOnlyImage}
 use Rattle.segment_file.specs.declared.scan_result.Scan.{Scan}
 use Rattle.segment_file.specs.File.{written, BeginsOpen}
 use Rattle.segment_file.specs.Scan.{Scans}
 use Rattle.segment_file.specs.Standing.{StandsAt, AllStand, IsStableGate}
 
-module _ (found : Scan) (file : List ℕ) (images : List ℕ → Type 0) (scanned : Scans found file) (settled : IsSettled file images) where
+module _ (found : Scan) (file : List ℕ) (images : List ℕ → Type 0) (scanned : Scans found file) (settled : IsOnlyImage file images) where
   scanned-rest : drop found.tail.at file ≡ scanned.rest
   scanned-rest = ap (drop found.tail.at) scanned.file.whole ∙ drop_at (written scanned.batches) scanned.rest found.tail.at (sym scanned.at)
 

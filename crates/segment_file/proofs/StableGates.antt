@@ -2,7 +2,7 @@
 use Rattle.std.proofs.Common.{◌≡◌, ◌≢◌, ◌⊎◌, inl, inr, ◌≤◌, ◌∙◌, sym, ap, refl, subst, ℕ, ◌+◌, List, [], ◌∷◌, ◌++◌, length, take, drop, Some, arith, append_assoc, take-append-drop}
 use Rattle.std.specs.List.{slice_get}
 use Rattle.std.proofs.lemmas.List.{length-take-le, length-drop}
-use Rattle.log_disk.specs.Disk.{put, MayBeTorn, IsSettled}
+use Rattle.log_disk.specs.Disk.{put, MayBeTorn, IsOnlyImage}
 use Rattle.segment_file.specs.declared.layout.TheConstants.{OPEN, CLOSED}
 use Rattle.segment_file.specs.declared.scan_result.Tail.{Tail}
 use Rattle.segment_file.specs.File.{BeginsOpen, HoldsUnits}
@@ -55,7 +55,7 @@ module _ (at : ℕ) (file : List ℕ) (images : List ℕ → Type 0) (image : im
       }
 
 -- a closed gate that was written is shut
-pub put-shut : (at : ℕ) (old new : List ℕ) (news : List ℕ → Type 0) → at ≤ length old → new ≡ put at (CLOSED ∷ []) old → IsSettled new news → IsShut at news
+pub put-shut : (at : ℕ) (old new : List ℕ) (news : List ℕ → Type 0) → at ≤ length old → new ≡ put at (CLOSED ∷ []) old → IsOnlyImage new news → IsShut at news
 put-shut at old new news within written settled =
     let place : at ≡ length (take at old) = sym (length-take-le at old within) in
     let whole : put at (CLOSED ∷ []) old ≡ take at old ++ CLOSED ∷ drop (at + 1) old = append_assoc (take at old) (CLOSED ∷ []) (drop (at + 1) old) in

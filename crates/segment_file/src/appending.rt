@@ -1,6 +1,6 @@
 ghost use Rattle.std.specs.Prelude.{◌≡◌, ◌≤◌, ◌<◌, ◌+◌, ◌-◌, ◌*◌, ◌^◌, ◌++◌, ◌↔◌, List, ℕ, length, max, IfOk, OnOk};
 ghost use Rattle.log_disk.specs.Faults.{HasCause};
-ghost use Rattle.log_disk.specs.Disk.{put, IsSettled, Leaves};
+ghost use Rattle.log_disk.specs.Disk.{put, IsOnlyImage, Leaves};
 ghost use Rattle.lsn_space.specs.declared.lsn.TheConstants.{LAST};
 ghost use Rattle.segment_file.specs.Standing.{tail_after, AllStand, IsShut, HoldsEither};
 
@@ -24,7 +24,7 @@ pub fn append<D: LogDisk>(disk: &mut D, tail: Tail, batch: &mut Batch) -> Result
     ensures appended { D.honest disk.old → IfOk result (λ t. (units : List ℕ) → AllStand tail units (D.images disk.old)
         → AllStand t (units ++ batch.old.units) (D.images disk.new)) }
     ensures shut { D.honest disk.old → IfOk result (λ t. IsShut t.at (D.images disk.new)) }
-    ensures settled { D.honest disk.old → OnOk result (IsSettled (D.reads disk.new) (D.images disk.new)) }
+    ensures settled { D.honest disk.old → OnOk result (IsOnlyImage (D.reads disk.new) (D.images disk.new)) }
     ensures place { IfOk result (λ t. t.at ≡ tail.at + 5 + 8 * length batch.old.units) }
     ensures next { IfOk result (λ t. t.next ≡ tail.next + length batch.old.units) }
     ensures batch { batch.new ≡ batch.old }
@@ -52,7 +52,7 @@ fn append_sealed<D: LogDisk>(disk: &mut D, tail: Tail, batch: &mut Batch) -> Res
     ensures appended { D.honest disk.old → OnOk result ((units : List ℕ) → AllStand tail units (D.images disk.old)
         → AllStand (tail_after tail batch.old.units) (units ++ batch.old.units) (D.images disk.new)) }
     ensures shut { D.honest disk.old → OnOk result (IsShut (tail.at + (5 + 8 * length batch.old.units)) (D.images disk.new)) }
-    ensures settled { D.honest disk.old → OnOk result (IsSettled (D.reads disk.new) (D.images disk.new)) }
+    ensures settled { D.honest disk.old → OnOk result (IsOnlyImage (D.reads disk.new) (D.images disk.new)) }
     ensures batch { batch.new ≡ batch.old }
     ensures length { D.honest disk.old
         → length (D.reads disk.new) ≤ max (length (D.reads disk.old)) (tail.at + 6 + 8 * length batch.old.units) }

@@ -1,6 +1,6 @@
 ghost use Rattle.std.specs.Prelude.{◌≡◌, ◌≤◌, ◌<◌, ◌+◌, ◌*◌, ◌↔◌, List, ℕ, length, max, IfOk, OnOk};
 ghost use Rattle.log_disk.specs.Faults.{HasCause};
-ghost use Rattle.log_disk.specs.Disk.{IsSettled, Leaves};
+ghost use Rattle.log_disk.specs.Disk.{IsOnlyImage, Leaves};
 ghost use Rattle.segment_file.specs.Standing.{tail_at, AllStand, IsShut, IsStableGate, HoldsNoneOr};
 
 use crate::batch::{Batch, put_count};
@@ -20,7 +20,7 @@ pub fn create<D: LogDisk>(disk: &mut D, batch: &mut Batch) -> Result<Tail, DiskF
     ensures moments { D.honest disk.old → Leaves D.moment D.images_since (HoldsNoneOr batch.old.units) disk.old disk.new }
     ensures created { D.honest disk.old → IfOk result (λ t. AllStand t batch.old.units (D.images disk.new)) }
     ensures shut { D.honest disk.old → IfOk result (λ t. IsShut t.at (D.images disk.new)) }
-    ensures settled { D.honest disk.old → OnOk result (IsSettled (D.reads disk.new) (D.images disk.new)) }
+    ensures settled { D.honest disk.old → OnOk result (IsOnlyImage (D.reads disk.new) (D.images disk.new)) }
     ensures place { IfOk result (λ t. t.at ≡ 12 + 8 * length batch.old.units) }
     ensures next { IfOk result (λ t. t.next ≡ length batch.old.units) }
     ensures batch { batch.new ≡ batch.old }
@@ -49,7 +49,7 @@ fn create_sealed<D: LogDisk>(disk: &mut D, batch: &mut Batch) -> Result<(), Disk
     ensures created { D.honest disk.old
         → OnOk result (AllStand (tail_at (12 + 8 * length batch.old.units) (length batch.old.units)) batch.old.units (D.images disk.new)) }
     ensures shut { D.honest disk.old → OnOk result (IsShut (12 + 8 * length batch.old.units) (D.images disk.new)) }
-    ensures settled { D.honest disk.old → OnOk result (IsSettled (D.reads disk.new) (D.images disk.new)) }
+    ensures settled { D.honest disk.old → OnOk result (IsOnlyImage (D.reads disk.new) (D.images disk.new)) }
     ensures batch { batch.new ≡ batch.old }
     ensures length { D.honest disk.old
         → length (D.reads disk.new) ≤ max (length (D.reads disk.old)) (13 + 8 * length batch.old.units) }

@@ -1,6 +1,6 @@
 ghost use Rattle.std.specs.Prelude.{◌≡◌, ◌≤◌, ◌<◌, ◌+◌, ◌-◌, ◌^◌, ◌∷◌, ◌↔◌, [], length, max, OnOk};
 ghost use Rattle.log_disk.specs.Faults.{HasCause};
-ghost use Rattle.log_disk.specs.Disk.{put, IsTorn, MayBeTorn, IsSettled, Leaves};
+ghost use Rattle.log_disk.specs.Disk.{put, IsTorn, MayBeTorn, IsOnlyImage, Leaves};
 ghost use Rattle.segment_file.specs.Gates.{Midway};
 
 use crate::layout::OPEN;
@@ -20,7 +20,7 @@ impl From<Failed> for DiskFault {
 pub fn write_synced<D: LogDisk>(disk: &mut D, at: u64, bytes: &[u8]) -> Result<(), DiskFault>
     requires { D.honest disk.old → at ≤ length (D.reads disk.old) }
     ensures written { D.honest disk.old → OnOk result (D.reads disk.new ≡ put at bytes.now (D.reads disk.old)) }
-    ensures settled { D.honest disk.old → OnOk result (IsSettled (D.reads disk.new) (D.images disk.new)) }
+    ensures settled { D.honest disk.old → OnOk result (IsOnlyImage (D.reads disk.new) (D.images disk.new)) }
     ensures torn { D.honest disk.old → IsTorn at (length bytes.now) (D.reads disk.old) (D.reads disk.new) }
     ensures moments { Leaves D.moment D.images_since (MayBeTorn at (length bytes.now) (D.images disk.old)) disk.old disk.new }
     ensures honest { D.honest disk.old ↔ D.honest disk.new }
@@ -37,7 +37,7 @@ pub fn write_gated<D: LogDisk>(disk: &mut D, at: u64, body: &[u8]) -> Result<(),
     requires place { at < 2 ^ 64 - 1 }
     requires within { D.honest disk.old → at + 1 ≤ length (D.reads disk.old) }
     ensures written { D.honest disk.old → OnOk result (D.reads disk.new ≡ put at (OPEN ∷ []) (put (at + 1) body.now (D.reads disk.old))) }
-    ensures settled { D.honest disk.old → OnOk result (IsSettled (D.reads disk.new) (D.images disk.new)) }
+    ensures settled { D.honest disk.old → OnOk result (IsOnlyImage (D.reads disk.new) (D.images disk.new)) }
     ensures length { D.honest disk.old → length (D.reads disk.new) ≤ max (length (D.reads disk.old)) (at + 1 + length body.now) }
     ensures moments { D.honest disk.old → Leaves D.moment D.images_since (Midway at body.now (D.reads disk.old) (D.images disk.old)) disk.old disk.new }
     ensures later { D.moment disk.old ≤ D.moment disk.new }

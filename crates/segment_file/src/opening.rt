@@ -1,6 +1,6 @@
 ghost use Rattle.std.specs.Prelude.{◌≡◌, ◌≤◌, ◌<◌, ◌+◌, ◌++◌, ◌↔◌, List, ℕ, length, take, IfOk, OnOk, IsErrOf};
 ghost use Rattle.log_disk.specs.Faults.{Rose};
-ghost use Rattle.log_disk.specs.Disk.{IsSettled, Leaves};
+ghost use Rattle.log_disk.specs.Disk.{IsOnlyImage, Leaves};
 ghost use Rattle.segment_file.specs.declared.opening.OpenFault.TheVariants.{DiskFault};
 
 use log_disk::{Failed, LogDisk};
@@ -25,7 +25,7 @@ impl From<Failed> for OpenFault {
 /// bytes up to there.
 pub fn open_image<D: LogDisk>(alloc: Global, disk: &mut D) -> Result<Vec<u8>, OpenFault>
     ensures bytes { D.honest disk.old → IfOk result (λ bytes. bytes.items ≡ D.reads disk.old) }
-    ensures settled { D.honest disk.old → OnOk result (IsSettled (D.reads disk.new) (D.images disk.new)) }
+    ensures settled { D.honest disk.old → OnOk result (IsOnlyImage (D.reads disk.new) (D.images disk.new)) }
     ensures reads { D.honest disk.old → D.reads disk.new ≡ D.reads disk.old }
     ensures images { (c : List ℕ) → D.images disk.new c → D.images disk.old c }
     ensures moments { Leaves D.moment D.images_since (D.images disk.old) disk.old disk.new }

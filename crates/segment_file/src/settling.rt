@@ -1,6 +1,6 @@
 ghost use Rattle.std.specs.Prelude.{◌≡◌, ◌≤◌, ◌+◌, ◌^◌, ◌∷◌, ◌⊎◌, ◌↔◌, [], IsTrue, List, ℕ, length, max, take, drop, IfOk, OnOk};
 ghost use Rattle.log_disk.specs.Faults.{HasCause};
-ghost use Rattle.log_disk.specs.Disk.{put, IsSettled, Elapses, Keeps, Leaves};
+ghost use Rattle.log_disk.specs.Disk.{put, IsOnlyImage, Elapses, Keeps, Leaves};
 ghost use Rattle.segment_file.specs.File.{HoldsUnits};
 ghost use Rattle.segment_file.specs.Gates.{StaysClosed};
 ghost use Rattle.segment_file.specs.Standing.{tail_at, AllStand, IsShut, IsStableGate, LacksGate};
@@ -27,8 +27,8 @@ pub fn settle<D: LogDisk>(disk: &mut D, at: u64, next: Lsn) -> Result<Tail, Disk
         → OnOk result (D.reads disk.new ≡ put at (CLOSED ∷ []) (D.reads disk.old)) }
     ensures keeps { D.honest disk.old → (LacksGate at (D.reads disk.old) → ⊥)
         → Keeps D.honest D.reads D.images D.written_count disk.old disk.new }
-    ensures settled { D.honest disk.old → IsSettled (D.reads disk.old) (D.images disk.old) ⊎ LacksGate at (D.reads disk.old)
-        → OnOk result (IsSettled (D.reads disk.new) (D.images disk.new)) }
+    ensures settled { D.honest disk.old → IsOnlyImage (D.reads disk.old) (D.images disk.old) ⊎ LacksGate at (D.reads disk.old)
+        → OnOk result (IsOnlyImage (D.reads disk.new) (D.images disk.new)) }
     ensures length { D.honest disk.old → length (D.reads disk.new) ≤ max (length (D.reads disk.old)) (at + 1) }
     ensures count { D.honest disk.old → D.written_count disk.new ≤ D.written_count disk.old + 2 }
     ensures later { D.moment disk.old ≤ D.moment disk.new }
@@ -49,8 +49,8 @@ pub(crate) fn close_gate<D: LogDisk>(disk: &mut D, at: u64) -> Result<(), DiskFa
         → OnOk result (D.reads disk.new ≡ put at (CLOSED ∷ []) (D.reads disk.old)) }
     ensures keeps { D.honest disk.old → (LacksGate at (D.reads disk.old) → ⊥)
         → Keeps D.honest D.reads D.images D.written_count disk.old disk.new }
-    ensures settled { D.honest disk.old → IsSettled (D.reads disk.old) (D.images disk.old) ⊎ LacksGate at (D.reads disk.old)
-        → OnOk result (IsSettled (D.reads disk.new) (D.images disk.new)) }
+    ensures settled { D.honest disk.old → IsOnlyImage (D.reads disk.old) (D.images disk.old) ⊎ LacksGate at (D.reads disk.old)
+        → OnOk result (IsOnlyImage (D.reads disk.new) (D.images disk.new)) }
     ensures length { D.honest disk.old → length (D.reads disk.new) ≤ max (length (D.reads disk.old)) (at + 1) }
     ensures count { D.honest disk.old → D.written_count disk.new ≤ D.written_count disk.old + 2 }
     ensures later { D.moment disk.old ≤ D.moment disk.new }

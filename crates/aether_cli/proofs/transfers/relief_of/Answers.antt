@@ -5,7 +5,7 @@ use Rattle.log_table.specs.declared.view.Constants.{Constants}
 use Rattle.log_table.specs.Seats.{key_of, view_of}
 use Rattle.log_table.specs.Views.{sent_to}
 use Rattle.flusher.specs.declared.flusher.Flusher.{Flusher}
-use Rattle.flusher.specs.Flushing.{IsReady}
+use Rattle.flusher.specs.Flushing.{MayFlush}
 use Rattle.aether_cli.proofs.transfers.relief_of.Goals as goal
 
 pub returns-clause-ready : goal.returns-clause-ready
@@ -17,7 +17,7 @@ returns-clause-ready g c =
     let none_sent = ap (λ (sending : Sending). length sending.sent) hired.knows.sending in
     let begins : sent_to view ≡ start = omega (arith, starts, none_sent) in
     record {
-      flusher = subst (IsReady g.D.LogDisk) (sym c.make.ensures.flusher) (record {
+      flusher = subst (MayFlush g.D.LogDisk) (sym c.make.ensures.flusher) (record {
         seat = hired.seat;
         flusher = hired.knows.flusher;
         unread = ap (λ (sending : Sending). sending.read) hired.knows.sending;

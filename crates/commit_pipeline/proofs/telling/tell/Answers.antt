@@ -65,7 +65,7 @@ returns-in_err-lines-clause-front g c =
           told-cut c.args.voice c.args.from c.records.at c.args.batch.now.units _ _ _ _ records
           (before.2 records spells) spells.spellable c.in-Some.rec begins
           c.from.result c.new.result c.count-in-records.new.self size (omega (arith, c.new.ensures, c.units.ensures))
-          c.count-in-records.ensures.done c.count-in-records.ensures.refused cut.0 cut.1 cut.2,
+          c.count-in-records.ensures.done c.count-in-records.ensures.refused cut.0 cut.1 cut.2 cut.4,
     )
 
 pub records-preserved : goal.records-preserved

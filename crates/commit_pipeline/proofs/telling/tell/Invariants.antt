@@ -1,7 +1,7 @@
 use Rattle.std.proofs.Common.{◌≡◌, ◌≤◌, ◌+◌, ◌-◌, List, ℕ, length}
 use Rattle.std.specs.Io.KnownBytes.{Appends}
 use Rattle.log_record.specs.declared.rec.Rec.{Rec}
-use Rattle.flusher.specs.Records.{Spells}
+use Rattle.log_record.specs.LogList.{AreUnitsOf}
 use Rattle.commit_pipeline.proofs.ToldLemmas.{ToldUpTo}
 use Rattle.commit_pipeline.proofs.telling.tell.Given as goal
 
@@ -12,7 +12,7 @@ invariant-records g l = record {
   lines_few : l.lines ≤ l.at;
   few : l.tally.done + l.tally.refused ≤ (l.fn.tally.done + l.fn.tally.refused) + l.at;
   told : (text : List ℕ) × Appends (g.K.Sink.held_bytes l.fn.sink) (g.K.Sink.held_bytes l.sink) text
-      × ((records : List Rec) → Spells l.batch.units records → ToldUpTo l.voice l.from l.at l.batch.units text l.lines l.fn.tally l.tally records);
+      × ((records : List Rec) → AreUnitsOf l.batch.units records → ToldUpTo l.voice l.from l.at l.batch.units text l.lines l.fn.tally l.tally records);
   later : g.K.Sink.faults l.fn.sink ≤ g.K.Sink.faults l.sink;
 }
 

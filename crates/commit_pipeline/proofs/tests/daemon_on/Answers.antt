@@ -1,12 +1,12 @@
 use Rattle.std.proofs.Common.{rules, arith, sym, subst, ap, ◌∙◌}
 use Rattle.std.specs.List.{Contains}
 use Rattle.log_table.specs.Seats.{view_of}
-use Rattle.flusher.specs.Flushing.{IsReady}
+use Rattle.flusher.specs.Flushing.{MayFlush}
 use Rattle.commit_pipeline.proofs.tests.daemon_on.Goals as goal
 
 pub returns-clause-ready : goal.returns-clause-ready
 returns-clause-ready c = record {
-  flusher = subst (IsReady _) (sym c.make-2.ensures.flusher) (record {
+  flusher = subst (MayFlush _) (sym c.make-2.ensures.flusher) (record {
     seat = c.requires.seat;
     flusher = c.requires.flusher;
     unread = c.requires.unread;

@@ -13,7 +13,7 @@ records-init g c = record {
 
 pub start_of-start-requires : goal.start_of-start-requires
 start_of-start-requires g c =
-    dumps-fits _ _ _ _ c.records.invariant.dumped c.args.listed.now.tail.next (c.requires.1.end ∙ ap length (sym c.requires.1.list.whole))
+    dumps-fits _ _ _ _ c.records.invariant.dumped c.args.listed.now.tail.next (c.requires.1.end ∙ ap length (sym c.requires.1.list.units_are))
 
 pub unreachable-requires : goal.unreachable-requires
 unreachable-requires g c = dumps-some _ _ _ _ c.records.invariant.dumped (eqb-false _ _ (sym c.is_empty.ensures ∙ c.records-test.true)) c.in_default.ensures.bad
@@ -21,14 +21,14 @@ unreachable-requires g c = dumps-some _ _ _ _ c.records.invariant.dumped (eqb-fa
 pub returns-in_err-put_record-clause-prefix : goal.returns-in_err-put_record-clause-prefix
 returns-in_err-put_record-clause-prefix g c = λ records has.
     let failed = err_from_is_err_and c.from_residual.result c.from_residual.ensures.1 in
-    let place = c.start_of-start.ensures ∙ has.end ∙ ap length (sym has.list.whole) in
+    let place = c.start_of-start.ensures ∙ has.end ∙ ap length (sym has.list.units_are) in
     rw failed.1 (dumps-cut _ _ _ _ c.records.invariant.dumped c.start_of-start.result place c.in-Ok.rec c.in-Ok.ensures.found.0
     (eqb-false _ _ (sym c.is_empty.ensures ∙ c.records-test.true)) _ records has.list c.in_err-put_record.ensures.prefix)
 
 pub records-preserved : goal.records-preserved
 records-preserved g c =
     let dropped = c.split_at.ensures.back ∙ ap (λ n. drop n c.records.rest.now) c.in-Ok.ensures.found.1 in
-    let place = c.start_of-start.ensures ∙ c.requires.1.end ∙ ap length (sym c.requires.1.list.whole) in
+    let place = c.start_of-start.ensures ∙ c.requires.1.end ∙ ap length (sym c.requires.1.list.units_are) in
     record {
       dumped = dumps-more _ _ _ _ c.records.invariant.dumped c.start_of-start.result place c.in-Ok.rec c.in-Ok.ensures.found.0
           (eqb-false _ _ (sym c.is_empty.ensures ∙ c.records-test.true)) _ _ dropped c.in_ok-put_record.ensures.all;

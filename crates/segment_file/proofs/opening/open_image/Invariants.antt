@@ -1,12 +1,12 @@
 use Rattle.std.proofs.Common.{◌≡◌, ◌≤◌, ◌+◌, ◌-◌, ◌↔◌, List, ℕ, length, take}
-use Rattle.log_disk.specs.Disk.{IsSettled, Leaves}
+use Rattle.log_disk.specs.Disk.{IsOnlyImage, Leaves}
 use Rattle.segment_file.proofs.opening.open_image.Given as goal
 
 abbrev pub invariant-reading : goal.invariant-reading
 invariant-reading g l = record {
   honest : g.D.LogDisk.honest l.fn.disk ↔ g.D.LogDisk.honest l.disk;
   reads : g.D.LogDisk.honest l.fn.disk → g.D.LogDisk.reads l.disk ≡ g.D.LogDisk.reads l.fn.disk;
-  settled : g.D.LogDisk.honest l.fn.disk → IsSettled (g.D.LogDisk.reads l.disk) (g.D.LogDisk.images l.disk);
+  settled : g.D.LogDisk.honest l.fn.disk → IsOnlyImage (g.D.LogDisk.reads l.disk) (g.D.LogDisk.images l.disk);
   images : (c : List ℕ) → g.D.LogDisk.images l.disk c → g.D.LogDisk.images l.fn.disk c;
   moments : Leaves g.D.LogDisk.moment g.D.LogDisk.images_since (g.D.LogDisk.images l.fn.disk) l.fn.disk l.disk;
   count : g.D.LogDisk.honest l.fn.disk → g.D.LogDisk.written_count l.disk ≤ g.D.LogDisk.written_count l.fn.disk + 1;

@@ -1,10 +1,10 @@
 use Rattle.std.proofs.Common.{refl}
 use Rattle.log_table.specs.Views.{saw_exposed}
-use Rattle.flusher.proofs.Flushes.{Becomes-then, IsReady-step, seen-newer}
+use Rattle.flusher.proofs.Flushes.{Becomes-then, MayFlush-step, seen-newer}
 use Rattle.flusher.proofs.flusher.Flusher.drained.Goals as goal
 
 pub returns-else-eq-clause-ready : goal.returns-else-eq-clause-ready
 returns-else-eq-clause-ready g c =
     let seat = Becomes-then _ _ _ _
     (saw_exposed c.load_exposed-exposed.result) c.load_crew-active.ensures.view c.load_exposed-exposed.ensures.view in
-    IsReady-step g.D.LogDisk c.args.self.now c.load_exposed-exposed.new.seat _ c.requires.ready seat refl refl refl refl (seen-newer _ _)
+    MayFlush-step g.D.LogDisk c.args.self.now c.load_exposed-exposed.new.seat _ c.requires.ready seat refl refl refl refl (seen-newer _ _)

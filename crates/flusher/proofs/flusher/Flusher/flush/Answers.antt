@@ -1,4 +1,4 @@
-use Rattle.std.proofs.Common.{rules, arith, ◌≢◌, ◌∙◌, ap, refl, subst, length, ◌<◌, ◌+◌, ◌++◌}
+use Rattle.std.proofs.Common.{rules, arith, ◌≢◌, ◌∙◌, ap, refl, length, ◌<◌, ◌+◌, ◌++◌}
 use Rattle.std.proofs.lemmas.Result.{err_from_is_err_and}
 use Rattle.log_table.specs.Seats.{view_of}
 use Rattle.log_table.specs.Views.{has_sent}
