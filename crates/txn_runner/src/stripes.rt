@@ -7,12 +7,12 @@ use txn_script::Job;
 
 impl Jobs {
     /// The worker's k-th transfer, from 0, under its number. None: the script has no more for it.
-    pub(crate) fn transfer(&self, worker: u32, k: u64) -> Option<(u32, &Job)>
+    pub(crate) fn transfer(&self, worker: u32, k: u64) -> Option<(u32, Job)>
         requires worker { worker < self.now.workers }
         requires stripe { HasStripe self.now worker k }
         ensures within { IfSome result (λ taken. place_of self.now worker k < length self.now.script) }
         ensures number { IfSome result (λ taken. taken.0 ≡ number_at self.now worker k) }
-        ensures job { IfSome result (λ taken. taken.1.now ≡ job_at self.now worker k) }
+        ensures job { IfSome result (λ taken. taken.1 ≡ job_at self.now worker k) }
         ensures end { IfNone result (IsStripeEnd self.now worker k) }
     {
         let place = self.place(worker, k);

@@ -48,7 +48,7 @@ pub fn work<R: Wait, Q: Relief, G: Gate>(
 {
     'stripe: while let Some((number, job)) = jobs.transfer(seat.worker(), rows.taken()) {
         rows.take();
-        match run_job(rt, table, seat, number, job, relief, wait, gate) {
+        match run_job(rt, table, seat, number, &job, relief, wait, gate) {
             Ok(row) => rows.push(row),
             Err(cause) => return Worked::Cut(cause),
         }
