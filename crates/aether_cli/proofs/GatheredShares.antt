@@ -3,7 +3,7 @@ use Rattle.std.proofs.Common.{◌≡◌, ◌≢◌, ◌⊎◌, ◌∙◌, inl, i
 use Rattle.std.proofs.Math.Nat.{mul-le-mul_left}
 use Rattle.std.proofs.lemmas.Bool.{cases_order}
 use Rattle.std.proofs.lemmas.List.{length-map}
-use Rattle.std.proofs.lemmas.List.Elements.{Contains-append_left, Contains-append_right}
+use Rattle.std.proofs.lemmas.List.Elements.{All-contains, All-from_recursion, Contains-append_left, Contains-append_right}
 use Rattle.std.specs.List.{AllByRecursion}
 use Rattle.std.specs.Option.{unwrap_or}
 use mathlib.Core.Option.{some, some-injective, some-ne-none}
@@ -23,13 +23,14 @@ use Rattle.txn_runner.specs.declared.cause.Worked.{Worked}
 use Rattle.txn_runner.specs.declared.cause.Worked.TheVariants.{All, Cut}
 use Rattle.txn_runner.specs.declared.jobs.Jobs.{Jobs}
 use Rattle.txn_runner.specs.Stripes.{number_at, IsOfStripe, stripe_jobs}
-use Rattle.txn_runner.specs.Working.{HasEnd, HaveEnded, IsCutBy, Works}
+use Rattle.txn_runner.specs.Working.{HasEnd, HaveEnded, IsCutBy, LieInTurn, Works}
 use Rattle.txn_runner.proofs.EntryLemmas.{LieInOrder-ends}
+use Rattle.txn_runner.proofs.WorkLemmas.{IsOwnEntry}
 use Rattle.aether_cli.specs.declared.workers.Worker.{Worker}
 use Rattle.aether_cli.specs.Gathering.{share_of, takes_all, view_in, worked_of}
 use Rattle.aether_cli.specs.Shares.{Share, all_taken, CameTo, HasGathered, HasShare, WasCutBy}
 use Rattle.aether_cli.specs.Workers.{AreDone, HasServed, IsDone, IsDoneAs, Numbered}
-use Rattle.aether_cli.proofs.MergedEntries.{all-merged, merged-all, contains-first, contains-second, Rises-in_order, merged-others, merged-own}
+use Rattle.aether_cli.proofs.MergedEntries.{all-merged, merged-all, contains-first, contains-second, contains-merged, Rises-in_order, merged-others, merged-own}
 
 -- the transfers of two workers have other numbers
 numbers-apart : (jobs : Jobs) (worker other j k : ℕ) → worker < jobs.workers → other < jobs.workers → worker ≢ other
@@ -56,10 +57,13 @@ HasEnd-of number xs ys among has =
     record { end = has.end; contains = among has.end has.contains; number_is = has.number_is; is_end = has.is_end }
 
 module _ (jobs : Jobs) where
-  -- no entry is of a worker of this number or a greater one
+  -- an entry is of no worker of this number or a greater one
+  abbrev IsBelow : ℕ → Entry → Type 0
+  IsBelow number entry = (worker j : ℕ) → number ≤ worker → worker < jobs.workers → txn_of entry.rec ≢ number_at jobs worker j
+
+  -- and so is each of these
   abbrev LacksFrom : ℕ → List Entry → Type 0
-  LacksFrom number entries =
-      AllByRecursion (λ (entry : Entry). (worker j : ℕ) → number ≤ worker → worker < jobs.workers → txn_of entry.rec ≢ number_at jobs worker j) entries
+  LacksFrom number entries = AllByRecursion (IsBelow number) entries
 
   all-weaker : (P Q : Entry → Type 0) (entries : List Entry) → ((entry : Entry) → P entry → Q entry) → AllByRecursion P entries
       → AllByRecursion Q entries
@@ -103,8 +107,28 @@ module _ (jobs : Jobs) where
     CameTo-keeps n All came = (came.0, HaveEnded-keeps 0 n came.1)
     CameTo-keeps n (Cut cause) came = (came.0, came.1, HaveEnded-keeps 0 came.0 came.2, WasCutBy-keeps came.0 cause came.3)
 
+    -- an entry of the worker's is none of the other's
+    stays : (j : ℕ) (entry : Entry) → Contains after.entries entry → txn_of entry.rec ≡ number_at jobs worker j → Contains view.entries entry
+    stays j entry has is = by_place (contains-merged view.entries (view_in other).entries entry has)
+      where
+        IsOwn : Entry → Type 0
+        IsOwn = IsOwnEntry jobs other.seat.worker (share_of other).taken
+
+        by_place : Contains view.entries entry ⊎ Contains (view_in other).entries entry → Contains view.entries entry
+        by_place (inl own) = own
+        by_place (inr others) = absurd (own-other other.seat.worker (share_of other).taken worker j (txn_of entry.rec) below below_too apart
+            (All-contains IsOwn (view_in other).entries entry (All-from_recursion IsOwn (view_in other).entries done.has.own) others) is)
+
+    in_turn-keeps : LieInTurn jobs worker view.entries → LieInTurn jobs worker after.entries
+    in_turn-keeps turn i j first second less has has' is is' =
+        turn i j first second less (stays i first has is) (stays j second has' is') is is'
+
     pub HasShare-keeps : (share : Share) → HasShare jobs worker share view → HasShare jobs worker share after
-    HasShare-keeps share has = record { stripe = has.stripe; came_to = CameTo-keeps share.taken share.worked has.came_to }
+    HasShare-keeps share has = record {
+      stripe = has.stripe;
+      came_to = CameTo-keeps share.taken share.worked has.came_to;
+      in_turn = in_turn-keeps has.in_turn;
+    }
 
   -- the share of a worker whose seat is taken in
   module _ (table : LogTable) (view : View) (worker : Worker) (below : worker.seat.worker < jobs.workers)
@@ -153,8 +177,26 @@ module _ (jobs : Jobs) where
     CameTo-taken n All works = (works.1, HaveEnded-taken 0 n works.2)
     CameTo-taken n (Cut cause) works = (works.0, works.2, HaveEnded-taken 0 works.0 works.3, WasCutBy-taken works.0 cause works.4)
 
+    -- an entry of the worker's is one that it brings
+    brought : (j : ℕ) (entry : Entry) → Contains taken_in'.entries entry → txn_of entry.rec ≡ number_at jobs worker.seat.worker j
+        → Contains own.entries entry
+    brought j entry has is = by_place (contains-merged view.entries own.entries entry has)
+      where
+        by_place : Contains view.entries entry ⊎ Contains own.entries entry → Contains own.entries entry
+        by_place (inl before) = absurd (All-contains (IsBelow worker.seat.worker) view.entries entry
+            (All-from_recursion (IsBelow worker.seat.worker) view.entries lacks) before worker.seat.worker j (omega arith) below is)
+        by_place (inr mine) = mine
+
+    in_turn-taken : LieInTurn jobs worker.seat.worker taken_in'.entries
+    in_turn-taken i j first second less has has' is is' =
+        done.has.in_turn i j first second less (brought i first has is) (brought j second has' is') is is'
+
     pub HasShare-taken : HasShare jobs worker.seat.worker (share_of worker) taken_in'
-    HasShare-taken = record { stripe = done.has.stripe; came_to = CameTo-taken (share_of worker).taken (worked_of worker) done.works }
+    HasShare-taken = record {
+      stripe = done.has.stripe;
+      came_to = CameTo-taken (share_of worker).taken (worked_of worker) done.works;
+      in_turn = in_turn-taken;
+    }
 
   -- the next worker's seat brings no entry of a greater number's
   LacksFrom-next : (table : LogTable) (view : View) (worker : Worker) (number : ℕ) → worker.seat.worker ≡ number → number < jobs.workers
@@ -219,7 +261,7 @@ all-each P view (worker ∷ workers) all =
     let both = merged-all P view.entries (view_in worker).entries rest.0 in (both.0, (both.1, rest.1))
 
 -- an entry that is filled with its record's units has some
-sized : (entries : List Entry) → AllByRecursion IsFull entries → AllByRecursion IsSpelled entries
+pub sized : (entries : List Entry) → AllByRecursion IsFull entries → AllByRecursion IsSpelled entries
     → AllByRecursion (λ (entry : Entry). 1 ≤ entry.size) entries
 sized [] full spelled = tt
 sized (entry ∷ entries) full spelled =

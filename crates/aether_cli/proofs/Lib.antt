@@ -27,6 +27,7 @@ pub mod RunLedger
 pub mod RunLemmas
 pub mod RunRecords
 pub mod RunStripes
+pub mod RunTurns
 pub mod RunWitness
 pub mod ServedLemmas
 pub mod ToldLemmas

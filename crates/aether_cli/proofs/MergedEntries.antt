@@ -1,7 +1,7 @@
 -- Entries that are sorted in among others: what holds of all, what is among them, and the records of one number.
 use Rattle.std.proofs.Common.{◌≡◌, ◌≢◌, ◌⊎◌, ◌∙◌, ℕ, ◌+◌, ◌≤◌, ◌<◌, ◌==◌, nat_lt, cond, Bool, true, false, List, [], ◌∷◌, ◌++◌, sym, refl, ap, subst, inl, inr, arith, ltb-false, ne_eqb, Contains}
 use Rattle.std.specs.List.{AllByRecursion}
-use Rattle.std.proofs.lemmas.List.Elements.{Contains-append_left, Contains-append_right, Contains-append_cases}
+use Rattle.std.proofs.lemmas.List.Elements.{All-contains, All-contains_itself, All-from_recursion, recursion_from_All, Contains-append_left, Contains-append_right, Contains-append_cases}
 use Rattle.lock_core.specs.Records.{txn_of}
 use Rattle.log_table.specs.declared.view.Entry.{Entry}
 use Rattle.log_table.specs.Views.{inserted, merged_entries}
@@ -91,6 +91,20 @@ contains-second xs (y ∷ ys) e has =
         → Contains (y ∷ []) e ⊎ Contains (merged_entries xs ys) e
     by_cases (inl here) more = inl here
     by_cases (inr there) more = inr (more there)
+
+-- what is in both is in the one list or in the other
+pub contains-merged : (xs ys : List Entry) (e : Entry) → Contains (merged_entries xs ys) e → Contains xs e ⊎ Contains ys e
+contains-merged xs ys e = All-contains IsInOne (merged_entries xs ys) e (All-from_recursion IsInOne (merged_entries xs ys)
+    (all-merged IsInOne xs ys (among xs (λ entry has. inl has) xs (recursion_from_All (Contains xs) xs (All-contains_itself xs)))
+    (among ys (λ entry has. inr has) ys (recursion_from_All (Contains ys) ys (All-contains_itself ys)))))
+  where
+    IsInOne : Entry → Type 0
+    IsInOne entry = Contains xs entry ⊎ Contains ys entry
+
+    among : (whole : List Entry) → ((entry : Entry) → Contains whole entry → IsInOne entry) → (entries : List Entry)
+        → AllByRecursion (Contains whole) entries → AllByRecursion IsInOne entries
+    among whole is [] all = tt
+    among whole is (entry ∷ entries) all = (is entry all.0, among whole is entries all.1)
 
 -- each starts above those before it
 abbrev pub Rises : List Entry → Type 0

@@ -1,5 +1,5 @@
 -- A run that was begun over the opened list: at first an image holds that list alone.
-use Rattle.std.proofs.Common.{◌⊎◌, ⊎_elim, inl, inr, refl, sym, subst, ℕ, ◌+◌, List, [], ◌∷◌, ◌++◌}
+use Rattle.std.proofs.Common.{◌⊎◌, ⊎_elim, inl, inr, refl, sym, subst, arith, ℕ, ◌+◌, List, [], ◌∷◌, ◌++◌}
 use Rattle.std.proofs.lemmas.List.{append-nil}
 use Rattle.std.specs.List.{AllByRecursion}
 use Rattle.log_disk.specs.Disk.{Leaves}
@@ -16,6 +16,8 @@ use Rattle.segment_file.specs.declared.scan_result.Tail.{Tail}
 use Rattle.txn_runner.specs.declared.jobs.Jobs.{Jobs}
 use Rattle.aether_cli.specs.Run.{HoldsRun, GoesOn, transfers_of}
 use Rattle.aether_cli.specs.Transferred.{IsOpened}
+use Rattle.txn_runner.specs.Stripes.{number_at}
+use Rattle.aether_cli.proofs.RunHistory.{history-own}
 use Rattle.aether_cli.proofs.RunLedger.{goes-on}
 
 -- of no records, each transfer is cut short before its first
@@ -31,6 +33,7 @@ module _ {D : Type 0} (g : Ghosts D) (disk : D) (tail : Tail) (opened : List Rec
   nothing-goes_on = goes-on opened [] jobs is.lawful is.some_accounts is.below
       (subst (AllByRecursion IsSpellable) (sym (append-nil opened)) is.spellable) tt
       (record { each = partly-none _ jobs.first (transfers_of jobs); others = λ txn apart. refl })
+      (λ worker i j small less recorded. absurd (recorded (history-own opened [] (number_at jobs worker j) (omega (arith, is.below)))))
 
   holds-nothing : (bytes : List ℕ) → HoldsLawful bytes opened → HoldsRun opened jobs records bytes
   holds-nothing bytes held = record {

@@ -257,6 +257,7 @@ module _ (n : ℕ) (full : 4 + 2 * n ≤ LAST) (near : LAST < 4 + 2 * n + 2) whe
         alone = λ one. tt;
       },
     );
+    in_turn = λ i j before after less has. absurd (omega (arith, has.1));
   })
   has-share (suc worker) share at = absurd (some-ne-none share (sym at))
 

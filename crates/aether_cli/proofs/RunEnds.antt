@@ -18,7 +18,6 @@ use Rattle.lock_core.specs.Records.{txn_of, without_prev}
 use Rattle.lock_core.specs.Serial.{Task, HasNoOthers}
 use Rattle.lock_core.specs.Sums.{greatest_txn}
 use Rattle.lock_core.specs.Transactions.{recs_of, records_of as own_records_of, has_end, all_without_prev, in_order}
-use Rattle.lock_core.proofs.Apart.{records_of-left, of_transaction-none, below-greatest}
 use Rattle.lock_core.proofs.NextRecords.{records_of-own, has_end-own, unended-next, planned-next, size-without_prev}
 use Rattle.log_recovery.proofs.ListingLemmas.{units_of-append}
 use Rattle.log_table.specs.declared.view.Entry.{Entry}
@@ -35,12 +34,12 @@ use Rattle.txn_runner.specs.Stripes.{number_at, job_at, IsStripeEnd}
 use Rattle.txn_runner.specs.Working.{HasEnd, own_records}
 use Rattle.aether_cli.specs.RunStops.{IsOfScript, IsWholeStripe, IsCutStripe, HasNextOf, StopsAtLogEnd}
 use Rattle.aether_cli.specs.Shares.{Share, all_taken, EndsLogAt, CameTo, HasShare, HasGathered}
-use Rattle.aether_cli.proofs.RunHistory.{later_of, history-later}
+use Rattle.aether_cli.proofs.RunHistory.{later_of, history-own}
 use Rattle.aether_cli.proofs.RunRecords.{tiling-end, boundary-front}
 use Rattle.aether_cli.proofs.RunStripes.{placed, tasks_of, each-numbered, share-at, share-inside, not_taken}
 
 -- the record of an entry is among the records
-contains-record : (entries : List Entry) (entry : Entry) → Contains entries entry → Contains (records_of entries) entry.rec
+pub contains-record : (entries : List Entry) (entry : Entry) → Contains entries entry → Contains (records_of entries) entry.rec
 contains-record [] entry (i, inside, is) = absurd (omega arith)
 contains-record (first ∷ entries) entry (zero, inside, is) = (0, omega arith, ap (λ (e : Entry). e.rec) is)
 contains-record (first ∷ entries) entry (suc i, inside, is) =
@@ -54,13 +53,8 @@ module _ (opened : List Rec) (jobs : Jobs) (view : View) (below : greatest_txn (
   later = later_of opened (records_of view.entries)
 
   -- the whole list has of a transfer what follows the opened list
-  pub own-later : (n : ℕ) → jobs.first ≤ n → own_records_of n (history (opened ++ list)) ≡ own_records_of n later
-  own-later n high = ap (own_records_of n) (history-later opened list)
-      ∙ records_of-left n later (history opened) (of_transaction-none n (history opened) (other (history opened) (below-greatest (history opened) jobs.first below)))
-    where
-      other : (h : List Placed) → AllByRecursion (λ (entry : Placed). txn_of entry.rec < jobs.first) h → AllByRecursion (λ (entry : Placed). n ≢ txn_of entry.rec) h
-      other [] all = tt
-      other (entry ∷ h) all = (λ same. let low = all.0 in omega arith, other h all.1)
+  own-later : (n : ℕ) → jobs.first ≤ n → own_records_of n (history (opened ++ list)) ≡ own_records_of n later
+  own-later n high = history-own opened list n (omega (arith, below, high))
 
   has_end-later : (n : ℕ) → HasEnd n view.entries → has_end (own_records_of n later) ≡ true
   has_end-later n ended = has_end-own n (end_of opened) list ended.end.rec (contains-record view.entries ended.end ended.contains) ended.number_is ended.is_end

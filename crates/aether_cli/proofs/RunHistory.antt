@@ -1,10 +1,15 @@
 -- The history of a list that goes on from the opened one.
-use Rattle.std.proofs.Common.{◌≡◌, ℕ, List, [], ◌∷◌, ◌++◌, ap, ◌∙◌, arith}
+use Rattle.std.proofs.Common.{◌≡◌, ◌≢◌, ◌<◌, ◌≤◌, ℕ, List, [], ◌∷◌, ◌++◌, ap, ◌∙◌, arith}
 use Rattle.std.specs.List.{AllByRecursion}
 use Rattle.log_record.specs.declared.rec.Rec.{Rec}
 use Rattle.log_record.specs.declared.rec.Entry.{Entry}
 use Rattle.log_record.specs.LogList.{end_of}
 use Rattle.log_record.specs.Spelling.{IsSpellable}
+use Rattle.lock_core.specs.Records.{txn_of}
+use Rattle.lock_core.specs.Sums.{greatest_txn}
+use Rattle.lock_core.specs.Transactions.{of_transaction, records_of}
+use Rattle.lock_core.proofs.Apart.{records_of-left, of_transaction-none, below-greatest}
+use Rattle.lock_core.proofs.OneMore.{of_transaction-other}
 use Rattle.lock_core.specs.History.{end_from, entry_at, history_from, history}
 use Rattle.lock_core.proofs.Fronts.{history_from-append, history_from-apart}
 use Rattle.log_recovery.proofs.ListingLemmas.{end_from-history}
@@ -20,6 +25,24 @@ pub history-later : (opened records : List Rec) → history (opened ++ records) 
 history-later opened records =
     history_from-append 0 [] opened records ∙ history_from-apart 0 (history opened) records
     ∙ ap (λ end. history_from end [] records ++ history opened) (end-opened opened)
+
+-- of a transaction above all of the opened list the whole has what follows that list
+pub history-own : (opened records : List Rec) (n : ℕ) → greatest_txn (history opened) < n
+    → records_of n (history (opened ++ records)) ≡ records_of n (later_of opened records)
+history-own opened records n below = ap (records_of n) (history-later opened records)
+    ∙ records_of-left n (later_of opened records) (history opened)
+    (of_transaction-none n (history opened) (other (history opened) (below-greatest (history opened) n below)))
+  where
+    other : (h : List Entry) → AllByRecursion (λ (entry : Entry). txn_of entry.rec < n) h → AllByRecursion (λ (entry : Entry). n ≢ txn_of entry.rec) h
+    other [] all = tt
+    other (entry ∷ h) all = (λ same. let low = all.0 in omega arith, other h all.1)
+
+-- records of other transactions bring it no entry
+pub history-others : (n start : ℕ) (h : List Entry) (records : List Rec) → AllByRecursion (λ (rec : Rec). txn_of rec ≢ n) records
+    → of_transaction n h ≡ [] → of_transaction n (history_from start h records) ≡ []
+history-others n start h [] others none = none
+history-others n start h (rec ∷ records) others none =
+    history-others n start (entry_at (end_from start h) rec ∷ h) records others.1 (of_transaction-other n (entry_at (end_from start h) rec) h others.0 ∙ none)
 
 -- more records stand before
 pub later-append : (opened front rest : List Rec) → (more : List Entry) × (later_of opened (front ++ rest) ≡ more ++ later_of opened front)

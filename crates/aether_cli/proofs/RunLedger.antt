@@ -30,7 +30,7 @@ use Rattle.log_recovery.specs.Text.{rows_text, accounts_text}
 use Rattle.log_table.specs.declared.table.Start.{Start}
 use Rattle.log_table.specs.Sound.{base_of}
 use Rattle.txn_runner.specs.declared.jobs.Jobs.{Jobs}
-use Rattle.aether_cli.specs.Run.{transfers_of, GoesOn, RunsWhole}
+use Rattle.aether_cli.specs.Run.{transfers_of, ComeInTurn, GoesOn, RunsWhole}
 use Rattle.aether_cli.proofs.RunHistory.{later_of, history-later, later-append, end-opened, spellable-history}
 use Rattle.aether_cli.proofs.RunStripes.{tasks_of}
 
@@ -83,12 +83,13 @@ module _ (opened list : List Rec) (jobs : Jobs) (lawful : IsLawful (history open
   pub whole-lawful : IsLawful (history (opened ++ list))
   whole-lawful = subst IsLawful (sym (history-later opened list)) (lawful-append (later_of opened list) (history opened) lawful some_accounts after apart)
 
-  pub goes-on : GoesOn opened jobs (opened ++ list)
-  goes-on = record {
+  pub goes-on : ComeInTurn jobs (history (opened ++ list)) → GoesOn opened jobs (opened ++ list)
+  goes-on in_turn = record {
     sound = subst (IsSoundAfter (history opened)) (sym (history-later opened list))
         (sound-after (history opened) (later_of opened list) lawful some_accounts
         (subst (AllByRecursion (λ (entry : Placed). IsSpellable entry.rec)) (history-later opened list) (spellable-history 0 [] (opened ++ list) tt spellable)) after apart);
     serial = record { later = later_of opened list; whole = history-later opened list; serial = serial };
+    in_turn = in_turn;
   }
 
   -- with each transfer ended
@@ -164,5 +165,5 @@ module _ (opened list : List Rec) (jobs : Jobs) (lawful : IsLawful (history open
   pub front-lawful : IsLawful (history (opened ++ front))
   front-lawful = whole-lawful opened front jobs lawful some_accounts below front-spellable front-after front-serial
 
-  pub front-goes-on : GoesOn opened jobs (opened ++ front)
+  pub front-goes-on : ComeInTurn jobs (history (opened ++ front)) → GoesOn opened jobs (opened ++ front)
   front-goes-on = goes-on opened front jobs lawful some_accounts below front-spellable front-after front-serial

@@ -1,5 +1,5 @@
 -- What a run promises, from what is known once all seats are gathered.
-use Rattle.std.proofs.Common.{◌≡◌, inl, inr, ⊎_elim, ◌≤◌, ℕ, ◌+◌, List, [], ◌++◌, length, map, None, refl, ap, ◌∙◌, sym, subst, arith, add-zero, append_assoc, length-append}
+use Rattle.std.proofs.Common.{◌≡◌, inl, inr, ⊎_elim, ◌≤◌, ℕ, ◌+◌, List, [], ◌++◌, length, map, None, refl, ap, ◌∙◌, sym, subst, arith, add-zero, append-nil, append_assoc, length-append}
 use Rattle.std.specs.List.{AllByRecursion}
 use Rattle.std.proofs.lemmas.List.Elements.{All-from_recursion}
 use mathlib.Core.Option.{some}
@@ -43,7 +43,7 @@ use Rattle.commit_pipeline.proofs.LineLemmas.{text_of-append}
 use Rattle.txn_runner.specs.declared.cause.Cause.TheVariants.{Stop, LogEnd}
 use Rattle.txn_runner.specs.declared.cause.Worked.TheVariants.{All, Cut}
 use Rattle.txn_runner.specs.declared.jobs.Jobs.{Jobs}
-use Rattle.aether_cli.specs.Run.{HoldsRun, IsLeft, RunKeepsLog, RunIsDrained, RunsWhole}
+use Rattle.aether_cli.specs.Run.{ComeInTurn, HoldsRun, IsLeft, RunKeepsLog, RunIsDrained, RunsWhole}
 use Rattle.aether_cli.specs.RunStops.{StopsAtLogEnd}
 use Rattle.aether_cli.specs.Shares.{Share, all_taken}
 use Rattle.aether_cli.specs.Transferred.{HasTransferred}
@@ -52,6 +52,7 @@ use Rattle.aether_cli.proofs.RunHistory.{later_of}
 use Rattle.aether_cli.proofs.RunImages.{HoldsBoth, HoldsSome, RunSends, RunSent, sends-still, sent-still, sent-now, read-now, sends-ran, sent-ran}
 use Rattle.aether_cli.proofs.RunLedger.{base-opened, whole-lawful, goes-on, runs-whole, text-shown, front-spellable, front-lawful, front-goes-on}
 use Rattle.aether_cli.proofs.RunRecords.{records-spellable, units_in-records, records-front, tiling-end}
+use Rattle.aether_cli.proofs.RunTurns.{front-in_turn}
 use Rattle.aether_cli.proofs.RunStripes.{tasks_of, each-numbered, taken-once, taken-numbered, taken-or_not}
 
 module _ {D : Type 0} {K : Type 0} (g : Ghosts D) (h : SinkGhosts K) (opened : List Rec) (jobs : Jobs) (shares : List Share) (key : Start)
@@ -100,6 +101,10 @@ module _ {D : Type 0} {K : Type 0} (g : Ghosts D) (h : SinkGhosts K) (opened : L
   pub kept : KeepsRows rows base (later_of opened list)
   kept = ledger.accounts
 
+  -- each worker's transfers come one behind another, in each front
+  in_turn : (front rest : List Rec) → list ≡ front ++ rest → ComeInTurn jobs (history (opened ++ front))
+  in_turn = front-in_turn opened jobs view known.log.below shares known.workers ledger.serial.others lsn known.gathered
+
   -- ---- the turns
 
   start-old : durable old ≡ end_of opened
@@ -147,7 +152,8 @@ module _ {D : Type 0} {K : Type 0} (g : Ghosts D) (h : SinkGhosts K) (opened : L
       };
       lawful = front-lawful opened list jobs known.log.lawful known.log.some_accounts known.log.below spellable lawful_after serial front rest splits;
     };
-    goes_on = front-goes-on opened list jobs known.log.lawful known.log.some_accounts known.log.below spellable lawful_after serial front rest splits;
+    goes_on = front-goes-on opened list jobs known.log.lawful known.log.some_accounts known.log.below spellable lawful_after serial front rest splits
+        (in_turn front rest splits);
   }
 
   pub keeps : RunKeepsLog g old.voice opened jobs list old.flusher.disk.now new.flusher.disk.now (h.held_bytes old.sink.now) (h.held_bytes new.sink.now)
@@ -229,7 +235,8 @@ module _ {D : Type 0} {K : Type 0} (g : Ghosts D) (h : SinkGhosts K) (opened : L
         lawful = whole-lawful opened list jobs known.log.lawful known.log.some_accounts known.log.below spellable lawful_after serial;
       };
       text = sent-all.text;
-      goes_on = goes-on opened list jobs known.log.lawful known.log.some_accounts known.log.below spellable lawful_after serial;
+      goes_on = goes-on opened list jobs known.log.lawful known.log.some_accounts known.log.below spellable lawful_after serial
+          (in_turn list [] (sym (append-nil list)));
       end = end;
       accounts = text-shown opened list jobs known.log.lawful known.log.some_accounts known.log.below spellable lawful_after serial lsn rows end ledger.accounts;
       count = sent-all.count;

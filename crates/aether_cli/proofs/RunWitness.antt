@@ -1,6 +1,7 @@
 -- One transfer, from the opened log to the closed table: all that is known of such a run holds of it.
-use Rattle.std.proofs.Common.{◌≡◌, ◌⊎◌, inl, inr, ◌<◌, ◌≤◌, ℕ, zero, suc, pos, negsuc, true, List, [], ◌∷◌, ◌++◌, length, Some, None, slice_get, refl, ap, ◌∙◌, sym, subst, arith, append-nil, length-append}
+use Rattle.std.proofs.Common.{Contains, ◌≡◌, ◌⊎◌, inl, inr, ◌<◌, ◌≤◌, ℕ, zero, suc, pos, negsuc, true, List, [], ◌∷◌, ◌++◌, length, Some, None, slice_get, refl, ap, ◌∙◌, sym, subst, arith, append-nil, length-append}
 use Rattle.std.specs.List.{AllByRecursion}
+use Rattle.std.proofs.lemmas.List.Elements.{All-contains, All-from_recursion}
 use mathlib.Core.Option.{some, some-injective, some-ne-none}
 use lib.ListN.{get_elem?}
 use Rattle.log_disk.specs.Disk.{Leaves}
@@ -8,6 +9,7 @@ use Rattle.log_record.specs.declared.rec.Rec.{Rec}
 use Rattle.log_record.specs.declared.rec.Rec.TheVariants.{Genesis, Update, Commit}
 use Rattle.log_record.specs.LogList.{units_of}
 use Rattle.log_record.specs.Spelling.{spelling, IsSpellable, IsBalance}
+use Rattle.lock_core.specs.Records.{txn_of}
 use Rattle.lock_core.specs.History.{history}
 use Rattle.lock_core.specs.Lawful.{IsLawful, genesis_of, base_state_of}
 use Rattle.lock_core.specs.Serial.{numbered}
@@ -212,6 +214,13 @@ gathered = record {
   );
 }
 
+-- each entry is of the first transaction
+of-first : (entry : Entry) → Contains view.entries entry → txn_of entry.rec ≡ 1
+of-first entry = All-contains IsFirst view.entries entry (All-from_recursion IsFirst view.entries (refl, (refl, (refl, tt))))
+  where
+    IsFirst : Entry → Type 0
+    IsFirst other = txn_of other.rec ≡ 1
+
 has-share : (worker : ℕ) (share : Share) → get_elem? shares worker ≡ some share → HasShare jobs worker share view
 has-share zero share at = subst (λ (s : Share). HasShare jobs 0 s view) (some-injective (record { taken = 1; worked = All }) share at) (record {
   stripe = λ j below. omega arith;
@@ -224,6 +233,7 @@ has-share zero share at = subst (λ (s : Share). HasShare jobs 0 s view) (some-i
       is_end = refl;
     },
   );
+  in_turn = λ i j before after less has has' is is'. absurd (omega (arith, less, is', of-first after has'));
 })
 has-share (suc worker) share at = absurd (some-ne-none share (sym at))
 

@@ -20,6 +20,7 @@ module _ (jobs : Jobs) (number : ℕ) where
     numbers = has.numbers;
     own = has.own;
     below = has.below;
+    in_turn = has.in_turn;
   }
 
   IsCutBy-retired : (j : ℕ) (cause : Cause) (view : View) → IsCutBy jobs number j true cause view → IsCutBy jobs number j true cause (retired view)

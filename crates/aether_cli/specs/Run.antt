@@ -1,31 +1,40 @@
 -- What a run leaves on the disk and writes. `opened` is the list that was opened, `jobs` are the transfers of the script under their numbers,
 -- and `list` has the records that the run inserted. `g` is what a disk shows, and `old` and `new` are what is known of the output.
-use Rattle.std.specs.Prelude.{◌≡◌, ◌≤◌, ℕ, ◌+◌, ◌*◌, List, ◌++◌, length, map, Option}
+use Rattle.std.specs.Prelude.{◌≡◌, ◌≢◌, ◌<◌, ◌≤◌, ℕ, ◌+◌, ◌*◌, true, List, [], ◌++◌, length, map, Option}
 use Rattle.std.specs.Io.KnownBytes.{Appends}
 use Rattle.log_disk.specs.Disk.{Leaves}
 use Rattle.log_disk.specs.Streams.{AppendsPrefix}
 use Rattle.log_disk.specs.declared.disk.LogDisk.{Ghosts}
 use Rattle.log_record.specs.declared.rec.Rec.{Rec}
+use Rattle.log_record.specs.declared.rec.Entry.{Entry}
 use Rattle.log_record.specs.LogList.{end_of}
 use Rattle.lock_core.specs.Alone.{Job as Transfer}
 use Rattle.lock_core.specs.History.{history}
 use Rattle.lock_core.specs.Serial.{IsSerial, IsPartlySerial}
 use Rattle.lock_core.specs.Soundness.{IsSoundAfter}
+use Rattle.lock_core.specs.Transactions.{records_of}
 use Rattle.log_recovery.specs.Recovery.{HoldsLawful}
 use Rattle.log_recovery.specs.Text.{accounts_text, rows_text}
 use Rattle.txn_script.specs.Transfers.{transfer_of}
 use Rattle.commit_pipeline.specs.declared.voice.Voice.{Voice}
 use Rattle.commit_pipeline.specs.EndLines.{text_of}
 use Rattle.txn_runner.specs.declared.jobs.Jobs.{Jobs}
+use Rattle.txn_runner.specs.Stripes.{number_at}
+use Rattle.aether_cli.specs.RunStops.{EndsAs}
 
 -- the transfers of the script
 abbrev pub transfers_of : Jobs → List Transfer
 transfers_of jobs = map transfer_of jobs.script
 
--- the list goes on from the opened one as the script says: each transfer ran whole, or was cut short
+-- The transfers of each worker come one behind another: where one has a record, each before it in the worker's stripe has its end record.
+abbrev pub ComeInTurn : Jobs → List Entry → Type 0
+ComeInTurn jobs h = (worker i j : ℕ) → worker < jobs.workers → i < j → records_of (number_at jobs worker j) h ≢ [] → EndsAs jobs worker i h true
+
+-- the list goes on from the opened one as the script says: each transfer ran whole, or was cut short, each worker's in turn
 pub record GoesOn (opened : List Rec) (jobs : Jobs) (records : List Rec) : Type 0 where
   pub sound : IsSoundAfter (history opened) (history records)
   pub serial : IsPartlySerial (history opened) jobs.first (transfers_of jobs) (history records)
+  pub in_turn : ComeInTurn jobs (history records)
 
 -- the bytes hold the opened list and then a front of what the run inserted
 pub record HoldsRun (opened : List Rec) (jobs : Jobs) (list : List Rec) (bytes : List ℕ) : Type 0 where

@@ -17,7 +17,7 @@ use Rattle.txn_runner.specs.declared.cause.Worked.{Worked}
 use Rattle.txn_runner.specs.declared.cause.Worked.TheVariants.{All, Cut}
 use Rattle.txn_runner.specs.declared.jobs.Jobs.{Jobs}
 use Rattle.txn_runner.specs.Stripes.{number_at, job_at, stripe_jobs, HasStripe, IsStripeEnd}
-use Rattle.txn_runner.specs.Working.{HaveEnded, own_records}
+use Rattle.txn_runner.specs.Working.{LieInTurn, HaveEnded, own_records}
 
 -- how many transfers of its stripe a worker took, and how it ended
 pub record Share : Type 0 where
@@ -53,9 +53,11 @@ abbrev pub CameTo : Jobs → ℕ → ℕ → Worked → View → Type 0
 CameTo jobs worker n All view = IsStripeEnd jobs worker n × HaveEnded jobs worker 0 n view
 CameTo jobs worker n (Cut cause) view = (j : ℕ) × (n ≡ j + 1) × HaveEnded jobs worker 0 j view × WasCutBy jobs worker j cause view
 
+-- the worker took transfers of its stripe and came to this, and their entries lie in the order of the stripe
 pub record HasShare (jobs : Jobs) (worker : ℕ) (share : Share) (view : View) : Type 0 where
   pub stripe : HasStripe jobs worker share.taken
   pub came_to : CameTo jobs worker share.taken share.worked view
+  pub in_turn : LieInTurn jobs worker view.entries
 
 -- the flusher's seat took in all workers' seats, and these are their shares
 pub record HasGathered (jobs : Jobs) (shares : List Share) (view : View) : Type 0 where

@@ -48,7 +48,12 @@ pub LieInOrder-append : (from mid to : ℕ) (xs ys : List Entry) → LieInOrder 
 LieInOrder-append from mid to [] ys first second = LieInOrder-from from mid to ys first second
 LieInOrder-append from mid to (x ∷ xs) ys first second = (first.0, LieInOrder-append (x.start + x.size) mid to xs ys first.1 second)
 
--- each ends at or below the last LSN
+-- each starts at the first LSN or above it, and ends at the last or below it
+pub LieInOrder-starts : (from to : ℕ) (xs : List Entry) → LieInOrder from to xs → AllByRecursion (λ (entry : Entry). from ≤ entry.start) xs
+LieInOrder-starts from to [] order = tt
+LieInOrder-starts from to (x ∷ xs) order =
+    (order.0, LieInOrder-starts from to xs (LieInOrder-from from (x.start + x.size) to xs (omega (arith, order.0)) order.1))
+
 pub LieInOrder-ends : (from to : ℕ) (xs : List Entry) → LieInOrder from to xs → AllByRecursion (λ (entry : Entry). entry.start + entry.size ≤ to) xs
 LieInOrder-ends from to [] order = tt
 LieInOrder-ends from to (x ∷ xs) order = (LieInOrder-grows (x.start + x.size) to xs order.1, LieInOrder-ends (x.start + x.size) to xs order.1)

@@ -1,6 +1,6 @@
 -- A worker's next transfer, behind those that it worked before. `old` and `new` are its seat's view before and after that transfer.
 use Rattle.std.proofs.Common.{◌≡◌, ◌≢◌, ◌⊎◌, inl, inr, ◌∙◌, ℕ, ◌+◌, ◌<◌, ◌≤◌, List, [], ◌∷◌, ◌++◌, length, All, Contains, sym, ap, subst, arith, refl, Bool, true, false, true≢false}
-use Rattle.std.proofs.lemmas.List.Elements.{All-contains, All-from_recursion, Contains-append_left, Contains-append_right, Contains-push}
+use Rattle.std.proofs.lemmas.List.Elements.{All-contains, All-from_recursion, Contains-append_cases, Contains-append_left, Contains-append_right, Contains-push}
 use Rattle.std.specs.List.{AllByRecursion}
 use borrow.Author.Count.{below_more}
 use Rattle.lsn_space.proofs.TilingLemmas.{all-weaker}
@@ -25,8 +25,8 @@ use Rattle.txn_runner.specs.declared.jobs.Jobs.{Jobs}
 use Rattle.txn_runner.specs.declared.rows.Row.{Row}
 use Rattle.txn_runner.specs.Running.{outcome_of, LieInOrder, HasInserted, HasRun, HasCut}
 use Rattle.txn_runner.specs.Stripes.{place_of, number_at, job_at, taken_at, stripe_jobs, IsOfStripe}
-use Rattle.txn_runner.specs.Working.{HasWorked, TakesJobs, HasEnd, HaveEnded, own_records, IsCutBy, Works}
-use Rattle.txn_runner.proofs.EntryLemmas.{all-records, own_records-append, own_records-none, own_records-all, LieInOrder-append}
+use Rattle.txn_runner.specs.Working.{LieInTurn, HasWorked, TakesJobs, HasEnd, HaveEnded, own_records, IsCutBy, Works}
+use Rattle.txn_runner.proofs.EntryLemmas.{all-records, own_records-append, own_records-none, own_records-all, LieInOrder-append, LieInOrder-starts, LieInOrder-ends}
 use Rattle.txn_runner.proofs.PlanLemmas.{IsRecordOf, planned_records-own, planned_records-front, end_record-own, end_record-ends}
 use Rattle.txn_runner.proofs.StripeLemmas.{number_at-rises, HasStripe-more, stripe_jobs-more, stripe_jobs-below, taken_at-allowed}
 
@@ -86,6 +86,36 @@ module _ (jobs : Jobs) (worker k : ℕ) (rest : List Rec) (old new : View)
   taken-next i earlier same taken = inserted.jobs ∙ ap (λ l. taken_at jobs worker k ∷ l) (taken ∙ ap (λ n. stripe_jobs jobs worker n ++ earlier) same)
       ∙ sym (ap (λ l. l ++ earlier) (stripe_jobs-more jobs worker k))
 
+  -- it lies behind what was there, and that is of transfers before it in the stripe
+  in_turn-next : HasWorked jobs worker k old → LieInTurn jobs worker (old.entries ++ inserted.added)
+  in_turn-next worked i j before after less has has' is is' = by_place (Contains-append_cases old.entries inserted.added before has)
+      (Contains-append_cases old.entries inserted.added after has')
+    where
+      ends : Contains old.entries before → before.start + before.size ≤ old.seen.tail
+      ends = All-contains (λ (entry : Entry). entry.start + entry.size ≤ old.seen.tail) old.entries before
+          (All-from_recursion _ old.entries (LieInOrder-ends 0 old.seen.tail old.entries worked.below))
+
+      starts : Contains inserted.added after → old.seen.tail ≤ after.start
+      starts = All-contains (λ (entry : Entry). old.seen.tail ≤ entry.start) inserted.added after
+          (All-from_recursion _ inserted.added (LieInOrder-starts old.seen.tail new.seen.tail inserted.added inserted.within))
+
+      kth : (entry : Entry) → Contains inserted.added entry → txn_of entry.rec ≡ number_at jobs worker k
+      kth entry = All-contains (λ (entry : Entry). txn_of entry.rec ≡ number_at jobs worker k) inserted.added entry
+          (All-from_recursion _ inserted.added added-own)
+
+      earlier : txn_of before.rec ≡ number_at jobs worker k → IsOwnEntry jobs worker k after → ⊥
+      earlier own (inl low) = absurd (omega (arith, low, is'))
+      earlier own (inr of) = absurd (omega (arith, number_at-rises jobs worker of.0 k of.1, number_at-rises jobs worker i j less, of.2, own, is, is'))
+
+      by_place : Contains old.entries before ⊎ Contains inserted.added before → Contains old.entries after ⊎ Contains inserted.added after
+          → before.start + before.size ≤ after.start
+      by_place (inl first) (inl second) = worked.in_turn i j before after less first second is is'
+      by_place (inl first) (inr second) = omega (arith, ends first, starts second)
+      by_place (inr first) (inl second) = absurd (earlier (kth before first)
+          (All-contains (IsOwnEntry jobs worker k) old.entries after (All-from_recursion _ old.entries worked.own) second))
+      by_place (inr first) (inr second) =
+          absurd (omega (arith, number_at-rises jobs worker i j less, kth before first, kth after second, is, is'))
+
   pub HasWorked-next : HasWorked jobs worker k old → place_of jobs worker k < length jobs.script → HasWorked jobs worker (k + 1) new
   HasWorked-next worked within = record {
     stripe = HasStripe-more jobs worker k worked.stripe within;
@@ -99,6 +129,7 @@ module _ (jobs : Jobs) (worker k : ℕ) (rest : List Rec) (old new : View)
         (λ entry is. inr (k, omega arith, is)) added-own));
     below = subst (LieInOrder 0 new.seen.tail) (sym inserted.entries)
         (LieInOrder-append 0 old.seen.tail new.seen.tail old.entries inserted.added worked.below inserted.within);
+    in_turn = subst (LieInTurn jobs worker) (sym inserted.entries) (in_turn-next worked);
   }
     where
       still : (entry : Entry) → IsOwnEntry jobs worker k entry → IsOwnEntry jobs worker (k + 1) entry
@@ -206,4 +237,5 @@ HasWorked-none jobs worker view no_entries no_jobs = record {
   numbers = tt;
   own = subst (AllByRecursion (IsOwnEntry jobs worker 0)) (sym no_entries) tt;
   below = subst (LieInOrder 0 view.seen.tail) (sym no_entries) (omega arith);
+  in_turn = subst (LieInTurn jobs worker) (sym no_entries) (λ i j before after less has. absurd (omega (arith, has.1)));
 }

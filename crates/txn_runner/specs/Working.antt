@@ -34,8 +34,13 @@ taken_in rows = rows.taken
 abbrev pub HasRoom : Jobs → ℕ → Rows → Type 0
 HasRoom jobs worker rows = (k : ℕ) → HasStripe jobs worker k → length (rows_in rows) + k ≤ room_of rows + taken_in rows
 
+-- among the entries each of a transfer of the worker ends at or below the start of each of a later one in its stripe
+abbrev pub LieInTurn : Jobs → ℕ → List Entry → Type 0
+LieInTurn jobs worker entries = (i j : ℕ) (before after : Entry) → i < j → Contains entries before → Contains entries after
+    → txn_of before.rec ≡ number_at jobs worker i → txn_of after.rec ≡ number_at jobs worker j → before.start + before.size ≤ after.start
+
 -- The seat took the first k transfers of its stripe, after others with numbers below the first. Its records are of these, and lie one
--- behind another below the tail as it saw it last.
+-- behind another below the tail as it saw it last, in the order of the stripe.
 pub record HasWorked (jobs : Jobs) (worker k : ℕ) (view : View) : Type 0 where
   pub stripe : HasStripe jobs worker k
   pub earlier : List TakenJob
@@ -43,6 +48,7 @@ pub record HasWorked (jobs : Jobs) (worker k : ℕ) (view : View) : Type 0 where
   pub numbers : AllByRecursion (λ (taken : TakenJob). taken.number < jobs.first) earlier
   pub own : AllByRecursion (λ (entry : Entry). (txn_of entry.rec < jobs.first) ⊎ IsOfStripe jobs worker k (txn_of entry.rec)) view.entries
   pub below : LieInOrder 0 view.seen.tail view.entries
+  pub in_turn : LieInTurn jobs worker view.entries
 
 -- from k transfers of the stripe to n: the seat took just those, behind the jobs that it had
 pub record TakesJobs (jobs : Jobs) (worker k n : ℕ) (old new : View) : Type 0 where
