@@ -63,10 +63,10 @@ pub record RanAllGenerated {D : Type 0} (g : Ghosts D) (n seed workers : ℕ) (o
   pub all : (image : List ℕ) → g.images new image → HoldsLawful image (generated_opening ++ ran.list)
   pub whole : RunsWhole generated_opening ran.jobs ran.list
 
--- what `demo` with so many workers leaves of the disk, for each detail
+-- What `demo` with so many workers leaves of the disk, for each detail. The output is written only once all transfers are on the disk.
 abbrev pub AnswersDemo : {D : Type 0} → Ghosts D → ℕ → ℕ → ℕ → D → D → Detail → Type 0
 AnswersDemo g n seed workers old new Fine = RanAllGenerated g n seed workers old new
-AnswersDemo g n seed workers old new Write = RanGenerated g n seed workers old new
+AnswersDemo g n seed workers old new Write = RanAllGenerated g n seed workers old new
 AnswersDemo g n seed workers old new Disk = OnlyMakes g old new ⊎ RanGenerated g n seed workers old new
 AnswersDemo g n seed workers old new NoMemory = OnlyLooks g old new
 AnswersDemo g n seed workers old new Exists = OnlyLooks g old new
