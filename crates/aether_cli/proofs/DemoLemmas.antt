@@ -310,6 +310,7 @@ module _ {D : Type 0} {K : Type 0} (g : Ghosts D) (h : SinkGhosts K) (n seed wor
       jobs = jobs;
       generated = is.generated;
       list = records;
+      goes_on = (keeps-ended g h ready.prepared generated_opening Count disk disk_new sink sink_mid ended has).goes_on;
       images = images-begun g disk ready.tail generated_opening jobs _ is.log records (MayPrecede (g.images entry)) entry disk_new made.images
           ((keeps-ended g h ready.prepared generated_opening Count disk disk_new sink sink_mid ended has).moments honest_mid);
       kept = λ image left_image.
