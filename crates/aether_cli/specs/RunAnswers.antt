@@ -150,9 +150,19 @@ RunStaysSilent old new detail = Keeps old new
 
 -- the answers that there are to `run`
 abbrev pub IsOfRun : Detail → Type 0
-IsOfRun Usage = ⊥
-IsOfRun Exists = ⊥
-IsOfRun detail = Unit {0}
+IsOfRun Fine = Unit {0}
+IsOfRun NoMemory = Unit {0}
+IsOfRun (Script line) = Unit {0}
+IsOfRun Read = Unit {0}
+IsOfRun Write = Unit {0}
+IsOfRun Disk = Unit {0}
+IsOfRun NotALog = Unit {0}
+IsOfRun (BadBatch offset) = Unit {0}
+IsOfRun (BadRec lsn) = Unit {0}
+IsOfRun (Unlawful lsn why) = Unit {0}
+IsOfRun (LogEnd tail total) = Unit {0}
+IsOfRun (TxnEnd first count) = Unit {0}
+IsOfRun detail = ⊥
 
 -- the answers that there are to `run` where nothing stands in its way
 abbrev pub IsRunDone : Detail → Type 0
