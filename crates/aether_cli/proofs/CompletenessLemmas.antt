@@ -1,4 +1,4 @@
--- Where nothing stands in their way, `new` and `dump` succeed.
+-- Where nothing stands in their way, `new`, `recover` and `dump` succeed.
 use Rattle.std.proofs.Common.{◌≡◌, ◌⊎◌, inl, inr, refl, List, ℕ, Option, Some, None, IfSome}
 use Rattle.txn_script.specs.Balances.{IsBalancesText}
 use Rattle.txn_script.proofs.BalanceLemmas.{balances-or_bad}
@@ -6,9 +6,9 @@ use Rattle.aether_cli.specs.declared.report.Detail.{Detail}
 use Rattle.aether_cli.specs.declared.report.Detail.TheVariants.{Fine, NoMemory, Usage, Script, Read, Write, Disk, NotALog, BadBatch, BadRec, Unlawful, LogEnd, TxnEnd, Exists}
 use Rattle.log_record.specs.declared.rec.Rec.{Rec}
 use Rattle.log_recovery.specs.declared.recovery.RecoverFault.TheVariants as fault
-use Rattle.log_recovery.specs.Recovery.{HoldsList}
-use Rattle.log_recovery.proofs.AnswerLemmas.{listed-fault}
-use Rattle.aether_cli.specs.Answers.{AnswersDump, AnswersNew}
+use Rattle.log_recovery.specs.Recovery.{HoldsLawful, HoldsList}
+use Rattle.log_recovery.proofs.AnswerLemmas.{lawful-fault, listed-fault}
+use Rattle.aether_cli.specs.Answers.{AnswersDump, AnswersNew, AnswersRecover}
 use Rattle.aether_cli.specs.Creation.{TellsWhether}
 
 -- the input is in its grammar, no log is there, and no fault was counted
@@ -33,6 +33,30 @@ new-complete (Some bytes) left_new old new opened R W D (BadRec lsn) answers tel
 new-complete (Some bytes) left_new old new opened R W D (Unlawful lsn why) answers tells reads writes disk closed = absurd answers
 new-complete (Some bytes) left_new old new opened R W D (LogEnd tail total) answers tells reads writes disk closed = absurd answers
 new-complete (Some bytes) left_new old new opened R W D (TxnEnd first count) answers tells reads writes disk closed = absurd answers
+
+-- the input holds a lawful list, and no fault was counted
+pub recover-complete : (left left_new old new : Option (List ℕ)) (ReadFails WriteFails : Type 0) (detail : Detail)
+    → IfSome left (λ bytes. AnswersRecover bytes left_new old new detail) → (detail ≡ Read → ReadFails) → (detail ≡ Write → WriteFails)
+    → IfSome left (λ bytes. (records : List Rec) → HoldsLawful bytes records → (ReadFails → ⊥) → (WriteFails → ⊥) → (detail ≡ Fine) ⊎ (detail ≡ NoMemory))
+recover-complete None left_new old new R W detail answers reads writes = tt
+recover-complete (Some bytes) left_new old new R W Fine answers reads writes = λ records held r w. inl refl
+recover-complete (Some bytes) left_new old new R W NoMemory answers reads writes = λ records held r w. inr refl
+recover-complete (Some bytes) left_new old new R W Read answers reads writes = λ records held r w. absurd (r (reads refl))
+recover-complete (Some bytes) left_new old new R W Write answers reads writes = λ records held r w. absurd (w (writes refl))
+recover-complete (Some bytes) left_new old new R W NotALog answers reads writes =
+    λ records held r w. let none = lawful-fault bytes records fault.NotALog held answers.1 in cc
+recover-complete (Some bytes) left_new old new R W (BadBatch offset) answers reads writes =
+    λ records held r w. let none = lawful-fault bytes records (fault.BadBatch offset) held answers.1 in cc
+recover-complete (Some bytes) left_new old new R W (BadRec lsn) answers reads writes =
+    λ records held r w. let none = lawful-fault bytes records (fault.BadRec lsn) held answers.1 in cc
+recover-complete (Some bytes) left_new old new R W (Unlawful lsn why) answers reads writes =
+    λ records held r w. let none = lawful-fault bytes records (fault.Unlawful lsn why) held answers.1 in cc
+recover-complete (Some bytes) left_new old new R W Usage answers reads writes = absurd answers
+recover-complete (Some bytes) left_new old new R W (Script line) answers reads writes = absurd answers
+recover-complete (Some bytes) left_new old new R W Disk answers reads writes = absurd answers
+recover-complete (Some bytes) left_new old new R W Exists answers reads writes = absurd answers
+recover-complete (Some bytes) left_new old new R W (LogEnd tail total) answers reads writes = absurd answers
+recover-complete (Some bytes) left_new old new R W (TxnEnd first count) answers reads writes = absurd answers
 
 -- the input holds a list, and no fault was counted
 pub dump-complete : (left left_new old new : Option (List ℕ)) (ReadFails WriteFails : Type 0) (detail : Detail)

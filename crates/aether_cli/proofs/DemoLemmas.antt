@@ -26,7 +26,8 @@ use Rattle.log_table.specs.Seats.{key_of}
 use Rattle.segment_file.specs.File.{HoldsUnits}
 use Rattle.segment_file.specs.Standing.{AllStand, HoldsNoneOr, IsShut}
 use Rattle.segment_file.specs.declared.scan_result.Tail.{Tail}
-use Rattle.commit_pipeline.specs.declared.voice.Voice.TheVariants.{Count}
+use Rattle.commit_pipeline.specs.declared.daemon.DaemonFault.TheVariants.{WriteFault}
+use Rattle.commit_pipeline.specs.declared.voice.Voice.TheVariants.{Count, Lines}
 use Rattle.txn_runner.specs.declared.jobs.Jobs.{Jobs}
 use Rattle.txn_script.specs.Generator.{generated_transfers}
 use Rattle.txn_script.specs.Transfers.{transfer_of}
@@ -36,12 +37,12 @@ use Rattle.aether_cli.specs.declared.run_command.ReadyRun.{ReadyRun}
 use Rattle.aether_cli.specs.declared.transfers.Ended.{Ended}
 use Rattle.aether_cli.specs.declared.transfers.Prepared.{Prepared}
 use Rattle.aether_cli.specs.Creation.{IsFindingFault, TellsWhether, genesis_list}
-use Rattle.aether_cli.specs.Demo.{AnswersDemo, IsBeforeDemo, IsOfDemo, IsPreparedDemo, IsReadyDemo, MayPrecede, OnlyMakes, RanGenerated, TellsSummary}
-use Rattle.aether_cli.specs.Ending.{AreWhole, Concludes, HasEnded, IsFirstLogEnd, counted_text}
+use Rattle.aether_cli.specs.Demo.{AnswersDemo, IsBeforeDemo, IsOfDemo, IsPreparedDemo, IsReadyDemo, MayPrecede, OnlyMakes, RanAllGenerated, RanGenerated, TellsSummary}
+use Rattle.aether_cli.specs.Ending.{AreWhole, Concludes, HasEnded, IsFirstLogEnd, NothingStopped, counted_text}
 use Rattle.aether_cli.specs.RunAnswers.{OnlyLooks}
 use Rattle.aether_cli.specs.Summary.{generated_opening, generated_rows, summary_of, summary_text}
 use Rattle.aether_cli.specs.Transferred.{IsOpened}
-use Rattle.aether_cli.proofs.EndingLemmas.{list, counted-ended, drained-ended, keeps-ended, kept-ended, serial-ended, stops-ended, told-ended, whole-ended, whole_after-ended}
+use Rattle.aether_cli.proofs.EndingLemmas.{list, counted-ended, drained-ended, keeps-ended, kept-ended, serial-ended, speaks-ended, stops-ended, told-ended, whole-ended, whole_after-ended}
 use Rattle.aether_cli.proofs.GeneratedEnd.{end-most, never-log_end}
 use Rattle.aether_cli.proofs.GenesisLemmas.{end_of-genesis, genesis-holds, genesis-kept, genesis-lawful, genesis-spellable, opening_rows}
 use Rattle.aether_cli.proofs.RunBegun.{images-begun}
@@ -204,6 +205,13 @@ module _ {D : Type 0} {K : Type 0} (g : Ghosts D) (h : SinkGhosts K) (n seed wor
   silent = Appends-none (h.held_bytes sink) (h.held_bytes sink_mid)
       (told-ended g h ready.prepared generated_opening Count disk disk_new sink sink_mid ended has).1
 
+  -- so the sink did not fail the daemon
+  never-fails : ended.fault ≡ Some WriteFault → ⊥
+  never-fails fault = cc
+    where
+      speaks : Count ≡ Lines
+      speaks = speaks-ended g h ready.prepared generated_opening Count disk disk_new sink sink_mid ended has fault
+
   -- and none of them came to the end of the log
   no-log_end : (tail total : ℕ) → ended.fault ≡ None → IsFirstLogEnd ended.ends.items tail total → ⊥
   no-log_end tail total fine first = never-log_end n seed few jobs is.generated.script generated_opening records tail total (omega (arith, end-opening))
@@ -302,6 +310,7 @@ module _ {D : Type 0} {K : Type 0} (g : Ghosts D) (h : SinkGhosts K) (n seed wor
       jobs = jobs;
       generated = is.generated;
       list = records;
+      goes_on = (keeps-ended g h ready.prepared generated_opening Count disk disk_new sink sink_mid ended has).goes_on;
       images = images-begun g disk ready.tail generated_opening jobs _ is.log records (MayPrecede (g.images entry)) entry disk_new made.images
           ((keeps-ended g h ready.prepared generated_opening Count disk disk_new sink sink_mid ended has).moments honest_mid);
       kept = λ image left_image.
@@ -309,16 +318,22 @@ module _ {D : Type 0} {K : Type 0} (g : Ghosts D) (h : SinkGhosts K) (n seed wor
           record { run = left.run; count = let before = made.count in let writes = left.count in omega arith };
     }
 
+    -- nothing stopped the transfers
+    ran-all : NothingStopped ended → RanAllGenerated g n seed workers entry disk_new
+    unfolding ran
+    ran-all nothing = record {
+      ran = ran;
+      all = (drained-ended g h ready.prepared generated_opening Count disk disk_new sink sink_mid ended has nothing.0).images honest_mid;
+      whole = whole-ended g h ready.prepared generated_opening Count disk disk_new sink sink_mid ended has nothing.1;
+    }
+
     pub answers-demo : (detail : Detail) → Concludes h ended (counted_text n ended) sink_mid sink_new detail
         → AnswersDemo g n seed workers entry disk_new detail
     unfolding ran
     answers-demo Disk said = inr ran
-    answers-demo Write said = ran
-    answers-demo Fine said = record {
-      ran = ran;
-      all = (drained-ended g h ready.prepared generated_opening Count disk disk_new sink sink_mid ended has said.0.0).images honest_mid;
-      whole = whole-ended g h ready.prepared generated_opening Count disk disk_new sink sink_mid ended has said.0.1;
-    }
+    answers-demo Write (inl said) = absurd (never-fails said.0)
+    answers-demo Write (inr said) = ran-all said.0
+    answers-demo Fine said = ran-all said.0
     answers-demo (LogEnd tail total) said = no-log_end tail total said.0.0 said.0.1
     answers-demo NoMemory said = absurd said
     answers-demo Usage said = absurd said

@@ -20,6 +20,7 @@ use Rattle.log_table.specs.Seats.{key_of}
 use Rattle.commit_pipeline.specs.declared.daemon.DaemonFault.TheVariants.{DiskFault, WriteFault}
 use Rattle.commit_pipeline.specs.declared.tally.Tally.{Tally}
 use Rattle.commit_pipeline.specs.declared.voice.Voice.{Voice}
+use Rattle.commit_pipeline.specs.declared.voice.Voice.TheVariants.{Lines}
 use Rattle.commit_pipeline.specs.EndLines.{done_in, refused_in, text_of}
 use Rattle.commit_pipeline.specs.Later.{HasReason}
 use Rattle.txn_runner.specs.declared.cause.Cause.TheVariants as cause
@@ -115,6 +116,12 @@ module _ {D : Type 0} {K : Type 0} (g : Ghosts D) (h : SinkGhosts K) (prepared :
       let why = subst (HasReason g h has.first has.last) (has.fault ∙ fault) (reason g h opened prepared.jobs has.shares (key_of prepared.table)
       has.first has.last has.view ended.closed.tail ended.closed.accounts.rows has.transferred) in
       rw (← has.sink_old, ← has.sink_is) why.0
+
+  pub speaks-ended : ended.fault ≡ Some WriteFault → voice ≡ Lines
+  speaks-ended fault =
+      let why = subst (HasReason g h has.first has.last) (has.fault ∙ fault) (reason g h opened prepared.jobs has.shares (key_of prepared.table)
+      has.first has.last has.view ended.closed.tail ended.closed.accounts.rows has.transferred) in
+      sym has.speaks ∙ why.2
 
   -- the disk is as honest as it was
   pub honest-ended : g.honest disk ↔ g.honest disk_new

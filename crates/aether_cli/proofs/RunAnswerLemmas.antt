@@ -19,7 +19,7 @@ use Rattle.aether_cli.specs.declared.report.Detail.TheVariants.{Fine, NoMemory, 
 use Rattle.aether_cli.specs.declared.run_command.ReadyRun.{ReadyRun}
 use Rattle.aether_cli.specs.declared.transfers.Ended.{Ended}
 use Rattle.aether_cli.specs.Ending.{Concludes, HasEnded, closed_text}
-use Rattle.aether_cli.specs.Run.{HoldsRun, RunIsDrained}
+use Rattle.aether_cli.specs.Run.{GoesOn, HoldsRun, RunIsDrained}
 use Rattle.aether_cli.specs.RunAnswers.{AnswersRun, HoldsTold, Ran, RanOut, Outside, outside, run_text}
 use Rattle.aether_cli.specs.RunReady.{IsReadyFor}
 use Rattle.aether_cli.proofs.EndingLemmas.{list, keeps-ended, whole-ended, drained-ended, stops-ended}
@@ -47,6 +47,9 @@ module _ {D : Type 0} {K : Type 0} (g : Ghosts D) (h : SinkGhosts K) (workers : 
   images-ran = images-begun g disk ready.tail opened jobs _ is.log records (g.images entry) entry disk_new (is.images honest)
       ((keeps-ended g h ready.prepared opened Lines disk disk_new sink sink_mid ended has).moments honest_mid)
 
+  goes_on-ran : GoesOn opened jobs (opened ++ records)
+  goes_on-ran = (keeps-ended g h ready.prepared opened Lines disk disk_new sink sink_mid ended has).goes_on
+
   abbrev ran : ((image : List ℕ) → g.images disk_new image → HoldsTold g opened jobs records old new image) → Ran g workers old new
   ran kept = record {
     opened = opened;
@@ -54,6 +57,7 @@ module _ {D : Type 0} {K : Type 0} (g : Ghosts D) (h : SinkGhosts K) (workers : 
     jobs = jobs;
     asked = is.asked;
     list = records;
+    goes_on = goes_on-ran;
     images = images-ran;
     kept = kept;
   }
@@ -86,14 +90,14 @@ module _ {D : Type 0} {K : Type 0} (g : Ghosts D) (h : SinkGhosts K) (workers : 
             rest = [];
             whole = sym (append-nil records);
             holds = drained.images honest_mid image left_image;
-            goes_on = drained.goes_on;
+            goes_on = goes_on-ran;
           };
           told = told;
           count = omega (arith, count, writes);
         })
 
     abbrev out : (told : AppendsPrefix (h.held_bytes sink) (h.held_bytes sink_new) (run_text opened records)) → RanOut g workers old new
-    out told = record { ran = ran-drained told; all = drained.images honest_mid; goes_on = drained.goes_on }
+    out told = record { ran = ran-drained told; all = drained.images honest_mid }
 
     -- the accounts text is that of the whole list
     told-part : AppendsPrefix (h.held_bytes sink_mid) (h.held_bytes sink_new) (rows_text ended.closed.tail ended.closed.accounts.rows)

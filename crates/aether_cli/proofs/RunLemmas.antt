@@ -158,6 +158,8 @@ module _ {D : Type 0} {K : Type 0} (g : Ghosts D) (h : SinkGhosts K) (opened : L
 
   pub keeps : RunKeepsLog g old.voice opened jobs list old.flusher.disk.now new.flusher.disk.now (h.held_bytes old.sink.now) (h.held_bytes new.sink.now)
   keeps = record {
+    goes_on = goes-on opened list jobs known.log.lawful known.log.some_accounts known.log.below spellable lawful_after serial
+        (in_turn list [] (sym (append-nil list)));
     moments = λ honest. Leaves-weaken g.moment g.images_since (HoldsSome opened list) (HoldsRun opened jobs list) old.flusher.disk.now new.flusher.disk.now
         (λ bytes held. image-run held.0 held.1 held.2 bytes held.3) (sends.moments honest);
     left = λ honest bytes image. ⊎_elim (left-first honest bytes) (left-both honest bytes) (sends.now honest bytes image);
@@ -235,8 +237,6 @@ module _ {D : Type 0} {K : Type 0} (g : Ghosts D) (h : SinkGhosts K) (opened : L
         lawful = whole-lawful opened list jobs known.log.lawful known.log.some_accounts known.log.below spellable lawful_after serial;
       };
       text = sent-all.text;
-      goes_on = goes-on opened list jobs known.log.lawful known.log.some_accounts known.log.below spellable lawful_after serial
-          (in_turn list [] (sym (append-nil list)));
       end = end;
       accounts = text-shown opened list jobs known.log.lawful known.log.some_accounts known.log.below spellable lawful_after serial lsn rows end ledger.accounts;
       count = sent-all.count;

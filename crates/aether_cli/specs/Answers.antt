@@ -43,18 +43,26 @@ AsksRun words = (log : List ℕ) × (options : RunOptions) × IsCommandLine word
 
 -- the answers that there are to `recover`
 abbrev pub IsOfRecover : Detail → Type 0
-IsOfRecover Usage = ⊥
-IsOfRecover (Script line) = ⊥
-IsOfRecover Disk = ⊥
-IsOfRecover (LogEnd tail total) = ⊥
-IsOfRecover (TxnEnd first count) = ⊥
-IsOfRecover Exists = ⊥
-IsOfRecover detail = Unit {0}
+IsOfRecover Fine = Unit {0}
+IsOfRecover NoMemory = Unit {0}
+IsOfRecover Read = Unit {0}
+IsOfRecover Write = Unit {0}
+IsOfRecover NotALog = Unit {0}
+IsOfRecover (BadBatch offset) = Unit {0}
+IsOfRecover (BadRec lsn) = Unit {0}
+IsOfRecover (Unlawful lsn why) = Unit {0}
+IsOfRecover detail = ⊥
 
 -- the answers that there are to `dump`
 abbrev pub IsOfDump : Detail → Type 0
-IsOfDump (Unlawful lsn why) = ⊥
-IsOfDump detail = IsOfRecover detail
+IsOfDump Fine = Unit {0}
+IsOfDump NoMemory = Unit {0}
+IsOfDump Read = Unit {0}
+IsOfDump Write = Unit {0}
+IsOfDump NotALog = Unit {0}
+IsOfDump (BadBatch offset) = Unit {0}
+IsOfDump (BadRec lsn) = Unit {0}
+IsOfDump detail = ⊥
 
 -- the answers that there are to `new`
 abbrev pub IsOfNew : Detail → Type 0

@@ -19,7 +19,7 @@ use Rattle.aether_cli.specs.declared.report.Detail.TheVariants.{Fine, NoMemory, 
 use Rattle.aether_cli.specs.declared.run_command.ReadyRun.{ReadyRun}
 use Rattle.aether_cli.specs.declared.transfers.Prepared.{Prepared}
 use Rattle.aether_cli.specs.Prepared.{IsPrepared}
-use Rattle.aether_cli.specs.Run.{HoldsRun, RunsWhole}
+use Rattle.aether_cli.specs.Run.{GoesOn, HoldsRun, RunsWhole}
 use Rattle.aether_cli.specs.RunAnswers.{OnlyLooks}
 use Rattle.aether_cli.specs.Summary.{generated_opening, generated_rows, summary_text}
 use Rattle.aether_cli.specs.Transferred.{IsOpened}
@@ -49,11 +49,12 @@ pub record HoldsMade {D : Type 0} (g : Ghosts D) (jobs : Jobs) (list : List Rec)
   pub count : g.written_count new ≤ g.written_count old + 4 * length run.front + 11
 
 -- The log was made and transfers were begun. Each image of a moment is one of before, or no log, or holds the new log and a front of one and
--- the same list.
+-- the same list, which goes on from it by these transfers.
 pub record RanGenerated {D : Type 0} (g : Ghosts D) (n seed workers : ℕ) (old new : D) : Type 0 where
   pub jobs : Jobs
   pub generated : AreGenerated n seed workers jobs
   pub list : List Rec
+  pub goes_on : GoesOn generated_opening jobs (generated_opening ++ list)
   pub images : Leaves g.moment g.images_since (λ bytes. MayPrecede (g.images old) bytes ⊎ HoldsRun generated_opening jobs list bytes) old new
   pub kept : (image : List ℕ) → g.images new image → HoldsMade g jobs list old new image
 
@@ -63,10 +64,10 @@ pub record RanAllGenerated {D : Type 0} (g : Ghosts D) (n seed workers : ℕ) (o
   pub all : (image : List ℕ) → g.images new image → HoldsLawful image (generated_opening ++ ran.list)
   pub whole : RunsWhole generated_opening ran.jobs ran.list
 
--- what `demo` with so many workers leaves of the disk, for each detail
+-- What `demo` with so many workers leaves of the disk, for each detail. The output is written only once all transfers are on the disk.
 abbrev pub AnswersDemo : {D : Type 0} → Ghosts D → ℕ → ℕ → ℕ → D → D → Detail → Type 0
 AnswersDemo g n seed workers old new Fine = RanAllGenerated g n seed workers old new
-AnswersDemo g n seed workers old new Write = RanGenerated g n seed workers old new
+AnswersDemo g n seed workers old new Write = RanAllGenerated g n seed workers old new
 AnswersDemo g n seed workers old new Disk = OnlyMakes g old new ⊎ RanGenerated g n seed workers old new
 AnswersDemo g n seed workers old new NoMemory = OnlyLooks g old new
 AnswersDemo g n seed workers old new Exists = OnlyLooks g old new

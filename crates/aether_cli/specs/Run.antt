@@ -52,10 +52,11 @@ pub record IsLeft {D : Type 0} (g : Ghosts D) (voice : Voice) (opened : List Rec
   pub text : AppendsPrefix old new (text_of voice (end_of opened) run.front)
   pub count : g.written_count after ≤ g.written_count before + 4 * length run.front + 4
 
--- At each moment an image holds the opened list and a front of one and the same list, so that of two such the one is a prefix of the other;
--- and at the exit each image holds all that was told.
+-- The list goes on from the opened one as the script says. At each moment an image holds the opened list and a front of it, so that of two
+-- such the one is a prefix of the other; and at the exit each image holds all that was told.
 pub record RunKeepsLog {D : Type 0} (g : Ghosts D) (voice : Voice) (opened : List Rec) (jobs : Jobs) (list : List Rec) (before after : D)
     (old new : Option (List ℕ)) : Type 0 where
+  pub goes_on : GoesOn opened jobs (opened ++ list)
   pub moments : g.honest before → Leaves g.moment g.images_since (HoldsRun opened jobs list) before after
   pub left : g.honest before → (bytes : List ℕ) → g.images after bytes → IsLeft g voice opened jobs list before after old new bytes
 
@@ -64,7 +65,6 @@ pub record RunIsDrained {D : Type 0} (g : Ghosts D) (voice : Voice) (opened : Li
     (old new : Option (List ℕ)) (lsn : ℕ) (rows : List (ℕ × ℕ)) : Type 0 where
   pub images : g.honest before → (bytes : List ℕ) → g.images after bytes → HoldsLawful bytes (opened ++ list)
   pub text : Appends old new (text_of voice (end_of opened) list)
-  pub goes_on : GoesOn opened jobs (opened ++ list)
   pub end : lsn ≡ end_of (opened ++ list)
   pub accounts : rows_text lsn rows ≡ accounts_text (opened ++ list)
   pub count : g.honest before → g.written_count after ≤ g.written_count before + 4 * length list

@@ -79,14 +79,15 @@ pub record HoldsTold {D : Type 0} (g : Ghosts D) (opened : List Rec) (jobs : Job
   pub told : AppendsPrefix old.text new.text (run_text opened run.front)
   pub count : g.written_count new.disk ≤ g.written_count old.disk + 4 * length run.front + 7
 
--- Transfers were begun. Each image of a moment is one of before, or holds the list that was opened and a front of one and the same list; so
--- of two of the latter the one is a prefix of the other.
+-- Transfers were begun. Each image of a moment is one of before, or holds the list that was opened and a front of one and the same list, which
+-- goes on from it as the script says; so of two of the latter the one is a prefix of the other.
 pub record Ran {D : Type 0} (g : Ghosts D) (workers : ℕ) (old new : Outside D) : Type 0 where
   pub opened : List Rec
   pub held : HoldsLawful (g.reads old.disk) opened
   pub jobs : Jobs
   pub asked : AreAsked workers opened old.left new.left jobs
   pub list : List Rec
+  pub goes_on : GoesOn opened jobs (opened ++ list)
   pub images : Leaves g.moment g.images_since (λ bytes. g.images old.disk bytes ⊎ HoldsRun opened jobs list bytes) old.disk new.disk
   pub kept : (image : List ℕ) → g.images new.disk image → HoldsTold g opened jobs list old new image
 
@@ -94,7 +95,6 @@ pub record Ran {D : Type 0} (g : Ghosts D) (workers : ℕ) (old new : Outside D)
 pub record RanOut {D : Type 0} (g : Ghosts D) (workers : ℕ) (old new : Outside D) : Type 0 where
   pub ran : Ran g workers old new
   pub all : (image : List ℕ) → g.images new.disk image → HoldsLawful image (ran.opened ++ ran.list)
-  pub goes_on : GoesOn ran.opened ran.jobs (ran.opened ++ ran.list)
 
 -- each transfer ran whole, and all of the text was written
 pub record RanWhole {D : Type 0} (g : Ghosts D) (workers : ℕ) (old new : Outside D) : Type 0 where
@@ -150,9 +150,19 @@ RunStaysSilent old new detail = Keeps old new
 
 -- the answers that there are to `run`
 abbrev pub IsOfRun : Detail → Type 0
-IsOfRun Usage = ⊥
-IsOfRun Exists = ⊥
-IsOfRun detail = Unit {0}
+IsOfRun Fine = Unit {0}
+IsOfRun NoMemory = Unit {0}
+IsOfRun (Script line) = Unit {0}
+IsOfRun Read = Unit {0}
+IsOfRun Write = Unit {0}
+IsOfRun Disk = Unit {0}
+IsOfRun NotALog = Unit {0}
+IsOfRun (BadBatch offset) = Unit {0}
+IsOfRun (BadRec lsn) = Unit {0}
+IsOfRun (Unlawful lsn why) = Unit {0}
+IsOfRun (LogEnd tail total) = Unit {0}
+IsOfRun (TxnEnd first count) = Unit {0}
+IsOfRun detail = ⊥
 
 -- the answers that there are to `run` where nothing stands in its way
 abbrev pub IsRunDone : Detail → Type 0

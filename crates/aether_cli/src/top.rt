@@ -48,10 +48,14 @@ pub fn aether<R: Threads + Wait + Sync, D: LogDisk, S: Source, K: Sink, G: Gate 
     ensures unwritten { (AreTaken words.now → ⊥) → out.new ≡ out.old }
     ensures untouched { (AsksNew words.now → ⊥) → (AsksRun words.now → ⊥) → (AsksDemo words.now → ⊥) → disk.new ≡ disk.old }
 
-    // `recover`: for the bytes of the input, the text that is written, and what is left of both.
+    // `recover`: for the bytes of the input, the text that is written, and what is left of both; and a lawful list is recovered.
     ensures recover { IsCommandLine words.now Recover → IfSome (S.left script.old) (λ bytes.
         AnswersRecover bytes (S.left script.new) (K.held_bytes out.old) (K.held_bytes out.new) result.detail) }
     ensures of_recover { IsCommandLine words.now Recover → IsOfRecover result.detail }
+    ensures complete_recover { IsCommandLine words.now Recover
+        → IfSome (S.left script.old) (λ bytes. (records : List Rec) → HoldsLawful bytes records
+        → (Rose (S.faults script.old) (S.faults script.new) → ⊥) → (Rose (K.faults out.old) (K.faults out.new) → ⊥)
+        → (result.detail ≡ Detail.Fine) ⊎ (result.detail ≡ Detail.NoMemory)) }
 
     // `dump`: the same, and where the bytes hold a list it is shown.
     ensures dump { IsCommandLine words.now Dump → IfSome (S.left script.old) (λ bytes.

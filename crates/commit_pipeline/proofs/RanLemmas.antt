@@ -20,6 +20,7 @@ use Rattle.commit_pipeline.specs.declared.daemon.DaemonFault.{DaemonFault}
 use Rattle.commit_pipeline.specs.declared.daemon.DaemonFault.TheVariants.{DiskFault, WriteFault}
 use Rattle.commit_pipeline.specs.declared.tally.Tally.{Tally}
 use Rattle.commit_pipeline.specs.declared.voice.Voice.{Voice}
+use Rattle.commit_pipeline.specs.declared.voice.Voice.TheVariants.{Lines, Count}
 use Rattle.commit_pipeline.specs.EndLines.{text_of, line_said}
 use Rattle.commit_pipeline.specs.Later.{HoldsFront, InFlight, HasReason, extra, Ran, Later}
 use Rattle.commit_pipeline.specs.Telling.{TellsFront, counted}
@@ -114,6 +115,13 @@ TellsFront-text voice at records text before after front =
           ∙ sym (append_assoc lines front.written (front.unwritten ++ later)) ∙ ap (λ us. us ++ (front.unwritten ++ later)) (sym front.text_is),
     )
 
+-- a daemon that only counts has no line to fail at
+pub TellsFront-speaks : (voice : Voice) (at : ℕ) (records : List Rec) (text : List ℕ) (before after : Tally)
+    → TellsFront voice at records text before after → voice ≡ Lines
+TellsFront-speaks Lines at records text before after front = refl
+TellsFront-speaks Count at records text before after front =
+    absurd (omega (arith, front.some, ap length front.line, length-append front.written front.unwritten))
+
 pub none≢some : (fault : DaemonFault) → None ≢ Some fault
 none≢some fault same = subst (λ o. IsNone o) same tt
   where
@@ -191,7 +199,7 @@ module _ {D : Type 0} {K : Type 0} (g : Ghosts D) (h : SinkGhosts K) (a b c : Da
   reason : (fault : Option DaemonFault) → HasReason g h b c fault → HasReason g h a c fault
   reason None kept_stop = kept_stop ∙ (subst (HasReason g h a b) fine first.reason)
   reason (Some DiskFault) rose = (Rose-later _ _ _ first.same.disk_faults rose.0, rose.1)
-  reason (Some WriteFault) rose = (Rose-later _ _ _ first.same.sink_faults rose.0, rose.1)
+  reason (Some WriteFault) rose = (Rose-later _ _ _ first.same.sink_faults rose.0, rose.1, sym first.same.voice ∙ rose.2)
 
   pub Ran-trans : Ran g h a c
   Ran-trans = record {

@@ -16,7 +16,9 @@ use Rattle.flusher.specs.Flushing.{HoldsDurablePrefix, MayHoldBatchInFlight, sen
 use Rattle.commit_pipeline.specs.declared.daemon.Daemon.{Daemon}
 use Rattle.commit_pipeline.specs.declared.daemon.DaemonFault.{DaemonFault}
 use Rattle.commit_pipeline.specs.declared.daemon.DaemonFault.TheVariants.{DiskFault, WriteFault}
+use Rattle.commit_pipeline.specs.declared.voice.Voice.TheVariants.{Lines}
 use Rattle.commit_pipeline.specs.EndLines.{text_of}
+use Rattle.commit_pipeline.specs.Stopping.{stop_word}
 use Rattle.commit_pipeline.specs.Telling.{TellsFront, counted}
 use Rattle.commit_pipeline.specs.Turning.{MayTurn, IsSameDaemon, durable}
 
@@ -33,14 +35,15 @@ InFlight None view cut = (cut ≡ []) × (view.sending.read ≡ [])
 InFlight (Some DiskFault) view cut = view.sending.read ≡ units_of cut
 InFlight (Some WriteFault) view cut = (cut ≡ []) × (view.sending.read ≡ [])
 
--- the count of the object that the fault names rose, and the stop word tells it; without one the stop word is as before
+-- the count of the object that the fault names rose, and the stop word tells it; without one the stop word is as before. To a daemon that only
+-- counts the sink does not fail.
 abbrev pub HasReason : {D : Type 0} → {K : Type 0} → Ghosts D → SinkGhosts K → Daemon D K → Daemon D K
     → Option DaemonFault → Type 0
 HasReason g h old new None = (view_of new.flusher.seat).sending.stop ≡ (view_of old.flusher.seat).sending.stop
 HasReason g h old new (Some DiskFault) = Rose (g.faults old.flusher.disk.now) (g.faults new.flusher.disk.now)
-    × ((view_of new.flusher.seat).sending.stop ≡ 1)
+    × ((view_of new.flusher.seat).sending.stop ≡ stop_word DiskFault)
 HasReason g h old new (Some WriteFault) = Rose (h.faults old.sink.now) (h.faults new.sink.now)
-    × ((view_of new.flusher.seat).sending.stop ≡ 2)
+    × ((view_of new.flusher.seat).sending.stop ≡ stop_word WriteFault) × (old.voice ≡ Lines)
 
 -- what a flush that failed may have written to the disk
 abbrev pub extra : Option DaemonFault → ℕ

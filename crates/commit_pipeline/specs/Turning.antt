@@ -14,6 +14,7 @@ use Rattle.commit_pipeline.specs.declared.daemon.DaemonFault.{DaemonFault}
 use Rattle.commit_pipeline.specs.declared.daemon.DaemonFault.TheVariants.{DiskFault, WriteFault}
 use Rattle.commit_pipeline.specs.declared.daemon.Turn.{Turn}
 use Rattle.commit_pipeline.specs.declared.daemon.Turn.TheVariants.{Idle, Sent}
+use Rattle.commit_pipeline.specs.Stopping.{stop_word}
 use Rattle.commit_pipeline.specs.Telling.{TellsAll, TellsFront}
 
 -- where the next units go
@@ -55,20 +56,20 @@ pub record SendsLines {D : Type 0} {K : Type 0} (g : Ghosts D) (h : SinkGhosts K
   pub tells : TellsAll old.voice (durable old) flush.records text lines old.tally new.tally
   pub fine : new.fault ≡ None
 
--- the disk failed to take the records; no line was written, and the stop word is 1
+-- the disk failed to take the records; no line was written, and the stop word tells it
 pub record LosesUnits {D : Type 0} {K : Type 0} (g : Ghosts D) (old new : Daemon D K) : Type 0 where
   pub lost : Flusher D
   pub flush : Loses g old.flusher lost
-  pub stops : Stops 1 lost new.flusher
+  pub stops : Stops (stop_word DiskFault) lost new.flusher
   pub rest : new ≡ record old { flusher = new.flusher; fault = Some DiskFault }
   pub rose : Rose (g.faults old.flusher.disk.now) (g.faults new.flusher.disk.now)
 
--- the records were sent, and then the sink failed to take the lines; the stop word is 2
+-- the records were sent, and then the sink failed to take the lines; the stop word tells it
 pub record LosesLines {D : Type 0} {K : Type 0} (g : Ghosts D) (h : SinkGhosts K) (old new : Daemon D K) : Type 0 where
   pub to : ℕ
   pub sent : Flusher D
   pub flush : Sends g old.flusher sent (durable old) to
-  pub stops : Stops 2 sent new.flusher
+  pub stops : Stops (stop_word WriteFault) sent new.flusher
   pub text : List ℕ
   pub appended : Appends (h.held_bytes old.sink.now) (h.held_bytes new.sink.now) text
   pub tells : TellsFront old.voice (durable old) flush.records text old.tally new.tally

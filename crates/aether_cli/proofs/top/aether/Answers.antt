@@ -1,10 +1,10 @@
 use Rattle.std.proofs.Common.{◌∙◌, sym, subst}
 use Rattle.command_line.specs.CommandLine.{IsCommandLine, IsRefusalOf}
 use Rattle.command_line.proofs.Asking.{asks-options}
-use Rattle.command_line.specs.declared.command.Command.TheVariants.{New, Run, Dump, Demo}
+use Rattle.command_line.specs.declared.command.Command.TheVariants.{New, Run, Recover, Dump, Demo}
 use Rattle.aether_cli.specs.Answers.{IsOfDump, IsOfRecover}
 use Rattle.aether_cli.specs.Demo.{IsOfDemo}
-use Rattle.aether_cli.proofs.CompletenessLemmas.{dump-complete, new-complete}
+use Rattle.aether_cli.proofs.CompletenessLemmas.{dump-complete, new-complete, recover-complete}
 use Rattle.aether_cli.proofs.DemoAsked.{demo-same, silent-told}
 use Rattle.aether_cli.proofs.DemoCompleteness.{demo-complete}
 use Rattle.aether_cli.proofs.RunCompleteness.{run-complete}
@@ -19,6 +19,11 @@ returns-in-Ok-New-clause-complete g c = λ asked honest closed.
 pub returns-in-Ok-Recover-clause-disk : goal.returns-in-Ok-Recover-clause-disk
 returns-in-Ok-Recover-clause-disk g c = λ is.
     absurd (subst IsOfRecover (sym c.of-in-Ok-Recover.ensures.detail ∙ is) c.recover_command.ensures.range)
+
+pub returns-in-Ok-Recover-clause-complete_recover : goal.returns-in-Ok-Recover-clause-complete_recover
+returns-in-Ok-Recover-clause-complete_recover g c = λ asked.
+    let called = c.recover_command.ensures in
+    rw c.of-in-Ok-Recover.ensures.detail (recover-complete _ _ _ _ _ _ c.recover_command.result called.answer called.read called.write)
 
 pub returns-in-Ok-Dump-clause-disk : goal.returns-in-Ok-Dump-clause-disk
 returns-in-Ok-Dump-clause-disk g c = λ is.
@@ -72,6 +77,9 @@ returns-in-Err-Usage-clause-dump g c = λ asked. absurd (subst (IsRefusalOf c.ar
 
 pub returns-in-Err-Usage-clause-of_dump : goal.returns-in-Err-Usage-clause-of_dump
 returns-in-Err-Usage-clause-of_dump g c = λ asked. absurd (subst (IsRefusalOf c.args.words.now) c.in-Err-Usage.field-0-is c.in-Err-Usage.ensures.exact (Dump, asked))
+
+pub returns-in-Err-Usage-clause-complete_recover : goal.returns-in-Err-Usage-clause-complete_recover
+returns-in-Err-Usage-clause-complete_recover g c = λ asked. absurd (subst (IsRefusalOf c.args.words.now) c.in-Err-Usage.field-0-is c.in-Err-Usage.ensures.exact (Recover, asked))
 
 pub returns-in-Err-Usage-clause-complete_dump : goal.returns-in-Err-Usage-clause-complete_dump
 returns-in-Err-Usage-clause-complete_dump g c = λ asked. absurd (subst (IsRefusalOf c.args.words.now) c.in-Err-Usage.field-0-is c.in-Err-Usage.ensures.exact (Dump, asked))
