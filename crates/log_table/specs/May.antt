@@ -56,7 +56,7 @@ pub record MayGiveBack (account : ℕ) (word : AccountWord) (view : View) : Type
   pub free : word.held ≡ false
   pub gives : MayGive account (word_of word) view.books
 
--- the seat's last two steps were a load of the tail and then one of durable
+-- the seat's last two steps saw the tail, by a load or by an exchange that was lost, and then loaded durable
 pub record HasLooked (seen : Seen) : Type 0 where
   pub tail : seen.tail_step + 1 ≡ seen.steps
   pub durable : seen.durable_step ≡ seen.steps

@@ -24,7 +24,7 @@ pub record IsReady (view : View) : Type 0 where
   pub rests : IsAtRest view
   pub alone : view.contended ≡ false
 
--- the look is what the seat's last two steps loaded
+-- the look is what the seat's last two steps saw: the tail, by a load or by an exchange that was lost, and then durable, by a load
 pub record IsLastLook (look : Look) (view : View) : Type 0 where
   pub looked : HasLooked view.seen
   pub tail : view.seen.tail ≡ look.tail
