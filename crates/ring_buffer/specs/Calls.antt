@@ -122,6 +122,7 @@ pub record IsSameWorker (old new : Seat) : Type 0 where
   pub standing : (view_of new).standing ≡ (view_of old).standing
   pub contended : (view_of new).contended ≡ (view_of old).contended
   pub grows : (view_of old).seen.tail ≤ (view_of new).seen.tail
+  pub exposed : (view_of old).seen.exposed ≤ (view_of new).seen.exposed
   pub durable : (view_of old).seen.durable ≤ (view_of new).seen.durable
   pub steps : (view_of old).seen.steps ≤ (view_of new).seen.steps
 
