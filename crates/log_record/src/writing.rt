@@ -20,19 +20,27 @@ pub fn spell(rec: &Rec) -> Units
     ensures some { 1 ≤ length result }
     ensures short { length result ≤ 26 }
 {
+    let mut units = Units::new();
     match rec {
-        Rec::Genesis { account, balance } => pair(header(GENESIS, 2, *account, 0), *balance as u64),
+        Rec::Genesis { account, balance } => {
+            let first = header(GENESIS, 2, *account, 0);
+            push_pair(&mut units, first, *balance as u64);
+        }
         Rec::Update {
             txn,
             account,
             delta,
             prev,
-        } => pair(header(UPDATE, 2, *account, *txn), change(*delta, *prev)),
-        Rec::Commit { txn, legs } => single(header(COMMIT, 1, *legs, *txn)),
-        Rec::Short { txn, leg } => single(header(SHORT, 1, *leg, *txn)),
-        Rec::Over { txn, leg } => single(header(OVER, 1, *leg, *txn)),
-        Rec::Note { txn, text } => note(*txn, text),
+        } => {
+            let first = header(UPDATE, 2, *account, *txn);
+            push_pair(&mut units, first, change(*delta, *prev));
+        }
+        Rec::Commit { txn, legs } => units.push(header(COMMIT, 1, *legs, *txn).unit()),
+        Rec::Short { txn, leg } => units.push(header(SHORT, 1, *leg, *txn).unit()),
+        Rec::Over { txn, leg } => units.push(header(OVER, 1, *leg, *txn).unit()),
+        Rec::Note { txn, text } => push_note(&mut units, *txn, text),
     }
+    units
 }
 
 fn header(kind: u8, units: u8, field: u32, txn: u32) -> Header
@@ -47,20 +55,12 @@ fn header(kind: u8, units: u8, field: u32, txn: u32) -> Header
     }
 }
 
-fn single(header: Header) -> Units
-    ensures { result ≡ header_unit header ∷ [] }
+fn push_pair(units: &mut Units, header: Header, unit: u64)
+    requires { units.old ≡ [] }
+    ensures { units.new ≡ header_unit header ∷ unit ∷ [] }
 {
-    let mut units = Units::new();
     units.push(header.unit());
-    units
-}
-
-fn pair(header: Header, unit: u64) -> Units
-    ensures { result ≡ header_unit header ∷ unit ∷ [] }
-{
-    let mut units = single(header);
     units.push(unit);
-    units
 }
 
 /// The second unit of an update.
@@ -70,13 +70,13 @@ fn change(delta: i32, prev: Lsn) -> u64
     ((delta.cast_unsigned() as u64) << 32) + prev.units() as u64
 }
 
-fn note(txn: u32, text: &Text) -> Units
-    requires { IsNoteText text.now }
-    ensures { result ≡ spelling (Note txn text.now) }
+fn push_note(units: &mut Units, txn: u32, text: &Text)
+    requires empty { units.old ≡ [] }
+    requires text { IsNoteText text.now }
+    ensures { units.new ≡ spelling (Note txn text.now) }
 {
     let bytes = text.as_slice();
     let count = 1 + note_units(bytes.len()) as u8;
-    let mut units = single(header(NOTE, count, bytes.len() as u32, txn));
-    push_text(&mut units, bytes);
-    units
+    units.push(header(NOTE, count, bytes.len() as u32, txn).unit());
+    push_text(units, bytes);
 }
