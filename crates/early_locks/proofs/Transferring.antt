@@ -156,6 +156,7 @@ same-trans old middle new first second = record {
   standing = second.standing ∙ first.standing;
   contended = second.contended ∙ first.contended;
   grows = let one = first.grows in let two = second.grows in omega arith;
+  exposed = let one = first.exposed in let two = second.exposed in omega arith;
   durable = let one = first.durable in let two = second.durable in omega arith;
   steps = let one = first.steps in let two = second.steps in omega arith;
 }

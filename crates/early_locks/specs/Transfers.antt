@@ -41,6 +41,10 @@ taken_job number transfer = record { number = number; job = job_of transfer }
 abbrev pub held_of : Taken → Held
 held_of taken = record { account = taken.account; balance = taken.balance; mark = taken.mark }
 
+-- the books with no account held
+abbrev pub holding_none : Books → Books
+holding_none books = record books { held = [] }
+
 -- the account as it goes back where durable is seen there
 abbrev pub given_at : ℕ → Taken → Given
 given_at durable taken = record { account = taken.account; balance = taken.balance; durable = durable }

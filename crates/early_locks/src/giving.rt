@@ -1,5 +1,6 @@
 //! An account is given back.
-ghost use Rattle.std.specs.Prelude.{◌≡◌, ◌<◌, ◌^◌};
+ghost use Rattle.std.specs.Prelude.{◌≡◌, ◌<◌, ◌≤◌};
+ghost use Rattle.log_record.specs.declared.limits.TheConstants.{MOST_BALANCE};
 ghost use Rattle.log_table.specs.May.{IsAtRest};
 ghost use Rattle.log_table.specs.Seats.{IsOf, Becomes, view_of};
 ghost use Rattle.log_table.specs.Views.{gave_account};
@@ -16,7 +17,7 @@ pub fn give(table: &LogTable, seat: &mut Seat, taken: Taken, balance: u32, mark:
     requires account { taken.account < table.now.accounts }
     requires rests { IsAtRest (view_of seat.old) }
     requires holds { HoldsTaken taken (view_of seat.old).books }
-    requires balance { balance < 2 ^ 31 }
+    requires balance { balance ≤ MOST_BALANCE }
     requires values { GivesBack taken balance mark (view_of seat.old).books }
     ensures { Becomes seat.old seat.new (gave_account taken.account (view_of seat.old)) }
 {
@@ -29,7 +30,7 @@ pub fn give_durable(table: &LogTable, seat: &mut Seat, taken: Taken, balance: u3
     requires account { taken.account < table.now.accounts }
     requires rests { IsAtRest (view_of seat.old) }
     requires holds { HoldsTaken taken (view_of seat.old).books }
-    requires balance { balance < 2 ^ 31 }
+    requires balance { balance ≤ MOST_BALANCE }
     requires values { GivesBack taken balance mark (view_of seat.old).books }
     requires durable { HasSeenDurable (view_of seat.old) }
     ensures { Becomes seat.old seat.new (gave_account taken.account (view_of seat.old)) }

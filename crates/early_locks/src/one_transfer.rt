@@ -11,7 +11,7 @@ ghost use Rattle.log_table.specs.Seats.{IsOf, Becomes, view_of};
 ghost use Rattle.log_table.specs.Views.{gave_account};
 ghost use Rattle.ring_buffer.specs.Calls.{IsReady, IsSameWorker, HasEntries};
 ghost use Rattle.early_locks.specs.Locks.{HoldsTaken};
-ghost use Rattle.early_locks.specs.Transfers.{leg_of, job_of, taken_job, held_of, loss_of, gain_of, entries_of, MayPut, HasPut, IsMoving, HasMoved, HasStopped, HasCommitted, HasGivenDurable, MeetsEnd, IsNotMade, HasGivenUp};
+ghost use Rattle.early_locks.specs.Transfers.{leg_of, job_of, taken_job, held_of, holding_none, loss_of, gain_of, entries_of, MayPut, HasPut, IsMoving, HasMoved, HasStopped, HasCommitted, HasGivenDurable, MeetsEnd, IsNotMade, HasGivenUp};
 
 use crate::giving::{give, give_durable};
 use crate::taking::{Taken, try_take};
@@ -117,6 +117,7 @@ pub fn commit_transfer<R: Wait, G: Gate>(
     ensures entries { IfSome result (λ committed. (view_of seat.new).entries ≡ (view_of seat.old).entries ++ entries_of number transfer committed.payer committed.payee committed.placed) }
     ensures none_held { IfNone result ((view_of seat.new).books.held ≡ []) }
     ensures given_up { IfNone result (HasGivenUp transfer (view_of seat.old) (view_of seat.new)) }
+    ensures uncommitted { IfNone result (has_commit (recs_of (view_of seat.new).books.placed) ≡ false) }
 {
     table.take_job(seat, number, &transfer.job());
     let both = take_both(rt, table, seat, transfer);
@@ -144,8 +145,8 @@ pub fn give_back(table: &LogTable, seat: &mut Seat, committed: Committed)
     requires committed { HasCommitted table.now.accounts (view_of seat.old).books committed }
     ensures same { IsSameWorker seat.old seat.new }
     ensures ready { IsReady (view_of seat.new) }
-    ensures jobs { (view_of seat.new).books.jobs ≡ (view_of seat.old).books.jobs }
-    ensures none_held { (view_of seat.new).books.held ≡ [] }
+    ensures entries { (view_of seat.new).entries ≡ (view_of seat.old).entries }
+    ensures books { (view_of seat.new).books ≡ holding_none (view_of seat.old).books }
 {
     let mark = committed.placed.end.units();
     give(table, seat, committed.payer, committed.payer_balance, mark);
@@ -159,8 +160,8 @@ pub fn give_back_durable<R: Wait>(rt: &R, table: &LogTable, seat: &mut Seat, com
     requires committed { HasCommitted table.now.accounts (view_of seat.old).books committed }
     ensures same { IsSameWorker seat.old seat.new }
     ensures ready { IsReady (view_of seat.new) }
-    ensures jobs { (view_of seat.new).books.jobs ≡ (view_of seat.old).books.jobs }
-    ensures none_held { (view_of seat.new).books.held ≡ [] }
+    ensures entries { (view_of seat.new).entries ≡ (view_of seat.old).entries }
+    ensures books { (view_of seat.new).books ≡ holding_none (view_of seat.old).books }
     ensures durable { HasGivenDurable committed (view_of seat.old) (view_of seat.new) }
 {
     let end = committed.placed.end;
@@ -328,6 +329,7 @@ fn see_durable<R: Wait>(rt: &R, table: &LogTable, seat: &mut Seat, lsn: Lsn)
     requires ready { IsReady (view_of seat.old) }
     ensures same { IsSameWorker seat.old seat.new }
     ensures ready { IsReady (view_of seat.new) }
+    ensures entries { (view_of seat.new).entries ≡ (view_of seat.old).entries }
     ensures books { (view_of seat.new).books ≡ (view_of seat.old).books }
     ensures given { (view_of seat.new).seen.given ≡ (view_of seat.old).seen.given }
     ensures durable { lsn ≤ (view_of seat.new).seen.durable }

@@ -4,7 +4,7 @@
 /// Where a worker has come to.
 #[derive(Clone, Copy, Debug, PartialEq, Eq)]
 pub enum Place {
-    /// It asked the queue for a job.
+    /// It took a job.
     JobTaken,
     /// It took an account.
     Locked,

@@ -1,5 +1,5 @@
 -- Each kind of step is one that the base crate allows.
-use Rattle.std.proofs.Common.{◌≡◌, ℕ, ◌+◌, ◌-◌, ◌*◌, ◌%◌, ◌^◌, ◌≤◌, ◌<◌, eqb, None, Some, length, subst, sym, ap, ◌∙◌}
+use Rattle.std.proofs.Common.{◌≡◌, ◌≢◌, ℕ, ◌+◌, ◌-◌, ◌*◌, ◌%◌, ◌^◌, ◌≤◌, ◌<◌, eqb, None, Some, length, subst, sym, ap, ◌∙◌}
 use prog.Atomic.{either}
 use Rattle.atomic_table.specs.Table.{Me, Allows}
 use Rattle.lsn_space.specs.declared.lsn.TheConstants.{LAST}
@@ -9,7 +9,7 @@ use Rattle.log_table.specs.declared.table.Start.{Start}
 use Rattle.log_table.specs.declared.view.Role.TheVariants.{Flusher, Fresh}
 use Rattle.log_table.specs.declared.view.View.{View}
 use Rattle.log_table.specs.Layout.{Tail, Exposed, Durable, Stop, Crew, Ring, Account}
-use Rattle.log_table.specs.May.{MayLeave, MayReserve, MayFill, MayRelease, MayRead, MaySend, MayStop, MayTakeJob, MayTake, MayGiveBack}
+use Rattle.log_table.specs.May.{IsOwnWord, MayLeave, MayReserve, MayFill, MayRelease, MayRead, MaySend, MayStop, MayTakeJob, MayTake, MayGiveBack}
 use Rattle.slot_word.specs.declared.account_word.AccountWord.{AccountWord}
 use Rattle.slot_word.specs.AccountWord.{word_of}
 use Rattle.txn_script.specs.declared.job.Job.{Job}
@@ -19,14 +19,14 @@ use Rattle.log_table.specs.Views.{saw_tail, saw_exposed, saw_durable, after_exch
 use Rattle.log_table.proofs.Crewing.{enroll-adds, leave-subtracts}
 use Rattle.log_table.proofs.Filling.{fill-step}
 use Rattle.log_table.proofs.Lifting.{allowed-if_step}
-use Rattle.log_table.proofs.Looking.{tail-looks, exposed-looks, durable-looks, stop-looks, tail-tells, exposed-tells, durable-tells}
+use Rattle.log_table.proofs.Looking.{tail-looks, exposed-looks, durable-looks, stop-looks, stop-keeps, tail-tells, exposed-tells, durable-tells}
 use Rattle.log_table.proofs.Flushing.{send-step}
 use Rattle.log_table.proofs.Reading.{read-step, read-tells}
 use Rattle.log_table.proofs.Turning.{release-step}
 use Rattle.log_table.proofs.Stopping.{stop-stays, stop-tells, stop-step, crew-looks}
 use Rattle.log_table.proofs.Reserving.{exchange-step, exchange-event}
 use Rattle.log_table.proofs.Wording.{Fits, shared_tail, shared_exposed, shared_durable, shared_stop, shared_crew, in_ring, of_account}
-use Rattle.log_table.proofs.Owing.{FitsWord, job-step, account-looks, account-step, give-step}
+use Rattle.log_table.proofs.Owing.{FitsWord, job-step, account-looks, account-tells, account-step, give-step}
 
 module _ (key : Start) (slots seat : ℕ) (me : Me (Unit {0}) View) where
   pub load_tail-allowed : Allows (Ruled key) slots seat me TAIL (λ n. n)
@@ -101,9 +101,9 @@ module _ (key : Start) (slots seat : ℕ) (me : Me (Unit {0}) View) where
   tell_stop-allowed = allowed-if_step key slots seat me Stop shared_stop (λ n. n) (λ _. me.0) (λ _. None)
       (λ _. me.0.standing.role ≡ Flusher → HasReadStop me.0.sending.stop me.0) (stop-tells key seat me.0) (λ n _. stop-stays key seat me.0 n)
 
-  pub load_stop-allowed : Allows (Ruled key) slots seat me STOP (λ n. n) (λ n new. (new ≡ (saw_stop n me.0, me.1)) × Unit {0})
-  load_stop-allowed = allowed-if_step key slots seat me Stop shared_stop (λ n. n) (λ n. saw_stop n me.0) (λ _. None) (λ _. Unit {0})
-      (λ _ _ _ _ _. tt) (λ n _. stop-looks key seat me.0 n)
+  pub load_stop-allowed : Allows (Ruled key) slots seat me STOP (λ n. n) (λ n new. (new ≡ (saw_stop n me.0, me.1)) × (me.0.seen.stop ≢ 0 → n ≡ me.0.seen.stop))
+  load_stop-allowed = allowed-if_step key slots seat me Stop shared_stop (λ n. n) (λ n. saw_stop n me.0) (λ _. None)
+      (λ n. me.0.seen.stop ≢ 0 → n ≡ me.0.seen.stop) (stop-keeps key seat me.0) (λ n _. stop-looks key seat me.0 n)
 
   pub load_crew-allowed : Allows (Ruled key) slots seat me CREW (λ n. n) (λ n new. (new ≡ (saw_crew n me.0, me.1)) × Unit {0})
   load_crew-allowed = allowed-if_step key slots seat me Crew shared_crew (λ n. n) (λ n. saw_crew n me.0) (λ _. None) (λ _. Unit {0})
@@ -111,12 +111,12 @@ module _ (key : Start) (slots seat : ℕ) (me : Me (Unit {0}) View) where
 
   pub take_job-allowed : (accounts number picked : ℕ) (job picked_job : Job) → length key.accounts.rows ≡ accounts → picked ≡ number → picked_job ≡ job
       → MayTakeJob accounts number job me.0
-      → Allows (Ruled key) slots seat me STOP (λ n. n) (λ n new. (new ≡ (took_job picked picked_job n me.0, me.1)) × Unit {0})
+      → Allows (Ruled key) slots seat me STOP (λ n. n) (λ n new. (new ≡ (took_job picked picked_job n me.0, me.1)) × (me.0.seen.stop ≢ 0 → n ≡ me.0.seen.stop))
   take_job-allowed accounts number picked job picked_job same is is_job may =
-      subst (λ (p : ℕ × Job). Allows (Ruled key) slots seat me STOP (λ n. n) (λ n new. (new ≡ (took_job p.0 p.1 n me.0, me.1)) × Unit {0}))
+      subst (λ (p : ℕ × Job). Allows (Ruled key) slots seat me STOP (λ n. n) (λ n new. (new ≡ (took_job p.0 p.1 n me.0, me.1)) × (me.0.seen.stop ≢ 0 → n ≡ me.0.seen.stop)))
       (λ i. (sym is i, sym is_job i))
-      (allowed-if_step key slots seat me Stop shared_stop (λ n. n) (λ n. took_job number job n me.0) (λ _. None) (λ _. Unit {0})
-      (λ _ _ _ _ _. tt) (λ n _. job-step key seat me.0 accounts number job same may n))
+      (allowed-if_step key slots seat me Stop shared_stop (λ n. n) (λ n. took_job number job n me.0) (λ _. None)
+      (λ n. me.0.seen.stop ≢ 0 → n ≡ me.0.seen.stop) (stop-keeps key seat me.0) (λ n _. job-step key seat me.0 accounts number job same may n))
 
   module _ (place ring accounts account picked : ℕ) (at : place ≡ RING + ring + STRIDE * account) (same : key.ring ≡ ring)
       (counted : length key.accounts.rows ≡ accounts) (below : account < accounts) (is : picked ≡ account) where
@@ -130,21 +130,22 @@ module _ (key : Start) (slots seat : ℕ) (me : Me (Unit {0}) View) where
     at-account left then allows = subst (λ (p : ℕ × ℕ). Allows (Ruled key) slots seat me p.0 left (then p.1))
         (λ i. ((ap (λ r. RING + r + STRIDE * account) same ∙ sym at) i, sym is i)) allows
 
-    pub load_account-allowed : Allows (Ruled key) slots seat me place (λ n. n) (λ n new. (new ≡ (saw_account picked n me.0, me.1)) × Unit {0})
-    load_account-allowed = at-account (λ n. n) (λ p n new. (new ≡ (saw_account p n me.0, me.1)) × Unit {0})
+    pub load_account-allowed : Allows (Ruled key) slots seat me place (λ n. n) (λ n new. (new ≡ (saw_account picked n me.0, me.1)) × IsOwnWord picked n me.0.books)
+    load_account-allowed = at-account (λ n. n) (λ p n new. (new ≡ (saw_account p n me.0, me.1)) × IsOwnWord p n me.0.books)
         (allowed-if_step key slots seat me (Account account) fits-account (λ n. n)
-        (λ n. saw_account account n me.0) (λ _. None) (λ _. Unit {0}) (λ _ _ _ _ _. tt) (λ n _. account-looks key seat me.0 account n))
+        (λ n. saw_account account n me.0) (λ _. None) (λ n. IsOwnWord account n me.0.books) (account-tells key seat me.0 account)
+        (λ n _. account-looks key seat me.0 account n))
 
     pub exchange_account-allowed : (from to : AccountWord) (free held : ℕ) → free ≡ word_of from → held ≡ word_of to → FitsWord from → FitsWord to
         → MayTake from to me.0
-        → Allows (Ruled key) slots seat me place (λ n. either (eqb n free) held n) (λ n new. (new ≡ (after_account picked free n me.0, me.1)) × Unit {0})
+        → Allows (Ruled key) slots seat me place (λ n. either (eqb n free) held n) (λ n new. (new ≡ (after_account picked free n me.0, me.1)) × IsOwnWord picked n me.0.books)
     exchange_account-allowed from to free held free-is held-is from-fits to-fits may =
         subst (λ (p : ℕ × ℕ). Allows (Ruled key) slots seat me place (λ n. either (eqb n p.0) p.1 n)
-        (λ n new. (new ≡ (after_account picked p.0 n me.0, me.1)) × Unit {0})) (λ i. (sym free-is i, sym held-is i))
-        (at-account (λ n. either (eqb n (word_of from)) (word_of to) n) (λ p n new. (new ≡ (after_account p (word_of from) n me.0, me.1)) × Unit {0})
+        (λ n new. (new ≡ (after_account picked p.0 n me.0, me.1)) × IsOwnWord picked n me.0.books)) (λ i. (sym free-is i, sym held-is i))
+        (at-account (λ n. either (eqb n (word_of from)) (word_of to) n) (λ p n new. (new ≡ (after_account p (word_of from) n me.0, me.1)) × IsOwnWord p n me.0.books)
         (allowed-if_step key slots seat me (Account account) fits-account
-        (λ n. either (eqb n (word_of from)) (word_of to) n) (λ n. after_account account (word_of from) n me.0) (λ _. None) (λ _. Unit {0})
-        (λ _ _ _ _ _. tt) (λ n _. account-step key seat me.0 accounts account counted below from to from-fits to-fits may n)))
+        (λ n. either (eqb n (word_of from)) (word_of to) n) (λ n. after_account account (word_of from) n me.0) (λ _. None)
+        (λ n. IsOwnWord account n me.0.books) (account-tells key seat me.0 account) (λ n _. account-step key seat me.0 accounts account counted below from to from-fits to-fits may n)))
 
     pub store_account-allowed : (word : AccountWord) (packed : ℕ) → packed ≡ word_of word → FitsWord word → MayGiveBack account word me.0
         → Allows (Ruled key) slots seat me place (λ _. packed) (λ _ new. (new ≡ (gave_account picked me.0, me.1)) × Unit {0})

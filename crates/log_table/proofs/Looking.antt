@@ -1,5 +1,5 @@
 -- Steps that change what their seat has seen, and nothing else: the loads, and an exchange that was lost.
-use Rattle.std.proofs.Common.{◌≡◌, inr, ℕ, ◌+◌, ◌/◌, ◌≤◌, true, List, length, set, None, sym, refl, ap, ◌∙◌, subst, le_refl, arith}
+use Rattle.std.proofs.Common.{◌≡◌, ◌≢◌, inr, ⊎_elim, ℕ, ◌+◌, ◌/◌, ◌≤◌, true, List, length, set, None, sym, refl, ap, ◌∙◌, subst, le_refl, arith}
 use mathlib.Core.Option.{some}
 use lib.ListN.{get_elem?}
 use Rattle.lsn_space.specs.Tiling.{IsBoundary}
@@ -129,6 +129,10 @@ module _ (key : Start) (me : ℕ) (v : View) where
           boundaries = old.boundaries;
         } (inr refl));
   }
+
+  -- a stop word that was read stays
+  pub stop-keeps : Tells key me Stop v (λ n. v.seen.stop ≢ 0 → n ≡ v.seen.stop)
+  stop-keeps words views log s at stopped = ⊎_elim (λ none. absurd (stopped none)) (λ same. sym same) (s.read_stop me v at)
 
   -- the rule tells that a word never goes back, and lies in the log
   pub tail-tells : Tells key me Tail v (λ n. (v.seen.tail ≤ n) × (n ≤ LAST))

@@ -27,10 +27,12 @@ use Rattle.log_table.specs.Books.{IsNote, taking_job, taking, giving}
 use Rattle.log_table.specs.Events.{Leads, IsStep}
 use Rattle.log_table.specs.Layout.{Stop, Account}
 use Rattle.log_table.specs.Log.{Log, ranges_of}
-use Rattle.log_table.specs.May.{MayTakeJob, MayTake, MayGiveBack}
+use Rattle.log_table.specs.May.{IsOwnWord, MayTakeJob, MayTake, MayGiveBack}
 use Rattle.log_table.specs.Sound.{HasSeenBoundaries, StoresStop, HasReadStop, HoldsIfActive, IsSound, base_of, history_in, books_of}
 use Rattle.log_table.specs.Views.{is_active, may_own, took_job, seen_account, saw_account, held_as, took_account, after_account, given_as, seen_given, gave_account}
 use Rattle.log_table.specs.Words.{Words, put}
+use Rattle.log_table.proofs.Bookings.{found}
+use Rattle.log_table.proofs.Lifting.{Tells}
 use Rattle.log_table.proofs.Looking.{sees-word}
 use Rattle.log_table.proofs.Roles.{crew-same, quiet-moves, restands}
 use Rattle.log_table.proofs.Viewing.{each_set}
@@ -103,6 +105,16 @@ module _ (key : Start) (me : ℕ) (v : View) where
         (sees-word key words views me v log (seen_account account n v.seen) s at
         (sees-same key.start words.tail words.exposed words.durable log v.seen _ (s.seen me v at) refl refl refl refl) (s.read_stop me v at));
   }
+
+  -- the word of an account that the seat holds is its own
+  pub account-tells : (account : ℕ) → Tells key me (Account account) v (λ n. IsOwnWord account n v.books)
+  account-tells account words views log s at has =
+      let own = found _ account v.books.held has (s.accounts.holder.taken me v.books (at_map books_of views me v at)) in
+      let is = sym own.is in (
+        ap (λ a. held_in (words.account a)) is ∙ own.known.taken,
+        ap (λ a. balance_in (words.account a)) is ∙ (own.known.balance ∙ sym own.balance),
+        ap (λ a. mark_in (words.account a)) is ∙ (own.known.mark ∙ sym own.mark),
+      )
 
   pub account-takes : (accounts account : ℕ) → length key.accounts.rows ≡ accounts → account < accounts → (from to : AccountWord) → FitsWord from → FitsWord to → MayTake from to v
       → IsStep key me (Account account) (word_of from) (word_of to) v (took_account account (word_of from) v) None

@@ -65,7 +65,7 @@ abbrev pub moved_if_committed : (ℤ → ℕ) → ℕ → List Entry → ℕ
 moved_if_committed side account entries =
     if has_commit (recs_of entries) then moved side account (changes_in (recs_of entries)) else 0
 
--- the last Commit on an account, where one of these records is it, else this
+-- the end of the last Commit on an account, where one of these records is it, else this
 abbrev pub commit_in : List Entry → ℕ → ℕ → ℕ
 commit_in entries account mark =
     if has_commit (recs_of entries) && touches account (changes_in (recs_of entries)) then end_from 0 entries else mark
@@ -83,7 +83,7 @@ pub record IsUpToDate (base : BaseState) (h : List Entry) (account word : ℕ) :
   pub mark : last_commit_of base h account ≡ mark_in word
 
 -- Where no job number stands twice: the list is a lawful continuation of the base state, and every balance is in its range. What it
--- has of a seat's last job is what the seat placed. Each account's word is that of the list. Each job is run whole or cut short, and
+-- has of a seat's last job is what the seat placed. Each free account's word is that of the list, and each held account follows it. Each job is run whole or cut short, and
 -- there are no other transactions.
 pub record AccountsFollowList (base : BaseState) (words : ℕ → ℕ) (h : List Entry) (all : List Books) : Type 0 where
   pub lawful : IsLawfulAfter base h

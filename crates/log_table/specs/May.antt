@@ -12,10 +12,11 @@ use Rattle.log_record.specs.declared.rec.Entry.{Entry as Placed}
 use Rattle.log_record.specs.Spelling.{spelling}
 use Rattle.txn_script.specs.declared.job.Job.{Job}
 use Rattle.slot_word.specs.declared.account_word.AccountWord.{AccountWord}
-use Rattle.slot_word.specs.AccountWord.{word_of}
+use Rattle.slot_word.specs.AccountWord.{word_of, held_in, balance_in, mark_in}
 use Rattle.log_table.specs.declared.view.TakenJob.{TakenJob}
+use Rattle.log_table.specs.declared.view.Books.{Books}
 use Rattle.log_table.specs.Accounts.{IsAllowed, MayGive}
-use Rattle.log_table.specs.Books.{next_of, IsNote, MayEnter}
+use Rattle.log_table.specs.Books.{times_held, balance_taken, mark_taken, next_of, IsNote, MayEnter}
 use Rattle.log_table.specs.Log.{IsFull}
 use Rattle.log_table.specs.Views.{has_ended, read_to}
 
@@ -50,13 +51,18 @@ pub record MayTake (from to : AccountWord) (view : View) : Type 0 where
   pub balance : to.balance ≡ from.balance
   pub mark : to.mark ≡ from.mark
 
+-- where the seat holds the account, the word is held, with the values as it took them
+abbrev pub IsOwnWord : ℕ → ℕ → Books → Type 0
+IsOwnWord account word books = 1 ≤ times_held account books.held
+    → (held_in word ≡ true) × (balance_in word ≡ balance_taken books.held account) × (mark_in word ≡ mark_taken books.held account)
+
 -- the account may be given back with these values
 pub record MayGiveBack (account : ℕ) (word : AccountWord) (view : View) : Type 0 where
   pub rests : IsAtRest view
   pub free : word.held ≡ false
   pub gives : MayGive account (word_of word) view.books
 
--- the seat's last two steps were a load of the tail and then one of durable
+-- the seat's last two steps saw the tail, by a load or by an exchange that was lost, and then loaded durable
 pub record HasLooked (seen : Seen) : Type 0 where
   pub tail : seen.tail_step + 1 ≡ seen.steps
   pub durable : seen.durable_step ≡ seen.steps

@@ -1,5 +1,5 @@
 -- The rule of the table, part by part. Each part speaks of exactly the words and the fields of views that it names.
-use Rattle.std.specs.Prelude.{◌≡◌, ◌⊎◌, ℕ, ◌+◌, ◌/◌, ◌<◌, ◌≤◌, Bool, true, false, List, [], ◌++◌, map, length, get_or, count_by}
+use Rattle.std.specs.Prelude.{◌≡◌, ◌⊎◌, ℕ, ◌+◌, ◌/◌, ◌^◌, ◌<◌, ◌≤◌, Bool, true, false, List, [], ◌++◌, map, length, get_or, count_by}
 use Rattle.std.specs.List.{AllByRecursion, list_any}
 use mathlib.Core.Option.{some}
 use lib.Dec.{eqb}
@@ -35,14 +35,14 @@ EachSeat P views = (seat : ℕ) → P seat (get_or views seat nobody)
 abbrev pub EachPair : (ℕ → View → ℕ → View → Type 0) → List View → Type 0
 EachPair R views = EachView (λ seat view. EachView (R seat view) views) views
 
--- the tail is in the log, and at most a ring above durable
-pub record HasOrderedLsns (ring tail durable : ℕ) : Type 0 where
+-- the ring has a lawful length, and the tail is in the log and at most a ring above durable
+pub record HasTailInReach (ring tail durable : ℕ) : Type 0 where
   pub least_ring : 1024 ≤ ring
   pub greatest_ring : ring ≤ 1048576
   pub within_ring : tail ≤ durable + ring
   pub within_log : tail ≤ LAST
 
--- no word is below what a seat saw in it, and each LSN that a seat saw is a boundary of reservations
+-- none of tail, exposed and durable is below what a seat saw in it, and each LSN that a seat saw is a boundary of reservations
 pub record HasSeenBoundaries (start tail exposed durable : ℕ) (ranges : List Range) (seen : Seen) : Type 0 where
   pub tail_seen : seen.tail ≤ tail
   pub exposed_seen : seen.exposed ≤ exposed
@@ -124,7 +124,7 @@ Lacks worker numbers = list_any (eqb worker) numbers ≡ false
 
 -- a worker's number is small, and the flusher's seat is the first
 pub record HasSoundRole (seat : ℕ) (standing : Standing) : Type 0 where
-  pub small : is_worker standing.role ≡ true → standing.worker < 4294967296
+  pub small : is_worker standing.role ≡ true → standing.worker < 2 ^ 32
   pub first : standing.role ≡ Flusher → seat ≡ 0
 
 -- No two workers have one number. The flusher's seat knows as made each of them, and each number that any seat knows as enrolled or
@@ -168,7 +168,7 @@ pub record HasSoundCrew (crew : ℕ) (views : List View) : Type 0 where
 
 -- the rule: words, views and log of a table that was made with this key go together
 pub record IsSound (key : Start) (words : Words) (views : List View) (log : Log) : Type 0 where
-  pub ordered : HasOrderedLsns key.ring words.tail words.durable
+  pub ordered : HasTailInReach key.ring words.tail words.durable
   pub seen : EachView (λ _ view. HasSeenBoundaries key.start words.tail words.exposed words.durable (ranges_of log) view.seen) views
   pub contiguous : HasContiguousReservations key.start key.ring words.tail words.exposed words.durable log
   pub filled : KeepsFilledUnits key.ring words.durable words.ring log.parts

@@ -289,7 +289,7 @@ hires worker view = record view {
   sending = record view.sending { quiet = false };
 }
 
--- the view of a new worker, who knows the LSNs that the flusher's seat saw last
+-- the view of a new worker, which has seen what the flusher's seat has seen, and made no step
 abbrev pub hired : ℕ → View → View
 hired worker view = record {
   constants = view.constants;
@@ -325,7 +325,7 @@ abbrev pub merged_entries : List Entry → List Entry → List Entry
 merged_entries entries [] = entries
 merged_entries entries (other ∷ others) = inserted other (merged_entries entries others)
 
--- what both have seen; of the stop words the other's, unless it is 0
+-- the greater of the LSNs, and every LSN that either saw; of the stop words the other's, unless it is 0; the rest is the seat's own
 abbrev pub merged_seen : Seen → Seen → Seen
 merged_seen seen other =
     record seen {

@@ -113,10 +113,10 @@ impl Play<(), View> for StoreStop {
 pub(crate) struct LoadStop;
 
 impl Play<(), View> for LoadStop {
-    ghost use Rattle.std.specs.Prelude.{◌≡◌};
+    ghost use Rattle.std.specs.Prelude.{◌≡◌, ◌≢◌};
     ghost use Rattle.log_table.specs.Views.{saw_stop};
 
-    ghost then = { λ st old n new. (new ≡ (saw_stop n old.0, old.1)) × Unit {0} };
+    ghost then = { λ st old n new. (new ≡ (saw_stop n old.0, old.1)) × (old.0.seen.stop ≢ 0 → n ≡ old.0.seen.stop) };
 }
 
 /// A load that changes nothing. The rule tells at a step alone that what the flusher's seat has read in
@@ -174,10 +174,10 @@ pub(crate) struct TakeJob<N> {
 }
 
 impl<N: Task> Play<(), View> for TakeJob<N> {
-    ghost use Rattle.std.specs.Prelude.{◌≡◌};
+    ghost use Rattle.std.specs.Prelude.{◌≡◌, ◌≢◌};
     ghost use Rattle.log_table.specs.Views.{took_job};
 
-    ghost then = { λ st old n new. (new ≡ (took_job N.number N.job n old.0, old.1)) × Unit {0} };
+    ghost then = { λ st old n new. (new ≡ (took_job N.number N.job n old.0, old.1)) × (old.0.seen.stop ≢ 0 → n ≡ old.0.seen.stop) };
 }
 
 pub(crate) struct LoadAccount<N> {
@@ -186,9 +186,10 @@ pub(crate) struct LoadAccount<N> {
 
 impl<N: Number> Play<(), View> for LoadAccount<N> {
     ghost use Rattle.std.specs.Prelude.{◌≡◌};
+    ghost use Rattle.log_table.specs.May.{IsOwnWord};
     ghost use Rattle.log_table.specs.Views.{saw_account};
 
-    ghost then = { λ st old n new. (new ≡ (saw_account N.number n old.0, old.1)) × Unit {0} };
+    ghost then = { λ st old n new. (new ≡ (saw_account N.number n old.0, old.1)) × IsOwnWord N.number n old.0.books };
 }
 
 pub(crate) struct ExchangeAccount<N> {
@@ -197,9 +198,10 @@ pub(crate) struct ExchangeAccount<N> {
 
 impl<N: Number> Play<(), View> for ExchangeAccount<N> {
     ghost use Rattle.std.specs.Prelude.{◌≡◌};
+    ghost use Rattle.log_table.specs.May.{IsOwnWord};
     ghost use Rattle.log_table.specs.Views.{after_account};
 
-    ghost then = { λ st old n new. (new ≡ (after_account N.number st.first n old.0, old.1)) × Unit {0} };
+    ghost then = { λ st old n new. (new ≡ (after_account N.number st.first n old.0, old.1)) × IsOwnWord N.number n old.0.books };
 }
 
 pub(crate) struct StoreAccount<N> {

@@ -117,7 +117,8 @@ pub struct View {
     /// The runs that the seat reserved, filled and released, in order.
     pub entries: LinkedList<Entry>,
     pub call: Call,
-    /// Whether the seat lost an exchange of the tail to another, so that it joins a group instead.
+    /// Whether the seat lost an exchange of the tail to another, so that it would join a group instead;
+    /// no step sets it yet.
     pub contended: bool,
     pub sending: Sending,
     pub books: Books,

@@ -24,7 +24,7 @@ pub record IsReady (view : View) : Type 0 where
   pub rests : IsAtRest view
   pub alone : view.contended ≡ false
 
--- the look is what the seat's last two steps loaded
+-- the look is what the seat's last two steps saw: the tail, by a load or by an exchange that was lost, and then durable, by a load
 pub record IsLastLook (look : Look) (view : View) : Type 0 where
   pub looked : HasLooked view.seen
   pub tail : view.seen.tail ≡ look.tail
@@ -122,6 +122,7 @@ pub record IsSameWorker (old new : Seat) : Type 0 where
   pub standing : (view_of new).standing ≡ (view_of old).standing
   pub contended : (view_of new).contended ≡ (view_of old).contended
   pub grows : (view_of old).seen.tail ≤ (view_of new).seen.tail
+  pub exposed : (view_of old).seen.exposed ≤ (view_of new).seen.exposed
   pub durable : (view_of old).seen.durable ≤ (view_of new).seen.durable
   pub steps : (view_of old).seen.steps ≤ (view_of new).seen.steps
 

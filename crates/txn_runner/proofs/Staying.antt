@@ -15,6 +15,7 @@ same-trans first second third before after = record {
   standing = after.standing ∙ before.standing;
   contended = after.contended ∙ before.contended;
   grows = omega (arith, before.grows, after.grows);
+  exposed = omega (arith, before.exposed, after.exposed);
   durable = omega (arith, before.durable, after.durable);
   steps = omega (arith, before.steps, after.steps);
 }

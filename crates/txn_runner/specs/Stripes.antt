@@ -27,9 +27,10 @@ stripe_jobs jobs worker (suc k) = taken_at jobs worker k ∷ stripe_jobs jobs wo
 abbrev pub IsOfStripe : Jobs → ℕ → ℕ → ℕ → Type 0
 IsOfStripe jobs worker k number = (j : ℕ) × (j < k) × (number ≡ number_at jobs worker j)
 
--- the script has the first k transfers of the worker, and no more
+-- the script has the first k transfers of the worker
 abbrev pub HasStripe : Jobs → ℕ → ℕ → Type 0
 HasStripe jobs worker k = (j : ℕ) → j < k → place_of jobs worker j < length jobs.script
 
+-- the script has no more than the first k transfers of the worker
 abbrev pub IsStripeEnd : Jobs → ℕ → ℕ → Type 0
 IsStripeEnd jobs worker k = length jobs.script ≤ place_of jobs worker k

@@ -3,7 +3,7 @@ ghost use Rattle.std.specs.Prelude.{◌≡◌, ◌≢◌, ◌<◌, OnOk, IfErr, 
 ghost use Rattle.slot_word.specs.AccountWord.{word_of};
 ghost use Rattle.log_table.specs.Events.{IsStep};
 ghost use Rattle.log_table.specs.Layout.{Account};
-ghost use Rattle.log_table.specs.May.{MayTake, MayGiveBack};
+ghost use Rattle.log_table.specs.May.{IsOwnWord, MayTake, MayGiveBack};
 ghost use Rattle.log_table.specs.Seats.{IsOf, Becomes, view_of, number_of, key_of};
 ghost use Rattle.log_table.specs.Views.{saw_account, took_account, gave_account};
 
@@ -19,6 +19,7 @@ fn load_account_as<N: Number>(table: &LogTable, seat: &mut Seat, account: u32) -
     requires account { account < table.now.accounts }
     requires named { N.number ≡ account }
     ensures view { Becomes seat.old seat.new (saw_account account (word_of result) (view_of seat.old)) }
+    ensures own { IsOwnWord account (word_of result) (view_of seat.old).books }
 {
     let place = account_place(table.ring, account);
     AccountWord::unpack(
@@ -42,6 +43,7 @@ fn exchange_account_as<N: Number>(
     requires named { N.number ≡ account }
     ensures ok { OnOk result (Becomes seat.old seat.new (took_account account (word_of from) (view_of seat.old))) }
     ensures err { IfErr result (λ found. (found ≢ from) × Becomes seat.old seat.new (saw_account account (word_of found) (view_of seat.old))) }
+    ensures own { IfErr result (λ found. IsOwnWord account (word_of found) (view_of seat.old).books) }
 {
     let place = account_place(table.ring, account);
     let found = table
@@ -74,6 +76,7 @@ impl LogTable {
         requires seat { IsOf self.now seat.old }
         requires account { account < self.now.accounts }
         ensures view { Becomes seat.old seat.new (saw_account account (word_of result) (view_of seat.old)) }
+        ensures own { IsOwnWord account (word_of result) (view_of seat.old).books }
         ensures event { IsStep (key_of self.now) (number_of seat.old) (Account account) (word_of result) (word_of result) (view_of seat.old) (saw_account account (word_of result) (view_of seat.old)) None }
     {
         load_account_as::<Brand>(self, seat, account)
@@ -94,6 +97,7 @@ impl LogTable {
         ensures ok { OnOk result (Becomes seat.old seat.new (took_account account (word_of from) (view_of seat.old))) }
         ensures ok_event { OnOk result (IsStep (key_of self.now) (number_of seat.old) (Account account) (word_of from) (word_of to) (view_of seat.old) (took_account account (word_of from) (view_of seat.old)) None) }
         ensures err { IfErr result (λ found. (found ≢ from) × Becomes seat.old seat.new (saw_account account (word_of found) (view_of seat.old))) }
+        ensures own { IfErr result (λ found. IsOwnWord account (word_of found) (view_of seat.old).books) }
         ensures err_event { IfErr result (λ found. IsStep (key_of self.now) (number_of seat.old) (Account account) (word_of found) (word_of found) (view_of seat.old) (saw_account account (word_of found) (view_of seat.old)) None) }
     {
         exchange_account_as::<Brand>(self, seat, account, from, to)

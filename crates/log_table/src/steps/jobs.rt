@@ -1,5 +1,5 @@
 //! A seat takes a job, and looks whether the log has stopped.
-ghost use Rattle.std.specs.Prelude.{◌≡◌, None};
+ghost use Rattle.std.specs.Prelude.{◌≡◌, ◌≢◌, None};
 ghost use Rattle.log_table.specs.Events.{IsStep};
 ghost use Rattle.log_table.specs.Layout.{Stop};
 ghost use Rattle.log_table.specs.May.{MayTakeJob};
@@ -18,6 +18,7 @@ fn take_job_as<N: Task>(table: &LogTable, seat: &mut Seat, number: u32, job: &Jo
     requires may { MayTakeJob table.now.accounts number job.now (view_of seat.old) }
     requires named { (N.number ≡ number) × (N.job ≡ job.now) }
     ensures view { Becomes seat.old seat.new (took_job number job.now result (view_of seat.old)) }
+    ensures stays { (view_of seat.old).seen.stop ≢ 0 → result ≡ (view_of seat.old).seen.stop }
 {
     table.table.shared.load::<TakeJob<N>>(&mut seat.base, STOP)
 }
@@ -29,6 +30,7 @@ impl LogTable {
         requires seat { IsOf self.now seat.old }
         requires may { MayTakeJob self.now.accounts number job.now (view_of seat.old) }
         ensures view { Becomes seat.old seat.new (took_job number job.now result (view_of seat.old)) }
+        ensures stays { (view_of seat.old).seen.stop ≢ 0 → result ≡ (view_of seat.old).seen.stop }
         ensures event { IsStep (key_of self.now) (number_of seat.old) Stop result result (view_of seat.old) (took_job number job.now result (view_of seat.old)) None }
     {
         take_job_as::<Brand>(self, seat, number, job)

@@ -27,8 +27,8 @@ impl LogTable {
             .store::<StoreRing>(&mut seat.base, index, unit);
     }
 
-    /// Reads the next unit for the disk. All units up to exposed, as the flusher's seat loaded it
-    /// last, are whole entries.
+    /// Reads the next unit for the disk. Once all units up to exposed, as the flusher's seat loaded it
+    /// last, are read, they are whole entries.
     pub fn load_ring(&self, seat: &mut Seat, at: Lsn) -> u64
         requires seat { IsOf self.now seat.old }
         requires next { MayRead at (view_of seat.old) }

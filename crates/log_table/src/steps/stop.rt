@@ -1,5 +1,5 @@
 //! Stop: why the log stopped, 0 while it runs.
-ghost use Rattle.std.specs.Prelude.{None, ℕ};
+ghost use Rattle.std.specs.Prelude.{◌≡◌, ◌≢◌, None, ℕ};
 ghost use Rattle.log_table.specs.Events.{IsStep};
 ghost use Rattle.log_table.specs.Layout.{Stop};
 ghost use Rattle.log_table.specs.May.{MayStop};
@@ -14,6 +14,7 @@ impl LogTable {
     pub fn load_stop(&self, seat: &mut Seat) -> u64
         requires { IsOf self.now seat.old }
         ensures view { Becomes seat.old seat.new (saw_stop result (view_of seat.old)) }
+        ensures stays { (view_of seat.old).seen.stop ≢ 0 → result ≡ (view_of seat.old).seen.stop }
         ensures event { IsStep (key_of self.now) (number_of seat.old) Stop result result (view_of seat.old) (saw_stop result (view_of seat.old)) None }
     {
         self.table.shared.load::<LoadStop>(&mut seat.base, STOP)

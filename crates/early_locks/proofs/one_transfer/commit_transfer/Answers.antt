@@ -1,4 +1,5 @@
 use Rattle.std.proofs.Common.{arith, ◌≡◌, ◌∙◌, [], ◌∷◌, ap, sym, subst}
+use Rattle.lock_core.specs.Transactions.{recs_of, has_commit}
 use Rattle.log_table.specs.Books.{giving}
 use Rattle.log_table.specs.Seats.{view_of}
 use Rattle.log_table.specs.Views.{gave_account}
@@ -41,3 +42,9 @@ returns-in_default-clause-given_up g c =
           (sym (second ∙ ap (gave_account both.payee.account) first))
           (not-made-back c.args.transfer _ _ _ _ _ _ _ (omega (arith, steps, c.take_both-both.ensures.same.steps)) c.in_default.ensures.cause);
     }
+
+pub returns-in_default-clause-uncommitted : goal.returns-in_default-clause-uncommitted
+returns-in_default-clause-uncommitted g c = let has = c.in_default.ensures.stopped in
+    ap (λ m. has_commit (recs_of m.0.books.placed)) c.give_unchanged-in_default.ensures.me
+    ∙ (ap (λ m. has_commit (recs_of m.0.books.placed)) c.give_unchanged.ensures.me
+    ∙ (ap (λ placed. has_commit (recs_of placed)) has.moving.placed_is ∙ has.uncommitted))

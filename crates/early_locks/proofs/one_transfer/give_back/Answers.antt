@@ -10,8 +10,8 @@ give-requires-2-clause-holds c = let has = c.requires.committed in
     subst (HoldsTaken c.args.committed.payee) (sym (ap (λ m. m.0.books) c.give.ensures.me))
     (holds-other _ _ _ (λ same. has.two (sym same)) has.payee_held)
 
-pub returns-clause-none_held : goal.returns-clause-none_held
-returns-clause-none_held c = let has = c.requires.committed in
-    ap (λ m. m.0.books.held) c.give-2.ensures.me
-    ∙ (ap (λ m. (giving c.args.committed.payee.account m.0.books).held) c.give.ensures.me
-    ∙ none-left _ _ (view_of c.args.seat.now).books has.two has.payer_held.has has.payee_held.has has.only)
+pub returns-clause-books : goal.returns-clause-books
+returns-clause-books c = let has = c.requires.committed in let held = (view_of c.args.seat.now).books in
+    ap (λ m. m.0.books) c.give-2.ensures.me
+    ∙ (ap (λ m. giving c.args.committed.payee.account m.0.books) c.give.ensures.me
+    ∙ (λ i. record held { held = none-left _ _ held has.two has.payer_held.has has.payee_held.has has.only i }))

@@ -11,12 +11,12 @@ give_durable-requires-2-clause-holds g c = let has = c.requires.committed in
     let gave : (view_of c.give_durable.new.seat).books ≡ giving c.args.committed.payer.account (view_of c.args.seat.now).books = search rules in
     subst (HoldsTaken c.args.committed.payee) (sym gave) (holds-other _ _ _ (λ same. has.two (sym same)) has.payee_held)
 
-pub returns-clause-none_held : goal.returns-clause-none_held
-returns-clause-none_held g c = let has = c.requires.committed in
-    let gave : (view_of c.give_durable.new.seat).books ≡ giving c.args.committed.payer.account (view_of c.args.seat.now).books = search rules in
-    ap (λ m. m.0.books.held) c.give_durable-2.ensures.me
-    ∙ (ap (λ books. (giving c.args.committed.payee.account books).held) gave
-    ∙ none-left _ _ (view_of c.args.seat.now).books has.two has.payer_held.has has.payee_held.has has.only)
+pub returns-clause-books : goal.returns-clause-books
+returns-clause-books g c = let has = c.requires.committed in let held = (view_of c.args.seat.now).books in
+    let gave : (view_of c.give_durable.new.seat).books ≡ giving c.args.committed.payer.account held = search rules in
+    ap (λ m. m.0.books) c.give_durable-2.ensures.me
+    ∙ (ap (giving c.args.committed.payee.account) gave
+    ∙ (λ i. record held { held = none-left _ _ held has.two has.payer_held.has has.payee_held.has has.only i }))
 
 pub returns-clause-durable : goal.returns-clause-durable
 returns-clause-durable g c =

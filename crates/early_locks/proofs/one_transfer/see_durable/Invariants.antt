@@ -8,6 +8,7 @@ invariant-loop g l = record {
   seat : IsOf l.table l.seat;
   same : IsSameWorker l.initial.seat l.seat;
   ready : IsReady (view_of l.seat);
+  entries : (view_of l.seat).entries ≡ (view_of l.initial.seat).entries;
   books : (view_of l.seat).books ≡ (view_of l.initial.seat).books;
   given : (view_of l.seat).seen.given ≡ (view_of l.initial.seat).seen.given;
 }
