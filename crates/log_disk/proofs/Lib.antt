@@ -1,4 +1,5 @@
 pub mod Calls
+pub mod Cuts
 pub mod Moments
 pub mod Prefixes
 pub mod Recorded

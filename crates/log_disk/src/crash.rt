@@ -1,6 +1,6 @@
-ghost use Rattle.std.specs.Prelude.{◌≡◌, ◌≤◌, ◌<◌, ◌+◌, [], length, vec_capacity};
-ghost use Rattle.log_disk.specs.Disk.{IsTorn, IsOnlyImage};
-ghost use Rattle.log_disk.specs.History.{Images};
+ghost use Rattle.std.specs.Prelude.{◌≡◌, ◌≤◌, ◌<◌, ◌+◌, ◌/◌, ◌%◌, [], take, length, vec_capacity};
+ghost use Rattle.log_disk.specs.Disk.{put, IsTorn, IsOnlyImage};
+ghost use Rattle.log_disk.specs.History.{file_at_sync, Images, Lands};
 ghost use Rattle.log_disk.specs.MemoryDisks.{file_of, ImagesOf, total_len, recorded};
 
 use crate::contents::{copy_over, place};
@@ -17,7 +17,9 @@ impl Digits {
     /// The next digit, from 0 to `most`. After the last one each is 0.
     fn up_to(&mut self, most: usize) -> usize
         requires { most < usize.MAX }
-        ensures { result ≤ most }
+        ensures most { result ≤ most }
+        ensures digit { result ≡ self.old.left % (most + 1) }
+        ensures rest { self.new.left ≡ self.old.left / (most + 1) }
     {
         let base = most as u64 + 1;
         let digit = self.left % base;
@@ -36,6 +38,8 @@ impl MemoryDisk {
     pub fn crash(self, pick: u64) -> MemoryDisk
         ensures image { ImagesOf self (file_of result) }
         ensures settled { IsOnlyImage (file_of result) (ImagesOf result) }
+        ensures none { pick ≡ 0 → file_of result ≡ file_at_sync self.start self.history }
+        ensures landed { Lands pick self.start self.history (file_of result) }
         ensures history { result.history ≡ [] }
         ensures room { result.room ≡ self.room }
         ensures failing { result.failing ≡ self.failing }
@@ -79,6 +83,8 @@ fn replay(image: &mut Vec<u8>, file: &mut Vec<u8>, steps: &[Step], log: &[u8], p
     requires image_room { length image.old.items + length log.now ≤ vec_capacity image.old }
     requires file_room { length image.old.items + length log.now ≤ vec_capacity file.old }
     ensures image { Images image.old.items (recorded steps.now log.now []) image.new.items }
+    ensures none { pick ≡ 0 → image.new.items ≡ file_at_sync image.old.items (recorded steps.now log.now []) }
+    ensures landed { Lands pick image.old.items (recorded steps.now log.now []) image.new.items }
     ensures length { length image.new.items ≤ length image.old.items + length log.now }
     ensures image_capacity { vec_capacity image.old ≤ vec_capacity image.new }
     ensures file_capacity { vec_capacity file.old ≤ vec_capacity file.new }
@@ -106,6 +112,10 @@ fn replay(image: &mut Vec<u8>, file: &mut Vec<u8>, steps: &[Step], log: &[u8], p
 fn tear(image: &mut Vec<u8>, at: usize, bytes: &[u8], digits: &mut Digits)
     requires { length image.old.items + length bytes.now ≤ vec_capacity image.old }
     ensures torn { IsTorn at (length bytes.now) image.old.items image.new.items }
+    ensures none { digits.old.left ≡ 0 → image.new.items ≡ image.old.items }
+    ensures none_left { digits.old.left ≡ 0 → digits.new.left ≡ 0 }
+    ensures landed { at ≤ length image.old.items → digits.old.left ≤ length bytes.now
+        → image.new.items ≡ put at (take digits.old.left bytes.now) image.old.items }
     ensures length { length image.new.items ≤ length image.old.items + length bytes.now }
     ensures capacity { vec_capacity image.old ≤ vec_capacity image.new }
 {

@@ -1,4 +1,4 @@
-ghost use Rattle.std.specs.Prelude.{◌≡◌, ◌≤◌, ◌<◌, ◌+◌, ◌-◌, ◌↔◌, ⊤, ℕ, List, [], ◌∷◌, min, take, drop, length, vec_capacity, if◌then◌else◌, is_ok, IsErr, IfOk, OnOk};
+ghost use Rattle.std.specs.Prelude.{◌≡◌, ◌≤◌, ◌<◌, ◌+◌, ◌-◌, ◌/◌, ◌↔◌, ⊤, ℕ, List, [], ◌∷◌, min, take, drop, length, vec_capacity, if◌then◌else◌, is_ok, IsErr, IfOk, OnOk};
 ghost use Rattle.log_disk.specs.Disk.{put, IsTorn, MayBeTorn, IsOnlyImage, Elapses, Keeps, CountsOne};
 ghost use Rattle.log_disk.specs.Faults.{HasCause, raised};
 ghost use Rattle.log_disk.specs.History.Event.{Wrote, Synced};
@@ -233,6 +233,13 @@ impl LogDisk for MemoryDisk {
         ensures fails { IsErr result ↔ CallFails self.old (RECORD + length bytes.now) }
         ensures counts { CountsCall self.old self.new result }
         ensures room { self.old.room - (RECORD + length bytes.now) ≤ self.new.room }
+
+        // What the disk keeps of the write.
+        ensures start { self.new.start ≡ self.old.start }
+        ensures kept { OnOk result (self.new.history ≡ Wrote at bytes.now ∷ self.old.history) }
+        ensures half { IsErr result → RECORD + length bytes.now ≤ self.old.room
+            → self.new.history ≡ Wrote at (take ((length bytes.now + 1) / 2) bytes.now) ∷ self.old.history }
+        ensures no_room { self.old.room < RECORD + length bytes.now → self.new.history ≡ self.old.history }
     {
         let cost = RECORD + bytes.len();
         match self.count_call(cost) {
@@ -262,6 +269,11 @@ impl LogDisk for MemoryDisk {
         ensures fails { IsErr result ↔ CallFails self.old RECORD }
         ensures counts { CountsCall self.old self.new result }
         ensures room { self.old.room - RECORD ≤ self.new.room }
+
+        // What the disk keeps of the sync.
+        ensures start { self.new.start ≡ self.old.start }
+        ensures kept { OnOk result (self.new.history ≡ Synced ∷ self.old.history) }
+        ensures failed { IsErr result → self.new.history ≡ self.old.history }
     {
         self.count_call(RECORD)?;
         self.keep_sync();

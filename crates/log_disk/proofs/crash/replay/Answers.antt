@@ -11,12 +11,14 @@ pub steps-preserved : goal.steps-preserved
 steps-preserved c =
     let behind = drop (c.steps.step-index + 1) c.args.steps.now in
     let ahead = drop_more c.args.steps.now c.steps.step-index (Write 0 0) (search rules) in
-    let from = λ (steps : List Step). IsReplayed c.args.image.now.items (recorded c.args.steps.now c.args.log.now []) steps c.steps.rest.now c.steps.image.items c.steps.file.items in
+    let from = λ (steps : List Step). IsReplayed c.args.pick c.args.image.now.items (recorded c.args.steps.now c.args.log.now []) steps c.steps.rest.now c.steps.digits.left c.steps.image.items c.steps.file.items in
     elim c.match-step.branch [
       | in-Write w ↦
           let was = subst from (ahead ∙ ap (λ (step : Step). step ∷ behind) w.in-Write.is) c.steps.invariant.replayed in
-          rw (w.image-is, w.file-is, w.rest-is) record {
-            replayed = replayed-write _ _ _ _ _ _ _ _ _ _ _ _ was w.split_at.ensures.front w.split_at.ensures.back w.tear.ensures.torn w.place.ensures.put;
+          rw (w.image-is, w.file-is, w.rest-is, w.digits-is) record {
+            replayed = replayed-write _ _ _ _ _ _ _ _ _ _ _ _ _ _ _ was w.split_at.ensures.front w.split_at.ensures.back
+                record { range = w.tear.ensures.torn; none = w.tear.ensures.none; none_left = w.tear.ensures.none_left; landed = w.tear.ensures.landed }
+                w.place.ensures.put;
             image_length = search rules;
             file_length = search rules;
             image_capacity = search rules;
@@ -24,8 +26,8 @@ steps-preserved c =
           }
       | in-Sync w ↦
           let was = subst from (ahead ∙ ap (λ (step : Step). step ∷ behind) w.in-Sync.is) c.steps.invariant.replayed in
-          rw (w.image-is, w.file-is, w.rest-is) record {
-            replayed = replayed-sync _ _ _ _ _ _ _ was w.copy_over-in-Sync.ensures.same;
+          rw (w.image-is, w.file-is, w.rest-is, w.digits-is) record {
+            replayed = replayed-sync _ _ _ _ _ _ _ _ _ was w.copy_over-in-Sync.ensures.same;
             image_length = search rules;
             file_length = search rules;
             image_capacity = search rules;

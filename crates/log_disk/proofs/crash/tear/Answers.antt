@@ -1,5 +1,6 @@
 use Rattle.std.proofs.Common.{rules, sym, subst, length}
 use Rattle.log_disk.specs.Disk.{IsTorn}
+use Rattle.log_disk.proofs.Cuts.{put-front}
 use Rattle.log_disk.proofs.Torn.{IsTorn-put, IsTorn-trans, IsTorn-widen}
 use Rattle.log_disk.proofs.crash.tear.Goals as goal
 
@@ -8,3 +9,7 @@ returns-clause-torn c =
     let n = length c.args.bytes.now in
     let placed = subst (IsTorn c.args.at n c.args.image.now.items) (sym c.place.ensures.put) (IsTorn-put c.args.at n _ _ (search rules) (search rules)) in
     IsTorn-trans _ _ _ _ _ placed (IsTorn-widen _ _ _ _ _ (search rules) c.overwrite.ensures.torn)
+
+pub returns-clause-landed : goal.returns-clause-landed
+returns-clause-landed c = λ within few.
+    put-front _ _ _ _ _ _ _ _ _ few c.up_to-landed.ensures.digit c.up_to-landed.ensures.rest c.up_to-noisy.ensures.digit (search rules) c.overwrite.ensures.torn
