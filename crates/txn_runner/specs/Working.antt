@@ -44,6 +44,11 @@ pub record HasWorked (jobs : Jobs) (worker k : ℕ) (view : View) : Type 0 where
   pub own : AllByRecursion (λ (entry : Entry). (txn_of entry.rec < jobs.first) ⊎ IsOfStripe jobs worker k (txn_of entry.rec)) view.entries
   pub below : LieInOrder 0 view.seen.tail view.entries
 
+-- the entries of before stay, and others follow them
+pub record KeepsEntries (old new : View) : Type 0 where
+  pub added : List Entry
+  pub entries : new.entries ≡ old.entries ++ added
+
 -- from k transfers of the stripe to n: the seat took just those, behind the jobs that it had
 pub record TakesJobs (jobs : Jobs) (worker k n : ℕ) (old new : View) : Type 0 where
   pub earlier : List TakenJob
