@@ -28,6 +28,7 @@ module _ (jobs : Jobs) (number : ℕ) where
   IsCutBy-retired j (LogEnd tail total) view is = record {
     balances = is.balances;
     marks = is.marks;
+    given = record { each = is.given.each; taken_as = is.given.taken_as };
     next = is.next;
     rest = is.rest;
     plan = is.plan;

@@ -1,8 +1,8 @@
 -- One transfer, from its first account to its last: what the seat's steps come to.
-use Rattle.std.proofs.Common.{◌≡◌, inl, inr, ℕ, ◌+◌, ◌<◌, ◌≤◌, Bool, true, List, [], ◌∷◌, ◌++◌, map, All, refl, sym, ap, ◌∙◌, subst, arith, append-nil}
+use Rattle.std.proofs.Common.{◌≡◌, ◌≢◌, inl, inr, ℕ, ◌+◌, ◌<◌, ◌≤◌, Bool, true, List, [], ◌∷◌, ◌++◌, map, All, refl, sym, ap, ◌∙◌, subst, arith, append-nil}
 use Rattle.std.specs.List.{AllByRecursion}
 use Rattle.std.specs.List.Sorted.{IsStrictlyIncreasing}
-use Rattle.std.proofs.lemmas.List.Elements.{All-from_recursion}
+use Rattle.std.proofs.lemmas.List.Elements.{All-from_recursion, recursion_from_All}
 use Rattle.log_record.specs.declared.rec.Rec.{Rec}
 use Rattle.log_record.specs.LogList.{size_of}
 use Rattle.lock_core.specs.Alone.{planned_records}
@@ -36,11 +36,11 @@ use Rattle.txn_runner.specs.Endings.{EndsTransfer}
 use Rattle.txn_runner.specs.Holdings.{account_of, taken_of, IsKnown, held_behind, given_behind, holding_all, AreDistinct, HoldsAll, TakesAll, with_held}
 use Rattle.txn_runner.specs.Inserts.{Adds, IsLeft, StopsFor}
 use Rattle.txn_runner.specs.Legs.{AreHeld, HoldsJob, last_record}
-use Rattle.txn_runner.specs.Running.{LieInOrder, account_given, HasInserted, HasRun, HasCut}
+use Rattle.txn_runner.specs.Running.{LieInOrder, account_given, GaveBack, HasInserted, HasRun, HasCut}
 use Rattle.txn_runner.proofs.Adding.{lie-longer, lie-sooner, placed-front}
 use Rattle.txn_runner.proofs.Gaining.{all-known}
 use Rattle.txn_runner.proofs.PlanLemmas.{planned_records-some}
-use Rattle.txn_runner.proofs.Held.{distinct, given-all, given-durable, same-accounts, all-same, taken-behind, taken-first}
+use Rattle.txn_runner.proofs.Held.{distinct, given-all, given-as, given-durable, same-accounts, all-same, taken-behind, taken-first}
 
 -- every account of a job that the table allows is one of the table's
 pub accounts-known : (accounts : ℕ) (legs : List (ℕ × ℕ × ℕ)) (list : List ℕ) → AllByRecursion (IsAllowedLeg accounts) legs
@@ -69,6 +69,11 @@ module _ (accounts number : ℕ) (job : Job) (list slice : List ℕ) (holdings :
   listed : map account_of holdings ≡ list
   listed = takes.accounts_are ∙ same-list
 
+  are-held : AreHeld holdings (view_of new).books
+  are-held = subst (AreHeld holdings) (sym takes.entries.books_are)
+      (All-from_recursion (λ (holding : Holding). HoldsTaken holding.taken (holding_all holdings (view_of old).books)) holdings
+      (all-held (view_of old).books holdings [] (distinct holdings (subst IsStrictlyIncreasing (sym listed) rising))))
+
   -- the job may be run
   pub holds-job : All (HasAccountsOf list) job.legs → (view_of old).books.last ≡ record { number = number; job = job }
       → HoldsJob accounts number job holdings (view_of new).books
@@ -77,9 +82,7 @@ module _ (accounts number : ℕ) (job : Job) (list slice : List ℕ) (holdings :
     allowed = allowed;
     all = subst (λ xs. All (HasAccountsOf xs) job.legs) (sym listed) all;
     only = subst (All (IsAccountOf job.legs)) (sym listed) only;
-    taken = subst (AreHeld holdings) (sym takes.entries.books_are)
-        (All-from_recursion (λ (holding : Holding). HoldsTaken holding.taken (holding_all holdings (view_of old).books)) holdings
-        (all-held (view_of old).books holdings [] (distinct holdings (subst IsStrictlyIncreasing (sym listed) rising))));
+    taken = are-held;
   }
 
   module _ (paid : List Holding) (same : map taken_of paid ≡ map taken_of holdings) where
@@ -89,8 +92,25 @@ module _ (accounts number : ℕ) (job : Job) (list slice : List ℕ) (holdings :
         (all-known accounts holdings list listed (accounts-known accounts job.legs list allowed.job.legs.each only))
 
     -- those of every leg
-    pub still-all : All (HasAccountsOf list) job.legs → All (HasAccountsOf (map account_of paid)) job.legs
+    still-all : All (HasAccountsOf list) job.legs → All (HasAccountsOf (map account_of paid)) job.legs
     still-all all = subst (λ xs. All (HasAccountsOf xs) job.legs) (sym (same-accounts holdings paid same ∙ listed)) all
+
+    -- each taken with the balance that is known of it
+    still-as : All (λ (holding : Holding). balance_taken (view_of new).books.held holding.taken.account ≡ holding.taken.balance) paid
+    still-as = all-same holdings paid same (λ taken. balance_taken (view_of new).books.held taken.account ≡ taken.balance)
+        (λ k d within. (are-held k d within).balance)
+
+    -- they went back
+    pub gave-back : (view : View) (durable : ℕ) → All (HasAccountsOf list) job.legs → view.seen.given ≡ given_behind durable paid []
+        → GaveBack job (balance_taken (view_of new).books.held) view
+    gave-back view durable all given = record {
+      each = subst (λ list. All (HasAccountsOf (map account_given list)) job.legs) (sym given)
+          (λ k d within. let both = still-all all k d within in (given-all durable paid [] _ both.0, given-all durable paid [] _ both.1));
+      taken_as = subst (All (λ (given : Given). balance_taken (view_of new).books.held given.account ≡ given.balance)) (sym given)
+          (given-as (balance_taken (view_of new).books.held) durable paid []
+          (recursion_from_All (λ (holding : Holding). balance_taken (view_of new).books.held holding.taken.account ≡ holding.taken.balance) paid still-as)
+          (All-from_recursion (λ (given : Given). balance_taken (view_of new).books.held given.account ≡ given.balance) [] tt));
+    }
 
     -- and all that is held
     pub still-held : (books : Books) → books.held ≡ (view_of new).books.held → HoldsAll paid books
@@ -199,12 +219,18 @@ pub still-stops : (cause : Cause) (rest : List Rec) (held : List Held) (back : L
 still-stops cause rest held back first second becomes stops =
     subst (StopsFor cause rest) (sym (ap (λ m. m.0) becomes.me)) (stops-held cause rest held back (view_of first) stops)
 
-pub has-cut : (number : ℕ) (job : Job) (wait : Bool) (cause : Cause) (rest : List Rec) (old new : View) → HasInserted number job rest old new
-    → (rest ≡ [] → wait ≡ true) → StopsFor cause rest new
+pub has-cut : (number : ℕ) (job : Job) (wait : Bool) (cause : Cause) (rest : List Rec) (old new : View) (inserted : HasInserted number job rest old new)
+    → GaveBack job inserted.balances new → rest ≢ [] → StopsFor cause rest new
     → HasCut number job wait cause old new
-has-cut number job wait (Stop word) rest old new inserted none stops = (rest, inserted, none, stops.0, stops.1)
-has-cut number job wait (LogEnd tail total) [] old new inserted none stops = absurd stops
-has-cut number job wait (LogEnd tail total) (next ∷ rest) old new inserted none stops = (next, rest, inserted, stops.0, stops.1, stops.2, stops.3)
+has-cut number job wait (Stop word) rest old new inserted gave some stops = (rest, inserted, λ none. absurd (some none), stops.0, stops.1)
+has-cut number job wait (LogEnd tail total) [] old new inserted gave some stops = absurd stops
+has-cut number job wait (LogEnd tail total) (next ∷ rest) old new inserted gave some stops = (next, rest, inserted, gave, stops.0, stops.1, stops.2, stops.3)
+
+-- no record is left, but the worker waits
+pub has-stopped : (number : ℕ) (job : Job) (wait : Bool) (cause : Cause) (old new : View) → HasInserted number job [] old new → wait ≡ true
+    → StopsFor cause [] new → HasCut number job wait cause old new
+has-stopped number job wait (Stop word) old new inserted waits stops = ([], inserted, λ none. waits, stops.0, stops.1)
+has-stopped number job wait (LogEnd tail total) old new inserted waits stops = absurd stops
 
 -- the transfer is cut off before its first record
 pub cut-early : (number : ℕ) (job : Job) (wait : Bool) (cause : Cause) (old new : View) → HasTakenJob number job old new
@@ -239,9 +265,9 @@ lie-last from to (other ∷ entries) entry lie = let after = lie-last (other.sta
 pub has-run : (number : ℕ) (job : Job) (wait : Bool) (ended : Ended) (seen : ℕ) (holdings : List Holding) (first last : View) (second third : Seat)
     → HasTakenJob number job first (view_of second) → EndsTransfer number job ended holdings second third → Keeps (view_of third) last
     → seen ≡ last.seen.durable → (wait ≡ true → ended.end ≤ seen)
-    → (paid : List Holding) → last.seen.given ≡ given_behind seen paid [] → All (HasAccountsOf (map account_of paid)) job.legs
+    → (paid : List Holding) → last.seen.given ≡ given_behind seen paid [] → GaveBack job (balance_taken (view_of second).books.held) last
     → HasRun number job wait (record { txn = number; answer = ended.answer; end = ended.end; seen = seen }) first last
-has-run number job wait ended seen holdings first last second third taken ends keeps durable waited paid given all = record {
+has-run number job wait ended seen holdings first last second third taken ends keeps durable waited paid given gave = record {
   inserted = has-inserted number job [] first last second third (ends.before ++ end ∷ []) taken ends.adds ends.left keeps;
   txn = refl;
   outcome = ends.outcome;
@@ -253,8 +279,7 @@ has-run number job wait ended seen holdings first last second third taken ends k
   above = omega (arith, taken.grows, lie-last _ _ ends.before end ends.adds.within, ends.end_is, one-unit number job ended.answer);
   seen = durable;
   waited = waited;
-  given = subst (λ list. All (HasAccountsOf (map account_given list)) job.legs) (sym given)
-      (λ k d within. let both = all k d within in (given-all seen paid [] _ both.0, given-all seen paid [] _ both.1));
+  given = gave;
   durable_first = λ waits. subst (All (λ (given : Given). ended.end ≤ given.durable)) (sym given)
       (given-durable ended.end seen (waited waits) paid [] (All-from_recursion (λ (given : Given). ended.end ≤ given.durable) [] tt));
 }

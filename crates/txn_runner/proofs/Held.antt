@@ -106,6 +106,15 @@ given-durable end durable above [] given all = all
 given-durable end durable above (holding ∷ holdings) given all = given-durable end durable above holdings
     (given_at durable holding.taken ∷ given) (All-cons (λ (given : Given). end ≤ given.durable) (given_at durable holding.taken) given above all)
 
+-- each went back with the balance as it was taken
+pub given-as : (balances : ℕ → ℕ) (durable : ℕ) (holdings : List Holding) (given : List Given)
+    → AllByRecursion (λ (holding : Holding). balances holding.taken.account ≡ holding.taken.balance) holdings
+    → All (λ (given : Given). balances given.account ≡ given.balance) given
+    → All (λ (given : Given). balances given.account ≡ given.balance) (given_behind durable holdings given)
+given-as balances durable [] given same all = all
+given-as balances durable (holding ∷ holdings) given same all = given-as balances durable holdings (given_at durable holding.taken ∷ given) same.1
+    (All-cons (λ (given : Given). balances given.account ≡ given.balance) (given_at durable holding.taken) given same.0 all)
+
 -- the first of the holdings that are left, and the others once it is given back
 module _ (first second : Seat) (back holdings rest : List Holding) (holding : Holding) (is : holdings ≡ holding ∷ rest)
     (apart : AreDistinct holdings)

@@ -1,6 +1,6 @@
 -- A worker's progress along its stripe. `first` and `before` are its seat's view and its rows at the start, `old` and `mid` those before
 -- one transfer, `new` and `after` those behind it.
-use Rattle.std.proofs.Common.{◌≡◌, ℕ, ◌+◌, ◌≤◌, Bool, List, [], ◌∷◌, ◌++◌, length, sym, ap, subst, arith, length-append}
+use Rattle.std.proofs.Common.{◌≡◌, ◌∙◌, ℕ, ◌+◌, ◌≤◌, Bool, List, [], ◌∷◌, ◌++◌, length, sym, ap, subst, arith, length-append, append_assoc}
 use Rattle.log_record.specs.declared.rec.Rec.{Rec}
 use Rattle.txn_script.specs.declared.job.Job.{Job}
 use Rattle.log_table.specs.declared.view.View.{View}
@@ -12,7 +12,7 @@ use Rattle.txn_runner.specs.declared.rows.Row.{Row}
 use Rattle.txn_runner.specs.declared.rows.Rows.{Rows}
 use Rattle.txn_runner.specs.Running.{HasInserted, HasRun, HasCut}
 use Rattle.txn_runner.specs.Stripes.{number_at, job_at}
-use Rattle.txn_runner.specs.Working.{rows_in, room_of, taken_in, HasWorked, HasRoom, TakesJobs, HaveEnded, Works, AddsRows}
+use Rattle.txn_runner.specs.Working.{rows_in, room_of, taken_in, HasWorked, HasRoom, KeepsEntries, TakesJobs, HaveEnded, Works, AddsRows}
 use Rattle.txn_runner.proofs.RowLemmas.{AddsRows-push, AddsRows-cut}
 use Rattle.txn_runner.proofs.WorkLemmas.{IsNextJob, at-stripe, HasWorked-next, TakesJobs-next, HaveEnded-next, HaveEnded-still, IsCutBy-next}
 
@@ -20,6 +20,7 @@ use Rattle.txn_runner.proofs.WorkLemmas.{IsNextJob, at-stripe, HasWorked-next, T
 pub record Progress (jobs : Jobs) (worker : ℕ) (wait : Bool) (before rows : Rows) (first view : View) : Type 0 where
   pub worked : HasWorked jobs worker (taken_in rows) view
   pub room : HasRoom jobs worker rows
+  pub kept : KeepsEntries first view
   pub takes : TakesJobs jobs worker (taken_in before) (taken_in rows) first view
   pub ended : HaveEnded jobs worker (taken_in before) (taken_in rows) view
   pub adds : AddsRows jobs worker wait All before rows first view
@@ -27,6 +28,7 @@ pub record Progress (jobs : Jobs) (worker : ℕ) (wait : Bool) (before rows : Ro
 -- the transfer taken last was cut off
 pub record Stopped (jobs : Jobs) (worker : ℕ) (wait : Bool) (before rows : Rows) (first view : View) (cause : Cause) : Type 0 where
   pub worked : HasWorked jobs worker (taken_in rows) view
+  pub kept : KeepsEntries first view
   pub takes : TakesJobs jobs worker (taken_in before) (taken_in rows) first view
   pub works : Works jobs worker (taken_in before) (taken_in rows) wait (Cut cause) view
   pub adds : AddsRows jobs worker wait (Cut cause) before rows first view
@@ -35,6 +37,13 @@ pub record Stopped (jobs : Jobs) (worker : ℕ) (wait : Bool) (before rows : Row
 pub record SawNoLess (old new : View) : Type 0 where
   pub tail : old.seen.tail ≤ new.seen.tail
   pub durable : old.seen.durable ≤ new.seen.durable
+
+still-kept : (number : ℕ) (job : Job) (rest : List Rec) (first old new : View) → KeepsEntries first old → HasInserted number job rest old new
+    → KeepsEntries first new
+still-kept number job rest first old new kept inserted = record {
+  added = kept.added ++ inserted.added;
+  entries = inserted.entries ∙ ap (λ l. l ++ inserted.added) kept.entries ∙ append_assoc first.entries kept.added inserted.added;
+}
 
 inserted-in : (number : ℕ) (job : Job) (wait : Bool) (cause : Cause) (old new : View) → HasCut number job wait cause old new
     → (rest : List Rec) × HasInserted number job rest old new
@@ -51,6 +60,7 @@ module _ (jobs : Jobs) (worker : ℕ) (wait : Bool) (before mid after : Rows) (f
     worked = subst (λ k. HasWorked jobs worker k new) (sym taken)
         (HasWorked-next jobs worker (taken_in mid) [] old new run.inserted progress.worked next.within);
     room = λ k stripe. omega (arith, progress.room k stripe, ap length rows, length-append (rows_in mid) (row ∷ []), room, taken);
+    kept = still-kept _ _ [] first old new progress.kept run.inserted;
     takes = subst (λ k. TakesJobs jobs worker (taken_in before) k first new) (sym taken)
         (TakesJobs-next jobs worker (taken_in mid) [] old new run.inserted (taken_in before) first progress.takes);
     ended = subst (λ k. HaveEnded jobs worker (taken_in before) k new) (sym taken)
@@ -68,6 +78,7 @@ module _ (jobs : Jobs) (worker : ℕ) (wait : Bool) (before mid after : Rows) (f
   Progress-cut cause has_cut rows = record {
     worked = subst (λ k. HasWorked jobs worker k new) (sym taken)
         (HasWorked-next jobs worker (taken_in mid) (inserted.0) old new inserted.1 progress.worked next.within);
+    kept = still-kept _ _ (inserted.0) first old new progress.kept inserted.1;
     takes = subst (λ k. TakesJobs jobs worker (taken_in before) k first new) (sym taken)
         (TakesJobs-next jobs worker (taken_in mid) (inserted.0) old new inserted.1 (taken_in before) first progress.takes);
     works = (

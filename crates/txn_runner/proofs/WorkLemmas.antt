@@ -207,13 +207,14 @@ IsCutBy-next jobs worker k wait (Stop word) old new worked cut = (waits cut.0 cu
 IsCutBy-next jobs worker k wait (LogEnd tail total) old new worked cut = record {
   balances = cut.2.balances;
   marks = cut.2.marks;
+  given = cut.3;
   next = cut.0;
   rest = cut.1;
   plan = ap (λ l. l ++ cut.0 ∷ cut.1) (own_records-next jobs worker k (cut.0 ∷ cut.1) old new cut.2 worked) ∙ cut.2.plan;
-  size = cut.3;
-  too_long = cut.4;
-  tail_is = cut.5;
-  seen = cut.6;
+  size = cut.4;
+  too_long = cut.5;
+  tail_is = cut.6;
+  seen = cut.7;
 }
 
 -- a cut is a cut of a worker that may wait

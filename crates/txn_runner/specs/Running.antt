@@ -42,9 +42,14 @@ pub record HasInserted (number : ℕ) (job : Job) (rest : List Rec) (old new : V
 abbrev pub account_given : Given → ℕ
 account_given given = given.account
 
+-- Since the seat took its last job it gave each account of this one back, each with this balance as it was taken.
+pub record GaveBack (job : Job) (balances : ℕ → ℕ) (view : View) : Type 0 where
+  pub each : All (HasAccountsOf (map account_given view.seen.given)) job.legs
+  pub taken_as : All (λ (given : Given). balances given.account ≡ given.balance) view.seen.given
+
 -- All its records were inserted, and the row tells how it ended, where its end record ends, and the durable LSN that the seat saw last,
--- which is at or above that where the seat waited. Since it took the transfer the seat gave each account of it back; where it waited, each
--- only once it had seen durable at or above the end.
+-- which is at or above that where the seat waited. Since it took the transfer the seat gave each account of it back, and ran it on the
+-- balances as they were taken; where it waited, it gave each only once it had seen durable at or above the end.
 pub record HasRun (number : ℕ) (job : Job) (wait : Bool) (row : Row) (old new : View) : Type 0 where
   pub inserted : HasInserted number job [] old new
   pub txn : row.txn ≡ number
@@ -57,14 +62,15 @@ pub record HasRun (number : ℕ) (job : Job) (wait : Bool) (row : Row) (old new 
   pub above : old.seen.tail < row.end
   pub seen : row.seen ≡ new.seen.durable
   pub waited : wait ≡ true → row.end ≤ row.seen
-  pub given : All (HasAccountsOf (map account_given new.seen.given)) job.legs
+  pub given : GaveBack job inserted.balances new
   pub durable_first : wait ≡ true → All (λ (given : Given). row.end ≤ given.durable) new.seen.given
 
 -- Why the transfer was cut off: the seat read a stop word that isn't 0, where records are left or the worker waits; or its next record has
--- so many units, and by the tail as the seat saw it last they do not fit in the log.
+-- so many units, and by the tail as the seat saw it last they do not fit in the log; each account went back then, so that its balance as it
+-- was taken tells which record that is.
 abbrev pub HasCut : ℕ → Job → Bool → Cause → View → View → Type 0
 HasCut number job wait (Stop word) old new =
     (rest : List Rec) × HasInserted number job rest old new × (rest ≡ [] → wait ≡ true) × (word ≢ 0) × (new.seen.stop ≡ word)
 HasCut number job wait (LogEnd tail total) old new =
-    (next : Rec) × (rest : List Rec) × HasInserted number job (next ∷ rest) old new
+    (next : Rec) × (rest : List Rec) × (inserted : HasInserted number job (next ∷ rest) old new) × GaveBack job inserted.balances new
     × (total ≡ size_of next) × (LAST < tail + total) × (tail ≡ new.seen.tail) × Contains new.seen.lsns tail

@@ -18,7 +18,7 @@ use Rattle.txn_runner.specs.declared.cause.Worked.TheVariants.{All, Cut}
 use Rattle.txn_runner.specs.declared.jobs.Jobs.{Jobs}
 use Rattle.txn_runner.specs.declared.rows.Row.{Row}
 use Rattle.txn_runner.specs.declared.rows.Rows.{Rows}
-use Rattle.txn_runner.specs.Running.{outcome_of, LieInOrder}
+use Rattle.txn_runner.specs.Running.{outcome_of, LieInOrder, GaveBack}
 use Rattle.txn_runner.specs.Stripes.{number_at, job_at, stripe_jobs, IsOfStripe, HasStripe, IsStripeEnd}
 
 abbrev pub rows_in : Rows → List Row
@@ -50,6 +50,11 @@ pub record HasWorked (jobs : Jobs) (worker k : ℕ) (view : View) : Type 0 where
   pub below : LieInOrder 0 view.seen.tail view.entries
   pub in_turn : LieInTurn jobs worker view.entries
 
+-- the entries of before stay, and others follow them
+pub record KeepsEntries (old new : View) : Type 0 where
+  pub added : List Entry
+  pub entries : new.entries ≡ old.entries ++ added
+
 -- from k transfers of the stripe to n: the seat took just those, behind the jobs that it had
 pub record TakesJobs (jobs : Jobs) (worker k n : ℕ) (old new : View) : Type 0 where
   pub earlier : List TakenJob
@@ -71,10 +76,12 @@ HaveEnded jobs worker from to view = (j : ℕ) → from ≤ j → j < to → Has
 abbrev pub own_records : ℕ → List Entry → List Rec
 own_records number entries = filter (λ rec. txn_of rec == number) (records_of entries)
 
--- The transfer's next record has so many units, and they do not fit between this tail, which the seat saw last, and the last LSN.
+-- The transfer's next record, by the balances as its accounts were taken, which all went back, has so many units, and they do not fit
+-- between this tail, which the seat saw last, and the last LSN.
 pub record EndsLog (jobs : Jobs) (worker j tail total : ℕ) (view : View) : Type 0 where
   pub balances : ℕ → ℕ
   pub marks : ℕ → ℕ
+  pub given : GaveBack (job_at jobs worker j) balances view
   pub next : Rec
   pub rest : List Rec
   pub plan : own_records (number_at jobs worker j) view.entries ++ next ∷ rest

@@ -1,4 +1,4 @@
-ghost use Rattle.std.specs.Prelude.{◌≡◌, ◌≤◌, ◌+◌, ◌<◌, length, IfOk};
+ghost use Rattle.std.specs.Prelude.{◌≡◌, ◌≤◌, ◌+◌, ◌<◌, length, IfOk, OnErr};
 ghost use Rattle.log_record.specs.declared.limits.TheConstants.{LAST_TXN};
 
 use lsn_space::NoMemory;
@@ -29,6 +29,7 @@ impl Jobs {
         requires some { 1 ≤ first }
         requires shared { 1 ≤ workers }
         requires numbered { first + length script ≤ LAST_TXN }
+        ensures made { OnErr result ⊥ }
         ensures script { IfOk result (λ jobs. jobs.script ≡ script) }
         ensures first { IfOk result (λ jobs. jobs.first ≡ first) }
         ensures workers { IfOk result (λ jobs. jobs.workers ≡ workers) }

@@ -4,7 +4,7 @@ use Rattle.log_table.specs.declared.view.Books.{Books}
 use Rattle.log_table.specs.Seats.{view_of}
 use Rattle.txn_runner.specs.declared.cause.Cause.TheVariants.{Stop}
 use Rattle.txn_runner.specs.Holdings.{given_behind}
-use Rattle.txn_runner.proofs.Composing.{accounts-known, holds-job, still-known, still-all, still-held, took, still-taken, keeps-held, keeps-then, has-inserted, still-stops, has-cut, cut-early, has-run}
+use Rattle.txn_runner.proofs.Composing.{accounts-known, holds-job, still-known, gave-back, still-held, took, still-taken, keeps-held, keeps-then, has-inserted, still-stops, has-cut, has-stopped, cut-early, has-run}
 use Rattle.txn_runner.proofs.job.run_job.Goals as goal
 
 pub returns-then-word-ne0-clause-cut : goal.returns-then-word-ne0-clause-cut
@@ -48,8 +48,16 @@ returns-in-Err-clause-cut g c =
     let taken = still-taken _ _ _ _ (view_of c.take_all.new.seat) _ job all.entries_are all.same.grows all.books_are refl refl refl in
     let added = c.in-Err.ensures.added in
     let cut = c.in-Err.ensures.cut in
-    has-cut _ _ _ _ cut.rest _ _ (has-inserted _ _ _ _ _ _ _ _ taken added.1 cut.left (keeps-held _ _ _ _ c.give_all.ensures))
-    (λ none. absurd (cut.some none))
+    let none : (view_of c.insert_transfer.new.seat).seen.given ≡ [] =
+    added.1.entries.given_are ∙ all.given_are ∙ ap (λ m. m.0.seen.given) c.take_job-word.ensures.view.me in
+    let durable = (view_of c.insert_transfer.new.seat).seen.durable in
+    let paid = c.insert_transfer.new.holdings.items in
+    let list = c.accounts_of-accounts.ensures in
+    let gave = gave-back _ _ _ _ _ _ _ _ c.as_slice.ensures.value list.rising list.only c.requires.may.allowed c.in_ok-holdings.ensures.taken
+    paid c.in-Err.ensures.taken (view_of c.give_all.new.seat) durable list.all
+    (ap (λ m. m.0.seen.given) c.give_all.ensures.me ∙ ap (given_behind durable paid) none) in
+    has-cut _ _ _ _ cut.rest _ _ (has-inserted _ _ _ _ _ _ _ _ taken added.1 cut.left (keeps-held _ _ _ _ c.give_all.ensures)) gave
+    cut.some
     (still-stops _ _ _ _ _ _ c.give_all.ensures cut.stops)
 
 pub give_all-requires-2-clause-holds : goal.give_all-requires-2-clause-holds
@@ -73,8 +81,8 @@ returns-in_err-seen-clause-cut g c =
     let taken = still-taken _ _ _ _ (view_of c.take_all.new.seat) _ job all.entries_are all.same.grows all.books_are refl refl refl in
     let ends = c.in-Ok.ensures.ended in
     let keeps = keeps-then _ _ _ c.see_durable-seen.ensures.kept (keeps-held _ _ _ _ c.give_all-2.ensures) in
-    rw (failed.1, failed.2) (has-cut _ _ _ _ [] _ _ (has-inserted _ _ _ _ _ _ _ _ taken ends.adds ends.left keeps)
-    (λ none. c.in_err-seen.ensures.waits)
+    rw (failed.1, failed.2) (has-stopped _ _ _ _ _ _ (has-inserted _ _ _ _ _ _ _ _ taken ends.adds ends.left keeps)
+    c.in_err-seen.ensures.waits
     (still-stops _ _ _ _ _ _ c.give_all-2.ensures c.in_err-seen.ensures.stopped))
 
 pub returns-clause-run : goal.returns-clause-run
@@ -93,5 +101,5 @@ returns-clause-run g c =
     ap (λ m. m.0.seen.given) c.give_all-2.ensures.me ∙ (λ i. given_behind (sym c.in_ok-seen.ensures.seen i) paid (none i)) in
     let list = c.accounts_of-accounts.ensures in
     has-run _ _ _ _ _ _ _ _ _ _ taken c.in-Ok.ensures.ended keeps seen c.in_ok-seen.ensures.waited paid given
-    (still-all _ _ _ _ _ _ _ _ c.as_slice.ensures.value list.rising list.only c.requires.may.allowed c.in_ok-holdings.ensures.taken
-    _ c.in-Ok.ensures.taken list.all)
+    (gave-back _ _ _ _ _ _ _ _ c.as_slice.ensures.value list.rising list.only c.requires.may.allowed c.in_ok-holdings.ensures.taken
+    paid c.in-Ok.ensures.taken (view_of c.give_all-2.new.seat) c.in_ok-seen.seen list.all given)

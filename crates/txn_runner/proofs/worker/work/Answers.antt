@@ -61,6 +61,9 @@ stopped g c = Progress-cut c.args.jobs.now c.args.seat.now.worker c.args.wait c.
 pub returns-in-Err-clause-worked : goal.returns-in-Err-clause-worked
 returns-in-Err-clause-worked g c = (stopped g c).worked
 
+pub returns-in-Err-clause-kept : goal.returns-in-Err-clause-kept
+returns-in-Err-clause-kept g c = (stopped g c).kept
+
 pub returns-in-Err-clause-jobs : goal.returns-in-Err-clause-jobs
 returns-in-Err-clause-jobs g c = (stopped g c).takes
 
