@@ -1,6 +1,7 @@
 -- A lawful list, and what is lawful after it, is a lawful list: sums, last Commits and tests go on.
-use Rattle.std.proofs.Common.{◌≡◌, ◌<◌, ◌≤◌, ℕ, ◌+◌, ◌-◌, ◌*◌, ◌&&◌, cond, ℤ, Bool, false, true≢false, List, [], ◌∷◌, ◌++◌, length, refl, ap, ◌∙◌, sym, subst, arith, length-append}
+use Rattle.std.proofs.Common.{◌≡◌, ◌<◌, ℕ, ◌+◌, ◌-◌, ◌*◌, ◌&&◌, cond, ℤ, Bool, false, true≢false, List, [], ◌∷◌, ◌++◌, length, refl, ap, ◌∙◌, sym, subst, arith, length-append}
 use Rattle.std.specs.List.{AllByRecursion}
+use Rattle.log_record.specs.declared.limits.TheConstants.{MOST_LEGS}
 use Rattle.log_record.specs.declared.rec.Rec.{Rec}
 use Rattle.log_record.specs.declared.rec.Entry.{Entry}
 use Rattle.log_record.specs.declared.rec.Rec.TheVariants.{Genesis, Update, Commit, Short, Over, Note}
@@ -113,7 +114,7 @@ module _ (base : BaseState) (l : List Entry) (met : AreMet base l) where
           let same = own (Update txn account delta prev) end apart in record {
             account = meets.account;
             ended = subst (λ records. has_end records ≡ false) same meets.ended;
-            legs = subst (λ records. length (changes_in records) ≤ 15) same meets.legs;
+            legs = subst (λ records. length (changes_in records) < 2 * MOST_LEGS) same meets.legs;
             pair = subst (λ records. IsPaired (changes_in records) (record { account = account; delta = delta; prev = prev })) same meets.pair;
             prev = meets.prev ∙ last h account apart.1;
             stale = tt;

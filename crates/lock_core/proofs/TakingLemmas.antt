@@ -2,6 +2,7 @@
 use Rattle.std.proofs.Common.{◌≡◌, ◌<◌, ◌≤◌, ℕ, ◌-◌, ◌*◌, true, false, true≢false, List, [], ◌∷◌, ◌++◌, length, Result, Ok, Err, refl, ap, ◌∙◌, sym, subst, arith}
 use Rattle.std.specs.Prelude.{OnOk, IfErr, MatchResult}
 use Rattle.std.specs.List.{AllByRecursion}
+use Rattle.log_record.specs.declared.limits.TheConstants.{MOST_LEGS}
 use Rattle.log_record.specs.declared.rec.Rec.{Rec}
 use Rattle.log_record.specs.declared.rec.Entry.{Entry}
 use Rattle.log_record.specs.declared.rec.Rec.TheVariants.{Genesis, Update, Commit, Short, Over, Note}
@@ -113,21 +114,21 @@ module _ (ledger : Ledger) (h : List Entry) (kept : KeepsLedger ledger h) where
     known : change.account < (genesis_of h).accounts
     known = let same = counted in omega arith
 
-    pub fails-update-legs : has_end (records_of txn h) ≡ false → 15 < length (updates_of txn h) → IsFirstFailing (Passes h update) why.Legs
+    pub fails-update-legs : has_end (records_of txn h) ≡ false → 2 * MOST_LEGS ≤ length (updates_of txn h) → IsFirstFailing (Passes h update) why.Legs
     fails-update-legs unended many = record { passes = (some, (known, (unended, tt))); fails = λ few. omega arith }
 
-    pub fails-update-pair : has_end (records_of txn h) ≡ false → length (updates_of txn h) ≤ 15 → (IsPaired (updates_of txn h) change → ⊥)
+    pub fails-update-pair : has_end (records_of txn h) ≡ false → length (updates_of txn h) < 2 * MOST_LEGS → (IsPaired (updates_of txn h) change → ⊥)
         → IsFirstFailing (Passes h update) why.Pair
     fails-update-pair unended few apart = record { passes = (some, (known, (unended, (few, tt)))); fails = apart }
 
-    pub fails-update-prev : has_end (records_of txn h) ≡ false → length (updates_of txn h) ≤ 15 → IsPaired (updates_of txn h) change
+    pub fails-update-prev : has_end (records_of txn h) ≡ false → length (updates_of txn h) < 2 * MOST_LEGS → IsPaired (updates_of txn h) change
         → (change.prev ≡ (row ledger.accounts.rows change.account).1 → ⊥) → IsFirstFailing (Passes h update) why.Prev
     fails-update-prev unended few paired stale = record {
       passes = (some, (known, (unended, (few, (paired, tt)))));
       fails = λ names. stale (names ∙ sym (kept.judged.rows.last change.account below));
     }
 
-    pub takes-update : (txns : Transactions) → has_end (records_of txn h) ≡ false → length (updates_of txn h) ≤ 15 → IsPaired (updates_of txn h) change
+    pub takes-update : (txns : Transactions) → has_end (records_of txn h) ≡ false → length (updates_of txn h) < 2 * MOST_LEGS → IsPaired (updates_of txn h) change
         → change.prev ≡ (row ledger.accounts.rows change.account).1 → KeepsTransactions txns (update ∷ h)
         → KeepsLedger (record { accounts = ledger.accounts; is_opening = false; txns = txns }) (update ∷ h)
     takes-update txns unended few paired names keeps = record {

@@ -4,13 +4,9 @@ use Rattle.std.specs.List.{AllByRecursion}
 use Rattle.log_record.specs.declared.rec.Rec.{Rec}
 use Rattle.log_record.specs.declared.rec.Rec.TheVariants.{Update, Commit, Short, Over, Note}
 use Rattle.log_record.specs.Spelling.{IsNoteText}
-use Rattle.log_record.specs.declared.limits.TheConstants.{MOST_BALANCE}
+use Rattle.log_record.specs.declared.limits.TheConstants.{MOST_BALANCE, MOST_LEGS}
 
--- a leg: the account that pays, the account that receives, and the amount
-abbrev pub Leg : Type 0
-Leg = ℕ × ℕ × ℕ
-
--- a transfer: its legs in order, and the bytes of its note, none where it has no note
+-- a transfer: its legs in order, each the account that pays, the account that receives and the amount, and the bytes of its note, none where it has no note
 pub record Job : Type 0 where
   pub legs : List (ℕ × ℕ × ℕ)
   pub note : List ℕ
@@ -26,7 +22,7 @@ pub record IsAllowedLeg (accounts : ℕ) (leg : ℕ × ℕ × ℕ) : Type 0 wher
 -- a transfer that a log of so many accounts allows
 pub record IsAllowed (accounts : ℕ) (job : Job) : Type 0 where
   pub some : 1 ≤ length job.legs
-  pub few : length job.legs ≤ 8
+  pub few : length job.legs ≤ MOST_LEGS
   pub legs : AllByRecursion (IsAllowedLeg accounts) job.legs
   pub note : (job.note ≡ []) ⊎ IsNoteText job.note
 
@@ -74,10 +70,6 @@ balances_after (OverAt leg) job balance = balance
 -- the balances after the transfer, run alone on these
 abbrev pub balances_after_alone : Job → (ℕ → ℕ) → ℕ → ℕ
 balances_after_alone job balance = balances_after (outcome_alone job balance) job balance
-
--- the transfer run alone on these balances: its outcome, and the balances after it
-abbrev pub run_alone : Job → (ℕ → ℕ) → Outcome × (ℕ → ℕ)
-run_alone job balance = (outcome_alone job balance, balances_after_alone job balance)
 
 -- the Note of a transfer, if it has one, and then more records
 abbrev pub with_note : ℕ → List ℕ → List Rec → List Rec

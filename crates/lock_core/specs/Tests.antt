@@ -1,6 +1,7 @@
 -- The tests of a record on the history before it, each for its kinds of record.
-use Rattle.std.specs.Prelude.{◌≡◌, ◌≢◌, ◌-◌, ◌*◌, ◌≤◌, ◌<◌, neg_ℤ, true, false, MatchBool, List, [], ◌∷◌, length}
+use Rattle.std.specs.Prelude.{◌≡◌, ◌≢◌, ◌-◌, ◌*◌, ◌<◌, neg_ℤ, true, false, MatchBool, List, [], ◌∷◌, length}
 use Rattle.std.specs.List.{AllByRecursion}
+use Rattle.log_record.specs.declared.limits.TheConstants.{MOST_LEGS}
 use Rattle.log_record.specs.declared.rec.Rec.{Rec}
 use Rattle.log_record.specs.declared.rec.Entry.{Entry}
 use Rattle.log_record.specs.declared.rec.Rec.TheVariants.{Genesis, Update, Commit, Short, Over, Note}
@@ -45,10 +46,10 @@ IsUnended h (Short txn leg) = has_end (records_of txn h) ≡ false
 IsUnended h (Over txn leg) = has_end (records_of txn h) ≡ false
 IsUnended h (Note txn text) = has_end (records_of txn h) ≡ false
 
--- An Update is at most the 16th of its transaction; a Commit counts two Updates for each leg; a Short or Over two for
+-- Of a transaction there are at most two Updates for each leg that it may have; a Commit counts two Updates for each leg; a Short or Over two for
 -- each leg before its own.
 abbrev pub CountsLegs : List Entry → Rec → Type 0
-CountsLegs h (Update txn account delta prev) = length (updates_of txn h) ≤ 15
+CountsLegs h (Update txn account delta prev) = length (updates_of txn h) < 2 * MOST_LEGS
 CountsLegs h (Commit txn legs) = length (updates_of txn h) ≡ 2 * legs
 CountsLegs h (Short txn leg) = length (updates_of txn h) ≡ 2 * (leg - 1)
 CountsLegs h (Over txn leg) = length (updates_of txn h) ≡ 2 * (leg - 1)

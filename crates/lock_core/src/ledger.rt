@@ -11,7 +11,7 @@ use crate::checks::{are_current, is_current, is_paired};
 use crate::reason::{JudgeFault, Why};
 use crate::settling::settle;
 use crate::transactions::Transactions;
-use crate::update::Change;
+use crate::update::{Change, MOST_UPDATES};
 use log_record::{MOST_ACCOUNTS, Rec};
 use lsn_space::{Balances, Lsn, NoMemory};
 use std::alloc::Global;
@@ -97,7 +97,7 @@ impl Ledger {
             return Err(JudgeFault::Why(Why::Ended));
         };
         let newest = self.txns.update(place);
-        if newest.count > 15 {
+        if newest.count >= MOST_UPDATES {
             return Err(JudgeFault::Why(Why::Legs));
         }
         if !is_paired(&[newest.change], &change) {

@@ -1,6 +1,7 @@
-ghost use Rattle.std.specs.Prelude.{◌≡◌, ◌==◌, ◌<◌, ◌≤◌, ◌^◌, if◌then◌else◌, length, MatchOption};
+ghost use Rattle.std.specs.Prelude.{◌≡◌, ◌==◌, ◌<◌, ◌≤◌, ◌*◌, ◌^◌, if◌then◌else◌, length, MatchOption};
 ghost use Rattle.std.specs.Bool.{OnTrue, OnFalse};
 ghost use Rattle.std.specs.List.{AllByRecursion};
+ghost use Rattle.log_record.specs.declared.limits.TheConstants.{MOST_LEGS};
 ghost use Rattle.log_record.specs.Spelling.{IsBalance};
 ghost use Rattle.lock_core.specs.Records.{gain, loss};
 ghost use Rattle.lock_core.specs.Transactions.{touches};
@@ -35,7 +36,7 @@ fn loss(change: &Change, account: u32) -> u32
 
 /// What the changes add to the account.
 fn gains(changes: &[Change], account: u32) -> u64
-    requires { length changes.now ≤ 16 }
+    requires { length changes.now ≤ 2 * MOST_LEGS }
     ensures sum { result ≡ moved gain account changes.now }
     ensures small { result < 2 ^ 36 }
 {
@@ -48,7 +49,7 @@ fn gains(changes: &[Change], account: u32) -> u64
 
 /// What the changes take from the account.
 fn losses(changes: &[Change], account: u32) -> u64
-    requires { length changes.now ≤ 16 }
+    requires { length changes.now ≤ 2 * MOST_LEGS }
     ensures sum { result ≡ moved loss account changes.now }
     ensures small { result < 2 ^ 36 }
 {
@@ -67,7 +68,7 @@ fn touches(changes: &[Change], account: u32) -> bool
 
 /// The account's balance after the changes, unless it leaves its range.
 fn balance_after(balance: u32, changes: &[Change], account: u32) -> Option<u32>
-    requires few { length changes.now ≤ 16 }
+    requires few { length changes.now ≤ 2 * MOST_LEGS }
     requires range { IsBalance balance }
     ensures { MatchOption result (LeavesRange changes.now account balance)
         (λ after. IsBalance after × IsBalanceAfter changes.now account balance after) }
@@ -85,7 +86,7 @@ fn balance_after(balance: u32, changes: &[Change], account: u32) -> Option<u32>
 /// Makes the part of a Commit of the changes that concerns one account of theirs: true, and its row is then the one after
 /// it; or false where its balance leaves its range.
 fn settle_account(accounts: &mut Balances, changes: &[Change], account: u32, end: Lsn) -> bool
-    requires few { length changes.now ≤ 16 }
+    requires few { length changes.now ≤ 2 * MOST_LEGS }
     requires known { account < length accounts.old.rows }
     requires range { IsBalance (row accounts.old.rows account).0 }
     ensures room { accounts.new.room ≡ accounts.old.room }
@@ -103,7 +104,7 @@ fn settle_account(accounts: &mut Balances, changes: &[Change], account: u32, end
 /// Makes a Commit of the changes, which ends here: true, and the accounts are then those after it; or
 /// false where a balance leaves its range, and the accounts are then of no use.
 pub fn settle(accounts: &mut Balances, changes: &[Change], end: Lsn) -> bool
-    requires few { length changes.now ≤ 16 }
+    requires few { length changes.now ≤ 2 * MOST_LEGS }
     requires known { AllByRecursion (λ change. change.account < length accounts.old.rows) changes.now }
     requires range { AreRowsInRange accounts.old.rows }
     ensures room { accounts.new.room ≡ accounts.old.room }

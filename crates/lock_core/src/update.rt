@@ -1,8 +1,11 @@
 ghost use Rattle.std.specs.Prelude.{◌≡◌};
 ghost use Rattle.lock_core.specs.Records.{txn_of};
 
-use log_record::Rec;
+use log_record::{MOST_LEGS, Rec};
 use lsn_space::Lsn;
+
+/// The most Updates of a transaction: two for each leg.
+pub(crate) const MOST_UPDATES: u32 = 2 * MOST_LEGS as u32;
 
 /// What an Update says: it changes an account by this delta. `prev` is the end of the account's last
 /// Commit.

@@ -3,8 +3,9 @@ use Rattle.std.specs.Prelude.{◌≡◌, ◌≢◌, ℕ, zero, suc, ◌+◌, ◌
 use Rattle.std.specs.Int.{w32, cast_unsigned}
 use Rattle.lsn_space.specs.declared.lsn.TheConstants.{LAST}
 use Rattle.lsn_space.specs.Unit.{unit_value}
-use Rattle.log_record.specs.declared.limits.TheConstants.{MOST_ACCOUNTS, MOST_BALANCE, LAST_TXN}
+use Rattle.log_record.specs.declared.limits.TheConstants.{MOST_ACCOUNTS, MOST_BALANCE, MOST_LEGS, LAST_TXN}
 use Rattle.log_record.specs.declared.rec.Rec.{Rec}
+use Rattle.log_record.specs.declared.text.TheConstants.{LONGEST_NOTE}
 use Rattle.log_record.specs.declared.rec.Rec.TheVariants.{Genesis, Update, Commit, Short, Over, Note}
 
 -- The first unit of a record. From the highest bit: its kind (8 bits), its number of units (8), a field (16), its
@@ -49,7 +50,7 @@ IsTxn txn = (1 ≤ txn) × (txn ≤ LAST_TXN)
 
 -- a number of legs, or the number of a leg
 abbrev pub IsLeg : ℕ → Type 0
-IsLeg leg = (1 ≤ leg) × (leg ≤ 8)
+IsLeg leg = (1 ≤ leg) × (leg ≤ MOST_LEGS)
 
 abbrev pub IsDelta : ℤ → Type 0
 IsDelta delta = (pos 0 ≢ delta) × (neg_ℤ (pos MOST_BALANCE) ≤ℤ delta) × (delta ≤ℤ pos MOST_BALANCE)
@@ -59,7 +60,7 @@ abbrev pub IsPrintable : ℕ → Type 0
 IsPrintable byte = (32 ≤ byte) × (byte ≤ 126)
 
 abbrev pub IsNoteText : List ℕ → Type 0
-IsNoteText text = (1 ≤ length text) × (length text ≤ 200) × All IsPrintable text
+IsNoteText text = (1 ≤ length text) × (length text ≤ LONGEST_NOTE) × All IsPrintable text
 
 -- the fields of the record are in their ranges, so that its spelling is one
 abbrev pub IsSpellable : Rec → Type 0

@@ -3,6 +3,7 @@
 ghost use Rattle.std.specs.Prelude.{◌≡◌, ◌<◌, ◌≤◌, ◌^◌, ◌-◌, ◌++◌, ◌↔◌, ℕ, List, length, All};
 ghost use Rattle.lsn_space.specs.Tiling.{IsTiling};
 ghost use Rattle.log_record.specs.declared.rec.Rec.{Rec};
+ghost use Rattle.log_record.specs.declared.units.TheConstants.{LONGEST_RECORD};
 ghost use Rattle.log_record.specs.LogList.{units_of, end_of, starts_of, ranges_of, prefix_to, IsBoundary};
 ghost use Rattle.log_record.specs.Spelling.{spelling, IsSpellable, BeginsWith};
 
@@ -15,10 +16,10 @@ pub fn one_spelling()
     ensures list { (L M : List Rec) → All IsSpellable L → All IsSpellable M → units_of L ≡ units_of M → L ≡ M }
 {}
 
-/// A law: a spelling has 1 to 26 units, each of 64 bits.
+/// A law: a spelling has 1 to `LONGEST_RECORD` units, each of 64 bits.
 pub fn spelling_bounds()
     ensures some { (r : Rec) → 1 ≤ length (spelling r) }
-    ensures short { (r : Rec) → IsSpellable r → length (spelling r) ≤ 26 }
+    ensures short { (r : Rec) → IsSpellable r → length (spelling r) ≤ LONGEST_RECORD }
     ensures fits { (r : Rec) → IsSpellable r → All (λ unit. unit < 2 ^ 64) (spelling r) }
 {}
 

@@ -18,5 +18,5 @@ pub use limits::{LAST_TXN, MOST_ACCOUNTS, MOST_BALANCE, MOST_LEGS};
 pub use reading::{BadRec, read};
 pub use rec::{Entry, Rec};
 pub use text::{LONGEST_NOTE, Text};
-pub use units::{MOST_UNITS, Units};
+pub use units::{LONGEST_RECORD, Units};
 pub use writing::spell;

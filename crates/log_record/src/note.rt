@@ -44,7 +44,7 @@ fn buffer_of(text: &[u8]) -> [u8; LONGEST_NOTE]
 }
 
 /// The bytes of so many units.
-fn bytes_in(units: &[u64]) -> ArrayVec<u8, 200>
+fn bytes_in(units: &[u64]) -> ArrayVec<u8, LONGEST_NOTE>
     requires { length units.now ≤ 25 }
     ensures bytes { result.items ≡ flat_map unit_bytes units.now }
     ensures len { length result.items ≡ 8 * length units.now }

@@ -12,7 +12,7 @@ pub const LONGEST_NOTE: usize = 200;
 /// The bytes of a note, at most `LONGEST_NOTE`. Contracts see the list of them.
 #[derive(Debug, Drop)]
 pub struct Text {
-    bytes: ArrayVec<u8, 200>,
+    bytes: ArrayVec<u8, LONGEST_NOTE>,
 }
 
 impl Model for Text {

@@ -1,16 +1,16 @@
 ghost use Rattle.std.specs.Prelude.{◌≡◌, ◌<◌, ◌≤◌, ◌++◌, ◌∷◌, [], length};
-ghost use Rattle.log_record.specs.declared.units.TheConstants.{MOST_UNITS};
+ghost use Rattle.log_record.specs.declared.units.TheConstants.{LONGEST_RECORD};
 
 use arrayvec::ArrayVec;
 use std::marker::Model;
 
-/// The most units of a record: the header, and 200 bytes of a note.
-pub const MOST_UNITS: usize = 26;
+/// The most units of a record: the header, and the longest note.
+pub const LONGEST_RECORD: usize = 26;
 
-/// The units of one record, at most `MOST_UNITS`. Contracts see the list of them.
+/// The units of one record, at most `LONGEST_RECORD`. Contracts see the list of them.
 #[derive(Debug, Drop)]
 pub struct Units {
-    units: ArrayVec<u64, 26>,
+    units: ArrayVec<u64, LONGEST_RECORD>,
 }
 
 impl Model for Units {
@@ -31,7 +31,7 @@ impl Units {
     }
 
     pub fn push(&mut self, unit: u64)
-        requires { length self.old < MOST_UNITS }
+        requires { length self.old < LONGEST_RECORD }
         ensures { self.new ≡ self.old ++ unit ∷ [] }
     {
         self.units.push(unit);
@@ -39,7 +39,7 @@ impl Units {
 
     pub fn as_slice(&self) -> &[u64]
         ensures units { result.now ≡ self.now }
-        ensures short { length self.now ≤ MOST_UNITS }
+        ensures short { length self.now ≤ LONGEST_RECORD }
     {
         self.units.as_slice()
     }

@@ -5,6 +5,7 @@ ghost use Rattle.std.specs.Int.{w32, cast_unsigned};
 ghost use Rattle.log_record.specs.Reading.{header_unit};
 ghost use Rattle.log_record.specs.Spelling.{header as first_unit, spelling, IsSpellable, IsNoteText};
 ghost use Rattle.log_record.specs.declared.rec.Rec.TheVariants.{Note};
+ghost use Rattle.log_record.specs.declared.units.TheConstants.{LONGEST_RECORD};
 
 use crate::header::{COMMIT, GENESIS, Header, NOTE, OVER, SHORT, UPDATE};
 use crate::note::{note_units, push_text};
@@ -18,7 +19,7 @@ pub fn spell(rec: &Rec) -> Units
     requires { IsSpellable rec.now }
     ensures units { result ≡ spelling rec.now }
     ensures some { 1 ≤ length result }
-    ensures short { length result ≤ 26 }
+    ensures short { length result ≤ LONGEST_RECORD }
 {
     let mut units = Units::new();
     match rec {

@@ -13,7 +13,7 @@ use super::own::own_records;
 use crate::checks::{are_current, is_current, is_paired};
 use crate::reason::Why;
 use crate::settling::settle;
-use crate::update::Change;
+use crate::update::{Change, MOST_UPDATES};
 use arrayvec::ArrayVec;
 use log_record::{Entry, MOST_ACCOUNTS, Rec, Text};
 use lsn_space::{Balances, Lsn};
@@ -60,7 +60,7 @@ pub fn admit_update(
     if own.is_ended {
         return Err(Why::Ended);
     }
-    if own.changes.len() > 15 {
+    if own.changes.len() >= MOST_UPDATES as usize {
         return Err(Why::Legs);
     }
     if !is_paired(own.changes.as_slice(), &change) {
