@@ -19,4 +19,4 @@ pub use reading::{BadRec, read};
 pub use rec::{Entry, Rec};
 pub use text::{LONGEST_NOTE, Text};
 pub use units::{LONGEST_RECORD, Units};
-pub use writing::spell;
+pub use writing::{spell, spell_into};

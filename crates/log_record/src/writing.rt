@@ -22,10 +22,22 @@ pub fn spell(rec: &Rec) -> Units
     ensures short { length result ≤ LONGEST_RECORD }
 {
     let mut units = Units::new();
+    spell_into(rec, &mut units);
+    units
+}
+
+/// The same, put into units that are empty: so they aren't copied.
+pub fn spell_into(rec: &Rec, units: &mut Units)
+    requires spellable { IsSpellable rec.now }
+    requires empty { units.old ≡ [] }
+    ensures units { units.new ≡ spelling rec.now }
+    ensures some { 1 ≤ length units.new }
+    ensures short { length units.new ≤ LONGEST_RECORD }
+{
     match rec {
         Rec::Genesis { account, balance } => {
             let first = header(GENESIS, 2, *account, 0);
-            push_pair(&mut units, first, *balance as u64);
+            push_pair(units, first, *balance as u64);
         }
         Rec::Update {
             txn,
@@ -34,14 +46,13 @@ pub fn spell(rec: &Rec) -> Units
             prev,
         } => {
             let first = header(UPDATE, 2, *account, *txn);
-            push_pair(&mut units, first, change(*delta, *prev));
+            push_pair(units, first, change(*delta, *prev));
         }
         Rec::Commit { txn, legs } => units.push(header(COMMIT, 1, *legs, *txn).unit()),
         Rec::Short { txn, leg } => units.push(header(SHORT, 1, *leg, *txn).unit()),
         Rec::Over { txn, leg } => units.push(header(OVER, 1, *leg, *txn).unit()),
-        Rec::Note { txn, text } => push_note(&mut units, *txn, text),
+        Rec::Note { txn, text } => push_note(units, *txn, text),
     }
-    units
 }
 
 fn header(kind: u8, units: u8, field: u32, txn: u32) -> Header

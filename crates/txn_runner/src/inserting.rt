@@ -10,7 +10,7 @@ use crate::cause::Cause;
 use crate::relief::Relief;
 use crate::waiting::pause;
 use log_disk::Gate;
-use log_record::{Rec, spell};
+use log_record::{Rec, Units, spell_into};
 use log_table::{LogTable, Seat};
 use lsn_space::Lsn;
 use ring_buffer::{Refused, insert_alone};
@@ -36,7 +36,8 @@ pub(crate) fn insert_record<R: Wait, Q: Relief, G: Gate>(
     ensures relief { Q.ready relief.new }
     ensures later { Q.later relief.old relief.new }
 {
-    let units = spell(rec);
+    let mut units = Units::new();
+    spell_into(rec, &mut units);
     let count = units.as_slice().len() as u32;
     for _ in rt.forever() {
         match insert_alone(rt, table, seat, &units, gate) {

@@ -6,20 +6,21 @@ use crate::jobs::Jobs;
 use txn_script::Job;
 
 impl Jobs {
-    /// The worker's k-th transfer, from 0, under its number. None: the script has no more for it.
-    pub(crate) fn transfer(&self, worker: u32, k: u64) -> Option<(u32, Job)>
+    /// Makes this the worker's k-th transfer, from 0, and answers its number. None: the script has no more for it.
+    pub(crate) fn fetch(&self, worker: u32, k: u64, job: &mut Job) -> Option<u32>
         requires worker { worker < self.now.workers }
         requires stripe { HasStripe self.now worker k }
-        ensures within { IfSome result (λ taken. place_of self.now worker k < length self.now.script) }
-        ensures number { IfSome result (λ taken. taken.0 ≡ number_at self.now worker k) }
-        ensures job { IfSome result (λ taken. taken.1 ≡ job_at self.now worker k) }
+        ensures within { IfSome result (λ number. place_of self.now worker k < length self.now.script) }
+        ensures number { IfSome result (λ number. number ≡ number_at self.now worker k) }
+        ensures job { IfSome result (λ number. job.new ≡ job_at self.now worker k) }
         ensures end { IfNone result (IsStripeEnd self.now worker k) }
     {
         let place = self.place(worker, k);
         if place >= self.count() {
             return None;
         }
-        Some(((self.first + place) as u32, self.script.job(place)))
+        self.script.fetch(place, job);
+        Some((self.first + place) as u32)
     }
 
     fn place(&self, worker: u32, k: u64) -> u64

@@ -13,6 +13,7 @@ use crate::rows::Rows;
 use log_disk::Gate;
 use log_table::{LogTable, Seat};
 use std::sync::Wait;
+use txn_script::Job;
 
 /// Makes the transfers of the worker's stripe, as many as are left, and for each that ended there is a row, but for the
 /// last one where the worker waits and the log stops before it saw that end durable. It waits: for accounts that others hold,
@@ -47,7 +48,9 @@ pub fn work<R: Wait, Q: Relief, G: Gate>(
     ensures relief { Q.ready relief.new }
     ensures later { Q.later relief.old relief.new }
 {
-    'stripe: while let Some((number, job)) = jobs.transfer(seat.worker(), rows.taken()) {
+    // One place for all of them, so that none is copied.
+    let mut job = Job::new();
+    'stripe: while let Some(number) = jobs.fetch(seat.worker(), rows.taken(), &mut job) {
         rows.take();
         match run_job(rt, table, seat, number, &job, relief, wait, gate) {
             Ok(row) => rows.push(row),

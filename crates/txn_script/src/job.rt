@@ -1,4 +1,4 @@
-ghost use Rattle.std.specs.Prelude.{◌≡◌, ◌<◌, ◌≤◌, ◌++◌, ◌∷◌, [], length, All, IsTrue, ◌↔◌, IfSome, IfNone};
+ghost use Rattle.std.specs.Prelude.{◌≡◌, ◌<◌, ◌≤◌, ◌++◌, ◌∷◌, [], length, All, IsTrue, ◌↔◌, None, IfSome, IfNone};
 ghost use Rattle.log_record.specs.declared.limits.TheConstants.{MOST_LEGS};
 ghost use Rattle.log_record.specs.Spelling.{IsNoteText, IsPrintable};
 
@@ -35,6 +35,13 @@ impl Legs {
         ensures { self.new ≡ self.old ++ leg ∷ [] }
     {
         self.legs.push(leg);
+    }
+
+    /// Takes all legs away.
+    pub(crate) fn clear(&mut self)
+        ensures { self.new ≡ [] }
+    {
+        self.legs.clear();
     }
 
     /// The same legs once more.
@@ -110,6 +117,16 @@ pub struct Job {
 }
 
 impl Job {
+    /// No legs and no note yet.
+    pub fn new() -> Job
+        ensures { result ≡ record { legs = []; note = None } }
+    {
+        Job {
+            legs: Legs::new(),
+            note: None,
+        }
+    }
+
     /// The same transfer once more.
     pub(crate) fn copy(&self) -> Job
         ensures { result ≡ self.now }

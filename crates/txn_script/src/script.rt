@@ -63,15 +63,25 @@ impl Script {
         self.stored.len() as u64
     }
 
+    /// Makes this the transfer at that place, from 0 on.
+    pub fn fetch(&self, place: u64, job: &mut Job)
+        requires { place < length self.now }
+        ensures { slice_get self.now place ≡ Some job.new }
+    {
+        match self.stored[place as usize] {
+            Stored::Single(leg) => job.become_single(leg),
+            Stored::Long(at) => *job = self.long[at].copy(),
+        }
+    }
+
     /// The transfer at this place, from 0 on.
     pub fn job(&self, place: u64) -> Job
         requires { place < length self.now }
         ensures { slice_get self.now place ≡ Some result }
     {
-        match self.stored[place as usize] {
-            Stored::Single(leg) => Job::of_leg(leg),
-            Stored::Long(at) => self.long[at].copy(),
-        }
+        let mut job = Job::new();
+        self.fetch(place, &mut job);
+        job
     }
 }
 

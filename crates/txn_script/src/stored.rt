@@ -2,7 +2,7 @@
 ghost use Rattle.std.specs.Prelude.{◌≡◌, ◌∷◌, [], None, IfSome};
 ghost use Rattle.txn_script.specs.declared.job.Job.{Job};
 
-use crate::job::{Job, Legs};
+use crate::job::Job;
 
 /// A transfer as a script keeps it. Nearly all have one leg and no note, and take a few bytes so.
 #[derive(Clone, Copy, Debug)]
@@ -24,12 +24,23 @@ impl Job {
         }
     }
 
+    /// Makes this the transfer of one leg and no note. What it has of that already isn't written again.
+    pub(crate) fn become_single(&mut self, leg: (u32, u32, u32))
+        ensures { self.new ≡ record { legs = leg ∷ []; note = None } }
+    {
+        self.legs.clear();
+        self.legs.push(leg);
+        if self.note.is_some() {
+            self.note = None;
+        }
+    }
+
     /// The transfer of one leg and no note.
     pub(crate) fn of_leg(leg: (u32, u32, u32)) -> Job
         ensures { result ≡ record { legs = leg ∷ []; note = None } }
     {
-        let mut legs = Legs::new();
-        legs.push(leg);
-        Job { legs, note: None }
+        let mut job = Job::new();
+        job.legs.push(leg);
+        job
     }
 }

@@ -8,15 +8,15 @@ use Rattle.txn_runner.proofs.worker.work.Goals as goal
 use Rattle.txn_runner.proofs.worker.work.Goals.{In-Some, In-Err}
 
 -- the transfer is the worker's next
-next-is : (g : _) (c : In-Some g) → IsNextJob c.args.jobs.now c.args.seat.now.worker (taken_in c.stripe.rows) c.in-Some.number c.in-Some.job
+next-is : (g : _) (c : In-Some g) → IsNextJob c.args.jobs.now c.args.seat.now.worker (taken_in c.stripe.rows) c.in-Some.number c.fetch.new.job
 next-is g c =
-    subst (λ worker. IsNextJob c.args.jobs.now worker (taken_in c.stripe.rows) c.in-Some.number c.in-Some.job)
+    subst (λ worker. IsNextJob c.args.jobs.now worker (taken_in c.stripe.rows) c.in-Some.number c.fetch.new.job)
     (c.worker.ensures.worker ∙ c.stripe.invariant.same.worker)
-    (subst (λ k. IsNextJob c.args.jobs.now c.worker.result k c.in-Some.number c.in-Some.job) c.taken.ensures
+    (subst (λ k. IsNextJob c.args.jobs.now c.worker.result k c.in-Some.number c.fetch.new.job) c.taken.ensures
     record { within = c.in-Some.ensures.within; number_is = c.in-Some.ensures.number; job_is = c.in-Some.ensures.job })
 
 pub run_job-requires-clause-may : goal.run_job-requires-clause-may
-run_job-requires-clause-may g c = MayTakeJob-next c.args.jobs.now c.args.seat.now.worker (taken_in c.stripe.rows) c.in-Some.number c.in-Some.job
+run_job-requires-clause-may g c = MayTakeJob-next c.args.jobs.now c.args.seat.now.worker (taken_in c.stripe.rows) c.in-Some.number c.fetch.new.job
     (next-is g (goal.at.run_job-requires-clause-may g c).In-Some) c.args.table.now.accounts (view_of c.stripe.seat) c.stripe.invariant.ready
     c.stripe.invariant.none_held c.requires.allowed c.stripe.invariant.progress.worked
 
@@ -38,7 +38,7 @@ stripe-preserved g c = record {
   none_held = c.in-Ok.ensures.none_held;
   same = search rules;
   progress = Progress-next c.args.jobs.now c.args.seat.now.worker c.args.wait c.args.rows.now c.stripe.rows c.push.new.self
-      (view_of c.args.seat.now) (view_of c.stripe.seat) (view_of c.run_job.new.seat) c.stripe.invariant.progress c.in-Some.number c.in-Some.job
+      (view_of c.args.seat.now) (view_of c.stripe.seat) (view_of c.run_job.new.seat) c.stripe.invariant.progress c.in-Some.number c.fetch.new.job
       (next-is g (goal.at.stripe-preserved g c).In-Some)
       record { tail = c.stripe.invariant.same.grows; durable = c.stripe.invariant.same.durable }
       record { tail = c.in-Ok.ensures.same.grows; durable = c.in-Ok.ensures.same.durable }
@@ -52,7 +52,7 @@ stripe-preserved g c = record {
 stopped : (g : _) (c : In-Err g) → Stopped c.args.jobs.now c.args.seat.now.worker c.args.wait c.args.rows.now c.take.new.self
     (view_of c.args.seat.now) (view_of c.run_job.new.seat) c.in-Err.cause
 stopped g c = Progress-cut c.args.jobs.now c.args.seat.now.worker c.args.wait c.args.rows.now c.stripe.rows c.take.new.self
-    (view_of c.args.seat.now) (view_of c.stripe.seat) (view_of c.run_job.new.seat) c.stripe.invariant.progress c.in-Some.number c.in-Some.job
+    (view_of c.args.seat.now) (view_of c.stripe.seat) (view_of c.run_job.new.seat) c.stripe.invariant.progress c.in-Some.number c.fetch.new.job
     (next-is g (goal.at.returns-in-Err-clause-worked g c).In-Some)
     record { tail = c.stripe.invariant.same.grows; durable = c.stripe.invariant.same.durable }
     record { tail = c.in-Err.ensures.same.grows; durable = c.in-Err.ensures.same.durable }
