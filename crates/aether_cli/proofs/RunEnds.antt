@@ -1,5 +1,5 @@
 -- Which transfers of a run ended, stripe by stripe. `later` is the history after the opened list.
-use Rattle.std.proofs.Common.{◌≡◌, ◌≢◌, ◌⊎◌, inl, inr, ◌<◌, ◌≤◌, ℕ, zero, suc, ◌+◌, ◌*◌, true, List, [], ◌∷◌, ◌++◌, length, map, refl, ap, ◌∙◌, sym, subst, arith, Contains, append_assoc, length-append}
+use Rattle.std.proofs.Common.{◌≡◌, ◌⊎◌, inl, inr, ◌<◌, ◌≤◌, ℕ, zero, suc, ◌+◌, ◌*◌, true, List, [], ◌∷◌, ◌++◌, length, map, refl, ap, ◌∙◌, sym, subst, arith, Contains, append_assoc, length-append}
 use Rattle.std.specs.List.{AllByRecursion}
 use Rattle.std.proofs.Math.Nat.{mul-le-mul_left}
 use Rattle.std.proofs.lemmas.List.Elements.{All-contains, All-from_recursion}
@@ -14,7 +14,7 @@ use Rattle.log_record.specs.LogList.{units_of, end_of}
 use Rattle.log_record.proofs.LogListLemmas.{front_is_boundary}
 use Rattle.lock_core.specs.Alone.{outcome_alone}
 use Rattle.lock_core.specs.History.{history}
-use Rattle.lock_core.specs.Records.{txn_of, without_prev}
+use Rattle.lock_core.specs.Records.{without_prev}
 use Rattle.lock_core.specs.Serial.{Task, HasNoOthers}
 use Rattle.lock_core.specs.Sums.{greatest_txn}
 use Rattle.lock_core.specs.Transactions.{recs_of, records_of as own_records_of, has_end, all_without_prev, in_order}

@@ -1,5 +1,5 @@
 -- The `done` line of one transfer is told, and the file holds what was told.
-use Rattle.std.proofs.Common.{◌≢◌, ◌∙◌, ℕ, inl, refl, sym, ap, [], ◌++◌, append-nil, arith}
+use Rattle.std.proofs.Common.{◌≢◌, ◌∙◌, inl, refl, sym, ap, [], ◌++◌, append-nil, arith}
 use Rattle.std.specs.List.{AllByRecursion}
 use Rattle.log_record.specs.LogList.{units_of, end_of}
 use Rattle.log_record.specs.Spelling.{IsSpellable}
