@@ -27,6 +27,7 @@ use Rattle.segment_file.specs.File.{HoldsUnits}
 use Rattle.segment_file.specs.Standing.{AllStand, HoldsNoneOr, IsShut}
 use Rattle.segment_file.specs.declared.scan_result.Tail.{Tail}
 use Rattle.commit_pipeline.specs.declared.daemon.DaemonFault.TheVariants.{WriteFault}
+use Rattle.commit_pipeline.specs.declared.voice.Voice.{Voice}
 use Rattle.commit_pipeline.specs.declared.voice.Voice.TheVariants.{Count, Lines}
 use Rattle.txn_runner.specs.declared.jobs.Jobs.{Jobs}
 use Rattle.txn_script.specs.Generator.{generated_transfers}
@@ -205,12 +206,13 @@ module _ {D : Type 0} {K : Type 0} (g : Ghosts D) (h : SinkGhosts K) (n seed wor
   silent = Appends-none (h.held_bytes sink) (h.held_bytes sink_mid)
       (told-ended g h ready.prepared generated_opening Count disk disk_new sink sink_mid ended has).1
 
-  -- so the sink did not fail the daemon
+  -- so the sink never stopped the daemon
   never-fails : ended.fault ≡ Some WriteFault → ⊥
-  never-fails fault = cc
+  never-fails fault = subst IsCount (speaks-ended g h ready.prepared generated_opening Count disk disk_new sink sink_mid ended has fault) tt
     where
-      speaks : Count ≡ Lines
-      speaks = speaks-ended g h ready.prepared generated_opening Count disk disk_new sink sink_mid ended has fault
+      IsCount : Voice → Type 0
+      IsCount Count = Unit {0}
+      IsCount Lines = ⊥
 
   -- and none of them came to the end of the log
   no-log_end : (tail total : ℕ) → ended.fault ≡ None → IsFirstLogEnd ended.ends.items tail total → ⊥

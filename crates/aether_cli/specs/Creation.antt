@@ -17,7 +17,7 @@ genesis_from account (balance ∷ balances) = Genesis account balance ∷ genesi
 abbrev pub genesis_list : List ℕ → List Rec
 genesis_list balances = genesis_from 0 balances
 
--- the input is the text of these balances
+-- the input is the text of these balances; of an input that tells nothing, of any balances
 abbrev pub IsInput : Option (List ℕ) → List ℕ → Type 0
 IsInput left balances = IfSome left (λ bytes. IsBalancesText bytes balances)
 

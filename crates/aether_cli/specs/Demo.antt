@@ -10,6 +10,7 @@ use Rattle.log_recovery.specs.Recovery.{HoldsLawful}
 use Rattle.log_table.specs.Seats.{key_of}
 use Rattle.segment_file.specs.File.{BeginsAsLog}
 use Rattle.txn_runner.specs.declared.jobs.Jobs.{Jobs}
+use Rattle.txn_script.specs.declared.generator.TheConstants.{GENERATED_ACCOUNTS}
 use Rattle.txn_script.specs.Generator.{generated_jobs}
 use Rattle.command_line.specs.CommandLine.{IsCommandLine}
 use Rattle.command_line.specs.declared.command.Command.TheVariants as command
@@ -43,7 +44,7 @@ pub record OnlyMakes {D : Type 0} (g : Ghosts D) (old new : D) : Type 0 where
   pub images : Leaves g.moment g.images_since (λ bytes. MayPrecede (g.images old) bytes ⊎ HoldsLawful bytes generated_opening) old new
   pub count : g.written_count new ≤ g.written_count old + 7
 
--- the image holds the new log and a front of what the run inserted; at most 4 writes and syncs were made for each record of it, and 11 more
+-- the image holds the new log and a front of what the run inserted; at most 4 writes and syncs succeeded for each record of it, and 11 more
 pub record HoldsMade {D : Type 0} (g : Ghosts D) (jobs : Jobs) (list : List Rec) (old new : D) (image : List ℕ) : Type 0 where
   pub run : HoldsRun generated_opening jobs list image
   pub count : g.written_count new ≤ g.written_count old + 4 * length run.front + 11
@@ -97,7 +98,7 @@ IsBeforeDemo detail = ⊥
 
 -- the table starts where the new log ends, with its accounts, and the transfers are the generated ones
 pub record IsPreparedDemo (n seed workers : ℕ) (prepared : Prepared) : Type 0 where
-  pub start : (key_of prepared.table).start ≡ 128
+  pub start : (key_of prepared.table).start ≡ 2 * GENERATED_ACCOUNTS
   pub accounts : (key_of prepared.table).accounts.rows ≡ generated_rows
   pub generated : AreGenerated n seed workers prepared.jobs
   pub ready : IsPrepared prepared

@@ -45,7 +45,7 @@ pub record HoldsRun (opened : List Rec) (jobs : Jobs) (list : List Rec) (bytes :
   pub goes_on : GoesOn opened jobs (opened ++ front)
 
 -- The bytes are such, and what was written is a prefix of the lines of their end records: so each commit that was told is in them. At most 4
--- writes and syncs were made for each record, and 4 that failed.
+-- writes and syncs succeeded for each record, and 4 more in a flush that failed.
 pub record IsLeft {D : Type 0} (g : Ghosts D) (voice : Voice) (opened : List Rec) (jobs : Jobs) (list : List Rec) (before after : D)
     (old new : Option (List ℕ)) (bytes : List ℕ) : Type 0 where
   pub run : HoldsRun opened jobs list bytes

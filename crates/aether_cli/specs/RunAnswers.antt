@@ -72,7 +72,7 @@ pub record AreAsked (workers : ℕ) (opened : List Rec) (left left_new : Option 
   pub workers_are : jobs.workers ≡ workers
 
 -- The image holds the opened list and a front of what the run inserted. What was written is a prefix of the text of the image's list, so each
--- commit that was told is in it. At most 4 writes and syncs were made for each record of the front, and 7 more.
+-- commit that was told is in it. At most 4 writes and syncs succeeded for each record of the front, and 7 more.
 pub record HoldsTold {D : Type 0} (g : Ghosts D) (opened : List Rec) (jobs : Jobs) (list : List Rec) (old new : Outside D) (image : List ℕ)
     : Type 0 where
   pub run : HoldsRun opened jobs list image
@@ -108,7 +108,7 @@ pub record RanIntoEnd {D : Type 0} (g : Ghosts D) (workers tail total : ℕ) (ol
   pub stops : StopsAtLogEnd out.ran.opened out.ran.jobs out.ran.list tail total
   pub text : Appends old.text new.text (end_lines (end_of out.ran.opened) out.ran.list)
 
--- the whole input is a script, but its transfers would pass the last transaction number
+-- the whole input is a script, but the number that would follow those of its transfers is above the last transaction number
 pub record RunsOutOfNumbers {D : Type 0} (g : Ghosts D) (first count : ℕ) (old new : Outside D) : Type 0 where
   pub opened : List Rec
   pub held : HoldsLawful (g.reads old.disk) opened

@@ -41,7 +41,7 @@ pub record HasNextOf (jobs : Jobs) (worker k total : ℕ) (h : List Entry) : Typ
   pub size : total ≡ size_of next
 
 -- A worker's transfer was cut off since its next record, of so many units, did not fit between this tail, a boundary of the list, and the last
--- LSN. Each stripe is whole or was cut.
+-- LSN. Each stripe is whole or was cut. With one worker that tail is the end of the list.
 pub record StopsAtLogEnd (opened : List Rec) (jobs : Jobs) (list : List Rec) (tail total : ℕ) : Type 0 where
   pub too_long : LAST < tail + total
   pub boundary : IsBoundary (opened ++ list) tail

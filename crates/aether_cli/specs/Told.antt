@@ -9,7 +9,7 @@ use Rattle.txn_runner.specs.declared.jobs.Jobs.{Jobs}
 use Rattle.aether_cli.specs.RunAnswers.{HoldsTold, outside}
 use Rattle.aether_cli.specs.RunWitness.{plain_disk, file_at}
 
--- the text has this line, whole: at its beginning, or behind the end of another
+-- the text has this line, given with its line feed, whole: at its beginning, or behind the end of another
 pub record HasLine (text line : List ℕ) : Type 0 where
   pub before : List ℕ
   pub after : List ℕ

@@ -27,7 +27,7 @@ pub enum Detail {
     /// A file could not be opened, read, written or synced.
     Disk,
 
-    /// The input doesn't begin as a log.
+    /// The bytes don't begin as a log.
     NotALog,
 
     /// No batch stands behind the open gate at this byte.
@@ -42,7 +42,7 @@ pub enum Detail {
     /// The next record of a transfer has so many units, and they do not fit between this tail and the last LSN.
     LogEnd { tail: Lsn, total: u32 },
 
-    /// The script has so many transfers, and the numbers from the first on pass the last transaction number.
+    /// The script has so many transfers that, counted from the first number on, the number that would follow theirs is above the last one.
     TxnEnd { first: u64, count: u64 },
 
     /// A log is there already: the file begins with an open gate.

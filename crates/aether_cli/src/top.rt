@@ -110,7 +110,7 @@ pub fn aether<R: Threads + Wait + Sync, D: LogDisk, S: Source, K: Sink, G: Gate 
         → (Rose (K.faults out.old) (K.faults out.new) → ⊥) → (Rose (D.faults disk.old) (D.faults disk.new) → ⊥)
         → (result.detail ≡ Detail.Fine) ⊎ (result.detail ≡ Detail.NoMemory) }
 
-    // Nothing is written but where all is fine or the writing failed.
+    // By the commands other than `run` nothing is written but where all is fine or the writing failed.
     ensures silent { (AsksRun words.now → ⊥) → StaysSilent (K.held_bytes out.old) (K.held_bytes out.new) result.detail }
 
     // What is said of an honest disk may be said of it again at the next call.

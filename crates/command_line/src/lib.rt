@@ -10,6 +10,6 @@ mod parsing;
 mod tests;
 
 pub use command::{Command, Refused};
-pub use laws::one_command;
+pub use laws::{format_numbers, one_command};
 pub use options::RunOptions;
 pub use parsing::{GREATEST_SEED, parse};

@@ -119,8 +119,11 @@ module _ {D : Type 0} {K : Type 0} (g : Ghosts D) (h : SinkGhosts K) (old new : 
       (subst (λ f. InFlight f (view_of new.flusher.seat) []) (sym lost.fault) (refl, flew.read))
       (λ fine. absurd (none≢some WriteFault (sym fine ∙ lost.fault))) (λ sent. refl) lost.appended
       (λ failed. lost.tells) (λ written. absurd (written lost.fault))
-      (subst (HasReason g h old new) (sym lost.fault) (lost.rose, ap (λ (v : View). v.sending.stop) is,
-      TellsFront-speaks old.voice (durable old) lost.flush.records lost.text old.tally new.tally lost.tells))
+      (subst (HasReason g h old new) (sym lost.fault) (
+        lost.rose,
+        ap (λ (v : View). v.sending.stop) is,
+        TellsFront-speaks old.voice (durable old) lost.flush.records lost.text old.tally new.tally lost.tells,
+      ))
       (omega (arith, some, ap extra lost.fault))
 
   module _ (rest : new ≡ record old { flusher = new.flusher }) (seat_alone : new.flusher ≡ record old.flusher { seat = new.flusher.seat }) where

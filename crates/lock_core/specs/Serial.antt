@@ -20,7 +20,7 @@ numbered first [] = []
 numbered first (job ∷ jobs) = record { number = first; job = job } ∷ numbered (first + 1) jobs
 
 -- After the base state the history has one end record of the transfer, and its records up to there are those of its
--- outcome, run alone on the balances before that end record.
+-- outcome, run alone on the balances before that end record, and none of its records stands behind it.
 pub record IsRunWhole (base : BaseState) (h : List Entry) (task : Task) : Type 0 where
   pub later : List Entry
   pub end : Entry

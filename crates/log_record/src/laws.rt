@@ -2,7 +2,9 @@
 
 ghost use Rattle.std.specs.Prelude.{◌≡◌, ◌<◌, ◌≤◌, ◌^◌, ◌-◌, ◌++◌, ◌↔◌, ℕ, List, length, All};
 ghost use Rattle.lsn_space.specs.Tiling.{IsTiling};
+ghost use Rattle.log_record.specs.declared.limits.TheConstants.{LAST_TXN, MOST_ACCOUNTS, MOST_BALANCE, MOST_LEGS};
 ghost use Rattle.log_record.specs.declared.rec.Rec.{Rec};
+ghost use Rattle.log_record.specs.declared.text.TheConstants.{LONGEST_NOTE};
 ghost use Rattle.log_record.specs.declared.units.TheConstants.{LONGEST_RECORD};
 ghost use Rattle.log_record.specs.LogList.{units_of, end_of, starts_of, ranges_of, prefix_to, IsBoundary};
 ghost use Rattle.log_record.specs.Spelling.{spelling, IsSpellable, BeginsWith};
@@ -36,4 +38,13 @@ pub fn log_list_laws()
         → prefix_to (front ++ rest) x ≡ front ++ prefix_to rest (x - end_of front) }
     ensures exact { (L : List Rec) (x : ℕ) → IsBoundary L x → end_of (prefix_to L x) ≡ x }
     ensures whole { (L : List Rec) → prefix_to L (end_of L) ≡ L }
+{}
+
+/// A law: the limits that the definitions take from the code are the format's.
+pub fn format_limits()
+    ensures accounts { MOST_ACCOUNTS ≡ 4096 }
+    ensures balance { MOST_BALANCE ≡ 2147483647 }
+    ensures txn { LAST_TXN ≡ 4294967295 }
+    ensures legs { MOST_LEGS ≡ 8 }
+    ensures note { LONGEST_NOTE ≡ 200 }
 {}

@@ -6,6 +6,7 @@ mod generator;
 #[cfg(test)]
 mod generator_tests;
 mod job;
+mod laws;
 mod lines;
 mod numerals;
 mod opening;
@@ -21,6 +22,7 @@ pub use generator::{
     generated_jobs_laws, make,
 };
 pub use job::{Job, Legs, Remark};
+pub use laws::format_numbers;
 pub use lines::written_lines;
 pub use numerals::number;
 pub use opening::{balances, balances_one_reading};
