@@ -1,11 +1,12 @@
 -- What the calls of a disk do to its file and to what a crash may leave. An image is a list of bytes that a crash may leave.
 use Rattle.std.specs.Prelude.{◌≡◌, ◌⊎◌, ◌↔◌, ℕ, ◌+◌, ◌≤◌, max, List, ◌++◌, length, take, drop, Result, MatchResult}
 
--- the bytes with these in place of what stood from this offset on
+-- the bytes with these in place of what stood from this offset on; at the end, where the bytes end before it
 abbrev pub put : ℕ → List ℕ → List ℕ → List ℕ
 put at bytes old = take at old ++ bytes ++ drop (at + length bytes) old
 
--- a write of n bytes was cut short: the same bytes before and behind its range, any in it, and a length from the old one to its end
+-- a write of n bytes was cut short: the same bytes before and behind its range, any in it, and a length from the old one to its end;
+-- an image that ends before the range stays as it is
 pub record IsTorn (at n : ℕ) (old new : List ℕ) : Type 0 where
   pub before : take at new ≡ take at old
   pub after : drop (at + n) new ≡ drop (at + n) old

@@ -3,6 +3,7 @@ use Rattle.std.specs.Prelude.{◌≡◌, ◌≤◌, ◌<◌, ◌⊎◌, ℕ, ◌
 use Rattle.log_disk.specs.Faults.{raised, CountsFault}
 use Rattle.log_disk.specs.History.{Event, file_after, Images, ImagesSince}
 use Rattle.log_disk.specs.History.Event.{Wrote, Synced}
+use Rattle.log_disk.specs.declared.memory_disk.TheConstants.{RECORD}
 use Rattle.log_disk.specs.declared.step.Step.{Step}
 use Rattle.log_disk.specs.declared.step.Step.TheVariants.{Write, Sync}
 
@@ -63,4 +64,4 @@ pub record IsRecord (start held log : List ℕ) (steps : List Step) (room writte
   pub whole : total_len steps ≡ length log
   pub read : held ≡ file_after start (recorded steps log [])
   pub longest : length held ≤ length start + length log
-  pub counted : 16 * written_count + room < 2 ^ 64
+  pub counted : RECORD * written_count + room < 2 ^ 64

@@ -32,6 +32,7 @@ pub struct MemoryDisk {
 impl Model for MemoryDisk {
     ghost use Rattle.std.specs.Prelude.{◌≤◌, ◌+◌, ◌*◌, [], length, vec_capacity};
     ghost use Rattle.log_disk.specs.MemoryDisks.{DiskState, IsRecord, recorded};
+    ghost use Rattle.log_disk.specs.declared.memory_disk.TheConstants.{RECORD};
 
     ghost Value = { DiskState };
 
@@ -49,12 +50,12 @@ impl Model for MemoryDisk {
         × (length d.start.items + length d.log.items + d.room ≤ vec_capacity d.start)
         × (length d.start.items + length d.log.items + d.room ≤ vec_capacity d.held)
         × (length d.log.items + d.room ≤ vec_capacity d.log)
-        × (16 * length d.steps.items + d.room ≤ 16 * vec_capacity d.steps) };
+        × (RECORD * length d.steps.items + d.room ≤ RECORD * vec_capacity d.steps) };
 }
 
 impl MemoryDisk {
-    /// A disk that holds these bytes, all of them stable. Each write takes its length and 16 of the
-    /// room, each sync 16. The calls whose numbers are in `failing` fail, counted from 1.
+    /// A disk that holds these bytes, all of them stable. Each write takes its length and `RECORD` of the
+    /// room, each sync `RECORD`. The calls whose numbers are in `failing` fail, counted from 1.
     pub fn make(
         alloc: Global,
         bytes: &[u8],

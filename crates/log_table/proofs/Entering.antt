@@ -261,7 +261,7 @@ module _ (base : BaseState) (words : ℕ → ℕ) (h : List Entry) (all : List B
       record {
         account = known account is.marked.1;
         ended = ap has_end list ∙ unended;
-        legs = subst (λ records. length (changes_in records) ≤ 15) (sym list) is.legs;
+        legs = let few_before = subst (λ records. length (changes_in records) ≤ 15) (sym list) is.legs in omega (arith, few_before);
         pair = subst (λ records. Rattle.lock_core.specs.Tests.IsPaired (changes_in records) (record { account = account; delta = delta; prev = prev })) (sym list) is.paired;
         prev = is.marked.0 ∙ mark-taken unended account is.marked.1;
         stale = tt;

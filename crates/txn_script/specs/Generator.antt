@@ -16,9 +16,10 @@ abbrev pub numbers_after : ℕ → ℕ → List ℕ
 numbers_after zero x = []
 numbers_after (suc n) x = number_after x ∷ numbers_after n (number_after x)
 
--- the leg that a number makes: two different accounts of 64, and an amount from 1 to 9
+-- the leg that a number makes: two different accounts of those, and an amount from 1 to 9
 abbrev pub leg_from : ℕ → ℕ × ℕ × ℕ
-leg_from x = (x % 64, (x % 64 + 1 + (x / 64) % 63) % 64, 1 + (x / 4096) % 9)
+leg_from x =
+    (x % GENERATED_ACCOUNTS, (x % GENERATED_ACCOUNTS + 1 + (x / GENERATED_ACCOUNTS) % (GENERATED_ACCOUNTS - 1)) % GENERATED_ACCOUNTS, 1 + (x / 4096) % 9)
 
 -- the transfer that a number makes: one leg, and no note
 abbrev pub job_from : ℕ → Job
@@ -36,7 +37,7 @@ generated_transfers n seed = map transfer_of (generated_jobs n seed)
 abbrev pub generated_legs : ℕ → ℕ → List (ℕ × ℕ × ℕ)
 generated_legs n seed = map leg_from (numbers_after n seed)
 
--- 64 accounts, each with the balance that they begin with
+-- so many accounts, each with the balance that they begin with
 pub record OpensGenerated (base : BaseState) : Type 0 where
   pub accounts : base.accounts ≡ GENERATED_ACCOUNTS
   pub balance : (account : ℕ) → account < GENERATED_ACCOUNTS → base.balance account ≡ GENERATED_BALANCE

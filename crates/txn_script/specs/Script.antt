@@ -1,9 +1,10 @@
 -- The script language: each line is empty or a transfer.
-use Rattle.std.specs.Prelude.{◌≡◌, ◌≢◌, ◌<◌, ◌≤◌, ◌==◌, ℕ, ◌+◌, Option, Some, None, IfSome, List, [], ◌∷◌, ◌++◌, ◌⊎◌, codes, length, map, filter, not, All}
+use Rattle.std.specs.Prelude.{◌≡◌, ◌≤◌, ◌==◌, ℕ, ◌+◌, Option, Some, None, IfSome, List, [], ◌∷◌, ◌++◌, ◌⊎◌, codes, length, map, filter, not, All}
 use Rattle.std.specs.List.{flat_map, AllByRecursion}
 use Rattle.lsn_space.specs.Number.{number_text}
-use Rattle.log_record.specs.declared.limits.TheConstants.{MOST_BALANCE, MOST_LEGS}
+use Rattle.log_record.specs.declared.limits.TheConstants.{MOST_LEGS}
 use Rattle.log_record.specs.Spelling.{IsNoteText}
+pub use Rattle.lock_core.specs.Alone.{IsAllowedLeg}
 use Rattle.txn_script.specs.Lines.{lines}
 use Rattle.txn_script.specs.declared.job.Job.{Job}
 use Rattle.txn_script.specs.declared.pay.TheConstants.{SPACE}
@@ -30,15 +31,7 @@ note_text (Some text) = codes " : " ++ text
 abbrev pub job_text : Job → List ℕ
 job_text job = codes "pay" ++ legs_text job.legs ++ note_text job.note
 
--- a leg that a log of so many accounts allows
-pub record IsAllowedLeg (accounts : ℕ) (leg : ℕ × ℕ × ℕ) : Type 0 where
-  pub payer : leg.0 < accounts
-  pub payee : leg.1 < accounts
-  pub two : leg.0 ≢ leg.1
-  pub some : 1 ≤ leg.2
-  pub most : leg.2 ≤ MOST_BALANCE
-
--- 1 to 8 such legs
+-- 1 to 8 legs that a log of so many accounts allows
 pub record AreAllowedLegs (accounts : ℕ) (legs : List (ℕ × ℕ × ℕ)) : Type 0 where
   pub some : 1 ≤ length legs
   pub few : length legs ≤ MOST_LEGS

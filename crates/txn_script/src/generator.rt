@@ -50,13 +50,14 @@ fn following(x: u32) -> u32
 fn job_of(x: u32) -> Job
     ensures { result ≡ job_from x }
 {
-    let payer = x % 64;
-    let payee = (payer + 1 + x / 64 % 63) % 64;
+    let payer = x % GENERATED_ACCOUNTS;
+    let payee = (payer + 1 + x / GENERATED_ACCOUNTS % (GENERATED_ACCOUNTS - 1))
+        % GENERATED_ACCOUNTS;
     let amount = 1 + x / 4096 % 9;
     Job::of_leg((payer, payee, amount))
 }
 
-/// A law: generated transfers are as many as were asked for, and a log of 64 accounts allows each.
+/// A law: generated transfers are as many as were asked for, and a log of `GENERATED_ACCOUNTS` accounts allows each.
 pub fn generated_jobs_laws()
     ensures count { (n seed : ℕ) → length (generated_jobs n seed) ≡ n }
     ensures allowed { (n seed : ℕ) → All (IsAllowedJob GENERATED_ACCOUNTS) (generated_jobs n seed) }
