@@ -14,16 +14,9 @@ use crate::end_line::line_of;
 use crate::tally::Tally;
 use crate::voice::Voice;
 use log_disk::{Sink, WriteFault, put_all};
-use log_record::Rec;
+use log_record::{COMMIT, Header, OVER, Rec, SHORT};
 use lsn_space::Lsn;
 use segment_file::Batch;
-
-/// The kinds of the records that end a transaction, as the first of their units has them.
-const COMMIT: u8 = 3;
-
-const SHORT: u8 = 4;
-
-const OVER: u8 = 5;
 
 /// Counts the end records of the batch, whose first unit is at this LSN, and writes a line for each.
 pub(crate) fn tell<K: Sink>(
@@ -63,51 +56,21 @@ fn end_at(batch: &Batch, at: u32) -> (Option<Rec>, u8)
     requires { (rec : Rec) × BeginsWith (drop at batch.now.units) rec }
     ensures { (rec : Rec) × BeginsWith (drop at batch.now.units) rec × (result.0 ≡ ended rec) × (result.1 ≡ length (spelling rec)) }
 {
-    let head = Head::of(batch.at(at));
-    (head.end(), head.units)
+    let head = Header::of(batch.at(at));
+    (end_of(head), head.units)
 }
 
-/// The first unit of a record, in its four parts.
-#[derive(Clone, Copy, Debug)]
-struct Head {
-    kind: u8,
-    units: u8,
-    field: u16,
-    txn: u32,
-}
-
-impl Head {
-    fn of(unit: u64) -> Head
-        ensures { unit ≡ header result.kind result.units result.field result.txn }
-    {
-        Head {
-            kind: (unit >> 56) as u8,
-            units: (unit >> 48 & 0xff) as u8,
-            field: (unit >> 32 & 0xffff) as u16,
-            txn: (unit & 0xffff_ffff) as u32,
-        }
-    }
-
-    /// The record of one unit that ends a transaction, where this is one's.
-    fn end(self) -> Option<Rec>
-        ensures { (rec : Rec) → (body : List ℕ) → IsSpellable rec
-            → spelling rec ≡ header self.kind self.units self.field self.txn ∷ body → result ≡ ended rec }
-    {
-        match self.kind {
-            COMMIT => Some(Rec::Commit {
-                txn: self.txn,
-                legs: u32::from(self.field),
-            }),
-            SHORT => Some(Rec::Short {
-                txn: self.txn,
-                leg: u32::from(self.field),
-            }),
-            OVER => Some(Rec::Over {
-                txn: self.txn,
-                leg: u32::from(self.field),
-            }),
-            _ => None,
-        }
+/// The record of one unit that ends a transaction, where this is the first unit of one.
+fn end_of(head: Header) -> Option<Rec>
+    ensures { (rec : Rec) → (body : List ℕ) → IsSpellable rec
+        → spelling rec ≡ header head.kind head.units head.field head.txn ∷ body → result ≡ ended rec }
+{
+    let (txn, number) = (head.txn, u32::from(head.field));
+    match head.kind {
+        COMMIT => Some(Rec::Commit { txn, legs: number }),
+        SHORT => Some(Rec::Short { txn, leg: number }),
+        OVER => Some(Rec::Over { txn, leg: number }),
+        _ => None,
     }
 }
 

@@ -13,6 +13,7 @@ mod text;
 mod units;
 mod writing;
 
+pub use header::{COMMIT, Header, OVER, SHORT};
 pub use laws::{format_limits, log_list_laws, one_spelling, spelling_bounds};
 pub use limits::{LAST_TXN, MOST_ACCOUNTS, MOST_BALANCE, MOST_LEGS};
 pub use reading::{BadRec, read};

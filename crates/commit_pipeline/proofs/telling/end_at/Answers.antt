@@ -13,4 +13,4 @@ returns c =
     let spelled : spelling rec ≡ header h.kind h.units h.field h.txn ∷ body =
     spelling-at rec c.args.batch.now.units c.args.at (header h.kind h.units h.field h.txn) begins (sym c.of-head.ensures ∙ c.at.ensures) in
     let size = size-told rec h.kind h.units h.field h.txn body begins.0 (search rules) (search rules) (search rules) spelled in
-    (rec, begins, c.end.ensures rec body begins.0 spelled, sym size)
+    (rec, begins, c.end_of.ensures rec body begins.0 spelled, sym size)
