@@ -1,6 +1,6 @@
 -- What `demo` answers: the log that it makes, what is promised of the transfers, and what was concluded.
 use Rattle.std.proofs.Common.{◌≡◌, ◌≤◌, ◌⊎◌, ⊎_elim, inl, inr, refl, ap, sym, ◌∙◌, subst, ℕ, zero, suc, ◌+◌, ◌*◌, List, [], ◌∷◌, length, map, replicate, All, Option, Some, None, arith, append-nil, length-append}
-use Rattle.std.proofs.KnownBytes.{Appends-trans, Keeps-refl}
+use Rattle.std.proofs.KnownBytes.{Appends-trans}
 use Rattle.std.proofs.lemmas.List.{length-replicate}
 use Rattle.std.proofs.lemmas.List.Elements.{All-replicate}
 use Rattle.std.specs.Io.KnownBytes.{Appends, Keeps}
@@ -38,7 +38,7 @@ use Rattle.aether_cli.specs.declared.run_command.ReadyRun.{ReadyRun}
 use Rattle.aether_cli.specs.declared.transfers.Ended.{Ended}
 use Rattle.aether_cli.specs.declared.transfers.Prepared.{Prepared}
 use Rattle.aether_cli.specs.Creation.{IsFindingFault, TellsWhether, genesis_list}
-use Rattle.aether_cli.specs.Demo.{AnswersDemo, IsBeforeDemo, IsOfDemo, IsPreparedDemo, IsReadyDemo, MayPrecede, OnlyMakes, RanAllGenerated, RanGenerated, TellsSummary}
+use Rattle.aether_cli.specs.Demo.{AnswersDemo, IsOfDemo, IsPreparedDemo, IsReadyDemo, MayPrecede, OnlyMakes, RanAllGenerated, RanGenerated, TellsSummary}
 use Rattle.aether_cli.specs.Ending.{AreWhole, Concludes, HasEnded, IsFirstLogEnd, NothingStopped, counted_text}
 use Rattle.aether_cli.specs.RunAnswers.{OnlyLooks}
 use Rattle.aether_cli.specs.Summary.{generated_opening, generated_rows, summary_of, summary_text}

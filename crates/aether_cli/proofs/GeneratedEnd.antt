@@ -2,7 +2,7 @@
 use Rattle.std.proofs.Common.{◌≡◌, ◌≤◌, ◌<◌, ℕ, zero, suc, ◌||◌, ◌+◌, ◌*◌, false, ◌⊎◌, inl, inr, List, [], ◌∷◌, ◌++◌, length, take, get_or, None, ◌-◌, refl, ap, ◌∙◌, arith, ne_eqb, length-append}
 use Rattle.std.specs.List.{AllByRecursion}
 use Rattle.log_record.specs.declared.rec.Rec.{Rec}
-use Rattle.log_record.specs.declared.rec.Rec.TheVariants.{Genesis, Update, Commit, Short, Over, Note}
+use Rattle.log_record.specs.declared.rec.Rec.TheVariants.{Short, Over}
 use Rattle.log_record.specs.declared.rec.Entry.{Entry}
 use Rattle.log_record.specs.LogList.{size_of, units_of, end_of, IsBoundary}
 use Rattle.log_record.proofs.LogListLemmas.{boundary_is_front}
@@ -15,7 +15,7 @@ use Rattle.lock_core.specs.Sums.{BaseState}
 use Rattle.lock_core.specs.Transactions.{records_of, all_without_prev, in_order}
 use Rattle.lock_core.proofs.Doing.{end_of-weight, partly-done}
 use Rattle.lock_core.proofs.NextRecords.{size-without_prev}
-use Rattle.lock_core.proofs.Weighing.{AreDistinct, IgnoresPrev, each_task, has_number, weight_of-append, weight_of-history, weight_of-in_order, weight_of-tasks, weight_of-without_prev}
+use Rattle.lock_core.proofs.Weighing.{AreDistinct, each_task, has_number, weight_of-append, weight_of-history, weight_of-in_order, weight_of-tasks, weight_of-without_prev}
 use Rattle.txn_script.specs.declared.job.Job.{Job}
 use Rattle.txn_script.specs.Generator.{number_after, leg_from, job_from, generated_jobs, generated_transfers, OpensGenerated}
 use Rattle.txn_script.specs.Transfers.{transfer_of}
