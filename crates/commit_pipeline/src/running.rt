@@ -7,11 +7,12 @@ ghost use Rattle.flusher.specs.Flushing.{Asks};
 ghost use Rattle.commit_pipeline.specs.Later.{Later};
 ghost use Rattle.commit_pipeline.specs.Turning.{MayTurn, durable};
 
-use crate::daemon::{Daemon, DaemonFault};
+use crate::daemon::{Daemon, DaemonFault, Turn};
 use flusher::Drained;
 use log_disk::{LogDisk, Sink};
 use lsn_space::Lsn;
 use std::sync::Wait;
+use std::thread::yield_now;
 
 impl<'a, D: LogDisk, K: Sink> Daemon<'a, D, K> {
     /// Makes turns until no worker is active and all that was released is on the disk, and answers the end of the log. It
@@ -25,7 +26,10 @@ impl<'a, D: LogDisk, K: Sink> Daemon<'a, D, K> {
         ensures later { Later D.LogDisk K.Sink self.old self.new }
     {
         for _ in rt.forever() {
-            self.turn()?;
+            if let Turn::Idle = self.turn()? {
+                // The words that it looks at are the workers' to write, and they may want the processor.
+                yield_now();
+            }
             if let Drained::At(lsn) = self.ask() {
                 return Ok(lsn);
             }
