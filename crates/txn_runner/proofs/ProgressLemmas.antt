@@ -12,14 +12,14 @@ use Rattle.txn_runner.specs.declared.rows.Row.{Row}
 use Rattle.txn_runner.specs.declared.rows.Rows.{Rows}
 use Rattle.txn_runner.specs.Running.{HasInserted, HasRun, HasCut}
 use Rattle.txn_runner.specs.Stripes.{number_at, job_at}
-use Rattle.txn_runner.specs.Working.{rows_in, room_of, taken_in, HasWorked, HasRoom, KeepsEntries, TakesJobs, HaveEnded, Works, AddsRows}
+use Rattle.txn_runner.specs.Working.{rows_in, room_of, taken_in, HasWorked, HasRoomForRows, KeepsEntries, TakesJobs, HaveEnded, Works, AddsRows}
 use Rattle.txn_runner.proofs.RowLemmas.{AddsRows-push, AddsRows-cut}
 use Rattle.txn_runner.proofs.WorkLemmas.{IsNextJob, at-stripe, HasWorked-next, TakesJobs-next, HaveEnded-next, HaveEnded-still, IsCutBy-next}
 
 -- so far each transfer taken has its end record and its row
 pub record Progress (jobs : Jobs) (worker : ℕ) (wait : Bool) (before rows : Rows) (first view : View) : Type 0 where
   pub worked : HasWorked jobs worker (taken_in rows) view
-  pub room : HasRoom jobs worker rows
+  pub room : HasRoomForRows jobs worker rows
   pub kept : KeepsEntries first view
   pub takes : TakesJobs jobs worker (taken_in before) (taken_in rows) first view
   pub ended : HaveEnded jobs worker (taken_in before) (taken_in rows) view
