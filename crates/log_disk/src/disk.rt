@@ -36,7 +36,8 @@ pub trait LogDisk {
         ensures keeps { Keeps honest reads images written_count self.old self.new }
         ensures honest { honest self.old ↔ honest self.new }
         ensures time { Elapses moment images images_since self.old self.new }
-        ensures cause { HasCause (faults self.old) (faults self.new) result };
+        ensures cause { HasCause (faults self.old) (faults self.new) result }
+        ensures no_fault { OnOk result (faults self.new ≡ faults self.old) };
 
     /// The length of the file in bytes.
     fn len(&mut self) -> Result<u64, Failed>
@@ -44,7 +45,8 @@ pub trait LogDisk {
         ensures keeps { Keeps honest reads images written_count self.old self.new }
         ensures honest { honest self.old ↔ honest self.new }
         ensures time { Elapses moment images images_since self.old self.new }
-        ensures cause { HasCause (faults self.old) (faults self.new) result };
+        ensures cause { HasCause (faults self.old) (faults self.new) result }
+        ensures no_fault { OnOk result (faults self.new ≡ faults self.old) };
 
     /// Reads from that offset on into the front of the buffer, and tells how many bytes. 0 from the
     /// end of the file on.
@@ -55,7 +57,8 @@ pub trait LogDisk {
         ensures keeps { Keeps honest reads images written_count self.old self.new }
         ensures honest { honest self.old ↔ honest self.new }
         ensures time { Elapses moment images images_since self.old self.new }
-        ensures cause { HasCause (faults self.old) (faults self.new) result };
+        ensures cause { HasCause (faults self.old) (faults self.new) result }
+        ensures no_fault { OnOk result (faults self.new ≡ faults self.old) };
 
     /// Writes over what stands at that offset, and past the end. A write that fails may have left any
     /// bytes in its range, for reads too.
@@ -67,7 +70,8 @@ pub trait LogDisk {
         ensures count { honest self.old → CountsOne (written_count self.old) (written_count self.new) result }
         ensures honest { honest self.old ↔ honest self.new }
         ensures time { Elapses moment images images_since self.old self.new }
-        ensures cause { HasCause (faults self.old) (faults self.new) result };
+        ensures cause { HasCause (faults self.old) (faults self.new) result }
+        ensures no_fault { OnOk result (faults self.new ≡ faults self.old) };
 
     /// After it a crash leaves what a read gives. A sync that fails adds no image.
     fn sync(&mut self) -> Result<(), Failed>
@@ -77,7 +81,8 @@ pub trait LogDisk {
         ensures count { honest self.old → CountsOne (written_count self.old) (written_count self.new) result }
         ensures honest { honest self.old ↔ honest self.new }
         ensures time { Elapses moment images images_since self.old self.new }
-        ensures cause { HasCause (faults self.old) (faults self.new) result };
+        ensures cause { HasCause (faults self.old) (faults self.new) result }
+        ensures no_fault { OnOk result (faults self.new ≡ faults self.old) };
 
     /// What is read is one of the images.
     ghost read_is_image: { (disk : Self) → honest disk → images disk (reads disk) };

@@ -179,6 +179,7 @@ impl LogDisk for MemoryDisk {
         ensures keeps { Keeps (λ _. ⊤) file_of ImagesOf written_count_of self.old self.new }
         ensures time { Elapses moment_of ImagesOf ImagesSinceOf self.old self.new }
         ensures cause { HasCause self.old.faults self.new.faults result }
+        ensures no_fault { OnOk result (self.new.faults ≡ self.old.faults) }
 
         // Beside the trait's: it fails exactly where it was told to.
         ensures fails { IsErr result ↔ CallFails self.old 0 }
@@ -193,6 +194,7 @@ impl LogDisk for MemoryDisk {
         ensures keeps { Keeps (λ _. ⊤) file_of ImagesOf written_count_of self.old self.new }
         ensures time { Elapses moment_of ImagesOf ImagesSinceOf self.old self.new }
         ensures cause { HasCause self.old.faults self.new.faults result }
+        ensures no_fault { OnOk result (self.new.faults ≡ self.old.faults) }
 
         // Beside the trait's: it fails exactly where it was told to.
         ensures fails { IsErr result ↔ CallFails self.old 0 }
@@ -210,6 +212,7 @@ impl LogDisk for MemoryDisk {
         ensures keeps { Keeps (λ _. ⊤) file_of ImagesOf written_count_of self.old self.new }
         ensures time { Elapses moment_of ImagesOf ImagesSinceOf self.old self.new }
         ensures cause { HasCause self.old.faults self.new.faults result }
+        ensures no_fault { OnOk result (self.new.faults ≡ self.old.faults) }
 
         // Beside the trait's: it fails exactly where it was told to.
         ensures fails { IsErr result ↔ CallFails self.old 0 }
@@ -229,18 +232,22 @@ impl LogDisk for MemoryDisk {
         ensures count { CountsOne self.old.written_count self.new.written_count result }
         ensures time { Elapses moment_of ImagesOf ImagesSinceOf self.old self.new }
         ensures cause { HasCause self.old.faults self.new.faults result }
+        ensures no_fault { OnOk result (self.new.faults ≡ self.old.faults) }
 
         // Beside the trait's: it fails exactly where it was told to, or where too little room is left.
         ensures fails { IsErr result ↔ CallFails self.old (RECORD + length bytes.now) }
         ensures counts { CountsCall self.old self.new result }
-        ensures room { self.old.room - (RECORD + length bytes.now) ≤ self.new.room }
 
-        // What the disk keeps of the write.
+        // What the disk keeps of the write, and what that takes of the room.
         ensures start { self.new.start ≡ self.old.start }
         ensures kept { OnOk result (self.new.history ≡ Wrote at bytes.now ∷ self.old.history) }
+        ensures room { OnOk result (self.new.room ≡ self.old.room - (RECORD + length bytes.now)) }
         ensures half { IsErr result → RECORD + length bytes.now ≤ self.old.room
             → self.new.history ≡ Wrote at (take ((length bytes.now + 1) / 2) bytes.now) ∷ self.old.history }
-        ensures no_room { self.old.room < RECORD + length bytes.now → self.new.history ≡ self.old.history }
+        ensures half_room { IsErr result → RECORD + length bytes.now ≤ self.old.room
+            → self.new.room ≡ self.old.room - (RECORD + (length bytes.now + 1) / 2) }
+        ensures no_room { self.old.room < RECORD + length bytes.now
+            → (self.new.history ≡ self.old.history) × (self.new.room ≡ self.old.room) }
     {
         let cost = RECORD + bytes.len();
         match self.count_call(cost) {
@@ -265,16 +272,17 @@ impl LogDisk for MemoryDisk {
         ensures count { CountsOne self.old.written_count self.new.written_count result }
         ensures time { Elapses moment_of ImagesOf ImagesSinceOf self.old self.new }
         ensures cause { HasCause self.old.faults self.new.faults result }
+        ensures no_fault { OnOk result (self.new.faults ≡ self.old.faults) }
 
         // Beside the trait's: it fails exactly where it was told to, or where too little room is left.
         ensures fails { IsErr result ↔ CallFails self.old RECORD }
         ensures counts { CountsCall self.old self.new result }
-        ensures room { self.old.room - RECORD ≤ self.new.room }
 
-        // What the disk keeps of the sync.
+        // What the disk keeps of the sync, and what that takes of the room.
         ensures start { self.new.start ≡ self.old.start }
         ensures kept { OnOk result (self.new.history ≡ Synced ∷ self.old.history) }
-        ensures failed { IsErr result → self.new.history ≡ self.old.history }
+        ensures room { OnOk result (self.new.room ≡ self.old.room - RECORD) }
+        ensures failed { IsErr result → (self.new.history ≡ self.old.history) × (self.new.room ≡ self.old.room) }
     {
         self.count_call(RECORD)?;
         self.keep_sync();

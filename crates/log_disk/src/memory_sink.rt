@@ -1,4 +1,4 @@
-ghost use Rattle.std.specs.Prelude.{◌≡◌, ◌<◌, ◌≤◌, ◌-◌, ◌↔◌, [], min, length, IsErr, IfOk, Some};
+ghost use Rattle.std.specs.Prelude.{◌≡◌, ◌<◌, ◌≤◌, ◌-◌, ◌↔◌, [], min, length, IsErr, IfOk, OnOk, Some};
 ghost use Rattle.std.specs.Io.KnownBytes.{WriteAppends};
 ghost use Rattle.log_disk.specs.Faults.{HasCause, raised, CountsFault};
 ghost use Rattle.log_disk.specs.Memory.{WriteFails};
@@ -74,6 +74,7 @@ impl Sink for MemorySink {
         ensures fits { IfOk result (λ count. count ≤ length piece.now) }
         ensures bytes { WriteAppends (Some self.old.held) (Some self.new.held) result piece.now }
         ensures cause { HasCause self.old.faults self.new.faults result }
+        ensures no_fault { OnOk result (self.new.faults ≡ self.old.faults) }
 
         // Beside the trait's: it fails exactly where it was told to, and takes as much as it can.
         ensures fails { IsErr result ↔ WriteFails self.old }

@@ -33,6 +33,7 @@ pub fn open_image<D: LogDisk>(alloc: Global, disk: &mut D) -> Result<Vec<u8>, Op
     ensures honest { D.honest disk.old ↔ D.honest disk.new }
     ensures fault { IsErrOf result OpenFault.DiskFault → Rose (D.faults disk.old) (D.faults disk.new) }
     ensures faults { D.faults disk.old ≤ D.faults disk.new }
+    ensures no_fault { (IsErrOf result OpenFault.DiskFault → ⊥) → D.faults disk.new ≡ D.faults disk.old }
 {
     disk.sync()?;
     let len = disk.len()?;

@@ -1,4 +1,4 @@
-use Rattle.std.proofs.Common.{take, ◌++◌, arith}
+use Rattle.std.proofs.Common.{take, ◌++◌, ◌∙◌}
 use Rattle.std.proofs.KnownBytes.{Appends-trans}
 use Rattle.log_disk.proofs.Prefixes.{prefix-grows}
 use Rattle.log_disk.proofs.sink.put_all.Goals as goal
@@ -8,5 +8,5 @@ writes-preserved g c =
     let was = c.writes.invariant.written in
     record {
       written = (was.0 ++ take c.in-Ok.count c.writes.rest.now, prefix-grows _ _ _ _ _ was.1 c.split_at.ensures.back, Appends-trans _ _ _ _ _ was.2 c.in-Ok.ensures.bytes);
-      later = omega (arith, c.in-Ok.ensures.cause.later);
+      same = c.in-Ok.ensures.no_fault ∙ c.writes.invariant.same;
     }

@@ -10,7 +10,7 @@ invariant-reading g l = record {
   images : (c : List ℕ) → g.D.LogDisk.images l.disk c → g.D.LogDisk.images l.fn.disk c;
   moments : Leaves g.D.LogDisk.moment g.D.LogDisk.images_since (g.D.LogDisk.images l.fn.disk) l.fn.disk l.disk;
   count : g.D.LogDisk.honest l.fn.disk → g.D.LogDisk.written_count l.disk ≤ g.D.LogDisk.written_count l.fn.disk + 1;
-  faults : g.D.LogDisk.faults l.fn.disk ≤ g.D.LogDisk.faults l.disk;
+  faults : g.D.LogDisk.faults l.disk ≡ g.D.LogDisk.faults l.fn.disk;
   len : g.D.LogDisk.honest l.fn.disk → l.len ≡ length (g.D.LogDisk.reads l.fn.disk);
   bytes : g.D.LogDisk.honest l.fn.disk → l.bytes.items ≡ take (length l.bytes.items) (g.D.LogDisk.reads l.fn.disk);
 }
