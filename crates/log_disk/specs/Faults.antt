@@ -1,5 +1,5 @@
 -- Counts of faults. A count is 64 bits wide, and stands still at its last value.
-use Rattle.std.specs.Prelude.{◌≡◌, ◌≤◌, ℕ, ◌+◌, ◌-◌, ◌^◌, min, Result, OnErr, MatchResult}
+use Rattle.std.specs.Prelude.{◌≡◌, ◌≤◌, ℕ, ◌+◌, ◌-◌, ◌^◌, min, Result, OnOk, OnErr, MatchResult}
 
 -- one more, or the last value of the counter
 abbrev pub raised : ℕ → ℕ
@@ -9,9 +9,10 @@ raised count = min (count + 1) (2 ^ 64 - 1)
 abbrev pub Rose : ℕ → ℕ → Type 0
 Rose before now = raised before ≤ now
 
--- the count never falls, and rose where the call failed
+-- the count never falls, stays where the call succeeded, and rose where it failed
 pub record HasCause {T E : Type 0} (before now : ℕ) (result : Result T E) : Type 0 where
   pub later : before ≤ now
+  pub fine : OnOk result (now ≡ before)
   pub failed : OnErr result (Rose before now)
 
 -- one fault is counted where the call failed, and none elsewhere

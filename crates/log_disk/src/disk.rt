@@ -36,8 +36,7 @@ pub trait LogDisk {
         ensures keeps { Keeps honest reads images written_count self.old self.new }
         ensures honest { honest self.old ↔ honest self.new }
         ensures time { Elapses moment images images_since self.old self.new }
-        ensures cause { HasCause (faults self.old) (faults self.new) result }
-        ensures no_fault { OnOk result (faults self.new ≡ faults self.old) };
+        ensures cause { HasCause (faults self.old) (faults self.new) result };
 
     /// The length of the file in bytes.
     fn len(&mut self) -> Result<u64, Failed>
@@ -45,8 +44,7 @@ pub trait LogDisk {
         ensures keeps { Keeps honest reads images written_count self.old self.new }
         ensures honest { honest self.old ↔ honest self.new }
         ensures time { Elapses moment images images_since self.old self.new }
-        ensures cause { HasCause (faults self.old) (faults self.new) result }
-        ensures no_fault { OnOk result (faults self.new ≡ faults self.old) };
+        ensures cause { HasCause (faults self.old) (faults self.new) result };
 
     /// Reads from that offset on into the front of the buffer, and tells how many bytes. 0 from the
     /// end of the file on.
@@ -57,8 +55,7 @@ pub trait LogDisk {
         ensures keeps { Keeps honest reads images written_count self.old self.new }
         ensures honest { honest self.old ↔ honest self.new }
         ensures time { Elapses moment images images_since self.old self.new }
-        ensures cause { HasCause (faults self.old) (faults self.new) result }
-        ensures no_fault { OnOk result (faults self.new ≡ faults self.old) };
+        ensures cause { HasCause (faults self.old) (faults self.new) result };
 
     /// Writes over what stands at that offset, and past the end. A write that fails may have left any
     /// bytes in its range, for reads too.
@@ -70,8 +67,7 @@ pub trait LogDisk {
         ensures count { honest self.old → CountsOne (written_count self.old) (written_count self.new) result }
         ensures honest { honest self.old ↔ honest self.new }
         ensures time { Elapses moment images images_since self.old self.new }
-        ensures cause { HasCause (faults self.old) (faults self.new) result }
-        ensures no_fault { OnOk result (faults self.new ≡ faults self.old) };
+        ensures cause { HasCause (faults self.old) (faults self.new) result };
 
     /// After it a crash leaves what a read gives. A sync that fails adds no image.
     fn sync(&mut self) -> Result<(), Failed>
@@ -81,8 +77,7 @@ pub trait LogDisk {
         ensures count { honest self.old → CountsOne (written_count self.old) (written_count self.new) result }
         ensures honest { honest self.old ↔ honest self.new }
         ensures time { Elapses moment images images_since self.old self.new }
-        ensures cause { HasCause (faults self.old) (faults self.new) result }
-        ensures no_fault { OnOk result (faults self.new ≡ faults self.old) };
+        ensures cause { HasCause (faults self.old) (faults self.new) result };
 
     /// What is read is one of the images.
     ghost read_is_image: { (disk : Self) → honest disk → images disk (reads disk) };

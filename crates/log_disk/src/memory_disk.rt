@@ -179,7 +179,6 @@ impl LogDisk for MemoryDisk {
         ensures keeps { Keeps (λ _. ⊤) file_of ImagesOf written_count_of self.old self.new }
         ensures time { Elapses moment_of ImagesOf ImagesSinceOf self.old self.new }
         ensures cause { HasCause self.old.faults self.new.faults result }
-        ensures no_fault { OnOk result (self.new.faults ≡ self.old.faults) }
 
         // Beside the trait's: it fails exactly where it was told to.
         ensures fails { IsErr result ↔ CallFails self.old 0 }
@@ -194,7 +193,6 @@ impl LogDisk for MemoryDisk {
         ensures keeps { Keeps (λ _. ⊤) file_of ImagesOf written_count_of self.old self.new }
         ensures time { Elapses moment_of ImagesOf ImagesSinceOf self.old self.new }
         ensures cause { HasCause self.old.faults self.new.faults result }
-        ensures no_fault { OnOk result (self.new.faults ≡ self.old.faults) }
 
         // Beside the trait's: it fails exactly where it was told to.
         ensures fails { IsErr result ↔ CallFails self.old 0 }
@@ -212,7 +210,6 @@ impl LogDisk for MemoryDisk {
         ensures keeps { Keeps (λ _. ⊤) file_of ImagesOf written_count_of self.old self.new }
         ensures time { Elapses moment_of ImagesOf ImagesSinceOf self.old self.new }
         ensures cause { HasCause self.old.faults self.new.faults result }
-        ensures no_fault { OnOk result (self.new.faults ≡ self.old.faults) }
 
         // Beside the trait's: it fails exactly where it was told to.
         ensures fails { IsErr result ↔ CallFails self.old 0 }
@@ -232,7 +229,6 @@ impl LogDisk for MemoryDisk {
         ensures count { CountsOne self.old.written_count self.new.written_count result }
         ensures time { Elapses moment_of ImagesOf ImagesSinceOf self.old self.new }
         ensures cause { HasCause self.old.faults self.new.faults result }
-        ensures no_fault { OnOk result (self.new.faults ≡ self.old.faults) }
 
         // Beside the trait's: it fails exactly where it was told to, or where too little room is left.
         ensures fails { IsErr result ↔ CallFails self.old (RECORD + length bytes.now) }
@@ -272,7 +268,6 @@ impl LogDisk for MemoryDisk {
         ensures count { CountsOne self.old.written_count self.new.written_count result }
         ensures time { Elapses moment_of ImagesOf ImagesSinceOf self.old self.new }
         ensures cause { HasCause self.old.faults self.new.faults result }
-        ensures no_fault { OnOk result (self.new.faults ≡ self.old.faults) }
 
         // Beside the trait's: it fails exactly where it was told to, or where too little room is left.
         ensures fails { IsErr result ↔ CallFails self.old RECORD }

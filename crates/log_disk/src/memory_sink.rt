@@ -74,7 +74,6 @@ impl Sink for MemorySink {
         ensures fits { IfOk result (λ count. count ≤ length piece.now) }
         ensures bytes { WriteAppends (Some self.old.held) (Some self.new.held) result piece.now }
         ensures cause { HasCause self.old.faults self.new.faults result }
-        ensures no_fault { OnOk result (self.new.faults ≡ self.old.faults) }
 
         // Beside the trait's: it fails exactly where it was told to, and takes as much as it can.
         ensures fails { IsErr result ↔ WriteFails self.old }

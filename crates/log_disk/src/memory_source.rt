@@ -85,7 +85,6 @@ impl Source for MemorySource {
         ensures allowance { SpendsAllowance self.old.read_allowance self.new.read_allowance result }
         ensures spent { self.old.read_allowance ≡ 0 → IsErr result }
         ensures cause { HasCause self.old.faults self.new.faults result }
-        ensures no_fault { OnOk result (self.new.faults ≡ self.old.faults) }
 
         // Beside the trait's: it fails exactly where it was told to, and gives as much as it may.
         ensures fails { IsErr result ↔ ReadFails self.old }

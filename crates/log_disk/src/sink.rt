@@ -20,8 +20,7 @@ pub trait Sink {
         ensures some { IfOk result (λ count. 0 < count) }
         ensures fits { IfOk result (λ count. count ≤ length piece.now) }
         ensures bytes { WriteAppends (held_bytes self.old) (held_bytes self.new) result piece.now }
-        ensures cause { HasCause (faults self.old) (faults self.new) result }
-        ensures no_fault { OnOk result (faults self.new ≡ faults self.old) };
+        ensures cause { HasCause (faults self.old) (faults self.new) result };
 }
 
 /// A write of a whole text failed.
@@ -33,7 +32,6 @@ pub fn put_all<K: Sink>(sink: &mut K, bytes: &[u8]) -> Result<(), WriteFault>
     ensures all { OnOk result (Appends (K.held_bytes sink.old) (K.held_bytes sink.new) bytes.now) }
     ensures prefix { OnErr result (AppendsPart (K.held_bytes sink.old) (K.held_bytes sink.new) bytes.now) }
     ensures cause { HasCause (K.faults sink.old) (K.faults sink.new) result }
-    ensures no_fault { OnOk result (K.faults sink.new ≡ K.faults sink.old) }
 {
     let mut rest = bytes;
     'writes: while !rest.is_empty() {

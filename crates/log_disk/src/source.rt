@@ -28,6 +28,5 @@ pub trait Source {
         ensures bytes { ReadConsumes (left self.old) (left self.new) result buf.new }
         ensures allowance { SpendsAllowance (read_allowance self.old) (read_allowance self.new) result }
         ensures spent { read_allowance self.old ≡ 0 → IsErr result }
-        ensures cause { HasCause (faults self.old) (faults self.new) result }
-        ensures no_fault { OnOk result (faults self.new ≡ faults self.old) };
+        ensures cause { HasCause (faults self.old) (faults self.new) result };
 }

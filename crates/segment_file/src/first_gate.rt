@@ -15,7 +15,6 @@ pub fn has_open_gate<D: LogDisk>(disk: &mut D) -> Result<bool, DiskFault>
     ensures time { Elapses D.moment D.images D.images_since disk.old disk.new }
     ensures honest { D.honest disk.old ↔ D.honest disk.new }
     ensures cause { HasCause (D.faults disk.old) (D.faults disk.new) result }
-    ensures no_fault { OnOk result (D.faults disk.new ≡ D.faults disk.old) }
 {
     let len = disk.len()?;
     let mut first = [0];

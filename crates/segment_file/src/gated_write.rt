@@ -26,7 +26,6 @@ pub fn write_synced<D: LogDisk>(disk: &mut D, at: u64, bytes: &[u8]) -> Result<(
     ensures honest { D.honest disk.old ↔ D.honest disk.new }
     ensures count { D.honest disk.old → D.written_count disk.new ≤ D.written_count disk.old + 2 }
     ensures cause { HasCause (D.faults disk.old) (D.faults disk.new) result }
-    ensures no_fault { OnOk result (D.faults disk.new ≡ D.faults disk.old) }
 {
     disk.write_at(at, bytes)?;
     disk.sync()?;
@@ -45,7 +44,6 @@ pub fn write_gated<D: LogDisk>(disk: &mut D, at: u64, body: &[u8]) -> Result<(),
     ensures honest { D.honest disk.old ↔ D.honest disk.new }
     ensures count { D.honest disk.old → D.written_count disk.new ≤ D.written_count disk.old + 4 }
     ensures cause { HasCause (D.faults disk.old) (D.faults disk.new) result }
-    ensures no_fault { OnOk result (D.faults disk.new ≡ D.faults disk.old) }
 {
     write_synced(disk, at + 1, body)?;
     write_synced(disk, at, &[OPEN])?;

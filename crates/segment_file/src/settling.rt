@@ -34,7 +34,6 @@ pub fn settle<D: LogDisk>(disk: &mut D, at: u64, next: Lsn) -> Result<Tail, Disk
     ensures later { D.moment disk.old ≤ D.moment disk.new }
     ensures honest { D.honest disk.old ↔ D.honest disk.new }
     ensures cause { HasCause (D.faults disk.old) (D.faults disk.new) result }
-    ensures no_fault { OnOk result (D.faults disk.new ≡ D.faults disk.old) }
 {
     close_gate(disk, at)?;
     Ok(Tail { at, next })
@@ -57,7 +56,6 @@ pub(crate) fn close_gate<D: LogDisk>(disk: &mut D, at: u64) -> Result<(), DiskFa
     ensures later { D.moment disk.old ≤ D.moment disk.new }
     ensures honest { D.honest disk.old ↔ D.honest disk.new }
     ensures cause { HasCause (D.faults disk.old) (D.faults disk.new) result }
-    ensures no_fault { OnOk result (D.faults disk.new ≡ D.faults disk.old) }
 {
     if lacks_gate(disk, at)? {
         write_synced(disk, at, &[CLOSED])
@@ -73,7 +71,6 @@ fn lacks_gate<D: LogDisk>(disk: &mut D, at: u64) -> Result<bool, DiskFault>
     ensures time { Elapses D.moment D.images D.images_since disk.old disk.new }
     ensures honest { D.honest disk.old ↔ D.honest disk.new }
     ensures cause { HasCause (D.faults disk.old) (D.faults disk.new) result }
-    ensures no_fault { OnOk result (D.faults disk.new ≡ D.faults disk.old) }
 {
     let mut two = [0; 2];
     let count = disk.read_at(at, &mut two)?;

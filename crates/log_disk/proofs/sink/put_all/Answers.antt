@@ -8,5 +8,5 @@ writes-preserved g c =
     let was = c.writes.invariant.written in
     record {
       written = (was.0 ++ take c.in-Ok.count c.writes.rest.now, prefix-grows _ _ _ _ _ was.1 c.split_at.ensures.back, Appends-trans _ _ _ _ _ was.2 c.in-Ok.ensures.bytes);
-      same = c.in-Ok.ensures.no_fault ∙ c.writes.invariant.same;
+      same = c.in-Ok.ensures.cause.fine ∙ c.writes.invariant.same;
     }
