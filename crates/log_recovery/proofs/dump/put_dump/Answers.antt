@@ -1,4 +1,4 @@
-use Rattle.std.proofs.Common.{◌∙◌, length, drop, ap, sym, arith}
+use Rattle.std.proofs.Common.{◌∙◌, length, drop, ap, sym, refl}
 use Rattle.std.proofs.lemmas.Bool.{eqb-true, eqb-false}
 use Rattle.std.proofs.lemmas.List.{nil_from_length}
 use Rattle.std.proofs.lemmas.Result.{err_from_is_err_and, on_ok_weaker, on_err_weaker}
@@ -8,7 +8,7 @@ use Rattle.log_recovery.proofs.dump.put_dump.Goals as goal
 pub records-init : goal.records-init
 records-init g c = record {
   dumped = rw c.as_slice-rest.ensures (dumps-none _ c.requires.0 _ c.requires.1.list);
-  later = omega arith;
+  same = refl;
 }
 
 pub start_of-start-requires : goal.start_of-start-requires
@@ -32,7 +32,7 @@ records-preserved g c =
     record {
       dumped = dumps-more _ _ _ _ c.records.invariant.dumped c.start_of-start.result place c.in-Ok.rec c.in-Ok.ensures.found.0
           (eqb-false _ _ (sym c.is_empty.ensures ∙ c.records-test.true)) _ _ dropped c.in_ok-put_record.ensures.all;
-      later = omega (arith, c.in_ok-put_record.ensures.cause.later);
+      same = c.in_ok-put_record.ensures.cause.fine ∙ c.records.invariant.same;
     }
 
 pub returns-clause-all : goal.returns-clause-all

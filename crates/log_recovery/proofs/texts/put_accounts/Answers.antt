@@ -1,4 +1,4 @@
-use Rattle.std.proofs.Common.{refl, arith}
+use Rattle.std.proofs.Common.{◌∙◌, refl, arith}
 use Rattle.std.proofs.lemmas.Result.{err_from_is_err_and}
 use Rattle.log_recovery.specs.Text.{lsn_line}
 use Rattle.log_recovery.proofs.TextLemmas.{AppendsPrefix-first, Appends-line, AppendsPrefix-line}
@@ -19,5 +19,5 @@ pub loop-account-preserved : goal.loop-account-preserved
 loop-account-preserved g c = record {
   written = Appends-line _ _ _ (lsn_line c.args.lsn) c.args.accounts.now.rows c.loop-account.account c.at-balance.result
       c.at-balance.ensures c.loop-account.invariant.written c.in_ok-put_balance.ensures.all;
-  later = omega (arith, c.in_ok-put_balance.ensures.cause.later);
+  same = c.in_ok-put_balance.ensures.cause.fine ∙ c.loop-account.invariant.same;
 }
