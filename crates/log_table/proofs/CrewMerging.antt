@@ -9,7 +9,9 @@ use Rattle.log_table.specs.declared.view.Role.TheVariants.{Flusher, Fresh, Activ
 use Rattle.log_table.specs.declared.view.View.{View}
 use Rattle.log_table.specs.May.{MayMerge}
 use Rattle.log_table.specs.Sound.{EachView, HasSoundRole, HasSoundRoles, HasSoundCrew, Knows, Lacks, is_active_view}
-use Rattle.log_table.specs.Views.{has_ended, is_active, is_worker, nobody, takes_in}
+use Rattle.log_table.specs.Roles.{has_ended, is_active, is_worker}
+use Rattle.log_table.specs.Views.{nobody}
+use Rattle.log_table.specs.CrewViews.{takes_in}
 use Rattle.log_table.proofs.Roles.{unbound}
 use Rattle.log_table.proofs.Viewing.{each_set, pairs_move, count-set}
 

@@ -17,7 +17,9 @@ use Rattle.log_table.specs.Layout.{Crew}
 use Rattle.log_table.specs.Log.{Log}
 use Rattle.log_table.specs.May.{MayLeave}
 use Rattle.log_table.specs.Sound.{EachView, StoresStop, HasReadStop, HasSoundRole, HasSoundRoles, HasSoundCrew, IsSound, Knows, Lacks, is_active_view}
-use Rattle.log_table.specs.Views.{is_active, is_worker, is_working, is_spent, may_own, counted, enrolled, retired}
+use Rattle.log_table.specs.Roles.{is_active, is_worker, is_working, is_spent, may_own}
+use Rattle.log_table.specs.Views.{counted}
+use Rattle.log_table.specs.CrewViews.{enrolled, retired}
 use Rattle.log_table.specs.Words.{Words}
 use Rattle.log_table.proofs.Keeping.{accounts-stay}
 use Rattle.log_table.proofs.Roles.{quiet-moves, restands}
