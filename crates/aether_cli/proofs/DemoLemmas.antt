@@ -43,7 +43,7 @@ use Rattle.aether_cli.specs.Ending.{AreWhole, Concludes, HasEnded, IsFirstLogEnd
 use Rattle.aether_cli.specs.RunAnswers.{OnlyLooks}
 use Rattle.aether_cli.specs.Summary.{generated_opening, generated_rows, summary_of, summary_text}
 use Rattle.aether_cli.specs.Transferred.{IsOpened}
-use Rattle.aether_cli.proofs.EndingLemmas.{list, counted-ended, drained-ended, keeps-ended, kept-ended, serial-ended, speaks-ended, stops-ended, told-ended, whole-ended, whole_after-ended}
+use Rattle.aether_cli.proofs.EndingLemmas.{by-conclusion, list, counted-ended, drained-ended, keeps-ended, kept-ended, serial-ended, speaks-ended, stops-ended, told-ended, whole-ended, whole_after-ended}
 use Rattle.aether_cli.proofs.GeneratedEnd.{end-most, never-log_end}
 use Rattle.aether_cli.proofs.GenesisLemmas.{end_of-genesis, genesis-holds, genesis-kept, genesis-lawful, genesis-spellable, opening_rows}
 use Rattle.aether_cli.proofs.RunBegun.{images-begun}
@@ -244,64 +244,28 @@ module _ {D : Type 0} {K : Type 0} (g : Ghosts D) (h : SinkGhosts K) (n seed wor
 
   pub text-concluded : (detail : Detail) → Concludes h ended (counted_text n ended) sink_mid sink_new detail
       → TellsSummary n seed (h.held_bytes sink) (h.held_bytes sink_new) detail
-  text-concluded Disk said = subst (λ s. Keeps (h.held_bytes sink) (h.held_bytes s)) (sym said.1)
-      (Appends-keeps (h.held_bytes sink) (h.held_bytes sink_mid) silent)
-  text-concluded Write (inl said) =
-      ([], summary_text n seed, refl, subst (λ s. Appends (h.held_bytes sink) (h.held_bytes s) []) (sym said.1) silent)
-  text-concluded Write (inr said) =
-      let text = said.1 in (
+  text-concluded = by-conclusion h ended (counted_text n ended) sink_mid sink_new (TellsSummary n seed (h.held_bytes sink) (h.held_bytes sink_new))
+      (λ said. subst (λ s. Keeps (h.held_bytes sink) (h.held_bytes s)) (sym said.1) (Appends-keeps (h.held_bytes sink) (h.held_bytes sink_mid) silent))
+      (λ said. ([], summary_text n seed, refl, subst (λ s. Appends (h.held_bytes sink) (h.held_bytes s) []) (sym said.1) silent))
+      (λ said. let text = said.1 in (
         text.0,
         text.1,
         sym (summary-ended said.0.0 said.0.1) ∙ text.2,
         Appends-trans (h.held_bytes sink) (h.held_bytes sink_mid) (h.held_bytes sink_new) [] text.0 silent text.3,
-      )
-  text-concluded Fine said = subst (Appends (h.held_bytes sink) (h.held_bytes sink_new)) (summary-ended said.0.0 said.0.1)
-      (Appends-trans (h.held_bytes sink) (h.held_bytes sink_mid) (h.held_bytes sink_new) [] (counted_text n ended) silent said.1)
-  text-concluded (LogEnd tail total) said = absurd (no-log_end tail total said.0.0 said.0.1)
-  text-concluded NoMemory said = absurd said
-  text-concluded Usage said = absurd said
-  text-concluded (Script line) said = absurd said
-  text-concluded Read said = absurd said
-  text-concluded NotALog said = absurd said
-  text-concluded (BadBatch offset) said = absurd said
-  text-concluded (BadRec lsn) said = absurd said
-  text-concluded (Unlawful lsn why) said = absurd said
-  text-concluded (TxnEnd first count) said = absurd said
-  text-concluded Exists said = absurd said
+      ))
+      (λ said. subst (Appends (h.held_bytes sink) (h.held_bytes sink_new)) (summary-ended said.0.0 said.0.1)
+      (Appends-trans (h.held_bytes sink) (h.held_bytes sink_mid) (h.held_bytes sink_new) [] (counted_text n ended) silent said.1))
+      (λ tail total said. absurd (no-log_end tail total said.0.0 said.0.1))
 
   pub range-concluded : (detail : Detail) → Concludes h ended (counted_text n ended) sink_mid sink_new detail → IsOfDemo detail
-  range-concluded Disk said = tt
-  range-concluded Write said = tt
-  range-concluded Fine said = tt
-  range-concluded (LogEnd tail total) said = absurd (no-log_end tail total said.0.0 said.0.1)
-  range-concluded NoMemory said = absurd said
-  range-concluded Usage said = absurd said
-  range-concluded (Script line) said = absurd said
-  range-concluded Read said = absurd said
-  range-concluded NotALog said = absurd said
-  range-concluded (BadBatch offset) said = absurd said
-  range-concluded (BadRec lsn) said = absurd said
-  range-concluded (Unlawful lsn why) said = absurd said
-  range-concluded (TxnEnd first count) said = absurd said
-  range-concluded Exists said = absurd said
+  range-concluded = by-conclusion h ended (counted_text n ended) sink_mid sink_new IsOfDemo (λ _. tt) (λ _. tt) (λ _. tt) (λ _. tt)
+      (λ tail total said. absurd (no-log_end tail total said.0.0 said.0.1))
 
   -- it was found that no log is there
   pub tells-concluded : (opened : Type 0) → (opened → ⊥) → (detail : Detail) → Concludes h ended (counted_text n ended) sink_mid sink_new detail
       → TellsWhether opened detail
-  tells-concluded opened closed Disk said = tt
-  tells-concluded opened closed Write said = closed
-  tells-concluded opened closed Fine said = closed
-  tells-concluded opened closed (LogEnd tail total) said = closed
-  tells-concluded opened closed NoMemory said = absurd said
-  tells-concluded opened closed Usage said = absurd said
-  tells-concluded opened closed (Script line) said = absurd said
-  tells-concluded opened closed Read said = absurd said
-  tells-concluded opened closed NotALog said = absurd said
-  tells-concluded opened closed (BadBatch offset) said = absurd said
-  tells-concluded opened closed (BadRec lsn) said = absurd said
-  tells-concluded opened closed (Unlawful lsn why) said = absurd said
-  tells-concluded opened closed (TxnEnd first count) said = absurd said
-  tells-concluded opened closed Exists said = absurd said
+  tells-concluded opened closed = by-conclusion h ended (counted_text n ended) sink_mid sink_new (TellsWhether opened) (λ _. tt) (λ _. closed)
+      (λ _. closed) (λ _. closed) (λ _ _ _. closed)
 
   module _ (honest : g.honest entry) (honest_mid : g.honest disk) where
     made : OnlyMakes g entry disk
@@ -332,18 +296,6 @@ module _ {D : Type 0} {K : Type 0} (g : Ghosts D) (h : SinkGhosts K) (n seed wor
     pub answers-demo : (detail : Detail) → Concludes h ended (counted_text n ended) sink_mid sink_new detail
         → AnswersDemo g n seed workers entry disk_new detail
     unfolding ran
-    answers-demo Disk said = inr ran
-    answers-demo Write (inl said) = absurd (never-fails said.0)
-    answers-demo Write (inr said) = ran-all said.0
-    answers-demo Fine said = ran-all said.0
-    answers-demo (LogEnd tail total) said = no-log_end tail total said.0.0 said.0.1
-    answers-demo NoMemory said = absurd said
-    answers-demo Usage said = absurd said
-    answers-demo (Script line) said = absurd said
-    answers-demo Read said = absurd said
-    answers-demo NotALog said = absurd said
-    answers-demo (BadBatch offset) said = absurd said
-    answers-demo (BadRec lsn) said = absurd said
-    answers-demo (Unlawful lsn why) said = absurd said
-    answers-demo (TxnEnd first count) said = absurd said
-    answers-demo Exists said = absurd said
+    answers-demo = by-conclusion h ended (counted_text n ended) sink_mid sink_new (AnswersDemo g n seed workers entry disk_new) (λ _. inr ran)
+        (λ said. absurd (never-fails said.0)) (λ said. ran-all said.0) (λ said. ran-all said.0)
+        (λ tail total said. no-log_end tail total said.0.0 said.0.1)

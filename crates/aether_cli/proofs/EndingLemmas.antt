@@ -30,7 +30,7 @@ use Rattle.aether_cli.specs.declared.report.Detail.{Detail}
 use Rattle.aether_cli.specs.declared.report.Detail.TheVariants.{Fine, NoMemory, Usage, Script, Read, Write, Disk, NotALog, BadBatch, BadRec, Unlawful, LogEnd, TxnEnd, Exists}
 use Rattle.aether_cli.specs.declared.transfers.Ended.{Ended}
 use Rattle.aether_cli.specs.declared.transfers.Prepared.{Prepared}
-use Rattle.aether_cli.specs.Ending.{HasEnded, AreWhole, Concludes, NoneStopped, IsFirstLogEnd}
+use Rattle.aether_cli.specs.Ending.{HasEnded, AreWhole, Concludes, NoneStopped, NothingStopped, StoppedAs, IsFirstLogEnd}
 use Rattle.aether_cli.specs.Run.{RunKeepsLog, RunIsDrained, RunsWhole}
 use Rattle.aether_cli.specs.RunStops.{StopsAtLogEnd}
 use Rattle.aether_cli.specs.Shares.{Share}
@@ -63,6 +63,29 @@ get_or-behind (first ∷ below) above end other = get_or-behind below above end 
 length-behind : (below above : List Worked) (end : Worked) → length below < length (below ++ end ∷ above)
 length-behind [] above end = omega arith
 length-behind (first ∷ below) above end = let shorter = length-behind below above end in omega arith
+
+-- what is concluded is Disk, Write, where something stopped the transfers or the text could not be written whole, Fine or LogEnd
+module _ {K : Type 0} (h : SinkGhosts K) (ended : Ended) (text : List ℕ) (old new : K) (P : Detail → Type 0)
+    (disk : Concludes h ended text old new Disk → P Disk) (stopped : StoppedAs ended Write × (new ≡ old) → P Write)
+    (cut : NothingStopped ended × AppendsPrefix (h.held_bytes old) (h.held_bytes new) text → P Write)
+    (fine : Concludes h ended text old new Fine → P Fine)
+    (log_end : (tail total : ℕ) → Concludes h ended text old new (LogEnd tail total) → P (LogEnd tail total)) where
+  pub by-conclusion : (detail : Detail) → Concludes h ended text old new detail → P detail
+  by-conclusion Disk said = disk said
+  by-conclusion Write (inl said) = stopped said
+  by-conclusion Write (inr said) = cut said
+  by-conclusion Fine said = fine said
+  by-conclusion (LogEnd tail total) said = log_end tail total said
+  by-conclusion NoMemory said = absurd said
+  by-conclusion Usage said = absurd said
+  by-conclusion (Script line) said = absurd said
+  by-conclusion Read said = absurd said
+  by-conclusion NotALog said = absurd said
+  by-conclusion (BadBatch offset) said = absurd said
+  by-conclusion (BadRec lsn) said = absurd said
+  by-conclusion (Unlawful lsn why) said = absurd said
+  by-conclusion (TxnEnd first count) said = absurd said
+  by-conclusion Exists said = absurd said
 
 module _ {D : Type 0} {K : Type 0} (g : Ghosts D) (h : SinkGhosts K) (prepared : Prepared) (opened : List Rec) (voice : Voice)
     (disk disk_new : D) (sink sink_new : K) (ended : Ended) (has : HasEnded g h prepared opened voice disk disk_new sink sink_new ended) where
@@ -173,37 +196,15 @@ module _ {D : Type 0} {K : Type 0} (g : Ghosts D) (h : SinkGhosts K) (prepared :
     rose-later before mid now later rose = omega arith
 
     pub disk-concluded : (detail : Detail) → Concludes h ended text sink_new sink_end detail → detail ≡ Disk → Rose (g.faults disk) (g.faults disk_new)
-    disk-concluded Disk said same = reason-disk said.0
-    disk-concluded Write said same = cc
-    disk-concluded (LogEnd tail total) said same = cc
-    disk-concluded Fine said same = cc
-    disk-concluded NoMemory said same = absurd said
-    disk-concluded Usage said same = absurd said
-    disk-concluded (Script line) said same = absurd said
-    disk-concluded Read said same = absurd said
-    disk-concluded NotALog said same = absurd said
-    disk-concluded (BadBatch offset) said same = absurd said
-    disk-concluded (BadRec lsn) said same = absurd said
-    disk-concluded (Unlawful lsn why) said same = absurd said
-    disk-concluded (TxnEnd first count) said same = absurd said
-    disk-concluded Exists said same = absurd said
+    disk-concluded = by-conclusion h ended text sink_new sink_end (λ detail. detail ≡ Disk → Rose (g.faults disk) (g.faults disk_new))
+        (λ said _. reason-disk said.0) (λ _ same. cc) (λ _ same. cc) (λ _ same. cc) (λ tail total _ same. cc)
 
     pub write-concluded : (detail : Detail) → Concludes h ended text sink_new sink_end detail
         → (detail ≡ Write → ended.fault ≡ None → Rose (h.faults sink_new) (h.faults sink_end)) → detail ≡ Write
         → Rose (h.faults sink) (h.faults sink_end)
-    write-concluded Write (inl said) ends same = subst (λ s. Rose (h.faults sink) (h.faults s)) (sym said.1) (reason-write said.0)
-    write-concluded Write (inr said) ends same =
-        rose-later (h.faults sink) (h.faults sink_new) (h.faults sink_end) later-ended.1 (ends same said.0.0)
-    write-concluded Disk said ends same = cc
-    write-concluded (LogEnd tail total) said ends same = cc
-    write-concluded Fine said ends same = cc
-    write-concluded NoMemory said ends same = absurd said
-    write-concluded Usage said ends same = absurd said
-    write-concluded (Script line) said ends same = absurd said
-    write-concluded Read said ends same = absurd said
-    write-concluded NotALog said ends same = absurd said
-    write-concluded (BadBatch offset) said ends same = absurd said
-    write-concluded (BadRec lsn) said ends same = absurd said
-    write-concluded (Unlawful lsn why) said ends same = absurd said
-    write-concluded (TxnEnd first count) said ends same = absurd said
-    write-concluded Exists said ends same = absurd said
+    write-concluded = by-conclusion h ended text sink_new sink_end
+        (λ detail. (detail ≡ Write → ended.fault ≡ None → Rose (h.faults sink_new) (h.faults sink_end)) → detail ≡ Write
+        → Rose (h.faults sink) (h.faults sink_end))
+        (λ _ _ same. cc) (λ said _ _. subst (λ s. Rose (h.faults sink) (h.faults s)) (sym said.1) (reason-write said.0))
+        (λ said ends same. rose-later (h.faults sink) (h.faults sink_new) (h.faults sink_end) later-ended.1 (ends same said.0.0)) (λ _ _ same. cc)
+        (λ tail total _ _ same. cc)

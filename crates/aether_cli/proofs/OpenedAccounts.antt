@@ -1,5 +1,5 @@
 -- The accounts of a log that was opened: 1 to 4096, with balances in their range, and last Commits that end at most where the log does.
-use Rattle.std.proofs.Common.{◌≡◌, ◌≤◌, ◌<◌, ◌&&◌, refl, ap, sym, ◌∙◌, subst, ℕ, ◌+◌, Bool, true, false, cond, List, [], ◌∷◌, length, arith, length-append}
+use Rattle.std.proofs.Common.{◌≡◌, ◌≤◌, ◌<◌, ◌&&◌, ap, sym, ◌∙◌, subst, ℕ, ◌+◌, Bool, true, false, cond, List, [], ◌∷◌, length, arith, length-append}
 use Rattle.std.specs.List.{AllByRecursion}
 use Rattle.std.proofs.lemmas.Option.{get_or_from_slice_get}
 use Rattle.log_record.specs.declared.limits.TheConstants.{MOST_ACCOUNTS}
@@ -16,6 +16,7 @@ use Rattle.lock_core.specs.Sums.{BaseState, balance_of, last_commit_of}
 use Rattle.lock_core.specs.Tests.{OpensLedger}
 use Rattle.lock_core.specs.Transactions.{touches, updates_of}
 use Rattle.lock_core.proofs.KindLemmas.{accounts-genesis}
+use Rattle.lock_core.proofs.LastCommits.{genesis_of-last_commit}
 use Rattle.lock_core.proofs.Ranging.{balance_of-is, in_range-log}
 use Rattle.log_recovery.specs.declared.recovery.Recovered.{Recovered}
 use Rattle.log_recovery.specs.Recovery.{Recovers, HoldsLawful}
@@ -52,19 +53,6 @@ few-lawful (entry ∷ h) spelled lawful = by_kind entry.rec spelled.0 lawful.0.0
     by_kind (Short txn leg) own opens before = before
     by_kind (Over txn leg) own opens before = before
     by_kind (Note txn text) own opens before = before
-
--- no Genesis is a Commit on its account
-last-genesis : (h : List Placed) (account : ℕ) → (genesis_of h).last_commit account ≡ 0
-last-genesis [] account = refl
-last-genesis (entry ∷ h) account = by_kind entry.rec (last-genesis h account)
-  where
-    by_kind : (rec : Rec) → (genesis_of h).last_commit account ≡ 0 → (with_genesis rec (genesis_of h)).last_commit account ≡ 0
-    by_kind (Genesis other balance) before = before
-    by_kind (Update txn other delta prev) before = before
-    by_kind (Commit txn legs) before = before
-    by_kind (Short txn leg) before = before
-    by_kind (Over txn leg) before = before
-    by_kind (Note txn text) before = before
 
 last-within : (base : BaseState) (h : List Placed) (account n : ℕ) → base.last_commit account ≤ n → EndWithin n h → last_commit_of base h account ≤ n
 last-within base [] account n first within = first
@@ -117,7 +105,7 @@ module _ (records : List Rec) (each : AllByRecursion IsSpellable records) (lawfu
 
   last-lawful : (account : ℕ) → last_commit_of (genesis_of (history records)) (history records) account ≤ end_of records
   last-lawful account =
-      let none = last-genesis (history records) account in
+      let none = genesis_of-last_commit (history records) account in
       last-within (genesis_of (history records)) (history records) account (end_of records) (omega (arith, none))
       (ends-within [] records (end_of records) tt (omega arith))
 

@@ -1,5 +1,5 @@
 -- What `run` answers, from what was ready, what is promised of the transfers, and what was concluded.
-use Rattle.std.proofs.Common.{◌≡◌, ◌⊎◌, inl, inr, refl, ap, sym, subst, ℕ, List, [], ◌++◌, Option, None, arith}
+use Rattle.std.proofs.Common.{◌≡◌, ◌⊎◌, inr, refl, ap, sym, subst, ℕ, List, [], ◌++◌, Option, None, arith}
 use Rattle.std.proofs.KnownBytes.{Appends-trans}
 use Rattle.std.proofs.lemmas.List.{append-nil}
 use Rattle.std.specs.Io.KnownBytes.{Appends}
@@ -15,14 +15,13 @@ use Rattle.txn_runner.specs.declared.jobs.Jobs.{Jobs}
 use Rattle.commit_pipeline.specs.EndLines.{end_lines}
 use Rattle.commit_pipeline.specs.declared.voice.Voice.TheVariants.{Lines}
 use Rattle.aether_cli.specs.declared.report.Detail.{Detail}
-use Rattle.aether_cli.specs.declared.report.Detail.TheVariants.{Fine, NoMemory, Usage, Script, Read, Write, Disk, NotALog, BadBatch, BadRec, Unlawful, LogEnd, TxnEnd, Exists}
 use Rattle.aether_cli.specs.declared.run_command.ReadyRun.{ReadyRun}
 use Rattle.aether_cli.specs.declared.transfers.Ended.{Ended}
 use Rattle.aether_cli.specs.Ending.{Concludes, HasEnded, closed_text}
 use Rattle.aether_cli.specs.Run.{GoesOn, HoldsRun, RunIsDrained}
 use Rattle.aether_cli.specs.RunAnswers.{AnswersRun, HoldsTold, Ran, RanOut, Outside, outside, run_text}
 use Rattle.aether_cli.specs.RunReady.{IsReadyFor}
-use Rattle.aether_cli.proofs.EndingLemmas.{list, keeps-ended, whole-ended, drained-ended, stops-ended}
+use Rattle.aether_cli.proofs.EndingLemmas.{by-conclusion, list, keeps-ended, whole-ended, drained-ended, stops-ended}
 use Rattle.aether_cli.proofs.RunBegun.{images-begun}
 
 module _ {D : Type 0} {K : Type 0} (g : Ghosts D) (h : SinkGhosts K) (workers : ℕ) (ready : ReadyRun) (entry disk disk_new : D)
@@ -115,30 +114,15 @@ module _ {D : Type 0} {K : Type 0} (g : Ghosts D) (h : SinkGhosts K) (workers : 
     told-lines same = subst (λ text. Appends (h.held_bytes sink) text (end_lines (end_of opened) records)) (sym (ap h.held_bytes same)) drained.text
 
   pub answers-concluded : (detail : Detail) → Concludes h ended (closed_text ended) sink_mid sink_new detail → AnswersRun g workers old new detail
-  answers-concluded Disk said = inr (ran-failed said.1)
-  answers-concluded Write (inl said) = ran-failed said.1
-  answers-concluded Write (inr said) = ran-drained said.0.0 (told-part said.0.0 said.1)
-  answers-concluded (LogEnd tail total) said =
-      let text = told-lines said.0.0 said.1 in
-      record {
-        out = out said.0.0 (end_lines (end_of opened) records, accounts_text (opened ++ records), refl, text);
-        stops = stops-ended g h ready.prepared opened Lines disk disk_new sink sink_mid ended has said.0.0 tail total said.0.1;
-        text = text;
-      }
-  answers-concluded Fine said =
-      let text = told-whole said.0.0 said.1 in
-      record {
+  answers-concluded = by-conclusion h ended (closed_text ended) sink_mid sink_new (AnswersRun g workers old new) (λ said. inr (ran-failed said.1))
+      (λ said. ran-failed said.1) (λ said. ran-drained said.0.0 (told-part said.0.0 said.1))
+      (λ said. let text = told-whole said.0.0 said.1 in record {
         out = out said.0.0 (run_text opened records, [], sym (append-nil (run_text opened records)), text);
         whole = whole-ended g h ready.prepared opened Lines disk disk_new sink sink_mid ended has said.0.1;
         text = text;
-      }
-  answers-concluded NoMemory said = absurd said
-  answers-concluded Usage said = absurd said
-  answers-concluded (Script line) said = absurd said
-  answers-concluded Read said = absurd said
-  answers-concluded NotALog said = absurd said
-  answers-concluded (BadBatch offset) said = absurd said
-  answers-concluded (BadRec lsn) said = absurd said
-  answers-concluded (Unlawful lsn why) said = absurd said
-  answers-concluded (TxnEnd first count) said = absurd said
-  answers-concluded Exists said = absurd said
+      })
+      (λ tail total said. let text = told-lines said.0.0 said.1 in record {
+        out = out said.0.0 (end_lines (end_of opened) records, accounts_text (opened ++ records), refl, text);
+        stops = stops-ended g h ready.prepared opened Lines disk disk_new sink sink_mid ended has said.0.0 tail total said.0.1;
+        text = text;
+      })

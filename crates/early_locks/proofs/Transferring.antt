@@ -21,8 +21,9 @@ use Rattle.log_table.proofs.Nexting.{next-is, may-enter}
 use Rattle.log_table.specs.declared.table.Seat.{Seat}
 use Rattle.log_table.specs.Seats.{view_of}
 use Rattle.log_table.specs.declared.view.View.{View}
-use Rattle.log_table.specs.Views.{given_as, gave_account}
-use Rattle.ring_buffer.specs.Calls.{MayPlace, IsSameWorker, HasEntries, entry_of}
+use Rattle.log_table.specs.AccountViews.{given_as, gave_account}
+use Rattle.ring_buffer.specs.Calls.{MayPlace, HasEntries, entry_of}
+use Rattle.ring_buffer.proofs.TwoCalls.{IsSameWorker-trans}
 use Rattle.early_locks.specs.declared.one_transfer.Run.{Run}
 use Rattle.early_locks.specs.declared.one_transfer.Transfer.{Transfer}
 use Rattle.early_locks.specs.declared.taking.Taken.{Taken}
@@ -146,21 +147,6 @@ module _ (number accounts : ℕ) (transfer : Transfer) (txn : IsTxn number) (all
   pub gain-spellable : (payee : Taken) → payee.mark ≤ LAST → IsSpellable (gain_of number transfer payee)
   gain-spellable payee low = (txn, (let below = allowed.payee in omega arith), more-delta transfer.amount allowed.some allowed.most, low)
 
-same-trans : (old middle new : Seat) → IsSameWorker old middle → IsSameWorker middle new → IsSameWorker old new
-same-trans old middle new first second = record {
-  table_is = second.table_is ∙ first.table_is;
-  number = second.number ∙ first.number;
-  slots = second.slots ∙ first.slots;
-  worker = second.worker ∙ first.worker;
-  constants = second.constants ∙ first.constants;
-  standing = second.standing ∙ first.standing;
-  contended = second.contended ∙ first.contended;
-  grows = let one = first.grows in let two = second.grows in omega arith;
-  exposed = let one = first.exposed in let two = second.exposed in omega arith;
-  durable = let one = first.durable in let two = second.durable in omega arith;
-  steps = let one = first.steps in let two = second.steps in omega arith;
-}
-
 -- what was inserted behind attempts that left the seat as it was
 pub put-is : (rec : Rec) (old middle new : Seat) (run : Run) (n : ℕ) → HasEntries old middle (view_of old).entries (view_of old).books
     → next_of (view_of middle).books ≡ rec → run.end ≡ run.start + length (spelling rec)
@@ -170,7 +156,7 @@ pub put-is : (rec : Rec) (old middle new : Seat) (run : Run) (n : ℕ) → HasEn
 put-is rec old middle new run n before next end inserted size = record {
   end = end;
   entries = record {
-    same = same-trans old middle new before.same inserted.same;
+    same = IsSameWorker-trans old middle new before.same inserted.same;
     idle = inserted.idle;
     entries_are = inserted.entries_are ∙ (λ i. before.entries_are i ++ entry_of run.start (next i) ∷ []);
     books_are = inserted.books_are ∙ (λ i. placing (size i) (next i) (before.books_are i));

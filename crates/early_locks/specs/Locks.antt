@@ -1,17 +1,16 @@
 -- What a seat has taken, and what it may give back.
-use Rattle.std.specs.Prelude.{◌≡◌, ◌≢◌, ℕ, ◌+◌, ◌≤◌, MatchBool, true, false}
+use Rattle.std.specs.Prelude.{◌≡◌, ◌≢◌, ℕ, ◌≤◌, MatchBool, true, false}
 use Rattle.slot_word.specs.declared.account_word.AccountWord.{AccountWord}
 use Rattle.slot_word.specs.AccountWord.{word_of}
 use Rattle.lock_core.specs.History.{end_from}
-use Rattle.lock_core.specs.Records.{gain, loss}
 use Rattle.lock_core.specs.Transactions.{recs_of, has_end}
 use Rattle.log_table.specs.declared.table.Seat.{Seat}
 use Rattle.log_table.specs.declared.view.Books.{Books}
 use Rattle.log_table.specs.declared.view.View.{View}
-use Rattle.log_table.specs.Accounts.{moved_if_committed, commit_in}
+use Rattle.log_table.specs.Accounts.{FollowsJob}
 use Rattle.log_table.specs.Books.{times_held, balance_taken, mark_taken, taking}
 use Rattle.log_table.specs.Seats.{Becomes, view_of}
-use Rattle.log_table.specs.Views.{saw_account, took_account}
+use Rattle.log_table.specs.AccountViews.{saw_account, took_account}
 use Rattle.early_locks.specs.declared.taking.Taken.{Taken}
 use Rattle.early_locks.specs.declared.taking.Held.{Held}
 
@@ -39,10 +38,9 @@ pub record HoldsTaken (taken : Taken) (books : Books) : Type 0 where
   pub balance : balance_taken books.held taken.account ≡ taken.balance
   pub mark : mark_taken books.held taken.account ≡ taken.mark
 
--- The values are those as taken with what the seat's last job made of them by its Commit; where it has no Commit, those as taken.
-pub record GivesBack (taken : Taken) (balance mark : ℕ) (books : Books) : Type 0 where
-  pub balance_is : balance + moved_if_committed loss taken.account books.placed ≡ taken.balance + moved_if_committed gain taken.account books.placed
-  pub mark_is : mark ≡ commit_in books.placed taken.account taken.mark
+-- these are the balance and the last Commit with which the account has to go back
+abbrev pub GivesBack : Taken → ℕ → ℕ → Books → Type 0
+GivesBack taken balance mark books = FollowsJob taken.account balance mark taken.balance taken.mark books.placed
 
 -- the seat's last job has its end record, and the seat saw a durable LSN at or above its end
 pub record HasSeenDurable (view : View) : Type 0 where

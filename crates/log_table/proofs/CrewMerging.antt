@@ -8,8 +8,11 @@ use Rattle.log_table.specs.declared.view.Role.{Role}
 use Rattle.log_table.specs.declared.view.Role.TheVariants.{Flusher, Fresh, Active, Ended, Note, Spent}
 use Rattle.log_table.specs.declared.view.View.{View}
 use Rattle.log_table.specs.May.{MayMerge}
-use Rattle.log_table.specs.Sound.{EachView, HasSeenBoundaries, SendsIfFlusher, StoresStop, LookedIfQuiet, HasWorkingOwner, HasConstants, RestsUnlessActive, OwnsIfWorker, HasSoundRole, HasSoundRoles, HasSoundCrew, IsSound, Knows, Lacks, Ruled, is_active_view}
-use Rattle.log_table.specs.Views.{has_ended, is_active, is_worker, nobody, takes_in}
+use Rattle.log_table.specs.Sound.{EachView, HasSoundRole, HasSoundRoles, HasSoundCrew, Knows, Lacks, is_active_view}
+use Rattle.log_table.specs.Roles.{has_ended, is_active, is_worker}
+use Rattle.log_table.specs.Views.{nobody}
+use Rattle.log_table.specs.CrewViews.{takes_in}
+use Rattle.log_table.proofs.Roles.{unbound}
 use Rattle.log_table.proofs.Viewing.{each_set, pairs_move, count-set}
 
 or-false : (a b : Bool) → a ≡ false → b ≡ false → (a || b) ≡ false
@@ -27,49 +30,33 @@ or-cases : (a b : Bool) → (a || b) ≡ true → (a ≡ true) ⊎ (b ≡ true)
 or-cases true b e = inl refl
 or-cases false b e = inr e
 
+-- the views once the worker's seat is spent
+abbrev pub without : List View → ℕ → List View
+without views other = set views other nobody
+
+pub at-without : (views : List View) (me other : ℕ) (v : View) → get_elem? views me ≡ some v → other ≢ me → get_elem? (without views other) me ≡ some v
+at-without views me other v at apart = set_else views other me nobody (λ e. apart (sym e)) ∙ at
+
+pub each-merged : (views : List View) (me other : ℕ) (new : View) (P : ℕ → View → Type 0) → EachView P views → P other nobody → P me new
+    → EachView P (set (without views other) me new)
+each-merged views me other new P all none mine = each_set P (without views other) me new (each_set P views other nobody all none) mine
+
 module _ (crew : ℕ) (views : List View) (me other : ℕ) (v o : View) (roles : HasSoundCrew crew views) (at : get_elem? views me ≡ some v)
     (there : get_elem? views other ≡ some o) (apart : other ≢ me) (may : MayMerge v o) where
   abbrev new : View
   new = takes_in v o
 
-  -- the views once the worker's seat is spent
-  abbrev without : List View
-  without = set views other nobody
-
-  at' : get_elem? without me ≡ some v
-  at' = set_else views other me nobody (λ e. apart (sym e)) ∙ at
-
-  was : (j : ℕ) (z : View) → get_elem? without j ≡ some z → ((j ≡ other) × (nobody ≡ z)) ⊎ ((j ≢ other) × (get_elem? views j ≡ some z))
-  was j z here = at_set views other j nobody z here
+  kept : get_elem? (without views other) me ≡ some v
+  kept = at-without views me other v at apart
 
   boss : {A : Type 0} → is_worker v.standing.role ≡ true → A
   boss e = absurd (true≢false (sym e ∙ ap is_worker may.flusher))
 
-  each-without : (P : ℕ → View → Type 0) → EachView P views → P other nobody → EachView P without
-  each-without P all none = each_set P views other nobody all none
-
-  each-merged : (P : ℕ → View → Type 0) → EachView P views → P other nobody → P me new → EachView P (set without me new)
-  each-merged P all none mine = each_set P without me new (each-without P all none) mine
-
-  pairs-without : Rattle.log_table.specs.Sound.EachPair (λ i y j z. HasSoundRoles i y.standing j z.standing) without
+  pairs-without : Rattle.log_table.specs.Sound.EachPair (λ i y j z. HasSoundRoles i y.standing j z.standing) (without views other)
   pairs-without = pairs_move (λ i y j z. HasSoundRoles i y.standing j z.standing) views other o nobody there roles.pairs
-      record {
-        apart = λ e. absurd (true≢false (sym e));
-        made = λ e. absurd (cc);
-        enrolled = λ e. absurd (cc);
-        merged = λ e. absurd (cc);
-        fresh = λ e. absurd (cc);
-        unmerged = λ e. absurd (true≢false (sym e));
-      }
+      (unbound other nobody.standing other nobody.standing refl (λ e. absurd (cc)))
       (λ j z differ here. (
-        record {
-          apart = λ e. absurd (true≢false (sym e));
-          made = λ e. absurd (cc);
-          enrolled = λ e. absurd (cc);
-          merged = λ e. absurd (cc);
-          fresh = λ e. absurd (cc);
-          unmerged = λ e. absurd (true≢false (sym e));
-        },
+        unbound other nobody.standing j z.standing refl (λ e. absurd (cc)),
         record {
           apart = λ _ e. absurd (true≢false (sym e));
           made = λ _ e. absurd (true≢false (sym e));
@@ -81,15 +68,15 @@ module _ (crew : ℕ) (views : List View) (me other : ℕ) (v o : View) (roles :
       ))
 
   -- the worker's number is no other's
-  others-number : is_worker o.standing.role ≡ true → (j : ℕ) (z : View) → get_elem? without j ≡ some z → is_worker z.standing.role ≡ true
+  others-number : is_worker o.standing.role ≡ true → (j : ℕ) (z : View) → get_elem? (without views other) j ≡ some z → is_worker z.standing.role ≡ true
       → eqb z.standing.worker o.standing.worker ≡ false
   others-number worker j z here w = ⊎_elim
       (λ (t : (j ≡ other) × (nobody ≡ z)). absurd (true≢false (sym w ∙ ap (λ (y : View). is_worker y.standing.role) (sym t.1))))
       (λ (t : (j ≢ other) × (get_elem? views j ≡ some z)). ne_eqb z.standing.worker o.standing.worker
       (λ same. t.0 ((roles.pairs j z t.1 other o there).apart w worker same)))
-      (was j z here)
+      (at_set views other j nobody z here)
 
-  lacks-merged : (j : ℕ) (z : View) → get_elem? without j ≡ some z → is_worker z.standing.role ≡ true → Lacks z.standing.worker v.standing.merged
+  lacks-merged : (j : ℕ) (z : View) → get_elem? (without views other) j ≡ some z → is_worker z.standing.role ≡ true → Lacks z.standing.worker v.standing.merged
       → Lacks z.standing.worker new.standing.merged
   lacks-merged j z here w lacks = by_role (is_worker o.standing.role) refl
     where
@@ -98,12 +85,12 @@ module _ (crew : ℕ) (views : List View) (me other : ℕ) (v o : View) (roles :
       by_role true worker = or-false _ _ (others-number worker j z here w) lacks
       by_role false note = lacks
 
-  fresh-lacks : (j : ℕ) (z : View) → get_elem? without j ≡ some z → z.standing.role ≡ Fresh → Lacks z.standing.worker new.standing.enrolled
+  fresh-lacks : (j : ℕ) (z : View) → get_elem? (without views other) j ≡ some z → z.standing.role ≡ Fresh → Lacks z.standing.worker new.standing.enrolled
   fresh-lacks j z here f = ⊎_elim
       (λ (t : (j ≡ other) × (nobody ≡ z)). absurd (true≢false (sym (ap is_worker f) ∙ ap (λ (y : View). is_worker y.standing.role) (sym t.1))))
       (λ (t : (j ≢ other) × (get_elem? views j ≡ some z)). list_any-append (eqb z.standing.worker) v.standing.enrolled o.standing.enrolled
       ∙ or-false _ _ ((roles.pairs j z t.1 me v at).fresh f) ((roles.pairs j z t.1 other o there).fresh f))
-      (was j z here)
+      (at_set views other j nobody z here)
 
   known-made : (q : ℕ) → Knows q new.standing.enrolled → Knows q v.standing.made
   known-made q knows = ⊎_elim (λ own. (roles.pairs me v at me v at).enrolled may.flusher q own)
@@ -124,21 +111,21 @@ module _ (crew : ℕ) (views : List View) (me other : ℕ) (v o : View) (roles :
       by_role false note knows = before knows
 
   -- the flusher's seat is the first
-  not-flusher : {A : Type 0} (j : ℕ) (z : View) → j ≢ me → get_elem? without j ≡ some z → z.standing.role ≡ Flusher → A
-  not-flusher j z differ here f = absurd (differ (each-without (λ seat y. y.standing.role ≡ Flusher → seat ≡ 0) (λ i y h. (roles.each i y h).first)
+  not-flusher : {A : Type 0} (j : ℕ) (z : View) → j ≢ me → get_elem? (without views other) j ≡ some z → z.standing.role ≡ Flusher → A
+  not-flusher j z differ here f = absurd (differ (each_set (λ seat y. y.standing.role ≡ Flusher → seat ≡ 0) views other nobody (λ i y h. (roles.each i y h).first)
       (λ e. absurd (cc)) j z here f ∙ sym ((roles.each me v at).first may.flusher)))
 
-  pub crew-merges : HasSoundCrew crew (set without me new)
+  pub crew-merges : HasSoundCrew crew (set (without views other) me new)
   crew-merges = record {
     count = roles.count
         ∙ sym (same _ _ _ _ _ (count-set is_active_view views other o nobody there) (ended-rests o.standing.role may.ended)
-        (count-set is_active_view without me v new at'));
-    each = each-merged (λ seat z. HasSoundRole seat z.standing) roles.each record {
+        (count-set is_active_view (without views other) me v new kept));
+    each = each-merged views me other new (λ seat z. HasSoundRole seat z.standing) roles.each record {
       small = λ e. absurd (true≢false (sym e));
       first = λ e. absurd (cc);
     }
         record { small = (roles.each me v at).small; first = (roles.each me v at).first };
-    pairs = pairs_move (λ i y j z. HasSoundRoles i y.standing j z.standing) without me v new at' pairs-without
+    pairs = pairs_move (λ i y j z. HasSoundRoles i y.standing j z.standing) (without views other) me v new kept pairs-without
         record {
           apart = λ _ _ _. refl;
           made = λ _ w. boss w;
@@ -147,7 +134,7 @@ module _ (crew : ℕ) (views : List View) (me other : ℕ) (v o : View) (roles :
           fresh = λ f. boss (ap is_worker f);
           unmerged = λ w. boss w;
         }
-        (λ j z differ here. let to = pairs-without me v at' j z here in let by = pairs-without j z here me v at' in (
+        (λ j z differ here. let to = pairs-without me v kept j z here in let by = pairs-without j z here me v kept in (
           record {
             apart = λ w. boss w;
             made = to.made;

@@ -1,5 +1,5 @@
 -- A worker is counted as active, and no more.
-use Rattle.std.proofs.Common.{◌≡◌, ℕ, zero, suc, eqb, ◌||◌, ◌+◌, ◌-◌, ◌%◌, ◌^◌, ◌≤◌, ◌<◌, cond, Bool, true, false, true≢false, List, [], ◌∷◌, length, set, None, sym, refl, ap, ◌∙◌, subst, arith, mod-eq_of_lt, eqb-true, ne_eqb}
+use Rattle.std.proofs.Common.{◌≡◌, ◌≢◌, ◌⊎◌, inl, inr, ⊎_elim, ℕ, zero, suc, eqb, ◌||◌, ◌+◌, ◌-◌, ◌%◌, ◌^◌, ◌≤◌, ◌<◌, cond, Bool, true, false, true≢false, List, [], ◌∷◌, length, set, None, sym, refl, ap, ◌∙◌, subst, arith, mod-eq_of_lt, eqb-true, ne_eqb}
 use Rattle.std.proofs.Math.Nat.{add-mod_right}
 use Rattle.std.specs.Prelude.{count_by}
 use Rattle.std.specs.List.{IsDistinct, AllByRecursion, list_any}
@@ -8,6 +8,7 @@ use Rattle.std.proofs.lemmas.List.Sums.{sum_by-cons}
 use mathlib.Core.Option.{some}
 use lib.ListN.{get_elem?}
 use Rattle.log_table.specs.declared.table.Start.{Start}
+use Rattle.log_table.specs.declared.view.Call.TheVariants.{Idle}
 use Rattle.log_table.specs.declared.view.Role.{Role}
 use Rattle.log_table.specs.declared.view.Role.TheVariants.{Flusher, Fresh, Active, Ended, Note, Spent}
 use Rattle.log_table.specs.declared.view.View.{View}
@@ -15,8 +16,10 @@ use Rattle.log_table.specs.Events.{Leads, IsStep}
 use Rattle.log_table.specs.Layout.{Crew}
 use Rattle.log_table.specs.Log.{Log}
 use Rattle.log_table.specs.May.{MayLeave}
-use Rattle.log_table.specs.Sound.{EachView, StoresStop, HasReadStop, HasSoundRole, HasSoundRoles, HasSoundCrew, IsSound, is_active_view}
-use Rattle.log_table.specs.Views.{is_active, is_worker, is_working, is_spent, enrolled, retired}
+use Rattle.log_table.specs.Sound.{EachView, StoresStop, HasReadStop, HasSoundRole, HasSoundRoles, HasSoundCrew, IsSound, Knows, Lacks, is_active_view}
+use Rattle.log_table.specs.Roles.{is_active, is_worker, is_working, is_spent, may_own}
+use Rattle.log_table.specs.Views.{counted}
+use Rattle.log_table.specs.CrewViews.{enrolled, retired}
 use Rattle.log_table.specs.Words.{Words}
 use Rattle.log_table.proofs.Keeping.{accounts-stay}
 use Rattle.log_table.proofs.Roles.{quiet-moves, restands}
@@ -87,110 +90,106 @@ crew-small crew views s =
     let few : length (worker_numbers views) ≤ 4294967296 = length-le_from_distinct_below (worker_numbers views) 4294967296 distinct small in
     omega (arith, s.count, active-le-numbers views)
 
+-- a worker's role becomes another of a worker that has begun
+record IsNextRole (old role : Role) : Type 0 where
+  was_worker : is_worker old ≡ true
+  was_unspent : is_spent old ≡ false
+  worker : is_worker role ≡ true
+  owner : may_own role ≡ true
+  begun : role ≡ Fresh → ⊥
+  works : is_working old ≡ false → is_working role ≡ false
+
+-- the role of a worker's seat changes; what it then knows as enrolled it knew before, but for its own number at most
+module _ (key : Start) (words : Words) (views : List View) (me : ℕ) (v : View) (log : Log) (s : IsSound key words views log)
+    (at : get_elem? views me ≡ some v) (old role : Role) (was : v.standing.role ≡ old) (next : IsNextRole old role) (known : List ℕ)
+    (learns : (n : ℕ) → Knows n known → (n ≡ v.standing.worker) ⊎ Knows n v.standing.enrolled) (crew : ℕ)
+    (counts : crew + cond {A = ℕ} (is_active old) 1 0 ≡ words.crew + cond {A = ℕ} (is_active role) 1 0)
+    (rests : is_active role ≡ false → (v.call ≡ Idle) × (v.books.held ≡ [])) where
+  abbrev new : View
+  new = record v { standing = record v.standing { role = role; enrolled = known }; seen = counted v.seen }
+
+  worker : is_worker v.standing.role ≡ true
+  worker = ap is_worker was ∙ next.was_worker
+
+  no-flusher : {A : Type 0} → role ≡ Flusher → A
+  no-flusher f = absurd (true≢false (sym next.worker ∙ ap is_worker f))
+
+  lacks : (n : ℕ) → n ≢ v.standing.worker → Lacks n v.standing.enrolled → Lacks n known
+  lacks n differ none = by_test (list_any (eqb n) known) refl
+    where
+      by_test : (b : Bool) → list_any (eqb n) known ≡ b → Lacks n known
+      by_test true knows = absurd (⊎_elim differ (λ before. true≢false (sym before ∙ none)) (learns n knows))
+      by_test false is = is
+
+  crew-turns : HasSoundCrew crew (set views me new)
+  crew-turns = record {
+    count = let was : cond {A = ℕ} (is_active v.standing.role) 1 0 ≡ cond {A = ℕ} (is_active old) 1 0 = ap (λ (r : Role). cond {A = ℕ} (is_active r) 1 0) was in
+        omega (arith, count-set is_active_view views me v new at, s.roles.count, was, counts);
+    each = each_set (λ seat z. HasSoundRole seat z.standing) views me new s.roles.each
+        record { small = λ _. (s.roles.each me v at).small worker; first = λ f. no-flusher f };
+    pairs = pairs_move (λ i y j z. HasSoundRoles i y.standing j z.standing) views me v new at s.roles.pairs
+        record {
+          apart = λ _ _ _. refl;
+          made = λ f. no-flusher f;
+          enrolled = λ f. no-flusher f;
+          merged = λ f. no-flusher f;
+          fresh = λ f. absurd (next.begun f);
+          unmerged = λ _. (s.roles.pairs me v at me v at).unmerged worker;
+        }
+        (λ j z differ there. let to = s.roles.pairs me v at j z there in let by = s.roles.pairs j z there me v at in (
+          record {
+            apart = λ _ is same. to.apart worker is same;
+            made = λ f. no-flusher f;
+            enrolled = λ f. no-flusher f;
+            merged = λ f. no-flusher f;
+            fresh = λ f. absurd (next.begun f);
+            unmerged = λ _. to.unmerged worker;
+          },
+          record {
+            apart = λ is _ same. by.apart is worker same;
+            made = λ f _. by.made f worker;
+            enrolled = λ f n knows. ⊎_elim (λ (same : n ≡ v.standing.worker). subst (λ k. Knows k z.standing.made) (sym same) (by.made f worker))
+                (λ (before : Knows n v.standing.enrolled). by.enrolled f n before) (learns n knows);
+            merged = by.merged;
+            fresh = λ f. lacks z.standing.worker (λ same. differ (by.apart (ap is_worker f) worker same)) (by.fresh f);
+            unmerged = by.unmerged;
+          },
+        ));
+  }
+
+  turns : Leads key words (record words { crew = crew }) views (set views me new) log None
+  turns = restands key words words.stop crew words.account views me v new log s at refl refl
+      (let old = s.seen me v at in
+      record { tail_seen = old.tail_seen; exposed_seen = old.exposed_seen; durable_seen = old.durable_seen; boundaries = old.boundaries })
+      (λ _. s.constants me v at (ap is_spent was ∙ next.was_unspent)) (λ off. (rests off).0) (λ off. absurd (true≢false (sym next.owner ∙ off)))
+      crew-turns (λ f. no-flusher f) (each_set (λ _ z. StoresStop words.stop z) views me new s.stops (λ f. no-flusher f))
+      (each_set (λ _ z. HasReadStop words.stop z) views me new s.read_stop (s.read_stop me v at))
+      (quiet-moves views me v new s.quiet at (λ _ _ _ _ f. no-flusher f) (λ z h f q. next.works (sym (ap is_working was) ∙ h f q)))
+      (λ f. no-flusher f) ((λ off. (rests off).1), (λ off. absurd (true≢false (sym next.owner ∙ off))))
+      (accounts-stay key words.account log.parts views me v new at refl s.accounts)
+
 pub enrolls : (key : Start) (words : Words) (views : List View) (me : ℕ) (v : View) (log : Log) → IsSound key words views log
     → get_elem? views me ≡ some v → v.standing.role ≡ Fresh
     → Leads key words (record words { crew = words.crew + 1 }) views (set views me (enrolled v)) log None
 enrolls key words views me v log s at fresh =
-    restands key words words.stop (words.crew + 1) words.account views me v (enrolled v) log s at refl refl
-    (let old = s.seen me v at in
-    record { tail_seen = old.tail_seen; exposed_seen = old.exposed_seen; durable_seen = old.durable_seen; boundaries = old.boundaries })
-    (λ _. s.constants me v at (ap is_spent fresh)) (λ _. s.resting me v at (ap is_active fresh)) (λ off. absurd (true≢false off)) record {
-      count = let was : cond {A = ℕ} (is_active v.standing.role) 1 0 ≡ 0 =
-          ap (λ (r : Role). cond {A = ℕ} (is_active r) 1 0) fresh in
-          omega (arith, count-set is_active_view views me v (enrolled v) at, s.roles.count, was);
-      each = each_set (λ seat z. HasSoundRole seat z.standing) views me
-          (enrolled v) s.roles.each record { small = λ _. (s.roles.each me v at).small worker; first = λ e. absurd (cc) };
-      pairs = pairs_move (λ i y j z. HasSoundRoles i y.standing j z.standing) views me v (enrolled v) at s.roles.pairs
-          record {
-            apart = λ _ _ _. refl;
-            made = λ e. absurd (cc);
-            enrolled = λ e. absurd (cc);
-            merged = λ e. absurd (cc);
-            fresh = λ e. absurd (cc);
-            unmerged = λ _. (s.roles.pairs me v at me v at).unmerged worker;
-          }
-          (λ j z differ there. let to = s.roles.pairs me v at j z there in let by = s.roles.pairs j z there me v at in (
-            record {
-              apart = λ _ is same. to.apart worker is same;
-              made = λ e. absurd (cc);
-              enrolled = λ e. absurd (cc);
-              merged = λ e. absurd (cc);
-              fresh = λ e. absurd (cc);
-              unmerged = λ _. to.unmerged worker;
-            },
-            record {
-              apart = λ is _ same. by.apart is worker same;
-              made = λ f _. by.made f worker;
-              enrolled = λ f n is. by_test z.standing.made n (by.made f worker) (by.enrolled f n) (eqb n v.standing.worker) refl is;
-              merged = by.merged;
-              fresh = λ f. ap (λ b. b || list_any (eqb z.standing.worker) v.standing.enrolled)
-                  (ne_eqb z.standing.worker v.standing.worker (λ same. differ (by.apart (ap is_worker f) worker same))) ∙ by.fresh f;
-              unmerged = by.unmerged;
-            },
-          ));
-    }
-    (λ f. absurd (cc)) (each_set (λ _ z. StoresStop words.stop z) views me (enrolled v) s.stops (λ f. absurd (cc)))
-    (each_set (λ _ z. HasReadStop words.stop z) views me (enrolled v) s.read_stop (s.read_stop me v at))
-    (quiet-moves views me v (enrolled v) s.quiet at (λ _ _ _ _ f. absurd (cc))
-    (λ z h f q. absurd (true≢false (sym (ap is_working fresh) ∙ h f q)))) (λ f. absurd (cc)) ((λ off. absurd (true≢false off)), (λ off. absurd (true≢false off)))
-    (accounts-stay key words.account log.parts views me v (enrolled v) at refl s.accounts)
+    turns key words views me v log s at Fresh Active fresh
+    record { was_worker = refl; was_unspent = refl; worker = refl; owner = refl; begun = λ f. absurd (cc); works = λ off. absurd (true≢false off) }
+    (v.standing.worker ∷ v.standing.enrolled) (λ n knows. by_test n (eqb n v.standing.worker) refl knows)
+    (words.crew + 1) (omega arith) (λ off. absurd (true≢false off))
   where
-    worker : is_worker v.standing.role ≡ true
-    worker = ap is_worker fresh
-
-    by_test : (made : List ℕ) (n : ℕ) → list_any (eqb v.standing.worker) made ≡ true
-        → (list_any (eqb n) v.standing.enrolled ≡ true → list_any (eqb n) made ≡ true) → (b : Bool) → eqb n v.standing.worker ≡ b
-        → (b || list_any (eqb n) v.standing.enrolled) ≡ true → list_any (eqb n) made ≡ true
-    by_test made n own others true same is = subst (λ k. list_any (eqb k) made ≡ true) (sym (eqb-true n v.standing.worker same)) own
-    by_test made n own others false same is = others is
+    by_test : (n : ℕ) (b : Bool) → eqb n v.standing.worker ≡ b → (b || list_any (eqb n) v.standing.enrolled) ≡ true
+        → (n ≡ v.standing.worker) ⊎ Knows n v.standing.enrolled
+    by_test n true same is = inl (eqb-true n v.standing.worker same)
+    by_test n false same is = inr is
 
 pub leaves : (key : Start) (words : Words) (views : List View) (me : ℕ) (v : View) (log : Log) → IsSound key words views log
     → get_elem? views me ≡ some v → MayLeave v → Leads key words (record words { crew = words.crew - 1 }) views (set views me (retired v)) log None
 leaves key words views me v log s at may =
-    restands key words words.stop (words.crew - 1) words.account views me v (retired v) log s at refl refl
-    (let old = s.seen me v at in
-    record { tail_seen = old.tail_seen; exposed_seen = old.exposed_seen; durable_seen = old.durable_seen; boundaries = old.boundaries })
-    (λ _. s.constants me v at (ap is_spent may.rests.active)) (λ _. may.rests.idle) (λ off. absurd (true≢false off)) record {
-      count = let was : cond {A = ℕ} (is_active v.standing.role) 1 0 ≡ 1 =
-          ap (λ (r : Role). cond {A = ℕ} (is_active r) 1 0) may.rests.active in
-          omega (arith, count-set is_active_view views me v (retired v) at, s.roles.count, was);
-      each = each_set (λ seat z. HasSoundRole seat z.standing) views me
-          (retired v) s.roles.each record { small = λ _. (s.roles.each me v at).small worker; first = λ e. absurd (cc) };
-      pairs = pairs_move (λ i y j z. HasSoundRoles i y.standing j z.standing) views me v (retired v) at s.roles.pairs
-          record {
-            apart = λ _ _ _. refl;
-            made = λ e. absurd (cc);
-            enrolled = λ e. absurd (cc);
-            merged = λ e. absurd (cc);
-            fresh = λ e. absurd (cc);
-            unmerged = λ _. (s.roles.pairs me v at me v at).unmerged worker;
-          }
-          (λ j z differ there. let to = s.roles.pairs me v at j z there in let by = s.roles.pairs j z there me v at in (
-            record {
-              apart = λ _ is same. to.apart worker is same;
-              made = λ e. absurd (cc);
-              enrolled = λ e. absurd (cc);
-              merged = λ e. absurd (cc);
-              fresh = λ e. absurd (cc);
-              unmerged = λ _. to.unmerged worker;
-            },
-            record {
-              apart = λ is _ same. by.apart is worker same;
-              made = λ f _. by.made f worker;
-              enrolled = by.enrolled;
-              merged = by.merged;
-              fresh = by.fresh;
-              unmerged = by.unmerged;
-            },
-          ));
-    }
-    (λ f. absurd (cc)) (each_set (λ _ z. StoresStop words.stop z) views me (retired v) s.stops (λ f. absurd (cc)))
-    (each_set (λ _ z. HasReadStop words.stop z) views me (retired v) s.read_stop (s.read_stop me v at))
-    (quiet-moves views me v (retired v) s.quiet at (λ _ _ _ _ f. absurd (cc)) (λ z _ _ _. refl)) (λ f. absurd (cc)) ((λ _. may.none_held), (λ off. absurd (true≢false off)))
-    (accounts-stay key words.account log.parts views me v (retired v) at refl s.accounts)
-  where
-    worker : is_worker v.standing.role ≡ true
-    worker = ap is_worker may.rests.active
+    turns key words views me v log s at Active Ended may.rests.active
+    record { was_worker = refl; was_unspent = refl; worker = refl; owner = refl; begun = λ f. absurd (cc); works = λ _. refl }
+    v.standing.enrolled (λ n knows. inr knows) (words.crew - 1)
+    (let was : cond {A = ℕ} (is_active v.standing.role) 1 0 ≡ 1 = ap (λ (r : Role). cond {A = ℕ} (is_active r) 1 0) may.rests.active in
+    omega (arith, count-set is_active_view views me v (retired v) at, s.roles.count, was)) (λ _. (may.rests.idle, may.none_held))
 
 module _ (key : Start) (me : ℕ) (v : View) where
   pub enroll-step : v.standing.role ≡ Fresh → (n : ℕ) → IsStep key me Crew n (n + 1) v (enrolled v) None

@@ -72,10 +72,10 @@ module _ (base : BaseState) (words : ℕ → ℕ) (h : List Placed) (all : List 
         let is : f.held.balance + moved_if_committed gain account mine.placed + total loss account h
         ≡ base.balance account + total gain account h + moved_if_committed loss account mine.placed =
         subst (λ a. f.held.balance + moved_if_committed gain a mine.placed + total loss a h ≡ base.balance a + total gain a h + moved_if_committed loss a mine.placed) f.is old.balance in
-        let as-taken = f.balance in let gives = may.balance in record {
+        let as-taken = f.balance in let gives = may.values.balance_is in record {
           balance = omega arith;
           mark = subst (λ a. last_commit_of base h a ≡ commit_in mine.placed a f.held.mark) f.is old.mark
-              ∙ (ap (commit_in mine.placed account) (sym f.mark) ∙ sym may.mark);
+              ∙ (ap (commit_in mine.placed account) (sym f.mark) ∙ sym may.values.mark_is);
         }
 
     given-follows : AccountsFollowList base words' h (set all me new)

@@ -3,7 +3,7 @@ use Rattle.std.proofs.Common.{◌≡◌, ◌≢◌, ◌==◌, ◌⊎◌, inl, in
 use mathlib.Core.Option.{some}
 use lib.ListN.{get_elem?}
 use Rattle.atomic_table.specs.Table.{Joins}
-use Rattle.atomic_table.proofs.Lists.{at_set, at_map, set_else}
+use Rattle.atomic_table.proofs.Lists.{at_set, at_map}
 use Rattle.std.proofs.lemmas.List.{map-set}
 use Rattle.lock_core.specs.History.{history_from}
 use Rattle.log_table.specs.declared.view.Books.{Books}
@@ -15,15 +15,17 @@ use Rattle.log_table.specs.declared.view.Call.TheVariants.{Idle}
 use Rattle.log_table.specs.declared.view.View.{View}
 use Rattle.log_table.specs.Log.{Part, Log, ranges_of, parts_of, SpellsRecord, StandsInRing, IsFullIfReleased, IsReleasedBelow, CountsRemaining, AgreesFrom, EndsWithPart}
 use Rattle.log_table.specs.May.{MayMerge}
-use Rattle.log_table.specs.Sound.{EachView, HasSeenBoundaries, SendsIfFlusher, StoresStop, HasReadStop, LookedIfQuiet, HasWorkingOwner, HasConstants, RestsUnlessActive, OwnsIfWorker, HoldsIfActive, base_of, history_in, books_of, HasSoundRole, HasSoundRoles, HasSoundCrew, IsSound, Knows, Lacks, Ruled, is_active_view}
-use Rattle.log_table.specs.Views.{has_ended, is_active, is_worker, is_spent, nobody, entries_in, claims_in, merged_entries, merged_seen, merged_standing, takes_in}
+use Rattle.log_table.specs.Sound.{HasSeenBoundaries, SendsIfFlusher, StoresStop, HasReadStop, LookedIfQuiet, HasWorkingOwner, HasConstants, RestsUnlessActive, OwnsIfWorker, HoldsIfActive, base_of, history_in, books_of, IsSound, Ruled}
+use Rattle.log_table.specs.Roles.{is_active}
+use Rattle.log_table.specs.Views.{nobody, entries_in, claims_in}
+use Rattle.log_table.specs.CrewViews.{takes_in}
 use Rattle.log_table.specs.Words.{Words, words_in}
-use Rattle.log_table.proofs.CrewMerging.{ended-rests, crew-merges}
+use Rattle.log_table.proofs.CrewMerging.{ended-rests, without, at-without, each-merged, crew-merges}
 use Rattle.log_table.proofs.Lists.{all-append, all-weaker}
 use Rattle.log_table.proofs.Renaming.{rename, own-renamed, own-renamed-from, own-renamed-else, all-renamed, laid-renamed, unreleased_in-renamed, boundary-renamed, records-renamed}
 use Rattle.log_table.proofs.Roles.{quiet-moves}
 use Rattle.log_table.proofs.Stopping.{either-read}
-use Rattle.log_table.proofs.Viewing.{each_set, seats_move, seat_at}
+use Rattle.log_table.proofs.Viewing.{seats_move, seat_at}
 
 set-swap : (views : List View) (a b : ℕ) (x y : View) → a ≢ b → set (set views a x) b y ≡ set (set views b y) a x
 set-swap [] a b x y differ = refl
@@ -36,22 +38,6 @@ module _ (key : Start) (words : Words) (views : List View) (me other : ℕ) (v o
     (at : get_elem? views me ≡ some v) (there : get_elem? views other ≡ some o) (apart : other ≢ me) (may : MayMerge v o) where
   abbrev new : View
   new = takes_in v o
-
-  -- the views once the worker's seat is spent
-  abbrev without : List View
-  without = set views other nobody
-
-  at' : get_elem? without me ≡ some v
-  at' = set_else views other me nobody (λ e. apart (sym e)) ∙ at
-
-  was : (j : ℕ) (z : View) → get_elem? without j ≡ some z → ((j ≡ other) × (nobody ≡ z)) ⊎ ((j ≢ other) × (get_elem? views j ≡ some z))
-  was j z here = at_set views other j nobody z here
-
-  each-without : (P : ℕ → View → Type 0) → EachView P views → P other nobody → EachView P without
-  each-without P all none = each_set P views other nobody all none
-
-  each-merged : (P : ℕ → View → Type 0) → EachView P views → P other nobody → P me new → EachView P (set without me new)
-  each-merged P all none mine = each_set P without me new (each-without P all none) mine
 
   idle : v.call ≡ Idle
   idle = s.resting me v at (ap is_active may.flusher)
@@ -75,8 +61,8 @@ module _ (key : Start) (words : Words) (views : List View) (me other : ℕ) (v o
   abbrev Half : ℕ → View → Type 0
   Half j z = ((j ≡ other) × HasWorkingOwner parts log.unreleased j z) ⊎ ((j ≢ other) × HasWorkingOwner log.parts log.unreleased j z)
 
-  owners : Rattle.log_table.specs.Sound.EachSeat (HasWorkingOwner parts log.unreleased) (set without me new)
-  owners = seats_move Half (HasWorkingOwner parts log.unreleased) without me v new at'
+  owners : Rattle.log_table.specs.Sound.EachSeat (HasWorkingOwner parts log.unreleased) (set (without views other) me new)
+  owners = seats_move Half (HasWorkingOwner parts log.unreleased) (without views other) me v new (at-without views me other v at apart)
       (seats_move (HasWorkingOwner log.parts log.unreleased) Half views other o nobody there s.owners
       (inl (refl, record { owns = own-renamed-from other me log.parts apart; owes = his.owes ∙ ap claims_in idle' }))
       (λ j z differ h. inr (differ, h)))
@@ -107,21 +93,21 @@ module _ (key : Start) (words : Words) (views : List View) (me other : ℕ) (v o
   abbrev bs : List Books
   bs = map books_of views
 
-  books-merged : map books_of (set without me new) ≡ set (set bs me (merging v.books o.books)) other no_books
+  books-merged : map books_of (set (without views other) me new) ≡ set (set bs me (merging v.books o.books)) other no_books
   books-merged = ap (map books_of) (set-swap views other me nobody new apart)
       ∙ (map-set books_of (set views me new) other nobody ∙ ap (λ l. set l other no_books) (map-set books_of views me new))
 
-  accounts-merged : KeepsAccounts (base_of key) words.account (history_in key parts) (map books_of (set without me new))
+  accounts-merged : KeepsAccounts (base_of key) words.account (history_in key parts) (map books_of (set (without views other) me new))
   accounts-merged = subst (KeepsAccounts (base_of key) words.account (history_in key parts)) (sym books-merged)
       (subst (λ records. KeepsAccounts (base_of key) words.account (history_from key.start [] records) (set (set bs me (merging v.books o.books)) other no_books))
       (sym (records-renamed other me log.parts))
       (joins (base_of key) words.account (history_in key log.parts) bs me other v.books o.books apart (at_map books_of views me v at)
       (at_map books_of views other o there) ((s.unheld other o there).0 (ended-rests o.standing.role may.ended)) s.accounts))
 
-  merges' : IsSound key words (set without me new) after
+  merges' : IsSound key words (set (without views other) me new) after
   merges' = record {
     ordered = s.ordered;
-    seen = each-merged (λ _ z. HasSeenBoundaries key.start words.tail words.exposed words.durable (ranges_of log) z.seen) s.seen
+    seen = each-merged views me other new (λ _ z. HasSeenBoundaries key.start words.tail words.exposed words.durable (ranges_of log) z.seen) s.seen
         record { tail_seen = omega arith; exposed_seen = omega arith; durable_seen = omega arith; boundaries = tt }
         (let a = s.seen me v at in let b = s.seen other o there in record {
           tail_seen = omega (arith, a.tail_seen, b.tail_seen);
@@ -151,21 +137,21 @@ module _ (key : Start) (words : Words) (views : List View) (me other : ℕ) (v o
     };
     at_work = s.at_work;
     owners = owners;
-    constants = each-merged (λ _ z. HasConstants key z) s.constants (λ e. absurd (true≢false e)) (s.constants me v at);
-    resting = each-merged (λ _ z. RestsUnlessActive z) s.resting (λ _. refl) (s.resting me v at);
-    entries = each-merged (λ _ z. OwnsIfWorker z) s.entries (λ _. refl)
-        (λ off. absurd (true≢false (sym (ap Rattle.log_table.specs.Views.may_own may.flusher) ∙ off)));
+    constants = each-merged views me other new (λ _ z. HasConstants key z) s.constants (λ e. absurd (true≢false e)) (s.constants me v at);
+    resting = each-merged views me other new (λ _ z. RestsUnlessActive z) s.resting (λ _. refl) (s.resting me v at);
+    entries = each-merged views me other new (λ _ z. OwnsIfWorker z) s.entries (λ _. refl)
+        (λ off. absurd (true≢false (sym (ap Rattle.log_table.specs.Roles.may_own may.flusher) ∙ off)));
     roles = crew-merges words.crew views me other v o s.roles at there apart may;
-    sends = each-merged (λ _ z. SendsIfFlusher key.start words.exposed words.durable after z) (λ j z here. sends z (s.sends j z here))
+    sends = each-merged views me other new (λ _ z. SendsIfFlusher key.start words.exposed words.durable after z) (λ j z here. sends z (s.sends j z here))
         (λ f. absurd (cc)) (sends v (s.sends me v at));
-    stops = each-merged (λ _ z. StoresStop words.stop z) s.stops (λ f. absurd (cc)) (s.stops me v at);
-    read_stop = each-merged (λ _ z. HasReadStop words.stop z) s.read_stop (inl refl)
+    stops = each-merged views me other new (λ _ z. StoresStop words.stop z) s.stops (λ f. absurd (cc)) (s.stops me v at);
+    read_stop = each-merged views me other new (λ _ z. HasReadStop words.stop z) s.read_stop (inl refl)
         (either-read words.stop v.seen.stop o.seen.stop (o.seen.stop == 0) (s.read_stop me v at) (s.read_stop other o there));
-    quiet = quiet-moves without me v new
-        (quiet-moves views other o nobody s.quiet there (λ _ _ _ _ f. absurd (cc)) (λ _ _ _ _. refl)) at' (λ _ _ _ h. h) (λ _ h. h);
-    looked = each-merged (λ _ z. LookedIfQuiet words.exposed z) s.looked (λ f. absurd (cc)) (s.looked me v at);
-    unheld = each-merged (λ _ z. HoldsIfActive z) s.unheld ((λ _. refl), (λ _. refl))
-        ((s.unheld me v at).0, (λ off. absurd (true≢false (sym (ap Rattle.log_table.specs.Views.may_own may.flusher) ∙ off))));
+    quiet = quiet-moves (without views other) me v new
+        (quiet-moves views other o nobody s.quiet there (λ _ _ _ _ f. absurd (cc)) (λ _ _ _ _. refl)) (at-without views me other v at apart) (λ _ _ _ h. h) (λ _ h. h);
+    looked = each-merged views me other new (λ _ z. LookedIfQuiet words.exposed z) s.looked (λ f. absurd (cc)) (s.looked me v at);
+    unheld = each-merged views me other new (λ _ z. HoldsIfActive z) s.unheld ((λ _. refl), (λ _. refl))
+        ((s.unheld me v at).0, (λ off. absurd (true≢false (sym (ap Rattle.log_table.specs.Roles.may_own may.flusher) ∙ off))));
     accounts = accounts-merged;
   }
 

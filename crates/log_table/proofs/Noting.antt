@@ -8,9 +8,11 @@ use Rattle.log_table.specs.declared.table.Start.{Start}
 use Rattle.log_table.specs.declared.view.View.{View}
 use Rattle.log_table.specs.Log.{Log}
 use Rattle.log_table.specs.Sound.{RestsIfQuiet, HasSoundRole, HasSoundRoles, HasSoundCrew, IsSound, Ruled, is_active_view}
-use Rattle.log_table.specs.Views.{is_spent, noted}
+use Rattle.log_table.specs.Roles.{is_spent}
+use Rattle.log_table.specs.CrewViews.{noted}
 use Rattle.log_table.specs.Words.{Words, words_in}
 use Rattle.log_table.proofs.Adding.{adds}
+use Rattle.log_table.proofs.Roles.{unbound}
 use Rattle.log_table.proofs.Viewing.{each_push, pairs_push}
 
 set-same : (views : List View) (me : ℕ) (v : View) → get_elem? views me ≡ some v → set views me v ≡ views
@@ -30,23 +32,9 @@ module _ (key : Start) (words : Words) (views : List View) (me : ℕ) (v : View)
     each = each_push (λ seat z. HasSoundRole seat z.standing) (λ seat z. HasSoundRole seat z.standing) views note s.roles.each
         record { small = λ e. absurd (true≢false (sym e)); first = λ e. absurd (cc) } (λ _ _ _ p. p);
     pairs = pairs_push (λ i y j z. HasSoundRoles i y.standing j z.standing) views note s.roles.pairs
-        record {
-          apart = λ _ _ _. refl;
-          made = λ e. absurd (cc);
-          enrolled = λ e. absurd (cc);
-          merged = λ e. absurd (cc);
-          fresh = λ e. absurd (cc);
-          unmerged = λ e. absurd (true≢false (sym e));
-        }
+        (unbound _ note.standing _ note.standing refl (λ e. absurd (cc)))
         (λ j z there. let by = s.roles.pairs j z there me v at in (
-          record {
-            apart = λ e. absurd (true≢false (sym e));
-            made = λ e. absurd (cc);
-            enrolled = λ e. absurd (cc);
-            merged = λ e. absurd (cc);
-            fresh = λ e. absurd (cc);
-            unmerged = λ e. absurd (true≢false (sym e));
-          },
+          unbound _ note.standing j z.standing refl (λ e. absurd (cc)),
           record {
             apart = λ _ e. absurd (true≢false (sym e));
             made = λ _ e. absurd (true≢false (sym e));

@@ -11,7 +11,8 @@ use Rattle.log_table.specs.declared.view.View.{View}
 use Rattle.log_table.specs.Events.{reservation_of, stage_in, Leads}
 use Rattle.log_table.specs.Log.{Log, ranges_of, parts_of}
 use Rattle.log_table.specs.Sound.{EachView, EachPair, HasSeenBoundaries, SendsIfFlusher, StoresStop, HasReadStop, RestsIfQuiet, LookedIfQuiet, HasWorkingOwner, HasConstants, RestsUnlessActive, OwnsIfWorker, HoldsIfActive, base_of, history_in, books_of, HasSoundRole, HasSoundRoles, HasSoundCrew, IsSound, is_active_view}
-use Rattle.log_table.specs.Views.{is_active, is_working, entries_in, claims_in}
+use Rattle.log_table.specs.Roles.{is_active, is_worker, is_working}
+use Rattle.log_table.specs.Views.{entries_in, claims_in}
 use Rattle.log_table.specs.Words.{Words}
 use Rattle.log_table.specs.Accounts.{KeepsAccounts}
 use Rattle.log_table.proofs.Showing.{hands_of-set_same}
@@ -33,6 +34,18 @@ crew-same crew views me v new s at same = record {
   where
     counts : {a b : ℕ} {p q : Bool} → a + cond p 1 0 ≡ b + cond q 1 0 → q ≡ p → a ≡ b
     counts {a} {b} {p} {q} e is = let f : a + cond p 1 0 ≡ b + cond p 1 0 = e ∙ ap (λ (x : Bool). b + cond x 1 0) is in omega arith
+
+-- a seat that is neither the flusher's nor a worker's is bound to nothing by the others
+pub unbound : (seat : ℕ) (standing : Standing) (other : ℕ) (others : Standing) → is_worker standing.role ≡ false → (standing.role ≡ Flusher → ⊥)
+    → HasSoundRoles seat standing other others
+unbound seat standing other others off no-flusher = record {
+  apart = λ w. absurd (true≢false (sym w ∙ off));
+  made = λ f. absurd (no-flusher f);
+  enrolled = λ f. absurd (no-flusher f);
+  merged = λ f. absurd (no-flusher f);
+  fresh = λ f. absurd (true≢false (sym (ap is_worker f) ∙ off));
+  unmerged = λ w. absurd (true≢false (sym w ∙ off));
+}
 
 -- a seat that is quiet no less, and at work no more, than it was
 pub quiet-moves : (views : List View) (me : ℕ) (v new : View) → EachPair (λ _ y _ z. RestsIfQuiet y z) views

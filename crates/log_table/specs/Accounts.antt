@@ -101,9 +101,13 @@ pub record KeepsAccounts (base : BaseState) (words : ℕ → ℕ) (h : List Plac
   pub holder : HasOneHolder base.accounts words all
   pub follows : HasDistinctJobs all → AccountsFollowList base words h all
 
--- The values of the word are those of the account as it was taken, with what the seat's last job made of them by its Commit.
+-- An account goes back as the job that placed these records left it: where the job has no Commit, with the balance and the last Commit
+-- as they were taken, and else with the balance as the job changed it, and with the end of its Commit if it has a change of the account.
+pub record FollowsJob (account balance mark taken_balance taken_mark : ℕ) (placed : List Placed) : Type 0 where
+  pub balance_is : balance + moved_if_committed loss account placed ≡ taken_balance + moved_if_committed gain account placed
+  pub mark_is : mark ≡ commit_in placed account taken_mark
+
+-- the seat holds the account, and may give it back with the values of the word
 pub record MayGive (account word : ℕ) (books : Books) : Type 0 where
   pub has : 1 ≤ times_held account books.held
-  pub balance : balance_in word + moved_if_committed loss account books.placed
-      ≡ balance_taken books.held account + moved_if_committed gain account books.placed
-  pub mark : mark_in word ≡ commit_in books.placed account (mark_taken books.held account)
+  pub values : FollowsJob account (balance_in word) (mark_in word) (balance_taken books.held account) (mark_taken books.held account) books.placed

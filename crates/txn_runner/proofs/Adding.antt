@@ -15,7 +15,7 @@ use Rattle.txn_runner.specs.declared.cause.Cause.{Cause}
 use Rattle.txn_runner.specs.declared.cause.Cause.TheVariants.{Stop, LogEnd}
 use Rattle.txn_runner.specs.Inserts.{placed_behind, placing_all, Adds, IsLeft, StopsFor, IsCutOff}
 use Rattle.txn_runner.specs.Running.{LieInOrder}
-use Rattle.txn_runner.proofs.Staying.{entries-trans}
+use Rattle.ring_buffer.proofs.TwoCalls.{HasEntries-trans}
 
 pub lie-longer : (from to further : ℕ) (entries : List Entry) → to ≤ further → LieInOrder from to entries → LieInOrder from further entries
 lie-longer from to further [] more lie = omega arith
@@ -47,7 +47,7 @@ pub adds-trans : (entries more : List Entry) (first second third : Seat) → Add
     → Adds (entries ++ more) first third
 adds-trans entries more first second third before after = record {
   entries = subst (λ (p : List Entry × Books). HasEntries first third p.0 p.1) (λ i. (list i, books i))
-      (entries-trans _ _ _ _ _ _ _ before.entries after.entries);
+      (HasEntries-trans _ _ _ _ _ _ _ before.entries after.entries);
   within = lie-append _ _ _ entries more before.within after.within;
 }
   where

@@ -14,7 +14,7 @@ use Rattle.txn_runner.specs.declared.holding.Holding.{Holding}
 use Rattle.early_locks.specs.Transfers.{held_of}
 use Rattle.txn_runner.specs.Holdings.{account_of, held_behind, holding_all, IsKnown, HoldsAll, TakesAll}
 use Rattle.txn_runner.proofs.Held.{distinct}
-use Rattle.txn_runner.proofs.Staying.{entries-trans}
+use Rattle.ring_buffer.proofs.TwoCalls.{HasEntries-trans}
 
 -- what is known of each account is known of each holding
 pub all-known : (accounts : ℕ) (holdings : List Holding) (list : List ℕ) → map account_of holdings ≡ list
@@ -48,7 +48,7 @@ module _ (accounts : List ℕ) (holdings : List Holding) (first second third : S
     accounts_are = map-append account_of holdings (holding ∷ []) ∙ (λ i. before.accounts_are i ++ holding.taken.account ∷ []) ∙ sym is;
     unchanged = All-push (λ (holding : Holding). holding.balance ≡ holding.taken.balance) holdings holding before.unchanged unchanged;
     entries = subst (λ (p : List Entry × Books). HasEntries first third p.0 p.1) (λ i. (before.entries.entries_are i, books i))
-        (entries-trans _ _ _ _ _ _ _ before.entries after);
+        (HasEntries-trans _ _ _ _ _ _ _ before.entries after);
   }
     where
       books : taking (held_of holding.taken) (view_of second).books ≡ holding_all (holdings ++ holding ∷ []) (view_of first).books

@@ -14,6 +14,5 @@ pub mod PlanLemmas
 pub mod ProgressLemmas
 pub mod Putting
 pub mod RowLemmas
-pub mod Staying
 pub mod StripeLemmas
 pub mod WorkLemmas

@@ -11,7 +11,7 @@ use Rattle.log_table.specs.Seats.{view_of}
 use Rattle.log_table.proofs.Nexting.{next-is, may-enter}
 use Rattle.ring_buffer.specs.Calls.{MayPlace, HasEntries, entry_of}
 use Rattle.txn_runner.specs.Inserts.{Puts}
-use Rattle.txn_runner.proofs.Staying.{entries-trans}
+use Rattle.ring_buffer.proofs.TwoCalls.{HasEntries-trans}
 
 module _ (rec : Rec) (units : List ℕ) (spelled : units ≡ spelling rec) (books : Books) (may : MayEnter rec books) where
   next : next_of books ≡ rec
@@ -37,7 +37,7 @@ puts rec n at end old between new may size ends before after behind seen = recor
   ends = ends ∙ ap (λ m. at + m) size;
   adds = record {
     entries = subst (λ (p : Rec × List Entry × Books × ℕ). HasEntries old new (p.1 ++ entry_of at p.0 ∷ []) (placing (at + p.3) p.0 p.2))
-        (λ i. (next i, before.entries_are i, before.books_are i, size i)) (entries-trans _ _ _ _ _ _ _ before after);
+        (λ i. (next i, before.entries_are i, before.books_are i, size i)) (HasEntries-trans _ _ _ _ _ _ _ before after);
     within = (omega (arith, before.same.grows), omega (arith, size));
   };
 }

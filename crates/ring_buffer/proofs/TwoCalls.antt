@@ -5,8 +5,8 @@ use Rattle.log_table.specs.declared.view.Books.{Books}
 use Rattle.log_table.specs.declared.view.Entry.{Entry}
 use Rattle.ring_buffer.specs.Calls.{IsSameWorker, HasEntries}
 
-same-trans : (first second third : Seat) → IsSameWorker first second → IsSameWorker second third → IsSameWorker first third
-same-trans first second third before after = record {
+pub IsSameWorker-trans : (first second third : Seat) → IsSameWorker first second → IsSameWorker second third → IsSameWorker first third
+IsSameWorker-trans first second third before after = record {
   table_is = after.table_is ∙ before.table_is;
   number = after.number ∙ before.number;
   slots = after.slots ∙ before.slots;
@@ -21,11 +21,11 @@ same-trans first second third before after = record {
 }
 
 -- the entries and books are those of the later call
-pub entries-trans : (first second third : Seat) (entries entries' : List Entry) (books books' : Books)
+pub HasEntries-trans : (first second third : Seat) (entries entries' : List Entry) (books books' : Books)
     → HasEntries first second entries books
     → HasEntries second third entries' books' → HasEntries first third entries' books'
-entries-trans first second third entries entries' books books' before after = record {
-  same = same-trans first second third before.same after.same;
+HasEntries-trans first second third entries entries' books books' before after = record {
+  same = IsSameWorker-trans first second third before.same after.same;
   idle = after.idle;
   entries_are = after.entries_are;
   books_are = after.books_are;
