@@ -50,11 +50,12 @@ holds-other taken account books differ holds = record {
 pub gives-both : (first second third : View) (payer payee : Taken) → payer.account ≢ payee.account
     → HoldsTaken payer first.books → HoldsTaken payee first.books
     → second ≡ gave_account payer.account first → third ≡ gave_account payee.account second
-    → third.seen.given ≡ given_at first.seen.durable payee ∷ given_at first.seen.durable payer ∷ first.seen.given
+    → third.seen.given ≡ given_at first.books.last.number first.seen.durable payee ∷ given_at first.books.last.number first.seen.durable payer
+    ∷ first.seen.given
 gives-both first second third payer payee two pays receives gave-first gave-second =
     ap (λ (view : View). view.seen.given) gave-second ∙ ap (λ (view : View). given_as payee.account view ∷ view.seen.given) gave-first
-    ∙ (λ i. record { account = payee.account; balance = other.balance i; durable = first.seen.durable }
-    ∷ record { account = payer.account; balance = pays.balance i; durable = first.seen.durable } ∷ first.seen.given)
+    ∙ (λ i. record { txn = first.books.last.number; account = payee.account; balance = other.balance i; durable = first.seen.durable }
+    ∷ record { txn = first.books.last.number; account = payer.account; balance = pays.balance i; durable = first.seen.durable } ∷ first.seen.given)
   where
     other : HoldsTaken payee (giving payer.account first.books)
     other = holds-other payee payer.account first.books (λ same. two (sym same)) receives

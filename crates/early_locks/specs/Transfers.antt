@@ -45,9 +45,9 @@ held_of taken = record { account = taken.account; balance = taken.balance; mark 
 abbrev pub holding_none : Books → Books
 holding_none books = record books { held = [] }
 
--- the account as it goes back where durable is seen there
-abbrev pub given_at : ℕ → Taken → Given
-given_at durable taken = record { account = taken.account; balance = taken.balance; durable = durable }
+-- the account as it goes back under this number where durable is seen there
+abbrev pub given_at : ℕ → ℕ → Taken → Given
+given_at number durable taken = record { txn = number; account = taken.account; balance = taken.balance; durable = durable }
 
 -- the record comes next, and may be placed with the accounts held
 pub record MayPut (rec : Rec) (books : Books) : Type 0 where
@@ -113,10 +113,12 @@ pub record HasCommitted (accounts : ℕ) (books : Books) (committed : Committed)
   pub ended : has_end (recs_of books.placed) ≡ true
   pub end : end_from 0 books.placed ≡ committed.placed.end
 
--- both accounts went back, the payer's first, where the seat had seen durable at or above the end of the commit
+-- both accounts went back, the payer's first, under the number of the seat's last job, where the seat had seen durable at or above the end
+-- of the commit
 pub record HasGivenDurable (committed : Committed) (old new : View) : Type 0 where
   pub durable : ℕ
-  pub given : new.seen.given ≡ given_at durable committed.payee ∷ given_at durable committed.payer ∷ old.seen.given
+  pub given : new.seen.given
+      ≡ given_at old.books.last.number durable committed.payee ∷ given_at old.books.last.number durable committed.payer ∷ old.seen.given
   pub above : committed.placed.end ≤ durable
 
 -- The seat loaded the tail since, and so many units do not fit behind it in the log.
@@ -136,12 +138,14 @@ abbrev pub IsNotMade : Transfer → ℕ → ℕ → View → View → Type 0
 IsNotMade transfer payer payee old new =
     (payer < transfer.amount) ⊎ (MOST_BALANCE < payee + transfer.amount) ⊎ MeetsEnd (units_behind new.books.placed) old new
 
--- The seat took both accounts of the transfer and gave them back, the payer's first; with the balances as they were taken, or by the tail
--- as it was loaded, the transfer can't be made.
-pub record HasGivenUp (transfer : Transfer) (old new : View) : Type 0 where
+-- The seat took both accounts of the transfer and gave them back under this number, the payer's first; with the balances as they were
+-- taken, or by the tail as it was loaded, the transfer can't be made.
+pub record HasGivenUp (number : ℕ) (transfer : Transfer) (old new : View) : Type 0 where
   pub payer : Given
   pub payee : Given
-  pub given : new.seen.given ≡ payee ∷ payer ∷ []
+  pub given : new.seen.given ≡ payee ∷ payer ∷ old.seen.given
+  pub payer_txn : payer.txn ≡ number
+  pub payee_txn : payee.txn ≡ number
   pub payer_is : payer.account ≡ transfer.payer
   pub payee_is : payee.account ≡ transfer.payee
   pub cause : IsNotMade transfer payer.balance payee.balance old new

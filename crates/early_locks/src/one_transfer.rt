@@ -116,7 +116,7 @@ pub fn commit_transfer<R: Wait, G: Gate>(
     ensures committed { IfSome result (HasCommitted table.now.accounts (view_of seat.new).books) }
     ensures entries { IfSome result (λ committed. (view_of seat.new).entries ≡ (view_of seat.old).entries ++ entries_of number transfer committed.payer committed.payee committed.placed) }
     ensures none_held { IfNone result ((view_of seat.new).books.held ≡ []) }
-    ensures given_up { IfNone result (HasGivenUp transfer (view_of seat.old) (view_of seat.new)) }
+    ensures given_up { IfNone result (HasGivenUp number transfer (view_of seat.old) (view_of seat.new)) }
     ensures uncommitted { IfNone result (has_commit (recs_of (view_of seat.new).books.placed) ≡ false) }
 {
     table.take_job(seat, number, &transfer.job());

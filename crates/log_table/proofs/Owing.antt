@@ -90,7 +90,7 @@ module _ (key : Start) (me : ℕ) (v : View) where
   job-step accounts number job same may n = record {
     leads = λ words views log s at is. let taken : TakenJob = record { number = number; job = job } in
         subst (λ x. Leads key words (record words { stop = x }) views (set views me (took_job number job x v)) log None) is
-        (books-change key words words.account views me v log (record v.seen { steps = v.seen.steps + 1; stop = words.stop; given = [] }) (taking_job taken v.books) s at
+        (books-change key words words.account views me v log (record v.seen { steps = v.seen.steps + 1; stop = words.stop }) (taking_job taken v.books) s at
         (sees-same key.start words.tail words.exposed words.durable log v.seen _ (s.seen me v at) refl refl refl refl) (inr refl)
         ((λ _. may.none_held), (λ off. absurd (true≢false (sym (ap may_own may.rests.active) ∙ off))))
         (takes-job (base_of key) words.account (history_in key log.parts) (map books_of views) me v.books (at_map books_of views me v at) taken

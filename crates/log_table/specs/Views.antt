@@ -173,10 +173,10 @@ saw_durable n view = record view { seen = seen_durable n view.seen }
 abbrev pub saw_stop : ℕ → View → View
 saw_stop n view = record view { seen = record view.seen { steps = view.seen.steps + 1; stop = n } }
 
--- after a load of stop with which the seat takes a job; of that it has given no account back
+-- after a load of stop with which the seat takes a job
 abbrev pub took_job : ℕ → Job → ℕ → View → View
 took_job number job n view = record view {
-  seen = record view.seen { steps = view.seen.steps + 1; stop = n; given = [] };
+  seen = record view.seen { steps = view.seen.steps + 1; stop = n };
   books = taking_job (record { number = number; job = job }) view.books;
 }
 
@@ -201,9 +201,14 @@ took_account account word view =
 abbrev pub after_account : ℕ → ℕ → ℕ → View → View
 after_account account from n view = if n == from then took_account account from view else saw_account account n view
 
--- the account as it goes back: with its balance as it was taken, and durable as it is seen now
+-- the account as it goes back: under the number of the seat's last job, with its balance as it was taken, and durable as it is seen now
 abbrev pub given_as : ℕ → View → Given
-given_as account view = record { account = account; balance = balance_taken view.books.held account; durable = view.seen.durable }
+given_as account view = record {
+  txn = view.books.last.number;
+  account = account;
+  balance = balance_taken view.books.held account;
+  durable = view.seen.durable;
+}
 
 -- the account was given back
 abbrev pub seen_given : Given → Seen → Seen

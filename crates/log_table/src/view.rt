@@ -50,16 +50,18 @@ pub struct Standing {
     pub merged: LinkedList<u64>,
 }
 
-/// An account that a seat gave back, with the balance as it was taken, and durable as the seat had seen it then.
+/// An account that a seat gave back: the number of the seat's last job then, the account with its balance as it was taken, and
+/// durable as the seat had seen it then.
 pub struct Given {
+    pub txn: u64,
     pub account: u64,
     pub balance: u64,
     pub durable: u64,
 }
 
 /// The last value seen in each word, and of the LSNs at which of the seat's steps; of the accounts' words
-/// the last one, and whose it was; the accounts given back since the seat took its last job, and every LSN
-/// that was seen, each newest first.
+/// the last one, and whose it was; the accounts that the seat gave back, and every LSN that was seen, each
+/// newest first.
 pub struct Seen {
     pub steps: u64,
     pub tail: u64,

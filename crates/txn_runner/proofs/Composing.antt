@@ -11,7 +11,7 @@ use Rattle.txn_script.specs.declared.job.Job.{Job}
 use Rattle.txn_script.specs.Script.{IsAllowedLeg}
 use Rattle.early_locks.specs.declared.taking.Taken.{Taken}
 use Rattle.early_locks.specs.Locks.{HoldsTaken}
-use Rattle.early_locks.specs.Transfers.{held_of}
+use Rattle.early_locks.specs.Transfers.{held_of, given_at}
 use Rattle.log_table.specs.declared.table.Seat.{Seat}
 use Rattle.log_table.specs.declared.view.Books.{Books}
 use Rattle.log_table.specs.declared.view.Entry.{Entry}
@@ -40,7 +40,7 @@ use Rattle.txn_runner.specs.Running.{LieInOrder, account_given, GaveBack, HasIns
 use Rattle.txn_runner.proofs.Adding.{lie-longer, lie-sooner, placed-front}
 use Rattle.txn_runner.proofs.Gaining.{all-known}
 use Rattle.txn_runner.proofs.PlanLemmas.{planned_records-some}
-use Rattle.txn_runner.proofs.Held.{distinct, given-all, given-as, given-durable, same-accounts, all-same, taken-behind, taken-first}
+use Rattle.txn_runner.proofs.Held.{distinct, given-all, given-each, given-front, same-accounts, all-same, taken-behind, taken-first}
 
 -- every account of a job that the table allows is one of the table's
 pub accounts-known : (accounts : ℕ) (legs : List (ℕ × ℕ × ℕ)) (list : List ℕ) → AllByRecursion (IsAllowedLeg accounts) legs
@@ -100,17 +100,26 @@ module _ (accounts number : ℕ) (job : Job) (list slice : List ℕ) (holdings :
     still-as = all-same holdings paid same (λ taken. balance_taken (view_of new).books.held taken.account ≡ taken.balance)
         (λ k d within. (are-held k d within).balance)
 
-    -- they went back
-    pub gave-back : (view : View) (durable : ℕ) → All (HasAccountsOf list) job.legs → view.seen.given ≡ given_behind durable paid []
-        → GaveBack job (balance_taken (view_of new).books.held) view
-    gave-back view durable all given = record {
-      each = subst (λ list. All (HasAccountsOf (map account_given list)) job.legs) (sym given)
-          (λ k d within. let both = still-all all k d within in (given-all durable paid [] _ both.0, given-all durable paid [] _ both.1));
-      taken_as = subst (All (λ (given : Given). balance_taken (view_of new).books.held given.account ≡ given.balance)) (sym given)
-          (given-as (balance_taken (view_of new).books.held) durable paid []
-          (recursion_from_All (λ (holding : Holding). balance_taken (view_of new).books.held holding.taken.account ≡ holding.taken.balance) paid still-as)
-          (All-from_recursion (λ (given : Given). balance_taken (view_of new).books.held given.account ≡ given.balance) [] tt));
-    }
+    -- they went back where durable was seen there
+    pub gave-back : (view : View) (durable : ℕ) (before : List Given) → All (HasAccountsOf list) job.legs
+        → view.seen.given ≡ given_behind number durable paid before
+        → (gave : GaveBack number job (balance_taken (view_of new).books.held) before view) × All (λ (one : Given). one.durable ≡ durable) gave.back
+    gave-back view durable before all given = (
+      record {
+        back = given_behind number durable paid [];
+        given_are = given ∙ given-front number durable paid before;
+        own = said (λ one. one.txn ≡ number) (λ k d within. refl);
+        taken_as = said (λ one. balance_taken (view_of new).books.held one.account ≡ one.balance) still-as;
+        each = λ k d within. let both = still-all all k d within in
+            (given-all number durable paid [] _ both.0, given-all number durable paid [] _ both.1);
+      },
+      said (λ one. one.durable ≡ durable) (λ k d within. refl),
+    )
+      where
+        said : (P : Given → Type 0) → All (λ (holding : Holding). P (given_at number durable holding.taken)) paid
+            → All P (given_behind number durable paid [])
+        said P all = given-each number durable P paid []
+            (recursion_from_All (λ (holding : Holding). P (given_at number durable holding.taken)) paid all) (All-from_recursion P [] tt)
 
     -- and all that is held
     pub still-held : (books : Books) → books.held ≡ (view_of new).books.held → HoldsAll paid books
@@ -220,7 +229,7 @@ still-stops cause rest held back first second becomes stops =
     subst (StopsFor cause rest) (sym (ap (λ m. m.0) becomes.me)) (stops-held cause rest held back (view_of first) stops)
 
 pub has-cut : (number : ℕ) (job : Job) (wait : Bool) (cause : Cause) (rest : List Rec) (old new : View) (inserted : HasInserted number job rest old new)
-    → GaveBack job inserted.balances new → rest ≢ [] → StopsFor cause rest new
+    → GaveBack number job inserted.balances old.seen.given new → rest ≢ [] → StopsFor cause rest new
     → HasCut number job wait cause old new
 has-cut number job wait (Stop word) rest old new inserted gave some stops = (rest, inserted, λ none. absurd (some none), stops.0, stops.1)
 has-cut number job wait (LogEnd tail total) [] old new inserted gave some stops = absurd stops
@@ -265,9 +274,10 @@ lie-last from to (other ∷ entries) entry lie = let after = lie-last (other.sta
 pub has-run : (number : ℕ) (job : Job) (wait : Bool) (ended : Ended) (seen : ℕ) (holdings : List Holding) (first last : View) (second third : Seat)
     → HasTakenJob number job first (view_of second) → EndsTransfer number job ended holdings second third → Keeps (view_of third) last
     → seen ≡ last.seen.durable → (wait ≡ true → ended.end ≤ seen)
-    → (paid : List Holding) → last.seen.given ≡ given_behind seen paid [] → GaveBack job (balance_taken (view_of second).books.held) last
+    → (gave : GaveBack number job (balance_taken (view_of second).books.held) first.seen.given last)
+    → All (λ (one : Given). one.durable ≡ seen) gave.back
     → HasRun number job wait (record { txn = number; answer = ended.answer; end = ended.end; seen = seen }) first last
-has-run number job wait ended seen holdings first last second third taken ends keeps durable waited paid given gave = record {
+has-run number job wait ended seen holdings first last second third taken ends keeps durable waited gave at_seen = record {
   inserted = has-inserted number job [] first last second third (ends.before ++ end ∷ []) taken ends.adds ends.left keeps;
   txn = refl;
   outcome = ends.outcome;
@@ -280,8 +290,7 @@ has-run number job wait ended seen holdings first last second third taken ends k
   seen = durable;
   waited = waited;
   given = gave;
-  durable_first = λ waits. subst (All (λ (given : Given). ended.end ≤ given.durable)) (sym given)
-      (given-durable ended.end seen (waited waits) paid [] (All-from_recursion (λ (given : Given). ended.end ≤ given.durable) [] tt));
+  at_seen = at_seen;
 }
   where
     end : Entry

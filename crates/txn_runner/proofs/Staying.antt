@@ -1,9 +1,11 @@
 -- What a seat has after two calls, one after the other.
-use Rattle.std.proofs.Common.{◌∙◌, List, arith}
+use Rattle.std.proofs.Common.{◌≡◌, ◌∙◌, List, [], ◌++◌, ap, sym, arith, append_assoc}
 use Rattle.log_table.specs.declared.table.Seat.{Seat}
 use Rattle.log_table.specs.declared.view.Books.{Books}
 use Rattle.log_table.specs.declared.view.Entry.{Entry}
+use Rattle.log_table.specs.declared.view.View.{View}
 use Rattle.ring_buffer.specs.Calls.{IsSameWorker, HasEntries}
+use Rattle.txn_runner.specs.Holdings.{KeepsGiven}
 
 same-trans : (first second third : Seat) → IsSameWorker first second → IsSameWorker second third → IsSameWorker first third
 same-trans first second third before after = record {
@@ -30,4 +32,14 @@ entries-trans first second third entries entries' books books' before after = re
   entries_are = after.entries_are;
   books_are = after.books_are;
   given_are = after.given_are ∙ before.given_are;
+}
+
+-- no account was given back
+pub given-same : (old new : View) → new.seen.given ≡ old.seen.given → KeepsGiven old new
+given-same old new same = record { back = []; given_are = same }
+
+pub given-trans : (first second third : View) → KeepsGiven first second → KeepsGiven second third → KeepsGiven first third
+given-trans first second third before after = record {
+  back = after.back ++ before.back;
+  given_are = after.given_are ∙ ap (λ l. after.back ++ l) before.given_are ∙ sym (append_assoc after.back before.back first.seen.given);
 }

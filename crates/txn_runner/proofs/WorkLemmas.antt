@@ -207,6 +207,7 @@ IsCutBy-next jobs worker k wait (Stop word) old new worked cut = (waits cut.0 cu
 IsCutBy-next jobs worker k wait (LogEnd tail total) old new worked cut = record {
   balances = cut.2.balances;
   marks = cut.2.marks;
+  before = old.seen.given;
   given = cut.3;
   next = cut.0;
   rest = cut.1;

@@ -1,5 +1,5 @@
 -- The accounts that a transfer holds.
-use Rattle.std.specs.Prelude.{◌≡◌, ◌≢◌, ℕ, ◌+◌, ◌<◌, List, [], ◌∷◌, length, map, All}
+use Rattle.std.specs.Prelude.{◌≡◌, ◌≢◌, ℕ, ◌+◌, ◌<◌, List, [], ◌∷◌, ◌++◌, length, map, All}
 use Rattle.std.specs.List.{AllByRecursion}
 use Rattle.log_table.specs.declared.table.Seat.{Seat}
 use Rattle.log_table.specs.declared.view.Books.{Books}
@@ -69,18 +69,24 @@ back_of (Committed end) holding = (holding.balance, end)
 abbrev pub GoesBack : Release → Books → Holding → Type 0
 GoesBack release books holding = GivesBack holding.taken (back_of release holding).0 (back_of release holding).1 books
 
--- the accounts given back one after another where durable is seen there, newest first, after those that were given back before
-abbrev pub given_behind : ℕ → List Holding → List Given → List Given
-given_behind durable [] given = given
-given_behind durable (holding ∷ holdings) given = given_behind durable holdings (given_at durable holding.taken ∷ given)
+-- the accounts given back one after another under this number where durable is seen there, newest first, after those that were given back
+-- before
+abbrev pub given_behind : ℕ → ℕ → List Holding → List Given → List Given
+given_behind number durable [] given = given
+given_behind number durable (holding ∷ holdings) given = given_behind number durable holdings (given_at number durable holding.taken ∷ given)
 
--- after one that gave these accounts back, and so took a step for each
-abbrev pub seen_back : List Holding → Seen → Seen
-seen_back back seen = record seen { steps = seen.steps + length back; given = given_behind seen.durable back seen.given }
+-- after one that gave these accounts back under this number, and so took a step for each
+abbrev pub seen_back : ℕ → List Holding → Seen → Seen
+seen_back number back seen = record seen { steps = seen.steps + length back; given = given_behind number seen.durable back seen.given }
 
 -- after these accounts were given back, with those held
 abbrev pub with_held : List Held → List Holding → View → View
-with_held held back view = record view { seen = seen_back back view.seen; books = record view.books { held = held } }
+with_held held back view = record view { seen = seen_back view.books.last.number back view.seen; books = record view.books { held = held } }
+
+-- what the seat gave back before stands behind what it gave back since
+pub record KeepsGiven (old new : View) : Type 0 where
+  pub back : List Given
+  pub given_are : new.seen.given ≡ back ++ old.seen.given
 
 -- the seat has nothing under way, and the entries and books that it had; it may have given accounts back
 pub record KeepsBooks (old new : Seat) : Type 0 where

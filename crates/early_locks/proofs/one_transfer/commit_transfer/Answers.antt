@@ -1,5 +1,6 @@
-use Rattle.std.proofs.Common.{arith, ◌≡◌, ◌∙◌, [], ◌∷◌, ap, sym, subst}
+use Rattle.std.proofs.Common.{arith, ◌≡◌, ◌∙◌, ◌∷◌, ap, sym, subst}
 use Rattle.lock_core.specs.Transactions.{recs_of, has_commit}
+use Rattle.log_table.specs.declared.view.TakenJob.{TakenJob}
 use Rattle.log_table.specs.Books.{giving}
 use Rattle.log_table.specs.Seats.{view_of}
 use Rattle.log_table.specs.Views.{gave_account}
@@ -29,13 +30,17 @@ returns-in_default-clause-given_up g c =
     let second : view_of c.give_unchanged-in_default.new.seat ≡ gave_account both.payee.account (view_of c.give_unchanged.new.seat) =
     ap (λ m. m.0) c.give_unchanged-in_default.ensures.me in
     let steps = ap (λ m. m.0.seen.steps) c.take_job.ensures.view.me in
-    let none : put.seen.given ≡ [] = c.put_records-placed.ensures.given ∙ c.take_both-both.ensures.given
-    ∙ ap (λ m. m.0.seen.given) c.take_job.ensures.view.me in record {
-      payer = given_at put.seen.durable both.payer;
-      payee = given_at put.seen.durable both.payee;
+    let before : put.seen.given ≡ (view_of c.args.seat.now).seen.given = c.put_records-placed.ensures.given ∙ c.take_both-both.ensures.given
+    ∙ ap (λ m. m.0.seen.given) c.take_job.ensures.view.me in
+    let number = put.books.last.number in
+    let own : number ≡ c.args.number = ap (λ (taken : TakenJob). taken.number) has.last in record {
+      payer = given_at number put.seen.durable both.payer;
+      payee = given_at number put.seen.durable both.payee;
       given = gives-both put _ _ both.payer both.payee (λ same. c.requires.job.allowed.job.legs.each.0.two (sym has.payer_is ∙ (same ∙ has.payee_is)))
           has.payer_held has.payee_held first second
-          ∙ (λ i. given_at put.seen.durable both.payee ∷ given_at put.seen.durable both.payer ∷ none i);
+          ∙ (λ i. given_at number put.seen.durable both.payee ∷ given_at number put.seen.durable both.payer ∷ before i);
+      payer_txn = own;
+      payee_txn = own;
       payer_is = has.payer_is;
       payee_is = has.payee_is;
       cause = subst (IsNotMade c.args.transfer both.payer.balance both.payee.balance (view_of c.args.seat.now))

@@ -1,4 +1,5 @@
 use Rattle.std.proofs.Common.{rules, ◌≡◌, ◌∙◌, ◌∷◌, ap, sym, subst}
+use Rattle.log_table.specs.declared.view.Books.{Books}
 use Rattle.log_table.specs.Books.{giving}
 use Rattle.log_table.specs.Seats.{view_of}
 use Rattle.early_locks.specs.Locks.{HoldsTaken}
@@ -22,12 +23,15 @@ pub returns-clause-durable : goal.returns-clause-durable
 returns-clause-durable g c =
     let has = c.requires.committed in
     let committed = c.args.committed in
-    let see = view_of c.see_durable.new.seat in record {
+    let see = view_of c.see_durable.new.seat in
+    let number : see.books.last.number ≡ (view_of c.args.seat.now).books.last.number = ap (λ (books : Books). books.last.number) c.see_durable.ensures.books in
+    record {
       durable = see.seen.durable;
       given = gives-both see _ _ committed.payer committed.payee has.two
           (subst (HoldsTaken committed.payer) (sym c.see_durable.ensures.books) has.payer_held)
           (subst (HoldsTaken committed.payee) (sym c.see_durable.ensures.books) has.payee_held)
           (ap (λ m. m.0) c.give_durable.ensures.me) (ap (λ m. m.0) c.give_durable-2.ensures.me)
-          ∙ (λ i. given_at see.seen.durable committed.payee ∷ given_at see.seen.durable committed.payer ∷ c.see_durable.ensures.given i);
+          ∙ (λ i. given_at (number i) see.seen.durable committed.payee ∷ given_at (number i) see.seen.durable committed.payer
+          ∷ c.see_durable.ensures.given i);
       above = c.see_durable.ensures.durable;
     }
