@@ -3,16 +3,16 @@ use Rattle.std.proofs.Common.{◌≡◌, ◌≤◌, ◌<◌, ℕ, zero, suc, ◌
 use Rattle.std.specs.List.{AllByRecursion}
 use Rattle.log_record.specs.declared.rec.Rec.{Rec}
 use Rattle.log_record.specs.declared.rec.Rec.TheVariants.{Short, Over}
-use Rattle.log_record.specs.declared.rec.Entry.{Entry}
+use Rattle.log_record.specs.declared.rec.Placed.{Placed}
 use Rattle.log_record.specs.LogList.{size_of, units_of, end_of, IsBoundary}
 use Rattle.log_record.proofs.LogListLemmas.{boundary_is_front}
 use Rattle.log_recovery.proofs.ListingLemmas.{units_of-append}
-use Rattle.lock_core.specs.Alone.{Job as Transfer, Done, ShortAt, OverAt, Outcome, leg_updates, outcome_records}
+use Rattle.lock_core.specs.Alone.{PlainTransfer, Done, ShortAt, OverAt, Outcome, leg_updates, outcome_records}
 use Rattle.lock_core.specs.AnyOrder.{IsDoneIn, weight_of}
 use Rattle.lock_core.specs.History.{history, history_from}
 use Rattle.lock_core.specs.Serial.{Task, numbered, IsCutShort, IsPartlySerialAfter}
 use Rattle.lock_core.specs.Sums.{BaseState}
-use Rattle.lock_core.specs.Transactions.{records_of, all_without_prev, in_order}
+use Rattle.lock_core.specs.Transactions.{own_records_of, all_without_prev, in_order}
 use Rattle.lock_core.proofs.Doing.{end_of-weight, partly-done}
 use Rattle.lock_core.proofs.NextRecords.{size-without_prev}
 use Rattle.lock_core.proofs.Weighing.{AreDistinct, each_task, has_number, weight_of-append, weight_of-history, weight_of-in_order, weight_of-tasks, weight_of-without_prev}
@@ -45,36 +45,36 @@ outcome-most txn x (OverAt leg) = omega (
 )
 
 -- the records of a transaction that go on to these ones weigh what these do, or less
-records-most : (h : List Entry) (n : ℕ) (rest planned : List Rec) → in_order (all_without_prev (records_of n h)) rest ≡ planned
-    → weight_of size_of (records_of n h) + weight_of size_of rest ≡ weight_of size_of planned
+records-most : (h : List Placed) (n : ℕ) (rest planned : List Rec) → in_order (all_without_prev (own_records_of n h)) rest ≡ planned
+    → weight_of size_of (own_records_of n h) + weight_of size_of rest ≡ weight_of size_of planned
 records-most h n rest planned same =
-    let parts = weight_of-in_order size_of (all_without_prev (records_of n h)) rest in
-    let plain = weight_of-without_prev size_of (records_of n h) size-without_prev in
+    let parts = weight_of-in_order size_of (all_without_prev (own_records_of n h)) rest in
+    let plain = weight_of-without_prev size_of (own_records_of n h) size-without_prev in
     let whole = ap (weight_of size_of) same in
     omega arith
 
-task-most : (h : List Entry) (n x : ℕ) → let task : Task = record { number = n; job = transfer_of (job_from x) } in
-    IsDoneIn h task ⊎ IsCutShort h task → weight_of size_of (records_of n h) ≤ 5
+task-most : (h : List Placed) (n x : ℕ) → let task : Task = record { number = n; job = transfer_of (job_from x) } in
+    IsDoneIn h task ⊎ IsCutShort h task → weight_of size_of (own_records_of n h) ≤ 5
 task-most h n x (inl done) = omega (arith, records-most h n [] _ done, outcome-most n x Done)
 task-most h n x (inr cut) = let same = records-most h n cut.rest _ cut.front in omega arith
 
 -- ---- all of them
 
-tasks-most : (h : List Entry) (first n seed : ℕ)
+tasks-most : (h : List Placed) (first n seed : ℕ)
     → AllByRecursion (λ (task : Task). IsDoneIn h task ⊎ IsCutShort h task) (numbered first (generated_transfers n seed))
-    → each_task (λ task. weight_of size_of (records_of task.number h)) (numbered first (generated_transfers n seed)) ≤ 5 * n
+    → each_task (λ task. weight_of size_of (own_records_of task.number h)) (numbered first (generated_transfers n seed)) ≤ 5 * n
 tasks-most h first zero seed each = omega arith
 tasks-most h first (suc n) seed each =
     let here = task-most h first (number_after seed) each.0 in
     let more = tasks-most h (first + 1) n (number_after seed) each.1 in
     omega arith
 
-number-new : (n first : ℕ) (jobs : List Transfer) → n < first → has_number (numbered first jobs) n ≡ false
+number-new : (n first : ℕ) (jobs : List PlainTransfer) → n < first → has_number (numbered first jobs) n ≡ false
 number-new n first [] below = refl
 number-new n first (job ∷ jobs) below =
     (λ i. ne_eqb n first (λ same. omega (arith, same)) i || number-new n (first + 1) jobs (omega arith) i)
 
-distinct-numbered : (first : ℕ) (jobs : List Transfer) → AreDistinct (numbered first jobs)
+distinct-numbered : (first : ℕ) (jobs : List PlainTransfer) → AreDistinct (numbered first jobs)
 distinct-numbered first [] = tt
 distinct-numbered first (job ∷ jobs) = (number-new first (first + 1) jobs (omega arith), distinct-numbered (first + 1) jobs)
 
@@ -103,7 +103,7 @@ boundary-most records lsn is =
     omega (arith, longer, found.3)
 
 module _ (n seed : ℕ) (few : n ≤ 100000) (jobs : Jobs) (script : jobs.script ≡ generated_jobs n seed) where
-  next-most : (worker k total : ℕ) (h : List Entry) → place_of jobs worker k < length jobs.script → HasNextOf jobs worker k total h → total ≤ 5
+  next-most : (worker k total : ℕ) (h : List Placed) → place_of jobs worker k < length jobs.script → HasNextOf jobs worker k total h → total ≤ 5
   next-most worker k total h inside next =
       let found = generated-at n seed (place_of jobs worker k) (record { legs = []; note = None }) (omega (arith, inside, ap length script)) in
       let job : job_at jobs worker k ≡ job_from found.0 =

@@ -5,7 +5,7 @@ use Rattle.std.proofs.lemmas.List.{append-nil, length-map, map-append, take_more
 use Rattle.std.proofs.lemmas.List.Elements.{All-tail}
 use Rattle.std.proofs.lemmas.Option.{get_or_from_slice_get, slice_get_within}
 use Rattle.log_record.specs.declared.limits.TheConstants.{MOST_ACCOUNTS}
-use Rattle.log_record.specs.declared.rec.Entry.{Entry}
+use Rattle.log_record.specs.declared.rec.Placed.{Placed}
 use Rattle.log_record.specs.declared.rec.Rec.TheVariants.{Genesis}
 use Rattle.log_record.specs.LogList.{units_of, end_of}
 use Rattle.log_record.specs.Spelling.{spelling, IsBalance, IsSpellable}
@@ -59,19 +59,19 @@ pub end_of-rows_below : (account : ℕ) (rows : List (ℕ × ℕ)) → account �
 end_of-rows_below account rows within =
     let counted = end_of-genesis 0 (balances_below account rows) in let below = length-below account rows within in omega arith
 
-abbrev AreGenesis : List Entry → Type 0
-AreGenesis h = AllByRecursion (λ (entry : Entry). IsGenesis entry.rec) h
+abbrev AreGenesis : List Placed → Type 0
+AreGenesis h = AllByRecursion (λ (entry : Placed). IsGenesis entry.rec) h
 
 -- the rows of accounts without a commit
 abbrev pub opening_rows : List ℕ → List (ℕ × ℕ)
 opening_rows balances = map (λ balance. (balance, 0)) balances
 
 -- a history is lawful, and these rows are its accounts
-record Opens (h : List Entry) (rows : List (ℕ × ℕ)) : Type 0 where
+record Opens (h : List Placed) (rows : List (ℕ × ℕ)) : Type 0 where
   pub lawful : IsLawful h
   pub kept : KeepsRows rows (genesis_of h) h
 
-opens-more : (h : List Entry) (rows : List (ℕ × ℕ)) (account : ℕ) (balances : List ℕ) → AreGenesis h → account ≡ length h
+opens-more : (h : List Placed) (rows : List (ℕ × ℕ)) (account : ℕ) (balances : List ℕ) → AreGenesis h → account ≡ length h
     → AllByRecursion IsBalance balances → Opens h rows → Opens (history_from 0 h (genesis_from account balances)) (rows ++ opening_rows balances)
 opens-more h rows account [] all next range opened = subst (Opens h) (sym (append-nil rows)) opened
 opens-more h rows account (balance ∷ balances) all next range opened =

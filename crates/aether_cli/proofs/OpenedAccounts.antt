@@ -3,7 +3,7 @@ use Rattle.std.proofs.Common.{◌≡◌, ◌≤◌, ◌<◌, ◌&&◌, refl, ap,
 use Rattle.std.specs.List.{AllByRecursion}
 use Rattle.std.proofs.lemmas.Option.{get_or_from_slice_get}
 use Rattle.log_record.specs.declared.limits.TheConstants.{MOST_ACCOUNTS}
-use Rattle.log_record.specs.declared.rec.Entry.{Entry}
+use Rattle.log_record.specs.declared.rec.Placed.{Placed}
 use Rattle.log_record.specs.declared.rec.Rec.{Rec}
 use Rattle.log_record.specs.declared.rec.Rec.TheVariants.{Genesis, Update, Commit, Short, Over, Note}
 use Rattle.log_record.specs.LogList.{units_of, end_of}
@@ -23,13 +23,13 @@ use Rattle.log_table.specs.declared.table.Start.{Start}
 use Rattle.log_table.specs.Opening.{HasAccounts}
 use Rattle.segment_file.specs.File.{HoldsUnits, IsCountedBatch, joined}
 
-abbrev IsSpelled : List Entry → Type 0
-IsSpelled h = AllByRecursion (λ (entry : Entry). IsSpellable entry.rec) h
+abbrev IsSpelled : List Placed → Type 0
+IsSpelled h = AllByRecursion (λ (entry : Placed). IsSpellable entry.rec) h
 
-abbrev EndWithin : ℕ → List Entry → Type 0
-EndWithin n h = AllByRecursion (λ (entry : Entry). entry.end ≤ n) h
+abbrev EndWithin : ℕ → List Placed → Type 0
+EndWithin n h = AllByRecursion (λ (entry : Placed). entry.end ≤ n) h
 
-some-lawful : (h : List Entry) → IsLawful h → 0 < length h → 0 < (genesis_of h).accounts
+some-lawful : (h : List Placed) → IsLawful h → 0 < length h → 0 < (genesis_of h).accounts
 some-lawful [] lawful some = absurd (omega arith)
 some-lawful (entry ∷ h) lawful some = by_kind entry.rec lawful.0.0 (some-lawful h lawful.1)
   where
@@ -41,7 +41,7 @@ some-lawful (entry ∷ h) lawful some = by_kind entry.rec lawful.0.0 (some-lawfu
     by_kind (Over txn leg) opens before = before opens
     by_kind (Note txn text) opens before = before opens
 
-few-lawful : (h : List Entry) → IsSpelled h → IsLawful h → (genesis_of h).accounts ≤ MOST_ACCOUNTS
+few-lawful : (h : List Placed) → IsSpelled h → IsLawful h → (genesis_of h).accounts ≤ MOST_ACCOUNTS
 few-lawful [] spelled lawful = omega arith
 few-lawful (entry ∷ h) spelled lawful = by_kind entry.rec spelled.0 lawful.0.0 (few-lawful h spelled.1 lawful.1)
   where
@@ -54,7 +54,7 @@ few-lawful (entry ∷ h) spelled lawful = by_kind entry.rec spelled.0 lawful.0.0
     by_kind (Note txn text) own opens before = before
 
 -- no Genesis is a Commit on its account
-last-genesis : (h : List Entry) (account : ℕ) → (genesis_of h).last_commit account ≡ 0
+last-genesis : (h : List Placed) (account : ℕ) → (genesis_of h).last_commit account ≡ 0
 last-genesis [] account = refl
 last-genesis (entry ∷ h) account = by_kind entry.rec (last-genesis h account)
   where
@@ -66,7 +66,7 @@ last-genesis (entry ∷ h) account = by_kind entry.rec (last-genesis h account)
     by_kind (Over txn leg) before = before
     by_kind (Note txn text) before = before
 
-last-within : (base : BaseState) (h : List Entry) (account n : ℕ) → base.last_commit account ≤ n → EndWithin n h → last_commit_of base h account ≤ n
+last-within : (base : BaseState) (h : List Placed) (account n : ℕ) → base.last_commit account ≤ n → EndWithin n h → last_commit_of base h account ≤ n
 last-within base [] account n first within = first
 last-within base (entry ∷ h) account n first within =
     by_case (commits entry.rec && touches account (updates_of (txn_of entry.rec) h)) within.0 (last-within base h account n first within.1)
@@ -76,17 +76,17 @@ last-within base (entry ∷ h) account n first within =
     by_case false own before = before
 
 -- each record ends where the list does, or before
-ends-within : (h : List Entry) (records : List Rec) (n : ℕ) → EndWithin n h → end_from 0 h + end_of records ≤ n → EndWithin n (history_from 0 h records)
+ends-within : (h : List Placed) (records : List Rec) (n : ℕ) → EndWithin n h → end_from 0 h + end_of records ≤ n → EndWithin n (history_from 0 h records)
 ends-within h [] n within most = within
 ends-within h (rec ∷ records) n within most =
     let longer = length-append (spelling rec) (units_of records) in
     ends-within (entry_at (end_from 0 h) rec ∷ h) records n (omega (arith, longer, most), within) (omega (arith, longer, most))
 
-spelled-history : (h : List Entry) (records : List Rec) → IsSpelled h → AllByRecursion IsSpellable records → IsSpelled (history_from 0 h records)
+spelled-history : (h : List Placed) (records : List Rec) → IsSpelled h → AllByRecursion IsSpellable records → IsSpelled (history_from 0 h records)
 spelled-history h [] spelled each = spelled
 spelled-history h (rec ∷ records) spelled each = spelled-history (entry_at (end_from 0 h) rec ∷ h) records (each.0, spelled) each.1
 
-length-history : (h : List Entry) (records : List Rec) → length (history_from 0 h records) ≡ length h + length records
+length-history : (h : List Placed) (records : List Rec) → length (history_from 0 h records) ≡ length h + length records
 length-history h [] = omega arith
 length-history h (rec ∷ records) = let more = length-history (entry_at (end_from 0 h) rec ∷ h) records in omega arith
 

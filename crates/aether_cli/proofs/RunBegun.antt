@@ -9,7 +9,7 @@ use Rattle.log_record.specs.declared.rec.Rec.{Rec}
 use Rattle.log_record.specs.Spelling.{IsSpellable}
 use Rattle.log_recovery.specs.Recovery.{HoldsLawful}
 use Rattle.log_table.specs.declared.table.Start.{Start}
-use Rattle.lock_core.specs.Alone.{Job as Transfer, with_note, leg_updates}
+use Rattle.lock_core.specs.Alone.{PlainTransfer, with_note, leg_updates}
 use Rattle.lock_core.specs.Serial.{numbered, IsRunWhole, IsCutShort}
 use Rattle.lock_core.specs.Sums.{BaseState}
 use Rattle.segment_file.specs.declared.scan_result.Tail.{Tail}
@@ -21,7 +21,7 @@ use Rattle.aether_cli.proofs.RunHistory.{history-own}
 use Rattle.aether_cli.proofs.RunLedger.{goes-on}
 
 -- of no records, each transfer is cut short before its first
-partly-none : (base : BaseState) (first : ℕ) (jobs : List Transfer)
+partly-none : (base : BaseState) (first : ℕ) (jobs : List PlainTransfer)
     → AllByRecursion (λ task. IsRunWhole base [] task ⊎ IsCutShort [] task) (numbered first jobs)
 partly-none base first [] = tt
 partly-none base first (job ∷ jobs) =

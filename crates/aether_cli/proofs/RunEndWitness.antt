@@ -7,7 +7,7 @@ use lib.ListN.{get_elem?}
 use Rattle.lsn_space.specs.declared.lsn.TheConstants.{LAST}
 use Rattle.log_record.specs.declared.rec.Rec.{Rec}
 use Rattle.log_record.specs.declared.rec.Rec.TheVariants.{Update, Commit, Note}
-use Rattle.log_record.specs.declared.rec.Entry.{Entry as Placed}
+use Rattle.log_record.specs.declared.rec.Placed.{Placed}
 use Rattle.log_record.specs.LogList.{units_of, end_of}
 use Rattle.log_record.specs.Spelling.{spelling, IsSpellable, IsBalance, IsPrintable}
 use Rattle.lock_core.specs.History.{end_from, entry_at, history_from, history}
@@ -15,7 +15,7 @@ use Rattle.lock_core.specs.Lawful.{IsLawful, genesis_of}
 use Rattle.lock_core.specs.Records.{gain, loss}
 use Rattle.lock_core.specs.Settling.{row}
 use Rattle.lock_core.specs.Sums.{ShowsAccounts, balance_of, last_commit_of, greatest_txn, total}
-use Rattle.lock_core.specs.Transactions.{records_of, has_end}
+use Rattle.lock_core.specs.Transactions.{own_records_of, has_end}
 use Rattle.lock_core.specs.Witness.{genesis_log}
 use Rattle.lock_core.proofs.Fronts.{history_from-append}
 use Rattle.lock_core.proofs.ListLemmas.{all-append}
@@ -58,7 +58,7 @@ batches (suc n) = spelling note ∷ batches n
 record Stays (h : List Placed) : Type 0 where
   some : 0 < length h
   lawful : IsLawful h
-  unended : has_end (records_of 1 h) ≡ false
+  unended : has_end (own_records_of 1 h) ≡ false
   few : greatest_txn h ≤ 1
   count : (genesis_of h).accounts ≡ 2
   balance : (account : ℕ) → (genesis_of h).balance account ≡ (genesis_of (history genesis_log)).balance account

@@ -9,7 +9,7 @@ use native.Mathlib.Decide.{dec_lt}
 use lib.ListN.{get_elem?}
 use Rattle.lsn_space.specs.Tiling.{IsTiling}
 use Rattle.log_record.specs.declared.rec.Rec.{Rec}
-use Rattle.log_record.specs.declared.rec.Entry.{Entry as Placed}
+use Rattle.log_record.specs.declared.rec.Placed.{Placed}
 use Rattle.log_record.specs.LogList.{units_of, end_of}
 use Rattle.log_record.proofs.LogListLemmas.{front_is_boundary}
 use Rattle.lock_core.specs.Alone.{outcome_alone}
@@ -17,8 +17,8 @@ use Rattle.lock_core.specs.History.{history}
 use Rattle.lock_core.specs.Records.{without_prev}
 use Rattle.lock_core.specs.Serial.{Task, HasNoOthers}
 use Rattle.lock_core.specs.Sums.{greatest_txn}
-use Rattle.lock_core.specs.Transactions.{recs_of, records_of as own_records_of, has_end, all_without_prev, in_order}
-use Rattle.lock_core.proofs.NextRecords.{records_of-own, has_end-own, unended-next, planned-next, size-without_prev}
+use Rattle.lock_core.specs.Transactions.{recs_of, own_records_of, has_end, all_without_prev, in_order}
+use Rattle.lock_core.proofs.NextRecords.{own_records_of-own, has_end-own, unended-next, planned-next, size-without_prev}
 use Rattle.log_recovery.proofs.ListingLemmas.{units_of-append}
 use Rattle.log_table.specs.declared.view.Entry.{Entry}
 use Rattle.log_table.specs.declared.view.View.{View}
@@ -111,7 +111,7 @@ module _ (opened : List Rec) (jobs : Jobs) (view : View) (below : greatest_txn (
       let n : ℕ = number_at jobs worker j in
       let transfer = transfer_of (job_at jobs worker j) in
       let plan : in_order (own_records_of n later) (ends.next ∷ ends.rest) ≡ own_records n view.entries ++ ends.next ∷ ends.rest =
-      records_of-own n (end_of opened) [] list (ends.next ∷ ends.rest) in
+      own_records_of-own n (end_of opened) [] list (ends.next ∷ ends.rest) in
       record {
         outcome = outcome_alone transfer ends.balances;
         next = without_prev ends.next;

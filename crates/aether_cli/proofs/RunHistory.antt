@@ -2,20 +2,20 @@
 use Rattle.std.proofs.Common.{◌≡◌, ◌≢◌, ◌<◌, ℕ, List, [], ◌∷◌, ◌++◌, ap, ◌∙◌, arith}
 use Rattle.std.specs.List.{AllByRecursion}
 use Rattle.log_record.specs.declared.rec.Rec.{Rec}
-use Rattle.log_record.specs.declared.rec.Entry.{Entry}
+use Rattle.log_record.specs.declared.rec.Placed.{Placed}
 use Rattle.log_record.specs.LogList.{end_of}
 use Rattle.log_record.specs.Spelling.{IsSpellable}
 use Rattle.lock_core.specs.Records.{txn_of}
 use Rattle.lock_core.specs.Sums.{greatest_txn}
-use Rattle.lock_core.specs.Transactions.{of_transaction, records_of}
-use Rattle.lock_core.proofs.Apart.{records_of-left, of_transaction-none, below-greatest}
+use Rattle.lock_core.specs.Transactions.{of_transaction, own_records_of}
+use Rattle.lock_core.proofs.Apart.{own_records_of-left, of_transaction-none, below-greatest}
 use Rattle.lock_core.proofs.OneMore.{of_transaction-other}
 use Rattle.lock_core.specs.History.{end_from, entry_at, history_from, history}
 use Rattle.lock_core.proofs.Fronts.{history_from-append, history_from-apart}
 use Rattle.log_recovery.proofs.ListingLemmas.{end_from-history}
 
 -- what follows the opened list
-abbrev pub later_of : List Rec → List Rec → List Entry
+abbrev pub later_of : List Rec → List Rec → List Placed
 later_of opened records = history_from (end_of opened) [] records
 
 pub end-opened : (opened : List Rec) → end_from 0 (history opened) ≡ end_of opened
@@ -28,31 +28,31 @@ history-later opened records =
 
 -- of a transaction above all of the opened list the whole has what follows that list
 pub history-own : (opened records : List Rec) (n : ℕ) → greatest_txn (history opened) < n
-    → records_of n (history (opened ++ records)) ≡ records_of n (later_of opened records)
-history-own opened records n below = ap (records_of n) (history-later opened records)
-    ∙ records_of-left n (later_of opened records) (history opened)
+    → own_records_of n (history (opened ++ records)) ≡ own_records_of n (later_of opened records)
+history-own opened records n below = ap (own_records_of n) (history-later opened records)
+    ∙ own_records_of-left n (later_of opened records) (history opened)
     (of_transaction-none n (history opened) (other (history opened) (below-greatest (history opened) n below)))
   where
-    other : (h : List Entry) → AllByRecursion (λ (entry : Entry). txn_of entry.rec < n) h → AllByRecursion (λ (entry : Entry). n ≢ txn_of entry.rec) h
+    other : (h : List Placed) → AllByRecursion (λ (entry : Placed). txn_of entry.rec < n) h → AllByRecursion (λ (entry : Placed). n ≢ txn_of entry.rec) h
     other [] all = tt
     other (entry ∷ h) all = (λ same. let low = all.0 in omega arith, other h all.1)
 
 -- records of other transactions bring it no entry
-pub history-others : (n start : ℕ) (h : List Entry) (records : List Rec) → AllByRecursion (λ (rec : Rec). txn_of rec ≢ n) records
+pub history-others : (n start : ℕ) (h : List Placed) (records : List Rec) → AllByRecursion (λ (rec : Rec). txn_of rec ≢ n) records
     → of_transaction n h ≡ [] → of_transaction n (history_from start h records) ≡ []
 history-others n start h [] others none = none
 history-others n start h (rec ∷ records) others none =
     history-others n start (entry_at (end_from start h) rec ∷ h) records others.1 (of_transaction-other n (entry_at (end_from start h) rec) h others.0 ∙ none)
 
 -- more records stand before
-pub later-append : (opened front rest : List Rec) → (more : List Entry) × (later_of opened (front ++ rest) ≡ more ++ later_of opened front)
+pub later-append : (opened front rest : List Rec) → (more : List Placed) × (later_of opened (front ++ rest) ≡ more ++ later_of opened front)
 later-append opened front rest = (
   history_from (end_from (end_of opened) (later_of opened front)) [] rest,
   history_from-append (end_of opened) [] front rest ∙ history_from-apart (end_of opened) (later_of opened front) rest,
 )
 
 -- the entries of spellable records are spellable
-pub spellable-history : (start : ℕ) (h : List Entry) (records : List Rec) → AllByRecursion (λ (entry : Entry). IsSpellable entry.rec) h
-    → AllByRecursion IsSpellable records → AllByRecursion (λ (entry : Entry). IsSpellable entry.rec) (history_from start h records)
+pub spellable-history : (start : ℕ) (h : List Placed) (records : List Rec) → AllByRecursion (λ (entry : Placed). IsSpellable entry.rec) h
+    → AllByRecursion IsSpellable records → AllByRecursion (λ (entry : Placed). IsSpellable entry.rec) (history_from start h records)
 spellable-history start h [] all each = all
 spellable-history start h (rec ∷ records) all each = spellable-history start (entry_at (end_from start h) rec ∷ h) records (each.0, all) each.1

@@ -6,7 +6,7 @@ use Rattle.std.proofs.lemmas.Option.{get_or_from_slice_get}
 use mathlib.Core.Logic.{dite}
 use native.Mathlib.Decide.{dec_lt}
 use Rattle.log_record.specs.declared.rec.Rec.{Rec}
-use Rattle.log_record.specs.declared.rec.Entry.{Entry as Placed}
+use Rattle.log_record.specs.declared.rec.Placed.{Placed}
 use Rattle.log_record.specs.LogList.{end_of}
 use Rattle.log_record.specs.Spelling.{IsSpellable}
 use Rattle.lock_core.specs.History.{end_from, history}
@@ -16,7 +16,7 @@ use Rattle.lock_core.specs.Serial.{Task, IsPartlySerialAfter}
 use Rattle.lock_core.specs.Settling.{row, KeepsRows}
 use Rattle.lock_core.specs.Soundness.{IsSoundAfter}
 use Rattle.lock_core.specs.Sums.{BaseState, ShowsAccounts, balance_of, last_commit_of, greatest_txn}
-use Rattle.lock_core.specs.Transactions.{records_of as own_records_of, has_end, ShareNoTransaction}
+use Rattle.lock_core.specs.Transactions.{own_records_of, has_end, ShareNoTransaction}
 use Rattle.lock_core.proofs.Apart.{share_none-numbers, below-greatest, none-shared}
 use Rattle.lock_core.proofs.Appending.{balance_of-append, last_commit_of-append, genesis_of-append, lawful-append}
 use Rattle.lock_core.proofs.Fronts.{lawful_after-front}

@@ -1,7 +1,7 @@
 -- Units and records of a run: where units are cut that are records, the records are cut, and the table's entries are records.
 use Rattle.std.proofs.Common.{◌≡◌, ⊎_elim, ℕ, ◌+◌, List, [], ◌∷◌, ◌++◌, length, refl, ap, ◌∙◌, sym, arith, append_assoc, length-append}
 use Rattle.std.specs.List.{AllByRecursion}
-use Rattle.lsn_space.specs.Tiling.{IsTiling, IsBoundary}
+use Rattle.lsn_space.specs.Tiling.{IsTiling, IsTilingBoundary}
 use Rattle.log_record.specs.declared.rec.Rec.{Rec}
 use Rattle.log_record.specs.LogList.{units_of, end_of, size_of}
 use Rattle.log_record.specs.Spelling.{spelling, IsSpellable}
@@ -47,7 +47,7 @@ tiling-end from to (entry ∷ entries) full spelled tiles =
 
 -- a boundary of the entries is one of their records, which begin behind others
 pub boundary-front : (at from : ℕ) (entries : List Entry) → AllByRecursion IsFull entries → AllByRecursion IsSpelled entries
-    → IsBoundary (λ (entry : Entry). entry.size) from entries at
+    → IsTilingBoundary (λ (entry : Entry). entry.size) from entries at
     → (front rest : List Rec) × (records_of entries ≡ front ++ rest) × (at ≡ from + end_of front)
 boundary-front at from [] full spelled is = ([], [], refl, omega (arith, is))
 boundary-front at from (entry ∷ entries) full spelled is = ⊎_elim

@@ -13,7 +13,7 @@ use Rattle.lock_core.specs.History.{history}
 use Rattle.lock_core.specs.Records.{txn_of}
 use Rattle.lock_core.specs.Serial.{HasNoOthers}
 use Rattle.lock_core.specs.Sums.{greatest_txn}
-use Rattle.lock_core.specs.Transactions.{of_transaction, recs_of, records_of as own_records_of, has_end}
+use Rattle.lock_core.specs.Transactions.{of_transaction, recs_of, own_records_of, has_end}
 use Rattle.lock_core.proofs.Apart.{of_transaction-older}
 use Rattle.lock_core.proofs.NextRecords.{has_end-own}
 use Rattle.log_table.specs.declared.view.Entry.{Entry}

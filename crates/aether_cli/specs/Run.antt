@@ -6,13 +6,13 @@ use Rattle.log_disk.specs.Disk.{Leaves}
 use Rattle.log_disk.specs.Streams.{AppendsPrefix}
 use Rattle.log_disk.specs.declared.disk.LogDisk.{Ghosts}
 use Rattle.log_record.specs.declared.rec.Rec.{Rec}
-use Rattle.log_record.specs.declared.rec.Entry.{Entry}
+use Rattle.log_record.specs.declared.rec.Placed.{Placed}
 use Rattle.log_record.specs.LogList.{end_of}
-use Rattle.lock_core.specs.Alone.{Job as Transfer}
+use Rattle.lock_core.specs.Alone.{PlainTransfer}
 use Rattle.lock_core.specs.History.{history}
 use Rattle.lock_core.specs.Serial.{IsSerial, IsPartlySerial}
 use Rattle.lock_core.specs.Soundness.{IsSoundAfter}
-use Rattle.lock_core.specs.Transactions.{records_of}
+use Rattle.lock_core.specs.Transactions.{own_records_of}
 use Rattle.log_recovery.specs.Recovery.{HoldsLawful}
 use Rattle.log_recovery.specs.Text.{accounts_text, rows_text}
 use Rattle.txn_script.specs.Transfers.{transfer_of}
@@ -23,12 +23,12 @@ use Rattle.txn_runner.specs.Stripes.{number_at}
 use Rattle.aether_cli.specs.RunStops.{EndsAs}
 
 -- the transfers of the script
-abbrev pub transfers_of : Jobs → List Transfer
+abbrev pub transfers_of : Jobs → List PlainTransfer
 transfers_of jobs = map transfer_of jobs.script
 
 -- The transfers of each worker come one behind another: where one has a record, each before it in the worker's stripe has its end record.
-abbrev pub ComeInTurn : Jobs → List Entry → Type 0
-ComeInTurn jobs h = (worker i j : ℕ) → worker < jobs.workers → i < j → records_of (number_at jobs worker j) h ≢ [] → EndsAs jobs worker i h true
+abbrev pub ComeInTurn : Jobs → List Placed → Type 0
+ComeInTurn jobs h = (worker i j : ℕ) → worker < jobs.workers → i < j → own_records_of (number_at jobs worker j) h ≢ [] → EndsAs jobs worker i h true
 
 -- the list goes on from the opened one as the script says: each transfer ran whole, or was cut short, each worker's in turn
 pub record GoesOn (opened : List Rec) (jobs : Jobs) (records : List Rec) : Type 0 where

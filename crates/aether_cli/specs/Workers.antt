@@ -12,7 +12,7 @@ use Rattle.ring_buffer.specs.Calls.{IsReady}
 use Rattle.txn_runner.specs.declared.cause.Worked.{Worked}
 use Rattle.txn_runner.specs.declared.jobs.Jobs.{Jobs}
 use Rattle.txn_runner.specs.Stripes.{stripe_jobs}
-use Rattle.txn_runner.specs.Working.{HasWorked, HasRoom, Works, rows_in, taken_in}
+use Rattle.txn_runner.specs.Working.{HasWorked, HasRoomForRows, Works, rows_in, taken_in}
 use Rattle.aether_cli.specs.declared.serving.Started.{Started}
 use Rattle.aether_cli.specs.declared.serving.Started.TheVariants.{Running, Refused}
 use Rattle.aether_cli.specs.declared.workers.Worker.{Worker}
@@ -47,7 +47,7 @@ pub record IsHired (table : LogTable) (jobs : Jobs) (worker : Worker) : Type 0 w
   pub below : worker.seat.worker < jobs.workers
   pub entries : (view_of worker.seat).entries ≡ []
   pub books : (view_of worker.seat).books ≡ no_books
-  pub room : HasRoom jobs worker.seat.worker worker.rows
+  pub room : HasRoomForRows jobs worker.seat.worker worker.rows
   pub rows : rows_in worker.rows ≡ []
   pub taken : taken_in worker.rows ≡ 0
 

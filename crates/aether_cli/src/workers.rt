@@ -1,7 +1,7 @@
 //! Workers of a run, and how each is made.
 ghost use Rattle.std.specs.Prelude.{◌≡◌, ◌+◌, ◌<◌, ◌≤◌, [], ℕ, IfOk, OnOk, vec_len};
 ghost use Rattle.txn_runner.specs.Stripes.{HasStripe};
-ghost use Rattle.txn_runner.specs.Working.{HasRoom, rows_in, taken_in};
+ghost use Rattle.txn_runner.specs.Working.{HasRoomForRows, rows_in, taken_in};
 ghost use Rattle.aether_cli.specs.Workers.{AreUnused, HasHired, IsUnused};
 
 use crate::room::room_for;
@@ -28,7 +28,7 @@ pub(crate) fn hire(
 ) -> Worker
     requires boss { HasHired table.now number boss.old }
     requires number { number < jobs.now.workers }
-    requires room { HasRoom jobs.now number rows }
+    requires room { HasRoomForRows jobs.now number rows }
     requires rows { rows_in rows ≡ [] }
     requires taken { taken_in rows ≡ 0 }
     ensures boss { HasHired table.now (number + 1) boss.new }

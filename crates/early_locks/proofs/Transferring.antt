@@ -4,7 +4,7 @@ use Rattle.std.proofs.lemmas.List.{append_assoc}
 use Rattle.std.specs.List.{AllByRecursion}
 use Rattle.log_record.specs.declared.rec.Rec.{Rec}
 use Rattle.log_record.specs.declared.rec.Rec.TheVariants.{Update, Commit, Short, Over}
-use Rattle.log_record.specs.declared.rec.Entry.{Entry}
+use Rattle.log_record.specs.declared.rec.Placed.{Placed}
 use Rattle.log_record.specs.Spelling.{IsTxn, IsSpellable, spelling}
 use Rattle.log_record.specs.declared.limits.TheConstants.{MOST_ACCOUNTS, MOST_BALANCE}
 use Rattle.lsn_space.specs.declared.lsn.TheConstants.{LAST}
@@ -83,7 +83,7 @@ module _ (number : ℕ) (transfer : Transfer) (payer payee : Taken) (enough : tr
   abbrev commit : Rec
   commit = Commit number 1
 
-  module _ (placed : List Entry) (books : Books) (moving : IsMoving number transfer payer payee placed books) where
+  module _ (placed : List Placed) (books : Books) (moving : IsMoving number transfer payer payee placed books) where
     payer-balance : balance_taken books.held transfer.payer ≡ payer.balance
     payer-balance = ap (balance_taken books.held) (sym moving.payer_is) ∙ moving.payer_held.balance
 
@@ -126,7 +126,7 @@ module _ (number : ℕ) (transfer : Transfer) (payer payee : Taken) (enough : tr
     }
 
 -- a record of the transfer has its place
-pub moving-placed : (number : ℕ) (transfer : Transfer) (payer payee : Taken) (placed : List Entry) (books new : Books) (rec : Rec) (end : ℕ)
+pub moving-placed : (number : ℕ) (transfer : Transfer) (payer payee : Taken) (placed : List Placed) (books new : Books) (rec : Rec) (end : ℕ)
     → IsMoving number transfer payer payee placed books → new ≡ placing end rec books → IsMoving number transfer payer payee (record { end = end; rec = rec } ∷ placed) new
 moving-placed number transfer payer payee placed books new rec end moving is =
     subst (IsMoving number transfer payer payee (record { end = end; rec = rec } ∷ placed)) (sym is) record {
@@ -180,7 +180,7 @@ put-is rec old middle new run n before next end inserted size = record {
 }
 
 -- a record of the transfer is inserted
-pub put-moves : (number : ℕ) (transfer : Transfer) (payer payee : Taken) (placed : List Entry) (rec is : Rec) (old new : Seat) (run : Run) → is ≡ rec
+pub put-moves : (number : ℕ) (transfer : Transfer) (payer payee : Taken) (placed : List Placed) (rec is : Rec) (old new : Seat) (run : Run) → is ≡ rec
     → HasPut is old new run → IsMoving number transfer payer payee placed (view_of old).books
     → IsMoving number transfer payer payee (record { end = run.end; rec = rec } ∷ placed) (view_of new).books
 put-moves number transfer payer payee placed rec is old new run same put moving = moving-placed number transfer payer payee placed _ _ rec run.end moving

@@ -3,7 +3,7 @@ use Rattle.std.specs.Prelude.{◌≡◌, ◌≢◌, ◌⊎◌, ℕ, ◌<◌, ◌
 use Rattle.lsn_space.specs.declared.lsn.TheConstants.{LAST}
 use Rattle.log_record.specs.declared.rec.Rec.{Rec}
 use Rattle.log_record.specs.declared.rec.Rec.TheVariants.{Update, Commit}
-use Rattle.log_record.specs.declared.rec.Entry.{Entry}
+use Rattle.log_record.specs.declared.rec.Placed.{Placed}
 use Rattle.log_record.specs.Spelling.{IsSpellable, spelling}
 use Rattle.log_record.specs.declared.limits.TheConstants.{MOST_BALANCE}
 use Rattle.lock_core.specs.History.{end_from}
@@ -13,7 +13,7 @@ use Rattle.log_table.specs.declared.view.TakenJob.{TakenJob}
 use Rattle.log_table.specs.declared.view.Held.{Held}
 use Rattle.log_table.specs.declared.view.Given.{Given}
 use Rattle.log_table.specs.declared.view.Books.{Books}
-use Rattle.log_table.specs.declared.view.Entry.{Entry as TableEntry}
+use Rattle.log_table.specs.declared.view.Entry.{Entry}
 use Rattle.log_table.specs.declared.view.View.{View}
 use Rattle.log_table.specs.declared.table.Seat.{Seat}
 use Rattle.log_table.specs.Books.{IsNext, HoldsAccounts, placing}
@@ -22,7 +22,7 @@ use Rattle.ring_buffer.specs.Calls.{HasEntries, entry_of}
 use Rattle.early_locks.specs.Locks.{HoldsTaken, GivesBack}
 use Rattle.early_locks.specs.declared.one_transfer.Transfer.{Transfer}
 use Rattle.early_locks.specs.declared.one_transfer.Committed.{Committed}
-use Rattle.early_locks.specs.declared.one_transfer.Placed.{Placed}
+use Rattle.early_locks.specs.declared.one_transfer.Places.{Places}
 use Rattle.early_locks.specs.declared.one_transfer.Run.{Run}
 use Rattle.early_locks.specs.declared.taking.Taken.{Taken}
 
@@ -57,7 +57,7 @@ pub record MayPut (rec : Rec) (books : Books) : Type 0 where
   pub spellable : IsSpellable rec
 
 -- the seat took the transfer last, holds its two accounts and no other, and placed these records of it
-pub record IsMoving (number : ℕ) (transfer : Transfer) (payer payee : Taken) (placed : List Entry) (books : Books) : Type 0 where
+pub record IsMoving (number : ℕ) (transfer : Transfer) (payer payee : Taken) (placed : List Placed) (books : Books) : Type 0 where
   pub last : books.last ≡ taken_job number transfer
   pub placed_is : books.placed ≡ placed
   pub payer_is : payer.account ≡ transfer.payer
@@ -79,12 +79,12 @@ pub record HasPut (rec : Rec) (old new : Seat) (run : Run) : Type 0 where
   pub entries : HasEntries old new ((view_of old).entries ++ entry_of run.start rec ∷ []) (placing run.end rec (view_of old).books)
 
 -- the transfer's records, where they start
-abbrev pub entries_of : ℕ → Transfer → Taken → Taken → Placed → List TableEntry
+abbrev pub entries_of : ℕ → Transfer → Taken → Taken → Places → List Entry
 entries_of number transfer payer payee placed = entry_of placed.loss (loss_of number transfer payer)
     ∷ entry_of placed.gain (gain_of number transfer payee) ∷ entry_of placed.commit (Commit number 1) ∷ []
 
 -- the three records are inserted behind those entries, here
-pub record HasMoved (number : ℕ) (transfer : Transfer) (payer payee : Taken) (entries : List TableEntry) (view : View) (placed : Placed) : Type 0 where
+pub record HasMoved (number : ℕ) (transfer : Transfer) (payer payee : Taken) (entries : List Entry) (view : View) (placed : Places) : Type 0 where
   pub loss_end : ℕ
   pub gain_end : ℕ
   pub moving : IsMoving number transfer payer payee (record { end = placed.end; rec = Commit number 1 }
@@ -94,7 +94,7 @@ pub record HasMoved (number : ℕ) (transfer : Transfer) (payer payee : Taken) (
 
 -- the Commit is not placed
 pub record HasStopped (number : ℕ) (transfer : Transfer) (payer payee : Taken) (books : Books) : Type 0 where
-  pub placed : List Entry
+  pub placed : List Placed
   pub moving : IsMoving number transfer payer payee placed books
   pub uncommitted : has_commit (recs_of placed) ≡ false
 
@@ -128,7 +128,7 @@ pub record MeetsEnd (units : ℕ) (old new : View) : Type 0 where
   pub told : Contains new.seen.lsns new.seen.tail
 
 -- the units of the next record behind those that the log has of the transfer: its two Updates have two each, its Commit has one
-abbrev pub units_behind : List Entry → ℕ
+abbrev pub units_behind : List Placed → ℕ
 units_behind [] = 2
 units_behind (loss ∷ []) = 2
 units_behind (gain ∷ loss ∷ placed) = 1

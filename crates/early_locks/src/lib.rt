@@ -12,6 +12,6 @@ mod tests;
 
 pub use giving::{give, give_durable};
 pub use one_transfer::{
-    Committed, Placed, Transfer, commit_transfer, give_back, give_back_durable,
+    Committed, Places, Transfer, commit_transfer, give_back, give_back_durable,
 };
 pub use taking::{Held, Taken, try_take};

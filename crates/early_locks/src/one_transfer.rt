@@ -71,7 +71,7 @@ impl Transfer {
 
 /// Where the Updates of payer and payee start, where the Commit does, and where that ends.
 #[derive(Clone, Copy, Debug)]
-pub struct Placed {
+pub struct Places {
     pub loss: Lsn,
     pub gain: Lsn,
     pub commit: Lsn,
@@ -85,11 +85,11 @@ pub struct Committed {
     payer_balance: u32,
     payee: Taken,
     payee_balance: u32,
-    placed: Placed,
+    placed: Places,
 }
 
 impl Committed {
-    pub fn placed(&self) -> Placed
+    pub fn placed(&self) -> Places
         ensures { result ≡ self.now.placed }
     {
         self.placed
@@ -273,7 +273,7 @@ fn put_records<R: Wait, G: Gate>(
     transfer: Transfer,
     both: &Both,
     gate: &G,
-) -> Option<Placed>
+) -> Option<Places>
     requires seat { IsOf table.now seat.old }
     requires ready { IsReady (view_of seat.old) }
     requires number { IsTxn number }
@@ -301,7 +301,7 @@ fn put_records<R: Wait, G: Gate>(
     let loss = put(rt, table, seat, &transfer.loss(number, &both.payer), gate)?;
     let gain = put(rt, table, seat, &transfer.gain(number, &both.payee), gate)?;
     let last = put(rt, table, seat, &commit, gate)?;
-    Some(Placed {
+    Some(Places {
         loss: loss.start,
         gain: gain.start,
         commit: last.start,

@@ -4,12 +4,12 @@ use Rattle.std.specs.List.{AllByRecursion}
 use mathlib.Core.Logic.{dite}
 use native.Mathlib.Decide.{ℕ_discrete}
 use Rattle.log_record.specs.declared.rec.Rec.{Rec}
-use Rattle.log_record.specs.declared.rec.Entry.{Entry}
+use Rattle.log_record.specs.declared.rec.Placed.{Placed}
 use Rattle.log_record.specs.declared.rec.Rec.TheVariants.{Genesis, Update, Commit, Short, Over, Note}
 use Rattle.log_record.specs.Spelling.{IsSpellable}
 use Rattle.lock_core.specs.declared.update.Change.{Change}
 use Rattle.lock_core.specs.Records.{txn_of, commits, gain, loss}
-use Rattle.lock_core.specs.Transactions.{records_of, updates_of, has_end}
+use Rattle.lock_core.specs.Transactions.{own_records_of, updates_of, has_end}
 use Rattle.lock_core.specs.Sums.{BaseState, moved, total, IsBalanceOf, balance_of, sum_below}
 use Rattle.lock_core.specs.Lawful.{IsLawful, genesis_of}
 use Rattle.lock_core.proofs.Meeting.{MeetsTests, AreMet, met-log}
@@ -55,20 +55,20 @@ sum_below-moved n side (change ∷ changes) known =
     let more = sum_below-moved n side changes known.1 in
     let both = sum_below-add n (λ a. cond (change.account == a) (side change.delta) 0) (λ a. moved side a changes) in omega arith
 
-abbrev IsConserved : BaseState → List Entry → Type 0
+abbrev IsConserved : BaseState → List Placed → Type 0
 IsConserved base h = sum_below base.accounts (λ a. total gain a h) ≡ sum_below base.accounts (λ a. total loss a h)
 
-conserved-same : (base : BaseState) (h h' : List Entry) → ((side : ℤ → ℕ) (a : ℕ) → total side a h' ≡ total side a h) → IsConserved base h → IsConserved base h'
+conserved-same : (base : BaseState) (h h' : List Placed) → ((side : ℤ → ℕ) (a : ℕ) → total side a h' ≡ total side a h) → IsConserved base h → IsConserved base h'
 conserved-same base h h' same before =
     sum_below-same base.accounts (λ a. total gain a h') (λ a. total gain a h) (λ a below. same gain a) ∙ before
     ∙ sym (sum_below-same base.accounts (λ a. total loss a h') (λ a. total loss a h) (λ a below. same loss a))
 
-conserved-commit : (base : BaseState) (entry : Entry) (h : List Entry) (legs : ℕ) → commits entry.rec ≡ true → has_end (records_of (txn_of entry.rec) h) ≡ false
+conserved-commit : (base : BaseState) (entry : Placed) (h : List Placed) (legs : ℕ) → commits entry.rec ≡ true → has_end (own_records_of (txn_of entry.rec) h) ≡ false
     → length (updates_of (txn_of entry.rec) h) ≡ 2 * legs → AreMet base h → IsConserved base h → IsConserved base (entry ∷ h)
 conserved-commit base entry h legs is unended even met before =
     let updates : List Change = updates_of (txn_of entry.rec) h in
     let n : ℕ = base.accounts in
-    let uncommitted = has_commit-unended (records_of (txn_of entry.rec) h) unended in
+    let uncommitted = has_commit-unended (own_records_of (txn_of entry.rec) h) unended in
     let fits = updates_of-fits base h (txn_of entry.rec) met in
     let gains = sum_below-same n (λ a. total gain a (entry ∷ h)) (λ a. total gain a h + moved gain a updates) (λ a below. total-commit gain a entry h is uncommitted) in
     let losses = sum_below-same n (λ a. total loss a (entry ∷ h)) (λ a. total loss a h + moved loss a updates) (λ a below. total-commit loss a entry h is uncommitted) in
@@ -80,7 +80,7 @@ conserved-commit base entry h legs is unended even met before =
     let nothing = owed-even updates legs fits.paired even in
     omega arith
 
-pub total-conserved : (base : BaseState) (h : List Entry) → AreMet base h → IsConserved base h
+pub total-conserved : (base : BaseState) (h : List Placed) → AreMet base h → IsConserved base h
 total-conserved base [] met = refl
 total-conserved base (entry ∷ h) met = by_kind entry.rec entry.end met.0 (total-conserved base h met.1)
   where
@@ -89,7 +89,7 @@ total-conserved base (entry ∷ h) met = by_kind entry.rec entry.end met.0 (tota
         conserved-same base h (record { end = end; rec = Genesis account balance } ∷ h) (λ side a. total-empty side a (record { end = end; rec = Genesis account balance }) h refl refl)
     by_kind (Update txn account delta prev) end meets =
         conserved-same base h (record { end = end; rec = Update txn account delta prev } ∷ h)
-        (λ side a. total-plain side a (record { end = end; rec = Update txn account delta prev }) h refl (has_commit-unended (records_of txn h) meets.ended))
+        (λ side a. total-plain side a (record { end = end; rec = Update txn account delta prev }) h refl (has_commit-unended (own_records_of txn h) meets.ended))
     by_kind (Commit txn legs) end meets = conserved-commit base (record { end = end; rec = Commit txn legs }) h legs refl meets.ended meets.legs met.1
     by_kind (Short txn leg) end meets =
         conserved-same base h (record { end = end; rec = Short txn leg } ∷ h) (λ side a. total-empty side a (record { end = end; rec = Short txn leg }) h refl refl)
@@ -99,7 +99,7 @@ total-conserved base (entry ∷ h) met = by_kind entry.rec entry.end met.0 (tota
         conserved-same base h (record { end = end; rec = Note txn text } ∷ h) (λ side a. total-empty side a (record { end = end; rec = Note txn text }) h refl refl)
 
 -- the balances have the sum of those of the base state
-pub sum_below-balances : (base : BaseState) (h : List Entry) (balance : ℕ → ℕ) → AreMet base h
+pub sum_below-balances : (base : BaseState) (h : List Placed) (balance : ℕ → ℕ) → AreMet base h
     → ((a : ℕ) → a < base.accounts → IsBalanceOf base h a (balance a)) → sum_below base.accounts balance ≡ sum_below base.accounts base.balance
 sum_below-balances base h balance met balances =
     let conserved = total-conserved base h met in
@@ -108,7 +108,7 @@ sum_below-balances base h balance met balances =
     let each = sum_below-same base.accounts (λ a. balance a + total loss a h) (λ a. base.balance a + total gain a h) balances in
     omega arith
 
-pub sum_below-log : (h : List Entry) → AllByRecursion (λ (entry : Entry). IsSpellable entry.rec) h → IsLawful h
+pub sum_below-log : (h : List Placed) → AllByRecursion (λ (entry : Placed). IsSpellable entry.rec) h → IsLawful h
     → sum_below (genesis_of h).accounts (balance_of (genesis_of h) h) ≡ sum_below (genesis_of h).accounts (genesis_of h).balance
 sum_below-log h spellable lawful = sum_below-balances (genesis_of h) h (balance_of (genesis_of h) h) (met-log h lawful)
     (λ a below. let found = in_range-log h spellable lawful a below in

@@ -7,20 +7,20 @@ use Rattle.std.proofs.lemmas.List.Elements.{All-from_recursion, recursion_from_A
 use mathlib.Core.Logic.{dite}
 use native.Mathlib.Decide.{ℕ_discrete}
 use Rattle.log_record.specs.declared.rec.Rec.{Rec}
-use Rattle.log_record.specs.declared.rec.Entry.{Entry}
+use Rattle.log_record.specs.declared.rec.Placed.{Placed}
 use Rattle.log_record.specs.LogList.{end_of, size_of}
 use Rattle.log_record.proofs.LogListLemmas.{end_of-cons}
 use Rattle.log_record.specs.declared.rec.Rec.TheVariants.{Genesis, Update, Commit, Short, Over, Note}
 use Rattle.log_record.specs.declared.limits.TheConstants.{MOST_BALANCE}
 use Rattle.lock_core.specs.History.{history_from}
 use Rattle.lock_core.specs.Records.{txn_of, ends, commits, changes_of, gain, loss}
-use Rattle.lock_core.specs.Transactions.{recs_of, records_of, has_commit, is_committed, all_without_prev, in_order}
+use Rattle.lock_core.specs.Transactions.{recs_of, own_records_of, has_commit, is_committed, all_without_prev, in_order}
 use Rattle.lock_core.specs.Sums.{BaseState, moved, moved_by, total, balance_of}
-use Rattle.lock_core.specs.Alone.{Job, IsAllowedLeg, IsAllowed, Done, ShortAt, OverAt, lacks, overfills, after_leg, outcome_from, with_note, leg_updates, outcome_records}
+use Rattle.lock_core.specs.Alone.{PlainTransfer, IsAllowedLeg, IsAllowedTransfer, Done, ShortAt, OverAt, lacks, overfills, after_leg, outcome_from, with_note, leg_updates, outcome_records}
 use Rattle.lock_core.specs.Serial.{Task, numbered, IsRunWhole, IsCutShort, HasNoOthers, IsSerialAfter, IsPartlySerialAfter}
 use Rattle.lock_core.specs.AnyOrder.{given, taken, legs_of, HasRoomFor, IsDoneIn, done_records, weight_of}
 use Rattle.lock_core.proofs.OneMore.{neither, of_transaction-same, has_commit-unended}
-use Rattle.lock_core.proofs.Apart.{records_of-right}
+use Rattle.lock_core.proofs.Apart.{own_records_of-right}
 use Rattle.lock_core.proofs.NextRecords.{size-without_prev}
 use Rattle.lock_core.proofs.Running.{has_end-front}
 use Rattle.lock_core.proofs.SerialFronts.{IsRunPartly, all-map, cut_short-end, has_end-without_prev, partly_serial-front, serial-partly}
@@ -90,24 +90,24 @@ legs_move-gain account (leg ∷ legs) =
     omega arith
 
 -- the transaction's records are its end record and those before
-records_of-run : (base : BaseState) (h : List Entry) (task : Task) (run : IsRunWhole base h task) → records_of task.number h ≡ run.end.rec ∷ records_of task.number run.front
-records_of-run base h task run =
-    ap (records_of task.number) run.whole
-    ∙ records_of-right task.number run.later (run.end ∷ run.front) run.last
+own_records_of-run : (base : BaseState) (h : List Placed) (task : Task) (run : IsRunWhole base h task) → own_records_of task.number h ≡ run.end.rec ∷ own_records_of task.number run.front
+own_records_of-run base h task run =
+    ap (own_records_of task.number) run.whole
+    ∙ own_records_of-right task.number run.later (run.end ∷ run.front) run.last
     ∙ ap recs_of (of_transaction-same task.number run.end run.front run.own)
 
 -- a transfer that is cut short is not committed
-uncommitted-cut : (h : List Entry) (task : Task) → IsCutShort h task → is_committed task.number h ≡ false
+uncommitted-cut : (h : List Placed) (task : Task) → IsCutShort h task → is_committed task.number h ≡ false
 uncommitted-cut h task cut =
-    has_commit-unended (records_of task.number h) (sym (has_end-without_prev (records_of task.number h))
-    ∙ has_end-front task.number task.job (all_without_prev (records_of task.number h)) cut.rest cut.front)
+    has_commit-unended (own_records_of task.number h) (sym (has_end-without_prev (own_records_of task.number h))
+    ∙ has_end-front task.number task.job (all_without_prev (own_records_of task.number h)) cut.rest cut.front)
 
 -- before its end record a transfer is cut short
-cut-before : (base : BaseState) (h : List Entry) (task : Task) (run : IsRunWhole base h task) → IsCutShort run.front task
+cut-before : (base : BaseState) (h : List Placed) (task : Task) (run : IsRunWhole base h task) → IsCutShort run.front task
 cut-before base h task run = cut_short-end base run.end run.front task run.records
 
 -- the records before an end record are a partly serial history
-serial-before : (base : BaseState) (tasks : List Task) (h : List Entry) (task : Task) (run : IsRunWhole base h task)
+serial-before : (base : BaseState) (tasks : List Task) (h : List Placed) (task : Task) (run : IsRunWhole base h task)
     → IsPartlySerialAfter base tasks h → IsPartlySerialAfter base tasks run.front
 serial-before base tasks h task run serial =
     partly_serial-front base tasks (run.later ++ run.end ∷ []) run.front
@@ -133,40 +133,40 @@ module _ (side : ℤ → ℕ) (account : ℕ) where
       ∙ omega arith
 
   -- and in any other case at most that
-  moves-cut : (h : List Entry) (task : Task) → IsCutShort h task → weight_of (moves side account) (records_of task.number h) ≤ legs_move side account task.job.legs
+  moves-cut : (h : List Placed) (task : Task) → IsCutShort h task → weight_of (moves side account) (own_records_of task.number h) ≤ legs_move side account task.job.legs
   moves-cut h task cut =
-      let parts = weight_of-in_order (moves side account) (all_without_prev (records_of task.number h)) cut.rest in
-      let same = weight_of-without_prev (moves side account) (records_of task.number h) (moves-prev side account) in
+      let parts = weight_of-in_order (moves side account) (all_without_prev (own_records_of task.number h)) cut.rest in
+      let same = weight_of-without_prev (moves side account) (own_records_of task.number h) (moves-prev side account) in
       let whole = ap (weight_of (moves side account)) cut.front ∙ moves-note task.number task.job.note (leg_updates task.number task.job.legs)
       ∙ moves-updates task.number task.job.legs in
       omega arith
 
-  moves-partly : (base : BaseState) (h : List Entry) (task : Task) → IsRunPartly base h task
-      → weight_of (moves side account) (records_of task.number h) ≤ legs_move side account task.job.legs
+  moves-partly : (base : BaseState) (h : List Placed) (task : Task) → IsRunPartly base h task
+      → weight_of (moves side account) (own_records_of task.number h) ≤ legs_move side account task.job.legs
   moves-partly base h task (inr cut) = moves-cut h task cut
   moves-partly base h task (inl run) =
-      let records = ap (weight_of (moves side account)) (records_of-run base h task run) in
+      let records = ap (weight_of (moves side account)) (own_records_of-run base h task run) in
       let end = moves-end side account run.end.rec run.ended in
       let before = moves-cut run.front task (cut-before base h task run) in
       omega arith
 
   -- what the committed transactions move, as a sum over the transfers
-  abbrev counted : List Entry → Task → ℕ
-  counted h task = cond (is_committed task.number h) (weight_of (moves side account) (records_of task.number h)) 0
+  abbrev counted : List Placed → Task → ℕ
+  counted h task = cond (is_committed task.number h) (weight_of (moves side account) (own_records_of task.number h)) 0
 
-  moved_by-weight : (c : ℕ → Bool) (h : List Entry) → moved_by c side account h ≡ weight_of (λ rec. cond (c (txn_of rec)) (moves side account rec) 0) (recs_of h)
+  moved_by-weight : (c : ℕ → Bool) (h : List Placed) → moved_by c side account h ≡ weight_of (λ rec. cond (c (txn_of rec)) (moves side account rec) 0) (recs_of h)
   moved_by-weight c [] = refl
   moved_by-weight c (entry ∷ h) = ap (λ n. cond (c (txn_of entry.rec)) (moves side account entry.rec) 0 + n) (moved_by-weight c h)
 
-  weight_of-counted : (c : ℕ → Bool) (n : ℕ) (h : List Entry)
-      → weight_of (λ rec. cond (c (txn_of rec)) (moves side account rec) 0) (records_of n h) ≡ cond (c n) (weight_of (moves side account) (records_of n h)) 0
+  weight_of-counted : (c : ℕ → Bool) (n : ℕ) (h : List Placed)
+      → weight_of (λ rec. cond (c (txn_of rec)) (moves side account rec) 0) (own_records_of n h) ≡ cond (c n) (weight_of (moves side account) (own_records_of n h)) 0
   weight_of-counted c n [] = sym (nothing (c n))
   weight_of-counted c n (entry ∷ h) =
       let own : ℕ = moves side account entry.rec in
-      let rest : ℕ = weight_of (moves side account) (records_of n h) in
+      let rest : ℕ = weight_of (moves side account) (own_records_of n h) in
       let more = weight_of-counted c n h in
       let left = weight_of-entry (λ rec. cond (c (txn_of rec)) (moves side account rec) 0) n entry h in
-      let right : cond {A = ℕ} (c n) (weight_of (moves side account) (records_of n (entry ∷ h))) 0 ≡ cond {A = ℕ} (c n) (cond (txn_of entry.rec == n) own 0 + rest) 0
+      let right : cond {A = ℕ} (c n) (weight_of (moves side account) (own_records_of n (entry ∷ h))) 0 ≡ cond {A = ℕ} (c n) (cond (txn_of entry.rec == n) own 0 + rest) 0
       = ap (λ k. cond {A = ℕ} (c n) k 0) (weight_of-entry (moves side account) n entry h) in
       let both = counted-sum (c n) (cond (txn_of entry.rec == n) own 0) rest in
       let first = first-counted c n (txn_of entry.rec) own in
@@ -179,7 +179,7 @@ module _ (side : ℤ → ℕ) (account : ℕ) where
           (λ other. let here = ne_eqb m n other in
           ap (λ b. cond {A = ℕ} b (cond (c m) own 0) 0) here ∙ sym (ap (λ b. cond {A = ℕ} (c n) (cond b own 0) 0) here ∙ nothing (c n)))
 
-  total-tasks : (tasks : List Task) (h : List Entry) → AreDistinct tasks → HasNoOthers tasks h → total side account h ≡ each_task (counted h) tasks
+  total-tasks : (tasks : List Task) (h : List Placed) → AreDistinct tasks → HasNoOthers tasks h → total side account h ≡ each_task (counted h) tasks
   total-tasks tasks h distinct others =
       moved_by-weight (λ txn. is_committed txn h) h
       ∙ weight_of-tasks (λ rec. cond (is_committed (txn_of rec) h) (moves side account rec) 0) tasks h distinct others
@@ -204,16 +204,16 @@ each_task-but f g tasks task all one = All-contains (λ t. f t ≡ 0 → each_ta
     )
 
 -- before its end, what the others moved and what it is to move are at most what all of them move
-total-but : (side : ℤ → ℕ) (account : ℕ) (base : BaseState) (tasks : List Task) (h : List Entry) (task : Task) → AreDistinct tasks
+total-but : (side : ℤ → ℕ) (account : ℕ) (base : BaseState) (tasks : List Task) (h : List Placed) (task : Task) → AreDistinct tasks
     → IsPartlySerialAfter base tasks h → Contains tasks task → IsCutShort h task
     → total side account h + legs_move side account task.job.legs ≤ each_task (λ t. legs_move side account t.job.legs) tasks
 total-but side account base tasks h task distinct serial one cut =
     let sum = total-tasks side account tasks h distinct serial.others in
     let bound = all-map (IsRunPartly base h) (λ t. counted side account h t ≤ legs_move side account t.job.legs)
     (λ t run. let most = moves-partly side account base h t run in
-    let few = counted-le (is_committed t.number h) (weight_of (moves side account) (records_of t.number h)) in omega arith) tasks serial.each in
+    let few = counted-le (is_committed t.number h) (weight_of (moves side account) (own_records_of t.number h)) in omega arith) tasks serial.each in
     let none : counted side account h task ≡ 0
-    = ap (λ b. cond {A = ℕ} b (weight_of (moves side account) (records_of task.number h)) 0) (uncommitted-cut h task cut) in
+    = ap (λ b. cond {A = ℕ} b (weight_of (moves side account) (own_records_of task.number h)) 0) (uncommitted-cut h task cut) in
     let left = each_task-but (counted side account h) (λ t. legs_move side account t.job.legs) tasks task bound one none in
     omega arith
 
@@ -248,7 +248,7 @@ legs-done accounts k (leg ∷ legs) balance known fits =
 
 -- the sum over transfers of what their legs take or give
 legs_of-numbered : (amount : List (ℕ × ℕ × ℕ) → ℕ) → (amount [] ≡ 0) → ((xs ys : List (ℕ × ℕ × ℕ)) → amount (xs ++ ys) ≡ amount xs + amount ys)
-    → (first : ℕ) (jobs : List Job) → each_task (λ task. amount task.job.legs) (numbered first jobs) ≡ amount (legs_of jobs)
+    → (first : ℕ) (jobs : List PlainTransfer) → each_task (λ task. amount task.job.legs) (numbered first jobs) ≡ amount (legs_of jobs)
 legs_of-numbered amount none append first [] = sym none
 legs_of-numbered amount none append first (job ∷ jobs) =
     let more = legs_of-numbered amount none append (first + 1) jobs in let parts = append job.legs (legs_of jobs) in omega arith
@@ -261,17 +261,17 @@ given-append : (account : ℕ) (xs ys : List (ℕ × ℕ × ℕ)) → given acco
 given-append account [] ys = omega arith
 given-append account (leg ∷ xs) ys = let more = given-append account xs ys in omega arith
 
-has_number-below : (n first : ℕ) (jobs : List Job) → n < first → has_number (numbered first jobs) n ≡ false
+has_number-below : (n first : ℕ) (jobs : List PlainTransfer) → n < first → has_number (numbered first jobs) n ≡ false
 has_number-below n first [] below = refl
 has_number-below n first (job ∷ jobs) below =
     let other = ne_eqb n first (λ same. absurd (omega (arith, same))) in
     λ i. other i || has_number-below n (first + 1) jobs (omega arith) i
 
-distinct-numbered : (first : ℕ) (jobs : List Job) → AreDistinct (numbered first jobs)
+distinct-numbered : (first : ℕ) (jobs : List PlainTransfer) → AreDistinct (numbered first jobs)
 distinct-numbered first [] = tt
 distinct-numbered first (job ∷ jobs) = (has_number-below first (first + 1) jobs (omega arith), distinct-numbered (first + 1) jobs)
 
-allowed-numbered : (accounts first : ℕ) (jobs : List Job) → AllByRecursion (IsAllowed accounts) jobs → AllByRecursion (λ (task : Task). IsAllowed accounts task.job) (numbered first jobs)
+allowed-numbered : (accounts first : ℕ) (jobs : List PlainTransfer) → AllByRecursion (IsAllowedTransfer accounts) jobs → AllByRecursion (λ (task : Task). IsAllowedTransfer accounts task.job) (numbered first jobs)
 allowed-numbered accounts first [] all = tt
 allowed-numbered accounts first (job ∷ jobs) all = (all.0, allowed-numbered accounts (first + 1) jobs all.1)
 
@@ -287,11 +287,11 @@ weight_of-note weight none txn [] records = refl
 weight_of-note weight none txn (byte ∷ bytes) records = let nothing = none txn (byte ∷ bytes) in omega arith
 
 -- a transfer that is done weighs what its records do
-weight_of-done_in : (weight : Rec → ℕ) (h : List Entry) (task : Task) → IgnoresPrev weight → IsDoneIn h task
-    → weight_of weight (records_of task.number h) ≡ weight_of weight (outcome_records task.number task.job Done)
+weight_of-done_in : (weight : Rec → ℕ) (h : List Placed) (task : Task) → IgnoresPrev weight → IsDoneIn h task
+    → weight_of weight (own_records_of task.number h) ≡ weight_of weight (outcome_records task.number task.job Done)
 weight_of-done_in weight h task ignores done =
-    let parts = weight_of-in_order weight (all_without_prev (records_of task.number h)) [] in
-    let same = weight_of-without_prev weight (records_of task.number h) ignores in
+    let parts = weight_of-in_order weight (all_without_prev (own_records_of task.number h)) [] in
+    let same = weight_of-without_prev weight (own_records_of task.number h) ignores in
     let whole = ap (weight_of weight) done in
     omega arith
 
@@ -315,7 +315,7 @@ commit_weight-prev (Over txn leg) = refl
 commit_weight-prev (Note txn text) = refl
 
 -- a transfer that is done is committed
-committed-done : (h : List Entry) (task : Task) → IsDoneIn h task → is_committed task.number h ≡ true
+committed-done : (h : List Placed) (task : Task) → IsDoneIn h task → is_committed task.number h ≡ true
 committed-done h task done = by_case (is_committed task.number h) refl
   where
     without : (records : List Rec) → has_commit records ≡ false → weight_of commit_weight records ≡ 0
@@ -327,14 +327,14 @@ committed-done h task done = by_case (is_committed task.number h) refl
     by_case : (b : Bool) → is_committed task.number h ≡ b → b ≡ true
     by_case true is = refl
     by_case false is =
-        let none = without (records_of task.number h) is in
+        let none = without (own_records_of task.number h) is in
         let same = weight_of-done_in commit_weight h task commit_weight-prev done in
         let before : List Rec = leg_updates task.number (take (length task.job.legs) task.job.legs) in
         let end = weight_of-append commit_weight before (Commit task.number (length task.job.legs) ∷ []) in
         let noted = weight_of-note commit_weight (λ txn text. refl) task.number task.job.note (before ++ Commit task.number (length task.job.legs) ∷ []) in
         absurd (omega arith)
 
-module _ (base : BaseState) (first : ℕ) (jobs : List Job) (room : HasRoomFor base jobs) where
+module _ (base : BaseState) (first : ℕ) (jobs : List PlainTransfer) (room : HasRoomFor base jobs) where
   all_taken : (account : ℕ) → each_task (λ task. legs_move loss account task.job.legs) (numbered first jobs) ≡ taken account (legs_of jobs)
   all_taken account = (λ i. each_task (λ task. legs_move-loss account task.job.legs i) (numbered first jobs))
       ∙ legs_of-numbered (taken account) refl (taken-append account) first jobs
@@ -344,7 +344,7 @@ module _ (base : BaseState) (first : ℕ) (jobs : List Job) (room : HasRoomFor b
       ∙ legs_of-numbered (given account) refl (given-append account) first jobs
 
   -- before its end each transfer finds what it needs
-  fits-before : (h : List Entry) (task : Task) → IsPartlySerialAfter base (numbered first jobs) h → Contains (numbered first jobs) task → IsCutShort h task
+  fits-before : (h : List Placed) (task : Task) → IsPartlySerialAfter base (numbered first jobs) h → Contains (numbered first jobs) task → IsCutShort h task
       → FitsLegs base.accounts (balance_of base h) task.job.legs
   fits-before h task serial one cut account below =
       let distinct = distinct-numbered first jobs in
@@ -358,37 +358,37 @@ module _ (base : BaseState) (first : ℕ) (jobs : List Job) (room : HasRoomFor b
       let left = room.room account below in
       (omega arith, omega arith)
 
-  run-done : (h : List Entry) → IsPartlySerialAfter base (numbered first jobs) h
-      → (task : Task) → Contains (numbered first jobs) task → IsAllowed base.accounts task.job → IsRunWhole base h task → IsDoneIn h task
+  run-done : (h : List Placed) → IsPartlySerialAfter base (numbered first jobs) h
+      → (task : Task) → Contains (numbered first jobs) task → IsAllowedTransfer base.accounts task.job → IsRunWhole base h task → IsDoneIn h task
   run-done h serial task one allowed run =
       let fits = fits-before run.front task (serial-before base (numbered first jobs) h task run serial) one (cut-before base h task run) in
       let done = legs-done base.accounts 0 task.job.legs (balance_of base run.front) allowed.legs fits in
-      ap (λ records. in_order (all_without_prev records) []) (records_of-run base h task run) ∙ run.records ∙ ap (outcome_records task.number task.job) done
+      ap (λ records. in_order (all_without_prev records) []) (own_records_of-run base h task run) ∙ run.records ∙ ap (outcome_records task.number task.job) done
 
   each_contained : AllByRecursion (Contains (numbered first jobs)) (numbered first jobs)
   each_contained = recursion_from_All (Contains (numbered first jobs)) (numbered first jobs) (All-contains_itself (numbered first jobs))
 
-  pub partly-done : (h : List Entry) → IsPartlySerialAfter base (numbered first jobs) h
+  pub partly-done : (h : List Placed) → IsPartlySerialAfter base (numbered first jobs) h
       → AllByRecursion (λ (task : Task). IsDoneIn h task ⊎ IsCutShort h task) (numbered first jobs)
   partly-done h serial = all-three _ _ (IsRunPartly base h) (λ (task : Task). IsDoneIn h task ⊎ IsCutShort h task)
       (λ task one allowed run. elim run [ inl whole ↦ inl (run-done h serial task one allowed whole) | inr cut ↦ inr cut ])
       (numbered first jobs) each_contained (allowed-numbered base.accounts first jobs room.allowed) serial.each
 
-  pub serial-done : (h : List Entry) → IsSerialAfter base (numbered first jobs) h → AllByRecursion (IsDoneIn h) (numbered first jobs)
+  pub serial-done : (h : List Placed) → IsSerialAfter base (numbered first jobs) h → AllByRecursion (IsDoneIn h) (numbered first jobs)
   serial-done h serial = all-three _ _ (IsRunWhole base h) (IsDoneIn h)
       (run-done h (serial-partly base (numbered first jobs) h serial))
       (numbered first jobs) each_contained (allowed-numbered base.accounts first jobs room.allowed) serial.each
 
   -- the history weighs what the records of all transfers do, one after another
-  pub weight-done : (weight : Rec → ℕ) (h : List Entry) → IgnoresPrev weight → IsSerialAfter base (numbered first jobs) h
+  pub weight-done : (weight : Rec → ℕ) (h : List Placed) → IgnoresPrev weight → IsSerialAfter base (numbered first jobs) h
       → weight_of weight (recs_of h) ≡ weight_of weight (done_records (numbered first jobs))
   weight-done weight h ignores serial =
       weight_of-tasks weight (numbered first jobs) h (distinct-numbered first jobs) serial.others
-      ∙ each_task-same (λ task. weight_of weight (records_of task.number h)) (λ task. weight_of weight (outcome_records task.number task.job Done)) (numbered first jobs)
+      ∙ each_task-same (λ task. weight_of weight (own_records_of task.number h)) (λ task. weight_of weight (outcome_records task.number task.job Done)) (numbered first jobs)
       (all-map (IsDoneIn h) _ (λ task done. weight_of-done_in weight h task ignores done) (numbered first jobs) (serial-done h serial))
       ∙ sym (weight_of-done_records weight (numbered first jobs))
 
-  total-done : (side : ℤ → ℕ) (account : ℕ) (h : List Entry) → IsSerialAfter base (numbered first jobs) h
+  total-done : (side : ℤ → ℕ) (account : ℕ) (h : List Placed) → IsSerialAfter base (numbered first jobs) h
       → total side account h ≡ each_task (λ task. legs_move side account task.job.legs) (numbered first jobs)
   total-done side account h serial =
       total-tasks side account (numbered first jobs) h (distinct-numbered first jobs) serial.others
@@ -397,10 +397,10 @@ module _ (base : BaseState) (first : ℕ) (jobs : List Job) (room : HasRoomFor b
     where
       all : (task : Task) → IsDoneIn h task → counted side account h task ≡ legs_move side account task.job.legs
       all task done =
-          ap (λ b. cond {A = ℕ} b (weight_of (moves side account) (records_of task.number h)) 0) (committed-done h task done)
+          ap (λ b. cond {A = ℕ} b (weight_of (moves side account) (own_records_of task.number h)) 0) (committed-done h task done)
           ∙ weight_of-done_in (moves side account) h task (moves-prev side account) done ∙ moves-done side account task
 
-  pub balance-done : (h : List Entry) (account : ℕ) → IsSerialAfter base (numbered first jobs) h → account < base.accounts
+  pub balance-done : (h : List Placed) (account : ℕ) → IsSerialAfter base (numbered first jobs) h → account < base.accounts
       → balance_of base h account + taken account (legs_of jobs) ≡ base.balance account + given account (legs_of jobs)
   balance-done h account serial below =
       let lost = total-done loss account h serial ∙ all_taken account in
@@ -419,7 +419,7 @@ end_of-weight [] = refl
 end_of-weight (rec ∷ records) = omega (arith, end_of-weight records, end_of-cons rec records)
 
 -- the list ends where the records of all transfers, one after another, do
-pub end-done : (base : BaseState) (first : ℕ) (jobs : List Job) (records : List Rec) → HasRoomFor base jobs
+pub end-done : (base : BaseState) (first : ℕ) (jobs : List PlainTransfer) (records : List Rec) → HasRoomFor base jobs
     → IsSerialAfter base (numbered first jobs) (history_from base.end [] records) → end_of records ≡ end_of (done_records (numbered first jobs))
 end-done base first jobs records room serial =
     end_of-weight records ∙ records-done base first jobs room size_of records size-without_prev serial ∙ sym (end_of-weight (done_records (numbered first jobs)))

@@ -1,29 +1,29 @@
 -- Fronts of lawful lists are lawful.
 use Rattle.std.proofs.Common.{◌≡◌, ℕ, List, [], ◌∷◌, ◌++◌, refl, ap, ◌∙◌, sym, subst, append_assoc}
 use Rattle.log_record.specs.declared.rec.Rec.{Rec}
-use Rattle.log_record.specs.declared.rec.Entry.{Entry}
+use Rattle.log_record.specs.declared.rec.Placed.{Placed}
 use Rattle.lock_core.specs.History.{end_from, entry_at, history_from, history}
 use Rattle.lock_core.specs.Sums.{BaseState}
 use Rattle.lock_core.specs.Lawful.{IsLawfulAfter, IsLawful}
 
-pub lawful-front : (later front : List Entry) → IsLawful (later ++ front) → IsLawful front
+pub lawful-front : (later front : List Placed) → IsLawful (later ++ front) → IsLawful front
 lawful-front [] front lawful = lawful
 lawful-front (entry ∷ later) front lawful = lawful-front later front lawful.1
 
-pub lawful_after-front : (base : BaseState) (later front : List Entry) → IsLawfulAfter base (later ++ front) → IsLawfulAfter base front
+pub lawful_after-front : (base : BaseState) (later front : List Placed) → IsLawfulAfter base (later ++ front) → IsLawfulAfter base front
 lawful_after-front base [] front lawful = lawful
 lawful_after-front base (entry ∷ later) front lawful = lawful_after-front base later front lawful.1
 
-pub history_from-append : (start : ℕ) (h : List Entry) (front later : List Rec)
+pub history_from-append : (start : ℕ) (h : List Placed) (front later : List Rec)
     → history_from start h (front ++ later) ≡ history_from start (history_from start h front) later
 history_from-append start h [] later = refl
 history_from-append start h (rec ∷ front) later = history_from-append start (entry_at (end_from start h) rec ∷ h) front later
 
 -- a history stands at the bottom of what follows it
-pub history_from-onto : (start : ℕ) (h : List Entry) (records : List Rec) → (more : List Entry) × (history_from start h records ≡ more ++ h)
+pub history_from-onto : (start : ℕ) (h : List Placed) (records : List Rec) → (more : List Placed) × (history_from start h records ≡ more ++ h)
 history_from-onto start h [] = ([], refl)
 history_from-onto start h (rec ∷ records) =
-    let entry : Entry = entry_at (end_from start h) rec in
+    let entry : Placed = entry_at (end_from start h) rec in
     let rest = history_from-onto start (entry ∷ h) records in
     (rest.0 ++ entry ∷ [], rest.1 ∙ sym (append_assoc rest.0 (entry ∷ []) h))
 
@@ -33,17 +33,17 @@ lawful-records front later lawful =
     lawful-front rest.0 (history front) (subst IsLawful (history_from-append 0 [] front later ∙ rest.1) lawful)
 
 -- a history goes on as one of its own does that starts where it ends
-pub history_from-apart : (start : ℕ) (h : List Entry) (records : List Rec) → history_from start h records ≡ history_from (end_from start h) [] records ++ h
+pub history_from-apart : (start : ℕ) (h : List Placed) (records : List Rec) → history_from start h records ≡ history_from (end_from start h) [] records ++ h
 history_from-apart start h records = onto [] records
   where
     -- behind some entries more
-    onto : (more : List Entry) (records : List Rec)
+    onto : (more : List Placed) (records : List Rec)
         → history_from start (more ++ h) records ≡ history_from (end_from start h) more records ++ h
     onto more [] = refl
     onto more (rec ∷ records) =
         ap (λ end. history_from start (entry_at end rec ∷ more ++ h) records) (ends more)
         ∙ onto (entry_at (end_from (end_from start h) more) rec ∷ more) records
       where
-        ends : (more : List Entry) → end_from start (more ++ h) ≡ end_from (end_from start h) more
+        ends : (more : List Placed) → end_from start (more ++ h) ≡ end_from (end_from start h) more
         ends [] = refl
         ends (entry ∷ more) = refl

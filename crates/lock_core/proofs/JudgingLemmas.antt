@@ -5,12 +5,12 @@ use Rattle.std.specs.List.{AllByRecursion}
 use Rattle.std.proofs.lemmas.Option.{slice_get-get_or}
 use Rattle.lsn_space.specs.Accounts.{Accounts}
 use Rattle.log_record.specs.declared.rec.Rec.{Rec}
-use Rattle.log_record.specs.declared.rec.Entry.{Entry}
+use Rattle.log_record.specs.declared.rec.Placed.{Placed}
 use Rattle.log_record.specs.declared.rec.Rec.TheVariants.{Genesis, Update, Commit, Short, Over, Note}
 use Rattle.log_record.specs.declared.limits.TheConstants.{MOST_ACCOUNTS}
 use Rattle.lock_core.specs.declared.reason.Why.{Why}
 use Rattle.lock_core.specs.Records.{commits}
-use Rattle.lock_core.specs.Transactions.{records_of}
+use Rattle.lock_core.specs.Transactions.{own_records_of}
 use Rattle.lock_core.specs.Sums.{BaseState, ShowsAccounts}
 use Rattle.lock_core.specs.Tests.{IsGenesis}
 use Rattle.lock_core.specs.Lawful.{tests, Passes, IsLawful, genesis_of}
@@ -36,34 +36,34 @@ judged-none accounts empty room = let none : length accounts.rows ≡ 0 = (λ i.
 }
 
 -- an entry that passes all tests, and neither opens an account nor commits, leaves the accounts
-pub judged-plain : (accounts : Accounts) (h : List Entry) (end : ℕ) (rec : Rec) → (IsGenesis rec → ⊥) → commits rec ≡ false
+pub judged-plain : (accounts : Accounts) (h : List Placed) (end : ℕ) (rec : Rec) → (IsGenesis rec → ⊥) → commits rec ≡ false
     → IsJudged accounts h → AllByRecursion (Passes h (record { end = end; rec = rec })) tests → IsJudged accounts (record { end = end; rec = rec } ∷ h)
 judged-plain accounts h end (Genesis account balance) other plain before passes = absurd (other tt)
 judged-plain accounts h end (Commit txn legs) other plain before passes = absurd (true≢false plain)
 judged-plain accounts h end (Update txn account delta prev) other plain before passes =
-    let entry : Entry = record { end = end; rec = Update txn account delta prev } in
+    let entry : Placed = record { end = end; rec = Update txn account delta prev } in
     let unended = (meets-log h entry passes).ended in
     record {
       lawful = (passes, before.lawful);
       room = before.room;
-      rows = keeps-same accounts.rows (genesis_of h) h entry (λ side a. total-plain side a entry h refl (has_commit-unended (records_of txn h) unended)) (λ a. refl) before.rows;
+      rows = keeps-same accounts.rows (genesis_of h) h entry (λ side a. total-plain side a entry h refl (has_commit-unended (own_records_of txn h) unended)) (λ a. refl) before.rows;
     }
 judged-plain accounts h end (Short txn leg) other plain before passes =
-    let entry : Entry = record { end = end; rec = Short txn leg } in
+    let entry : Placed = record { end = end; rec = Short txn leg } in
     record {
       lawful = (passes, before.lawful);
       room = before.room;
       rows = keeps-same accounts.rows (genesis_of h) h entry (λ side a. total-empty side a entry h refl refl) (λ a. refl) before.rows;
     }
 judged-plain accounts h end (Over txn leg) other plain before passes =
-    let entry : Entry = record { end = end; rec = Over txn leg } in
+    let entry : Placed = record { end = end; rec = Over txn leg } in
     record {
       lawful = (passes, before.lawful);
       room = before.room;
       rows = keeps-same accounts.rows (genesis_of h) h entry (λ side a. total-empty side a entry h refl refl) (λ a. refl) before.rows;
     }
 judged-plain accounts h end (Note txn text) other plain before passes =
-    let entry : Entry = record { end = end; rec = Note txn text } in
+    let entry : Placed = record { end = end; rec = Note txn text } in
     record {
       lawful = (passes, before.lawful);
       room = before.room;
@@ -71,11 +71,11 @@ judged-plain accounts h end (Note txn text) other plain before passes =
     }
 
 -- the answer on an entry whose record is known
-module _ {A : Type 0} (h : List Entry) (entry : Entry) (rec : Rec) (is : entry.rec ≡ rec) (result : Result A Why) where
-  abbrev known : Entry
+module _ {A : Type 0} (h : List Placed) (entry : Placed) (rec : Rec) (is : entry.rec ≡ rec) (result : Result A Why) where
+  abbrev known : Placed
   known = record { end = entry.end; rec = rec }
 
-  same : (X : Entry → Type 0) → X known → X entry
+  same : (X : Placed → Type 0) → X known → X entry
   same X here = subst (λ r. X (record { end = entry.end; rec = r })) (sym is) here
 
   pub why-judges : Judges h known result → IfErr result (IsFirstFailing (Passes h entry))
@@ -103,7 +103,7 @@ module _ {A : Type 0} (h : List Entry) (entry : Entry) (rec : Rec) (is : entry.r
       by_case (Err why) judges kept = tt
 
 -- the rows that are kept are the accounts
-pub shows-kept : (rows : List (ℕ × ℕ)) (base : BaseState) (h : List Entry) → KeepsRows rows base h → ShowsAccounts rows base h
+pub shows-kept : (rows : List (ℕ × ℕ)) (base : BaseState) (h : List Placed) → KeepsRows rows base h → ShowsAccounts rows base h
 shows-kept rows base h kept = let counted = kept.count in record {
   count = kept.count;
   each = λ a below. let inside : a < length rows = omega arith in

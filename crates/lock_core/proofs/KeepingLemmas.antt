@@ -4,23 +4,23 @@ use Rattle.std.proofs.lemmas.List.{get_or_append_left}
 use mathlib.Core.Logic.{dite}
 use native.Mathlib.Decide.{ℕ_discrete}
 use Rattle.log_record.specs.declared.rec.Rec.{Rec}
-use Rattle.log_record.specs.declared.rec.Entry.{Entry}
+use Rattle.log_record.specs.declared.rec.Placed.{Placed}
 use Rattle.log_record.specs.declared.rec.Rec.TheVariants.{Update}
 use Rattle.lock_core.specs.declared.update_links.TheConstants.{ENDED}
 use Rattle.lock_core.specs.declared.txn_table.TxnTable.{TxnTable}
 use Rattle.lock_core.specs.declared.update_links.UpdateLink.{UpdateLink}
 use Rattle.lock_core.specs.declared.transactions.Transactions.{Transactions}
 use Rattle.lock_core.specs.Records.{txn_of, ends, changes_of}
-use Rattle.lock_core.specs.Transactions.{recs_of, records_of, updates_of, has_end, changes_in}
+use Rattle.lock_core.specs.Transactions.{recs_of, own_records_of, updates_of, has_end, changes_in}
 use Rattle.lock_core.specs.Keeping.{value_at, PutsValue, no_link, link_at, HasChain, IsOpenAt, KeepsRecords, KeepsTransactions}
 use Rattle.lock_core.proofs.OneMore.{of_transaction-same, of_transaction-other}
 use Rattle.lock_core.proofs.ChainLemmas.{chain-append, chain-push}
 
-records_of-same : (n : ℕ) (entry : Entry) (h : List Entry) → txn_of entry.rec ≡ n → records_of n (entry ∷ h) ≡ entry.rec ∷ records_of n h
-records_of-same n entry h is = ap recs_of (of_transaction-same n entry h is)
+own_records_of-same : (n : ℕ) (entry : Placed) (h : List Placed) → txn_of entry.rec ≡ n → own_records_of n (entry ∷ h) ≡ entry.rec ∷ own_records_of n h
+own_records_of-same n entry h is = ap recs_of (of_transaction-same n entry h is)
 
-records_of-other : (n : ℕ) (entry : Entry) (h : List Entry) → txn_of entry.rec ≢ n → records_of n (entry ∷ h) ≡ records_of n h
-records_of-other n entry h other = ap recs_of (of_transaction-other n entry h other)
+own_records_of-other : (n : ℕ) (entry : Placed) (h : List Placed) → txn_of entry.rec ≢ n → own_records_of n (entry ∷ h) ≡ own_records_of n h
+own_records_of-other n entry h other = ap recs_of (of_transaction-other n entry h other)
 
 pub keeps-none : (txns : Transactions) → txns.updates ≡ no_link ∷ [] → ((txn : ℕ) → value_at txns.newest txn ≡ 0) → KeepsTransactions txns []
 keeps-none txns updates values = record {
@@ -30,7 +30,7 @@ keeps-none txns updates values = record {
 }
 
 -- a record that neither changes an account nor ends its transaction
-pub keeps-idle : (txns : Transactions) (entry : Entry) (h : List Entry) → changes_of entry.rec ≡ [] → ends entry.rec ≡ false → KeepsTransactions txns h
+pub keeps-idle : (txns : Transactions) (entry : Placed) (h : List Placed) → changes_of entry.rec ≡ [] → ends entry.rec ≡ false → KeepsTransactions txns h
     → KeepsTransactions txns (entry ∷ h)
 keeps-idle txns entry h empty off kept = record { some = kept.some; first = kept.first; each = each }
   where
@@ -43,29 +43,29 @@ keeps-idle txns entry h empty off kept = record { some = kept.some; first = kept
       };
     }
 
-    each : (txn : ℕ) → KeepsRecords txns.updates (value_at txns.newest txn) (records_of txn (entry ∷ h))
+    each : (txn : ℕ) → KeepsRecords txns.updates (value_at txns.newest txn) (own_records_of txn (entry ∷ h))
     each txn = dite (ℕ_discrete (txn_of entry.rec) txn)
-        (λ same. subst (KeepsRecords txns.updates (value_at txns.newest txn)) (sym (records_of-same txn entry h same)) (more (value_at txns.newest txn) (records_of txn h) (kept.each txn)))
-        (λ other. subst (KeepsRecords txns.updates (value_at txns.newest txn)) (sym (records_of-other txn entry h other)) (kept.each txn))
+        (λ same. subst (KeepsRecords txns.updates (value_at txns.newest txn)) (sym (own_records_of-same txn entry h same)) (more (value_at txns.newest txn) (own_records_of txn h) (kept.each txn)))
+        (λ other. subst (KeepsRecords txns.updates (value_at txns.newest txn)) (sym (own_records_of-other txn entry h other)) (kept.each txn))
 
 -- an end record
-pub keeps-ended : (newest newer : TxnTable) (updates : List UpdateLink) (txn : ℕ) (entry : Entry) (h : List Entry) → PutsValue newest newer txn ENDED
+pub keeps-ended : (newest newer : TxnTable) (updates : List UpdateLink) (txn : ℕ) (entry : Placed) (h : List Placed) → PutsValue newest newer txn ENDED
     → txn_of entry.rec ≡ txn → ends entry.rec ≡ true → KeepsTransactions (record { newest = newest; updates = updates }) h
     → KeepsTransactions (record { newest = newer; updates = updates }) (entry ∷ h)
 keeps-ended newest newer updates txn entry h puts own on kept = record { some = kept.some; first = kept.first; each = each }
   where
-    each : (other : ℕ) → KeepsRecords updates (value_at newer other) (records_of other (entry ∷ h))
+    each : (other : ℕ) → KeepsRecords updates (value_at newer other) (own_records_of other (entry ∷ h))
     each other = dite (ℕ_discrete txn other)
-        (λ same. subst (KeepsRecords updates (value_at newer other)) (sym (records_of-same other entry h (own ∙ same)))
-        (subst (λ value. KeepsRecords updates value (entry.rec ∷ records_of other h)) (sym (puts other ∙ ap (λ b. cond b ENDED (value_at newest other)) (eq-eqb txn other same)))
-        (record { ended = λ is. ap (λ b. b || has_end (records_of other h)) on; unended = λ not_ended. absurd (not_ended refl) })))
-        (λ apart. subst (KeepsRecords updates (value_at newer other)) (sym (records_of-other other entry h (λ same. apart (sym own ∙ same))))
-        (subst (λ value. KeepsRecords updates value (records_of other h)) (sym (puts other ∙ ap (λ b. cond b ENDED (value_at newest other)) (ne_eqb txn other apart))) (kept.each other)))
+        (λ same. subst (KeepsRecords updates (value_at newer other)) (sym (own_records_of-same other entry h (own ∙ same)))
+        (subst (λ value. KeepsRecords updates value (entry.rec ∷ own_records_of other h)) (sym (puts other ∙ ap (λ b. cond b ENDED (value_at newest other)) (eq-eqb txn other same)))
+        (record { ended = λ is. ap (λ b. b || has_end (own_records_of other h)) on; unended = λ not_ended. absurd (not_ended refl) })))
+        (λ apart. subst (KeepsRecords updates (value_at newer other)) (sym (own_records_of-other other entry h (λ same. apart (sym own ∙ same))))
+        (subst (λ value. KeepsRecords updates value (own_records_of other h)) (sym (puts other ∙ ap (λ b. cond b ENDED (value_at newest other)) (ne_eqb txn other apart))) (kept.each other)))
 
 -- an Update
-pub keeps-pushed : (newest newer : TxnTable) (updates longer : List UpdateLink) (txn place end : ℕ) (link : UpdateLink) (h : List Entry)
+pub keeps-pushed : (newest newer : TxnTable) (updates longer : List UpdateLink) (txn place end : ℕ) (link : UpdateLink) (h : List Placed)
     → longer ≡ updates ++ link ∷ [] → place ≡ length updates → place < ENDED → PutsValue newest newer txn place
-    → IsOpenAt updates link.older (records_of txn h) → link.count ≡ length (updates_of txn h) + 1
+    → IsOpenAt updates link.older (own_records_of txn h) → link.count ≡ length (updates_of txn h) + 1
     → KeepsTransactions (record { newest = newest; updates = updates }) h
     → KeepsTransactions (record { newest = newer; updates = longer })
     (record { end = end; rec = Update txn link.change.account link.change.delta link.change.prev } ∷ h)
@@ -75,10 +75,10 @@ keeps-pushed newest newer updates longer txn place end link h pushed at fits put
   each = each;
 }
   where
-    entry : Entry
+    entry : Placed
     entry = record { end = end; rec = Update txn link.change.account link.change.delta link.change.prev }
 
-    own : KeepsRecords longer place (entry.rec ∷ records_of txn h)
+    own : KeepsRecords longer place (entry.rec ∷ own_records_of txn h)
     own = record {
       ended = λ is. absurd (omega arith);
       unended = λ not_ended. record {
@@ -98,11 +98,11 @@ keeps-pushed newest newer updates longer txn place end link h pushed at fits put
       };
     }
 
-    each : (other : ℕ) → KeepsRecords longer (value_at newer other) (records_of other (entry ∷ h))
+    each : (other : ℕ) → KeepsRecords longer (value_at newer other) (own_records_of other (entry ∷ h))
     each other = dite (ℕ_discrete txn other)
-        (λ same. subst (KeepsRecords longer (value_at newer other)) (sym (records_of-same other entry h same))
-        (subst (λ value. KeepsRecords longer value (entry.rec ∷ records_of other h)) (sym (puts other ∙ ap (λ b. cond b place (value_at newest other)) (eq-eqb txn other same)))
-        (subst (λ n. KeepsRecords longer place (entry.rec ∷ records_of n h)) same own)))
-        (λ apart. subst (KeepsRecords longer (value_at newer other)) (sym (records_of-other other entry h apart))
-        (subst (λ value. KeepsRecords longer value (records_of other h)) (sym (puts other ∙ ap (λ b. cond b place (value_at newest other)) (ne_eqb txn other apart)))
-        (stays (value_at newest other) (records_of other h) (kept.each other))))
+        (λ same. subst (KeepsRecords longer (value_at newer other)) (sym (own_records_of-same other entry h same))
+        (subst (λ value. KeepsRecords longer value (entry.rec ∷ own_records_of other h)) (sym (puts other ∙ ap (λ b. cond b place (value_at newest other)) (eq-eqb txn other same)))
+        (subst (λ n. KeepsRecords longer place (entry.rec ∷ own_records_of n h)) same own)))
+        (λ apart. subst (KeepsRecords longer (value_at newer other)) (sym (own_records_of-other other entry h apart))
+        (subst (λ value. KeepsRecords longer value (own_records_of other h)) (sym (puts other ∙ ap (λ b. cond b place (value_at newest other)) (ne_eqb txn other apart)))
+        (stays (value_at newest other) (own_records_of other h) (kept.each other))))

@@ -5,12 +5,12 @@ use Rattle.std.proofs.lemmas.List.{get_or_append_left, get_or_at}
 use mathlib.Core.Logic.{dite}
 use native.Mathlib.Decide.{ℕ_discrete}
 use Rattle.log_record.specs.declared.rec.Rec.{Rec}
-use Rattle.log_record.specs.declared.rec.Entry.{Entry}
+use Rattle.log_record.specs.declared.rec.Placed.{Placed}
 use Rattle.log_record.specs.declared.rec.Rec.TheVariants.{Genesis, Update, Commit, Short, Over, Note}
 use Rattle.log_record.specs.Spelling.{IsBalance}
 use Rattle.lock_core.specs.declared.update.Change.{Change}
 use Rattle.lock_core.specs.Records.{gain, loss}
-use Rattle.lock_core.specs.Transactions.{records_of, updates_of, has_end, touches}
+use Rattle.lock_core.specs.Transactions.{own_records_of, updates_of, has_end, touches}
 use Rattle.lock_core.specs.Sums.{BaseState, moved, total, AreInRange, last_commit_of}
 use Rattle.lock_core.specs.Tests.{IsGenesis, IsCurrent}
 use Rattle.lock_core.specs.declared.reason.Why.TheVariants as why
@@ -23,11 +23,11 @@ use Rattle.lock_core.proofs.Meeting.{met-log}
 use Rattle.lock_core.proofs.Pairing.{updates_of-fits}
 
 -- at most 16 Updates of a transaction stand in a lawful list
-pub few_updates : (h : List Entry) (n : ℕ) → IsLawful h → length (updates_of n h) ≤ 16
+pub few_updates : (h : List Placed) (n : ℕ) → IsLawful h → length (updates_of n h) ≤ 16
 few_updates h n lawful = (updates_of-fits (genesis_of h) h n (met-log h lawful)).few
 
 -- and their accounts have a row
-pub updates-known : (rows : List (ℕ × ℕ)) (h : List Entry) (n : ℕ) (changes : List Change) → IsLawful h → KeepsRows rows (genesis_of h) h
+pub updates-known : (rows : List (ℕ × ℕ)) (h : List Placed) (n : ℕ) (changes : List Change) → IsLawful h → KeepsRows rows (genesis_of h) h
     → changes ≡ updates_of n h → AllByRecursion (λ (change : Change). change.account < length rows) changes
 updates-known rows h n changes lawful kept are =
     subst (λ count. AllByRecursion (λ (change : Change). change.account < count) changes) (sym kept.count)
@@ -35,7 +35,7 @@ updates-known rows h n changes lawful kept are =
     (updates_of-fits (genesis_of h) h n (met-log h lawful)).known)
 
 -- a record that moves nothing and commits nothing leaves the rows
-pub keeps-same : (rows : List (ℕ × ℕ)) (base : BaseState) (h : List Entry) (entry : Entry)
+pub keeps-same : (rows : List (ℕ × ℕ)) (base : BaseState) (h : List Placed) (entry : Placed)
     → ((side : ℤ → ℕ) (a : ℕ) → total side a (entry ∷ h) ≡ total side a h)
     → ((a : ℕ) → last_commit_of base (entry ∷ h) a ≡ last_commit_of base h a) → KeepsRows rows base h → KeepsRows rows base (entry ∷ h)
 keeps-same rows base h entry sums lasts kept = record {
@@ -46,28 +46,28 @@ keeps-same rows base h entry sums lasts kept = record {
 }
 
 -- the changes name the last Commits exactly where they agree with the rows
-pub current-rows : (rows : List (ℕ × ℕ)) (base : BaseState) (h : List Entry) (changes : List Change)
+pub current-rows : (rows : List (ℕ × ℕ)) (base : BaseState) (h : List Placed) (changes : List Change)
     → AllByRecursion (λ (change : Change). change.account < length rows) changes → KeepsRows rows base h
     → AllByRecursion (λ (change : Change). change.prev ≡ (row rows change.account).1) changes → AllByRecursion (IsCurrent base h) changes
 current-rows rows base h [] known kept all = tt
 current-rows rows base h (change ∷ changes) known kept all =
     (all.0 ∙ kept.last change.account known.0, current-rows rows base h changes known.1 kept all.1)
 
-pub rows-current : (rows : List (ℕ × ℕ)) (base : BaseState) (h : List Entry) (changes : List Change)
+pub rows-current : (rows : List (ℕ × ℕ)) (base : BaseState) (h : List Placed) (changes : List Change)
     → AllByRecursion (λ (change : Change). change.account < length rows) changes → KeepsRows rows base h
     → AllByRecursion (IsCurrent base h) changes → AllByRecursion (λ (change : Change). change.prev ≡ (row rows change.account).1) changes
 rows-current rows base h [] known kept all = tt
 rows-current rows base h (change ∷ changes) known kept all =
     (all.0 ∙ sym (kept.last change.account known.0), rows-current rows base h changes known.1 kept all.1)
 
-module _ (rows : List (ℕ × ℕ)) (base : BaseState) (h : List Entry) (txn legs end : ℕ) (changes : List Change) (kept : KeepsRows rows base h)
-    (unended : has_end (records_of txn h) ≡ false) (are : changes ≡ updates_of txn h) where
-  abbrev commit : Entry
+module _ (rows : List (ℕ × ℕ)) (base : BaseState) (h : List Placed) (txn legs end : ℕ) (changes : List Change) (kept : KeepsRows rows base h)
+    (unended : has_end (own_records_of txn h) ≡ false) (are : changes ≡ updates_of txn h) where
+  abbrev commit : Placed
   commit = record { end = end; rec = Commit txn legs }
 
   -- what a Commit moves
   moves : (side : ℤ → ℕ) (a : ℕ) → total side a (commit ∷ h) ≡ total side a h + moved side a changes
-  moves side a = total-commit side a commit h refl (has_commit-unended (records_of txn h) unended) ∙ ap (λ l. total side a h + moved side a l) (sym are)
+  moves side a = total-commit side a commit h refl (has_commit-unended (own_records_of txn h) unended) ∙ ap (λ l. total side a h + moved side a l) (sym are)
 
   pub keeps-commit : (new : List (ℕ × ℕ)) → Settles changes end rows new → KeepsRows new base (commit ∷ h)
   keeps-commit new settles = let count = settles.count in let counted = kept.count in record {
@@ -92,13 +92,13 @@ module _ (rows : List (ℕ × ℕ)) (base : BaseState) (h : List Entry) (txn leg
       let after = found.2 in let gains = moves gain leaves.account in let losses = moves loss leaves.account in
       leaves.leaves found.0 found.1 (omega arith)
 
-pub in_range-rows : (rows : List (ℕ × ℕ)) (base : BaseState) (h : List Entry) → KeepsRows rows base h → AreInRange base h
+pub in_range-rows : (rows : List (ℕ × ℕ)) (base : BaseState) (h : List Placed) → KeepsRows rows base h → AreInRange base h
 in_range-rows rows base h kept account below =
     let counted = kept.count in let inside : account < length rows = omega arith in
     ((row rows account).0, kept.range account inside, kept.balance account inside)
 
 -- a list of Genesis records
-pub accounts-genesis : (h : List Entry) → AllByRecursion (λ (entry : Entry). IsGenesis entry.rec) h → (genesis_of h).accounts ≡ length h
+pub accounts-genesis : (h : List Placed) → AllByRecursion (λ (entry : Placed). IsGenesis entry.rec) h → (genesis_of h).accounts ≡ length h
 accounts-genesis [] all = refl
 accounts-genesis (entry ∷ h) all = by_kind entry.rec all.0 (accounts-genesis h all.1)
   where
@@ -110,7 +110,7 @@ accounts-genesis (entry ∷ h) all = by_kind entry.rec all.0 (accounts-genesis h
     by_kind (Over txn leg) is before = absurd is
     by_kind (Note txn text) is before = absurd is
 
-pub accounts-most : (h : List Entry) → (genesis_of h).accounts ≤ length h
+pub accounts-most : (h : List Placed) → (genesis_of h).accounts ≤ length h
 accounts-most [] = omega arith
 accounts-most (entry ∷ h) = by_kind entry.rec (accounts-most h)
   where
@@ -123,13 +123,13 @@ accounts-most (entry ∷ h) = by_kind entry.rec (accounts-most h)
     by_kind (Note txn text) before = omega arith
 
 -- where there are as many accounts as records, all are Genesis records
-pub genesis-accounts : (h : List Entry) → (genesis_of h).accounts ≡ length h → AllByRecursion (λ (entry : Entry). IsGenesis entry.rec) h
+pub genesis-accounts : (h : List Placed) → (genesis_of h).accounts ≡ length h → AllByRecursion (λ (entry : Placed). IsGenesis entry.rec) h
 genesis-accounts [] equal = tt
 genesis-accounts (entry ∷ h) equal = by_kind entry.rec equal (accounts-most h) (genesis-accounts h)
   where
     by_kind : (rec : Rec) → (with_genesis rec (genesis_of h)).accounts ≡ length (entry ∷ h) → (genesis_of h).accounts ≤ length h
-        → ((genesis_of h).accounts ≡ length h → AllByRecursion (λ (entry : Entry). IsGenesis entry.rec) h)
-        → IsGenesis rec × AllByRecursion (λ (entry : Entry). IsGenesis entry.rec) h
+        → ((genesis_of h).accounts ≡ length h → AllByRecursion (λ (entry : Placed). IsGenesis entry.rec) h)
+        → IsGenesis rec × AllByRecursion (λ (entry : Placed). IsGenesis entry.rec) h
     by_kind (Genesis account balance) equal most rest = (tt, rest (omega arith))
     by_kind (Update txn account delta prev) equal most rest = absurd (omega arith)
     by_kind (Commit txn legs) equal most rest = absurd (omega arith)
@@ -138,7 +138,7 @@ genesis-accounts (entry ∷ h) equal = by_kind entry.rec equal (accounts-most h)
     by_kind (Note txn text) equal most rest = absurd (omega arith)
 
 -- in a list of Genesis records nothing is moved, and nothing committed
-total-genesis : (side : ℤ → ℕ) (a : ℕ) (h : List Entry) → AllByRecursion (λ (entry : Entry). IsGenesis entry.rec) h → total side a h ≡ 0
+total-genesis : (side : ℤ → ℕ) (a : ℕ) (h : List Placed) → AllByRecursion (λ (entry : Placed). IsGenesis entry.rec) h → total side a h ≡ 0
 total-genesis side a [] all = refl
 total-genesis side a (entry ∷ h) all = by_kind entry.rec entry.end all.0 ∙ total-genesis side a h all.1
   where
@@ -150,7 +150,7 @@ total-genesis side a (entry ∷ h) all = by_kind entry.rec entry.end all.0 ∙ t
     by_kind (Over txn leg) end is = absurd is
     by_kind (Note txn text) end is = absurd is
 
-last-genesis : (base : BaseState) (a : ℕ) (h : List Entry) → AllByRecursion (λ (entry : Entry). IsGenesis entry.rec) h → last_commit_of base h a ≡ base.last_commit a
+last-genesis : (base : BaseState) (a : ℕ) (h : List Placed) → AllByRecursion (λ (entry : Placed). IsGenesis entry.rec) h → last_commit_of base h a ≡ base.last_commit a
 last-genesis base a [] all = refl
 last-genesis base a (entry ∷ h) all = by_kind entry.rec entry.end all.0 ∙ last-genesis base a h all.1
   where
@@ -162,7 +162,7 @@ last-genesis base a (entry ∷ h) all = by_kind entry.rec entry.end all.0 ∙ la
     by_kind (Over txn leg) end is = absurd is
     by_kind (Note txn text) end is = absurd is
 
-last_commit-genesis : (h : List Entry) (a : ℕ) → (genesis_of h).last_commit a ≡ 0
+last_commit-genesis : (h : List Placed) (a : ℕ) → (genesis_of h).last_commit a ≡ 0
 last_commit-genesis [] a = refl
 last_commit-genesis (entry ∷ h) a = by_kind entry.rec ∙ last_commit-genesis h a
   where
@@ -175,9 +175,9 @@ last_commit-genesis (entry ∷ h) a = by_kind entry.rec ∙ last_commit-genesis 
     by_kind (Note txn text) = refl
 
 -- one more Genesis adds a row
-module _ (rows : List (ℕ × ℕ)) (h : List Entry) (end account balance : ℕ) (kept : KeepsRows rows (genesis_of h) h)
-    (all : AllByRecursion (λ (entry : Entry). IsGenesis entry.rec) h) (next : account ≡ (genesis_of h).accounts) (range : IsBalance balance) where
-  abbrev genesis : Entry
+module _ (rows : List (ℕ × ℕ)) (h : List Placed) (end account balance : ℕ) (kept : KeepsRows rows (genesis_of h) h)
+    (all : AllByRecursion (λ (entry : Placed). IsGenesis entry.rec) h) (next : account ≡ (genesis_of h).accounts) (range : IsBalance balance) where
+  abbrev genesis : Placed
   genesis = record { end = end; rec = Genesis account balance }
 
   abbrev grown : BaseState
@@ -219,9 +219,9 @@ module _ (rows : List (ℕ × ℕ)) (h : List Entry) (end account balance : ℕ)
   }
 
 -- a Commit whose transaction has these changes
-module _ (rows : List (ℕ × ℕ)) (h : List Entry) (txn legs end : ℕ) (changes : List Change) (lawful : IsLawful h) (kept : KeepsRows rows (genesis_of h) h)
+module _ (rows : List (ℕ × ℕ)) (h : List Placed) (txn legs end : ℕ) (changes : List Change) (lawful : IsLawful h) (kept : KeepsRows rows (genesis_of h) h)
     (on : IsCommitting h txn legs changes) where
-  abbrev entry : Entry
+  abbrev entry : Placed
   entry = record { end = end; rec = Commit txn legs }
 
   abbrev AreCurrentRows : Type 0
@@ -273,12 +273,12 @@ module _ (rows : List (ℕ × ℕ)) (h : List Entry) (txn legs end : ℕ) (chang
   )
 
 -- a Genesis passes all other tests
-pub passes-genesis : (h : List Entry) (end account balance : ℕ) → AllByRecursion (λ (entry : Entry). IsGenesis entry.rec) h → account ≡ length h
+pub passes-genesis : (h : List Placed) (end account balance : ℕ) → AllByRecursion (λ (entry : Placed). IsGenesis entry.rec) h → account ≡ length h
     → AllByRecursion (Passes h (record { end = end; rec = Genesis account balance })) tests
 passes-genesis h end account balance all next =
     ((all, next), (tt, (tt, (tt, (tt, (tt, (tt, ((λ on. absurd (true≢false (sym on))), tt))))))))
 
-pub fails-genesis : (rows : List (ℕ × ℕ)) (h : List Entry) (account : ℕ) → KeepsRows rows (genesis_of h) h
+pub fails-genesis : (rows : List (ℕ × ℕ)) (h : List Placed) (account : ℕ) → KeepsRows rows (genesis_of h) h
     → (length h ≡ length rows → account ≡ length rows → ⊥) → (end balance : ℕ)
     → IsFirstFailing (Passes h (record { end = end; rec = Genesis account balance })) why.Genesis
 fails-genesis rows h account kept other end balance = record {

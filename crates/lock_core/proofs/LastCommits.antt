@@ -1,7 +1,7 @@
 -- The last Commit on an account is the base state's, or a Commit of the list; a whole log begins with none.
 use Rattle.std.proofs.Common.{◌≡◌, ◌⊎◌, inl, inr, ◌&&◌, ℕ, cond, Bool, true, false, List, [], ◌∷◌, refl, ap}
 use Rattle.log_record.specs.declared.rec.Rec.{Rec}
-use Rattle.log_record.specs.declared.rec.Entry.{Entry}
+use Rattle.log_record.specs.declared.rec.Placed.{Placed}
 use Rattle.log_record.specs.declared.rec.Rec.TheVariants.{Genesis, Update, Commit, Short, Over, Note}
 use Rattle.lock_core.specs.Records.{txn_of, commits}
 use Rattle.lock_core.specs.Transactions.{updates_of, touches}
@@ -9,10 +9,10 @@ use Rattle.lock_core.specs.Sums.{BaseState, last_commit_of, IsCommitOn}
 use Rattle.lock_core.specs.Lawful.{genesis_of, with_genesis}
 
 -- the base state's last Commit on the account, or one of the history
-abbrev pub IsBaseOrCommitOn : BaseState → List Entry → ℕ → ℕ → Type 0
+abbrev pub IsBaseOrCommitOn : BaseState → List Placed → ℕ → ℕ → Type 0
 IsBaseOrCommitOn base h account end = (end ≡ base.last_commit account) ⊎ IsCommitOn h account end
 
-pub last_commit_of-is : (base : BaseState) (h : List Entry) (account : ℕ) → IsBaseOrCommitOn base h account (last_commit_of base h account)
+pub last_commit_of-is : (base : BaseState) (h : List Placed) (account : ℕ) → IsBaseOrCommitOn base h account (last_commit_of base h account)
 last_commit_of-is base [] account = inl refl
 last_commit_of-is base (entry ∷ h) account = by_case (commits entry.rec) (touches account (updates_of (txn_of entry.rec) h)) refl refl (last_commit_of-is base h account)
   where
@@ -36,7 +36,7 @@ last_commit_of-is base (entry ∷ h) account = by_case (commits entry.rec) (touc
     by_case true false is off before = older (last_commit_of base h account) before
     by_case false changes is on before = older (last_commit_of base h account) before
 
-pub genesis_of-last_commit : (h : List Entry) (account : ℕ) → (genesis_of h).last_commit account ≡ 0
+pub genesis_of-last_commit : (h : List Placed) (account : ℕ) → (genesis_of h).last_commit account ≡ 0
 genesis_of-last_commit [] account = refl
 genesis_of-last_commit (entry ∷ h) account = by_kind entry.rec (genesis_of-last_commit h account)
   where

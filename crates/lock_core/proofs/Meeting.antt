@@ -3,13 +3,13 @@
 use Rattle.std.proofs.Common.{ℕ, true≢false, List, [], ◌∷◌, sym}
 use Rattle.std.specs.List.{AllByRecursion}
 use Rattle.log_record.specs.declared.rec.Rec.{Rec}
-use Rattle.log_record.specs.declared.rec.Entry.{Entry}
+use Rattle.log_record.specs.declared.rec.Placed.{Placed}
 use Rattle.log_record.specs.declared.rec.Rec.TheVariants.{Genesis, Update, Commit, Short, Over, Note}
 use Rattle.lock_core.specs.Sums.{BaseState}
 use Rattle.lock_core.specs.Tests.{IsGenesis, KnowsAccount, IsUnended, CountsLegs, PairsDeltas, NamesLastCommit, IsNotStale, KeepsBalances}
 use Rattle.lock_core.specs.Lawful.{tests, PassesAfter, IsLawfulAfter, Passes, IsLawful, genesis_of, with_genesis}
 
-pub record MeetsTests (base : BaseState) (h : List Entry) (entry : Entry) : Type 0 where
+pub record MeetsTests (base : BaseState) (h : List Placed) (entry : Placed) : Type 0 where
   pub account : KnowsAccount base entry.rec
   pub ended : IsUnended h entry.rec
   pub legs : CountsLegs h entry.rec
@@ -18,24 +18,24 @@ pub record MeetsTests (base : BaseState) (h : List Entry) (entry : Entry) : Type
   pub stale : IsNotStale base h entry.rec
   pub balance : KeepsBalances base h entry
 
-abbrev pub AreMet : BaseState → List Entry → Type 0
+abbrev pub AreMet : BaseState → List Placed → Type 0
 AreMet base [] = Unit {0}
 AreMet base (entry ∷ h) = MeetsTests base h entry × AreMet base h
 
-pub meets-after : (base : BaseState) (h : List Entry) (entry : Entry) → AllByRecursion (PassesAfter base h entry) tests → MeetsTests base h entry
+pub meets-after : (base : BaseState) (h : List Placed) (entry : Placed) → AllByRecursion (PassesAfter base h entry) tests → MeetsTests base h entry
 meets-after base h entry (genesis, (account, (ended, (legs, (pair, (prev, (stale, (balance, end)))))))) =
     record { account = account; ended = ended; legs = legs; pair = pair; prev = prev; stale = stale; balance = balance }
 
-pub meets-log : (h : List Entry) (entry : Entry) → AllByRecursion (Passes h entry) tests → MeetsTests (genesis_of h) h entry
+pub meets-log : (h : List Placed) (entry : Placed) → AllByRecursion (Passes h entry) tests → MeetsTests (genesis_of h) h entry
 meets-log h entry (genesis, (account, (ended, (legs, (pair, (prev, (stale, (balance, end)))))))) =
     record { account = account; ended = ended; legs = legs; pair = pair; prev = prev; stale = stale; balance = balance }
 
-pub met-after : (base : BaseState) (h : List Entry) → IsLawfulAfter base h → AreMet base h
+pub met-after : (base : BaseState) (h : List Placed) → IsLawfulAfter base h → AreMet base h
 met-after base [] lawful = tt
 met-after base (entry ∷ h) lawful = (meets-after base h entry lawful.0, met-after base h lawful.1)
 
 -- a Genesis meets all tests but its own
-meets-genesis : (base : BaseState) (h : List Entry) (entry : Entry) → IsGenesis entry.rec → MeetsTests base h entry
+meets-genesis : (base : BaseState) (h : List Placed) (entry : Placed) → IsGenesis entry.rec → MeetsTests base h entry
 meets-genesis base h entry is = by_kind entry.rec entry.end is
   where
     by_kind : (rec : Rec) (end : ℕ) → IsGenesis rec → MeetsTests base h (record { end = end; rec = rec })
@@ -47,12 +47,12 @@ meets-genesis base h entry is = by_kind entry.rec entry.end is
     by_kind (Over txn leg) end is = absurd is
     by_kind (Note txn text) end is = absurd is
 
-pub met-genesis : (base : BaseState) (h : List Entry) → AllByRecursion (λ entry. IsGenesis entry.rec) h → AreMet base h
+pub met-genesis : (base : BaseState) (h : List Placed) → AllByRecursion (λ entry. IsGenesis entry.rec) h → AreMet base h
 met-genesis base [] all = tt
 met-genesis base (entry ∷ h) all = (meets-genesis base h entry all.0, met-genesis base h all.1)
 
 -- the accounts stand once a record isn't a Genesis
-pub met-log : (h : List Entry) → IsLawful h → AreMet (genesis_of h) h
+pub met-log : (h : List Placed) → IsLawful h → AreMet (genesis_of h) h
 met-log [] lawful = tt
 met-log (entry ∷ h) lawful = by_kind entry.rec entry.end lawful.0 (met-log h lawful.1)
   where

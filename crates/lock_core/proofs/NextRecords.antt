@@ -2,13 +2,13 @@
 use Rattle.std.proofs.Common.{◌≡◌, ℕ, zero, suc, ◌==◌, ◌||◌, cond, Bool, true, false, List, [], ◌∷◌, ◌++◌, filter, refl, ap, ◌∙◌, sym, arith, eq-eqb, Contains}
 use Rattle.std.proofs.lemmas.List.{append-nil}
 use Rattle.log_record.specs.declared.rec.Rec.{Rec}
-use Rattle.log_record.specs.declared.rec.Entry.{Entry}
+use Rattle.log_record.specs.declared.rec.Placed.{Placed}
 use Rattle.log_record.specs.declared.rec.Rec.TheVariants.{Genesis, Update, Commit, Short, Over, Note}
 use Rattle.log_record.specs.LogList.{size_of}
 use Rattle.lock_core.specs.Records.{txn_of, ends, without_prev}
-use Rattle.lock_core.specs.Transactions.{of_transaction, recs_of, records_of, has_end, all_without_prev, in_order}
+use Rattle.lock_core.specs.Transactions.{of_transaction, recs_of, own_records_of, has_end, all_without_prev, in_order}
 use Rattle.lock_core.specs.History.{end_from, entry_at, history_from}
-use Rattle.lock_core.specs.Alone.{Job, Outcome, outcome_alone, outcome_records, planned_records}
+use Rattle.lock_core.specs.Alone.{PlainTransfer, Outcome, outcome_alone, outcome_records, planned_records}
 use Rattle.lock_core.proofs.OneMore.{neither, or-false, or-true}
 use Rattle.lock_core.proofs.Running.{before-end, has_end-front, all_without_prev-in_order, planned_records-without_prev, planned_records-outcome}
 use Rattle.lock_core.proofs.SerialFronts.{has_end-without_prev}
@@ -17,17 +17,17 @@ use Rattle.lock_core.proofs.SerialFronts.{has_end-without_prev}
 abbrev pub own_of : ℕ → List Rec → List Rec
 own_of n records = filter (λ rec. txn_of rec == n) records
 
-pub records_of-own : (n start : ℕ) (h : List Entry) (records rest : List Rec)
-    → in_order (records_of n (history_from start h records)) rest ≡ in_order (records_of n h) (own_of n records ++ rest)
-records_of-own n start h [] rest = refl
-records_of-own n start h (rec ∷ records) rest =
-    records_of-own n start (entry_at (end_from start h) rec ∷ h) records rest ∙ by_case (txn_of rec == n)
+pub own_records_of-own : (n start : ℕ) (h : List Placed) (records rest : List Rec)
+    → in_order (own_records_of n (history_from start h records)) rest ≡ in_order (own_records_of n h) (own_of n records ++ rest)
+own_records_of-own n start h [] rest = refl
+own_records_of-own n start h (rec ∷ records) rest =
+    own_records_of-own n start (entry_at (end_from start h) rec ∷ h) records rest ∙ by_case (txn_of rec == n)
   where
-    entry : Entry
+    entry : Placed
     entry = entry_at (end_from start h) rec
 
     by_case : (b : Bool) → in_order (recs_of (cond b (entry ∷ of_transaction n h) (of_transaction n h))) (own_of n records ++ rest)
-        ≡ in_order (records_of n h) (cond b (rec ∷ own_of n records) (own_of n records) ++ rest)
+        ≡ in_order (own_records_of n h) (cond b (rec ∷ own_of n records) (own_of n records) ++ rest)
     by_case true = refl
     by_case false = refl
 
@@ -53,11 +53,11 @@ own-end n (rec ∷ records) end (suc k, inside, at) own on = by_case (txn_of rec
     by_case false rest = rest
 
 pub has_end-own : (n start : ℕ) (records : List Rec) (end : Rec) → Contains records end → txn_of end ≡ n → ends end ≡ true
-    → has_end (records_of n (history_from start [] records)) ≡ true
+    → has_end (own_records_of n (history_from start [] records)) ≡ true
 has_end-own n start records end is own on =
-    let found : List Rec = records_of n (history_from start [] records) in
+    let found : List Rec = own_records_of n (history_from start [] records) in
     sym (or-false (has_end found)) ∙ sym (has_end-in_order found [])
-    ∙ ap has_end (records_of-own n start [] records [] ∙ append-nil (own_of n records)) ∙ own-end n records end is own on
+    ∙ ap has_end (own_records_of-own n start [] records [] ∙ append-nil (own_of n records)) ∙ own-end n records end is own on
 
 -- the newest of records that follow others
 abbrev Newest : List Rec → Rec → List Rec → Type 0
@@ -74,7 +74,7 @@ turned records [] = refl
 turned records (rec ∷ rest) = turned (rec ∷ records) rest
 
 -- where records of an outcome are to come, there is no end record yet
-pub unended-next : (txn : ℕ) (job : Job) (outcome : Outcome) (records rest : List Rec) (next : Rec)
+pub unended-next : (txn : ℕ) (job : PlainTransfer) (outcome : Outcome) (records rest : List Rec) (next : Rec)
     → in_order (all_without_prev records) (next ∷ rest) ≡ outcome_records txn job outcome → has_end records ≡ false
 unended-next txn job outcome records rest next plan =
     let found = newest rest next (all_without_prev records) in
@@ -83,7 +83,7 @@ unended-next txn job outcome records rest next plan =
     sym (has_end-without_prev records) ∙ found.3 (has_end-front txn job found.1 before.0 before.1)
 
 -- what is to come by the records leg by leg is so by those of the outcome
-pub planned-next : (txn : ℕ) (job : Job) (last_commit balance : ℕ → ℕ) (records rest : List Rec) (next : Rec)
+pub planned-next : (txn : ℕ) (job : PlainTransfer) (last_commit balance : ℕ → ℕ) (records rest : List Rec) (next : Rec)
     → in_order records (next ∷ rest) ≡ planned_records txn job last_commit balance
     → in_order (all_without_prev records) (without_prev next ∷ all_without_prev rest) ≡ outcome_records txn job (outcome_alone job balance)
 planned-next txn job last_commit balance records rest next plan =

@@ -3,23 +3,23 @@ use Rattle.std.proofs.Common.{◌≡◌, ◌≢◌, ℕ, ◌==◌, ◌&&◌, ◌
 use mathlib.Core.Logic.{dite}
 use native.Mathlib.Decide.{ℕ_discrete}
 use Rattle.log_record.specs.declared.rec.Rec.{Rec}
-use Rattle.log_record.specs.declared.rec.Entry.{Entry}
+use Rattle.log_record.specs.declared.rec.Placed.{Placed}
 use Rattle.log_record.specs.declared.rec.Rec.TheVariants.{Genesis, Update, Commit, Short, Over, Note}
 use Rattle.lock_core.specs.declared.update.Change.{Change}
 use Rattle.lock_core.specs.Records.{txn_of, commits, ends, changes_of}
 use Rattle.lock_core.specs.Transactions.{of_transaction, recs_of, changes_in, updates_of, has_end, has_commit, is_committed, touches}
 use Rattle.lock_core.specs.Sums.{BaseState, moved, moved_by, total, last_commit_of}
 
-pub of_transaction-same : (n : ℕ) (entry : Entry) (h : List Entry) → txn_of entry.rec ≡ n → of_transaction n (entry ∷ h) ≡ entry ∷ of_transaction n h
+pub of_transaction-same : (n : ℕ) (entry : Placed) (h : List Placed) → txn_of entry.rec ≡ n → of_transaction n (entry ∷ h) ≡ entry ∷ of_transaction n h
 of_transaction-same n entry h is = ap (λ (b : Bool). cond b (entry ∷ of_transaction n h) (of_transaction n h)) (eq-eqb (txn_of entry.rec) n is)
 
-pub of_transaction-other : (n : ℕ) (entry : Entry) (h : List Entry) → txn_of entry.rec ≢ n → of_transaction n (entry ∷ h) ≡ of_transaction n h
+pub of_transaction-other : (n : ℕ) (entry : Placed) (h : List Placed) → txn_of entry.rec ≢ n → of_transaction n (entry ∷ h) ≡ of_transaction n h
 of_transaction-other n entry h other = ap (λ (b : Bool). cond b (entry ∷ of_transaction n h) (of_transaction n h)) (ne_eqb (txn_of entry.rec) n other)
 
-pub updates_of-same : (n : ℕ) (entry : Entry) (h : List Entry) → txn_of entry.rec ≡ n → updates_of n (entry ∷ h) ≡ changes_of entry.rec ++ updates_of n h
+pub updates_of-same : (n : ℕ) (entry : Placed) (h : List Placed) → txn_of entry.rec ≡ n → updates_of n (entry ∷ h) ≡ changes_of entry.rec ++ updates_of n h
 updates_of-same n entry h is = ap (λ entries. changes_in (recs_of entries)) (of_transaction-same n entry h is)
 
-pub updates_of-other : (n : ℕ) (entry : Entry) (h : List Entry) → txn_of entry.rec ≢ n → updates_of n (entry ∷ h) ≡ updates_of n h
+pub updates_of-other : (n : ℕ) (entry : Placed) (h : List Placed) → txn_of entry.rec ≢ n → updates_of n (entry ∷ h) ≡ updates_of n h
 updates_of-other n entry h other = ap (λ entries. changes_in (recs_of entries)) (of_transaction-other n entry h other)
 
 pub or-false : (x : Bool) → (x || false) ≡ x
@@ -57,14 +57,14 @@ changes_of-commit (Short txn leg) is = refl
 changes_of-commit (Over txn leg) is = refl
 changes_of-commit (Note txn text) is = refl
 
-pub is_committed-plain : (entry : Entry) (h : List Entry) (n : ℕ) → commits entry.rec ≡ false → is_committed n (entry ∷ h) ≡ is_committed n h
+pub is_committed-plain : (entry : Placed) (h : List Placed) (n : ℕ) → commits entry.rec ≡ false → is_committed n (entry ∷ h) ≡ is_committed n h
 is_committed-plain entry h n plain = by_case (txn_of entry.rec == n)
   where
     by_case : (b : Bool) → has_commit (recs_of (cond b (entry ∷ of_transaction n h) (of_transaction n h))) ≡ is_committed n h
     by_case true = ap (λ b. b || is_committed n h) plain
     by_case false = refl
 
-pub is_committed-commit : (entry : Entry) (h : List Entry) (n : ℕ) → commits entry.rec ≡ true → is_committed n (entry ∷ h) ≡ (is_committed n h || (txn_of entry.rec == n))
+pub is_committed-commit : (entry : Placed) (h : List Placed) (n : ℕ) → commits entry.rec ≡ true → is_committed n (entry ∷ h) ≡ (is_committed n h || (txn_of entry.rec == n))
 is_committed-commit entry h n is = by_case (txn_of entry.rec == n)
   where
     by_case : (b : Bool) → has_commit (recs_of (cond b (entry ∷ of_transaction n h) (of_transaction n h))) ≡ (is_committed n h || b)
@@ -75,11 +75,11 @@ pub moved-append : (side : ℤ → ℕ) (account : ℕ) (xs ys : List Change) �
 moved-append side account [] ys = omega arith
 moved-append side account (x ∷ xs) ys = let more = moved-append side account xs ys in omega arith
 
-moved_by-same : (c d : ℕ → Bool) (side : ℤ → ℕ) (account : ℕ) (h : List Entry) → ((n : ℕ) → c n ≡ d n) → moved_by c side account h ≡ moved_by d side account h
+moved_by-same : (c d : ℕ → Bool) (side : ℤ → ℕ) (account : ℕ) (h : List Placed) → ((n : ℕ) → c n ≡ d n) → moved_by c side account h ≡ moved_by d side account h
 moved_by-same c d side account h same = ap (λ (f : ℕ → Bool). moved_by f side account h) (λ i n. same n i)
 
 -- a record that is no Commit, of a transaction that isn't committed, moves nothing
-pub total-plain : (side : ℤ → ℕ) (account : ℕ) (entry : Entry) (h : List Entry) → commits entry.rec ≡ false
+pub total-plain : (side : ℤ → ℕ) (account : ℕ) (entry : Placed) (h : List Placed) → commits entry.rec ≡ false
     → is_committed (txn_of entry.rec) h ≡ false → total side account (entry ∷ h) ≡ total side account h
 total-plain side account entry h plain uncommitted =
     moved_by-same (λ n. is_committed n (entry ∷ h)) (λ n. is_committed n h) side account (entry ∷ h) (λ n. is_committed-plain entry h n plain)
@@ -87,7 +87,7 @@ total-plain side account entry h plain uncommitted =
     ∙ omega arith
 
 -- a record that is no Commit and changes nothing
-pub total-empty : (side : ℤ → ℕ) (account : ℕ) (entry : Entry) (h : List Entry) → commits entry.rec ≡ false
+pub total-empty : (side : ℤ → ℕ) (account : ℕ) (entry : Placed) (h : List Placed) → commits entry.rec ≡ false
     → changes_of entry.rec ≡ [] → total side account (entry ∷ h) ≡ total side account h
 total-empty side account entry h plain empty =
     moved_by-same (λ n. is_committed n (entry ∷ h)) (λ n. is_committed n h) side account (entry ∷ h) (λ n. is_committed-plain entry h n plain)
@@ -100,7 +100,7 @@ total-empty side account entry h plain empty =
     both false = refl
 
 -- one more transaction that counts
-moved_by-or : (c : ℕ → Bool) (n : ℕ) (side : ℤ → ℕ) (account : ℕ) (h : List Entry) → c n ≡ false
+moved_by-or : (c : ℕ → Bool) (n : ℕ) (side : ℤ → ℕ) (account : ℕ) (h : List Placed) → c n ≡ false
     → moved_by (λ x. c x || (n == x)) side account h ≡ moved_by c side account h + moved side account (updates_of n h)
 moved_by-or c n side account [] off = refl
 moved_by-or c n side account (entry ∷ h) off =
@@ -124,7 +124,7 @@ moved_by-or c n side account (entry ∷ h) off =
     omega arith)
 
 -- a Commit moves what the Updates of its transaction say
-pub total-commit : (side : ℤ → ℕ) (account : ℕ) (entry : Entry) (h : List Entry) → commits entry.rec ≡ true
+pub total-commit : (side : ℤ → ℕ) (account : ℕ) (entry : Placed) (h : List Placed) → commits entry.rec ≡ true
     → is_committed (txn_of entry.rec) h ≡ false
     → total side account (entry ∷ h) ≡ total side account h + moved side account (updates_of (txn_of entry.rec) h)
 total-commit side account entry h is uncommitted =
@@ -139,12 +139,12 @@ total-commit side account entry h is uncommitted =
     nothing true = ap (moved side account) (changes_of-commit entry.rec is)
     nothing false = refl
 
-pub last_commit_of-plain : (base : BaseState) (entry : Entry) (h : List Entry) (account : ℕ) → commits entry.rec ≡ false
+pub last_commit_of-plain : (base : BaseState) (entry : Placed) (h : List Placed) (account : ℕ) → commits entry.rec ≡ false
     → last_commit_of base (entry ∷ h) account ≡ last_commit_of base h account
 last_commit_of-plain base entry h account plain =
     ap (λ b. cond (b && touches account (updates_of (txn_of entry.rec) h)) entry.end (last_commit_of base h account)) plain
 
-pub last_commit_of-commit : (base : BaseState) (entry : Entry) (h : List Entry) (account : ℕ) → commits entry.rec ≡ true
+pub last_commit_of-commit : (base : BaseState) (entry : Placed) (h : List Placed) (account : ℕ) → commits entry.rec ≡ true
     → last_commit_of base (entry ∷ h) account ≡ cond (touches account (updates_of (txn_of entry.rec) h)) entry.end (last_commit_of base h account)
 last_commit_of-commit base entry h account is =
     ap (λ b. cond (b && touches account (updates_of (txn_of entry.rec) h)) entry.end (last_commit_of base h account)) is

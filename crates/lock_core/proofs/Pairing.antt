@@ -5,7 +5,7 @@ use Rattle.std.specs.Prelude.{MatchBool}
 use mathlib.Core.Logic.{dite}
 use native.Mathlib.Decide.{ℕ_discrete}
 use Rattle.log_record.specs.declared.rec.Rec.{Rec}
-use Rattle.log_record.specs.declared.rec.Entry.{Entry}
+use Rattle.log_record.specs.declared.rec.Placed.{Placed}
 use Rattle.log_record.specs.declared.rec.Rec.TheVariants.{Genesis, Update, Commit, Short, Over, Note}
 use Rattle.lock_core.specs.declared.update.Change.{Change}
 use Rattle.lock_core.specs.Records.{txn_of, changes_of, lowers, gain, loss}
@@ -26,7 +26,7 @@ pub record Fits (accounts : ℕ) (changes : List Change) : Type 0 where
   pub paired : ArePaired changes
   pub known : AllByRecursion (λ (change : Change). change.account < accounts) changes
 
-fits-more : (base : BaseState) (h : List Entry) (rec : Rec) → KnowsAccount base rec → CountsLegs h rec → PairsDeltas h rec
+fits-more : (base : BaseState) (h : List Placed) (rec : Rec) → KnowsAccount base rec → CountsLegs h rec → PairsDeltas h rec
     → Fits base.accounts (updates_of (txn_of rec) h) → Fits base.accounts (changes_of rec ++ updates_of (txn_of rec) h)
 fits-more base h (Update txn account delta prev) known legs pair fits =
     record { few = omega arith; paired = (pair, fits.paired); known = (known, fits.known) }
@@ -36,7 +36,7 @@ fits-more base h (Short txn leg) known legs pair fits = fits
 fits-more base h (Over txn leg) known legs pair fits = fits
 fits-more base h (Note txn text) known legs pair fits = fits
 
-pub updates_of-fits : (base : BaseState) (h : List Entry) (n : ℕ) → AreMet base h → Fits base.accounts (updates_of n h)
+pub updates_of-fits : (base : BaseState) (h : List Placed) (n : ℕ) → AreMet base h → Fits base.accounts (updates_of n h)
 updates_of-fits base [] n met = record { few = omega arith; paired = tt; known = tt }
 updates_of-fits base (entry ∷ h) n met = let before = updates_of-fits base h n met.1 in dite (ℕ_discrete (txn_of entry.rec) n)
     (λ same. subst (Fits base.accounts) (sym (updates_of-same n entry h same))

@@ -5,11 +5,11 @@ use Rattle.std.specs.Prelude.{MatchBool}
 use mathlib.Core.Logic.{dite}
 use native.Mathlib.Decide.{ℕ_discrete}
 use Rattle.log_record.specs.declared.rec.Rec.{Rec}
-use Rattle.log_record.specs.declared.rec.Entry.{Entry}
+use Rattle.log_record.specs.declared.rec.Placed.{Placed}
 use Rattle.log_record.specs.declared.rec.Rec.TheVariants.{Genesis, Update, Commit, Short, Over, Note}
 use Rattle.lock_core.specs.declared.update.Change.{Change}
 use Rattle.lock_core.specs.Records.{txn_of, commits, ends, changes_of, lowers}
-use Rattle.lock_core.specs.Transactions.{recs_of, records_of, updates_of, has_end, touches}
+use Rattle.lock_core.specs.Transactions.{recs_of, own_records_of, updates_of, has_end, touches}
 use Rattle.lock_core.specs.Sums.{BaseState, last_commit_of}
 use Rattle.lock_core.specs.Tests.{IsUnended, IsPaired, IsOpposite}
 use Rattle.lock_core.specs.Plain.{last_commit_where, plain_last_commit, is_odd, IsOppositeOfNewest, IsPlainlyPaired}
@@ -27,28 +27,28 @@ commits-ends (Over txn leg) is = absurd (true≢false (sym is))
 commits-ends (Note txn text) is = absurd (true≢false (sym is))
 
 -- where the entry commits, its transaction is ended in the history
-abbrev HasEndedIn : List Entry → Entry → Type 0
-HasEndedIn h entry = commits entry.rec ≡ true → has_end (records_of (txn_of entry.rec) h) ≡ true
+abbrev HasEndedIn : List Placed → Placed → Type 0
+HasEndedIn h entry = commits entry.rec ≡ true → has_end (own_records_of (txn_of entry.rec) h) ≡ true
 
-has_end-more : (entry : Entry) (h : List Entry) (n : ℕ) → has_end (records_of n h) ≡ true → has_end (records_of n (entry ∷ h)) ≡ true
+has_end-more : (entry : Placed) (h : List Placed) (n : ℕ) → has_end (own_records_of n h) ≡ true → has_end (own_records_of n (entry ∷ h)) ≡ true
 has_end-more entry h n ended = dite (ℕ_discrete (txn_of entry.rec) n)
     (λ same. ap (λ entries. has_end (recs_of entries)) (of_transaction-same n entry h same) ∙ ap (λ b. ends entry.rec || b) ended ∙ or-true (ends entry.rec))
     (λ other. ap (λ entries. has_end (recs_of entries)) (of_transaction-other n entry h other) ∙ ended)
 
-all-map : (P Q : Entry → Type 0) → ((entry : Entry) → P entry → Q entry) → (h : List Entry) → AllByRecursion P h → AllByRecursion Q h
+all-map : (P Q : Placed → Type 0) → ((entry : Placed) → P entry → Q entry) → (h : List Placed) → AllByRecursion P h → AllByRecursion Q h
 all-map P Q f [] all = tt
 all-map P Q f (entry ∷ h) all = (f entry all.0, all-map P Q f h all.1)
 
-all-ended : (h : List Entry) → AllByRecursion (HasEndedIn h) h
+all-ended : (h : List Placed) → AllByRecursion (HasEndedIn h) h
 all-ended [] = tt
 all-ended (entry ∷ h) = (
   (λ is. ap (λ entries. has_end (recs_of entries)) (of_transaction-same (txn_of entry.rec) entry h refl)
-      ∙ ap (λ b. b || has_end (records_of (txn_of entry.rec) h)) (commits-ends entry.rec is)),
+      ∙ ap (λ b. b || has_end (own_records_of (txn_of entry.rec) h)) (commits-ends entry.rec is)),
   all-map (HasEndedIn h) (HasEndedIn (entry ∷ h)) (λ other ended is. has_end-more entry h (txn_of other.rec) (ended is)) h (all-ended h),
 )
 
-last_commit_where-same : (c d : ℕ → Bool) (otherwise : ℕ) (h : List Entry)
-    → AllByRecursion (λ (entry : Entry). commits entry.rec ≡ true → c (txn_of entry.rec) ≡ d (txn_of entry.rec)) h
+last_commit_where-same : (c d : ℕ → Bool) (otherwise : ℕ) (h : List Placed)
+    → AllByRecursion (λ (entry : Placed). commits entry.rec ≡ true → c (txn_of entry.rec) ≡ d (txn_of entry.rec)) h
     → last_commit_where c otherwise h ≡ last_commit_where d otherwise h
 last_commit_where-same c d otherwise [] same = refl
 last_commit_where-same c d otherwise (entry ∷ h) same =
@@ -63,14 +63,14 @@ last_commit_where-same c d otherwise (entry ∷ h) same =
         ∙ ap (λ b. cond (b && d (txn_of entry.rec)) entry.end (last_commit_where c otherwise h)) off
 
 -- an entry of an ended transaction is a Genesis; then it changes nothing of its transaction
-updates_of-ended : (base : BaseState) (entry : Entry) (h : List Entry) (n : ℕ) → IsUnended h entry.rec → has_end (records_of n h) ≡ true
+updates_of-ended : (base : BaseState) (entry : Placed) (h : List Placed) (n : ℕ) → IsUnended h entry.rec → has_end (own_records_of n h) ≡ true
     → updates_of n (entry ∷ h) ≡ updates_of n h
 updates_of-ended base entry h n unended ended = dite (ℕ_discrete (txn_of entry.rec) n)
     (λ same. updates_of-same n entry h same ∙ by_kind entry.rec unended same)
     (λ other. updates_of-other n entry h other)
   where
-    clash : (m : ℕ) → has_end (records_of m h) ≡ false → m ≡ n → ⊥
-    clash m off same = true≢false (sym ended ∙ ap (λ k. has_end (records_of k h)) (sym same) ∙ off)
+    clash : (m : ℕ) → has_end (own_records_of m h) ≡ false → m ≡ n → ⊥
+    clash m off same = true≢false (sym ended ∙ ap (λ k. has_end (own_records_of k h)) (sym same) ∙ off)
 
     by_kind : (rec : Rec) → IsUnended h rec → txn_of rec ≡ n → changes_of rec ++ updates_of n h ≡ updates_of n h
     by_kind (Genesis account balance) off same = refl
@@ -80,7 +80,7 @@ updates_of-ended base entry h n unended ended = dite (ℕ_discrete (txn_of entry
     by_kind (Over txn leg) off same = refl
     by_kind (Note txn text) off same = refl
 
-pub last_commit_of-plainly : (base : BaseState) (h : List Entry) (account : ℕ) → AreMet base h → plain_last_commit base h account ≡ last_commit_of base h account
+pub last_commit_of-plainly : (base : BaseState) (h : List Placed) (account : ℕ) → AreMet base h → plain_last_commit base h account ≡ last_commit_of base h account
 last_commit_of-plainly base [] account met = refl
 last_commit_of-plainly base (entry ∷ h) account met = head (last_commit_of-plainly base h account met.1)
   where
@@ -129,10 +129,10 @@ plainly-paired (newest ∷ older) change are plain = by_case (lowers newest.delt
     by_case true is = plain.even (sym (newest_lowers-parity (newest ∷ older) are) ∙ is)
     by_case false is = plain.odd (sym (newest_lowers-parity (newest ∷ older) are) ∙ is)
 
-pub last_commit_of-log : (h : List Entry) (account : ℕ) → IsLawful h → plain_last_commit (genesis_of h) h account ≡ last_commit_of (genesis_of h) h account
+pub last_commit_of-log : (h : List Placed) (account : ℕ) → IsLawful h → plain_last_commit (genesis_of h) h account ≡ last_commit_of (genesis_of h) h account
 last_commit_of-log h account lawful = last_commit_of-plainly (genesis_of h) h account (met-log h lawful)
 
-pub paired-log : (h : List Entry) (txn : ℕ) (change : Change) → IsLawful h → IsPaired (updates_of txn h) change ↔ IsPlainlyPaired (updates_of txn h) change
+pub paired-log : (h : List Placed) (txn : ℕ) (change : Change) → IsLawful h → IsPaired (updates_of txn h) change ↔ IsPlainlyPaired (updates_of txn h) change
 paired-log h txn change lawful =
     let fits = updates_of-fits (genesis_of h) h txn (met-log h lawful) in
     (paired-plainly (updates_of txn h) change fits.paired, plainly-paired (updates_of txn h) change fits.paired)

@@ -4,11 +4,11 @@ use Rattle.std.specs.List.{AllByRecursion}
 use mathlib.Core.Logic.{dite}
 use native.Mathlib.Decide.{ℕ_discrete}
 use Rattle.log_record.specs.declared.rec.Rec.{Rec}
-use Rattle.log_record.specs.declared.rec.Entry.{Entry}
+use Rattle.log_record.specs.declared.rec.Placed.{Placed}
 use Rattle.log_record.specs.declared.rec.Rec.TheVariants.{Genesis, Update, Commit, Short, Over, Note}
 use Rattle.lock_core.specs.declared.update.Change.{Change}
 use Rattle.lock_core.specs.Records.{txn_of, commits, ends, changes_of}
-use Rattle.lock_core.specs.Transactions.{of_transaction, recs_of, records_of, updates_of, has_end}
+use Rattle.lock_core.specs.Transactions.{of_transaction, recs_of, own_records_of, updates_of, has_end}
 use Rattle.lock_core.specs.Tests.{IsGenesis, IsUnended, IsCurrent, NamesLastCommit, IsNotStale}
 use Rattle.lock_core.specs.Sums.{BaseState}
 use Rattle.lock_core.specs.Lawful.{IsLawful, IsLawfulAfter, genesis_of}
@@ -20,14 +20,14 @@ use Rattle.lock_core.proofs.OneMore.{of_transaction-same, of_transaction-other, 
 
 -- ---- what is named
 
-are-built_on : (base : BaseState) (front : List Entry) (changes : List Change) → AllByRecursion (IsCurrent base front) changes
+are-built_on : (base : BaseState) (front : List Placed) (changes : List Change) → AllByRecursion (IsCurrent base front) changes
     → AllByRecursion (IsBuiltOn base front) changes
 are-built_on base front [] current = tt
 are-built_on base front (change ∷ changes) current =
     let there = subst (IsBaseOrCommitOn base front change.account) (sym current.0) (last_commit_of-is base front change.account) in
     (record { last = current.0; there = there }, are-built_on base front changes current.1)
 
-current-update : (base : BaseState) (h : List Entry) (rec : Rec) → NamesLastCommit base h rec → AllByRecursion (IsCurrent base h) (changes_of rec)
+current-update : (base : BaseState) (h : List Placed) (rec : Rec) → NamesLastCommit base h rec → AllByRecursion (IsCurrent base h) (changes_of rec)
 current-update base h (Genesis account balance) names = tt
 current-update base h (Update txn account delta prev) names = (names, tt)
 current-update base h (Commit txn legs) names = tt
@@ -35,7 +35,7 @@ current-update base h (Short txn leg) names = tt
 current-update base h (Over txn leg) names = tt
 current-update base h (Note txn text) names = tt
 
-current-commit : (base : BaseState) (h : List Entry) (rec : Rec) → IsNotStale base h rec → commits rec ≡ true
+current-commit : (base : BaseState) (h : List Placed) (rec : Rec) → IsNotStale base h rec → commits rec ≡ true
     → AllByRecursion (IsCurrent base h) (updates_of (txn_of rec) h)
 current-commit base h (Genesis account balance) fresh is = absurd (true≢false (sym is))
 current-commit base h (Update txn account delta prev) fresh is = absurd (true≢false (sym is))
@@ -47,19 +47,19 @@ current-commit base h (Note txn text) fresh is = absurd (true≢false (sym is))
 -- ---- what stands behind an end record
 
 -- a Genesis stands on Genesis records alone
-abbrev OpensAlone : List Entry → Type 0
+abbrev OpensAlone : List Placed → Type 0
 OpensAlone [] = Unit {0}
-OpensAlone (entry ∷ h) = (IsGenesis entry.rec → AllByRecursion (λ (other : Entry). IsGenesis other.rec) h) × OpensAlone h
+OpensAlone (entry ∷ h) = (IsGenesis entry.rec → AllByRecursion (λ (other : Placed). IsGenesis other.rec) h) × OpensAlone h
 
-opens-after : (base : BaseState) (h : List Entry) → IsLawfulAfter base h → OpensAlone h
+opens-after : (base : BaseState) (h : List Placed) → IsLawfulAfter base h → OpensAlone h
 opens-after base [] lawful = tt
 opens-after base (entry ∷ h) lawful = ((λ is. absurd (lawful.0.0 is)), opens-after base h lawful.1)
 
-opens-log : (h : List Entry) → IsLawful h → OpensAlone h
+opens-log : (h : List Placed) → IsLawful h → OpensAlone h
 opens-log [] lawful = tt
 opens-log (entry ∷ h) lawful = (by_kind entry.rec entry.end lawful, opens-log h lawful.1)
   where
-    by_kind : (rec : Rec) (end : ℕ) → IsLawful (record { end = end; rec = rec } ∷ h) → IsGenesis rec → AllByRecursion (λ (other : Entry). IsGenesis other.rec) h
+    by_kind : (rec : Rec) (end : ℕ) → IsLawful (record { end = end; rec = rec } ∷ h) → IsGenesis rec → AllByRecursion (λ (other : Placed). IsGenesis other.rec) h
     by_kind (Genesis account balance) end lawful is = lawful.0.0.0
     by_kind (Update txn account delta prev) end lawful is = absurd is
     by_kind (Commit txn legs) end lawful is = absurd is
@@ -76,7 +76,7 @@ genesis-not-end (Over txn leg) is on = is
 genesis-not-end (Note txn text) is on = is
 
 -- a record of a transaction that has ended is a Genesis
-unended-genesis : (h : List Entry) (rec : Rec) → IsUnended h rec → has_end (records_of (txn_of rec) h) ≡ true → IsGenesis rec
+unended-genesis : (h : List Placed) (rec : Rec) → IsUnended h rec → has_end (own_records_of (txn_of rec) h) ≡ true → IsGenesis rec
 unended-genesis h (Genesis account balance) off on = tt
 unended-genesis h (Update txn account delta prev) off on = absurd (true≢false (sym on ∙ off))
 unended-genesis h (Commit txn legs) off on = absurd (true≢false (sym on ∙ off))
@@ -84,16 +84,16 @@ unended-genesis h (Short txn leg) off on = absurd (true≢false (sym on ∙ off)
 unended-genesis h (Over txn leg) off on = absurd (true≢false (sym on ∙ off))
 unended-genesis h (Note txn text) off on = absurd (true≢false (sym on ∙ off))
 
-module _ (base : BaseState) (front : List Entry) (entry : Entry) where
-  has_end-front : (later : List Entry) → ends entry.rec ≡ true → has_end (records_of (txn_of entry.rec) (later ++ entry ∷ front)) ≡ true
+module _ (base : BaseState) (front : List Placed) (entry : Placed) where
+  has_end-front : (later : List Placed) → ends entry.rec ≡ true → has_end (own_records_of (txn_of entry.rec) (later ++ entry ∷ front)) ≡ true
   has_end-front [] on =
-      ap (λ entries. has_end (recs_of entries)) (of_transaction-same (txn_of entry.rec) entry front refl) ∙ ap (λ b. b || has_end (records_of (txn_of entry.rec) front)) on
+      ap (λ entries. has_end (recs_of entries)) (of_transaction-same (txn_of entry.rec) entry front refl) ∙ ap (λ b. b || has_end (own_records_of (txn_of entry.rec) front)) on
   has_end-front (next ∷ later) on = dite (ℕ_discrete (txn_of next.rec) (txn_of entry.rec))
       (λ same. ap (λ entries. has_end (recs_of entries)) (of_transaction-same (txn_of entry.rec) next (later ++ entry ∷ front) same)
       ∙ ap (λ b. ends next.rec || b) (has_end-front later on) ∙ or-true (ends next.rec))
       (λ other. ap (λ entries. has_end (recs_of entries)) (of_transaction-other (txn_of entry.rec) next (later ++ entry ∷ front) other) ∙ has_end-front later on)
 
-  of_transaction-ended : (later : List Entry) → AreMet base (later ++ entry ∷ front) → OpensAlone (later ++ entry ∷ front) → ends entry.rec ≡ true
+  of_transaction-ended : (later : List Placed) → AreMet base (later ++ entry ∷ front) → OpensAlone (later ++ entry ∷ front) → ends entry.rec ≡ true
       → of_transaction (txn_of entry.rec) later ≡ []
   of_transaction-ended [] met opens on = refl
   of_transaction-ended (next ∷ later) met opens on =
@@ -101,15 +101,15 @@ module _ (base : BaseState) (front : List Entry) (entry : Entry) where
     where
       apart : txn_of next.rec ≢ txn_of entry.rec
       apart same =
-          let ended = ap (λ n. has_end (records_of n (later ++ entry ∷ front))) same ∙ has_end-front later on in
+          let ended = ap (λ n. has_end (own_records_of n (later ++ entry ∷ front))) same ∙ has_end-front later on in
           let below = opens.0 (unended-genesis (later ++ entry ∷ front) next.rec met.0.ended ended) in
-          genesis-not-end entry.rec (all-split (λ (other : Entry). IsGenesis other.rec) later (entry ∷ front) below).1.0 on
+          genesis-not-end entry.rec (all-split (λ (other : Placed). IsGenesis other.rec) later (entry ∷ front) below).1.0 on
 
-  met-front : (later : List Entry) → AreMet base (later ++ entry ∷ front) → AreMet base (entry ∷ front)
+  met-front : (later : List Placed) → AreMet base (later ++ entry ∷ front) → AreMet base (entry ∷ front)
   met-front [] met = met
   met-front (next ∷ later) met = met-front later met.1
 
-  stands-between : (later : List Entry) → AreMet base (later ++ entry ∷ front) → OpensAlone (later ++ entry ∷ front) → StandsBetween base front later entry
+  stands-between : (later : List Placed) → AreMet base (later ++ entry ∷ front) → OpensAlone (later ++ entry ∷ front) → StandsBetween base front later entry
   stands-between later met opens = record {
     update = are-built_on base front (changes_of entry.rec) (current-update base front entry.rec (met-front later met).0.prev);
     commit = λ is. are-built_on base front (updates_of (txn_of entry.rec) front) (current-commit base front entry.rec (met-front later met).0.stale is);
@@ -118,12 +118,12 @@ module _ (base : BaseState) (front : List Entry) (entry : Entry) where
 
 -- ---- whole histories
 
-predecessors-met : (base : BaseState) (h : List Entry) → AreMet base h → OpensAlone h → HasPredecessors base h
+predecessors-met : (base : BaseState) (h : List Placed) → AreMet base h → OpensAlone h → HasPredecessors base h
 predecessors-met base h met opens later front entry whole =
     stands-between base front entry later (subst (AreMet base) whole met) (subst OpensAlone whole opens)
 
-pub predecessors-log : (h : List Entry) → IsLawful h → HasPredecessors (genesis_of h) h
+pub predecessors-log : (h : List Placed) → IsLawful h → HasPredecessors (genesis_of h) h
 predecessors-log h lawful = predecessors-met (genesis_of h) h (met-log h lawful) (opens-log h lawful)
 
-pub predecessors-after : (base : BaseState) (h : List Entry) → IsLawfulAfter base h → HasPredecessors base h
+pub predecessors-after : (base : BaseState) (h : List Placed) → IsLawfulAfter base h → HasPredecessors base h
 predecessors-after base h lawful = predecessors-met base h (met-after base h lawful) (opens-after base h lawful)

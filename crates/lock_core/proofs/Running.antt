@@ -8,7 +8,7 @@ use Rattle.log_record.specs.declared.limits.TheConstants.{MOST_BALANCE}
 use Rattle.lock_core.specs.Records.{ends}
 use Rattle.lock_core.specs.Transactions.{has_end, all_without_prev, in_order}
 use Rattle.lock_core.proofs.OneMore.{neither}
-use Rattle.lock_core.specs.Alone.{Job, Outcome, Done, ShortAt, OverAt, lacks, overfills, after_leg, outcome_from, outcome_alone, with_note, leg_updates, legs_passed, end_record, outcome_records, planned_from, planned_records}
+use Rattle.lock_core.specs.Alone.{PlainTransfer, Outcome, Done, ShortAt, OverAt, lacks, overfills, after_leg, outcome_from, outcome_alone, with_note, leg_updates, legs_passed, end_record, outcome_records, planned_from, planned_records}
 
 -- a last commit of 0 for each account
 abbrev pub no_commit : ℕ → ℕ
@@ -63,7 +63,7 @@ planned_from-without_prev txn last_commit balance k (leg ∷ legs) =
     by_case false true same = refl
     by_case false false same = ap (λ records. Update txn leg.0 (neg_ℤ (pos leg.2)) 0 ∷ Update txn leg.1 (pos leg.2) 0 ∷ records) same
 
-pub planned_records-without_prev : (txn : ℕ) (job : Job) (last_commit balance : ℕ → ℕ)
+pub planned_records-without_prev : (txn : ℕ) (job : PlainTransfer) (last_commit balance : ℕ → ℕ)
     → all_without_prev (planned_records txn job last_commit balance) ≡ planned_records txn job no_commit balance
 planned_records-without_prev txn job last_commit balance = by_note job.note
   where
@@ -134,7 +134,7 @@ planned_from-outcome txn k (leg ∷ legs) balance =
     by_case false false (OverAt at) later rest = more (at - 1 - (k + 1)) (at - 1 - k) (Over txn at) (Over txn at) (omega arith) refl rest
 
 -- the records leg by leg are those of the outcome
-pub planned_records-outcome : (txn : ℕ) (job : Job) (balance : ℕ → ℕ) → planned_records txn job no_commit balance ≡ outcome_records txn job (outcome_alone job balance)
+pub planned_records-outcome : (txn : ℕ) (job : PlainTransfer) (balance : ℕ → ℕ) → planned_records txn job no_commit balance ≡ outcome_records txn job (outcome_alone job balance)
 planned_records-outcome txn job balance = ap (with_note txn job.note) (planned_from-outcome txn 0 job.legs balance ∙ by_outcome (outcome_from 0 job.legs balance))
   where
     by_outcome : (outcome : Outcome) → leg_updates txn (take (passed_behind 0 job.legs outcome) job.legs) ++ end_behind txn 0 job.legs outcome ∷ []
@@ -161,7 +161,7 @@ with_note-append txn [] xs ys = refl
 with_note-append txn (byte ∷ bytes) xs ys = refl
 
 -- what stands before the end record of an outcome is a front of the Note and the Updates of all legs
-pub before-end : (txn : ℕ) (job : Job) (outcome : Outcome) (records : List Rec) (end : Rec) → in_order (end ∷ records) [] ≡ outcome_records txn job outcome
+pub before-end : (txn : ℕ) (job : PlainTransfer) (outcome : Outcome) (records : List Rec) (end : Rec) → in_order (end ∷ records) [] ≡ outcome_records txn job outcome
     → (rest : List Rec) × (in_order records rest ≡ with_note txn job.note (leg_updates txn job.legs))
 before-end txn job outcome records end are = (
   after,
@@ -183,7 +183,7 @@ before-end txn job outcome records end are = (
         (sym (in_order-append records [] (end ∷ [])) ∙ are ∙ with_note-append txn job.note before (end_record txn job outcome ∷ []))).0
 
 -- a front of the Note and the Updates has no end record
-pub has_end-front : (txn : ℕ) (job : Job) (records rest : List Rec) → in_order records rest ≡ with_note txn job.note (leg_updates txn job.legs) → has_end records ≡ false
+pub has_end-front : (txn : ℕ) (job : PlainTransfer) (records rest : List Rec) → in_order records rest ≡ with_note txn job.note (leg_updates txn job.legs) → has_end records ≡ false
 has_end-front txn job records rest are = unturned records rest (ap has_end are ∙ by_note job.note)
   where
     updates : (legs : List (ℕ × ℕ × ℕ)) → has_end (leg_updates txn legs) ≡ false

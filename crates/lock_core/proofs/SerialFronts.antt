@@ -4,12 +4,12 @@ use Rattle.std.specs.List.{AllByRecursion}
 use mathlib.Core.Logic.{dite}
 use native.Mathlib.Decide.{ℕ_discrete, dec_le}
 use Rattle.log_record.specs.declared.rec.Rec.{Rec}
-use Rattle.log_record.specs.declared.rec.Entry.{Entry}
+use Rattle.log_record.specs.declared.rec.Placed.{Placed}
 use Rattle.log_record.specs.declared.rec.Rec.TheVariants.{Genesis, Update, Commit, Short, Over, Note}
 use Rattle.lock_core.specs.Records.{txn_of, ends, without_prev}
-use Rattle.lock_core.specs.Transactions.{of_transaction, recs_of, records_of, has_end, all_without_prev, in_order}
+use Rattle.lock_core.specs.Transactions.{of_transaction, recs_of, own_records_of, has_end, all_without_prev, in_order}
 use Rattle.lock_core.specs.Sums.{BaseState, balance_of}
-use Rattle.lock_core.specs.Alone.{Job, outcome_alone, outcome_records}
+use Rattle.lock_core.specs.Alone.{PlainTransfer, outcome_alone, outcome_records}
 use Rattle.lock_core.specs.Serial.{Task, numbered, IsRunWhole, IsCutShort, HasNoOthers, IsSerialAfter, IsPartlySerialAfter}
 use Rattle.lock_core.proofs.OneMore.{of_transaction-same, of_transaction-other}
 use Rattle.lock_core.proofs.Apart.{of_transaction-older}
@@ -20,7 +20,7 @@ all-map P Q f [] all = tt
 all-map P Q f (x ∷ xs) all = (f x all.0, all-map P Q f xs all.1)
 
 -- one record less
-cut_short-before : (entry : Entry) (h : List Entry) (task : Task) → IsCutShort (entry ∷ h) task → IsCutShort h task
+cut_short-before : (entry : Placed) (h : List Placed) (task : Task) → IsCutShort (entry ∷ h) task → IsCutShort h task
 cut_short-before entry h task cut = dite (ℕ_discrete (txn_of entry.rec) task.number)
     (λ same. record {
       rest = without_prev entry.rec ∷ cut.rest;
@@ -31,28 +31,28 @@ cut_short-before entry h task cut = dite (ℕ_discrete (txn_of entry.rec) task.n
       front = ap (λ entries. in_order (all_without_prev (recs_of entries)) cut.rest) (sym (of_transaction-other task.number entry h other)) ∙ cut.front;
     })
 
-abbrev pub IsRunPartly : BaseState → List Entry → Task → Type 0
+abbrev pub IsRunPartly : BaseState → List Placed → Task → Type 0
 IsRunPartly base h task = IsRunWhole base h task ⊎ IsCutShort h task
 
 -- without its end record a transfer is cut short
-pub cut_short-end : (base : BaseState) (entry : Entry) (h : List Entry) (task : Task)
-    → in_order (all_without_prev (entry.rec ∷ records_of task.number h)) [] ≡ outcome_records task.number task.job (outcome_alone task.job (balance_of base h))
+pub cut_short-end : (base : BaseState) (entry : Placed) (h : List Placed) (task : Task)
+    → in_order (all_without_prev (entry.rec ∷ own_records_of task.number h)) [] ≡ outcome_records task.number task.job (outcome_alone task.job (balance_of base h))
     → IsCutShort h task
 cut_short-end base entry h task are =
-    let found = before-end task.number task.job (outcome_alone task.job (balance_of base h)) (all_without_prev (records_of task.number h)) (without_prev entry.rec) are in
+    let found = before-end task.number task.job (outcome_alone task.job (balance_of base h)) (all_without_prev (own_records_of task.number h)) (without_prev entry.rec) are in
     record { rest = found.0; front = found.1 }
 
-run_partly-before : (base : BaseState) (entry : Entry) (h : List Entry) (task : Task) → IsRunPartly base (entry ∷ h) task → IsRunPartly base h task
+run_partly-before : (base : BaseState) (entry : Placed) (h : List Placed) (task : Task) → IsRunPartly base (entry ∷ h) task → IsRunPartly base h task
 run_partly-before base entry h task (inr cut) = inr (cut_short-before entry h task cut)
 run_partly-before base entry h task (inl run) = by_later run.later run.whole run.last
   where
-    by_later : (later : List Entry) → entry ∷ h ≡ later ++ run.end ∷ run.front → of_transaction task.number later ≡ [] → IsRunPartly base h task
+    by_later : (later : List Placed) → entry ∷ h ≡ later ++ run.end ∷ run.front → of_transaction task.number later ≡ [] → IsRunPartly base h task
     by_later [] whole last =
         let entries : entry ≡ run.end = cc whole in
         let fronts : h ≡ run.front = cc whole in
         inr (cut_short-end base entry h task
-        (subst (λ (e : Entry). in_order (all_without_prev (e.rec ∷ records_of task.number h)) [] ≡ outcome_records task.number task.job (outcome_alone task.job (balance_of base h))) (sym entries)
-        (subst (λ (f : List Entry). in_order (all_without_prev (run.end.rec ∷ records_of task.number f)) [] ≡ outcome_records task.number task.job (outcome_alone task.job (balance_of base f))) (sym fronts)
+        (subst (λ (e : Placed). in_order (all_without_prev (e.rec ∷ own_records_of task.number h)) [] ≡ outcome_records task.number task.job (outcome_alone task.job (balance_of base h))) (sym entries)
+        (subst (λ (f : List Placed). in_order (all_without_prev (run.end.rec ∷ own_records_of task.number f)) [] ≡ outcome_records task.number task.job (outcome_alone task.job (balance_of base f))) (sym fronts)
         run.records)))
     by_later (newest ∷ later) whole last =
         let rest : h ≡ later ++ run.end ∷ run.front = cc whole in
@@ -67,7 +67,7 @@ run_partly-before base entry h task (inl run) = by_later run.later run.whole run
           records = run.records;
         })
 
-pub partly_serial-front : (base : BaseState) (tasks : List Task) (later h : List Entry) → IsPartlySerialAfter base tasks (later ++ h) → IsPartlySerialAfter base tasks h
+pub partly_serial-front : (base : BaseState) (tasks : List Task) (later h : List Placed) → IsPartlySerialAfter base tasks (later ++ h) → IsPartlySerialAfter base tasks h
 partly_serial-front base tasks [] h serial = serial
 partly_serial-front base tasks (entry ∷ later) h serial = partly_serial-front base tasks later h (record {
   each = all-map (IsRunPartly base (entry ∷ (later ++ h))) (IsRunPartly base (later ++ h)) (run_partly-before base entry (later ++ h)) tasks serial.each;
@@ -75,7 +75,7 @@ partly_serial-front base tasks (entry ∷ later) h serial = partly_serial-front 
 })
 
 -- a serial history is partly serial, and a partly serial one in which each transfer has an end record is serial
-pub serial-partly : (base : BaseState) (tasks : List Task) (h : List Entry) → IsSerialAfter base tasks h → IsPartlySerialAfter base tasks h
+pub serial-partly : (base : BaseState) (tasks : List Task) (h : List Placed) → IsSerialAfter base tasks h → IsPartlySerialAfter base tasks h
 serial-partly base tasks h serial = record {
   each = all-map (IsRunWhole base h) (IsRunPartly base h) (λ task run. inl run) tasks serial.each;
   others = serial.others;
@@ -93,22 +93,22 @@ pub has_end-without_prev : (records : List Rec) → has_end (all_without_prev re
 has_end-without_prev [] = refl
 has_end-without_prev (rec ∷ records) = λ i. ends-without_prev rec i || has_end-without_prev records i
 
-pub partly-serial : (base : BaseState) (tasks : List Task) (h : List Entry) → AllByRecursion (λ (task : Task). has_end (records_of task.number h) ≡ true) tasks
+pub partly-serial : (base : BaseState) (tasks : List Task) (h : List Placed) → AllByRecursion (λ (task : Task). has_end (own_records_of task.number h) ≡ true) tasks
     → IsPartlySerialAfter base tasks h → IsSerialAfter base tasks h
 partly-serial base tasks h ended serial = record { each = each tasks ended serial.each; others = serial.others }
   where
-    whole : (task : Task) → has_end (records_of task.number h) ≡ true → IsRunPartly base h task → IsRunWhole base h task
+    whole : (task : Task) → has_end (own_records_of task.number h) ≡ true → IsRunPartly base h task → IsRunWhole base h task
     whole task on (inl run) = run
-    whole task on (inr cut) = absurd (true≢false (sym on ∙ sym (has_end-without_prev (records_of task.number h))
-        ∙ has_end-front task.number task.job (all_without_prev (records_of task.number h)) cut.rest cut.front))
+    whole task on (inr cut) = absurd (true≢false (sym on ∙ sym (has_end-without_prev (own_records_of task.number h))
+        ∙ has_end-front task.number task.job (all_without_prev (own_records_of task.number h)) cut.rest cut.front))
 
-    each : (tasks : List Task) → AllByRecursion (λ (task : Task). has_end (records_of task.number h) ≡ true) tasks → AllByRecursion (IsRunPartly base h) tasks
+    each : (tasks : List Task) → AllByRecursion (λ (task : Task). has_end (own_records_of task.number h) ≡ true) tasks → AllByRecursion (IsRunPartly base h) tasks
         → AllByRecursion (IsRunWhole base h) tasks
     each [] ended runs = tt
     each (task ∷ tasks) ended runs = (whole task ended.0 runs.0, each tasks ended.1 runs.1)
 
 -- an entry of another transaction leaves what the history has of a transfer
-pub run_partly-other : (base : BaseState) (entry : Entry) (h : List Entry) (task : Task) → txn_of entry.rec ≢ task.number → IsRunPartly base h task → IsRunPartly base (entry ∷ h) task
+pub run_partly-other : (base : BaseState) (entry : Placed) (h : List Placed) (task : Task) → txn_of entry.rec ≢ task.number → IsRunPartly base h task → IsRunPartly base (entry ∷ h) task
 run_partly-other base entry h task other (inl run) = inl (record {
   later = entry ∷ run.later;
   end = run.end;
@@ -125,8 +125,8 @@ run_partly-other base entry h task other (inr cut) = inr (record {
 })
 
 -- what follows has transactions of the given numbers alone
-pub numbers-from : (first : ℕ) (tasks : List Task) (h : List Entry) → AllByRecursion (λ (task : Task). first ≤ task.number) tasks → HasNoOthers tasks h
-    → AllByRecursion (λ (entry : Entry). first ≤ txn_of entry.rec) h
+pub numbers-from : (first : ℕ) (tasks : List Task) (h : List Placed) → AllByRecursion (λ (task : Task). first ≤ task.number) tasks → HasNoOthers tasks h
+    → AllByRecursion (λ (entry : Placed). first ≤ txn_of entry.rec) h
 numbers-from first tasks [] from others = tt
 numbers-from first tasks (entry ∷ h) from others = (
   dite (dec_le first (txn_of entry.rec)) (λ high. high) (λ low. absurd (clash (others (txn_of entry.rec) (none tasks from low)))),
@@ -141,9 +141,9 @@ numbers-from first tasks (entry ∷ h) from others = (
     clash : of_transaction (txn_of entry.rec) (entry ∷ h) ≡ [] → ⊥
     clash empty = let some = sym (of_transaction-same (txn_of entry.rec) entry h refl) ∙ empty in cc
 
-pub numbered-from : (first : ℕ) (jobs : List Job) → AllByRecursion (λ (task : Task). first ≤ task.number) (numbered first jobs)
+pub numbered-from : (first : ℕ) (jobs : List PlainTransfer) → AllByRecursion (λ (task : Task). first ≤ task.number) (numbered first jobs)
 numbered-from first jobs = each first jobs (omega arith)
   where
-    each : (next : ℕ) (jobs : List Job) → first ≤ next → AllByRecursion (λ (task : Task). first ≤ task.number) (numbered next jobs)
+    each : (next : ℕ) (jobs : List PlainTransfer) → first ≤ next → AllByRecursion (λ (task : Task). first ≤ task.number) (numbered next jobs)
     each next [] high = tt
     each next (job ∷ jobs) high = (high, each (next + 1) jobs (omega arith))

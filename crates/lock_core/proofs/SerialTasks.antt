@@ -2,7 +2,7 @@
 use Rattle.std.proofs.Common.{◌≡◌, ◌≢◌, ◌⊎◌, inr, ⊎_elim, ℕ, List, [], ◌∷◌, ap, Contains}
 use Rattle.std.specs.List.{AllByRecursion}
 use Rattle.std.proofs.lemmas.List.Elements.{All-contains, All-from_recursion}
-use Rattle.log_record.specs.declared.rec.Entry.{Entry}
+use Rattle.log_record.specs.declared.rec.Placed.{Placed}
 use Rattle.lock_core.specs.Alone.{with_note, leg_updates}
 use Rattle.lock_core.specs.Sums.{BaseState}
 use Rattle.lock_core.specs.Transactions.{of_transaction, recs_of, all_without_prev, in_order}
@@ -12,7 +12,7 @@ use Rattle.lock_core.specs.Serial.{Task, IsRunWhole, IsCutShort, IsPartlySerialA
 abbrev pub IsNoNumberOf : List Task → ℕ → Type 0
 IsNoNumberOf tasks txn = AllByRecursion (λ (task : Task). task.number ≢ txn) tasks
 
-cut_short-none : (h : List Entry) (task : Task) → of_transaction task.number h ≡ [] → IsCutShort h task
+cut_short-none : (h : List Placed) (task : Task) → of_transaction task.number h ≡ [] → IsCutShort h task
 cut_short-none h task none = record {
   rest = with_note task.number task.job.note (leg_updates task.number task.job.legs);
   front = ap (λ entries. in_order (all_without_prev (recs_of entries)) (with_note task.number task.job.note (leg_updates task.number task.job.legs))) none;
@@ -25,7 +25,7 @@ no_number-fewer (task ∷ some) all txn among none = (
   no_number-fewer some all txn among.1 none,
 )
 
-pub partly_serial-more : (base : BaseState) (some all : List Task) (h : List Entry) → AllByRecursion (Contains all) some
+pub partly_serial-more : (base : BaseState) (some all : List Task) (h : List Placed) → AllByRecursion (Contains all) some
     → AllByRecursion (λ (task : Task). Contains some task ⊎ IsNoNumberOf some task.number) all
     → IsPartlySerialAfter base some h → IsPartlySerialAfter base all h
 partly_serial-more base some all h among each serial = record {

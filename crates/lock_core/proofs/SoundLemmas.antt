@@ -2,7 +2,7 @@
 use Rattle.std.proofs.Common.{◌≡◌, ◌<◌, ◌≤◌, ◌==◌, ◌&&◌, ◌||◌, ℕ, ◌+◌, cond, ℤ, Bool, true, false, List, [], ◌∷◌, ◌++◌, refl, ap, ◌∙◌, sym, arith, ne_eqb}
 use Rattle.std.specs.List.{AllByRecursion}
 use Rattle.log_record.specs.declared.rec.Rec.{Rec}
-use Rattle.log_record.specs.declared.rec.Entry.{Entry}
+use Rattle.log_record.specs.declared.rec.Placed.{Placed}
 use Rattle.log_record.specs.declared.rec.Rec.TheVariants.{Genesis, Update, Commit, Short, Over, Note}
 use Rattle.log_record.specs.Spelling.{IsSpellable}
 use Rattle.lock_core.specs.declared.update.Change.{Change}
@@ -22,8 +22,8 @@ use Rattle.lock_core.proofs.Conserving.{sum_below-log}
 use Rattle.lock_core.proofs.KindLemmas.{accounts-genesis}
 use Rattle.lock_core.proofs.Pairing.{updates_of-fits}
 
-pub sound-after : (before later : List Entry) → IsLawful before → 0 < (genesis_of before).accounts
-    → AllByRecursion (λ (entry : Entry). IsSpellable entry.rec) (later ++ before) → IsLawfulAfter (base_state_of before) later
+pub sound-after : (before later : List Placed) → IsLawful before → 0 < (genesis_of before).accounts
+    → AllByRecursion (λ (entry : Placed). IsSpellable entry.rec) (later ++ before) → IsLawfulAfter (base_state_of before) later
     → ShareNoTransaction later before → IsSoundAfter before (later ++ before)
 sound-after before later lawful some spellable after apart = record {
   later = later;
@@ -32,7 +32,7 @@ sound-after before later lawful some spellable after apart = record {
   range = in_range-log (later ++ before) spellable whole;
   sum = sum_below-log (later ++ before) spellable whole
       ∙ ap (λ (base : BaseState). sum_below base.accounts base.balance) (genesis_of-append (base_state_of before) later before after)
-      ∙ sym (sum_below-log before (all-split (λ (entry : Entry). IsSpellable entry.rec) later before spellable).1 lawful);
+      ∙ sym (sum_below-log before (all-split (λ (entry : Placed). IsSpellable entry.rec) later before spellable).1 lawful);
 }
   where
     whole : IsLawful (later ++ before)
@@ -64,7 +64,7 @@ changes_of-known base (Over txn leg) known = tt
 changes_of-known base (Note txn text) known = tt
 
 module _ (base : BaseState) (account : ℕ) (past : base.accounts ≤ account) where
-  moved_by-past : (counts : ℕ → Bool) (side : ℤ → ℕ) (h : List Entry) → AreMet base h → moved_by counts side account h ≡ 0
+  moved_by-past : (counts : ℕ → Bool) (side : ℤ → ℕ) (h : List Placed) → AreMet base h → moved_by counts side account h ≡ 0
   moved_by-past counts side [] met = refl
   moved_by-past counts side (entry ∷ h) met =
       let here = moved-past side base.accounts account (changes_of entry.rec) past (changes_of-known base entry.rec met.0.account) in
@@ -76,7 +76,7 @@ module _ (base : BaseState) (account : ℕ) (past : base.accounts ≤ account) w
       by_count true here rest = omega arith
       by_count false here rest = omega arith
 
-  last_commit_of-past : (h : List Entry) → AreMet base h → last_commit_of base h account ≡ base.last_commit account
+  last_commit_of-past : (h : List Placed) → AreMet base h → last_commit_of base h account ≡ base.last_commit account
   last_commit_of-past [] met = refl
   last_commit_of-past (entry ∷ h) met =
       let no_touch = touches-past base.accounts account (updates_of (txn_of entry.rec) h) past (updates_of-fits base h (txn_of entry.rec) met.1).known in
@@ -86,7 +86,7 @@ module _ (base : BaseState) (account : ℕ) (past : base.accounts ≤ account) w
       by_kind true on off = ap (λ b. cond b entry.end (last_commit_of base h account)) off
       by_kind false on off = refl
 
-genesis_of-past : (h : List Entry) (account : ℕ) → IsLawful h → (genesis_of h).accounts ≤ account → (genesis_of h).balance account ≡ 0
+genesis_of-past : (h : List Placed) (account : ℕ) → IsLawful h → (genesis_of h).accounts ≤ account → (genesis_of h).balance account ≡ 0
 genesis_of-past [] account lawful past = refl
 genesis_of-past (entry ∷ h) account lawful past = by_kind entry.rec lawful.0.0 (genesis_of-past h account lawful.1) past
   where
@@ -102,7 +102,7 @@ genesis_of-past (entry ∷ h) account lawful past = by_kind entry.rec lawful.0.0
     by_kind (Note txn text) opens before past = before past
 
 -- an account that a lawful list doesn't have has nothing, and no Commit
-pub base_state-past : (h : List Entry) (account : ℕ) → IsLawful h → (genesis_of h).accounts ≤ account
+pub base_state-past : (h : List Placed) (account : ℕ) → IsLawful h → (genesis_of h).accounts ≤ account
     → ((base_state_of h).balance account ≡ 0) × ((base_state_of h).last_commit account ≡ 0)
 base_state-past h account lawful past =
     let met = met-log h lawful in

@@ -4,7 +4,7 @@ use Rattle.std.specs.Prelude.{OnOk, IfErr, MatchResult}
 use Rattle.std.specs.List.{AllByRecursion}
 use Rattle.log_record.specs.declared.limits.TheConstants.{MOST_LEGS}
 use Rattle.log_record.specs.declared.rec.Rec.{Rec}
-use Rattle.log_record.specs.declared.rec.Entry.{Entry}
+use Rattle.log_record.specs.declared.rec.Placed.{Placed}
 use Rattle.log_record.specs.declared.rec.Rec.TheVariants.{Genesis, Update, Commit, Short, Over, Note}
 use Rattle.log_record.specs.Spelling.{IsBalance}
 use Rattle.lsn_space.specs.Accounts.{Accounts}
@@ -14,7 +14,7 @@ use Rattle.lock_core.specs.declared.reason.Why.TheVariants as why
 use Rattle.lock_core.specs.declared.update.Change.{Change}
 use Rattle.lock_core.specs.declared.transactions.Transactions.{Transactions}
 use Rattle.lock_core.specs.declared.ledger.Ledger.{Ledger}
-use Rattle.lock_core.specs.Transactions.{records_of, updates_of, has_end}
+use Rattle.lock_core.specs.Transactions.{own_records_of, updates_of, has_end}
 use Rattle.lock_core.specs.Tests.{IsGenesis, OpensLedger, IsPaired}
 use Rattle.lock_core.specs.Lawful.{tests, Passes, IsLawful, genesis_of, with_genesis}
 use Rattle.lock_core.specs.Faults.{IsFirstFailing}
@@ -26,7 +26,7 @@ use Rattle.lock_core.proofs.JudgingLemmas.{judged-plain}
 use Rattle.lock_core.proofs.KeepingLemmas.{keeps-idle}
 
 -- a lawful history with a record has an account
-pub accounts-some : (h : List Entry) → IsLawful h → 0 < length h → 0 < (genesis_of h).accounts
+pub accounts-some : (h : List Placed) → IsLawful h → 0 < length h → 0 < (genesis_of h).accounts
 accounts-some [] lawful some = absurd (omega arith)
 accounts-some (entry ∷ h) lawful some = by_kind entry.rec entry.end lawful.0 (accounts-some h lawful.1)
   where
@@ -39,7 +39,7 @@ accounts-some (entry ∷ h) lawful some = by_kind entry.rec entry.end lawful.0 (
     by_kind (Over txn leg) end passes before = before passes.0
     by_kind (Note txn text) end passes before = before passes.0
 
-opens-some : (h : List Entry) (rec : Rec) → (IsGenesis rec → ⊥) → OpensLedger h rec → 0 < length h
+opens-some : (h : List Placed) (rec : Rec) → (IsGenesis rec → ⊥) → OpensLedger h rec → 0 < length h
 opens-some h (Genesis account balance) other opens = absurd (other tt)
 opens-some h (Update txn account delta prev) other opens = opens
 opens-some h (Commit txn legs) other opens = opens
@@ -54,12 +54,12 @@ match-ended F (Ok x) ok memory f none = f ok
 match-ended F (Err e) ok memory f none = subst F (sym memory) none
 
 -- a ledger with these parts
-pub keeps-parts : (new : Ledger) (accounts : Accounts) (h : List Entry) → new.accounts ≡ accounts → new.is_opening ≡ false
+pub keeps-parts : (new : Ledger) (accounts : Accounts) (h : List Placed) → new.accounts ≡ accounts → new.is_opening ≡ false
     → KeepsLedger (record { accounts = accounts; is_opening = false; txns = new.txns }) h → KeepsLedger new h
 keeps-parts new accounts h same over keeps =
     subst (λ (l : Ledger). KeepsLedger l h) (λ i. record { accounts = sym same i; is_opening = sym over i; txns = new.txns }) keeps
 
-module _ (ledger : Ledger) (h : List Entry) (kept : KeepsLedger ledger h) where
+module _ (ledger : Ledger) (h : List Placed) (kept : KeepsLedger ledger h) where
   counted : length ledger.accounts.rows ≡ (genesis_of h).accounts
   counted = kept.judged.rows.count
 
@@ -67,19 +67,19 @@ module _ (ledger : Ledger) (h : List Entry) (kept : KeepsLedger ledger h) where
   some-taken some = let same = counted in let most = accounts-most h in let none : (genesis_of h).accounts ≡ 0 → ⊥ = (λ is. some (same ∙ is)) in omega (arith, none)
 
   -- the first record is a Genesis
-  pub fails-first : (entry : Entry) → (IsGenesis entry.rec → ⊥) → length ledger.accounts.rows ≡ 0 → IsFirstFailing (Passes h entry) why.Genesis
+  pub fails-first : (entry : Placed) → (IsGenesis entry.rec → ⊥) → length ledger.accounts.rows ≡ 0 → IsFirstFailing (Passes h entry) why.Genesis
   fails-first entry other none = record {
     passes = tt;
     fails = λ opens. let some = accounts-some h kept.judged.lawful (opens-some h entry.rec other opens) in let same = counted in omega arith;
   }
 
   -- a record that is no Genesis ends the opening
-  pub opening-over : (entry : Entry) → (IsGenesis entry.rec → ⊥) → (false ≡ true → AllByRecursion (λ (e : Entry). IsGenesis e.rec) (entry ∷ h)) × (AllByRecursion (λ (e : Entry). IsGenesis e.rec) (entry ∷ h) → false ≡ true)
+  pub opening-over : (entry : Placed) → (IsGenesis entry.rec → ⊥) → (false ≡ true → AllByRecursion (λ (e : Placed). IsGenesis e.rec) (entry ∷ h)) × (AllByRecursion (λ (e : Placed). IsGenesis e.rec) (entry ∷ h) → false ≡ true)
   opening-over entry other = ((λ on. absurd (true≢false (sym on))), (λ all. absurd (other all.0)))
 
   -- a Genesis
   module _ (end account balance : ℕ) where
-    abbrev genesis : Entry
+    abbrev genesis : Placed
     genesis = record { end = end; rec = Genesis account balance }
 
     pub fails-opening : ledger.is_opening ≡ false → IsFirstFailing (Passes h genesis) why.Genesis
@@ -108,27 +108,27 @@ module _ (ledger : Ledger) (h : List Entry) (kept : KeepsLedger ledger h) where
 
   -- an Update
   module _ (end txn : ℕ) (change : Change) (some : 0 < length h) (below : change.account < length ledger.accounts.rows) where
-    abbrev update : Entry
+    abbrev update : Placed
     update = record { end = end; rec = Update txn change.account change.delta change.prev }
 
     known : change.account < (genesis_of h).accounts
     known = let same = counted in omega arith
 
-    pub fails-update-legs : has_end (records_of txn h) ≡ false → 2 * MOST_LEGS ≤ length (updates_of txn h) → IsFirstFailing (Passes h update) why.Legs
+    pub fails-update-legs : has_end (own_records_of txn h) ≡ false → 2 * MOST_LEGS ≤ length (updates_of txn h) → IsFirstFailing (Passes h update) why.Legs
     fails-update-legs unended many = record { passes = (some, (known, (unended, tt))); fails = λ few. omega arith }
 
-    pub fails-update-pair : has_end (records_of txn h) ≡ false → length (updates_of txn h) < 2 * MOST_LEGS → (IsPaired (updates_of txn h) change → ⊥)
+    pub fails-update-pair : has_end (own_records_of txn h) ≡ false → length (updates_of txn h) < 2 * MOST_LEGS → (IsPaired (updates_of txn h) change → ⊥)
         → IsFirstFailing (Passes h update) why.Pair
     fails-update-pair unended few apart = record { passes = (some, (known, (unended, (few, tt)))); fails = apart }
 
-    pub fails-update-prev : has_end (records_of txn h) ≡ false → length (updates_of txn h) < 2 * MOST_LEGS → IsPaired (updates_of txn h) change
+    pub fails-update-prev : has_end (own_records_of txn h) ≡ false → length (updates_of txn h) < 2 * MOST_LEGS → IsPaired (updates_of txn h) change
         → (change.prev ≡ (row ledger.accounts.rows change.account).1 → ⊥) → IsFirstFailing (Passes h update) why.Prev
     fails-update-prev unended few paired stale = record {
       passes = (some, (known, (unended, (few, (paired, tt)))));
       fails = λ names. stale (names ∙ sym (kept.judged.rows.last change.account below));
     }
 
-    pub takes-update : (txns : Transactions) → has_end (records_of txn h) ≡ false → length (updates_of txn h) < 2 * MOST_LEGS → IsPaired (updates_of txn h) change
+    pub takes-update : (txns : Transactions) → has_end (own_records_of txn h) ≡ false → length (updates_of txn h) < 2 * MOST_LEGS → IsPaired (updates_of txn h) change
         → change.prev ≡ (row ledger.accounts.rows change.account).1 → KeepsTransactions txns (update ∷ h)
         → KeepsLedger (record { accounts = ledger.accounts; is_opening = false; txns = txns }) (update ∷ h)
     takes-update txns unended few paired names keeps = record {
@@ -140,7 +140,7 @@ module _ (ledger : Ledger) (h : List Entry) (kept : KeepsLedger ledger h) where
 
   -- a Commit
   module _ (end txn legs : ℕ) (changes : List Change) (on : IsCommitting h txn legs changes) where
-    abbrev commit : Entry
+    abbrev commit : Placed
     commit = record { end = end; rec = Commit txn legs }
 
     abbrev AreCurrentRows : Type 0
@@ -165,11 +165,11 @@ module _ (ledger : Ledger) (h : List Entry) (kept : KeepsLedger ledger h) where
     }
 
   -- a Short, an Over
-  module _ (end txn leg : ℕ) (some : 0 < length h) (unended : has_end (records_of txn h) ≡ false) where
-    abbrev short : Entry
+  module _ (end txn leg : ℕ) (some : 0 < length h) (unended : has_end (own_records_of txn h) ≡ false) where
+    abbrev short : Placed
     short = record { end = end; rec = Short txn leg }
 
-    abbrev over : Entry
+    abbrev over : Placed
     over = record { end = end; rec = Over txn leg }
 
     pub fails-short-legs : (length (updates_of txn h) ≡ 2 * (leg - 1) → ⊥) → IsFirstFailing (Passes h short) why.Legs
@@ -197,9 +197,9 @@ module _ (ledger : Ledger) (h : List Entry) (kept : KeepsLedger ledger h) where
     }
 
   -- a Note
-  pub takes-note : (end txn : ℕ) (text : List ℕ) → 0 < length h → has_end (records_of txn h) ≡ false
+  pub takes-note : (end txn : ℕ) (text : List ℕ) → 0 < length h → has_end (own_records_of txn h) ≡ false
       → KeepsLedger (record { accounts = ledger.accounts; is_opening = false; txns = ledger.txns }) (record { end = end; rec = Note txn text } ∷ h)
-  takes-note end txn text some unended = let note : Entry = record { end = end; rec = Note txn text } in record {
+  takes-note end txn text some unended = let note : Placed = record { end = end; rec = Note txn text } in record {
     judged = judged-plain ledger.accounts h end note.rec (λ never. never) refl kept.judged
         (some, (tt, (unended, (tt, (tt, (tt, (tt, ((λ on. absurd (true≢false (sym on))), tt))))))));
     opening = opening-over note (λ never. never);

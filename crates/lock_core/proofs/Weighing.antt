@@ -4,10 +4,10 @@ use Rattle.std.specs.List.{AllByRecursion}
 use mathlib.Core.Logic.{dite}
 use native.Mathlib.Decide.{ℕ_discrete}
 use Rattle.log_record.specs.declared.rec.Rec.{Rec}
-use Rattle.log_record.specs.declared.rec.Entry.{Entry}
+use Rattle.log_record.specs.declared.rec.Placed.{Placed}
 use Rattle.lock_core.specs.History.{end_from, entry_at, history_from}
 use Rattle.lock_core.specs.Records.{txn_of, without_prev}
-use Rattle.lock_core.specs.Transactions.{of_transaction, recs_of, records_of, all_without_prev, in_order}
+use Rattle.lock_core.specs.Transactions.{of_transaction, recs_of, own_records_of, all_without_prev, in_order}
 use Rattle.lock_core.specs.Serial.{Task, HasNoOthers}
 use Rattle.lock_core.specs.AnyOrder.{weight_of}
 use Rattle.lock_core.proofs.OneMore.{neither, of_transaction-same}
@@ -68,7 +68,7 @@ has_number-none (task ∷ tasks) n off =
     ((λ same. true≢false (sym (eq-eqb n task.number (sym same)) ∙ parts.0)), has_number-none tasks n parts.1)
 
 -- each entry is of one of the transfers
-has_number-entry : (tasks : List Task) (entry : Entry) (h : List Entry) → HasNoOthers tasks (entry ∷ h) → has_number tasks (txn_of entry.rec) ≡ true
+has_number-entry : (tasks : List Task) (entry : Placed) (h : List Placed) → HasNoOthers tasks (entry ∷ h) → has_number tasks (txn_of entry.rec) ≡ true
 has_number-entry tasks entry h others = by_case (has_number tasks (txn_of entry.rec)) refl
   where
     by_case : (b : Bool) → has_number tasks (txn_of entry.rec) ≡ b → b ≡ true
@@ -77,27 +77,27 @@ has_number-entry tasks entry h others = by_case (has_number tasks (txn_of entry.
         let none = others (txn_of entry.rec) (has_number-none tasks (txn_of entry.rec) is) in
         let some = sym (of_transaction-same (txn_of entry.rec) entry h refl) ∙ none in cc
 
-pub weight_of-entry : (weight : Rec → ℕ) (n : ℕ) (entry : Entry) (h : List Entry)
-    → weight_of weight (records_of n (entry ∷ h)) ≡ cond (txn_of entry.rec == n) (weight entry.rec) 0 + weight_of weight (records_of n h)
+pub weight_of-entry : (weight : Rec → ℕ) (n : ℕ) (entry : Placed) (h : List Placed)
+    → weight_of weight (own_records_of n (entry ∷ h)) ≡ cond (txn_of entry.rec == n) (weight entry.rec) 0 + weight_of weight (own_records_of n h)
 weight_of-entry weight n entry h = by_case (txn_of entry.rec == n)
   where
-    by_case : (b : Bool) → weight_of weight (recs_of (cond b (entry ∷ of_transaction n h) (of_transaction n h))) ≡ cond b (weight entry.rec) 0 + weight_of weight (records_of n h)
+    by_case : (b : Bool) → weight_of weight (recs_of (cond b (entry ∷ of_transaction n h) (of_transaction n h))) ≡ cond b (weight entry.rec) 0 + weight_of weight (own_records_of n h)
     by_case true = refl
     by_case false = omega arith
 
 -- a sum over the history, transaction by transaction
-pub weight_of-tasks : (weight : Rec → ℕ) (tasks : List Task) (h : List Entry) → AreDistinct tasks → HasNoOthers tasks h
-    → weight_of weight (recs_of h) ≡ each_task (λ task. weight_of weight (records_of task.number h)) tasks
+pub weight_of-tasks : (weight : Rec → ℕ) (tasks : List Task) (h : List Placed) → AreDistinct tasks → HasNoOthers tasks h
+    → weight_of weight (recs_of h) ≡ each_task (λ task. weight_of weight (own_records_of task.number h)) tasks
 weight_of-tasks weight tasks [] distinct others = sym (each_task-none tasks)
 weight_of-tasks weight tasks (entry ∷ h) distinct others =
     let more = weight_of-tasks weight tasks h distinct (λ txn none. of_transaction-older txn (entry ∷ []) h (others txn none)) in
     let at = each_task-at (weight entry.rec) (txn_of entry.rec) tasks distinct in
     let known : cond {A = ℕ} (has_number tasks (txn_of entry.rec)) (weight entry.rec) 0 ≡ weight entry.rec
     = ap (λ b. cond {A = ℕ} b (weight entry.rec) 0) (has_number-entry tasks entry h others) in
-    let split : each_task (λ task. weight_of weight (records_of task.number (entry ∷ h))) tasks
-    ≡ each_task (λ task. cond (txn_of entry.rec == task.number) (weight entry.rec) 0 + weight_of weight (records_of task.number h)) tasks
+    let split : each_task (λ task. weight_of weight (own_records_of task.number (entry ∷ h))) tasks
+    ≡ each_task (λ task. cond (txn_of entry.rec == task.number) (weight entry.rec) 0 + weight_of weight (own_records_of task.number h)) tasks
     = λ i. each_task (λ task. weight_of-entry weight task.number entry h i) tasks in
-    let sum = each_task-add (λ task. cond (txn_of entry.rec == task.number) (weight entry.rec) 0) (λ task. weight_of weight (records_of task.number h)) tasks in
+    let sum = each_task-add (λ task. cond (txn_of entry.rec == task.number) (weight entry.rec) 0) (λ task. weight_of weight (own_records_of task.number h)) tasks in
     omega arith
 
 pub weight_of-append : (weight : Rec → ℕ) (xs ys : List Rec) → weight_of weight (xs ++ ys) ≡ weight_of weight xs + weight_of weight ys
@@ -117,7 +117,7 @@ weight_of-without_prev weight [] ignores = refl
 weight_of-without_prev weight (rec ∷ records) ignores = λ i. ignores rec i + weight_of-without_prev weight records ignores i
 
 -- the history of records has their weight
-pub weight_of-history : (weight : Rec → ℕ) (start : ℕ) (h : List Entry) (records : List Rec)
+pub weight_of-history : (weight : Rec → ℕ) (start : ℕ) (h : List Placed) (records : List Rec)
     → weight_of weight (recs_of (history_from start h records)) ≡ weight_of weight (recs_of h) + weight_of weight records
 weight_of-history weight start h [] = omega arith
 weight_of-history weight start h (rec ∷ records) =

@@ -1,13 +1,13 @@
 -- One transfer after a log of two accounts.
 use Rattle.std.proofs.Common.{◌≢◌, ◌<◌, ◌≤◌, ◌+◌, ℕ, zero, suc, ◌∙◌, pos, negsuc, true≢false, inl, List, [], ◌∷◌, refl, sym, arith}
-use Rattle.log_record.specs.declared.rec.Entry.{Entry}
+use Rattle.log_record.specs.declared.rec.Placed.{Placed}
 use Rattle.log_record.specs.declared.rec.Rec.TheVariants.{Update, Commit}
 use Rattle.log_record.specs.declared.limits.TheConstants.{MOST_BALANCE}
 use Rattle.lock_core.specs.History.{history}
 use Rattle.lock_core.specs.Transactions.{ShareNoTransaction}
 use Rattle.lock_core.specs.Sums.{AreInRange}
 use Rattle.lock_core.specs.Lawful.{IsLawfulAfter, genesis_of, base_state_of}
-use Rattle.lock_core.specs.Alone.{IsAllowed}
+use Rattle.lock_core.specs.Alone.{IsAllowedTransfer}
 use Rattle.lock_core.specs.Serial.{numbered, HasNoOthers, IsSerialAfter}
 use Rattle.lock_core.specs.AnyOrder.{taken, given, legs_of, HasRoomFor}
 use Rattle.lock_core.specs.Witness.{genesis_log, transfer, transfer_history}
@@ -48,7 +48,7 @@ transfer-serial = record {
   others = others;
 }
   where
-    rest : List Entry
+    rest : List Placed
     rest = record { end = 8; rec = Update 1 1 (pos 30) 0 } ∷ record { end = 6; rec = Update 1 0 (negsuc 29) 0 } ∷ []
 
     others : HasNoOthers (numbered 1 (transfer ∷ [])) transfer_history
@@ -64,7 +64,7 @@ pub transfer-apart : ShareNoTransaction transfer_history (history genesis_log)
 transfer-apart =
     ((other, (other, tt)), ((other, (other, tt)), ((other, (other, tt)), tt)))
 
-pub transfer-allowed : IsAllowed (genesis_of (history genesis_log)).accounts transfer
+pub transfer-allowed : IsAllowedTransfer (genesis_of (history genesis_log)).accounts transfer
 transfer-allowed = record {
   some = omega arith;
   few = omega arith;

@@ -7,7 +7,7 @@ use Rattle.log_record.specs.Spelling.{IsNoteText}
 use Rattle.log_record.specs.declared.limits.TheConstants.{MOST_BALANCE, MOST_LEGS}
 
 -- a transfer: its legs in order, each the account that pays, the account that receives and the amount, and the bytes of its note, none where it has no note
-pub record Job : Type 0 where
+pub record PlainTransfer : Type 0 where
   pub legs : List (ℕ × ℕ × ℕ)
   pub note : List ℕ
 
@@ -20,7 +20,7 @@ pub record IsAllowedLeg (accounts : ℕ) (leg : ℕ × ℕ × ℕ) : Type 0 wher
   pub most : leg.2 ≤ MOST_BALANCE
 
 -- a transfer that a log of so many accounts allows
-pub record IsAllowed (accounts : ℕ) (job : Job) : Type 0 where
+pub record IsAllowedTransfer (accounts : ℕ) (job : PlainTransfer) : Type 0 where
   pub some : 1 ≤ length job.legs
   pub few : length job.legs ≤ MOST_LEGS
   pub legs : AllByRecursion (IsAllowedLeg accounts) job.legs
@@ -58,17 +58,17 @@ after_legs [] balance = balance
 after_legs (leg ∷ legs) balance = after_legs legs (after_leg leg balance)
 
 -- the outcome of the transfer, run alone on these balances
-abbrev pub outcome_alone : Job → (ℕ → ℕ) → Outcome
+abbrev pub outcome_alone : PlainTransfer → (ℕ → ℕ) → Outcome
 outcome_alone job balance = outcome_from 0 job.legs balance
 
 -- an outcome's balances: only a transfer that is done changes them
-abbrev pub balances_after : Outcome → Job → (ℕ → ℕ) → ℕ → ℕ
+abbrev pub balances_after : Outcome → PlainTransfer → (ℕ → ℕ) → ℕ → ℕ
 balances_after Done job balance = after_legs job.legs balance
 balances_after (ShortAt leg) job balance = balance
 balances_after (OverAt leg) job balance = balance
 
 -- the balances after the transfer, run alone on these
-abbrev pub balances_after_alone : Job → (ℕ → ℕ) → ℕ → ℕ
+abbrev pub balances_after_alone : PlainTransfer → (ℕ → ℕ) → ℕ → ℕ
 balances_after_alone job balance = balances_after (outcome_alone job balance) job balance
 
 -- the Note of a transfer, if it has one, and then more records
@@ -82,20 +82,20 @@ leg_updates txn [] = []
 leg_updates txn (leg ∷ legs) = Update txn leg.0 (neg_ℤ (pos leg.2)) 0 ∷ Update txn leg.1 (pos leg.2) 0 ∷ leg_updates txn legs
 
 -- how many legs an outcome counts: all, or those before the one that it names
-abbrev pub legs_passed : Job → Outcome → ℕ
+abbrev pub legs_passed : PlainTransfer → Outcome → ℕ
 legs_passed job Done = length job.legs
 legs_passed job (ShortAt leg) = leg - 1
 legs_passed job (OverAt leg) = leg - 1
 
 -- the end record of an outcome
-abbrev pub end_record : ℕ → Job → Outcome → Rec
+abbrev pub end_record : ℕ → PlainTransfer → Outcome → Rec
 end_record txn job Done = Commit txn (length job.legs)
 end_record txn job (ShortAt leg) = Short txn leg
 end_record txn job (OverAt leg) = Over txn leg
 
 -- the records of a transfer that had this outcome, in order, `prev` left out: its Note, if it has one; two Updates for each
 -- leg that the outcome counts; its end record
-abbrev pub outcome_records : ℕ → Job → Outcome → List Rec
+abbrev pub outcome_records : ℕ → PlainTransfer → Outcome → List Rec
 outcome_records txn job outcome =
     with_note txn job.note (leg_updates txn (take (legs_passed job outcome) job.legs) ++ end_record txn job outcome ∷ [])
 
@@ -110,5 +110,5 @@ planned_from txn last_commit balance k (leg ∷ legs) =
     ∷ planned_from txn last_commit (after_leg leg balance) (k + 1) legs))
 
 -- all records of the transfer, run alone on these balances and last Commits
-abbrev pub planned_records : ℕ → Job → (ℕ → ℕ) → (ℕ → ℕ) → List Rec
+abbrev pub planned_records : ℕ → PlainTransfer → (ℕ → ℕ) → (ℕ → ℕ) → List Rec
 planned_records txn job last_commit balance = with_note txn job.note (planned_from txn last_commit balance 0 job.legs)

@@ -2,11 +2,11 @@
 use Rattle.std.specs.Prelude.{◌≡◌, ◌==◌, ℕ, ◌+◌, ◌≤◌, ◌<◌, if◌then◌else◌, List, [], ◌∷◌, ◌++◌}
 use Rattle.std.specs.List.{AllByRecursion}
 use Rattle.log_record.specs.declared.rec.Rec.{Rec}
-use Rattle.log_record.specs.declared.rec.Entry.{Entry}
+use Rattle.log_record.specs.declared.rec.Placed.{Placed}
 use Rattle.log_record.specs.declared.limits.TheConstants.{MOST_BALANCE}
-use Rattle.lock_core.specs.Transactions.{records_of, all_without_prev, in_order}
+use Rattle.lock_core.specs.Transactions.{own_records_of, all_without_prev, in_order}
 use Rattle.lock_core.specs.Sums.{BaseState}
-use Rattle.lock_core.specs.Alone.{Job, IsAllowed, Done, outcome_records}
+use Rattle.lock_core.specs.Alone.{PlainTransfer, IsAllowedTransfer, Done, outcome_records}
 use Rattle.lock_core.specs.Serial.{Task}
 
 -- what legs give to the account
@@ -20,19 +20,19 @@ taken account [] = 0
 taken account (leg ∷ legs) = (if leg.0 == account then leg.2 else 0) + taken account legs
 
 -- the legs of all transfers
-abbrev pub legs_of : List Job → List (ℕ × ℕ × ℕ)
+abbrev pub legs_of : List PlainTransfer → List (ℕ × ℕ × ℕ)
 legs_of [] = []
 legs_of (job ∷ jobs) = job.legs ++ legs_of jobs
 
 -- The log allows each transfer. Each account has what all of them take from it, and room for what all of them give to it.
-pub record HasRoomFor (base : BaseState) (jobs : List Job) : Type 0 where
-  pub allowed : AllByRecursion (IsAllowed base.accounts) jobs
+pub record HasRoomFor (base : BaseState) (jobs : List PlainTransfer) : Type 0 where
+  pub allowed : AllByRecursion (IsAllowedTransfer base.accounts) jobs
   pub covered : (account : ℕ) → account < base.accounts → taken account (legs_of jobs) ≤ base.balance account
   pub room : (account : ℕ) → account < base.accounts → base.balance account + given account (legs_of jobs) ≤ MOST_BALANCE
 
 -- the history has the records of a transfer that is done, `prev` left out, and no others of it
-abbrev pub IsDoneIn : List Entry → Task → Type 0
-IsDoneIn h task = in_order (all_without_prev (records_of task.number h)) [] ≡ outcome_records task.number task.job Done
+abbrev pub IsDoneIn : List Placed → Task → Type 0
+IsDoneIn h task = in_order (all_without_prev (own_records_of task.number h)) [] ≡ outcome_records task.number task.job Done
 
 -- the records of these transfers one after another, where all are done
 abbrev pub done_records : List Task → List Rec

@@ -1,7 +1,7 @@
 -- Where a list first goes wrong.
 use Rattle.std.specs.Prelude.{◌≡◌, ℕ, List, [], ◌∷◌, ◌++◌}
 use Rattle.std.specs.List.{AllByRecursion}
-use Rattle.log_record.specs.declared.rec.Entry.{Entry}
+use Rattle.log_record.specs.declared.rec.Placed.{Placed}
 use Rattle.lock_core.specs.declared.reason.Why.{Why}
 use Rattle.lock_core.specs.declared.reason.Why.TheVariants as why
 use Rattle.lock_core.specs.History.{end_from}
@@ -24,10 +24,10 @@ pub record IsFirstFailing (Passes' : Why → Type 0) (test : Why) : Type 0 where
   pub fails : Passes' test → ⊥
 
 -- the record that starts at this address is the first that fails a test, and this is the first test that it fails
-pub record IsUnlawfulAt (h : List Entry) (lsn : ℕ) (test : Why) : Type 0 where
-  pub later : List Entry
-  pub entry : Entry
-  pub front : List Entry
+pub record IsUnlawfulAt (h : List Placed) (lsn : ℕ) (test : Why) : Type 0 where
+  pub later : List Placed
+  pub entry : Placed
+  pub front : List Placed
   pub whole : h ≡ later ++ entry ∷ front
   pub lawful : IsLawful front
   pub place : lsn ≡ end_from 0 front

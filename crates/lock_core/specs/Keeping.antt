@@ -4,14 +4,14 @@ use Rattle.std.specs.List.{AllByRecursion}
 use Rattle.std.specs.HashMap.{get}
 use Rattle.log_record.specs.declared.rec.Rec.{Rec}
 use Rattle.log_record.specs.declared.rec.Rec.TheVariants.{Update}
-use Rattle.log_record.specs.declared.rec.Entry.{Entry}
+use Rattle.log_record.specs.declared.rec.Placed.{Placed}
 use Rattle.lock_core.specs.declared.update_links.TheConstants.{ENDED}
 use Rattle.lock_core.specs.declared.update.Change.{Change}
 use Rattle.lock_core.specs.declared.txn_table.TxnTable.{TxnTable}
 use Rattle.lock_core.specs.declared.update_links.UpdateLink.{UpdateLink}
 use Rattle.lock_core.specs.declared.transactions.Transactions.{Transactions}
 use Rattle.lock_core.specs.declared.ledger.Ledger.{Ledger}
-use Rattle.lock_core.specs.Transactions.{records_of, has_end, changes_in}
+use Rattle.lock_core.specs.Transactions.{own_records_of, has_end, changes_in}
 use Rattle.lock_core.specs.Tests.{IsGenesis}
 use Rattle.lock_core.specs.Judging.{IsJudged}
 
@@ -20,7 +20,7 @@ abbrev pub value_at : TxnTable → ℕ → ℕ
 value_at table txn = unwrap_or (get nat_eq table.scattered txn) (slice_index_or table.dense.items txn 0)
 
 -- an Update of the transaction that says this change and ends here
-abbrev pub update_at : ℕ → ℕ → Change → Entry
+abbrev pub update_at : ℕ → ℕ → Change → Placed
 update_at end txn change = record { end = end; rec = Update txn change.account change.delta change.prev }
 
 -- the table after a number was put for one transaction
@@ -53,13 +53,13 @@ pub record KeepsRecords (links : List UpdateLink) (place : ℕ) (records : List 
   pub unended : place ≢ ENDED → IsOpenAt links place records
 
 -- what is kept of the transactions of a history
-pub record KeepsTransactions (txns : Transactions) (h : List Entry) : Type 0 where
+pub record KeepsTransactions (txns : Transactions) (h : List Placed) : Type 0 where
   pub some : 0 < length txns.updates
   pub first : link_at txns.updates 0 ≡ no_link
-  pub each : (txn : ℕ) → KeepsRecords txns.updates (value_at txns.newest txn) (records_of txn h)
+  pub each : (txn : ℕ) → KeepsRecords txns.updates (value_at txns.newest txn) (own_records_of txn h)
 
 -- what is kept of a lawful history
-pub record KeepsLedger (ledger : Ledger) (h : List Entry) : Type 0 where
+pub record KeepsLedger (ledger : Ledger) (h : List Placed) : Type 0 where
   pub judged : IsJudged ledger.accounts h
   pub opening : IsTrue ledger.is_opening ↔ AllByRecursion (λ entry. IsGenesis entry.rec) h
   pub transactions : KeepsTransactions ledger.txns h

@@ -1,6 +1,6 @@
 -- The same tests in the plain words of the format: over the whole list, with no recursion through its fronts.
 use Rattle.std.specs.Prelude.{◌≡◌, ◌&&◌, ℕ, zero, suc, if◌then◌else◌, not, Bool, true, false, List, [], ◌∷◌, length}
-use Rattle.log_record.specs.declared.rec.Entry.{Entry}
+use Rattle.log_record.specs.declared.rec.Placed.{Placed}
 use Rattle.lock_core.specs.declared.update.Change.{Change}
 use Rattle.lock_core.specs.Records.{txn_of, commits, lowers}
 use Rattle.lock_core.specs.Transactions.{updates_of, touches}
@@ -8,13 +8,13 @@ use Rattle.lock_core.specs.Sums.{BaseState}
 use Rattle.lock_core.specs.Tests.{IsOpposite}
 
 -- the end of the last Commit whose transaction counts, or else this address
-abbrev pub last_commit_where : (ℕ → Bool) → ℕ → List Entry → ℕ
+abbrev pub last_commit_where : (ℕ → Bool) → ℕ → List Placed → ℕ
 last_commit_where counts otherwise [] = otherwise
 last_commit_where counts otherwise (entry ∷ h) =
     if commits entry.rec && counts (txn_of entry.rec) then entry.end else last_commit_where counts otherwise h
 
 -- the end of the last Commit in the whole list whose transaction has, in the whole list, an Update of the account
-abbrev pub plain_last_commit : BaseState → List Entry → ℕ → ℕ
+abbrev pub plain_last_commit : BaseState → List Placed → ℕ → ℕ
 plain_last_commit base h account = last_commit_where (λ txn. touches account (updates_of txn h)) (base.last_commit account) h
 
 abbrev pub is_odd : ℕ → Bool

@@ -1,6 +1,6 @@
 -- What a Commit makes of the rows that are kept of the accounts: a balance and the last Commit for each.
 use Rattle.std.specs.Prelude.{◌≡◌, ◌<◌, ℕ, ◌+◌, if◌then◌else◌, List, length, slice_index_or, slice_set}
-use Rattle.log_record.specs.declared.rec.Entry.{Entry}
+use Rattle.log_record.specs.declared.rec.Placed.{Placed}
 use Rattle.log_record.specs.Spelling.{IsBalance}
 use Rattle.lock_core.specs.declared.update.Change.{Change}
 use Rattle.lock_core.specs.Records.{gain, loss}
@@ -49,7 +49,7 @@ pub record LeavesSome (changes : List Change) (rows : List (ℕ × ℕ)) : Type 
 
 -- The rows are those of the history: each account's balance by its equation, in its range, and its last Commit. A judge keeps this from
 -- record to record, with or without a lawful list; who only reads the rows of a lawful list has `ShowsAccounts`.
-pub record KeepsRows (rows : List (ℕ × ℕ)) (base : BaseState) (h : List Entry) : Type 0 where
+pub record KeepsRows (rows : List (ℕ × ℕ)) (base : BaseState) (h : List Placed) : Type 0 where
   pub count : length rows ≡ base.accounts
   pub range : AreRowsInRange rows
   pub balance : (account : ℕ) → account < length rows → IsBalanceOf base h account (row rows account).0

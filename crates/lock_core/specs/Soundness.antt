@@ -1,7 +1,7 @@
 -- What a lawful list keeps that goes on from another: the Commits that others were built on, ranges, and the sum of all balances.
 use Rattle.std.specs.Prelude.{◌≡◌, ℕ, true, ◌⊎◌, List, [], ◌∷◌, ◌++◌}
 use Rattle.std.specs.List.{AllByRecursion}
-use Rattle.log_record.specs.declared.rec.Entry.{Entry}
+use Rattle.log_record.specs.declared.rec.Placed.{Placed}
 use Rattle.lock_core.specs.declared.update.Change.{Change}
 use Rattle.lock_core.specs.Records.{txn_of, commits, ends, changes_of}
 use Rattle.lock_core.specs.Transactions.{of_transaction, updates_of}
@@ -9,29 +9,29 @@ use Rattle.lock_core.specs.Sums.{BaseState, IsCommitOn, AreInRange, sum_below, b
 use Rattle.lock_core.specs.Lawful.{genesis_of}
 
 -- the change names the last Commit on its account in the list before, and that Commit is there; the base state's where there is none
-pub record IsBuiltOn (base : BaseState) (front : List Entry) (change : Change) : Type 0 where
+pub record IsBuiltOn (base : BaseState) (front : List Placed) (change : Change) : Type 0 where
   pub last : change.prev ≡ last_commit_of base front change.account
   pub there : (change.prev ≡ base.last_commit change.account) ⊎ IsCommitOn front change.account change.prev
 
 -- Between what stands before and behind it, an entry that is an Update is built on the list before; a Commit stands behind those whose
 -- accounts it took over, as what it commits is built on the list before it too; and behind an end record nothing of its transaction stands.
-pub record StandsBetween (base : BaseState) (front later : List Entry) (entry : Entry) : Type 0 where
+pub record StandsBetween (base : BaseState) (front later : List Placed) (entry : Placed) : Type 0 where
   pub update : AllByRecursion (IsBuiltOn base front) (changes_of entry.rec)
   pub commit : commits entry.rec ≡ true → AllByRecursion (IsBuiltOn base front) (updates_of (txn_of entry.rec) front)
   pub last : ends entry.rec ≡ true → of_transaction (txn_of entry.rec) later ≡ []
 
 -- each entry of a history that follows a base state stands so
-abbrev pub HasPredecessors : BaseState → List Entry → Type 0
-HasPredecessors base h = (later front : List Entry) (entry : Entry) → h ≡ later ++ entry ∷ front → StandsBetween base front later entry
+abbrev pub HasPredecessors : BaseState → List Placed → Type 0
+HasPredecessors base h = (later front : List Placed) (entry : Placed) → h ≡ later ++ entry ∷ front → StandsBetween base front later entry
 
 -- the sum of all balances
-abbrev pub sum_of_balances : List Entry → ℕ
+abbrev pub sum_of_balances : List Placed → ℕ
 sum_of_balances h = sum_below (genesis_of h).accounts (balance_of (genesis_of h) h)
 
 -- The list goes on from the one before. Each Commit stands behind those whose accounts it took over, no balance is outside its range, and
 -- nothing was made or lost since the list before.
-pub record IsSoundAfter (before h : List Entry) : Type 0 where
-  pub later : List Entry
+pub record IsSoundAfter (before h : List Placed) : Type 0 where
+  pub later : List Placed
   pub whole : h ≡ later ++ before
   pub predecessors : HasPredecessors (genesis_of h) h
   pub range : AreInRange (genesis_of h) h

@@ -1,7 +1,7 @@
 -- What a judge answers on one record more.
 use Rattle.std.specs.Prelude.{◌≡◌, ℕ, List, ◌∷◌, length, Result, MatchResult}
 use Rattle.log_record.specs.declared.rec.Rec.{Rec}
-use Rattle.log_record.specs.declared.rec.Entry.{Entry}
+use Rattle.log_record.specs.declared.rec.Placed.{Placed}
 use Rattle.lock_core.specs.declared.reason.JudgeFault.{JudgeFault}
 use Rattle.lock_core.specs.declared.reason.JudgeFault.TheVariants as fault
 use Rattle.lock_core.specs.declared.ledger.Ledger.{Ledger}
@@ -12,17 +12,17 @@ use Rattle.lock_core.specs.Faults.{IsFirstFailing}
 use Rattle.lock_core.specs.Keeping.{KeepsLedger}
 
 -- why the entry isn't taken: the first test that it fails on the history before it; want of memory says nothing of them
-abbrev pub IsTakeFault : List Entry → Entry → JudgeFault → Type 0
+abbrev pub IsTakeFault : List Placed → Placed → JudgeFault → Type 0
 IsTakeFault h entry (fault.Why why) = IsFirstFailing (Passes h entry) why
 IsTakeFault h entry fault.NoMemory = Unit {0}
 
 -- on a record that ends here: what was kept of the history is then kept of the history with it, or this is the fault
 abbrev pub TakesEntry : {A : Type 0} → Ledger → Ledger → ℕ → Rec → Result A JudgeFault → Type 0
-TakesEntry old new end rec result = (h : List Entry) → KeepsLedger old h
+TakesEntry old new end rec result = (h : List Placed) → KeepsLedger old h
     → MatchResult result (λ _. KeepsLedger new (record { end = end; rec = rec } ∷ h)) (IsTakeFault h (record { end = end; rec = rec }))
 
 -- the judge has taken this history, so it is lawful
-pub record HasTaken (judge : Judge) (h : List Entry) : Type 0 where
+pub record HasJudged (judge : Judge) (h : List Placed) : Type 0 where
   pub ledger : KeepsLedger judge.ledger h
   pub greatest : judge.greatest ≡ greatest_txn h
 

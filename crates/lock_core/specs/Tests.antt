@@ -3,11 +3,11 @@ use Rattle.std.specs.Prelude.{◌≡◌, ◌≢◌, ◌-◌, ◌*◌, ◌<◌, n
 use Rattle.std.specs.List.{AllByRecursion}
 use Rattle.log_record.specs.declared.limits.TheConstants.{MOST_LEGS}
 use Rattle.log_record.specs.declared.rec.Rec.{Rec}
-use Rattle.log_record.specs.declared.rec.Entry.{Entry}
+use Rattle.log_record.specs.declared.rec.Placed.{Placed}
 use Rattle.log_record.specs.declared.rec.Rec.TheVariants.{Genesis, Update, Commit, Short, Over, Note}
 use Rattle.lock_core.specs.declared.update.Change.{Change}
 use Rattle.lock_core.specs.Records.{commits, lowers}
-use Rattle.lock_core.specs.Transactions.{records_of, updates_of, has_end}
+use Rattle.lock_core.specs.Transactions.{own_records_of, updates_of, has_end}
 use Rattle.lock_core.specs.Sums.{BaseState, AreInRange, last_commit_of}
 
 -- the record is a Genesis
@@ -20,7 +20,7 @@ IsGenesis (Over txn leg) = ⊥
 IsGenesis (Note txn text) = ⊥
 
 -- A Genesis follows Genesis records alone, and has the next account number from 0 on; no other record is the first.
-abbrev pub OpensLedger : List Entry → Rec → Type 0
+abbrev pub OpensLedger : List Placed → Rec → Type 0
 OpensLedger h (Genesis account balance) = AllByRecursion (λ entry. IsGenesis entry.rec) h × (account ≡ length h)
 OpensLedger h (Update txn account delta prev) = 0 < length h
 OpensLedger h (Commit txn legs) = 0 < length h
@@ -38,17 +38,17 @@ KnowsAccount base (Over txn leg) = Unit {0}
 KnowsAccount base (Note txn text) = Unit {0}
 
 -- the transaction of the record has no end record
-abbrev pub IsUnended : List Entry → Rec → Type 0
+abbrev pub IsUnended : List Placed → Rec → Type 0
 IsUnended h (Genesis account balance) = Unit {0}
-IsUnended h (Update txn account delta prev) = has_end (records_of txn h) ≡ false
-IsUnended h (Commit txn legs) = has_end (records_of txn h) ≡ false
-IsUnended h (Short txn leg) = has_end (records_of txn h) ≡ false
-IsUnended h (Over txn leg) = has_end (records_of txn h) ≡ false
-IsUnended h (Note txn text) = has_end (records_of txn h) ≡ false
+IsUnended h (Update txn account delta prev) = has_end (own_records_of txn h) ≡ false
+IsUnended h (Commit txn legs) = has_end (own_records_of txn h) ≡ false
+IsUnended h (Short txn leg) = has_end (own_records_of txn h) ≡ false
+IsUnended h (Over txn leg) = has_end (own_records_of txn h) ≡ false
+IsUnended h (Note txn text) = has_end (own_records_of txn h) ≡ false
 
 -- Of a transaction there are at most two Updates for each leg that it may have; a Commit counts two Updates for each leg; a Short or Over two for
 -- each leg before its own.
-abbrev pub CountsLegs : List Entry → Rec → Type 0
+abbrev pub CountsLegs : List Placed → Rec → Type 0
 CountsLegs h (Update txn account delta prev) = length (updates_of txn h) < 2 * MOST_LEGS
 CountsLegs h (Commit txn legs) = length (updates_of txn h) ≡ 2 * legs
 CountsLegs h (Short txn leg) = length (updates_of txn h) ≡ 2 * (leg - 1)
@@ -66,7 +66,7 @@ IsPaired [] change = lowers change.delta ≡ true
 IsPaired (newest ∷ older) change = MatchBool (lowers newest.delta) (IsOpposite newest change) (lowers change.delta ≡ true)
 
 -- an Update is paired with those of its transaction before it
-abbrev pub PairsDeltas : List Entry → Rec → Type 0
+abbrev pub PairsDeltas : List Placed → Rec → Type 0
 PairsDeltas h (Update txn account delta prev) =
     IsPaired (updates_of txn h) (record { account = account; delta = delta; prev = prev })
 PairsDeltas h (Genesis account balance) = Unit {0}
@@ -76,11 +76,11 @@ PairsDeltas h (Over txn leg) = Unit {0}
 PairsDeltas h (Note txn text) = Unit {0}
 
 -- a change names the last Commit on its account
-abbrev pub IsCurrent : BaseState → List Entry → Change → Type 0
+abbrev pub IsCurrent : BaseState → List Placed → Change → Type 0
 IsCurrent base h change = change.prev ≡ last_commit_of base h change.account
 
 -- an Update names the last Commit on its account
-abbrev pub NamesLastCommit : BaseState → List Entry → Rec → Type 0
+abbrev pub NamesLastCommit : BaseState → List Placed → Rec → Type 0
 NamesLastCommit base h (Update txn account delta prev) = prev ≡ last_commit_of base h account
 NamesLastCommit base h (Genesis account balance) = Unit {0}
 NamesLastCommit base h (Commit txn legs) = Unit {0}
@@ -89,7 +89,7 @@ NamesLastCommit base h (Over txn leg) = Unit {0}
 NamesLastCommit base h (Note txn text) = Unit {0}
 
 -- at its Commit, each Update of the transaction still names the last Commit on its account
-abbrev pub IsNotStale : BaseState → List Entry → Rec → Type 0
+abbrev pub IsNotStale : BaseState → List Placed → Rec → Type 0
 IsNotStale base h (Commit txn legs) = AllByRecursion (IsCurrent base h) (updates_of txn h)
 IsNotStale base h (Genesis account balance) = Unit {0}
 IsNotStale base h (Update txn account delta prev) = Unit {0}
@@ -98,5 +98,5 @@ IsNotStale base h (Over txn leg) = Unit {0}
 IsNotStale base h (Note txn text) = Unit {0}
 
 -- with a Commit, every account has a balance in its range
-abbrev pub KeepsBalances : BaseState → List Entry → Entry → Type 0
+abbrev pub KeepsBalances : BaseState → List Placed → Placed → Type 0
 KeepsBalances base h entry = commits entry.rec ≡ true → AreInRange base (entry ∷ h)

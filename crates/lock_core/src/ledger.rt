@@ -1,6 +1,6 @@
 ghost use Rattle.std.specs.Prelude.{◌≡◌, ◌≤◌, ◌+◌, ◌∷◌, [], true, false, ℕ, List, length, IfOk, IfErr, OnOk};
 ghost use Rattle.log_record.specs.declared.rec.Rec.{Rec};
-ghost use Rattle.log_record.specs.declared.rec.Entry.{Entry};
+ghost use Rattle.log_record.specs.declared.rec.Placed.{Placed};
 ghost use Rattle.log_record.specs.Spelling.{spelling, IsAccount, IsBalance, IsLeg, IsSpellable};
 ghost use Rattle.lsn_space.specs.declared.lsn.TheConstants.{LAST};
 ghost use Rattle.lock_core.specs.Records.{txn_of, ends};
@@ -40,7 +40,7 @@ impl Ledger {
 
     /// Takes the record that starts at `lsn`.
     pub fn take(&mut self, lsn: Lsn, rec: &Rec) -> Result<(), JudgeFault>
-        requires kept { (h : List Entry) × KeepsLedger self.old h }
+        requires kept { (h : List Placed) × KeepsLedger self.old h }
         requires spellable { IsSpellable rec.now }
         requires fits { lsn + length (spelling rec.now) ≤ LAST }
         ensures { TakesEntry self.old self.new (lsn + length (spelling rec.now)) rec.now result }
@@ -70,7 +70,7 @@ impl Ledger {
     }
 
     fn take_genesis(&mut self, account: u32, balance: u32) -> Result<(), JudgeFault>
-        requires kept { (h : List Entry) × KeepsLedger self.old h }
+        requires kept { (h : List Placed) × KeepsLedger self.old h }
         requires account { IsAccount account }
         requires balance { IsBalance balance }
         ensures { (end : ℕ) → TakesEntry self.old self.new end (Rec.Genesis account balance) result }
@@ -83,7 +83,7 @@ impl Ledger {
     }
 
     fn take_update(&mut self, txn: u32, change: Change) -> Result<(), JudgeFault>
-        requires kept { (h : List Entry) × KeepsLedger self.old h }
+        requires kept { (h : List Placed) × KeepsLedger self.old h }
         requires account { IsAccount change.account }
         ensures { (end : ℕ) → TakesEntry self.old self.new end (Rec.Update txn change.account change.delta change.prev) result }
     {
@@ -114,7 +114,7 @@ impl Ledger {
     }
 
     fn take_commit(&mut self, txn: u32, legs: u32, end: Lsn) -> Result<(), JudgeFault>
-        requires kept { (h : List Entry) × KeepsLedger self.old h }
+        requires kept { (h : List Placed) × KeepsLedger self.old h }
         requires legs { IsLeg legs }
         ensures { TakesEntry self.old self.new end (Rec.Commit txn legs) result }
     {
@@ -140,7 +140,7 @@ impl Ledger {
 
     /// Takes a Short or an Over.
     fn take_refusal(&mut self, txn: u32, leg: u32) -> Result<(), JudgeFault>
-        requires kept { (h : List Entry) × KeepsLedger self.old h }
+        requires kept { (h : List Placed) × KeepsLedger self.old h }
         requires leg { IsLeg leg }
         ensures short { (end : ℕ) → TakesEntry self.old self.new end (Rec.Short txn leg) result }
         ensures over { (end : ℕ) → TakesEntry self.old self.new end (Rec.Over txn leg) result }
@@ -158,7 +158,7 @@ impl Ledger {
     }
 
     fn take_note(&mut self, txn: u32) -> Result<(), JudgeFault>
-        requires kept { (h : List Entry) × KeepsLedger self.old h }
+        requires kept { (h : List Placed) × KeepsLedger self.old h }
         ensures { (end : ℕ) (text : List ℕ) → TakesEntry self.old self.new end (Rec.Note txn text) result }
     {
         if self.accounts.count() == 0 {
@@ -175,7 +175,7 @@ impl Ledger {
     fn end(&mut self, txn: u32) -> Result<(), JudgeFault>
         ensures accounts { self.new.accounts ≡ self.old.accounts }
         ensures opening { self.new.is_opening ≡ false }
-        ensures ended { OnOk result ((entry : Entry) (h : List Entry) → KeepsTransactions self.old.txns h → txn_of entry.rec ≡ txn
+        ensures ended { OnOk result ((entry : Placed) (h : List Placed) → KeepsTransactions self.old.txns h → txn_of entry.rec ≡ txn
             → ends entry.rec ≡ true → KeepsTransactions self.new.txns (entry ∷ h)) }
         ensures memory { IfErr result (λ fault. fault ≡ JudgeFault.NoMemory) }
     {

@@ -1,8 +1,8 @@
 ghost use Rattle.std.specs.Prelude.{◌≡◌, ◌<◌, ◌≤◌, ◌+◌, ◌∷◌, [], true, ℕ, List, length, IfSome, IfNone, IfOk, OnOk};
-ghost use Rattle.log_record.specs.declared.rec.Entry.{Entry};
+ghost use Rattle.log_record.specs.declared.rec.Placed.{Placed};
 ghost use Rattle.log_record.specs.Spelling.{IsAccount};
 ghost use Rattle.lock_core.specs.Records.{txn_of, ends};
-ghost use Rattle.lock_core.specs.Transactions.{records_of, updates_of, has_end};
+ghost use Rattle.lock_core.specs.Transactions.{own_records_of, updates_of, has_end};
 ghost use Rattle.lock_core.specs.Keeping.{update_at, link_at, IsOpenAt, KeepsTransactions};
 
 use crate::txn_table::TxnTable;
@@ -34,10 +34,10 @@ impl Transactions {
 
     /// The place of the newest Update of a transaction, or `None` where the transaction is ended.
     pub fn place(&self, txn: u32) -> Option<u32>
-        requires kept { (h : List Entry) × KeepsTransactions self.now h }
-        ensures ended { IfNone result ((h : List Entry) → KeepsTransactions self.now h → has_end (records_of txn h) ≡ true) }
-        ensures unended { IfSome result (λ place. (h : List Entry) → KeepsTransactions self.now h
-            → IsOpenAt self.now.updates place (records_of txn h)) }
+        requires kept { (h : List Placed) × KeepsTransactions self.now h }
+        ensures ended { IfNone result ((h : List Placed) → KeepsTransactions self.now h → has_end (own_records_of txn h) ≡ true) }
+        ensures unended { IfSome result (λ place. (h : List Placed) → KeepsTransactions self.now h
+            → IsOpenAt self.now.updates place (own_records_of txn h)) }
         ensures inside { IfSome result (λ place. place < length self.now.updates) }
     {
         let place = self.newest.value(txn);
@@ -54,9 +54,9 @@ impl Transactions {
 
     /// What the Updates of a transaction say, newest first; the newest stands at this place.
     pub fn changes(&self, place: u32) -> ArrayVec<Change, 16>
-        requires { (txn : ℕ) × (h : List Entry) × IsOpenAt self.now.updates place (records_of txn h)
+        requires { (txn : ℕ) × (h : List Placed) × IsOpenAt self.now.updates place (own_records_of txn h)
             × (length (updates_of txn h) ≤ 16) }
-        ensures { (txn : ℕ) (h : List Entry) → IsOpenAt self.now.updates place (records_of txn h)
+        ensures { (txn : ℕ) (h : List Placed) → IsOpenAt self.now.updates place (own_records_of txn h)
             → result.items ≡ updates_of txn h }
     {
         self.updates.chain(place)
@@ -66,8 +66,8 @@ impl Transactions {
     pub fn push(&mut self, txn: u32, place: u32, count: u32, change: Change) -> Result<(), NoMemory>
         requires account { IsAccount change.account }
         requires count { count ≤ 16 }
-        ensures { OnOk result ((end : ℕ) (h : List Entry) → KeepsTransactions self.old h
-            → IsOpenAt self.old.updates place (records_of txn h) → count ≡ length (updates_of txn h) + 1
+        ensures { OnOk result ((end : ℕ) (h : List Placed) → KeepsTransactions self.old h
+            → IsOpenAt self.old.updates place (own_records_of txn h) → count ≡ length (updates_of txn h) + 1
             → KeepsTransactions self.new (update_at end txn change ∷ h)) }
     {
         let link = UpdateLink {
@@ -81,7 +81,7 @@ impl Transactions {
 
     /// Takes the end record of a transaction.
     pub fn end(&mut self, txn: u32) -> Result<(), NoMemory>
-        ensures { OnOk result ((entry : Entry) (h : List Entry) → KeepsTransactions self.old h → txn_of entry.rec ≡ txn
+        ensures { OnOk result ((entry : Placed) (h : List Placed) → KeepsTransactions self.old h → txn_of entry.rec ≡ txn
             → ends entry.rec ≡ true → KeepsTransactions self.new (entry ∷ h)) }
     {
         self.newest.put(txn, ENDED)

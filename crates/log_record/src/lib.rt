@@ -17,7 +17,7 @@ pub use header::{COMMIT, Header, OVER, SHORT};
 pub use laws::{format_limits, log_list_laws, one_spelling, spelling_bounds};
 pub use limits::{LAST_TXN, MOST_ACCOUNTS, MOST_BALANCE, MOST_LEGS};
 pub use reading::{BadRec, read};
-pub use rec::{Entry, Rec};
+pub use rec::{Placed, Rec};
 pub use text::{LONGEST_NOTE, Text};
 pub use units::{LONGEST_RECORD, Units};
 pub use writing::{spell, spell_into};

@@ -46,7 +46,7 @@ pub enum Rec {
 
 /// A record in its place in the log: it ends right before this LSN.
 #[derive(Debug, PartialEq, Eq, Drop)]
-pub struct Entry {
+pub struct Placed {
     pub end: Lsn,
     pub rec: Rec,
 }

@@ -3,7 +3,7 @@ use Rattle.std.proofs.Common.{◌≡◌, ◌<◌, ℕ, ◌⊎◌, inl, inr, List
 use Rattle.std.specs.List.{AllByRecursion}
 use Rattle.std.proofs.lemmas.List.Elements.{All-from_recursion}
 use Rattle.log_record.specs.declared.rec.Rec.{Rec}
-use Rattle.log_record.specs.declared.rec.Entry.{Entry}
+use Rattle.log_record.specs.declared.rec.Placed.{Placed}
 use Rattle.log_record.specs.LogList.{units_of, end_of}
 use Rattle.log_record.specs.Spelling.{spelling, IsSpellable, BeginsWith}
 use Rattle.lock_core.specs.declared.reason.Why.{Why}
@@ -53,13 +53,13 @@ none-fails Pass (test ∷ list) t (inl a) all = a.1 all.0
 none-fails Pass (test ∷ list) t (inr a) all = none-fails Pass list t a.1 all.1
 
 -- a lawful history has no unlawful entry
-pub lawful-unlawful : (h : List Entry) (lsn : ℕ) (test : Why) → IsLawful h → IsUnlawfulAt h lsn test → ⊥
+pub lawful-unlawful : (h : List Placed) (lsn : ℕ) (test : Why) → IsLawful h → IsUnlawfulAt h lsn test → ⊥
 lawful-unlawful h lsn test lawful unlawful =
     let front = lawful-front unlawful.later (unlawful.entry ∷ unlawful.front) (subst IsLawful unlawful.whole lawful) in
     none-fails (Passes unlawful.front unlawful.entry) tests test (fails-in (Passes unlawful.front unlawful.entry) test unlawful.first) front.0
 
 -- the first unlawful entry is the only first one
-one-first : (later later' : List Entry) (entry entry' : Entry) (front front' : List Entry) (s t : Why)
+one-first : (later later' : List Placed) (entry entry' : Placed) (front front' : List Placed) (s t : Why)
     → later ++ entry ∷ front ≡ later' ++ entry' ∷ front' → IsLawful front → IsLawful front'
     → IsFirstFailing (Passes front entry) s → IsFirstFailing (Passes front' entry') t → (front ≡ front') × (s ≡ t)
 one-first [] [] entry entry' front front' s t same lawful lawful' first first' =
@@ -81,7 +81,7 @@ one-first (x ∷ later) (y ∷ later') entry entry' front front' s t same lawful
     let rest : later ++ entry ∷ front ≡ later' ++ entry' ∷ front' = cc same in
     one-first later later' entry entry' front front' s t rest lawful lawful' first first'
 
-pub one-unlawful : (h : List Entry) (x y : ℕ) (s t : Why) → IsUnlawfulAt h x s → IsUnlawfulAt h y t → (x ≡ y) × (s ≡ t)
+pub one-unlawful : (h : List Placed) (x y : ℕ) (s t : Why) → IsUnlawfulAt h x s → IsUnlawfulAt h y t → (x ≡ y) × (s ≡ t)
 one-unlawful h x y s t first second =
     let both = one-first first.later second.later first.entry second.entry first.front second.front s t (sym first.whole ∙ second.whole)
     first.lawful second.lawful first.first second.first in

@@ -3,7 +3,7 @@ use Rattle.std.proofs.Common.{◌≡◌, ◌<◌, ℕ, ◌+◌, List, [], ◌∷
 use Rattle.std.specs.List.{AllByRecursion}
 use Rattle.std.proofs.lemmas.List.{append-nil}
 use Rattle.log_record.specs.declared.rec.Rec.{Rec}
-use Rattle.log_record.specs.declared.rec.Entry.{Entry}
+use Rattle.log_record.specs.declared.rec.Placed.{Placed}
 use Rattle.log_record.specs.LogList.{units_of, end_of}
 use Rattle.log_record.specs.Spelling.{spelling, IsSpellable, BeginsWith}
 use Rattle.lock_core.specs.History.{end_from, entry_at, history_from}
@@ -14,7 +14,7 @@ pub units_of-append : (xs ys : List Rec) → units_of (xs ++ ys) ≡ units_of xs
 units_of-append [] ys = refl
 units_of-append (rec ∷ xs) ys = ap (λ units. spelling rec ++ units) (units_of-append xs ys) ∙ sym (append_assoc (spelling rec) (units_of xs) (units_of ys))
 
-pub end_from-history : (start : ℕ) (h : List Entry) (records : List Rec) → end_from start (history_from start h records) ≡ end_from start h + end_of records
+pub end_from-history : (start : ℕ) (h : List Placed) (records : List Rec) → end_from start (history_from start h records) ≡ end_from start h + end_of records
 end_from-history start h [] = omega arith
 end_from-history start h (rec ∷ records) =
     let more = end_from-history start (entry_at (end_from start h) rec ∷ h) records in

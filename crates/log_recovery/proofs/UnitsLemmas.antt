@@ -10,7 +10,7 @@ use Rattle.lock_core.specs.declared.reason.Why.{Why}
 use Rattle.lock_core.specs.History.{end_from, entry_at, history}
 use Rattle.lock_core.specs.Lawful.{Passes}
 use Rattle.lock_core.specs.Faults.{IsFirstFailing, IsUnlawfulAt}
-use Rattle.lock_core.specs.Taking.{HasTaken}
+use Rattle.lock_core.specs.Taking.{HasJudged}
 use Rattle.lock_core.proofs.Fronts.{history_from-append, history_from-onto}
 use Rattle.log_recovery.specs.Listing.{IsFront, IsRecords}
 use Rattle.log_recovery.specs.Judging.{HasTakenFront, HasTakenUnits, FailsBefore}
@@ -26,7 +26,7 @@ pub front-all : (units rest : List ℕ) → rest ≡ [] → IsFront units rest �
 front-all units rest empty front =
     (front.records, record { spellable = front.each; units_are = front.whole ∙ ap (λ l. units_of front.records ++ l) empty ∙ append-nil (units_of front.records) })
 
-pub taken-none : (units : List ℕ) (judge : Judge) → HasTaken judge [] → HasTakenFront units units judge
+pub taken-none : (units : List ℕ) (judge : Judge) → HasJudged judge [] → HasTakenFront units units judge
 taken-none units judge taken = record { records = []; each = tt; whole = refl; taken = taken }
 
 pub taken-front : (units rest : List ℕ) (judge : Judge) → HasTakenFront units rest judge → IsFront units rest
@@ -46,12 +46,12 @@ module _ (units rest : List ℕ) (judge : Judge) (lsn : ℕ) (before : HasTakenF
     history-next : history (before.records ++ rec ∷ []) ≡ entry_at lsn rec ∷ history before.records
     history-next = history_from-append 0 [] before.records (rec ∷ []) ∙ ap (λ start. entry_at start rec ∷ history before.records) (sym taken-place)
 
-    pub taken-next : (later : Judge) → HasTaken later (entry_at lsn rec ∷ history before.records) → HasTakenFront units after later
+    pub taken-next : (later : Judge) → HasJudged later (entry_at lsn rec ∷ history before.records) → HasTakenFront units after later
     taken-next later taken = record {
       records = before.records ++ rec ∷ [];
       each = next.0;
       whole = next.1;
-      taken = subst (HasTaken later) (sym history-next) taken;
+      taken = subst (HasJudged later) (sym history-next) taken;
     }
 
     pub fails-next : (why : Why) → IsFirstFailing (Passes (history before.records) (entry_at lsn rec)) why → FailsBefore units after lsn why

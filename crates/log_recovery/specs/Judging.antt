@@ -9,7 +9,7 @@ use Rattle.lock_core.specs.declared.reason.Why.{Why}
 use Rattle.lock_core.specs.History.{end_from, entry_at, history}
 use Rattle.lock_core.specs.Lawful.{Passes, IsLawful}
 use Rattle.lock_core.specs.Faults.{IsFirstFailing, IsUnlawfulAt}
-use Rattle.lock_core.specs.Taking.{HasTaken}
+use Rattle.lock_core.specs.Taking.{HasJudged}
 use Rattle.log_recovery.specs.declared.judging.UnitsFault.{UnitsFault}
 use Rattle.log_recovery.specs.declared.judging.UnitsFault.TheVariants as fault
 use Rattle.log_recovery.specs.Listing.{IsBadRecAt}
@@ -19,13 +19,13 @@ pub record HasTakenFront (units rest : List ℕ) (judge : Judge) : Type 0 where
   pub records : List Rec
   pub each : AllByRecursion IsSpellable records
   pub whole : units ≡ units_of records ++ rest
-  pub taken : HasTaken judge (history records)
+  pub taken : HasJudged judge (history records)
 
 -- the judge has taken the records of the units
 pub record HasTakenUnits (units : List ℕ) (judge : Judge) : Type 0 where
   pub records : List Rec
   pub list : AreUnitsOf units records
-  pub taken : HasTaken judge (history records)
+  pub taken : HasJudged judge (history records)
 
 -- of the records before this rest of the units the last starts at this address, and is the first that fails a test
 pub record FailsBefore (units rest : List ℕ) (lsn : ℕ) (test : Why) : Type 0 where

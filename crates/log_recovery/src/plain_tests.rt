@@ -8,7 +8,7 @@ ghost use Rattle.log_record.specs.Spelling.{IsSpellable};
 use crate::recovery::scan_fault;
 use crate::{RecoverFault, recover};
 use lock_core::{PlainFault, plain_accounts};
-use log_record::{Entry, read};
+use log_record::{Placed, read};
 use lsn_space::{Balances, Lsn};
 use segment_file::scan;
 use std::alloc::Global;
@@ -21,7 +21,7 @@ fn plain_fault(fault: PlainFault) -> RecoverFault {
 }
 
 /// The records that the units of a log spell, each with its end, in the order of the file.
-fn entries_of(alloc: Global, units: &[u64]) -> Result<Vec<Entry>, RecoverFault>
+fn entries_of(alloc: Global, units: &[u64]) -> Result<Vec<Placed>, RecoverFault>
     requires { length units.now ≤ LAST }
     ensures { IfOk result (λ entries. AllByRecursion (λ entry. IsSpellable entry.rec) entries.items) }
 {
@@ -34,7 +34,7 @@ fn entries_of(alloc: Global, units: &[u64]) -> Result<Vec<Entry>, RecoverFault>
         };
         rest = rest.split_at(size).1;
         let end = Lsn::new((units.len() - rest.len()) as u32);
-        let Ok(()) = entries.push(Entry { end, rec }) else {
+        let Ok(()) = entries.push(Placed { end, rec }) else {
             return Err(RecoverFault::NoMemory);
         };
     }

@@ -6,7 +6,7 @@ use Rattle.std.proofs.Math.Seq.{get_or-append_right}
 use native.Mathlib.Decide.{dec_le, dec_lt}
 use mathlib.Core.Logic.{dite}
 use lib.ListN.{get_or-append}
-use Rattle.lsn_space.specs.Tiling.{IsBoundary}
+use Rattle.lsn_space.specs.Tiling.{IsTilingBoundary}
 use Rattle.log_table.specs.declared.view.Entry.{Entry}
 use Rattle.log_table.specs.Log.{Part, Laid, IsFull, AgreesFrom, parts_of, units_in, SpellsRecord, IsSpelled}
 use Rattle.log_record.specs.Spelling.{spelling}
@@ -73,8 +73,8 @@ whole-record part spells full = by_rest spells.rest spells.units (full ∙ spell
     by_rest (unit ∷ rest) is whole = let count = length-append part.entry.units (unit ∷ rest) in let all = ap length is in absurd (omega arith)
 
 -- between two boundaries of full parts, the list is whole entries
-pub entries-from : (start to from until : ℕ) (parts : List Part) (units : List ℕ) → Laid start parts to → IsBoundary part_size start parts from
-    → IsBoundary part_size start parts until → from + length units ≡ until
+pub entries-from : (start to from until : ℕ) (parts : List Part) (units : List ℕ) → Laid start parts to → IsTilingBoundary part_size start parts from
+    → IsTilingBoundary part_size start parts until → from + length units ≡ until
     → AllByRecursion (λ (p : Part). p.entry.start < until → IsFull p.entry) parts → AllByRecursion SpellsRecord parts
     → AllByRecursion (AgreesFrom from units) parts → AreEntries from until units
 entries-from start to from until [] units laid a b size full spells agrees = record {
@@ -88,11 +88,11 @@ entries-from start to from until [] units laid a b size full spells agrees = rec
 entries-from start to from until (p ∷ ps) units laid a b size full spells agrees = ⊎_elim
     (λ (here : from ≡ start). ⊎_elim
     (λ (end : until ≡ start). none here end)
-    (λ (later : IsBoundary part_size (start + p.entry.size) ps until). some' here later
+    (λ (later : IsTilingBoundary part_size (start + p.entry.size) ps until). some' here later
     (λ from' us a' size' agrees'. entries-from (start + p.entry.size) to from' until ps us laid.2 a' later size' full.1 spells.1 agrees')) b)
-    (λ (behind : IsBoundary part_size (start + p.entry.size) ps from). ⊎_elim
+    (λ (behind : IsTilingBoundary part_size (start + p.entry.size) ps from). ⊎_elim
     (λ (end : until ≡ start). absurd (omega (arith, end, size, laid.1, boundary-least part_size (start + p.entry.size) from ps behind)))
-    (λ (later : IsBoundary part_size (start + p.entry.size) ps until).
+    (λ (later : IsTilingBoundary part_size (start + p.entry.size) ps until).
     entries-from (start + p.entry.size) to from until ps units laid.2 behind later size full.1 spells.1 agrees.1) b) a
   where
     none : from ≡ start → until ≡ start → AreEntries from until units
@@ -105,8 +105,8 @@ entries-from start to from until (p ∷ ps) units laid a b size full spells agre
       units_are = sym (nil_from_length units (omega (arith, here, end, size)));
     }
 
-    some' : from ≡ start → IsBoundary part_size (start + p.entry.size) ps until
-        → ((from' : ℕ) (us : List ℕ) → IsBoundary part_size (start + p.entry.size) ps from' → from' + length us ≡ until
+    some' : from ≡ start → IsTilingBoundary part_size (start + p.entry.size) ps until
+        → ((from' : ℕ) (us : List ℕ) → IsTilingBoundary part_size (start + p.entry.size) ps from' → from' + length us ≡ until
         → AllByRecursion (AgreesFrom from' us) ps → AreEntries from' until us)
         → AreEntries from until units
     some' here later go =
@@ -114,7 +114,7 @@ entries-from start to from until (p ∷ ps) units laid a b size full spells agre
         let is : IsFull p.entry = full.0 (omega (arith, laid.0, laid.1, end)) in
         let fits : p.entry.size ≤ length units = omega (arith, here, end, size) in
         let rest = go (from + p.entry.size) (drop p.entry.size units)
-        (subst (λ n. IsBoundary part_size (start + p.entry.size) ps (n + p.entry.size)) (sym here)
+        (subst (λ n. IsTilingBoundary part_size (start + p.entry.size) ps (n + p.entry.size)) (sym here)
         (boundary-start part_size (start + p.entry.size) ps)) (omega (arith, length-drop p.entry.size units, fits, size))
         (all-weaker (AgreesFrom from units) (AgreesFrom (from + p.entry.size) (drop p.entry.size units)) ps
         (λ q. rest-agrees from p.entry.size units q fits) agrees.1) in record {

@@ -1,7 +1,7 @@
 -- Where ranges or parts that follow one another begin or end.
 use Rattle.std.proofs.Common.{◌≡◌, ◌⊎◌, inl, inr, ⊎_elim, ℕ, ◌+◌, ◌≤◌, List, [], ◌∷◌, ◌++◌, sym, refl, ap, ◌∙◌, subst, arith}
 use Rattle.std.specs.List.{AllByRecursion}
-use Rattle.lsn_space.specs.Tiling.{IsBoundary}
+use Rattle.lsn_space.specs.Tiling.{IsTilingBoundary}
 use Rattle.log_table.specs.declared.view.Entry.{Entry}
 use Rattle.log_table.specs.Log.{Part, Range, Tiles, Laid, EndsWithPart, IsRangeBoundary, IsEntryBoundary, parts_of}
 
@@ -12,24 +12,24 @@ abbrev pub part_size : Part → ℕ
 part_size p = p.entry.size
 
 module _ {A : Type 0} (size : A → ℕ) where
-  pub boundary-start : (start : ℕ) (xs : List A) → IsBoundary size start xs start
+  pub boundary-start : (start : ℕ) (xs : List A) → IsTilingBoundary size start xs start
   boundary-start start [] = refl
   boundary-start start (x ∷ xs) = inl refl
 
-  pub boundary-append : (start at : ℕ) (xs ys : List A) → IsBoundary size start xs at → IsBoundary size start (xs ++ ys) at
-  boundary-append start at [] ys b = subst (IsBoundary size start ys) (sym b) (boundary-start start ys)
+  pub boundary-append : (start at : ℕ) (xs ys : List A) → IsTilingBoundary size start xs at → IsTilingBoundary size start (xs ++ ys) at
+  boundary-append start at [] ys b = subst (IsTilingBoundary size start ys) (sym b) (boundary-start start ys)
   boundary-append start at (x ∷ xs) ys b = ⊎_elim (λ here. inl here) (λ later. inr (boundary-append (start + size x) at xs ys later)) b
 
-  pub boundary-least : (start at : ℕ) (xs : List A) → IsBoundary size start xs at → start ≤ at
+  pub boundary-least : (start at : ℕ) (xs : List A) → IsTilingBoundary size start xs at → start ≤ at
   boundary-least start at [] b = omega (arith, b)
   boundary-least start at (x ∷ xs) b =
       ⊎_elim (λ (here : at ≡ start). omega (arith, here)) (λ later. omega (arith, boundary-least (start + size x) at xs later)) b
 
   -- one is exchanged for another of its size
-  pub boundary-mid : (start at : ℕ) (ls rs : List A) (x x' : A) → size x' ≡ size x → IsBoundary size start (ls ++ x ∷ rs) at
-      → IsBoundary size start (ls ++ x' ∷ rs) at
+  pub boundary-mid : (start at : ℕ) (ls rs : List A) (x x' : A) → size x' ≡ size x → IsTilingBoundary size start (ls ++ x ∷ rs) at
+      → IsTilingBoundary size start (ls ++ x' ∷ rs) at
   boundary-mid start at [] rs x x' same b =
-      ⊎_elim (λ here. inl here) (λ later. inr (subst (λ n. IsBoundary size (start + n) rs at) (sym same) later)) b
+      ⊎_elim (λ here. inl here) (λ later. inr (subst (λ n. IsTilingBoundary size (start + n) rs at) (sym same) later)) b
   boundary-mid start at (l ∷ ls) rs x x' same b =
       ⊎_elim (λ here. inl here) (λ later. inr (boundary-mid (start + size l) at ls rs x x' same later)) b
 
@@ -43,23 +43,23 @@ pub boundary-end : (most start to : ℕ) (ranges : List Range) → Tiles most st
 boundary-end most start to [] t = sym t
 boundary-end most start to (r ∷ rs) t = inr (boundary-end most (start + r.size) to rs t.3)
 
-pub laid-end : (start to : ℕ) (parts : List Part) → Laid start parts to → IsBoundary part_size start parts to
+pub laid-end : (start to : ℕ) (parts : List Part) → Laid start parts to → IsTilingBoundary part_size start parts to
 laid-end start to [] l = sym l
 laid-end start to (p ∷ ps) l = inr (laid-end (start + p.entry.size) to ps l.2)
 
 -- a boundary of ranges that end with parts is one of the parts
 pub boundary-aligned : (most start from to at : ℕ) (parts : List Part) (ranges : List Range) → Tiles most from ranges to
-    → AllByRecursion (EndsWithPart start parts) ranges → IsBoundary part_size start parts from → IsRangeBoundary from ranges at
-    → IsBoundary part_size start parts at
-boundary-aligned most start from to at parts [] t ends here b = subst (IsBoundary part_size start parts) (sym b) here
+    → AllByRecursion (EndsWithPart start parts) ranges → IsTilingBoundary part_size start parts from → IsRangeBoundary from ranges at
+    → IsTilingBoundary part_size start parts at
+boundary-aligned most start from to at parts [] t ends here b = subst (IsTilingBoundary part_size start parts) (sym b) here
 boundary-aligned most start from to at parts (r ∷ rs) t ends here b = ⊎_elim
-    (λ same. subst (IsBoundary part_size start parts) (sym same) here)
+    (λ same. subst (IsTilingBoundary part_size start parts) (sym same) here)
     (λ later. boundary-aligned most start (from + r.size) to at parts rs t.3 ends.1
-    (subst (λ n. IsBoundary part_size start parts (n + r.size)) t.0 ends.0) later) b
+    (subst (λ n. IsTilingBoundary part_size start parts (n + r.size)) t.0 ends.0) later) b
 
 -- and of the entries that the parts are of
 pub boundary-entries : (seat start at : ℕ) (entries : List Entry) (flag : Rattle.std.proofs.Common.Bool)
-    → IsBoundary part_size start (parts_of seat flag entries) at → IsEntryBoundary start entries at
+    → IsTilingBoundary part_size start (parts_of seat flag entries) at → IsEntryBoundary start entries at
 boundary-entries seat start at [] flag b = b
 boundary-entries seat start at (e ∷ es) flag b = ⊎_elim (λ here. inl here) (λ later. inr (boundary-entries seat (start + e.size) at es flag later)) b
 

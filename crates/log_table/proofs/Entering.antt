@@ -7,12 +7,12 @@ use native.Mathlib.Decide.{dec_le}
 use lib.ListN.{get_elem?}
 use Rattle.log_record.specs.declared.rec.Rec.{Rec}
 use Rattle.log_record.specs.declared.rec.Rec.TheVariants.{Genesis, Update, Commit, Short, Over, Note}
-use Rattle.log_record.specs.declared.rec.Entry.{Entry}
+use Rattle.log_record.specs.declared.rec.Placed.{Placed}
 use Rattle.log_record.specs.Spelling.{IsNoteText, IsSpellable}
 use Rattle.log_record.specs.declared.limits.TheConstants.{MOST_BALANCE}
 use Rattle.lock_core.specs.Records.{txn_of, commits, ends, gain, loss}
 use Rattle.lock_core.specs.History.{end_from}
-use Rattle.lock_core.specs.Transactions.{recs_of, records_of, changes_in, has_end, has_commit, is_committed, touches, all_without_prev, in_order}
+use Rattle.lock_core.specs.Transactions.{recs_of, own_records_of, changes_in, has_end, has_commit, is_committed, touches, all_without_prev, in_order}
 use Rattle.lock_core.specs.Sums.{BaseState, moved, total, AreInRange, balance_of, last_commit_of}
 use Rattle.lock_core.specs.Tests.{IsCurrent, IsGenesis}
 use Rattle.lock_core.specs.Alone.{with_note}
@@ -28,7 +28,7 @@ use Rattle.log_table.specs.declared.view.Held.{Held}
 use Rattle.log_table.specs.declared.view.Books.{Books}
 use Rattle.log_table.specs.Books.{task_of, times_held, balance_taken, mark_taken, plan_of, IsNext, HoldsLeg, HoldsAccounts, IsNote, MayEnter, placing}
 use Rattle.txn_script.specs.Transfers.{note_of}
-use Rattle.log_table.specs.Accounts.{IsAsTaken, HasOneHolder, HasDistinctJobs, moved_if_committed, Follows, AccountsFollowList, KeepsAccounts, IsAllowed}
+use Rattle.log_table.specs.Accounts.{IsAsTaken, HasOneHolder, HasDistinctJobs, moved_if_committed, Follows, AccountsFollowList, KeepsAccounts, MayBeTaken}
 use Rattle.log_table.proofs.Bookings.{everywhere-set, summed-set, found, balance_taken-none, mark_taken-all}
 use Rattle.log_table.proofs.Growing.{IsSameAt, grows}
 use Rattle.log_table.proofs.Lists.{all-weaker, all-both}
@@ -38,7 +38,7 @@ use Rattle.slot_word.specs.AccountWord.{mark_in}
 use Rattle.log_table.proofs.PlanFronts.{IsPlanned, IsSmallLeg, next-planned}
 use Rattle.log_table.proofs.Planning.{Walk, walk-at, walk-plan, walk-marked, untouched, IsHeldLeg, IsMarked, IsFront, Step}
 
-module _ (base : BaseState) (words : ℕ → ℕ) (h : List Entry) (all : List Books) (me : ℕ) (mine : Books) (distinct : HasDistinctJobs all)
+module _ (base : BaseState) (words : ℕ → ℕ) (h : List Placed) (all : List Books) (me : ℕ) (mine : Books) (distinct : HasDistinctJobs all)
     (holder : HasOneHolder base.accounts words all) (s : AccountsFollowList base words h all) (at : get_elem? all me ≡ some mine)
     (some_job : 1 ≤ mine.last.number) where
   -- the seat holds the account
@@ -55,11 +55,11 @@ module _ (base : BaseState) (words : ℕ → ℕ) (h : List Entry) (all : List B
   known account has = let f = found (IsAsTaken base.accounts words) account mine.held has (holder.taken me mine at) in
       subst (λ a. a < base.accounts) f.is f.known.known
 
-  tied : records_of mine.last.number h ≡ before
+  tied : own_records_of mine.last.number h ≡ before
   tied = ap recs_of (s.placed me mine at some_job)
 
-  tied-to : (txn : ℕ) → txn ≡ mine.last.number → records_of txn h ≡ before
-  tied-to txn own = ap (λ n. records_of n h) own ∙ tied
+  tied-to : (txn : ℕ) → txn ≡ mine.last.number → own_records_of txn h ≡ before
+  tied-to txn own = ap (λ n. own_records_of n h) own ∙ tied
 
   module _ (unended : has_end before ≡ false) where
     uncommitted : has_commit before ≡ false
@@ -91,7 +91,7 @@ module _ (base : BaseState) (words : ℕ → ℕ) (h : List Entry) (all : List B
         (λ none. let zero' = balance_taken-none account mine.held (omega (arith, none)) in omega arith)
 
     -- a record that is no Commit
-    module _ (entry : Entry) (own : txn_of entry.rec ≡ mine.last.number) (plain : commits entry.rec ≡ false) where
+    module _ (entry : Placed) (own : txn_of entry.rec ≡ mine.last.number) (plain : commits entry.rec ≡ false) where
       uncommitted-here : is_committed (txn_of entry.rec) h ≡ false
       uncommitted-here = ap has_commit (tied-to (txn_of entry.rec) own) ∙ uncommitted
 
@@ -125,10 +125,10 @@ module _ (base : BaseState) (words : ℕ → ℕ) (h : List Entry) (all : List B
           (passes-after base h entry other meets) range-plain (λ account _. same-plain account) follows-plain ran
 
   -- what the log has of the job, once the record is in it
-  has-more : (entry : Entry) → txn_of entry.rec ≡ mine.last.number → records_of mine.last.number (entry ∷ h) ≡ entry.rec ∷ before
+  has-more : (entry : Placed) → txn_of entry.rec ≡ mine.last.number → own_records_of mine.last.number (entry ∷ h) ≡ entry.rec ∷ before
   has-more entry own = ap recs_of (of_transaction-same mine.last.number entry h own ∙ ap (λ l. entry ∷ l) (s.placed me mine at some_job))
 
-  cut-more : (entry : Entry) → txn_of entry.rec ≡ mine.last.number → IsFront task (entry.rec ∷ before) → IsRunPartly base (entry ∷ h) task
+  cut-more : (entry : Placed) → txn_of entry.rec ≡ mine.last.number → IsFront task (entry.rec ∷ before) → IsRunPartly base (entry ∷ h) task
   cut-more entry own front = inr (record {
     rest = front.rest;
     front = ap (λ l. in_order (all_without_prev l) front.rest) (has-more entry own) ∙ front.front;
@@ -137,7 +137,7 @@ module _ (base : BaseState) (words : ℕ → ℕ) (h : List Entry) (all : List B
   -- a Note needs no account
   pub note-enters : (end txn : ℕ) (text : List ℕ) → txn ≡ mine.last.number → has_end before ≡ false → IsFront task (Note txn text ∷ before)
       → AccountsFollowList base words (record { end = end; rec = Note txn text } ∷ h) (set all me (placing end (Note txn text) mine))
-  note-enters end txn text own unended front = let entry : Entry = record { end = end; rec = Note txn text } in
+  note-enters end txn text own unended front = let entry : Placed = record { end = end; rec = Note txn text } in
       passes-plain unended entry own refl
       record {
         account = tt;
@@ -166,7 +166,7 @@ module _ (base : BaseState) (words : ℕ → ℕ) (h : List Entry) (all : List B
     marked = walk-marked task Mine (mark_taken mine.held) (balance_taken mine.held) before (rec ∷ rest) walk
 
     -- an end record: all of the job, run alone on the balances before it
-    run-whole : (entry : Entry) → entry.rec ≡ rec → txn_of rec ≡ mine.last.number → ends rec ≡ true → rest ≡ [] → IsRunWhole base (entry ∷ h) task
+    run-whole : (entry : Placed) → entry.rec ≡ rec → txn_of rec ≡ mine.last.number → ends rec ≡ true → rest ≡ [] → IsRunWhole base (entry ∷ h) task
     run-whole entry is own end none = record {
       later = [];
       end = entry;
@@ -190,7 +190,7 @@ module _ (base : BaseState) (words : ℕ → ℕ) (h : List Entry) (all : List B
   module _ (end txn legs : ℕ) (few : length mine.last.job.legs ≤ 8)
       (some_amounts : AllByRecursion (λ (leg : ℕ × ℕ × ℕ). (leg.0 ≢ leg.1) × (1 ≤ leg.2)) mine.last.job.legs)
       (holds : HoldsAccounts mine) (unended : has_end before ≡ false) (rest : List Rec) (next : in_order before (Commit txn legs ∷ rest) ≡ plan_of mine) where
-    abbrev commit : Entry
+    abbrev commit : Placed
     commit = record { end = end; rec = Commit txn legs }
 
     is-commit : Step task Mine (mark_taken mine.held) (balance_taken mine.held) before (Commit txn legs) rest
@@ -256,7 +256,7 @@ module _ (base : BaseState) (words : ℕ → ℕ) (h : List Entry) (all : List B
       absurd (step few some_amounts holds unended (Genesis account balance) rest next)
   held-enters end (Update txn account delta prev) rest few some_amounts holds unended next =
       let is = step few some_amounts holds unended (Update txn account delta prev) rest next in
-      let list = tied-to txn is.own in let entry : Entry = record { end = end; rec = Update txn account delta prev } in
+      let list = tied-to txn is.own in let entry : Placed = record { end = end; rec = Update txn account delta prev } in
       passes-plain unended entry is.own refl
       record {
         account = known account is.marked.1;
@@ -270,7 +270,7 @@ module _ (base : BaseState) (words : ℕ → ℕ) (h : List Entry) (all : List B
   held-enters end (Commit txn legs) rest few some_amounts holds unended next = commit-enters end txn legs few some_amounts holds unended rest next
   held-enters end (Short txn leg) rest few some_amounts holds unended next =
       let is = step few some_amounts holds unended (Short txn leg) rest next in
-      let list = tied-to txn is.own in let entry : Entry = record { end = end; rec = Short txn leg } in
+      let list = tied-to txn is.own in let entry : Placed = record { end = end; rec = Short txn leg } in
       passes-plain unended entry is.own refl
       record {
         account = tt;
@@ -283,7 +283,7 @@ module _ (base : BaseState) (words : ℕ → ℕ) (h : List Entry) (all : List B
       } (λ g. g) (inl (run-whole few some_amounts holds unended (Short txn leg) rest next entry refl is.own refl is.last))
   held-enters end (Over txn leg) rest few some_amounts holds unended next =
       let is = step few some_amounts holds unended (Over txn leg) rest next in
-      let list = tied-to txn is.own in let entry : Entry = record { end = end; rec = Over txn leg } in
+      let list = tied-to txn is.own in let entry : Placed = record { end = end; rec = Over txn leg } in
       passes-plain unended entry is.own refl
       record {
         account = tt;
@@ -309,7 +309,7 @@ module _ (base : BaseState) (words : ℕ → ℕ) (all : List Books) (me : ℕ) 
       mark-fits word = grind (arith)
 
   module _ (some_job : 1 ≤ mine.last.number) where
-    allowed : IsAllowed base.accounts mine.last
+    allowed : MayBeTaken base.accounts mine.last
     allowed = (holder.last me mine at some_job).0
 
     legs-allowed : AllByRecursion (IsAllowedLeg base.accounts) mine.last.job.legs
@@ -345,7 +345,7 @@ module _ (base : BaseState) (words : ℕ → ℕ) (all : List Books) (me : ℕ) 
   }
 
 -- the next record of a seat's last job enters the log
-pub enters : (base : BaseState) (words : ℕ → ℕ) (h : List Entry) (all : List Books) (me : ℕ) (mine : Books) → get_elem? all me ≡ some mine → (end : ℕ) (rec : Rec)
+pub enters : (base : BaseState) (words : ℕ → ℕ) (h : List Placed) (all : List Books) (me : ℕ) (mine : Books) → get_elem? all me ≡ some mine → (end : ℕ) (rec : Rec)
     → MayEnter rec mine → KeepsAccounts base words h all
     → KeepsAccounts base words (record { end = end; rec = rec } ∷ h) (set all me (placing end rec mine))
 enters base words h all me mine at end rec may s = record {

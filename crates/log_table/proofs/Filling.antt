@@ -8,7 +8,7 @@ use mathlib.Core.Option.{some}
 use native.Mathlib.Decide.{ℕ_discrete, dec_le}
 use lib.ListN.{get_elem?, get_or-append}
 use Rattle.atomic_table.proofs.Lists.{one_turn}
-use Rattle.lsn_space.specs.Tiling.{IsBoundary}
+use Rattle.lsn_space.specs.Tiling.{IsTilingBoundary}
 use Rattle.ring_core.specs.State.{is_at, worked_on, in_hand, RingState}
 use Rattle.ring_core.specs.Machine.{HasUnfilled, filled_at, after_fill}
 use Rattle.ring_core.specs.declared.event.RingEvent.TheVariants.{Fill}
@@ -184,7 +184,7 @@ module _ (key : Start) (words : Words) (views : List View) (me : ℕ) (v : View)
           refl in omega (arith, m, g, i, counts)) s.contiguous.remaining;
       aligned = all-weaker (EndsWithPart key.start log.parts) (EndsWithPart key.start after.parts) (ranges_of log)
           (λ r b. boundary-mid part_size key.start (r.base + r.size) last.before last.behind old_part part refl
-          (subst (λ l. IsBoundary part_size key.start l (r.base + r.size)) last.split b)) s.contiguous.aligned;
+          (subst (λ l. IsTilingBoundary part_size key.start l (r.base + r.size)) last.split b)) s.contiguous.aligned;
     };
     filled = record {
       spelled = all-mid SpellsRecord last.before last.behind old_part part spelled-part (all-old SpellsRecord s.filled.spelled);

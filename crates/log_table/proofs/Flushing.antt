@@ -3,7 +3,7 @@ use Rattle.std.proofs.Common.{◌≡◌, ℕ, ◌+◌, ◌/◌, ◌≤◌, List,
 use Rattle.std.specs.List.{AllByRecursion}
 use mathlib.Core.Option.{some}
 use lib.ListN.{get_elem?}
-use Rattle.lsn_space.specs.Tiling.{IsBoundary}
+use Rattle.lsn_space.specs.Tiling.{IsTilingBoundary}
 use Rattle.ring_core.specs.State.{size_of}
 use Rattle.ring_core.specs.declared.event.RingEvent.TheVariants.{Flushed}
 use Rattle.log_table.specs.declared.table.Start.{Start}
@@ -28,7 +28,7 @@ use Rattle.log_table.proofs.Showing.{hands_of-set_same}
 use Rattle.log_table.proofs.Viewing.{each_moves, each_set, seats_set, seat_at}
 
 -- the machine's boundaries are the parts'
-boundary-shown : (start at : ℕ) (parts : List Part) → IsBoundary part_size start parts at → IsBoundary size_of start (map reservation_of parts) at
+boundary-shown : (start at : ℕ) (parts : List Part) → IsTilingBoundary part_size start parts at → IsTilingBoundary size_of start (map reservation_of parts) at
 boundary-shown start at [] b = b
 boundary-shown start at (p ∷ ps) b = Rattle.std.proofs.Common.⊎_elim (λ here. Rattle.std.proofs.Common.inl here)
     (λ later. Rattle.std.proofs.Common.inr (boundary-shown (start + p.entry.size) at ps later)) b

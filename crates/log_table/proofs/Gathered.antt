@@ -6,7 +6,7 @@ use lib.ListN.{get_elem?}
 use Rattle.atomic_table.proofs.Lists.{set_else}
 use Rattle.slot_word.specs.AccountWord.{held_in, balance_in, mark_in}
 use Rattle.log_record.specs.declared.limits.TheConstants.{MOST_ACCOUNTS}
-use Rattle.log_record.specs.declared.rec.Entry.{Entry}
+use Rattle.log_record.specs.declared.rec.Placed.{Placed}
 use Rattle.log_record.specs.Spelling.{IsBalance}
 use Rattle.lock_core.specs.Sums.{BaseState}
 use Rattle.lock_core.specs.Serial.{Task, HasNoOthers, IsPartlySerialAfter}
@@ -19,7 +19,7 @@ use Rattle.log_table.proofs.Lists.{all-append}
 use Rattle.log_table.proofs.Taking.{RunsPartly, Lasts, Ties, FollowsAll, LastIsOne}
 
 -- a seat that has nothing is added
-module _ (base : BaseState) (words : ℕ → ℕ) (h : List Entry) (all : List Books) where
+module _ (base : BaseState) (words : ℕ → ℕ) (h : List Placed) (all : List Books) where
   pub adds-nobody : KeepsAccounts base words h all → KeepsAccounts base words h (all ++ no_books ∷ [])
   adds-nobody s = record {
     holder = record {
@@ -117,7 +117,7 @@ starts-free base words few first = record {
 }
 
 -- Where all jobs are one seat's, its jobs are all that the list has, each run whole or cut short.
-pub gathered : (base : BaseState) (words : ℕ → ℕ) (h : List Entry) (all : List Books) (i : ℕ) (x : Books) → get_elem? all i ≡ some x
+pub gathered : (base : BaseState) (words : ℕ → ℕ) (h : List Placed) (all : List Books) (i : ℕ) (x : Books) → get_elem? all i ≡ some x
     → ((number : ℕ) → takers number all ≡ times_taken number x.jobs) → AccountsFollowList base words h all
     → IsPartlySerialAfter base (Rattle.std.proofs.Common.map task_of x.jobs) h
 gathered base words h all i x here whole s = record {

@@ -6,7 +6,7 @@ use mathlib.Core.Option.{some, some-injective, some-ne-none}
 use native.Mathlib.Decide.{ℕ_discrete}
 use lib.ListN.{get_elem?}
 use Rattle.atomic_table.specs.Table.{Final, Seen}
-use Rattle.lsn_space.specs.Tiling.{IsTiling, IsBoundary}
+use Rattle.lsn_space.specs.Tiling.{IsTiling, IsTilingBoundary}
 use Rattle.lsn_space.specs.declared.lsn.TheConstants.{LAST}
 use Rattle.log_table.specs.declared.layout.TheConstants.{TAIL, EXPOSED}
 use Rattle.log_table.specs.declared.table.Start.{Start}
@@ -17,7 +17,7 @@ use Rattle.log_table.specs.declared.view.Role.{Role}
 use Rattle.log_table.specs.declared.view.Role.TheVariants.{Flusher, Fresh, Active, Ended, Note, Spent}
 use Rattle.log_table.specs.declared.view.View.{View}
 use Rattle.slot_word.specs.AccountWord.{held_in, balance_in, mark_in}
-use Rattle.log_record.specs.declared.rec.Entry.{Entry as Placed}
+use Rattle.log_record.specs.declared.rec.Placed.{Placed}
 use Rattle.log_record.specs.Spelling.{IsBalance}
 use Rattle.lock_core.specs.History.{history_from}
 use Rattle.lock_core.specs.Records.{loss}
@@ -209,7 +209,7 @@ module _ (key : Start) (words : Words) (views : List View) (me : ℕ) (v : View)
   seen-between : (x : ℕ) → IsRangeBoundary key.start (ranges_of log) x → IsEntryBoundary v.constants.start v.entries x
   seen-between x b = subst (λ n. IsEntryBoundary n v.entries x) (sym start-is)
       (boundary-entries me key.start x v.entries true
-      (subst (λ l. IsBoundary part_size key.start l x) parts-are (part-boundary _ _ _ _ _ log s.contiguous x b)))
+      (subst (λ l. IsTilingBoundary part_size key.start l x) parts-are (part-boundary _ _ _ _ _ log s.contiguous x b)))
 
   pub gathers : IsGathered words.tail v
   gathers = record {

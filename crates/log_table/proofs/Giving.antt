@@ -6,7 +6,7 @@ use mathlib.Core.Option.{some}
 use native.Mathlib.Decide.{ℕ_discrete}
 use lib.ListN.{get_elem?}
 use Rattle.slot_word.specs.AccountWord.{held_in}
-use Rattle.log_record.specs.declared.rec.Entry.{Entry}
+use Rattle.log_record.specs.declared.rec.Placed.{Placed}
 use Rattle.lock_core.specs.Records.{gain, loss}
 use Rattle.lock_core.specs.Sums.{BaseState, total, last_commit_of}
 use Rattle.log_table.specs.declared.view.Held.{Held}
@@ -17,7 +17,7 @@ use Rattle.log_table.specs.Words.{put}
 use Rattle.log_table.proofs.Bookings.{everywhere-moves, everywhere-set, summed-set, summed-one, summed-two, all-held, found, all-without, times_held-without, times_held-without_other}
 use Rattle.log_table.proofs.Taking.{put-same, put-else, as_taken-else, free-else, distinct-before, Lasts, Ties, RunsPartly, FollowsAll, LastIsOne}
 
-module _ (base : BaseState) (words : ℕ → ℕ) (h : List Entry) (all : List Books) (me : ℕ) (mine : Books) (at : get_elem? all me ≡ some mine)
+module _ (base : BaseState) (words : ℕ → ℕ) (h : List Placed) (all : List Books) (me : ℕ) (mine : Books) (at : get_elem? all me ≡ some mine)
     (holder : HasOneHolder base.accounts words all) (account word : ℕ) (free : held_in word ≡ false) (may : MayGive account word mine) where
   abbrev new : Books
   new = giving account mine

@@ -6,7 +6,7 @@ use mathlib.Core.Option.{some}
 use native.Mathlib.Decide.{ℕ_discrete}
 use lib.ListN.{get_elem?}
 use Rattle.slot_word.specs.AccountWord.{held_in}
-use Rattle.log_record.specs.declared.rec.Entry.{Entry}
+use Rattle.log_record.specs.declared.rec.Placed.{Placed}
 use Rattle.lock_core.specs.Records.{txn_of, gain, loss}
 use Rattle.lock_core.specs.Transactions.{of_transaction}
 use Rattle.lock_core.specs.Sums.{BaseState, total, AreInRange, last_commit_of}
@@ -23,12 +23,12 @@ use Rattle.log_table.proofs.Bookings.{everywhere-moves, everywhere-set, summed-s
 use Rattle.log_table.proofs.Lists.{all-both}
 
 -- the entry leaves the account as it was
-pub record IsSameAt (base : BaseState) (h : List Entry) (entry : Entry) (account : ℕ) : Type 0 where
+pub record IsSameAt (base : BaseState) (h : List Placed) (entry : Placed) (account : ℕ) : Type 0 where
   pub added : total gain account (entry ∷ h) ≡ total gain account h
   pub taken : total loss account (entry ∷ h) ≡ total loss account h
   pub mark : last_commit_of base (entry ∷ h) account ≡ last_commit_of base h account
 
-follows-same : (base : BaseState) (h placed : List Entry) (entry : Entry) (held : Held) → IsSameAt base h entry held.account → Follows base h placed held
+follows-same : (base : BaseState) (h placed : List Placed) (entry : Placed) (held : Held) → IsSameAt base h entry held.account → Follows base h placed held
     → Follows base (entry ∷ h) placed held
 follows-same base h placed entry held same old =
     let added = same.added in let taken = same.taken in let balance = old.balance in record { balance = omega arith; mark = same.mark ∙ old.mark }
@@ -51,7 +51,7 @@ free-unheld accounts words all holder i x here account below free =
     let none : cond {A = ℕ} (held_in (words account)) 1 0 ≡ 0 = ap (λ b. cond {A = ℕ} b 1 0) free in
     let one = summed-one (λ (books : Books). times_held account books.held) all i x here in let count = holder.counts account below in omega arith
 
-module _ (base : BaseState) (words : ℕ → ℕ) (h : List Entry) (all : List Books) (me : ℕ) (mine : Books) (entry : Entry)
+module _ (base : BaseState) (words : ℕ → ℕ) (h : List Placed) (all : List Books) (me : ℕ) (mine : Books) (entry : Placed)
     (distinct : HasDistinctJobs all) (holder : HasOneHolder base.accounts words all) (s : AccountsFollowList base words h all)
     (at : get_elem? all me ≡ some mine) (some_job : 1 ≤ mine.last.number) (own : txn_of entry.rec ≡ mine.last.number) where
   abbrev new : Books

@@ -2,7 +2,7 @@
 use Rattle.std.proofs.Common.{◌≡◌, ◌≢◌, inr, ⊎_elim, ℕ, ◌+◌, ◌/◌, ◌≤◌, true, List, length, set, None, sym, refl, ap, ◌∙◌, subst, le_refl, arith}
 use mathlib.Core.Option.{some}
 use lib.ListN.{get_elem?}
-use Rattle.lsn_space.specs.Tiling.{IsBoundary}
+use Rattle.lsn_space.specs.Tiling.{IsTilingBoundary}
 use Rattle.lsn_space.specs.declared.lsn.TheConstants.{LAST}
 use Rattle.log_table.specs.declared.table.Start.{Start}
 use Rattle.log_table.specs.declared.view.Constants.{Constants}
@@ -40,7 +40,7 @@ module _ (start ring tail exposed durable : ℕ) (log : Log) (c : HasContiguousR
   all-tile = tiles-append _ _ _ _ log.flushed _ c.flushed (tiles-append _ _ _ _ log.released log.unreleased c.released c.unreleased)
 
   -- each boundary of reservations is one of the parts
-  pub part-boundary : (at : ℕ) → IsRangeBoundary start (ranges_of log) at → IsBoundary part_size start log.parts at
+  pub part-boundary : (at : ℕ) → IsRangeBoundary start (ranges_of log) at → IsTilingBoundary part_size start log.parts at
   part-boundary at b = boundary-aligned _ start start tail at log.parts (ranges_of log) all-tile c.aligned
       (boundary-start part_size start log.parts) b
 

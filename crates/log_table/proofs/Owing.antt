@@ -13,7 +13,7 @@ use Rattle.slot_word.specs.AccountWord.{word_of, held_in, balance_in, mark_in}
 use Rattle.slot_word.proofs.AccountWordLemmas.{held_back, balance_back, mark_back}
 use Rattle.log_record.specs.declared.rec.Rec.{Rec}
 use Rattle.log_record.specs.declared.rec.Rec.TheVariants as rec
-use Rattle.log_record.specs.declared.rec.Entry.{Entry as Placed}
+use Rattle.log_record.specs.declared.rec.Placed.{Placed}
 use Rattle.lock_core.specs.Transactions.{recs_of, has_commit}
 use Rattle.lock_core.specs.Records.{commits}
 use Rattle.txn_script.specs.declared.job.Job.{Job}
@@ -22,7 +22,7 @@ use Rattle.log_table.specs.declared.view.Books.{Books}
 use Rattle.log_table.specs.declared.view.Seen.{Seen}
 use Rattle.log_table.specs.declared.view.TakenJob.{TakenJob}
 use Rattle.log_table.specs.declared.view.View.{View}
-use Rattle.log_table.specs.Accounts.{IsAllowed, KeepsAccounts}
+use Rattle.log_table.specs.Accounts.{MayBeTaken, KeepsAccounts}
 use Rattle.log_table.specs.Books.{IsNote, taking_job, taking, giving}
 use Rattle.log_table.specs.Events.{Leads, IsStep}
 use Rattle.log_table.specs.Layout.{Stop, Account}
@@ -94,7 +94,7 @@ module _ (key : Start) (me : ℕ) (v : View) where
         (sees-same key.start words.tail words.exposed words.durable log v.seen _ (s.seen me v at) refl refl refl refl) (inr refl)
         ((λ _. may.none_held), (λ off. absurd (true≢false (sym (ap may_own may.rests.active) ∙ off))))
         (takes-job (base_of key) words.account (history_in key log.parts) (map books_of views) me v.books (at_map books_of views me v at) taken
-        (subst (λ c. IsAllowed c taken) (sym same) may.allowed) may.above may.none_held s.accounts));
+        (subst (λ c. MayBeTaken c taken) (sym same) may.allowed) may.above may.none_held s.accounts));
   }
 
   pub account-looks : (account n : ℕ) → IsStep key me (Account account) n n v (saw_account account n v) None

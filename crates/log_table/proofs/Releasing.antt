@@ -5,7 +5,7 @@ use mathlib.Core.Logic.{dite}
 use mathlib.Core.Option.{some}
 use native.Mathlib.Decide.{dec_lt}
 use lib.ListN.{get_elem?}
-use Rattle.lsn_space.specs.Tiling.{IsBoundary}
+use Rattle.lsn_space.specs.Tiling.{IsTilingBoundary}
 use Rattle.log_table.specs.declared.table.Start.{Start}
 use Rattle.log_table.specs.declared.view.Call.TheVariants.{Idle, Filling}
 use Rattle.log_table.specs.declared.view.Entry.{Entry}
@@ -148,7 +148,7 @@ module _ (key : Start) (words : Words) (views : List View) (me : ℕ) (v : View)
 
   ends : (r : Range) → EndsWithPart key.start log.parts r → EndsWithPart key.start after.parts r
   ends r b = boundary-mid part_size key.start (r.base + r.size) last.before last.behind old_part part refl
-      (subst (λ l. IsBoundary part_size key.start l (r.base + r.size)) last.split b)
+      (subst (λ l. IsTilingBoundary part_size key.start l (r.base + r.size)) last.split b)
 
   aligned : AllByRecursion (EndsWithPart key.start after.parts) (ranges_of after)
   aligned =

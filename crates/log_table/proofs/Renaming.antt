@@ -3,7 +3,7 @@ use Rattle.std.proofs.Common.{◌≡◌, ◌≢◌, ◌⊎◌, inl, inr, ⊎_eli
 use Rattle.std.specs.List.{AllByRecursion}
 use mathlib.Core.Logic.{dite}
 use native.Mathlib.Decide.{ℕ_discrete}
-use Rattle.lsn_space.specs.Tiling.{IsBoundary}
+use Rattle.lsn_space.specs.Tiling.{IsTilingBoundary}
 use Rattle.log_table.specs.declared.view.Entry.{Entry}
 use Rattle.log_table.specs.Log.{Part, picked, own, is_by, parts_of, Laid, unreleased_in, records_in}
 use Rattle.log_table.specs.Views.{inserted, merged_entries}
@@ -187,7 +187,7 @@ pub unreleased_in-renamed : (from to c n : ℕ) (xs : List Part) → unreleased_
 unreleased_in-renamed from to c n [] = refl
 unreleased_in-renamed from to c n (x ∷ xs) = let h = unreleased_in-renamed from to c n xs in omega arith
 
-pub boundary-renamed : (from to start at : ℕ) (xs : List Part) → IsBoundary part_size start xs at → IsBoundary part_size start (rename from to xs) at
+pub boundary-renamed : (from to start at : ℕ) (xs : List Part) → IsTilingBoundary part_size start xs at → IsTilingBoundary part_size start (rename from to xs) at
 boundary-renamed from to start at [] b = b
 boundary-renamed from to start at (x ∷ xs) b =
     ⊎_elim (λ here. inl here) (λ later. inr (boundary-renamed from to (start + x.entry.size) at xs later)) b

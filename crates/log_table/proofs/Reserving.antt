@@ -6,7 +6,7 @@ use mathlib.Core.Option.{some}
 use native.Mathlib.Decide.{ℕ_discrete}
 use lib.ListN.{get_elem?}
 use prog.Atomic.{either}
-use Rattle.lsn_space.specs.Tiling.{IsBoundary}
+use Rattle.lsn_space.specs.Tiling.{IsTilingBoundary}
 use Rattle.lsn_space.specs.declared.lsn.TheConstants.{LAST}
 use Rattle.ring_core.specs.declared.event.RingEvent.{RingEvent}
 use Rattle.ring_core.specs.declared.event.RingEvent.TheVariants.{Reserve}
@@ -24,7 +24,7 @@ use Rattle.log_table.specs.Words.{Words}
 use Rattle.log_table.proofs.Boundaries.{range_size, part_size, boundary-append, laid-end}
 use Rattle.log_record.specs.declared.rec.Rec.{Rec}
 use Rattle.log_record.specs.declared.rec.Rec.TheVariants as rec
-use Rattle.log_record.specs.declared.rec.Entry.{Entry as Placed}
+use Rattle.log_record.specs.declared.rec.Placed.{Placed}
 use Rattle.log_record.specs.Spelling.{spelling, IsSpellable}
 use Rattle.log_record.proofs.BoundLemmas.{length-spelling}
 use Rattle.lock_core.specs.History.{end_from, history_from}
@@ -158,7 +158,7 @@ module _ (key : Start) (words : Words) (views : List View) (me : ℕ) (v : View)
         (all-append (EndsWithPart key.start after.parts) (ranges_of log) (range ∷ [])
         (all-weaker (EndsWithPart key.start log.parts) (EndsWithPart key.start after.parts) (ranges_of log)
         (λ r. boundary-append part_size key.start (r.base + r.size) log.parts (part ∷ [])) s.contiguous.aligned)
-        (subst (IsBoundary part_size key.start after.parts) (sym whole) (laid-end _ _ after.parts laid), tt));
+        (subst (IsTilingBoundary part_size key.start after.parts) (sym whole) (laid-end _ _ after.parts laid), tt));
   }
 
   still : (x : ℕ) → IsRangeBoundary key.start (ranges_of log) x → IsRangeBoundary key.start (ranges_of after) x

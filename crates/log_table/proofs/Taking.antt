@@ -6,7 +6,7 @@ use mathlib.Core.Option.{some}
 use native.Mathlib.Decide.{ℕ_discrete}
 use lib.ListN.{get_elem?}
 use Rattle.slot_word.specs.AccountWord.{held_in, balance_in, mark_in}
-use Rattle.log_record.specs.declared.rec.Entry.{Entry}
+use Rattle.log_record.specs.declared.rec.Placed.{Placed}
 use Rattle.lock_core.specs.Records.{gain, loss}
 use Rattle.lock_core.specs.History.{end_from}
 use Rattle.lock_core.specs.Transactions.{of_transaction, recs_of, changes_in, has_commit, touches, all_without_prev, in_order}
@@ -17,7 +17,7 @@ use Rattle.log_table.specs.declared.view.TakenJob.{TakenJob}
 use Rattle.log_table.specs.declared.view.Held.{Held}
 use Rattle.log_table.specs.declared.view.Books.{Books}
 use Rattle.log_table.specs.Books.{task_of, times_held, times_taken, taking_job, taking}
-use Rattle.log_table.specs.Accounts.{Everywhere, IsAsTaken, IsAllowed, HasOneHolder, HasDistinctJobs, moved_if_committed, Follows, IsUpToDate, AccountsFollowList, KeepsAccounts}
+use Rattle.log_table.specs.Accounts.{Everywhere, IsAsTaken, MayBeTaken, HasOneHolder, HasDistinctJobs, moved_if_committed, Follows, IsUpToDate, AccountsFollowList, KeepsAccounts}
 use Rattle.log_table.specs.Words.{put}
 use Rattle.log_table.proofs.Bookings.{everywhere-set, summed-set, all-held, all-taken, one-if, none-if}
 
@@ -37,36 +37,36 @@ as_taken-else accounts words account word held differ old = let same = put-else 
   mark = ap mark_in same ∙ old.mark;
 }
 
-pub free-else : (base : BaseState) (h : List Entry) (words : ℕ → ℕ) (account word other : ℕ) → other ≢ account
+pub free-else : (base : BaseState) (h : List Placed) (words : ℕ → ℕ) (account word other : ℕ) → other ≢ account
     → (held_in (words other) ≡ false → IsUpToDate base h other (words other))
     → held_in (put words account word other) ≡ false → IsUpToDate base h other (put words account word other)
 free-else base h words account word other differ old =
     subst (λ (w : ℕ). held_in w ≡ false → IsUpToDate base h other w) (sym (put-else words account word other differ)) old
 
 -- what the parts say of one seat's books
-abbrev pub RunsPartly : BaseState → List Entry → Books → Type 0
+abbrev pub RunsPartly : BaseState → List Placed → Books → Type 0
 RunsPartly base h books = AllByRecursion (λ (taken : TakenJob). IsRunWhole base h (task_of taken) ⊎ IsCutShort h (task_of taken)) books.jobs
 
 abbrev pub Lasts : Books → Type 0
 Lasts books = 1 ≤ books.last.number → AllByRecursion (λ (taken : TakenJob). taken.number ≡ books.last.number → taken.job ≡ books.last.job) books.jobs
 
-abbrev pub Ties : List Entry → Books → Type 0
+abbrev pub Ties : List Placed → Books → Type 0
 Ties h books = 1 ≤ books.last.number → of_transaction books.last.number h ≡ books.placed
 
-abbrev pub FollowsAll : BaseState → List Entry → Books → Type 0
+abbrev pub FollowsAll : BaseState → List Placed → Books → Type 0
 FollowsAll base h books = AllByRecursion (Follows base h books.placed) books.held
 
 abbrev pub LastIsOne : ℕ → Books → Type 0
-LastIsOne accounts books = 1 ≤ books.last.number → IsAllowed accounts books.last × (1 ≤ times_taken books.last.number books.jobs)
+LastIsOne accounts books = 1 ≤ books.last.number → MayBeTaken accounts books.last × (1 ≤ times_taken books.last.number books.jobs)
 
-module _ (base : BaseState) (words : ℕ → ℕ) (h : List Entry) (all : List Books) (me : ℕ) (mine : Books) (at : get_elem? all me ≡ some mine) where
+module _ (base : BaseState) (words : ℕ → ℕ) (h : List Placed) (all : List Books) (me : ℕ) (mine : Books) (at : get_elem? all me ≡ some mine) where
   -- jobs only grow
   pub distinct-before : (new : Books) → ((number : ℕ) → times_taken number mine.jobs ≤ times_taken number new.jobs) → HasDistinctJobs (set all me new)
       → HasDistinctJobs all
   distinct-before new more distinct number =
       let sum = summed-set (λ (books : Books). times_taken number books.jobs) all me mine new at in let one = distinct number in let grow = more number in omega arith
 
-  module _ (taken : TakenJob) (allowed : IsAllowed base.accounts taken) (above : AllByRecursion (λ (job : TakenJob). job.number < taken.number) mine.jobs)
+  module _ (taken : TakenJob) (allowed : MayBeTaken base.accounts taken) (above : AllByRecursion (λ (job : TakenJob). job.number < taken.number) mine.jobs)
       (none-held : mine.held ≡ []) where
     abbrev new : Books
     new = taking_job taken mine

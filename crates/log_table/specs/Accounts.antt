@@ -6,7 +6,7 @@ use mathlib.Core.Option.{some}
 use lib.ListN.{get_elem?}
 use Rattle.slot_word.specs.AccountWord.{held_in, balance_in, mark_in}
 use Rattle.log_record.specs.declared.limits.TheConstants.{MOST_ACCOUNTS}
-use Rattle.log_record.specs.declared.rec.Entry.{Entry}
+use Rattle.log_record.specs.declared.rec.Placed.{Placed}
 use Rattle.log_record.specs.Spelling.{IsTxn}
 use Rattle.txn_script.specs.Script.{IsAllowedJob}
 use Rattle.lock_core.specs.Records.{gain, loss}
@@ -44,7 +44,7 @@ pub record IsAsTaken (accounts : ℕ) (words : ℕ → ℕ) (held : Held) : Type
   pub mark : mark_in (words held.account) ≡ held.mark
 
 -- a job that may be taken
-pub record IsAllowed (accounts : ℕ) (taken : TakenJob) : Type 0 where
+pub record MayBeTaken (accounts : ℕ) (taken : TakenJob) : Type 0 where
   pub number : IsTxn taken.number
   pub job : IsAllowedJob accounts taken.job
 
@@ -54,38 +54,38 @@ pub record HasOneHolder (accounts : ℕ) (words : ℕ → ℕ) (all : List Books
   pub few : accounts ≤ MOST_ACCOUNTS
   pub counts : (account : ℕ) → account < accounts → holders account all ≡ (if held_in (words account) then 1 else 0)
   pub taken : Everywhere (λ (books : Books). AllByRecursion (IsAsTaken accounts words) books.held) all
-  pub last : Everywhere (λ (books : Books). 1 ≤ books.last.number → IsAllowed accounts books.last × (1 ≤ times_taken books.last.number books.jobs)) all
+  pub last : Everywhere (λ (books : Books). 1 ≤ books.last.number → MayBeTaken accounts books.last × (1 ≤ times_taken books.last.number books.jobs)) all
 
 -- no job number stands twice
 abbrev pub HasDistinctJobs : List Books → Type 0
 HasDistinctJobs all = (number : ℕ) → takers number all ≤ 1
 
 -- what the records of one transaction, once it is committed, move of an account on one side
-abbrev pub moved_if_committed : (ℤ → ℕ) → ℕ → List Entry → ℕ
+abbrev pub moved_if_committed : (ℤ → ℕ) → ℕ → List Placed → ℕ
 moved_if_committed side account entries =
     if has_commit (recs_of entries) then moved side account (changes_in (recs_of entries)) else 0
 
 -- the end of the last Commit on an account, where one of these records is it, else this
-abbrev pub commit_in : List Entry → ℕ → ℕ → ℕ
+abbrev pub commit_in : List Placed → ℕ → ℕ → ℕ
 commit_in entries account mark =
     if has_commit (recs_of entries) && touches account (changes_in (recs_of entries)) then end_from 0 entries else mark
 
 -- With what the seat's last job made of it by its Commit, the balance as it was taken is the balance of the whole list, and so is the
 -- last Commit.
-pub record Follows (base : BaseState) (h placed : List Entry) (held : Held) : Type 0 where
+pub record Follows (base : BaseState) (h placed : List Placed) (held : Held) : Type 0 where
   pub balance : held.balance + moved_if_committed gain held.account placed + total loss held.account h
       ≡ base.balance held.account + total gain held.account h + moved_if_committed loss held.account placed
   pub mark : last_commit_of base h held.account ≡ commit_in placed held.account held.mark
 
 -- the values of a free account's word are those of the whole list
-pub record IsUpToDate (base : BaseState) (h : List Entry) (account word : ℕ) : Type 0 where
+pub record IsUpToDate (base : BaseState) (h : List Placed) (account word : ℕ) : Type 0 where
   pub balance : IsBalanceOf base h account (balance_in word)
   pub mark : last_commit_of base h account ≡ mark_in word
 
 -- Where no job number stands twice: the list is a lawful continuation of the base state, and every balance is in its range. What it
 -- has of a seat's last job is what the seat placed. Each free account's word is that of the list, and each held account follows it. Each job is run whole or cut short, and
 -- there are no other transactions.
-pub record AccountsFollowList (base : BaseState) (words : ℕ → ℕ) (h : List Entry) (all : List Books) : Type 0 where
+pub record AccountsFollowList (base : BaseState) (words : ℕ → ℕ) (h : List Placed) (all : List Books) : Type 0 where
   pub lawful : IsLawfulAfter base h
   pub range : AreInRange base h
   pub placed : Everywhere (λ (books : Books). 1 ≤ books.last.number → of_transaction books.last.number h ≡ books.placed) all
@@ -97,7 +97,7 @@ pub record AccountsFollowList (base : BaseState) (words : ℕ → ℕ) (h : List
   pub others : (number : ℕ) → takers number all ≡ 0 → of_transaction number h ≡ []
 
 -- the accounts go with the list and with what the seats took
-pub record KeepsAccounts (base : BaseState) (words : ℕ → ℕ) (h : List Entry) (all : List Books) : Type 0 where
+pub record KeepsAccounts (base : BaseState) (words : ℕ → ℕ) (h : List Placed) (all : List Books) : Type 0 where
   pub holder : HasOneHolder base.accounts words all
   pub follows : HasDistinctJobs all → AccountsFollowList base words h all
 

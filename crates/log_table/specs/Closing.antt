@@ -8,7 +8,7 @@ use Rattle.log_table.specs.Log.{IsFull, IsSpelled, IsEntryBoundary, units_in}
 use Rattle.log_table.specs.Sends.{IsDrained}
 use Rattle.slot_word.specs.AccountWord.{balance_in, mark_in}
 use Rattle.log_record.specs.declared.rec.Rec.{Rec}
-use Rattle.log_record.specs.declared.rec.Entry.{Entry as Placed}
+use Rattle.log_record.specs.declared.rec.Placed.{Placed}
 use Rattle.lock_core.specs.History.{history_from}
 use Rattle.lock_core.specs.Lawful.{IsLawfulAfter}
 use Rattle.lock_core.specs.Serial.{Task, IsPartlySerialAfter}

@@ -1,7 +1,7 @@
 -- The reserved part of the log as lists that no word holds: its parts, each with its owner, and the reserved ranges.
 -- One seat's range is one part; a group's range will be as many parts as it has members.
 use Rattle.std.specs.Prelude.{◌≡◌, ◌==◌, ◌&&◌, ℕ, ◌+◌, ◌-◌, ◌%◌, ◌<◌, ◌≤◌, if◌then◌else◌, nat_le, nat_lt, Bool, true, false, List, [], ◌∷◌, ◌++◌, length, slice_index}
-use Rattle.lsn_space.specs.Tiling.{IsBoundary}
+use Rattle.lsn_space.specs.Tiling.{IsTilingBoundary}
 use Rattle.log_record.specs.declared.rec.Rec.{Rec}
 use Rattle.log_record.specs.Spelling.{spelling, IsSpellable}
 use Rattle.log_table.specs.declared.view.Entry.{Entry}
@@ -111,15 +111,15 @@ units_in (entry ∷ entries) = entry.units ++ units_in entries
 
 -- where an entry begins or ends
 abbrev pub IsEntryBoundary : ℕ → List Entry → ℕ → Type 0
-IsEntryBoundary start entries at = IsBoundary (λ (entry : Entry). entry.size) start entries at
+IsEntryBoundary start entries at = IsTilingBoundary (λ (entry : Entry). entry.size) start entries at
 
 -- where a range begins or ends
 abbrev pub IsRangeBoundary : ℕ → List Range → ℕ → Type 0
-IsRangeBoundary start ranges at = IsBoundary (λ (range : Range). range.size) start ranges at
+IsRangeBoundary start ranges at = IsTilingBoundary (λ (range : Range). range.size) start ranges at
 
 -- the range ends where a part does
 abbrev pub EndsWithPart : ℕ → List Part → Range → Type 0
-EndsWithPart start parts range = IsBoundary (λ (part : Part). part.entry.size) start parts (range.base + range.size)
+EndsWithPart start parts range = IsTilingBoundary (λ (part : Part). part.entry.size) start parts (range.base + range.size)
 
 -- as many units were reserved as the record has, and those filled are its first
 pub record SpellsRecord (part : Part) : Type 0 where

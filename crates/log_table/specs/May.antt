@@ -8,14 +8,14 @@ use Rattle.log_table.specs.declared.view.Call.TheVariants.{Idle, Filling}
 use Rattle.log_table.specs.declared.view.Role.TheVariants.{Flusher, Active}
 use Rattle.log_table.specs.declared.view.Seen.{Seen}
 use Rattle.log_table.specs.declared.view.View.{View}
-use Rattle.log_record.specs.declared.rec.Entry.{Entry as Placed}
+use Rattle.log_record.specs.declared.rec.Placed.{Placed}
 use Rattle.log_record.specs.Spelling.{spelling}
 use Rattle.txn_script.specs.declared.job.Job.{Job}
 use Rattle.slot_word.specs.declared.account_word.AccountWord.{AccountWord}
 use Rattle.slot_word.specs.AccountWord.{word_of, held_in, balance_in, mark_in}
 use Rattle.log_table.specs.declared.view.TakenJob.{TakenJob}
 use Rattle.log_table.specs.declared.view.Books.{Books}
-use Rattle.log_table.specs.Accounts.{IsAllowed, MayGive}
+use Rattle.log_table.specs.Accounts.{MayBeTaken, MayGive}
 use Rattle.log_table.specs.Books.{times_held, balance_taken, mark_taken, next_of, IsNote, MayEnter}
 use Rattle.log_table.specs.Log.{IsFull}
 use Rattle.log_table.specs.Views.{has_ended, read_to}
@@ -34,7 +34,7 @@ pub record MayLeave (view : View) : Type 0 where
 pub record MayTakeJob (accounts number : ℕ) (job : Job) (view : View) : Type 0 where
   pub rests : IsAtRest view
   pub none_held : view.books.held ≡ []
-  pub allowed : IsAllowed accounts (record { number = number; job = job })
+  pub allowed : MayBeTaken accounts (record { number = number; job = job })
   pub above : AllByRecursion (λ (taken : TakenJob). taken.number < number) view.books.jobs
 
 -- the worker's last job has no record in the log but perhaps its Note

@@ -108,7 +108,7 @@ pub struct Held {
 pub struct Books {
     pub jobs: LinkedList<TakenJob>,
     pub last: TakenJob,
-    pub placed: LinkedList<log_record::Entry>,
+    pub placed: LinkedList<log_record::Placed>,
     pub held: LinkedList<Held>,
 }
 

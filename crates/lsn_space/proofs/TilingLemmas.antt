@@ -2,7 +2,7 @@
 use Rattle.std.proofs.Common.{◌≡◌, ◌⊎◌, inl, inr, ⊎_elim, ℕ, ◌+◌, ◌≤◌, ◌==◌, cond, Bool, true, false, List, [], ◌∷◌, ◌++◌, map, Some, refl, sym, ap, ◌∙◌, subst, arith, eq-eqb}
 use Rattle.std.specs.List.{AllByRecursion, find}
 use Rattle.std.specs.Option.{option_map}
-use Rattle.lsn_space.specs.Tiling.{IsTiling, IsBoundary}
+use Rattle.lsn_space.specs.Tiling.{IsTiling, IsTilingBoundary}
 
 module _ {A : Type 0} where
   -- the first is found, or the search goes on
@@ -63,18 +63,18 @@ module _ {A : Type 0} where
 
 module _ {A : Type 0} (size : A → ℕ) where
   -- the first start is a boundary
-  pub boundary-from : (from : ℕ) (xs : List A) → IsBoundary size from xs from
+  pub boundary-from : (from : ℕ) (xs : List A) → IsTilingBoundary size from xs from
   boundary-from from [] = refl
   boundary-from from (x ∷ xs) = inl refl
 
-  pub boundary-push : (from : ℕ) (xs : List A) (x : A) (at : ℕ) → IsBoundary size from xs at → IsBoundary size from (xs ++ x ∷ []) at
+  pub boundary-push : (from : ℕ) (xs : List A) (x : A) (at : ℕ) → IsTilingBoundary size from xs at → IsTilingBoundary size from (xs ++ x ∷ []) at
   boundary-push from [] x at is = inl is
   boundary-push from (y ∷ ys) x at is = ⊎_elim inl (λ rest. inr (boundary-push (from + size y) ys x at rest)) is
 
-  pub boundary-map : (f : A → A) (from : ℕ) (xs : List A) (at : ℕ) → ((x : A) → size (f x) ≡ size x) → IsBoundary size from xs at → IsBoundary size from (map f xs) at
+  pub boundary-map : (f : A → A) (from : ℕ) (xs : List A) (at : ℕ) → ((x : A) → size (f x) ≡ size x) → IsTilingBoundary size from xs at → IsTilingBoundary size from (map f xs) at
   boundary-map f from [] at sizes is = is
   boundary-map f from (x ∷ xs) at sizes is = ⊎_elim inl
-      (λ rest. inr (subst (λ n. IsBoundary size (from + n) (map f xs) at) (sym (sizes x)) (boundary-map f (from + size x) xs at sizes rest))) is
+      (λ rest. inr (subst (λ n. IsTilingBoundary size (from + n) (map f xs) at) (sym (sizes x)) (boundary-map f (from + size x) xs at sizes rest))) is
 
 module _ {A : Type 0} (base : A → ℕ) (size : A → ℕ) where
   -- one range lies before the other
@@ -116,16 +116,16 @@ module _ {A : Type 0} (base : A → ℕ) (size : A → ℕ) where
       (found-cases p x xs r is)
 
   -- the end of a range that is found is a boundary
-  pub boundary-end : (from : ℕ) (xs : List A) (to : ℕ) (p : A → Bool) (r : A) → IsTiling base size from xs to → find p xs ≡ Some r → IsBoundary size from xs (base r + size r)
+  pub boundary-end : (from : ℕ) (xs : List A) (to : ℕ) (p : A → Bool) (r : A) → IsTiling base size from xs to → find p xs ≡ Some r → IsTilingBoundary size from xs (base r + size r)
   boundary-end from [] to p r tiles is = absurd (cc)
   boundary-end from (x ∷ xs) to p r tiles is = ⊎_elim
-      (λ here. inr (subst (λ z. IsBoundary size (from + size x) xs z)
+      (λ here. inr (subst (λ z. IsTilingBoundary size (from + size x) xs z)
       (ap (λ n. n + size x) (sym tiles.0) ∙ ap (λ z. base z + size z) here.1) (boundary-from size (from + size x) xs)))
       (λ later. inr (boundary-end (from + size x) xs to p r tiles.1 later.1))
       (found-cases p x xs r is)
 
   -- a boundary is the last end, or a range starts there
-  pub boundary-starts : (from : ℕ) (xs : List A) (to : ℕ) (at : ℕ) → IsTiling base size from xs to → IsBoundary size from xs at → (at ≡ to) ⊎ ((r : A) × (find (λ x. base x == at) xs ≡ Some r))
+  pub boundary-starts : (from : ℕ) (xs : List A) (to : ℕ) (at : ℕ) → IsTiling base size from xs to → IsTilingBoundary size from xs at → (at ≡ to) ⊎ ((r : A) × (find (λ x. base x == at) xs ≡ Some r))
   boundary-starts from [] to at tiles is = inl (is ∙ tiles)
   boundary-starts from (x ∷ xs) to at tiles is = ⊎_elim
       (λ here. inr (x, ap (λ b. cond b (Some x) (find (λ y. base y == at) xs)) (eq-eqb (base x) at (tiles.0 ∙ sym here))))

@@ -7,6 +7,6 @@ IsTiling base size from [] to = from ≡ to
 IsTiling base size from (x ∷ xs) to = (base x ≡ from) × IsTiling base size (from + size x) xs to
 
 -- `at` is where ranges that follow one another from `from` on begin, or where one of them ends
-abbrev pub IsBoundary : {A : Type 0} → (A → ℕ) → ℕ → List A → ℕ → Type 0
-IsBoundary size from [] at = at ≡ from
-IsBoundary size from (x ∷ xs) at = (at ≡ from) ⊎ IsBoundary size (from + size x) xs at
+abbrev pub IsTilingBoundary : {A : Type 0} → (A → ℕ) → ℕ → List A → ℕ → Type 0
+IsTilingBoundary size from [] at = at ≡ from
+IsTilingBoundary size from (x ∷ xs) at = (at ≡ from) ⊎ IsTilingBoundary size (from + size x) xs at

@@ -3,7 +3,7 @@ use Rattle.std.proofs.Common.{◌≡◌, ◌⊎◌, inl, inr, ⊎_elim, ℕ, ◌
 use Rattle.std.proofs.lemmas.Bool.Decides.{eqb_tells, leb_tells}
 use Rattle.std.specs.Option.{IsSomeAnd}
 use Rattle.lsn_space.specs.declared.lsn.TheConstants.{LAST}
-use Rattle.lsn_space.specs.Tiling.{IsBoundary}
+use Rattle.lsn_space.specs.Tiling.{IsTilingBoundary}
 use Rattle.ring_core.specs.declared.event.RingEvent.{RingEvent}
 use Rattle.ring_core.specs.declared.event.RingEvent.TheVariants.{Reserve, Fill, Turn, Flushed}
 use Rattle.ring_core.specs.State.{size_of, Reservation, Stage, Idle, Works, RingState, stage_of, in_hand}
@@ -32,7 +32,7 @@ idle-decided : (stage : Stage) → IsDecided (stage ≡ Idle)
 idle-decided Idle = inl refl
 idle-decided (Works base) = inr (λ is. cc)
 
-boundary-decided : (from : ℕ) (rs : List Reservation) (to : ℕ) → IsDecided (IsBoundary size_of from rs to)
+boundary-decided : (from : ℕ) (rs : List Reservation) (to : ℕ) → IsDecided (IsTilingBoundary size_of from rs to)
 boundary-decided from [] to = eq-decided to from
 boundary-decided from (r ∷ rs) to = decided-either (eq-decided to from) (boundary-decided (from + r.size) rs to)
 

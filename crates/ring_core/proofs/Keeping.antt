@@ -3,7 +3,7 @@ use Rattle.std.proofs.Common.{◌≡◌, ◌≢◌, ◌⊎◌, ⊎_elim, ℕ, �
 use Rattle.std.specs.List.{AllByRecursion, find}
 use Rattle.std.specs.Option.{IsSomeAnd}
 use Rattle.lsn_space.specs.declared.lsn.TheConstants.{LAST}
-use Rattle.lsn_space.specs.Tiling.{IsBoundary}
+use Rattle.lsn_space.specs.Tiling.{IsTilingBoundary}
 use Rattle.lsn_space.proofs.TilingLemmas.{found-passes, found-has, find-append, find-none, find-map, all-weaker, all-both, all-map, all-push, tiling-push, tiling-map, tiling-within, boundary-push, boundary-map, boundary-end, boundary-starts}
 use Rattle.ring_core.specs.State.{base_of, size_of, Reservation, Idle, Works, RingState, stage_of, with_stage, is_at}
 use Rattle.ring_core.specs.Machine.{MayReserve, HasUnfilled, IsNext, MayFlush, fresh, filled_at, released_at, start_state, after_reserve, after_fill, after_turn}
@@ -22,7 +22,7 @@ filled-exposed : (s : RingState) → AllByRecursion IsFull s.reservations → Al
 filled-exposed s full in_order = all-both _ _ _ s.reservations (λ r f o below. f (o.1 below)) full in_order
 
 -- a reservation at exposed isn't released, so somebody has it under way
-exposed-at_rest : (s : RingState) → TilesByOwner s → AllByRecursion (IsInOrder s.exposed) s.reservations → IsBoundary size_of s.start s.reservations s.exposed → IsAtRest s → s.exposed ≡ s.tail
+exposed-at_rest : (s : RingState) → TilesByOwner s → AllByRecursion (IsInOrder s.exposed) s.reservations → IsTilingBoundary size_of s.start s.reservations s.exposed → IsAtRest s → s.exposed ≡ s.tail
 exposed-at_rest s tiles in_order boundary rest = ⊎_elim (λ same. same) (λ found. absurd (nobody found.0 found.1))
     (boundary-starts base_of size_of s.start s.reservations s.tail s.exposed tiles.tiles boundary)
   where

@@ -6,7 +6,7 @@ use Rattle.std.proofs.lemmas.List.Folds.{find_at}
 use Rattle.std.proofs.lemmas.List.Quantifiers.{position-Some}
 use Rattle.std.proofs.lemmas.List.Recursion.{found_at}
 use Rattle.std.proofs.lemmas.Option.{slice_get_past}
-use Rattle.lsn_space.specs.Tiling.{IsTiling, IsBoundary}
+use Rattle.lsn_space.specs.Tiling.{IsTiling, IsTilingBoundary}
 use Rattle.lsn_space.proofs.TilingLemmas.{all-weaker, tiling-within}
 use Rattle.ring_core.specs.State.{base_of, size_of, Reservation, Stage, Idle, Hand, row_of, stage_of, with_stage}
 use Rattle.ring_core.specs.Rows.{is_of, is_end}
@@ -85,19 +85,19 @@ with_stage-absent actor stage (hand ∷ hands) all =
     ap (λ b. cond b (row_of actor stage ∷ hands) (hand ∷ with_stage actor stage hands)) all.0 ∙ ap (λ l. hand ∷ l) (with_stage-absent actor stage hands all.1)
 
 -- a boundary is the start or an end
-pub boundary-end_from : (from to : ℕ) (rs : List Reservation) (place : ℕ) → IsTiling base_of size_of from rs to → list_any (is_end place) rs ≡ true → IsBoundary size_of from rs place
+pub boundary-end_from : (from to : ℕ) (rs : List Reservation) (place : ℕ) → IsTiling base_of size_of from rs to → list_any (is_end place) rs ≡ true → IsTilingBoundary size_of from rs place
 boundary-end_from from to [] place tiles is = absurd (cc)
 boundary-end_from from to (r ∷ rs) place tiles is = by_test (is_end place r) refl is (λ later. boundary-end_from (from + r.size) to rs place tiles.1 later)
   where
-    start : (from : ℕ) (rs : List Reservation) → place ≡ from → IsBoundary size_of from rs place
+    start : (from : ℕ) (rs : List Reservation) → place ≡ from → IsTilingBoundary size_of from rs place
     start from [] same = same
     start from (q ∷ qs) same = inl same
 
-    by_test : (b : Bool) → is_end place r ≡ b → (b || list_any (is_end place) rs) ≡ true → (list_any (is_end place) rs ≡ true → IsBoundary size_of (from + r.size) rs place) → IsBoundary size_of from (r ∷ rs) place
+    by_test : (b : Bool) → is_end place r ≡ b → (b || list_any (is_end place) rs) ≡ true → (list_any (is_end place) rs ≡ true → IsTilingBoundary size_of (from + r.size) rs place) → IsTilingBoundary size_of from (r ∷ rs) place
     by_test true ends is rest = let at = eqb-true (r.base + r.size) place ends in inr (start (from + r.size) rs (omega (arith, at, tiles.0)))
     by_test false ends is rest = inr (rest is)
 
-pub boundary-end_to : (from to : ℕ) (rs : List Reservation) (place : ℕ) → IsTiling base_of size_of from rs to → IsBoundary size_of from rs place → place ≢ from → list_any (is_end place) rs ≡ true
+pub boundary-end_to : (from to : ℕ) (rs : List Reservation) (place : ℕ) → IsTiling base_of size_of from rs to → IsTilingBoundary size_of from rs place → place ≢ from → list_any (is_end place) rs ≡ true
 boundary-end_to from to [] place tiles is differs = absurd (differs is)
 boundary-end_to from to (r ∷ rs) place tiles is differs = ⊎_elim (λ here. absurd (differs here))
     (λ rest. by_test (is_end place r) refl (λ not_here. boundary-end_to (from + r.size) to rs place tiles.1 rest (λ same. not_here (omega (arith, same, tiles.0))))) is

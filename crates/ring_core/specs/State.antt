@@ -1,7 +1,7 @@
 -- What the machine's state is made of. Places are LSNs, counted in units.
 use Rattle.std.specs.Prelude.{ℕ, ◌==◌, if◌then◌else◌, Bool, List, [], ◌∷◌, Option, None}
 use Rattle.std.specs.List.{find}
-use Rattle.lsn_space.specs.Tiling.{IsBoundary}
+use Rattle.lsn_space.specs.Tiling.{IsTilingBoundary}
 
 -- a range of the log that was reserved, how many of its units are filled, and whether it is released
 pub record Reservation : Type 0 where
@@ -53,7 +53,7 @@ size_of r = r.size
 
 -- the log starts at this place, or a reservation ends there
 abbrev pub IsRingBoundary : RingState → ℕ → Type 0
-IsRingBoundary s place = IsBoundary size_of s.start s.reservations place
+IsRingBoundary s place = IsTilingBoundary size_of s.start s.reservations place
 
 -- the reservation starts at this base
 abbrev pub is_at : ℕ → Reservation → Bool

@@ -3,7 +3,7 @@ use Rattle.std.proofs.Common.{◌≡◌, ◌&&◌, ◌||◌, ◌+◌, cond, fals
 use Rattle.std.specs.List.{AllByRecursion}
 use Rattle.log_record.specs.declared.rec.Rec.{Rec}
 use Rattle.log_record.specs.declared.rec.Rec.TheVariants.{Genesis, Update, Commit, Short, Over, Note}
-use Rattle.log_record.specs.declared.rec.Entry.{Entry}
+use Rattle.log_record.specs.declared.rec.Placed.{Placed}
 use Rattle.lock_core.specs.declared.update.Change.{Change}
 use Rattle.lock_core.specs.History.{end_from}
 use Rattle.lock_core.specs.Records.{commits, gain, loss}
@@ -24,7 +24,7 @@ note-uncommitted (Over txn leg) note = refl
 note-uncommitted (Commit txn legs) note = absurd note
 
 -- a Note is no Commit
-pub notes-uncommitted : (placed : List Entry) → AllByRecursion (λ (entry : Entry). IsNote entry.rec) placed
+pub notes-uncommitted : (placed : List Placed) → AllByRecursion (λ (entry : Placed). IsNote entry.rec) placed
     → has_commit (recs_of placed) ≡ false
 notes-uncommitted [] notes = refl
 notes-uncommitted (entry ∷ placed) notes = λ i. note-uncommitted entry.rec notes.0 i || notes-uncommitted placed notes.1 i

@@ -18,7 +18,7 @@ use Rattle.log_table.specs.declared.view.Entry.{Entry}
 use Rattle.log_table.specs.declared.view.Given.{Given}
 use Rattle.log_table.specs.declared.view.Held.{Held}
 use Rattle.log_table.specs.declared.view.View.{View}
-use Rattle.log_table.specs.Accounts.{IsAllowed}
+use Rattle.log_table.specs.Accounts.{MayBeTaken}
 use Rattle.log_table.specs.Books.{balance_taken, mark_taken}
 use Rattle.txn_script.specs.Transfers.{transfer_of}
 use Rattle.log_table.specs.Closing.{records_of}
@@ -64,7 +64,7 @@ all-held books (holding ∷ holdings) held apart = (
 
 -- The accounts of the job were listed, and taken.
 module _ (accounts number : ℕ) (job : Job) (list slice : List ℕ) (holdings : List Holding) (old new : Seat) (same-list : slice ≡ list)
-    (rising : IsStrictlyIncreasing list) (only : All (IsAccountOf job.legs) list) (allowed : IsAllowed accounts (record { number = number; job = job }))
+    (rising : IsStrictlyIncreasing list) (only : All (IsAccountOf job.legs) list) (allowed : MayBeTaken accounts (record { number = number; job = job }))
     (takes : TakesAll slice holdings old new) where
   listed : map account_of holdings ≡ list
   listed = takes.accounts_are ∙ same-list

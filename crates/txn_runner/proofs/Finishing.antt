@@ -24,7 +24,7 @@ use Rattle.txn_runner.specs.declared.transfer.Ended.{Ended}
 use Rattle.txn_runner.specs.Endings.{release_at, EndsTransfer}
 use Rattle.txn_runner.specs.Holdings.{GoesBack}
 use Rattle.txn_runner.specs.Inserts.{placing_all, Adds, Puts, IsLeft}
-use Rattle.txn_runner.specs.Legs.{HoldsJob, HasMoved, ReachesEnd, last_record}
+use Rattle.txn_runner.specs.Legs.{HoldsJob, HasChanged, ReachesEnd, last_record}
 use Rattle.txn_runner.proofs.Adding.{adds-trans, left-behind}
 use Rattle.txn_runner.proofs.Backing.{all-unchanged}
 use Rattle.txn_runner.proofs.Making.{enters}
@@ -36,7 +36,7 @@ ends-last number job (Short leg) = refl
 ends-last number job (Over leg) = refl
 
 -- after the Commit an account goes back with its new balance
-back-moved : (number legs start : ℕ) (books : Books) (holding : Holding) → HasMoved books holding
+back-moved : (number legs start : ℕ) (books : Books) (holding : Holding) → HasChanged books holding
     → GoesBack (Committed (start + size_of (Commit number legs))) (placing_all (entry_of start (Commit number legs) ∷ []) books) holding
 back-moved number legs start books holding has = record {
   balance_is = has.sum;

@@ -30,7 +30,7 @@ use Rattle.txn_runner.specs.declared.rows.Answer.TheVariants as answer
 use Rattle.txn_runner.specs.Accounts.{HasAccountsOf, IsAccountOf}
 use Rattle.txn_runner.specs.Holdings.{account_of, taken_of}
 use Rattle.txn_runner.specs.Inserts.{placing_all, IsLeft}
-use Rattle.txn_runner.specs.Legs.{AreHeld, changes_by, HoldsJob, leg_records, MayMakeLeg, IsAfter, TouchesLeg, StandsBefore, HasMoved, ReachesEnd}
+use Rattle.txn_runner.specs.Legs.{AreHeld, changes_by, HoldsJob, leg_records, MayMakeLeg, IsAfter, TouchesLeg, StandsBefore, HasChanged, ReachesEnd}
 use Rattle.txn_runner.proofs.Adding.{left-behind, records-behind, uncommitted-behind}
 use Rattle.txn_runner.proofs.Held.{same-accounts, all-same}
 
@@ -159,7 +159,7 @@ module _ (accounts number : ℕ) (job : Job) (holdings : List Holding) (books : 
 
       has-moved : (holding : Holding) → HoldsTaken holding.taken books → holding.balance ≡ balances holding.taken.account
           → IsAccountOf job.legs holding.taken.account
-          → HasMoved books holding
+          → HasChanged books holding
       has-moved holding taken now only = record {
         sum = omega (arith, now, taken.balance, stands.sums holding.taken.account);
         touched = of-leg holding.taken.account only;

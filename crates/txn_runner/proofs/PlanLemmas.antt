@@ -3,7 +3,7 @@ use Rattle.std.proofs.Common.{◌≡◌, ◌≢◌, ℕ, ◌+◌, cond, pos, neg
 use Rattle.std.specs.List.{AllByRecursion}
 use Rattle.log_record.specs.declared.rec.Rec.{Rec}
 use Rattle.log_record.specs.declared.rec.Rec.TheVariants.{Update, Short, Over, Note}
-use Rattle.lock_core.specs.Alone.{Job, Outcome, Done, ShortAt, OverAt, lacks, overfills, after_leg, with_note, planned_from, planned_records, end_record}
+use Rattle.lock_core.specs.Alone.{PlainTransfer, Outcome, Done, ShortAt, OverAt, lacks, overfills, after_leg, with_note, planned_from, planned_records, end_record}
 use Rattle.lock_core.specs.Records.{txn_of, ends}
 
 -- the record is of this transaction
@@ -26,7 +26,7 @@ planned_from-own txn mark balance k (leg ∷ legs) =
     by_case false true own = (refl, tt)
     by_case false false own = (refl, (refl, own))
 
-pub planned_records-own : (txn : ℕ) (job : Job) (mark balance : ℕ → ℕ) → AllByRecursion (IsRecordOf txn) (planned_records txn job mark balance)
+pub planned_records-own : (txn : ℕ) (job : PlainTransfer) (mark balance : ℕ → ℕ) → AllByRecursion (IsRecordOf txn) (planned_records txn job mark balance)
 planned_records-own txn job mark balance = by_note job.note
   where
     by_note : (note : List ℕ) → AllByRecursion (IsRecordOf txn) (with_note txn note (planned_from txn mark balance 0 job.legs))
@@ -65,7 +65,7 @@ planned_from-last txn mark balance k (leg ∷ legs) =
           (planned_from txn mark (after_leg leg balance) (k + 1) legs) refl last,
     )
 
-planned_records-last : (txn : ℕ) (job : Job) (mark balance : ℕ → ℕ) → EndsOnlyLast (planned_records txn job mark balance)
+planned_records-last : (txn : ℕ) (job : PlainTransfer) (mark balance : ℕ → ℕ) → EndsOnlyLast (planned_records txn job mark balance)
 planned_records-last txn job mark balance = by_note job.note
   where
     by_note : (note : List ℕ) → EndsOnlyLast (with_note txn note (planned_from txn mark balance 0 job.legs))
@@ -74,22 +74,22 @@ planned_records-last txn job mark balance = by_note job.note
         (planned_from-last txn mark balance 0 job.legs)
 
 -- a transfer has a record
-pub planned_records-some : (txn : ℕ) (job : Job) (mark balance : ℕ → ℕ) → planned_records txn job mark balance ≢ []
+pub planned_records-some : (txn : ℕ) (job : PlainTransfer) (mark balance : ℕ → ℕ) → planned_records txn job mark balance ≢ []
 planned_records-some txn job mark balance none = subst EndsOnlyLast none (planned_records-last txn job mark balance)
 
 -- where records of it are left, none of those before them is its end record
-pub planned_records-front : (txn : ℕ) (job : Job) (mark balance : ℕ → ℕ) (records rest : List Rec)
+pub planned_records-front : (txn : ℕ) (job : PlainTransfer) (mark balance : ℕ → ℕ) (records rest : List Rec)
     → records ++ rest ≡ planned_records txn job mark balance → rest ≢ [] → AllByRecursion (λ rec. ends rec ≡ false) records
 planned_records-front txn job mark balance records [] are some = absurd (some refl)
 planned_records-front txn job mark balance records (next ∷ rest) are some = ends_only_last-front records next rest
     (subst EndsOnlyLast (sym are) (planned_records-last txn job mark balance))
 
-pub end_record-own : (txn : ℕ) (job : Job) (outcome : Outcome) → txn_of (end_record txn job outcome) ≡ txn
+pub end_record-own : (txn : ℕ) (job : PlainTransfer) (outcome : Outcome) → txn_of (end_record txn job outcome) ≡ txn
 end_record-own txn job Done = refl
 end_record-own txn job (ShortAt leg) = refl
 end_record-own txn job (OverAt leg) = refl
 
-pub end_record-ends : (txn : ℕ) (job : Job) (outcome : Outcome) → ends (end_record txn job outcome) ≡ true
+pub end_record-ends : (txn : ℕ) (job : PlainTransfer) (outcome : Outcome) → ends (end_record txn job outcome) ≡ true
 end_record-ends txn job Done = refl
 end_record-ends txn job (ShortAt leg) = refl
 end_record-ends txn job (OverAt leg) = refl

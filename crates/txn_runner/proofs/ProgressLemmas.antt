@@ -13,7 +13,7 @@ use Rattle.txn_runner.specs.declared.rows.Rows.{Rows}
 use Rattle.txn_runner.specs.Holdings.{KeepsGiven}
 use Rattle.txn_runner.specs.Running.{HasInserted, HasRun, HasCut}
 use Rattle.txn_runner.specs.Stripes.{number_at, job_at}
-use Rattle.txn_runner.specs.Working.{rows_in, room_of, taken_in, HasWorked, HasRoom, KeepsEntries, TakesJobs, HaveEnded, Works, AddsRows}
+use Rattle.txn_runner.specs.Working.{rows_in, room_of, taken_in, HasWorked, HasRoomForRows, KeepsEntries, TakesJobs, HaveEnded, Works, AddsRows}
 use Rattle.txn_runner.proofs.RowLemmas.{AddsRows-push, AddsRows-cut}
 use Rattle.txn_runner.proofs.Staying.{given-trans}
 use Rattle.txn_runner.proofs.WorkLemmas.{IsNextJob, at-stripe, HasWorked-next, TakesJobs-next, HaveEnded-next, HaveEnded-still, IsCutBy-next}
@@ -21,7 +21,7 @@ use Rattle.txn_runner.proofs.WorkLemmas.{IsNextJob, at-stripe, HasWorked-next, T
 -- so far each transfer taken has its end record and its row
 pub record Progress (jobs : Jobs) (worker : ℕ) (wait : Bool) (before rows : Rows) (first view : View) : Type 0 where
   pub worked : HasWorked jobs worker (taken_in rows) view
-  pub room : HasRoom jobs worker rows
+  pub room : HasRoomForRows jobs worker rows
   pub kept : KeepsEntries first view
   pub given : KeepsGiven first view
   pub takes : TakesJobs jobs worker (taken_in before) (taken_in rows) first view

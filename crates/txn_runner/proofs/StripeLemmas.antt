@@ -6,11 +6,11 @@ use Rattle.std.specs.List.{AllByRecursion}
 use borrow.Author.Count.{below_more}
 use Rattle.txn_script.specs.Script.{IsAllowedJob}
 use Rattle.log_table.specs.declared.view.TakenJob.{TakenJob}
-use Rattle.log_table.specs.Accounts.{IsAllowed}
+use Rattle.log_table.specs.Accounts.{MayBeTaken}
 use Rattle.txn_runner.specs.declared.jobs.Jobs.{Jobs}
 use Rattle.txn_runner.specs.declared.rows.Rows.{Rows}
 use Rattle.txn_runner.specs.Stripes.{place_of, number_at, taken_at, stripe_jobs, HasStripe}
-use Rattle.txn_runner.specs.Working.{rows_in, room_of, taken_in, HasRoom}
+use Rattle.txn_runner.specs.Working.{rows_in, room_of, taken_in, HasRoomForRows}
 
 module _ (jobs : Jobs) (worker : ℕ) where
   -- numbers rise along a stripe
@@ -36,7 +36,7 @@ module _ (jobs : Jobs) (worker : ℕ) where
 
   -- the table allows a transfer of the stripe
   pub taken_at-allowed : (accounts k : ℕ) → All (IsAllowedJob accounts) jobs.script → place_of jobs worker k < length jobs.script
-      → IsAllowed accounts (taken_at jobs worker k)
+      → MayBeTaken accounts (taken_at jobs worker k)
   taken_at-allowed accounts k all within = record {
     number = (omega (arith, jobs.some), omega (arith, jobs.numbered));
     job = All-get_or (IsAllowedJob accounts) jobs.script (place_of jobs worker k) (record { legs = []; note = None }) within all;
@@ -47,5 +47,5 @@ module _ (jobs : Jobs) (worker : ℕ) where
   HasStripe-few zero stripe = omega arith
   HasStripe-few (suc k) stripe = omega (arith, stripe-few k (stripe k (omega arith)))
 
-  pub HasRoom-none : (rows : Rows) → rows_in rows ≡ [] → taken_in rows ≡ 0 → length jobs.script ≤ room_of rows → HasRoom jobs worker rows
-  HasRoom-none rows empty none enough k stripe = omega (arith, HasStripe-few k stripe, ap length empty, none, enough)
+  pub HasRoomForRows-none : (rows : Rows) → rows_in rows ≡ [] → taken_in rows ≡ 0 → length jobs.script ≤ room_of rows → HasRoomForRows jobs worker rows
+  HasRoomForRows-none rows empty none enough k stripe = omega (arith, HasStripe-few k stripe, ap length empty, none, enough)

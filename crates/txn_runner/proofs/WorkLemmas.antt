@@ -12,7 +12,7 @@ use Rattle.txn_script.specs.Script.{IsAllowedJob}
 use Rattle.log_table.specs.declared.view.Entry.{Entry}
 use Rattle.log_table.specs.declared.view.TakenJob.{TakenJob}
 use Rattle.log_table.specs.declared.view.View.{View}
-use Rattle.log_table.specs.Accounts.{IsAllowed}
+use Rattle.log_table.specs.Accounts.{MayBeTaken}
 use Rattle.txn_script.specs.Transfers.{transfer_of}
 use Rattle.log_table.specs.Closing.{records_of}
 use Rattle.log_table.specs.May.{MayTakeJob}
@@ -60,8 +60,8 @@ module _ (jobs : Jobs) (worker k number : ℕ) (job : Job) (next : IsNextJob job
   MayTakeJob-next accounts view ready none_held allowed worked = record {
     rests = ready.rests;
     none_held = none_held;
-    allowed = subst (λ n. IsAllowed accounts (record { number = n; job = job })) (sym next.number_is)
-        (subst (λ j. IsAllowed accounts (record { number = number_at jobs worker k; job = j })) (sym next.job_is)
+    allowed = subst (λ n. MayBeTaken accounts (record { number = n; job = job })) (sym next.number_is)
+        (subst (λ j. MayBeTaken accounts (record { number = number_at jobs worker k; job = j })) (sym next.job_is)
         (taken_at-allowed jobs worker accounts k allowed next.within));
     above = subst (λ n. AllByRecursion (λ (taken : TakenJob). taken.number < n) view.books.jobs) (sym next.number_is)
         (subst (AllByRecursion (IsBelow (number_at jobs worker k))) (sym worked.taken) (all-append (IsBelow (number_at jobs worker k))

@@ -15,7 +15,7 @@ use Rattle.early_locks.specs.Locks.{HoldsTaken}
 use Rattle.log_table.specs.declared.table.Seat.{Seat}
 use Rattle.log_table.specs.declared.view.Books.{Books}
 use Rattle.log_table.specs.declared.view.Entry.{Entry}
-use Rattle.log_table.specs.Accounts.{IsAllowed}
+use Rattle.log_table.specs.Accounts.{MayBeTaken}
 use Rattle.log_table.specs.Books.{balance_taken, mark_taken, HoldsAccounts}
 use Rattle.txn_script.specs.Transfers.{transfer_of}
 use Rattle.log_table.specs.Closing.{records_of}
@@ -38,7 +38,7 @@ changes_by books = changes_in (recs_of books.placed)
 -- The seat's last job is this one under this number, which a table of so many accounts allows; these are its accounts, and are held.
 pub record HoldsJob (accounts number : ℕ) (job : Job) (holdings : List Holding) (books : Books) : Type 0 where
   pub last : books.last ≡ record { number = number; job = job }
-  pub allowed : IsAllowed accounts (record { number = number; job = job })
+  pub allowed : MayBeTaken accounts (record { number = number; job = job })
   pub all : All (HasAccountsOf (map account_of holdings)) job.legs
   pub only : All (IsAccountOf job.legs) (map account_of holdings)
   pub taken : AreHeld holdings books
@@ -93,7 +93,7 @@ pub record StandsBefore (i number : ℕ) (job : Job) (holdings : List Holding) (
   pub uncommitted : has_commit (recs_of books.placed) ≡ false
 
 -- the holding's balance is the one as taken with what the records change, and they do change the account
-pub record HasMoved (books : Books) (holding : Holding) : Type 0 where
+pub record HasChanged (books : Books) (holding : Holding) : Type 0 where
   pub sum : holding.balance + moved loss holding.taken.account (changes_by books)
       ≡ holding.taken.balance + moved gain holding.taken.account (changes_by books)
   pub touched : touches holding.taken.account (changes_by books) ≡ true
@@ -107,5 +107,5 @@ pub record ReachesEnd (answer : Answer) (number : ℕ) (job : Job) (holdings : L
   pub left : IsLeft (last_record number job answer ∷ []) books
   pub spellable : IsSpellable (last_record number job answer)
   pub outcome : outcome_of answer ≡ outcome_alone (transfer_of job) (balance_taken books.held)
-  pub moved : answer ≡ Done → All (HasMoved books) holdings
+  pub moved : answer ≡ Done → All (HasChanged books) holdings
   pub uncommitted : has_commit (recs_of books.placed) ≡ false

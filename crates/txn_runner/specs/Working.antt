@@ -32,8 +32,8 @@ abbrev pub taken_in : Rows → ℕ
 taken_in rows = rows.taken
 
 -- there is room for a row of each transfer of the stripe that is left
-abbrev pub HasRoom : Jobs → ℕ → Rows → Type 0
-HasRoom jobs worker rows = (k : ℕ) → HasStripe jobs worker k → length (rows_in rows) + k ≤ room_of rows + taken_in rows
+abbrev pub HasRoomForRows : Jobs → ℕ → Rows → Type 0
+HasRoomForRows jobs worker rows = (k : ℕ) → HasStripe jobs worker k → length (rows_in rows) + k ≤ room_of rows + taken_in rows
 
 -- among the entries each of a transfer of the worker ends at or below the start of each of a later one in its stripe
 abbrev pub LieInTurn : Jobs → ℕ → List Entry → Type 0

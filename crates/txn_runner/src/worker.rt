@@ -4,7 +4,7 @@ ghost use Rattle.txn_script.specs.Script.{IsAllowedJob};
 ghost use Rattle.log_table.specs.Seats.{IsOf, view_of};
 ghost use Rattle.ring_buffer.specs.Calls.{IsReady, IsSameWorker};
 ghost use Rattle.txn_runner.specs.Holdings.{KeepsGiven};
-ghost use Rattle.txn_runner.specs.Working.{HasWorked, HasRoom, KeepsEntries, TakesJobs, Works, taken_in, rows_in, room_of, AddsRows};
+ghost use Rattle.txn_runner.specs.Working.{HasWorked, HasRoomForRows, KeepsEntries, TakesJobs, Works, taken_in, rows_in, room_of, AddsRows};
 
 use crate::cause::Worked;
 use crate::job::run_job;
@@ -35,7 +35,7 @@ pub fn work<R: Wait, Q: Relief, G: Gate>(
     requires worker { seat.old.worker < jobs.now.workers }
     requires allowed { All (IsAllowedJob table.now.accounts) jobs.now.script }
     requires worked { HasWorked jobs.now seat.old.worker (taken_in rows.old) (view_of seat.old) }
-    requires room { HasRoom jobs.now seat.old.worker rows.old }
+    requires room { HasRoomForRows jobs.now seat.old.worker rows.old }
     requires relief { Q.ready relief.old }
     ensures seat { IsOf table.now seat.new }
     ensures ready { IsReady (view_of seat.new) }

@@ -2,11 +2,11 @@
 use Rattle.std.proofs.Common.{◌≡◌, ◌≤◌, ◌<◌, ℕ, zero, suc, ◌==◌, ◌+◌, ◌*◌, ◌/◌, ◌%◌, cond, Bool, true, false, inl, List, [], ◌∷◌, refl, ap, ◌∙◌, sym, subst, arith}
 use Rattle.std.specs.List.{AllByRecursion}
 use Rattle.log_record.specs.declared.rec.Rec.{Rec}
-use Rattle.log_record.specs.declared.rec.Entry.{Entry}
+use Rattle.log_record.specs.declared.rec.Placed.{Placed}
 use Rattle.log_record.specs.LogList.{size_of, end_of}
 use Rattle.lock_core.specs.History.{history_from}
 use Rattle.lock_core.specs.Sums.{BaseState, balance_of, sum_below}
-use Rattle.lock_core.specs.Alone.{Job as Transfer, IsAllowed, Done, outcome_records}
+use Rattle.lock_core.specs.Alone.{PlainTransfer, IsAllowedTransfer, Done, outcome_records}
 use Rattle.lock_core.specs.Serial.{numbered, IsSerialAfter}
 use Rattle.lock_core.specs.AnyOrder.{given, taken, legs_of, HasRoomFor, IsDoneIn, done_records, weight_of}
 use Rattle.lock_core.proofs.Conserving.{sum_below-none, sum_below-at, sum_below-add, sum_below-same}
@@ -36,7 +36,7 @@ given-most account (suc n) seed =
     let more = given-most account n (number_after seed) in
     let here = few ((leg_from (number_after seed)).1 == account) (number_after seed) in omega arith
 
-transfer-allowed : (x : ℕ) → IsAllowed 64 (transfer_of (job_from x))
+transfer-allowed : (x : ℕ) → IsAllowedTransfer 64 (transfer_of (job_from x))
 transfer-allowed x = record {
   some = omega arith;
   few = omega arith;
@@ -44,25 +44,25 @@ transfer-allowed x = record {
   note = inl refl;
 }
 
-transfers-allowed : (n seed : ℕ) → AllByRecursion (IsAllowed 64) (generated_transfers n seed)
+transfers-allowed : (n seed : ℕ) → AllByRecursion (IsAllowedTransfer 64) (generated_transfers n seed)
 transfers-allowed zero seed = tt
 transfers-allowed (suc n) seed = (transfer-allowed (number_after seed), transfers-allowed n (number_after seed))
 
 module _ (n seed : ℕ) (base : BaseState) (few : n ≤ 100000) (opens : OpensGenerated base) where
   pub room-generated : HasRoomFor base (generated_transfers n seed)
   room-generated = record {
-    allowed = subst (λ accounts. AllByRecursion (IsAllowed accounts) (generated_transfers n seed)) (sym opens.accounts) (transfers-allowed n seed);
+    allowed = subst (λ accounts. AllByRecursion (IsAllowedTransfer accounts) (generated_transfers n seed)) (sym opens.accounts) (transfers-allowed n seed);
     covered = λ account below. let opening = opens.balance account (omega (arith, below, opens.accounts)) in
         let legs = ap (taken account) (legs_of-generated n seed) in let most = taken-most account n seed in omega arith;
     room = λ account below. let opening = opens.balance account (omega (arith, below, opens.accounts)) in
         let legs = ap (given account) (legs_of-generated n seed) in let most = given-most account n seed in omega arith;
   }
 
-  pub generated-done : (first : ℕ) (h : List Entry) → IsSerialAfter base (numbered first (generated_transfers n seed)) h
+  pub generated-done : (first : ℕ) (h : List Placed) → IsSerialAfter base (numbered first (generated_transfers n seed)) h
       → AllByRecursion (IsDoneIn h) (numbered first (generated_transfers n seed))
   generated-done first = serial-done base first (generated_transfers n seed) room-generated
 
-  pub generated-balance : (first : ℕ) (h : List Entry) (account : ℕ) → IsSerialAfter base (numbered first (generated_transfers n seed)) h → account < 64
+  pub generated-balance : (first : ℕ) (h : List Placed) (account : ℕ) → IsSerialAfter base (numbered first (generated_transfers n seed)) h → account < 64
       → balance_of base h account ≡ generated_balance n seed account
   generated-balance first h account serial below =
       let after = balance-done base first (generated_transfers n seed) room-generated h account serial (omega (arith, below, opens.accounts)) in
@@ -76,7 +76,7 @@ end_of-generated : (first n seed : ℕ) → weight_of size_of (done_records (num
 end_of-generated first zero seed = refl
 end_of-generated first (suc n) seed =
     let more = end_of-generated (first + 1) n (number_after seed) in
-    let transfer : Transfer = transfer_of (job_from (number_after seed)) in
+    let transfer : PlainTransfer = transfer_of (job_from (number_after seed)) in
     let parts = weight_of-append size_of (outcome_records first transfer Done) (done_records (numbered (first + 1) (generated_transfers n (number_after seed)))) in
     omega arith
 

@@ -1,6 +1,6 @@
 -- Transfers that are made from a number: it begins a row of numbers, and each number of the row makes a transfer.
 use Rattle.std.specs.Prelude.{◌≡◌, ℕ, zero, suc, ◌+◌, ◌-◌, ◌*◌, ◌/◌, ◌%◌, ◌<◌, None, List, [], ◌∷◌, map}
-use Rattle.lock_core.specs.Alone.{Job as Transfer}
+use Rattle.lock_core.specs.Alone.{PlainTransfer}
 use Rattle.lock_core.specs.AnyOrder.{given, taken}
 use Rattle.lock_core.specs.Sums.{BaseState}
 use Rattle.txn_script.specs.Transfers.{transfer_of}
@@ -30,7 +30,7 @@ abbrev pub generated_jobs : ℕ → ℕ → List Job
 generated_jobs n seed = map job_from (numbers_after n seed)
 
 -- the same as a log runs them
-abbrev pub generated_transfers : ℕ → ℕ → List Transfer
+abbrev pub generated_transfers : ℕ → ℕ → List PlainTransfer
 generated_transfers n seed = map transfer_of (generated_jobs n seed)
 
 -- their legs

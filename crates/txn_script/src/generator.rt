@@ -3,7 +3,7 @@
 ghost use Rattle.std.specs.Prelude.{◌≡◌, ◌<◌, ◌≤◌, ◌*◌, ℕ, List, [], length, All, IfOk};
 ghost use Rattle.std.specs.List.{AllByRecursion};
 ghost use Rattle.log_record.specs.declared.rec.Rec.{Rec};
-ghost use Rattle.log_record.specs.declared.rec.Entry.{Entry};
+ghost use Rattle.log_record.specs.declared.rec.Placed.{Placed};
 ghost use Rattle.log_record.specs.LogList.{end_of};
 ghost use Rattle.lock_core.specs.AnyOrder.{HasRoomFor, IsDoneIn};
 ghost use Rattle.lock_core.specs.History.{history_from};
@@ -68,10 +68,10 @@ pub fn generated_jobs_laws()
 pub fn generated_in_any_order()
     ensures room { (n seed : ℕ) (base : BaseState) → n ≤ MOST_GENERATED → OpensGenerated base
         → HasRoomFor base (generated_transfers n seed) }
-    ensures done { (n seed first : ℕ) (base : BaseState) (h : List Entry) → n ≤ MOST_GENERATED → OpensGenerated base
+    ensures done { (n seed first : ℕ) (base : BaseState) (h : List Placed) → n ≤ MOST_GENERATED → OpensGenerated base
         → IsSerialAfter base (numbered first (generated_transfers n seed)) h
         → AllByRecursion (IsDoneIn h) (numbered first (generated_transfers n seed)) }
-    ensures balance { (n seed first : ℕ) (base : BaseState) (h : List Entry) (account : ℕ) → n ≤ MOST_GENERATED
+    ensures balance { (n seed first : ℕ) (base : BaseState) (h : List Placed) (account : ℕ) → n ≤ MOST_GENERATED
         → OpensGenerated base → IsSerialAfter base (numbered first (generated_transfers n seed)) h
         → account < GENERATED_ACCOUNTS → balance_of base h account ≡ generated_balance n seed account }
     ensures end { (n seed first : ℕ) (base : BaseState) (records : List Rec) → n ≤ MOST_GENERATED → OpensGenerated base

@@ -9,7 +9,7 @@ ghost use Rattle.lock_core.specs.Judging.{IsJudged, IsPlainFaultOf};
 use super::kinds::{admit_commit, admit_genesis, admit_note, admit_refusal, admit_update};
 use crate::reason::Why;
 use crate::update::Change;
-use log_record::{Entry, MOST_ACCOUNTS, Rec};
+use log_record::{Placed, MOST_ACCOUNTS, Rec};
 use lsn_space::{Balances, Lsn};
 use std::alloc::Global;
 
@@ -23,7 +23,7 @@ pub enum PlainFault {
 }
 
 /// Tests one entry more, and keeps the accounts; at an error they are of no use.
-fn admit(accounts: &mut Balances, front: &[Entry], entry: &Entry) -> Result<(), Why>
+fn admit(accounts: &mut Balances, front: &[Placed], entry: &Placed) -> Result<(), Why>
     requires judged { IsJudged accounts.old (reverse front.now) }
     requires spellable { IsSpellable entry.now.rec }
     ensures ok { OnOk result (IsJudged accounts.new (entry.now ∷ reverse front.now)) }
@@ -53,7 +53,7 @@ fn admit(accounts: &mut Balances, front: &[Entry], entry: &Entry) -> Result<(), 
 
 /// The accounts of a lawful list, given as its entries in the order of the file: the definition's plain program. It takes
 /// time in proportion to the square of their number, and memory for the accounts alone.
-pub fn plain_accounts(alloc: Global, entries: &[Entry]) -> Result<Balances, PlainFault>
+pub fn plain_accounts(alloc: Global, entries: &[Placed]) -> Result<Balances, PlainFault>
     requires { AllByRecursion (λ entry. IsSpellable entry.rec) entries.now }
     ensures lawful { OnOk result (IsLawful (reverse entries.now)) }
     ensures accounts { IfOk result (λ accounts. ShowsAccounts accounts.rows (genesis_of (reverse entries.now)) (reverse entries.now)) }

@@ -15,13 +15,13 @@ use crate::reason::Why;
 use crate::settling::settle;
 use crate::update::{Change, MOST_UPDATES};
 use arrayvec::ArrayVec;
-use log_record::{Entry, MOST_ACCOUNTS, Rec, Text};
+use log_record::{Placed, MOST_ACCOUNTS, Rec, Text};
 use lsn_space::{Balances, Lsn};
 
 /// Tests a Genesis, and keeps its account.
 pub fn admit_genesis(
     accounts: &mut Balances,
-    front: &[Entry],
+    front: &[Placed],
     account: u32,
     balance: u32,
 ) -> Result<(), Why>
@@ -43,7 +43,7 @@ pub fn admit_genesis(
 #[tactic(auto, using(crate::proofs::KindLemmas::few_updates))]
 pub fn admit_update(
     accounts: &Balances,
-    front: &[Entry],
+    front: &[Placed],
     txn: u32,
     change: Change,
 ) -> Result<(), Why>
@@ -74,7 +74,7 @@ pub fn admit_update(
 
 /// What a Commit of so many legs commits, where it passes the tests up to that of the legs.
 #[tactic(auto, using(crate::proofs::KindLemmas::few_updates))]
-fn committed_changes(front: &[Entry], txn: u32, legs: u32) -> Result<ArrayVec<Change, 16>, Why>
+fn committed_changes(front: &[Placed], txn: u32, legs: u32) -> Result<ArrayVec<Change, 16>, Why>
     requires lawful { IsLawful (reverse front.now) }
     requires legs { IsLeg legs }
     ensures ok { IfOk result (λ changes. IsCommitting (reverse front.now) txn legs changes.items) }
@@ -96,7 +96,7 @@ fn committed_changes(front: &[Entry], txn: u32, legs: u32) -> Result<ArrayVec<Ch
 /// Tests a Commit, and settles the accounts.
 pub fn admit_commit(
     accounts: &mut Balances,
-    front: &[Entry],
+    front: &[Placed],
     txn: u32,
     legs: u32,
     end: Lsn,
@@ -123,7 +123,7 @@ pub fn admit_commit(
 
 /// Tests a Short or an Over.
 #[tactic(auto, using(crate::proofs::KindLemmas::few_updates))]
-pub fn admit_refusal(front: &[Entry], txn: u32, leg: u32) -> Result<(), Why>
+pub fn admit_refusal(front: &[Placed], txn: u32, leg: u32) -> Result<(), Why>
     requires front { IsLawful (reverse front.now) }
     requires leg { IsLeg leg }
     ensures short { (end : ℕ) → Judges (reverse front.now) (record { end = end; rec = Rec.Short txn leg }) result }
@@ -144,7 +144,7 @@ pub fn admit_refusal(front: &[Entry], txn: u32, leg: u32) -> Result<(), Why>
 
 /// Tests a Note.
 #[tactic(auto, using(crate::proofs::KindLemmas::few_updates))]
-pub fn admit_note(front: &[Entry], txn: u32, text: &Text) -> Result<(), Why>
+pub fn admit_note(front: &[Placed], txn: u32, text: &Text) -> Result<(), Why>
     requires { IsLawful (reverse front.now) }
     ensures { (end : ℕ) → Judges (reverse front.now) (record { end = end; rec = Rec.Note txn text.now }) result }
 {

@@ -1,10 +1,10 @@
 ghost use Rattle.std.specs.Prelude.{◌≡◌, ◌||◌, ◌+◌, ◌≤◌, ◌++◌, length, reverse};
 ghost use Rattle.lock_core.specs.Records.{ends, changes_of};
-ghost use Rattle.lock_core.specs.Transactions.{records_of, updates_of, has_end};
+ghost use Rattle.lock_core.specs.Transactions.{own_records_of, updates_of, has_end};
 
 use crate::update::{Change, txn_of};
 use arrayvec::ArrayVec;
-use log_record::{Entry, Rec};
+use log_record::{Placed, Rec};
 
 /// The records of one transaction in a list.
 #[derive(Drop)]
@@ -43,9 +43,9 @@ impl Own {
 }
 
 /// The records of the transaction among these entries, which have at most 16 of its Updates.
-pub fn own_records(entries: &[Entry], txn: u32) -> Own
+pub fn own_records(entries: &[Placed], txn: u32) -> Own
     requires { length (updates_of txn (reverse entries.now)) ≤ 16 }
-    ensures ended { result.is_ended ≡ has_end (records_of txn (reverse entries.now)) }
+    ensures ended { result.is_ended ≡ has_end (own_records_of txn (reverse entries.now)) }
     ensures changes { result.changes.items ≡ updates_of txn (reverse entries.now) }
 {
     let mut own = Own {

@@ -1,13 +1,13 @@
 use Rattle.std.proofs.Common.{◌≤◌, length}
 use Rattle.std.specs.List.{AllByRecursion}
-use Rattle.log_record.specs.declared.rec.Entry.{Entry}
+use Rattle.log_record.specs.declared.rec.Placed.{Placed}
 use Rattle.log_record.specs.Spelling.{IsSpellable}
 use Rattle.log_recovery.proofs.plain_tests.entries_of.Given as goal
 
 abbrev pub invariant-records : goal.invariant-records
 invariant-records l = record {
   within : length l.rest ≤ length l.units;
-  each : AllByRecursion (λ (entry : Entry). IsSpellable entry.rec) l.entries.items;
+  each : AllByRecursion (λ (entry : Placed). IsSpellable entry.rec) l.entries.items;
 }
 
 abbrev pub decreases-records : goal.decreases-records

@@ -1,6 +1,6 @@
 use Rattle.std.proofs.Common.{◌∙◌, ap, arith, refl, true≢false, sym, length}
 use Rattle.std.specs.Prelude.{◌∷◌}
-use Rattle.log_record.specs.declared.rec.Entry.{Entry}
+use Rattle.log_record.specs.declared.rec.Placed.{Placed}
 use Rattle.log_record.specs.declared.rec.Rec.TheVariants.{Commit}
 use Rattle.lock_core.specs.declared.update_links.UpdateLink.{UpdateLink}
 use Rattle.lock_core.specs.Transactions.{updates_of}
@@ -63,7 +63,7 @@ returns c = λ h kept. let counted = c.count.ensures in let place = c.in-Some.en
     let long = ap length are in
     let on : IsCommitting h c.args.txn c.args.legs changes =
     record { some = some-taken c.args.self.now h kept (λ none. omega arith); unended = place.unended; are = are; legs_are = omega arith } in
-    let entry : Entry = record { end = c.args.end; rec = Commit c.args.txn c.args.legs } in
+    let entry : Placed = record { end = c.args.end; rec = Commit c.args.txn c.args.legs } in
     match-ended (IsTakeFault h entry) c.end.result c.end.ensures.ended c.end.ensures.memory
     (λ ended. keeps-parts c.end.new.self c.settle.new.accounts (entry ∷ h) c.end.ensures.accounts c.end.ensures.opening
     (takes-commit c.args.self.now h kept c.args.end c.args.txn c.args.legs changes on c.settle.new.accounts c.end.new.self.txns (c.if-not-are_current.ensures.0 refl)

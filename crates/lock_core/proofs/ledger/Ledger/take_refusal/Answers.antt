@@ -1,5 +1,5 @@
 use Rattle.std.proofs.Common.{◌∙◌, ap, arith, refl, ◌∷◌}
-use Rattle.log_record.specs.declared.rec.Entry.{Entry}
+use Rattle.log_record.specs.declared.rec.Placed.{Placed}
 use Rattle.log_record.specs.declared.rec.Rec.TheVariants.{Short, Over}
 use Rattle.lock_core.specs.declared.update_links.UpdateLink.{UpdateLink}
 use Rattle.lock_core.specs.Transactions.{updates_of}
@@ -31,7 +31,7 @@ returns-then-update-leg-clause-over c = λ end h kept. let counted = c.count.ens
 pub returns-clause-short : goal.returns-clause-short
 returns-clause-short c = λ end h kept. let counted = c.count.ensures in let place = c.in-Some.ensures.unended h kept.transactions in
     let same = ap (λ (l : UpdateLink). l.count) c.update.ensures ∙ chain-count c.args.self.now.txns.updates kept.transactions.first c.in-Some.place (updates_of c.args.txn h) place.chain in
-    let entry : Entry = record { end = end; rec = Short c.args.txn c.args.leg } in
+    let entry : Placed = record { end = end; rec = Short c.args.txn c.args.leg } in
     match-ended (IsTakeFault h entry) c.end.result c.end.ensures.ended c.end.ensures.memory
     (λ ended. keeps-parts c.end.new.self c.args.self.now.accounts (entry ∷ h) c.end.ensures.accounts c.end.ensures.opening
     (takes-short c.args.self.now h kept end c.args.txn c.args.leg (some-taken c.args.self.now h kept (λ none. omega arith)) place.unended c.end.new.self.txns (omega arith)
@@ -40,7 +40,7 @@ returns-clause-short c = λ end h kept. let counted = c.count.ensures in let pla
 pub returns-clause-over : goal.returns-clause-over
 returns-clause-over c = λ end h kept. let counted = c.count.ensures in let place = c.in-Some.ensures.unended h kept.transactions in
     let same = ap (λ (l : UpdateLink). l.count) c.update.ensures ∙ chain-count c.args.self.now.txns.updates kept.transactions.first c.in-Some.place (updates_of c.args.txn h) place.chain in
-    let entry : Entry = record { end = end; rec = Over c.args.txn c.args.leg } in
+    let entry : Placed = record { end = end; rec = Over c.args.txn c.args.leg } in
     match-ended (IsTakeFault h entry) c.end.result c.end.ensures.ended c.end.ensures.memory
     (λ ended. keeps-parts c.end.new.self c.args.self.now.accounts (entry ∷ h) c.end.ensures.accounts c.end.ensures.opening
     (takes-over c.args.self.now h kept end c.args.txn c.args.leg (some-taken c.args.self.now h kept (λ none. omega arith)) place.unended c.end.new.self.txns (omega arith)

@@ -1,6 +1,6 @@
 use Rattle.std.proofs.Common.{◌≡◌, ◌+◌, take, drop, reverse, subst, arith}
 use Rattle.std.proofs.lemmas.Grind.{common_steps}
-use Rattle.log_record.specs.declared.rec.Entry.{Entry}
+use Rattle.log_record.specs.declared.rec.Placed.{Placed}
 use Rattle.std.specs.Prelude.{List}
 use Rattle.lock_core.specs.Sums.{ShowsAccounts}
 use Rattle.lock_core.specs.Lawful.{genesis_of}
@@ -22,5 +22,5 @@ returns-in-Err-clause-fault c = record {
 pub returns-clause-accounts : goal.returns-clause-accounts
 returns-clause-accounts c =
     let whole : take c.entries.i c.args.entries.now ≡ c.args.entries.now = grind (arith, common_steps) in
-    subst (λ (entries : List Entry). ShowsAccounts c.entries.accounts.rows (genesis_of (reverse entries)) (reverse entries)) whole
+    subst (λ (entries : List Placed). ShowsAccounts c.entries.accounts.rows (genesis_of (reverse entries)) (reverse entries)) whole
     (shows-kept c.entries.accounts.rows (genesis_of (reverse (take c.entries.i c.args.entries.now))) (reverse (take c.entries.i c.args.entries.now)) c.entries.invariant.judged.rows)

@@ -2,7 +2,7 @@ use Rattle.std.proofs.Common.{◌∙◌, sym, ap, subst, reverse, List, arith}
 use Rattle.std.specs.Prelude.{◌∷◌}
 use Rattle.std.proofs.lemmas.List.{length-reverse}
 use Rattle.lsn_space.specs.Accounts.{Accounts}
-use Rattle.log_record.specs.declared.rec.Entry.{Entry}
+use Rattle.log_record.specs.declared.rec.Placed.{Placed}
 use Rattle.log_record.specs.declared.rec.Rec.TheVariants.{Genesis}
 use Rattle.lock_core.specs.Lawful.{genesis_of, with_genesis}
 use Rattle.lock_core.specs.Settling.{KeepsRows}
@@ -34,7 +34,7 @@ returns-clause-kept c =
     let counted = c.count.ensures in
     let again = c.count-else-front-count.ensures in
     let turned = length-reverse c.args.front.now in
-    let h : List Entry = reverse c.args.front.now in
+    let h : List Placed = reverse c.args.front.now in
     λ end. (
       ap (λ (a : Accounts). a.room) c.push.ensures ∙ c.requires.judged.room,
       subst (λ (a : Accounts). KeepsRows a.rows (with_genesis (Genesis c.args.account c.args.balance) (genesis_of h)) (record { end = end; rec = Genesis c.args.account c.args.balance } ∷ h))

@@ -1,6 +1,6 @@
 use Rattle.std.proofs.Common.{sym, ap, ◌∙◌, subst, eq-eqb}
 use Rattle.std.specs.List.{list_any}
-use Rattle.lsn_space.specs.Tiling.{IsBoundary}
+use Rattle.lsn_space.specs.Tiling.{IsTilingBoundary}
 use Rattle.lsn_space.proofs.TilingLemmas.{boundary-from}
 use Rattle.ring_core.specs.State.{size_of}
 use Rattle.ring_core.specs.Rows.{is_end}
@@ -9,7 +9,7 @@ use Rattle.ring_core.proofs.run.RingRun.is_boundary.Goals as goal
 
 pub returns-then-place-self : goal.returns-then-place-self
 returns-then-place-self c = rw (← c.self.view_is) (
-  (λ _. subst (IsBoundary size_of c.self.inside.start c.self.inside.ranges.items) (sym c.if-place-self.true) (boundary-from _ _ _)),
+  (λ _. subst (IsTilingBoundary size_of c.self.inside.start c.self.inside.ranges.items) (sym c.if-place-self.true) (boundary-from _ _ _)),
   (λ _. eq-eqb _ _ c.if-place-self.true),
 )
 
