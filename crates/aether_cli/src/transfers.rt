@@ -1,5 +1,6 @@
 //! The transfers of a run.
 ghost use Rattle.std.specs.Prelude.{◌≡◌, ◌≤◌, ◌<◌, ◌+◌, ◌*◌, ◌^◌, ℕ, List, All, length, None, IfOk, IfSome, IsSomeAnd};
+ghost use Rattle.lsn_space.specs.declared.lsn.TheConstants.{LEAST_RING, GREATEST_RING};
 ghost use Rattle.log_record.specs.declared.limits.TheConstants.{LAST_TXN};
 ghost use Rattle.log_record.specs.declared.rec.Rec.{Rec};
 ghost use Rattle.log_table.specs.Opening.{HasAccounts};
@@ -88,7 +89,7 @@ pub fn prepare<R>(
     first: u64,
     workers: u32,
 ) -> Result<Prepared, NoMemory>
-    requires ring { (1024 ≤ start.ring) × (start.ring ≤ 1048576) }
+    requires ring { (LEAST_RING ≤ start.ring) × (start.ring ≤ GREATEST_RING) }
     requires power { (n : ℕ) × (start.ring ≡ 2 ^ n) }
     requires no_slots { start.slots ≡ 0 }
     requires accounts { HasAccounts start }

@@ -4,6 +4,7 @@ ghost use Rattle.lsn_space.specs.Number.{number_text};
 ghost use Rattle.command_line.specs.CommandLine.{AreOptions, HasNoOptions, IsNumberOf};
 
 use clap::ArgMatches;
+use lsn_space::{GREATEST_RING, LEAST_RING};
 use txn_script::number;
 
 /// How `run` and `demo` are to work.
@@ -28,7 +29,7 @@ pub(crate) fn options_in(found: &ArgMatches<'_>) -> Option<RunOptions>
     ensures none { IfNone result (HasNoOptions (rows_of (found_of found.now))) }
 {
     let workers = number_in(found, "workers", 2, 1, 2)?;
-    let ring = number_in(found, "ring", 65536, 1024, 1048576)?;
+    let ring = number_in(found, "ring", 65536, LEAST_RING, GREATEST_RING)?;
     let slots = number_in(found, "slots", 4, 0, 16)?;
     if !ring.is_power_of_two() {
         return None;

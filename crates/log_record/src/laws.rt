@@ -47,4 +47,5 @@ pub fn format_limits()
     ensures txn { LAST_TXN ≡ 4294967295 }
     ensures legs { MOST_LEGS ≡ 8 }
     ensures note { LONGEST_NOTE ≡ 200 }
+    ensures record { LONGEST_RECORD ≡ 26 }
 {}

@@ -3,7 +3,7 @@ use Rattle.std.proofs.Common.{◌≡◌, ◌≢◌, inl, ℕ, zero, suc, ◌<◌
 use Rattle.std.proofs.lemmas.List.{length-replicate, get_or-replicate}
 use mathlib.Core.Option.{some-injective, some-ne-none}
 use Rattle.atomic_table.specs.Table.{opening}
-use Rattle.lsn_space.specs.declared.lsn.TheConstants.{LAST}
+use Rattle.lsn_space.specs.declared.lsn.TheConstants.{LAST, LEAST_RING, GREATEST_RING}
 use Rattle.log_table.specs.declared.layout.TheConstants.{TAIL, EXPOSED, DURABLE, STOP, CREW, RING}
 use Rattle.log_table.specs.declared.table.Start.{Start}
 use Rattle.log_table.specs.declared.view.View.{View}
@@ -25,7 +25,7 @@ use Rattle.log_table.proofs.Gathered.{starts-free}
 abbrev empty_log : Log
 empty_log = record { parts = []; flushed = []; released = []; unreleased = [] }
 
-module _ (key : Start) (words : Words) (least : 1024 ≤ key.ring) (most : key.ring ≤ 1048576) (small : key.start ≤ LAST)
+module _ (key : Start) (words : Words) (least : LEAST_RING ≤ key.ring) (most : key.ring ≤ GREATEST_RING) (small : key.start ≤ LAST)
     (tail : words.tail ≡ key.start) (exposed : words.exposed ≡ key.start) (durable : words.durable ≡ key.start) (stop : words.stop ≡ 0)
     (crew : words.crew ≡ 0) (accounts : KeepsAccounts (base_of key) words.account [] (no_books ∷ [])) where
   alone : (P : ℕ → View → Type 0) → P 0 (flusher key) → EachView P (flusher key ∷ [])
@@ -94,7 +94,7 @@ module _ (key : Start) (words : Words) (least : 1024 ≤ key.ring) (most : key.r
 abbrev pub shared_words : List ℕ → ℕ → List ℕ
 shared_words zeros n = set (set (set zeros TAIL n) EXPOSED n) DURABLE n
 
-pub start-allowed : (key : Start) (ws zeros : List ℕ) → 1024 ≤ key.ring → key.ring ≤ 1048576 → key.start ≤ LAST → HasAccounts key
+pub start-allowed : (key : Start) (ws zeros : List ℕ) → LEAST_RING ≤ key.ring → key.ring ≤ GREATEST_RING → key.start ≤ LAST → HasAccounts key
     → zeros ≡ replicate (word_count key.ring (length key.accounts.rows)) 0 → PutsAccounts key (length key.accounts.rows) (shared_words zeros key.start) ws
     → Ruled key (opening ws [] (flusher key))
 start-allowed key ws zeros least most small has zero-is puts = (

@@ -5,7 +5,7 @@ use mathlib.Core.Option.{some}
 use lib.Dec.{eqb}
 use lib.ListN.{get_elem?}
 use Rattle.atomic_table.specs.Table.{State}
-use Rattle.lsn_space.specs.declared.lsn.TheConstants.{LAST}
+use Rattle.lsn_space.specs.declared.lsn.TheConstants.{LAST, LEAST_RING, GREATEST_RING}
 use Rattle.log_table.specs.declared.table.Start.{Start}
 use Rattle.log_table.specs.declared.view.Call.TheVariants.{Idle}
 use Rattle.log_table.specs.declared.view.Role.TheVariants.{Flusher, Fresh}
@@ -37,8 +37,8 @@ EachPair R views = EachView (λ seat view. EachView (R seat view) views) views
 
 -- the ring has a lawful length, and the tail is in the log and at most a ring above durable
 pub record HasTailInReach (ring tail durable : ℕ) : Type 0 where
-  pub least_ring : 1024 ≤ ring
-  pub greatest_ring : ring ≤ 1048576
+  pub least_ring : LEAST_RING ≤ ring
+  pub greatest_ring : ring ≤ GREATEST_RING
   pub within_ring : tail ≤ durable + ring
   pub within_log : tail ≤ LAST
 

@@ -1,5 +1,6 @@
 //! The end of a table, when all workers have ended and were merged.
 ghost use Rattle.std.specs.Prelude.{◌≡◌, ◌<◌, ◌≤◌, length};
+ghost use Rattle.lsn_space.specs.declared.lsn.TheConstants.{GREATEST_RING};
 ghost use Rattle.log_record.specs.declared.limits.TheConstants.{MOST_ACCOUNTS};
 ghost use Rattle.lock_core.specs.Settling.{row};
 ghost use Rattle.log_table.specs.Closing.{IsGathered, IsSettled, ReadsRows};
@@ -64,7 +65,7 @@ impl Closed {
 
 /// Reads the accounts from the words of a closed table whose ring has that length.
 fn read_rows(rows: &mut Balances, closed: &atomic_table::Closed<(), Global>, ring: u32)
-    requires ring { ring ≤ 1048576 }
+    requires ring { ring ≤ GREATEST_RING }
     requires few { length rows.old.rows ≤ MOST_ACCOUNTS }
     requires size { slots_len closed.now.words ≡ word_count ring (length rows.old.rows) }
     requires full { IsFull closed.now.words }

@@ -2,6 +2,7 @@
 //! cache lines of their own. `proofs/Wording.antt` shows that no two words share a place.
 
 ghost use Rattle.std.specs.Prelude.{◌≡◌, ◌≤◌, ◌+◌, ◌*◌};
+ghost use Rattle.lsn_space.specs.declared.lsn.TheConstants.{GREATEST_RING};
 ghost use Rattle.log_record.specs.declared.limits.TheConstants.{MOST_ACCOUNTS};
 ghost use Rattle.log_table.specs.declared.layout.TheConstants.{STRIDE, RING};
 
@@ -23,7 +24,7 @@ pub(crate) const RING: usize = 5 * STRIDE;
 
 /// Where the word of an account lies.
 pub(crate) fn account_place(ring: u32, account: u32) -> usize
-    requires { (ring ≤ 1048576) × (account ≤ MOST_ACCOUNTS) }
+    requires { (ring ≤ GREATEST_RING) × (account ≤ MOST_ACCOUNTS) }
     ensures { result ≡ RING + ring + STRIDE * account }
 {
     RING + ring as usize + STRIDE * account as usize

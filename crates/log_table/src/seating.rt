@@ -1,5 +1,6 @@
 //! Seats are made, and taken in again.
 ghost use Rattle.std.specs.Prelude.{◌≡◌, ◌≤◌, ◌^◌, ℕ, length, IfOk, false};
+ghost use Rattle.lsn_space.specs.declared.lsn.TheConstants.{LEAST_RING, GREATEST_RING};
 ghost use Rattle.log_table.specs.Layout.{word_count};
 ghost use Rattle.log_table.specs.May.{MaySplit, MayMerge};
 ghost use Rattle.log_table.specs.Opening.{HasAccounts, PutsAccounts};
@@ -32,7 +33,7 @@ fn split_as<N: Number>(table: &LogTable, seat: &mut Seat, worker: u32) -> Seat
 
 /// Puts the accounts' words, each free with its balance and last commit.
 fn put_accounts(words: &mut Vec<u64>, start: &Start)
-    requires ring { (1024 ≤ start.now.ring) × (start.now.ring ≤ 1048576) }
+    requires ring { (LEAST_RING ≤ start.now.ring) × (start.now.ring ≤ GREATEST_RING) }
     requires accounts { HasAccounts start.now }
     requires size { length words.old.items ≡ word_count start.now.ring (length start.now.accounts.rows) }
     ensures { PutsAccounts start.now (length start.now.accounts.rows) words.old.items words.new.items }
@@ -47,7 +48,7 @@ impl LogTable {
     /// A table at rest, and the flusher's seat. The ring's length is a power of two; there are no
     /// slots yet.
     pub fn make(alloc: Global, start: Start) -> Result<(LogTable, Seat), NoMemory>
-        requires ring { (1024 ≤ start.ring) × (start.ring ≤ 1048576) }
+        requires ring { (LEAST_RING ≤ start.ring) × (start.ring ≤ GREATEST_RING) }
         requires power { (n : ℕ) × (start.ring ≡ 2 ^ n) }
         requires no_slots { start.slots ≡ 0 }
         requires accounts { HasAccounts start }

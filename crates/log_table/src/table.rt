@@ -1,5 +1,6 @@
 //! The table, its rule, and a seat of it.
 ghost use Rattle.std.specs.Prelude.{◌≡◌, ◌≤◌, length};
+ghost use Rattle.lsn_space.specs.declared.lsn.TheConstants.{LEAST_RING, GREATEST_RING};
 ghost use Rattle.log_record.specs.declared.limits.TheConstants.{MOST_ACCOUNTS};
 ghost use Rattle.log_table.specs.Layout.{word_count};
 ghost use Rattle.log_table.specs.Views.{constants_of};
@@ -38,7 +39,7 @@ pub struct LogTable {
     pub(crate) accounts: u32,
     /// The accounts as they were at first. Their room takes those at the end.
     pub(crate) rows: Balances,
-    ghost wide: { (1024 ≤ ring) × (ring ≤ 1048576) },
+    ghost wide: { (LEAST_RING ≤ ring) × (ring ≤ GREATEST_RING) },
     ghost few: { accounts ≤ MOST_ACCOUNTS },
     ghost rowed: { length rows.rows ≡ accounts },
     ghost sized: { table.shared.table_id.words ≡ word_count ring accounts },

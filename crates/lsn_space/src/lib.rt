@@ -10,7 +10,7 @@ mod unit;
 mod word;
 
 pub use balances::Balances;
-pub use lsn::{LAST, Lsn, place};
+pub use lsn::{GREATEST_RING, LAST, LEAST_RING, Lsn, format_numbers, place};
 pub use memory::NoMemory;
 pub use number::decimal;
 pub use unit::{bytes_of, unit_bytes_inverse, unit_of};

@@ -1,10 +1,23 @@
 ghost use Rattle.std.specs.Prelude.{◌≡◌, ◌+◌, ◌%◌, ◌≤◌, ◌↔◌, IsSome, IfSome};
-ghost use Rattle.lsn_space.specs.declared.lsn.TheConstants.{LAST};
+ghost use Rattle.lsn_space.specs.declared.lsn.TheConstants.{LAST, LEAST_RING, GREATEST_RING};
 
 use std::marker::Model;
 
 /// The greatest LSN, so a log has at most this many units.
 pub const LAST: u32 = u32::MAX;
+
+/// The least length of the log buffer, a ring of units.
+pub const LEAST_RING: u32 = 1024;
+
+/// The greatest length of the log buffer.
+pub const GREATEST_RING: u32 = 0x10_0000;
+
+/// A law: the numbers that the definitions take from here are 4294967295, 1024 and 1048576.
+pub fn format_numbers()
+    ensures last { LAST ≡ 4294967295 }
+    ensures least_ring { LEAST_RING ≡ 1024 }
+    ensures greatest_ring { GREATEST_RING ≡ 1048576 }
+{}
 
 /// A log sequence number: the address of a unit in the log, counted in units of eight bytes.
 #[derive(Clone, Copy, Debug, PartialEq, Eq, PartialOrd, Ord, Hash)]

@@ -1,5 +1,6 @@
 //! A range is looked for, and reserved.
 ghost use Rattle.std.specs.Prelude.{◌≡◌, ℕ, ◌+◌, ◌<◌, ◌≤◌, Contains, OnOk, IfOk, IfErr, IfSome, IfNone};
+ghost use Rattle.lsn_space.specs.declared.lsn.TheConstants.{GREATEST_RING};
 ghost use Rattle.log_table.specs.Seats.{IsOf, Becomes, view_of};
 ghost use Rattle.log_table.specs.Views.{saw_tail, reserved};
 ghost use Rattle.ring_buffer.specs.Calls.{IsReady, MayPlace, IsLastLook, HasRoom, Refuses, HasPlaced, HasLost, HasRefused, looked};
@@ -25,7 +26,7 @@ pub fn look(table: &LogTable, seat: &mut Seat) -> Look
 
 /// The end of `n` units behind the tail, or why there is no room for them.
 fn end_of(look: &Look, ring: u32, n: u32) -> Result<Lsn, Refused>
-    requires ring { ring ≤ 1048576 }
+    requires ring { ring ≤ GREATEST_RING }
     ensures end { IfOk result (λ to. (to ≡ look.now.tail + n) × HasRoom ring look.now.tail look.now.durable n) }
     ensures refused { IfErr result (Refuses ring look.now.tail look.now.durable n) }
 {
