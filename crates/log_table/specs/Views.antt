@@ -17,6 +17,7 @@ use Rattle.log_table.specs.declared.view.View.{View}
 use Rattle.log_record.specs.declared.rec.Rec.{Rec}
 use Rattle.slot_word.specs.AccountWord.{balance_in, mark_in}
 use Rattle.txn_script.specs.declared.job.Job.{Job}
+use Rattle.lock_core.specs.Transactions.{recs_of, has_commit}
 use Rattle.log_table.specs.declared.view.Held.{Held}
 use Rattle.log_table.specs.Books.{no_books, balance_taken, next_of, placing, taking_job, taking, giving, merging}
 use Rattle.log_table.specs.Log.{Claim}
@@ -89,7 +90,6 @@ seen_at lsn = record {
   crew = 0;
   account = 0;
   account_word = 0;
-  given = [];
   lsns = lsn ∷ [];
 }
 
@@ -201,22 +201,21 @@ took_account account word view =
 abbrev pub after_account : ℕ → ℕ → ℕ → View → View
 after_account account from n view = if n == from then took_account account from view else saw_account account n view
 
--- the account as it goes back: under the number of the seat's last job, with its balance as it was taken, and durable as it is seen now
+-- the account as it goes back: under the number of the seat's last job, with its balance as it was taken, tail and durable as they are
+-- seen now, and whether the log has that job's Commit
 abbrev pub given_as : ℕ → View → Given
 given_as account view = record {
   txn = view.books.last.number;
   account = account;
   balance = balance_taken view.books.held account;
+  tail = view.seen.tail;
   durable = view.seen.durable;
+  committed = has_commit (recs_of view.books.placed);
 }
-
--- the account was given back
-abbrev pub seen_given : Given → Seen → Seen
-seen_given given seen = record seen { steps = seen.steps + 1; given = given ∷ seen.given }
 
 -- after a store into an account's word, which gives the account back
 abbrev pub gave_account : ℕ → View → View
-gave_account account view = record view { seen = seen_given (given_as account view) view.seen; books = giving account view.books }
+gave_account account view = record view { seen = counted view.seen; books = giving (given_as account view) view.books }
 
 -- every worker known as made is known as enrolled
 abbrev pub knows_all_enrolled : Standing → Bool
@@ -299,7 +298,7 @@ abbrev pub hired : ℕ → View → View
 hired worker view = record {
   constants = view.constants;
   standing = record { role = Fresh; worker = worker; made = []; enrolled = []; merged = [] };
-  seen = record view.seen { steps = 0; tail_step = 0; exposed_step = 0; durable_step = 0; given = [] };
+  seen = record view.seen { steps = 0; tail_step = 0; exposed_step = 0; durable_step = 0 };
   entries = [];
   call = Idle;
   contended = false;
