@@ -41,13 +41,20 @@ taken_job number transfer = record { number = number; job = job_of transfer }
 abbrev pub held_of : Taken → Held
 held_of taken = record { account = taken.account; balance = taken.balance; mark = taken.mark }
 
--- the books with no account held
-abbrev pub holding_none : Books → Books
-holding_none books = record books { held = [] }
+-- the account as a seat with this view gives it back
+abbrev pub given_at : View → Taken → Given
+given_at view taken = record {
+  txn = view.books.last.number;
+  account = taken.account;
+  balance = taken.balance;
+  tail = view.seen.tail;
+  durable = view.seen.durable;
+  committed = has_commit (recs_of view.books.placed);
+}
 
--- the account as it goes back under this number where durable is seen there
-abbrev pub given_at : ℕ → ℕ → Taken → Given
-given_at number durable taken = record { txn = number; account = taken.account; balance = taken.balance; durable = durable }
+-- the books once a seat with this view gave both accounts back, the payer's first, and holds none
+abbrev pub gave_both : View → Taken → Taken → Books
+gave_both view payer payee = record view.books { held = []; given = given_at view payee ∷ given_at view payer ∷ view.books.given }
 
 -- the record comes next, and may be placed with the accounts held
 pub record MayPut (rec : Rec) (books : Books) : Type 0 where
@@ -113,13 +120,13 @@ pub record HasCommitted (accounts : ℕ) (books : Books) (committed : Committed)
   pub ended : has_end (recs_of books.placed) ≡ true
   pub end : end_from 0 books.placed ≡ committed.placed.end
 
--- both accounts went back, the payer's first, under the number of the seat's last job, where the seat had seen durable at or above the end
--- of the commit
+-- Both accounts went back, the payer's first, and none is held: with this view, where the seat had the books of before, and had seen durable
+-- at or above the end of the commit.
 pub record HasGivenDurable (committed : Committed) (old new : View) : Type 0 where
-  pub durable : ℕ
-  pub given : new.seen.given
-      ≡ given_at old.books.last.number durable committed.payee ∷ given_at old.books.last.number durable committed.payer ∷ old.seen.given
-  pub above : committed.placed.end ≤ durable
+  pub view : View
+  pub before : view.books ≡ old.books
+  pub books : new.books ≡ gave_both view committed.payer committed.payee
+  pub above : committed.placed.end ≤ view.seen.durable
 
 -- The seat loaded the tail since, and so many units do not fit behind it in the log.
 pub record MeetsEnd (units : ℕ) (old new : View) : Type 0 where
@@ -143,7 +150,7 @@ IsNotMade transfer payer payee old new =
 pub record HasGivenUp (number : ℕ) (transfer : Transfer) (old new : View) : Type 0 where
   pub payer : Given
   pub payee : Given
-  pub given : new.seen.given ≡ payee ∷ payer ∷ old.seen.given
+  pub given : new.books.given ≡ payee ∷ payer ∷ old.books.given
   pub payer_txn : payer.txn ≡ number
   pub payee_txn : payee.txn ≡ number
   pub payer_is : payer.account ≡ transfer.payer

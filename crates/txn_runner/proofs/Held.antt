@@ -76,46 +76,46 @@ taken-first books holding held = record {
     same : (holding.taken.account == holding.taken.account) ≡ true
     same = eq-eqb holding.taken.account holding.taken.account refl
 
-module _ (number durable : ℕ) where
+module _ (view : View) where
   pub given-push : (holdings : List Holding) (holding : Holding) (given : List Given)
-      → given_behind number durable (holdings ++ holding ∷ []) given
-      ≡ given_at number durable holding.taken ∷ given_behind number durable holdings given
+      → given_behind view (holdings ++ holding ∷ []) given
+      ≡ given_at view holding.taken ∷ given_behind view holdings given
   given-push [] holding given = refl
-  given-push (first ∷ holdings) holding given = given-push holdings holding (given_at number durable first.taken ∷ given)
+  given-push (first ∷ holdings) holding given = given-push holdings holding (given_at view first.taken ∷ given)
 
   -- what goes back stands before what went back before
   pub given-front : (holdings : List Holding) (given : List Given)
-      → given_behind number durable holdings given ≡ given_behind number durable holdings [] ++ given
+      → given_behind view holdings given ≡ given_behind view holdings [] ++ given
   given-front [] given = refl
-  given-front (holding ∷ holdings) given = given-front holdings (given_at number durable holding.taken ∷ given)
-      ∙ sym (ap (λ l. l ++ given) (given-front holdings (given_at number durable holding.taken ∷ []))
-      ∙ append_assoc (given_behind number durable holdings []) (given_at number durable holding.taken ∷ []) given)
+  given-front (holding ∷ holdings) given = given-front holdings (given_at view holding.taken ∷ given)
+      ∙ sym (ap (λ l. l ++ given) (given-front holdings (given_at view holding.taken ∷ []))
+      ∙ append_assoc (given_behind view holdings []) (given_at view holding.taken ∷ []) given)
 
   -- what went back before stays among what went back
   still-given : (holdings : List Holding) (given : List Given) (account : ℕ) → Contains (map account_given given) account
-      → Contains (map account_given (given_behind number durable holdings given)) account
+      → Contains (map account_given (given_behind view holdings given)) account
   still-given [] given account has = has
-  still-given (holding ∷ holdings) given account has = still-given holdings (given_at number durable holding.taken ∷ given) account
+  still-given (holding ∷ holdings) given account has = still-given holdings (given_at view holding.taken ∷ given) account
       (Contains-append_right (holding.taken.account ∷ []) (map account_given given) account has)
 
   -- each account went back
   pub given-all : (holdings : List Holding) (given : List Given) (account : ℕ) → Contains (map account_of holdings) account
-      → Contains (map account_given (given_behind number durable holdings given)) account
+      → Contains (map account_given (given_behind view holdings given)) account
   given-all [] given account has = absurd (omega (arith, has.1))
   given-all (holding ∷ holdings) given account has =
       elim (Contains-append_cases (holding.taken.account ∷ []) (map account_of holdings) account has) [
-        | inl first ↦ still-given holdings (given_at number durable holding.taken ∷ given) account
+        | inl first ↦ still-given holdings (given_at view holding.taken ∷ given) account
             (Contains-append_left (holding.taken.account ∷ []) (map account_given given) account first)
-        | inr later ↦ given-all holdings (given_at number durable holding.taken ∷ given) account later
+        | inr later ↦ given-all holdings (given_at view holding.taken ∷ given) account later
       ]
 
   -- what is said of each account as it goes back is said of all that went back
   pub given-each : (P : Given → Type 0) (holdings : List Holding) (given : List Given)
-      → AllByRecursion (λ (holding : Holding). P (given_at number durable holding.taken)) holdings
-      → All P given → All P (given_behind number durable holdings given)
+      → AllByRecursion (λ (holding : Holding). P (given_at view holding.taken)) holdings
+      → All P given → All P (given_behind view holdings given)
   given-each P [] given each all = all
-  given-each P (holding ∷ holdings) given each all = given-each P holdings (given_at number durable holding.taken ∷ given) each.1
-      (All-cons P (given_at number durable holding.taken) given each.0 all)
+  given-each P (holding ∷ holdings) given each all = given-each P holdings (given_at view holding.taken ∷ given) each.1
+      (All-cons P (given_at view holding.taken) given each.0 all)
 
 -- the account that went back, of those
 pub account-given : (back : List Given) (account : ℕ) → Contains (map account_given back) account
@@ -134,9 +134,8 @@ account-given (first ∷ back) account has = elim (Contains-append_cases (first.
 pub given-held : (back : List Holding) (held : List Held) (first second : Seat)
     → Becomes first second (with_held held back (view_of first)) → KeepsGiven (view_of first) (view_of second)
 given-held back held first second becomes = record {
-  back = given_behind (view_of first).books.last.number (view_of first).seen.durable back [];
-  given_are = ap (λ m. m.0.seen.given) becomes.me
-      ∙ given-front (view_of first).books.last.number (view_of first).seen.durable back (view_of first).seen.given;
+  back = given_behind (view_of first) back [];
+  given_are = ap (λ m. m.0.books.given) becomes.me ∙ given-front (view_of first) back (view_of first).books.given;
 }
 
 -- the first of the holdings that are left, and the others once it is given back
@@ -155,8 +154,11 @@ module _ (first second : Seat) (back holdings rest : List Holding) (holding : Ho
   is-held : second.base.me ≡ (with_held (held_behind (holding ∷ rest) []) back view, first.base.me.1)
   is-held = before.me ∙ (λ i. (with_held (held_behind (is i) []) back view, first.base.me.1))
 
-  held-first : HoldsTaken holding.taken (record view.books { held = held_behind (holding ∷ rest) [] })
-  held-first = taken-behind view.books rest (held_of holding.taken ∷ []) holding.taken distinct-both.0 (taken-first view.books holding [])
+  abbrev books : Books
+  books = record view.books { given = given_behind view back view.books.given }
+
+  held-first : HoldsTaken holding.taken (record books { held = held_behind (holding ∷ rest) [] })
+  held-first = taken-behind books rest (held_of holding.taken ∷ []) holding.taken distinct-both.0 (taken-first books holding [])
 
   pub holds-first : HoldsTaken holding.taken (view_of second).books
   holds-first = subst (λ m. HoldsTaken holding.taken m.0.books) (sym is-held) held-first
@@ -169,9 +171,8 @@ module _ (first second : Seat) (back holdings rest : List Holding) (holding : Ho
     me = after.me ∙ ap (λ m. (gave_account holding.taken.account m.0, m.1)) is-held
         ∙ (λ i. (
           record view {
-            seen = record view.seen { steps = total i; given = gone i };
-            books = record view.books
-                { held = left i };
+            seen = record view.seen { steps = total i };
+            books = record view.books { held = left i; given = gone i };
           },
           first.base.me.1,
         ));
@@ -181,19 +182,10 @@ module _ (first second : Seat) (back holdings rest : List Holding) (holding : Ho
       total : view.seen.steps + length back + 1 ≡ view.seen.steps + length (back ++ holding ∷ [])
       total = omega (arith, length-append back (holding ∷ []))
 
-      number : ℕ
-      number = view.books.last.number
-
-      gone : record {
-        txn = number;
-        account = holding.taken.account;
-        balance = balance_taken (held_behind (holding ∷ rest) []) holding.taken.account;
-        durable = view.seen.durable;
-      } ∷ given_behind number view.seen.durable back view.seen.given
-          ≡ given_behind number view.seen.durable (back ++ holding ∷ []) view.seen.given
-      gone = (λ i. record { txn = number; account = holding.taken.account; balance = held-first.balance i; durable = view.seen.durable }
-          ∷ given_behind number view.seen.durable back view.seen.given)
-          ∙ sym (given-push number view.seen.durable back holding view.seen.given)
+      gone : record (given_at view holding.taken) { balance = balance_taken (held_behind (holding ∷ rest) []) holding.taken.account }
+          ∷ given_behind view back view.books.given ≡ given_behind view (back ++ holding ∷ []) view.books.given
+      gone = (λ i. record (given_at view holding.taken) { balance = held-first.balance i } ∷ given_behind view back view.books.given)
+          ∙ sym (given-push view back holding view.books.given)
 
       left : without holding.taken.account (held_behind (holding ∷ rest) []) ≡ held_behind rest []
       left = without-behind rest [] (held_of holding.taken) distinct-both.0 tt

@@ -38,11 +38,11 @@ module _ (jobs : Jobs) (worker : ℕ) (wait : Bool) (old : View) where
   )
 
 module _ (jobs : Jobs) (worker : ℕ) (wait : Bool) (old new : View) (goes : Goes old new) where
-  IsGivenAt-still : (number durable account : ℕ) → IsGivenAt number durable old.seen.given account → IsGivenAt number durable new.seen.given account
+  IsGivenAt-still : (number durable account : ℕ) → IsGivenAt number durable old.books.given account → IsGivenAt number durable new.books.given account
   IsGivenAt-still number durable account at = record {
     back = at.back;
     contains = subst (λ l. Contains l at.back) (sym goes.given.given_are)
-        (Contains-append_right goes.given.back old.seen.given at.back at.contains);
+        (Contains-append_right goes.given.back old.books.given at.back at.contains);
     txn = at.txn;
     account_is = at.account_is;
     durable_is = at.durable_is;
@@ -57,7 +57,7 @@ module _ (jobs : Jobs) (worker : ℕ) (wait : Bool) (old new : View) (goes : Goe
     end_is = tells.end_is;
     seen = omega (arith, tells.seen, goes.durable);
     waited = tells.waited;
-    gave = all-weaker (AreGivenAt row.txn row.seen old.seen.given) (AreGivenAt row.txn row.seen new.seen.given) (job_at jobs worker j).legs
+    gave = all-weaker (AreGivenAt row.txn row.seen old.books.given) (AreGivenAt row.txn row.seen new.books.given) (job_at jobs worker j).legs
         (λ leg both. (IsGivenAt-still row.txn row.seen leg.0 both.0, IsGivenAt-still row.txn row.seen leg.1 both.1)) tells.gave;
   }
 
@@ -93,14 +93,14 @@ TellsEnd-run jobs worker k wait row old new run = record {
   end_is = run.end_is;
   seen = omega (arith, run.seen);
   waited = run.waited;
-  gave = recursion_from_All (AreGivenAt row.txn row.seen new.seen.given) (job_at jobs worker k).legs
+  gave = recursion_from_All (AreGivenAt row.txn row.seen new.books.given) (job_at jobs worker k).legs
       (λ i d within. let both = run.given.each i d within in (at _ both.0, at _ both.1));
 }
   where
-    at : (account : ℕ) → Contains (map account_given run.given.back) account → IsGivenAt row.txn row.seen new.seen.given account
+    at : (account : ℕ) → Contains (map account_given run.given.back) account → IsGivenAt row.txn row.seen new.books.given account
     at account has = let one = account-given run.given.back account has in record {
       back = one.0;
-      contains = subst (λ l. Contains l one.0) (sym run.given.given_are) (Contains-append_left run.given.back old.seen.given one.0 one.1);
+      contains = subst (λ l. Contains l one.0) (sym run.given.given_are) (Contains-append_left run.given.back old.books.given one.0 one.1);
       txn = All-contains (λ (given : Given). given.txn ≡ number_at jobs worker k) run.given.back one.0 run.given.own one.1 ∙ sym run.txn;
       account_is = one.2;
       durable_is = All-contains (λ (given : Given). given.durable ≡ row.seen) run.given.back one.0 run.at_seen one.1;

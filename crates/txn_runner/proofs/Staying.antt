@@ -31,15 +31,14 @@ entries-trans first second third entries entries' books books' before after = re
   idle = after.idle;
   entries_are = after.entries_are;
   books_are = after.books_are;
-  given_are = after.given_are ∙ before.given_are;
 }
 
 -- no account was given back
-pub given-same : (old new : View) → new.seen.given ≡ old.seen.given → KeepsGiven old new
+pub given-same : (old new : View) → new.books.given ≡ old.books.given → KeepsGiven old new
 given-same old new same = record { back = []; given_are = same }
 
 pub given-trans : (first second third : View) → KeepsGiven first second → KeepsGiven second third → KeepsGiven first third
 given-trans first second third before after = record {
   back = after.back ++ before.back;
-  given_are = after.given_are ∙ ap (λ l. after.back ++ l) before.given_are ∙ sym (append_assoc after.back before.back first.seen.given);
+  given_are = after.given_are ∙ ap (λ l. after.back ++ l) before.given_are ∙ sym (append_assoc after.back before.back first.books.given);
 }

@@ -1,5 +1,5 @@
 -- What a seat has done of one transfer. `old` and `new` are its view before and after.
-use Rattle.std.specs.Prelude.{◌≡◌, ◌≢◌, ℕ, ◌+◌, ◌<◌, ◌≤◌, true, Bool, List, [], ◌∷◌, ◌++◌, map, All, Contains}
+use Rattle.std.specs.Prelude.{◌≡◌, ◌≢◌, ℕ, ◌+◌, ◌<◌, ◌≤◌, true, false, Bool, List, [], ◌∷◌, ◌++◌, map, All, Contains}
 use Rattle.lsn_space.specs.declared.lsn.TheConstants.{LAST}
 use Rattle.log_record.specs.declared.rec.Rec.{Rec}
 use Rattle.log_record.specs.LogList.{size_of}
@@ -46,7 +46,7 @@ account_given given = given.account
 -- taken.
 pub record GaveBack (number : ℕ) (job : Job) (balances : ℕ → ℕ) (before : List Given) (view : View) : Type 0 where
   pub back : List Given
-  pub given_are : view.seen.given ≡ back ++ before
+  pub given_are : view.books.given ≡ back ++ before
   pub own : All (λ (given : Given). given.txn ≡ number) back
   pub taken_as : All (λ (given : Given). balances given.account ≡ given.balance) back
   pub each : All (HasAccountsOf (map account_given back)) job.legs
@@ -66,16 +66,20 @@ pub record HasRun (number : ℕ) (job : Job) (wait : Bool) (row : Row) (old new 
   pub above : old.seen.tail < row.end
   pub seen : row.seen ≡ new.seen.durable
   pub waited : wait ≡ true → row.end ≤ row.seen
-  pub given : GaveBack number job inserted.balances old.seen.given new
+  pub given : GaveBack number job inserted.balances old.books.given new
   pub at_seen : All (λ (one : Given). one.durable ≡ row.seen) given.back
 
+-- the log had no Commit of the seat's job as the account went back, and the seat had seen tail there
+abbrev pub IsUncommittedAt : ℕ → Given → Type 0
+IsUncommittedAt tail given = (given.committed ≡ false) × (given.tail ≡ tail)
+
 -- Why the transfer was cut off: the seat read a stop word that isn't 0, where records are left or the worker waits; or its next record has
--- so many units, and by the tail as the seat saw it last they do not fit in the log; each account went back then, so that its balance as it
--- was taken tells which record that is.
+-- so many units, and by the tail as the seat saw it last they do not fit in the log; each account went back then, uncommitted, at that tail,
+-- so that its balance as it was taken tells which record that is.
 abbrev pub HasCut : ℕ → Job → Bool → Cause → View → View → Type 0
 HasCut number job wait (Stop word) old new =
     (rest : List Rec) × HasInserted number job rest old new × (rest ≡ [] → wait ≡ true) × (word ≢ 0) × (new.seen.stop ≡ word)
 HasCut number job wait (LogEnd tail total) old new =
     (next : Rec) × (rest : List Rec) × (inserted : HasInserted number job (next ∷ rest) old new)
-    × GaveBack number job inserted.balances old.seen.given new
+    × (gave : GaveBack number job inserted.balances old.books.given new) × All (IsUncommittedAt tail) gave.back
     × (total ≡ size_of next) × (LAST < tail + total) × (tail ≡ new.seen.tail) × Contains new.seen.lsns tail

@@ -19,7 +19,7 @@ use Rattle.txn_runner.specs.declared.cause.Worked.TheVariants.{All, Cut}
 use Rattle.txn_runner.specs.declared.jobs.Jobs.{Jobs}
 use Rattle.txn_runner.specs.declared.rows.Row.{Row}
 use Rattle.txn_runner.specs.declared.rows.Rows.{Rows}
-use Rattle.txn_runner.specs.Running.{outcome_of, LieInOrder, GaveBack}
+use Rattle.txn_runner.specs.Running.{outcome_of, LieInOrder, GaveBack, IsUncommittedAt}
 use Rattle.txn_runner.specs.Stripes.{number_at, job_at, stripe_jobs, IsOfStripe, HasStripe, IsStripeEnd}
 
 abbrev pub rows_in : Rows → List Row
@@ -77,13 +77,14 @@ HaveEnded jobs worker from to view = (j : ℕ) → from ≤ j → j < to → Has
 abbrev pub own_records : ℕ → List Entry → List Rec
 own_records number entries = filter (λ rec. txn_of rec == number) (records_of entries)
 
--- The transfer's next record, by the balances as its accounts were taken, which all went back under its number, has so many units, and they
--- do not fit between this tail, which the seat saw last, and the last LSN.
+-- The transfer's next record, by the balances as its accounts were taken, has so many units, and they do not fit between this tail, which the
+-- seat saw last, and the last LSN. The accounts all went back under its number, uncommitted, where the seat had seen tail there.
 pub record EndsLog (jobs : Jobs) (worker j tail total : ℕ) (view : View) : Type 0 where
   pub balances : ℕ → ℕ
   pub marks : ℕ → ℕ
   pub before : List Given
   pub given : GaveBack (number_at jobs worker j) (job_at jobs worker j) balances before view
+  pub uncommitted : AllByRecursion (IsUncommittedAt tail) given.back
   pub next : Rec
   pub rest : List Rec
   pub plan : own_records (number_at jobs worker j) view.entries ++ next ∷ rest
@@ -127,7 +128,7 @@ pub record TellsEnd (jobs : Jobs) (worker j : ℕ) (wait : Bool) (view : View) (
   pub end_is : row.end ≡ end.start + end.size
   pub seen : row.seen ≤ view.seen.durable
   pub waited : wait ≡ true → row.end ≤ row.seen
-  pub gave : AllByRecursion (AreGivenAt row.txn row.seen view.seen.given) (job_at jobs worker j).legs
+  pub gave : AllByRecursion (AreGivenAt row.txn row.seen view.books.given) (job_at jobs worker j).legs
 
 -- rows of the worker's transfers from the j-th on, each with an end above the one before, and a durable LSN not below the one before;
 -- the first with an end above `above`, and one not below `since`

@@ -24,7 +24,7 @@ give_all-requires-clause-values g c = all-unchanged _ (
 
 pub returns-in-Err-clause-given : goal.returns-in-Err-clause-given
 returns-in-Err-clause-given g c = given-trans _ _ _
-    (given-same _ _ (c.in-Err.ensures.kept.given_are ∙ c.accounts.invariant.0.entries.given_are))
+    (given-same _ _ (ap (λ (books : Books). books.given) (c.in-Err.ensures.kept.books_are ∙ c.accounts.invariant.0.entries.books_are)))
     (given-held _ _ _ _ c.give_all.ensures)
 
 pub accounts-preserved : goal.accounts-preserved
