@@ -28,7 +28,14 @@ module _ (jobs : Jobs) (number : ℕ) where
   IsCutBy-retired j (LogEnd tail total) view is = record {
     balances = is.balances;
     marks = is.marks;
-    given = record { each = is.given.each; taken_as = is.given.taken_as };
+    before = is.before;
+    given = record {
+      back = is.given.back;
+      given_are = is.given.given_are;
+      own = is.given.own;
+      taken_as = is.given.taken_as;
+      each = is.given.each;
+    };
     next = is.next;
     rest = is.rest;
     plan = is.plan;

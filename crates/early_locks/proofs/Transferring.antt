@@ -11,8 +11,10 @@ use Rattle.lsn_space.specs.declared.lsn.TheConstants.{LAST}
 use Rattle.lock_core.specs.Alone.{planned_records}
 use Rattle.lock_core.specs.Transactions.{recs_of, in_order}
 use Rattle.txn_script.specs.Script.{IsAllowedLeg}
+use Rattle.log_table.specs.declared.view.Given.{Given}
 use Rattle.log_table.specs.declared.view.TakenJob.{TakenJob}
 use Rattle.log_table.specs.declared.view.Books.{Books}
+use Rattle.log_table.specs.declared.view.Held.{Held}
 use Rattle.log_table.specs.Books.{times_held, balance_taken, mark_taken, plan_of, next_of, placing, giving, without, HoldsLeg, HoldsAccounts}
 use Rattle.txn_script.specs.Transfers.{transfer_of}
 use Rattle.log_table.proofs.Bookings.{times_held-without_other, balance_taken-without_other, mark_taken-without_other, length-without}
@@ -28,7 +30,7 @@ use Rattle.early_locks.specs.declared.one_transfer.Run.{Run}
 use Rattle.early_locks.specs.declared.one_transfer.Transfer.{Transfer}
 use Rattle.early_locks.specs.declared.taking.Taken.{Taken}
 use Rattle.early_locks.specs.Locks.{HoldsTaken}
-use Rattle.early_locks.specs.Transfers.{leg_of, given_at, loss_of, gain_of, MayPut, HasPut, IsMoving, IsNotMade}
+use Rattle.early_locks.specs.Transfers.{leg_of, given_at, gave_both, loss_of, gain_of, MayPut, HasPut, IsMoving, IsNotMade}
 
 pub puts-next : (rec : Rec) (books : Books) → MayPut rec books → next_of books ≡ rec
 puts-next rec books may = next-is rec books may.next
@@ -40,37 +42,39 @@ puts-place rec books units may spelled = record {
 }
 
 -- an account is still held once another is given back
-pub holds-other : (taken : Taken) (account : ℕ) (books : Books) → taken.account ≢ account → HoldsTaken taken books → HoldsTaken taken (giving account books)
-holds-other taken account books differ holds = record {
-  has = let same = times_held-without_other account taken.account books.held differ in let has = holds.has in omega arith;
-  balance = balance_taken-without_other account taken.account books.held differ ∙ holds.balance;
-  mark = mark_taken-without_other account taken.account books.held differ ∙ holds.mark;
+pub holds-other : (taken : Taken) (given : Given) (books : Books) → taken.account ≢ given.account → HoldsTaken taken books → HoldsTaken taken (giving given books)
+holds-other taken given books differ holds = record {
+  has = let same = times_held-without_other given.account taken.account books.held differ in let has = holds.has in omega arith;
+  balance = balance_taken-without_other given.account taken.account books.held differ ∙ holds.balance;
+  mark = mark_taken-without_other given.account taken.account books.held differ ∙ holds.mark;
 }
-
--- both accounts go back where the seat sees durable as it did before
-pub gives-both : (first second third : View) (payer payee : Taken) → payer.account ≢ payee.account
-    → HoldsTaken payer first.books → HoldsTaken payee first.books
-    → second ≡ gave_account payer.account first → third ≡ gave_account payee.account second
-    → third.seen.given ≡ given_at first.seen.durable payee ∷ given_at first.seen.durable payer ∷ first.seen.given
-gives-both first second third payer payee two pays receives gave-first gave-second =
-    ap (λ (view : View). view.seen.given) gave-second ∙ ap (λ (view : View). given_as payee.account view ∷ view.seen.given) gave-first
-    ∙ (λ i. record { account = payee.account; balance = other.balance i; durable = first.seen.durable }
-    ∷ record { account = payer.account; balance = pays.balance i; durable = first.seen.durable } ∷ first.seen.given)
-  where
-    other : HoldsTaken payee (giving payer.account first.books)
-    other = holds-other payee payer.account first.books (λ same. two (sym same)) receives
 
 empty : {A : Type 0} (list : List A) → length list ≡ 0 → list ≡ []
 empty [] none = refl
 empty (x ∷ xs) some = absurd (omega arith)
 
 -- of two accounts none is left once both are given back
-pub none-left : (first second : ℕ) (books : Books) → first ≢ second → 1 ≤ times_held first books.held → 1 ≤ times_held second books.held
-    → length books.held ≡ 2 → (giving second (giving first books)).held ≡ []
-none-left first second books differ has-first has-second two =
-    let same = times_held-without_other first second books.held (λ e. differ (sym e)) in
-    let one = length-without first books.held has-first in
-    let none = length-without second (without first books.held) (omega arith) in empty _ (omega arith)
+none-left : (first second : ℕ) (held : List Held) → first ≢ second → 1 ≤ times_held first held → 1 ≤ times_held second held
+    → length held ≡ 2 → without second (without first held) ≡ []
+none-left first second held differ has-first has-second two =
+    let same = times_held-without_other first second held (λ e. differ (sym e)) in
+    let one = length-without first held has-first in
+    let none = length-without second (without first held) (omega arith) in empty _ (omega arith)
+
+-- both accounts go back, one after the other
+module _ (first second third : View) (payer payee : Taken) (two : payer.account ≢ payee.account)
+    (pays : HoldsTaken payer first.books) (receives : HoldsTaken payee first.books)
+    (gave-first : second ≡ gave_account payer.account first) (gave-second : third ≡ gave_account payee.account second) where
+  other : HoldsTaken payee (giving (given_as payer.account first) first.books)
+  other = holds-other payee (given_as payer.account first) first.books (λ same. two (sym same)) receives
+
+  pub gives-both : length first.books.held ≡ 2 → third.books ≡ gave_both first payer payee
+  gives-both only = ap (λ (view : View). view.books) gave-second
+      ∙ ap (λ (view : View). giving (given_as payee.account view) view.books) gave-first
+      ∙ (λ i. record first.books {
+        held = none-left payer.account payee.account first.books.held two pays.has receives.has only i;
+        given = record (given_at first payee) { balance = other.balance i } ∷ record (given_at first payer) { balance = pays.balance i } ∷ first.books.given;
+      })
 
 module _ (number : ℕ) (transfer : Transfer) (payer payee : Taken) (enough : transfer.amount ≤ payer.balance)
     (fits : payee.balance + transfer.amount ≤ MOST_BALANCE) where
@@ -160,7 +164,6 @@ put-is rec old middle new run n before next end inserted size = record {
     idle = inserted.idle;
     entries_are = inserted.entries_are ∙ (λ i. before.entries_are i ++ entry_of run.start (next i) ∷ []);
     books_are = inserted.books_are ∙ (λ i. placing (size i) (next i) (before.books_are i));
-    given_are = inserted.given_are ∙ before.given_are;
   };
 }
 

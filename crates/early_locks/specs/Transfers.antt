@@ -41,13 +41,20 @@ taken_job number transfer = record { number = number; job = job_of transfer }
 abbrev pub held_of : Taken → Held
 held_of taken = record { account = taken.account; balance = taken.balance; mark = taken.mark }
 
--- the books with no account held
-abbrev pub holding_none : Books → Books
-holding_none books = record books { held = [] }
+-- the account as a seat with this view gives it back
+abbrev pub given_at : View → Taken → Given
+given_at view taken = record {
+  txn = view.books.last.number;
+  account = taken.account;
+  balance = taken.balance;
+  tail = view.seen.tail;
+  durable = view.seen.durable;
+  committed = has_commit (recs_of view.books.placed);
+}
 
--- the account as it goes back where durable is seen there
-abbrev pub given_at : ℕ → Taken → Given
-given_at durable taken = record { account = taken.account; balance = taken.balance; durable = durable }
+-- the books once a seat with this view gave both accounts back, the payer's first, and holds none
+abbrev pub gave_both : View → Taken → Taken → Books
+gave_both view payer payee = record view.books { held = []; given = given_at view payee ∷ given_at view payer ∷ view.books.given }
 
 -- the record comes next, and may be placed with the accounts held
 pub record MayPut (rec : Rec) (books : Books) : Type 0 where
@@ -113,11 +120,13 @@ pub record HasCommitted (accounts : ℕ) (books : Books) (committed : Committed)
   pub ended : has_end (recs_of books.placed) ≡ true
   pub end : end_from 0 books.placed ≡ committed.placed.end
 
--- both accounts went back, the payer's first, where the seat had seen durable at or above the end of the commit
+-- Both accounts went back, the payer's first, and none is held: with this view, where the seat had the books of before, and had seen durable
+-- at or above the end of the commit.
 pub record HasGivenDurable (committed : Committed) (old new : View) : Type 0 where
-  pub durable : ℕ
-  pub given : new.seen.given ≡ given_at durable committed.payee ∷ given_at durable committed.payer ∷ old.seen.given
-  pub above : committed.placed.end ≤ durable
+  pub view : View
+  pub before : view.books ≡ old.books
+  pub books : new.books ≡ gave_both view committed.payer committed.payee
+  pub above : committed.placed.end ≤ view.seen.durable
 
 -- The seat loaded the tail since, and so many units do not fit behind it in the log.
 pub record MeetsEnd (units : ℕ) (old new : View) : Type 0 where
@@ -136,12 +145,14 @@ abbrev pub IsNotMade : Transfer → ℕ → ℕ → View → View → Type 0
 IsNotMade transfer payer payee old new =
     (payer < transfer.amount) ⊎ (MOST_BALANCE < payee + transfer.amount) ⊎ MeetsEnd (units_behind new.books.placed) old new
 
--- The seat took both accounts of the transfer and gave them back, the payer's first; with the balances as they were taken, or by the tail
--- as it was loaded, the transfer can't be made.
-pub record HasGivenUp (transfer : Transfer) (old new : View) : Type 0 where
+-- The seat took both accounts of the transfer and gave them back under this number, the payer's first; with the balances as they were
+-- taken, or by the tail as it was loaded, the transfer can't be made.
+pub record HasGivenUp (number : ℕ) (transfer : Transfer) (old new : View) : Type 0 where
   pub payer : Given
   pub payee : Given
-  pub given : new.seen.given ≡ payee ∷ payer ∷ []
+  pub given : new.books.given ≡ payee ∷ payer ∷ old.books.given
+  pub payer_txn : payer.txn ≡ number
+  pub payee_txn : payee.txn ≡ number
   pub payer_is : payer.account ≡ transfer.payer
   pub payee_is : payee.account ≡ transfer.payee
   pub cause : IsNotMade transfer payer.balance payee.balance old new

@@ -11,7 +11,7 @@ ghost use Rattle.log_table.specs.Seats.{IsOf, Becomes, view_of};
 ghost use Rattle.log_table.specs.AccountViews.{gave_account};
 ghost use Rattle.ring_buffer.specs.Calls.{IsReady, IsSameWorker, HasEntries};
 ghost use Rattle.early_locks.specs.Locks.{HoldsTaken};
-ghost use Rattle.early_locks.specs.Transfers.{leg_of, job_of, taken_job, held_of, holding_none, loss_of, gain_of, entries_of, MayPut, HasPut, IsMoving, HasMoved, HasStopped, HasCommitted, HasGivenDurable, MeetsEnd, IsNotMade, HasGivenUp};
+ghost use Rattle.early_locks.specs.Transfers.{leg_of, job_of, taken_job, held_of, gave_both, loss_of, gain_of, entries_of, MayPut, HasPut, IsMoving, HasMoved, HasStopped, HasCommitted, HasGivenDurable, MeetsEnd, IsNotMade, HasGivenUp};
 
 use crate::giving::{give, give_durable};
 use crate::taking::{Taken, try_take};
@@ -116,7 +116,7 @@ pub fn commit_transfer<R: Wait, G: Gate>(
     ensures committed { IfSome result (HasCommitted table.now.accounts (view_of seat.new).books) }
     ensures entries { IfSome result (λ committed. (view_of seat.new).entries ≡ (view_of seat.old).entries ++ entries_of number transfer committed.payer committed.payee committed.placed) }
     ensures none_held { IfNone result ((view_of seat.new).books.held ≡ []) }
-    ensures given_up { IfNone result (HasGivenUp transfer (view_of seat.old) (view_of seat.new)) }
+    ensures given_up { IfNone result (HasGivenUp number transfer (view_of seat.old) (view_of seat.new)) }
     ensures uncommitted { IfNone result (has_commit (recs_of (view_of seat.new).books.placed) ≡ false) }
 {
     table.take_job(seat, number, &transfer.job());
@@ -146,7 +146,7 @@ pub fn give_back(table: &LogTable, seat: &mut Seat, committed: Committed)
     ensures same { IsSameWorker seat.old seat.new }
     ensures ready { IsReady (view_of seat.new) }
     ensures entries { (view_of seat.new).entries ≡ (view_of seat.old).entries }
-    ensures books { (view_of seat.new).books ≡ holding_none (view_of seat.old).books }
+    ensures books { (view_of seat.new).books ≡ gave_both (view_of seat.old) committed.payer committed.payee }
 {
     let mark = committed.placed.end.units();
     give(table, seat, committed.payer, committed.payer_balance, mark);
@@ -161,7 +161,6 @@ pub fn give_back_durable<R: Wait>(rt: &R, table: &LogTable, seat: &mut Seat, com
     ensures same { IsSameWorker seat.old seat.new }
     ensures ready { IsReady (view_of seat.new) }
     ensures entries { (view_of seat.new).entries ≡ (view_of seat.old).entries }
-    ensures books { (view_of seat.new).books ≡ holding_none (view_of seat.old).books }
     ensures durable { HasGivenDurable committed (view_of seat.old) (view_of seat.new) }
 {
     let end = committed.placed.end;
@@ -211,7 +210,7 @@ fn take_both<R: Wait>(rt: &R, table: &LogTable, seat: &mut Seat, transfer: Trans
     ensures ready { IsReady (view_of seat.new) }
     ensures jobs { (view_of seat.new).books.jobs ≡ (view_of seat.old).books.jobs }
     ensures entries { (view_of seat.new).entries ≡ (view_of seat.old).entries }
-    ensures given { (view_of seat.new).seen.given ≡ (view_of seat.old).seen.given }
+    ensures given { (view_of seat.new).books.given ≡ (view_of seat.old).books.given }
     ensures payer { result.payer.balance ≤ MOST_BALANCE }
     ensures payee { result.payee.balance ≤ MOST_BALANCE }
     ensures moving { IsMoving (view_of seat.old).books.last.number transfer result.payer result.payee [] (view_of seat.new).books }
@@ -287,7 +286,7 @@ fn put_records<R: Wait, G: Gate>(
     ensures fits { OnSome result (both.now.payee.balance + transfer.amount ≤ MOST_BALANCE) }
     ensures moved { IfSome result (HasMoved number transfer both.now.payer both.now.payee (view_of seat.old).entries (view_of seat.new)) }
     ensures stopped { IfNone result (HasStopped number transfer both.now.payer both.now.payee (view_of seat.new).books) }
-    ensures given { (view_of seat.new).seen.given ≡ (view_of seat.old).seen.given }
+    ensures given { (view_of seat.new).books.given ≡ (view_of seat.old).books.given }
     ensures cause { IfNone result (IsNotMade transfer both.now.payer.balance both.now.payee.balance (view_of seat.old) (view_of seat.new)) }
 {
     let amount = transfer.amount;
@@ -331,7 +330,6 @@ fn see_durable<R: Wait>(rt: &R, table: &LogTable, seat: &mut Seat, lsn: Lsn)
     ensures ready { IsReady (view_of seat.new) }
     ensures entries { (view_of seat.new).entries ≡ (view_of seat.old).entries }
     ensures books { (view_of seat.new).books ≡ (view_of seat.old).books }
-    ensures given { (view_of seat.new).seen.given ≡ (view_of seat.old).seen.given }
     ensures durable { lsn ≤ (view_of seat.new).seen.durable }
 {
     for _ in rt.forever() {

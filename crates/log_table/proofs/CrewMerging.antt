@@ -8,7 +8,7 @@ use Rattle.log_table.specs.declared.view.Role.{Role}
 use Rattle.log_table.specs.declared.view.Role.TheVariants.{Flusher, Fresh, Active, Ended, Note, Spent}
 use Rattle.log_table.specs.declared.view.View.{View}
 use Rattle.log_table.specs.May.{MayMerge}
-use Rattle.log_table.specs.Sound.{EachView, HasSoundRole, HasSoundRoles, HasSoundCrew, Knows, Lacks, is_active_view}
+use Rattle.log_table.specs.Sound.{EachView, HasSoundRole, HasSoundRoles, HasSoundCrew, Knows, Lacks, is_active_view, HasSeenBoundaries, SendsIfFlusher, StoresStop, LookedIfQuiet, HasWorkingOwner, HasConstants, RestsUnlessActive, OwnsIfWorker, IsSound, Ruled}
 use Rattle.log_table.specs.Roles.{has_ended, is_active, is_worker}
 use Rattle.log_table.specs.Views.{nobody}
 use Rattle.log_table.specs.CrewViews.{takes_in}

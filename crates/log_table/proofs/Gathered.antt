@@ -13,10 +13,10 @@ use Rattle.lock_core.specs.Serial.{Task, HasNoOthers, IsPartlySerialAfter}
 use Rattle.log_table.specs.declared.view.TakenJob.{TakenJob}
 use Rattle.log_table.specs.declared.view.Books.{Books}
 use Rattle.log_table.specs.Books.{no_books, task_of, times_held, times_taken, merging}
-use Rattle.log_table.specs.Accounts.{Everywhere, summed, takers, IsAsTaken, HasDistinctJobs, AccountsFollowList, KeepsAccounts}
+use Rattle.log_table.specs.Accounts.{Everywhere, summed, takers, IsAsTaken, HasDistinctJobs, WentBack, AccountsFollowList, KeepsAccounts}
 use Rattle.log_table.proofs.Bookings.{everywhere-set, everywhere-push, everywhere-one, summed-set, summed-push, all-taken, one-taker, none-if, times_taken-append}
 use Rattle.log_table.proofs.Lists.{all-append}
-use Rattle.log_table.proofs.Taking.{RunsPartly, Lasts, Ties, FollowsAll, LastIsOne}
+use Rattle.log_table.proofs.Taking.{RunsPartly, Lasts, Ties, FollowsAll, AllWentBack, LastIsOne}
 
 -- a seat that has nothing is added
 module _ (base : BaseState) (words : ℕ → ℕ) (h : List Placed) (all : List Books) where
@@ -35,6 +35,7 @@ module _ (base : BaseState) (words : ℕ → ℕ) (h : List Placed) (all : List 
       last = everywhere-push Lasts all no_books f.last (λ some_job. absurd (omega arith));
       free = f.free;
       held = everywhere-push (FollowsAll base h) all no_books f.held tt;
+      given = everywhere-push (AllWentBack base h) all no_books f.given tt;
       runs = everywhere-push (RunsPartly base h) all no_books f.runs tt;
       others = λ number none. f.others number (let sum = summed-push (λ (books : Books). times_taken number books.jobs) all no_books in omega arith);
     };
@@ -83,6 +84,7 @@ module _ (base : BaseState) (words : ℕ → ℕ) (h : List Placed) (all : List 
             (λ some_job. absurd (omega arith));
         free = f.free;
         held = every (FollowsAll base h) f.held (f.held i x here) tt;
+        given = every (AllWentBack base h) f.given (all-append (WentBack base h) x.given y.given (f.given i x here) (f.given j y there)) tt;
         runs = every (RunsPartly base h) f.runs (all-append _ x.jobs y.jobs (f.runs i x here) (f.runs j y there)) tt;
         others = λ number none. f.others number (sym (takers-joined number) ∙ none);
       };
@@ -111,6 +113,7 @@ starts-free base words few first = record {
     last = everywhere-one Lasts no_books (λ some_job. absurd (omega arith));
     free = λ account below free. let f = first account below in let is = f.1 in record { balance = omega arith; mark = sym f.2 };
     held = everywhere-one (FollowsAll base []) no_books tt;
+    given = everywhere-one (AllWentBack base []) no_books tt;
     runs = everywhere-one (RunsPartly base []) no_books tt;
     others = λ number none. refl;
   };

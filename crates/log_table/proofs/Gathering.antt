@@ -24,7 +24,7 @@ use Rattle.lock_core.specs.Records.{loss}
 use Rattle.lock_core.specs.Settling.{row}
 use Rattle.lock_core.specs.Sums.{BaseState, IsBalanceOf, last_commit_of, total}
 use Rattle.log_table.specs.declared.view.Books.{Books}
-use Rattle.log_table.specs.Accounts.{summed, holders, takers, AccountsFollowList}
+use Rattle.log_table.specs.Accounts.{summed, holders, takers, HasDistinctJobs, WentBack, AccountsFollowList}
 use Rattle.log_table.specs.Books.{task_of, times_held, times_taken}
 use Rattle.log_table.specs.Closing.{IsGathered, IsLedger, IsSettled, ReadsRows, records_of, history_of}
 use Rattle.log_table.specs.Layout.{Account, index_of}
@@ -253,7 +253,7 @@ module _ (key : Start) (words : Words) (views : List View) (me : ℕ) (v : View)
       → IsSettled (base_of key) v rows
   settles ws old rows words-are same reads = record {
     count = reads.count ∙ same;
-    ledger = λ distinct. let f = s.accounts.follows (λ number. subst (λ n. n ≤ 1) (sym (all-jobs number)) (distinct number)) in
+    ledger = λ distinct. let f = s.accounts.follows (no-job-twice distinct) in
         subst (λ h. IsLedger (base_of key) h (map task_of v.books.jobs) rows) records-are record {
           lawful = f.lawful;
           serial = gathered (base_of key) words.account (history_in key log.parts) bs me v.books (at_map books_of views me v at) all-jobs f;
@@ -266,8 +266,13 @@ module _ (key : Start) (words : Words) (views : List View) (me : ℕ) (v : View)
             last = λ account below. sym (up-to-date f account (omega (arith, reads.count, same))).mark;
           };
         };
+    given = λ distinct. subst (λ h. AllByRecursion (WentBack (base_of key) h) v.books.given) records-are
+        ((s.accounts.follows (no-job-twice distinct)).given me v.books (at_map books_of views me v at));
   }
     where
+      no-job-twice : ((number : ℕ) → times_taken number v.books.jobs ≤ 1) → HasDistinctJobs bs
+      no-job-twice distinct number = subst (λ n. n ≤ 1) (sym (all-jobs number)) (distinct number)
+
       same-balance : (x y k n : ℕ) → x + k ≡ n → y + k ≡ n → x ≡ y
       same-balance x y k n a b = omega arith
 

@@ -1,5 +1,5 @@
 -- An account is given back.
-use Rattle.std.proofs.Common.{◌≡◌, ℕ, ◌+◌, ◌≤◌, ◌<◌, cond, true, false, List, set, sym, refl, ap, ◌∙◌, subst, arith}
+use Rattle.std.proofs.Common.{◌≡◌, ℕ, ◌+◌, ◌≤◌, ◌<◌, cond, true, false, ℤ, List, [], set, sym, refl, ap, ◌∙◌, subst, arith}
 use Rattle.std.specs.List.{AllByRecursion}
 use mathlib.Core.Logic.{dite}
 use mathlib.Core.Option.{some}
@@ -8,19 +8,32 @@ use lib.ListN.{get_elem?}
 use Rattle.slot_word.specs.AccountWord.{held_in}
 use Rattle.log_record.specs.declared.rec.Placed.{Placed}
 use Rattle.lock_core.specs.Records.{gain, loss}
-use Rattle.lock_core.specs.Sums.{BaseState, total, last_commit_of}
+use Rattle.lock_core.specs.History.{end_from}
+use Rattle.lock_core.specs.Transactions.{recs_of, changes_in, has_commit}
+use Rattle.lock_core.specs.Sums.{BaseState, moved, total, last_commit_of}
 use Rattle.log_table.specs.declared.view.Held.{Held}
+use Rattle.log_table.specs.declared.view.Given.{Given}
 use Rattle.log_table.specs.declared.view.Books.{Books}
-use Rattle.log_table.specs.Books.{times_held, times_taken, without, giving}
-use Rattle.log_table.specs.Accounts.{holders, IsAsTaken, HasOneHolder, moved_if_committed, commit_in, Follows, IsUpToDate, AccountsFollowList, KeepsAccounts, MayGive}
+use Rattle.log_table.specs.Books.{times_held, times_taken, balance_taken, without, giving}
+use Rattle.log_table.specs.Accounts.{holders, IsAsTaken, HasOneHolder, moved_if_committed, commit_in, Follows, IsUpToDate, WentBack, AccountsFollowList, KeepsAccounts, MayGive}
 use Rattle.log_table.specs.Words.{put}
 use Rattle.log_table.proofs.Bookings.{everywhere-moves, everywhere-set, summed-set, summed-one, summed-two, all-held, found, all-without, times_held-without, times_held-without_other}
-use Rattle.log_table.proofs.Taking.{put-same, put-else, as_taken-else, free-else, distinct-before, Lasts, Ties, RunsPartly, FollowsAll, LastIsOne}
+use Rattle.log_table.proofs.Taking.{put-same, put-else, as_taken-else, free-else, distinct-before, Lasts, Ties, RunsPartly, FollowsAll, AllWentBack, LastIsOne}
+
+-- the account goes back as it is held, with the tail at or below the end of the list
+pub record GoesBack (base : BaseState) (h : List Placed) (mine : Books) (given : Given) : Type 0 where
+  pub balance : given.balance ≡ balance_taken mine.held given.account
+  pub committed : given.committed ≡ has_commit (recs_of mine.placed)
+  pub tail : given.tail ≤ end_from base.end h
 
 module _ (base : BaseState) (words : ℕ → ℕ) (h : List Placed) (all : List Books) (me : ℕ) (mine : Books) (at : get_elem? all me ≡ some mine)
-    (holder : HasOneHolder base.accounts words all) (account word : ℕ) (free : held_in word ≡ false) (may : MayGive account word mine) where
+    (holder : HasOneHolder base.accounts words all) (given : Given) (back : GoesBack base h mine given) (word : ℕ) (free : held_in word ≡ false)
+    (may : MayGive given.account word mine) where
+  abbrev account : ℕ
+  account = given.account
+
   abbrev new : Books
-  new = giving account mine
+  new = giving given mine
 
   abbrev words' : ℕ → ℕ
   words' = put words account word
@@ -66,17 +79,36 @@ module _ (base : BaseState) (words : ℕ → ℕ) (h : List Placed) (all : List 
   }
 
   module _ (s : AccountsFollowList base words h all) where
-    now-free : IsUpToDate base h account word
-    now-free = let f = found (Follows base h mine.placed) account mine.held may.has (s.held me mine at) in
+    follows-balance : balance_taken mine.held account + moved_if_committed gain account mine.placed + total loss account h
+        ≡ base.balance account + total gain account h + moved_if_committed loss account mine.placed
+    follows-balance = let f = found (Follows base h mine.placed) account mine.held may.has (s.held me mine at) in
         let old : Follows base h mine.placed f.held = f.known in
         let is : f.held.balance + moved_if_committed gain account mine.placed + total loss account h
         ≡ base.balance account + total gain account h + moved_if_committed loss account mine.placed =
         subst (λ a. f.held.balance + moved_if_committed gain a mine.placed + total loss a h ≡ base.balance a + total gain a h + moved_if_committed loss a mine.placed) f.is old.balance in
-        let as-taken = f.balance in let gives = may.values.balance_is in record {
+        let as-taken = f.balance in omega arith
+
+    now-free : IsUpToDate base h account word
+    now-free = let f = found (Follows base h mine.placed) account mine.held may.has (s.held me mine at) in
+        let old : Follows base h mine.placed f.held = f.known in
+        let is = follows-balance in let gives = may.values.balance_is in record {
           balance = omega arith;
           mark = subst (λ a. last_commit_of base h a ≡ commit_in mine.placed a f.held.mark) f.is old.mark
               ∙ (ap (commit_in mine.placed account) (sym f.mark) ∙ sym may.values.mark_is);
         }
+
+    -- with no Commit of the job in the log, the balance as it was taken is that of the whole list
+    went-back : WentBack base h given
+    went-back uncommitted = record {
+      later = [];
+      front = h;
+      whole = refl;
+      balance = let is = follows-balance in let as-taken = back.balance in let up = nothing gain in let down = nothing loss in omega arith;
+      tail = back.tail;
+    }
+      where
+        nothing : (side : ℤ → ℕ) → moved_if_committed side account mine.placed ≡ 0
+        nothing side = ap (λ b. cond b (moved side account (changes_in (recs_of mine.placed))) 0) (sym back.committed ∙ uncommitted)
 
     given-follows : AccountsFollowList base words' h (set all me new)
     given-follows = record {
@@ -89,6 +121,7 @@ module _ (base : BaseState) (words : ℕ → ℕ) (h : List Placed) (all : List 
           (subst (λ a. IsUpToDate base h a word) (sym same) now-free))
           (λ differ. free-else base h words account word other differ (s.free other below) off);
       held = everywhere-set (FollowsAll base h) all me new s.held (all-without (Follows base h mine.placed) account mine.held (s.held me mine at));
+      given = everywhere-set (AllWentBack base h) all me new s.given (went-back, s.given me mine at);
       runs = everywhere-set (RunsPartly base h) all me new s.runs (s.runs me mine at);
       others = λ number none. s.others number (let sum = summed-set (λ (books : Books). times_taken number books.jobs) all me mine new at in omega arith);
     }

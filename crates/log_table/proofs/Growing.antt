@@ -16,11 +16,12 @@ use Rattle.lock_core.proofs.OneMore.{of_transaction-same, of_transaction-other}
 use Rattle.lock_core.proofs.SerialFronts.{IsRunPartly, run_partly-other}
 use Rattle.log_table.specs.declared.view.TakenJob.{TakenJob}
 use Rattle.log_table.specs.declared.view.Held.{Held}
+use Rattle.log_table.specs.declared.view.Given.{Given}
 use Rattle.log_table.specs.declared.view.Books.{Books}
 use Rattle.log_table.specs.Books.{task_of, times_held, times_taken}
-use Rattle.log_table.specs.Accounts.{takers, IsAsTaken, HasOneHolder, HasDistinctJobs, Follows, AccountsFollowList}
+use Rattle.log_table.specs.Accounts.{takers, IsAsTaken, HasOneHolder, HasDistinctJobs, Follows, WentBack, AccountsFollowList}
 use Rattle.log_table.proofs.Bookings.{everywhere-moves, everywhere-set, summed-set, summed-one, summed-two, all-held, all-taken, one-taker}
-use Rattle.log_table.proofs.Lists.{all-both}
+use Rattle.log_table.proofs.Lists.{all-both, all-weaker}
 
 -- the entry leaves the account as it was
 pub record IsSameAt (base : BaseState) (h : List Placed) (entry : Placed) (account : ℕ) : Type 0 where
@@ -32,6 +33,16 @@ follows-same : (base : BaseState) (h placed : List Placed) (entry : Placed) (hel
     → Follows base (entry ∷ h) placed held
 follows-same base h placed entry held same old =
     let added = same.added in let taken = same.taken in let balance = old.balance in record { balance = omega arith; mark = same.mark ∙ old.mark }
+
+-- a front of the list stays one
+still-back : (base : BaseState) (h : List Placed) (entry : Placed) (given : Given) → WentBack base h given → WentBack base (entry ∷ h) given
+still-back base h entry given old uncommitted = let was = old uncommitted in record {
+  later = entry ∷ was.later;
+  front = was.front;
+  whole = ap (λ entries. entry ∷ entries) was.whole;
+  balance = was.balance;
+  tail = was.tail;
+}
 
 -- a held account of one seat is held by no other
 pub one-holder : (accounts : ℕ) (words : ℕ → ℕ) (all : List Books) → HasOneHolder accounts words all → (i j : ℕ) (x y : Books) → get_elem? all i ≡ some x
@@ -102,6 +113,10 @@ module _ (base : BaseState) (words : ℕ → ℕ) (h : List Placed) (all : List 
         (all-both (IsAsTaken base.accounts words) (Follows base h x.placed) _ x.held (λ _ a b. (a, b)) (holder.taken j x there) old)
         (λ z has p. follows-same base h x.placed entry z
         (same z.account (one-holder base.accounts words all holder me j mine x at there differ z.account p.0.known has)) p.1));
+    given = everywhere-moves (λ (b : Books). AllByRecursion (WentBack base h) b.given) (λ (b : Books). AllByRecursion (WentBack base (entry ∷ h)) b.given)
+        all me new s.given
+        (all-weaker (WentBack base h) (WentBack base (entry ∷ h)) mine.given (still-back base h entry) (s.given me mine at))
+        (λ j x _ _. all-weaker (WentBack base h) (WentBack base (entry ∷ h)) x.given (still-back base h entry));
     runs = everywhere-moves (λ (b : Books). AllByRecursion (λ (taken : TakenJob). IsRunPartly base h (task_of taken)) b.jobs)
         (λ (b : Books). AllByRecursion (λ (taken : TakenJob). IsRunPartly base (entry ∷ h) (task_of taken)) b.jobs) all me new s.runs
         (runs-mine ran)

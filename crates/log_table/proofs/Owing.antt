@@ -15,6 +15,7 @@ use Rattle.log_record.specs.declared.rec.Rec.{Rec}
 use Rattle.log_record.specs.declared.rec.Rec.TheVariants as rec
 use Rattle.log_record.specs.declared.rec.Placed.{Placed}
 use Rattle.lock_core.specs.Transactions.{recs_of, has_commit}
+use Rattle.lock_core.specs.History.{end_from}
 use Rattle.lock_core.specs.Records.{commits}
 use Rattle.txn_script.specs.declared.job.Job.{Job}
 use Rattle.log_table.specs.declared.table.Start.{Start}
@@ -30,7 +31,8 @@ use Rattle.log_table.specs.Log.{Log, ranges_of}
 use Rattle.log_table.specs.May.{IsOwnWord, MayTakeJob, MayTake, MayGiveBack}
 use Rattle.log_table.specs.Sound.{HasSeenBoundaries, StoresStop, HasReadStop, HoldsIfActive, IsSound, base_of, history_in, books_of}
 use Rattle.log_table.specs.Roles.{is_active, may_own}
-use Rattle.log_table.specs.AccountViews.{took_job, seen_account, saw_account, held_as, took_account, after_account, given_as, seen_given, gave_account}
+use Rattle.log_table.specs.AccountViews.{took_job, seen_account, saw_account, held_as, took_account, after_account, given_as, gave_account}
+use Rattle.log_table.specs.Views.{counted}
 use Rattle.log_table.specs.Words.{Words, put}
 use Rattle.log_table.proofs.Bookings.{found}
 use Rattle.log_table.proofs.Lifting.{Tells}
@@ -39,6 +41,7 @@ use Rattle.log_table.proofs.Roles.{crew-same, quiet-moves, restands}
 use Rattle.log_table.proofs.Viewing.{each_set}
 use Rattle.log_table.proofs.Taking.{takes-job, takes-account}
 use Rattle.log_table.proofs.Giving.{gives}
+use Rattle.log_table.proofs.Keeping.{history-end}
 
 -- the seat's books change, and the accounts' words with them
 module _ (key : Start) (words : Words) (account : ℕ → ℕ) (views : List View) (me : ℕ) (v : View) (log : Log) (seen : Seen) (books : Books)
@@ -91,7 +94,7 @@ module _ (key : Start) (me : ℕ) (v : View) where
   job-step accounts number job same may n = record {
     leads = λ words views log s at is. let taken : TakenJob = record { number = number; job = job } in
         subst (λ x. Leads key words (record words { stop = x }) views (set views me (took_job number job x v)) log None) is
-        (books-change key words words.account views me v log (record v.seen { steps = v.seen.steps + 1; stop = words.stop; given = [] }) (taking_job taken v.books) s at
+        (books-change key words words.account views me v log (record v.seen { steps = v.seen.steps + 1; stop = words.stop }) (taking_job taken v.books) s at
         (sees-same key.start words.tail words.exposed words.durable log v.seen _ (s.seen me v at) refl refl refl refl) (inr refl)
         ((λ _. may.none_held), (λ off. absurd (true≢false (sym (ap may_own may.rests.active) ∙ off))))
         (takes-job (base_of key) words.account (history_in key log.parts) (map books_of views) me v.books (at_map books_of views me v at) taken
@@ -144,15 +147,22 @@ module _ (key : Start) (me : ℕ) (v : View) where
       (λ differ. subst (λ (b : Bool). IsStep key me (Account account) n (either b (word_of to) n) v
       (cond b (took_account account (word_of from) v) (saw_account account n v)) None) (sym (ne_eqb n (word_of from) differ)) (account-looks account n))
 
+  -- the tail as the seat saw it is at or below the end of the list
+  sees-front : (words : Words) (views : List View) (log : Log) → IsSound key words views log → get_elem? views me ≡ some v
+      → v.seen.tail ≤ end_from key.start (history_in key log.parts)
+  sees-front words views log s at = subst (λ n. v.seen.tail ≤ n)
+      (sym (history-end key.start key.start words.tail [] log.parts refl s.contiguous.parts s.filled.spelled)) (s.seen me v at).tail_seen
+
   pub give-step : (account : ℕ) (word : AccountWord) → FitsWord word → MayGiveBack account word v → (n : ℕ)
       → IsStep key me (Account account) n (word_of word) v (gave_account account v) None
   give-step account word word-fits may n = record {
     leads = λ words views log s at is.
-        books-change key words (put words.account account (word_of word)) views me v log (seen_given (given_as account v) v.seen) (giving account v.books) s at
+        books-change key words (put words.account account (word_of word)) views me v log (counted v.seen) (giving (given_as account v) v.books) s at
         (sees-same key.start words.tail words.exposed words.durable log v.seen _ (s.seen me v at) refl refl refl refl) (s.read_stop me v at)
         ((λ off. absurd (true≢false (sym (ap is_active may.rests.active) ∙ off))), (λ off. absurd (true≢false (sym (ap may_own may.rests.active) ∙ off))))
         (gives (base_of key) words.account (history_in key log.parts) (map books_of views) me v.books (at_map books_of views me v at) s.accounts.holder
-        account (word_of word) (held_back word.held word.balance word.mark word-fits.0 word-fits.1 ∙ may.free) may.gives s.accounts);
+        (given_as account v) record { balance = refl; committed = refl; tail = sees-front words views log s at }
+        (word_of word) (held_back word.held word.balance word.mark word-fits.0 word-fits.1 ∙ may.free) may.gives s.accounts);
   }
 
 -- what holds whatever the answer is

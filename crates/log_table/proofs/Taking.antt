@@ -17,7 +17,7 @@ use Rattle.log_table.specs.declared.view.TakenJob.{TakenJob}
 use Rattle.log_table.specs.declared.view.Held.{Held}
 use Rattle.log_table.specs.declared.view.Books.{Books}
 use Rattle.log_table.specs.Books.{task_of, times_held, times_taken, taking_job, taking}
-use Rattle.log_table.specs.Accounts.{Everywhere, IsAsTaken, MayBeTaken, HasOneHolder, HasDistinctJobs, moved_if_committed, Follows, IsUpToDate, AccountsFollowList, KeepsAccounts}
+use Rattle.log_table.specs.Accounts.{Everywhere, IsAsTaken, MayBeTaken, HasOneHolder, HasDistinctJobs, moved_if_committed, Follows, IsUpToDate, WentBack, AccountsFollowList, KeepsAccounts}
 use Rattle.log_table.specs.Words.{put}
 use Rattle.log_table.proofs.Bookings.{everywhere-set, summed-set, all-held, all-taken, one-if, none-if}
 
@@ -55,6 +55,9 @@ Ties h books = 1 ≤ books.last.number → of_transaction books.last.number h �
 
 abbrev pub FollowsAll : BaseState → List Placed → Books → Type 0
 FollowsAll base h books = AllByRecursion (Follows base h books.placed) books.held
+
+abbrev pub AllWentBack : BaseState → List Placed → Books → Type 0
+AllWentBack base h books = AllByRecursion (WentBack base h) books.given
 
 abbrev pub LastIsOne : ℕ → Books → Type 0
 LastIsOne accounts books = 1 ≤ books.last.number → MayBeTaken accounts books.last × (1 ≤ times_taken books.last.number books.jobs)
@@ -102,6 +105,7 @@ module _ (base : BaseState) (words : ℕ → ℕ) (h : List Placed) (all : List 
             (λ _. ((λ _. refl), all-taken _ (λ (job : TakenJob). job.number ≡ taken.number → job.job ≡ taken.job) mine.jobs above (λ job _ below same. absurd (omega arith))));
         free = s.free;
         held = everywhere-set (FollowsAll base h) all me new s.held (subst (AllByRecursion (Follows base h [])) (sym none-held) tt);
+        given = everywhere-set (AllWentBack base h) all me new s.given (s.given me mine at);
         runs = everywhere-set (RunsPartly base h) all me new s.runs (inr cut, s.runs me mine at);
         others = λ number none. s.others number
             (let sum = summed-set (λ (books : Books). times_taken number books.jobs) all me mine new at in omega arith);
@@ -174,6 +178,7 @@ module _ (base : BaseState) (words : ℕ → ℕ) (h : List Placed) (all : List 
             (λ same. absurd (true≢false (sym (ap held_in (put-same words held.account word account same) ∙ is-held) ∙ off)))
             (λ differ. free-else base h words held.account word account differ (s.free account below) off);
         held = everywhere-set (FollowsAll base h) all me new' s.held (now-follows, s.held me mine at);
+        given = everywhere-set (AllWentBack base h) all me new' s.given (s.given me mine at);
         runs = everywhere-set (RunsPartly base h) all me new' s.runs (s.runs me mine at);
         others = λ number none. s.others number
             (let sum = summed-set (λ (books : Books). times_taken number books.jobs) all me mine new' at in omega arith);

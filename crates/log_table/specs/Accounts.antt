@@ -1,6 +1,6 @@
 -- The account part of the rule: accounts follow the list. `words` are the accounts' words, `h` is the list that was inserted as a
 -- history, newest first, and `base` the state of the accounts before it.
-use Rattle.std.specs.Prelude.{◌≡◌, ◌&&◌, ℕ, ℤ, ◌+◌, ◌<◌, ◌≤◌, if◌then◌else◌, false, true, ◌⊎◌, List, [], ◌∷◌}
+use Rattle.std.specs.Prelude.{◌≡◌, ◌&&◌, ℕ, ℤ, ◌+◌, ◌<◌, ◌≤◌, if◌then◌else◌, false, true, ◌⊎◌, List, [], ◌∷◌, ◌++◌}
 use Rattle.std.specs.List.{AllByRecursion}
 use mathlib.Core.Option.{some}
 use lib.ListN.{get_elem?}
@@ -17,6 +17,7 @@ use Rattle.lock_core.specs.Lawful.{IsLawfulAfter}
 use Rattle.lock_core.specs.Serial.{IsRunWhole, IsCutShort}
 use Rattle.log_table.specs.declared.view.TakenJob.{TakenJob}
 use Rattle.log_table.specs.declared.view.Held.{Held}
+use Rattle.log_table.specs.declared.view.Given.{Given}
 use Rattle.log_table.specs.declared.view.Books.{Books}
 use Rattle.log_table.specs.Books.{task_of, times_held, times_taken, balance_taken, mark_taken}
 
@@ -82,9 +83,22 @@ pub record IsUpToDate (base : BaseState) (h : List Placed) (account word : ℕ) 
   pub balance : IsBalanceOf base h account (balance_in word)
   pub mark : last_commit_of base h account ≡ mark_in word
 
+-- The account's balance as it was taken is that of some front of the list, which ends at or above the tail as the seat had seen it when
+-- it gave the account back.
+pub record IsOfFront (base : BaseState) (h : List Placed) (given : Given) : Type 0 where
+  pub later : List Placed
+  pub front : List Placed
+  pub whole : h ≡ later ++ front
+  pub balance : IsBalanceOf base front given.account given.balance
+  pub tail : given.tail ≤ end_from base.end front
+
+-- that is known of an account which went back while the seat's last job was not committed
+abbrev pub WentBack : BaseState → List Placed → Given → Type 0
+WentBack base h given = given.committed ≡ false → IsOfFront base h given
+
 -- Where no job number stands twice: the list is a lawful continuation of the base state, and every balance is in its range. What it
--- has of a seat's last job is what the seat placed. Each free account's word is that of the list, and each held account follows it. Each job is run whole or cut short, and
--- there are no other transactions.
+-- has of a seat's last job is what the seat placed. Each free account's word is that of the list, and each held account follows it; one
+-- that was given back uncommitted had the balance of a front. Each job is run whole or cut short, and there are no other transactions.
 pub record AccountsFollowList (base : BaseState) (words : ℕ → ℕ) (h : List Placed) (all : List Books) : Type 0 where
   pub lawful : IsLawfulAfter base h
   pub range : AreInRange base h
@@ -93,6 +107,7 @@ pub record AccountsFollowList (base : BaseState) (words : ℕ → ℕ) (h : List
       → AllByRecursion (λ (taken : TakenJob). taken.number ≡ books.last.number → taken.job ≡ books.last.job) books.jobs) all
   pub free : (account : ℕ) → account < base.accounts → held_in (words account) ≡ false → IsUpToDate base h account (words account)
   pub held : Everywhere (λ (books : Books). AllByRecursion (Follows base h books.placed) books.held) all
+  pub given : Everywhere (λ (books : Books). AllByRecursion (WentBack base h) books.given) all
   pub runs : Everywhere (λ (books : Books). AllByRecursion (λ (taken : TakenJob). IsRunWhole base h (task_of taken) ⊎ IsCutShort h (task_of taken)) books.jobs) all
   pub others : (number : ℕ) → takers number all ≡ 0 → of_transaction number h ≡ []
 

@@ -9,6 +9,7 @@ use Rattle.lock_core.specs.Serial.{Task}
 use Rattle.lock_core.specs.Transactions.{recs_of, in_order}
 use Rattle.log_table.specs.declared.view.TakenJob.{TakenJob}
 use Rattle.log_table.specs.declared.view.Held.{Held}
+use Rattle.log_table.specs.declared.view.Given.{Given}
 use Rattle.log_table.specs.declared.view.Books.{Books}
 
 -- a job that was taken, as a transfer under its number
@@ -18,9 +19,9 @@ task_of taken = record { number = taken.number; job = transfer_of taken.job }
 abbrev pub no_job : TakenJob
 no_job = record { number = 0; job = record { legs = []; note = None } }
 
--- no job was taken, and no account is held
+-- no job was taken, and no account is held or was given back
 abbrev pub no_books : Books
-no_books = record { jobs = []; last = no_job; placed = []; held = [] }
+no_books = record { jobs = []; last = no_job; placed = []; held = []; given = [] }
 
 -- how often a list of held accounts has this one
 abbrev pub times_held : ℕ → List Held → ℕ
@@ -83,7 +84,7 @@ placing end rec books = record books { placed = record { end = end; rec = rec } 
 
 -- the job is taken
 abbrev pub taking_job : TakenJob → Books → Books
-taking_job taken books = record { jobs = taken ∷ books.jobs; last = taken; placed = []; held = books.held }
+taking_job taken books = record books { jobs = taken ∷ books.jobs; last = taken; placed = [] }
 
 -- the account is taken
 abbrev pub taking : Held → Books → Books
@@ -95,9 +96,9 @@ without account [] = []
 without account (held ∷ more) = if held.account == account then more else held ∷ without account more
 
 -- the account is given back
-abbrev pub giving : ℕ → Books → Books
-giving account books = record books { held = without account books.held }
+abbrev pub giving : Given → Books → Books
+giving given books = record books { held = without given.account books.held; given = given ∷ books.given }
 
--- the jobs of both
+-- the jobs of both, and the accounts that both gave back
 abbrev pub merging : Books → Books → Books
-merging books other = record books { jobs = books.jobs ++ other.jobs }
+merging books other = record books { jobs = books.jobs ++ other.jobs; given = books.given ++ other.given }

@@ -14,6 +14,7 @@ use Rattle.lock_core.specs.Lawful.{IsLawfulAfter}
 use Rattle.lock_core.specs.Serial.{Task, IsPartlySerialAfter}
 use Rattle.lock_core.specs.Settling.{row, KeepsRows}
 use Rattle.lock_core.specs.Sums.{BaseState}
+use Rattle.log_table.specs.Accounts.{WentBack}
 use Rattle.log_table.specs.Books.{task_of, times_taken}
 use Rattle.log_table.specs.Layout.{Account, index_of}
 
@@ -45,11 +46,14 @@ pub record IsLedger (base : BaseState) (h : List Placed) (tasks : List Task) (ro
   pub serial : IsPartlySerialAfter base tasks h
   pub accounts : KeepsRows rows base h
 
--- there is a row for each account; and where no number of the gathered jobs stands twice, the gathered list is their ledger
+-- There is a row for each account. Where no number of the gathered jobs stands twice, the gathered list is their ledger, and each account
+-- that was given back uncommitted had the balance of a front of that list.
 pub record IsSettled (base : BaseState) (view : View) (rows : List (ℕ × ℕ)) : Type 0 where
   pub count : length rows ≡ base.accounts
   pub ledger : ((number : ℕ) → times_taken number view.books.jobs ≤ 1)
       → IsLedger base (history_of base view.entries) (map task_of view.books.jobs) rows
+  pub given : ((number : ℕ) → times_taken number view.books.jobs ≤ 1)
+      → AllByRecursion (WentBack base (history_of base view.entries)) view.books.given
 
 -- the rows of the first n accounts have the balances and the last commits of their words
 pub record ReadsRows (ring n : ℕ) (words : List ℕ) (old new : List (ℕ × ℕ)) : Type 0 where

@@ -33,7 +33,7 @@ abbrev pub hired : ℕ → View → View
 hired worker view = record {
   constants = view.constants;
   standing = record { role = Fresh; worker = worker; made = []; enrolled = []; merged = [] };
-  seen = record view.seen { steps = 0; tail_step = 0; exposed_step = 0; durable_step = 0; given = [] };
+  seen = record view.seen { steps = 0; tail_step = 0; exposed_step = 0; durable_step = 0 };
   entries = [];
   call = Idle;
   contended = false;

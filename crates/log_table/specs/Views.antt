@@ -35,7 +35,6 @@ seen_at lsn = record {
   crew = 0;
   account = 0;
   account_word = 0;
-  given = [];
   lsns = lsn ∷ [];
 }
 

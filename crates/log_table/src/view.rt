@@ -50,16 +50,8 @@ pub struct Standing {
     pub merged: LinkedList<u64>,
 }
 
-/// An account that a seat gave back, with the balance as it was taken, and durable as the seat had seen it then.
-pub struct Given {
-    pub account: u64,
-    pub balance: u64,
-    pub durable: u64,
-}
-
 /// The last value seen in each word, and of the LSNs at which of the seat's steps; of the accounts' words
-/// the last one, and whose it was; the accounts given back since the seat took its last job, and every LSN
-/// that was seen, each newest first.
+/// the last one, and whose it was; and every LSN that was seen, newest first.
 pub struct Seen {
     pub steps: u64,
     pub tail: u64,
@@ -72,7 +64,6 @@ pub struct Seen {
     pub crew: u64,
     pub account: u64,
     pub account_word: u64,
-    pub given: LinkedList<Given>,
     pub lsns: LinkedList<u64>,
 }
 
@@ -101,13 +92,27 @@ pub struct Held {
     pub mark: u64,
 }
 
-/// The jobs that the seat took and the accounts that it holds, each newest first; the last job that it
-/// took, of number 0 where it took none, and the records of that job in the log, newest first.
+/// An account that a seat gave back: the number of the seat's last job then, the account with its balance
+/// as it was taken, tail and durable as the seat had seen them then, and whether that job had its Commit
+/// in the log.
+pub struct Given {
+    pub txn: u64,
+    pub account: u64,
+    pub balance: u64,
+    pub tail: u64,
+    pub durable: u64,
+    pub committed: bool,
+}
+
+/// The jobs that the seat took, the accounts that it holds and those that it gave back, each newest
+/// first; the last job that it took, of number 0 where it took none, and the records of that job in the
+/// log, newest first.
 pub struct Books {
     pub jobs: LinkedList<TakenJob>,
     pub last: TakenJob,
     pub placed: LinkedList<log_record::Placed>,
     pub held: LinkedList<Held>,
+    pub given: LinkedList<Given>,
 }
 
 pub struct View {

@@ -29,5 +29,4 @@ HasEntries-trans first second third entries entries' books books' before after =
   idle = after.idle;
   entries_are = after.entries_are;
   books_are = after.books_are;
-  given_are = after.given_are ∙ before.given_are;
 }

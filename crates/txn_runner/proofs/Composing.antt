@@ -1,17 +1,17 @@
 -- One transfer, from its first account to its last: what the seat's steps come to.
-use Rattle.std.proofs.Common.{◌≡◌, ◌≢◌, inl, inr, ℕ, ◌+◌, ◌<◌, ◌≤◌, Bool, true, List, [], ◌∷◌, ◌++◌, map, All, refl, sym, ap, ◌∙◌, subst, arith, append-nil}
+use Rattle.std.proofs.Common.{◌≡◌, ◌≢◌, inl, inr, ℕ, ◌+◌, ◌<◌, ◌≤◌, Bool, true, false, List, [], ◌∷◌, ◌++◌, map, All, refl, sym, ap, ◌∙◌, subst, arith, append-nil}
 use Rattle.std.specs.List.{AllByRecursion}
 use Rattle.std.specs.List.Sorted.{IsStrictlyIncreasing}
 use Rattle.std.proofs.lemmas.List.Elements.{All-from_recursion, recursion_from_All}
 use Rattle.log_record.specs.declared.rec.Rec.{Rec}
 use Rattle.log_record.specs.LogList.{size_of}
 use Rattle.lock_core.specs.Alone.{planned_records}
-use Rattle.lock_core.specs.Transactions.{recs_of, in_order}
+use Rattle.lock_core.specs.Transactions.{recs_of, in_order, has_commit}
 use Rattle.txn_script.specs.declared.job.Job.{Job}
 use Rattle.txn_script.specs.Script.{IsAllowedLeg}
 use Rattle.early_locks.specs.declared.taking.Taken.{Taken}
 use Rattle.early_locks.specs.Locks.{HoldsTaken}
-use Rattle.early_locks.specs.Transfers.{held_of}
+use Rattle.early_locks.specs.Transfers.{held_of, given_at}
 use Rattle.log_table.specs.declared.table.Seat.{Seat}
 use Rattle.log_table.specs.declared.view.Books.{Books}
 use Rattle.log_table.specs.declared.view.Entry.{Entry}
@@ -36,11 +36,11 @@ use Rattle.txn_runner.specs.Endings.{EndsTransfer}
 use Rattle.txn_runner.specs.Holdings.{account_of, taken_of, IsKnown, held_behind, given_behind, holding_all, AreDistinct, HoldsAll, TakesAll, with_held}
 use Rattle.txn_runner.specs.Inserts.{Adds, IsLeft, StopsFor}
 use Rattle.txn_runner.specs.Legs.{AreHeld, HoldsJob, last_record}
-use Rattle.txn_runner.specs.Running.{LieInOrder, account_given, GaveBack, HasInserted, HasRun, HasCut}
+use Rattle.txn_runner.specs.Running.{LieInOrder, account_given, GaveBack, HasInserted, IsUncommittedAt, HasRun, HasCut}
 use Rattle.txn_runner.proofs.Adding.{lie-longer, lie-sooner, placed-front}
 use Rattle.txn_runner.proofs.Gaining.{all-known}
 use Rattle.txn_runner.proofs.PlanLemmas.{planned_records-some}
-use Rattle.txn_runner.proofs.Held.{distinct, given-all, given-as, given-durable, same-accounts, all-same, taken-behind, taken-first}
+use Rattle.txn_runner.proofs.Held.{distinct, given-all, given-each, given-front, same-accounts, all-same, taken-behind, taken-first}
 
 -- every account of a job that the table allows is one of the table's
 pub accounts-known : (accounts : ℕ) (legs : List (ℕ × ℕ × ℕ)) (list : List ℕ) → AllByRecursion (IsAllowedLeg accounts) legs
@@ -61,6 +61,12 @@ all-held books (holding ∷ holdings) held apart = (
   taken-behind books holdings (held_of holding.taken ∷ held) holding.taken apart.0 (taken-first books holding held),
   all-held books holdings (held_of holding.taken ∷ held) apart.1,
 )
+
+-- a seat with this view gave the account back
+pub record IsGivenFrom (view : View) (given : Given) : Type 0 where
+  pub tail : given.tail ≡ view.seen.tail
+  pub durable : given.durable ≡ view.seen.durable
+  pub committed : given.committed ≡ has_commit (recs_of view.books.placed)
 
 -- The accounts of the job were listed, and taken.
 module _ (accounts number : ℕ) (job : Job) (list slice : List ℕ) (holdings : List Holding) (old new : Seat) (same-list : slice ≡ list)
@@ -100,17 +106,24 @@ module _ (accounts number : ℕ) (job : Job) (list slice : List ℕ) (holdings :
     still-as = all-same holdings paid same (λ taken. balance_taken (view_of new).books.held taken.account ≡ taken.balance)
         (λ k d within. (are-held k d within).balance)
 
-    -- they went back
-    pub gave-back : (view : View) (durable : ℕ) → All (HasAccountsOf list) job.legs → view.seen.given ≡ given_behind durable paid []
-        → GaveBack job (balance_taken (view_of new).books.held) view
-    gave-back view durable all given = record {
-      each = subst (λ list. All (HasAccountsOf (map account_given list)) job.legs) (sym given)
-          (λ k d within. let both = still-all all k d within in (given-all durable paid [] _ both.0, given-all durable paid [] _ both.1));
-      taken_as = subst (All (λ (given : Given). balance_taken (view_of new).books.held given.account ≡ given.balance)) (sym given)
-          (given-as (balance_taken (view_of new).books.held) durable paid []
-          (recursion_from_All (λ (holding : Holding). balance_taken (view_of new).books.held holding.taken.account ≡ holding.taken.balance) paid still-as)
-          (All-from_recursion (λ (given : Given). balance_taken (view_of new).books.held given.account ≡ given.balance) [] tt));
-    }
+    -- a seat with this view gave them back
+    pub gave-back : (from view : View) (before : List Given) → All (HasAccountsOf list) job.legs → from.books.last.number ≡ number
+        → view.books.given ≡ given_behind from paid before
+        → (gave : GaveBack number job (balance_taken (view_of new).books.held) before view) × All (IsGivenFrom from) gave.back
+    gave-back from view before all own given = (
+      record {
+        back = given_behind from paid [];
+        given_are = given ∙ given-front from paid before;
+        own = said (λ one. one.txn ≡ number) (λ k d within. own);
+        taken_as = said (λ one. balance_taken (view_of new).books.held one.account ≡ one.balance) still-as;
+        each = λ k d within. let both = still-all all k d within in (given-all from paid [] _ both.0, given-all from paid [] _ both.1);
+      },
+      said (IsGivenFrom from) (λ k d within. record { tail = refl; durable = refl; committed = refl }),
+    )
+      where
+        said : (P : Given → Type 0) → All (λ (holding : Holding). P (given_at from holding.taken)) paid → All P (given_behind from paid [])
+        said P all = given-each from P paid []
+            (recursion_from_All (λ (holding : Holding). P (given_at from holding.taken)) paid all) (All-from_recursion P [] tt)
 
     -- and all that is held
     pub still-held : (books : Books) → books.held ≡ (view_of new).books.held → HoldsAll paid books
@@ -219,12 +232,18 @@ pub still-stops : (cause : Cause) (rest : List Rec) (held : List Held) (back : L
 still-stops cause rest held back first second becomes stops =
     subst (StopsFor cause rest) (sym (ap (λ m. m.0) becomes.me)) (stops-held cause rest held back (view_of first) stops)
 
+-- the accounts were given back by a seat that saw this tail, and had placed no Commit
+pub uncommitted-at : (from new : View) (back : List Given) → All (IsGivenFrom from) back → from.seen.tail ≡ new.seen.tail
+    → has_commit (recs_of from.books.placed) ≡ false → All (IsUncommittedAt new.seen.tail) back
+uncommitted-at from new back all same none k d within = let one = all k d within in (one.committed ∙ none, one.tail ∙ same)
+
 pub has-cut : (number : ℕ) (job : Job) (wait : Bool) (cause : Cause) (rest : List Rec) (old new : View) (inserted : HasInserted number job rest old new)
-    → GaveBack job inserted.balances new → rest ≢ [] → StopsFor cause rest new
-    → HasCut number job wait cause old new
-has-cut number job wait (Stop word) rest old new inserted gave some stops = (rest, inserted, λ none. absurd (some none), stops.0, stops.1)
-has-cut number job wait (LogEnd tail total) [] old new inserted gave some stops = absurd stops
-has-cut number job wait (LogEnd tail total) (next ∷ rest) old new inserted gave some stops = (next, rest, inserted, gave, stops.0, stops.1, stops.2, stops.3)
+    → (gave : GaveBack number job inserted.balances old.books.given new) → All (IsUncommittedAt new.seen.tail) gave.back
+    → rest ≢ [] → StopsFor cause rest new → HasCut number job wait cause old new
+has-cut number job wait (Stop word) rest old new inserted gave none some stops = (rest, inserted, λ none. absurd (some none), stops.0, stops.1)
+has-cut number job wait (LogEnd tail total) [] old new inserted gave none some stops = absurd stops
+has-cut number job wait (LogEnd tail total) (next ∷ rest) old new inserted gave none some stops =
+    (next, rest, inserted, gave, subst (λ t. All (IsUncommittedAt t) gave.back) (sym stops.2) none, stops.0, stops.1, stops.2, stops.3)
 
 -- no record is left, but the worker waits
 pub has-stopped : (number : ℕ) (job : Job) (wait : Bool) (cause : Cause) (old new : View) → HasInserted number job [] old new → wait ≡ true
@@ -265,9 +284,10 @@ lie-last from to (other ∷ entries) entry lie = let after = lie-last (other.sta
 pub has-run : (number : ℕ) (job : Job) (wait : Bool) (ended : Ended) (seen : ℕ) (holdings : List Holding) (first last : View) (second third : Seat)
     → HasTakenJob number job first (view_of second) → EndsTransfer number job ended holdings second third → Keeps (view_of third) last
     → seen ≡ last.seen.durable → (wait ≡ true → ended.end ≤ seen)
-    → (paid : List Holding) → last.seen.given ≡ given_behind seen paid [] → GaveBack job (balance_taken (view_of second).books.held) last
+    → (gave : GaveBack number job (balance_taken (view_of second).books.held) first.books.given last)
+    → All (λ (one : Given). one.durable ≡ seen) gave.back
     → HasRun number job wait (record { txn = number; answer = ended.answer; end = ended.end; seen = seen }) first last
-has-run number job wait ended seen holdings first last second third taken ends keeps durable waited paid given gave = record {
+has-run number job wait ended seen holdings first last second third taken ends keeps durable waited gave at_seen = record {
   inserted = has-inserted number job [] first last second third (ends.before ++ end ∷ []) taken ends.adds ends.left keeps;
   txn = refl;
   outcome = ends.outcome;
@@ -280,8 +300,7 @@ has-run number job wait ended seen holdings first last second third taken ends k
   seen = durable;
   waited = waited;
   given = gave;
-  durable_first = λ waits. subst (All (λ (given : Given). ended.end ≤ given.durable)) (sym given)
-      (given-durable ended.end seen (waited waits) paid [] (All-from_recursion (λ (given : Given). ended.end ≤ given.durable) [] tt));
+  at_seen = at_seen;
 }
   where
     end : Entry

@@ -1,9 +1,9 @@
 -- Accounts that are held, and given back in the order in which they were taken.
-use Rattle.std.proofs.Common.{◌≡◌, ◌≢◌, ◌==◌, ℕ, suc, ◌+◌, ◌<◌, ◌≤◌, inl, inr, cond, true, false, List, [], ◌∷◌, ◌++◌, length, get_or, map, All, Contains, sym, refl, ap, ◌∙◌, subst, arith, eq-eqb, ne_eqb, length-append}
+use Rattle.std.proofs.Common.{◌≡◌, ◌≢◌, ◌==◌, ℕ, suc, ◌+◌, ◌<◌, ◌≤◌, inl, inr, cond, true, false, List, [], ◌∷◌, ◌++◌, length, get_or, map, All, Contains, sym, refl, ap, ◌∙◌, subst, arith, eq-eqb, ne_eqb, length-append, append_assoc}
 use Rattle.std.specs.List.{AllByRecursion}
 use Rattle.std.specs.List.Sorted.{IsStrictlyIncreasing}
 use Rattle.std.proofs.lemmas.List.{length-map, get_or-map}
-use Rattle.std.proofs.lemmas.List.Elements.{recursion_from_All, All-cons, Contains-append_left, Contains-append_right, Contains-append_cases}
+use Rattle.std.proofs.lemmas.List.Elements.{recursion_from_All, All-cons, Contains-append_left, Contains-append_right, Contains-append_cases, Contains-push, Contains-push_cases}
 use Rattle.log_table.specs.declared.table.Seat.{Seat}
 use Rattle.log_table.specs.declared.view.Books.{Books}
 use Rattle.log_table.specs.declared.view.Given.{Given}
@@ -16,7 +16,7 @@ use Rattle.early_locks.specs.declared.taking.Taken.{Taken}
 use Rattle.early_locks.specs.Locks.{HoldsTaken}
 use Rattle.txn_runner.specs.declared.holding.Holding.{Holding}
 use Rattle.early_locks.specs.Transfers.{held_of, given_at}
-use Rattle.txn_runner.specs.Holdings.{account_of, taken_of, held_behind, given_behind, Lacks, AreDistinct, with_held}
+use Rattle.txn_runner.specs.Holdings.{account_of, taken_of, held_behind, given_behind, Lacks, AreDistinct, with_held, KeepsGiven}
 use Rattle.txn_runner.specs.Running.{account_given}
 use Rattle.txn_runner.proofs.Listing.{rising-below}
 
@@ -76,44 +76,67 @@ taken-first books holding held = record {
     same : (holding.taken.account == holding.taken.account) ≡ true
     same = eq-eqb holding.taken.account holding.taken.account refl
 
-given-push : (durable : ℕ) (holdings : List Holding) (holding : Holding) (given : List Given)
-    → given_behind durable (holdings ++ holding ∷ []) given ≡ given_at durable holding.taken ∷ given_behind durable holdings given
-given-push durable [] holding given = refl
-given-push durable (first ∷ holdings) holding given = given-push durable holdings holding (given_at durable first.taken ∷ given)
+module _ (view : View) where
+  pub given-push : (holdings : List Holding) (holding : Holding) (given : List Given)
+      → given_behind view (holdings ++ holding ∷ []) given
+      ≡ given_at view holding.taken ∷ given_behind view holdings given
+  given-push [] holding given = refl
+  given-push (first ∷ holdings) holding given = given-push holdings holding (given_at view first.taken ∷ given)
 
--- what went back before stays among what went back
-still-given : (durable : ℕ) (holdings : List Holding) (given : List Given) (account : ℕ) → Contains (map account_given given) account
-    → Contains (map account_given (given_behind durable holdings given)) account
-still-given durable [] given account has = has
-still-given durable (holding ∷ holdings) given account has = still-given durable holdings (given_at durable holding.taken ∷ given) account
-    (Contains-append_right (holding.taken.account ∷ []) (map account_given given) account has)
+  -- what goes back stands before what went back before
+  pub given-front : (holdings : List Holding) (given : List Given)
+      → given_behind view holdings given ≡ given_behind view holdings [] ++ given
+  given-front [] given = refl
+  given-front (holding ∷ holdings) given = given-front holdings (given_at view holding.taken ∷ given)
+      ∙ sym (ap (λ l. l ++ given) (given-front holdings (given_at view holding.taken ∷ []))
+      ∙ append_assoc (given_behind view holdings []) (given_at view holding.taken ∷ []) given)
 
--- each account went back
-pub given-all : (durable : ℕ) (holdings : List Holding) (given : List Given) (account : ℕ) → Contains (map account_of holdings) account
-    → Contains (map account_given (given_behind durable holdings given)) account
-given-all durable [] given account has = absurd (omega (arith, has.1))
-given-all durable (holding ∷ holdings) given account has =
-    elim (Contains-append_cases (holding.taken.account ∷ []) (map account_of holdings) account has) [
-      | inl first ↦ still-given durable holdings (given_at durable holding.taken ∷ given) account
-          (Contains-append_left (holding.taken.account ∷ []) (map account_given given) account first)
-      | inr later ↦ given-all durable holdings (given_at durable holding.taken ∷ given) account later
-    ]
+  -- what went back before stays among what went back
+  still-given : (holdings : List Holding) (given : List Given) (account : ℕ) → Contains (map account_given given) account
+      → Contains (map account_given (given_behind view holdings given)) account
+  still-given [] given account has = has
+  still-given (holding ∷ holdings) given account has = still-given holdings (given_at view holding.taken ∷ given) account
+      (Contains-append_right (holding.taken.account ∷ []) (map account_given given) account has)
 
--- each went back where durable was seen at this LSN or above it
-pub given-durable : (end durable : ℕ) → end ≤ durable → (holdings : List Holding) (given : List Given)
-    → All (λ (given : Given). end ≤ given.durable) given → All (λ (given : Given). end ≤ given.durable) (given_behind durable holdings given)
-given-durable end durable above [] given all = all
-given-durable end durable above (holding ∷ holdings) given all = given-durable end durable above holdings
-    (given_at durable holding.taken ∷ given) (All-cons (λ (given : Given). end ≤ given.durable) (given_at durable holding.taken) given above all)
+  -- each account went back
+  pub given-all : (holdings : List Holding) (given : List Given) (account : ℕ) → Contains (map account_of holdings) account
+      → Contains (map account_given (given_behind view holdings given)) account
+  given-all [] given account has = absurd (omega (arith, has.1))
+  given-all (holding ∷ holdings) given account has =
+      elim (Contains-append_cases (holding.taken.account ∷ []) (map account_of holdings) account has) [
+        | inl first ↦ still-given holdings (given_at view holding.taken ∷ given) account
+            (Contains-append_left (holding.taken.account ∷ []) (map account_given given) account first)
+        | inr later ↦ given-all holdings (given_at view holding.taken ∷ given) account later
+      ]
 
--- each went back with the balance as it was taken
-pub given-as : (balances : ℕ → ℕ) (durable : ℕ) (holdings : List Holding) (given : List Given)
-    → AllByRecursion (λ (holding : Holding). balances holding.taken.account ≡ holding.taken.balance) holdings
-    → All (λ (given : Given). balances given.account ≡ given.balance) given
-    → All (λ (given : Given). balances given.account ≡ given.balance) (given_behind durable holdings given)
-given-as balances durable [] given same all = all
-given-as balances durable (holding ∷ holdings) given same all = given-as balances durable holdings (given_at durable holding.taken ∷ given) same.1
-    (All-cons (λ (given : Given). balances given.account ≡ given.balance) (given_at durable holding.taken) given same.0 all)
+  -- what is said of each account as it goes back is said of all that went back
+  pub given-each : (P : Given → Type 0) (holdings : List Holding) (given : List Given)
+      → AllByRecursion (λ (holding : Holding). P (given_at view holding.taken)) holdings
+      → All P given → All P (given_behind view holdings given)
+  given-each P [] given each all = all
+  given-each P (holding ∷ holdings) given each all = given-each P holdings (given_at view holding.taken ∷ given) each.1
+      (All-cons P (given_at view holding.taken) given each.0 all)
+
+-- the account that went back, of those
+pub account-given : (back : List Given) (account : ℕ) → Contains (map account_given back) account
+    → (one : Given) × Contains back one × (one.account ≡ account)
+account-given [] account has = absurd (omega (arith, has.1))
+account-given (first ∷ back) account has = elim (Contains-append_cases (first.account ∷ []) (map account_given back) account has) [
+  | inl here ↦ (first, Contains-append_left (first ∷ []) back first (Contains-push [] first), is here)
+  | inr later ↦ let more = account-given back account later in
+      (more.0, Contains-append_right (first ∷ []) back more.0 more.1, more.2)
+]
+  where
+    is : Contains (first.account ∷ []) account → first.account ≡ account
+    is here = elim (Contains-push_cases [] first.account account here) [ inl none ↦ absurd (omega (arith, none.1)) | inr same ↦ same ]
+
+-- after these accounts went back
+pub given-held : (back : List Holding) (held : List Held) (first second : Seat)
+    → Becomes first second (with_held held back (view_of first)) → KeepsGiven (view_of first) (view_of second)
+given-held back held first second becomes = record {
+  back = given_behind (view_of first) back [];
+  given_are = ap (λ m. m.0.books.given) becomes.me ∙ given-front (view_of first) back (view_of first).books.given;
+}
 
 -- the first of the holdings that are left, and the others once it is given back
 module _ (first second : Seat) (back holdings rest : List Holding) (holding : Holding) (is : holdings ≡ holding ∷ rest)
@@ -131,8 +154,11 @@ module _ (first second : Seat) (back holdings rest : List Holding) (holding : Ho
   is-held : second.base.me ≡ (with_held (held_behind (holding ∷ rest) []) back view, first.base.me.1)
   is-held = before.me ∙ (λ i. (with_held (held_behind (is i) []) back view, first.base.me.1))
 
-  held-first : HoldsTaken holding.taken (record view.books { held = held_behind (holding ∷ rest) [] })
-  held-first = taken-behind view.books rest (held_of holding.taken ∷ []) holding.taken distinct-both.0 (taken-first view.books holding [])
+  abbrev books : Books
+  books = record view.books { given = given_behind view back view.books.given }
+
+  held-first : HoldsTaken holding.taken (record books { held = held_behind (holding ∷ rest) [] })
+  held-first = taken-behind books rest (held_of holding.taken ∷ []) holding.taken distinct-both.0 (taken-first books holding [])
 
   pub holds-first : HoldsTaken holding.taken (view_of second).books
   holds-first = subst (λ m. HoldsTaken holding.taken m.0.books) (sym is-held) held-first
@@ -145,9 +171,8 @@ module _ (first second : Seat) (back holdings rest : List Holding) (holding : Ho
     me = after.me ∙ ap (λ m. (gave_account holding.taken.account m.0, m.1)) is-held
         ∙ (λ i. (
           record view {
-            seen = record view.seen { steps = total i; given = gone i };
-            books = record view.books
-                { held = left i };
+            seen = record view.seen { steps = total i };
+            books = record view.books { held = left i; given = gone i };
           },
           first.base.me.1,
         ));
@@ -157,15 +182,10 @@ module _ (first second : Seat) (back holdings rest : List Holding) (holding : Ho
       total : view.seen.steps + length back + 1 ≡ view.seen.steps + length (back ++ holding ∷ [])
       total = omega (arith, length-append back (holding ∷ []))
 
-      gone : record {
-        account = holding.taken.account;
-        balance = balance_taken (held_behind (holding ∷ rest) []) holding.taken.account;
-        durable = view.seen.durable;
-      } ∷ given_behind view.seen.durable back view.seen.given
-          ≡ given_behind view.seen.durable (back ++ holding ∷ []) view.seen.given
-      gone = (λ i. record { account = holding.taken.account; balance = held-first.balance i; durable = view.seen.durable }
-          ∷ given_behind view.seen.durable back view.seen.given)
-          ∙ sym (given-push view.seen.durable back holding view.seen.given)
+      gone : record (given_at view holding.taken) { balance = balance_taken (held_behind (holding ∷ rest) []) holding.taken.account }
+          ∷ given_behind view back view.books.given ≡ given_behind view (back ++ holding ∷ []) view.books.given
+      gone = (λ i. record (given_at view holding.taken) { balance = held-first.balance i } ∷ given_behind view back view.books.given)
+          ∙ sym (given-push view back holding view.books.given)
 
       left : without holding.taken.account (held_behind (holding ∷ rest) []) ≡ held_behind rest []
       left = without-behind rest [] (held_of holding.taken) distinct-both.0 tt

@@ -5,6 +5,7 @@ pub mod Composing
 pub mod EntryLemmas
 pub mod Finishing
 pub mod Gaining
+pub mod GivenLemmas
 pub mod Held
 pub mod Listing
 pub mod Making

@@ -10,10 +10,12 @@ use Rattle.txn_runner.specs.declared.cause.Worked.TheVariants.{All, Cut}
 use Rattle.txn_runner.specs.declared.jobs.Jobs.{Jobs}
 use Rattle.txn_runner.specs.declared.rows.Row.{Row}
 use Rattle.txn_runner.specs.declared.rows.Rows.{Rows}
+use Rattle.txn_runner.specs.Holdings.{KeepsGiven}
 use Rattle.txn_runner.specs.Running.{HasInserted, HasRun, HasCut}
 use Rattle.txn_runner.specs.Stripes.{number_at, job_at}
 use Rattle.txn_runner.specs.Working.{rows_in, room_of, taken_in, HasWorked, HasRoomForRows, KeepsEntries, TakesJobs, HaveEnded, Works, AddsRows}
 use Rattle.txn_runner.proofs.RowLemmas.{AddsRows-push, AddsRows-cut}
+use Rattle.txn_runner.proofs.GivenLemmas.{given-trans}
 use Rattle.txn_runner.proofs.WorkLemmas.{IsNextJob, at-stripe, HasWorked-next, TakesJobs-next, HaveEnded-next, HaveEnded-still, IsCutBy-next}
 
 -- so far each transfer taken has its end record and its row
@@ -21,6 +23,7 @@ pub record Progress (jobs : Jobs) (worker : ℕ) (wait : Bool) (before rows : Ro
   pub worked : HasWorked jobs worker (taken_in rows) view
   pub room : HasRoomForRows jobs worker rows
   pub kept : KeepsEntries first view
+  pub given : KeepsGiven first view
   pub takes : TakesJobs jobs worker (taken_in before) (taken_in rows) first view
   pub ended : HaveEnded jobs worker (taken_in before) (taken_in rows) view
   pub adds : AddsRows jobs worker wait All before rows first view
@@ -29,6 +32,7 @@ pub record Progress (jobs : Jobs) (worker : ℕ) (wait : Bool) (before rows : Ro
 pub record Stopped (jobs : Jobs) (worker : ℕ) (wait : Bool) (before rows : Rows) (first view : View) (cause : Cause) : Type 0 where
   pub worked : HasWorked jobs worker (taken_in rows) view
   pub kept : KeepsEntries first view
+  pub given : KeepsGiven first view
   pub takes : TakesJobs jobs worker (taken_in before) (taken_in rows) first view
   pub works : Works jobs worker (taken_in before) (taken_in rows) wait (Cut cause) view
   pub adds : AddsRows jobs worker wait (Cut cause) before rows first view
@@ -52,7 +56,7 @@ inserted-in number job wait (LogEnd tail total) old new cut = (cut.0 ∷ cut.1, 
 
 module _ (jobs : Jobs) (worker : ℕ) (wait : Bool) (before mid after : Rows) (first old new : View)
     (progress : Progress jobs worker wait before mid first old) (number : ℕ) (job : Job) (next : IsNextJob jobs worker (taken_in mid) number job)
-    (since : SawNoLess first old) (later : SawNoLess old new) (room : room_of after ≡ room_of mid) (taken : taken_in after ≡ taken_in mid + 1) where
+    (since : SawNoLess first old) (later : SawNoLess old new) (given : KeepsGiven old new) (room : room_of after ≡ room_of mid) (taken : taken_in after ≡ taken_in mid + 1) where
   -- one transfer more was run, and its row put
   pub Progress-next : (row : Row) → HasRun number job wait row old new → rows_in after ≡ rows_in mid ++ row ∷ []
       → Progress jobs worker wait before after first new
@@ -61,12 +65,13 @@ module _ (jobs : Jobs) (worker : ℕ) (wait : Bool) (before mid after : Rows) (f
         (HasWorked-next jobs worker (taken_in mid) [] old new run.inserted progress.worked next.within);
     room = λ k stripe. omega (arith, progress.room k stripe, ap length rows, length-append (rows_in mid) (row ∷ []), room, taken);
     kept = still-kept _ _ [] first old new progress.kept run.inserted;
+    given = given-trans first old new progress.given given;
     takes = subst (λ k. TakesJobs jobs worker (taken_in before) k first new) (sym taken)
         (TakesJobs-next jobs worker (taken_in mid) [] old new run.inserted (taken_in before) first progress.takes);
     ended = subst (λ k. HaveEnded jobs worker (taken_in before) k new) (sym taken)
         (HaveEnded-next jobs worker (taken_in before) (taken_in mid) wait row old new run progress.ended);
     adds = AddsRows-push jobs worker wait before mid after first old new progress.adds room taken row run progress.worked.below
-        since.tail since.durable later.durable rows;
+        since.tail since.durable later.durable given rows;
   }
     where
       run : HasRun (number_at jobs worker (taken_in mid)) (job_at jobs worker (taken_in mid)) wait row old new
@@ -79,6 +84,7 @@ module _ (jobs : Jobs) (worker : ℕ) (wait : Bool) (before mid after : Rows) (f
     worked = subst (λ k. HasWorked jobs worker k new) (sym taken)
         (HasWorked-next jobs worker (taken_in mid) (inserted.0) old new inserted.1 progress.worked next.within);
     kept = still-kept _ _ (inserted.0) first old new progress.kept inserted.1;
+    given = given-trans first old new progress.given given;
     takes = subst (λ k. TakesJobs jobs worker (taken_in before) k first new) (sym taken)
         (TakesJobs-next jobs worker (taken_in mid) (inserted.0) old new inserted.1 (taken_in before) first progress.takes);
     works = (
@@ -89,7 +95,7 @@ module _ (jobs : Jobs) (worker : ℕ) (wait : Bool) (before mid after : Rows) (f
       IsCutBy-next jobs worker (taken_in mid) wait cause old new progress.worked cut,
     );
     adds = AddsRows-cut jobs worker wait before mid after first old new progress.adds room taken cause
-        record { added = inserted.1.added; entries = inserted.1.entries; durable = later.durable } rows;
+        record { added = inserted.1.added; entries = inserted.1.entries; durable = later.durable; given = given } rows;
   }
     where
       cut : HasCut (number_at jobs worker (taken_in mid)) (job_at jobs worker (taken_in mid)) wait cause old new

@@ -1,8 +1,10 @@
 -- A worker's rows, and one more behind them. `old` and `new` are its seat's view before and after the transfer that it tells.
-use Rattle.std.proofs.Common.{◌≡◌, ◌∙◌, ℕ, ◌+◌, ◌<◌, ◌≤◌, Bool, List, [], ◌∷◌, ◌++◌, length, Contains, sym, ap, subst, arith, length-append, append_assoc}
-use Rattle.std.proofs.lemmas.List.Elements.{Contains-append_left, Contains-append_right, Contains-push, All-contains, All-from_recursion}
+use Rattle.std.proofs.Common.{◌≡◌, ◌∙◌, ℕ, ◌+◌, ◌<◌, ◌≤◌, Bool, List, [], ◌∷◌, ◌++◌, length, map, Contains, sym, ap, subst, arith, length-append, append_assoc}
+use Rattle.std.proofs.lemmas.List.Elements.{Contains-append_left, Contains-append_right, Contains-push, All-contains, All-from_recursion, recursion_from_All}
+use Rattle.lsn_space.proofs.TilingLemmas.{all-weaker}
 use Rattle.lock_core.specs.Alone.{end_record}
 use Rattle.log_table.specs.declared.view.Entry.{Entry}
+use Rattle.log_table.specs.declared.view.Given.{Given}
 use Rattle.log_table.specs.declared.view.View.{View}
 use Rattle.txn_script.specs.Transfers.{transfer_of}
 use Rattle.txn_runner.specs.declared.cause.Cause.{Cause}
@@ -10,16 +12,19 @@ use Rattle.txn_runner.specs.declared.cause.Worked.TheVariants.{All, Cut}
 use Rattle.txn_runner.specs.declared.jobs.Jobs.{Jobs}
 use Rattle.txn_runner.specs.declared.rows.Row.{Row}
 use Rattle.txn_runner.specs.declared.rows.Rows.{Rows}
-use Rattle.txn_runner.specs.Running.{outcome_of, LieInOrder, HasRun}
+use Rattle.txn_runner.specs.Holdings.{KeepsGiven}
+use Rattle.txn_runner.specs.Running.{outcome_of, LieInOrder, account_given, HasRun}
 use Rattle.txn_runner.specs.Stripes.{number_at, job_at}
-use Rattle.txn_runner.specs.Working.{rows_in, room_of, taken_in, TellsEnd, AreRowsFrom, AddsRows}
+use Rattle.txn_runner.specs.Working.{rows_in, room_of, taken_in, IsGivenAt, AreGivenAt, TellsEnd, AreRowsFrom, AddsRows}
 use Rattle.txn_runner.proofs.EntryLemmas.{LieInOrder-ends}
+use Rattle.txn_runner.proofs.Held.{account-given}
 
--- the view has more entries, and has seen no smaller durable LSN
+-- the view has more entries, has seen no smaller durable LSN, and has more accounts given back
 pub record Goes (old new : View) : Type 0 where
   pub added : List Entry
   pub entries : new.entries ≡ old.entries ++ added
   pub durable : old.seen.durable ≤ new.seen.durable
+  pub given : KeepsGiven old new
 
 module _ (jobs : Jobs) (worker : ℕ) (wait : Bool) (old : View) where
   -- what a row tells lies below what the seat saw last
@@ -33,6 +38,16 @@ module _ (jobs : Jobs) (worker : ℕ) (wait : Bool) (old : View) where
   )
 
 module _ (jobs : Jobs) (worker : ℕ) (wait : Bool) (old new : View) (goes : Goes old new) where
+  IsGivenAt-still : (number durable account : ℕ) → IsGivenAt number durable old.books.given account → IsGivenAt number durable new.books.given account
+  IsGivenAt-still number durable account at = record {
+    back = at.back;
+    contains = subst (λ l. Contains l at.back) (sym goes.given.given_are)
+        (Contains-append_right goes.given.back old.books.given at.back at.contains);
+    txn = at.txn;
+    account_is = at.account_is;
+    durable_is = at.durable_is;
+  }
+
   TellsEnd-still : (j : ℕ) (row : Row) → TellsEnd jobs worker j wait old row → TellsEnd jobs worker j wait new row
   TellsEnd-still j row tells = record {
     txn = tells.txn;
@@ -42,6 +57,8 @@ module _ (jobs : Jobs) (worker : ℕ) (wait : Bool) (old new : View) (goes : Goe
     end_is = tells.end_is;
     seen = omega (arith, tells.seen, goes.durable);
     waited = tells.waited;
+    gave = all-weaker (AreGivenAt row.txn row.seen old.books.given) (AreGivenAt row.txn row.seen new.books.given) (job_at jobs worker j).legs
+        (λ leg both. (IsGivenAt-still row.txn row.seen leg.0 both.0, IsGivenAt-still row.txn row.seen leg.1 both.1)) tells.gave;
   }
 
   AreRowsFrom-still : (j above since : ℕ) (rows : List Row) → AreRowsFrom jobs worker j wait old above since rows
@@ -76,16 +93,27 @@ TellsEnd-run jobs worker k wait row old new run = record {
   end_is = run.end_is;
   seen = omega (arith, run.seen);
   waited = run.waited;
+  gave = recursion_from_All (AreGivenAt row.txn row.seen new.books.given) (job_at jobs worker k).legs
+      (λ i d within. let both = run.given.each i d within in (at _ both.0, at _ both.1));
 }
+  where
+    at : (account : ℕ) → Contains (map account_given run.given.back) account → IsGivenAt row.txn row.seen new.books.given account
+    at account has = let one = account-given run.given.back account has in record {
+      back = one.0;
+      contains = subst (λ l. Contains l one.0) (sym run.given.given_are) (Contains-append_left run.given.back old.books.given one.0 one.1);
+      txn = All-contains (λ (given : Given). given.txn ≡ number_at jobs worker k) run.given.back one.0 run.given.own one.1 ∙ sym run.txn;
+      account_is = one.2;
+      durable_is = All-contains (λ (given : Given). given.durable ≡ row.seen) run.given.back one.0 run.at_seen one.1;
+    }
 
 module _ (jobs : Jobs) (worker : ℕ) (wait : Bool) (before mid after : Rows) (first old new : View)
     (adds : AddsRows jobs worker wait All before mid first old) (room : room_of after ≡ room_of mid) (taken : taken_in after ≡ taken_in mid + 1) where
   -- one more transfer was taken, and its row put
   pub AddsRows-push : (row : Row) → HasRun (number_at jobs worker (taken_in mid)) (job_at jobs worker (taken_in mid)) wait row old new
       → LieInOrder 0 old.seen.tail old.entries → first.seen.tail ≤ old.seen.tail → first.seen.durable ≤ old.seen.durable
-      → old.seen.durable ≤ new.seen.durable → rows_in after ≡ rows_in mid ++ row ∷ []
+      → old.seen.durable ≤ new.seen.durable → KeepsGiven old new → rows_in after ≡ rows_in mid ++ row ∷ []
       → AddsRows jobs worker wait All before after first new
-  AddsRows-push row run order tails durables durable rows = record {
+  AddsRows-push row run order tails durables durable given rows = record {
     added = adds.added ++ row ∷ [];
     rows = rows ∙ ap (λ l. l ++ row ∷ []) adds.rows ∙ append_assoc (rows_in before) adds.added (row ∷ []);
     room = room ∙ adds.room;
@@ -96,7 +124,7 @@ module _ (jobs : Jobs) (worker : ℕ) (wait : Bool) (before mid after : Rows) (f
   }
     where
       goes : Goes old new
-      goes = record { added = run.inserted.added; entries = run.inserted.entries; durable = durable }
+      goes = record { added = run.inserted.added; entries = run.inserted.entries; durable = durable; given = given }
 
   -- one more transfer was taken, and cut off
   pub AddsRows-cut : (cause : Cause) → Goes old new → rows_in after ≡ rows_in mid → AddsRows jobs worker wait (Cut cause) before after first new

@@ -1,6 +1,6 @@
 -- A worker's next transfer, behind those that it worked before. `old` and `new` are its seat's view before and after that transfer.
 use Rattle.std.proofs.Common.{◌≡◌, ◌≢◌, ◌⊎◌, inl, inr, ◌∙◌, ℕ, ◌+◌, ◌<◌, ◌≤◌, List, [], ◌∷◌, ◌++◌, length, All, Contains, sym, ap, subst, arith, refl, Bool, true, false, true≢false}
-use Rattle.std.proofs.lemmas.List.Elements.{All-contains, All-from_recursion, Contains-append_cases, Contains-append_left, Contains-append_right, Contains-push}
+use Rattle.std.proofs.lemmas.List.Elements.{All-contains, All-from_recursion, recursion_from_All, Contains-append_cases, Contains-append_left, Contains-append_right, Contains-push}
 use Rattle.std.specs.List.{AllByRecursion}
 use borrow.Author.Count.{below_more}
 use Rattle.lsn_space.proofs.TilingLemmas.{all-weaker}
@@ -23,7 +23,7 @@ use Rattle.txn_runner.specs.declared.cause.Worked.{Worked}
 use Rattle.txn_runner.specs.declared.cause.Worked.TheVariants as worked
 use Rattle.txn_runner.specs.declared.jobs.Jobs.{Jobs}
 use Rattle.txn_runner.specs.declared.rows.Row.{Row}
-use Rattle.txn_runner.specs.Running.{outcome_of, LieInOrder, HasInserted, HasRun, HasCut}
+use Rattle.txn_runner.specs.Running.{outcome_of, LieInOrder, IsUncommittedAt, HasInserted, HasRun, HasCut}
 use Rattle.txn_runner.specs.Stripes.{place_of, number_at, job_at, taken_at, stripe_jobs, IsOfStripe}
 use Rattle.txn_runner.specs.Working.{LieInTurn, HasWorked, TakesJobs, HasEnd, HaveEnded, own_records, IsCutBy, Works}
 use Rattle.txn_runner.proofs.EntryLemmas.{all-records, own_records-append, own_records-none, own_records-all, LieInOrder-append, LieInOrder-starts, LieInOrder-ends}
@@ -207,14 +207,16 @@ IsCutBy-next jobs worker k wait (Stop word) old new worked cut = (waits cut.0 cu
 IsCutBy-next jobs worker k wait (LogEnd tail total) old new worked cut = record {
   balances = cut.2.balances;
   marks = cut.2.marks;
+  before = old.books.given;
   given = cut.3;
+  uncommitted = recursion_from_All (IsUncommittedAt tail) cut.3.back cut.4;
   next = cut.0;
   rest = cut.1;
   plan = ap (λ l. l ++ cut.0 ∷ cut.1) (own_records-next jobs worker k (cut.0 ∷ cut.1) old new cut.2 worked) ∙ cut.2.plan;
-  size = cut.4;
-  too_long = cut.5;
-  tail_is = cut.6;
-  seen = cut.7;
+  size = cut.5;
+  too_long = cut.6;
+  tail_is = cut.7;
+  seen = cut.8;
 }
 
 -- a cut is a cut of a worker that may wait

@@ -1,12 +1,11 @@
 -- The accounts that a transfer holds.
-use Rattle.std.specs.Prelude.{◌≡◌, ◌≢◌, ℕ, ◌+◌, ◌<◌, List, [], ◌∷◌, length, map, All}
+use Rattle.std.specs.Prelude.{◌≡◌, ◌≢◌, ℕ, ◌+◌, ◌<◌, List, [], ◌∷◌, ◌++◌, length, map, All}
 use Rattle.std.specs.List.{AllByRecursion}
 use Rattle.log_table.specs.declared.table.Seat.{Seat}
 use Rattle.log_table.specs.declared.view.Books.{Books}
 use Rattle.log_table.specs.declared.view.Call.TheVariants.{Idle}
 use Rattle.log_table.specs.declared.view.Given.{Given}
 use Rattle.log_table.specs.declared.view.Held.{Held}
-use Rattle.log_table.specs.declared.view.Seen.{Seen}
 use Rattle.log_table.specs.declared.view.View.{View}
 use Rattle.log_table.specs.Seats.{view_of}
 use Rattle.ring_buffer.specs.Calls.{IsSameWorker, HasEntries}
@@ -69,22 +68,26 @@ back_of (Committed end) holding = (holding.balance, end)
 abbrev pub GoesBack : Release → Books → Holding → Type 0
 GoesBack release books holding = GivesBack holding.taken (back_of release holding).0 (back_of release holding).1 books
 
--- the accounts given back one after another where durable is seen there, newest first, after those that were given back before
-abbrev pub given_behind : ℕ → List Holding → List Given → List Given
-given_behind durable [] given = given
-given_behind durable (holding ∷ holdings) given = given_behind durable holdings (given_at durable holding.taken ∷ given)
+-- the accounts given back one after another by a seat with this view, newest first, after those that were given back before
+abbrev pub given_behind : View → List Holding → List Given → List Given
+given_behind view [] given = given
+given_behind view (holding ∷ holdings) given = given_behind view holdings (given_at view holding.taken ∷ given)
 
--- after one that gave these accounts back, and so took a step for each
-abbrev pub seen_back : List Holding → Seen → Seen
-seen_back back seen = record seen { steps = seen.steps + length back; given = given_behind seen.durable back seen.given }
-
--- after these accounts were given back, with those held
+-- after these accounts were given back, in a step each, with those held
 abbrev pub with_held : List Held → List Holding → View → View
-with_held held back view = record view { seen = seen_back back view.seen; books = record view.books { held = held } }
+with_held held back view = record view {
+  seen = record view.seen { steps = view.seen.steps + length back };
+  books = record view.books { held = held; given = given_behind view back view.books.given };
+}
 
--- the seat has nothing under way, and the entries and books that it had; it may have given accounts back
+-- what the seat gave back before stands behind what it gave back since
+pub record KeepsGiven (old new : View) : Type 0 where
+  pub back : List Given
+  pub given_are : new.books.given ≡ back ++ old.books.given
+
+-- the seat has nothing under way, and the entries and books that it had, but for accounts that it may have given back
 pub record KeepsBooks (old new : Seat) : Type 0 where
   pub same : IsSameWorker old new
   pub idle : (view_of new).call ≡ Idle
   pub entries : (view_of new).entries ≡ (view_of old).entries
-  pub books : (view_of new).books ≡ (view_of old).books
+  pub books : (view_of new).books ≡ record (view_of old).books { given = (view_of new).books.given }

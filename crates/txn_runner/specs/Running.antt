@@ -1,5 +1,5 @@
 -- What a seat has done of one transfer. `old` and `new` are its view before and after.
-use Rattle.std.specs.Prelude.{◌≡◌, ◌≢◌, ℕ, ◌+◌, ◌<◌, ◌≤◌, true, Bool, List, [], ◌∷◌, ◌++◌, map, All, Contains}
+use Rattle.std.specs.Prelude.{◌≡◌, ◌≢◌, ℕ, ◌+◌, ◌<◌, ◌≤◌, true, false, Bool, List, [], ◌∷◌, ◌++◌, map, All, Contains}
 use Rattle.lsn_space.specs.declared.lsn.TheConstants.{LAST}
 use Rattle.log_record.specs.declared.rec.Rec.{Rec}
 use Rattle.log_record.specs.LogList.{size_of}
@@ -42,14 +42,18 @@ pub record HasInserted (number : ℕ) (job : Job) (rest : List Rec) (old new : V
 abbrev pub account_given : Given → ℕ
 account_given given = given.account
 
--- Since the seat took its last job it gave each account of this one back, each with this balance as it was taken.
-pub record GaveBack (job : Job) (balances : ℕ → ℕ) (view : View) : Type 0 where
-  pub each : All (HasAccountsOf (map account_given view.seen.given)) job.legs
-  pub taken_as : All (λ (given : Given). balances given.account ≡ given.balance) view.seen.given
+-- The seat gave each account of this job back behind those that it gave back before, each under this number, and with this balance as it was
+-- taken.
+pub record GaveBack (number : ℕ) (job : Job) (balances : ℕ → ℕ) (before : List Given) (view : View) : Type 0 where
+  pub back : List Given
+  pub given_are : view.books.given ≡ back ++ before
+  pub own : All (λ (given : Given). given.txn ≡ number) back
+  pub taken_as : All (λ (given : Given). balances given.account ≡ given.balance) back
+  pub each : All (HasAccountsOf (map account_given back)) job.legs
 
 -- All its records were inserted, and the row tells how it ended, where its end record ends, and the durable LSN that the seat saw last,
--- which is at or above that where the seat waited. Since it took the transfer the seat gave each account of it back, and ran it on the
--- balances as they were taken; where it waited, it gave each only once it had seen durable at or above the end.
+-- which is at or above that where the seat waited. Then the seat gave each account of it back, where it saw durable at that very LSN, and
+-- it ran the transfer on the balances as they were taken.
 pub record HasRun (number : ℕ) (job : Job) (wait : Bool) (row : Row) (old new : View) : Type 0 where
   pub inserted : HasInserted number job [] old new
   pub txn : row.txn ≡ number
@@ -62,15 +66,20 @@ pub record HasRun (number : ℕ) (job : Job) (wait : Bool) (row : Row) (old new 
   pub above : old.seen.tail < row.end
   pub seen : row.seen ≡ new.seen.durable
   pub waited : wait ≡ true → row.end ≤ row.seen
-  pub given : GaveBack job inserted.balances new
-  pub durable_first : wait ≡ true → All (λ (given : Given). row.end ≤ given.durable) new.seen.given
+  pub given : GaveBack number job inserted.balances old.books.given new
+  pub at_seen : All (λ (one : Given). one.durable ≡ row.seen) given.back
+
+-- the log had no Commit of the seat's job as the account went back, and the seat had seen tail there
+abbrev pub IsUncommittedAt : ℕ → Given → Type 0
+IsUncommittedAt tail given = (given.committed ≡ false) × (given.tail ≡ tail)
 
 -- Why the transfer was cut off: the seat read a stop word that isn't 0, where records are left or the worker waits; or its next record has
--- so many units, and by the tail as the seat saw it last they do not fit in the log; each account went back then, so that its balance as it
--- was taken tells which record that is.
+-- so many units, and by the tail as the seat saw it last they do not fit in the log; each account went back then, uncommitted, at that tail,
+-- so that its balance as it was taken tells which record that is.
 abbrev pub HasCut : ℕ → Job → Bool → Cause → View → View → Type 0
 HasCut number job wait (Stop word) old new =
     (rest : List Rec) × HasInserted number job rest old new × (rest ≡ [] → wait ≡ true) × (word ≢ 0) × (new.seen.stop ≡ word)
 HasCut number job wait (LogEnd tail total) old new =
-    (next : Rec) × (rest : List Rec) × (inserted : HasInserted number job (next ∷ rest) old new) × GaveBack job inserted.balances new
+    (next : Rec) × (rest : List Rec) × (inserted : HasInserted number job (next ∷ rest) old new)
+    × (gave : GaveBack number job inserted.balances old.books.given new) × All (IsUncommittedAt tail) gave.back
     × (total ≡ size_of next) × (LAST < tail + total) × (tail ≡ new.seen.tail) × Contains new.seen.lsns tail

@@ -7,6 +7,7 @@ use Rattle.log_record.specs.LogList.{size_of}
 use Rattle.lock_core.specs.Records.{txn_of, ends}
 use Rattle.lock_core.specs.Alone.{planned_records, end_record}
 use Rattle.log_table.specs.declared.view.Entry.{Entry}
+use Rattle.log_table.specs.declared.view.Given.{Given}
 use Rattle.log_table.specs.declared.view.TakenJob.{TakenJob}
 use Rattle.log_table.specs.declared.view.View.{View}
 use Rattle.txn_script.specs.Transfers.{transfer_of}
@@ -18,7 +19,7 @@ use Rattle.txn_runner.specs.declared.cause.Worked.TheVariants.{All, Cut}
 use Rattle.txn_runner.specs.declared.jobs.Jobs.{Jobs}
 use Rattle.txn_runner.specs.declared.rows.Row.{Row}
 use Rattle.txn_runner.specs.declared.rows.Rows.{Rows}
-use Rattle.txn_runner.specs.Running.{outcome_of, LieInOrder, GaveBack}
+use Rattle.txn_runner.specs.Running.{outcome_of, LieInOrder, GaveBack, IsUncommittedAt}
 use Rattle.txn_runner.specs.Stripes.{number_at, job_at, stripe_jobs, IsOfStripe, HasStripe, IsStripeEnd}
 
 abbrev pub rows_in : Rows → List Row
@@ -76,12 +77,14 @@ HaveEnded jobs worker from to view = (j : ℕ) → from ≤ j → j < to → Has
 abbrev pub own_records : ℕ → List Entry → List Rec
 own_records number entries = filter (λ rec. txn_of rec == number) (records_of entries)
 
--- The transfer's next record, by the balances as its accounts were taken, which all went back, has so many units, and they do not fit
--- between this tail, which the seat saw last, and the last LSN.
+-- The transfer's next record, by the balances as its accounts were taken, has so many units, and they do not fit between this tail, which the
+-- seat saw last, and the last LSN. The accounts all went back under its number, uncommitted, where the seat had seen tail there.
 pub record EndsLog (jobs : Jobs) (worker j tail total : ℕ) (view : View) : Type 0 where
   pub balances : ℕ → ℕ
   pub marks : ℕ → ℕ
-  pub given : GaveBack (job_at jobs worker j) balances view
+  pub before : List Given
+  pub given : GaveBack (number_at jobs worker j) (job_at jobs worker j) balances before view
+  pub uncommitted : AllByRecursion (IsUncommittedAt tail) given.back
   pub next : Rec
   pub rest : List Rec
   pub plan : own_records (number_at jobs worker j) view.entries ++ next ∷ rest
@@ -103,8 +106,20 @@ Works jobs worker k n wait All view = (k ≤ n) × IsStripeEnd jobs worker n × 
 Works jobs worker k n wait (Cut cause) view =
     (j : ℕ) × (k ≤ j) × (n ≡ j + 1) × HaveEnded jobs worker k j view × IsCutBy jobs worker j wait cause view
 
--- The row tells of the worker's j-th transfer how it ended, by its end record among the entries, and an LSN that is durable: the one that
--- the seat saw last is at or above it.
+-- under this number the account was given back where durable was seen at this LSN
+pub record IsGivenAt (number durable : ℕ) (given : List Given) (account : ℕ) : Type 0 where
+  pub back : Given
+  pub contains : Contains given back
+  pub txn : back.txn ≡ number
+  pub account_is : back.account ≡ account
+  pub durable_is : back.durable ≡ durable
+
+-- and so was each of the leg
+abbrev pub AreGivenAt : ℕ → ℕ → List Given → ℕ × ℕ × ℕ → Type 0
+AreGivenAt number durable given leg = IsGivenAt number durable given leg.0 × IsGivenAt number durable given leg.1
+
+-- The row tells of the worker's j-th transfer how it ended, by its end record among the entries, and the durable LSN that the seat had seen
+-- when it gave back each account of that transfer, under its number; the one that the seat saw last is at or above it.
 pub record TellsEnd (jobs : Jobs) (worker j : ℕ) (wait : Bool) (view : View) (row : Row) : Type 0 where
   pub txn : row.txn ≡ number_at jobs worker j
   pub end : Entry
@@ -113,6 +128,7 @@ pub record TellsEnd (jobs : Jobs) (worker j : ℕ) (wait : Bool) (view : View) (
   pub end_is : row.end ≡ end.start + end.size
   pub seen : row.seen ≤ view.seen.durable
   pub waited : wait ≡ true → row.end ≤ row.seen
+  pub gave : AllByRecursion (AreGivenAt row.txn row.seen view.books.given) (job_at jobs worker j).legs
 
 -- rows of the worker's transfers from the j-th on, each with an end above the one before, and a durable LSN not below the one before;
 -- the first with an end above `above`, and one not below `since`

@@ -4,6 +4,7 @@ ghost use Rattle.txn_script.specs.Script.{IsAllowedJob};
 ghost use Rattle.log_table.specs.May.{MayTakeJob};
 ghost use Rattle.log_table.specs.Seats.{IsOf, view_of};
 ghost use Rattle.ring_buffer.specs.Calls.{IsReady, IsSameWorker};
+ghost use Rattle.txn_runner.specs.Holdings.{KeepsGiven};
 ghost use Rattle.txn_runner.specs.Running.{HasRun, HasCut};
 
 use crate::accounts::accounts_of;
@@ -38,6 +39,7 @@ pub(crate) fn run_job<R: Wait, Q: Relief, G: Gate>(
     ensures ready { IsReady (view_of seat.new) }
     ensures none_held { (view_of seat.new).books.held ≡ [] }
     ensures same { IsSameWorker seat.old seat.new }
+    ensures given { KeepsGiven (view_of seat.old) (view_of seat.new) }
     ensures run { IfOk result (λ row. HasRun number job.now wait row (view_of seat.old) (view_of seat.new)) }
     ensures cut { IfErr result (λ cause. HasCut number job.now wait cause (view_of seat.old) (view_of seat.new)) }
     ensures relief { Q.ready relief.new }

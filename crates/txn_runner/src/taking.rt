@@ -7,7 +7,7 @@ ghost use Rattle.log_table.specs.May.{HasBegunNothing};
 ghost use Rattle.log_table.specs.Seats.{IsOf, view_of};
 ghost use Rattle.ring_buffer.specs.Calls.{IsReady, HasEntries};
 ghost use Rattle.early_locks.specs.Transfers.{held_of};
-ghost use Rattle.txn_runner.specs.Holdings.{TakesAll, KeepsBooks};
+ghost use Rattle.txn_runner.specs.Holdings.{TakesAll, KeepsGiven, KeepsBooks};
 ghost use Rattle.txn_runner.specs.Inserts.{StopsFor};
 
 use crate::cause::Cause;
@@ -40,6 +40,7 @@ pub(crate) fn take_all<R: Wait, Q: Relief, G: Gate>(
     requires relief { Q.ready relief.old }
     ensures taken { IfOk result (λ holdings. TakesAll accounts.now holdings.items seat.old seat.new) }
     ensures kept { OnErr result (KeepsBooks seat.old seat.new) }
+    ensures given { OnErr result (KeepsGiven (view_of seat.old) (view_of seat.new)) }
     ensures stopped { IfErr result (λ cause. StopsFor cause [] (view_of seat.new)) }
     ensures relief { Q.ready relief.new }
     ensures later { Q.later relief.old relief.new }

@@ -3,6 +3,7 @@ ghost use Rattle.std.specs.Prelude.{◌≡◌, ◌<◌, ◌≤◌, ◌+◌, [], 
 ghost use Rattle.txn_script.specs.Script.{IsAllowedJob};
 ghost use Rattle.log_table.specs.Seats.{IsOf, view_of};
 ghost use Rattle.ring_buffer.specs.Calls.{IsReady, IsSameWorker};
+ghost use Rattle.txn_runner.specs.Holdings.{KeepsGiven};
 ghost use Rattle.txn_runner.specs.Working.{HasWorked, HasRoomForRows, KeepsEntries, TakesJobs, Works, taken_in, rows_in, room_of, AddsRows};
 
 use crate::cause::Worked;
@@ -42,6 +43,7 @@ pub fn work<R: Wait, Q: Relief, G: Gate>(
     ensures same { IsSameWorker seat.old seat.new }
     ensures worked { HasWorked jobs.now seat.old.worker (taken_in rows.new) (view_of seat.new) }
     ensures kept { KeepsEntries (view_of seat.old) (view_of seat.new) }
+    ensures given { KeepsGiven (view_of seat.old) (view_of seat.new) }
     ensures jobs { TakesJobs jobs.now seat.old.worker (taken_in rows.old) (taken_in rows.new) (view_of seat.old) (view_of seat.new) }
     ensures works { Works jobs.now seat.old.worker (taken_in rows.old) (taken_in rows.new) wait result (view_of seat.new) }
     ensures rows { AddsRows jobs.now seat.old.worker wait result rows.old rows.new (view_of seat.old) (view_of seat.new) }

@@ -10,5 +10,4 @@ invariant-loop g l = record {
   ready : IsReady (view_of l.seat);
   entries : (view_of l.seat).entries ≡ (view_of l.initial.seat).entries;
   books : (view_of l.seat).books ≡ (view_of l.initial.seat).books;
-  given : (view_of l.seat).seen.given ≡ (view_of l.initial.seat).seen.given;
 }

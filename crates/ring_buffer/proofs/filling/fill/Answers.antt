@@ -1,4 +1,4 @@
-use Rattle.std.proofs.Common.{arith, ◌≡◌, ◌≤◌, ◌∙◌, ℕ, List, take, length, get_or, ap, sym, length-take-le}
+use Rattle.std.proofs.Common.{arith, ◌≡◌, ◌∙◌, ℕ, List, take, length, get_or, ap, sym, length-take-le}
 use Rattle.log_record.specs.Spelling.{spelling}
 use Rattle.log_table.specs.declared.view.Entry.{Entry}
 use Rattle.ring_buffer.specs.Calls.{filled_with}

@@ -1,4 +1,4 @@
-use Rattle.std.proofs.Common.{◌≡◌, ◌∙◌, ℕ, length, ap, sym, refl, subst}
+use Rattle.std.proofs.Common.{◌∙◌, ℕ, length, ap, sym, refl, subst}
 use Rattle.log_table.specs.Books.{next_of}
 use Rattle.log_table.specs.Seats.{view_of}
 use Rattle.ring_buffer.specs.Calls.{HasFilled, filled_with}

@@ -1,10 +1,13 @@
-use Rattle.std.proofs.Common.{◌≡◌, ◌<◌, ◌∙◌, [], All, refl, ap, sym, subst}
+use Rattle.std.proofs.Common.{◌≡◌, ◌<◌, ◌∙◌, All, refl, ap, sym, subst}
 use Rattle.std.proofs.lemmas.Result.{err_from_is_err_and}
 use Rattle.log_table.specs.declared.view.Books.{Books}
+use Rattle.log_table.specs.declared.view.TakenJob.{TakenJob}
 use Rattle.log_table.specs.Seats.{view_of}
 use Rattle.txn_runner.specs.declared.cause.Cause.TheVariants.{Stop}
 use Rattle.txn_runner.specs.Holdings.{given_behind}
-use Rattle.txn_runner.proofs.Composing.{accounts-known, holds-job, still-known, gave-back, still-held, took, still-taken, keeps-held, keeps-then, has-inserted, still-stops, has-cut, has-stopped, cut-early, has-run}
+use Rattle.txn_runner.proofs.Composing.{accounts-known, holds-job, still-known, gave-back, still-held, took, still-taken, keeps-held, keeps-then, has-inserted, still-stops, uncommitted-at, has-cut, has-stopped, cut-early, has-run}
+use Rattle.txn_runner.proofs.Held.{given-held}
+use Rattle.txn_runner.proofs.GivenLemmas.{given-same, given-trans}
 use Rattle.txn_runner.proofs.job.run_job.Goals as goal
 
 pub returns-then-word-ne0-clause-cut : goal.returns-then-word-ne0-clause-cut
@@ -48,15 +51,18 @@ returns-in-Err-clause-cut g c =
     let taken = still-taken _ _ _ _ (view_of c.take_all.new.seat) _ job all.entries_are all.same.grows all.books_are refl refl refl in
     let added = c.in-Err.ensures.added in
     let cut = c.in-Err.ensures.cut in
-    let none : (view_of c.insert_transfer.new.seat).seen.given ≡ [] =
-    added.1.entries.given_are ∙ all.given_are ∙ ap (λ m. m.0.seen.given) c.take_job-word.ensures.view.me in
-    let durable = (view_of c.insert_transfer.new.seat).seen.durable in
+    let from = view_of c.insert_transfer.new.seat in
+    let before : from.books.given ≡ (view_of c.args.seat.now).books.given =
+    ap (λ (books : Books). books.given) added.1.entries.books_are ∙ ap (λ (books : Books). books.given) all.books_are ∙ ap (λ m. m.0.books.given) c.take_job-word.ensures.view.me in
+    let number : from.books.last.number ≡ c.args.number =
+    ap (λ (books : Books). books.last.number) added.1.entries.books_are ∙ ap (λ (last : TakenJob). last.number) taken.last in
     let paid = c.insert_transfer.new.holdings.items in
     let list = c.accounts_of-accounts.ensures in
     let gave = gave-back _ _ _ _ _ _ _ _ c.as_slice.ensures.value list.rising list.only c.requires.may.allowed c.in_ok-holdings.ensures.taken
-    paid c.in-Err.ensures.taken (view_of c.give_all.new.seat) durable list.all
-    (ap (λ m. m.0.seen.given) c.give_all.ensures.me ∙ ap (given_behind durable paid) none) in
-    has-cut _ _ _ _ cut.rest _ _ (has-inserted _ _ _ _ _ _ _ _ taken added.1 cut.left (keeps-held _ _ _ _ c.give_all.ensures)) gave
+    paid c.in-Err.ensures.taken from (view_of c.give_all.new.seat) _ list.all number
+    (ap (λ m. m.0.books.given) c.give_all.ensures.me ∙ ap (given_behind from paid) before) in
+    has-cut _ _ _ _ cut.rest _ _ (has-inserted _ _ _ _ _ _ _ _ taken added.1 cut.left (keeps-held _ _ _ _ c.give_all.ensures)) gave.0
+    (uncommitted-at from (view_of c.give_all.new.seat) _ gave.1 (sym (ap (λ m. m.0.seen.tail) c.give_all.ensures.me)) cut.uncommitted)
     cut.some
     (still-stops _ _ _ _ _ _ c.give_all.ensures cut.stops)
 
@@ -93,13 +99,41 @@ returns-clause-run g c =
     let keeps = keeps-then _ _ _ c.see_durable-seen.ensures.kept (keeps-held _ _ _ _ c.give_all-2.ensures) in
     let seen : c.in_ok-seen.seen ≡ (view_of c.give_all-2.new.seat).seen.durable =
     c.in_ok-seen.ensures.seen ∙ sym (ap (λ m. m.0.seen.durable) c.give_all-2.ensures.me) in
-    let none : (view_of c.see_durable-seen.new.seat).seen.given ≡ [] =
-    c.see_durable-seen.ensures.kept.given_are ∙ c.in-Ok.ensures.ended.adds.entries.given_are ∙ all.given_are
-    ∙ ap (λ m. m.0.seen.given) c.take_job-word.ensures.view.me in
+    let from = view_of c.see_durable-seen.new.seat in
+    let kept = c.see_durable-seen.ensures.kept.books_are ∙ c.in-Ok.ensures.ended.adds.entries.books_are in
+    let before : from.books.given ≡ (view_of c.args.seat.now).books.given =
+    ap (λ (books : Books). books.given) kept ∙ ap (λ (books : Books). books.given) all.books_are ∙ ap (λ m. m.0.books.given) c.take_job-word.ensures.view.me in
+    let number : from.books.last.number ≡ c.args.number =
+    ap (λ (books : Books). books.last.number) kept ∙ ap (λ (last : TakenJob). last.number) taken.last in
     let paid = c.insert_transfer.new.holdings.items in
-    let given : (view_of c.give_all-2.new.seat).seen.given ≡ given_behind c.in_ok-seen.seen paid [] =
-    ap (λ m. m.0.seen.given) c.give_all-2.ensures.me ∙ (λ i. given_behind (sym c.in_ok-seen.ensures.seen i) paid (none i)) in
     let list = c.accounts_of-accounts.ensures in
-    has-run _ _ _ _ _ _ _ _ _ _ taken c.in-Ok.ensures.ended keeps seen c.in_ok-seen.ensures.waited paid given
-    (gave-back _ _ _ _ _ _ _ _ c.as_slice.ensures.value list.rising list.only c.requires.may.allowed c.in_ok-holdings.ensures.taken
-    paid c.in-Ok.ensures.taken (view_of c.give_all-2.new.seat) c.in_ok-seen.seen list.all given)
+    let gave = gave-back _ _ _ _ _ _ _ _ c.as_slice.ensures.value list.rising list.only c.requires.may.allowed c.in_ok-holdings.ensures.taken
+    paid c.in-Ok.ensures.taken from (view_of c.give_all-2.new.seat) _ list.all number
+    (ap (λ m. m.0.books.given) c.give_all-2.ensures.me ∙ ap (given_behind from paid) before) in
+    has-run _ _ _ _ _ _ _ _ _ _ taken c.in-Ok.ensures.ended keeps seen c.in_ok-seen.ensures.waited gave.0
+    (λ k d within. (gave.1 k d within).durable ∙ sym c.in_ok-seen.ensures.seen)
+
+pub returns-then-word-ne0-clause-given : goal.returns-then-word-ne0-clause-given
+returns-then-word-ne0-clause-given g c = given-same _ _ (ap (λ m. m.0.books.given) c.take_job-word.ensures.view.me)
+
+pub returns-in_err-holdings-clause-given : goal.returns-in_err-holdings-clause-given
+returns-in_err-holdings-clause-given g c =
+    given-trans _ _ _ (given-same _ _ (ap (λ m. m.0.books.given) c.take_job-word.ensures.view.me)) c.in_err-holdings.ensures.given
+
+pub returns-in-Err-clause-given : goal.returns-in-Err-clause-given
+returns-in-Err-clause-given g c = given-trans _ _ _
+    (given-same _ _ (ap (λ (books : Books). books.given) c.in-Err.ensures.added.1.entries.books_are ∙ ap (λ (books : Books). books.given) c.in_ok-holdings.ensures.taken.entries.books_are
+    ∙ ap (λ m. m.0.books.given) c.take_job-word.ensures.view.me))
+    (given-held _ _ _ _ c.give_all.ensures)
+
+pub returns-in_err-seen-clause-given : goal.returns-in_err-seen-clause-given
+returns-in_err-seen-clause-given g c = given-trans _ _ _
+    (given-same _ _ (ap (λ (books : Books). books.given) (c.see_durable-seen.ensures.kept.books_are ∙ c.in-Ok.ensures.ended.adds.entries.books_are)
+    ∙ ap (λ (books : Books). books.given) c.in_ok-holdings.ensures.taken.entries.books_are ∙ ap (λ m. m.0.books.given) c.take_job-word.ensures.view.me))
+    (given-held _ _ _ _ c.give_all-2.ensures)
+
+pub returns-clause-given : goal.returns-clause-given
+returns-clause-given g c = given-trans _ _ _
+    (given-same _ _ (ap (λ (books : Books). books.given) (c.see_durable-seen.ensures.kept.books_are ∙ c.in-Ok.ensures.ended.adds.entries.books_are)
+    ∙ ap (λ (books : Books). books.given) c.in_ok-holdings.ensures.taken.entries.books_are ∙ ap (λ m. m.0.books.given) c.take_job-word.ensures.view.me))
+    (given-held _ _ _ _ c.give_all-2.ensures)

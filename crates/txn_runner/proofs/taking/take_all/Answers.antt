@@ -5,7 +5,9 @@ use Rattle.std.proofs.lemmas.List.{take_more}
 use Rattle.std.proofs.lemmas.List.Elements.{All-take}
 use Rattle.txn_runner.proofs.Backing.{notes-uncommitted, all-unchanged}
 use Rattle.txn_runner.proofs.Gaining.{all-known, holds-all, takes-more}
+use Rattle.txn_runner.proofs.Held.{given-held}
 use Rattle.txn_runner.proofs.Listing.{rising-take}
+use Rattle.txn_runner.proofs.GivenLemmas.{given-same, given-trans}
 use Rattle.txn_runner.proofs.taking.take_all.Goals as goal
 
 pub give_all-requires-clause-holds : goal.give_all-requires-clause-holds
@@ -19,6 +21,11 @@ pub give_all-requires-clause-values : goal.give_all-requires-clause-values
 give_all-requires-clause-values g c = all-unchanged _ (
     ap (λ (books : Books). has_commit (recs_of books.placed)) (c.in-Err.ensures.kept.books_are ∙ c.accounts.invariant.0.entries.books_are)
     ∙ notes-uncommitted _ c.requires.begins.only_note) _
+
+pub returns-in-Err-clause-given : goal.returns-in-Err-clause-given
+returns-in-Err-clause-given g c = given-trans _ _ _
+    (given-same _ _ (ap (λ (books : Books). books.given) (c.in-Err.ensures.kept.books_are ∙ c.accounts.invariant.0.entries.books_are)))
+    (given-held _ _ _ _ c.give_all.ensures)
 
 pub accounts-preserved : goal.accounts-preserved
 accounts-preserved g c =

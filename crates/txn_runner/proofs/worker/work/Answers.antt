@@ -41,7 +41,7 @@ stripe-preserved g c = record {
       (view_of c.args.seat.now) (view_of c.stripe.seat) (view_of c.run_job.new.seat) c.stripe.invariant.progress c.in-Some.number c.fetch.new.job
       (next-is g (goal.at.stripe-preserved g c).In-Some)
       record { tail = c.stripe.invariant.same.grows; durable = c.stripe.invariant.same.durable }
-      record { tail = c.in-Ok.ensures.same.grows; durable = c.in-Ok.ensures.same.durable }
+      record { tail = c.in-Ok.ensures.same.grows; durable = c.in-Ok.ensures.same.durable } c.in-Ok.ensures.given
       (c.push.ensures.room ∙ ap room_of c.take.ensures) (c.push.ensures.taken ∙ ap taken_in c.take.ensures) c.in-Ok.row c.in-Ok.ensures.run
       (c.push.ensures.rows ∙ ap (λ rows. rows_in rows ++ c.in-Ok.row ∷ []) c.take.ensures);
   relief = c.in-Ok.ensures.relief;
@@ -55,7 +55,7 @@ stopped g c = Progress-cut c.args.jobs.now c.args.seat.now.worker c.args.wait c.
     (view_of c.args.seat.now) (view_of c.stripe.seat) (view_of c.run_job.new.seat) c.stripe.invariant.progress c.in-Some.number c.fetch.new.job
     (next-is g (goal.at.returns-in-Err-clause-worked g c).In-Some)
     record { tail = c.stripe.invariant.same.grows; durable = c.stripe.invariant.same.durable }
-    record { tail = c.in-Err.ensures.same.grows; durable = c.in-Err.ensures.same.durable }
+    record { tail = c.in-Err.ensures.same.grows; durable = c.in-Err.ensures.same.durable } c.in-Err.ensures.given
     (ap room_of c.take.ensures) (ap taken_in c.take.ensures) c.in-Err.cause c.in-Err.ensures.cut (ap rows_in c.take.ensures)
 
 pub returns-in-Err-clause-worked : goal.returns-in-Err-clause-worked
@@ -63,6 +63,9 @@ returns-in-Err-clause-worked g c = (stopped g c).worked
 
 pub returns-in-Err-clause-kept : goal.returns-in-Err-clause-kept
 returns-in-Err-clause-kept g c = (stopped g c).kept
+
+pub returns-in-Err-clause-given : goal.returns-in-Err-clause-given
+returns-in-Err-clause-given g c = (stopped g c).given
 
 pub returns-in-Err-clause-jobs : goal.returns-in-Err-clause-jobs
 returns-in-Err-clause-jobs g c = (stopped g c).takes
