@@ -80,8 +80,8 @@ pub record HasReserved (range : Range) (units : List ℕ) (view : View) : Type 0
   pub size : range.size ≡ length (spelling rec)
   pub units_are : units ≡ spelling rec
 
--- the range is reserved for the next record of the seat's last job, behind what the seat had seen, and none of it is filled; no account
--- went back
+-- The range is reserved for the next record of the seat's last job, behind what the seat had seen, and none of it is filled. No account
+-- went back: the books are those of before with this record placed.
 pub record PlacesNext (old new : View) (n : ℕ) (range : Range) : Type 0 where
   pub size : range.size ≡ n
   pub behind : old.seen.tail ≤ range.start
@@ -89,7 +89,6 @@ pub record PlacesNext (old new : View) (n : ℕ) (range : Range) : Type 0 where
   pub call : new.call ≡ Filling (empty_entry range.start n (next_of old.books))
   pub entries : new.entries ≡ old.entries
   pub books : new.books ≡ placing (range.start + n) (next_of old.books) old.books
-  pub given : new.seen.given ≡ old.seen.given
 
 -- the entry of the record whole
 abbrev pub entry_of : ℕ → Rec → Entry
@@ -126,13 +125,12 @@ pub record IsSameWorker (old new : Seat) : Type 0 where
   pub durable : (view_of old).seen.durable ≤ (view_of new).seen.durable
   pub steps : (view_of old).seen.steps ≤ (view_of new).seen.steps
 
--- the seat has nothing under way, these entries and these books, and gave no account back
+-- the seat has nothing under way, these entries and these books, which tell the accounts that it gave back
 pub record HasEntries (old new : Seat) (entries : List Entry) (books : Books) : Type 0 where
   pub same : IsSameWorker old new
   pub idle : (view_of new).call ≡ Idle
   pub entries_are : (view_of new).entries ≡ entries
   pub books_are : (view_of new).books ≡ books
-  pub given_are : (view_of new).seen.given ≡ (view_of old).seen.given
 
 -- the refusal is by what the seat looked at last, in this call; the tail that it names is an LSN that the seat saw
 pub record IsRefusedNow (old new : Seat) (ring n : ℕ) (refused : Refused) : Type 0 where
