@@ -2,7 +2,7 @@ use Rattle.std.proofs.Common.{arith, ◌≡◌, ◌∙◌, [], ◌∷◌, ap, sy
 use Rattle.lock_core.specs.Transactions.{recs_of, has_commit}
 use Rattle.log_table.specs.Books.{giving}
 use Rattle.log_table.specs.Seats.{view_of}
-use Rattle.log_table.specs.Views.{gave_account}
+use Rattle.log_table.specs.AccountViews.{gave_account}
 use Rattle.early_locks.specs.Locks.{HoldsTaken}
 use Rattle.early_locks.specs.Transfers.{given_at, IsNotMade}
 use Rattle.early_locks.proofs.Transferring.{holds-other, none-left, gives-both, not-made-back}
