@@ -231,6 +231,7 @@ module _ (n : ℕ) (full : 4 + 2 * n ≤ LAST) (near : LAST < 4 + 2 * n + 2) whe
       };
       accounts = record { count = refl; range = range; balance = λ account inside. refl; last = λ account inside. refl };
     };
+    given = λ once. tt;
   }
     where
       range : (account : ℕ) → account < 2 → IsBalance (row ((100, 0) ∷ (0, 0) ∷ []) account).0
