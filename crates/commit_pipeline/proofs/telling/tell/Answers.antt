@@ -17,7 +17,7 @@ records-init g c = record {
     Appends-nil (g.K.Sink.held_bytes c.args.sink.now),
     λ records spells. told-none c.args.voice c.args.from c.args.batch.now.units _ records spells,
   );
-  later = omega arith;
+  no_fault = refl;
 }
 
 pub end_at-end-requires : goal.end_at-end-requires
@@ -46,7 +46,7 @@ records-preserved-in_default g c =
             told-still c.args.voice c.args.from c.records.at c.args.batch.now.units _ _ _ _ records
             (before.2 records spells) spells.spellable seen.0 seen.1 c.from.result end size refl silent,
       );
-      later = c.records.invariant.later;
+      no_fault = c.records.invariant.no_fault;
     }
 
 pub returns-in_err-lines-clause-front : goal.returns-in_err-lines-clause-front
@@ -101,7 +101,7 @@ records-preserved g c =
             c.from.result c.new.result c.count-in-records.new.self size (omega (arith, c.new.ensures, c.units.ensures))
             c.count-in-records.ensures.done c.count-in-records.ensures.refused c.in_ok-lines.field-0 line.1,
       );
-      later = omega (arith, c.records.invariant.later, c.in_ok-lines.ensures.cause.later);
+      no_fault = c.in_ok-lines.ensures.cause.fine ∙ c.records.invariant.no_fault;
     }
 
 pub returns-clause-told : goal.returns-clause-told

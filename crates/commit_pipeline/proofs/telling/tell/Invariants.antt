@@ -8,12 +8,12 @@ use Rattle.commit_pipeline.proofs.telling.tell.Given as goal
 abbrev pub invariant-records : goal.invariant-records
 invariant-records g l = record {
   same : l.batch ≡ l.initial.batch;
+  no_fault : g.K.Sink.faults l.sink ≡ g.K.Sink.faults l.fn.sink;
   within : l.at ≤ length l.batch.units;
   lines_few : l.lines ≤ l.at;
   few : l.tally.done + l.tally.refused ≤ (l.fn.tally.done + l.fn.tally.refused) + l.at;
   told : (text : List ℕ) × Appends (g.K.Sink.held_bytes l.fn.sink) (g.K.Sink.held_bytes l.sink) text
       × ((records : List Rec) → AreUnitsOf l.batch.units records → ToldUpTo l.voice l.from l.at l.batch.units text l.lines l.fn.tally l.tally records);
-  later : g.K.Sink.faults l.fn.sink ≤ g.K.Sink.faults l.sink;
 }
 
 abbrev pub decreases-records : goal.decreases-records
