@@ -80,6 +80,7 @@ fn make_ready<R, D: LogDisk>(
     ensures range { IfErr result IsBeforeDemo }
     ensures honest { D.honest disk.old ↔ D.honest disk.new }
     ensures disk { IsErrOf result Detail.Disk → Rose (D.faults disk.old) (D.faults disk.new) }
+    ensures no_fault { (IsErrOf result Detail.Disk → ⊥) → D.faults disk.new ≡ D.faults disk.old }
     ensures later { D.faults disk.old ≤ D.faults disk.new }
 {
     finds_none(disk, log)?;

@@ -39,6 +39,7 @@ pub fn finds_none<D: LogDisk>(disk: &mut D, log: &Word) -> Result<(), Detail>
     ensures count { D.honest disk.old → D.written_count disk.new ≤ D.written_count disk.old + 1 }
     ensures honest { D.honest disk.old ↔ D.honest disk.new }
     ensures disk { IsErrOf result Detail.Disk → Rose (D.faults disk.old) (D.faults disk.new) }
+    ensures no_fault { (IsErrOf result Detail.Disk → ⊥) → D.faults disk.new ≡ D.faults disk.old }
     ensures later { D.faults disk.old ≤ D.faults disk.new }
 {
     match finds_log(disk, log) {

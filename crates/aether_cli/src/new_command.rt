@@ -39,6 +39,7 @@ pub fn new_command<D: LogDisk, S: Source, K: Sink>(
     ensures read { result ≡ Detail.Read → Rose (S.faults script.old) (S.faults script.new) }
     ensures write { result ≡ Detail.Write → Rose (K.faults out.old) (K.faults out.new) }
     ensures disk { result ≡ Detail.Disk → Rose (D.faults disk.old) (D.faults disk.new) }
+    ensures no_fault { (result ≡ Detail.Disk → ⊥) → D.faults disk.new ≡ D.faults disk.old }
     ensures later { (S.faults script.old ≤ S.faults script.new) × (K.faults out.old ≤ K.faults out.new) }
     ensures later_disk { D.faults disk.old ≤ D.faults disk.new }
 {
@@ -73,6 +74,7 @@ fn make_log<D: LogDisk, S: Source>(
     ensures honest { D.honest disk.old ↔ D.honest disk.new }
     ensures read { IsErrOf result Detail.Read → Rose (S.faults script.old) (S.faults script.new) }
     ensures disk { IsErrOf result Detail.Disk → Rose (D.faults disk.old) (D.faults disk.new) }
+    ensures no_fault { (IsErrOf result Detail.Disk → ⊥) → D.faults disk.new ≡ D.faults disk.old }
     ensures later { S.faults script.old ≤ S.faults script.new }
     ensures later_disk { D.faults disk.old ≤ D.faults disk.new }
 {

@@ -21,6 +21,7 @@ pub fn open_log<D: LogDisk>(alloc: Global, log: &Word, disk: &mut D) -> Result<R
     ensures count { D.honest disk.old → D.written_count disk.new ≤ D.written_count disk.old + 1 }
     ensures honest { D.honest disk.old ↔ D.honest disk.new }
     ensures disk { IsErrOf result Detail.Disk → Rose (D.faults disk.old) (D.faults disk.new) }
+    ensures no_fault { (IsErrOf result Detail.Disk → ⊥) → D.faults disk.new ≡ D.faults disk.old }
     ensures later { D.faults disk.old ≤ D.faults disk.new }
 {
     let bytes = match image_of(alloc, log, disk) {
@@ -44,6 +45,7 @@ fn image_of<D: LogDisk>(alloc: Global, log: &Word, disk: &mut D) -> Result<Vec<u
     ensures count { D.honest disk.old → D.written_count disk.new ≤ D.written_count disk.old + 1 }
     ensures honest { D.honest disk.old ↔ D.honest disk.new }
     ensures fault { IsErrOf result OpenFault.DiskFault → Rose (D.faults disk.old) (D.faults disk.new) }
+    ensures no_fault { (IsErrOf result OpenFault.DiskFault → ⊥) → D.faults disk.new ≡ D.faults disk.old }
     ensures later { D.faults disk.old ≤ D.faults disk.new }
 {
     disk.attach(log, false)?;

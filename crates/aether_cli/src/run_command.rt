@@ -83,6 +83,7 @@ fn make_ready<R, D: LogDisk, S: Source>(
     ensures honest { D.honest disk.old ↔ D.honest disk.new }
     ensures read { IsErrOf result Detail.Read → Rose (S.faults script.old) (S.faults script.new) }
     ensures disk { IsErrOf result Detail.Disk → Rose (D.faults disk.old) (D.faults disk.new) }
+    ensures no_fault { (IsErrOf result Detail.Disk → ⊥) → D.faults disk.new ≡ D.faults disk.old }
     ensures later { S.faults script.old ≤ S.faults script.new }
     ensures later_disk { D.faults disk.old ≤ D.faults disk.new }
 {

@@ -1,6 +1,7 @@
 use Rattle.std.proofs.Common.{◌≡◌, ◌<◌, ◌∷◌, ◌++◌, [], get_or, take, ap, sym, refl, ◌∙◌}
 use Rattle.lock_core.specs.Transactions.{recs_of, has_commit}
 use Rattle.log_table.specs.declared.view.Books.{Books}
+use Rattle.log_table.specs.Seats.{view_of}
 use Rattle.std.proofs.lemmas.List.{take_more}
 use Rattle.std.proofs.lemmas.List.Elements.{All-take}
 use Rattle.txn_runner.proofs.Backing.{notes-uncommitted, all-unchanged}
@@ -18,7 +19,7 @@ give_all-requires-clause-known g c = all-known _ _ _ c.accounts.invariant.0.acco
     (All-take (λ account. account < c.args.table.now.accounts) _ _ c.requires.known)
 
 pub give_all-requires-clause-values : goal.give_all-requires-clause-values
-give_all-requires-clause-values g c = all-unchanged _ (
+give_all-requires-clause-values g c = all-unchanged (view_of c.take_one.new.seat).books (
     ap (λ (books : Books). has_commit (recs_of books.placed)) (c.in-Err.ensures.kept.books_are ∙ c.accounts.invariant.0.entries.books_are)
     ∙ notes-uncommitted _ c.requires.begins.only_note) _
 
