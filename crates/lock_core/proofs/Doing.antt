@@ -362,7 +362,7 @@ module _ (base : BaseState) (first : ℕ) (jobs : List PlainTransfer) (room : Ha
       → (task : Task) → Contains (numbered first jobs) task → IsAllowedTransfer base.accounts task.job → IsRunWhole base h task → IsDoneIn h task
   run-done h serial task one allowed run =
       let fits = fits-before run.front task (serial-before base (numbered first jobs) h task run serial) one (cut-before base h task run) in
-      let done = legs-done base.accounts 0 task.job.legs (balance_of base run.front) allowed.legs fits in
+      let done = legs-done base.accounts 0 task.job.legs (balance_of base run.front) allowed.legs.each fits in
       ap (λ records. in_order (all_without_prev records) []) (own_records_of-run base h task run) ∙ run.records ∙ ap (outcome_records task.number task.job) done
 
   each_contained : AllByRecursion (Contains (numbered first jobs)) (numbered first jobs)

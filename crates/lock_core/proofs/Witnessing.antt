@@ -66,9 +66,11 @@ transfer-apart =
 
 pub transfer-allowed : IsAllowedTransfer (genesis_of (history genesis_log)).accounts transfer
 transfer-allowed = record {
-  some = omega arith;
-  few = omega arith;
-  legs = (record { payer = omega arith; payee = omega arith; two = λ same. other (sym same); some = omega arith; most = omega arith }, tt);
+  legs = record {
+    some = omega arith;
+    few = omega arith;
+    each = (record { payer = omega arith; payee = omega arith; two = λ same. other (sym same); some = omega arith; most = omega arith }, tt);
+  };
   note = inl refl;
 }
 

@@ -19,11 +19,15 @@ pub record IsAllowedLeg (accounts : ℕ) (leg : ℕ × ℕ × ℕ) : Type 0 wher
   pub some : 1 ≤ leg.2
   pub most : leg.2 ≤ MOST_BALANCE
 
+-- 1 to 8 legs that a log of so many accounts allows
+pub record AreAllowedLegs (accounts : ℕ) (legs : List (ℕ × ℕ × ℕ)) : Type 0 where
+  pub some : 1 ≤ length legs
+  pub few : length legs ≤ MOST_LEGS
+  pub each : AllByRecursion (IsAllowedLeg accounts) legs
+
 -- a transfer that a log of so many accounts allows
 pub record IsAllowedTransfer (accounts : ℕ) (job : PlainTransfer) : Type 0 where
-  pub some : 1 ≤ length job.legs
-  pub few : length job.legs ≤ MOST_LEGS
-  pub legs : AllByRecursion (IsAllowedLeg accounts) job.legs
+  pub legs : AreAllowedLegs accounts job.legs
   pub note : (job.note ≡ []) ⊎ IsNoteText job.note
 
 -- Done; or the number of the first leg, from 1, at which the payer has too little, or else the payee would have too much

@@ -204,12 +204,13 @@ pub fn genesis_log_is_lawful()
     ensures spellable { AllByRecursion (λ entry. IsSpellable entry.rec) (history genesis_log) }
 {}
 
-/// A witness that the premises of the laws of serial lists, and of the law of appending, can be met: after that log, 30 from
-/// account 0 to account 1.
+/// A witness that the premises of the laws of serial lists, of appending, and of what keeps a list sound can be met: after that
+/// log, 30 from account 0 to account 1.
 pub fn one_transfer_is_serial()
     ensures lawful { IsLawfulAfter (base_state_of (history genesis_log)) transfer_history }
     ensures serial { IsSerialAfter (base_state_of (history genesis_log)) (numbered 1 (transfer ∷ [])) transfer_history }
     ensures apart { ShareNoTransaction transfer_history (history genesis_log) }
+    ensures spellable { AllByRecursion (λ entry. IsSpellable entry.rec) (transfer_history ++ history genesis_log) }
     ensures allowed { IsAllowedTransfer (genesis_of (history genesis_log)).accounts transfer }
     ensures room { HasRoomFor (base_state_of (history genesis_log)) (transfer ∷ []) }
 {}

@@ -38,9 +38,11 @@ given-most account (suc n) seed =
 
 transfer-allowed : (x : ℕ) → IsAllowedTransfer 64 (transfer_of (job_from x))
 transfer-allowed x = record {
-  some = omega arith;
-  few = omega arith;
-  legs = (record { payer = omega arith; payee = omega arith; two = λ same. absurd (omega (arith, same)); some = omega arith; most = omega arith }, tt);
+  legs = record {
+    some = omega arith;
+    few = omega arith;
+    each = (record { payer = omega arith; payee = omega arith; two = λ same. absurd (omega (arith, same)); some = omega arith; most = omega arith }, tt);
+  };
   note = inl refl;
 }
 

@@ -1,10 +1,9 @@
 -- The script language: each line is empty or a transfer.
-use Rattle.std.specs.Prelude.{◌≡◌, ◌≤◌, ◌==◌, ℕ, ◌+◌, Option, Some, None, IfSome, List, [], ◌∷◌, ◌++◌, ◌⊎◌, codes, length, map, filter, not, All}
-use Rattle.std.specs.List.{flat_map, AllByRecursion}
+use Rattle.std.specs.Prelude.{◌≡◌, ◌==◌, ℕ, ◌+◌, Option, Some, None, IfSome, List, [], ◌∷◌, ◌++◌, ◌⊎◌, codes, length, map, filter, not, All}
+use Rattle.std.specs.List.{flat_map}
 use Rattle.lsn_space.specs.Number.{number_text}
-use Rattle.log_record.specs.declared.limits.TheConstants.{MOST_LEGS}
 use Rattle.log_record.specs.Spelling.{IsNoteText}
-pub use Rattle.lock_core.specs.Alone.{IsAllowedLeg}
+pub use Rattle.lock_core.specs.Alone.{IsAllowedLeg, AreAllowedLegs}
 use Rattle.txn_script.specs.Lines.{lines}
 use Rattle.txn_script.specs.declared.job.Job.{Job}
 use Rattle.txn_script.specs.declared.pay.TheConstants.{SPACE}
@@ -31,13 +30,7 @@ note_text (Some text) = codes " : " ++ text
 abbrev pub job_text : Job → List ℕ
 job_text job = codes "pay" ++ legs_text job.legs ++ note_text job.note
 
--- 1 to 8 legs that a log of so many accounts allows
-pub record AreAllowedLegs (accounts : ℕ) (legs : List (ℕ × ℕ × ℕ)) : Type 0 where
-  pub some : 1 ≤ length legs
-  pub few : length legs ≤ MOST_LEGS
-  pub each : AllByRecursion (IsAllowedLeg accounts) legs
-
--- a transfer that a log of so many accounts allows
+-- a job that a log of so many accounts allows; so is then the transfer that it is (`allowed_jobs`)
 pub record IsAllowedJob (accounts : ℕ) (job : Job) : Type 0 where
   pub legs : AreAllowedLegs accounts job.legs
   pub note : IfSome job.note IsNoteText

@@ -22,7 +22,7 @@ pub use generator::{
     generated_jobs_laws, make,
 };
 pub use job::{Job, Legs, Remark};
-pub use laws::format_numbers;
+pub use laws::{allowed_jobs, format_numbers};
 pub use lines::written_lines;
 pub use numerals::number;
 pub use opening::{balances, balances_one_reading};

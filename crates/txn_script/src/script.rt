@@ -44,9 +44,10 @@ impl Script {
         }
     }
 
-    /// Adds a transfer behind the others.
+    /// Adds a transfer behind the others. Where there is no memory for it, these stay.
     pub fn push(&mut self, job: Job) -> Result<(), NoMemory>
-        ensures { IfOk result (λ _. self.new ≡ self.old ++ job ∷ []) }
+        ensures added { IfOk result (λ _. self.new ≡ self.old ++ job ∷ []) }
+        ensures kept { OnErr result (self.new ≡ self.old) }
     {
         if let Some(leg) = job.single() {
             return put(&mut self.stored, Stored::Single(leg));

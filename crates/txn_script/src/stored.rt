@@ -1,5 +1,5 @@
 //! How a script keeps its transfers.
-ghost use Rattle.std.specs.Prelude.{◌≡◌, ◌∷◌, [], None, IfSome};
+ghost use Rattle.std.specs.Prelude.{◌≡◌, ◌∷◌, [], ℕ, None, IfSome, IfNone};
 ghost use Rattle.txn_script.specs.declared.job.Job.{Job};
 
 use crate::job::Job;
@@ -16,7 +16,8 @@ pub(crate) enum Stored {
 impl Job {
     /// The leg of a transfer that has no other, and no note.
     pub(crate) fn single(&self) -> Option<(u32, u32, u32)>
-        ensures { IfSome result (λ leg. self.now ≡ record { legs = leg ∷ []; note = None }) }
+        ensures some { IfSome result (λ leg. self.now ≡ record { legs = leg ∷ []; note = None }) }
+        ensures none { IfNone result ((leg : ℕ × ℕ × ℕ) → self.now ≡ record { legs = leg ∷ []; note = None } → ⊥) }
     {
         match (self.legs.as_slice(), &self.note) {
             ([leg], None) => Some(*leg),

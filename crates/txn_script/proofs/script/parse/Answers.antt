@@ -11,7 +11,7 @@ lines-preserved-in_ok-push c =
     let before = c.lines.invariant in
     let line = c.in-Some.line.now in
     let read = c.in-Some-read_job.ensures in
-    let grown = c.in_ok-push.ensures in
+    let grown = c.in_ok-push.ensures.added in
     record {
       before = before.before ++ line ∷ [];
       each = All-push (IsScriptLine c.args.accounts) before.before line before.each (inr (c.in-Some-read_job.job, read.allowed, read.text));
