@@ -198,6 +198,7 @@ settled = record {
     serial = serial-partly (base_state_of (history genesis_log)) (numbered 1 (transfer ∷ [])) transfer_history transfer-serial;
     accounts = rows-kept;
   });
+  given = λ once. tt;
 }
 
 gathered : IsGathered 9 view

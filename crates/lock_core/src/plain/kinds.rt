@@ -15,7 +15,7 @@ use crate::reason::Why;
 use crate::settling::settle;
 use crate::update::{Change, MOST_UPDATES};
 use arrayvec::ArrayVec;
-use log_record::{Placed, MOST_ACCOUNTS, Rec, Text};
+use log_record::{MOST_ACCOUNTS, Placed, Rec, Text};
 use lsn_space::{Balances, Lsn};
 
 /// Tests a Genesis, and keeps its account.
