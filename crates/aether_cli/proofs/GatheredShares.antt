@@ -17,7 +17,7 @@ use Rattle.log_table.specs.declared.view.View.{View}
 use Rattle.log_table.specs.Closing.{IsGathered}
 use Rattle.log_table.specs.Log.{IsFull, IsSpelled}
 use Rattle.log_table.specs.Sound.{HasReadStop}
-use Rattle.log_table.specs.Views.{takes_in}
+use Rattle.log_table.specs.CrewViews.{takes_in}
 use Rattle.commit_pipeline.proofs.ToldLemmas.{size_of-some}
 use Rattle.txn_runner.specs.declared.cause.Cause.{Cause}
 use Rattle.txn_runner.specs.declared.cause.Cause.TheVariants.{Stop, LogEnd}

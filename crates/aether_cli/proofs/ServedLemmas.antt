@@ -1,7 +1,7 @@
 -- What a worker did stands once it has ended.
 use Rattle.std.proofs.Common.{◌≡◌, ℕ, Bool, true, ◌++◌, [], append-nil, sym, ap, subst, ◌∙◌}
 use Rattle.log_table.specs.declared.view.View.{View}
-use Rattle.log_table.specs.Views.{retired}
+use Rattle.log_table.specs.CrewViews.{retired}
 use Rattle.txn_runner.specs.declared.cause.Cause.{Cause}
 use Rattle.txn_runner.specs.declared.cause.Cause.TheVariants.{Stop, LogEnd}
 use Rattle.txn_runner.specs.declared.cause.Worked.{Worked}

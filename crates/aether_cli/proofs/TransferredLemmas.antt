@@ -19,7 +19,9 @@ use Rattle.log_table.specs.May.{MayClose}
 use Rattle.log_table.specs.Seats.{view_of}
 use Rattle.log_table.specs.Sends.{IsDrained}
 use Rattle.log_table.specs.Sound.{HasReadStop, base_of}
-use Rattle.log_table.specs.Views.{constants_of, is_worker, takes_in, sent_to}
+use Rattle.log_table.specs.Roles.{is_worker}
+use Rattle.log_table.specs.Views.{constants_of, sent_to}
+use Rattle.log_table.specs.CrewViews.{takes_in}
 use Rattle.commit_pipeline.specs.declared.voice.Voice.{Voice}
 use Rattle.commit_pipeline.specs.Turning.{IsSameDaemon}
 use Rattle.commit_pipeline.proofs.RanLemmas.{Later-same}

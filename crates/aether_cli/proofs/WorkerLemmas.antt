@@ -12,7 +12,7 @@ use Rattle.log_table.specs.declared.view.View.{View}
 use Rattle.log_table.specs.Books.{merging, no_books}
 use Rattle.txn_runner.specs.declared.jobs.Jobs.{Jobs}
 use Rattle.txn_runner.specs.Stripes.{HasStripe}
-use Rattle.log_table.specs.Views.{enrolled, hired, hires, noted, takes_in}
+use Rattle.log_table.specs.CrewViews.{enrolled, hired, hires, noted, takes_in}
 use Rattle.aether_cli.specs.Workers.{hired_numbers, KnowsHired}
 
 -- a number is not among those below it

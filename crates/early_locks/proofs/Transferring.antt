@@ -23,7 +23,7 @@ use Rattle.log_table.proofs.Nexting.{next-is, may-enter}
 use Rattle.log_table.specs.declared.table.Seat.{Seat}
 use Rattle.log_table.specs.Seats.{view_of}
 use Rattle.log_table.specs.declared.view.View.{View}
-use Rattle.log_table.specs.Views.{given_as, gave_account}
+use Rattle.log_table.specs.AccountViews.{given_as, gave_account}
 use Rattle.ring_buffer.specs.Calls.{MayPlace, IsSameWorker, HasEntries, entry_of}
 use Rattle.early_locks.specs.declared.one_transfer.Run.{Run}
 use Rattle.early_locks.specs.declared.one_transfer.Transfer.{Transfer}

@@ -11,7 +11,7 @@ use Rattle.log_table.specs.declared.view.View.{View}
 use Rattle.log_table.specs.Accounts.{moved_if_committed, commit_in}
 use Rattle.log_table.specs.Books.{times_held, balance_taken, mark_taken, taking}
 use Rattle.log_table.specs.Seats.{Becomes, view_of}
-use Rattle.log_table.specs.Views.{saw_account, took_account}
+use Rattle.log_table.specs.AccountViews.{saw_account, took_account}
 use Rattle.early_locks.specs.declared.taking.Taken.{Taken}
 use Rattle.early_locks.specs.declared.taking.Held.{Held}
 

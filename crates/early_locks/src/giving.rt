@@ -3,7 +3,7 @@ ghost use Rattle.std.specs.Prelude.{◌≡◌, ◌<◌, ◌≤◌};
 ghost use Rattle.log_record.specs.declared.limits.TheConstants.{MOST_BALANCE};
 ghost use Rattle.log_table.specs.May.{IsAtRest};
 ghost use Rattle.log_table.specs.Seats.{IsOf, Becomes, view_of};
-ghost use Rattle.log_table.specs.Views.{gave_account};
+ghost use Rattle.log_table.specs.AccountViews.{gave_account};
 ghost use Rattle.early_locks.specs.Locks.{HoldsTaken, GivesBack, HasSeenDurable};
 
 use crate::taking::Taken;

@@ -8,7 +8,7 @@ ghost use Rattle.txn_script.specs.Script.{IsAllowedLeg};
 ghost use Rattle.log_table.specs.Books.{taking};
 ghost use Rattle.log_table.specs.May.{HasBegunNothing, MayTakeJob};
 ghost use Rattle.log_table.specs.Seats.{IsOf, Becomes, view_of};
-ghost use Rattle.log_table.specs.Views.{gave_account};
+ghost use Rattle.log_table.specs.AccountViews.{gave_account};
 ghost use Rattle.ring_buffer.specs.Calls.{IsReady, IsSameWorker, HasEntries};
 ghost use Rattle.early_locks.specs.Locks.{HoldsTaken};
 ghost use Rattle.early_locks.specs.Transfers.{leg_of, job_of, taken_job, held_of, gave_both, loss_of, gain_of, entries_of, MayPut, HasPut, IsMoving, HasMoved, HasStopped, HasCommitted, HasGivenDurable, MeetsEnd, IsNotMade, HasGivenUp};

@@ -3,7 +3,8 @@ ghost use Rattle.std.specs.Prelude.{◌≡◌, ◌<◌, [], ◌∷◌, IfOk, IfS
 ghost use Rattle.log_table.specs.declared.view.Role.TheVariants.{Flusher};
 ghost use Rattle.log_table.specs.May.{IsAtRest, HasBegunNothing, MaySplit};
 ghost use Rattle.log_table.specs.Seats.{IsOf, view_of, key_of};
-ghost use Rattle.log_table.specs.Views.{hires, hired, enrolled, flusher, sent_to};
+ghost use Rattle.log_table.specs.Views.{flusher, sent_to};
+ghost use Rattle.log_table.specs.CrewViews.{hires, hired, enrolled};
 ghost use Rattle.early_locks.specs.Settled.{SettlesOne};
 ghost use Rattle.early_locks.specs.declared.tests.TheConstants.{THIRTY};
 

@@ -15,7 +15,9 @@ use Rattle.slot_word.specs.AccountWord.{word_of}
 use Rattle.txn_script.specs.declared.job.Job.{Job}
 use Rattle.log_table.specs.Sends.{IsExposedToFlusher, IsDurableToFlusher, ReadsWholeEntries}
 use Rattle.log_table.specs.Sound.{HasReadStop, Ruled}
-use Rattle.log_table.specs.Views.{saw_tail, saw_exposed, saw_durable, after_exchange, filled, released, enrolled, retired, has_read, has_sent, has_stopped, saw_stop, saw_crew, took_job, saw_account, after_account, gave_account}
+use Rattle.log_table.specs.Views.{saw_tail, saw_exposed, saw_durable, after_exchange, filled, released, has_read, has_sent, has_stopped, saw_stop, saw_crew}
+use Rattle.log_table.specs.AccountViews.{took_job, saw_account, after_account, gave_account}
+use Rattle.log_table.specs.CrewViews.{enrolled, retired}
 use Rattle.log_table.proofs.Crewing.{enroll-adds, leave-subtracts}
 use Rattle.log_table.proofs.Filling.{fill-step}
 use Rattle.log_table.proofs.Lifting.{allowed-if_step}

@@ -9,7 +9,9 @@ use Rattle.log_table.specs.declared.view.Role.TheVariants.{Flusher, Fresh, Activ
 use Rattle.log_table.specs.declared.view.View.{View}
 use Rattle.log_table.specs.May.{MayMerge}
 use Rattle.log_table.specs.Sound.{EachView, HasSeenBoundaries, SendsIfFlusher, StoresStop, LookedIfQuiet, HasWorkingOwner, HasConstants, RestsUnlessActive, OwnsIfWorker, HasSoundRole, HasSoundRoles, HasSoundCrew, IsSound, Knows, Lacks, Ruled, is_active_view}
-use Rattle.log_table.specs.Views.{has_ended, is_active, is_worker, nobody, takes_in}
+use Rattle.log_table.specs.Roles.{has_ended, is_active, is_worker}
+use Rattle.log_table.specs.Views.{nobody}
+use Rattle.log_table.specs.CrewViews.{takes_in}
 use Rattle.log_table.proofs.Viewing.{each_set, pairs_move, count-set}
 
 or-false : (a b : Bool) → a ≡ false → b ≡ false → (a || b) ≡ false

@@ -16,7 +16,8 @@ use Rattle.log_table.specs.Layout.{Crew}
 use Rattle.log_table.specs.Log.{Log}
 use Rattle.log_table.specs.May.{MayLeave}
 use Rattle.log_table.specs.Sound.{EachView, StoresStop, HasReadStop, HasSoundRole, HasSoundRoles, HasSoundCrew, IsSound, is_active_view}
-use Rattle.log_table.specs.Views.{is_active, is_worker, is_working, is_spent, enrolled, retired}
+use Rattle.log_table.specs.Roles.{is_active, is_worker, is_working, is_spent}
+use Rattle.log_table.specs.CrewViews.{enrolled, retired}
 use Rattle.log_table.specs.Words.{Words}
 use Rattle.log_table.proofs.Keeping.{accounts-stay}
 use Rattle.log_table.proofs.Roles.{quiet-moves, restands}

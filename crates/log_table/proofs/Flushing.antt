@@ -16,7 +16,8 @@ use Rattle.log_table.specs.Log.{Part, Log, ranges_of, StandsInRing, AgreesFrom, 
 use Rattle.log_table.specs.May.{MaySend}
 use Rattle.log_table.specs.Sound.{HasSeenBoundaries, HasContiguousReservations, SendsInsertedUnits, SendsIfFlusher, StoresStop, HasReadStop, LookedIfQuiet, HasWorkingOwner, HasConstants, RestsUnlessActive, OwnsIfWorker, HoldsIfActive, IsSound}
 use Rattle.log_table.proofs.Keeping.{accounts-stay}
-use Rattle.log_table.specs.Views.{is_spent, has_sent}
+use Rattle.log_table.specs.Roles.{is_spent}
+use Rattle.log_table.specs.Views.{has_sent}
 use Rattle.log_table.specs.Words.{Words}
 use Rattle.log_table.proofs.Agreeing.{agrees-append}
 use Rattle.log_table.proofs.Boundaries.{Cut, part_size, boundary-later, boundary-sooner, cut-at}

@@ -34,7 +34,8 @@ use Rattle.log_table.specs.Log.{Part, Range, Log, own, owed, is_owed_by, claim_o
 use Rattle.log_table.specs.Sends.{IsDrained}
 use Rattle.log_table.specs.May.{MayClose}
 use Rattle.log_table.specs.Sound.{HasWorkingOwner, SendsInsertedUnits, IsSound, Ruled, base_of, history_in, books_of}
-use Rattle.log_table.specs.Views.{is_active, is_worker, is_spent, may_own, nobody, entries_in, claims_in}
+use Rattle.log_table.specs.Roles.{is_active, is_worker, is_spent, may_own}
+use Rattle.log_table.specs.Views.{nobody, entries_in, claims_in}
 use Rattle.log_table.specs.Words.{Words, words_in}
 use Rattle.log_table.proofs.Agreeing.{IsFront, agrees-append, whole-record, front, front-whole, joined, joined-entries, joined-length}
 use Rattle.log_table.proofs.Boundaries.{part_size, boundary-entries}

@@ -14,7 +14,8 @@ use Rattle.log_table.specs.Layout.{Tail, Exposed, Durable, Stop}
 use Rattle.log_table.specs.Log.{Log, ranges_of, IsRangeBoundary, Tiles}
 use Rattle.log_table.specs.Sends.{IsExposedToFlusher, IsDurableToFlusher}
 use Rattle.log_table.specs.Sound.{EachView, HasSeenBoundaries, HasContiguousReservations, SendsIfFlusher, StoresStop, HasReadStop, RestsIfQuiet, LookedIfQuiet, IsSound}
-use Rattle.log_table.specs.Views.{is_spent, seen_tail, seen_exposed, seen_durable, saw_tail, saw_exposed, saw_durable, saw_stop}
+use Rattle.log_table.specs.Roles.{is_spent}
+use Rattle.log_table.specs.Views.{seen_tail, seen_exposed, seen_durable, saw_tail, saw_exposed, saw_durable, saw_stop}
 use Rattle.log_table.specs.Words.{Words}
 use Rattle.log_table.proofs.Keeping.{accounts-stay}
 use Rattle.log_table.proofs.Lifting.{Tells}

@@ -16,7 +16,9 @@ use Rattle.log_table.specs.declared.view.View.{View}
 use Rattle.log_table.specs.Log.{Part, Log, ranges_of, parts_of, SpellsRecord, StandsInRing, IsFullIfReleased, IsReleasedBelow, CountsRemaining, AgreesFrom, EndsWithPart}
 use Rattle.log_table.specs.May.{MayMerge}
 use Rattle.log_table.specs.Sound.{EachView, HasSeenBoundaries, SendsIfFlusher, StoresStop, HasReadStop, LookedIfQuiet, HasWorkingOwner, HasConstants, RestsUnlessActive, OwnsIfWorker, HoldsIfActive, base_of, history_in, books_of, HasSoundRole, HasSoundRoles, HasSoundCrew, IsSound, Knows, Lacks, Ruled, is_active_view}
-use Rattle.log_table.specs.Views.{has_ended, is_active, is_worker, is_spent, nobody, entries_in, claims_in, merged_entries, merged_seen, merged_standing, takes_in}
+use Rattle.log_table.specs.Roles.{has_ended, is_active, is_worker, is_spent}
+use Rattle.log_table.specs.Views.{nobody, entries_in, claims_in}
+use Rattle.log_table.specs.CrewViews.{merged_entries, merged_seen, merged_standing, takes_in}
 use Rattle.log_table.specs.Words.{Words, words_in}
 use Rattle.log_table.proofs.CrewMerging.{ended-rests, crew-merges}
 use Rattle.log_table.proofs.Lists.{all-append, all-weaker}
@@ -154,7 +156,7 @@ module _ (key : Start) (words : Words) (views : List View) (me other : ℕ) (v o
     constants = each-merged (λ _ z. HasConstants key z) s.constants (λ e. absurd (true≢false e)) (s.constants me v at);
     resting = each-merged (λ _ z. RestsUnlessActive z) s.resting (λ _. refl) (s.resting me v at);
     entries = each-merged (λ _ z. OwnsIfWorker z) s.entries (λ _. refl)
-        (λ off. absurd (true≢false (sym (ap Rattle.log_table.specs.Views.may_own may.flusher) ∙ off)));
+        (λ off. absurd (true≢false (sym (ap Rattle.log_table.specs.Roles.may_own may.flusher) ∙ off)));
     roles = crew-merges words.crew views me other v o s.roles at there apart may;
     sends = each-merged (λ _ z. SendsIfFlusher key.start words.exposed words.durable after z) (λ j z here. sends z (s.sends j z here))
         (λ f. absurd (cc)) (sends v (s.sends me v at));
@@ -165,7 +167,7 @@ module _ (key : Start) (words : Words) (views : List View) (me other : ℕ) (v o
         (quiet-moves views other o nobody s.quiet there (λ _ _ _ _ f. absurd (cc)) (λ _ _ _ _. refl)) at' (λ _ _ _ h. h) (λ _ h. h);
     looked = each-merged (λ _ z. LookedIfQuiet words.exposed z) s.looked (λ f. absurd (cc)) (s.looked me v at);
     unheld = each-merged (λ _ z. HoldsIfActive z) s.unheld ((λ _. refl), (λ _. refl))
-        ((s.unheld me v at).0, (λ off. absurd (true≢false (sym (ap Rattle.log_table.specs.Views.may_own may.flusher) ∙ off))));
+        ((s.unheld me v at).0, (λ off. absurd (true≢false (sym (ap Rattle.log_table.specs.Roles.may_own may.flusher) ∙ off))));
     accounts = accounts-merged;
   }
 

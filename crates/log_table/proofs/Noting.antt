@@ -8,7 +8,8 @@ use Rattle.log_table.specs.declared.table.Start.{Start}
 use Rattle.log_table.specs.declared.view.View.{View}
 use Rattle.log_table.specs.Log.{Log}
 use Rattle.log_table.specs.Sound.{RestsIfQuiet, HasSoundRole, HasSoundRoles, HasSoundCrew, IsSound, Ruled, is_active_view}
-use Rattle.log_table.specs.Views.{is_spent, noted}
+use Rattle.log_table.specs.Roles.{is_spent}
+use Rattle.log_table.specs.CrewViews.{noted}
 use Rattle.log_table.specs.Words.{Words, words_in}
 use Rattle.log_table.proofs.Adding.{adds}
 use Rattle.log_table.proofs.Viewing.{each_push, pairs_push}

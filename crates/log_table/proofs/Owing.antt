@@ -30,7 +30,9 @@ use Rattle.log_table.specs.Layout.{Stop, Account}
 use Rattle.log_table.specs.Log.{Log, ranges_of}
 use Rattle.log_table.specs.May.{IsOwnWord, MayTakeJob, MayTake, MayGiveBack}
 use Rattle.log_table.specs.Sound.{HasSeenBoundaries, StoresStop, HasReadStop, HoldsIfActive, IsSound, base_of, history_in, books_of}
-use Rattle.log_table.specs.Views.{is_active, may_own, took_job, seen_account, saw_account, held_as, took_account, after_account, counted, given_as, gave_account}
+use Rattle.log_table.specs.Roles.{is_active, may_own}
+use Rattle.log_table.specs.Views.{counted}
+use Rattle.log_table.specs.AccountViews.{took_job, seen_account, saw_account, held_as, took_account, after_account, given_as, gave_account}
 use Rattle.log_table.specs.Words.{Words, put}
 use Rattle.log_table.proofs.Bookings.{found}
 use Rattle.log_table.proofs.Lifting.{Tells}

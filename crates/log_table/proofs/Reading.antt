@@ -12,7 +12,8 @@ use Rattle.log_table.specs.Log.{Part, Log, AgreesFrom, StandsInRing, IsFull, IsF
 use Rattle.log_table.specs.May.{MayRead}
 use Rattle.log_table.specs.Sends.{AreEntries, ReadsWholeEntries}
 use Rattle.log_table.specs.Sound.{StoresStop, HasReadStop, SendsInsertedUnits, IsSound}
-use Rattle.log_table.specs.Views.{is_spent, counted, has_read, sent_to}
+use Rattle.log_table.specs.Roles.{is_spent}
+use Rattle.log_table.specs.Views.{counted, has_read, sent_to}
 use Rattle.log_table.specs.Words.{Words, put}
 use Rattle.log_table.proofs.Agreeing.{agrees-push, entries-from}
 use Rattle.log_table.proofs.Lifting.{Tells}

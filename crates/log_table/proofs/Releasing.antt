@@ -17,7 +17,8 @@ use Rattle.log_table.specs.Sound.{HasSeenBoundaries, HasContiguousReservations, 
 use Rattle.lock_core.specs.History.{history_from}
 use Rattle.log_table.specs.Accounts.{KeepsAccounts}
 use Rattle.log_table.proofs.Keeping.{accounts-stay, records-mid}
-use Rattle.log_table.specs.Views.{is_active, may_own, entries_in, claims_in, seen_exposed}
+use Rattle.log_table.specs.Roles.{is_active, may_own}
+use Rattle.log_table.specs.Views.{entries_in, claims_in, seen_exposed}
 use Rattle.log_table.specs.Words.{Words}
 use Rattle.log_table.proofs.Boundaries.{range_size, part_size, boundary-mid}
 use Rattle.log_table.proofs.Lists.{all-append, all-mid, all-at, all-both, all-weaker, Last, picked-last}

@@ -6,7 +6,7 @@ use native.Mathlib.Decide.{ℕ_discrete}
 use Rattle.lsn_space.specs.Tiling.{IsTilingBoundary}
 use Rattle.log_table.specs.declared.view.Entry.{Entry}
 use Rattle.log_table.specs.Log.{Part, picked, own, is_by, parts_of, Laid, unreleased_in, records_in}
-use Rattle.log_table.specs.Views.{inserted, merged_entries}
+use Rattle.log_table.specs.CrewViews.{inserted, merged_entries}
 use Rattle.log_table.proofs.Boundaries.{part_size}
 use Rattle.log_table.proofs.Lists.{all-weaker}
 

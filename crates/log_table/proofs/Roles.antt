@@ -11,7 +11,8 @@ use Rattle.log_table.specs.declared.view.View.{View}
 use Rattle.log_table.specs.Events.{reservation_of, stage_in, Leads}
 use Rattle.log_table.specs.Log.{Log, ranges_of, parts_of}
 use Rattle.log_table.specs.Sound.{EachView, EachPair, HasSeenBoundaries, SendsIfFlusher, StoresStop, HasReadStop, RestsIfQuiet, LookedIfQuiet, HasWorkingOwner, HasConstants, RestsUnlessActive, OwnsIfWorker, HoldsIfActive, base_of, history_in, books_of, HasSoundRole, HasSoundRoles, HasSoundCrew, IsSound, is_active_view}
-use Rattle.log_table.specs.Views.{is_active, is_working, entries_in, claims_in}
+use Rattle.log_table.specs.Roles.{is_active, is_working}
+use Rattle.log_table.specs.Views.{entries_in, claims_in}
 use Rattle.log_table.specs.Words.{Words}
 use Rattle.log_table.specs.Accounts.{KeepsAccounts}
 use Rattle.log_table.proofs.Showing.{hands_of-set_same}

@@ -11,7 +11,8 @@ use Rattle.log_table.specs.declared.view.View.{View}
 use Rattle.log_table.specs.Log.{Log}
 use Rattle.log_table.specs.May.{MaySplit}
 use Rattle.log_table.specs.Sound.{StoresStop, HasReadStop, RestsIfQuiet, HasSoundRole, HasSoundRoles, HasSoundCrew, IsSound, Knows, Lacks, Ruled, is_active_view}
-use Rattle.log_table.specs.Views.{is_worker, is_spent, hires, hired}
+use Rattle.log_table.specs.Roles.{is_worker, is_spent}
+use Rattle.log_table.specs.CrewViews.{hires, hired}
 use Rattle.log_table.specs.Words.{Words, words_in}
 use Rattle.log_table.proofs.Adding.{adds}
 use Rattle.log_table.proofs.Keeping.{accounts-stay}

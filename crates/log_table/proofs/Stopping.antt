@@ -14,7 +14,8 @@ use Rattle.log_table.specs.Layout.{Stop, Crew}
 use Rattle.log_table.specs.Log.{Log}
 use Rattle.log_table.specs.May.{MayStop}
 use Rattle.log_table.specs.Sound.{EachView, StoresStop, HasReadStop, IsSound, Knows, is_active_view}
-use Rattle.log_table.specs.Views.{is_active, is_working, counted, knows_all_enrolled, has_stopped, saw_crew}
+use Rattle.log_table.specs.Roles.{is_active, is_working}
+use Rattle.log_table.specs.Views.{counted, knows_all_enrolled, has_stopped, saw_crew}
 use Rattle.log_table.specs.Words.{Words}
 use Rattle.log_table.proofs.Lifting.{Tells}
 use Rattle.log_table.proofs.Looking.{looks, sees-word}
@@ -98,7 +99,7 @@ module _ (key : Start) (me : ℕ) (v : View) where
       fresh : z.standing.role ≡ Fresh → ⊥
       fresh is =
           let made : Knows z.standing.worker v.standing.made =
-          (s.roles.pairs me v at j z there).made flusher (ap Rattle.log_table.specs.Views.is_worker is) in
+          (s.roles.pairs me v at j z there).made flusher (ap Rattle.log_table.specs.Roles.is_worker is) in
           true≢false (sym (enrolled-if_made v.standing.enrolled v.standing.made z.standing.worker all made)
           ∙ (s.roles.pairs j z there me v at).fresh is)
 

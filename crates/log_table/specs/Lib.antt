@@ -1,11 +1,14 @@
+pub mod AccountViews
 pub mod Accounts
 pub mod Books
 pub mod Closing
+pub mod CrewViews
 pub mod Events
 pub mod Layout
 pub mod Log
 pub mod May
 pub mod Opening
+pub mod Roles
 pub mod Seats
 pub mod Sends
 pub mod Sound

@@ -18,7 +18,8 @@ use Rattle.log_table.specs.declared.view.Books.{Books}
 use Rattle.log_table.specs.Accounts.{MayBeTaken, MayGive}
 use Rattle.log_table.specs.Books.{times_held, balance_taken, mark_taken, next_of, IsNote, MayEnter}
 use Rattle.log_table.specs.Log.{IsFull}
-use Rattle.log_table.specs.Views.{has_ended, read_to}
+use Rattle.log_table.specs.Roles.{has_ended}
+use Rattle.log_table.specs.Views.{read_to}
 
 -- the worker is enrolled and has no call under way
 pub record IsAtRest (view : View) : Type 0 where

@@ -20,7 +20,8 @@ use Rattle.log_table.specs.declared.view.Books.{Books}
 use Rattle.log_table.specs.Accounts.{KeepsAccounts}
 use Rattle.log_table.specs.Layout.{word_count}
 use Rattle.log_table.specs.Log.{Part, Range, Log, ranges_of, own, parts_of, owed, Tiles, Laid, SpellsRecord, records_in, StandsInRing, AgreesFrom, IsRangeBoundary, EndsWithPart, IsFullIfReleased, IsReleasedBelow, IsReleased, IsOwed, CountsRemaining}
-use Rattle.log_table.specs.Views.{is_active, is_worker, is_working, is_spent, may_own, constants_of, nobody, entries_in, claims_in}
+use Rattle.log_table.specs.Roles.{is_active, is_worker, is_working, is_spent, may_own}
+use Rattle.log_table.specs.Views.{constants_of, nobody, entries_in, claims_in}
 use Rattle.log_table.specs.Words.{Words, words_in}
 
 -- each seat that was made, by its number, has a view for which this holds

@@ -68,7 +68,7 @@ pub(crate) struct Enroll;
 
 impl Play<(), View> for Enroll {
     ghost use Rattle.std.specs.Prelude.{◌≡◌};
-    ghost use Rattle.log_table.specs.Views.{enrolled};
+    ghost use Rattle.log_table.specs.CrewViews.{enrolled};
 
     ghost then = { λ st old n new. (new ≡ (enrolled old.0, old.1)) × Unit {0} };
 }
@@ -77,7 +77,7 @@ pub(crate) struct Leave;
 
 impl Play<(), View> for Leave {
     ghost use Rattle.std.specs.Prelude.{◌≡◌};
-    ghost use Rattle.log_table.specs.Views.{retired};
+    ghost use Rattle.log_table.specs.CrewViews.{retired};
 
     ghost then = { λ st old n new. (new ≡ (retired old.0, old.1)) × Unit {0} };
 }
@@ -175,7 +175,7 @@ pub(crate) struct TakeJob<N> {
 
 impl<N: Task> Play<(), View> for TakeJob<N> {
     ghost use Rattle.std.specs.Prelude.{◌≡◌, ◌≢◌};
-    ghost use Rattle.log_table.specs.Views.{took_job};
+    ghost use Rattle.log_table.specs.AccountViews.{took_job};
 
     ghost then = { λ st old n new. (new ≡ (took_job N.number N.job n old.0, old.1)) × (old.0.seen.stop ≢ 0 → n ≡ old.0.seen.stop) };
 }
@@ -187,7 +187,7 @@ pub(crate) struct LoadAccount<N> {
 impl<N: Number> Play<(), View> for LoadAccount<N> {
     ghost use Rattle.std.specs.Prelude.{◌≡◌};
     ghost use Rattle.log_table.specs.May.{IsOwnWord};
-    ghost use Rattle.log_table.specs.Views.{saw_account};
+    ghost use Rattle.log_table.specs.AccountViews.{saw_account};
 
     ghost then = { λ st old n new. (new ≡ (saw_account N.number n old.0, old.1)) × IsOwnWord N.number n old.0.books };
 }
@@ -199,7 +199,7 @@ pub(crate) struct ExchangeAccount<N> {
 impl<N: Number> Play<(), View> for ExchangeAccount<N> {
     ghost use Rattle.std.specs.Prelude.{◌≡◌};
     ghost use Rattle.log_table.specs.May.{IsOwnWord};
-    ghost use Rattle.log_table.specs.Views.{after_account};
+    ghost use Rattle.log_table.specs.AccountViews.{after_account};
 
     ghost then = { λ st old n new. (new ≡ (after_account N.number st.first n old.0, old.1)) × IsOwnWord N.number n old.0.books };
 }
@@ -210,7 +210,7 @@ pub(crate) struct StoreAccount<N> {
 
 impl<N: Number> Play<(), View> for StoreAccount<N> {
     ghost use Rattle.std.specs.Prelude.{◌≡◌};
-    ghost use Rattle.log_table.specs.Views.{gave_account};
+    ghost use Rattle.log_table.specs.AccountViews.{gave_account};
 
     ghost then = { λ st old n new. (new ≡ (gave_account N.number old.0, old.1)) × Unit {0} };
 }
@@ -220,7 +220,7 @@ pub(crate) struct Hire<N> {
 }
 
 impl<N: Number> Split<View> for Hire<N> {
-    ghost use Rattle.log_table.specs.Views.{hires, hired};
+    ghost use Rattle.log_table.specs.CrewViews.{hires, hired};
 
     ghost left = { hires N.number };
 
@@ -230,7 +230,7 @@ impl<N: Number> Split<View> for Hire<N> {
 pub(crate) struct MakeNote;
 
 impl Split<View> for MakeNote {
-    ghost use Rattle.log_table.specs.Views.{noted};
+    ghost use Rattle.log_table.specs.CrewViews.{noted};
 
     ghost left = { λ view. view };
 
@@ -240,7 +240,8 @@ impl Split<View> for MakeNote {
 pub(crate) struct TakeIn;
 
 impl Join<View> for TakeIn {
-    ghost use Rattle.log_table.specs.Views.{takes_in, nobody};
+    ghost use Rattle.log_table.specs.Views.{nobody};
+    ghost use Rattle.log_table.specs.CrewViews.{takes_in};
 
     ghost both = { takes_in };
 

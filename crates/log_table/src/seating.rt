@@ -6,7 +6,9 @@ ghost use Rattle.log_table.specs.May.{MaySplit, MayMerge};
 ghost use Rattle.log_table.specs.Opening.{HasAccounts, PutsAccounts};
 ghost use Rattle.log_table.specs.Seats.{IsOf, Becomes, view_of, key_of};
 ghost use Rattle.log_table.specs.Sound.{HasReadStop};
-ghost use Rattle.log_table.specs.Views.{flusher, hires, hired, is_spent, noted, takes_in};
+ghost use Rattle.log_table.specs.Roles.{is_spent};
+ghost use Rattle.log_table.specs.Views.{flusher};
+ghost use Rattle.log_table.specs.CrewViews.{hires, hired, noted, takes_in};
 
 use crate::layout::{DURABLE, EXPOSED, STOP, TAIL, account_place};
 use crate::plays::{Hire, MakeNote, Number, TakeIn, TellStop};

@@ -3,7 +3,8 @@ ghost use Rattle.std.specs.Prelude.{◌≡◌, [], IfOk};
 ghost use Rattle.log_table.specs.declared.view.Role.TheVariants.{Flusher};
 ghost use Rattle.log_table.specs.May.{MaySplit};
 ghost use Rattle.log_table.specs.Seats.{IsOf, view_of};
-ghost use Rattle.log_table.specs.Views.{hires, hired, enrolled, flusher};
+ghost use Rattle.log_table.specs.Views.{flusher};
+ghost use Rattle.log_table.specs.CrewViews.{hires, hired, enrolled};
 
 use crate::{LogTable, Seat, Start};
 use lsn_space::{Balances, Lsn, NoMemory};

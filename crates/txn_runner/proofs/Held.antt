@@ -11,7 +11,7 @@ use Rattle.log_table.specs.declared.view.Held.{Held}
 use Rattle.log_table.specs.declared.view.View.{View}
 use Rattle.log_table.specs.Books.{times_held, balance_taken, mark_taken, without}
 use Rattle.log_table.specs.Seats.{Becomes, view_of}
-use Rattle.log_table.specs.Views.{gave_account}
+use Rattle.log_table.specs.AccountViews.{gave_account}
 use Rattle.early_locks.specs.declared.taking.Taken.{Taken}
 use Rattle.early_locks.specs.Locks.{HoldsTaken}
 use Rattle.txn_runner.specs.declared.holding.Holding.{Holding}

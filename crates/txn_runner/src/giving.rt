@@ -2,7 +2,7 @@
 ghost use Rattle.std.specs.Prelude.{◌≡◌, ◌<◌, ◌≤◌, [], true, All};
 ghost use Rattle.log_record.specs.declared.limits.TheConstants.{MOST_BALANCE};
 ghost use Rattle.log_table.specs.Seats.{IsOf, Becomes, view_of};
-ghost use Rattle.log_table.specs.Views.{gave_account};
+ghost use Rattle.log_table.specs.AccountViews.{gave_account};
 ghost use Rattle.ring_buffer.specs.Calls.{IsReady};
 ghost use Rattle.early_locks.specs.Locks.{HoldsTaken, GivesBack, HasSeenDurable};
 ghost use Rattle.txn_runner.specs.Holdings.{HoldsAll, IsKnown, GoesBack, back_of, with_held};

@@ -4,7 +4,7 @@ ghost use Rattle.txn_script.specs.Script.{IsAllowedJob};
 ghost use Rattle.log_table.specs.declared.view.Role.TheVariants.{Flusher, Ended};
 ghost use Rattle.log_table.specs.May.{MaySplit};
 ghost use Rattle.log_table.specs.Seats.{IsOf, view_of};
-ghost use Rattle.log_table.specs.Views.{hires};
+ghost use Rattle.log_table.specs.CrewViews.{hires};
 
 use crate::{Answer, Cause, Jobs, Relief, Row, Rows, Worked, YieldRelief, work};
 use log_disk::OpenGate;

@@ -5,7 +5,7 @@ ghost use Rattle.log_table.specs.Events.{IsStep};
 ghost use Rattle.log_table.specs.Layout.{Account};
 ghost use Rattle.log_table.specs.May.{IsOwnWord, MayTake, MayGiveBack};
 ghost use Rattle.log_table.specs.Seats.{IsOf, Becomes, view_of, number_of, key_of};
-ghost use Rattle.log_table.specs.Views.{saw_account, took_account, gave_account};
+ghost use Rattle.log_table.specs.AccountViews.{saw_account, took_account, gave_account};
 
 use crate::layout::account_place;
 use crate::plays::{ExchangeAccount, LoadAccount, Number, StoreAccount};

@@ -5,7 +5,8 @@ ghost use Rattle.log_table.specs.Events.{IsStep};
 ghost use Rattle.log_table.specs.Layout.{Crew};
 ghost use Rattle.log_table.specs.May.{MayLeave};
 ghost use Rattle.log_table.specs.Seats.{IsOf, Becomes, view_of, number_of, key_of};
-ghost use Rattle.log_table.specs.Views.{enrolled, retired, saw_crew};
+ghost use Rattle.log_table.specs.Views.{saw_crew};
+ghost use Rattle.log_table.specs.CrewViews.{enrolled, retired};
 
 use crate::layout::CREW;
 use crate::plays::{Enroll, Leave, LoadCrew};

@@ -4,7 +4,7 @@ ghost use Rattle.log_table.specs.Events.{IsStep};
 ghost use Rattle.log_table.specs.Layout.{Stop};
 ghost use Rattle.log_table.specs.May.{MayTakeJob};
 ghost use Rattle.log_table.specs.Seats.{IsOf, Becomes, view_of, number_of, key_of};
-ghost use Rattle.log_table.specs.Views.{took_job};
+ghost use Rattle.log_table.specs.AccountViews.{took_job};
 
 use crate::layout::STOP;
 use crate::plays::{TakeJob, Task};

@@ -3,7 +3,7 @@ use Rattle.lock_core.specs.Transactions.{recs_of, has_commit}
 use Rattle.log_table.specs.declared.view.TakenJob.{TakenJob}
 use Rattle.log_table.specs.declared.view.Books.{Books}
 use Rattle.log_table.specs.Seats.{view_of}
-use Rattle.log_table.specs.Views.{given_as, gave_account}
+use Rattle.log_table.specs.AccountViews.{given_as, gave_account}
 use Rattle.early_locks.specs.Locks.{HoldsTaken}
 use Rattle.early_locks.specs.Transfers.{given_at, IsNotMade}
 use Rattle.early_locks.proofs.Transferring.{holds-other, gives-both, not-made-back}

@@ -1,6 +1,6 @@
 use Rattle.std.proofs.Common.{ap, sym, subst}
 use Rattle.log_table.specs.Seats.{view_of}
-use Rattle.log_table.specs.Views.{given_as}
+use Rattle.log_table.specs.AccountViews.{given_as}
 use Rattle.early_locks.specs.Locks.{HoldsTaken}
 use Rattle.early_locks.proofs.Transferring.{holds-other, gives-both}
 use Rattle.early_locks.proofs.one_transfer.give_back.Goals as goal

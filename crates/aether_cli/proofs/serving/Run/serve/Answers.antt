@@ -1,7 +1,7 @@
 use Rattle.std.proofs.Common.{rules, ◌≡◌, ap, sym, subst}
 use Rattle.log_table.specs.declared.view.Books.{Books}
 use Rattle.log_table.specs.Seats.{view_of}
-use Rattle.log_table.specs.Views.{retired}
+use Rattle.log_table.specs.CrewViews.{retired}
 use Rattle.txn_runner.specs.Working.{taken_in}
 use Rattle.aether_cli.proofs.ServedLemmas.{HasDone, HasDone-left}
 use Rattle.aether_cli.proofs.serving.Run.serve.Goals as goal
