@@ -3,14 +3,16 @@ use Rattle.std.proofs.Common.{◌≡◌, ◌≢◌, ◌⊎◌, ◌∙◌, inl, i
 use Rattle.std.proofs.Math.Nat.{mul-le-mul_left}
 use Rattle.std.proofs.lemmas.Bool.{cases_order}
 use Rattle.std.proofs.lemmas.List.{length-map}
-use Rattle.std.proofs.lemmas.List.Elements.{All-contains, All-from_recursion, Contains-append_left, Contains-append_right}
+use Rattle.std.proofs.lemmas.List.Elements.{All-contains, All-from_recursion, Contains-append_left, Contains-append_right, recursion_from_All}
 use Rattle.std.specs.List.{AllByRecursion}
 use Rattle.std.specs.Option.{unwrap_or}
 use mathlib.Core.Option.{some, some-injective, some-ne-none}
 use lib.ListN.{get_elem?}
+use Rattle.lsn_space.proofs.TilingLemmas.{all-weaker as all-fewer}
 use Rattle.lock_core.specs.Records.{txn_of}
 use Rattle.log_table.specs.declared.table.LogTable.{LogTable}
 use Rattle.log_table.specs.declared.view.Entry.{Entry}
+use Rattle.log_table.specs.declared.view.Given.{Given}
 use Rattle.log_table.specs.declared.view.View.{View}
 use Rattle.log_table.specs.Closing.{IsGathered}
 use Rattle.log_table.specs.Log.{IsFull, IsSpelled}
@@ -22,13 +24,15 @@ use Rattle.txn_runner.specs.declared.cause.Cause.TheVariants.{Stop, LogEnd}
 use Rattle.txn_runner.specs.declared.cause.Worked.{Worked}
 use Rattle.txn_runner.specs.declared.cause.Worked.TheVariants.{All, Cut}
 use Rattle.txn_runner.specs.declared.jobs.Jobs.{Jobs}
-use Rattle.txn_runner.specs.Stripes.{number_at, IsOfStripe, stripe_jobs}
-use Rattle.txn_runner.specs.Working.{HasEnd, HaveEnded, IsCutBy, LieInTurn, Works}
+use Rattle.txn_runner.specs.Running.{account_given, IsUncommittedAt}
+use Rattle.txn_runner.specs.Stripes.{number_at, job_at, IsOfStripe, stripe_jobs}
+use Rattle.txn_runner.specs.Working.{EndsLog, HasEnd, HaveEnded, IsCutBy, LieInTurn, Works}
 use Rattle.txn_runner.proofs.EntryLemmas.{LieInOrder-ends}
+use Rattle.txn_runner.proofs.Held.{account-given}
 use Rattle.txn_runner.proofs.WorkLemmas.{IsOwnEntry}
 use Rattle.aether_cli.specs.declared.workers.Worker.{Worker}
 use Rattle.aether_cli.specs.Gathering.{share_of, takes_all, view_in, worked_of}
-use Rattle.aether_cli.specs.Shares.{Share, all_taken, CameTo, HasGathered, HasShare, WasCutBy}
+use Rattle.aether_cli.specs.Shares.{Share, all_taken, IsGivenUncommitted, AreGivenUncommitted, CameTo, HasGathered, HasShare, WasCutBy}
 use Rattle.aether_cli.specs.Workers.{AreDone, HasServed, IsDone, IsDoneAs, Numbered}
 use Rattle.aether_cli.proofs.MergedEntries.{all-merged, merged-all, contains-first, contains-second, contains-merged, Rises-in_order, merged-others, merged-own}
 
@@ -87,11 +91,26 @@ module _ (jobs : Jobs) where
     HaveEnded-keeps from to ended j least less =
         HasEnd-of (number_at jobs worker j) view.entries after.entries (contains-first view.entries (view_in other).entries) (ended j least less)
 
+    gave-keeps : (number tail balance account : ℕ) → IsGivenUncommitted number tail balance view.books.given account
+        → IsGivenUncommitted number tail balance after.books.given account
+    gave-keeps number tail balance account is = record {
+      back = is.back;
+      contains = Contains-append_left view.books.given (view_in other).books.given is.back is.contains;
+      txn = is.txn;
+      account_is = is.account_is;
+      uncommitted = is.uncommitted;
+      tail_is = is.tail_is;
+      balance_is = is.balance_is;
+    }
+
     WasCutBy-keeps : (j : ℕ) (cause : Cause) → WasCutBy jobs worker j cause view → WasCutBy jobs worker j cause after
     WasCutBy-keeps j (Stop word) was = was
     WasCutBy-keeps j (LogEnd tail total) was = record {
       balances = was.balances;
       marks = was.marks;
+      gave = all-fewer (AreGivenUncommitted (number_at jobs worker j) tail was.balances view.books.given)
+          (AreGivenUncommitted (number_at jobs worker j) tail was.balances after.books.given) (job_at jobs worker j).legs
+          (λ leg both. (gave-keeps _ _ _ _ both.0, gave-keeps _ _ _ _ both.1)) was.gave;
       next = was.next;
       rest = was.rest;
       plan = ap (λ l. l ++ was.next ∷ was.rest) (merged-others (number_at jobs worker j) view.entries (view_in other).entries
@@ -153,6 +172,23 @@ module _ (jobs : Jobs) where
         (subst (λ n. AllByRecursion (λ (entry : Entry). entry.start + entry.size ≤ n) own.entries) (sym is)
         (LieInOrder-ends 0 own.seen.tail own.entries done.has.below))
 
+    gave-taken : (j tail total : ℕ) (ends : EndsLog jobs worker.seat.worker j tail total own) (account : ℕ) → Contains (map account_given ends.given.back) account
+        → IsGivenUncommitted (number_at jobs worker.seat.worker j) tail (ends.balances account) taken_in'.books.given account
+    gave-taken j tail total ends account has =
+        let one = account-given ends.given.back account has in
+        let last = All-contains (IsUncommittedAt tail) ends.given.back one.0 (All-from_recursion (IsUncommittedAt tail) ends.given.back ends.uncommitted) one.1 in
+        record {
+          back = one.0;
+          contains = Contains-append_right view.books.given own.books.given one.0 (subst (λ l. Contains l one.0) (sym ends.given.given_are)
+              (Contains-append_left ends.given.back ends.before one.0 one.1));
+          txn = All-contains (λ (given : Given). given.txn ≡ number_at jobs worker.seat.worker j) ends.given.back one.0 ends.given.own one.1;
+          account_is = one.2;
+          uncommitted = last.0;
+          tail_is = last.1;
+          balance_is = sym (All-contains (λ (given : Given). ends.balances given.account ≡ given.balance) ends.given.back one.0 ends.given.taken_as one.1)
+              ∙ ap ends.balances one.2;
+        }
+
     WasCutBy-taken : (j : ℕ) (cause : Cause) → IsCutBy jobs worker.seat.worker j true cause own → WasCutBy jobs worker.seat.worker j cause taken_in'
     WasCutBy-taken j (Stop word) cut = (cut.1, by_stop stop)
       where
@@ -162,6 +198,9 @@ module _ (jobs : Jobs) where
     WasCutBy-taken j (LogEnd tail total) cut = record {
       balances = cut.balances;
       marks = cut.marks;
+      gave = recursion_from_All (AreGivenUncommitted (number_at jobs worker.seat.worker j) tail cut.balances taken_in'.books.given)
+          (job_at jobs worker.seat.worker j).legs
+          (λ i d within. let both = cut.given.each i d within in (gave-taken j tail total cut _ both.0, gave-taken j tail total cut _ both.1));
       next = cut.next;
       rest = cut.rest;
       plan = ap (λ l. l ++ cut.next ∷ cut.rest) (merged-own (number_at jobs worker.seat.worker j) view.entries own.entries

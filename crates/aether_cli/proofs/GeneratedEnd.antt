@@ -7,7 +7,7 @@ use Rattle.log_record.specs.declared.rec.Placed.{Placed}
 use Rattle.log_record.specs.LogList.{size_of, units_of, end_of, IsBoundary}
 use Rattle.log_record.proofs.LogListLemmas.{boundary_is_front}
 use Rattle.log_recovery.proofs.ListingLemmas.{units_of-append}
-use Rattle.lock_core.specs.Alone.{PlainTransfer, Done, ShortAt, OverAt, Outcome, leg_updates, outcome_records}
+use Rattle.lock_core.specs.Alone.{PlainTransfer, Done, ShortAt, OverAt, Outcome, leg_updates, outcome_alone, outcome_records}
 use Rattle.lock_core.specs.AnyOrder.{IsDoneIn, weight_of}
 use Rattle.lock_core.specs.History.{history, history_from}
 use Rattle.lock_core.specs.Serial.{Task, numbered, IsCutShort, IsPartlySerialAfter}
@@ -103,19 +103,20 @@ boundary-most records lsn is =
     omega (arith, longer, found.3)
 
 module _ (n seed : ℕ) (few : n ≤ 100000) (jobs : Jobs) (script : jobs.script ≡ generated_jobs n seed) where
-  next-most : (worker k total : ℕ) (h : List Placed) → place_of jobs worker k < length jobs.script → HasNextOf jobs worker k total h → total ≤ 5
-  next-most worker k total h inside next =
+  next-most : (records : List Rec) (worker k tail total : ℕ) → place_of jobs worker k < length jobs.script → HasNextOf records jobs worker k tail total
+      → total ≤ 5
+  next-most records worker k tail total inside next =
       let found = generated-at n seed (place_of jobs worker k) (record { legs = []; note = None }) (omega (arith, inside, ap length script)) in
       let job : job_at jobs worker k ≡ job_from found.0 =
       ap (λ s. get_or s (place_of jobs worker k) (record { legs = []; note = None })) script ∙ found.1 in
-      let plan = next.plan ∙ ap (λ j. outcome_records (number_at jobs worker k) (transfer_of j) next.outcome) job in
-      let weighed = records-most h (number_at jobs worker k) (next.next ∷ next.rest) _ plan in
-      omega (arith, weighed, outcome-most (number_at jobs worker k) found.0 next.outcome, next.size)
+      let plan = next.plan ∙ ap (λ j. outcome_records (number_at jobs worker k) (transfer_of j) (outcome_alone (transfer_of j) next.balances)) job in
+      let weighed = records-most (history records) (number_at jobs worker k) (next.next ∷ next.rest) _ plan in
+      omega (arith, weighed, outcome-most (number_at jobs worker k) found.0 (outcome_alone (transfer_of (job_from found.0)) next.balances), next.size)
 
   pub never-log_end : (opened list : List Rec) (tail total : ℕ) → end_of opened ≤ 128 → end_of list ≤ 5 * n
       → StopsAtLogEnd opened jobs list tail total → ⊥
   never-log_end opened list tail total first most stops =
-      let small = next-most stops.worker stops.stripe.cut total (history (opened ++ list)) stops.stripe.inside stops.next in
+      let small = next-most (opened ++ list) stops.worker stops.stripe.cut tail total stops.stripe.inside stops.next in
       let within = boundary-most (opened ++ list) tail stops.boundary in
       let longer = ap length (units_of-append opened list) ∙ length-append (units_of opened) (units_of list) in
       let past = stops.too_long in

@@ -17,6 +17,7 @@ pub mod OpenedAccounts
 pub mod OpeningLemmas
 pub mod ReadyLemmas
 pub mod RunAnswerLemmas
+pub mod RunBalances
 pub mod RunBegun
 pub mod RunCompleteness
 pub mod RunEndWitness

@@ -1,5 +1,5 @@
 -- A transfer that finds no room: the log is full of notes of one transaction, but for one unit.
-use Rattle.std.proofs.Common.{◌≡◌, inl, inr, ◌<◌, ◌≤◌, ℕ, zero, suc, ◌+◌, ◌*◌, pos, negsuc, true, false, true≢false, List, [], ◌∷◌, ◌++◌, length, Some, None, slice_get, All, refl, ap, ◌∙◌, sym, subst, arith, append-nil, length-append}
+use Rattle.std.proofs.Common.{◌≡◌, inl, inr, ◌<◌, ◌≤◌, ℕ, zero, suc, ◌+◌, ◌*◌, pos, negsuc, true, false, true≢false, List, [], ◌∷◌, ◌++◌, length, Some, None, slice_get, All, Contains, refl, ap, ◌∙◌, sym, subst, arith, append-nil, length-append}
 use Rattle.std.specs.List.{AllByRecursion, flat_map}
 use Rattle.std.proofs.lemmas.List.Elements.{All-cons, All-nil}
 use mathlib.Core.Option.{some, some-injective, some-ne-none}
@@ -27,7 +27,9 @@ use Rattle.segment_file.specs.declared.layout.TheConstants.{CLOSED}
 use Rattle.segment_file.specs.declared.scan_result.Tail.{Tail}
 use Rattle.segment_file.proofs.BatchLemmas.{length-batch}
 use Rattle.log_table.specs.declared.table.Start.{Start}
+use Rattle.log_table.specs.declared.view.Given.{Given}
 use Rattle.log_table.specs.declared.view.View.{View}
+use Rattle.log_table.specs.Accounts.{IsOfFront}
 use Rattle.log_table.specs.Closing.{IsGathered, IsSettled}
 use Rattle.log_table.specs.Sound.{base_of}
 use Rattle.log_table.specs.Views.{flusher}
@@ -37,7 +39,7 @@ use Rattle.txn_runner.specs.declared.cause.Cause.TheVariants.{LogEnd}
 use Rattle.txn_runner.specs.declared.cause.Worked.TheVariants.{Cut}
 use Rattle.txn_runner.specs.declared.jobs.Jobs.{Jobs}
 use Rattle.aether_cli.specs.RunWitness.{payment, plain_disk, HasHitLogEnd}
-use Rattle.aether_cli.specs.Shares.{Share, HasShare}
+use Rattle.aether_cli.specs.Shares.{Share, IsGivenUncommitted, HasShare}
 use Rattle.aether_cli.specs.Transferred.{IsOpened}
 use Rattle.aether_cli.proofs.RunWitness.{genesis-counted, genesis-spellable, genesis-lawful, shut-at}
 
@@ -206,8 +208,19 @@ module _ (n : ℕ) (full : 4 + 2 * n ≤ LAST) (near : LAST < 4 + 2 * n + 2) whe
   abbrev view_old : View
   view_old = record (flusher key) { sending = record (flusher key).sending { quiet = true; looked = true } }
 
+  -- the account as the worker gave it back
+  abbrev given_of : ℕ → Given
+  given_of account = record {
+    txn = 2;
+    account = account;
+    balance = (row key.accounts.rows account).0;
+    tail = 4 + 2 * n;
+    durable = 4 + 2 * n;
+    committed = false;
+  }
+
   abbrev view : View
-  view = record view_old { books = record (flusher key).books { jobs = record { number = 2; job = payment } ∷ [] } }
+  view = record view_old { books = record (flusher key).books { jobs = record { number = 2; job = payment } ∷ []; given = given_of 1 ∷ given_of 0 ∷ [] } }
 
   gathered : IsGathered (4 + 2 * n) view
   gathered = record {
@@ -231,13 +244,27 @@ module _ (n : ℕ) (full : 4 + 2 * n ≤ LAST) (near : LAST < 4 + 2 * n + 2) whe
       };
       accounts = record { count = refl; range = range; balance = λ account inside. refl; last = λ account inside. refl };
     };
-    given = λ once. tt;
+    given = λ once. (λ uncommitted. all-of 1, (λ uncommitted. all-of 0, tt));
   }
     where
+      all-of : (account : ℕ) → IsOfFront (base_of key) [] (given_of account)
+      all-of account = record { later = []; front = []; whole = refl; balance = refl; tail = omega arith }
+
       range : (account : ℕ) → account < 2 → IsBalance (row ((100, 0) ∷ (0, 0) ∷ []) account).0
       range zero inside = omega arith
       range (suc zero) inside = omega arith
       range (suc (suc n)) inside = absurd (omega arith)
+
+  given-at : (account : ℕ) → Contains view.books.given (given_of account) → IsGivenUncommitted 2 (4 + 2 * n) (row key.accounts.rows account).0 view.books.given account
+  given-at account has = record {
+    back = given_of account;
+    contains = has;
+    txn = refl;
+    account_is = refl;
+    uncommitted = refl;
+    tail_is = refl;
+    balance_is = refl;
+  }
 
   has-share : (worker : ℕ) (share : Share) → get_elem? (cut ∷ []) worker ≡ some share → HasShare jobs worker share view
   has-share zero share at = subst (λ (s : Share). HasShare jobs 0 s view) (some-injective cut share at) (record {
@@ -247,8 +274,9 @@ module _ (n : ℕ) (full : 4 + 2 * n ≤ LAST) (near : LAST < 4 + 2 * n + 2) whe
       refl,
       λ j from below. absurd (omega arith),
       record {
-        balances = λ account. 100;
+        balances = λ account. (row key.accounts.rows account).0;
         marks = λ account. 0;
+        gave = ((given-at 0 (1, omega arith, refl), given-at 1 (0, omega arith, refl)), tt);
         next = Update 2 0 (negsuc 29) 0;
         rest = Update 2 1 (pos 30) 0 ∷ Commit 2 1 ∷ [];
         plan = refl;

@@ -1,5 +1,5 @@
 -- Which transfers of a run ended, stripe by stripe. `later` is the history after the opened list.
-use Rattle.std.proofs.Common.{◌≡◌, ◌⊎◌, inl, inr, ◌<◌, ◌≤◌, ℕ, zero, suc, ◌+◌, ◌*◌, true, List, [], ◌∷◌, ◌++◌, length, map, refl, ap, ◌∙◌, sym, subst, arith, Contains, append_assoc, length-append}
+use Rattle.std.proofs.Common.{◌≡◌, ◌⊎◌, inl, inr, ◌<◌, ◌≤◌, ℕ, zero, suc, ◌+◌, ◌*◌, true, false, List, [], ◌∷◌, ◌++◌, length, map, refl, ap, ◌∙◌, sym, subst, arith, Contains, append_assoc, length-append}
 use Rattle.std.specs.List.{AllByRecursion}
 use Rattle.std.proofs.Math.Nat.{mul-le-mul_left}
 use Rattle.std.proofs.lemmas.List.Elements.{All-contains, All-from_recursion}
@@ -8,6 +8,7 @@ use mathlib.Core.Option.{some, some-injective, some-ne-none}
 use native.Mathlib.Decide.{dec_lt}
 use lib.ListN.{get_elem?}
 use Rattle.lsn_space.specs.Tiling.{IsTiling}
+use Rattle.lsn_space.proofs.TilingLemmas.{all-weaker}
 use Rattle.log_record.specs.declared.rec.Rec.{Rec}
 use Rattle.log_record.specs.declared.rec.Placed.{Placed}
 use Rattle.log_record.specs.LogList.{units_of, end_of}
@@ -21,6 +22,7 @@ use Rattle.lock_core.specs.Transactions.{recs_of, own_records_of, has_end, all_w
 use Rattle.lock_core.proofs.NextRecords.{own_records_of-own, has_end-own, unended-next, planned-next, size-without_prev}
 use Rattle.log_recovery.proofs.ListingLemmas.{units_of-append}
 use Rattle.log_table.specs.declared.view.Entry.{Entry}
+use Rattle.log_table.specs.declared.view.Given.{Given}
 use Rattle.log_table.specs.declared.view.View.{View}
 use Rattle.log_table.specs.Books.{task_of}
 use Rattle.txn_script.specs.Transfers.{transfer_of}
@@ -32,8 +34,8 @@ use Rattle.txn_runner.specs.declared.cause.Worked.TheVariants.{All, Cut}
 use Rattle.txn_runner.specs.declared.jobs.Jobs.{Jobs}
 use Rattle.txn_runner.specs.Stripes.{number_at, job_at, IsStripeEnd}
 use Rattle.txn_runner.specs.Working.{HasEnd, own_records}
-use Rattle.aether_cli.specs.RunStops.{IsOfScript, IsWholeStripe, IsCutStripe, HasNextOf, StopsAtLogEnd}
-use Rattle.aether_cli.specs.Shares.{Share, all_taken, EndsLogAt, CameTo, HasShare, HasGathered}
+use Rattle.aether_cli.specs.RunStops.{IsOfScript, IsWholeStripe, IsCutStripe, HadBalance, HadBalances, HasNextOf, StopsAtLogEnd}
+use Rattle.aether_cli.specs.Shares.{Share, all_taken, IsGivenUncommitted, AreGivenUncommitted, EndsLogAt, CameTo, HasShare, HasGathered}
 use Rattle.aether_cli.proofs.RunHistory.{later_of, history-own}
 use Rattle.aether_cli.proofs.RunRecords.{tiling-end, boundary-front}
 use Rattle.aether_cli.proofs.RunStripes.{placed, tasks_of, each-numbered, share-at, share-inside, not_taken}
@@ -105,15 +107,28 @@ module _ (opened : List Rec) (jobs : Jobs) (view : View) (below : greatest_txn (
       own-later (number_at jobs worker k) (omega arith)
       ∙ ap recs_of (others (number_at jobs worker k) (not_taken jobs shares gathered.count worker k share at behind))
 
+  -- each account that was given back uncommitted had its balance in a front of the list
+  abbrev HadThem : Type 0
+  HadThem = AllByRecursion (λ (given : Given). given.committed ≡ false → HadBalance (opened ++ list) given.tail given.account given.balance) view.books.given
+
+  had-it : HadThem → (number tail balance account : ℕ) → IsGivenUncommitted number tail balance view.books.given account
+      → HadBalance (opened ++ list) tail account balance
+  had-it had number tail balance account is =
+      subst (λ (one : ℕ × ℕ × ℕ). HadBalance (opened ++ list) one.0 one.1 one.2) (λ i. (is.tail_is i, is.account_is i, is.balance_is i))
+      (All-contains (λ (given : Given). given.committed ≡ false → HadBalance (opened ++ list) given.tail given.account given.balance) view.books.given is.back
+      (All-from_recursion _ view.books.given had) is.contains is.uncommitted)
+
   -- what comes next of the transfer that was cut off
-  next-of : (worker j tail total : ℕ) → EndsLogAt jobs worker j tail total view → HasNextOf jobs worker j total (history (opened ++ list))
-  next-of worker j tail total ends =
+  next-of : HadThem → (worker j tail total : ℕ) → EndsLogAt jobs worker j tail total view → HasNextOf (opened ++ list) jobs worker j tail total
+  next-of had worker j tail total ends =
       let n : ℕ = number_at jobs worker j in
       let transfer = transfer_of (job_at jobs worker j) in
       let plan : in_order (own_records_of n later) (ends.next ∷ ends.rest) ≡ own_records n view.entries ++ ends.next ∷ ends.rest =
       own_records_of-own n (end_of opened) [] list (ends.next ∷ ends.rest) in
       record {
-        outcome = outcome_alone transfer ends.balances;
+        balances = ends.balances;
+        each = all-weaker (AreGivenUncommitted n tail ends.balances view.books.given) (HadBalances (opened ++ list) tail ends.balances) (job_at jobs worker j).legs
+            (λ leg both. (had-it had n tail (ends.balances leg.0) leg.0 both.0, had-it had n tail (ends.balances leg.1) leg.1 both.1)) ends.gave;
         next = without_prev ends.next;
         rest = all_without_prev ends.rest;
         plan = ap (λ records. in_order (all_without_prev records) (without_prev ends.next ∷ all_without_prev ends.rest)) (own-later n (omega arith))
@@ -121,20 +136,20 @@ module _ (opened : List Rec) (jobs : Jobs) (view : View) (below : greatest_txn (
         size = ends.size ∙ sym (size-without_prev ends.next);
       }
 
-  cut-stripe : (shares : List Share) → HasGathered jobs shares view → IsTakenAlone shares → (worker tail total : ℕ) (share : Share)
+  cut-stripe : (shares : List Share) → HasGathered jobs shares view → IsTakenAlone shares → HadThem → (worker tail total : ℕ) (share : Share)
       → get_elem? shares worker ≡ some share → share.worked ≡ Cut (LogEnd tail total)
-      → (stripe : IsCutStripe jobs worker (history (opened ++ list))) × HasNextOf jobs worker stripe.cut total (history (opened ++ list))
-  cut-stripe shares gathered others worker tail total share at is =
+      → (stripe : IsCutStripe jobs worker (history (opened ++ list))) × HasNextOf (opened ++ list) jobs worker stripe.cut tail total
+  cut-stripe shares gathered others had worker tail total share at is =
       let has = gathered.each worker share at in
       let came : CameTo jobs worker share.taken (Cut (LogEnd tail total)) view = subst (λ (w : Worked). CameTo jobs worker share.taken w view) is has.came_to in
       let j : ℕ = came.0 in
-      let next = next-of worker j tail total came.3 in
+      let next = next-of had worker j tail total came.3 in
       let n : ℕ = number_at jobs worker j in (
         record {
           cut = j;
           inside = has.stripe j (let count = came.1 in omega arith);
           before = λ k less. ap has_end (own-later (number_at jobs worker k) (omega arith)) ∙ has_end-later (number_at jobs worker k) (came.2 k (omega arith) less);
-          unended = unended-next n (transfer_of (job_at jobs worker j)) next.outcome (own_records_of n (history (opened ++ list))) next.rest next.next next.plan;
+          unended = unended-next n (transfer_of (job_at jobs worker j)) (outcome_alone (transfer_of (job_at jobs worker j)) next.balances) (own_records_of n (history (opened ++ list))) next.rest next.next next.plan;
           after = λ k more. none-behind shares gathered others worker k share at (let count = came.1 in omega arith);
         },
         next,
@@ -165,22 +180,22 @@ module _ (opened : List Rec) (jobs : Jobs) (view : View) (below : greatest_txn (
       subst (λ (w : Worked). CameTo jobs worker share.taken w view) is (gathered.each worker share at).came_to in
       came.3.0 (sym came.3.1 ∙ no_stop)
 
-  each-stripe : (shares : List Share) → HasGathered jobs shares view → IsTakenAlone shares → view.sending.stop ≡ 0 → (worker : ℕ) (share : Share)
+  each-stripe : (shares : List Share) → HasGathered jobs shares view → IsTakenAlone shares → HadThem → view.sending.stop ≡ 0 → (worker : ℕ) (share : Share)
       → get_elem? shares worker ≡ some share → (worked : Worked) → share.worked ≡ worked
       → IsWholeStripe jobs worker (history (opened ++ list)) ⊎ IsCutStripe jobs worker (history (opened ++ list))
-  each-stripe shares gathered others no_stop worker share at All is = inl (whole-stripe worker share (gathered.each worker share at) is)
-  each-stripe shares gathered others no_stop worker share at (Cut (Stop word)) is = absurd (no-stop shares gathered no_stop worker word share at is)
-  each-stripe shares gathered others no_stop worker share at (Cut (LogEnd tail total)) is =
-      inr (cut-stripe shares gathered others worker tail total share at is).0
+  each-stripe shares gathered others had no_stop worker share at All is = inl (whole-stripe worker share (gathered.each worker share at) is)
+  each-stripe shares gathered others had no_stop worker share at (Cut (Stop word)) is = absurd (no-stop shares gathered no_stop worker word share at is)
+  each-stripe shares gathered others had no_stop worker share at (Cut (LogEnd tail total)) is =
+      inr (cut-stripe shares gathered others had worker tail total share at is).0
 
-  pub stops : (shares : List Share) → HasGathered jobs shares view → IsTakenAlone shares → (lsn : ℕ) → IsGathered lsn view
+  pub stops : (shares : List Share) → HasGathered jobs shares view → IsTakenAlone shares → HadThem → (lsn : ℕ) → IsGathered lsn view
       → view.constants.start ≡ end_of opened → view.sending.stop ≡ 0 → (worker tail total : ℕ) (share : Share) → get_elem? shares worker ≡ some share
       → share.worked ≡ Cut (LogEnd tail total) → StopsAtLogEnd opened jobs list tail total
-  stops shares gathered others lsn whole start no_stop worker tail total share at is =
+  stops shares gathered others had lsn whole start no_stop worker tail total share at is =
       let came : CameTo jobs worker share.taken (Cut (LogEnd tail total)) view =
       subst (λ (w : Worked). CameTo jobs worker share.taken w view) is (gathered.each worker share at).came_to in
       let front = tail-front lsn tail whole start came.3.seen in
-      let cut = cut-stripe shares gathered others worker tail total share at is in
+      let cut = cut-stripe shares gathered others had worker tail total share at is in
       let end = tiling-end view.constants.start lsn view.entries whole.full whole.spelled whole.tiles in
       record {
         too_long = came.3.too_long;
@@ -189,7 +204,7 @@ module _ (opened : List Rec) (jobs : Jobs) (view : View) (below : greatest_txn (
         alone = λ one. alone lsn tail whole start end front (came.3.alone one);
         stripes = λ other small.
             let found = share-at shares other (let count = gathered.count in omega arith) in
-            each-stripe shares gathered others no_stop other found.0 found.1 found.0.worked refl;
+            each-stripe shares gathered others had no_stop other found.0 found.1 found.0.worked refl;
         worker = worker;
         is_worker = (let inside = share-inside shares worker share at in let count = gathered.count in omega arith);
         stripe = cut.0;

@@ -1,6 +1,9 @@
 -- The history of a list that goes on from the opened one.
-use Rattle.std.proofs.Common.{◌≡◌, ◌≢◌, ◌<◌, ℕ, List, [], ◌∷◌, ◌++◌, ap, ◌∙◌, arith}
+use Rattle.std.proofs.Common.{◌≡◌, ◌≢◌, ◌<◌, ◌≤◌, ℕ, ◌+◌, List, [], ◌∷◌, ◌++◌, length, refl, ap, sym, ◌∙◌, arith, drop, length-append}
+use Rattle.std.proofs.Math.Seq.{drop-append_seam}
 use Rattle.std.specs.List.{AllByRecursion}
+use mathlib.Core.Logic.{dite}
+use native.Mathlib.Decide.{dec_lt}
 use Rattle.log_record.specs.declared.rec.Rec.{Rec}
 use Rattle.log_record.specs.declared.rec.Placed.{Placed}
 use Rattle.log_record.specs.LogList.{end_of}
@@ -11,7 +14,7 @@ use Rattle.lock_core.specs.Transactions.{of_transaction, own_records_of}
 use Rattle.lock_core.proofs.Apart.{own_records_of-left, of_transaction-none, below-greatest}
 use Rattle.lock_core.proofs.OneMore.{of_transaction-other}
 use Rattle.lock_core.specs.History.{end_from, entry_at, history_from, history}
-use Rattle.lock_core.proofs.Fronts.{history_from-append, history_from-apart}
+use Rattle.lock_core.proofs.Fronts.{history_from-append, history_from-onto, history_from-apart}
 use Rattle.log_recovery.proofs.ListingLemmas.{end_from-history}
 
 -- what follows the opened list
@@ -56,3 +59,27 @@ pub spellable-history : (start : ℕ) (h : List Placed) (records : List Rec) →
     → AllByRecursion IsSpellable records → AllByRecursion (λ (entry : Placed). IsSpellable entry.rec) (history_from start h records)
 spellable-history start h [] all each = all
 spellable-history start h (rec ∷ records) all each = spellable-history start (entry_at (end_from start h) rec ∷ h) records (each.0, all) each.1
+
+-- ends of one list of the same length are the same
+end-same : {A : Type 0} (xs ys a b : List A) → xs ++ a ≡ ys ++ b → length a ≡ length b → a ≡ b
+end-same xs ys a b whole long =
+    let count : length xs ≡ length ys = let one = length-append xs a in let two = length-append ys b in let both = ap length whole in omega arith in
+    sym (drop-append_seam xs a) ∙ (λ i. drop (count i) (whole i)) ∙ drop-append_seam ys b
+
+-- a front of a history is the history of a front of its records
+pub history-front : (start : ℕ) (records : List Rec) (later front : List Placed) → history_from start [] records ≡ later ++ front
+    → (before rest : List Rec) × (records ≡ before ++ rest) × (front ≡ history_from start [] before)
+history-front start records later front whole = onto [] records (omega arith) whole
+  where
+    IsFrontOf : List Placed → List Rec → Type 0
+    IsFrontOf h records = (before rest : List Rec) × (records ≡ before ++ rest) × (front ≡ history_from start h before)
+
+    onto : (h : List Placed) (records : List Rec) → length h ≤ length front → history_from start h records ≡ later ++ front → IsFrontOf h records
+    onto h [] short whole =
+        let long = length-append later front in let both = ap length whole in
+        ([], [], refl, end-same later [] front h (sym whole) (omega arith))
+    onto h (rec ∷ records) short whole = dite (dec_lt (length h) (length front))
+        (λ less. let more = onto (entry_at (end_from start h) rec ∷ h) records (omega arith) whole in
+        (rec ∷ more.0, more.1, ap (λ l. rec ∷ l) more.2, more.3))
+        (λ same. let below = history_from-onto start h (rec ∷ records) in
+        ([], rec ∷ records, refl, end-same later below.0 front h (sym whole ∙ below.1) (omega arith)))

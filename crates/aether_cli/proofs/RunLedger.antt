@@ -36,7 +36,7 @@ use Rattle.aether_cli.proofs.RunStripes.{tasks_of}
 
 -- ---- the base state
 
-end-genesis : (h : List Placed) → end_from (genesis_of h).end h ≡ end_from 0 h
+pub end-genesis : (h : List Placed) → end_from (genesis_of h).end h ≡ end_from 0 h
 end-genesis [] = refl
 end-genesis (entry ∷ h) = refl
 

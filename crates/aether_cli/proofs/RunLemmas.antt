@@ -1,9 +1,10 @@
 -- What a run promises, from what is known once all seats are gathered.
-use Rattle.std.proofs.Common.{◌≡◌, inl, inr, ⊎_elim, ◌≤◌, ℕ, ◌+◌, List, [], ◌++◌, length, map, None, refl, ap, ◌∙◌, sym, subst, arith, add-zero, append-nil, append_assoc, length-append}
+use Rattle.std.proofs.Common.{◌≡◌, inl, inr, ⊎_elim, ◌≤◌, ℕ, ◌+◌, false, List, [], ◌++◌, length, map, None, refl, ap, ◌∙◌, sym, subst, arith, add-zero, append-nil, append_assoc, length-append}
 use Rattle.std.specs.List.{AllByRecursion}
 use Rattle.std.proofs.lemmas.List.Elements.{All-from_recursion}
 use mathlib.Core.Option.{some}
 use lib.ListN.{get_elem?}
+use Rattle.lsn_space.proofs.TilingLemmas.{all-weaker}
 use Rattle.log_disk.proofs.Moments.{Leaves-weaken}
 use Rattle.log_disk.specs.declared.disk.LogDisk.{Ghosts}
 use Rattle.log_disk.specs.declared.sink.Sink.{Ghosts as SinkGhosts}
@@ -23,8 +24,10 @@ use Rattle.log_recovery.proofs.ListingLemmas.{units_of-append}
 use Rattle.log_recovery.proofs.TextLemmas.{AppendsPrefix-first}
 use Rattle.log_table.specs.declared.table.Start.{Start}
 use Rattle.log_table.specs.declared.view.Constants.{Constants}
+use Rattle.log_table.specs.declared.view.Given.{Given}
 use Rattle.log_table.specs.declared.view.Sending.{Sending}
 use Rattle.log_table.specs.declared.view.View.{View}
+use Rattle.log_table.specs.Accounts.{WentBack}
 use Rattle.log_table.specs.Books.{task_of, times_taken}
 use Rattle.log_table.specs.Closing.{records_of, IsLedger}
 use Rattle.log_table.specs.Log.{units_in}
@@ -44,13 +47,14 @@ use Rattle.txn_runner.specs.declared.cause.Cause.TheVariants.{Stop, LogEnd}
 use Rattle.txn_runner.specs.declared.cause.Worked.TheVariants.{All, Cut}
 use Rattle.txn_runner.specs.declared.jobs.Jobs.{Jobs}
 use Rattle.aether_cli.specs.Run.{ComeInTurn, HoldsRun, IsLeft, RunKeepsLog, RunIsDrained, RunsWhole}
-use Rattle.aether_cli.specs.RunStops.{StopsAtLogEnd}
+use Rattle.aether_cli.specs.RunStops.{HadBalance, StopsAtLogEnd}
 use Rattle.aether_cli.specs.Shares.{Share, all_taken}
 use Rattle.aether_cli.specs.Transferred.{HasTransferred}
+use Rattle.aether_cli.proofs.RunBalances.{had-balance}
 use Rattle.aether_cli.proofs.RunEnds.{all-ended, no-stop, stops}
 use Rattle.aether_cli.proofs.RunHistory.{later_of}
 use Rattle.aether_cli.proofs.RunImages.{HoldsBoth, HoldsSome, RunSends, RunSent, sends-still, sent-still, sent-now, read-now, sends-ran, sent-ran}
-use Rattle.aether_cli.proofs.RunLedger.{base-opened, whole-lawful, goes-on, runs-whole, text-shown, front-spellable, front-lawful, front-goes-on}
+use Rattle.aether_cli.proofs.RunLedger.{base-opened, apart, whole-lawful, goes-on, runs-whole, text-shown, front-spellable, front-lawful, front-goes-on}
 use Rattle.aether_cli.proofs.RunRecords.{records-spellable, units_in-records, records-front, tiling-end}
 use Rattle.aether_cli.proofs.RunTurns.{front-in_turn}
 use Rattle.aether_cli.proofs.RunStripes.{tasks_of, each-numbered, taken-once, taken-numbered, taken-or_not}
@@ -88,6 +92,13 @@ module _ {D : Type 0} {K : Type 0} (g : Ghosts D) (h : SinkGhosts K) (opened : L
       (subst (λ end. IsLedger (base_of key) (history_from end [] list) taken rows) known.log.start
       (subst (λ jobs. IsLedger (base_of key) (history_from key.start [] list) (map task_of jobs) rows) known.workers.taken
       (known.settled.ledger once)))
+
+  -- each account that was given back uncommitted went back with the balance of a front
+  went-back : AllByRecursion (WentBack base (later_of opened list)) view.books.given
+  went-back =
+      let same = base-opened opened key known.log.lawful known.log.start known.log.accounts in
+      subst (λ from. AllByRecursion (WentBack from (later_of opened list)) view.books.given) same
+      (subst (λ end. AllByRecursion (WentBack (base_of key) (history_from end [] list)) view.books.given) known.log.start (known.settled.given once))
 
   pub serial : IsPartlySerialAfter base (tasks_of jobs) (later_of opened list)
   serial = partly_serial-more base taken (tasks_of jobs) (later_of opened list)
@@ -251,9 +262,13 @@ module _ {D : Type 0} {K : Type 0} (g : Ghosts D) (h : SinkGhosts K) (opened : L
     stop-none : view.sending.stop ≡ 0
     stop-none = ap (λ (s : Sending). s.stop) known.sending ∙ subst (HasReason g h old new) fine reason ∙ known.fresh.stop
 
+    had : AllByRecursion (λ (given : Given). given.committed ≡ false → HadBalance (opened ++ list) given.tail given.account given.balance) view.books.given
+    had = all-weaker (WentBack base (later_of opened list)) _ view.books.given (had-balance opened list known.log.lawful lawful_after
+        (apart opened list jobs known.log.lawful known.log.some_accounts known.log.below spellable lawful_after serial)) went-back
+
     pub stops-at-end : (worker count tail total : ℕ) → get_elem? shares worker ≡ some (record { taken = count; worked = Cut (LogEnd tail total) })
         → StopsAtLogEnd opened jobs list tail total
-    stops-at-end worker count tail total at = stops opened jobs view known.log.below shares known.workers ledger.serial.others lsn known.gathered start-view
+    stops-at-end worker count tail total at = stops opened jobs view known.log.below shares known.workers ledger.serial.others had lsn known.gathered start-view
         stop-none worker tail total (record { taken = count; worked = Cut (LogEnd tail total) }) at refl
 
     pub never-stops : (worker count word : ℕ) → get_elem? shares worker ≡ some (record { taken = count; worked = Cut (Stop word) }) → ⊥

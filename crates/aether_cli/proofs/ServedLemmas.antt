@@ -36,6 +36,7 @@ module _ (jobs : Jobs) (number : ℕ) where
       taken_as = is.given.taken_as;
       each = is.given.each;
     };
+    uncommitted = is.uncommitted;
     next = is.next;
     rest = is.rest;
     plan = is.plan;

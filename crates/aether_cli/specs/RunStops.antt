@@ -1,11 +1,14 @@
 -- How far the stripes of a run came that stopped at the end of the log. `h` is the history of the whole list.
-use Rattle.std.specs.Prelude.{◌≡◌, ◌⊎◌, ℕ, ◌+◌, ◌<◌, Bool, true, false, List, [], ◌∷◌, ◌++◌, length}
+use Rattle.std.specs.Prelude.{◌≡◌, ◌⊎◌, ℕ, ◌+◌, ◌<◌, ◌≤◌, Bool, true, false, List, [], ◌∷◌, ◌++◌, length}
 use Rattle.lsn_space.specs.declared.lsn.TheConstants.{LAST}
+use Rattle.std.specs.List.{AllByRecursion}
 use Rattle.log_record.specs.declared.rec.Rec.{Rec}
 use Rattle.log_record.specs.declared.rec.Placed.{Placed}
 use Rattle.log_record.specs.LogList.{size_of, end_of, IsBoundary}
-use Rattle.lock_core.specs.Alone.{Outcome, outcome_records}
+use Rattle.lock_core.specs.Alone.{outcome_alone, outcome_records}
 use Rattle.lock_core.specs.History.{history}
+use Rattle.lock_core.specs.Lawful.{genesis_of}
+use Rattle.lock_core.specs.Sums.{IsBalanceOf}
 use Rattle.lock_core.specs.Transactions.{own_records_of, has_end, all_without_prev, in_order}
 use Rattle.txn_script.specs.Transfers.{transfer_of}
 use Rattle.txn_runner.specs.declared.jobs.Jobs.{Jobs}
@@ -31,13 +34,27 @@ pub record IsCutStripe (jobs : Jobs) (worker : ℕ) (h : List Placed) : Type 0 w
   pub unended : EndsAs jobs worker cut h false
   pub after : (k : ℕ) → cut < k → own_records_of (number_at jobs worker k) h ≡ []
 
--- the next record of the worker's k-th transfer, by the records of some outcome, has so many units
-pub record HasNextOf (jobs : Jobs) (worker k total : ℕ) (h : List Placed) : Type 0 where
-  pub outcome : Outcome
+-- in a front of the list which ends at or above this tail the account has this balance
+pub record HadBalance (records : List Rec) (tail account balance : ℕ) : Type 0 where
+  pub front : List Rec
+  pub rest : List Rec
+  pub whole : records ≡ front ++ rest
+  pub above : tail ≤ end_of front
+  pub balance_is : IsBalanceOf (genesis_of (history front)) (history front) account balance
+
+-- and so each account of the leg has its own of these balances, each in a front of its own
+abbrev pub HadBalances : List Rec → ℕ → (ℕ → ℕ) → ℕ × ℕ × ℕ → Type 0
+HadBalances records tail balances leg = HadBalance records tail leg.0 (balances leg.0) × HadBalance records tail leg.1 (balances leg.1)
+
+-- Each account of the worker's k-th transfer has its balance in a front of the list that ends at or above this tail. By the outcome of that
+-- transfer run alone on these balances its next record, behind those that the list has of it, has so many units.
+pub record HasNextOf (records : List Rec) (jobs : Jobs) (worker k tail total : ℕ) : Type 0 where
+  pub balances : ℕ → ℕ
+  pub each : AllByRecursion (HadBalances records tail balances) (job_at jobs worker k).legs
   pub next : Rec
   pub rest : List Rec
-  pub plan : in_order (all_without_prev (own_records_of (number_at jobs worker k) h)) (next ∷ rest)
-      ≡ outcome_records (number_at jobs worker k) (transfer_of (job_at jobs worker k)) outcome
+  pub plan : in_order (all_without_prev (own_records_of (number_at jobs worker k) (history records))) (next ∷ rest)
+      ≡ outcome_records (number_at jobs worker k) (transfer_of (job_at jobs worker k)) (outcome_alone (transfer_of (job_at jobs worker k)) balances)
   pub size : total ≡ size_of next
 
 -- A worker's transfer was cut off since its next record, of so many units, did not fit between this tail, a boundary of the list, and the last
@@ -51,4 +68,4 @@ pub record StopsAtLogEnd (opened : List Rec) (jobs : Jobs) (list : List Rec) (ta
   pub worker : ℕ
   pub is_worker : worker < jobs.workers
   pub stripe : IsCutStripe jobs worker (history (opened ++ list))
-  pub next : HasNextOf jobs worker stripe.cut total (history (opened ++ list))
+  pub next : HasNextOf (opened ++ list) jobs worker stripe.cut tail total

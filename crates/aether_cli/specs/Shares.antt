@@ -1,5 +1,5 @@
 -- What the workers of a run came to, as the flusher's view shows it once it took in all their seats. Worker w's share stands at place w.
-use Rattle.std.specs.Prelude.{◌≡◌, ◌≢◌, ℕ, ◌+◌, ◌<◌, ◌≤◌, List, [], ◌∷◌, ◌++◌, length, Contains}
+use Rattle.std.specs.Prelude.{◌≡◌, ◌≢◌, ℕ, ◌+◌, ◌<◌, ◌≤◌, false, List, [], ◌∷◌, ◌++◌, length, Contains}
 use Rattle.std.specs.List.{AllByRecursion}
 use mathlib.Core.Option.{some}
 use lib.ListN.{get_elem?}
@@ -8,6 +8,7 @@ use Rattle.log_record.specs.declared.rec.Rec.{Rec}
 use Rattle.log_record.specs.LogList.{size_of}
 use Rattle.lock_core.specs.Alone.{planned_records}
 use Rattle.log_table.specs.declared.view.Entry.{Entry}
+use Rattle.log_table.specs.declared.view.Given.{Given}
 use Rattle.log_table.specs.declared.view.TakenJob.{TakenJob}
 use Rattle.log_table.specs.declared.view.View.{View}
 use Rattle.txn_script.specs.Transfers.{transfer_of}
@@ -29,11 +30,27 @@ abbrev pub all_taken : Jobs → ℕ → List Share → List TakenJob
 all_taken jobs worker [] = []
 all_taken jobs worker (share ∷ shares) = stripe_jobs jobs worker share.taken ++ all_taken jobs (worker + 1) shares
 
+-- under this number the account was given back uncommitted, with this balance as it was taken, where the seat had seen tail there
+pub record IsGivenUncommitted (number tail balance : ℕ) (given : List Given) (account : ℕ) : Type 0 where
+  pub back : Given
+  pub contains : Contains given back
+  pub txn : back.txn ≡ number
+  pub account_is : back.account ≡ account
+  pub uncommitted : back.committed ≡ false
+  pub tail_is : back.tail ≡ tail
+  pub balance_is : back.balance ≡ balance
+
+-- and so was each of the leg, with these balances
+abbrev pub AreGivenUncommitted : ℕ → ℕ → (ℕ → ℕ) → List Given → ℕ × ℕ × ℕ → Type 0
+AreGivenUncommitted number tail balances given leg =
+    IsGivenUncommitted number tail (balances leg.0) given leg.0 × IsGivenUncommitted number tail (balances leg.1) given leg.1
+
 -- The next record of the worker's j-th transfer has so many units, and they do not fit between this tail, which a worker saw, and the
--- last LSN.
+-- last LSN. By the balances with which its accounts were taken, and given back at that tail, uncommitted, it is that record.
 pub record EndsLogAt (jobs : Jobs) (worker j tail total : ℕ) (view : View) : Type 0 where
   pub balances : ℕ → ℕ
   pub marks : ℕ → ℕ
+  pub gave : AllByRecursion (AreGivenUncommitted (number_at jobs worker j) tail balances view.books.given) (job_at jobs worker j).legs
   pub next : Rec
   pub rest : List Rec
   pub plan : own_records (number_at jobs worker j) view.entries ++ next ∷ rest

@@ -1,6 +1,8 @@
 -- What a lawful list keeps that goes on from another; and that nothing moves an account that it doesn't have.
 use Rattle.std.proofs.Common.{◌≡◌, ◌<◌, ◌≤◌, ◌==◌, ◌&&◌, ◌||◌, ℕ, ◌+◌, cond, ℤ, Bool, true, false, List, [], ◌∷◌, ◌++◌, refl, ap, ◌∙◌, sym, arith, ne_eqb}
 use Rattle.std.specs.List.{AllByRecursion}
+use mathlib.Core.Logic.{dite}
+use native.Mathlib.Decide.{dec_lt}
 use Rattle.log_record.specs.declared.rec.Rec.{Rec}
 use Rattle.log_record.specs.declared.rec.Placed.{Placed}
 use Rattle.log_record.specs.declared.rec.Rec.TheVariants.{Genesis, Update, Commit, Short, Over, Note}
@@ -9,14 +11,14 @@ use Rattle.lock_core.specs.declared.update.Change.{Change}
 use Rattle.lock_core.specs.Records.{txn_of, commits, changes_of, gain, loss}
 use Rattle.lock_core.specs.Transactions.{updates_of, touches, is_committed, ShareNoTransaction}
 use Rattle.lock_core.specs.Tests.{KnowsAccount, OpensLedger}
-use Rattle.lock_core.specs.Sums.{BaseState, moved, moved_by, sum_below, last_commit_of}
+use Rattle.lock_core.specs.Sums.{BaseState, moved, moved_by, sum_below, IsBalanceOf, balance_of, last_commit_of}
 use Rattle.lock_core.specs.Lawful.{IsLawful, IsLawfulAfter, genesis_of, with_genesis, base_state_of}
 use Rattle.lock_core.specs.Soundness.{IsSoundAfter}
 use Rattle.lock_core.proofs.Meeting.{AreMet, met-log}
 use Rattle.lock_core.proofs.LastCommits.{genesis_of-last_commit}
 use Rattle.lock_core.proofs.Preceding.{predecessors-log}
 use Rattle.lock_core.proofs.ListLemmas.{all-split}
-use Rattle.lock_core.proofs.Appending.{genesis_of-append, lawful-append}
+use Rattle.lock_core.proofs.Appending.{genesis_of-append, lawful-append, is_balance-met, total-append}
 use Rattle.lock_core.proofs.Ranging.{in_range-log}
 use Rattle.lock_core.proofs.Conserving.{sum_below-log}
 use Rattle.lock_core.proofs.KindLemmas.{accounts-genesis}
@@ -110,3 +112,20 @@ base_state-past h account lawful past =
     let losses = moved_by-past (genesis_of h) account past (λ txn. is_committed txn h) loss h met in
     let opening = genesis_of-past h account lawful past in
     (omega arith, last_commit_of-past (genesis_of h) account past h met ∙ genesis_of-last_commit h account)
+
+-- the balance of any account in a lawful list is a balance
+is_balance-lawful : (h : List Placed) (account : ℕ) → IsLawful h → IsBalanceOf (genesis_of h) h account (balance_of (genesis_of h) h account)
+is_balance-lawful h account lawful = dite (dec_lt account (genesis_of h).accounts)
+    (λ inside. is_balance-met (genesis_of h) h account inside (met-log h lawful))
+    (λ outside.
+    let met = met-log h lawful in
+    let past : (genesis_of h).accounts ≤ account = omega arith in
+    let gains = moved_by-past (genesis_of h) account past (λ txn. is_committed txn h) gain h met in
+    let losses = moved_by-past (genesis_of h) account past (λ txn. is_committed txn h) loss h met in omega arith)
+
+-- a balance after the base state that a lawful list leaves is one of both lists
+pub is_balance-lawful_append : (h l : List Placed) (account balance : ℕ) → IsLawful l → ShareNoTransaction h l
+    → IsBalanceOf (base_state_of l) h account balance → IsBalanceOf (genesis_of l) (h ++ l) account balance
+is_balance-lawful_append h l account balance lawful apart is =
+    let before = is_balance-lawful l account lawful in
+    let gains = total-append gain account h l apart in let losses = total-append loss account h l apart in omega arith
