@@ -1,7 +1,8 @@
 -- How what a judge keeps goes on by one entry.
 use Rattle.std.proofs.Common.{◌≡◌, ℕ, false, true≢false, List, [], ◌∷◌, ◌<◌, length, Result, Ok, Err, refl, sym, subst, ◌∙◌, arith}
-use Rattle.std.specs.Prelude.{OnOk, IfErr}
+use Rattle.std.specs.Prelude.{OnOk, IfErr, Some}
 use Rattle.std.specs.List.{AllByRecursion}
+use Rattle.std.proofs.lemmas.Option.{slice_get-get_or}
 use Rattle.lsn_space.specs.Accounts.{Accounts}
 use Rattle.log_record.specs.declared.rec.Rec.{Rec}
 use Rattle.log_record.specs.declared.rec.Placed.{Placed}
@@ -10,21 +11,28 @@ use Rattle.log_record.specs.declared.limits.TheConstants.{MOST_ACCOUNTS}
 use Rattle.lock_core.specs.declared.reason.Why.{Why}
 use Rattle.lock_core.specs.Records.{commits}
 use Rattle.lock_core.specs.Transactions.{own_records_of}
+use Rattle.lock_core.specs.Sums.{BaseState, ShowsAccounts}
 use Rattle.lock_core.specs.Tests.{IsGenesis}
 use Rattle.lock_core.specs.Lawful.{tests, Passes, IsLawful, genesis_of}
 use Rattle.lock_core.specs.Faults.{IsFirstFailing}
-use Rattle.lock_core.specs.Settling.{KeepsRows}
+use Rattle.lock_core.specs.Settling.{row, KeepsRows}
 use Rattle.lock_core.specs.Judging.{IsJudged, Judges}
 use Rattle.lock_core.proofs.OneMore.{has_commit-unended, total-plain, total-empty}
 use Rattle.lock_core.proofs.Meeting.{meets-log}
-use Rattle.lock_core.proofs.KindLemmas.{keeps-rows, keeps-same}
+use Rattle.lock_core.proofs.Ranging.{balance_of-is}
+use Rattle.lock_core.proofs.KindLemmas.{keeps-same}
 
 -- no record, no account
 pub judged-none : (accounts : Accounts) → accounts.rows ≡ [] → accounts.room ≡ MOST_ACCOUNTS → IsJudged accounts []
 judged-none accounts empty room = let none : length accounts.rows ≡ 0 = (λ i. length (empty i)) in record {
   lawful = tt;
   room = room;
-  rows = keeps-rows accounts.rows (genesis_of []) [] none (λ a inside. absurd (omega arith)) (λ a inside. absurd (omega arith)) (λ a inside. absurd (omega arith));
+  rows = record {
+    count = none;
+    range = λ a inside. absurd (omega arith);
+    balance = λ a inside. absurd (omega arith);
+    last = λ a inside. absurd (omega arith);
+  };
 }
 
 -- an entry that passes all tests, and neither opens an account nor commits, leaves the accounts
@@ -93,3 +101,12 @@ module _ {A : Type 0} (h : List Placed) (entry : Placed) (rec : Rec) (is : entry
           → OnOk r (IsJudged accounts (known ∷ h))
       by_case (Ok x) judges kept = record { lawful = (judges, lawful); room = kept.0; rows = kept.1 }
       by_case (Err why) judges kept = tt
+
+-- the rows that are kept are the accounts
+pub shows-kept : (rows : List (ℕ × ℕ)) (base : BaseState) (h : List Placed) → KeepsRows rows base h → ShowsAccounts rows base h
+shows-kept rows base h kept = let counted = kept.count in record {
+  count = kept.count;
+  each = λ a below. let inside : a < length rows = omega arith in
+      slice_get-get_or rows a (0, 0) inside
+      ∙ (λ i. Some (sym (balance_of-is base h a (row rows a).0 (kept.balance a inside)) i, kept.last a inside i));
+}

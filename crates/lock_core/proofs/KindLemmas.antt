@@ -2,8 +2,6 @@
 use Rattle.std.proofs.Common.{◌≡◌, ◌<◌, ◌≤◌, ℕ, ◌+◌, cond, ℤ, false, true≢false, List, [], ◌∷◌, length, refl, ap, ◌∙◌, sym, subst, arith, ne_eqb, eq-eqb, length-append, ◌++◌}
 use Rattle.std.specs.List.{AllByRecursion}
 use Rattle.std.proofs.lemmas.List.{get_or_append_left, get_or_at}
-use Rattle.std.proofs.lemmas.Option.{slice_get-get_or}
-use Rattle.std.specs.Prelude.{Some, unwrap_or}
 use mathlib.Core.Logic.{dite}
 use native.Mathlib.Decide.{ℕ_discrete}
 use Rattle.log_record.specs.declared.rec.Rec.{Rec}
@@ -13,17 +11,16 @@ use Rattle.log_record.specs.Spelling.{IsBalance}
 use Rattle.lock_core.specs.declared.update.Change.{Change}
 use Rattle.lock_core.specs.Records.{gain, loss}
 use Rattle.lock_core.specs.Transactions.{own_records_of, updates_of, has_end, touches}
-use Rattle.lock_core.specs.Sums.{BaseState, moved, total, IsBalanceOf, balance_of, AreInRange, last_commit_of}
+use Rattle.lock_core.specs.Sums.{BaseState, moved, total, AreInRange, last_commit_of}
 use Rattle.lock_core.specs.Tests.{IsGenesis, IsCurrent}
 use Rattle.lock_core.specs.declared.reason.Why.TheVariants as why
 use Rattle.lock_core.specs.Lawful.{IsLawful, genesis_of, with_genesis, tests, Passes}
 use Rattle.lock_core.specs.Faults.{IsFirstFailing}
-use Rattle.lock_core.specs.Settling.{row, Settles, AreRowsInRange, LeavesSome, KeepsRows}
+use Rattle.lock_core.specs.Settling.{row, Settles, LeavesSome, KeepsRows}
 use Rattle.lock_core.specs.Judging.{IsCommitting}
 use Rattle.lock_core.proofs.OneMore.{has_commit-unended, total-empty, total-commit, last_commit_of-commit}
 use Rattle.lock_core.proofs.Meeting.{met-log}
 use Rattle.lock_core.proofs.Pairing.{updates_of-fits}
-use Rattle.lock_core.proofs.Ranging.{balance_of-is}
 
 -- at most 16 Updates of a transaction stand in a lawful list
 pub few_updates : (h : List Placed) (n : ℕ) → IsLawful h → length (updates_of n h) ≤ 16
@@ -33,50 +30,20 @@ few_updates h n lawful = (updates_of-fits (genesis_of h) h n (met-log h lawful))
 pub updates-known : (rows : List (ℕ × ℕ)) (h : List Placed) (n : ℕ) (changes : List Change) → IsLawful h → KeepsRows rows (genesis_of h) h
     → changes ≡ updates_of n h → AllByRecursion (λ (change : Change). change.account < length rows) changes
 updates-known rows h n changes lawful kept are =
-    subst (λ count. AllByRecursion (λ (change : Change). change.account < count) changes) (sym kept.shows.count)
+    subst (λ count. AllByRecursion (λ (change : Change). change.account < count) changes) (sym kept.count)
     (subst (AllByRecursion (λ (change : Change). change.account < (genesis_of h).accounts)) (sym are)
     (updates_of-fits (genesis_of h) h n (met-log h lawful)).known)
-
--- the rows of the history by what is said of each: its balance by its equation, and its last Commit
-pub keeps-rows : (rows : List (ℕ × ℕ)) (base : BaseState) (h : List Placed) → length rows ≡ base.accounts → AreRowsInRange rows
-    → ((a : ℕ) → a < length rows → IsBalanceOf base h a (row rows a).0) → ((a : ℕ) → a < length rows → (row rows a).1 ≡ last_commit_of base h a)
-    → KeepsRows rows base h
-keeps-rows rows base h count range balance last = record {
-  shows = record {
-    count = count;
-    each = λ a below. let inside : a < length rows = omega arith in
-        slice_get-get_or rows a (0, 0) inside
-        ∙ (λ i. Some (sym (balance_of-is base h a (row rows a).0 (balance a inside)) i, last a inside i));
-  };
-  range = range;
-  balance = λ a below. let inside : a < length rows = omega arith in
-      subst (IsBalanceOf base h a) (sym (balance_of-is base h a (row rows a).0 (balance a inside))) (balance a inside);
-}
-
--- what the row of an account is
-kept-row : (rows : List (ℕ × ℕ)) (base : BaseState) (h : List Placed) → KeepsRows rows base h → (a : ℕ) → a < length rows
-    → row rows a ≡ (balance_of base h a, last_commit_of base h a)
-kept-row rows base h kept a inside =
-    let counted = kept.shows.count in
-    ap (λ found. unwrap_or found (0, 0)) (sym (slice_get-get_or rows a (0, 0) inside) ∙ kept.shows.each a (omega arith))
-
-pub kept-balance : (rows : List (ℕ × ℕ)) (base : BaseState) (h : List Placed) → KeepsRows rows base h → (a : ℕ) → a < length rows
-    → IsBalanceOf base h a (row rows a).0
-kept-balance rows base h kept a inside =
-    let counted = kept.shows.count in
-    subst (λ (v : ℕ × ℕ). IsBalanceOf base h a v.0) (sym (kept-row rows base h kept a inside)) (kept.balance a (omega arith))
-
-pub kept-last : (rows : List (ℕ × ℕ)) (base : BaseState) (h : List Placed) → KeepsRows rows base h → (a : ℕ) → a < length rows
-    → (row rows a).1 ≡ last_commit_of base h a
-kept-last rows base h kept a inside = ap (λ (v : ℕ × ℕ). v.1) (kept-row rows base h kept a inside)
 
 -- a record that moves nothing and commits nothing leaves the rows
 pub keeps-same : (rows : List (ℕ × ℕ)) (base : BaseState) (h : List Placed) (entry : Placed)
     → ((side : ℤ → ℕ) (a : ℕ) → total side a (entry ∷ h) ≡ total side a h)
     → ((a : ℕ) → last_commit_of base (entry ∷ h) a ≡ last_commit_of base h a) → KeepsRows rows base h → KeepsRows rows base (entry ∷ h)
-keeps-same rows base h entry sums lasts kept = keeps-rows rows base (entry ∷ h) kept.shows.count kept.range
-    (λ a inside. let before = kept-balance rows base h kept a inside in let gains = sums gain a in let losses = sums loss a in omega arith)
-    (λ a inside. kept-last rows base h kept a inside ∙ sym (lasts a))
+keeps-same rows base h entry sums lasts kept = record {
+  count = kept.count;
+  range = kept.range;
+  balance = λ a inside. let before = kept.balance a inside in let gains = sums gain a in let losses = sums loss a in omega arith;
+  last = λ a inside. kept.last a inside ∙ sym (lasts a);
+}
 
 -- the changes name the last Commits exactly where they agree with the rows
 pub current-rows : (rows : List (ℕ × ℕ)) (base : BaseState) (h : List Placed) (changes : List Change)
@@ -84,14 +51,14 @@ pub current-rows : (rows : List (ℕ × ℕ)) (base : BaseState) (h : List Place
     → AllByRecursion (λ (change : Change). change.prev ≡ (row rows change.account).1) changes → AllByRecursion (IsCurrent base h) changes
 current-rows rows base h [] known kept all = tt
 current-rows rows base h (change ∷ changes) known kept all =
-    (all.0 ∙ kept-last rows base h kept change.account known.0, current-rows rows base h changes known.1 kept all.1)
+    (all.0 ∙ kept.last change.account known.0, current-rows rows base h changes known.1 kept all.1)
 
 pub rows-current : (rows : List (ℕ × ℕ)) (base : BaseState) (h : List Placed) (changes : List Change)
     → AllByRecursion (λ (change : Change). change.account < length rows) changes → KeepsRows rows base h
     → AllByRecursion (IsCurrent base h) changes → AllByRecursion (λ (change : Change). change.prev ≡ (row rows change.account).1) changes
 rows-current rows base h [] known kept all = tt
 rows-current rows base h (change ∷ changes) known kept all =
-    (all.0 ∙ sym (kept-last rows base h kept change.account known.0), rows-current rows base h changes known.1 kept all.1)
+    (all.0 ∙ sym (kept.last change.account known.0), rows-current rows base h changes known.1 kept all.1)
 
 module _ (rows : List (ℕ × ℕ)) (base : BaseState) (h : List Placed) (txn legs end : ℕ) (changes : List Change) (kept : KeepsRows rows base h)
     (unended : has_end (own_records_of txn h) ≡ false) (are : changes ≡ updates_of txn h) where
@@ -103,30 +70,32 @@ module _ (rows : List (ℕ × ℕ)) (base : BaseState) (h : List Placed) (txn le
   moves side a = total-commit side a commit h refl (has_commit-unended (own_records_of txn h) unended) ∙ ap (λ l. total side a h + moved side a l) (sym are)
 
   pub keeps-commit : (new : List (ℕ × ℕ)) → Settles changes end rows new → KeepsRows new base (commit ∷ h)
-  keeps-commit new settles = let count = settles.count in let counted = kept.shows.count in keeps-rows new base (commit ∷ h) (omega arith)
-      (λ a inside. (settles.each a (omega arith)).range)
-      (λ a inside.
-      let old-inside : a < length rows = omega arith in
-      let before = kept-balance rows base h kept a old-inside in let step = (settles.each a old-inside).balance in
-      let gains = moves gain a in let losses = moves loss a in omega arith)
-      (λ a inside.
-      let old-inside : a < length rows = omega arith in
-      (settles.each a old-inside).last
-      ∙ (λ i. cond (touches a (are i)) end (kept-last rows base h kept a old-inside i))
-      ∙ sym (last_commit_of-commit base commit h a refl))
+  keeps-commit new settles = let count = settles.count in let counted = kept.count in record {
+    count = omega arith;
+    range = λ a inside. (settles.each a (omega arith)).range;
+    balance = λ a inside.
+        let old-inside : a < length rows = omega arith in
+        let before = kept.balance a old-inside in let step = (settles.each a old-inside).balance in
+        let gains = moves gain a in let losses = moves loss a in omega arith;
+    last = λ a inside.
+        let old-inside : a < length rows = omega arith in
+        (settles.each a old-inside).last
+        ∙ (λ i. cond (touches a (are i)) end (kept.last a old-inside i))
+        ∙ sym (last_commit_of-commit base commit h a refl);
+  }
 
   pub leaves-commit : LeavesSome changes rows → AreInRange base (commit ∷ h) → ⊥
   leaves-commit leaves range =
-      let inside = leaves.inside in let counted = kept.shows.count in
+      let inside = leaves.inside in let counted = kept.count in
       let found = range leaves.account (omega arith) in
-      let before = kept-balance rows base h kept leaves.account inside in
+      let before = kept.balance leaves.account inside in
       let after = found.2 in let gains = moves gain leaves.account in let losses = moves loss leaves.account in
       leaves.leaves found.0 found.1 (omega arith)
 
 pub in_range-rows : (rows : List (ℕ × ℕ)) (base : BaseState) (h : List Placed) → KeepsRows rows base h → AreInRange base h
 in_range-rows rows base h kept account below =
-    let counted = kept.shows.count in let inside : account < length rows = omega arith in
-    ((row rows account).0, kept.range account inside, kept-balance rows base h kept account inside)
+    let counted = kept.count in let inside : account < length rows = omega arith in
+    ((row rows account).0, kept.range account inside, kept.balance account inside)
 
 -- a list of Genesis records
 pub accounts-genesis : (h : List Placed) → AllByRecursion (λ (entry : Placed). IsGenesis entry.rec) h → (genesis_of h).accounts ≡ length h
@@ -224,29 +193,30 @@ module _ (rows : List (ℕ × ℕ)) (h : List Placed) (end account balance : ℕ
   last-zero a = last-genesis grown a (genesis ∷ h) (tt, all) ∙ last_commit-genesis h a
 
   balance-old : (a : ℕ) → a < length rows → grown.balance a ≡ (genesis_of h).balance a
-  balance-old a inside = let counted = kept.shows.count in
+  balance-old a inside = let counted = kept.count in
       ap (λ b. cond b balance ((genesis_of h).balance a)) (ne_eqb a account (λ same. absurd (omega arith)))
 
   balance-new : (a : ℕ) → a ≡ length rows → grown.balance a ≡ balance
-  balance-new a is = let counted = kept.shows.count in ap (λ b. cond b balance ((genesis_of h).balance a)) (eq-eqb a account (omega arith))
+  balance-new a is = let counted = kept.count in ap (λ b. cond b balance ((genesis_of h).balance a)) (eq-eqb a account (omega arith))
 
   pub keeps-genesis : KeepsRows (rows ++ (balance, 0) ∷ []) grown (genesis ∷ h)
-  keeps-genesis = let counted = kept.shows.count in let longer = length-append rows ((balance, 0) ∷ []) in
-      keeps-rows (rows ++ (balance, 0) ∷ []) grown (genesis ∷ h) (omega arith)
-      (λ a inside. dite (ℕ_discrete a (length rows))
-      (λ new. subst (λ (v : ℕ × ℕ). IsBalance v.0) (sym (new-row a new)) range)
-      (λ old. let inside' : a < length rows = omega arith in subst (λ (v : ℕ × ℕ). IsBalance v.0) (sym (old-row a inside')) (kept.range a inside')))
-      (λ a inside.
-      let gains = total-genesis gain a (genesis ∷ h) (tt, all) in let losses = total-genesis loss a (genesis ∷ h) (tt, all) in
-      dite (ℕ_discrete a (length rows))
-      (λ new. let here = ap (λ (v : ℕ × ℕ). v.0) (new-row a new) in let first = balance-new a new in omega arith)
-      (λ old. let inside' : a < length rows = omega arith in
-      let here = ap (λ (v : ℕ × ℕ). v.0) (old-row a inside') in let first = balance-old a inside' in
-      let before = kept-balance rows (genesis_of h) h kept a inside' in let gains-before = total-genesis gain a h all in let losses-before = total-genesis loss a h all in omega arith))
-      (λ a inside. dite (ℕ_discrete a (length rows))
-      (λ new. ap (λ (v : ℕ × ℕ). v.1) (new-row a new) ∙ sym (last-zero a))
-      (λ old. let inside' : a < length rows = omega arith in
-      ap (λ (v : ℕ × ℕ). v.1) (old-row a inside') ∙ kept-last rows (genesis_of h) h kept a inside' ∙ last-genesis (genesis_of h) a h all ∙ last_commit-genesis h a ∙ sym (last-zero a)))
+  keeps-genesis = let counted = kept.count in let longer = length-append rows ((balance, 0) ∷ []) in record {
+    count = omega arith;
+    range = λ a inside. dite (ℕ_discrete a (length rows))
+        (λ new. subst (λ (v : ℕ × ℕ). IsBalance v.0) (sym (new-row a new)) range)
+        (λ old. let inside' : a < length rows = omega arith in subst (λ (v : ℕ × ℕ). IsBalance v.0) (sym (old-row a inside')) (kept.range a inside'));
+    balance = λ a inside.
+        let gains = total-genesis gain a (genesis ∷ h) (tt, all) in let losses = total-genesis loss a (genesis ∷ h) (tt, all) in
+        dite (ℕ_discrete a (length rows))
+        (λ new. let here = ap (λ (v : ℕ × ℕ). v.0) (new-row a new) in let first = balance-new a new in omega arith)
+        (λ old. let inside' : a < length rows = omega arith in
+        let here = ap (λ (v : ℕ × ℕ). v.0) (old-row a inside') in let first = balance-old a inside' in
+        let before = kept.balance a inside' in let gains-before = total-genesis gain a h all in let losses-before = total-genesis loss a h all in omega arith);
+    last = λ a inside. dite (ℕ_discrete a (length rows))
+        (λ new. ap (λ (v : ℕ × ℕ). v.1) (new-row a new) ∙ sym (last-zero a))
+        (λ old. let inside' : a < length rows = omega arith in
+        ap (λ (v : ℕ × ℕ). v.1) (old-row a inside') ∙ kept.last a inside' ∙ last-genesis (genesis_of h) a h all ∙ last_commit-genesis h a ∙ sym (last-zero a));
+  }
 
 -- a Commit whose transaction has these changes
 module _ (rows : List (ℕ × ℕ)) (h : List Placed) (txn legs end : ℕ) (changes : List Change) (lawful : IsLawful h) (kept : KeepsRows rows (genesis_of h) h)
@@ -313,5 +283,5 @@ pub fails-genesis : (rows : List (ℕ × ℕ)) (h : List Placed) (account : ℕ)
     → IsFirstFailing (Passes h (record { end = end; rec = Genesis account balance })) why.Genesis
 fails-genesis rows h account kept other end balance = record {
   passes = tt;
-  fails = λ opens. let counted = kept.shows.count in let all = accounts-genesis h opens.0 in let next = opens.1 in other (omega arith) (omega arith);
+  fails = λ opens. let counted = kept.count in let all = accounts-genesis h opens.0 in let next = opens.1 in other (omega arith) (omega arith);
 }

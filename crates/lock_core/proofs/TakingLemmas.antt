@@ -21,7 +21,7 @@ use Rattle.lock_core.specs.Faults.{IsFirstFailing}
 use Rattle.lock_core.specs.Settling.{row, Settles, LeavesSome, KeepsRows}
 use Rattle.lock_core.specs.Judging.{IsCommitting}
 use Rattle.lock_core.specs.Keeping.{KeepsTransactions, KeepsLedger}
-use Rattle.lock_core.proofs.KindLemmas.{kept-last, accounts-genesis, accounts-most, keeps-genesis, passes-genesis, fails-stale, fails-balance, keeps-settled, passes-commit}
+use Rattle.lock_core.proofs.KindLemmas.{accounts-genesis, accounts-most, keeps-genesis, passes-genesis, fails-stale, fails-balance, keeps-settled, passes-commit}
 use Rattle.lock_core.proofs.JudgingLemmas.{judged-plain}
 use Rattle.lock_core.proofs.KeepingLemmas.{keeps-idle}
 
@@ -61,7 +61,7 @@ keeps-parts new accounts h same over keeps =
 
 module _ (ledger : Ledger) (h : List Placed) (kept : KeepsLedger ledger h) where
   counted : length ledger.accounts.rows ≡ (genesis_of h).accounts
-  counted = kept.judged.rows.shows.count
+  counted = kept.judged.rows.count
 
   pub some-taken : (length ledger.accounts.rows ≡ 0 → ⊥) → 0 < length h
   some-taken some = let same = counted in let most = accounts-most h in let none : (genesis_of h).accounts ≡ 0 → ⊥ = (λ is. some (same ∙ is)) in omega (arith, none)
@@ -125,7 +125,7 @@ module _ (ledger : Ledger) (h : List Placed) (kept : KeepsLedger ledger h) where
         → (change.prev ≡ (row ledger.accounts.rows change.account).1 → ⊥) → IsFirstFailing (Passes h update) why.Prev
     fails-update-prev unended few paired stale = record {
       passes = (some, (known, (unended, (few, (paired, tt)))));
-      fails = λ names. stale (names ∙ sym (kept-last ledger.accounts.rows (genesis_of h) h kept.judged.rows change.account below));
+      fails = λ names. stale (names ∙ sym (kept.judged.rows.last change.account below));
     }
 
     pub takes-update : (txns : Transactions) → has_end (own_records_of txn h) ≡ false → length (updates_of txn h) < 2 * MOST_LEGS → IsPaired (updates_of txn h) change
@@ -133,7 +133,7 @@ module _ (ledger : Ledger) (h : List Placed) (kept : KeepsLedger ledger h) where
         → KeepsLedger (record { accounts = ledger.accounts; is_opening = false; txns = txns }) (update ∷ h)
     takes-update txns unended few paired names keeps = record {
       judged = judged-plain ledger.accounts h end update.rec (λ never. never) refl kept.judged
-          (some, (known, (unended, (few, (paired, (names ∙ kept-last ledger.accounts.rows (genesis_of h) h kept.judged.rows change.account below, (tt, ((λ on. absurd (true≢false (sym on))), tt))))))));
+          (some, (known, (unended, (few, (paired, (names ∙ kept.judged.rows.last change.account below, (tt, ((λ on. absurd (true≢false (sym on))), tt))))))));
       opening = opening-over update (λ never. never);
       transactions = keeps;
     }

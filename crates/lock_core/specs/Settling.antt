@@ -5,7 +5,7 @@ use Rattle.log_record.specs.Spelling.{IsBalance}
 use Rattle.lock_core.specs.declared.update.Change.{Change}
 use Rattle.lock_core.specs.Records.{gain, loss}
 use Rattle.lock_core.specs.Transactions.{touches}
-use Rattle.lock_core.specs.Sums.{BaseState, moved, IsBalanceOf, balance_of, ShowsAccounts}
+use Rattle.lock_core.specs.Sums.{BaseState, moved, IsBalanceOf, last_commit_of}
 
 -- the row of an account
 abbrev pub row : List (ℕ × ℕ) → ℕ → ℕ × ℕ
@@ -47,9 +47,10 @@ pub record LeavesSome (changes : List Change) (rows : List (ℕ × ℕ)) : Type 
   pub inside : account < length rows
   pub leaves : LeavesRange changes account (row rows account).0
 
--- The rows show the accounts of the history, each balance in its range; and what they show as a balance is the balance by its equation. A
--- judge keeps this from record to record.
+-- The rows are those of the history: each account's balance by its equation, in its range, and its last Commit. A judge keeps this from
+-- record to record, with or without a lawful list; who only reads the rows of a lawful list has `ShowsAccounts`.
 pub record KeepsRows (rows : List (ℕ × ℕ)) (base : BaseState) (h : List Placed) : Type 0 where
-  pub shows : ShowsAccounts rows base h
+  pub count : length rows ≡ base.accounts
   pub range : AreRowsInRange rows
-  pub balance : (account : ℕ) → account < base.accounts → IsBalanceOf base h account (balance_of base h account)
+  pub balance : (account : ℕ) → account < length rows → IsBalanceOf base h account (row rows account).0
+  pub last : (account : ℕ) → account < length rows → (row rows account).1 ≡ last_commit_of base h account

@@ -22,7 +22,7 @@ returns-then-front-count-clause-tests c =
 
 pub returns-clause-tests : goal.returns-clause-tests
 returns-clause-tests c =
-    let rows = c.requires.judged.rows.shows.count in
+    let rows = c.requires.judged.rows.count in
     let counted = c.count.ensures in
     let again = c.count-else-front-count.ensures in
     let turned = length-reverse c.args.front.now in
@@ -30,7 +30,7 @@ returns-clause-tests c =
 
 pub returns-clause-kept : goal.returns-clause-kept
 returns-clause-kept c =
-    let rows = c.requires.judged.rows.shows.count in
+    let rows = c.requires.judged.rows.count in
     let counted = c.count.ensures in
     let again = c.count-else-front-count.ensures in
     let turned = length-reverse c.args.front.now in
