@@ -2,7 +2,7 @@
 use Rattle.std.proofs.Common.{◌≡◌, ℕ, ◌*◌, List, length, Option, Some, None, IfSome, ap, ◌∙◌, subst, arith}
 use Rattle.std.proofs.lemmas.List.{length-map}
 use Rattle.std.specs.Io.KnownBytes.{Appends}
-use Rattle.log_disk.specs.Streams.{AppendsPrefix}
+use Rattle.log_disk.specs.Streams.{AppendsPart}
 use Rattle.log_recovery.specs.declared.list_result.Listed.{Listed}
 use Rattle.log_recovery.specs.declared.recovery.Recovered.{Recovered}
 use Rattle.log_recovery.specs.declared.recovery.RecoverFault.{RecoverFault}
@@ -26,7 +26,7 @@ answers-fine (Some all) left_new old new bytes r read recovers written =
     (read.1, found.records, found.held, rw (rows_text-shown _ _ found.records found.lsn found.accounts) at written)
 
 pub answers-write : (left left_new old new : Option (List ℕ)) (bytes : List ℕ) (r : Recovered) → ReadsAll left left_new bytes → Recovers r bytes
-    → AppendsPrefix old new (rows_text r.lsn r.accounts.rows) → IfSome left (λ all. AnswersRecover all left_new old new Write)
+    → AppendsPart old new (rows_text r.lsn r.accounts.rows) → IfSome left (λ all. AnswersRecover all left_new old new Write)
 answers-write None left_new old new bytes r read recovers written = tt
 answers-write (Some all) left_new old new bytes r read recovers written =
     let found = subst (λ b. Recovers r b) read.0 recovers in
@@ -39,7 +39,7 @@ answers_dump-fine (Some all) left_new old new bytes list read found written =
     (read.1, found.records, subst (λ b. HoldsList b found.records) read.0 found.held, written)
 
 pub answers_dump-write : (left left_new old new : Option (List ℕ)) (bytes : List ℕ) (list : Listed) → ReadsAll left left_new bytes
-    → (found : ListsBytes list bytes) → AppendsPrefix old new (dump_text found.records) → IfSome left (λ all. AnswersDump all left_new old new Write)
+    → (found : ListsBytes list bytes) → AppendsPart old new (dump_text found.records) → IfSome left (λ all. AnswersDump all left_new old new Write)
 answers_dump-write None left_new old new bytes list read found written = tt
 answers_dump-write (Some all) left_new old new bytes list read found written =
     (read.1, found.records, subst (λ b. HoldsList b found.records) read.0 found.held, written)
@@ -81,7 +81,7 @@ answers_new-fine (Some bytes) left_new old new accounts lsn opening is written =
 )
 
 pub answers_new-write : (left left_new old new : Option (List ℕ)) (accounts : Accounts) (lsn : ℕ) → AreOpening left left_new accounts
-    → lsn ≡ 2 * length accounts.rows → AppendsPrefix old new (rows_text lsn accounts.rows)
+    → lsn ≡ 2 * length accounts.rows → AppendsPart old new (rows_text lsn accounts.rows)
     → IfSome left (λ bytes. AnswersNew bytes left_new old new Write)
 answers_new-write None left_new old new accounts lsn opening is written = tt
 answers_new-write (Some bytes) left_new old new accounts lsn opening is written = (

@@ -246,12 +246,13 @@ module _ {D : Type 0} {K : Type 0} (g : Ghosts D) (h : SinkGhosts K) (n seed wor
       → TellsSummary n seed (h.held_bytes sink) (h.held_bytes sink_new) detail
   text-concluded = by-conclusion h ended (counted_text n ended) sink_mid sink_new (TellsSummary n seed (h.held_bytes sink) (h.held_bytes sink_new))
       (λ said. subst (λ s. Keeps (h.held_bytes sink) (h.held_bytes s)) (sym said.1) (Appends-keeps (h.held_bytes sink) (h.held_bytes sink_mid) silent))
-      (λ said. ([], summary_text n seed, refl, subst (λ s. Appends (h.held_bytes sink) (h.held_bytes s) []) (sym said.1) silent))
+      (λ said. absurd (never-fails said.0))
       (λ said. let text = said.1 in (
         text.0,
         text.1,
         sym (summary-ended said.0.0 said.0.1) ∙ text.2,
         Appends-trans (h.held_bytes sink) (h.held_bytes sink_mid) (h.held_bytes sink_new) [] text.0 silent text.3,
+        text.4,
       ))
       (λ said. subst (Appends (h.held_bytes sink) (h.held_bytes sink_new)) (summary-ended said.0.0 said.0.1)
       (Appends-trans (h.held_bytes sink) (h.held_bytes sink_mid) (h.held_bytes sink_new) [] (counted_text n ended) silent said.1))

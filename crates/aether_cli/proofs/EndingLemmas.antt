@@ -8,7 +8,7 @@ use lib.ListN.{get_elem?}
 use Rattle.log_disk.specs.declared.disk.LogDisk.{Ghosts}
 use Rattle.log_disk.specs.declared.sink.Sink.{Ghosts as SinkGhosts}
 use Rattle.log_disk.specs.Faults.{Rose}
-use Rattle.log_disk.specs.Streams.{AppendsPrefix}
+use Rattle.log_disk.specs.Streams.{AppendsPrefix, AppendsPart}
 use Rattle.log_record.specs.declared.rec.Rec.{Rec}
 use Rattle.log_record.specs.LogList.{end_of}
 use Rattle.lock_core.specs.History.{history}
@@ -67,7 +67,7 @@ length-behind (first ∷ below) above end = let shorter = length-behind below ab
 -- what is concluded is Disk, Write, where something stopped the transfers or the text could not be written whole, Fine or LogEnd
 module _ {K : Type 0} (h : SinkGhosts K) (ended : Ended) (text : List ℕ) (old new : K) (P : Detail → Type 0)
     (disk : Concludes h ended text old new Disk → P Disk) (stopped : StoppedAs ended Write × (new ≡ old) → P Write)
-    (cut : NothingStopped ended × AppendsPrefix (h.held_bytes old) (h.held_bytes new) text → P Write)
+    (cut : NothingStopped ended × AppendsPart (h.held_bytes old) (h.held_bytes new) text → P Write)
     (fine : Concludes h ended text old new Fine → P Fine)
     (log_end : (tail total : ℕ) → Concludes h ended text old new (LogEnd tail total) → P (LogEnd tail total)) where
   pub by-conclusion : (detail : Detail) → Concludes h ended text old new detail → P detail

@@ -4,7 +4,8 @@ use Rattle.std.proofs.KnownBytes.{Appends-trans}
 use Rattle.std.proofs.lemmas.List.{append-nil}
 use Rattle.std.specs.Io.KnownBytes.{Appends}
 use Rattle.log_disk.specs.Disk.{Leaves}
-use Rattle.log_disk.specs.Streams.{AppendsPrefix}
+use Rattle.log_disk.specs.Streams.{AppendsPrefix, AppendsPart}
+use Rattle.log_disk.proofs.Prefixes.{AppendsPart-prefix}
 use Rattle.log_disk.specs.declared.disk.LogDisk.{Ghosts}
 use Rattle.log_disk.specs.declared.sink.Sink.{Ghosts as SinkGhosts}
 use Rattle.log_record.specs.declared.rec.Rec.{Rec}
@@ -99,10 +100,11 @@ module _ {D : Type 0} {K : Type 0} (g : Ghosts D) (h : SinkGhosts K) (workers : 
     out told = record { ran = ran-drained told; all = drained.images honest_mid }
 
     -- the accounts text is that of the whole list
-    told-part : AppendsPrefix (h.held_bytes sink_mid) (h.held_bytes sink_new) (rows_text ended.closed.tail ended.closed.accounts.rows)
+    told-part : AppendsPart (h.held_bytes sink_mid) (h.held_bytes sink_new) (rows_text ended.closed.tail ended.closed.accounts.rows)
         → AppendsPrefix (h.held_bytes sink) (h.held_bytes sink_new) (run_text opened records)
     told-part text = AppendsPrefix-behind (h.held_bytes sink) (h.held_bytes sink_mid) (h.held_bytes sink_new) (run_text opened records)
-        (end_lines (end_of opened) records) (accounts_text (opened ++ records)) [] drained.text (rw (← drained.accounts) text)
+        (end_lines (end_of opened) records) (accounts_text (opened ++ records)) [] drained.text
+        (rw (← drained.accounts) (AppendsPart-prefix _ _ _ text))
         (sym (append-nil (run_text opened records)))
 
     told-whole : Appends (h.held_bytes sink_mid) (h.held_bytes sink_new) (rows_text ended.closed.tail ended.closed.accounts.rows)

@@ -1,7 +1,7 @@
 -- What the program answers: its status, what it reads and what it writes.
 use Rattle.std.specs.Prelude.{◌≡◌, ℕ, List, [], Option, Some, IfSome}
 use Rattle.std.specs.Io.KnownBytes.{Keeps, Appends}
-use Rattle.log_disk.specs.Streams.{AppendsPrefix}
+use Rattle.log_disk.specs.Streams.{AppendsPart}
 use Rattle.log_record.specs.declared.rec.Rec.{Rec}
 use Rattle.log_recovery.specs.declared.recovery.RecoverFault.{RecoverFault}
 use Rattle.log_recovery.specs.declared.recovery.RecoverFault.TheVariants as fault
@@ -109,12 +109,12 @@ abbrev pub HasFault : List ℕ → Option (List ℕ) → RecoverFault → Type 0
 HasFault bytes left fault' = (left ≡ Some []) × IsFaultOf bytes fault'
 
 -- `recover` on these bytes: what is left of them and what is written, for each detail. Where all is fine, or the writing
--- failed, the input was read to its end, and what is written is the text of its list, or a prefix of it.
+-- failed, the input was read to its end, and what is written is the text of its list, or a part of it.
 abbrev pub AnswersRecover : List ℕ → Option (List ℕ) → Option (List ℕ) → Option (List ℕ) → Detail → Type 0
 AnswersRecover bytes left old new Fine =
     (left ≡ Some []) × (records : List Rec) × HoldsLawful bytes records × Appends old new (accounts_text records)
 AnswersRecover bytes left old new Write =
-    (left ≡ Some []) × (records : List Rec) × HoldsLawful bytes records × AppendsPrefix old new (accounts_text records)
+    (left ≡ Some []) × (records : List Rec) × HoldsLawful bytes records × AppendsPart old new (accounts_text records)
 AnswersRecover bytes left old new NotALog = HasFault bytes left fault.NotALog
 AnswersRecover bytes left old new (BadBatch offset) = HasFault bytes left (fault.BadBatch offset)
 AnswersRecover bytes left old new (BadRec lsn) = HasFault bytes left (fault.BadRec lsn)
@@ -128,12 +128,12 @@ AnswersRecover bytes left old new (LogEnd tail total) = ⊥
 AnswersRecover bytes left old new (TxnEnd first count) = ⊥
 AnswersRecover bytes left old new Exists = ⊥
 
--- `dump` on these bytes: the same, but the list need not be lawful, and what is written is its dump, or a prefix of it
+-- `dump` on these bytes: the same, but the list need not be lawful, and what is written is its dump, or a part of it
 abbrev pub AnswersDump : List ℕ → Option (List ℕ) → Option (List ℕ) → Option (List ℕ) → Detail → Type 0
 AnswersDump bytes left old new Fine =
     (left ≡ Some []) × (records : List Rec) × HoldsList bytes records × Appends old new (dump_text records)
 AnswersDump bytes left old new Write =
-    (left ≡ Some []) × (records : List Rec) × HoldsList bytes records × AppendsPrefix old new (dump_text records)
+    (left ≡ Some []) × (records : List Rec) × HoldsList bytes records × AppendsPart old new (dump_text records)
 AnswersDump bytes left old new NotALog = HasFault bytes left fault.NotALog
 AnswersDump bytes left old new (BadBatch offset) = HasFault bytes left (fault.BadBatch offset)
 AnswersDump bytes left old new (BadRec lsn) = HasFault bytes left (fault.BadRec lsn)
@@ -165,12 +165,12 @@ abbrev pub AreOpening : Option (List ℕ) → Option (List ℕ) → Accounts →
 AreOpening left left_new accounts = (text : List ℕ) × ReadsAll left left_new text × ReadsBalances text accounts
 
 -- `new` on these bytes: what is left of them and what is written, for each detail. Where all is fine, or the writing
--- failed, the input was read to its end, and what is written is the text of the new log, or a prefix of it.
+-- failed, the input was read to its end, and what is written is the text of the new log, or a part of it.
 abbrev pub AnswersNew : List ℕ → Option (List ℕ) → Option (List ℕ) → Option (List ℕ) → Detail → Type 0
 AnswersNew bytes left old new Fine =
     (left ≡ Some []) × (balances : List ℕ) × IsBalancesText bytes balances × Appends old new (accounts_text (genesis_list balances))
 AnswersNew bytes left old new Write =
-    (left ≡ Some []) × (balances : List ℕ) × IsBalancesText bytes balances × AppendsPrefix old new (accounts_text (genesis_list balances))
+    (left ≡ Some []) × (balances : List ℕ) × IsBalancesText bytes balances × AppendsPart old new (accounts_text (genesis_list balances))
 AnswersNew bytes left old new (Script line) = (left ≡ Some []) × IsFirstBadBalance bytes line
 AnswersNew bytes left old new NoMemory = Unit {0}
 AnswersNew bytes left old new Read = Unit {0}

@@ -3,7 +3,7 @@
 use Rattle.std.specs.Prelude.{◌≡◌, ◌≤◌, ◌⊎◌, ℕ, ◌+◌, ◌*◌, List, ◌++◌, length, Option}
 use Rattle.std.specs.Io.KnownBytes.{Keeps, Appends}
 use Rattle.log_disk.specs.Disk.{Leaves}
-use Rattle.log_disk.specs.Streams.{AppendsPrefix}
+use Rattle.log_disk.specs.Streams.{AppendsPart}
 use Rattle.log_disk.specs.declared.disk.LogDisk.{Ghosts}
 use Rattle.log_record.specs.declared.rec.Rec.{Rec}
 use Rattle.log_recovery.specs.Recovery.{HoldsLawful}
@@ -77,7 +77,7 @@ AnswersDemo g n seed workers old new detail = ⊥
 -- what `demo` writes, for each detail: the summary, which the number of the transfers and their seed alone tell
 abbrev pub TellsSummary : ℕ → ℕ → Option (List ℕ) → Option (List ℕ) → Detail → Type 0
 TellsSummary n seed old new Fine = Appends old new (summary_text n seed)
-TellsSummary n seed old new Write = AppendsPrefix old new (summary_text n seed)
+TellsSummary n seed old new Write = AppendsPart old new (summary_text n seed)
 TellsSummary n seed old new detail = Keeps old new
 
 -- the answers that there are to `demo`

@@ -1,7 +1,7 @@
 -- How a run ended, and what the program answers then. `g` is what a disk shows and `h` what a sink shows.
 use Rattle.std.specs.Prelude.{◌≡◌, ◌⊎◌, ℕ, List, ◌∷◌, ◌++◌, map, All, Some, None}
 use Rattle.std.specs.Io.KnownBytes.{Appends}
-use Rattle.log_disk.specs.Streams.{AppendsPrefix}
+use Rattle.log_disk.specs.Streams.{AppendsPart}
 use Rattle.log_disk.specs.declared.disk.LogDisk.{Ghosts}
 use Rattle.log_disk.specs.declared.sink.Sink.{Ghosts as SinkGhosts}
 use Rattle.log_record.specs.declared.rec.Rec.{Rec}
@@ -71,7 +71,7 @@ NothingStopped ended = (ended.fault ≡ None) × AreWhole ended.ends.items
 abbrev pub Concludes : {K : Type 0} → SinkGhosts K → Ended → List ℕ → K → K → Detail → Type 0
 Concludes h ended text old new Disk = StoppedAs ended Disk × (new ≡ old)
 Concludes h ended text old new Write =
-    (StoppedAs ended Write × (new ≡ old)) ⊎ (NothingStopped ended × AppendsPrefix (h.held_bytes old) (h.held_bytes new) text)
+    (StoppedAs ended Write × (new ≡ old)) ⊎ (NothingStopped ended × AppendsPart (h.held_bytes old) (h.held_bytes new) text)
 Concludes h ended text old new (LogEnd tail total) = StoppedAs ended (LogEnd tail total) × (new ≡ old)
 Concludes h ended text old new Fine = NothingStopped ended × Appends (h.held_bytes old) (h.held_bytes new) text
 Concludes h ended text old new detail = ⊥

@@ -2,7 +2,7 @@ ghost use Rattle.std.specs.Prelude.{◌≡◌, ◌≤◌, ◌++◌, length, code
 ghost use Rattle.std.specs.Io.KnownBytes.{Appends};
 ghost use Rattle.lsn_space.specs.Number.{number_text};
 ghost use Rattle.log_disk.specs.Faults.{HasCause};
-ghost use Rattle.log_disk.specs.Streams.{AppendsPrefix};
+ghost use Rattle.log_disk.specs.Streams.{AppendsPart};
 ghost use Rattle.aether_cli.specs.FaultText.{fault_line, why_text};
 
 use crate::report::{Detail, Report};
@@ -107,10 +107,10 @@ fn line_of(detail: Detail) -> Line
     }
 }
 
-/// Writes the line that says why the program ends, or a prefix of it at a fault.
+/// Writes the line that says why the program ends, or a part of it at a fault.
 pub fn put_fault<K: Sink>(report: &Report, sink: &mut K) -> Result<(), WriteFault>
     ensures all { OnOk result (Appends (K.held_bytes sink.old) (K.held_bytes sink.new) (fault_line report.now.detail)) }
-    ensures prefix { OnErr result (AppendsPrefix (K.held_bytes sink.old) (K.held_bytes sink.new) (fault_line report.now.detail)) }
+    ensures prefix { OnErr result (AppendsPart (K.held_bytes sink.old) (K.held_bytes sink.new) (fault_line report.now.detail)) }
     ensures cause { HasCause (K.faults sink.old) (K.faults sink.new) result }
 {
     put_all(sink, line_of(report.detail).as_slice())

@@ -4,7 +4,7 @@ ghost use Rattle.std.specs.Prelude.{◌≡◌, ◌≤◌, ◌+◌, ◌*◌, ◌+
 ghost use Rattle.std.specs.Io.KnownBytes.{Appends};
 ghost use Rattle.lsn_space.specs.Number.{number_text};
 ghost use Rattle.log_disk.specs.Faults.{HasCause};
-ghost use Rattle.log_disk.specs.Streams.{AppendsPrefix};
+ghost use Rattle.log_disk.specs.Streams.{AppendsPart};
 ghost use Rattle.lock_core.specs.Sums.{sum_below};
 ghost use Rattle.log_record.specs.declared.limits.TheConstants.{MOST_ACCOUNTS};
 ghost use Rattle.aether_cli.specs.Summary.{balance_in, count_line, mix_below, summary_of};
@@ -27,7 +27,7 @@ pub struct Counts {
     pub lsn: Lsn,
 }
 
-/// Writes the summary of a run that left these accounts, or a prefix of it at a fault.
+/// Writes the summary of a run that left these accounts, or a part of it at a fault.
 pub fn put_summary<K: Sink>(
     counts: Counts,
     accounts: &Balances,
@@ -35,7 +35,7 @@ pub fn put_summary<K: Sink>(
 ) -> Result<(), WriteFault>
     requires { length accounts.now.rows ≤ MOST_ACCOUNTS }
     ensures all { OnOk result (Appends (K.held_bytes sink.old) (K.held_bytes sink.new) (summary_of counts accounts.now.rows)) }
-    ensures prefix { OnErr result (AppendsPrefix (K.held_bytes sink.old) (K.held_bytes sink.new) (summary_of counts accounts.now.rows)) }
+    ensures prefix { OnErr result (AppendsPart (K.held_bytes sink.old) (K.held_bytes sink.new) (summary_of counts accounts.now.rows)) }
     ensures cause { HasCause (K.faults sink.old) (K.faults sink.new) result }
 {
     put_all(sink, text_of(counts, accounts).as_slice())

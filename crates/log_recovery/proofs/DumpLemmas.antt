@@ -5,7 +5,7 @@ use Rattle.std.proofs.lemmas.List.{append-nil}
 use Rattle.std.proofs.lemmas.List.Elements.{All-from_recursion}
 use Rattle.std.proofs.KnownBytes.{Appends-nil, Appends-trans}
 use Rattle.std.specs.Io.KnownBytes.{Appends}
-use Rattle.log_disk.specs.Streams.{AppendsPrefix}
+use Rattle.log_disk.specs.Streams.{AppendsPart}
 use Rattle.log_record.specs.declared.rec.Rec.{Rec}
 use Rattle.log_record.specs.LogList.{AreUnitsOf, units_of, end_of, size_of}
 use Rattle.log_record.specs.Spelling.{spelling, IsSpellable, BeginsWith}
@@ -16,7 +16,7 @@ use Rattle.log_recovery.specs.Listing.{IsFront}
 use Rattle.log_recovery.specs.Text.{lsn_line}
 use Rattle.log_recovery.proofs.AnswerLemmas.{some_unit}
 use Rattle.log_recovery.proofs.ListingLemmas.{front-end, units_of-append}
-use Rattle.log_recovery.proofs.TextLemmas.{AppendsPrefix-behind}
+use Rattle.log_recovery.proofs.TextLemmas.{AppendsPart-behind}
 
 record_lines-append : (at : ℕ) (xs ys : List Rec) → record_lines at (xs ++ ys) ≡ record_lines at xs ++ record_lines (at + end_of xs) ys
 record_lines-append at [] ys = let same : at ≡ at + 0 = omega arith in ap (λ n. record_lines n ys) same
@@ -117,11 +117,11 @@ module _ (units rest : List ℕ) (old mid : Option (List ℕ)) (before : DumpsFr
         ∙ append_assoc (record_lines 0 before.done ++ record_line start rec) _ _
 
     -- a front of one more line is written
-    pub dumps-cut : (new : Option (List ℕ)) (records : List Rec) → AreUnitsOf units records → AppendsPrefix mid new (record_line start rec)
-        → AppendsPrefix old new (dump_text records)
+    pub dumps-cut : (new : Option (List ℕ)) (records : List Rec) → AreUnitsOf units records → AppendsPart mid new (record_line start rec)
+        → AppendsPart old new (dump_text records)
     dumps-cut new records list cut =
-        subst (λ l. AppendsPrefix old new (dump_text l)) (one-list_of units (before.done ++ before.more) records before.list list)
-        (AppendsPrefix-behind old mid new _ _ (record_line start rec) _ before.written cut whole-text)
+        subst (λ l. AppendsPart old new (dump_text l)) (one-list_of units (before.done ++ before.more) records before.list list)
+        (AppendsPart-behind old mid new _ _ (record_line start rec) _ before.written cut whole-text)
 
   -- the whole is written
   module _ (empty : rest ≡ []) (records : List Rec) (list : AreUnitsOf units records) where
@@ -137,9 +137,9 @@ module _ (units rest : List ℕ) (old mid : Option (List ℕ)) (before : DumpsFr
     dumps-all new lsn end line =
         rw (← end) (Appends-trans old mid new _ _ (subst (λ l. Appends old mid (record_lines 0 l)) done-is before.written) line)
 
-    pub dumps-end_cut : (new : Option (List ℕ)) (lsn : ℕ) → lsn ≡ end_of records → AppendsPrefix mid new (lsn_line lsn) → AppendsPrefix old new (dump_text records)
+    pub dumps-end_cut : (new : Option (List ℕ)) (lsn : ℕ) → lsn ≡ end_of records → AppendsPart mid new (lsn_line lsn) → AppendsPart old new (dump_text records)
     dumps-end_cut new lsn end cut =
         let text : dump_text records ≡ (record_lines 0 before.done ++ lsn_line lsn) ++ [] =
         ap (λ l. record_lines 0 l ++ lsn_line (end_of records)) (sym done-is) ∙ ap (λ n. record_lines 0 before.done ++ lsn_line n) (sym end)
         ∙ sym (append-nil (record_lines 0 before.done ++ lsn_line lsn)) in
-        AppendsPrefix-behind old mid new _ _ (lsn_line lsn) [] before.written cut text
+        AppendsPart-behind old mid new _ _ (lsn_line lsn) [] before.written cut text

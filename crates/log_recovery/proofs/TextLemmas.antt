@@ -6,7 +6,7 @@ use Rattle.std.proofs.lemmas.List.Concat.{flat_map-append}
 use Rattle.std.proofs.Math.Nat.{eq-or-lt_of_le}
 use Rattle.std.specs.Io.KnownBytes.{Appends}
 use Rattle.std.proofs.KnownBytes.{Appends-trans}
-use Rattle.log_disk.specs.Streams.{AppendsPrefix}
+use Rattle.log_disk.specs.Streams.{AppendsPrefix, AppendsPart}
 use Rattle.log_record.specs.declared.rec.Rec.{Rec}
 use Rattle.log_record.specs.LogList.{end_of}
 use Rattle.lock_core.specs.History.{history}
@@ -28,6 +28,10 @@ account_lines-split balance i (suc n) few = elim (eq-or-lt_of_le few) [
   )
 ]
 
+longer : (xs more : List ℕ) → 0 < length xs → 0 < length (xs ++ more)
+longer [] more some = absurd (omega arith)
+longer (x ∷ xs) more some = omega arith
+
 -- a front of a text's first piece is a front of the text
 pub AppendsPrefix-first : (old new : Option (List ℕ)) (text piece more : List ℕ) → AppendsPrefix old new piece → text ≡ piece ++ more → AppendsPrefix old new text
 AppendsPrefix-first old new text piece more written whole =
@@ -38,6 +42,16 @@ pub AppendsPrefix-behind : (old middle new : Option (List ℕ)) (text done piece
     → text ≡ (done ++ piece) ++ more → AppendsPrefix old new text
 AppendsPrefix-behind old middle new text done piece more before cut whole =
     (done ++ cut.0, cut.1 ++ more, rw (whole, cut.2) (simp append_assoc), Appends-trans old middle new done cut.0 before cut.3)
+
+-- likewise of a front that isn't all of the piece
+pub AppendsPart-first : (old new : Option (List ℕ)) (text piece more : List ℕ) → AppendsPart old new piece → text ≡ piece ++ more → AppendsPart old new text
+AppendsPart-first old new text piece more written whole =
+    (written.0, written.1 ++ more, rw (whole, written.2) (append_assoc written.0 written.1 more), written.3, longer written.1 more written.4)
+
+pub AppendsPart-behind : (old middle new : Option (List ℕ)) (text done piece more : List ℕ) → Appends old middle done → AppendsPart middle new piece
+    → text ≡ (done ++ piece) ++ more → AppendsPart old new text
+AppendsPart-behind old middle new text done piece more before cut whole =
+    (done ++ cut.0, cut.1 ++ more, rw (whole, cut.2) (simp append_assoc), Appends-trans old middle new done cut.0 before cut.3, longer cut.1 more cut.4)
 
 -- the balance that is kept of an account
 abbrev pub balance_in : List (ℕ × ℕ) → ℕ → ℕ
@@ -58,14 +72,14 @@ module _ (old middle new : Option (List ℕ)) (start : List ℕ) (rows : List (�
   Appends-line line = rw line-added (Appends-trans old middle new _ _ before line)
 
   -- a front of one more line is written
-  pub AppendsPrefix-line : account < length rows → AppendsPrefix middle new (account_line account row.0)
-      → AppendsPrefix old new (start ++ account_lines (balance_in rows) (length rows))
-  AppendsPrefix-line within cut =
+  pub AppendsPart-line : account < length rows → AppendsPart middle new (account_line account row.0)
+      → AppendsPart old new (start ++ account_lines (balance_in rows) (length rows))
+  AppendsPart-line within cut =
       let split = account_lines-split (balance_in rows) (account + 1) (length rows) (omega arith) in
       let lines = account_lines (balance_in rows) (account + 1) in
       let whole : start ++ account_lines (balance_in rows) (length rows) ≡ ((start ++ account_lines (balance_in rows) account) ++ account_line account row.0) ++ split.0 =
       rw (split.1, ← append_assoc start lines split.0, line-added) refl in
-      AppendsPrefix-behind old middle new _ _ (account_line account row.0) split.0 before cut whole
+      AppendsPart-behind old middle new _ _ (account_line account row.0) split.0 before cut whole
 
 account_lines-same : (one other : ℕ → ℕ) (n : ℕ) → ((account : ℕ) → account < n → one account ≡ other account) → account_lines one n ≡ account_lines other n
 account_lines-same one other zero same = refl

@@ -3,7 +3,7 @@
 ghost use Rattle.std.specs.Prelude.{◌≡◌, ◌+◌, ◌≤◌, ◌++◌, List, length, codes, OnOk, OnErr};
 ghost use Rattle.std.specs.Io.KnownBytes.{Appends};
 ghost use Rattle.log_disk.specs.Faults.{HasCause};
-ghost use Rattle.log_disk.specs.Streams.{AppendsPrefix};
+ghost use Rattle.log_disk.specs.Streams.{AppendsPart};
 ghost use Rattle.log_record.specs.declared.rec.Rec.{Rec};
 ghost use Rattle.lsn_space.specs.Number.{number_text};
 ghost use Rattle.log_recovery.specs.Dump.{dump_text, rec_text, record_line, signed_text, update_text};
@@ -19,13 +19,13 @@ use lsn_space::{Lsn, decimal};
 /// Room for a line of the dump: a note has up to 200 bytes.
 type Line = ArrayVec<u8, 256>;
 
-/// Writes the dump of a list, or a prefix of it at a fault.
+/// Writes the dump of a list, or a part of it at a fault.
 pub fn put_dump<K: Sink>(listed: &Listed, sink: &mut K) -> Result<(), WriteFault>
     requires { (records : List Rec) × HasRecords listed.now records }
     ensures all { (records : List Rec) → HasRecords listed.now records
         → OnOk result (Appends (K.held_bytes sink.old) (K.held_bytes sink.new) (dump_text records)) }
     ensures prefix { (records : List Rec) → HasRecords listed.now records
-        → OnErr result (AppendsPrefix (K.held_bytes sink.old) (K.held_bytes sink.new) (dump_text records)) }
+        → OnErr result (AppendsPart (K.held_bytes sink.old) (K.held_bytes sink.new) (dump_text records)) }
     ensures cause { HasCause (K.faults sink.old) (K.faults sink.new) result }
 {
     let end = listed.tail.next;
@@ -52,7 +52,7 @@ fn start_of(rest: &[u64], end: Lsn) -> Lsn
 
 fn put_record<K: Sink>(start: Lsn, rec: &Rec, sink: &mut K) -> Result<(), WriteFault>
     ensures all { OnOk result (Appends (K.held_bytes sink.old) (K.held_bytes sink.new) (record_line start rec.now)) }
-    ensures prefix { OnErr result (AppendsPrefix (K.held_bytes sink.old) (K.held_bytes sink.new) (record_line start rec.now)) }
+    ensures prefix { OnErr result (AppendsPart (K.held_bytes sink.old) (K.held_bytes sink.new) (record_line start rec.now)) }
     ensures cause { HasCause (K.faults sink.old) (K.faults sink.new) result }
 {
     put_all(sink, line_of(start, rec).as_slice())

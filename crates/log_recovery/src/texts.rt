@@ -1,7 +1,7 @@
 ghost use Rattle.std.specs.Prelude.{◌≡◌, OnOk, OnErr};
 ghost use Rattle.std.specs.Io.KnownBytes.{Appends};
 ghost use Rattle.log_disk.specs.Faults.{HasCause};
-ghost use Rattle.log_disk.specs.Streams.{AppendsPrefix};
+ghost use Rattle.log_disk.specs.Streams.{AppendsPart};
 ghost use Rattle.log_recovery.specs.Text.{lsn_line, account_line, rows_text};
 
 use arrayvec::ArrayVec;
@@ -39,7 +39,7 @@ fn balance_line(account: u32, balance: u32) -> Line
 
 pub(crate) fn put_end<K: Sink>(lsn: Lsn, sink: &mut K) -> Result<(), WriteFault>
     ensures all { OnOk result (Appends (K.held_bytes sink.old) (K.held_bytes sink.new) (lsn_line lsn)) }
-    ensures prefix { OnErr result (AppendsPrefix (K.held_bytes sink.old) (K.held_bytes sink.new) (lsn_line lsn)) }
+    ensures prefix { OnErr result (AppendsPart (K.held_bytes sink.old) (K.held_bytes sink.new) (lsn_line lsn)) }
     ensures cause { HasCause (K.faults sink.old) (K.faults sink.new) result }
 {
     put_all(sink, end_line(lsn).as_slice())
@@ -47,16 +47,16 @@ pub(crate) fn put_end<K: Sink>(lsn: Lsn, sink: &mut K) -> Result<(), WriteFault>
 
 fn put_balance<K: Sink>(account: u32, balance: u32, sink: &mut K) -> Result<(), WriteFault>
     ensures all { OnOk result (Appends (K.held_bytes sink.old) (K.held_bytes sink.new) (account_line account balance)) }
-    ensures prefix { OnErr result (AppendsPrefix (K.held_bytes sink.old) (K.held_bytes sink.new) (account_line account balance)) }
+    ensures prefix { OnErr result (AppendsPart (K.held_bytes sink.old) (K.held_bytes sink.new) (account_line account balance)) }
     ensures cause { HasCause (K.faults sink.old) (K.faults sink.new) result }
 {
     put_all(sink, balance_line(account, balance).as_slice())
 }
 
-/// Writes the accounts text of a log that ends at this LSN, or a prefix of it at a fault.
+/// Writes the accounts text of a log that ends at this LSN, or a part of it at a fault.
 pub fn put_accounts<K: Sink>(lsn: Lsn, accounts: &Balances, sink: &mut K) -> Result<(), WriteFault>
     ensures all { OnOk result (Appends (K.held_bytes sink.old) (K.held_bytes sink.new) (rows_text lsn accounts.now.rows)) }
-    ensures prefix { OnErr result (AppendsPrefix (K.held_bytes sink.old) (K.held_bytes sink.new) (rows_text lsn accounts.now.rows)) }
+    ensures prefix { OnErr result (AppendsPart (K.held_bytes sink.old) (K.held_bytes sink.new) (rows_text lsn accounts.now.rows)) }
     ensures cause { HasCause (K.faults sink.old) (K.faults sink.new) result }
 {
     put_end(lsn, sink)?;

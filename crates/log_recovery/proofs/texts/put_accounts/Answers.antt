@@ -1,18 +1,18 @@
 use Rattle.std.proofs.Common.{◌∙◌, refl, arith}
 use Rattle.std.proofs.lemmas.Result.{err_from_is_err_and}
 use Rattle.log_recovery.specs.Text.{lsn_line}
-use Rattle.log_recovery.proofs.TextLemmas.{AppendsPrefix-first, Appends-line, AppendsPrefix-line}
+use Rattle.log_recovery.proofs.TextLemmas.{AppendsPart-first, Appends-line, AppendsPart-line}
 use Rattle.log_recovery.proofs.texts.put_accounts.Goals as goal
 
 pub returns-in_err-put_end-clause-prefix : goal.returns-in_err-put_end-clause-prefix
 returns-in_err-put_end-clause-prefix g c =
     let failed = err_from_is_err_and c.from_residual.result c.from_residual.ensures.1 in
-    rw failed.1 (AppendsPrefix-first _ _ _ (lsn_line c.args.lsn) _ c.in_err-put_end.ensures.prefix refl)
+    rw failed.1 (AppendsPart-first _ _ _ (lsn_line c.args.lsn) _ c.in_err-put_end.ensures.prefix refl)
 
 pub returns-in_err-put_balance-clause-prefix : goal.returns-in_err-put_balance-clause-prefix
 returns-in_err-put_balance-clause-prefix g c =
     let failed = err_from_is_err_and c.from_residual-in_err-put_balance.result c.from_residual-in_err-put_balance.ensures.1 in
-    rw failed.1 (AppendsPrefix-line _ _ _ (lsn_line c.args.lsn) c.args.accounts.now.rows c.loop-account.account c.at-balance.result
+    rw failed.1 (AppendsPart-line _ _ _ (lsn_line c.args.lsn) c.args.accounts.now.rows c.loop-account.account c.at-balance.result
     c.at-balance.ensures c.loop-account.invariant.written (omega arith) c.in_err-put_balance.ensures.prefix)
 
 pub loop-account-preserved : goal.loop-account-preserved
