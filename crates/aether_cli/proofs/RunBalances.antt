@@ -1,11 +1,10 @@
 -- An account that was given back uncommitted had its balance in a front of the whole list.
-use Rattle.std.proofs.Common.{◌≡◌, ◌≤◌, ℕ, ◌+◌, false, List, [], ◌++◌, length, ap, ◌∙◌, sym, subst, arith, append_assoc, length-append}
+use Rattle.std.proofs.Common.{◌≡◌, ◌≤◌, ℕ, false, List, [], ◌++◌, length, ap, ◌∙◌, sym, subst, append_assoc, length-append}
 use Rattle.log_record.specs.declared.rec.Rec.{Rec}
 use Rattle.log_record.specs.declared.rec.Placed.{Placed}
 use Rattle.log_record.specs.LogList.{units_of, end_of}
 use Rattle.lock_core.specs.History.{end_from, history}
 use Rattle.lock_core.specs.Lawful.{IsLawful, IsLawfulAfter, genesis_of, base_state_of}
-use Rattle.lock_core.specs.Records.{txn_of}
 use Rattle.lock_core.specs.Sums.{BaseState, IsBalanceOf}
 use Rattle.lock_core.specs.Transactions.{ShareNoTransaction}
 use Rattle.lock_core.proofs.Appending.{genesis_of-append}

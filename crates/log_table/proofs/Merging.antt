@@ -18,7 +18,7 @@ use Rattle.log_table.specs.May.{MayMerge}
 use Rattle.log_table.specs.Sound.{HasSeenBoundaries, SendsIfFlusher, StoresStop, HasReadStop, LookedIfQuiet, HasWorkingOwner, HasConstants, RestsUnlessActive, OwnsIfWorker, HoldsIfActive, base_of, history_in, books_of, IsSound, Ruled, EachView, HasSoundRole, HasSoundRoles, HasSoundCrew, Knows, Lacks, is_active_view}
 use Rattle.log_table.specs.Roles.{is_active, has_ended, is_worker, is_spent}
 use Rattle.log_table.specs.Views.{nobody, entries_in, claims_in}
-use Rattle.log_table.specs.CrewViews.{takes_in, merged_entries, merged_seen, merged_standing}
+use Rattle.log_table.specs.CrewViews.{takes_in}
 use Rattle.log_table.specs.Words.{Words, words_in}
 use Rattle.log_table.proofs.CrewMerging.{ended-rests, without, at-without, each-merged, crew-merges}
 use Rattle.log_table.proofs.Lists.{all-append, all-weaker}

@@ -36,7 +36,7 @@ use Rattle.txn_runner.specs.Endings.{EndsTransfer}
 use Rattle.txn_runner.specs.Holdings.{account_of, taken_of, IsKnown, held_behind, given_behind, holding_all, AreDistinct, HoldsAll, TakesAll, with_held}
 use Rattle.txn_runner.specs.Inserts.{Adds, IsLeft, StopsFor}
 use Rattle.txn_runner.specs.Legs.{AreHeld, HoldsJob, last_record}
-use Rattle.txn_runner.specs.Running.{LieInOrder, account_given, GaveBack, HasInserted, IsUncommittedAt, HasRun, HasCut}
+use Rattle.txn_runner.specs.Running.{LieInOrder, GaveBack, HasInserted, IsUncommittedAt, HasRun, HasCut}
 use Rattle.txn_runner.proofs.Adding.{lie-longer, lie-sooner, placed-front}
 use Rattle.txn_runner.proofs.Gaining.{all-known}
 use Rattle.txn_runner.proofs.PlanLemmas.{planned_records-some}

@@ -1,5 +1,5 @@
 -- What a seat gave back, over calls one after the other.
-use Rattle.std.proofs.Common.{◌≡◌, ◌∙◌, List, [], ◌++◌, ap, sym, append_assoc}
+use Rattle.std.proofs.Common.{◌≡◌, ◌∙◌, [], ◌++◌, ap, sym, append_assoc}
 use Rattle.log_table.specs.declared.view.View.{View}
 use Rattle.txn_runner.specs.Holdings.{KeepsGiven}
 
