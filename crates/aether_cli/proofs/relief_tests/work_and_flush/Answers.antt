@@ -1,7 +1,7 @@
 use Rattle.std.proofs.Common.{◌∙◌, ap, subst, sym, rules}
 use Rattle.log_table.specs.Seats.{view_of}
 use Rattle.txn_runner.specs.Working.{HasWorked}
-use Rattle.txn_runner.proofs.StripeLemmas.{HasRoom-none}
+use Rattle.txn_runner.proofs.StripeLemmas.{HasRoomForRows-none}
 use Rattle.txn_runner.proofs.WorkLemmas.{HasWorked-none}
 use Rattle.aether_cli.proofs.relief_tests.work_and_flush.Goals as goal
 
@@ -12,5 +12,5 @@ work-worked-requires-clause-worked g c =
     (ap (λ books. books.jobs) c.one_worker-seat.ensures.books))
 
 pub work-worked-requires-clause-room : goal.work-worked-requires-clause-room
-work-worked-requires-clause-room g c = HasRoom-none c.in_ok-jobs.jobs c.one_worker-seat.result.0.worker c.in-Ok.rows c.in-Ok.ensures.rows
+work-worked-requires-clause-room g c = HasRoomForRows-none c.in_ok-jobs.jobs c.one_worker-seat.result.0.worker c.in-Ok.rows c.in-Ok.ensures.rows
     c.in-Ok.ensures.taken (search rules)
