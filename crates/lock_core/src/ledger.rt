@@ -97,7 +97,7 @@ impl Ledger {
             return Err(JudgeFault::Why(Why::Ended));
         };
         let newest = self.txns.update(place);
-        if newest.count >= MOST_UPDATES {
+        if newest.count >= MOST_UPDATES as u32 {
             return Err(JudgeFault::Why(Why::Legs));
         }
         if !is_paired(&[newest.change], &change) {

@@ -1,12 +1,13 @@
 ghost use Rattle.std.specs.Prelude.{◌≡◌, ◌<◌, ◌≤◌, ◌+◌, ◌∷◌, [], true, ℕ, List, length, IfSome, IfNone, IfOk, OnOk};
 ghost use Rattle.log_record.specs.declared.rec.Placed.{Placed};
 ghost use Rattle.log_record.specs.Spelling.{IsAccount};
+ghost use Rattle.lock_core.specs.declared.update.TheConstants.{MOST_UPDATES};
 ghost use Rattle.lock_core.specs.Records.{txn_of, ends};
 ghost use Rattle.lock_core.specs.Transactions.{own_records_of, updates_of, has_end};
 ghost use Rattle.lock_core.specs.Keeping.{update_at, link_at, IsOpenAt, KeepsTransactions};
 
 use crate::txn_table::TxnTable;
-use crate::update::Change;
+use crate::update::{Change, MOST_UPDATES};
 use crate::update_links::{ENDED, UpdateLink, UpdateLinks};
 use arrayvec::ArrayVec;
 use lsn_space::NoMemory;
@@ -53,9 +54,9 @@ impl Transactions {
     }
 
     /// What the Updates of a transaction say, newest first; the newest stands at this place.
-    pub fn changes(&self, place: u32) -> ArrayVec<Change, 16>
+    pub fn changes(&self, place: u32) -> ArrayVec<Change, MOST_UPDATES>
         requires { (txn : ℕ) × (h : List Placed) × IsOpenAt self.now.updates place (own_records_of txn h)
-            × (length (updates_of txn h) ≤ 16) }
+            × (length (updates_of txn h) ≤ MOST_UPDATES) }
         ensures { (txn : ℕ) (h : List Placed) → IsOpenAt self.now.updates place (own_records_of txn h)
             → result.items ≡ updates_of txn h }
     {
@@ -65,7 +66,7 @@ impl Transactions {
     /// Takes an Update of a transaction, which has so many with it, and the one before it at this place.
     pub fn push(&mut self, txn: u32, place: u32, count: u32, change: Change) -> Result<(), NoMemory>
         requires account { IsAccount change.account }
-        requires count { count ≤ 16 }
+        requires count { count ≤ MOST_UPDATES }
         ensures { OnOk result ((end : ℕ) (h : List Placed) → KeepsTransactions self.old h
             → IsOpenAt self.old.updates place (own_records_of txn h) → count ≡ length (updates_of txn h) + 1
             → KeepsTransactions self.new (update_at end txn change ∷ h)) }

@@ -1,11 +1,12 @@
 ghost use Rattle.std.specs.Prelude.{◌≡◌, ◌<◌, ◌≤◌, ◌++◌, ◌∷◌, [], List, length, IfOk};
 ghost use Rattle.log_record.specs.Spelling.{IsAccount};
 ghost use Rattle.lock_core.specs.declared.update.Change.{Change};
+ghost use Rattle.lock_core.specs.declared.update.TheConstants.{MOST_UPDATES};
 ghost use Rattle.lock_core.specs.declared.update_links.TheConstants.{ENDED};
 ghost use Rattle.lock_core.specs.Packing.{unpacked};
 ghost use Rattle.lock_core.specs.Keeping.{no_link, link_at, HasChain};
 
-use crate::update::Change;
+use crate::update::{Change, MOST_UPDATES};
 use arrayvec::ArrayVec;
 use lsn_space::{Lsn, NoMemory};
 use std::alloc::Global;
@@ -36,7 +37,7 @@ pub struct PackedLink {
 impl PackedLink {
     fn of(link: UpdateLink) -> PackedLink
         requires account { IsAccount link.change.account }
-        requires count { link.count ≤ 16 }
+        requires count { link.count ≤ MOST_UPDATES }
         ensures { unpacked result ≡ link }
     {
         let UpdateLink {
@@ -119,7 +120,7 @@ impl UpdateLinks {
     /// Appends an Update, and answers its place.
     pub fn push(&mut self, link: UpdateLink) -> Result<u32, NoMemory>
         requires account { IsAccount link.change.account }
-        requires count { link.count ≤ 16 }
+        requires count { link.count ≤ MOST_UPDATES }
         ensures links { IfOk result (λ place. self.new ≡ self.old ++ link ∷ []) }
         ensures place { IfOk result (λ place. place ≡ length self.old) }
         ensures fits { IfOk result (λ place. place < ENDED) }
@@ -135,8 +136,8 @@ impl UpdateLinks {
     }
 
     /// What the Updates of a transaction say, the newest of which stands at this place, newest first.
-    pub fn chain(&self, place: u32) -> ArrayVec<Change, 16>
-        requires { (changes : List Change) × HasChain self.now place changes × (length changes ≤ 16) }
+    pub fn chain(&self, place: u32) -> ArrayVec<Change, MOST_UPDATES>
+        requires { (changes : List Change) × HasChain self.now place changes × (length changes ≤ MOST_UPDATES) }
         ensures { HasChain self.now place result.items }
     {
         let mut changes = ArrayVec::new();

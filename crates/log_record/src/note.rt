@@ -45,7 +45,7 @@ fn buffer_of(text: &[u8]) -> [u8; LONGEST_NOTE]
 
 /// The bytes of so many units.
 fn bytes_in(units: &[u64]) -> ArrayVec<u8, LONGEST_NOTE>
-    requires { length units.now ≤ 25 }
+    requires { 8 * length units.now ≤ LONGEST_NOTE }
     ensures bytes { result.items ≡ flat_map unit_bytes units.now }
     ensures len { length result.items ≡ 8 * length units.now }
 {

@@ -3,6 +3,7 @@ use Rattle.std.specs.Prelude.{◌≡◌, ◌<◌, ◌≤◌, ℕ, ◌+◌, ◌*�
 use Rattle.std.specs.Int.{w32, to_be_bytes}
 use Rattle.std.specs.List.{flat_map}
 use Rattle.lsn_space.specs.Unit.{unit_bytes, unit_value}
+use Rattle.segment_file.specs.declared.layout.TheConstants.{HEAD}
 use Rattle.segment_file.specs.File.{magic, AreUnits}
 
 -- the units of a batch that is being gathered, and for how many there is room
@@ -22,4 +23,4 @@ pub record IsPacked (bytes units : List ℕ) (room capacity : ℕ) : Type 0 wher
   pub whole : bytes ≡ magic ++ to_be_bytes w32 number ++ flat_map unit_bytes units
   pub few : length units ≤ room
   pub small : room < 2 ^ 32
-  pub fits : 13 + 8 * room ≤ capacity
+  pub fits : HEAD + 2 + 8 * room ≤ capacity

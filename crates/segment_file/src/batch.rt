@@ -1,6 +1,7 @@
 ghost use Rattle.std.specs.Prelude.{◌≡◌, ◌<◌, ◌≤◌, ◌+◌, ◌++◌, ◌∷◌, ◌↔◌, [], IsTrue, take, drop, length, slice_index, vec_capacity, IfOk};
 ghost use Rattle.std.specs.Int.{w32, to_be_bytes};
 ghost use Rattle.lsn_space.specs.Unit.{unit_bytes};
+ghost use Rattle.segment_file.specs.declared.layout.TheConstants.{HEAD};
 ghost use Rattle.segment_file.specs.File.{magic};
 
 use crate::layout::HEAD;
@@ -20,13 +21,14 @@ pub struct Batch {
 
 impl Model for Batch {
     ghost use Rattle.std.specs.Prelude.{drop, vec_capacity};
+    ghost use Rattle.segment_file.specs.declared.layout.TheConstants.{HEAD};
     ghost use Rattle.segment_file.specs.Packing.{BatchState, units_in, IsPacked};
 
     ghost Value = { BatchState };
 
-    ghost view = { λ b. record { units = units_in (drop 11 b.bytes.items); room = b.room } };
+    ghost view = { λ b. record { units = units_in (drop HEAD b.bytes.items); room = b.room } };
 
-    ghost invariant = { λ b. IsPacked b.bytes.items (units_in (drop 11 b.bytes.items)) b.room (vec_capacity b.bytes) };
+    ghost invariant = { λ b. IsPacked b.bytes.items (units_in (drop HEAD b.bytes.items)) b.room (vec_capacity b.bytes) };
 }
 
 impl Batch {
@@ -96,7 +98,7 @@ fn head(alloc: Global, capacity: usize) -> Result<Vec<u8>, NoMemory>
 /// Writes the number of units in front of them.
 pub(crate) fn put_count(bytes: &mut Vec<u8>, count: u32)
     requires { HEAD ≤ length bytes.old.items }
-    ensures bytes { bytes.new.items ≡ take 7 bytes.old.items ++ to_be_bytes w32 count ++ drop 11 bytes.old.items }
+    ensures bytes { bytes.new.items ≡ take 7 bytes.old.items ++ to_be_bytes w32 count ++ drop HEAD bytes.old.items }
     ensures capacity { vec_capacity bytes.old ≤ vec_capacity bytes.new }
 {
     bytes[7..HEAD].copy_from_slice(&count.to_be_bytes());

@@ -1,11 +1,12 @@
 ghost use Rattle.std.specs.Prelude.{◌≡◌, ◌≤◌, ◌<◌, ◌+◌, ◌*◌, ◌↔◌, List, ℕ, length, max, IfOk, OnOk};
 ghost use Rattle.log_disk.specs.Faults.{HasCause};
 ghost use Rattle.log_disk.specs.Disk.{IsOnlyImage, Leaves};
+ghost use Rattle.segment_file.specs.declared.layout.TheConstants.{HEAD};
 ghost use Rattle.segment_file.specs.Standing.{tail_at, AllStand, IsShut, IsStableGate, HoldsNoneOr};
 
 use crate::batch::{Batch, put_count};
 use crate::gated_write::{DiskFault, write_gated};
-use crate::layout::{CLOSED, MOST_UNITS};
+use crate::layout::{CLOSED, HEAD, MOST_UNITS};
 use crate::scan_result::Tail;
 use crate::settling::close_gate;
 use log_disk::LogDisk;
@@ -21,11 +22,11 @@ pub fn create<D: LogDisk>(disk: &mut D, batch: &mut Batch) -> Result<Tail, DiskF
     ensures created { D.honest disk.old → IfOk result (λ t. AllStand t batch.old.units (D.images disk.new)) }
     ensures shut { D.honest disk.old → IfOk result (λ t. IsShut t.at (D.images disk.new)) }
     ensures settled { D.honest disk.old → OnOk result (IsOnlyImage (D.reads disk.new) (D.images disk.new)) }
-    ensures place { IfOk result (λ t. t.at ≡ 12 + 8 * length batch.old.units) }
+    ensures place { IfOk result (λ t. t.at ≡ HEAD + 1 + 8 * length batch.old.units) }
     ensures next { IfOk result (λ t. t.next ≡ length batch.old.units) }
     ensures batch { batch.new ≡ batch.old }
     ensures length { D.honest disk.old
-        → length (D.reads disk.new) ≤ max (length (D.reads disk.old)) (13 + 8 * length batch.old.units) }
+        → length (D.reads disk.new) ≤ max (length (D.reads disk.old)) (HEAD + 2 + 8 * length batch.old.units) }
     ensures count { D.honest disk.old → D.written_count disk.new ≤ D.written_count disk.old + 6 }
     ensures later { D.moment disk.old ≤ D.moment disk.new }
     ensures honest { D.honest disk.old ↔ D.honest disk.new }
@@ -35,7 +36,7 @@ pub fn create<D: LogDisk>(disk: &mut D, batch: &mut Batch) -> Result<Tail, DiskF
     close_gate(disk, 0)?;
     create_sealed(disk, batch)?;
     Ok(Tail {
-        at: 12 + 8 * count as u64,
+        at: HEAD as u64 + 1 + 8 * count as u64,
         next: Lsn::new(count),
     })
 }
@@ -47,12 +48,12 @@ fn create_sealed<D: LogDisk>(disk: &mut D, batch: &mut Batch) -> Result<(), Disk
     requires shut { D.honest disk.old → IsShut 0 (D.images disk.old) }
     ensures moments { D.honest disk.old → Leaves D.moment D.images_since (HoldsNoneOr batch.old.units) disk.old disk.new }
     ensures created { D.honest disk.old
-        → OnOk result (AllStand (tail_at (12 + 8 * length batch.old.units) (length batch.old.units)) batch.old.units (D.images disk.new)) }
-    ensures shut { D.honest disk.old → OnOk result (IsShut (12 + 8 * length batch.old.units) (D.images disk.new)) }
+        → OnOk result (AllStand (tail_at (HEAD + 1 + 8 * length batch.old.units) (length batch.old.units)) batch.old.units (D.images disk.new)) }
+    ensures shut { D.honest disk.old → OnOk result (IsShut (HEAD + 1 + 8 * length batch.old.units) (D.images disk.new)) }
     ensures settled { D.honest disk.old → OnOk result (IsOnlyImage (D.reads disk.new) (D.images disk.new)) }
     ensures batch { batch.new ≡ batch.old }
     ensures length { D.honest disk.old
-        → length (D.reads disk.new) ≤ max (length (D.reads disk.old)) (13 + 8 * length batch.old.units) }
+        → length (D.reads disk.new) ≤ max (length (D.reads disk.old)) (HEAD + 2 + 8 * length batch.old.units) }
     ensures count { D.honest disk.old → D.written_count disk.new ≤ D.written_count disk.old + 4 }
     ensures later { D.moment disk.old ≤ D.moment disk.new }
     ensures honest { D.honest disk.old ↔ D.honest disk.new }

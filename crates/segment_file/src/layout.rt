@@ -14,9 +14,10 @@ pub const HEAD: usize = 11;
 /// The most units of a batch.
 pub const MOST_UNITS: u32 = 0x10_0000;
 
-/// A law: the numbers that the definitions take from here are the format's, 0x4F, 0 and 1048576.
+/// A law: the numbers that the definitions take from here are the format's, 0x4F, 0, 11 and 1048576.
 pub fn format_numbers()
     ensures open { OPEN ≡ 79 }
     ensures closed { CLOSED ≡ 0 }
+    ensures head { HEAD ≡ 11 }
     ensures most { MOST_UNITS ≡ 1048576 }
 {}

@@ -2,13 +2,18 @@
 ghost use Rattle.std.specs.Prelude.{◌<◌, ◌∷◌, [], ℕ, All};
 ghost use Rattle.std.specs.List.Sorted.{IsStrictlyIncreasing};
 ghost use Rattle.arrayvec.specs.ArrayVec.{array_vec_len};
+ghost use Rattle.txn_runner.specs.declared.accounts.TheConstants.{MOST_PARTIES};
 ghost use Rattle.txn_runner.specs.Accounts.{HasAccountsOf, IsAccountOf, AddsAccount};
 
 use arrayvec::ArrayVec;
+use log_record::MOST_LEGS;
 use txn_script::Job;
 
+/// The most accounts of a transfer: two for each leg.
+pub(crate) const MOST_PARTIES: usize = 2 * MOST_LEGS as usize;
+
 /// The accounts of the transfer in ascending order, none of them twice.
-pub(crate) fn accounts_of(job: &Job) -> ArrayVec<u32, 16>
+pub(crate) fn accounts_of(job: &Job) -> ArrayVec<u32, MOST_PARTIES>
     ensures rising { IsStrictlyIncreasing result.items }
     ensures all { All (HasAccountsOf result.items) job.now.legs }
     ensures only { All (IsAccountOf job.now.legs) result.items }
@@ -26,7 +31,7 @@ pub(crate) fn accounts_of(job: &Job) -> ArrayVec<u32, 16>
 }
 
 /// Both accounts in ascending order, or the one that they are.
-fn pair(payer: u32, payee: u32) -> ArrayVec<u32, 16>
+fn pair(payer: u32, payee: u32) -> ArrayVec<u32, MOST_PARTIES>
     ensures rising { IsStrictlyIncreasing result.items }
     ensures all { (amount : ℕ) → HasAccountsOf result.items (payer, payee, amount) }
     ensures only { (amount : ℕ) → All (IsAccountOf ((payer, payee, amount) ∷ [])) result.items }
@@ -42,9 +47,9 @@ fn pair(payer: u32, payee: u32) -> ArrayVec<u32, 16>
 }
 
 /// Puts the account in its place among the others, where it isn't one of them.
-fn add(accounts: &mut ArrayVec<u32, 16>, account: u32)
+fn add(accounts: &mut ArrayVec<u32, MOST_PARTIES>, account: u32)
     requires rising { IsStrictlyIncreasing accounts.old.items }
-    requires room { array_vec_len accounts.old < 16 }
+    requires room { array_vec_len accounts.old < MOST_PARTIES }
     ensures rising { IsStrictlyIncreasing accounts.new.items }
     ensures added { AddsAccount account accounts.old.items accounts.new.items }
 {
@@ -56,7 +61,6 @@ fn add(accounts: &mut ArrayVec<u32, 16>, account: u32)
 #[cfg(test)]
 mod tests {
     use super::*;
-    use log_record::MOST_LEGS;
     use txn_script::Legs;
 
     #[test]

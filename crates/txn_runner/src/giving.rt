@@ -7,6 +7,7 @@ ghost use Rattle.ring_buffer.specs.Calls.{IsReady};
 ghost use Rattle.early_locks.specs.Locks.{HoldsTaken, GivesBack, HasSeenDurable};
 ghost use Rattle.txn_runner.specs.Holdings.{HoldsAll, IsKnown, GoesBack, back_of, with_held};
 
+use crate::accounts::MOST_PARTIES;
 use crate::holding::Holding;
 use arrayvec::ArrayVec;
 use early_locks::{Taken, give, give_durable};
@@ -40,7 +41,7 @@ impl Release {
 pub(crate) fn give_all(
     table: &LogTable,
     seat: &mut Seat,
-    holdings: ArrayVec<Holding, 16>,
+    holdings: ArrayVec<Holding, MOST_PARTIES>,
     release: Release,
     durable: bool,
 )

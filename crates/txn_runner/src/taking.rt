@@ -7,9 +7,11 @@ ghost use Rattle.log_table.specs.May.{HasBegunNothing};
 ghost use Rattle.log_table.specs.Seats.{IsOf, view_of};
 ghost use Rattle.ring_buffer.specs.Calls.{IsReady, HasEntries};
 ghost use Rattle.early_locks.specs.Transfers.{held_of};
+ghost use Rattle.txn_runner.specs.declared.accounts.TheConstants.{MOST_PARTIES};
 ghost use Rattle.txn_runner.specs.Holdings.{TakesAll, KeepsGiven, KeepsBooks};
 ghost use Rattle.txn_runner.specs.Inserts.{StopsFor};
 
+use crate::accounts::MOST_PARTIES;
 use crate::cause::Cause;
 use crate::giving::{Release, give_all};
 use crate::holding::Holding;
@@ -29,14 +31,14 @@ pub(crate) fn take_all<R: Wait, Q: Relief, G: Gate>(
     accounts: &[u32],
     relief: &mut Q,
     gate: &G,
-) -> Result<ArrayVec<Holding, 16>, Cause>
+) -> Result<ArrayVec<Holding, MOST_PARTIES>, Cause>
     requires seat { IsOf table.now seat.old }
     requires ready { IsReady (view_of seat.old) }
     requires begins { HasBegunNothing (view_of seat.old) }
     requires none_held { (view_of seat.old).books.held ≡ [] }
     requires rising { IsStrictlyIncreasing accounts.now }
     requires known { All (λ account. account < table.now.accounts) accounts.now }
-    requires few { length accounts.now ≤ 16 }
+    requires few { length accounts.now ≤ MOST_PARTIES }
     requires relief { Q.ready relief.old }
     ensures taken { IfOk result (λ holdings. TakesAll accounts.now holdings.items seat.old seat.new) }
     ensures kept { OnErr result (KeepsBooks seat.old seat.new) }

@@ -10,6 +10,7 @@ ghost use Rattle.txn_runner.specs.Inserts.{HasAdded, IsCutOff};
 ghost use Rattle.txn_runner.specs.Legs.{HoldsJob, AddsRecords, last_record};
 ghost use Rattle.txn_runner.specs.Endings.{release_at, EndsTransfer};
 
+use crate::accounts::MOST_PARTIES;
 use crate::cause::Cause;
 use crate::giving::Release;
 use crate::holding::Holding;
@@ -52,7 +53,7 @@ pub(crate) fn insert_transfer<R: Wait, Q: Relief, G: Gate>(
     seat: &mut Seat,
     number: u32,
     job: &Job,
-    holdings: &mut ArrayVec<Holding, 16>,
+    holdings: &mut ArrayVec<Holding, MOST_PARTIES>,
     relief: &mut Q,
     gate: &G,
 ) -> Result<Ended, Cause>

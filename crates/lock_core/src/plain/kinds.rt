@@ -60,7 +60,7 @@ pub fn admit_update(
     if own.is_ended {
         return Err(Why::Ended);
     }
-    if own.changes.len() >= MOST_UPDATES as usize {
+    if own.changes.len() >= MOST_UPDATES {
         return Err(Why::Legs);
     }
     if !is_paired(own.changes.as_slice(), &change) {
@@ -74,7 +74,11 @@ pub fn admit_update(
 
 /// What a Commit of so many legs commits, where it passes the tests up to that of the legs.
 #[tactic(auto, using(crate::proofs::KindLemmas::few_updates))]
-fn committed_changes(front: &[Placed], txn: u32, legs: u32) -> Result<ArrayVec<Change, 16>, Why>
+fn committed_changes(
+    front: &[Placed],
+    txn: u32,
+    legs: u32,
+) -> Result<ArrayVec<Change, MOST_UPDATES>, Why>
     requires lawful { IsLawful (reverse front.now) }
     requires legs { IsLeg legs }
     ensures ok { IfOk result (λ changes. IsCommitting (reverse front.now) txn legs changes.items) }

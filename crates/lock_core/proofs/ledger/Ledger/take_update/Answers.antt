@@ -12,8 +12,8 @@ pub returns-then-count-eq0 : goal.returns-then-count-eq0
 returns-then-count-eq0 c = λ end h kept. let counted = c.count.ensures in
     fails-first c.args.self.now h kept (record { end = end; rec = Update c.args.txn c.args.change.account c.args.change.delta c.args.change.prev }) (λ never. never) (omega arith)
 
-pub returns-then-newest-ge-MOST_UPDATES : goal.returns-then-newest-ge-MOST_UPDATES
-returns-then-newest-ge-MOST_UPDATES c = λ end h kept. let counted = c.count.ensures in let again = c.count-2.ensures in let place = c.in-Some.ensures.unended h kept.transactions in
+pub returns-then-newest : goal.returns-then-newest
+returns-then-newest c = λ end h kept. let counted = c.count.ensures in let again = c.count-2.ensures in let place = c.in-Some.ensures.unended h kept.transactions in
     let links = c.args.self.now.txns.updates in let first = kept.transactions.first in let updates = updates_of c.args.txn h in
     let same = ap (λ (l : UpdateLink). l.count) c.update-newest.ensures ∙ chain-count links first c.in-Some.place updates place.chain in
     let some = some-taken c.args.self.now h kept (λ none. omega arith) in
