@@ -1,5 +1,5 @@
 -- What is promised of transfers that have ended, in the words of what came of them.
-use Rattle.std.proofs.Common.{◌≡◌, ◌↔◌, ◌<◌, ◌∙◌, ap, sym, subst, refl, ℕ, zero, suc, List, [], ◌∷◌, ◌++◌, length, map, get_or, None, Some, arith, ◌≤◌, inl, inr}
+use Rattle.std.proofs.Common.{◌≡◌, ◌≢◌, ◌↔◌, ◌<◌, ◌∙◌, ap, sym, subst, refl, ℕ, zero, suc, List, [], ◌∷◌, ◌++◌, length, map, get_or, None, Some, arith, ◌≤◌, inl, inr}
 use Rattle.std.specs.List.{AllByRecursion}
 use Rattle.std.proofs.lemmas.List.{length-map}
 use Rattle.std.proofs.lemmas.List.Elements.{All-head, All-tail}
@@ -23,6 +23,7 @@ use Rattle.commit_pipeline.specs.declared.voice.Voice.{Voice}
 use Rattle.commit_pipeline.specs.declared.voice.Voice.TheVariants.{Lines}
 use Rattle.commit_pipeline.specs.EndLines.{done_in, refused_in, text_of}
 use Rattle.commit_pipeline.specs.Later.{HasReason}
+use Rattle.commit_pipeline.proofs.RanLemmas.{none≢some}
 use Rattle.txn_runner.specs.declared.cause.Cause.TheVariants as cause
 use Rattle.txn_runner.specs.declared.cause.Worked.{Worked}
 use Rattle.txn_runner.specs.declared.cause.Worked.TheVariants as worked
@@ -34,7 +35,7 @@ use Rattle.aether_cli.specs.Ending.{HasEnded, AreWhole, Concludes, NoneStopped, 
 use Rattle.aether_cli.specs.Run.{RunKeepsLog, RunIsDrained, RunsWhole}
 use Rattle.aether_cli.specs.RunStops.{StopsAtLogEnd}
 use Rattle.aether_cli.specs.Shares.{Share}
-use Rattle.aether_cli.proofs.RunLemmas.{sends, serial, kept, whole_after, tally-all, keeps, drained, whole, stops-at-end, never-stops, reason, same}
+use Rattle.aether_cli.proofs.RunLemmas.{sends, serial, kept, whole_after, tally-all, keeps, drained, whole, stops-at-end, never-stops, disk_fine, reason, same}
 use Rattle.aether_cli.proofs.RunHistory.{later_of}
 use Rattle.aether_cli.proofs.RunStripes.{tasks_of}
 
@@ -134,6 +135,12 @@ module _ {D : Type 0} {K : Type 0} (g : Ghosts D) (h : SinkGhosts K) (prepared :
       has.first has.last has.view ended.closed.tail ended.closed.accounts.rows has.transferred) in
       rw (← has.disk_old, ← has.disk_is) why.0
 
+  -- where the disk did not fail the daemon, it counted no fault
+  pub fine-ended : ended.fault ≢ Some DiskFault → g.faults disk_new ≡ g.faults disk
+  fine-ended sent = rw (← has.disk_old, ← has.disk_is)
+      (disk_fine g h opened prepared.jobs has.shares (key_of prepared.table) has.first has.last has.view ended.closed.tail
+      ended.closed.accounts.rows has.transferred (λ failed. sent (sym has.fault ∙ failed)))
+
   pub reason-write : ended.fault ≡ Some WriteFault → Rose (h.faults sink) (h.faults sink_new)
   reason-write fault =
       let why = subst (HasReason g h has.first has.last) (has.fault ∙ fault) (reason g h opened prepared.jobs has.shares (key_of prepared.table)
@@ -198,6 +205,15 @@ module _ {D : Type 0} {K : Type 0} (g : Ghosts D) (h : SinkGhosts K) (prepared :
     pub disk-concluded : (detail : Detail) → Concludes h ended text sink_new sink_end detail → detail ≡ Disk → Rose (g.faults disk) (g.faults disk_new)
     disk-concluded = by-conclusion h ended text sink_new sink_end (λ detail. detail ≡ Disk → Rose (g.faults disk) (g.faults disk_new))
         (λ said _. reason-disk said.0) (λ _ same. cc) (λ _ same. cc) (λ _ same. cc) (λ tail total _ same. cc)
+
+    pub fine-concluded : (detail : Detail) → Concludes h ended text sink_new sink_end detail → (detail ≡ Disk → ⊥)
+        → g.faults disk_new ≡ g.faults disk
+    fine-concluded = by-conclusion h ended text sink_new sink_end (λ detail. (detail ≡ Disk → ⊥) → g.faults disk_new ≡ g.faults disk)
+        (λ _ other. absurd (other refl)) (λ said _. let cut = said.0 in fine-ended (λ failed. absurd cc)) (λ said _. none-failed said.0.0)
+        (λ said _. none-failed said.0.0) (λ tail total said _. none-failed said.0.0)
+      where
+        none-failed : ended.fault ≡ None → g.faults disk_new ≡ g.faults disk
+        none-failed none = fine-ended (λ failed. none≢some DiskFault (sym none ∙ failed))
 
     pub write-concluded : (detail : Detail) → Concludes h ended text sink_new sink_end detail
         → (detail ≡ Write → ended.fault ≡ None → Rose (h.faults sink_new) (h.faults sink_end)) → detail ≡ Write

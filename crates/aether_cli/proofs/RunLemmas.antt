@@ -1,5 +1,5 @@
 -- What a run promises, from what is known once all seats are gathered.
-use Rattle.std.proofs.Common.{◌≡◌, inl, inr, ⊎_elim, ◌≤◌, ℕ, ◌+◌, false, List, [], ◌++◌, length, map, None, refl, ap, ◌∙◌, sym, subst, arith, add-zero, append-nil, append_assoc, length-append}
+use Rattle.std.proofs.Common.{◌≢◌, ◌≡◌, inl, inr, ⊎_elim, ◌≤◌, ℕ, ◌+◌, false, List, [], ◌++◌, length, map, None, Some, refl, ap, ◌∙◌, sym, subst, arith, add-zero, append-nil, append_assoc, length-append}
 use Rattle.std.specs.List.{AllByRecursion}
 use Rattle.std.proofs.lemmas.List.Elements.{All-from_recursion}
 use mathlib.Core.Option.{some}
@@ -36,12 +36,12 @@ use Rattle.log_table.specs.Sound.{base_of}
 use Rattle.flusher.specs.Flushing.{sent_of}
 use Rattle.commit_pipeline.specs.declared.daemon.Daemon.{Daemon}
 use Rattle.commit_pipeline.specs.EndLines.{text_of}
-use Rattle.commit_pipeline.specs.declared.daemon.DaemonFault.TheVariants.{WriteFault}
+use Rattle.commit_pipeline.specs.declared.daemon.DaemonFault.TheVariants.{DiskFault, WriteFault}
 use Rattle.commit_pipeline.specs.declared.tally.Tally.{Tally}
 use Rattle.commit_pipeline.specs.Later.{Later, Ran, HasReason}
 use Rattle.commit_pipeline.specs.Telling.{counted}
 use Rattle.commit_pipeline.specs.Turning.{IsSameDaemon, durable}
-use Rattle.commit_pipeline.proofs.RanLemmas.{Later-same, Later-reason, none≢some}
+use Rattle.commit_pipeline.proofs.RanLemmas.{Later-disk_fine, Later-same, Later-reason, none≢some}
 use Rattle.commit_pipeline.proofs.LineLemmas.{text_of-append}
 use Rattle.txn_runner.specs.declared.cause.Cause.TheVariants.{Stop, LogEnd}
 use Rattle.txn_runner.specs.declared.cause.Worked.TheVariants.{All, Cut}
@@ -198,6 +198,9 @@ module _ {D : Type 0} {K : Type 0} (g : Ghosts D) (h : SinkGhosts K) (opened : L
 
   pub reason : HasReason g h old new new.fault
   reason = Later-reason g h old new known.later known.fresh.fine
+
+  pub disk_fine : new.fault ≢ Some DiskFault → g.faults new.flusher.disk.now ≡ g.faults old.flusher.disk.now
+  disk_fine = Later-disk_fine g h old new known.later
 
   pub same : IsSameDaemon g h old new
   same = Later-same g h old new known.later

@@ -348,6 +348,7 @@ module _ (d : Daemon ℕ (List ℕ)) (of : IsOf d.flusher.table.now d.flusher.se
     front = λ failed. absurd (none≢some WriteFault failed);
     all = λ fault. (refl, refl);
     reason = refl;
+    disk_fine = λ sent. refl;
     count = λ honest. omega arith;
   }
 

@@ -48,6 +48,7 @@ pub fn demo_command<R: Threads + Wait + Sync, D: LogDisk, K: Sink, G: Gate + Syn
     ensures exists { D.honest disk.old → TellsWhether (BeginsOpen (D.reads disk.old)) result }
     ensures write { result ≡ Detail.Write → Rose (K.faults out.old) (K.faults out.new) }
     ensures disk { result ≡ Detail.Disk → Rose (D.faults disk.old) (D.faults disk.new) }
+    ensures no_fault { (result ≡ Detail.Disk → ⊥) → D.faults disk.new ≡ D.faults disk.old }
     ensures later { K.faults out.old ≤ K.faults out.new }
     ensures later_disk { D.faults disk.old ≤ D.faults disk.new }
 {

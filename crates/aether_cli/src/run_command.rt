@@ -54,6 +54,7 @@ pub fn run_command<R: Threads + Wait + Sync, D: LogDisk, S: Source, K: Sink, G: 
     ensures read { result ≡ Detail.Read → Rose (S.faults script.old) (S.faults script.new) }
     ensures write { result ≡ Detail.Write → Rose (K.faults out.old) (K.faults out.new) }
     ensures disk { result ≡ Detail.Disk → Rose (D.faults disk.old) (D.faults disk.new) }
+    ensures no_fault { (result ≡ Detail.Disk → ⊥) → D.faults disk.new ≡ D.faults disk.old }
     ensures later { (S.faults script.old ≤ S.faults script.new) × (K.faults out.old ≤ K.faults out.new) }
     ensures later_disk { D.faults disk.old ≤ D.faults disk.new }
 {

@@ -121,9 +121,8 @@ pub fn aether<R: Threads + Wait + Sync, D: LogDisk, S: Source, K: Sink, G: Gate 
     ensures write { result.detail ≡ Detail.Write → Rose (K.faults out.old) (K.faults out.new) }
     ensures disk { result.detail ≡ Detail.Disk → Rose (D.faults disk.old) (D.faults disk.new) }
 
-    // Where no transfers are run, a call of the disk that failed isn't tried again.
-    ensures no_fault { (AsksRun words.now → ⊥) → (AsksDemo words.now → ⊥) → (result.detail ≡ Detail.Disk → ⊥)
-        → D.faults disk.new ≡ D.faults disk.old }
+    // A call of the disk that failed isn't tried again, and its fault is answered.
+    ensures no_fault { (result.detail ≡ Detail.Disk → ⊥) → D.faults disk.new ≡ D.faults disk.old }
     ensures later { (S.faults script.old ≤ S.faults script.new) × (K.faults out.old ≤ K.faults out.new) }
     ensures later_disk { D.faults disk.old ≤ D.faults disk.new }
 {

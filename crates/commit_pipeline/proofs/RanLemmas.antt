@@ -229,6 +229,7 @@ module _ {D : Type 0} {K : Type 0} (g : Ghosts D) (h : SinkGhosts K) (a b c : Da
     front = front;
     all = all;
     reason = reason c.fault second.reason;
+    disk_fine = λ sent. second.disk_fine sent ∙ first.disk_fine (kept DiskFault);
     count = λ honest. omega (
       arith,
       first.count honest,
@@ -289,3 +290,9 @@ pub Later-reason : {D : Type 0} {K : Type 0} (g : Ghosts D) (h : SinkGhosts K) (
 Later-reason g h a b (inl same) was_fine =
     subst (λ d. HasReason g h a d d.fault) (sym same) (subst (HasReason g h a a) (sym was_fine) refl)
 Later-reason g h a b (inr ran) _ = ran.reason
+
+-- where its disk did not fail, the disk counted no fault
+pub Later-disk_fine : {D : Type 0} {K : Type 0} (g : Ghosts D) (h : SinkGhosts K) (a b : Daemon D K) → Later g h a b
+    → b.fault ≢ Some DiskFault → g.faults b.flusher.disk.now ≡ g.faults a.flusher.disk.now
+Later-disk_fine g h a b (inl same) sent = ap (λ d. g.faults d.flusher.disk.now) same
+Later-disk_fine g h a b (inr ran) sent = ran.disk_fine sent

@@ -32,8 +32,9 @@ module _ {D : Type 0} {K : Type 0} (g : Ghosts D) (h : SinkGhosts K) (old new : 
       → (new.fault ≢ Some DiskFault → cut ≡ []) → Appends (h.held_bytes old.sink.now) (h.held_bytes new.sink.now) text
       → (new.fault ≡ Some WriteFault → TellsFront old.voice (durable old) more text old.tally new.tally)
       → (new.fault ≢ Some WriteFault → (text ≡ text_of old.voice (durable old) more) × (new.tally ≡ counted old.tally more))
-      → HasReason g h old new new.fault → most ≤ 4 * length more + extra new.fault → Ran g h old new
-  Ran-of more cut text most fine spellable flew same in_flight may_turn cuts appended front all reason count = record {
+      → HasReason g h old new new.fault → (new.fault ≢ Some DiskFault → g.faults new.flusher.disk.now ≡ g.faults old.flusher.disk.now)
+      → most ≤ 4 * length more + extra new.fault → Ran g h old new
+  Ran-of more cut text most fine spellable flew same in_flight may_turn cuts appended front all reason disk_fine count = record {
     was_fine = fine;
     more = more;
     cut = cut;
@@ -51,6 +52,7 @@ module _ {D : Type 0} {K : Type 0} (g : Ghosts D) (h : SinkGhosts K) (old new : 
     front = front;
     all = all;
     reason = reason;
+    disk_fine = disk_fine;
     count = λ honest. omega (arith, flew.count honest, count);
   }
 
@@ -68,13 +70,14 @@ module _ {D : Type 0} {K : Type 0} (g : Ghosts D) (h : SinkGhosts K) (old new : 
   -- the seat made steps, and nothing was sent
   Ran-quiet : MayTurn g old → Flew g [] [] 0 old.flusher new.flusher → IsSameDaemon g h old new → MayTurn g new
       → new ≡ record old { flusher = new.flusher }
-      → (view_of new.flusher.seat).sending.stop ≡ (view_of old.flusher.seat).sending.stop → Ran g h old new
-  Ran-quiet ready flew same may rest stop =
+      → (view_of new.flusher.seat).sending.stop ≡ (view_of old.flusher.seat).sending.stop
+      → g.faults new.flusher.disk.now ≡ g.faults old.flusher.disk.now → Ran g h old new
+  Ran-quiet ready flew same may rest stop disk_fine =
       Ran-of [] [] [] 0 ready.fine tt flew same (fine-flight may.fine flew.read) (λ fine. may) (λ sent. refl)
       (subst (λ (d : Daemon D K). Appends (h.held_bytes old.sink.now) (h.held_bytes d.sink.now) []) (sym rest)
       (Appends-nil (h.held_bytes old.sink.now)))
       (fine-front may.fine) (λ written. nothing-all (ap (λ (d : Daemon D K). d.tally) rest))
-      (subst (HasReason g h old new) (sym may.fine) stop) (omega (arith, ap extra may.fine))
+      (subst (HasReason g h old new) (sym may.fine) stop) (λ sent. disk_fine) (omega (arith, ap extra may.fine))
 
   -- what some units spell is some record
   some-records : (units : List ℕ) (records : List Rec) → AreUnitsOf units records → 0 < length units → 1 ≤ length records
@@ -90,7 +93,8 @@ module _ {D : Type 0} {K : Type 0} (g : Ghosts D) (h : SinkGhosts K) (old new : 
       (subst (AllByRecursion IsSpellable) (sym (append-nil sent.flush.records)) sent.flush.spelled.spellable) flew same
       (fine-flight may.fine flew.read) (λ fine. may) (λ disk. refl) sent.appended
       (fine-front may.fine) (λ written. (sent.tells.text_is, sent.tells.counts))
-      (subst (HasReason g h old new) (sym may.fine) (ap (λ (v : View). v.sending.stop) is)) (omega (arith, some, ap extra may.fine))
+      (subst (HasReason g h old new) (sym may.fine) (ap (λ (v : View). v.sending.stop) is)) (λ other. sent.disk_fine)
+      (omega (arith, some, ap extra may.fine))
 
   -- the disk failed
   pub Ran-lost : MayTurn g old → LosesUnits g old new → IsSameDaemon g h old new → Ran g h old new
@@ -105,7 +109,8 @@ module _ {D : Type 0} {K : Type 0} (g : Ghosts D) (h : SinkGhosts K) (old new : 
       (subst (λ (d : Daemon D K). Appends (h.held_bytes old.sink.now) (h.held_bytes d.sink.now) []) (sym lost.rest)
       (Appends-nil (h.held_bytes old.sink.now)))
       (λ failed. absurd cc) (λ written. nothing-all (ap (λ (d : Daemon D K). d.tally) lost.rest))
-      (subst (HasReason g h old new) (sym fault) (lost.rose, ap (λ (v : View). v.sending.stop) is)) (omega (arith, ap extra fault))
+      (subst (HasReason g h old new) (sym fault) (lost.rose, ap (λ (v : View). v.sending.stop) is)) (λ sent. absurd (sent fault))
+      (omega (arith, ap extra fault))
 
   -- the sink failed
   pub Ran-unwritten : MayTurn g old → LosesLines g h old new → IsSameDaemon g h old new → Ran g h old new
@@ -124,7 +129,7 @@ module _ {D : Type 0} {K : Type 0} (g : Ghosts D) (h : SinkGhosts K) (old new : 
         ap (λ (v : View). v.sending.stop) is,
         TellsFront-speaks old.voice (durable old) lost.flush.records lost.text old.tally new.tally lost.tells,
       ))
-      (omega (arith, some, ap extra lost.fault))
+      (λ sent. lost.disk_fine) (omega (arith, some, ap extra lost.fault))
 
   module _ (rest : new ≡ record old { flusher = new.flusher }) (seat_alone : new.flusher ≡ record old.flusher { seat = new.flusher.seat }) where
     -- where the seat alone made steps, it is the same daemon
@@ -160,6 +165,7 @@ module _ {D : Type 0} {K : Type 0} (g : Ghosts D) (h : SinkGhosts K) (old new : 
         (ap (λ (v : View). v.sending.sent) is ∙ sent)
         (ap (λ (v : View). v.sending.read) is ∙ read ∙ ready.flusher.unread))
         (IsSameDaemon-step (IsSameSeat-becomes _ _ view becomes constants entries books) (ap (λ (v : View). v.standing) is ∙ standing)) may rest (ap (λ (v : View). v.sending.stop) is ∙ stop)
+        (ap (λ (f : Flusher D). g.faults f.disk.now) seat_alone)
 
     pub Ran-asked : (answer : Drained) → Asks old.flusher new.flusher answer → MayTurn g old → MayTurn g new → Ran g h old new
     Ran-asked (At lsn) asks ready may = Ran-steps _ asks.2 ready may refl refl refl refl refl refl refl

@@ -19,8 +19,8 @@ module _ {D : Type 0} {K : Type 0} (g : Ghosts D) (h : SinkGhosts K) (old : Daem
   pub SendsLines-told : (new : Daemon D K) (from to lines : ℕ) → new.fault ≡ old.fault → Sends g old.flusher new.flusher from to
       → (text : List ℕ) × Appends (h.held_bytes old.sink.now) (h.held_bytes new.sink.now) text
       × ((records : List Rec) → AreUnitsOf new.flusher.batch.units records → TellsAll old.voice from records text lines old.tally new.tally)
-      → old.fault ≡ None → SendsLines g h old new lines to
-  SendsLines-told new from to lines fault sends told fine =
+      → old.fault ≡ None → g.faults new.flusher.disk.now ≡ g.faults old.flusher.disk.now → SendsLines g h old new lines to
+  SendsLines-told new from to lines fault sends told fine disk_fine =
       let flush = subst (λ n. Sends g old.flusher new.flusher n to) sends.durable sends in
       record {
         flush = flush;
@@ -29,6 +29,7 @@ module _ {D : Type 0} {K : Type 0} (g : Ghosts D) (h : SinkGhosts K) (old : Daem
         tells = subst (λ n. TellsAll old.voice n flush.records told.0 lines old.tally new.tally) sends.durable
             (told.2 flush.records (subst (λ us. AreUnitsOf us flush.records) (sym (ap (λ b. b.units) flush.batch)) flush.spelled));
         fine = fault ∙ fine;
+        disk_fine = disk_fine;
       }
 
   -- the disk failed, and then the stop word was stored
@@ -48,8 +49,9 @@ module _ {D : Type 0} {K : Type 0} (g : Ghosts D) (h : SinkGhosts K) (old : Daem
       → (text : List ℕ) × Appends (h.held_bytes old.sink.now) (h.held_bytes sink.now) text
       × ((records : List Rec) → AreUnitsOf sent.batch.units records → TellsFront old.voice from records text old.tally tally)
       → Rose (h.faults old.sink.now) (h.faults sink.now) → Stops 2 sent new.flusher
-      → new ≡ record old { flusher = new.flusher; sink = sink; tally = tally; fault = Some WriteFault } → LosesLines g h old new
-  LosesLines-stop sent sink tally new from to sends told rose stops rest =
+      → new ≡ record old { flusher = new.flusher; sink = sink; tally = tally; fault = Some WriteFault }
+      → g.faults sent.disk.now ≡ g.faults old.flusher.disk.now → LosesLines g h old new
+  LosesLines-stop sent sink tally new from to sends told rose stops rest disk_fine =
       let flush = subst (λ n. Sends g old.flusher sent n to) sends.durable sends in
       record {
         to = to;
@@ -63,4 +65,5 @@ module _ {D : Type 0} {K : Type 0} (g : Ghosts D) (h : SinkGhosts K) (old : Daem
             (told.2 flush.records (subst (λ us. AreUnitsOf us flush.records) (sym (ap (λ b. b.units) flush.batch)) flush.spelled)));
         fault = ap (λ d. d.fault) rest;
         rose = subst (λ n. Rose (h.faults old.sink.now) n) (sym (ap (λ d. h.faults d.sink.now) rest)) rose;
+        disk_fine = ap (λ f. g.faults f.disk.now) stops.rest ∙ disk_fine;
       }

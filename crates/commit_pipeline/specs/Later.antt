@@ -52,7 +52,7 @@ extra (Some DiskFault) = 4
 extra (Some WriteFault) = 0
 
 -- Turns of a daemon to which nothing had befallen. `more` are the records that they sent, `cut` those in flight at a fault of the
--- disk, and `text` is what was written.
+-- disk, and `text` is what was written. Where the disk did not fail the daemon, it counted no fault: no call that failed was made again.
 pub record Ran {D : Type 0} {K : Type 0} (g : Ghosts D) (h : SinkGhosts K) (old new : Daemon D K) : Type 0 where
   pub was_fine : old.fault ≡ None
   pub more : List Rec
@@ -76,6 +76,7 @@ pub record Ran {D : Type 0} {K : Type 0} (g : Ghosts D) (h : SinkGhosts K) (old 
   pub all : new.fault ≢ Some WriteFault
       → (text ≡ text_of old.voice (durable old) more) × (new.tally ≡ counted old.tally more)
   pub reason : HasReason g h old new new.fault
+  pub disk_fine : new.fault ≢ Some DiskFault → g.faults new.flusher.disk.now ≡ g.faults old.flusher.disk.now
   pub count : g.honest old.flusher.disk.now
       → g.written_count new.flusher.disk.now ≤ g.written_count old.flusher.disk.now + 4 * length more + extra new.fault
 

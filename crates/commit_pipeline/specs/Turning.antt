@@ -47,7 +47,7 @@ pub record Idles {D : Type 0} {K : Type 0} (old new : Daemon D K) : Type 0 where
   pub flush : FindsNothing old.flusher new.flusher (durable old)
   pub rest : new ≡ record old { flusher = new.flusher }
 
--- records were sent, and then their lines were written
+-- records were sent, and then their lines were written; the disk counted no fault
 pub record SendsLines {D : Type 0} {K : Type 0} (g : Ghosts D) (h : SinkGhosts K) (old new : Daemon D K) (lines to : ℕ)
     : Type 0 where
   pub flush : Sends g old.flusher new.flusher (durable old) to
@@ -55,6 +55,7 @@ pub record SendsLines {D : Type 0} {K : Type 0} (g : Ghosts D) (h : SinkGhosts K
   pub appended : Appends (h.held_bytes old.sink.now) (h.held_bytes new.sink.now) text
   pub tells : TellsAll old.voice (durable old) flush.records text lines old.tally new.tally
   pub fine : new.fault ≡ None
+  pub disk_fine : g.faults new.flusher.disk.now ≡ g.faults old.flusher.disk.now
 
 -- the disk failed to take the records; no line was written, and the stop word tells it
 pub record LosesUnits {D : Type 0} {K : Type 0} (g : Ghosts D) (old new : Daemon D K) : Type 0 where
@@ -64,7 +65,7 @@ pub record LosesUnits {D : Type 0} {K : Type 0} (g : Ghosts D) (old new : Daemon
   pub rest : new ≡ record old { flusher = new.flusher; fault = Some DiskFault }
   pub rose : Rose (g.faults old.flusher.disk.now) (g.faults new.flusher.disk.now)
 
--- the records were sent, and then the sink failed to take the lines; the stop word tells it
+-- the records were sent, and then the sink failed to take the lines; the stop word tells it, and the disk counted no fault
 pub record LosesLines {D : Type 0} {K : Type 0} (g : Ghosts D) (h : SinkGhosts K) (old new : Daemon D K) : Type 0 where
   pub to : ℕ
   pub sent : Flusher D
@@ -75,6 +76,7 @@ pub record LosesLines {D : Type 0} {K : Type 0} (g : Ghosts D) (h : SinkGhosts K
   pub tells : TellsFront old.voice (durable old) flush.records text old.tally new.tally
   pub fault : new.fault ≡ Some WriteFault
   pub rose : Rose (h.faults old.sink.now) (h.faults new.sink.now)
+  pub disk_fine : g.faults new.flusher.disk.now ≡ g.faults old.flusher.disk.now
 
 -- a turn, by its answer
 abbrev pub Turns : {D : Type 0} → {K : Type 0} → Ghosts D → SinkGhosts K → Daemon D K → Daemon D K → Turn → Type 0

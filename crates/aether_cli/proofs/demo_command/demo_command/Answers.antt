@@ -1,5 +1,5 @@
-use Rattle.std.proofs.Common.{arith}
-use Rattle.aether_cli.proofs.EndingLemmas.{disk-concluded, honest-ended, later-ended, none_stopped-ended, write-concluded}
+use Rattle.std.proofs.Common.{arith, ◌∙◌}
+use Rattle.aether_cli.proofs.EndingLemmas.{disk-concluded, fine-concluded, honest-ended, later-ended, none_stopped-ended, write-concluded}
 use Rattle.aether_cli.proofs.DemoLemmas.{answers-demo, range-concluded, rows-ended, tells-concluded, text-concluded}
 use Rattle.aether_cli.proofs.demo_command.demo_command.Goals as goal
 
@@ -59,3 +59,8 @@ pub returns-clause-honest : goal.returns-clause-honest
 returns-clause-honest g c =
     let same = honest-ended g.D.LogDisk g.K.Sink _ _ _ _ _ _ _ _ (c.run_transfers-ended.ensures.ended _ c.in-Ok.ensures.ready.log) in
     (λ honest. same.0 (c.in-Ok.ensures.honest.0 honest), λ honest. c.in-Ok.ensures.honest.1 (same.1 honest))
+
+pub returns-clause-no_fault : goal.returns-clause-no_fault
+returns-clause-no_fault g c = λ other.
+    fine-concluded g.D.LogDisk g.K.Sink _ _ _ _ _ _ _ _ (c.run_transfers-ended.ensures.ended _ c.in-Ok.ensures.ready.log) _ _
+    c.conclude_counted.result c.conclude_counted.ensures.concludes other ∙ c.in-Ok.ensures.no_fault (λ is. cc)

@@ -1,4 +1,5 @@
-use Rattle.aether_cli.proofs.EndingLemmas.{honest-ended, none_stopped-ended}
+use Rattle.std.proofs.Common.{◌∙◌}
+use Rattle.aether_cli.proofs.EndingLemmas.{fine-concluded, honest-ended, none_stopped-ended}
 use Rattle.aether_cli.proofs.RunAnswerLemmas.{answers-concluded}
 use Rattle.aether_cli.proofs.run_command.run_command.Goals as goal
 
@@ -21,3 +22,9 @@ returns-clause-honest g c =
     let ready = c.in-Ok.ensures.ready in
     let same = honest-ended g.D.LogDisk g.K.Sink _ ready.opened _ _ _ _ _ _ (c.run_transfers-ended.ensures.ended ready.opened ready.log) in
     (λ honest. same.0 (c.in-Ok.ensures.honest.0 honest), λ honest. c.in-Ok.ensures.honest.1 (same.1 honest))
+
+pub returns-clause-no_fault : goal.returns-clause-no_fault
+returns-clause-no_fault g c = λ other.
+    let ready = c.in-Ok.ensures.ready in
+    fine-concluded g.D.LogDisk g.K.Sink _ ready.opened _ _ _ _ _ _ (c.run_transfers-ended.ensures.ended ready.opened ready.log) _ _
+    c.conclude.result c.conclude.ensures.concludes other ∙ c.in-Ok.ensures.no_fault (λ is. cc)

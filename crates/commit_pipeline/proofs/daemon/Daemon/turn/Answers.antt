@@ -13,14 +13,15 @@ pub returns-in-Ok-told-clause-turned : goal.returns-in-Ok-told-clause-turned
 returns-in-Ok-told-clause-turned g c =
     let sends = subst (Flushes g.D.LogDisk c.args.self.now.flusher c.flush.new.self) c.in-To.is c.in-Ok.ensures.flushed in
     SendsLines-told g.D.LogDisk g.K.Sink c.args.self.now _ c.in-To.from c.in-To.to c.in-Ok-told.lines refl sends
-    c.in-Ok-told.ensures.told c.requires.ready.fine
+    c.in-Ok-told.ensures.told c.requires.ready.fine c.in-Ok.ensures.cause.fine
 
 pub returns-in-Err-clause-failed : goal.returns-in-Err-clause-failed
 returns-in-Err-clause-failed g c =
     let sends = subst (Flushes g.D.LogDisk c.args.self.now.flusher c.flush.new.self) c.in-To.is c.in-Ok.ensures.flushed in
     rw c.stop-in-Err.ensures.fault
     (LosesLines-stop g.D.LogDisk g.K.Sink c.args.self.now c.flush.new.self _ c.tell-told.new.tally c.stop-in-Err.new.self
-    c.in-To.from c.in-To.to sends c.in-Err.ensures.front c.in-Err.ensures.cause.failed c.stop-in-Err.ensures.stops c.stop-in-Err.ensures.rest)
+    c.in-To.from c.in-To.to sends c.in-Err.ensures.front c.in-Err.ensures.cause.failed c.stop-in-Err.ensures.stops c.stop-in-Err.ensures.rest
+    c.in-Ok.ensures.cause.fine)
 
 pub returns-in_default-clause-later : goal.returns-in_default-clause-later
 returns-in_default-clause-later g c =
@@ -38,11 +39,12 @@ returns-in-Ok-told-clause-later g c =
     let sends = subst (Flushes g.D.LogDisk c.args.self.now.flusher c.flush.new.self) c.in-To.is c.in-Ok.ensures.flushed in
     inr (Ran-sent g.D.LogDisk g.K.Sink c.args.self.now _ c.in-Ok-told.lines c.in-To.to c.requires.ready
     (SendsLines-told g.D.LogDisk g.K.Sink c.args.self.now _ c.in-To.from c.in-To.to c.in-Ok-told.lines refl sends
-    c.in-Ok-told.ensures.told c.requires.ready.fine) (search rules) (search rules))
+    c.in-Ok-told.ensures.told c.requires.ready.fine c.in-Ok.ensures.cause.fine) (search rules) (search rules))
 
 pub returns-in-Err-clause-later : goal.returns-in-Err-clause-later
 returns-in-Err-clause-later g c =
     let sends = subst (Flushes g.D.LogDisk c.args.self.now.flusher c.flush.new.self) c.in-To.is c.in-Ok.ensures.flushed in
     let lost = LosesLines-stop g.D.LogDisk g.K.Sink c.args.self.now c.flush.new.self _ c.tell-told.new.tally c.stop-in-Err.new.self
-    c.in-To.from c.in-To.to sends c.in-Err.ensures.front c.in-Err.ensures.cause.failed c.stop-in-Err.ensures.stops c.stop-in-Err.ensures.rest in
+    c.in-To.from c.in-To.to sends c.in-Err.ensures.front c.in-Err.ensures.cause.failed c.stop-in-Err.ensures.stops c.stop-in-Err.ensures.rest
+    c.in-Ok.ensures.cause.fine in
     inr (Ran-unwritten g.D.LogDisk g.K.Sink c.args.self.now c.stop-in-Err.new.self c.requires.ready lost (search rules))
