@@ -1,5 +1,5 @@
 -- What `demo` answers: the log that it makes, what is promised of the transfers, and what was concluded.
-use Rattle.std.proofs.Common.{◌≡◌, ◌≤◌, ◌⊎◌, ⊎_elim, inl, inr, refl, ap, sym, ◌∙◌, subst, ℕ, zero, suc, ◌+◌, ◌*◌, List, [], ◌∷◌, length, map, replicate, All, Option, Some, None, arith, append-nil, length-append}
+use Rattle.std.proofs.Common.{Bool, ◌≡◌, ◌≤◌, ◌⊎◌, ⊎_elim, inl, inr, refl, ap, sym, ◌∙◌, subst, ℕ, zero, suc, ◌+◌, ◌*◌, List, [], ◌∷◌, length, map, replicate, All, Option, Some, None, arith, append-nil, length-append}
 use Rattle.std.proofs.KnownBytes.{Appends-trans}
 use Rattle.std.proofs.lemmas.List.{length-replicate}
 use Rattle.std.proofs.lemmas.List.Elements.{All-replicate}
@@ -181,9 +181,9 @@ Appends-keeps (Some xs) (Some ys) appended = appended ∙ append-nil xs
 later-opening : (records : List Rec) → later_of generated_opening records ≡ history_from (base_state_of (history generated_opening)).end [] records
 later-opening records = ap (λ end. history_from end [] records) (end-opening ∙ sym opening-end)
 
-module _ {D : Type 0} {K : Type 0} (g : Ghosts D) (h : SinkGhosts K) (n seed workers : ℕ) (few : n ≤ 100000) (ready : ReadyRun) (entry disk disk_new : D)
+module _ {D : Type 0} {K : Type 0} (g : Ghosts D) (h : SinkGhosts K) (n seed workers : ℕ) (few : n ≤ 100000) (ready : ReadyRun) {wait : Bool} (entry disk disk_new : D)
     (sink sink_mid sink_new : K) (ended : Ended) (is : IsReadyDemo g n seed workers entry disk ready)
-    (has : HasEnded g h ready.prepared generated_opening Count disk disk_new sink sink_mid ended) where
+    (has : HasEnded g h ready.prepared generated_opening Count wait disk disk_new sink sink_mid ended) where
   abbrev jobs : Jobs
   jobs = ready.prepared.jobs
 

@@ -1,5 +1,5 @@
 -- What is promised of transfers that have ended, in the words of what came of them.
-use Rattle.std.proofs.Common.{◌≡◌, ◌≢◌, ◌↔◌, ◌<◌, ◌∙◌, ap, sym, subst, refl, ℕ, zero, suc, List, [], ◌∷◌, ◌++◌, length, map, get_or, None, Some, arith, ◌≤◌, inl, inr}
+use Rattle.std.proofs.Common.{Bool, ◌≡◌, ◌≢◌, ◌↔◌, ◌<◌, ◌∙◌, ap, sym, subst, refl, ℕ, zero, suc, List, [], ◌∷◌, ◌++◌, length, map, get_or, None, Some, arith, ◌≤◌, inl, inr}
 use Rattle.std.specs.List.{AllByRecursion}
 use Rattle.std.proofs.lemmas.List.{length-map}
 use Rattle.std.proofs.lemmas.List.Elements.{All-head, All-tail}
@@ -89,7 +89,7 @@ module _ {K : Type 0} (h : SinkGhosts K) (ended : Ended) (text : List ℕ) (old 
   by-conclusion Exists said = absurd said
 
 module _ {D : Type 0} {K : Type 0} (g : Ghosts D) (h : SinkGhosts K) (prepared : Prepared) (opened : List Rec) (voice : Voice)
-    (disk disk_new : D) (sink sink_new : K) (ended : Ended) (has : HasEnded g h prepared opened voice disk disk_new sink sink_new ended) where
+    {wait : Bool} (disk disk_new : D) (sink sink_new : K) (ended : Ended) (has : HasEnded g h prepared opened voice wait disk disk_new sink sink_new ended) where
   abbrev pub list : List Rec
   list = records_of has.view.entries
 

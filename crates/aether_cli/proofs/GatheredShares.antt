@@ -1,5 +1,5 @@
 -- The workers' shares, once the flusher's seat took in their seats.
-use Rattle.std.proofs.Common.{◌≡◌, ◌≢◌, ◌⊎◌, ◌∙◌, inl, inr, ℕ, zero, suc, ◌+◌, ◌*◌, ◌≤◌, ◌<◌, List, [], ◌∷◌, ◌++◌, length, map, sym, ap, subst, arith, append_assoc, append-nil, add-zero, zero-add, Contains, IsSomeAnd, Option, None, Some, true}
+use Rattle.std.proofs.Common.{◌≡◌, ◌≢◌, ◌⊎◌, ◌∙◌, inl, inr, ℕ, zero, suc, ◌+◌, ◌*◌, ◌≤◌, ◌<◌, List, [], ◌∷◌, ◌++◌, length, map, sym, ap, subst, arith, append_assoc, append-nil, add-zero, zero-add, Contains, IsSomeAnd, Option, None, Some, Bool, true}
 use Rattle.std.proofs.Math.Nat.{mul-le-mul_left}
 use Rattle.std.proofs.lemmas.Bool.{cases_order}
 use Rattle.std.proofs.lemmas.List.{length-map}
@@ -49,10 +49,10 @@ numbers-apart jobs worker other j k below below_too apart same = by_order (cases
         let next : k + 1 ≤ j = omega arith in let less = mul-le-mul_left jobs.workers next in absurd (omega (arith, less, same))
 
 -- what is known of a worker that is done
-pub served : (table : LogTable) (jobs : Jobs) (worker : Worker) → IsDone table jobs worker → HasServed table jobs worker (worked_of worker)
-served table jobs worker done = by_case worker.worked done
+pub served : (table : LogTable) (jobs : Jobs) (wait : Bool) (worker : Worker) → IsDone table jobs wait worker → HasServed table jobs wait worker (worked_of worker)
+served table jobs wait worker done = by_case worker.worked done
   where
-    by_case : (worked : Option Worked) → IsSomeAnd worked (HasServed table jobs worker) → HasServed table jobs worker (unwrap_or worked All)
+    by_case : (worked : Option Worked) → IsSomeAnd worked (HasServed table jobs wait worker) → HasServed table jobs wait worker (unwrap_or worked All)
     by_case None done = absurd done
     by_case (Some worked) done = done
 
@@ -82,8 +82,8 @@ module _ (jobs : Jobs) where
       numbers-apart jobs worker other j stripe.0 below below_too apart (sym same ∙ stripe.2)
 
   -- what is said of a share stays true once the seat of another worker is taken in
-  module _ (table : LogTable) (view : View) (other : Worker) (worker : ℕ) (below : worker < jobs.workers) (below_too : other.seat.worker < jobs.workers)
-      (apart : worker ≢ other.seat.worker) (two : jobs.workers ≢ 1) (done : HasServed table jobs other (worked_of other)) where
+  module _ (table : LogTable) {wait : Bool} (view : View) (other : Worker) (worker : ℕ) (below : worker < jobs.workers) (below_too : other.seat.worker < jobs.workers)
+      (apart : worker ≢ other.seat.worker) (two : jobs.workers ≢ 1) (done : HasServed table jobs wait other (worked_of other)) where
     abbrev after : View
     after = takes_in view (view_in other)
 
@@ -150,8 +150,8 @@ module _ (jobs : Jobs) where
     }
 
   -- the share of a worker whose seat is taken in
-  module _ (table : LogTable) (view : View) (worker : Worker) (below : worker.seat.worker < jobs.workers)
-      (done : HasServed table jobs worker (worked_of worker)) (lacks : LacksFrom worker.seat.worker view.entries)
+  module _ (table : LogTable) {wait : Bool} (view : View) (worker : Worker) (below : worker.seat.worker < jobs.workers)
+      (done : HasServed table jobs wait worker (worked_of worker)) (lacks : LacksFrom worker.seat.worker view.entries)
       (first : jobs.workers ≡ 1 → view.entries ≡ [])
       (sized : AllByRecursion (λ (entry : Entry). 1 ≤ entry.size) (view_in worker).entries)
       (stop : HasReadStop view.sending.stop (view_in worker)) where
@@ -238,8 +238,8 @@ module _ (jobs : Jobs) where
     }
 
   -- the next worker's seat brings no entry of a greater number's
-  LacksFrom-next : (table : LogTable) (view : View) (worker : Worker) (number : ℕ) → worker.seat.worker ≡ number → number < jobs.workers
-      → HasServed table jobs worker (worked_of worker) → LacksFrom number view.entries → LacksFrom (number + 1) (takes_in view (view_in worker)).entries
+  LacksFrom-next : (table : LogTable) {wait : Bool} (view : View) (worker : Worker) (number : ℕ) → worker.seat.worker ≡ number → number < jobs.workers
+      → HasServed table jobs wait worker (worked_of worker) → LacksFrom number view.entries → LacksFrom (number + 1) (takes_in view (view_in worker)).entries
   LacksFrom-next table view worker number is below done lacks =
       all-merged _ view.entries (view_in worker).entries
       (all-weaker _ _ view.entries (λ entry lacks' w j least less. lacks' w j (omega (arith, least)) less) lacks)
@@ -247,9 +247,9 @@ module _ (jobs : Jobs) where
       (λ entry own w j least less. own-other worker.seat.worker _ w j (txn_of entry.rec) less (omega (arith, is, below)) (λ same. absurd (omega (arith, same, is, least))) own)
       done.has.own)
 
-  module _ (table : LogTable) where
+  module _ (table : LogTable) (wait : Bool) where
     abbrev AreDoneFrom : ℕ → List Worker → Type 0
-    AreDoneFrom number workers = Numbered (IsDoneAs table jobs) number workers
+    AreDoneFrom number workers = Numbered (IsDoneAs table jobs wait) number workers
 
     HasShare-keeps_all : (number : ℕ) (workers : List Worker) → AreDoneFrom number workers → number + length workers ≤ jobs.workers
         → (view : View) (worker : ℕ) (share : Share) → worker < number → HasShare jobs worker share view
@@ -259,7 +259,7 @@ module _ (jobs : Jobs) where
         let is = done.0.0 in
         HasShare-keeps_all (number + 1) others done.1 (omega (arith, few)) (takes_in view (view_in other)) worker share (omega (arith, below))
         (HasShare-keeps table view other worker (omega (arith, few, below)) (omega (arith, few, is)) (λ same. absurd (omega (arith, same, is, below)))
-        (λ one. absurd (omega (arith, one, few, below))) (served table jobs other done.0.1) share has)
+        (λ one. absurd (omega (arith, one, few, below))) (served table jobs wait other done.0.1) share has)
 
     HasShare-all : (number : ℕ) (workers : List Worker) → AreDoneFrom number workers → number + length workers ≤ jobs.workers
         → (view : View) → LacksFrom number view.entries → (number ≡ 0 → view.entries ≡ [])
@@ -270,14 +270,14 @@ module _ (jobs : Jobs) where
     HasShare-all number [] done few view lacks first sized stops i share at = absurd (some-ne-none share (sym at))
     HasShare-all number (worker ∷ workers) done few view lacks first sized stops zero share at =
         let is = done.0.0 in
-        let taken = HasShare-taken table view worker (omega (arith, few, is)) (served table jobs worker done.0.1)
+        let taken = HasShare-taken table view worker (omega (arith, few, is)) (served table jobs wait worker done.0.1)
         (subst (λ n. LacksFrom n view.entries) (sym is) lacks) (λ one. first (omega (arith, one, few))) sized.0 stops.0 in
         let mine = subst (λ s. HasShare jobs worker.seat.worker s (takes_in view (view_in worker))) (some-injective (share_of worker) share at) taken in
         let here = subst (λ n. HasShare jobs n share (takes_in view (view_in worker))) is mine in
         subst (λ n. HasShare jobs n share (takes_all view (map view_in (worker ∷ workers)))) (sym (add-zero number))
         (HasShare-keeps_all (number + 1) workers done.1 (omega (arith, few)) (takes_in view (view_in worker)) number share (omega arith) here)
     HasShare-all number (worker ∷ workers) done few view lacks first sized stops (suc i) share at =
-        let lacks_next = LacksFrom-next table view worker number done.0.0 (omega (arith, few)) (served table jobs worker done.0.1) lacks in
+        let lacks_next = LacksFrom-next table view worker number done.0.0 (omega (arith, few)) (served table jobs wait worker done.0.1) lacks in
         subst (λ n. HasShare jobs n share (takes_all view (map view_in (worker ∷ workers)))) (omega arith)
         (HasShare-all (number + 1) workers done.1 (omega (arith, few)) (takes_in view (view_in worker)) lacks_next
         (λ none. absurd (omega (arith, none))) sized.1 stops.1 i share at)
@@ -286,7 +286,7 @@ module _ (jobs : Jobs) where
         → (takes_all view (map view_in workers)).books.jobs ≡ view.books.jobs ++ all_taken jobs number (map share_of workers)
     jobs-all number [] done view = sym (append-nil view.books.jobs)
     jobs-all number (worker ∷ workers) done view =
-        let own = (served table jobs worker done.0.1).jobs_are ∙ ap (λ n. stripe_jobs jobs n (share_of worker).taken) done.0.0 in
+        let own = (served table jobs wait worker done.0.1).jobs_are ∙ ap (λ n. stripe_jobs jobs n (share_of worker).taken) done.0.0 in
         jobs-all (number + 1) workers done.1 (takes_in view (view_in worker))
         ∙ (ap (λ l. (view.books.jobs ++ l) ++ all_taken jobs (number + 1) (map share_of workers)) own
         ∙ append_assoc view.books.jobs (stripe_jobs jobs number (share_of worker).taken) (all_taken jobs (number + 1) (map share_of workers)))
@@ -307,17 +307,17 @@ sized (entry ∷ entries) full spelled =
     (omega (arith, full.0, ap length spelled.0.units, size_of-some entry.rec), sized entries full.1 spelled.1)
 
 -- Once the flusher's seat took in the seats of all workers, each done, and nothing before them, it has their shares.
-pub HasGathered-all : (table : LogTable) (jobs : Jobs) (workers : List Worker) → AreDone table jobs workers → length workers ≡ jobs.workers
+pub HasGathered-all : (table : LogTable) (jobs : Jobs) (wait : Bool) (workers : List Worker) → AreDone table jobs wait workers → length workers ≡ jobs.workers
     → (view : View) → view.entries ≡ [] → view.books.jobs ≡ [] → AllByRecursion (HasReadStop view.sending.stop) (map view_in workers)
     → (lsn : ℕ) → IsGathered lsn (takes_all view (map view_in workers))
     → HasGathered jobs (map share_of workers) (takes_all view (map view_in workers))
-HasGathered-all table jobs workers done count view no_entries no_jobs stops lsn gathered =
+HasGathered-all table jobs wait workers done count view no_entries no_jobs stops lsn gathered =
     let all = takes_all view (map view_in workers) in
     let sizes = all-each (λ (entry : Entry). 1 ≤ entry.size) view workers (sized all.entries gathered.full gathered.spelled) in
     record {
       count = length-map workers share_of ∙ count;
-      taken = jobs-all jobs table 0 workers done view ∙ ap (λ l. l ++ all_taken jobs 0 (map share_of workers)) no_jobs;
+      taken = jobs-all jobs table wait 0 workers done view ∙ ap (λ l. l ++ all_taken jobs 0 (map share_of workers)) no_jobs;
       each = λ i share at. subst (λ n. HasShare jobs n share all) (zero-add i)
-          (HasShare-all jobs table 0 workers done (omega (arith, count)) view (subst (LacksFrom jobs 0) (sym no_entries) tt) (λ none. no_entries) sizes.1
+          (HasShare-all jobs table wait 0 workers done (omega (arith, count)) view (subst (LacksFrom jobs 0) (sym no_entries) tt) (λ none. no_entries) sizes.1
           stops i share at);
     }

@@ -35,5 +35,6 @@ pub mod ToldLemmas
 pub mod ToldWitness
 pub mod SummaryLemmas
 pub mod TransferredLemmas
+pub mod WaitedLemmas
 pub mod WholeLines
 pub mod WorkerLemmas

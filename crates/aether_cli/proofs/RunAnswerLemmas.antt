@@ -1,5 +1,5 @@
 -- What `run` answers, from what was ready, what is promised of the transfers, and what was concluded.
-use Rattle.std.proofs.Common.{◌≡◌, ◌⊎◌, inr, refl, ap, sym, subst, ℕ, List, [], ◌++◌, Option, None, arith}
+use Rattle.std.proofs.Common.{Bool, ◌≡◌, ◌⊎◌, inr, refl, ap, sym, subst, ℕ, List, [], ◌++◌, Option, None, arith}
 use Rattle.std.proofs.KnownBytes.{Appends-trans}
 use Rattle.std.proofs.lemmas.List.{append-nil}
 use Rattle.std.specs.Io.KnownBytes.{Appends}
@@ -25,9 +25,9 @@ use Rattle.aether_cli.specs.RunReady.{IsReadyFor}
 use Rattle.aether_cli.proofs.EndingLemmas.{by-conclusion, list, keeps-ended, whole-ended, drained-ended, stops-ended}
 use Rattle.aether_cli.proofs.RunBegun.{images-begun}
 
-module _ {D : Type 0} {K : Type 0} (g : Ghosts D) (h : SinkGhosts K) (workers : ℕ) (ready : ReadyRun) (entry disk disk_new : D)
+module _ {D : Type 0} {K : Type 0} (g : Ghosts D) (h : SinkGhosts K) (workers : ℕ) (ready : ReadyRun) {wait : Bool} (entry disk disk_new : D)
     (left left_new : Option (List ℕ)) (sink sink_mid sink_new : K) (ended : Ended) (is : IsReadyFor g workers entry disk left left_new ready)
-    (has : HasEnded g h ready.prepared is.opened Lines disk disk_new sink sink_mid ended) (honest : g.honest entry) (honest_mid : g.honest disk) where
+    (has : HasEnded g h ready.prepared is.opened Lines wait disk disk_new sink sink_mid ended) (honest : g.honest entry) (honest_mid : g.honest disk) where
   abbrev opened : List Rec
   opened = is.opened
 

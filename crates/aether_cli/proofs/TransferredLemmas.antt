@@ -1,5 +1,5 @@
 -- A run's end: the seats are gathered, the table is closed, and what is known then.
-use Rattle.std.proofs.Common.{◌≡◌, ◌∙◌, ℕ, ◌+◌, true, cond, eqb, List, [], ◌∷◌, length, map, sym, refl, ap, subst, arith, add-one, add-zero, Option, None, Some, IsSome, IsSomeAnd}
+use Rattle.std.proofs.Common.{◌≡◌, ◌∙◌, ℕ, ◌+◌, Bool, true, cond, eqb, List, [], ◌∷◌, length, map, sym, refl, ap, subst, arith, add-one, add-zero, Option, None, Some, IsSome, IsSomeAnd}
 use Rattle.std.specs.List.{AllByRecursion, list_any}
 use Rattle.log_disk.specs.declared.disk.LogDisk.{Ghosts}
 use Rattle.log_disk.specs.declared.sink.Sink.{Ghosts as SinkGhosts}
@@ -37,18 +37,18 @@ use Rattle.aether_cli.specs.Workers.{AreDone, HasServed, IsDone, IsDoneAs, Knows
 use Rattle.aether_cli.proofs.GatheredShares.{HasGathered-all, served}
 
 -- a worker that is done has left
-HasLeft-done : (table : LogTable) (jobs : Jobs) (worker : Worker) → IsDone table jobs worker → HasLeft table worker
-HasLeft-done table jobs worker done =
-    let has = served table jobs worker done in record { seat = has.seat; ended = has.ended; worked = by_case worker.worked done }
+HasLeft-done : (table : LogTable) (jobs : Jobs) (wait : Bool) (worker : Worker) → IsDone table jobs wait worker → HasLeft table worker
+HasLeft-done table jobs wait worker done =
+    let has = served table jobs wait worker done in record { seat = has.seat; ended = has.ended; worked = by_case worker.worked done }
   where
-    by_case : (worked : Option Worked) → IsSomeAnd worked (HasServed table jobs worker) → IsSome worked
+    by_case : (worked : Option Worked) → IsSomeAnd worked (HasServed table jobs wait worker) → IsSome worked
     by_case None done = absurd done
     by_case (Some worked) done = refl
 
-pub HasLeft-all : (table : LogTable) (jobs : Jobs) (number : ℕ) (workers : List Worker) → Numbered (IsDoneAs table jobs) number workers
+pub HasLeft-all : (table : LogTable) (jobs : Jobs) (wait : Bool) (number : ℕ) (workers : List Worker) → Numbered (IsDoneAs table jobs wait) number workers
     → AllByRecursion (HasLeft table) workers
-HasLeft-all table jobs number [] done = tt
-HasLeft-all table jobs number (worker ∷ workers) done = (HasLeft-done table jobs worker done.0.1, HasLeft-all table jobs (number + 1) workers done.1)
+HasLeft-all table jobs wait number [] done = tt
+HasLeft-all table jobs wait number (worker ∷ workers) done = (HasLeft-done table jobs wait worker done.0.1, HasLeft-all table jobs wait (number + 1) workers done.1)
 
 -- what the flusher's seat keeps as it is, while it takes in others
 takes_all-constants : (view : View) (others : List View) → (takes_all view others).constants ≡ view.constants
@@ -68,19 +68,19 @@ takes_all-made view [] = refl
 takes_all-made view (other ∷ others) = takes_all-made (takes_in view other) others
 
 -- the numbers of the workers whose seats it took in
-takes_all-merged : (table : LogTable) (jobs : Jobs) (number : ℕ) (workers : List Worker) → Numbered (IsDoneAs table jobs) number workers
+takes_all-merged : (table : LogTable) (jobs : Jobs) (wait : Bool) (number : ℕ) (workers : List Worker) → Numbered (IsDoneAs table jobs wait) number workers
     → (view : View) → view.standing.merged ≡ hired_numbers number
     → (takes_all view (map view_in workers)).standing.merged ≡ hired_numbers (number + length workers)
-takes_all-merged table jobs number [] done view below = below ∙ ap hired_numbers (sym (add-zero number))
-takes_all-merged table jobs number (worker ∷ workers) done view below =
+takes_all-merged table jobs wait number [] done view below = below ∙ ap hired_numbers (sym (add-zero number))
+takes_all-merged table jobs wait number (worker ∷ workers) done view below =
     let own = view_in worker in
-    let ended = (served table jobs worker done.0.1).ended in
+    let ended = (served table jobs wait worker done.0.1).ended in
     let one : (takes_in view own).standing.merged ≡ own.standing.worker ∷ view.standing.merged =
     ap (λ (role : Role). cond (is_worker role) (own.standing.worker ∷ view.standing.merged) view.standing.merged) ended in
     let named : own.standing.worker ≡ number = sym worker.seat.named ∙ done.0.0 in
     let next : (takes_in view own).standing.merged ≡ hired_numbers (number + 1) =
     one ∙ ((λ i. named i ∷ below i) ∙ ap hired_numbers (sym (add-one number))) in
-    takes_all-merged table jobs (number + 1) workers done.1 (takes_in view own) next ∙ ap hired_numbers (omega arith)
+    takes_all-merged table jobs wait (number + 1) workers done.1 (takes_in view own) next ∙ ap hired_numbers (omega arith)
 
 -- a view that sends as another, from the same start, is drained where that is
 IsDrained-same : (view other : View) → view.sending ≡ other.sending → view.constants ≡ other.constants → IsDrained other → IsDrained view
@@ -134,19 +134,19 @@ module _ {D : Type 0} {K : Type 0} (g : Ghosts D) (h : SinkGhosts K) (tail : Tai
   }
 
   -- Once all seats are taken in, and the table is closed, all is known of the run.
-  pub HasTransferred-gathered : (key : Start) (table : LogTable) (jobs : Jobs) → KnowsHired key jobs.workers (view_of boss)
+  pub HasTransferred-gathered : (key : Start) (table : LogTable) (jobs : Jobs) (wait : Bool) → KnowsHired key jobs.workers (view_of boss)
       → (opened : List Rec) → IsOpened g disk tail opened jobs.first key
-      → AreDone table jobs served'.workers.items → length served'.workers.items ≡ jobs.workers
+      → AreDone table jobs wait served'.workers.items → length served'.workers.items ≡ jobs.workers
       → AllByRecursion (HasReadStop (view_of served'.boss).sending.stop) (map view_in served'.workers.items)
       → (view : View) → view ≡ takes_all (view_of served'.boss) (map view_in served'.workers.items)
       → (lsn : ℕ) (rows : List (ℕ × ℕ)) → IsGathered lsn view → IsSettled (base_of key) view rows
       → HasTransferred g h opened jobs (map share_of served'.workers.items) key turned.first turned.last view lsn rows
-  HasTransferred-gathered key table jobs knows opened log done count stops view is lsn rows gathered settled =
+  HasTransferred-gathered key table jobs wait knows opened log done count stops view is lsn rows gathered settled =
       let others = map view_in served'.workers.items in
       let taken = HasTaken-turned key jobs.workers knows in
       let sending = ap (λ (v : View). v.sending) is ∙ takes_all-sending (view_of served'.boss) others in
       let constants = ap (λ (v : View). v.constants) is ∙ takes_all-constants (view_of served'.boss) others in
-      let shares = HasGathered-all table jobs served'.workers.items done count (view_of served'.boss) taken.entries taken.jobs stops lsn
+      let shares = HasGathered-all table jobs wait served'.workers.items done count (view_of served'.boss) taken.entries taken.jobs stops lsn
       (subst (IsGathered lsn) is gathered) in
       record {
         log = subst (λ d. IsOpened g d turned.first.flusher.tail opened jobs.first key) (sym turned.disk_old)
@@ -162,11 +162,11 @@ module _ {D : Type 0} {K : Type 0} (g : Ghosts D) (h : SinkGhosts K) (tail : Tai
       }
 
 -- Once the seats of all workers are taken in, the table may be closed.
-pub MayClose-all : (table : LogTable) (jobs : Jobs) (key : Start) (workers : List Worker) → AreDone table jobs workers
+pub MayClose-all : (table : LogTable) (jobs : Jobs) (wait : Bool) (key : Start) (workers : List Worker) → AreDone table jobs wait workers
     → (view : View) → HasTaken key (length workers) view → MayClose (takes_all view (map view_in workers))
-MayClose-all table jobs key workers done view taken =
+MayClose-all table jobs wait key workers done view taken =
     let all = takes_all view (map view_in workers) in
-    let merged = takes_all-merged table jobs 0 workers done view taken.merged in
+    let merged = takes_all-merged table jobs wait 0 workers done view taken.merged in
     let made = takes_all-made view (map view_in workers) ∙ taken.made in
     let count : 0 + length workers ≡ length workers = omega arith in
     record {

@@ -1,6 +1,8 @@
 -- How a run ended, and what the program answers then. `g` is what a disk shows and `h` what a sink shows.
-use Rattle.std.specs.Prelude.{◌≡◌, ◌⊎◌, ℕ, List, ◌∷◌, ◌++◌, map, All, Some, None}
+use Rattle.std.specs.Prelude.{◌≡◌, ◌⊎◌, ℕ, Bool, true, List, ◌∷◌, ◌++◌, map, All, Some, None}
 use Rattle.std.specs.Io.KnownBytes.{Appends}
+use mathlib.Core.Option.{some}
+use lib.ListN.{get_elem?}
 use Rattle.log_disk.specs.Streams.{AppendsPart}
 use Rattle.log_disk.specs.declared.disk.LogDisk.{Ghosts}
 use Rattle.log_disk.specs.declared.sink.Sink.{Ghosts as SinkGhosts}
@@ -21,16 +23,20 @@ use Rattle.aether_cli.specs.declared.transfers.Prepared.{Prepared}
 use Rattle.aether_cli.specs.Shares.{Share}
 use Rattle.aether_cli.specs.Summary.{summary_of}
 use Rattle.aether_cli.specs.Transferred.{HasTransferred}
+use Rattle.aether_cli.specs.Waiting.{HaveWaited, made_of}
 
--- Turns led from a daemon over the one disk and sink to one over the other, and the transfers ended so.
+-- Turns led from a daemon over the one disk and sink to one over the other, and the transfers ended so. Where workers wait, each transfer that
+-- ended gave its accounts back once its end was durable.
 pub record HasEnded {D : Type 0} {K : Type 0} (g : Ghosts D) (h : SinkGhosts K) (prepared : Prepared) (opened : List Rec) (voice : Voice)
-    (disk disk_new : D) (sink sink_new : K) (ended : Ended) : Type 0 where
+    (wait : Bool) (disk disk_new : D) (sink sink_new : K) (ended : Ended) : Type 0 where
   pub shares : List Share
   pub first : Daemon D K
   pub last : Daemon D K
   pub view : View
   pub transferred : HasTransferred g h opened prepared.jobs shares (key_of prepared.table) first last view ended.closed.tail ended.closed.accounts.rows
   pub ends : map (λ (share : Share). share.worked) shares ≡ ended.ends.items
+  pub waited : wait ≡ true → (worker : ℕ) (share : Share) → get_elem? shares worker ≡ some share
+      → HaveWaited prepared.jobs worker (made_of share.taken share.worked) view.entries view.books.given
   pub fault : last.fault ≡ ended.fault
   pub none_counted : (first.tally.done ≡ 0) × (first.tally.refused ≡ 0)
   pub done_is : last.tally.done ≡ ended.done

@@ -14,6 +14,7 @@ pub mod RunWitness
 pub mod Scripts
 pub mod Shares
 pub mod Transferred
+pub mod Waiting
 pub mod Workers
 pub mod Summary
 pub mod Told

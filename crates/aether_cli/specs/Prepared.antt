@@ -1,5 +1,5 @@
 -- A run before the first worker has started.
-use Rattle.std.specs.Prelude.{◌≡◌, ℕ, ◌≤◌, [], None, All, vec_len, vec_capacity}
+use Rattle.std.specs.Prelude.{◌≡◌, ℕ, ◌≤◌, Bool, [], None, All, vec_len, vec_capacity}
 use Rattle.log_disk.specs.declared.disk.LogDisk.{Ghosts}
 use Rattle.log_disk.specs.declared.sink.Sink.{Ghosts as SinkGhosts}
 use Rattle.segment_file.specs.declared.scan_result.Tail.{Tail}
@@ -40,8 +40,8 @@ pub record IsPrepared (prepared : Prepared) : Type 0 where
   pub crew : IsCrew prepared.table prepared.jobs prepared.crew
 
 -- each worker is done, and there is room for what their work came to
-pub record IsServed (table : LogTable) (jobs : Jobs) (served : Served) : Type 0 where
-  pub done : AreDone table jobs served.workers.items
+pub record IsServed (table : LogTable) (jobs : Jobs) (wait : Bool) (served : Served) : Type 0 where
+  pub done : AreDone table jobs wait served.workers.items
   pub count : vec_len served.workers ≡ jobs.workers
   pub none : served.ends.items ≡ []
   pub room : jobs.workers ≤ vec_capacity served.ends

@@ -42,7 +42,7 @@ pub(crate) fn serve_all<'a, R: Threads + Wait + Sync, D: LogDisk, K: Sink, G: Ga
     requires room { (vec_len workers ≤ vec_capacity started) × (vec_len workers ≤ vec_capacity back) }
     requires ready { relief.daemon.fault ≡ None → MayTurn D.LogDisk relief.daemon }
     requires told { knows_all_enrolled (view_of relief.daemon.flusher.seat).standing ≡ true }
-    ensures done { AreDone run.entry.table.now run.entry.jobs.now result.1.items }
+    ensures done { AreDone run.entry.table.now run.entry.jobs.now run.entry.wait result.1.items }
     ensures count { vec_len result.1 ≡ vec_len workers }
     ensures drained { result.0.daemon.fault ≡ None → IsDrained (view_of result.0.daemon.flusher.seat) }
     ensures later { Later D.LogDisk K.Sink relief.entry.daemon result.0.daemon }
@@ -57,7 +57,7 @@ pub(crate) fn serve_all<'a, R: Threads + Wait + Sync, D: LogDisk, K: Sink, G: Ga
             requires room { (vec_len workers ≤ vec_capacity started) × (vec_len workers ≤ vec_capacity back) }
             requires ready { relief.daemon.fault ≡ None → MayTurn D.LogDisk relief.daemon }
             requires told { knows_all_enrolled (view_of relief.daemon.flusher.seat).standing ≡ true }
-            ensures done { AreDone run.entry.table.now run.entry.jobs.now result.1.items }
+            ensures done { AreDone run.entry.table.now run.entry.jobs.now run.entry.wait result.1.items }
             ensures count { vec_len result.1 ≡ vec_len workers }
             ensures drained { result.0.daemon.fault ≡ None → IsDrained (view_of result.0.daemon.flusher.seat) }
             ensures later { Later D.LogDisk K.Sink relief.entry.daemon result.0.daemon }

@@ -32,11 +32,12 @@ pub(crate) struct Run<'a, R, G> {
 pub(crate) struct Comes {
     table: Snapshot<LogTable>,
     jobs: Snapshot<Jobs>,
+    wait: bool,
     number: u32,
 }
 
 impl Promise<Worker> for Comes {
-    ghost kept_by = { λ p worker. (worker.seat.worker ≡ p.number) × ComesBack p.table.value p.jobs.value worker };
+    ghost kept_by = { λ p worker. (worker.seat.worker ≡ p.number) × ComesBack p.table.value p.jobs.value p.wait worker };
 }
 
 /// A worker in a thread of its own, or one that had none.
@@ -52,7 +53,7 @@ impl<'a, R: Wait, G: Gate> Run<'a, R, G> {
         requires hired { IsHired self.now.table.now self.now.jobs.now worker }
         requires relief { Q.ready relief.old }
         ensures number { result.seat.worker ≡ worker.seat.worker }
-        ensures done { IsDone self.now.table.now self.now.jobs.now result }
+        ensures done { IsDone self.now.table.now self.now.jobs.now self.now.wait result }
         ensures relief { Q.ready relief.new }
         ensures later { Q.later relief.old relief.new }
     {
@@ -74,10 +75,10 @@ impl<'a, R: Wait, G: Gate> Run<'a, R, G> {
 
     /// The worker once it served: here, with this relief, where it did not yet.
     pub(crate) fn finish<Q: Relief>(&self, worker: Worker, relief: &mut Q) -> Worker
-        requires comes { ComesBack self.now.table.now self.now.jobs.now worker }
+        requires comes { ComesBack self.now.table.now self.now.jobs.now self.now.wait worker }
         requires relief { Q.ready relief.old }
         ensures number { result.seat.worker ≡ worker.seat.worker }
-        ensures done { IsDone self.now.table.now self.now.jobs.now result }
+        ensures done { IsDone self.now.table.now self.now.jobs.now self.now.wait result }
         ensures relief { Q.ready relief.new }
         ensures later { Q.later relief.old relief.new }
     {
@@ -94,7 +95,7 @@ impl<'a, R: Threads + Wait + Sync, G: Gate + Sync> Run<'a, R, G> {
         requires unused { IsUnused self.now.table.now self.now.jobs.now worker }
         requires relief { Q.ready relief.old }
         ensures number { number_of result ≡ worker.seat.worker }
-        ensures started { IsStarted self.now.table.now self.now.jobs.now result }
+        ensures started { IsStarted self.now.table.now self.now.jobs.now self.now.wait result }
         ensures relief { Q.ready relief.new }
         ensures later { Q.later relief.old relief.new }
     {
@@ -111,6 +112,7 @@ impl<'a, R: Threads + Wait + Sync, G: Gate + Sync> Run<'a, R, G> {
         let promise = Comes {
             table: Snapshot::of(table),
             jobs: Snapshot::of(jobs),
+            wait,
             number,
         };
         match scope.spawn_with(
@@ -120,7 +122,7 @@ impl<'a, R: Threads + Wait + Sync, G: Gate + Sync> Run<'a, R, G> {
                 requires flagged { jobs.now.workers ≤ length refused.now }
                 requires unused { IsUnused table.now jobs.now worker }
                 ensures number { result.seat.worker ≡ worker.seat.worker }
-                ensures comes { ComesBack table.entry.now jobs.entry.now result }
+                ensures comes { ComesBack table.entry.now jobs.entry.now wait result }
             {
                 // Set where no thread can be made, and this is called to have the worker back.
                 if flag.load(Ordering::SeqCst) {
@@ -158,7 +160,7 @@ impl<'a, R: Threads + Wait + Sync, G: Gate + Sync> Run<'a, R, G> {
         requires none { started.items ≡ [] }
         requires room { vec_len workers ≤ vec_capacity started }
         requires relief { Q.ready relief.old }
-        ensures started { AreStarted self.now.table.now self.now.jobs.now result.items }
+        ensures started { AreStarted self.now.table.now self.now.jobs.now self.now.wait result.items }
         ensures count { vec_len result ≡ vec_len workers }
         ensures relief { Q.ready relief.new }
         ensures later { Q.later relief.old relief.new }
@@ -171,10 +173,10 @@ impl<'a, R: Threads + Wait + Sync, G: Gate + Sync> Run<'a, R, G> {
 
     /// Waits for the worker, and answers it once it served. Where it comes back as it was hired it is served here, with this relief.
     fn join<Q: Relief>(&self, started: Started, relief: &mut Q) -> Worker
-        requires started { IsStarted self.now.table.now self.now.jobs.now started }
+        requires started { IsStarted self.now.table.now self.now.jobs.now self.now.wait started }
         requires relief { Q.ready relief.old }
         ensures number { result.seat.worker ≡ number_of started }
-        ensures done { IsDone self.now.table.now self.now.jobs.now result }
+        ensures done { IsDone self.now.table.now self.now.jobs.now self.now.wait result }
         ensures relief { Q.ready relief.new }
         ensures later { Q.later relief.old relief.new }
     {
@@ -192,11 +194,11 @@ impl<'a, R: Threads + Wait + Sync, G: Gate + Sync> Run<'a, R, G> {
         mut back: Vec<Worker>,
         relief: &mut Q,
     ) -> Vec<Worker>
-        requires started { AreStarted self.now.table.now self.now.jobs.now started.items }
+        requires started { AreStarted self.now.table.now self.now.jobs.now self.now.wait started.items }
         requires none { back.items ≡ [] }
         requires room { vec_len started ≤ vec_capacity back }
         requires relief { Q.ready relief.old }
-        ensures done { AreDone self.now.table.now self.now.jobs.now result.items }
+        ensures done { AreDone self.now.table.now self.now.jobs.now self.now.wait result.items }
         ensures count { vec_len result ≡ vec_len started }
         ensures relief { Q.ready relief.new }
         ensures later { Q.later relief.old relief.new }

@@ -160,7 +160,7 @@ fn serve_crew<'a, R: Threads + Wait + Sync, D: LogDisk, K: Sink, G: Gate + Sync>
     requires shut { D.honest outside.disk.now → IsShut tail.at (D.images outside.disk.now) }
     requires next { tail.next ≡ (key_of run.table.now).start }
     requires place { tail.at ≤ 2 ^ 63 + 16 * tail.next }
-    ensures served { IsSomeAnd served.new (IsServed run.entry.table.now run.entry.jobs.now) }
+    ensures served { IsSomeAnd served.new (IsServed run.entry.table.now run.entry.jobs.now run.entry.wait) }
     ensures turned { IfSome served.new (HasTurned D.LogDisk K.Sink tail voice crew.boss outside.entry.disk.now result.disk.now outside.entry.out.now result.out.now) }
     ensures disk { result.disk.ghost_name ≡ outside.entry.disk.ghost_name }
     ensures out { result.out.ghost_name ≡ outside.entry.out.ghost_name }
@@ -212,7 +212,7 @@ pub fn run_transfers<R: Threads + Wait + Sync, D: LogDisk, K: Sink, G: Gate + Sy
     requires prepared { IsPrepared prepared }
     requires opened { (opened : List Rec) × IsOpened D.LogDisk disk.old tail opened prepared.jobs.first (key_of prepared.table) }
     ensures ended { (opened : List Rec) → IsOpened D.LogDisk disk.old tail opened prepared.jobs.first (key_of prepared.table)
-        → HasEnded D.LogDisk K.Sink prepared opened voice disk.old disk.new out.old out.new result }
+        → HasEnded D.LogDisk K.Sink prepared opened voice wait disk.old disk.new out.old out.new result }
 {
     let Prepared {
         table,

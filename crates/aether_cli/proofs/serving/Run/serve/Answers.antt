@@ -1,8 +1,11 @@
 use Rattle.std.proofs.Common.{rules, ◌≡◌, ap, sym, subst}
 use Rattle.log_table.specs.declared.view.Books.{Books}
+use Rattle.log_table.specs.declared.view.View.{View}
 use Rattle.log_table.specs.Seats.{view_of}
 use Rattle.log_table.specs.CrewViews.{retired}
 use Rattle.txn_runner.specs.Working.{taken_in}
+use Rattle.aether_cli.specs.Waiting.{HaveWaited, made_of}
+use Rattle.aether_cli.proofs.WaitedLemmas.{HaveWaited-worked}
 use Rattle.aether_cli.proofs.ServedLemmas.{HasDone, HasDone-left}
 use Rattle.aether_cli.proofs.serving.Run.serve.Goals as goal
 
@@ -21,4 +24,14 @@ returns-clause-done g c =
     let done = HasDone-left jobs number _ taken _ worked (view_of c.args.worker.seat) new hired.taken none did.worked did.jobs did.works in
     let all = subst (HasDone jobs number taken worked) (sym left) done in
     let mine = subst (λ n. HasDone jobs n taken worked (view_of c.leave.new.seat)) (sym same) all in
-    record { seat = search rules; ended = search rules; jobs_are = mine.jobs_are; has = mine.has; works = mine.works }
+    record {
+      seat = search rules;
+      ended = search rules;
+      jobs_are = mine.jobs_are;
+      has = mine.has;
+      works = mine.works;
+      waited = λ waits.
+          subst (λ n. HaveWaited jobs n (made_of taken worked) (view_of c.leave.new.seat).entries (view_of c.leave.new.seat).books.given) (sym same)
+          (subst (λ (v : View). HaveWaited jobs number (made_of taken worked) v.entries v.books.given) (sym left)
+          (HaveWaited-worked jobs number c.args.self.now.wait worked _ c.work-worked.new.rows _ new did.rows hired.taken waits));
+    }
