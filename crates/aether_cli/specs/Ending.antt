@@ -25,8 +25,8 @@ use Rattle.aether_cli.specs.Summary.{summary_of}
 use Rattle.aether_cli.specs.Transferred.{HasTransferred}
 use Rattle.aether_cli.specs.Waiting.{HaveWaited, made_of}
 
--- Turns led from a daemon over the one disk and sink to one over the other, and the transfers ended so. Where workers wait, each transfer that
--- ended gave its accounts back once its end was durable.
+-- Turns led from a daemon over the one disk and sink to one over the other, and the transfers ended so. Where workers wait, each transfer
+-- that they made, but for one that was cut off, gave its accounts back once its end was durable.
 pub record HasEnded {D : Type 0} {K : Type 0} (g : Ghosts D) (h : SinkGhosts K) (prepared : Prepared) (opened : List Rec) (voice : Voice)
     (wait : Bool) (disk disk_new : D) (sink sink_new : K) (ended : Ended) : Type 0 where
   pub shares : List Share
