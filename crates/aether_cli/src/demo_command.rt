@@ -4,7 +4,7 @@ ghost use Rattle.command_line.specs.Ranges.{AreInRange};
 ghost use Rattle.log_disk.specs.Faults.{Rose};
 ghost use Rattle.log_record.specs.LogList.{units_of};
 ghost use Rattle.segment_file.specs.File.{BeginsOpen};
-ghost use Rattle.txn_script.specs.declared.generator.TheConstants.{MOST_GENERATED};
+ghost use Rattle.lsn_space.specs.declared.numerals.TheConstants.{MOST_GENERATED};
 ghost use Rattle.aether_cli.specs.Creation.{TellsWhether};
 ghost use Rattle.aether_cli.specs.Demo.{AnswersDemo, IsBeforeDemo, IsOfDemo, IsPreparedDemo, IsReadyDemo, TellsSummary};
 ghost use Rattle.aether_cli.specs.Summary.{generated_opening, generated_rows};

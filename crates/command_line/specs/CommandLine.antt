@@ -3,7 +3,7 @@ use Rattle.std.specs.Prelude.{◌≡◌, ◌≢◌, ◌≤◌, ◌⊎◌, ◌↔
 use Rattle.clap.specs.Words.{App, Rule, Row, new_app, new_rule, with_rule, with_subcommand, fault_of, subcommand_of, first_of}
 use Rattle.clap.specs.declared.builder.action.ArgAction.TheVariants.{SetTrue}
 use Rattle.lsn_space.specs.Number.{number_text}
-use Rattle.txn_script.specs.declared.generator.TheConstants.{MOST_GENERATED}
+use Rattle.lsn_space.specs.declared.numerals.TheConstants.{MOST_GENERATED}
 use Rattle.command_line.specs.Ranges.{AreInRange}
 use Rattle.command_line.specs.declared.parsing.TheConstants.{GREATEST_SEED}
 use Rattle.command_line.specs.declared.options.RunOptions.{RunOptions}

@@ -4,8 +4,7 @@ ghost use Rattle.lsn_space.specs.Number.{number_text};
 ghost use Rattle.command_line.specs.CommandLine.{AreOptions, HasNoOptions, IsNumberOf};
 
 use clap::ArgMatches;
-use lsn_space::{GREATEST_RING, LEAST_RING};
-use txn_script::number;
+use lsn_space::{GREATEST_RING, LEAST_RING, number};
 
 /// How `run` and `demo` are to work.
 #[derive(Clone, Copy, Debug, PartialEq, Eq)]

@@ -9,9 +9,8 @@ use crate::definition::aether;
 use crate::options::{given_in, options_in};
 use clap::ArgMatches;
 use clap::error::ErrorKind;
-use lsn_space::Word;
+use lsn_space::{MOST_GENERATED, Word};
 use std::alloc::Global;
-use txn_script::MOST_GENERATED;
 
 /// The greatest seed of generated transfers.
 pub const GREATEST_SEED: u32 = 65536;

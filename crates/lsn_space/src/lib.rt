@@ -5,13 +5,13 @@
 mod balances;
 mod lsn;
 mod memory;
-mod number;
+mod numerals;
 mod unit;
 mod word;
 
 pub use balances::Balances;
 pub use lsn::{GREATEST_RING, LAST, LEAST_RING, Lsn, format_numbers, place};
 pub use memory::NoMemory;
-pub use number::decimal;
+pub use numerals::{MOST_GENERATED, decimal, number};
 pub use unit::{bytes_of, unit_bytes_inverse, unit_of};
 pub use word::Word;

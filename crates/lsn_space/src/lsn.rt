@@ -1,5 +1,6 @@
 ghost use Rattle.std.specs.Prelude.{◌≡◌, ◌+◌, ◌%◌, ◌≤◌, ◌↔◌, IsSome, IfSome};
 ghost use Rattle.lsn_space.specs.declared.lsn.TheConstants.{LAST, LEAST_RING, GREATEST_RING};
+ghost use Rattle.lsn_space.specs.declared.numerals.TheConstants.{MOST_GENERATED};
 
 use std::marker::Model;
 
@@ -12,11 +13,12 @@ pub const LEAST_RING: u32 = 1024;
 /// The greatest length of the log buffer.
 pub const GREATEST_RING: u32 = 0x10_0000;
 
-/// A law: the numbers that the definitions take from here are 4294967295, 1024 and 1048576.
+/// A law: the numbers that the definitions take from this crate are 4294967295, 1024, 1048576 and 100000.
 pub fn format_numbers()
     ensures last { LAST ≡ 4294967295 }
     ensures least_ring { LEAST_RING ≡ 1024 }
     ensures greatest_ring { GREATEST_RING ≡ 1048576 }
+    ensures transfers { MOST_GENERATED ≡ 100000 }
 {}
 
 /// A log sequence number: the address of a unit in the log, counted in units of eight bytes.

@@ -2,6 +2,7 @@
 
 ghost use Rattle.std.specs.Prelude.{◌≡◌, ◌<◌, ◌≤◌, ◌*◌, ℕ, List, [], length, All, IfOk};
 ghost use Rattle.std.specs.List.{AllByRecursion};
+ghost use Rattle.lsn_space.specs.declared.numerals.TheConstants.{MOST_GENERATED};
 ghost use Rattle.log_record.specs.declared.rec.Rec.{Rec};
 ghost use Rattle.log_record.specs.declared.rec.Placed.{Placed};
 ghost use Rattle.log_record.specs.LogList.{end_of};
@@ -22,9 +23,6 @@ pub const GENERATED_ACCOUNTS: u32 = 64;
 
 /// The balance with which each of them begins.
 pub const GENERATED_BALANCE: u32 = 1_000_000;
-
-/// The most transfers of which it is known that they are done in every order.
-pub const MOST_GENERATED: u32 = 100_000;
 
 /// So many transfers, generated from a seed.
 pub fn make(alloc: Global, n: u32, seed: u32) -> Result<Script, NoMemory>

@@ -1,9 +1,10 @@
 //! Laws of the definitions. The functions do nothing.
 
 ghost use Rattle.std.specs.Prelude.{◌≡◌, ℕ};
+ghost use Rattle.lsn_space.specs.declared.numerals.TheConstants.{MOST_GENERATED};
 ghost use Rattle.lock_core.specs.Alone.{IsAllowedTransfer};
 ghost use Rattle.txn_script.specs.declared.job.Job.{Job};
-ghost use Rattle.txn_script.specs.declared.generator.TheConstants.{GENERATED_ACCOUNTS, GENERATED_BALANCE, MOST_GENERATED};
+ghost use Rattle.txn_script.specs.declared.generator.TheConstants.{GENERATED_ACCOUNTS, GENERATED_BALANCE};
 ghost use Rattle.txn_script.specs.declared.lines.TheConstants.{LF};
 ghost use Rattle.txn_script.specs.declared.pay.TheConstants.{SPACE};
 ghost use Rattle.txn_script.specs.Script.{IsAllowedJob};

@@ -8,7 +8,6 @@ mod generator_tests;
 mod job;
 mod laws;
 mod lines;
-mod numerals;
 mod opening;
 mod pay;
 mod script;
@@ -18,12 +17,10 @@ mod tests;
 
 pub use fault::ParseFault;
 pub use generator::{
-    GENERATED_ACCOUNTS, GENERATED_BALANCE, MOST_GENERATED, generated_in_any_order,
-    generated_jobs_laws, make,
+    GENERATED_ACCOUNTS, GENERATED_BALANCE, generated_in_any_order, generated_jobs_laws, make,
 };
 pub use job::{Job, Legs, Remark};
 pub use laws::{allowed_jobs, format_numbers};
 pub use lines::written_lines;
-pub use numerals::number;
 pub use opening::{balances, balances_one_reading};
 pub use script::{Script, parse, script_one_reading};

@@ -7,9 +7,8 @@ ghost use Rattle.txn_script.specs.declared.fault.ParseFault.TheVariants.{Line};
 
 use crate::fault::ParseFault;
 use crate::lines::take_line;
-use crate::numerals::number;
 use log_record::{MOST_ACCOUNTS, MOST_BALANCE};
-use lsn_space::Balances;
+use lsn_space::{Balances, number};
 use std::alloc::Global;
 
 /// The balances of a new log's accounts, from account 0 on: a line with a number for each. No account has a commit yet.

@@ -7,8 +7,8 @@ ghost use Rattle.txn_script.specs.Script.{spaced, leg_text, legs_text, note_text
 ghost use Rattle.txn_script.specs.declared.job.Job.{Job};
 
 use crate::job::{Job, Legs, Remark};
-use crate::numerals::number;
 use log_record::{MOST_BALANCE, MOST_LEGS};
+use lsn_space::number;
 
 /// What stands between the parts of a line.
 pub const SPACE: u8 = b' ';

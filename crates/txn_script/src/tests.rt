@@ -1,6 +1,7 @@
 //! Texts that are read, and texts that are refused at a line.
 
-use crate::{Job, ParseFault, Script, balances, number, parse};
+use crate::{Job, ParseFault, Script, balances, parse};
+use lsn_space::number;
 use std::test::Fail;
 
 #[test]

@@ -3,7 +3,7 @@ use Rattle.std.proofs.lemmas.Fmt.{parse-decimal, IsAscii-decimal}
 use Rattle.std.proofs.lemmas.Str.{IsUtf8-from_ascii}
 use Rattle.std.specs.Result.{result_ok}
 use Rattle.lsn_space.specs.Number.{number_text}
-use Rattle.txn_script.proofs.numerals.digits.Goals as goal
+use Rattle.lsn_space.proofs.numerals.digits.Goals as goal
 
 pub returns-in-Ok : goal.returns-in-Ok
 returns-in-Ok c = λ n small text.

@@ -1,7 +1,23 @@
+//! Numbers as text, written and read.
 ghost use Rattle.std.specs.Prelude.{◌≡◌, ◌≤◌, ◌<◌, ◌^◌, ℕ, Some, IsTrue, ◌↔◌, IfSome, IfNone};
 ghost use Rattle.lsn_space.specs.Number.{number_text};
 
-use lsn_space::decimal;
+use arrayvec::ArrayVec;
+use itoa::Buffer;
+
+/// The most transfers that are generated at once.
+pub const MOST_GENERATED: u32 = 100_000;
+
+/// A number as text: `0`, or decimal digits of which the first isn't `0`.
+pub fn decimal(n: u64) -> ArrayVec<u8, 20>
+    ensures { result.items ≡ number_text n }
+{
+    let mut buffer = Buffer::new();
+    let text = buffer.format(n);
+    let mut digits = ArrayVec::new();
+    digits.try_extend_from_slice(text.as_bytes()).unwrap();
+    digits
+}
 
 /// The number from `least` to `most` of which this is the text: `0`, or decimal digits of which the first isn't `0`. A
 /// text with a sign, a space or any other byte is that of no number.
@@ -31,4 +47,22 @@ fn is_text_of(text: &[u8], n: u32) -> bool
     ensures { IsTrue result ↔ (text.now ≡ number_text n) }
 {
     decimal(n as u64).as_slice() == text
+}
+
+#[cfg(test)]
+mod tests {
+    use super::*;
+
+    #[test]
+    fn writes_digits(rt: HostRuntime) {
+        let cases: [(u64, &[u8]); 4] = [
+            (0, b"0"),
+            (10, b"10"),
+            (2147483647, b"2147483647"),
+            (u64::MAX, b"18446744073709551615"),
+        ];
+        for (n, want) in cases {
+            assert_eq!(rt; decimal(n).as_slice(), want);
+        }
+    }
 }
