@@ -16,9 +16,9 @@ use Rattle.lock_core.specs.Transactions.{own_records_of, all_without_prev, in_or
 use Rattle.lock_core.proofs.Doing.{end_of-weight, partly-done}
 use Rattle.lock_core.proofs.NextRecords.{size-without_prev}
 use Rattle.lock_core.proofs.Weighing.{AreDistinct, each_task, has_number, weight_of-append, weight_of-history, weight_of-in_order, weight_of-tasks, weight_of-without_prev}
-use Rattle.txn_script.specs.declared.job.Job.{Job}
+use Rattle.lock_core.specs.declared.job.Job.{Job}
 use Rattle.txn_script.specs.Generator.{number_after, leg_from, job_from, generated_jobs, generated_transfers, OpensGenerated}
-use Rattle.txn_script.specs.Transfers.{transfer_of}
+use Rattle.lock_core.specs.Transfers.{transfer_of}
 use Rattle.txn_script.proofs.OrderLemmas.{room-generated}
 use Rattle.txn_runner.specs.declared.jobs.Jobs.{Jobs}
 use Rattle.txn_runner.specs.Stripes.{number_at, place_of, job_at}

@@ -20,7 +20,7 @@ use Rattle.log_table.specs.Seats.{key_of}
 use Rattle.segment_file.specs.declared.scan_result.Tail.{Tail}
 use Rattle.segment_file.specs.File.{HoldsUnits}
 use Rattle.segment_file.specs.Standing.{AllStand, IsShut}
-use Rattle.txn_script.specs.declared.job.Job.{Job}
+use Rattle.lock_core.specs.declared.job.Job.{Job}
 use Rattle.aether_cli.specs.declared.transfers.Prepared.{Prepared}
 use Rattle.aether_cli.specs.Opening.{Opens, HasOpeningFault}
 use Rattle.aether_cli.specs.RunAnswers.{AnswersRun, AreAsked, OnlyReads, OnlySettles, HoldsAsRead, accounts_of, next_txn, outside}

@@ -7,7 +7,7 @@ use Rattle.log_recovery.specs.declared.recovery.RecoverFault.{RecoverFault}
 use Rattle.log_recovery.specs.declared.recovery.RecoverFault.TheVariants as fault
 use Rattle.log_recovery.specs.Recovery.{HoldsLawful, IsFaultOf}
 use Rattle.log_recovery.proofs.AnswerLemmas.{lawful-fault, one-list}
-use Rattle.txn_script.specs.declared.job.Job.{Job}
+use Rattle.lock_core.specs.declared.job.Job.{Job}
 use Rattle.txn_script.specs.Script.{IsScriptText, IsFirstBadLine}
 use Rattle.txn_script.proofs.ScriptLemmas.{jobs-same, jobs-or_bad}
 use Rattle.aether_cli.specs.declared.report.Detail.{Detail}

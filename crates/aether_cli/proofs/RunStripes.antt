@@ -11,8 +11,8 @@ use lib.ListN.{get_elem?}
 use Rattle.lock_core.specs.Serial.{Task, numbered}
 use Rattle.log_table.specs.declared.view.TakenJob.{TakenJob}
 use Rattle.log_table.specs.Books.{task_of, times_taken}
-use Rattle.txn_script.specs.Transfers.{transfer_of}
-use Rattle.txn_script.specs.declared.job.Job.{Job}
+use Rattle.lock_core.specs.Transfers.{transfer_of}
+use Rattle.lock_core.specs.declared.job.Job.{Job}
 use Rattle.txn_runner.specs.declared.jobs.Jobs.{Jobs}
 use Rattle.txn_runner.specs.Stripes.{place_of, number_at, taken_at, stripe_jobs, HasStripe}
 use Rattle.aether_cli.specs.Shares.{Share, all_taken}

@@ -18,7 +18,7 @@ use Rattle.lock_core.proofs.Ranging.{balance_of-is}
 use Rattle.lock_core.proofs.Weighing.{IgnoresPrev, weight_of-append}
 use Rattle.commit_pipeline.specs.EndLines.{is_done, is_refused, done_in, refused_in}
 use Rattle.txn_script.specs.Generator.{number_after, job_from, generated_transfers, generated_balance, OpensGenerated}
-use Rattle.txn_script.specs.Transfers.{transfer_of}
+use Rattle.lock_core.specs.Transfers.{transfer_of}
 use Rattle.txn_script.proofs.OrderLemmas.{room-generated, generated-balance, generated-end}
 use Rattle.aether_cli.specs.Summary.{generated_opening, balance_in, mix_below, summary_lines, summary_of, summary_text}
 use Rattle.aether_cli.proofs.GenesisLemmas.{opening_rows, genesis-kept}

@@ -17,7 +17,7 @@ use Rattle.txn_runner.specs.declared.cause.Worked.TheVariants.{All, Cut}
 use Rattle.txn_runner.specs.declared.jobs.Jobs.{Jobs}
 use Rattle.txn_runner.specs.declared.rows.Row.{Row}
 use Rattle.txn_runner.specs.declared.rows.Rows.{Rows}
-use Rattle.txn_script.specs.Transfers.{transfer_of}
+use Rattle.lock_core.specs.Transfers.{transfer_of}
 use Rattle.txn_runner.specs.Running.{outcome_of}
 use Rattle.txn_runner.specs.Stripes.{number_at, job_at}
 use Rattle.txn_runner.specs.Working.{AddsRows, AreRowsFrom, AreGivenAt, EachHasRow, IsGivenAt, TellsEnd, taken_in}

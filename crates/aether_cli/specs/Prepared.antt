@@ -3,7 +3,7 @@ use Rattle.std.specs.Prelude.{◌≡◌, ℕ, ◌≤◌, Bool, [], None, All, ve
 use Rattle.log_disk.specs.declared.disk.LogDisk.{Ghosts}
 use Rattle.log_disk.specs.declared.sink.Sink.{Ghosts as SinkGhosts}
 use Rattle.segment_file.specs.declared.scan_result.Tail.{Tail}
-use Rattle.txn_script.specs.Script.{IsAllowedJob}
+use Rattle.lock_core.specs.Transfers.{IsAllowedJob}
 use Rattle.log_table.specs.declared.table.LogTable.{LogTable}
 use Rattle.log_table.specs.declared.table.Seat.{Seat}
 use Rattle.log_table.specs.Seats.{view_of}

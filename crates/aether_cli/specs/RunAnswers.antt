@@ -15,7 +15,7 @@ use Rattle.log_recovery.specs.Recovery.{HoldsLawful, IsFaultOf}
 use Rattle.log_recovery.specs.Text.{accounts_text}
 use Rattle.commit_pipeline.specs.EndLines.{end_lines}
 use Rattle.txn_runner.specs.declared.jobs.Jobs.{Jobs}
-use Rattle.txn_script.specs.declared.job.Job.{Job}
+use Rattle.lock_core.specs.declared.job.Job.{Job}
 use Rattle.aether_cli.specs.declared.report.Detail.{Detail}
 use Rattle.aether_cli.specs.declared.report.Detail.TheVariants.{Fine, NoMemory, Usage, Script, Read, Write, Disk, NotALog, BadBatch, BadRec, Unlawful, LogEnd, TxnEnd, Exists}
 use Rattle.aether_cli.specs.Run.{HoldsRun, GoesOn, RunsWhole}

@@ -8,7 +8,7 @@ use Rattle.log_record.specs.declared.rec.Rec.{Rec}
 use Rattle.log_recovery.specs.declared.recovery.Recovered.{Recovered}
 use Rattle.log_recovery.specs.Recovery.{HoldsLawful}
 use Rattle.log_table.specs.Seats.{key_of}
-use Rattle.txn_script.specs.declared.job.Job.{Job}
+use Rattle.lock_core.specs.declared.job.Job.{Job}
 use Rattle.aether_cli.specs.declared.report.Detail.{Detail}
 use Rattle.aether_cli.specs.declared.report.Detail.TheVariants.{Fine, Usage, Write, LogEnd, Exists}
 use Rattle.aether_cli.specs.declared.run_command.ReadyRun.{ReadyRun}

@@ -10,7 +10,7 @@ use Rattle.log_record.specs.LogList.{units_of}
 use Rattle.lock_core.specs.Witness.{genesis_log, transfer_records}
 use Rattle.segment_file.specs.File.{written}
 use Rattle.segment_file.specs.declared.layout.TheConstants.{CLOSED}
-use Rattle.txn_script.specs.declared.job.Job.{Job}
+use Rattle.lock_core.specs.declared.job.Job.{Job}
 use Rattle.log_table.specs.declared.table.Start.{Start}
 use Rattle.log_table.specs.declared.view.View.{View}
 use Rattle.log_table.specs.Closing.{records_of}

@@ -1,6 +1,6 @@
 -- The script that `run` reads, for a log of so many accounts. `left` is what the input holds at first, where it tells that.
 use Rattle.std.specs.Prelude.{ℕ, List, Option}
-use Rattle.txn_script.specs.declared.job.Job.{Job}
+use Rattle.lock_core.specs.declared.job.Job.{Job}
 use Rattle.txn_script.specs.Script.{IsScriptText, IsFirstBadLine}
 use Rattle.aether_cli.specs.declared.report.Detail.{Detail}
 use Rattle.aether_cli.specs.declared.report.Detail.TheVariants.{NoMemory, Script, Read}

@@ -1,6 +1,6 @@
 //! A worker that waits for the disk, in the one thread that flushes.
 ghost use Rattle.std.specs.Prelude.{◌≡◌, [], true, All, Contains, IfSome};
-ghost use Rattle.txn_script.specs.Script.{IsAllowedJob};
+ghost use Rattle.lock_core.specs.Transfers.{IsAllowedJob};
 ghost use Rattle.log_table.specs.declared.view.Role.TheVariants.{Flusher as FlusherRole};
 ghost use Rattle.log_table.specs.Books.{no_books};
 ghost use Rattle.log_table.specs.Seats.{IsOf, view_of};

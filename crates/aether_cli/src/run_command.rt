@@ -3,7 +3,7 @@ ghost use Rattle.command_line.specs.Ranges.{AreInRange};
 ghost use Rattle.log_disk.specs.Faults.{Rose};
 ghost use Rattle.log_record.specs.declared.limits.TheConstants.{LAST_TXN};
 ghost use Rattle.log_recovery.specs.Recovery.{Recovers};
-ghost use Rattle.txn_script.specs.Script.{IsAllowedJob};
+ghost use Rattle.lock_core.specs.Transfers.{IsAllowedJob};
 ghost use Rattle.aether_cli.specs.RunAnswers.{AnswersRun, IsOfRun, RunStaysSilent, outside};
 ghost use Rattle.aether_cli.specs.RunReady.{IsReadyFor, IsPreparedFor, HasNoRun, IsBeforeRun};
 

@@ -1,7 +1,7 @@
 //! The life of a worker, in a thread of its own or not.
 ghost use Rattle.std.specs.Prelude.{◌≡◌, ◌≤◌, [], All, length, vec_len, vec_capacity};
 ghost use Rattle.std.proofs.Props.{props};
-ghost use Rattle.txn_script.specs.Script.{IsAllowedJob};
+ghost use Rattle.lock_core.specs.Transfers.{IsAllowedJob};
 ghost use Rattle.aether_cli.specs.Workers.{IsHired, IsUnused, IsDone, ComesBack, IsStarted, AreUnused, AreDone, AreStarted, number_of};
 
 use crate::workers::Worker;

@@ -13,7 +13,7 @@ ghost use Rattle.aether_cli.specs.Answers.{status_of, AnswersRecover, AnswersDum
 ghost use Rattle.aether_cli.specs.Demo.{AnswersDemo, AsksDemo, IsOfDemo, TellsSummary};
 ghost use Rattle.aether_cli.specs.Creation.{AllHoldNew, FollowsLog, MayBeLeft, PrecedesLog, TellsWhether};
 ghost use Rattle.aether_cli.specs.RunAnswers.{AnswersRun, IsOfRun, IsRunDone, RunStaysSilent, accounts_of, next_txn, outside};
-ghost use Rattle.txn_script.specs.declared.job.Job.{Job};
+ghost use Rattle.lock_core.specs.declared.job.Job.{Job};
 ghost use Rattle.txn_script.specs.Script.{IsScriptText};
 
 use crate::demo_command::demo_command;

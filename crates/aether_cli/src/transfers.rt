@@ -6,7 +6,7 @@ ghost use Rattle.log_record.specs.declared.rec.Rec.{Rec};
 ghost use Rattle.log_table.specs.Opening.{HasAccounts};
 ghost use Rattle.log_table.specs.Seats.{key_of};
 ghost use Rattle.segment_file.specs.Standing.{IsShut};
-ghost use Rattle.txn_script.specs.Script.{IsAllowedJob};
+ghost use Rattle.lock_core.specs.Transfers.{IsAllowedJob};
 ghost use Rattle.aether_cli.specs.Ending.{HasEnded};
 ghost use Rattle.aether_cli.specs.Prepared.{IsCrew, IsPrepared, IsServed, HasTurned};
 ghost use Rattle.aether_cli.specs.Transferred.{IsOpened};

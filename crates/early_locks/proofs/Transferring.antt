@@ -10,13 +10,13 @@ use Rattle.log_record.specs.declared.limits.TheConstants.{MOST_ACCOUNTS, MOST_BA
 use Rattle.lsn_space.specs.declared.lsn.TheConstants.{LAST}
 use Rattle.lock_core.specs.Alone.{planned_records}
 use Rattle.lock_core.specs.Transactions.{recs_of, in_order}
-use Rattle.txn_script.specs.Script.{IsAllowedLeg}
+use Rattle.lock_core.specs.Alone.{IsAllowedLeg}
 use Rattle.log_table.specs.declared.view.Given.{Given}
 use Rattle.log_table.specs.declared.view.TakenJob.{TakenJob}
 use Rattle.log_table.specs.declared.view.Books.{Books}
 use Rattle.log_table.specs.declared.view.Held.{Held}
 use Rattle.log_table.specs.Books.{times_held, balance_taken, mark_taken, plan_of, next_of, placing, giving, without, HoldsLeg, HoldsAccounts}
-use Rattle.txn_script.specs.Transfers.{transfer_of}
+use Rattle.lock_core.specs.Transfers.{transfer_of}
 use Rattle.log_table.proofs.Bookings.{times_held-without_other, balance_taken-without_other, mark_taken-without_other, length-without}
 use Rattle.log_table.proofs.Deltas.{more-delta, less-delta}
 use Rattle.log_table.proofs.Nexting.{next-is, may-enter}

@@ -4,7 +4,7 @@ ghost use Rattle.std.specs.Prelude.{◌≡◌, ◌≢◌, ◌<◌, ◌≤◌, �
 ghost use Rattle.log_record.specs.Spelling.{IsTxn, spelling};
 ghost use Rattle.log_record.specs.declared.limits.TheConstants.{MOST_BALANCE};
 ghost use Rattle.lock_core.specs.Transactions.{recs_of, has_commit};
-ghost use Rattle.txn_script.specs.Script.{IsAllowedLeg};
+ghost use Rattle.lock_core.specs.Alone.{IsAllowedLeg};
 ghost use Rattle.log_table.specs.Books.{taking};
 ghost use Rattle.log_table.specs.May.{HasBegunNothing, MayTakeJob};
 ghost use Rattle.log_table.specs.Seats.{IsOf, Becomes, view_of};

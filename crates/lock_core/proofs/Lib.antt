@@ -4,6 +4,7 @@ pub mod ChainLemmas
 pub mod Conserving
 pub mod Doing
 pub mod Fronts
+pub mod JobLemmas
 pub mod JudgingLemmas
 pub mod KeepingLemmas
 pub mod KindLemmas

@@ -15,4 +15,5 @@ pub mod Sums
 pub mod Taking
 pub mod Tests
 pub mod Transactions
+pub mod Transfers
 pub mod Witness

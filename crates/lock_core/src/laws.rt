@@ -4,6 +4,7 @@ ghost use Rattle.log_record.specs.declared.rec.Rec.{Rec};
 ghost use Rattle.log_record.specs.declared.rec.Placed.{Placed};
 ghost use Rattle.log_record.specs.LogList.{size_of, end_of};
 ghost use Rattle.log_record.specs.Spelling.{IsSpellable, IsBalance};
+ghost use Rattle.lock_core.specs.declared.job.Job.{Job};
 ghost use Rattle.lock_core.specs.declared.update.Change.{Change};
 ghost use Rattle.lock_core.specs.History.{history, history_from};
 ghost use Rattle.lock_core.specs.Records.{txn_of, commits, without_prev};
@@ -14,6 +15,7 @@ ghost use Rattle.lock_core.specs.Lawful.{IsLawful, IsLawfulAfter, genesis_of, ba
 ghost use Rattle.lock_core.specs.Plain.{plain_last_commit, IsPlainlyPaired};
 ghost use Rattle.lock_core.specs.Alone.{PlainTransfer, Outcome, IsAllowedTransfer, outcome_alone, outcome_records, planned_records};
 ghost use Rattle.lock_core.specs.Serial.{Task, numbered, IsSerialAfter, IsPartlySerialAfter, IsCutShort};
+ghost use Rattle.lock_core.specs.Transfers.{transfer_of, IsAllowedJob};
 ghost use Rattle.lock_core.specs.Soundness.{HasPredecessors, IsSoundAfter};
 ghost use Rattle.lock_core.specs.AnyOrder.{taken, given, legs_of, HasRoomFor, IsDoneIn, done_records, weight_of};
 ghost use Rattle.lock_core.specs.Witness.{genesis_log, transfer, transfer_history};
@@ -213,4 +215,9 @@ pub fn one_transfer_is_serial()
     ensures spellable { AllByRecursion (λ entry. IsSpellable entry.rec) (transfer_history ++ history genesis_log) }
     ensures allowed { IsAllowedTransfer (genesis_of (history genesis_log)).accounts transfer }
     ensures room { HasRoomFor (base_state_of (history genesis_log)) (transfer ∷ []) }
+{}
+
+/// A law: where a log allows a job, it allows the transfer that the job is.
+pub fn allowed_jobs()
+    ensures { (accounts : ℕ) (job : Job) → IsAllowedJob accounts job → IsAllowedTransfer accounts (transfer_of job) }
 {}

@@ -12,7 +12,7 @@ use Rattle.log_table.specs.Layout.{Tail, Exposed, Durable, Stop, Crew, Ring, Acc
 use Rattle.log_table.specs.May.{IsOwnWord, MayLeave, MayReserve, MayFill, MayRelease, MayRead, MaySend, MayStop, MayTakeJob, MayTake, MayGiveBack}
 use Rattle.slot_word.specs.declared.account_word.AccountWord.{AccountWord}
 use Rattle.slot_word.specs.AccountWord.{word_of}
-use Rattle.txn_script.specs.declared.job.Job.{Job}
+use Rattle.lock_core.specs.declared.job.Job.{Job}
 use Rattle.log_table.specs.Sends.{IsExposedToFlusher, IsDurableToFlusher, ReadsWholeEntries}
 use Rattle.log_table.specs.Sound.{HasReadStop, Ruled}
 use Rattle.log_table.specs.Views.{saw_tail, saw_exposed, saw_durable, after_exchange, filled, released, has_read, has_sent, has_stopped, saw_stop, saw_crew}

@@ -15,7 +15,7 @@ use Rattle.lock_core.specs.History.{end_from}
 use Rattle.lock_core.specs.Transactions.{recs_of, own_records_of, changes_in, has_end, has_commit, is_committed, touches, all_without_prev, in_order}
 use Rattle.lock_core.specs.Sums.{BaseState, moved, total, AreInRange, balance_of, last_commit_of}
 use Rattle.lock_core.specs.Tests.{IsCurrent, IsGenesis}
-use Rattle.lock_core.specs.Alone.{with_note}
+use Rattle.lock_core.specs.Alone.{with_note, IsAllowedLeg}
 use Rattle.lock_core.specs.Serial.{Task, IsRunWhole}
 use Rattle.lock_core.proofs.Appending.{passes-after}
 use Rattle.lock_core.proofs.Meeting.{MeetsTests}
@@ -23,11 +23,10 @@ use Rattle.lock_core.proofs.OneMore.{of_transaction-same, has_commit-unended, to
 use Rattle.lock_core.proofs.Running.{AgreesOn, planned_from-agrees, planned_records-without_prev, planned_records-outcome, all_without_prev-in_order, no_commit}
 use Rattle.lock_core.proofs.SerialFronts.{IsRunPartly}
 use Rattle.lock_core.proofs.SettlingLemmas.{moved-untouched}
-use Rattle.txn_script.specs.Script.{IsAllowedLeg}
 use Rattle.log_table.specs.declared.view.Held.{Held}
 use Rattle.log_table.specs.declared.view.Books.{Books}
 use Rattle.log_table.specs.Books.{task_of, times_held, balance_taken, mark_taken, plan_of, IsNext, HoldsLeg, HoldsAccounts, IsNote, MayEnter, placing}
-use Rattle.txn_script.specs.Transfers.{note_of}
+use Rattle.lock_core.specs.Transfers.{note_of}
 use Rattle.log_table.specs.Accounts.{IsAsTaken, HasOneHolder, HasDistinctJobs, moved_if_committed, Follows, AccountsFollowList, KeepsAccounts, MayBeTaken}
 use Rattle.log_table.proofs.Bookings.{everywhere-set, summed-set, found, balance_taken-none, mark_taken-all}
 use Rattle.log_table.proofs.Growing.{IsSameAt, grows}

@@ -7,7 +7,7 @@ use Rattle.lock_core.specs.Alone.{planned_from, with_note}
 use Rattle.lock_core.specs.Transactions.{recs_of, in_order}
 use Rattle.log_table.specs.declared.view.Books.{Books}
 use Rattle.log_table.specs.Books.{balance_taken, mark_taken, next_of, IsNext, IsNote, HoldsAccounts, MayEnter}
-use Rattle.txn_script.specs.Transfers.{note_of}
+use Rattle.lock_core.specs.Transfers.{note_of}
 
 get_or-in_order : (placed : List Placed) (records : List Rec) (other : Rec) → get_or (in_order (recs_of placed) records) (length placed) other ≡ get_or records 0 other
 get_or-in_order placed records other = ap (λ n. get_or (in_order (recs_of placed) records) n other) (omega arith) ∙ behind placed records 0

@@ -17,7 +17,7 @@ use Rattle.log_record.specs.declared.rec.Placed.{Placed}
 use Rattle.lock_core.specs.Transactions.{recs_of, has_commit}
 use Rattle.lock_core.specs.History.{end_from}
 use Rattle.lock_core.specs.Records.{commits}
-use Rattle.txn_script.specs.declared.job.Job.{Job}
+use Rattle.lock_core.specs.declared.job.Job.{Job}
 use Rattle.log_table.specs.declared.table.Start.{Start}
 use Rattle.log_table.specs.declared.view.Books.{Books}
 use Rattle.log_table.specs.declared.view.Seen.{Seen}

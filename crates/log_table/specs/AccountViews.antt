@@ -4,7 +4,7 @@ use Rattle.log_table.specs.declared.view.Given.{Given}
 use Rattle.log_table.specs.declared.view.Seen.{Seen}
 use Rattle.log_table.specs.declared.view.View.{View}
 use Rattle.slot_word.specs.AccountWord.{balance_in, mark_in}
-use Rattle.txn_script.specs.declared.job.Job.{Job}
+use Rattle.lock_core.specs.declared.job.Job.{Job}
 use Rattle.lock_core.specs.Transactions.{recs_of, has_commit}
 use Rattle.log_table.specs.declared.view.Held.{Held}
 use Rattle.log_table.specs.Books.{balance_taken, taking_job, taking, giving}

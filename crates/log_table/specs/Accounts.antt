@@ -8,7 +8,7 @@ use Rattle.slot_word.specs.AccountWord.{held_in, balance_in, mark_in}
 use Rattle.log_record.specs.declared.limits.TheConstants.{MOST_ACCOUNTS}
 use Rattle.log_record.specs.declared.rec.Placed.{Placed}
 use Rattle.log_record.specs.Spelling.{IsTxn}
-use Rattle.txn_script.specs.Script.{IsAllowedJob}
+use Rattle.lock_core.specs.Transfers.{IsAllowedJob}
 use Rattle.lock_core.specs.Records.{gain, loss}
 use Rattle.lock_core.specs.History.{end_from}
 use Rattle.lock_core.specs.Transactions.{of_transaction, recs_of, changes_in, has_commit, touches}

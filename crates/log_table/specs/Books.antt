@@ -3,7 +3,7 @@ use Rattle.std.specs.Prelude.{◌≡◌, ◌==◌, ℕ, ◌+◌, ◌≤◌, if�
 use Rattle.std.specs.List.{AllByRecursion}
 use Rattle.log_record.specs.declared.rec.Rec.{Rec}
 use Rattle.log_record.specs.declared.rec.Rec.TheVariants.{Genesis, Update, Commit, Short, Over, Note}
-use Rattle.txn_script.specs.Transfers.{transfer_of}
+use Rattle.lock_core.specs.Transfers.{transfer_of}
 use Rattle.lock_core.specs.Alone.{planned_records}
 use Rattle.lock_core.specs.Serial.{Task}
 use Rattle.lock_core.specs.Transactions.{recs_of, in_order}

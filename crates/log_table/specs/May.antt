@@ -10,7 +10,7 @@ use Rattle.log_table.specs.declared.view.Seen.{Seen}
 use Rattle.log_table.specs.declared.view.View.{View}
 use Rattle.log_record.specs.declared.rec.Placed.{Placed}
 use Rattle.log_record.specs.Spelling.{spelling}
-use Rattle.txn_script.specs.declared.job.Job.{Job}
+use Rattle.lock_core.specs.declared.job.Job.{Job}
 use Rattle.slot_word.specs.declared.account_word.AccountWord.{AccountWord}
 use Rattle.slot_word.specs.AccountWord.{word_of, held_in, balance_in, mark_in}
 use Rattle.log_table.specs.declared.view.TakenJob.{TakenJob}

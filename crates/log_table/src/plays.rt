@@ -154,7 +154,7 @@ impl Number for Brand {
 /// A job, and its transaction number.
 pub trait Task {
     ghost use Rattle.std.specs.Prelude.{ℕ};
-    ghost use Rattle.txn_script.specs.declared.job.Job.{Job};
+    ghost use Rattle.lock_core.specs.declared.job.Job.{Job};
 
     ghost number: { ℕ };
 

@@ -2,7 +2,7 @@
 //! of them is ever made, so their numbers have no bound and their lists take no memory.
 use log_record::Rec;
 use std::collections::LinkedList;
-use txn_script::Job;
+use lock_core::Job;
 
 /// A record for which one seat reserved a run of units: from `start` on, `size` of them, of which
 /// `units` are copied into the ring so far.

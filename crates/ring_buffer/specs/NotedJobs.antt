@@ -2,8 +2,8 @@
 use Rattle.std.specs.Prelude.{◌≡◌, ℕ, ◌<◌, Some, List, []}
 use Rattle.std.specs.List.{AllByRecursion}
 use Rattle.log_record.specs.Spelling.{IsTxn, IsNoteText}
-use Rattle.txn_script.specs.declared.job.Job.{Job}
-use Rattle.txn_script.specs.Script.{IsAllowedJob}
+use Rattle.lock_core.specs.declared.job.Job.{Job}
+use Rattle.lock_core.specs.Transfers.{IsAllowedJob}
 use Rattle.log_table.specs.declared.view.TakenJob.{TakenJob}
 use Rattle.log_table.specs.declared.view.View.{View}
 

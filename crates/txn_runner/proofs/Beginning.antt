@@ -7,13 +7,13 @@ use Rattle.lock_core.specs.Alone.{planned_from, planned_records, with_note}
 use Rattle.lock_core.specs.Records.{gain, loss}
 use Rattle.lock_core.specs.Sums.{moved}
 use Rattle.lock_core.specs.Transactions.{recs_of, changes_in, has_commit, in_order}
-use Rattle.txn_script.specs.declared.job.Job.{Job}
+use Rattle.lock_core.specs.declared.job.Job.{Job}
 use Rattle.log_table.specs.declared.table.Seat.{Seat}
 use Rattle.log_table.specs.declared.view.Books.{Books}
 use Rattle.log_table.specs.declared.view.Entry.{Entry}
 use Rattle.log_table.specs.declared.view.TakenJob.{TakenJob}
 use Rattle.log_table.specs.Books.{balance_taken, mark_taken, IsNote, IsNext, MayEnter}
-use Rattle.txn_script.specs.Transfers.{transfer_of, note_of}
+use Rattle.lock_core.specs.Transfers.{transfer_of, note_of}
 use Rattle.log_table.specs.Closing.{records_of}
 use Rattle.log_table.specs.Seats.{view_of}
 use Rattle.log_table.proofs.Nexting.{note-next}

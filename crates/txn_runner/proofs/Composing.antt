@@ -5,10 +5,9 @@ use Rattle.std.specs.List.Sorted.{IsStrictlyIncreasing}
 use Rattle.std.proofs.lemmas.List.Elements.{All-from_recursion, recursion_from_All}
 use Rattle.log_record.specs.declared.rec.Rec.{Rec}
 use Rattle.log_record.specs.LogList.{size_of}
-use Rattle.lock_core.specs.Alone.{planned_records}
+use Rattle.lock_core.specs.Alone.{planned_records, IsAllowedLeg}
 use Rattle.lock_core.specs.Transactions.{recs_of, in_order, has_commit}
-use Rattle.txn_script.specs.declared.job.Job.{Job}
-use Rattle.txn_script.specs.Script.{IsAllowedLeg}
+use Rattle.lock_core.specs.declared.job.Job.{Job}
 use Rattle.early_locks.specs.declared.taking.Taken.{Taken}
 use Rattle.early_locks.specs.Locks.{HoldsTaken}
 use Rattle.early_locks.specs.Transfers.{held_of, given_at}
@@ -20,7 +19,7 @@ use Rattle.log_table.specs.declared.view.Held.{Held}
 use Rattle.log_table.specs.declared.view.View.{View}
 use Rattle.log_table.specs.Accounts.{MayBeTaken}
 use Rattle.log_table.specs.Books.{balance_taken, mark_taken}
-use Rattle.txn_script.specs.Transfers.{transfer_of}
+use Rattle.lock_core.specs.Transfers.{transfer_of}
 use Rattle.log_table.specs.Closing.{records_of}
 use Rattle.log_table.specs.Seats.{Becomes, view_of}
 use Rattle.log_table.specs.AccountViews.{took_job}

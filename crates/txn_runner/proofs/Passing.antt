@@ -9,12 +9,11 @@ use Rattle.log_record.specs.declared.rec.Rec.TheVariants.{Update, Commit}
 use Rattle.log_record.specs.Spelling.{IsLeg}
 use Rattle.log_record.specs.declared.limits.TheConstants.{MOST_BALANCE}
 use Rattle.lock_core.specs.declared.update.Change.{Change}
-use Rattle.lock_core.specs.Alone.{outcome_from, outcome_alone, after_leg, planned_from, lacks, overfills}
+use Rattle.lock_core.specs.Alone.{outcome_from, outcome_alone, after_leg, planned_from, lacks, overfills, IsAllowedLeg}
 use Rattle.lock_core.specs.Records.{gain, loss}
 use Rattle.lock_core.specs.Sums.{moved}
 use Rattle.lock_core.specs.Transactions.{recs_of, changes_in, has_commit, touches, in_order}
-use Rattle.txn_script.specs.declared.job.Job.{Job}
-use Rattle.txn_script.specs.Script.{IsAllowedLeg}
+use Rattle.lock_core.specs.declared.job.Job.{Job}
 use Rattle.early_locks.specs.declared.taking.Taken.{Taken}
 use Rattle.early_locks.specs.Locks.{HoldsTaken}
 use Rattle.log_table.specs.declared.view.Books.{Books}
@@ -22,7 +21,7 @@ use Rattle.log_table.specs.declared.view.Entry.{Entry}
 use Rattle.log_table.specs.declared.view.Held.{Held}
 use Rattle.log_table.specs.declared.view.TakenJob.{TakenJob}
 use Rattle.log_table.specs.Books.{times_held, balance_taken, mark_taken, HoldsLeg, HoldsAccounts}
-use Rattle.txn_script.specs.Transfers.{transfer_of}
+use Rattle.lock_core.specs.Transfers.{transfer_of}
 use Rattle.log_table.specs.Closing.{records_of}
 use Rattle.log_table.proofs.Planning.{leg-sums}
 use Rattle.txn_runner.specs.declared.holding.Holding.{Holding}

@@ -4,7 +4,7 @@ use Rattle.std.proofs.Math.Nat.{mul-le-mul_left}
 use Rattle.std.proofs.lemmas.List.Elements.{All-get_or}
 use Rattle.std.specs.List.{AllByRecursion}
 use borrow.Author.Count.{below_more}
-use Rattle.txn_script.specs.Script.{IsAllowedJob}
+use Rattle.lock_core.specs.Transfers.{IsAllowedJob}
 use Rattle.log_table.specs.declared.view.TakenJob.{TakenJob}
 use Rattle.log_table.specs.Accounts.{MayBeTaken}
 use Rattle.txn_runner.specs.declared.jobs.Jobs.{Jobs}

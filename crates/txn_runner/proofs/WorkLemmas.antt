@@ -7,13 +7,13 @@ use Rattle.lsn_space.proofs.TilingLemmas.{all-weaker}
 use Rattle.log_record.specs.declared.rec.Rec.{Rec}
 use Rattle.lock_core.specs.Records.{txn_of, ends}
 use Rattle.lock_core.proofs.ListLemmas.{all-append, all-split}
-use Rattle.txn_script.specs.declared.job.Job.{Job}
-use Rattle.txn_script.specs.Script.{IsAllowedJob}
+use Rattle.lock_core.specs.declared.job.Job.{Job}
+use Rattle.lock_core.specs.Transfers.{IsAllowedJob}
 use Rattle.log_table.specs.declared.view.Entry.{Entry}
 use Rattle.log_table.specs.declared.view.TakenJob.{TakenJob}
 use Rattle.log_table.specs.declared.view.View.{View}
 use Rattle.log_table.specs.Accounts.{MayBeTaken}
-use Rattle.txn_script.specs.Transfers.{transfer_of}
+use Rattle.lock_core.specs.Transfers.{transfer_of}
 use Rattle.log_table.specs.Closing.{records_of}
 use Rattle.log_table.specs.May.{MayTakeJob}
 use Rattle.ring_buffer.specs.Calls.{IsReady}

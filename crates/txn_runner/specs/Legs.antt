@@ -5,19 +5,18 @@ use Rattle.log_record.specs.declared.rec.Rec.TheVariants.{Update}
 use Rattle.log_record.specs.Spelling.{IsTxn, IsSpellable}
 use Rattle.log_record.specs.declared.limits.TheConstants.{MOST_BALANCE}
 use Rattle.lock_core.specs.declared.update.Change.{Change}
-use Rattle.lock_core.specs.Alone.{outcome_from, outcome_alone, after_leg, planned_from, end_record}
+use Rattle.lock_core.specs.Alone.{outcome_from, outcome_alone, after_leg, planned_from, end_record, IsAllowedLeg}
 use Rattle.lock_core.specs.Records.{gain, loss}
 use Rattle.lock_core.specs.Sums.{moved}
 use Rattle.lock_core.specs.Transactions.{recs_of, changes_in, has_commit, touches}
-use Rattle.txn_script.specs.declared.job.Job.{Job}
-use Rattle.txn_script.specs.Script.{IsAllowedLeg}
+use Rattle.lock_core.specs.declared.job.Job.{Job}
 use Rattle.early_locks.specs.Locks.{HoldsTaken}
 use Rattle.log_table.specs.declared.table.Seat.{Seat}
 use Rattle.log_table.specs.declared.view.Books.{Books}
 use Rattle.log_table.specs.declared.view.Entry.{Entry}
 use Rattle.log_table.specs.Accounts.{MayBeTaken}
 use Rattle.log_table.specs.Books.{balance_taken, mark_taken, HoldsAccounts}
-use Rattle.txn_script.specs.Transfers.{transfer_of}
+use Rattle.lock_core.specs.Transfers.{transfer_of}
 use Rattle.log_table.specs.Closing.{records_of}
 use Rattle.txn_runner.specs.declared.holding.Holding.{Holding}
 use Rattle.txn_runner.specs.declared.rows.Answer.{Answer}

@@ -4,11 +4,11 @@ use Rattle.lsn_space.specs.declared.lsn.TheConstants.{LAST}
 use Rattle.log_record.specs.declared.rec.Rec.{Rec}
 use Rattle.log_record.specs.LogList.{size_of}
 use Rattle.lock_core.specs.Alone.{Outcome, Done, ShortAt, OverAt, outcome_alone, end_record, planned_records}
-use Rattle.txn_script.specs.declared.job.Job.{Job}
+use Rattle.lock_core.specs.declared.job.Job.{Job}
 use Rattle.log_table.specs.declared.view.Entry.{Entry}
 use Rattle.log_table.specs.declared.view.Given.{Given}
 use Rattle.log_table.specs.declared.view.View.{View}
-use Rattle.txn_script.specs.Transfers.{transfer_of}
+use Rattle.lock_core.specs.Transfers.{transfer_of}
 use Rattle.log_table.specs.Closing.{records_of}
 use Rattle.txn_runner.specs.declared.cause.Cause.{Cause}
 use Rattle.txn_runner.specs.declared.cause.Cause.TheVariants.{Stop, LogEnd}

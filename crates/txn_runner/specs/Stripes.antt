@@ -1,6 +1,6 @@
 -- Stripes: of n workers, worker w has the transfers at the places w, w + n, w + 2 n and so on of the script.
 use Rattle.std.specs.Prelude.{◌≡◌, ℕ, zero, suc, ◌+◌, ◌*◌, ◌<◌, ◌≤◌, None, List, [], ◌∷◌, length, get_or}
-use Rattle.txn_script.specs.declared.job.Job.{Job}
+use Rattle.lock_core.specs.declared.job.Job.{Job}
 use Rattle.log_table.specs.declared.view.TakenJob.{TakenJob}
 use Rattle.txn_runner.specs.declared.jobs.Jobs.{Jobs}
 

@@ -7,7 +7,7 @@ ghost use Rattle.txn_runner.specs.Accounts.{HasAccountsOf, IsAccountOf, AddsAcco
 
 use arrayvec::ArrayVec;
 use log_record::MOST_LEGS;
-use txn_script::Job;
+use lock_core::Job;
 
 /// The most accounts of a transfer: two for each leg.
 pub(crate) const MOST_PARTIES: usize = 2 * MOST_LEGS as usize;
@@ -61,7 +61,7 @@ fn add(accounts: &mut ArrayVec<u32, MOST_PARTIES>, account: u32)
 #[cfg(test)]
 mod tests {
     use super::*;
-    use txn_script::Legs;
+    use lock_core::Legs;
 
     #[test]
     fn each_account_stands_once_and_in_order(rt: HostRuntime) {

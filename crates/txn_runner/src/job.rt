@@ -1,6 +1,6 @@
 //! One transfer, from its first account to its last.
 ghost use Rattle.std.specs.Prelude.{◌≡◌, [], IfOk, IfErr};
-ghost use Rattle.txn_script.specs.Script.{IsAllowedJob};
+ghost use Rattle.lock_core.specs.Transfers.{IsAllowedJob};
 ghost use Rattle.log_table.specs.May.{MayTakeJob};
 ghost use Rattle.log_table.specs.Seats.{IsOf, view_of};
 ghost use Rattle.ring_buffer.specs.Calls.{IsReady, IsSameWorker};
@@ -18,7 +18,7 @@ use crate::waiting::see_durable;
 use log_disk::{Gate, Place};
 use log_table::{LogTable, Seat};
 use std::sync::Wait;
-use txn_script::Job;
+use lock_core::Job;
 
 /// Makes the transfer under this transaction number, and answers its row.
 pub(crate) fn run_job<R: Wait, Q: Relief, G: Gate>(

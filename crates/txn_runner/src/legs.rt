@@ -19,7 +19,7 @@ use log_record::{MOST_BALANCE, Rec};
 use log_table::{LogTable, Seat};
 use lsn_space::Lsn;
 use std::sync::Wait;
-use txn_script::Job;
+use lock_core::Job;
 
 /// Makes the legs, each on the balances as those before it left them, up to the first that can't be made. Answers how the
 /// transfer ends.

@@ -3,7 +3,7 @@ ghost use Rattle.std.specs.Prelude.{◌≡◌, ◌<◌, length, IfSome, IfNone};
 ghost use Rattle.txn_runner.specs.Stripes.{place_of, number_at, job_at, HasStripe, IsStripeEnd};
 
 use crate::jobs::Jobs;
-use txn_script::Job;
+use lock_core::Job;
 
 impl Jobs {
     /// Makes this the worker's k-th transfer, from 0, and answers its number. None: the script has no more for it.

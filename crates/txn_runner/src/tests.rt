@@ -1,6 +1,6 @@
 //! A worker alone, and two one after the other, over a table that nobody flushes.
 ghost use Rattle.std.specs.Prelude.{◌≡◌, ◌≤◌, ◌<◌, [], length, IfOk, OnOk, All};
-ghost use Rattle.txn_script.specs.Script.{IsAllowedJob};
+ghost use Rattle.lock_core.specs.Transfers.{IsAllowedJob};
 ghost use Rattle.log_table.specs.declared.view.Role.TheVariants.{Flusher, Ended};
 ghost use Rattle.log_table.specs.May.{MaySplit};
 ghost use Rattle.log_table.specs.Seats.{IsOf, view_of};

@@ -2,7 +2,7 @@
 ghost use Rattle.std.specs.Prelude.{◌≡◌, [], map, All, IfOk, IfErr, OnOk, OnErr};
 ghost use Rattle.log_record.specs.Spelling.{IsTxn, IsNoteText};
 ghost use Rattle.lock_core.specs.Alone.{with_note};
-ghost use Rattle.txn_script.specs.Transfers.{note_of};
+ghost use Rattle.lock_core.specs.Transfers.{note_of};
 ghost use Rattle.log_table.specs.Seats.{IsOf, view_of};
 ghost use Rattle.ring_buffer.specs.Calls.{IsReady};
 ghost use Rattle.txn_runner.specs.Holdings.{taken_of, IsUnchanged};
@@ -24,7 +24,7 @@ use log_record::{Rec, Text};
 use log_table::{LogTable, Seat};
 use lsn_space::Lsn;
 use std::sync::Wait;
-use txn_script::{Job, Remark};
+use lock_core::{Job, Remark};
 
 /// How a transfer ended, and where its end record does.
 #[derive(Clone, Copy, Debug)]

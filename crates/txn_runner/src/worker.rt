@@ -1,6 +1,6 @@
 //! A worker: the transfers of its stripe, one after another.
 ghost use Rattle.std.specs.Prelude.{◌≡◌, ◌<◌, ◌≤◌, ◌+◌, [], All};
-ghost use Rattle.txn_script.specs.Script.{IsAllowedJob};
+ghost use Rattle.lock_core.specs.Transfers.{IsAllowedJob};
 ghost use Rattle.log_table.specs.Seats.{IsOf, view_of};
 ghost use Rattle.ring_buffer.specs.Calls.{IsReady, IsSameWorker};
 ghost use Rattle.txn_runner.specs.Holdings.{KeepsGiven};
@@ -14,7 +14,7 @@ use crate::rows::Rows;
 use log_disk::Gate;
 use log_table::{LogTable, Seat};
 use std::sync::Wait;
-use txn_script::Job;
+use lock_core::Job;
 
 /// Makes the transfers of the worker's stripe, as many as are left, and for each that ended there is a row, but for the
 /// last one where the worker waits and the log stops before it saw that end durable. It waits: for accounts that others hold,

@@ -1,11 +1,8 @@
--- A line is one transfer at most; and what a job says of its transfer.
-use Rattle.std.proofs.Common.{◌≡◌, ◌<◌, ◌^◌, ap, refl, ℕ, List, [], length, drop, arith, Option, Some, None, inl, inr}
-use Rattle.std.specs.Prelude.{◌⊎◌, IfSome}
-use Rattle.log_record.specs.Spelling.{IsNoteText}
-use Rattle.txn_script.specs.declared.job.Job.{Job}
+-- A line is one transfer at most.
+use Rattle.std.proofs.Common.{◌≡◌, ◌<◌, ◌^◌, ap, refl, ℕ, List, [], length, drop, arith, Option, Some, None}
+use Rattle.lock_core.specs.declared.job.Job.{Job}
 use Rattle.txn_script.specs.Reading.{EndsLegs}
 use Rattle.txn_script.specs.Script.{note_text, job_text, IsAllowedJob}
-use Rattle.txn_script.specs.Transfers.{note_of}
 use Rattle.txn_script.proofs.NumberLemmas.{space-ends}
 use Rattle.txn_script.proofs.LegLemmas.{legs-whole}
 
@@ -26,8 +23,3 @@ job-same accounts few j k allowed_j allowed_k same =
     (note-ends j.note) (note-ends k.note) (ap (drop 3) same) in
     let note = note-same j.note k.note parts.1 in
     λ i. record { legs = parts.0 i; note = note i }
-
--- the note of a job is one that its transfer may have
-pub note-allowed : (note : Option (List ℕ)) → IfSome note IsNoteText → (note_of note ≡ []) ⊎ IsNoteText (note_of note)
-note-allowed None allowed = inl refl
-note-allowed (Some text) allowed = inr allowed

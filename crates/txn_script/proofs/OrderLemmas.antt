@@ -12,7 +12,7 @@ use Rattle.lock_core.specs.AnyOrder.{given, taken, legs_of, HasRoomFor, IsDoneIn
 use Rattle.lock_core.proofs.Conserving.{sum_below-none, sum_below-at, sum_below-add, sum_below-same}
 use Rattle.lock_core.proofs.Weighing.{weight_of-append}
 use Rattle.lock_core.proofs.Doing.{serial-done, balance-done, end-done, end_of-weight}
-use Rattle.txn_script.specs.Transfers.{transfer_of}
+use Rattle.lock_core.specs.Transfers.{transfer_of}
 use Rattle.txn_script.specs.Generator.{number_after, leg_from, job_from, generated_transfers, generated_legs, generated_balance, OpensGenerated}
 
 legs_of-generated : (n seed : ℕ) → legs_of (generated_transfers n seed) ≡ generated_legs n seed

@@ -4,7 +4,7 @@ use Rattle.std.specs.List.{AllByRecursion}
 use Rattle.std.proofs.lemmas.List.{map-append, get_or_append_left}
 use Rattle.std.proofs.Math.Seq.{get_or-append_seam}
 use Rattle.std.proofs.lemmas.List.Elements.{All-weaker, recursion_from_All}
-use Rattle.txn_script.specs.declared.job.Job.{Job}
+use Rattle.lock_core.specs.declared.job.Job.{Job}
 use Rattle.txn_script.specs.declared.stored.Stored.{Stored}
 use Rattle.txn_script.specs.declared.stored.Stored.TheVariants.{Single, Long}
 use Rattle.txn_script.specs.Storing.{job_stored, IsStored}

@@ -3,9 +3,9 @@ use Rattle.std.specs.Prelude.{◌≡◌, ℕ, zero, suc, ◌+◌, ◌-◌, ◌*�
 use Rattle.lock_core.specs.Alone.{PlainTransfer}
 use Rattle.lock_core.specs.AnyOrder.{given, taken}
 use Rattle.lock_core.specs.Sums.{BaseState}
-use Rattle.txn_script.specs.Transfers.{transfer_of}
+use Rattle.lock_core.specs.Transfers.{transfer_of}
 use Rattle.txn_script.specs.declared.generator.TheConstants.{GENERATED_ACCOUNTS, GENERATED_BALANCE}
-use Rattle.txn_script.specs.declared.job.Job.{Job}
+use Rattle.lock_core.specs.declared.job.Job.{Job}
 
 -- the number that follows this one
 abbrev pub number_after : ℕ → ℕ

@@ -4,4 +4,3 @@ pub mod Lines
 pub mod Reading
 pub mod Script
 pub mod Storing
-pub mod Transfers

@@ -1,11 +1,11 @@
 -- The script language: each line is empty or a transfer.
-use Rattle.std.specs.Prelude.{◌≡◌, ◌==◌, ℕ, ◌+◌, Option, Some, None, IfSome, List, [], ◌∷◌, ◌++◌, ◌⊎◌, codes, length, map, filter, not, All}
+use Rattle.std.specs.Prelude.{◌≡◌, ◌==◌, ℕ, ◌+◌, Option, Some, None, List, [], ◌∷◌, ◌++◌, ◌⊎◌, codes, length, map, filter, not, All}
 use Rattle.std.specs.List.{flat_map}
 use Rattle.lsn_space.specs.Number.{number_text}
-use Rattle.log_record.specs.Spelling.{IsNoteText}
 pub use Rattle.lock_core.specs.Alone.{IsAllowedLeg, AreAllowedLegs}
+pub use Rattle.lock_core.specs.Transfers.{IsAllowedJob}
 use Rattle.txn_script.specs.Lines.{lines}
-use Rattle.txn_script.specs.declared.job.Job.{Job}
+use Rattle.lock_core.specs.declared.job.Job.{Job}
 use Rattle.txn_script.specs.declared.pay.TheConstants.{SPACE}
 use Rattle.txn_script.specs.declared.fault.ParseFault.{ParseFault}
 use Rattle.txn_script.specs.declared.fault.ParseFault.TheVariants.{Line, NoMemory}
@@ -29,11 +29,6 @@ note_text (Some text) = codes " : " ++ text
 -- the line of a transfer
 abbrev pub job_text : Job → List ℕ
 job_text job = codes "pay" ++ legs_text job.legs ++ note_text job.note
-
--- a job that a log of so many accounts allows; so is then the transfer that it is (`allowed_jobs`)
-pub record IsAllowedJob (accounts : ℕ) (job : Job) : Type 0 where
-  pub legs : AreAllowedLegs accounts job.legs
-  pub note : IfSome job.note IsNoteText
 
 -- the lines that aren't empty
 abbrev pub filled : List (List ℕ) → List (List ℕ)

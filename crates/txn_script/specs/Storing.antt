@@ -1,6 +1,6 @@
 -- How a script keeps its transfers.
 use Rattle.std.specs.Prelude.{◌<◌, List, [], ◌∷◌, None, length, get_or, ⊤}
-use Rattle.txn_script.specs.declared.job.Job.{Job}
+use Rattle.lock_core.specs.declared.job.Job.{Job}
 use Rattle.txn_script.specs.declared.stored.Stored.{Stored}
 use Rattle.txn_script.specs.declared.stored.Stored.TheVariants.{Single, Long}
 

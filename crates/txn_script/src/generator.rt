@@ -13,8 +13,8 @@ ghost use Rattle.lock_core.specs.Sums.{BaseState, balance_of, sum_below};
 ghost use Rattle.txn_script.specs.Generator.{number_after, job_from, generated_balance, generated_jobs, generated_transfers, OpensGenerated};
 ghost use Rattle.txn_script.specs.Script.{IsAllowedJob};
 
-use crate::job::Job;
 use crate::script::Script;
+use lock_core::Job;
 use lsn_space::NoMemory;
 use std::alloc::Global;
 

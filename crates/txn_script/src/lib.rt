@@ -5,7 +5,6 @@ mod fault;
 mod generator;
 #[cfg(test)]
 mod generator_tests;
-mod job;
 mod laws;
 mod lines;
 mod opening;
@@ -19,8 +18,8 @@ pub use fault::ParseFault;
 pub use generator::{
     GENERATED_ACCOUNTS, GENERATED_BALANCE, generated_in_any_order, generated_jobs_laws, make,
 };
-pub use job::{Job, Legs, Remark};
-pub use laws::{allowed_jobs, format_numbers};
+pub use laws::format_numbers;
 pub use lines::written_lines;
+pub use lock_core::{Job, Legs, Remark, allowed_jobs};
 pub use opening::{balances, balances_one_reading};
 pub use script::{Script, parse, script_one_reading};

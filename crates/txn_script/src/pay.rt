@@ -4,9 +4,9 @@ ghost use Rattle.std.specs.Prelude.{◌≡◌, ◌<◌, ◌≤◌, ◌^◌, ◌�
 ghost use Rattle.log_record.specs.Spelling.{IsNoteText};
 ghost use Rattle.txn_script.specs.Reading.{IsDigit, EndsNumber, BeginsLeg, EndsLegs};
 ghost use Rattle.txn_script.specs.Script.{spaced, leg_text, legs_text, note_text, job_text, IsAllowedLeg, AreAllowedLegs, IsAllowedJob};
-ghost use Rattle.txn_script.specs.declared.job.Job.{Job};
+ghost use Rattle.lock_core.specs.declared.job.Job.{Job};
 
-use crate::job::{Job, Legs, Remark};
+use lock_core::{Job, Legs, Remark};
 use log_record::{MOST_BALANCE, MOST_LEGS};
 use lsn_space::number;
 

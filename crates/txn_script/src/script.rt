@@ -1,12 +1,12 @@
 ghost use Rattle.std.specs.Prelude.{◌≡◌, ◌<◌, ◌≤◌, ◌^◌, ◌++◌, ◌∷◌, [], ℕ, List, Some, length, slice_get, IfOk, IfErr, OnErr};
 ghost use Rattle.txn_script.specs.Script.{IsScriptText, IsFirstBadLine, IsScriptFault};
-ghost use Rattle.txn_script.specs.declared.job.Job.{Job};
+ghost use Rattle.lock_core.specs.declared.job.Job.{Job};
 
 use crate::fault::ParseFault;
-use crate::job::Job;
 use crate::lines::take_line;
 use crate::pay::read_job;
 use crate::stored::Stored;
+use lock_core::Job;
 use lsn_space::NoMemory;
 use std::alloc::Global;
 use std::marker::Model;
@@ -20,7 +20,7 @@ pub struct Script {
 
 impl Model for Script {
     ghost use Rattle.std.specs.Prelude.{List, All, map};
-    ghost use Rattle.txn_script.specs.declared.job.Job.{Job};
+    ghost use Rattle.lock_core.specs.declared.job.Job.{Job};
     ghost use Rattle.txn_script.specs.Storing.{job_stored, IsStored};
 
     ghost Value = { List Job };

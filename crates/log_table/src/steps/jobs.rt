@@ -10,7 +10,7 @@ use crate::layout::STOP;
 use crate::plays::{TakeJob, Task};
 use crate::table::{LogTable, Seat};
 use std::marker::Brand;
-use txn_script::Job;
+use lock_core::Job;
 
 /// The job and its number, which a step can't see, come by the type.
 fn take_job_as<N: Task>(table: &LogTable, seat: &mut Seat, number: u32, job: &Job) -> u64

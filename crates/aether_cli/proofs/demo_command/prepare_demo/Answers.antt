@@ -1,7 +1,7 @@
 use Rattle.std.proofs.Common.{◌∙◌, ap, subst, sym, length, All, arith}
 use Rattle.log_record.specs.LogList.{units_of}
 use Rattle.log_table.specs.declared.table.Start.{Start}
-use Rattle.txn_script.specs.Script.{IsAllowedJob}
+use Rattle.lock_core.specs.Transfers.{IsAllowedJob}
 use Rattle.txn_script.proofs.GeneratorLemmas.{generated-allowed, length-generated}
 use Rattle.aether_cli.proofs.DemoLemmas.{accounts-generated, each-generated, few-generated, list-generated}
 use Rattle.aether_cli.proofs.demo_command.prepare_demo.Goals as goal

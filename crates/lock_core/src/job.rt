@@ -1,4 +1,5 @@
-ghost use Rattle.std.specs.Prelude.{◌≡◌, ◌<◌, ◌≤◌, ◌++◌, ◌∷◌, [], length, All, IsTrue, ◌↔◌, None, IfSome, IfNone};
+//! A job: a transfer as a user asks for it.
+ghost use Rattle.std.specs.Prelude.{◌≡◌, ◌<◌, ◌≤◌, ◌++◌, ◌∷◌, [], length, ℕ, All, IsTrue, ◌↔◌, None, IfSome, IfNone};
 ghost use Rattle.log_record.specs.declared.limits.TheConstants.{MOST_LEGS};
 ghost use Rattle.log_record.specs.Spelling.{IsNoteText, IsPrintable};
 
@@ -38,7 +39,7 @@ impl Legs {
     }
 
     /// Takes all legs away.
-    pub(crate) fn clear(&mut self)
+    fn clear(&mut self)
         ensures { self.new ≡ [] }
     {
         self.legs.clear();
@@ -128,7 +129,7 @@ impl Job {
     }
 
     /// The same transfer once more.
-    pub(crate) fn copy(&self) -> Job
+    pub fn copy(&self) -> Job
         ensures { result ≡ self.now }
     {
         let note = match &self.note {
@@ -139,6 +140,37 @@ impl Job {
             legs: self.legs.copy(),
             note,
         }
+    }
+
+    /// The leg of a transfer that has no other, and no note.
+    pub fn single(&self) -> Option<(u32, u32, u32)>
+        ensures some { IfSome result (λ leg. self.now ≡ record { legs = leg ∷ []; note = None }) }
+        ensures none { IfNone result ((leg : ℕ × ℕ × ℕ) → self.now ≡ record { legs = leg ∷ []; note = None } → ⊥) }
+    {
+        match (self.legs.as_slice(), &self.note) {
+            ([leg], None) => Some(*leg),
+            _ => None,
+        }
+    }
+
+    /// Makes this the transfer of one leg and no note. What it has of that already isn't written again.
+    pub fn become_single(&mut self, leg: (u32, u32, u32))
+        ensures { self.new ≡ record { legs = leg ∷ []; note = None } }
+    {
+        self.legs.clear();
+        self.legs.push(leg);
+        if self.note.is_some() {
+            self.note = None;
+        }
+    }
+
+    /// The transfer of one leg and no note.
+    pub fn of_leg(leg: (u32, u32, u32)) -> Job
+        ensures { result ≡ record { legs = leg ∷ []; note = None } }
+    {
+        let mut job = Job::new();
+        job.legs.push(leg);
+        job
     }
 }
 
