@@ -11,7 +11,7 @@ use crate::filling::fill;
 use crate::placing::{look, try_place};
 use crate::refused::Refused;
 use crate::releasing::finish_in_turn;
-use log_disk::{Gate, Place};
+use schedule_hook::{Gate, Place};
 use log_record::Units;
 use log_table::{LogTable, Seat};
 use lsn_space::Lsn;

@@ -9,7 +9,7 @@ ghost use Rattle.txn_runner.specs.Inserts.{Puts, StopsFor, IsLogEnd};
 use crate::cause::Cause;
 use crate::relief::Relief;
 use crate::waiting::pause;
-use log_disk::Gate;
+use schedule_hook::Gate;
 use log_record::{Rec, Units, spell_into};
 use log_table::{LogTable, Seat};
 use lsn_space::Lsn;

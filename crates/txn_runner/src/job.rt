@@ -15,7 +15,7 @@ use crate::rows::Row;
 use crate::taking::take_all;
 use crate::transfer::insert_transfer;
 use crate::waiting::see_durable;
-use log_disk::{Gate, Place};
+use schedule_hook::{Gate, Place};
 use log_table::{LogTable, Seat};
 use std::sync::Wait;
 use lock_core::Job;

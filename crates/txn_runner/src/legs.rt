@@ -14,7 +14,7 @@ use crate::holding::Holding;
 use crate::inserting::insert_record;
 use crate::relief::Relief;
 use crate::rows::Answer;
-use log_disk::Gate;
+use schedule_hook::Gate;
 use log_record::{MOST_BALANCE, Rec};
 use log_table::{LogTable, Seat};
 use lsn_space::Lsn;

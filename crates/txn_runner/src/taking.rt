@@ -19,7 +19,7 @@ use crate::relief::Relief;
 use crate::waiting::pause;
 use arrayvec::ArrayVec;
 use early_locks::{Taken, try_take};
-use log_disk::{Gate, Place};
+use schedule_hook::{Gate, Place};
 use log_table::{LogTable, Seat};
 use std::sync::Wait;
 

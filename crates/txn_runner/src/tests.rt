@@ -7,7 +7,7 @@ ghost use Rattle.log_table.specs.Seats.{IsOf, view_of};
 ghost use Rattle.log_table.specs.CrewViews.{hires};
 
 use crate::{Answer, Cause, Jobs, Relief, Row, Rows, Worked, YieldRelief, work};
-use log_disk::OpenGate;
+use schedule_hook::OpenGate;
 use log_record::MOST_BALANCE;
 use log_table::{LogTable, Seat, Start};
 use lsn_space::{Balances, LAST, Lsn, NoMemory};

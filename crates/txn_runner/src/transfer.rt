@@ -19,7 +19,7 @@ use crate::legs::make_legs;
 use crate::relief::Relief;
 use crate::rows::Answer;
 use arrayvec::ArrayVec;
-use log_disk::Gate;
+use schedule_hook::Gate;
 use log_record::{Rec, Text};
 use log_table::{LogTable, Seat};
 use lsn_space::Lsn;

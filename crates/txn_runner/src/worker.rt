@@ -11,7 +11,7 @@ use crate::job::run_job;
 use crate::jobs::Jobs;
 use crate::relief::Relief;
 use crate::rows::Rows;
-use log_disk::Gate;
+use schedule_hook::Gate;
 use log_table::{LogTable, Seat};
 use std::sync::Wait;
 use lock_core::Job;

@@ -1,6 +1,3 @@
-//! The schedule hook: a worker tells it where it stands. It answers nothing and changes nothing, so
-//! nothing can depend on it. Tests use it to hold one thread until another has come by.
-
 /// Where a worker has come to.
 #[derive(Clone, Copy, Debug, PartialEq, Eq)]
 pub enum Place {
