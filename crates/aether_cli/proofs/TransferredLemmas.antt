@@ -33,7 +33,8 @@ use Rattle.aether_cli.specs.Gathering.{HasLeft, share_of, takes_all, view_in, wo
 use Rattle.aether_cli.specs.Prepared.{HasTurned}
 use Rattle.aether_cli.specs.Shares.{Share, HasGathered}
 use Rattle.aether_cli.specs.Transferred.{HasTransferred, IsFresh, IsOpened}
-use Rattle.aether_cli.specs.Workers.{AreDone, HasServed, IsDone, IsDoneAs, KnowsHired, Numbered, hired_numbers}
+use Rattle.log_table.specs.Hiring.{KnowsHired, hired_numbers}
+use Rattle.aether_cli.specs.Workers.{AreDone, HasServed, IsDone, IsDoneAs, Numbered}
 use Rattle.aether_cli.proofs.GatheredShares.{HasGathered-all, served}
 
 -- a worker that is done has left

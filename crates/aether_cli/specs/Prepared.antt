@@ -6,6 +6,7 @@ use Rattle.segment_file.specs.declared.scan_result.Tail.{Tail}
 use Rattle.lock_core.specs.Transfers.{IsAllowedJob}
 use Rattle.log_table.specs.declared.table.LogTable.{LogTable}
 use Rattle.log_table.specs.declared.table.Seat.{Seat}
+use Rattle.log_table.specs.Hiring.{HasHired}
 use Rattle.log_table.specs.Seats.{view_of}
 use Rattle.log_table.specs.Sends.{IsDrained}
 use Rattle.commit_pipeline.specs.declared.daemon.Daemon.{Daemon}
@@ -16,7 +17,7 @@ use Rattle.aether_cli.specs.declared.transfers.Crew.{Crew}
 use Rattle.aether_cli.specs.declared.room.Room.{Room}
 use Rattle.aether_cli.specs.declared.transfers.Prepared.{Prepared}
 use Rattle.aether_cli.specs.declared.transfers.Served.{Served}
-use Rattle.aether_cli.specs.Workers.{AreDone, AreUnused, HasHired}
+use Rattle.aether_cli.specs.Workers.{AreDone, AreUnused}
 
 -- there is room for so many workers
 pub record HasRoomFor (workers : ℕ) (room : Room) : Type 0 where

@@ -3,6 +3,7 @@ ghost use Rattle.std.specs.Prelude.{◌≡◌, ◌≤◌, ◌<◌, ◌+◌, ◌*
 ghost use Rattle.lsn_space.specs.declared.lsn.TheConstants.{LEAST_RING, GREATEST_RING};
 ghost use Rattle.log_record.specs.declared.limits.TheConstants.{LAST_TXN};
 ghost use Rattle.log_record.specs.declared.rec.Rec.{Rec};
+ghost use Rattle.log_table.specs.Hiring.{HasHired};
 ghost use Rattle.log_table.specs.Opening.{HasAccounts};
 ghost use Rattle.log_table.specs.Seats.{key_of};
 ghost use Rattle.segment_file.specs.Standing.{IsShut};
@@ -10,7 +11,6 @@ ghost use Rattle.lock_core.specs.Transfers.{IsAllowedJob};
 ghost use Rattle.aether_cli.specs.Ending.{HasEnded};
 ghost use Rattle.aether_cli.specs.Prepared.{IsCrew, IsPrepared, IsServed, HasTurned};
 ghost use Rattle.aether_cli.specs.Transferred.{IsOpened};
-ghost use Rattle.aether_cli.specs.Workers.{HasHired};
 ghost use Rattle.commit_pipeline.specs.Turning.{MayTurn};
 
 use crate::flushing_relief::FlushingRelief;

@@ -1,8 +1,9 @@
 //! Workers of a run, and how each is made.
 ghost use Rattle.std.specs.Prelude.{◌≡◌, ◌+◌, ◌<◌, ◌≤◌, [], ℕ, IfOk, OnOk, vec_len};
+ghost use Rattle.log_table.specs.Hiring.{HasHired};
 ghost use Rattle.txn_runner.specs.Stripes.{HasStripe};
 ghost use Rattle.txn_runner.specs.Working.{HasRoomForRows, rows_in, taken_in};
-ghost use Rattle.aether_cli.specs.Workers.{AreUnused, HasHired, IsUnused};
+ghost use Rattle.aether_cli.specs.Workers.{AreUnused, IsUnused};
 
 use crate::room::room_for;
 use log_table::{LogTable, Seat};
@@ -35,12 +36,8 @@ pub(crate) fn hire(
     ensures number { result.seat.worker ≡ number }
     ensures unused { IsUnused table.now jobs.now result }
 {
-    let mut seat = table.split(boss, number);
-    table.enroll(&mut seat);
-    let note = table.note(&mut seat);
-    table.merge(boss, note);
     Worker {
-        seat,
+        seat: table.hire(boss, number),
         rows,
         worked: None,
     }

@@ -13,6 +13,7 @@ mod Gathered
 mod Gathering
 mod Giving
 mod Growing
+pub mod Hired
 mod Keeping
 mod Lifting
 mod Lists

@@ -3,6 +3,7 @@
 #![tactic(auto)]
 
 mod closing;
+mod hiring;
 mod layout;
 mod plays;
 mod seating;

@@ -1,5 +1,6 @@
 use Rattle.std.proofs.Common.{◌≡◌, vec_len, vec_capacity}
-use Rattle.aether_cli.specs.Workers.{AreUnused, HasHired}
+use Rattle.log_table.specs.Hiring.{HasHired}
+use Rattle.aether_cli.specs.Workers.{AreUnused}
 use Rattle.aether_cli.proofs.workers.hire_all.Given as goal
 
 abbrev pub invariant-loop-number : goal.invariant-loop-number
