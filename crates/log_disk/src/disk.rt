@@ -88,27 +88,3 @@ pub trait LogDisk {
     /// Since this moment there are no others than those of now.
     ghost only_now: { (disk : Self) (c : List ℕ) → images_since disk (moment disk) c → images disk c };
 }
-
-#[cfg(test)]
-mod tests {
-    use super::*;
-    use crate::{FileDisk, MemoryDisk};
-    use std::test::Fail;
-
-    fn store<D: LogDisk>(disk: &mut D, bytes: &[u8]) -> Result<u64, Failed> {
-        disk.write_at(0, bytes)?;
-        disk.sync()?;
-        disk.len()
-    }
-
-    #[test]
-    fn is_met_by_both_disks(rt: HostRuntime) -> Result<(), Fail> {
-        let Ok(mut memory) = MemoryDisk::make(rt.alloc(), b"", 64, &[]) else {
-            return Err(Fail::new("no memory"));
-        };
-        assert_eq!(rt; store(&mut memory, b"abc"), Ok(3));
-        let mut no_file = FileDisk::make(rt);
-        assert_eq!(rt; store(&mut no_file, b"abc"), Err(Failed));
-        Ok(())
-    }
-}

@@ -19,7 +19,7 @@ mod step;
 
 pub use disk::LogDisk;
 pub use fault::Failed;
-pub use file_disk::FileDisk;
+pub use file_disk::{FileDisk, folder_of};
 pub use memory_disk::{MemoryDisk, RECORD};
 pub use memory_sink::MemorySink;
 pub use memory_source::MemorySource;

@@ -284,29 +284,3 @@ impl LogDisk for MemoryDisk {
         Ok(())
     }
 }
-
-#[cfg(test)]
-mod tests {
-    use super::*;
-    use std::test::Fail;
-
-    #[test]
-    fn a_call_fails_where_told_or_without_room(rt: HostRuntime) -> Result<(), Fail> {
-        let cases: [(usize, &[u64], bool, bool, &[u8]); 5] = [
-            (35, &[], true, true, b"abc"),
-            (34, &[], true, false, b"abc"),
-            (18, &[], false, true, b""),
-            (35, &[1], false, true, b"ab"),
-            (35, &[2], true, false, b"abc"),
-        ];
-        for (room, failing, writes, syncs, held) in cases {
-            let Ok(mut disk) = MemoryDisk::make(rt.alloc(), b"", room, failing) else {
-                return Err(Fail::new("no memory"));
-            };
-            assert_eq!(rt; disk.write_at(0, b"abc").is_ok(), writes, "room {room}");
-            assert_eq!(rt; disk.sync().is_ok(), syncs, "room {room}");
-            assert_eq!(rt; disk.bytes(), held, "room {room}");
-        }
-        Ok(())
-    }
-}

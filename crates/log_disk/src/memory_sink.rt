@@ -94,32 +94,3 @@ impl Sink for MemorySink {
         Ok(count)
     }
 }
-
-#[cfg(test)]
-mod tests {
-    use super::*;
-    use crate::{WriteFault, put_all};
-    use std::test::Fail;
-
-    #[test]
-    fn holds_what_was_put_in(rt: HostRuntime) -> Result<(), Fail> {
-        let cases: [(usize, &[u64], Result<(), WriteFault>, &[u8]); 4] = [
-            (9, &[], Ok(()), b"lsn 4\n0 1"),
-            (8, &[], Err(WriteFault), b"lsn 4\n0 "),
-            (9, &[1], Err(WriteFault), b""),
-            (9, &[2], Err(WriteFault), b"lsn 4\n"),
-        ];
-        for (room, failing, want, held) in cases {
-            let Ok(mut sink) = MemorySink::make(rt.alloc(), room, failing) else {
-                return Err(Fail::new("no memory"));
-            };
-            let mut got = put_all(&mut sink, b"lsn 4\n");
-            if got.is_ok() {
-                got = put_all(&mut sink, b"0 1");
-            }
-            assert_eq!(rt; got, want, "room {room}");
-            assert_eq!(rt; sink.bytes(), held, "room {room}");
-        }
-        Ok(())
-    }
-}

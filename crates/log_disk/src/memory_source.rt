@@ -120,33 +120,3 @@ fn give(buf: &mut [u8], bytes: &[u8], at: usize, most: usize) -> usize
     buf[..count].copy_from_slice(rest.split_at(count).0);
     count
 }
-
-#[cfg(test)]
-mod tests {
-    use super::*;
-    use std::test::Fail;
-
-    #[test]
-    fn gives_pieces_and_fails_where_told(rt: HostRuntime) -> Result<(), Fail> {
-        let Ok(mut source) = MemorySource::make(rt.alloc(), b"abcde", 2, &[2, 5]) else {
-            return Err(Fail::new("no memory"));
-        };
-        let reads: [Option<&[u8]>; 6] = [
-            Some(b"ab"),
-            None,
-            Some(b"cd"),
-            Some(b"e"),
-            None,
-            Some(b""),
-        ];
-        for want in reads {
-            let mut buf = [0; 3];
-            let got = match source.read(&mut buf) {
-                Ok(count) => Some(&buf[..count]),
-                Err(Failed) => None,
-            };
-            assert_eq!(rt; got, want);
-        }
-        Ok(())
-    }
-}

@@ -96,29 +96,3 @@ impl<W: Write + Drop> Sink for StdSink<W> {
         }
     }
 }
-
-#[cfg(test)]
-mod tests {
-    use super::*;
-
-    #[test]
-    fn reads_from_the_system(rt: HostRuntime) {
-        let text: &[u8] = b"abc";
-        let mut source = StdSource::make(text);
-        let mut buf = [0; 2];
-        for want in [2, 1, 0] {
-            assert_eq!(rt; source.read(&mut buf), Ok(want));
-        }
-        assert_eq!(rt; source.faults(), 0);
-    }
-
-    #[test]
-    fn counts_what_the_system_refuses(rt: HostRuntime) {
-        let mut held = [0; 2];
-        let mut sink = StdSink::make(held.as_mut_slice());
-        assert_eq!(rt; sink.write(b"abc"), Ok(2));
-        assert_eq!(rt; sink.faults(), 0);
-        assert_eq!(rt; sink.write(b"c"), Err(Failed));
-        assert_eq!(rt; sink.faults(), 1);
-    }
-}

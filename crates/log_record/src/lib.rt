@@ -7,8 +7,6 @@ mod limits;
 mod note;
 mod reading;
 mod rec;
-#[cfg(test)]
-mod tests;
 mod text;
 mod units;
 mod writing;

@@ -67,23 +67,3 @@ impl Balances {
         self.rows.len() as u32
     }
 }
-
-#[cfg(test)]
-mod tests {
-    use super::*;
-    use std::test::Fail;
-
-    #[test]
-    fn keeps_what_was_put_in(rt: HostRuntime) -> Result<(), Fail> {
-        let Ok(mut balances) = Balances::make(rt.alloc(), 2) else {
-            return Err(Fail::new("no memory"));
-        };
-        balances.push(100, 0);
-        balances.push(0, 0);
-        balances.set(1, 30, 9);
-        assert_eq!(rt; balances.count(), 2);
-        assert_eq!(rt; balances.at(0), (100, 0));
-        assert_eq!(rt; balances.at(1), (30, 9));
-        Ok(())
-    }
-}

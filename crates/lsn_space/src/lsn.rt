@@ -66,24 +66,3 @@ pub fn place(lsn: Lsn, ring: u32) -> usize
 {
     (lsn.0 % ring) as usize
 }
-
-#[cfg(test)]
-mod tests {
-    use super::*;
-
-    #[test]
-    fn adds_up_to_the_last(rt: HostRuntime) {
-        let cases = [
-            (0, 5, Some(5)),
-            (4, 0, Some(4)),
-            (LAST, 0, Some(LAST)),
-            (LAST, 1, None),
-            (1, LAST, None),
-        ];
-        for (at, n, want) in cases {
-            let got = Lsn::new(at).plus(n).map(|lsn| lsn.units());
-            assert_eq!(rt; got, want, "{at} plus {n}");
-        }
-        assert_eq!(rt; place(Lsn::new(1028), 1024), 4);
-    }
-}

@@ -48,21 +48,3 @@ fn is_text_of(text: &[u8], n: u32) -> bool
 {
     decimal(n as u64).as_slice() == text
 }
-
-#[cfg(test)]
-mod tests {
-    use super::*;
-
-    #[test]
-    fn writes_digits(rt: HostRuntime) {
-        let cases: [(u64, &[u8]); 4] = [
-            (0, b"0"),
-            (10, b"10"),
-            (2147483647, b"2147483647"),
-            (u64::MAX, b"18446744073709551615"),
-        ];
-        for (n, want) in cases {
-            assert_eq!(rt; decimal(n).as_slice(), want);
-        }
-    }
-}

@@ -24,20 +24,3 @@ pub fn unit_bytes_inverse()
     ensures unit { (u : ℕ) → u < 2 ^ 64 → unit_value (unit_bytes u) ≡ u }
     ensures bytes { (bs : List ℕ) → length bs ≡ 8 → All (λ b. b < 256) bs → unit_bytes (unit_value bs) ≡ bs }
 {}
-
-#[cfg(test)]
-mod tests {
-    use super::*;
-
-    #[test]
-    fn the_highest_byte_is_first(rt: HostRuntime) {
-        let cases = [
-            (0x0102_0000_0000_0064, [1, 2, 0, 0, 0, 0, 0, 0x64]),
-            (0xffff_ffe2_0000_0000, [0xff, 0xff, 0xff, 0xe2, 0, 0, 0, 0]),
-        ];
-        for (unit, bytes) in cases {
-            assert_eq!(rt; bytes_of(unit), bytes);
-            assert_eq!(rt; unit_of(bytes), unit);
-        }
-    }
-}

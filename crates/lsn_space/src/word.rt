@@ -45,16 +45,3 @@ impl AsStr for Word {
         self.text.as_str()
     }
 }
-
-#[cfg(test)]
-mod tests {
-    use super::*;
-
-    #[test]
-    fn keeps_the_text(rt: HostRuntime) {
-        for text in ["", "recover", "--ring=1024", "ä"] {
-            let made = Word::make(rt.alloc(), text);
-            assert!(rt; matches!(&made, Ok(word) if word.text() == text), "{text}");
-        }
-    }
-}

@@ -7,8 +7,6 @@ mod hand;
 mod laws;
 mod range;
 mod run;
-#[cfg(test)]
-mod tests;
 
 pub use event::RingEvent;
 pub use laws::ring_laws;

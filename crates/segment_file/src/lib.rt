@@ -4,8 +4,6 @@
 
 mod appending;
 mod batch;
-#[cfg(test)]
-mod crash_tests;
 mod creating;
 mod first_gate;
 mod gate;
@@ -16,8 +14,6 @@ mod scan_result;
 mod scanning;
 mod settling;
 mod taking;
-#[cfg(test)]
-mod tests;
 mod units;
 
 pub use appending::append;

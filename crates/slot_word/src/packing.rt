@@ -36,24 +36,3 @@ pub fn account_word_law()
     ensures mark { (held : Bool) (balance mark : ℕ) → balance < 2 ^ 31 → mark < 2 ^ 32 → mark_in (packed held balance mark) ≡ mark }
     ensures word { (word : ℕ) → word < 2 ^ 64 → packed (held_in word) (balance_in word) (mark_in word) ≡ word }
 {}
-
-#[cfg(test)]
-mod tests {
-    use super::*;
-
-    #[test]
-    fn the_fields_stand_in_their_places(rt: HostRuntime) {
-        let most = 0x7fff_ffff;
-        let cases = [
-            (AccountWord::free(100, 9), 0x0000_0064_0000_0009),
-            (AccountWord::taken(100, 9), 0x8000_0064_0000_0009),
-            (AccountWord::free(0, 0), 0),
-            (AccountWord::free(0, u32::MAX), 0xffff_ffff),
-            (AccountWord::taken(most, u32::MAX), u64::MAX),
-        ];
-        for (account, word) in cases {
-            assert_eq!(rt; account.pack(), word);
-            assert_eq!(rt; AccountWord::unpack(word), account);
-        }
-    }
-}

@@ -1,7 +1,6 @@
 //! Texts that are read, and texts that are refused at a line.
 
 use crate::{Job, ParseFault, Script, balances, parse};
-use lsn_space::number;
 use std::test::Fail;
 
 #[test]
@@ -69,26 +68,6 @@ fn refuses_one_balance_too_many(rt: HostRuntime) {
     text[8000] = b'x';
     let fault = balances(rt.alloc(), &text).err();
     assert_eq!(rt; fault, Some(ParseFault::Line { line: 4001 }));
-}
-
-#[test]
-fn reads_numbers_in_a_range(rt: HostRuntime) {
-    let cases: [(&[u8], Option<u32>); 10] = [
-        (b"1", Some(1)),
-        (b"16", Some(16)),
-        (b"0", None),
-        (b"17", None),
-        (b"", None),
-        (b"01", None),
-        (b"+1", None),
-        (b"-1", None),
-        (b"1 ", None),
-        (b"4294967297", None),
-    ];
-    for (text, want) in cases {
-        assert_eq!(rt; number(text, 1, 16), want, "{text:?}");
-    }
-    assert_eq!(rt; number(b"4294967295", 0, u32::MAX), Some(u32::MAX));
 }
 
 /// The transfer of a script that has one alone.

@@ -1,6 +1,6 @@
 //! Records and their units, from the format's table.
 
-use crate::{BadRec, Rec, Text, read, spell};
+use log_record::{BadRec, Rec, Text, read, spell};
 use lsn_space::Lsn;
 
 #[test]

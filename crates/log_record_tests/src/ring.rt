@@ -1,5 +1,7 @@
-use crate::{RingEvent, RingRun};
+//! The ring on one schedule of events.
+
 use lsn_space::Lsn;
+use ring_core::{RingEvent, RingRun};
 use std::test::Fail;
 
 #[test]

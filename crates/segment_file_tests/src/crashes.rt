@@ -3,10 +3,10 @@
 ghost use Rattle.std.specs.Prelude.{◌≡◌, ◌≤◌, ◌+◌, ◌*◌, ◌^◌, length, IfSome};
 ghost use Rattle.segment_file.specs.Standing.{IsShut};
 
-use crate::tests::GENESIS;
-use crate::{Batch, Tail, append, create, open_image, scan, settle};
+use crate::scanning::GENESIS;
 use log_disk::{LogDisk, MemoryDisk};
 use lsn_space::Lsn;
+use segment_file::{Batch, Tail, append, create, open_image, scan, settle};
 use std::alloc::Global;
 use std::test::Fail;
 

@@ -1,7 +1,7 @@
 //! Vectors of the file format. Each file begins with the genesis log's first 44 bytes.
 
-use crate::{ScanFault, Tail, scan};
 use lsn_space::Lsn;
+use segment_file::{ScanFault, Tail, scan};
 use std::test::Fail;
 
 /// An open gate, the magic bytes, and a batch of four units: two accounts of balances 100 and 0.
