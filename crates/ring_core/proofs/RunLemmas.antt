@@ -6,9 +6,9 @@ use Rattle.std.specs.Option.{IsSomeAnd}
 use Rattle.std.proofs.lemmas.Option.{slice_get_read}
 use Rattle.lsn_space.specs.declared.lsn.TheConstants.{LAST}
 use Rattle.lsn_space.proofs.TilingLemmas.{tiling-within}
-use Rattle.ring_core.specs.declared.event.RingEvent.TheVariants.{Reserve, Fill, Turn}
+use Rattle.ring_core.specs.declared.event.RingEvent.TheVariants.{Reserve, Fill, Turn, Flushed}
 use Rattle.ring_core.specs.State.{base_of, size_of, Reservation, Idle, Works, Hand, RingState, stage_of, with_stage, in_hand}
-use Rattle.ring_core.specs.Machine.{MayReserve, HasUnfilled, IsNext, filled_at, released_at, fresh, after_reserve, after_fill, after_turn, RingStep}
+use Rattle.ring_core.specs.Machine.{MayReserve, MayFlush, HasUnfilled, IsNext, filled_at, released_at, fresh, after_reserve, after_fill, after_turn, RingStep}
 use Rattle.ring_core.specs.Laws.{IsSound}
 use Rattle.ring_core.proofs.LookupLemmas.{map-at_base, slice_get-has}
 use Rattle.ring_core.proofs.RangeLemmas.{filled_at-same, filled_at-other, released_at-same, released_at-other, worked_on-some}
@@ -69,4 +69,10 @@ pub reserve-step : (now s : RingState) (is : s ≡ now) (actor n : ℕ) → MayR
 reserve-step now s is actor n may rs hands pushed taken_up = (
   may,
   (λ i. record s { reservations = pushed i; hands = taken_up i; tail = s.tail + n }) ∙ ap (λ z. after_reserve z actor n) is,
+)
+
+pub flush-step : (now s : RingState) (is : s ≡ now) (to place : ℕ) → place ≡ to → MayFlush s place → RingStep now (Flushed to) true (record s { durable = place })
+flush-step now s is to place same may = (
+  subst (MayFlush now) same (subst (λ z. MayFlush z place) is may),
+  (λ i. record (is i) { durable = same i }),
 )

@@ -34,3 +34,6 @@ steps-preserved c =
             file_capacity = search rules;
           }
     ]
+
+pub steps-init : goal.steps-init
+steps-init c = search rules steps 1200000

@@ -1,4 +1,5 @@
-use Rattle.std.proofs.Common.{rules, sym, subst, length}
+use Rattle.std.proofs.Common.{arith, rules, sym, subst, length}
+use Rattle.std.proofs.lemmas.Grind.{common_steps}
 use Rattle.log_disk.specs.Disk.{IsTorn}
 use Rattle.log_disk.proofs.Cuts.{put-front}
 use Rattle.log_disk.proofs.Torn.{IsTorn-put, IsTorn-trans, IsTorn-widen}
@@ -13,3 +14,6 @@ returns-clause-torn c =
 pub returns-clause-landed : goal.returns-clause-landed
 returns-clause-landed c = λ within few.
     put-front _ _ _ _ _ _ _ _ _ few c.up_to-landed.ensures.digit c.up_to-landed.ensures.rest c.up_to-noisy.ensures.digit (search rules) c.overwrite.ensures.torn
+
+pub returns-clause-none : goal.returns-clause-none
+returns-clause-none c = grind (arith, common_steps) steps 2000000

@@ -17,7 +17,7 @@ returns-then-is_zero-clause-found c =
     let below = All-from_get_or (λ unit. unit < 2 ^ 64) c.args.units.now 0 (λ i _. omega (arith, c.type_inv.units i)) in (
       len,
       text_units-front c.args.units.now c.from_bytes.result c.split_at.result.1.now
-          below (rw len c.requires.count) whole (search rules) (search rules),
+          below (rw len c.requires.count) whole (search rules steps 500000) (search rules steps 500000),
     )
 
 pub returns-else-is_printable-clause-bad : goal.returns-else-is_printable-clause-bad
@@ -30,3 +30,6 @@ returns-else-is_printable-clause-bad c = λ text is len units.
           let all : All (λ byte. byte ≡ 0) c.split_at.result.1.now = rw zeros front.1 in search rules
       | else-is_printable-via-else-is_printable w ↦ let all : All IsPrintable c.split_at.result.0.now = rw same is.2 in search rules
     ]
+
+pub returns-then-is_zero-clause-note : goal.returns-then-is_zero-clause-note
+returns-then-is_zero-clause-note c = search rules steps 800000

@@ -5,3 +5,6 @@ use Rattle.log_record.proofs.writing.spell_into.Goals as goal
 
 pub returns-in-Note-clause-short : goal.returns-in-Note-clause-short
 returns-in-Note-clause-short c = omega (arith, ap length c.push_note.ensures, length-spelling (Note c.in-Note.txn c.in-Note.text) (search rules))
+
+pub returns-in-Commit-clause-units : goal.returns-in-Commit-clause-units
+returns-in-Commit-clause-units c = search rules steps 300000

@@ -13,3 +13,9 @@ invariant_of-self-2 c = step-sound c.args.self.now (Reserve c.args.by c.args.n) 
     c.push_reserved.new.self.items c.take_up.new.hands.items
     (c.push_reserved.ensures.items ∙ ap₂ (λ rs r. rs ++ r ∷ []) c.reserve.ensures.items c.new.ensures)
     (c.take_up.ensures ∙ ap (with_stage c.args.by (Works c.self.inside.tail)) c.reserve-2.ensures.items))
+
+pub returns-clause-step : goal.returns-clause-step
+returns-clause-step c = reserve-step c.args.self.now (state_of c.self.inside) c.self.view_is c.args.by c.args.n (c.if-not-may_reserve.ensures.0 refl)
+    c.push_reserved.new.self.items c.take_up.new.hands.items
+    (c.push_reserved.ensures.items ∙ ap₂ (λ rs r. rs ++ r ∷ []) c.reserve.ensures.items c.new.ensures)
+    (c.take_up.ensures ∙ ap (with_stage c.args.by (Works c.self.inside.tail)) c.reserve-2.ensures.items)

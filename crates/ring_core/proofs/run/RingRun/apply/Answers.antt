@@ -1,0 +1,14 @@
+use Rattle.std.proofs.Common.{rules}
+use Rattle.ring_core.proofs.run.RingRun.apply.Goals as goal
+
+pub returns-in-Reserve-clause-step : goal.returns-in-Reserve-clause-step
+returns-in-Reserve-clause-step c = search rules steps 500000
+
+pub returns-in-Fill-clause-step : goal.returns-in-Fill-clause-step
+returns-in-Fill-clause-step c = search rules steps 500000
+
+pub returns-in-Turn-clause-step : goal.returns-in-Turn-clause-step
+returns-in-Turn-clause-step c = search rules steps 500000
+
+pub returns-in-Flushed-clause-step : goal.returns-in-Flushed-clause-step
+returns-in-Flushed-clause-step c = search rules steps 500000
