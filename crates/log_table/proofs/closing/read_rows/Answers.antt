@@ -1,4 +1,4 @@
-use Rattle.std.proofs.Common.{arith, ◌≡◌, ◌<◌, ◌∙◌, ◌+◌, ℕ, List, get_or, length, sym, ap, subst}
+use Rattle.std.proofs.Common.{rules, arith, ◌≡◌, ◌<◌, ◌∙◌, ◌+◌, ℕ, List, get_or, length, sym, ap, subst}
 use Rattle.std.specs.Slots.{slots_items}
 use Rattle.lsn_space.specs.Accounts.{Accounts}
 use Rattle.slot_word.specs.AccountWord.{balance_in, mark_in}
@@ -13,7 +13,7 @@ loop-account-preserved c =
     let words : List ℕ = slots_items c.args.closed.now.words in
     let word-is : c.word.result ≡ get_or words (index_of c.args.ring (Account c.loop-account.account)) 0 =
     sym (at-index words c.account_place.result c.word.result c.word.ensures) ∙ ap (λ place. get_or words place 0) c.account_place.ensures in
-    let below : c.loop-account.account < length c.args.rows.now.rows = omega (arith, c.loop-account-test.true, c.count-account-end.ensures) in
+    let below : c.loop-account.account < length c.args.rows.now.rows = omega arith in
     record {
       room = ap (λ (a : Accounts). a.room) c.set.ensures ∙ c.loop-account.invariant.room;
       rows = subst (λ (rows : List (ℕ × ℕ)). ReadsRows c.args.ring (c.loop-account.account + 1) words c.args.rows.now.rows rows)
@@ -24,3 +24,6 @@ loop-account-preserved c =
             (c.mark.ensures ∙ (c.unpack-word.ensures.mark ∙ ap mark_in word-is)) i,
           )) c.loop-account.invariant.rows);
     }
+
+pub returns-clause-rows : goal.returns-clause-rows
+returns-clause-rows c = search rules steps 100000

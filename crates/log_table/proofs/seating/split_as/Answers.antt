@@ -1,4 +1,4 @@
-use Rattle.std.proofs.Common.{arith, ℕ, sym, subst}
+use Rattle.std.proofs.Common.{arith, ◌∙◌, ℕ, sym, subst}
 use Rattle.log_table.specs.May.{MaySplit}
 use Rattle.log_table.specs.Seats.{view_of, number_of, key_of}
 use Rattle.log_table.proofs.Splitting.{split-allowed}
@@ -12,3 +12,6 @@ split_seat-base-requires g c = (
       (subst (λ (n : ℕ). MaySplit n (view_of c.args.seat.now)) (sym c.requires.named) c.requires.may)
       (let named = c.requires.named in omega (arith, c.ranges.worker)),
 )
+
+pub invariant_of-result : goal.invariant_of-result
+invariant_of-result g c = record { named = sym c.requires.named ∙ sym (λ i. (c.split_seat-base.ensures.4 i).0.standing.worker) }

@@ -1,4 +1,5 @@
 use Rattle.std.proofs.Common.{arith, ◌≡◌, ◌∙◌, ℕ, List, take, length, get_or, ap, sym, length-take-le}
+use Rattle.std.proofs.lemmas.Grind.{common_steps}
 use Rattle.log_record.specs.Spelling.{spelling}
 use Rattle.log_table.specs.declared.view.Entry.{Entry}
 use Rattle.ring_buffer.specs.Calls.{filled_with}
@@ -19,3 +20,6 @@ store_ring-requires-clause-next c =
       unfilled = omega (arith, len, whole, range.size, ap length range.units_are);
       unit_is = ap (λ l. get_or l c.loop-i.i 0) (c.as_slice-list.ensures.units ∙ range.units_are) ∙ ap (λ n. get_or (spelling range.rec) n 0) (sym len);
     }
+
+pub returns-clause-becomes : goal.returns-clause-becomes
+returns-clause-becomes c = grind (arith, common_steps) steps 750000

@@ -1,4 +1,4 @@
-use Rattle.std.proofs.Common.{◌∙◌, ℕ, length, ap, sym, refl, subst}
+use Rattle.std.proofs.Common.{rules, arith, ◌∙◌, ℕ, length, ap, sym, refl, subst}
 use Rattle.log_table.specs.Books.{next_of}
 use Rattle.log_table.specs.Seats.{view_of}
 use Rattle.ring_buffer.specs.Calls.{HasFilled, filled_with}
@@ -15,3 +15,14 @@ finish_in_turn-requires-clause-filled g c =
       size = sym c.in_ok-range.ensures.placed.size;
       full = sym (ap length c.as_slice.ensures.units);
     }
+
+pub returns-clause-inserted : goal.returns-clause-inserted
+returns-clause-inserted g c = record {
+  same = search rules steps 800000;
+  idle = c.finish_in_turn.ensures.entries.idle;
+  entries_are = grind arith steps 1200000;
+  books_are = grind arith steps 400000;
+}
+
+pub returns-clause-behind : goal.returns-clause-behind
+returns-clause-behind g c = omega (arith, c.in_ok-range.ensures.placed.behind, c.start-at.ensures)

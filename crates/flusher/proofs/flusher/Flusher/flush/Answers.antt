@@ -3,7 +3,7 @@ use Rattle.std.proofs.lemmas.Result.{err_from_is_err_and}
 use Rattle.log_table.specs.Seats.{view_of}
 use Rattle.log_table.specs.Views.{has_sent}
 use Rattle.flusher.specs.Sending.{read_units}
-use Rattle.flusher.proofs.Flushes.{Becomes-then, Leaves-append, Reads-gathered, sent_to-flushed, seen-flushed, HoldsDurablePrefix-append, MayHoldBatchInFlight-append}
+use Rattle.flusher.proofs.Flushes.{Becomes-then, Leaves-append, Reads-gathered, sent_to-flushed, seen-flushed, HoldsDurablePrefix-append, MayHoldBatchInFlight-append, MayFlush-step, seen-newer}
 use Rattle.flusher.proofs.flusher.Flusher.flush.Goals as goal
 
 pub returns-in_err-self-clause-lost : goal.returns-in_err-self-clause-lost
@@ -56,7 +56,7 @@ returns-clause-flushed g c =
       spelled = read_up.spelled;
       seat = seat;
       batch = c.append.ensures.batch ∙ c.gather.ensures.batch;
-      tail = search rules;
+      tail = search rules steps 1200000;
       writes = record {
         moments = λ honest. Leaves-append g.D.LogDisk c.args.self.now _ _ _ units (c.append.ensures.moments honest);
         count = c.append.ensures.count;
@@ -84,3 +84,10 @@ returns-clause-ready g c =
       shut = search rules;
       room = search rules;
     }
+
+pub returns-then-eq-clause-flushed : goal.returns-then-eq-clause-flushed
+returns-then-eq-clause-flushed g c = record { durable = search rules steps 1200000; seat = c.load_exposed-to.ensures.view; rest = refl }
+
+pub returns-then-eq-clause-ready : goal.returns-then-eq-clause-ready
+returns-then-eq-clause-ready g c =
+    MayFlush-step g.D.LogDisk c.args.self.now c.load_exposed-to.new.seat _ c.requires.ready c.load_exposed-to.ensures.view refl refl refl refl (seen-newer _ _)

@@ -12,3 +12,6 @@ compare_exchange-found-requires g c =
       exchange_account-allowed _ _ _ _ _ _ _ _ _ c.account_place-place.ensures c.args.table.now.keyed c.args.table.now.counted c.requires.account
           c.requires.named _ _ _ _ c.pack.ensures c.pack-2.ensures from-fits to-fits c.requires.next,
     )
+
+pub returns-else-found-pack-clause-ok : goal.returns-else-found-pack-clause-ok
+returns-else-found-pack-clause-ok g c = search rules steps 100000

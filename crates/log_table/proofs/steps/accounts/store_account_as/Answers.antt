@@ -1,4 +1,6 @@
-use Rattle.std.proofs.Common.{rules, arith}
+use Rattle.std.proofs.Common.{rules, arith, ◌∙◌, refl, ap}
+use Rattle.log_table.specs.AccountViews.{gave_account}
+use Rattle.log_table.specs.Seats.{view_of}
 use Rattle.log_table.proofs.Allowing.{store_account-allowed}
 use Rattle.log_table.proofs.Owing.{FitsWord}
 use Rattle.log_table.proofs.steps.accounts.store_account_as.Goals as goal
@@ -11,3 +13,13 @@ store-requires g c =
       store_account-allowed _ _ _ _ _ _ _ _ _ c.account_place-place.ensures c.args.table.now.keyed c.args.table.now.counted c.requires.account
           c.requires.named _ _ c.pack.ensures fits c.requires.next,
     )
+
+pub returns : goal.returns
+returns g c = let step = c.store.ensures in record {
+  view = record {
+    table_is = step.0;
+    number = step.1;
+    me = step.2.0 ∙ ap (λ account. (gave_account account (view_of c.args.seat.now), c.args.seat.now.base.me.1)) c.requires.named;
+    worker = refl;
+  };
+}

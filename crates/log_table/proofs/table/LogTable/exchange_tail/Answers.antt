@@ -1,4 +1,4 @@
-use Rattle.std.proofs.Common.{arith, ℕ, sym, subst}
+use Rattle.std.proofs.Common.{rules, arith, ℕ, sym, subst}
 use Rattle.log_table.specs.May.{MayReserve}
 use Rattle.log_table.specs.Seats.{view_of, number_of, key_of}
 use Rattle.log_table.proofs.Allowing.{exchange_tail-allowed}
@@ -19,3 +19,9 @@ returns-then-found-units-clause-ok_event c = reserves _ _ _ _ _ c.requires.next
 
 pub returns-else-found-units-clause-err_event : goal.returns-else-found-units-clause-err_event
 returns-else-found-units-clause-err_event c = tail-looks _ _ _ _
+
+pub returns-else-found-units-clause-ok : goal.returns-else-found-units-clause-ok
+returns-else-found-units-clause-ok c = search rules steps 100000
+
+pub returns-else-found-units-clause-ok_event : goal.returns-else-found-units-clause-ok_event
+returns-else-found-units-clause-ok_event c = search rules steps 100000

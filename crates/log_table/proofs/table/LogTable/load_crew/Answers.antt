@@ -1,4 +1,4 @@
-use Rattle.std.proofs.Common.{arith}
+use Rattle.std.proofs.Common.{arith, refl}
 use Rattle.log_table.proofs.Allowing.{load_crew-allowed}
 use Rattle.log_table.proofs.Stopping.{crew-looks}
 use Rattle.log_table.proofs.table.LogTable.load_crew.Goals as goal
@@ -8,3 +8,6 @@ load-requires c = (c.requires.table_is, omega (arith, c.args.self.now.sized), lo
 
 pub returns-clause-event : goal.returns-clause-event
 returns-clause-event c = crew-looks _ _ _ _
+
+pub returns-clause-view : goal.returns-clause-view
+returns-clause-view c = let step = c.load.ensures in record { table_is = step.0; number = step.1; me = step.2.0; worker = refl }

@@ -1,4 +1,4 @@
-use Rattle.std.proofs.Common.{arith}
+use Rattle.std.proofs.Common.{arith, refl}
 use Rattle.log_table.proofs.Allowing.{load_stop-allowed}
 use Rattle.log_table.proofs.Looking.{stop-looks}
 use Rattle.log_table.proofs.table.LogTable.load_stop.Goals as goal
@@ -8,3 +8,9 @@ load-requires c = (c.requires.table_is, omega (arith, c.args.self.now.sized), lo
 
 pub returns-clause-event : goal.returns-clause-event
 returns-clause-event c = stop-looks _ _ _ _
+
+pub returns-clause-view : goal.returns-clause-view
+returns-clause-view c = let step = c.load.ensures in record { table_is = step.0; number = step.1; me = step.2.0; worker = refl }
+
+pub returns-clause-stays : goal.returns-clause-stays
+returns-clause-stays c = c.load.ensures.2.1

@@ -9,3 +9,6 @@ split_seat-base-requires c = (
   omega (arith, c.args.self.now.sized),
   note-allowed (key_of c.args.self.now) (number_of c.args.seat.now) (view_of c.args.seat.now) c.requires.unspent,
 )
+
+pub returns-clause-view : goal.returns-clause-view
+returns-clause-view c = λ i. (c.split_seat-base.ensures.4 i).0

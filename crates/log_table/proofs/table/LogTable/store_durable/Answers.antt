@@ -1,6 +1,7 @@
-use Rattle.std.proofs.Common.{arith, ℕ, sym, subst}
+use Rattle.std.proofs.Common.{arith, ◌∙◌, ℕ, refl, sym, ap, subst}
 use Rattle.log_table.specs.May.{MaySend}
 use Rattle.log_table.specs.Seats.{view_of, number_of, key_of}
+use Rattle.log_table.specs.Views.{has_sent}
 use Rattle.log_table.proofs.Allowing.{store_durable-allowed}
 use Rattle.log_table.proofs.Flushing.{send-step}
 use Rattle.log_table.proofs.table.LogTable.store_durable.Goals as goal
@@ -15,3 +16,11 @@ store-requires c = (
 
 pub returns-clause-event : goal.returns-clause-event
 returns-clause-event c = send-step _ _ _ _ c.requires.next
+
+pub returns-clause-view : goal.returns-clause-view
+returns-clause-view c = let step = c.store.ensures in record {
+  table_is = step.0;
+  number = step.1;
+  me = step.2.0 ∙ ap (λ n. (has_sent n (view_of c.args.seat.now), c.args.seat.now.base.me.1)) c.units.ensures;
+  worker = refl;
+}

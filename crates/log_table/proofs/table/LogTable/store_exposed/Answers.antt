@@ -1,6 +1,7 @@
-use Rattle.std.proofs.Common.{arith, ℕ, sym, subst}
+use Rattle.std.proofs.Common.{arith, ◌∙◌, ℕ, refl, sym, ap, subst}
 use Rattle.log_table.specs.May.{MayRelease}
 use Rattle.log_table.specs.Seats.{view_of, number_of, key_of}
+use Rattle.log_table.specs.Views.{released}
 use Rattle.log_table.proofs.Allowing.{store_exposed-allowed}
 use Rattle.log_table.proofs.Turning.{release-step}
 use Rattle.log_table.proofs.table.LogTable.store_exposed.Goals as goal
@@ -16,3 +17,11 @@ store-requires c = (
 
 pub returns-clause-event : goal.returns-clause-event
 returns-clause-event c = release-step _ _ _ _ c.requires.next
+
+pub returns-clause-view : goal.returns-clause-view
+returns-clause-view c = let step = c.store.ensures in record {
+  table_is = step.0;
+  number = step.1;
+  me = step.2.0 ∙ ap (λ n. (released n (view_of c.args.seat.now), c.args.seat.now.base.me.1)) c.units.ensures;
+  worker = refl;
+}

@@ -1,4 +1,4 @@
-use Rattle.std.proofs.Common.{◌≡◌, arith, ℕ, ◌+◌, ◌%◌, ◌<◌, mod-lt, sym, subst}
+use Rattle.std.proofs.Common.{◌≡◌, arith, ℕ, ◌+◌, ◌%◌, ◌<◌, mod-lt, refl, sym, subst}
 use Rattle.atomic_table.specs.Table.{Allows}
 use Rattle.log_table.specs.declared.layout.TheConstants.{RING}
 use Rattle.log_table.specs.Seats.{number_of, key_of}
@@ -24,3 +24,6 @@ store-requires c =
 
 pub returns-clause-event : goal.returns-clause-event
 returns-clause-event c = fill-step _ _ _ _ _ _ c.args.self.now.keyed c.requires.next
+
+pub returns-clause-view : goal.returns-clause-view
+returns-clause-view c = let step = c.store.ensures in record { table_is = step.0; number = step.1; me = step.2.0; worker = refl }

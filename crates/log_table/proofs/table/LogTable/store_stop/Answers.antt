@@ -1,4 +1,4 @@
-use Rattle.std.proofs.Common.{arith}
+use Rattle.std.proofs.Common.{arith, refl}
 use Rattle.log_table.proofs.Allowing.{store_stop-allowed}
 use Rattle.log_table.proofs.Stopping.{stop-step}
 use Rattle.log_table.proofs.table.LogTable.store_stop.Goals as goal
@@ -8,3 +8,6 @@ store-requires c = (c.requires.seat.table_is, omega (arith, c.args.self.now.size
 
 pub returns-clause-event : goal.returns-clause-event
 returns-clause-event c = stop-step _ _ _ _ c.requires.may
+
+pub returns-clause-view : goal.returns-clause-view
+returns-clause-view c = let step = c.store.ensures in record { table_is = step.0; number = step.1; me = step.2.0; worker = refl }
