@@ -1,6 +1,6 @@
 -- Texts of scripts.
-use Rattle.std.proofs.Common.{◌≡◌, ◌<◌, ◌^◌, ◌∙◌, sym, refl, ap, subst, inl, inr, ℕ, suc, ◌==◌, false, List, [], ◌∷◌, ◌++◌, append_assoc, append-nil, length, map, drop, get_or, arith, All}
-use Rattle.std.proofs.lemmas.Bool.{ne_eqb}
+use Rattle.std.proofs.Common.{◌≡◌, ◌<◌, ◌^◌, ◌∙◌, sym, refl, ap, subst, inl, inr, ℕ, suc, ◌+◌, ◌==◌, false, List, [], ◌∷◌, ◌++◌, append_assoc, append-nil, length, map, drop, get_or, arith, All, ⊎_elim}
+use Rattle.std.proofs.lemmas.Bool.{ne_eqb, eqb-false}
 use Rattle.std.proofs.lemmas.List.{map_push}
 use Rattle.std.proofs.lemmas.List.Elements.{All-nil, All-cons, All-head, All-tail, filter-append}
 use Rattle.lock_core.specs.declared.job.Job.{Job}
@@ -87,3 +87,11 @@ pub jobs-or_bad : (accounts : ℕ) (bytes : List ℕ) (js : List Job) (line : �
 jobs-or_bad accounts bytes js line all bad =
     let good = good-lines accounts (lines bytes) js all.each all.text in
     bad.bad (one-of (IsScriptLine accounts) bad.before bad.line bad.rest (subst (All (IsScriptLine accounts)) bad.text good))
+
+-- behind lines of the script, one that isn't empty and of which no transfer was read
+pub bad_line-first : (accounts : ℕ) (bytes : List ℕ) (before : List (List ℕ)) (line : List ℕ) (rest : List (List ℕ)) → All (IsScriptLine accounts) before
+    → lines bytes ≡ before ++ line ∷ rest → false ≡ (length line == 0) → ((job : Job) → IsAllowedJob accounts job → line ≡ job_text job → ⊥)
+    → IsFirstBadLine accounts bytes (length before + 1)
+bad_line-first accounts bytes before line rest each text some none =
+    let bad : IsScriptLine accounts line → ⊥ = ⊎_elim (λ empty. eqb-false _ _ (sym some) (ap length empty)) (λ job. none job.0 job.1 job.2) in
+    record { before = before; each = each; line = line; rest = rest; text = text; at = refl; bad = bad }

@@ -1,6 +1,7 @@
-use Rattle.std.proofs.Common.{◌≡◌, ◌∙◌, sym, ap, subst, [], ◌∷◌, ◌++◌, length, arith, length-append, inl, inr, ⊎_elim, eq-or-lt_of_le}
+use Rattle.std.proofs.Common.{◌≡◌, ◌∙◌, sym, ap, subst, [], ◌∷◌, ◌++◌, length, arith, map, append-nil, length-append, inl, inr, ⊎_elim, eq-or-lt_of_le}
 use Rattle.std.proofs.lemmas.List.{map_push, length-map}
 use Rattle.std.proofs.lemmas.List.Elements.{All-push}
+use Rattle.lsn_space.specs.Number.{number_text}
 use Rattle.log_record.specs.Spelling.{IsBalance}
 use Rattle.txn_script.specs.Lines.{lines}
 use Rattle.txn_script.specs.Balances.{IsBalancesFault}
@@ -39,3 +40,10 @@ lines-preserved c =
       text = text-grows c.args.bytes.now before.read balance _ c.lines.rest.now c.in-Some.after.now before.text
           c.in-Some.ensures.line c.in-Some-next_balance.ensures.text;
     }
+
+pub returns-clause-read : goal.returns-clause-read
+returns-clause-read c =
+    let before = c.lines.invariant in
+    let count : length c.lines.balances.rows ≡ length before.read = ap length before.rows ∙ length-map before.read _ in
+    let whole = before.text ∙ ap (λ rest. map number_text before.read ++ rest) c.in_default.ensures.none ∙ append-nil (map number_text before.read) in
+    (before.read, record { some = omega (arith, count); most = before.most; each = before.each; text = whole }, before.rows)

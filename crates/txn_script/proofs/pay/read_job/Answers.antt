@@ -1,5 +1,5 @@
-use Rattle.std.proofs.Common.{◌∙◌, sym, ap, drop}
-use Rattle.txn_script.specs.Script.{note_text}
+use Rattle.std.proofs.Common.{◌∙◌, sym, ap, drop, ◌++◌, codes}
+use Rattle.txn_script.specs.Script.{note_text, legs_text}
 use Rattle.txn_script.proofs.JobLemmas.{note-ends}
 use Rattle.txn_script.proofs.LegLemmas.{legs-whole}
 use Rattle.txn_script.proofs.pay.read_job.Goals as goal
@@ -11,3 +11,8 @@ returns-in_err-note-clause-none c = rw (c.from_residual-in_err-note.ensures) (λ
     let parts = legs-whole c.args.accounts c.ranges.accounts.fits c.in_ok-legs.legs job.legs c.in_ok-legs.rest.now (note_text job.note)
     legs.allowed allowed.legs legs.whole (note-ends job.note) (sym legs.text ∙ behind) in
     c.in_err-note.ensures.none job.note allowed.note parts.1)
+
+pub returns-clause-text : goal.returns-clause-text
+returns-clause-text c =
+    let note = ap (λ rest. legs_text c.in_ok-legs.legs ++ rest) c.in_ok-note.ensures.text in
+    c.in_ok-rest.ensures.some ∙ ap (λ rest. codes "pay" ++ rest) (c.in_ok-legs.ensures.text ∙ note)

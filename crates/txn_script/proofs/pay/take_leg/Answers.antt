@@ -1,4 +1,4 @@
-use Rattle.std.proofs.Common.{◌++◌, ◌∙◌, sym, true≢false, arith}
+use Rattle.std.proofs.Common.{◌++◌, append_assoc, ap, ◌∙◌, sym, true≢false, arith}
 use Rattle.txn_script.specs.Script.{spaced}
 use Rattle.txn_script.proofs.NumberLemmas.{space-ends}
 use Rattle.txn_script.proofs.LegLemmas.{reads-payer, reads-payee, reads-amount}
@@ -33,3 +33,9 @@ returns-else-is_allowed-clause-none c = λ leg rest allowed end same.
       some = omega (arith, allowed.some, moved.0);
       most = omega (arith, allowed.most, moved.0);
     })))
+
+pub returns-then-is_allowed-clause-text : goal.returns-then-is_allowed-clause-text
+returns-then-is_allowed-clause-text c =
+    let amount = ap (λ rest. spaced c.in_ok-to.to ++ rest) c.in_ok-amount.ensures.text in
+    let payee = ap (λ rest. spaced c.in_ok-from.from ++ rest) (c.in_ok-to.ensures.text ∙ amount) in
+    simp append_assoc (c.in_ok-from.ensures.text ∙ payee)

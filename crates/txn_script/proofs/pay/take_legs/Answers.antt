@@ -47,3 +47,6 @@ returns-then-is_empty-clause-none c = λ legs rest allowed ends same.
     let all : c.args.bytes.now ≡ c.legs.rest.now = before.text ∙ ap (λ ls. legs_text ls ++ c.legs.rest.now) none in
     let begun = legs-begin c.args.accounts c.ranges.accounts.fits legs rest allowed in
     true≢false (sym (c.legs-test.ensures.1 (subst BeginsLeg (sym same ∙ all) begun)))
+
+pub push-requires : goal.push-requires
+push-requires c = omega (arith, c.legs.invariant.few, ap length c.as_slice.ensures.legs, c.if-as_slice-from.false, c.from.ensures)

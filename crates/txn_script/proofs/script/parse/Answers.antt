@@ -1,9 +1,10 @@
-use Rattle.std.proofs.Common.{◌≡◌, sym, inl, inr, ◌++◌, ◌∷◌, [], length-append, arith}
+use Rattle.std.proofs.Common.{◌≡◌, ◌∙◌, sym, ap, inl, inr, ◌++◌, ◌∷◌, [], length-append, arith}
 use Rattle.std.proofs.lemmas.Bool.{eqb-true}
 use Rattle.std.proofs.lemmas.List.{nil_from_length}
 use Rattle.std.proofs.lemmas.List.Elements.{All-push}
+use Rattle.txn_script.specs.Lines.{lines}
 use Rattle.txn_script.specs.Script.{IsAllowedJob, IsScriptLine}
-use Rattle.txn_script.proofs.ScriptLemmas.{jobs-kept, jobs-grow, lines-grow}
+use Rattle.txn_script.proofs.ScriptLemmas.{jobs-kept, jobs-grow, lines-grow, bad_line-first}
 use Rattle.txn_script.proofs.script.parse.Goals as goal
 
 pub lines-preserved-in_ok-push : goal.lines-preserved-in_ok-push
@@ -36,3 +37,11 @@ lines-preserved c =
       number = omega (arith, before.number, length-append before.before (line ∷ []));
       bound = omega (arith, before.bound, c.in-Some.ensures.shorter);
     }
+
+pub returns-in_default-read_job-clause-fault : goal.returns-in_default-read_job-clause-fault
+returns-in_default-read_job-clause-fault c =
+    let before = c.lines.invariant in
+    let text = before.text ∙ ap (λ more. before.before ++ more) c.in-Some.ensures.line in
+    let bad = bad_line-first c.args.accounts c.args.bytes.now before.before c.in-Some.line.now (lines c.in-Some.after.now) before.each text
+    c.if-not-is_empty.ensures c.in_default-read_job.ensures.none in
+    rw (before.number) bad

@@ -1,0 +1,5 @@
+use Rattle.std.proofs.Common.{arith}
+use Rattle.lock_core.proofs.judge.Judge.take.Goals as goal
+
+pub returns-clause-taken : goal.returns-clause-taken
+returns-clause-taken c = λ h judged. record { ledger = c.in_ok-take.ensures h judged.ledger; greatest = omega (arith, judged.greatest) }
