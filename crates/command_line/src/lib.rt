@@ -6,8 +6,6 @@ mod definition;
 mod laws;
 mod options;
 mod parsing;
-#[cfg(test)]
-mod tests;
 
 pub use command::{Command, Refused};
 pub use laws::{format_numbers, one_command};

@@ -6,7 +6,7 @@ ghost use Rattle.lsn_space.specs.Unit.{unit_bytes};
 ghost use Rattle.log_record.specs.declared.text.TheConstants.{LONGEST_NOTE};
 ghost use Rattle.log_record.specs.Spelling.{text_units, units_for, IsPrintable, IsNoteText};
 
-use crate::reading::BadRec;
+use crate::rec::BadRec;
 use crate::text::{LONGEST_NOTE, Text};
 use crate::units::Units;
 use arrayvec::ArrayVec;

@@ -9,13 +9,9 @@ ghost use Rattle.log_record.specs.Reading.{header_unit, Spells};
 use crate::header::{COMMIT, GENESIS, Header, NOTE, OVER, SHORT, UPDATE};
 use crate::limits::{MOST_ACCOUNTS, MOST_BALANCE, MOST_LEGS};
 use crate::note::{note_units, read_text};
-use crate::rec::Rec;
+use crate::rec::{BadRec, Rec};
 use crate::text::LONGEST_NOTE;
 use lsn_space::Lsn;
-
-/// The units begin with no record.
-#[derive(Clone, Copy, Debug, PartialEq, Eq)]
-pub struct BadRec;
 
 /// The record that the units begin with, and of how many units it is.
 pub fn read(units: &[u64]) -> Result<(Rec, usize), BadRec>

@@ -50,3 +50,7 @@ pub struct Placed {
     pub end: Lsn,
     pub rec: Rec,
 }
+
+/// The units begin with no record.
+#[derive(Clone, Copy, Debug, PartialEq, Eq)]
+pub struct BadRec;

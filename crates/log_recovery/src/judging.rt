@@ -4,7 +4,7 @@ ghost use Rattle.std.specs.Prelude.{◌≤◌, length, IfOk, IfErr};
 ghost use Rattle.lsn_space.specs.declared.lsn.TheConstants.{LAST};
 ghost use Rattle.log_recovery.specs.Judging.{FailsBefore, HasTakenUnits, IsUnitsFaultOf};
 
-use crate::listing::{first_bad, place_of};
+use crate::places::{first_bad, place_of};
 use lock_core::{Judge, JudgeFault, Why};
 use log_record::read;
 use lsn_space::Lsn;

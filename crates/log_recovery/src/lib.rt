@@ -6,6 +6,7 @@ mod dump;
 mod judging;
 mod list_result;
 mod listing;
+mod places;
 mod recovery;
 mod texts;
 

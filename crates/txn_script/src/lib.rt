@@ -3,16 +3,12 @@
 
 mod fault;
 mod generator;
-#[cfg(test)]
-mod generator_tests;
 mod laws;
 mod lines;
 mod opening;
 mod pay;
 mod script;
 mod stored;
-#[cfg(test)]
-mod tests;
 
 pub use fault::ParseFault;
 pub use generator::{

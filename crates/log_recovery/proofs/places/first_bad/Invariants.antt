@@ -1,6 +1,6 @@
 use Rattle.std.proofs.Common.{length}
 use Rattle.log_recovery.specs.Listing.{IsFront}
-use Rattle.log_recovery.proofs.listing.first_bad.Given as goal
+use Rattle.log_recovery.proofs.places.first_bad.Given as goal
 
 abbrev pub invariant-records : goal.invariant-records
 invariant-records l = record {

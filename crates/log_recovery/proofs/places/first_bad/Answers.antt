@@ -1,6 +1,6 @@
 use Rattle.std.proofs.Common.{◌∙◌, ap, drop}
 use Rattle.log_recovery.proofs.UnitsLemmas.{front-next}
-use Rattle.log_recovery.proofs.listing.first_bad.Goals as goal
+use Rattle.log_recovery.proofs.places.first_bad.Goals as goal
 
 pub records-preserved : goal.records-preserved
 records-preserved c =

@@ -1,6 +1,6 @@
 //! Which words are a command.
 
-use crate::{Command, Refused, RunOptions, parse};
+use command_line::{Command, Refused, RunOptions, parse};
 use lsn_space::Word;
 use std::test::Fail;
 

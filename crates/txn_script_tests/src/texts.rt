@@ -1,7 +1,7 @@
 //! Texts that are read, and texts that are refused at a line.
 
-use crate::{Job, ParseFault, Script, balances, parse};
 use std::test::Fail;
+use txn_script::{Job, ParseFault, Script, balances, parse};
 
 #[test]
 fn reads_balances(rt: HostRuntime) -> Result<(), Fail> {

@@ -1,7 +1,7 @@
 //! Generated transfers, beside those that were reckoned by hand.
 
-use crate::{Script, make};
 use std::test::Fail;
+use txn_script::{Script, make};
 
 fn script_of(rt: &HostRuntime, n: u32, seed: u32) -> Result<Script, Fail> {
     make(rt.alloc(), n, seed).map_err(|_| Fail::new("no memory"))

@@ -1,0 +1,34 @@
+//! The places at which the records of units begin, read one by one.
+
+ghost use Rattle.std.specs.Prelude.{◌≡◌, ◌+◌, ◌≤◌, length, IfSome, IfNone};
+ghost use Rattle.lsn_space.specs.declared.lsn.TheConstants.{LAST};
+ghost use Rattle.log_recovery.specs.Listing.{IsFront, IsRecords, IsBadRecAt};
+
+use log_record::read;
+use lsn_space::Lsn;
+
+/// Where the rest of the units begins.
+pub(crate) fn place_of(units: &[u64], rest: &[u64]) -> Lsn
+    requires front { IsFront units.now rest.now }
+    requires fits { length units.now ≤ LAST }
+    ensures { result + length rest.now ≡ length units.now }
+{
+    Lsn::new((units.len() - rest.len()) as u32)
+}
+
+/// The first place behind a front of records at which no record begins, where there is one.
+pub(crate) fn first_bad(units: &[u64], front: &[u64]) -> Option<Lsn>
+    requires front { IsFront units.now front.now }
+    requires fits { length units.now ≤ LAST }
+    ensures bad { IfSome result (IsBadRecAt units.now) }
+    ensures none { IfNone result (IsRecords front.now) }
+{
+    let mut rest = front;
+    'records: while !rest.is_empty() {
+        let Ok((_, size)) = read(rest) else {
+            return Some(place_of(units, rest));
+        };
+        rest = rest.split_at(size).1;
+    }
+    None
+}
