@@ -1,4 +1,5 @@
 use Rattle.std.proofs.Common.{◌∙◌, vec_capacity, ap, length, arith}
+use Rattle.std.proofs.lemmas.Grind.{common_steps}
 use Rattle.log_disk.proofs.Moments.{Leaves-weaken}
 use Rattle.segment_file.specs.File.{batch}
 use Rattle.segment_file.proofs.Appends.{holds-either, all_stand-more}
@@ -48,3 +49,9 @@ returns-clause-length g c = λ honest.
     let packed = packed-view _ _ _ _ _ c.batch.invariant c.batch.view_is in
     let body = counted-body _ _ _ _ packed _ _ c.count-count.ensures c.put_count.ensures.bytes _ _ (c.as_slice.ensures.value ∙ c.push_reserved.ensures.items) c.split_at.ensures.back in
     omega (arith, c.write_gated-appended.ensures.length honest, ap length body, length-sealed c.args.batch.now.units)
+
+pub invariant_of-batch : goal.invariant_of-batch
+invariant_of-batch g c = grind (arith, common_steps) steps 2000000
+
+pub returns-clause-batch : goal.returns-clause-batch
+returns-clause-batch g c = grind (arith, common_steps) steps 2000000

@@ -1,3 +1,4 @@
+use Rattle.std.proofs.Common.{rules}
 use Rattle.log_disk.proofs.Moments.{Leaves-trans, Leaves-weaken}
 use Rattle.segment_file.proofs.StableGates.{stays-none}
 use Rattle.segment_file.proofs.creating.create.Goals as goal
@@ -15,3 +16,6 @@ pub returns-clause-moments : goal.returns-clause-moments
 returns-clause-moments g c = λ honest.
     let closed = Leaves-weaken g.D.LogDisk.moment g.D.LogDisk.images_since _ _ _ _ (stays-none c.args.batch.now.units _) (c.close_gate.ensures.moments honest) in
     Leaves-trans g.D.LogDisk.moment g.D.LogDisk.images_since _ _ _ _ closed (c.create_sealed.ensures.moments (c.close_gate.ensures.honest.0 honest))
+
+pub returns-clause-count : goal.returns-clause-count
+returns-clause-count g c = search rules steps 1000000

@@ -1,4 +1,5 @@
 use Rattle.std.proofs.Common.{◌≡◌, [], ◌∷◌, ◌++◌, ◌∙◌, ap, refl, length, arith, length-append}
+use Rattle.std.proofs.lemmas.Grind.{common_steps}
 use Rattle.std.proofs.lemmas.List.{append-nil}
 use Rattle.segment_file.specs.File.{written, joined}
 use Rattle.segment_file.proofs.FileLemmas.{bad-first, bad-later, written-first, written-next, counted-more, joined-more}
@@ -46,3 +47,6 @@ batches-preserved c =
       units = units;
       total = rw (← units) taken.total;
     }
+
+pub returns-clause-found : goal.returns-clause-found
+returns-clause-found c = grind (arith, common_steps) steps 2000000
