@@ -25,3 +25,11 @@ returns-clause-some c = record {
   slots = c.in_ok-slots.ensures.some;
   wait = c.flag_in-wait.ensures;
 }
+
+pub returns-in_err-workers-clause-none : goal.returns-in_err-workers-clause-none
+returns-in_err-workers-clause-none c = rw (c.from_residual.ensures) (λ options are.
+    c.in_err-workers.ensures.none options.workers are.range.workers.0 are.range.workers.1 are.workers)
+
+pub returns-in_err-slots-clause-none : goal.returns-in_err-slots-clause-none
+returns-in_err-slots-clause-none c = rw (c.from_residual-in_err-slots.ensures) (λ options are.
+    c.in_err-slots.ensures.none options.slots (omega arith) are.range.slots are.slots)

@@ -1,4 +1,4 @@
-use Rattle.std.proofs.Common.{◌≡◌, ◌∙◌, ap, ap₂, sym, subst, inl, inr, List, ℕ}
+use Rattle.std.proofs.Common.{◌≡◌, refl, ◌∙◌, ap, ap₂, sym, subst, inl, inr, List, ℕ}
 use Rattle.std.proofs.lemmas.List.{map-id}
 use Rattle.clap.specs.Words.{App, IsAmong, Kinds, app_of, fault_of, is_simple, is_simple_and_free, kind_of, subcommand_of, takes}
 use Rattle.command_line.specs.CommandLine.{aether_command}
@@ -30,3 +30,9 @@ pub returns-clause-taken : goal.returns-clause-taken
 returns-clause-taken c = λ taken.
     let same = ap₂ (λ (a : App) (ws : List (List ℕ)). takes a ws) c.in-Ok.ensures (map-id c.args.words.now) in
     absurd (c.in_default-kind.not-OutOfMemory (c.kind.ensures ∙ c.in-Err.ensures.passes (same ∙ taken)))
+
+pub returns-in-OutOfMemory-clause-exact : goal.returns-in-OutOfMemory-clause-exact
+returns-in-OutOfMemory-clause-exact c = tt
+
+pub returns-in-OutOfMemory-clause-taken : goal.returns-in-OutOfMemory-clause-taken
+returns-in-OutOfMemory-clause-taken c = λ taken. refl

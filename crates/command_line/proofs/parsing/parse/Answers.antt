@@ -59,3 +59,10 @@ unreachable-requires-in_default-name c =
       | inr (inr (inr (inl dump))) ↦ c.in_default-name.not-dump dump
       | inr (inr (inr (inr demo))) ↦ c.in_default-name.not-demo demo
     ]
+
+pub returns-in-dump-clause-exact : goal.returns-in-dump-clause-exact
+returns-in-dump-clause-exact c =
+    let rows = rows_of (found_of c.in-Some.found.now) in
+    let named : NamesSubcommand c.args.words.now c.in-Some.name.now rows =
+    sym c.in_ok-matches.ensures.ok ∙ rows-named _ _ _ _ _ c.in-Some.ensures.name c.in-Some.ensures.rows in
+    (c.in_ok-matches.ensures.exact, rows, rw c.in-dump.is at named)

@@ -1,4 +1,4 @@
-use Rattle.std.proofs.Common.{◌∙◌, ap, drop}
+use Rattle.std.proofs.Common.{◌∙◌, ap, drop, refl, []}
 use Rattle.log_recovery.proofs.UnitsLemmas.{front-next}
 use Rattle.log_recovery.proofs.places.first_bad.Goals as goal
 
@@ -8,3 +8,6 @@ records-preserved c =
       units = front-next c.args.units.now c.records.rest.now c.split_at.result.1.now c.in-Ok.field-0-0 c.records.invariant.units c.in-Ok.ensures.found.0 dropped;
       front = front-next c.args.front.now c.records.rest.now c.split_at.result.1.now c.in-Ok.field-0-0 c.records.invariant.front c.in-Ok.ensures.found.0 dropped;
     }
+
+pub records-init : goal.records-init
+records-init c = record { units = c.requires.front; front = record { records = []; each = tt; whole = refl } }
