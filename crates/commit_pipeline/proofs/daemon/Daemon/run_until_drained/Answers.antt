@@ -1,4 +1,4 @@
-use Rattle.std.proofs.Common.{ap, ◌∙◌}
+use Rattle.std.proofs.Common.{rules, ap, ◌∙◌}
 use Rattle.log_table.specs.Views.{knows_all_enrolled}
 use Rattle.commit_pipeline.proofs.RanLemmas.{Later-trans, Later-standing}
 use Rattle.commit_pipeline.proofs.daemon.Daemon.run_until_drained.Goals as goal
@@ -21,3 +21,6 @@ loop-preserved g c =
       ready = c.ask.ensures.ready;
       told = ap knows_all_enrolled (Later-standing g.D.LogDisk g.K.Sink c.args.self.now c.ask.new.self later) ∙ c.requires.told;
     }
+
+pub returns-in-At-clause-drained : goal.returns-in-At-clause-drained
+returns-in-At-clause-drained g c = search rules steps 1200000
