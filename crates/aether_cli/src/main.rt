@@ -18,8 +18,6 @@ mod input;
 mod laws;
 mod new_command;
 mod opening;
-#[cfg(test)]
-mod pipeline_tests;
 mod recover_command;
 #[cfg(test)]
 mod relief_tests;

@@ -10,8 +10,7 @@ use Rattle.lock_core.specs.Transactions.{recs_of, in_order, has_commit}
 use Rattle.txn_script.specs.declared.job.Job.{Job}
 use Rattle.txn_script.specs.Script.{IsAllowedLeg}
 use Rattle.early_locks.specs.declared.taking.Taken.{Taken}
-use Rattle.early_locks.specs.Locks.{HoldsTaken}
-use Rattle.early_locks.specs.Transfers.{held_of, given_at}
+use Rattle.early_locks.specs.Locks.{HoldsTaken, held_of, given_at}
 use Rattle.log_table.specs.declared.table.Seat.{Seat}
 use Rattle.log_table.specs.declared.view.Books.{Books}
 use Rattle.log_table.specs.declared.view.Entry.{Entry}
