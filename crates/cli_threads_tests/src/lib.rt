@@ -1,7 +1,5 @@
-//! Tests of workers and a daemon over disks in memory and in files.
+//! Tests of a worker that flushes while it waits, over disks in memory.
 #![tactic(auto)]
 
-#[cfg(test)]
-mod pipeline_tests;
 #[cfg(test)]
 mod relief_tests;

@@ -1,59 +1,20 @@
 //! A worker that waits for the disk, in the one thread that flushes.
-ghost use Rattle.std.specs.Prelude.{◌≡◌, [], true, All, Contains, IfSome};
-ghost use Rattle.lock_core.specs.Transfers.{IsAllowedJob};
-ghost use Rattle.log_table.specs.declared.view.Role.TheVariants.{Flusher as FlusherRole};
-ghost use Rattle.log_table.specs.Books.{no_books};
-ghost use Rattle.log_table.specs.Seats.{IsOf, view_of};
-ghost use Rattle.log_table.specs.Views.{knows_all_enrolled, sent_to};
-ghost use Rattle.ring_buffer.specs.Calls.{IsReady};
+ghost use Rattle.std.specs.Prelude.{◌≡◌, true};
 ghost use Rattle.segment_file.specs.Standing.{IsStableGate};
 
-use crate::pipeline_tests::{CREATED, balances, daemon_on, table_from_4};
 use cli_reports::recover_command::recover_command;
 use cli_shared::Detail;
 use cli_threads::FlushingRelief;
-use commit_pipeline::DaemonFault;
+use commit_pipeline::{DaemonFault, Voice};
 use log_disk::{LogDisk, MemoryDisk, MemorySink, MemorySource, OpenGate, Sink};
 use log_table::{LogTable, Seat};
 use lsn_space::Lsn;
+use run_rig::{CREATED, daemon_on, jobs_of, recovered_balances, work_stripe};
 use std::alloc::Global;
 use std::sync::Wait;
 use std::test::Fail;
-use txn_runner::{Answer, Cause, Jobs, Relief, Row, Rows, Worked, work};
-use txn_script::parse;
-
-/// A worker, which the flusher's seat knows to be enrolled, and a seat that only looks.
-fn one_worker(table: &LogTable, boss: &mut Seat) -> (Seat, Seat)
-    requires boss { IsOf table.now boss.old }
-    requires flusher { (view_of boss.old).standing.role ≡ FlusherRole }
-    requires durable { sent_to (view_of boss.old) ≡ 4 }
-    requires unread { (view_of boss.old).sending.read ≡ [] }
-    requires running { (view_of boss.old).sending.stop ≡ 0 }
-    requires seen { Contains (view_of boss.old).seen.lsns 4 }
-    requires made { (view_of boss.old).standing.made ≡ [] }
-    requires enrolled { (view_of boss.old).standing.enrolled ≡ [] }
-    requires merged { (view_of boss.old).standing.merged ≡ [] }
-    ensures boss { IsOf table.now boss.new }
-    ensures flusher { (view_of boss.new).standing.role ≡ FlusherRole }
-    ensures durable { sent_to (view_of boss.new) ≡ 4 }
-    ensures unread { (view_of boss.new).sending.read ≡ [] }
-    ensures running { (view_of boss.new).sending.stop ≡ 0 }
-    ensures seen { Contains (view_of boss.new).seen.lsns 4 }
-    ensures told { knows_all_enrolled (view_of boss.new).standing ≡ true }
-    ensures seat { IsOf table.now result.0 }
-    ensures ready { IsReady (view_of result.0) }
-    ensures books { (view_of result.0).books ≡ no_books }
-    ensures entries { (view_of result.0).entries ≡ [] }
-    ensures worker { result.0.worker ≡ 0 }
-    ensures looker { IsOf table.now result.1 }
-{
-    let mut seat = table.split(boss, 0);
-    table.enroll(&mut seat);
-    let told = table.note(&mut seat);
-    table.merge(boss, told);
-    let looker = table.note(&mut seat);
-    (seat, looker)
-}
+use test_rig::{table_of, worker};
+use txn_runner::{Answer, Cause, Relief, Row, Rows, Worked};
 
 /// A relief that flushes, and first looks whether account 0 is held.
 #[derive(Drop)]
@@ -87,20 +48,6 @@ impl<'a, D: LogDisk, K: Sink> Relief for Looking<'a, D, K> {
     ghost later_trans = { λ first mid last before after. tt };
 }
 
-/// A transfer and one that takes it back, for one worker.
-fn two_jobs<R>(rt: &R, alloc: Global) -> Option<Jobs>
-    ensures allowed { IfSome result (λ jobs. All (IsAllowedJob 2) jobs.script) }
-    ensures workers { IfSome result (λ jobs. jobs.workers ≡ 1) }
-{
-    let Ok(script) = parse(alloc, b"pay 0 1 30\npay 1 0 30\n", 2) else {
-        return None;
-    };
-    if script.count() != 2 {
-        return None;
-    }
-    Jobs::make(rt, alloc, script, 1, 1).ok()
-}
-
 /// What a worker came to, its rows, what befell the daemon, and whether its accounts were held while it waited.
 type Outcome = (Worked, Rows, Option<DaemonFault>, bool);
 
@@ -113,29 +60,28 @@ fn work_and_flush<R: Wait, D: LogDisk>(
 ) -> Option<Outcome>
     requires { D.honest disk.old → IsStableGate 0 (D.images disk.old) }
 {
-    let (table, mut boss) = table_from_4(alloc, 100).ok()?;
-    let jobs = two_jobs(rt, alloc)?;
-    let Ok(mut rows) = Rows::make(alloc, jobs.count() as u32) else {
-        return None;
-    };
-    let (mut seat, looker) = one_worker(&table, &mut boss);
-    let daemon = daemon_on(alloc, 100, &table, boss, disk, sink)?;
+    let (table, mut boss) = table_of(alloc, (100, 0), 4).ok()?;
+    let jobs = jobs_of(rt, alloc, b"pay 0 1 30\npay 1 0 30\n", 1)?;
+    let mut seat = worker(&table, &mut boss, 0, 1);
+    let looker = table.note(&mut seat);
+    let daemon = daemon_on(alloc, (100, 0), &table, boss, disk, sink, Voice::Lines)?;
     let mut relief = Looking {
         flushing: FlushingRelief { daemon },
         table: &table,
         seat: looker,
         held: true,
     };
-    let worked = work(
+    let (worked, rows) = work_stripe(
         rt,
+        alloc,
         &table,
         &mut seat,
         &jobs,
-        &mut rows,
         &mut relief,
         true,
         &OpenGate,
-    );
+    )
+    .ok()?;
     table.leave(&mut seat);
     let fault = relief.flushing.daemon.fault();
     Some((worked, rows, fault, relief.held))
@@ -165,7 +111,7 @@ fn a_waiting_worker_flushes(rt: HostRuntime) -> Result<(), Fail> {
     let wanted = [durable_row(1, 9), durable_row(2, 14)];
     assert_eq!(rt; rows.as_slice(), wanted.as_slice());
     assert_eq!(rt; sink.bytes(), b"done 1 9\ndone 2 14\n".as_slice());
-    assert_eq!(rt; balances(alloc, &mut disk), Some((100, 0)));
+    assert_eq!(rt; recovered_balances(alloc, &mut disk), Some((100, 0)));
     Ok(())
 }
 

@@ -6,8 +6,6 @@ mod end_line;
 mod running;
 mod tally;
 mod telling;
-#[cfg(test)]
-mod tests;
 mod turning;
 mod voice;
 

@@ -1,3 +1,1 @@
 pub mod Locks
-pub mod Settled
-pub mod Transfers

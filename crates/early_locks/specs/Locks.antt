@@ -3,9 +3,11 @@ use Rattle.std.specs.Prelude.{◌≡◌, ◌≢◌, ℕ, ◌≤◌, MatchBool, t
 use Rattle.slot_word.specs.declared.account_word.AccountWord.{AccountWord}
 use Rattle.slot_word.specs.AccountWord.{word_of}
 use Rattle.lock_core.specs.History.{end_from}
-use Rattle.lock_core.specs.Transactions.{recs_of, has_end}
+use Rattle.lock_core.specs.Transactions.{recs_of, has_commit, has_end}
 use Rattle.log_table.specs.declared.table.Seat.{Seat}
 use Rattle.log_table.specs.declared.view.Books.{Books}
+use Rattle.log_table.specs.declared.view.Held.{Held as HeldAccount}
+use Rattle.log_table.specs.declared.view.Given.{Given}
 use Rattle.log_table.specs.declared.view.View.{View}
 use Rattle.log_table.specs.Accounts.{FollowsJob}
 use Rattle.log_table.specs.Books.{times_held, balance_taken, mark_taken, taking}
@@ -13,6 +15,21 @@ use Rattle.log_table.specs.Seats.{Becomes, view_of}
 use Rattle.log_table.specs.AccountViews.{saw_account, took_account}
 use Rattle.early_locks.specs.declared.taking.Taken.{Taken}
 use Rattle.early_locks.specs.declared.taking.Held.{Held}
+
+-- the account as it was taken
+abbrev pub held_of : Taken → HeldAccount
+held_of taken = record { account = taken.account; balance = taken.balance; mark = taken.mark }
+
+-- the account as a seat with this view gives it back
+abbrev pub given_at : View → Taken → Given
+given_at view taken = record {
+  txn = view.books.last.number;
+  account = taken.account;
+  balance = taken.balance;
+  tail = view.seen.tail;
+  durable = view.seen.durable;
+  committed = has_commit (recs_of view.books.placed);
+}
 
 -- the seat loaded the free word of the account and took it with these values, in two steps
 pub record HasTaken (old new : Seat) (account : ℕ) (taken : Taken) : Type 0 where

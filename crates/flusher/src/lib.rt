@@ -4,7 +4,5 @@
 mod draining;
 mod flusher;
 mod flushing;
-#[cfg(test)]
-mod tests;
 
 pub use flusher::{Drained, Flushed, Flusher};

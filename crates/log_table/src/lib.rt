@@ -9,8 +9,6 @@ mod plays;
 mod seating;
 mod steps;
 mod table;
-#[cfg(test)]
-mod tests;
 mod view;
 
 pub use closing::Closed;

@@ -8,10 +8,6 @@ mod inserting;
 mod placing;
 mod refused;
 mod releasing;
-#[cfg(test)]
-mod sending_tests;
-#[cfg(test)]
-mod tests;
 
 pub use call::{Filled, Look, Range};
 pub use filling::fill;

@@ -9,8 +9,7 @@ use Rattle.lock_core.specs.Alone.{planned_records, IsAllowedLeg}
 use Rattle.lock_core.specs.Transactions.{recs_of, in_order, has_commit}
 use Rattle.lock_core.specs.declared.job.Job.{Job}
 use Rattle.early_locks.specs.declared.taking.Taken.{Taken}
-use Rattle.early_locks.specs.Locks.{HoldsTaken}
-use Rattle.early_locks.specs.Transfers.{held_of, given_at}
+use Rattle.early_locks.specs.Locks.{HoldsTaken, held_of, given_at}
 use Rattle.log_table.specs.declared.table.Seat.{Seat}
 use Rattle.log_table.specs.declared.view.Books.{Books}
 use Rattle.log_table.specs.declared.view.Entry.{Entry}

@@ -10,8 +10,7 @@ use Rattle.log_table.specs.declared.view.View.{View}
 use Rattle.log_table.specs.Seats.{view_of}
 use Rattle.ring_buffer.specs.Calls.{IsSameWorker, HasEntries}
 use Rattle.early_locks.specs.declared.taking.Taken.{Taken}
-use Rattle.early_locks.specs.Locks.{GivesBack}
-use Rattle.early_locks.specs.Transfers.{held_of, given_at}
+use Rattle.early_locks.specs.Locks.{GivesBack, held_of, given_at}
 use Rattle.txn_runner.specs.declared.giving.Release.{Release}
 use Rattle.txn_runner.specs.declared.giving.Release.TheVariants.{Unchanged, Committed}
 use Rattle.txn_runner.specs.declared.holding.Holding.{Holding}

@@ -10,10 +10,10 @@ use log_record::MOST_LEGS;
 use lock_core::Job;
 
 /// The most accounts of a transfer: two for each leg.
-pub(crate) const MOST_PARTIES: usize = 2 * MOST_LEGS as usize;
+pub const MOST_PARTIES: usize = 2 * MOST_LEGS as usize;
 
 /// The accounts of the transfer in ascending order, none of them twice.
-pub(crate) fn accounts_of(job: &Job) -> ArrayVec<u32, MOST_PARTIES>
+pub fn accounts_of(job: &Job) -> ArrayVec<u32, MOST_PARTIES>
     ensures rising { IsStrictlyIncreasing result.items }
     ensures all { All (HasAccountsOf result.items) job.now.legs }
     ensures only { All (IsAccountOf job.now.legs) result.items }
@@ -55,33 +55,5 @@ fn add(accounts: &mut ArrayVec<u32, MOST_PARTIES>, account: u32)
 {
     if let Err(place) = accounts.as_slice().binary_search(&account) {
         accounts.insert(place, account);
-    }
-}
-
-#[cfg(test)]
-mod tests {
-    use super::*;
-    use lock_core::Legs;
-
-    #[test]
-    fn each_account_stands_once_and_in_order(rt: HostRuntime) {
-        let cases: [(&[(u32, u32, u32)], &[u32]); 4] = [
-            (&[(0, 1, 30)], &[0, 1]),
-            (&[(4095, 0, 1)], &[0, 4095]),
-            (&[(0, 1, 60), (1, 0, 20)], &[0, 1]),
-            (
-                &[(5, 2, 1), (2, 7, 3), (5, 7, 1), (0, 9, 1)],
-                &[0, 2, 5, 7, 9],
-            ),
-        ];
-        for (list, wanted) in cases {
-            let mut legs = Legs::new();
-            for leg in list {
-                assert!(rt; legs.as_slice().len() < usize::from(MOST_LEGS));
-                legs.push(*leg);
-            }
-            let accounts = accounts_of(&Job { legs, note: None });
-            assert_eq!(rt; accounts.as_slice(), wanted);
-        }
     }
 }

@@ -14,12 +14,11 @@ mod relief;
 mod rows;
 mod stripes;
 mod taking;
-#[cfg(test)]
-mod tests;
 mod transfer;
 mod waiting;
 mod worker;
 
+pub use accounts::{MOST_PARTIES, accounts_of};
 pub use cause::{Cause, Worked};
 pub use jobs::Jobs;
 pub use relief::{Relief, YieldRelief};

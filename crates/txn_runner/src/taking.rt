@@ -6,7 +6,7 @@ ghost use Rattle.log_table.specs.Books.{taking};
 ghost use Rattle.log_table.specs.May.{HasBegunNothing};
 ghost use Rattle.log_table.specs.Seats.{IsOf, view_of};
 ghost use Rattle.ring_buffer.specs.Calls.{IsReady, HasEntries};
-ghost use Rattle.early_locks.specs.Transfers.{held_of};
+ghost use Rattle.early_locks.specs.Locks.{held_of};
 ghost use Rattle.txn_runner.specs.declared.accounts.TheConstants.{MOST_PARTIES};
 ghost use Rattle.txn_runner.specs.Holdings.{TakesAll, KeepsGiven, KeepsBooks};
 ghost use Rattle.txn_runner.specs.Inserts.{StopsFor};

@@ -1,0 +1,184 @@
+//! A transfer that a worker inserts and a daemon reports, with faults of the disk and of the sink.
+ghost use Rattle.std.specs.Prelude.{◌≡◌, ◌<◌, [], true, OnOk};
+ghost use Rattle.log_disk.specs.Disk.{IsOnlyImage};
+ghost use Rattle.log_disk.specs.MemoryDisks.{ImagesOf};
+ghost use Rattle.log_table.specs.Seats.{IsOf, view_of};
+ghost use Rattle.log_table.specs.Views.{knows_all_enrolled};
+ghost use Rattle.ring_buffer.specs.Calls.{IsReady};
+ghost use Rattle.commit_pipeline.specs.Turning.{MayTurn};
+ghost use Rattle.test_rig.specs.NotedJobs.{IsNew};
+
+use commit_pipeline::{Daemon, DaemonFault, Turn, Voice};
+use flusher::Drained;
+use log_disk::{LogDisk, MemoryDisk, MemorySink, OpenGate};
+use log_table::{LogTable, Seat};
+use lsn_space::{Lsn, NoMemory};
+use run_rig::{CREATED, daemon_on, thirties, work_stripe};
+use std::alloc::Global;
+use std::process::Abort;
+use std::sync::Wait;
+use std::test::Fail;
+use test_rig::{table_of, worker};
+use txn_runner::{Worked, YieldRelief};
+
+/// The log of the two accounts, and the transfer behind it.
+const ONE_TRANSFER_LOG: [u8; 90] = [
+    0x4f, b'A', b'E', b'T', b'H', b'E', b'R', b'1', 0, 0, 0, 4, //
+    1, 2, 0, 0, 0, 0, 0, 0, 0, 0, 0, 0, 0, 0, 0, 100, //
+    1, 2, 0, 1, 0, 0, 0, 0, 0, 0, 0, 0, 0, 0, 0, 0, //
+    0x4f, 0, 0, 0, 5, //
+    2, 2, 0, 0, 0, 0, 0, 1, 0xff, 0xff, 0xff, 0xe2, 0, 0, 0, 0, //
+    2, 2, 0, 1, 0, 0, 0, 1, 0, 0, 0, 0x1e, 0, 0, 0, 0, //
+    3, 1, 0, 1, 0, 0, 0, 1, 0,
+];
+
+/// A worker makes a transfer of 30 from account 0 to account 1, under number 1, and waits for nothing.
+fn transfer<R: Wait + Abort>(rt: &R, alloc: Global, table: &LogTable, seat: &mut Seat)
+    requires unused { IsNew table.now seat.old }
+    requires first { seat.old.worker < 1 }
+    requires accounts { table.now.accounts ≡ 2 }
+    ensures seat { IsOf table.now seat.new }
+    ensures ready { IsReady (view_of seat.new) }
+    ensures none_held { (view_of seat.new).books.held ≡ [] }
+{
+    let Some(jobs) = thirties(rt, alloc, 1, 1) else {
+        panic!(rt; "no memory");
+    };
+    let mut relief = YieldRelief::new();
+    let came = work_stripe(rt, alloc, table, seat, &jobs, &mut relief, false, &OpenGate);
+    let Ok((worked, _rows)) = came else {
+        panic!(rt; "no memory");
+    };
+    assert!(rt; worked == Worked::All, "the transfer was not made");
+}
+
+/// Whether the log has come to its end.
+fn ask(daemon: &mut Daemon<MemoryDisk, MemorySink>) -> Drained
+    requires ready { MayTurn ⟦<MemoryDisk as LogDisk>⟧ daemon.old }
+    requires told { knows_all_enrolled (view_of daemon.old.flusher.seat).standing ≡ true }
+    ensures ready { MayTurn ⟦<MemoryDisk as LogDisk>⟧ daemon.new }
+    ensures told { knows_all_enrolled (view_of daemon.new.flusher.seat).standing ≡ true }
+{
+    daemon.flusher.drained()
+}
+
+/// One turn, which is one of several.
+fn turn(daemon: &mut Daemon<MemoryDisk, MemorySink>) -> Result<Turn, DaemonFault>
+    requires ready { MayTurn ⟦<MemoryDisk as LogDisk>⟧ daemon.old }
+    requires told { knows_all_enrolled (view_of daemon.old.flusher.seat).standing ≡ true }
+    ensures ready { OnOk result (MayTurn ⟦<MemoryDisk as LogDisk>⟧ daemon.new) }
+    ensures told { knows_all_enrolled (view_of daemon.new.flusher.seat).standing ≡ true }
+{
+    daemon.turn()
+}
+
+/// What a daemon answers while a worker that inserted a transfer is active, and once it has ended.
+fn report_one<R: Wait + Abort>(
+    rt: &R,
+    alloc: Global,
+    disk: &mut MemoryDisk,
+    sink: &mut MemorySink,
+) -> Option<[(Drained, Turn); 2]>
+    requires { IsOnlyImage [] (ImagesOf disk.old) }
+{
+    let (table, mut boss) = table_of(alloc, (100, 0), 4).ok()?;
+    let mut seat = worker(&table, &mut boss, 0, 1);
+    let mut daemon = daemon_on(alloc, (100, 0), &table, boss, disk, sink, Voice::Lines)?;
+    transfer(rt, alloc, &table, &mut seat);
+    let active = ask(&mut daemon);
+    let sent = turn(&mut daemon).ok()?;
+    table.leave(&mut seat);
+    let at_end = ask(&mut daemon);
+    let idle = turn(&mut daemon).ok()?;
+    Some([(active, sent), (at_end, idle)])
+}
+
+#[test]
+fn one_transfer(rt: HostRuntime) -> Result<(), Fail> {
+    let mut disk = MemoryDisk::make(rt.alloc(), &[], 1000, &[])?;
+    let mut sink = MemorySink::make(rt.alloc(), 100, &[])?;
+    let told = report_one(&rt, rt.alloc(), &mut disk, &mut sink);
+    let to = Lsn::new(9);
+    let first = (Drained::Active(1), Turn::Sent { lines: 1, to });
+    assert_eq!(rt; told, Some([first, (Drained::At(to), Turn::Idle)]));
+    assert_eq!(rt; sink.bytes(), b"done 1 9\n".as_slice());
+    assert_eq!(rt; disk.bytes(), ONE_TRANSFER_LOG.as_slice());
+    Ok(())
+}
+
+/// What a daemon that only counts answers once the worker has ended, before any turn and at the end, and what it counted.
+fn count_one<R: Wait + Abort>(
+    rt: &R,
+    alloc: Global,
+    disk: &mut MemoryDisk,
+    sink: &mut MemorySink,
+) -> Option<(Drained, Lsn, [u32; 2])>
+    requires { IsOnlyImage [] (ImagesOf disk.old) }
+{
+    let (table, mut boss) = table_of(alloc, (100, 0), 4).ok()?;
+    let mut seat = worker(&table, &mut boss, 0, 1);
+    let mut daemon = daemon_on(alloc, (100, 0), &table, boss, disk, sink, Voice::Count)?;
+    transfer(rt, alloc, &table, &mut seat);
+    table.leave(&mut seat);
+    let behind = ask(&mut daemon);
+    let end = daemon.run_until_drained(rt).ok()?;
+    Some((behind, end, [daemon.done(), daemon.refused()]))
+}
+
+#[test]
+fn behind_until_sent(rt: HostRuntime) -> Result<(), Fail> {
+    let mut disk = MemoryDisk::make(rt.alloc(), &[], 1000, &[])?;
+    let mut sink = MemorySink::make(rt.alloc(), 100, &[])?;
+    let told = count_one(&rt, rt.alloc(), &mut disk, &mut sink);
+    let (exposed, durable) = (Lsn::new(9), Lsn::new(4));
+    assert_eq!(rt;
+        told,
+        Some((Drained::Behind { exposed, durable }, exposed, [1, 0]))
+    );
+    assert!(rt; sink.bytes().is_empty());
+    assert_eq!(rt; disk.bytes(), ONE_TRANSFER_LOG.as_slice());
+    Ok(())
+}
+
+/// The stop word that a worker reads after one turn, and what the turn answers, where these calls of the disk and of the
+/// sink fail.
+fn faulty_turn<R: Wait + Abort>(
+    rt: &R,
+    alloc: Global,
+    disk_failing: &[u64],
+    sink_failing: &[u64],
+) -> Result<(Result<Turn, DaemonFault>, u64), NoMemory> {
+    let (table, mut boss) = table_of(alloc, (100, 0), 4)?;
+    let mut seat = worker(&table, &mut boss, 0, 1);
+    let mut disk = MemoryDisk::make(alloc, &[], 1000, disk_failing)?;
+    let mut sink = MemorySink::make(alloc, 100, sink_failing)?;
+    let (disk, sink) = (&mut disk, &mut sink);
+    let daemon = daemon_on(alloc, (100, 0), &table, boss, disk, sink, Voice::Lines);
+    let Some(mut daemon) = daemon else {
+        return Err(NoMemory);
+    };
+    transfer(rt, alloc, &table, &mut seat);
+    let answer = turn(&mut daemon);
+    Ok((answer, table.load_stop(&mut seat)))
+}
+
+#[test]
+fn faults_are_told_by_the_stop_word(rt: HostRuntime) -> Result<(), Fail> {
+    let sent = Turn::Sent {
+        lines: 1,
+        to: Lsn::new(9),
+    };
+    for call in 1..5 {
+        let (answer, stop) = faulty_turn(&rt, rt.alloc(), &[CREATED + call], &[])?;
+        assert_eq!(rt;
+            (answer, stop),
+            (Err(DaemonFault::DiskFault), 1),
+            "call {call}"
+        );
+    }
+    let (answer, stop) = faulty_turn(&rt, rt.alloc(), &[], &[1])?;
+    assert_eq!(rt; (answer, stop), (Err(DaemonFault::WriteFault), 2));
+    let (answer, stop) = faulty_turn(&rt, rt.alloc(), &[], &[])?;
+    assert_eq!(rt; (answer, stop), (Ok(sent), 0));
+    Ok(())
+}

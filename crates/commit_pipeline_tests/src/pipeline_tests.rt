@@ -1,0 +1,274 @@
+//! Two threads that insert notes or transfers while a daemon sends them to a disk, and what is recovered there.
+ghost use Rattle.std.specs.Prelude.{◌≡◌, ◌≤◌, ◌<◌, ◌+◌, true, All};
+ghost use Rattle.log_table.specs.Seats.{IsOf, view_of};
+ghost use Rattle.log_table.specs.Views.{knows_all_enrolled};
+ghost use Rattle.segment_file.specs.Standing.{IsStableGate};
+ghost use Rattle.lock_core.specs.Transfers.{IsAllowedJob};
+ghost use Rattle.commit_pipeline.specs.Turning.{MayTurn};
+ghost use Rattle.test_rig.specs.NotedJobs.{IsNotedJob, IsNew, MayInsert};
+
+use commit_pipeline::{Daemon, DaemonFault, Voice};
+use log_disk::{FileDisk, LogDisk, MemoryDisk, MemorySink, OpenGate};
+use log_table::{LogTable, Seat};
+use lsn_space::{Lsn, Word};
+use run_rig::{CREATED, daemon_on, recovered_balances, recovered_end, thirties, work_stripe};
+use std::alloc::Global;
+use std::fs;
+use std::sync::Wait;
+use std::test::Fail;
+use std::thread::{Threads, join};
+use test_rig::{insert_all, noted_job, table_of, worker};
+use txn_runner::{Jobs, YieldRelief};
+use lock_core::Job;
+
+/// What account 0 begins with; account 1 begins with nothing.
+const RICH: u32 = 100_000;
+
+/// How many notes each thread inserts, of two units each.
+const NOTES: u32 = 20;
+
+/// The end of the log with all notes.
+const END: u32 = 4 + 2 * 2 * NOTES;
+
+/// How many transfers each thread makes, of five units each.
+const TRANSFERS: u32 = 500;
+
+/// The end of the log with all transfers.
+const TRANSFERS_END: u32 = 4 + 5 * 2 * TRANSFERS;
+
+/// What a run of the daemon came to: its answer, durable, and how many units were in flight.
+type Outcome = (Result<Lsn, DaemonFault>, Lsn, u32);
+
+/// Turns until the log is drained, or a fault comes.
+fn finish<R: Wait, D: LogDisk>(rt: &R, daemon: &mut Daemon<D, MemorySink>) -> Outcome
+    requires ready { MayTurn D.LogDisk daemon.old }
+    requires told { knows_all_enrolled (view_of daemon.old.flusher.seat).standing ≡ true }
+{
+    let answer = daemon.run_until_drained(rt);
+    let durable = daemon.flusher.tail.next;
+    let flying = daemon.flusher.batch.count();
+    (answer, durable, flying)
+}
+
+/// A worker's whole life: so many notes, under numbers from this on, and the end.
+fn insert<R: Wait>(rt: &R, table: &LogTable, mut seat: Seat, first: u32, job: &Job) -> u32
+    requires worker { MayInsert table.now first seat }
+    requires numbers { first < 1000 }
+    requires accounts { table.now.accounts ≡ 2 }
+    requires job { IsNotedJob job.now }
+{
+    let (done, _) = insert_all(rt, table, &mut seat, first, NOTES, job);
+    table.leave(&mut seat);
+    done
+}
+
+/// Both workers insert notes, each in a thread.
+fn insert_both<R: Threads + Wait + Sync>(
+    rt: &R,
+    table: &LogTable,
+    one: Seat,
+    two: Seat,
+    job: &Job,
+) -> u32
+    requires one { MayInsert table.now 1 one }
+    requires two { MayInsert table.now 501 two }
+    requires accounts { table.now.accounts ≡ 2 }
+    requires job { IsNotedJob job.now }
+{
+    let (first, second) = join(
+        rt,
+        move ||
+            requires { MayInsert table.now 1 one × (table.now.accounts ≡ 2) × IsNotedJob job.now }
+        { insert(rt, table, one, 1, job) },
+        move ||
+            requires { MayInsert table.now 501 two × (table.now.accounts ≡ 2) × IsNotedJob job.now }
+        { insert(rt, table, two, 501, job) },
+    );
+    first.saturating_add(second)
+}
+
+/// Turns to the end, beside two threads that insert notes; also how many were inserted.
+fn run_notes<R: Threads + Wait + Sync, D: LogDisk>(
+    rt: &R,
+    alloc: Global,
+    disk: &mut D,
+    sink: &mut MemorySink,
+) -> Option<(u32, Outcome)>
+    requires { D.honest disk.old → IsStableGate 0 (D.images disk.old) }
+{
+    let (table, mut boss) = table_of(alloc, (RICH, 0), 4).ok()?;
+    let one = worker(&table, &mut boss, 0, 1);
+    let two = worker(&table, &mut boss, 1, 501);
+    let mut daemon = daemon_on(alloc, (RICH, 0), &table, boss, disk, sink, Voice::Lines)?;
+    let note = noted_job(b"a")?;
+    let (t, job) = (&table, &note);
+    Some(join(
+        rt,
+        move ||
+            requires { MayInsert t.now 1 one × MayInsert t.now 501 two × (t.now.accounts ≡ 2) × IsNotedJob job.now }
+        { insert_both(rt, t, one, two, job) },
+        move ||
+            requires { MayTurn D.LogDisk daemon × (knows_all_enrolled (view_of daemon.flusher.seat).standing ≡ true) }
+        { finish(rt, &mut daemon) },
+    ))
+}
+
+/// A worker's whole life: the transfers of its stripe, and the end. Answers how many rows it has.
+fn transfer<R: Wait>(rt: &R, alloc: Global, table: &LogTable, mut seat: Seat, jobs: &Jobs) -> usize
+    requires unused { IsNew table.now seat }
+    requires worker { seat.worker < jobs.now.workers }
+    requires allowed { All (IsAllowedJob table.now.accounts) jobs.now.script }
+{
+    let mut relief = YieldRelief::new();
+    let came = work_stripe(
+        rt,
+        alloc,
+        table,
+        &mut seat,
+        jobs,
+        &mut relief,
+        false,
+        &OpenGate,
+    );
+    let Ok((_worked, rows)) = came else {
+        return 0;
+    };
+    table.leave(&mut seat);
+    rows.as_slice().len()
+}
+
+/// Both workers make transfers, each in a thread.
+fn transfer_both<R: Threads + Wait + Sync>(
+    rt: &R,
+    alloc: Global,
+    table: &LogTable,
+    one: Seat,
+    two: Seat,
+    jobs: &Jobs,
+) -> usize
+    requires one { IsNew table.now one × (one.worker < jobs.now.workers) }
+    requires two { IsNew table.now two × (two.worker < jobs.now.workers) }
+    requires allowed { All (IsAllowedJob table.now.accounts) jobs.now.script }
+{
+    let (first, second) = join(
+        rt,
+        move ||
+            requires { IsNew table.now one × (one.worker < jobs.now.workers) × All (IsAllowedJob table.now.accounts) jobs.now.script }
+        { transfer(rt, alloc, table, one, jobs) },
+        move ||
+            requires { IsNew table.now two × (two.worker < jobs.now.workers) × All (IsAllowedJob table.now.accounts) jobs.now.script }
+        { transfer(rt, alloc, table, two, jobs) },
+    );
+    first.saturating_add(second)
+}
+
+/// Turns to the end, beside two threads that make the transfers; also how many rows they have.
+fn run_transfers<R: Threads + Wait + Sync, D: LogDisk>(
+    rt: &R,
+    alloc: Global,
+    disk: &mut D,
+    sink: &mut MemorySink,
+) -> Option<(usize, Outcome)>
+    requires { D.honest disk.old → IsStableGate 0 (D.images disk.old) }
+{
+    let (table, mut boss) = table_of(alloc, (RICH, 0), 4).ok()?;
+    let one = worker(&table, &mut boss, 0, 1);
+    let two = worker(&table, &mut boss, 1, 1);
+    let mut daemon = daemon_on(alloc, (RICH, 0), &table, boss, disk, sink, Voice::Lines)?;
+    let script = thirties(rt, alloc, 2 * TRANSFERS, 2)?;
+    let (t, jobs) = (&table, &script);
+    Some(join(
+        rt,
+        move ||
+            requires { (IsNew t.now one × (one.worker < jobs.now.workers)) × (IsNew t.now two × (two.worker < jobs.now.workers)) × All (IsAllowedJob t.now.accounts) jobs.now.script }
+        { transfer_both(rt, alloc, t, one, two, jobs) },
+        move ||
+            requires { MayTurn D.LogDisk daemon × (knows_all_enrolled (view_of daemon.flusher.seat).standing ≡ true) }
+        { finish(rt, &mut daemon) },
+    ))
+}
+
+#[test]
+fn two_threads_and_a_daemon(rt: HostRuntime) -> Result<(), Fail> {
+    let alloc = rt.alloc();
+    let mut disk = MemoryDisk::make(alloc, &[], 20_000, &[])?;
+    let mut sink = MemorySink::make(alloc, 100, &[])?;
+    let Some((inserted, (answer, durable, _))) = run_notes(&rt, alloc, &mut disk, &mut sink) else {
+        return Err(Fail::new("no memory"));
+    };
+    let end = Lsn::new(END);
+    assert_eq!(rt; (inserted, answer, durable), (2 * NOTES, Ok(end), end));
+    assert_eq!(rt; recovered_end(alloc, &mut disk), Some(end));
+    Ok(())
+}
+
+#[test]
+fn a_thousand_transfers(rt: HostRuntime) -> Result<(), Fail> {
+    let alloc = rt.alloc();
+    let mut disk = MemoryDisk::make(alloc, &[], 200_000, &[])?;
+    let mut sink = MemorySink::make(alloc, 20_000, &[])?;
+    let run = run_transfers(&rt, alloc, &mut disk, &mut sink);
+    let Some((made, (answer, durable, _))) = run else {
+        return Err(Fail::new("no memory"));
+    };
+    let end = Lsn::new(TRANSFERS_END);
+    assert_eq!(rt;
+        (made, answer, durable),
+        (2 * TRANSFERS as usize, Ok(end), end)
+    );
+    assert_eq!(rt;
+        recovered_balances(alloc, &mut disk),
+        Some((70_000, 30_000))
+    );
+    Ok(())
+}
+
+/// After a fault of the disk a crash leaves the log up to durable, or up to the end of the batch in flight.
+#[test]
+fn the_disk_fails_beside_two_threads(rt: HostRuntime) -> Result<(), Fail> {
+    let alloc = rt.alloc();
+    for call in 1..9 {
+        for pick in [0, 1, 77, 12_345] {
+            let mut disk = MemoryDisk::make(alloc, &[], 20_000, &[CREATED + call])?;
+            let mut sink = MemorySink::make(alloc, 100, &[])?;
+            let Some((_, (answer, durable, flying))) = run_notes(&rt, alloc, &mut disk, &mut sink)
+            else {
+                return Err(Fail::new("no memory"));
+            };
+            let mut left = disk.crash(pick);
+            // A call that the run did not come to fails here, once.
+            let first = recovered_end(alloc, &mut left);
+            let second = recovered_end(alloc, &mut left);
+            let Some(found) = first.or(second) else {
+                return Err(Fail::new("no log is left"));
+            };
+            let longer = durable.plus(flying);
+            match answer {
+                Ok(end) => assert_eq!(rt; (end, found), (Lsn::new(END), end), "call {call}"),
+                Err(_) => assert!(rt; found == durable || Some(found) == longer, "call {call}"),
+            }
+        }
+    }
+    Ok(())
+}
+
+#[test]
+fn two_threads_and_a_real_file(rt: HostRuntime) -> Result<(), Fail> {
+    let Ok(name) = Word::make(rt.alloc(), "pipeline_test.log") else {
+        return Err(Fail::new("no memory"));
+    };
+    let _ = fs::remove_file(&rt, name.text());
+    let mut disk = FileDisk::make(rt);
+    assert_eq!(rt; disk.attach(&name, true), Ok(()));
+    let mut sink = MemorySink::make(rt.alloc(), 100, &[])?;
+    let Some((_, (answer, _, _))) = run_notes(&rt, rt.alloc(), &mut disk, &mut sink) else {
+        return Err(Fail::new("no memory"));
+    };
+    let end = Lsn::new(END);
+    assert_eq!(rt; answer, Ok(end));
+    let mut again = FileDisk::make(rt);
+    assert_eq!(rt; again.attach(&name, false), Ok(()));
+    assert_eq!(rt; recovered_end(rt.alloc(), &mut again), Some(end));
+    assert!(rt; fs::remove_file(&rt, name.text()).is_ok());
+    Ok(())
+}

@@ -1,7 +1,0 @@
-use Rattle.std.proofs.Common.{◌≡◌}
-use Rattle.log_table.specs.Seats.{IsOf, view_of}
-use Rattle.log_table.specs.Views.{read_to, sent_to}
-use Rattle.early_locks.proofs.tests.send_all.Given as goal
-
-abbrev pub invariant-loop-at : goal.invariant-loop-at
-invariant-loop-at l = IsOf l.table l.boss × ((view_of l.boss).standing ≡ (view_of l.initial.boss).standing) × (sent_to (view_of l.boss) ≡ 4) × (read_to (view_of l.boss) ≡ l.at) × ((view_of l.boss).sending.exposed ≡ l.to)

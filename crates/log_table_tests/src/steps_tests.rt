@@ -1,0 +1,80 @@
+//! The steps of a flusher and of a note, on one thread.
+ghost use Rattle.std.specs.Prelude.{◌≡◌};
+ghost use Rattle.log_table.specs.May.{MaySplit};
+ghost use Rattle.log_table.specs.Seats.{IsOf, view_of};
+ghost use Rattle.log_table.specs.CrewViews.{hires, hired, enrolled};
+
+use log_table::{LogTable, Seat};
+use lsn_space::Lsn;
+use std::test::Fail;
+use test_rig::table_of;
+
+/// An enrolled worker, of which the flusher's seat knows nothing but its number.
+fn worker(table: &LogTable, boss: &mut Seat, number: u32) -> Seat
+    requires boss { IsOf table.now boss.old }
+    requires may { MaySplit number (view_of boss.old) }
+    ensures boss { IsOf table.now boss.new }
+    ensures hires { view_of boss.new ≡ hires number (view_of boss.old) }
+    ensures seat { IsOf table.now result }
+    ensures view { view_of result ≡ enrolled (hired number (view_of boss.old)) }
+{
+    let mut seat = table.split(boss, number);
+    table.enroll(&mut seat);
+    seat
+}
+
+#[test]
+fn a_worker_sees_the_stop_word(rt: HostRuntime) -> Result<(), Fail> {
+    let (table, mut boss) = table_of(rt.alloc(), (100, 0), 4)?;
+    let mut seat = worker(&table, &mut boss, 7);
+    assert_eq!(rt; seat.worker(), 7);
+    assert_eq!(rt; table.load_stop(&mut seat), 0);
+    table.store_stop(&mut boss, 2);
+    assert_eq!(rt; table.load_stop(&mut seat), 2);
+    assert_eq!(rt; table.load_stop(&mut boss), 2);
+    table.leave(&mut seat);
+    table.merge(&mut boss, seat);
+    assert_eq!(rt; table.close(boss).lsn(), Lsn::new(4));
+    Ok(())
+}
+
+#[test]
+fn the_crew_is_counted(rt: HostRuntime) -> Result<(), Fail> {
+    let (table, mut boss) = table_of(rt.alloc(), (100, 0), 4)?;
+    assert_eq!(rt; table.load_crew(&mut boss), 0);
+    let mut one = worker(&table, &mut boss, 0);
+    let mut two = worker(&table, &mut boss, 1);
+    assert_eq!(rt; table.load_crew(&mut boss), 2);
+    table.leave(&mut two);
+    assert_eq!(rt; table.load_crew(&mut boss), 1);
+    table.leave(&mut one);
+    assert_eq!(rt; table.load_crew(&mut boss), 0);
+    Ok(())
+}
+
+#[test]
+fn a_note_leaves_its_worker_to_be_merged(rt: HostRuntime) -> Result<(), Fail> {
+    let (table, mut boss) = table_of(rt.alloc(), (100, 0), 4)?;
+    let mut seat = worker(&table, &mut boss, 5);
+    let note = table.note(&mut seat);
+    assert_eq!(rt; note.worker(), 5);
+    table.merge(&mut boss, note);
+    table.leave(&mut seat);
+    table.merge(&mut boss, seat);
+    let closed = table.close(boss);
+    assert_eq!(rt; closed.lsn(), Lsn::new(4));
+    Ok(())
+}
+
+#[test]
+fn nothing_read_may_be_sent(rt: HostRuntime) -> Result<(), Fail> {
+    let (table, mut boss) = table_of(rt.alloc(), (100, 0), 4)?;
+    let exposed = table.load_exposed(&mut boss);
+    assert_eq!(rt; exposed, Lsn::new(4));
+    let durable = table.load_durable(&mut boss);
+    if exposed == durable {
+        table.store_durable(&mut boss, exposed);
+    }
+    assert_eq!(rt; table.load_durable(&mut boss), Lsn::new(4));
+    Ok(())
+}

@@ -1,0 +1,60 @@
+//! A table of two accounts, its workers, and a job between the two.
+ghost use Rattle.std.specs.Prelude.{◌≡◌, ◌≤◌, ◌+◌, [], ◌∷◌, None, IfOk};
+ghost use Rattle.log_record.specs.declared.limits.TheConstants.{MOST_BALANCE};
+ghost use Rattle.log_record.specs.Spelling.{IsTxn};
+ghost use Rattle.lock_core.specs.Transfers.{IsAllowedJob};
+ghost use Rattle.log_table.specs.Hiring.{HasHired};
+ghost use Rattle.log_table.specs.Seats.{view_of, key_of};
+ghost use Rattle.test_rig.specs.NotedJobs.{IsNew, MayInsert};
+
+use log_table::{LogTable, Seat, Start};
+use lsn_space::{Balances, Lsn, NoMemory};
+use std::alloc::Global;
+use lock_core::{Job, Legs};
+
+/// A table of two accounts with these balances, over a log that ends here, and the flusher's seat. The
+/// ring has 1024 units.
+pub fn table_of(alloc: Global, balances: (u32, u32), end: u32) -> Result<(LogTable, Seat), NoMemory>
+    requires balances { (balances.0 ≤ MOST_BALANCE) × (balances.1 ≤ MOST_BALANCE) }
+    ensures boss { IfOk result (λ made. HasHired made.0 0 made.1) }
+    ensures ring { IfOk result (λ made. made.0.ring ≡ 1024) }
+    ensures accounts { IfOk result (λ made. made.0.accounts ≡ 2) }
+    ensures start { IfOk result (λ made. (key_of made.0).start ≡ end) }
+    ensures rows { IfOk result (λ made. (key_of made.0).accounts.rows ≡ (balances.0, 0) ∷ (balances.1, 0) ∷ []) }
+{
+    let mut accounts = Balances::make(alloc, 2)?;
+    accounts.push(balances.0, 0);
+    accounts.push(balances.1, 0);
+    LogTable::make(
+        alloc,
+        Start {
+            start: Lsn::new(end),
+            ring: 1024,
+            slots: 0,
+            accounts,
+        },
+    )
+}
+
+/// The worker of the next number, whose first job may have this transaction number or one above it.
+pub fn worker(table: &LogTable, boss: &mut Seat, number: u32, first: u32) -> Seat
+    requires boss { HasHired table.now number boss.old }
+    requires first { IsTxn first }
+    ensures boss { HasHired table.now (number + 1) boss.new }
+    ensures worker { result.worker ≡ number }
+    ensures unused { IsNew table.now result }
+    ensures free { MayInsert table.now first result }
+{
+    table.hire(boss, number)
+}
+
+/// A job that moves so much from account 0 to account 1.
+pub fn job_of(amount: u32) -> Job
+    requires amount { (1 ≤ amount) × (amount ≤ MOST_BALANCE) }
+    ensures job { result ≡ record { legs = (0, 1, amount) ∷ []; note = None } }
+    ensures allowed { IsAllowedJob 2 result }
+{
+    let mut legs = Legs::new();
+    legs.push((0, 1, amount));
+    Job { legs, note: None }
+}

@@ -1,0 +1,71 @@
+//! A worker alone waits for nobody.
+ghost use Rattle.std.specs.Prelude.{◌≡◌, ◌<◌, false, All, IfOk};
+ghost use Rattle.lock_core.specs.Transfers.{IsAllowedJob};
+ghost use Rattle.log_table.specs.declared.view.Role.TheVariants.{Ended};
+ghost use Rattle.log_table.specs.Seats.{IsOf, view_of};
+ghost use Rattle.txn_runner.specs.Stripes.{HasStripe, stripe_jobs};
+ghost use Rattle.txn_runner.specs.Working.{Works, taken_in};
+ghost use Rattle.test_rig.specs.NotedJobs.{IsNew};
+
+use schedule_hook::OpenGate;
+use log_table::{LogTable, Seat};
+use lsn_space::NoMemory;
+use run_rig::work_stripe;
+use std::alloc::Global;
+use std::process::Abort;
+use std::sync::Wait;
+use txn_runner::{Jobs, Relief, Rows, Worked};
+
+#[derive(Drop)]
+pub(crate) struct NeverRests<'a, R> {
+    pub rt: &'a R,
+}
+
+impl<'a, R: Abort> Relief for NeverRests<'a, R> {
+    ghost use Rattle.std.specs.Prelude.{⊤};
+
+    ghost ready = { λ relief. ⊤ };
+
+    ghost later = { λ old new. ⊤ };
+
+    fn rest(&mut self) {
+        panic!(self.rt; "a worker alone has waited");
+    }
+
+    ghost later_refl = { λ relief. tt };
+
+    ghost later_trans = { λ first mid last before after. tt };
+}
+
+/// A worker's whole work: how it ended, and its rows. Its seat comes back as one that has left.
+pub(crate) fn work_alone<R: Wait + Abort>(
+    rt: &R,
+    alloc: Global,
+    table: &LogTable,
+    mut seat: Seat,
+    jobs: &Jobs,
+) -> Result<(Worked, Rows, Seat), NoMemory>
+    requires unused { IsNew table.now seat }
+    requires worker { seat.worker < jobs.now.workers }
+    requires allowed { All (IsAllowedJob table.now.accounts) jobs.now.script }
+    ensures seat { IfOk result (λ came. IsOf table.now came.2) }
+    ensures ended { IfOk result (λ came. (view_of came.2).standing.role ≡ Ended) }
+    ensures number { IfOk result (λ came. (view_of came.2).standing.worker ≡ seat.worker) }
+    ensures jobs { IfOk result (λ came. (view_of came.2).books.jobs ≡ stripe_jobs jobs.now seat.worker (taken_in came.1)) }
+    ensures stripe { IfOk result (λ came. HasStripe jobs.now seat.worker (taken_in came.1)) }
+    ensures works { IfOk result (λ came. Works jobs.now seat.worker 0 (taken_in came.1) false came.0 (view_of came.2)) }
+{
+    let mut relief = NeverRests { rt };
+    let (worked, rows) = work_stripe(
+        rt,
+        alloc,
+        table,
+        &mut seat,
+        jobs,
+        &mut relief,
+        false,
+        &OpenGate,
+    )?;
+    table.leave(&mut seat);
+    Ok((worked, rows, seat))
+}

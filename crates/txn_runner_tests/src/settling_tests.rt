@@ -1,0 +1,49 @@
+//! A table closed behind a transfer.
+ghost use Rattle.std.specs.Prelude.{◌≡◌, [], ◌∷◌, None, IfOk, IfSome};
+ghost use Rattle.lock_core.specs.Transfers.{IsAllowedJob};
+ghost use Rattle.txn_runner_tests.specs.Settled.{SettlesOne};
+
+use crate::alone::work_alone;
+use log_table::Closed;
+use lsn_space::{Lsn, NoMemory};
+use std::alloc::Global;
+use std::process::Abort;
+use std::sync::Wait;
+use std::test::Fail;
+use test_rig::{job_of, table_of, worker};
+use txn_runner::Jobs;
+use txn_script::Script;
+
+/// One transfer of 30 from account 0 to account 1, under number 1.
+fn one_job<R>(rt: &R, alloc: Global) -> Result<Jobs, NoMemory>
+    ensures script { IfOk result (λ jobs. jobs.script ≡ record { legs = (0, 1, 30) ∷ []; note = None } ∷ []) }
+    ensures allowed { IfOk result (λ jobs. IsAllowedJob 2 (record { legs = (0, 1, 30) ∷ []; note = None })) }
+    ensures first { IfOk result (λ jobs. jobs.first ≡ 1) }
+    ensures workers { IfOk result (λ jobs. jobs.workers ≡ 1) }
+{
+    let mut script = Script::with_room(alloc, 1)?;
+    script.push(job_of(30))?;
+    Jobs::make(rt, alloc, script, 1, 1)
+}
+
+/// A witness that all that `close` asks for, and the premise of what it says of the log, can be met at
+/// once behind a transfer: so here the log and its accounts are known without a premise.
+fn settle_one<R: Wait + Abort>(rt: &R, alloc: Global) -> Result<Closed, NoMemory>
+    ensures { IfOk result (SettlesOne 4 ((100, 0) ∷ (0, 0) ∷ []) 1 (record { legs = (0, 1, 30) ∷ []; note = None })) }
+{
+    let (table, mut boss) = table_of(alloc, (100, 0), 4)?;
+    let seat = worker(&table, &mut boss, 0, 1);
+    let jobs = one_job(rt, alloc)?;
+    let (_, _, seat) = work_alone(rt, alloc, &table, seat, &jobs)?;
+    table.merge(&mut boss, seat);
+    Ok(table.close(boss))
+}
+
+#[test]
+fn the_closed_table_has_the_new_balances(rt: HostRuntime) -> Result<(), Fail> {
+    let closed = settle_one(&rt, rt.alloc())?;
+    assert_eq!(rt; closed.lsn(), Lsn::new(9));
+    assert_eq!(rt; (closed.balance(0), closed.balance(1)), (70, 30));
+    assert_eq!(rt; (closed.mark(0), closed.mark(1)), (9, 9));
+    Ok(())
+}
