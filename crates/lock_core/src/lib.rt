@@ -26,6 +26,3 @@ pub use laws::{
 pub use plain::{PlainFault, plain_accounts};
 pub use reason::{JudgeFault, Why};
 pub use update::{Change, txn_of};
-
-#[cfg(test)]
-mod tests;

@@ -2,6 +2,7 @@
 
 use log_record::{BadRec, Rec, Text, read, spell};
 use lsn_space::Lsn;
+use std::process::Abort;
 
 #[test]
 fn reads_and_spells(rt: HostRuntime) {
@@ -68,12 +69,8 @@ fn reads_what_is_in_front(rt: HostRuntime) {
     assert_eq!(rt; read(&units), Ok((Rec::Commit { txn: 1, legs: 1 }, 1)));
 }
 
-#[test]
-fn refuses_what_is_no_record(rt: HostRuntime) {
-    let mut too_long = [0x7e7e_7e7e_7e7e_7e7e; 27];
-    too_long[0] = 0x061b_00c9_0000_0001;
-    too_long[26] = 0x7e00_0000_0000_0000;
-    let cases: [(&str, &[u64]); 33] = [
+fn refuses_kinds_and_genesis(rt: &impl Abort) {
+    let cases: [(&str, &[u64]); 9] = [
         ("no units", &[]),
         ("kind 0", &[0x0001_0001_0000_0001]),
         ("kind 7", &[0x0701_0001_0000_0001]),
@@ -83,6 +80,14 @@ fn refuses_what_is_no_record(rt: HostRuntime) {
         ("balance 2^31", &[0x0102_0000_0000_0000, 0x8000_0000]),
         ("genesis of 1 unit", &[0x0101_0000_0000_0000, 0x64]),
         ("genesis of 3 units", &[0x0103_0000_0000_0000, 0x64, 0]),
+    ];
+    for (why, units) in &cases {
+        assert_eq!(rt; read(units), Err(BadRec), "{why}");
+    }
+}
+
+fn refuses_updates(rt: &impl Abort) {
+    let cases: [(&str, &[u64]); 5] = [
         ("cut update", &[0x0202_0000_0000_0001]),
         (
             "update of transaction 0",
@@ -97,6 +102,14 @@ fn refuses_what_is_no_record(rt: HostRuntime) {
             "delta -2147483648",
             &[0x0202_0000_0000_0001, 0x8000_0000_0000_0000],
         ),
+    ];
+    for (why, units) in &cases {
+        assert_eq!(rt; read(units), Err(BadRec), "{why}");
+    }
+}
+
+fn refuses_ends(rt: &impl Abort) {
+    let cases: [(&str, &[u64]); 9] = [
         ("commit of transaction 0", &[0x0301_0001_0000_0000]),
         ("0 legs", &[0x0301_0000_0000_0001]),
         ("9 legs", &[0x0301_0009_0000_0001]),
@@ -106,6 +119,17 @@ fn refuses_what_is_no_record(rt: HostRuntime) {
         ("short at leg 9", &[0x0401_0009_0000_0001]),
         ("over at leg 0", &[0x0501_0000_0000_0001]),
         ("over at leg 9", &[0x0501_0009_0000_0001]),
+    ];
+    for (why, units) in &cases {
+        assert_eq!(rt; read(units), Err(BadRec), "{why}");
+    }
+}
+
+fn refuses_notes(rt: &impl Abort) {
+    let mut too_long = [0x7e7e_7e7e_7e7e_7e7e; 27];
+    too_long[0] = 0x061b_00c9_0000_0001;
+    too_long[26] = 0x7e00_0000_0000_0000;
+    let cases: [(&str, &[u64]); 10] = [
         ("cut note", &[0x0602_0002_0000_0001]),
         ("empty note", &[0x0601_0000_0000_0001]),
         ("note of 201 bytes", &too_long),
@@ -129,4 +153,12 @@ fn refuses_what_is_no_record(rt: HostRuntime) {
     for (why, units) in &cases {
         assert_eq!(rt; read(units), Err(BadRec), "{why}");
     }
+}
+
+#[test]
+fn refuses_what_is_no_record(rt: HostRuntime) {
+    refuses_kinds_and_genesis(&rt);
+    refuses_updates(&rt);
+    refuses_ends(&rt);
+    refuses_notes(&rt);
 }

@@ -4,6 +4,14 @@ use lsn_space::Lsn;
 use ring_core::{RingEvent, RingRun};
 use std::test::Fail;
 
+/// Whether the event is taken, and what is exposed then.
+fn applied(run: &mut RingRun, event: RingEvent) -> Result<(bool, u32), Fail> {
+    match run.apply(event) {
+        Ok(taken) => Ok((taken, run.exposed().units())),
+        Err(_) => Err(Fail::new("no memory")),
+    }
+}
+
 #[test]
 fn releases_in_order(rt: HostRuntime) -> Result<(), Fail> {
     let Ok(mut run) = RingRun::make(rt.alloc(), Lsn::new(4), 1024) else {
@@ -26,11 +34,7 @@ fn releases_in_order(rt: HostRuntime) -> Result<(), Fail> {
         (RingEvent::Flushed { to: Lsn::new(6) }, true, 9),
     ];
     for (event, want, exposed) in schedule {
-        let Ok(taken) = run.apply(event) else {
-            return Err(Fail::new("no memory"));
-        };
-        assert_eq!(rt; taken, want, "{event:?}");
-        assert_eq!(rt; run.exposed().units(), exposed, "{event:?}");
+        assert_eq!(rt; applied(&mut run, event)?, (want, exposed), "{event:?}");
     }
     assert_eq!(rt; run.tail().units(), 9);
     assert_eq!(rt; run.durable().units(), 6);

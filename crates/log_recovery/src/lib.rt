@@ -17,12 +17,3 @@ pub use listing::listed;
 pub use lock_core::Why;
 pub use recovery::{RecoverFault, Recovered, one_answer, recover};
 pub use texts::put_accounts;
-
-#[cfg(test)]
-mod dump_tests;
-#[cfg(test)]
-mod hostile;
-#[cfg(test)]
-mod plain_tests;
-#[cfg(test)]
-mod tests;

@@ -1,4 +1,6 @@
-use crate::{Judge, JudgeFault, Why};
+//! A judge, record by record.
+
+use lock_core::{Judge, JudgeFault, Why};
 use log_record::Rec;
 use lsn_space::Lsn;
 use std::test::Fail;

@@ -1,7 +1,7 @@
 //! Images that somebody might hand in, each with the one answer that it gets.
 
-use crate::plain_tests::is_same;
-use crate::{RecoverFault, Why, recover};
+use crate::plainly::is_same;
+use log_recovery::{RecoverFault, Why, recover};
 use lsn_space::Lsn;
 use std::alloc::{AllocError, Global};
 use std::test::Fail;

@@ -1,8 +1,8 @@
 //! Whole images of logs, as batches of units. Most begin with the genesis log's batch: accounts 0 and 1, of balances
 //! 100 and 0.
 
-use crate::plain_tests::is_same;
-use crate::{RecoverFault, Why, recover};
+use crate::plainly::is_same;
+use log_recovery::{RecoverFault, Why, recover};
 use lsn_space::{Lsn, bytes_of};
 use std::alloc::{AllocError, Global};
 use std::test::Fail;

@@ -4,9 +4,9 @@ ghost use Rattle.std.specs.Prelude.{List, IfOk};
 ghost use Rattle.log_record.specs.declared.rec.Rec.{Rec};
 ghost use Rattle.log_recovery.specs.Recovery.{HasRecords};
 
-use crate::tests::{GENESIS, TRANSFER, image};
-use crate::{Listed, RecoverFault, listed, put_dump};
+use crate::images::{GENESIS, TRANSFER, image};
 use log_disk::MemorySink;
+use log_recovery::{Listed, RecoverFault, listed, put_dump};
 use lsn_space::Lsn;
 use std::test::Fail;
 

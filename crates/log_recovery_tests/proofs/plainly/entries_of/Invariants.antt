@@ -2,7 +2,7 @@ use Rattle.std.proofs.Common.{◌≤◌, length}
 use Rattle.std.specs.List.{AllByRecursion}
 use Rattle.log_record.specs.declared.rec.Placed.{Placed}
 use Rattle.log_record.specs.Spelling.{IsSpellable}
-use Rattle.log_recovery.proofs.plain_tests.entries_of.Given as goal
+use Rattle.log_recovery_tests.proofs.plainly.entries_of.Given as goal
 
 abbrev pub invariant-records : goal.invariant-records
 invariant-records l = record {

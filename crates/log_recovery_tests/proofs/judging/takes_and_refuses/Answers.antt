@@ -1,7 +1,7 @@
 use Rattle.std.proofs.Common.{[], ◌∷◌, arith}
 use Rattle.log_record.specs.declared.rec.Rec.TheVariants.{Genesis}
 use Rattle.lock_core.specs.History.{entry_at}
-use Rattle.lock_core.proofs.tests.takes_and_refuses.Goals as goal
+use Rattle.log_recovery_tests.proofs.judging.takes_and_refuses.Goals as goal
 
 pub take-requires-2-clause-taken : goal.take-requires-2-clause-taken
 take-requires-2-clause-taken g c =

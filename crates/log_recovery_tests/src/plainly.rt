@@ -5,13 +5,20 @@ ghost use Rattle.std.specs.List.{AllByRecursion};
 ghost use Rattle.lsn_space.specs.declared.lsn.TheConstants.{LAST};
 ghost use Rattle.log_record.specs.Spelling.{IsSpellable};
 
-use crate::recovery::scan_fault;
-use crate::{RecoverFault, recover};
 use lock_core::{PlainFault, plain_accounts};
 use log_record::{Placed, read};
+use log_recovery::{RecoverFault, recover};
 use lsn_space::{Balances, Lsn};
-use segment_file::scan;
+use segment_file::{ScanFault, scan};
 use std::alloc::Global;
+
+fn scan_fault(fault: ScanFault) -> RecoverFault {
+    match fault {
+        ScanFault::NotALog => RecoverFault::NotALog,
+        ScanFault::BadBatch { offset } => RecoverFault::BadBatch { offset },
+        ScanFault::NoMemory => RecoverFault::NoMemory,
+    }
+}
 
 fn plain_fault(fault: PlainFault) -> RecoverFault {
     match fault {

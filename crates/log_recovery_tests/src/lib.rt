@@ -1,0 +1,13 @@
+//! Tests of `lock_core` and `log_recovery`.
+#![tactic(auto)]
+
+#[cfg(test)]
+mod dumps;
+#[cfg(test)]
+mod hostile;
+#[cfg(test)]
+mod images;
+#[cfg(test)]
+mod judging;
+#[cfg(test)]
+mod plainly;
