@@ -20,6 +20,12 @@ fn is_met_by_both_disks(rt: HostRuntime) -> Result<(), Fail> {
     Ok(())
 }
 
+/// Whether a write succeeds, and then a sync.
+fn stores(disk: &mut MemoryDisk) -> (bool, bool) {
+    let writes = disk.write_at(0, b"abc").is_ok();
+    (writes, disk.sync().is_ok())
+}
+
 #[test]
 fn a_call_fails_where_told_or_without_room(rt: HostRuntime) -> Result<(), Fail> {
     let cases: [(usize, &[u64], bool, bool, &[u8]); 5] = [
@@ -33,8 +39,7 @@ fn a_call_fails_where_told_or_without_room(rt: HostRuntime) -> Result<(), Fail> 
         let Ok(mut disk) = MemoryDisk::make(rt.alloc(), b"", room, failing) else {
             return Err(Fail::new("no memory"));
         };
-        assert_eq!(rt; disk.write_at(0, b"abc").is_ok(), writes, "room {room}");
-        assert_eq!(rt; disk.sync().is_ok(), syncs, "room {room}");
+        assert_eq!(rt; stores(&mut disk), (writes, syncs), "room {room}");
         assert_eq!(rt; disk.bytes(), held, "room {room}");
     }
     Ok(())

@@ -3,7 +3,34 @@
 use log_disk::{Failed, FileDisk, LogDisk, folder_of};
 use lsn_space::Word;
 use std::fs;
+use std::process::Abort;
 use std::test::Fail;
+
+/// No file is made, and each call is a fault.
+fn refuses_without_a_file(rt: &impl Abort, disk: &mut FileDisk<HostRuntime>, name: &Word) {
+    assert_eq!(rt; disk.len(), Err(Failed));
+    assert_eq!(rt; disk.attach(name, false), Err(Failed));
+    assert_eq!(rt; disk.faults(), 2);
+}
+
+/// Two writes, of which the second goes on over the end of the first.
+fn writes(rt: &impl Abort, disk: &mut FileDisk<HostRuntime>, name: &Word) {
+    assert_eq!(rt; disk.attach(name, true), Ok(()));
+    assert_eq!(rt; disk.write_at(0, b"abc"), Ok(()));
+    assert_eq!(rt; disk.write_at(2, b"XYZ"), Ok(()));
+    assert_eq!(rt; disk.sync(), Ok(()));
+}
+
+/// What they left is read by another disk.
+fn reads_back(rt: &impl Abort, again: &mut FileDisk<HostRuntime>, name: &Word) {
+    assert_eq!(rt; again.attach(name, true), Ok(()));
+    assert_eq!(rt; again.len(), Ok(5));
+    let mut buf = [0; 4];
+    assert_eq!(rt; again.read_at(1, &mut buf), Ok(4));
+    assert_eq!(rt; &buf, b"bXYZ");
+    assert_eq!(rt; again.read_at(5, &mut buf), Ok(0));
+    assert_eq!(rt; again.faults(), 0);
+}
 
 #[test]
 fn keeps_a_real_file(rt: HostRuntime) -> Result<(), Fail> {
@@ -12,24 +39,11 @@ fn keeps_a_real_file(rt: HostRuntime) -> Result<(), Fail> {
     };
     let _ = fs::remove_file(&rt, name.text());
     let mut disk = FileDisk::make(rt);
-    assert_eq!(rt; disk.len(), Err(Failed));
-    assert_eq!(rt; disk.attach(&name, false), Err(Failed));
-    assert_eq!(rt; disk.faults(), 2);
-
-    assert_eq!(rt; disk.attach(&name, true), Ok(()));
-    assert_eq!(rt; disk.write_at(0, b"abc"), Ok(()));
-    assert_eq!(rt; disk.write_at(2, b"XYZ"), Ok(()));
-    assert_eq!(rt; disk.sync(), Ok(()));
-
+    refuses_without_a_file(&rt, &mut disk, &name);
+    writes(&rt, &mut disk, &name);
     let mut again = FileDisk::make(rt);
-    assert_eq!(rt; again.attach(&name, true), Ok(()));
-    assert_eq!(rt; again.len(), Ok(5));
-    let mut buf = [0; 4];
-    assert_eq!(rt; again.read_at(1, &mut buf), Ok(4));
-    assert_eq!(rt; &buf, b"bXYZ");
-    assert_eq!(rt; again.read_at(5, &mut buf), Ok(0));
+    reads_back(&rt, &mut again, &name);
     assert_eq!(rt; disk.faults(), 2);
-    assert_eq!(rt; again.faults(), 0);
     assert!(rt; fs::remove_file(&rt, name.text()).is_ok());
     Ok(())
 }

@@ -8,6 +8,7 @@ use log_disk::{LogDisk, MemoryDisk};
 use lsn_space::Lsn;
 use segment_file::{Batch, Tail, append, create, open_image, scan, settle};
 use std::alloc::Global;
+use std::process::Abort;
 use std::test::Fail;
 
 /// The number of a device call that is never made.
@@ -183,9 +184,37 @@ fn creates_all_or_nothing(rt: HostRuntime) -> Result<(), Fail> {
     Ok(())
 }
 
+/// A log with these bytes behind its accounts is reopened, unless a device call fails; what is read after a crash is its accounts.
+fn settles(
+    rt: &impl Abort,
+    alloc: Global,
+    rest: &[u8],
+    settled: &[u8],
+    failing: u64,
+    pick: u64,
+) -> Result<(), Fail> {
+    let bytes = genesis_and(alloc, rest)?;
+    let mut disk = MemoryDisk::make(alloc, bytes.as_slice(), 1000, &[failing])?;
+    let opened = reopen(alloc, &mut disk).is_some();
+    assert_eq!(rt; opened, failing == NONE, "{rest:?}, call {failing}");
+    if opened {
+        assert_eq!(rt;
+            disk.bytes(),
+            genesis_and(alloc, settled)?.as_slice(),
+            "{rest:?}"
+        );
+    }
+    let units = units_after_crash(alloc, disk, pick)?;
+    assert_eq!(rt;
+        units.as_slice(),
+        ACCOUNTS.as_slice(),
+        "{rest:?}, call {failing}, pick {pick}"
+    );
+    Ok(())
+}
+
 #[test]
 fn settles_a_gate_that_lacks(rt: HostRuntime) -> Result<(), Fail> {
-    let alloc = rt.alloc();
     let cases: [(&[u8], &[u8], u64); 4] = [
         (&[], &[0], 6),
         (&[0x4f], &[0], 6),
@@ -193,26 +222,10 @@ fn settles_a_gate_that_lacks(rt: HostRuntime) -> Result<(), Fail> {
         (&[0, 0x4f], &[0, 0x4f], 4),
     ];
     for (rest, settled, calls) in cases {
-        let bytes = genesis_and(alloc, rest)?;
         for call in 1..calls + 2 {
             let failing = if call > calls { NONE } else { call };
             for pick in 0..400 {
-                let mut disk = MemoryDisk::make(alloc, bytes.as_slice(), 1000, &[failing])?;
-                let opened = reopen(alloc, &mut disk).is_some();
-                assert_eq!(rt; opened, call > calls, "{rest:?}, call {call}");
-                if opened {
-                    assert_eq!(rt;
-                        disk.bytes(),
-                        genesis_and(alloc, settled)?.as_slice(),
-                        "{rest:?}"
-                    );
-                }
-                let units = units_after_crash(alloc, disk, pick)?;
-                assert_eq!(rt;
-                    units.as_slice(),
-                    ACCOUNTS.as_slice(),
-                    "{rest:?}, call {call}, pick {pick}"
-                );
+                settles(&rt, rt.alloc(), rest, settled, failing, pick)?;
             }
         }
     }
