@@ -2,14 +2,15 @@
 use Rattle.std.proofs.Common.{◌≡◌, ◌⊎◌, inl, inr, refl, List, ℕ, Option, Some, None, IfSome}
 use Rattle.txn_script.specs.Balances.{IsBalancesText}
 use Rattle.txn_script.proofs.BalanceLemmas.{balances-or_bad}
-use Rattle.aether_cli.specs.declared.report.Detail.{Detail}
-use Rattle.aether_cli.specs.declared.report.Detail.TheVariants.{Fine, NoMemory, Usage, Script, Read, Write, Disk, NotALog, BadBatch, BadRec, Unlawful, LogEnd, TxnEnd, Exists}
+use Rattle.cli_shared.specs.declared.report.Detail.{Detail}
+use Rattle.cli_shared.specs.declared.report.Detail.TheVariants.{Fine, NoMemory, Usage, Script, Read, Write, Disk, NotALog, BadBatch, BadRec, Unlawful, LogEnd, TxnEnd, Exists}
 use Rattle.log_record.specs.declared.rec.Rec.{Rec}
 use Rattle.log_recovery.specs.declared.recovery.RecoverFault.TheVariants as fault
 use Rattle.log_recovery.specs.Recovery.{HoldsLawful, HoldsList}
 use Rattle.log_recovery.proofs.AnswerLemmas.{lawful-fault, listed-fault}
-use Rattle.aether_cli.specs.Answers.{AnswersDump, AnswersNew, AnswersRecover}
-use Rattle.aether_cli.specs.Creation.{TellsWhether}
+use Rattle.cli_reports.specs.Answers.{AnswersDump, AnswersRecover}
+use Rattle.cli_new.specs.Answers.{AnswersNew}
+use Rattle.cli_shared.specs.Creation.{TellsWhether}
 
 -- the input is in its grammar, no log is there, and no fault was counted
 pub new-complete : (left left_new old new : Option (List ℕ)) (opened ReadFails WriteFails DiskFails : Type 0) (detail : Detail)

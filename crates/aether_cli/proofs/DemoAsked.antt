@@ -5,10 +5,10 @@ use Rattle.command_line.specs.declared.command.Command.{Command}
 use Rattle.command_line.specs.declared.command.Command.TheVariants.{New, Run, Recover, Dump, Demo}
 use Rattle.command_line.specs.declared.options.RunOptions.{RunOptions}
 use Rattle.command_line.proofs.Asking.{asks-one}
-use Rattle.aether_cli.specs.declared.report.Detail.{Detail}
-use Rattle.aether_cli.specs.declared.report.Detail.TheVariants.{Fine, NoMemory, Usage, Script, Read, Write, Disk, NotALog, BadBatch, BadRec, Unlawful, LogEnd, TxnEnd, Exists}
-use Rattle.aether_cli.specs.Answers.{StaysSilent}
-use Rattle.aether_cli.specs.Demo.{TellsSummary}
+use Rattle.cli_shared.specs.declared.report.Detail.{Detail}
+use Rattle.cli_shared.specs.declared.report.Detail.TheVariants.{Fine, NoMemory, Usage, Script, Read, Write, Disk, NotALog, BadBatch, BadRec, Unlawful, LogEnd, TxnEnd, Exists}
+use Rattle.cli_shared.specs.Answers.{StaysSilent}
+use Rattle.cli_demo.specs.Demo.{TellsSummary}
 
 abbrev numbers_in : Command → ℕ × ℕ
 numbers_in (Demo log n seed options) = (n, seed)

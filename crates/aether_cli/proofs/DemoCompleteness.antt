@@ -1,9 +1,9 @@
 -- Where nothing stands in its way, `demo` succeeds.
 use Rattle.std.proofs.Common.{◌≡◌, ◌⊎◌, inl, inr, refl}
-use Rattle.aether_cli.specs.declared.report.Detail.{Detail}
-use Rattle.aether_cli.specs.declared.report.Detail.TheVariants.{Fine, NoMemory, Usage, Script, Read, Write, Disk, NotALog, BadBatch, BadRec, Unlawful, LogEnd, TxnEnd, Exists}
-use Rattle.aether_cli.specs.Creation.{TellsWhether}
-use Rattle.aether_cli.specs.Demo.{IsOfDemo}
+use Rattle.cli_shared.specs.declared.report.Detail.{Detail}
+use Rattle.cli_shared.specs.declared.report.Detail.TheVariants.{Fine, NoMemory, Usage, Script, Read, Write, Disk, NotALog, BadBatch, BadRec, Unlawful, LogEnd, TxnEnd, Exists}
+use Rattle.cli_shared.specs.Creation.{TellsWhether}
+use Rattle.cli_demo.specs.Demo.{IsOfDemo}
 
 pub demo-complete : (opened WriteFails DiskFails : Type 0) (detail : Detail) → IsOfDemo detail → TellsWhether opened detail
     → (detail ≡ Write → WriteFails) → (detail ≡ Disk → DiskFails) → (opened → ⊥) → (WriteFails → ⊥) → (DiskFails → ⊥)

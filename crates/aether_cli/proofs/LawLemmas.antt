@@ -6,9 +6,10 @@ use Rattle.log_recovery.specs.declared.recovery.RecoverFault.TheVariants as faul
 use Rattle.log_recovery.specs.Recovery.{HoldsLawful}
 use Rattle.log_recovery.specs.Text.{accounts_text}
 use Rattle.log_recovery.proofs.AnswerLemmas.{lawful-fault, one-list}
-use Rattle.aether_cli.specs.declared.report.Detail.{Detail}
-use Rattle.aether_cli.specs.declared.report.Detail.TheVariants.{Fine, NoMemory, Usage, Script, Read, Write, Disk, NotALog, BadBatch, BadRec, Unlawful, LogEnd, TxnEnd, Exists}
-use Rattle.aether_cli.specs.Answers.{AnswersRecover, status_of}
+use Rattle.cli_shared.specs.declared.report.Detail.{Detail}
+use Rattle.cli_shared.specs.declared.report.Detail.TheVariants.{Fine, NoMemory, Usage, Script, Read, Write, Disk, NotALog, BadBatch, BadRec, Unlawful, LogEnd, TxnEnd, Exists}
+use Rattle.cli_reports.specs.Answers.{AnswersRecover}
+use Rattle.cli_shared.specs.Answers.{status_of}
 
 -- the answer is not a fault of the bytes
 pub lawful-status : (bytes : List ℕ) (records : List Rec) (left old new : Option (List ℕ)) (detail : Detail) → HoldsLawful bytes records

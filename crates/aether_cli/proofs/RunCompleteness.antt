@@ -10,10 +10,10 @@ use Rattle.log_recovery.proofs.AnswerLemmas.{lawful-fault, one-list}
 use Rattle.txn_script.specs.declared.job.Job.{Job}
 use Rattle.txn_script.specs.Script.{IsScriptText, IsFirstBadLine}
 use Rattle.txn_script.proofs.ScriptLemmas.{jobs-same, jobs-or_bad}
-use Rattle.aether_cli.specs.declared.report.Detail.{Detail}
-use Rattle.aether_cli.specs.declared.report.Detail.TheVariants.{Fine, NoMemory, Usage, Script, Read, Write, Disk, NotALog, BadBatch, BadRec, Unlawful, LogEnd, TxnEnd, Exists}
-use Rattle.aether_cli.specs.RunAnswers.{AnswersRun, IsRunDone, Outside, accounts_of, next_txn, outside}
-use Rattle.aether_cli.proofs.OpenedAccounts.{few-held}
+use Rattle.cli_shared.specs.declared.report.Detail.{Detail}
+use Rattle.cli_shared.specs.declared.report.Detail.TheVariants.{Fine, NoMemory, Usage, Script, Read, Write, Disk, NotALog, BadBatch, BadRec, Unlawful, LogEnd, TxnEnd, Exists}
+use Rattle.cli_run.specs.RunAnswers.{AnswersRun, IsRunDone, Outside, accounts_of, next_txn, outside}
+use Rattle.cli_run.proofs.OpenedAccounts.{few-held}
 
 -- no fault of a lawful log but want of memory
 abbrev IsMemory : RecoverFault → Type 0

@@ -39,8 +39,8 @@ use Rattle.txn_runner.specs.declared.cause.Cause.TheVariants.{LogEnd}
 use Rattle.txn_runner.specs.declared.cause.Worked.TheVariants.{Cut}
 use Rattle.txn_runner.specs.declared.jobs.Jobs.{Jobs}
 use Rattle.aether_cli.specs.RunWitness.{payment, plain_disk, HasHitLogEnd}
-use Rattle.aether_cli.specs.Shares.{Share, IsGivenUncommitted, HasShare}
-use Rattle.aether_cli.specs.Transferred.{IsOpened}
+use Rattle.cli_threads.specs.Shares.{Share, IsGivenUncommitted, HasShare}
+use Rattle.cli_threads.specs.Transferred.{IsOpened}
 use Rattle.aether_cli.proofs.RunWitness.{genesis-counted, genesis-spellable, genesis-lawful, shut-at}
 
 -- ---- the log

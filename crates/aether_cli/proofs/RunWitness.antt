@@ -45,9 +45,9 @@ use Rattle.commit_pipeline.proofs.RanLemmas.{none≢some}
 use Rattle.txn_runner.specs.declared.cause.Worked.TheVariants.{All}
 use Rattle.txn_runner.specs.declared.jobs.Jobs.{Jobs}
 use Rattle.aether_cli.specs.RunWitness.{payment, file_at, plain_disk, plain_sink, HasMadePayment}
-use Rattle.aether_cli.specs.Shares.{Share, HasShare, HasGathered}
-use Rattle.aether_cli.specs.Transferred.{IsOpened}
-use Rattle.aether_cli.proofs.RunLedger.{base-opened}
+use Rattle.cli_threads.specs.Shares.{Share, HasShare, HasGathered}
+use Rattle.cli_threads.specs.Transferred.{IsOpened}
+use Rattle.cli_threads.proofs.RunLedger.{base-opened}
 
 -- ---- the data
 

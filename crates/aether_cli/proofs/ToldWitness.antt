@@ -15,12 +15,12 @@ use Rattle.log_recovery.specs.Text.{accounts_text}
 use Rattle.segment_file.proofs.StandingLemmas.{holds}
 use Rattle.commit_pipeline.specs.EndLines.{done_line}
 use Rattle.txn_runner.specs.Stripes.{number_at}
-use Rattle.aether_cli.specs.Run.{ComeInTurn, HoldsRun}
+use Rattle.cli_threads.specs.Run.{ComeInTurn, HoldsRun}
 use Rattle.aether_cli.specs.RunWitness.{file_at}
 use Rattle.aether_cli.specs.Told.{HasToldPayment}
-use Rattle.aether_cli.proofs.RunHistory.{history-own, history-others}
-use Rattle.aether_cli.proofs.RunLedger.{whole-lawful, goes-on}
-use Rattle.aether_cli.proofs.RunStripes.{tasks_of}
+use Rattle.cli_threads.proofs.RunHistory.{history-own, history-others}
+use Rattle.cli_threads.proofs.RunLedger.{whole-lawful, goes-on}
+use Rattle.cli_threads.proofs.RunStripes.{tasks_of}
 use Rattle.aether_cli.proofs.RunWitness.{jobs, tail_new, stands-new, genesis-spellable, transfer-spellable, genesis-lawful}
 
 spellable : AllByRecursion IsSpellable (genesis_log ++ transfer_records)

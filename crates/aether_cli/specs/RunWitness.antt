@@ -19,8 +19,8 @@ use Rattle.commit_pipeline.specs.EndLines.{done_line}
 use Rattle.txn_runner.specs.declared.cause.Cause.TheVariants.{LogEnd}
 use Rattle.txn_runner.specs.declared.cause.Worked.TheVariants.{Cut}
 use Rattle.txn_runner.specs.declared.jobs.Jobs.{Jobs}
-use Rattle.aether_cli.specs.Shares.{Share}
-use Rattle.aether_cli.specs.Transferred.{HasTransferred}
+use Rattle.cli_threads.specs.Shares.{Share}
+use Rattle.cli_threads.specs.Transferred.{HasTransferred}
 
 abbrev pub payment : Job
 payment = record { legs = (0, 1, 30) ∷ []; note = None }

@@ -6,7 +6,7 @@ use Rattle.log_record.specs.LogList.{end_of, size_of}
 use Rattle.lock_core.specs.Witness.{genesis_log, transfer_records}
 use Rattle.commit_pipeline.specs.EndLines.{done_line}
 use Rattle.txn_runner.specs.declared.jobs.Jobs.{Jobs}
-use Rattle.aether_cli.specs.RunAnswers.{HoldsTold, outside}
+use Rattle.cli_run.specs.RunAnswers.{HoldsTold, outside}
 use Rattle.aether_cli.specs.RunWitness.{plain_disk, file_at}
 
 -- the text has this line, given with its line feed, whole: at its beginning, or behind the end of another

@@ -1,4 +1,4 @@
-use crate::report::Detail;
+use cli_shared::Detail;
 use lsn_space::Word;
 use std::env;
 use std::io::ErrorKind;

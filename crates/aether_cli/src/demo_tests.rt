@@ -1,7 +1,7 @@
 //! What `demo` answers, over a disk, a source and a sink in memory. The sums of 5000 transfers were reckoned apart from the program.
 
-use crate::report::{Detail, Report};
 use crate::tests::{answer_of, answer_on, disk_of, sink_of};
+use cli_shared::{Detail, Report};
 use log_disk::MemorySink;
 use std::test::Fail;
 

@@ -1,10 +1,10 @@
 //! What `dump` answers, over a source and a sink in memory.
 
-use crate::report::{Detail, Report};
 use crate::tests::{
     GENESIS_LOG, ONE_TRANSFER, UNFINISHED_TRANSFER, WRONG_PREDECESSOR, answer_of, answer_on,
     disk_of, sink_of,
 };
+use cli_shared::{Detail, Report};
 use lsn_space::Lsn;
 use std::alloc::{AllocError, Global};
 use std::test::Fail;

@@ -27,18 +27,19 @@ ghost use Rattle.log_recovery.specs.Recovery.{HoldsLawful};
 ghost use Rattle.log_recovery.specs.Text.{accounts_text};
 ghost use Rattle.txn_script.specs.declared.generator.TheConstants.{GENERATED_ACCOUNTS, MOST_GENERATED};
 ghost use Rattle.txn_script.specs.Generator.{generated_balance, generated_transfers, OpensGenerated};
-ghost use Rattle.aether_cli.specs.Answers.{AnswersRecover, status_of};
-ghost use Rattle.aether_cli.specs.Creation.{genesis_list};
-ghost use Rattle.aether_cli.specs.Run.{HoldsRun, RunKeepsLog, RunIsDrained, RunsWhole};
-ghost use Rattle.aether_cli.specs.RunAnswers.{Outside, HoldsTold, run_text};
-ghost use Rattle.aether_cli.specs.RunStops.{StopsAtLogEnd};
+ghost use Rattle.cli_reports.specs.Answers.{AnswersRecover};
+ghost use Rattle.cli_shared.specs.Answers.{status_of};
+ghost use Rattle.cli_shared.specs.Creation.{genesis_list};
+ghost use Rattle.cli_threads.specs.Run.{HoldsRun, RunKeepsLog, RunIsDrained, RunsWhole};
+ghost use Rattle.cli_run.specs.RunAnswers.{Outside, HoldsTold, run_text};
+ghost use Rattle.cli_threads.specs.RunStops.{StopsAtLogEnd};
 ghost use Rattle.aether_cli.specs.RunWitness.{HasMadePayment, HasHitLogEnd};
-ghost use Rattle.aether_cli.specs.Shares.{Share};
+ghost use Rattle.cli_threads.specs.Shares.{Share};
 ghost use Rattle.aether_cli.specs.Told.{HasLine, HasCommitAt, HasToldPayment};
-ghost use Rattle.aether_cli.specs.Transferred.{HasTransferred};
-ghost use Rattle.aether_cli.specs.Summary.{generated_opening, mix_below, summary_of, summary_text};
+ghost use Rattle.cli_threads.specs.Transferred.{HasTransferred};
+ghost use Rattle.cli_demo.specs.Summary.{generated_opening, mix_below, summary_of, summary_text};
 
-use crate::report::Detail;
+use cli_shared::Detail;
 use log_disk::{LogDisk, Sink};
 
 /// A law: `recover` reads what `new` left. It finds no fault in it, and what it writes of it is the text of the new log.

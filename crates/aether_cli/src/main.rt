@@ -2,50 +2,25 @@
 #![tactic(auto)]
 
 mod command;
-mod conclusion;
-mod demo_command;
 #[cfg(test)]
 mod demo_tests;
-mod dump_command;
 #[cfg(test)]
 mod dump_tests;
-mod faults;
-mod finding;
-mod flushing_relief;
-mod gathering;
-mod genesis;
-mod input;
 mod laws;
-mod new_command;
-mod opening;
-#[cfg(test)]
-mod pipeline_tests;
-mod recover_command;
-#[cfg(test)]
-mod relief_tests;
-mod report;
-mod room;
-mod run_command;
 #[cfg(test)]
 mod run_tests;
-mod scope;
-mod script_input;
-mod serving;
-mod summary;
 #[cfg(test)]
 mod tests;
 mod top;
-mod transfers;
-mod workers;
 
+use cli_shared::put_fault;
+pub use cli_shared::{Detail, Report};
 use command::words_of;
-use faults::put_fault;
 use log_disk::{FileDisk, OpenGate, StdSink, StdSource};
-use report::Report;
 use std::fs::File;
 use std::io;
 use std::process::ExitCode;
-use top::aether;
+pub use top::aether;
 
 /// The root folder, opened thrice. Where standard streams are closed it takes their numbers, so that no file that is
 /// opened later gets one of them.

@@ -1,9 +1,9 @@
 //! What `run` answers, over a disk, a source and a sink in memory.
 
-use crate::report::{Detail, Report};
 use crate::tests::{
     GENESIS_LOG, UNFINISHED_TRANSFER, answer_at, answer_of, answer_on, disk_of, sink_of,
 };
+use cli_shared::{Detail, Report};
 use log_disk::{Gate, MemoryDisk, MemorySink, Place};
 use std::alloc::{AllocError, AllocGlobal, Global};
 use std::sync::Wait;

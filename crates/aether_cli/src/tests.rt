@@ -1,8 +1,7 @@
 //! The program's answers, over a disk, a source and a sink in memory.
 
-use crate::faults::put_fault;
-use crate::report::{Detail, Report};
 use crate::top::aether;
+use cli_shared::{Detail, Report, put_fault};
 use log_disk::{Gate, MemoryDisk, MemorySink, MemorySource, OpenGate};
 use log_recovery::Why;
 use lsn_space::{LAST, Lsn, Word};

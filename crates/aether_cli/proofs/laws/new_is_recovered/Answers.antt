@@ -1,4 +1,4 @@
-use Rattle.aether_cli.specs.Creation.{genesis_list}
+use Rattle.cli_shared.specs.Creation.{genesis_list}
 use Rattle.aether_cli.proofs.LawLemmas.{lawful-status, lawful-text}
 use Rattle.aether_cli.proofs.laws.new_is_recovered.Goals as goal
 

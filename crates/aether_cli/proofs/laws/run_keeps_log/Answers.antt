@@ -1,4 +1,4 @@
-use Rattle.aether_cli.proofs.RunLemmas.{keeps, drained, whole, stops-at-end, never-stops, reason, same}
+use Rattle.cli_threads.proofs.RunLemmas.{keeps, drained, whole, stops-at-end, never-stops, reason, same}
 use Rattle.aether_cli.proofs.laws.run_keeps_log.Goals as goal
 
 pub returns-clause-keeps : goal.returns-clause-keeps

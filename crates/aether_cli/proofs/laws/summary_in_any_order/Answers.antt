@@ -1,4 +1,4 @@
-use Rattle.aether_cli.proofs.SummaryLemmas.{summary-same, opening-generated, opening-end}
+use Rattle.cli_demo.proofs.SummaryLemmas.{summary-same, opening-generated, opening-end}
 use Rattle.aether_cli.proofs.laws.summary_in_any_order.Goals as goal
 
 pub returns-clause-text : goal.returns-clause-text

@@ -2,8 +2,8 @@ use Rattle.std.proofs.Common.{◌∙◌, sym, subst}
 use Rattle.command_line.specs.CommandLine.{IsCommandLine, IsRefusalOf}
 use Rattle.command_line.proofs.Asking.{asks-options}
 use Rattle.command_line.specs.declared.command.Command.TheVariants.{New, Run, Recover, Dump, Demo}
-use Rattle.aether_cli.specs.Answers.{IsOfDump, IsOfRecover}
-use Rattle.aether_cli.specs.Demo.{IsOfDemo}
+use Rattle.cli_reports.specs.Answers.{IsOfDump, IsOfRecover}
+use Rattle.cli_demo.specs.Demo.{IsOfDemo}
 use Rattle.aether_cli.proofs.CompletenessLemmas.{dump-complete, new-complete, recover-complete}
 use Rattle.aether_cli.proofs.DemoAsked.{demo-same, silent-told}
 use Rattle.aether_cli.proofs.DemoCompleteness.{demo-complete}

@@ -1,6 +1,0 @@
-use Rattle.std.proofs.Common.{refl}
-use Rattle.aether_cli.proofs.OpenedAccounts.{has-accounts}
-use Rattle.aether_cli.proofs.run_command.prepare_run.Goals as goal
-
-pub prepare-requires-clause-accounts : goal.prepare-requires-clause-accounts
-prepare-requires-clause-accounts g c = has-accounts c.requires.opened.0 c.args.opened c.requires.opened.1 _ refl refl

@@ -1,0 +1,302 @@
+-- What `demo` answers: the log that it makes, what is promised of the transfers, and what was concluded.
+use Rattle.std.proofs.Common.{Bool, ◌≡◌, ◌≤◌, ◌⊎◌, ⊎_elim, inl, inr, refl, ap, sym, ◌∙◌, subst, ℕ, zero, suc, ◌+◌, ◌*◌, List, [], ◌∷◌, length, map, replicate, All, Option, Some, None, arith, append-nil, length-append}
+use Rattle.std.proofs.KnownBytes.{Appends-trans}
+use Rattle.std.proofs.lemmas.List.{length-replicate}
+use Rattle.std.proofs.lemmas.List.Elements.{All-replicate}
+use Rattle.std.specs.Io.KnownBytes.{Appends, Keeps}
+use Rattle.log_disk.specs.Disk.{Leaves}
+use Rattle.log_disk.specs.Streams.{AppendsPrefix}
+use Rattle.log_disk.specs.declared.disk.LogDisk.{Ghosts}
+use Rattle.log_disk.specs.declared.sink.Sink.{Ghosts as SinkGhosts}
+use Rattle.log_disk.proofs.Moments.{Leaves-trans, Leaves-weaken}
+use Rattle.log_record.specs.declared.rec.Rec.{Rec}
+use Rattle.log_record.specs.LogList.{units_of, end_of}
+use Rattle.log_record.specs.Spelling.{IsBalance}
+use Rattle.lock_core.specs.History.{history, history_from}
+use Rattle.lock_core.specs.Lawful.{base_state_of, genesis_of}
+use Rattle.lock_core.specs.Serial.{numbered, IsPartlySerialAfter, IsSerialAfter}
+use Rattle.lock_core.specs.Settling.{row, KeepsRows}
+use Rattle.lock_core.specs.Sums.{BaseState, greatest_txn}
+use Rattle.lock_core.proofs.JudgingLemmas.{shows-kept}
+use Rattle.log_recovery.specs.Recovery.{HoldsLawful}
+use Rattle.log_recovery.proofs.ListingLemmas.{units_of-append}
+use Rattle.log_table.specs.declared.table.Start.{Start}
+use Rattle.log_table.specs.Opening.{HasAccounts}
+use Rattle.log_table.specs.Seats.{key_of}
+use Rattle.segment_file.specs.File.{HoldsUnits}
+use Rattle.segment_file.specs.Standing.{AllStand, HoldsNoneOr, IsShut}
+use Rattle.segment_file.specs.declared.scan_result.Tail.{Tail}
+use Rattle.commit_pipeline.specs.declared.daemon.DaemonFault.TheVariants.{WriteFault}
+use Rattle.commit_pipeline.specs.declared.voice.Voice.{Voice}
+use Rattle.commit_pipeline.specs.declared.voice.Voice.TheVariants.{Count, Lines}
+use Rattle.txn_runner.specs.declared.jobs.Jobs.{Jobs}
+use Rattle.txn_script.specs.Generator.{generated_transfers}
+use Rattle.txn_script.specs.Transfers.{transfer_of}
+use Rattle.cli_shared.specs.declared.report.Detail.{Detail}
+use Rattle.cli_shared.specs.declared.report.Detail.TheVariants.{Fine, NoMemory, Usage, Script, Read, Write, Disk, NotALog, BadBatch, BadRec, Unlawful, LogEnd, TxnEnd, Exists}
+use Rattle.cli_threads.specs.declared.transfers.ReadyRun.{ReadyRun}
+use Rattle.cli_threads.specs.declared.transfers.Ended.{Ended}
+use Rattle.cli_threads.specs.declared.transfers.Prepared.{Prepared}
+use Rattle.cli_shared.specs.Creation.{IsFindingFault, TellsWhether, genesis_list}
+use Rattle.cli_demo.specs.Demo.{AnswersDemo, IsOfDemo, IsPreparedDemo, IsReadyDemo, MayPrecede, OnlyMakes, RanAllGenerated, RanGenerated, TellsSummary}
+use Rattle.cli_threads.specs.Ending.{AreWhole, Concludes, HasEnded, IsFirstLogEnd, NothingStopped}
+use Rattle.cli_demo.specs.Summary.{counted_text, generated_opening, generated_rows, summary_of, summary_text}
+use Rattle.cli_shared.specs.Opening.{OnlyLooks}
+use Rattle.cli_threads.specs.Transferred.{IsOpened}
+use Rattle.cli_threads.proofs.EndingLemmas.{by-conclusion, list, counted-ended, drained-ended, keeps-ended, kept-ended, serial-ended, speaks-ended, stops-ended, told-ended, whole-ended, whole_after-ended}
+use Rattle.cli_demo.proofs.GeneratedEnd.{end-most, never-log_end}
+use Rattle.cli_shared.proofs.GenesisLemmas.{end_of-genesis, genesis-holds, genesis-kept, genesis-lawful, genesis-spellable, opening_rows}
+use Rattle.cli_threads.proofs.RunBegun.{images-begun}
+use Rattle.cli_threads.proofs.RunHistory.{later_of}
+use Rattle.cli_threads.proofs.RunStripes.{tasks_of}
+use Rattle.cli_demo.proofs.SummaryLemmas.{summary-same, opening-generated, opening-end}
+
+-- ---- the new log
+
+abbrev balances : List ℕ
+balances = replicate 64 1000000
+
+few-balances : length balances ≤ 4096
+few-balances = let count = length-replicate {A = ℕ} 64 1000000 in omega arith
+
+each-balance : All IsBalance balances
+each-balance = All-replicate IsBalance 64 1000000 (omega arith)
+
+rows-replicate : (n balance : ℕ) → opening_rows (replicate n balance) ≡ replicate n (balance, 0)
+rows-replicate zero balance = refl
+rows-replicate (suc n) balance = ap (λ rows. (balance, 0) ∷ rows) (rows-replicate n balance)
+
+firsts-replicate : (n balance : ℕ) → map (λ (row : ℕ × ℕ). row.0) (replicate n (balance, 0)) ≡ replicate n balance
+firsts-replicate zero balance = refl
+firsts-replicate (suc n) balance = ap (λ more. balance ∷ more) (firsts-replicate n balance)
+
+-- the list of accounts with these rows is the one over which generated transfers run
+pub list-generated : (rows : List (ℕ × ℕ)) → rows ≡ generated_rows → genesis_list (map (λ row. row.0) rows) ≡ generated_opening
+list-generated rows same = ap (λ rs. genesis_list (map (λ (row : ℕ × ℕ). row.0) rs)) same ∙ ap genesis_list (firsts-replicate 64 1000000)
+
+pub few-generated : (rows : List (ℕ × ℕ)) → rows ≡ generated_rows → length rows ≡ 64
+few-generated rows same = ap length same ∙ length-replicate {A = ℕ × ℕ} 64 (1000000, 0)
+
+pub each-generated : (rows : List (ℕ × ℕ)) → rows ≡ generated_rows → All (λ (row : ℕ × ℕ). IsBalance row.0) rows
+each-generated rows same = subst (All (λ (row : ℕ × ℕ). IsBalance row.0)) (sym same)
+    (All-replicate (λ (row : ℕ × ℕ). IsBalance row.0) 64 (1000000, 0) (omega arith))
+
+pub end-opening : end_of generated_opening ≡ 128
+end-opening = end_of-genesis 0 balances ∙ ap (λ n. 2 * n) (length-replicate {A = ℕ} 64 1000000)
+
+marks-none : (n balance account : ℕ) → (row (replicate n (balance, 0)) account).1 ≡ 0
+marks-none zero balance account = refl
+marks-none (suc n) balance zero = refl
+marks-none (suc n) balance (suc account) = marks-none n balance account
+
+kept-opening : (rows : List (ℕ × ℕ)) → rows ≡ generated_rows → KeepsRows rows (genesis_of (history generated_opening)) (history generated_opening)
+kept-opening rows same = subst (λ rs. KeepsRows rs (genesis_of (history generated_opening)) (history generated_opening))
+    (rows-replicate 64 1000000 ∙ sym same) (genesis-kept balances few-balances each-balance)
+
+-- the table can start with them
+pub accounts-generated : (key : Start) → key.accounts.rows ≡ generated_rows → HasAccounts key
+accounts-generated key same = record {
+  some_accounts = omega (arith, few-generated key.accounts.rows same);
+  few = omega (arith, few-generated key.accounts.rows same);
+  balances = (kept-opening key.accounts.rows same).range;
+  marks = λ account inside. let none = ap (λ rs. (row rs account).1) same ∙ marks-none 64 1000000 account in omega arith;
+}
+
+-- what holds its units holds it
+holds-generated : (units bytes : List ℕ) → units ≡ units_of generated_opening → HoldsUnits bytes units → HoldsLawful bytes generated_opening
+holds-generated units bytes same held = genesis-holds balances few-balances each-balance bytes (subst (HoldsUnits bytes) same held)
+
+-- ---- the log is made
+
+module _ {D : Type 0} (g : Ghosts D) (old mid new : D) (units : List ℕ) (made : units ≡ units_of generated_opening)
+    (found : Leaves g.moment g.images_since (g.images old) old mid) (one : g.written_count mid ≤ g.written_count old + 1) where
+  pub only-makes : Leaves g.moment g.images_since (HoldsNoneOr units) mid new → g.written_count new ≤ g.written_count mid + 6 → OnlyMakes g old new
+  only-makes created writes = record {
+    images = Leaves-trans g.moment g.images_since (λ bytes. MayPrecede (g.images old) bytes ⊎ HoldsLawful bytes generated_opening) old mid new
+        (Leaves-weaken g.moment g.images_since (g.images old) (λ bytes. MayPrecede (g.images old) bytes ⊎ HoldsLawful bytes generated_opening)
+        old mid (λ bytes image. inl (inl image)) found)
+        (Leaves-weaken g.moment g.images_since (HoldsNoneOr units) (λ bytes. MayPrecede (g.images old) bytes ⊎ HoldsLawful bytes generated_opening)
+        mid new (λ bytes. ⊎_elim (λ none. inl (inr none)) (λ held. inr (holds-generated units bytes made held))) created);
+    count = omega (arith, one, writes);
+  }
+
+pub only-finds : {D : Type 0} (g : Ghosts D) (old new : D) → Leaves g.moment g.images_since (g.images old) old new
+    → g.written_count new ≤ g.written_count old + 1 → OnlyMakes g old new
+only-finds g old new found one = record {
+  images = Leaves-weaken g.moment g.images_since (g.images old) (λ bytes. MayPrecede (g.images old) bytes ⊎ HoldsLawful bytes generated_opening)
+      old new (λ bytes image. inl (inl image)) found;
+  count = omega (arith, one);
+}
+
+-- no log is made, since one was found, or the disk failed
+pub fault-found : {D : Type 0} (g : Ghosts D) (n seed workers : ℕ) (old new : D) (detail : Detail) → IsFindingFault detail → OnlyLooks g old new
+    → AnswersDemo g n seed workers old new detail
+fault-found g n seed workers old new Disk is looks = inl (only-finds g old new looks.images looks.count)
+fault-found g n seed workers old new Exists is looks = looks
+fault-found g n seed workers old new Fine is looks = absurd is
+fault-found g n seed workers old new NoMemory is looks = absurd is
+fault-found g n seed workers old new Usage is looks = absurd is
+fault-found g n seed workers old new (Script line) is looks = absurd is
+fault-found g n seed workers old new Read is looks = absurd is
+fault-found g n seed workers old new Write is looks = absurd is
+fault-found g n seed workers old new NotALog is looks = absurd is
+fault-found g n seed workers old new (BadBatch offset) is looks = absurd is
+fault-found g n seed workers old new (BadRec lsn) is looks = absurd is
+fault-found g n seed workers old new (Unlawful lsn why) is looks = absurd is
+fault-found g n seed workers old new (LogEnd tail total) is looks = absurd is
+fault-found g n seed workers old new (TxnEnd first count) is looks = absurd is
+
+module _ {D : Type 0} (g : Ghosts D) (n seed workers : ℕ) (prepared : Prepared) (is : IsPreparedDemo n seed workers prepared) (disk : D) (tail : Tail)
+    (units : List ℕ) (made : units ≡ units_of generated_opening) where
+  pub opened-generated : (g.honest disk → AllStand tail units (g.images disk)) → (g.honest disk → IsShut tail.at (g.images disk))
+      → tail.at ≡ 12 + 8 * length units → tail.next ≡ length units
+      → IsOpened g disk tail generated_opening prepared.jobs.first (key_of prepared.table)
+  opened-generated stand shut place next =
+      let counted : length units ≡ 128 = ap length made ∙ end-opening in
+      record {
+        spellable = genesis-spellable balances few-balances each-balance;
+        lawful = genesis-lawful balances few-balances each-balance;
+        some_accounts = omega (arith, opening-generated.accounts);
+        below = let none : greatest_txn (history generated_opening) ≡ 0 = refl in omega (arith, none, is.generated.first);
+        stand = λ honest. subst (λ us. AllStand tail us (g.images disk)) made (stand honest);
+        shut = shut;
+        next = omega (arith, next, counted, end-opening);
+        place = omega (arith, place, counted);
+        start = omega (arith, is.start, end-opening);
+        accounts = shows-kept _ _ _ (kept-opening _ is.accounts);
+      }
+
+-- ---- the transfers have ended
+
+Appends-none : (a b : Option (List ℕ)) → AppendsPrefix a b [] → Appends a b []
+Appends-none a b ([], rest, whole, appended) = appended
+Appends-none a b (byte ∷ bytes, rest, whole, appended) = cc
+
+Appends-keeps : (a b : Option (List ℕ)) → Appends a b [] → Keeps a b
+Appends-keeps None b appended = tt
+Appends-keeps (Some xs) None appended = absurd appended
+Appends-keeps (Some xs) (Some ys) appended = appended ∙ append-nil xs
+
+-- a new log's end, as the base state that the transfers follow has it
+later-opening : (records : List Rec) → later_of generated_opening records ≡ history_from (base_state_of (history generated_opening)).end [] records
+later-opening records = ap (λ end. history_from end [] records) (end-opening ∙ sym opening-end)
+
+module _ {D : Type 0} {K : Type 0} (g : Ghosts D) (h : SinkGhosts K) (n seed workers : ℕ) (few : n ≤ 100000) (ready : ReadyRun) {wait : Bool} (entry disk disk_new : D)
+    (sink sink_mid sink_new : K) (ended : Ended) (is : IsReadyDemo g n seed workers entry disk ready)
+    (has : HasEnded g h ready.prepared generated_opening Count wait disk disk_new sink sink_mid ended) where
+  abbrev jobs : Jobs
+  jobs = ready.prepared.jobs
+
+  abbrev records : List Rec
+  records = list g h ready.prepared generated_opening Count disk disk_new sink sink_mid ended has
+
+  abbrev base : BaseState
+  base = base_state_of (history generated_opening)
+
+  tasks : tasks_of jobs ≡ numbered 1 (generated_transfers n seed)
+  tasks = λ i. numbered (is.generated.first i) (map transfer_of (is.generated.script i))
+
+  partly : IsPartlySerialAfter base (numbered 1 (generated_transfers n seed)) (history_from base.end [] records)
+  partly = subst (IsPartlySerialAfter base (numbered 1 (generated_transfers n seed))) (later-opening records)
+      (subst (λ ts. IsPartlySerialAfter base ts (later_of generated_opening records)) tasks
+      (serial-ended g h ready.prepared generated_opening Count disk disk_new sink sink_mid ended has))
+
+  -- nothing was told of the transfers
+  silent : Appends (h.held_bytes sink) (h.held_bytes sink_mid) []
+  silent = Appends-none (h.held_bytes sink) (h.held_bytes sink_mid)
+      (told-ended g h ready.prepared generated_opening Count disk disk_new sink sink_mid ended has).1
+
+  -- so the sink never stopped the daemon
+  never-fails : ended.fault ≡ Some WriteFault → ⊥
+  never-fails fault = subst IsCount (speaks-ended g h ready.prepared generated_opening Count disk disk_new sink sink_mid ended has fault) tt
+    where
+      IsCount : Voice → Type 0
+      IsCount Count = Unit {0}
+      IsCount Lines = ⊥
+
+  -- and none of them came to the end of the log
+  no-log_end : (tail total : ℕ) → ended.fault ≡ None → IsFirstLogEnd ended.ends.items tail total → ⊥
+  no-log_end tail total fine first = never-log_end n seed few jobs is.generated.script generated_opening records tail total (omega (arith, end-opening))
+      (end-most n seed 1 base few opening-generated records partly)
+      (stops-ended g h ready.prepared generated_opening Count disk disk_new sink sink_mid ended has fine tail total first)
+
+  -- where nothing befell them, their summary is what their number and seed tell
+  summary-ended : ended.fault ≡ None → AreWhole ended.ends.items → counted_text n ended ≡ summary_text n seed
+  summary-ended fine all =
+      let counts = counted-ended g h ready.prepared generated_opening Count disk disk_new sink sink_mid ended has fine in
+      let drained = drained-ended g h ready.prepared generated_opening Count disk disk_new sink sink_mid ended has fine in
+      let longer = ap length (units_of-append generated_opening records) ∙ length-append (units_of generated_opening) (units_of records) in
+      let lsn : ended.closed.tail ≡ base.end + end_of records = omega (arith, drained.end, longer, end-opening, opening-end) in
+      let whole : IsSerialAfter base (numbered 1 (generated_transfers n seed)) (history_from base.end [] records) =
+      subst (IsSerialAfter base (numbered 1 (generated_transfers n seed))) (later-opening records)
+      (subst (λ ts. IsSerialAfter base ts (later_of generated_opening records)) tasks
+      (whole_after-ended g h ready.prepared generated_opening Count disk disk_new sink sink_mid ended has all)) in
+      let kept = subst (KeepsRows ended.closed.accounts.rows base) (later-opening records)
+      (kept-ended g h ready.prepared generated_opening Count disk disk_new sink sink_mid ended has) in
+      (λ i. summary_of (record { transfers = n; done = counts.0 i; refused = counts.1 i; lsn = lsn i }) ended.closed.accounts.rows)
+      ∙ summary-same n seed 1 base records ended.closed.accounts.rows few opening-generated whole kept opening-end
+
+  -- there is a row for each account
+  pub rows-ended : length ended.closed.accounts.rows ≤ 4096
+  rows-ended =
+      let count = (kept-ended g h ready.prepared generated_opening Count disk disk_new sink sink_mid ended has).count in
+      omega (arith, count, opening-generated.accounts)
+
+  pub text-concluded : (detail : Detail) → Concludes h ended (counted_text n ended) sink_mid sink_new detail
+      → TellsSummary n seed (h.held_bytes sink) (h.held_bytes sink_new) detail
+  text-concluded = by-conclusion h ended (counted_text n ended) sink_mid sink_new (TellsSummary n seed (h.held_bytes sink) (h.held_bytes sink_new))
+      (λ said. subst (λ s. Keeps (h.held_bytes sink) (h.held_bytes s)) (sym said.1) (Appends-keeps (h.held_bytes sink) (h.held_bytes sink_mid) silent))
+      (λ said. absurd (never-fails said.0))
+      (λ said. let text = said.1 in (
+        text.0,
+        text.1,
+        sym (summary-ended said.0.0 said.0.1) ∙ text.2,
+        Appends-trans (h.held_bytes sink) (h.held_bytes sink_mid) (h.held_bytes sink_new) [] text.0 silent text.3,
+        text.4,
+      ))
+      (λ said. subst (Appends (h.held_bytes sink) (h.held_bytes sink_new)) (summary-ended said.0.0 said.0.1)
+      (Appends-trans (h.held_bytes sink) (h.held_bytes sink_mid) (h.held_bytes sink_new) [] (counted_text n ended) silent said.1))
+      (λ tail total said. absurd (no-log_end tail total said.0.0 said.0.1))
+
+  pub range-concluded : (detail : Detail) → Concludes h ended (counted_text n ended) sink_mid sink_new detail → IsOfDemo detail
+  range-concluded = by-conclusion h ended (counted_text n ended) sink_mid sink_new IsOfDemo (λ _. tt) (λ _. tt) (λ _. tt) (λ _. tt)
+      (λ tail total said. absurd (no-log_end tail total said.0.0 said.0.1))
+
+  -- it was found that no log is there
+  pub tells-concluded : (opened : Type 0) → (opened → ⊥) → (detail : Detail) → Concludes h ended (counted_text n ended) sink_mid sink_new detail
+      → TellsWhether opened detail
+  tells-concluded opened closed = by-conclusion h ended (counted_text n ended) sink_mid sink_new (TellsWhether opened) (λ _. tt) (λ _. closed)
+      (λ _. closed) (λ _. closed) (λ _ _ _. closed)
+
+  module _ (honest : g.honest entry) (honest_mid : g.honest disk) where
+    made : OnlyMakes g entry disk
+    made = is.made honest
+
+    ran : RanGenerated g n seed workers entry disk_new
+    ran = record {
+      jobs = jobs;
+      generated = is.generated;
+      list = records;
+      goes_on = (keeps-ended g h ready.prepared generated_opening Count disk disk_new sink sink_mid ended has).goes_on;
+      images = images-begun g disk ready.tail generated_opening jobs _ is.log records (MayPrecede (g.images entry)) entry disk_new made.images
+          ((keeps-ended g h ready.prepared generated_opening Count disk disk_new sink sink_mid ended has).moments honest_mid);
+      kept = λ image left_image.
+          let left = (keeps-ended g h ready.prepared generated_opening Count disk disk_new sink sink_mid ended has).left honest_mid image left_image in
+          record { run = left.run; count = let before = made.count in let writes = left.count in omega arith };
+    }
+
+    -- nothing stopped the transfers
+    ran-all : NothingStopped ended → RanAllGenerated g n seed workers entry disk_new
+    unfolding ran
+    ran-all nothing = record {
+      ran = ran;
+      all = (drained-ended g h ready.prepared generated_opening Count disk disk_new sink sink_mid ended has nothing.0).images honest_mid;
+      whole = whole-ended g h ready.prepared generated_opening Count disk disk_new sink sink_mid ended has nothing.1;
+    }
+
+    pub answers-demo : (detail : Detail) → Concludes h ended (counted_text n ended) sink_mid sink_new detail
+        → AnswersDemo g n seed workers entry disk_new detail
+    unfolding ran
+    answers-demo = by-conclusion h ended (counted_text n ended) sink_mid sink_new (AnswersDemo g n seed workers entry disk_new) (λ _. inr ran)
+        (λ said. absurd (never-fails said.0)) (λ said. ran-all said.0) (λ said. ran-all said.0)
+        (λ tail total said. no-log_end tail total said.0.0 said.0.1)

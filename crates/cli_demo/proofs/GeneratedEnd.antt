@@ -1,0 +1,123 @@
+-- Generated transfers end far below the last LSN, also where some were cut short.
+use Rattle.std.proofs.Common.{◌≡◌, ◌≤◌, ◌<◌, ℕ, zero, suc, ◌||◌, ◌+◌, ◌*◌, false, ◌⊎◌, inl, inr, List, [], ◌∷◌, ◌++◌, length, take, get_or, None, ◌-◌, refl, ap, ◌∙◌, arith, ne_eqb, length-append}
+use Rattle.std.specs.List.{AllByRecursion}
+use Rattle.log_record.specs.declared.rec.Rec.{Rec}
+use Rattle.log_record.specs.declared.rec.Rec.TheVariants.{Short, Over}
+use Rattle.log_record.specs.declared.rec.Placed.{Placed}
+use Rattle.log_record.specs.LogList.{size_of, units_of, end_of, IsBoundary}
+use Rattle.log_record.proofs.LogListLemmas.{boundary_is_front}
+use Rattle.log_recovery.proofs.ListingLemmas.{units_of-append}
+use Rattle.lock_core.specs.Alone.{PlainTransfer, Done, ShortAt, OverAt, Outcome, leg_updates, outcome_alone, outcome_records}
+use Rattle.lock_core.specs.AnyOrder.{IsDoneIn, weight_of}
+use Rattle.lock_core.specs.History.{history, history_from}
+use Rattle.lock_core.specs.Serial.{Task, numbered, IsCutShort, IsPartlySerialAfter}
+use Rattle.lock_core.specs.Sums.{BaseState}
+use Rattle.lock_core.specs.Transactions.{own_records_of, all_without_prev, in_order}
+use Rattle.lock_core.proofs.Doing.{end_of-weight, partly-done}
+use Rattle.lock_core.proofs.NextRecords.{size-without_prev}
+use Rattle.lock_core.proofs.Weighing.{AreDistinct, each_task, has_number, weight_of-append, weight_of-history, weight_of-in_order, weight_of-tasks, weight_of-without_prev}
+use Rattle.txn_script.specs.declared.job.Job.{Job}
+use Rattle.txn_script.specs.Generator.{number_after, leg_from, job_from, generated_jobs, generated_transfers, OpensGenerated}
+use Rattle.txn_script.specs.Transfers.{transfer_of}
+use Rattle.txn_script.proofs.OrderLemmas.{room-generated}
+use Rattle.txn_runner.specs.declared.jobs.Jobs.{Jobs}
+use Rattle.txn_runner.specs.Stripes.{number_at, place_of, job_at}
+use Rattle.cli_threads.specs.RunStops.{HasNextOf, StopsAtLogEnd}
+
+-- ---- one transfer has 5 units at most, whatever its outcome
+
+updates-most : (txn k : ℕ) (leg : ℕ × ℕ × ℕ) → weight_of size_of (leg_updates txn (take k (leg ∷ []))) ≤ 4
+updates-most txn zero leg = omega arith
+updates-most txn (suc zero) leg = omega arith
+updates-most txn (suc (suc k)) leg = omega arith
+
+outcome-most : (txn x : ℕ) (outcome : Outcome) → weight_of size_of (outcome_records txn (transfer_of (job_from x)) outcome) ≤ 5
+outcome-most txn x Done = omega arith
+outcome-most txn x (ShortAt leg) = omega (
+  arith,
+  updates-most txn (leg - 1) (leg_from x),
+  weight_of-append size_of (leg_updates txn (take (leg - 1) (leg_from x ∷ []))) (Short txn leg ∷ []),
+)
+outcome-most txn x (OverAt leg) = omega (
+  arith,
+  updates-most txn (leg - 1) (leg_from x),
+  weight_of-append size_of (leg_updates txn (take (leg - 1) (leg_from x ∷ []))) (Over txn leg ∷ []),
+)
+
+-- the records of a transaction that go on to these ones weigh what these do, or less
+records-most : (h : List Placed) (n : ℕ) (rest planned : List Rec) → in_order (all_without_prev (own_records_of n h)) rest ≡ planned
+    → weight_of size_of (own_records_of n h) + weight_of size_of rest ≡ weight_of size_of planned
+records-most h n rest planned same =
+    let parts = weight_of-in_order size_of (all_without_prev (own_records_of n h)) rest in
+    let plain = weight_of-without_prev size_of (own_records_of n h) size-without_prev in
+    let whole = ap (weight_of size_of) same in
+    omega arith
+
+task-most : (h : List Placed) (n x : ℕ) → let task : Task = record { number = n; job = transfer_of (job_from x) } in
+    IsDoneIn h task ⊎ IsCutShort h task → weight_of size_of (own_records_of n h) ≤ 5
+task-most h n x (inl done) = omega (arith, records-most h n [] _ done, outcome-most n x Done)
+task-most h n x (inr cut) = let same = records-most h n cut.rest _ cut.front in omega arith
+
+-- ---- all of them
+
+tasks-most : (h : List Placed) (first n seed : ℕ)
+    → AllByRecursion (λ (task : Task). IsDoneIn h task ⊎ IsCutShort h task) (numbered first (generated_transfers n seed))
+    → each_task (λ task. weight_of size_of (own_records_of task.number h)) (numbered first (generated_transfers n seed)) ≤ 5 * n
+tasks-most h first zero seed each = omega arith
+tasks-most h first (suc n) seed each =
+    let here = task-most h first (number_after seed) each.0 in
+    let more = tasks-most h (first + 1) n (number_after seed) each.1 in
+    omega arith
+
+number-new : (n first : ℕ) (jobs : List PlainTransfer) → n < first → has_number (numbered first jobs) n ≡ false
+number-new n first [] below = refl
+number-new n first (job ∷ jobs) below =
+    (λ i. ne_eqb n first (λ same. omega (arith, same)) i || number-new n (first + 1) jobs (omega arith) i)
+
+distinct-numbered : (first : ℕ) (jobs : List PlainTransfer) → AreDistinct (numbered first jobs)
+distinct-numbered first [] = tt
+distinct-numbered first (job ∷ jobs) = (number-new first (first + 1) jobs (omega arith), distinct-numbered (first + 1) jobs)
+
+module _ (n seed first : ℕ) (base : BaseState) (few : n ≤ 100000) (opens : OpensGenerated base) where
+  pub end-most : (records : List Rec)
+      → IsPartlySerialAfter base (numbered first (generated_transfers n seed)) (history_from base.end [] records) → end_of records ≤ 5 * n
+  end-most records serial =
+      let tasks = numbered first (generated_transfers n seed) in
+      let h = history_from base.end [] records in
+      let each = partly-done base first (generated_transfers n seed) (room-generated n seed base few opens) h serial in
+      let sum = weight_of-tasks size_of tasks h (distinct-numbered first (generated_transfers n seed)) serial.others in
+      omega (arith, end_of-weight records, weight_of-history size_of base.end [] records, sum, tasks-most h first n seed each)
+
+-- ---- so none of them can come to the end of the log
+
+generated-at : (n seed place : ℕ) (other : Job) → place < length (generated_jobs n seed)
+    → (x : ℕ) × (get_or (generated_jobs n seed) place other ≡ job_from x)
+generated-at zero seed place other inside = absurd (omega arith)
+generated-at (suc n) seed zero other inside = (number_after seed, refl)
+generated-at (suc n) seed (suc place) other inside = generated-at n (number_after seed) place other (omega arith)
+
+boundary-most : (records : List Rec) (lsn : ℕ) → IsBoundary records lsn → lsn ≤ end_of records
+boundary-most records lsn is =
+    let found = boundary_is_front records lsn is in
+    let longer = ap end_of found.2 ∙ ap length (units_of-append found.0 found.1) ∙ length-append (units_of found.0) (units_of found.1) in
+    omega (arith, longer, found.3)
+
+module _ (n seed : ℕ) (few : n ≤ 100000) (jobs : Jobs) (script : jobs.script ≡ generated_jobs n seed) where
+  next-most : (records : List Rec) (worker k tail total : ℕ) → place_of jobs worker k < length jobs.script → HasNextOf records jobs worker k tail total
+      → total ≤ 5
+  next-most records worker k tail total inside next =
+      let found = generated-at n seed (place_of jobs worker k) (record { legs = []; note = None }) (omega (arith, inside, ap length script)) in
+      let job : job_at jobs worker k ≡ job_from found.0 =
+      ap (λ s. get_or s (place_of jobs worker k) (record { legs = []; note = None })) script ∙ found.1 in
+      let plan = next.plan ∙ ap (λ j. outcome_records (number_at jobs worker k) (transfer_of j) (outcome_alone (transfer_of j) next.balances)) job in
+      let weighed = records-most (history records) (number_at jobs worker k) (next.next ∷ next.rest) _ plan in
+      omega (arith, weighed, outcome-most (number_at jobs worker k) found.0 (outcome_alone (transfer_of (job_from found.0)) next.balances), next.size)
+
+  pub never-log_end : (opened list : List Rec) (tail total : ℕ) → end_of opened ≤ 128 → end_of list ≤ 5 * n
+      → StopsAtLogEnd opened jobs list tail total → ⊥
+  never-log_end opened list tail total first most stops =
+      let small = next-most (opened ++ list) stops.worker stops.stripe.cut tail total stops.stripe.inside stops.next in
+      let within = boundary-most (opened ++ list) tail stops.boundary in
+      let longer = ap length (units_of-append opened list) ∙ length-append (units_of opened) (units_of list) in
+      let past = stops.too_long in
+      omega arith

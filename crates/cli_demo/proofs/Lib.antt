@@ -1,0 +1,3 @@
+pub mod DemoLemmas
+pub mod GeneratedEnd
+pub mod SummaryLemmas

@@ -1,0 +1,104 @@
+-- What `demo` answers: a log of generated accounts is made, and `n` transfers that a seed generates are run over it. `g` is what a disk
+-- shows; `old` and `new` are the disk before and after.
+use Rattle.std.specs.Prelude.{◌≡◌, ◌≤◌, ◌⊎◌, ℕ, ◌+◌, ◌*◌, List, ◌++◌, length, Option}
+use Rattle.std.specs.Io.KnownBytes.{Keeps, Appends}
+use Rattle.log_disk.specs.Disk.{Leaves}
+use Rattle.log_disk.specs.Streams.{AppendsPart}
+use Rattle.log_disk.specs.declared.disk.LogDisk.{Ghosts}
+use Rattle.log_record.specs.declared.rec.Rec.{Rec}
+use Rattle.log_recovery.specs.Recovery.{HoldsLawful}
+use Rattle.log_table.specs.Seats.{key_of}
+use Rattle.segment_file.specs.File.{BeginsAsLog}
+use Rattle.txn_runner.specs.declared.jobs.Jobs.{Jobs}
+use Rattle.txn_script.specs.declared.generator.TheConstants.{GENERATED_ACCOUNTS}
+use Rattle.txn_script.specs.Generator.{generated_jobs}
+use Rattle.cli_shared.specs.declared.report.Detail.{Detail}
+use Rattle.cli_shared.specs.declared.report.Detail.TheVariants.{Fine, NoMemory, Write, Disk, Exists}
+use Rattle.cli_threads.specs.declared.transfers.ReadyRun.{ReadyRun}
+use Rattle.cli_threads.specs.declared.transfers.Prepared.{Prepared}
+use Rattle.cli_threads.specs.Prepared.{IsPrepared}
+use Rattle.cli_threads.specs.Run.{GoesOn, HoldsRun, RunsWhole}
+use Rattle.cli_shared.specs.Opening.{OnlyLooks}
+use Rattle.cli_demo.specs.Summary.{generated_opening, generated_rows, summary_text}
+use Rattle.cli_threads.specs.Transferred.{IsOpened}
+
+-- the transfers of the seed, under the numbers from 1 on, dealt out to so many workers
+pub record AreGenerated (n seed workers : ℕ) (jobs : Jobs) : Type 0 where
+  pub script : jobs.script ≡ generated_jobs n seed
+  pub first : jobs.first ≡ 1
+  pub workers_are : jobs.workers ≡ workers
+
+-- an image of before, or no log
+abbrev pub MayPrecede : (List ℕ → Type 0) → List ℕ → Type 0
+MayPrecede images bytes = images bytes ⊎ (BeginsAsLog bytes → ⊥)
+
+-- No transfer was begun. Each image of a moment is one of before, or no log, or the new log of the generated accounts.
+pub record OnlyMakes {D : Type 0} (g : Ghosts D) (old new : D) : Type 0 where
+  pub images : Leaves g.moment g.images_since (λ bytes. MayPrecede (g.images old) bytes ⊎ HoldsLawful bytes generated_opening) old new
+  pub count : g.written_count new ≤ g.written_count old + 7
+
+-- the image holds the new log and a front of what the run inserted; at most 4 writes and syncs succeeded for each record of it, and 11 more
+pub record HoldsMade {D : Type 0} (g : Ghosts D) (jobs : Jobs) (list : List Rec) (old new : D) (image : List ℕ) : Type 0 where
+  pub run : HoldsRun generated_opening jobs list image
+  pub count : g.written_count new ≤ g.written_count old + 4 * length run.front + 11
+
+-- The log was made and transfers were begun. Each image of a moment is one of before, or no log, or holds the new log and a front of one and
+-- the same list, which goes on from it by these transfers.
+pub record RanGenerated {D : Type 0} (g : Ghosts D) (n seed workers : ℕ) (old new : D) : Type 0 where
+  pub jobs : Jobs
+  pub generated : AreGenerated n seed workers jobs
+  pub list : List Rec
+  pub goes_on : GoesOn generated_opening jobs (generated_opening ++ list)
+  pub images : Leaves g.moment g.images_since (λ bytes. MayPrecede (g.images old) bytes ⊎ HoldsRun generated_opening jobs list bytes) old new
+  pub kept : (image : List ℕ) → g.images new image → HoldsMade g jobs list old new image
+
+-- each of them ran whole, and each image holds the whole list
+pub record RanAllGenerated {D : Type 0} (g : Ghosts D) (n seed workers : ℕ) (old new : D) : Type 0 where
+  pub ran : RanGenerated g n seed workers old new
+  pub all : (image : List ℕ) → g.images new image → HoldsLawful image (generated_opening ++ ran.list)
+  pub whole : RunsWhole generated_opening ran.jobs ran.list
+
+-- What `demo` with so many workers leaves of the disk, for each detail. The output is written only once all transfers are on the disk.
+abbrev pub AnswersDemo : {D : Type 0} → Ghosts D → ℕ → ℕ → ℕ → D → D → Detail → Type 0
+AnswersDemo g n seed workers old new Fine = RanAllGenerated g n seed workers old new
+AnswersDemo g n seed workers old new Write = RanAllGenerated g n seed workers old new
+AnswersDemo g n seed workers old new Disk = OnlyMakes g old new ⊎ RanGenerated g n seed workers old new
+AnswersDemo g n seed workers old new NoMemory = OnlyLooks g old new
+AnswersDemo g n seed workers old new Exists = OnlyLooks g old new
+AnswersDemo g n seed workers old new detail = ⊥
+
+-- what `demo` writes, for each detail: the summary, which the number of the transfers and their seed alone tell
+abbrev pub TellsSummary : ℕ → ℕ → Option (List ℕ) → Option (List ℕ) → Detail → Type 0
+TellsSummary n seed old new Fine = Appends old new (summary_text n seed)
+TellsSummary n seed old new Write = AppendsPart old new (summary_text n seed)
+TellsSummary n seed old new detail = Keeps old new
+
+-- the answers that there are to `demo`
+abbrev pub IsOfDemo : Detail → Type 0
+IsOfDemo Fine = Unit {0}
+IsOfDemo NoMemory = Unit {0}
+IsOfDemo Write = Unit {0}
+IsOfDemo Disk = Unit {0}
+IsOfDemo Exists = Unit {0}
+IsOfDemo detail = ⊥
+
+-- why no log was made to run transfers over
+abbrev pub IsBeforeDemo : Detail → Type 0
+IsBeforeDemo NoMemory = Unit {0}
+IsBeforeDemo Disk = Unit {0}
+IsBeforeDemo Exists = Unit {0}
+IsBeforeDemo detail = ⊥
+
+-- the table starts where the new log ends, with its accounts, and the transfers are the generated ones
+pub record IsPreparedDemo (n seed workers : ℕ) (prepared : Prepared) : Type 0 where
+  pub start : (key_of prepared.table).start ≡ 2 * GENERATED_ACCOUNTS
+  pub accounts : (key_of prepared.table).accounts.rows ≡ generated_rows
+  pub generated : AreGenerated n seed workers prepared.jobs
+  pub ready : IsPrepared prepared
+
+-- the log was made, and the transfers are ready to be run over it
+pub record IsReadyDemo {D : Type 0} (g : Ghosts D) (n seed workers : ℕ) (old new : D) (ready : ReadyRun) : Type 0 where
+  pub log : IsOpened g new ready.tail generated_opening ready.prepared.jobs.first (key_of ready.prepared.table)
+  pub generated : AreGenerated n seed workers ready.prepared.jobs
+  pub prepared : IsPrepared ready.prepared
+  pub made : g.honest old → OnlyMakes g old new

@@ -1,0 +1,130 @@
+//! A log of generated accounts, and generated transfers over it.
+ghost use Rattle.std.specs.Prelude.{◌≡◌, ◌≤◌, ◌+◌, ◌↔◌, OnOk, IfOk, IfErr, IsErrOf};
+ghost use Rattle.command_line.specs.Ranges.{AreInRange};
+ghost use Rattle.log_disk.specs.Faults.{Rose};
+ghost use Rattle.log_record.specs.LogList.{units_of};
+ghost use Rattle.segment_file.specs.File.{BeginsOpen};
+ghost use Rattle.txn_script.specs.declared.generator.TheConstants.{MOST_GENERATED};
+ghost use Rattle.cli_shared.specs.Creation.{TellsWhether};
+ghost use Rattle.cli_demo.specs.Demo.{AnswersDemo, IsBeforeDemo, IsOfDemo, IsPreparedDemo, IsReadyDemo, TellsSummary};
+ghost use Rattle.cli_demo.specs.Summary.{generated_opening, generated_rows};
+
+use crate::conclusion::conclude_counted;
+use cli_shared::genesis::genesis;
+use cli_shared::{Detail, finds_none};
+use cli_threads::{Prepared, ReadyRun, prepare, run_transfers};
+use command_line::RunOptions;
+use commit_pipeline::Voice;
+use log_disk::{Gate, LogDisk, Sink};
+use log_table::Start;
+use lsn_space::{Balances, Lsn, NoMemory, Word};
+use segment_file::{Batch, create};
+use std::alloc::Global;
+use std::sync::Wait;
+use std::thread::Threads;
+use txn_script::{GENERATED_ACCOUNTS, GENERATED_BALANCE, make};
+
+/// Makes a log of generated accounts, makes so many transfers over it that the seed generates, and then answers their summary. It
+/// waits for the workers.
+pub fn demo_command<R: Threads + Wait + Sync, D: LogDisk, K: Sink, G: Gate + Sync>(
+    rt: &R,
+    alloc: Global,
+    log: &Word,
+    transfers: u32,
+    seed: u32,
+    options: &RunOptions,
+    disk: &mut D,
+    out: &mut K,
+    gate: &G,
+) -> Detail
+    requires options { AreInRange options.now }
+    requires few { transfers ≤ MOST_GENERATED }
+    ensures answer { D.honest disk.old → AnswersDemo D.LogDisk transfers seed options.now.workers disk.old disk.new result }
+    ensures text { TellsSummary transfers seed (K.held_bytes out.old) (K.held_bytes out.new) result }
+    ensures range { IsOfDemo result }
+    ensures honest { D.honest disk.old ↔ D.honest disk.new }
+    ensures exists { D.honest disk.old → TellsWhether (BeginsOpen (D.reads disk.old)) result }
+    ensures write { result ≡ Detail.Write → Rose (K.faults out.old) (K.faults out.new) }
+    ensures disk { result ≡ Detail.Disk → Rose (D.faults disk.old) (D.faults disk.new) }
+    ensures no_fault { (result ≡ Detail.Disk → ⊥) → D.faults disk.new ≡ D.faults disk.old }
+    ensures later { K.faults out.old ≤ K.faults out.new }
+    ensures later_disk { D.faults disk.old ≤ D.faults disk.new }
+{
+    let ReadyRun { prepared, tail } = match make_ready(
+        rt, alloc, log, transfers, seed, options, disk,
+    ) {
+        Ok(ready) => ready,
+        Err(detail) => return detail,
+    };
+    let ended = run_transfers(rt, prepared, disk, tail, out, Voice::Count, false, gate);
+    conclude_counted(&ended, transfers, out)
+}
+
+/// Finds that no log is there, asks for all memory, and makes the log.
+fn make_ready<R, D: LogDisk>(
+    rt: &R,
+    alloc: Global,
+    log: &Word,
+    transfers: u32,
+    seed: u32,
+    options: &RunOptions,
+    disk: &mut D,
+) -> Result<ReadyRun, Detail>
+    requires options { AreInRange options.now }
+    requires few { transfers ≤ MOST_GENERATED }
+    ensures ready { IfOk result (IsReadyDemo D.LogDisk transfers seed options.now.workers disk.old disk.new) }
+    ensures closed { D.honest disk.old → OnOk result (BeginsOpen (D.reads disk.old) → ⊥) }
+    ensures none { D.honest disk.old → IfErr result (AnswersDemo D.LogDisk transfers seed options.now.workers disk.old disk.new) }
+    ensures exists { D.honest disk.old → IfErr result (TellsWhether (BeginsOpen (D.reads disk.old))) }
+    ensures range { IfErr result IsBeforeDemo }
+    ensures honest { D.honest disk.old ↔ D.honest disk.new }
+    ensures disk { IsErrOf result Detail.Disk → Rose (D.faults disk.old) (D.faults disk.new) }
+    ensures no_fault { (IsErrOf result Detail.Disk → ⊥) → D.faults disk.new ≡ D.faults disk.old }
+    ensures later { D.faults disk.old ≤ D.faults disk.new }
+{
+    finds_none(disk, log)?;
+    let Ok((prepared, mut batch)) = prepare_demo(rt, alloc, transfers, seed, options) else {
+        return Err(Detail::NoMemory);
+    };
+    match create(disk, &mut batch) {
+        Ok(tail) => Ok(ReadyRun { prepared, tail }),
+        Err(_) => Err(Detail::Disk),
+    }
+}
+
+/// Asks for the memory of the run, and spells the list of the log that it runs over.
+fn prepare_demo<R>(
+    rt: &R,
+    alloc: Global,
+    transfers: u32,
+    seed: u32,
+    options: &RunOptions,
+) -> Result<(Prepared, Batch), NoMemory>
+    requires options { AreInRange options.now }
+    requires few { transfers ≤ MOST_GENERATED }
+    ensures prepared { IfOk result (λ made. IsPreparedDemo transfers seed options.now.workers made.0) }
+    ensures batch { IfOk result (λ made. made.1.units ≡ units_of generated_opening) }
+{
+    let script = make(alloc, transfers, seed)?;
+    let accounts = generated_accounts(alloc)?;
+    let batch = genesis(alloc, &accounts)?;
+    let start = Start {
+        start: Lsn::new(2 * GENERATED_ACCOUNTS),
+        ring: options.ring,
+        slots: 0,
+        accounts,
+    };
+    let prepared = prepare(rt, alloc, start, script, 1, options.workers)?;
+    Ok((prepared, batch))
+}
+
+/// The accounts between which generated transfers go.
+fn generated_accounts(alloc: Global) -> Result<Balances, NoMemory>
+    ensures { IfOk result (λ accounts. accounts.rows ≡ generated_rows) }
+{
+    let mut accounts = Balances::make(alloc, GENERATED_ACCOUNTS)?;
+    'accounts: for _ in 0..GENERATED_ACCOUNTS {
+        accounts.push(GENERATED_BALANCE, 0);
+    }
+    Ok(accounts)
+}

@@ -1,0 +1,57 @@
+-- What `recover` and `dump` answer, from what was read, recovered and written.
+use Rattle.std.proofs.Common.{ℕ, List, Option, Some, None, IfSome, subst}
+use Rattle.std.specs.Io.KnownBytes.{Appends}
+use Rattle.log_disk.specs.Streams.{AppendsPart}
+use Rattle.log_recovery.specs.declared.list_result.Listed.{Listed}
+use Rattle.log_recovery.specs.declared.recovery.Recovered.{Recovered}
+use Rattle.log_recovery.specs.declared.recovery.RecoverFault.{RecoverFault}
+use Rattle.log_recovery.specs.declared.recovery.RecoverFault.TheVariants as fault
+use Rattle.log_recovery.specs.Dump.{dump_text}
+use Rattle.log_recovery.specs.Recovery.{HoldsList, IsListedFaultOf, ListsBytes, Recovers}
+use Rattle.log_recovery.specs.Text.{rows_text}
+use Rattle.log_recovery.proofs.TextLemmas.{rows_text-shown}
+use Rattle.cli_shared.specs.declared.report.Detail.TheVariants.{Fine, Write}
+use Rattle.cli_reports.specs.Answers.{AnswersRecover, AnswersDump, IsOfDump}
+use Rattle.cli_shared.specs.Answers.{ReadsAll, recover_detail}
+
+pub answers-fine : (left left_new old new : Option (List ℕ)) (bytes : List ℕ) (r : Recovered) → ReadsAll left left_new bytes → Recovers r bytes
+    → Appends old new (rows_text r.lsn r.accounts.rows) → IfSome left (λ all. AnswersRecover all left_new old new Fine)
+answers-fine None left_new old new bytes r read recovers written = tt
+answers-fine (Some all) left_new old new bytes r read recovers written =
+    let found = subst (λ b. Recovers r b) read.0 recovers in
+    (read.1, found.records, found.held, rw (rows_text-shown _ _ found.records found.lsn found.accounts) at written)
+
+pub answers-write : (left left_new old new : Option (List ℕ)) (bytes : List ℕ) (r : Recovered) → ReadsAll left left_new bytes → Recovers r bytes
+    → AppendsPart old new (rows_text r.lsn r.accounts.rows) → IfSome left (λ all. AnswersRecover all left_new old new Write)
+answers-write None left_new old new bytes r read recovers written = tt
+answers-write (Some all) left_new old new bytes r read recovers written =
+    let found = subst (λ b. Recovers r b) read.0 recovers in
+    (read.1, found.records, found.held, rw (rows_text-shown _ _ found.records found.lsn found.accounts) at written)
+
+pub answers_dump-fine : (left left_new old new : Option (List ℕ)) (bytes : List ℕ) (list : Listed) → ReadsAll left left_new bytes
+    → (found : ListsBytes list bytes) → Appends old new (dump_text found.records) → IfSome left (λ all. AnswersDump all left_new old new Fine)
+answers_dump-fine None left_new old new bytes list read found written = tt
+answers_dump-fine (Some all) left_new old new bytes list read found written =
+    (read.1, found.records, subst (λ b. HoldsList b found.records) read.0 found.held, written)
+
+pub answers_dump-write : (left left_new old new : Option (List ℕ)) (bytes : List ℕ) (list : Listed) → ReadsAll left left_new bytes
+    → (found : ListsBytes list bytes) → AppendsPart old new (dump_text found.records) → IfSome left (λ all. AnswersDump all left_new old new Write)
+answers_dump-write None left_new old new bytes list read found written = tt
+answers_dump-write (Some all) left_new old new bytes list read found written =
+    (read.1, found.records, subst (λ b. HoldsList b found.records) read.0 found.held, written)
+
+pub answers_dump-fault : (left left_new old new : Option (List ℕ)) (bytes : List ℕ) (f : RecoverFault) → ReadsAll left left_new bytes
+    → IsListedFaultOf bytes f → IfSome left (λ all. AnswersDump all left_new old new (recover_detail f))
+answers_dump-fault None left_new old new bytes f read is = tt
+answers_dump-fault (Some all) left_new old new bytes fault.NotALog read is = (read.1, subst (λ b. IsListedFaultOf b fault.NotALog) read.0 is)
+answers_dump-fault (Some all) left_new old new bytes (fault.BadBatch offset) read is = (read.1, subst (λ b. IsListedFaultOf b (fault.BadBatch offset)) read.0 is)
+answers_dump-fault (Some all) left_new old new bytes (fault.BadRec lsn) read is = (read.1, subst (λ b. IsListedFaultOf b (fault.BadRec lsn)) read.0 is)
+answers_dump-fault (Some all) left_new old new bytes (fault.Unlawful lsn why) read is = is
+answers_dump-fault (Some all) left_new old new bytes fault.NoMemory read is = tt
+
+pub range_dump-fault : (bytes : List ℕ) (f : RecoverFault) → IsListedFaultOf bytes f → IsOfDump (recover_detail f)
+range_dump-fault bytes fault.NotALog is = tt
+range_dump-fault bytes (fault.BadBatch offset) is = tt
+range_dump-fault bytes (fault.BadRec lsn) is = tt
+range_dump-fault bytes (fault.Unlawful lsn why) is = is
+range_dump-fault bytes fault.NoMemory is = tt

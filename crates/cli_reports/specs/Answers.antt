@@ -1,0 +1,78 @@
+-- What `recover` and `dump` answer: what they leave of the input and what they write.
+use Rattle.std.specs.Prelude.{◌≡◌, ℕ, List, [], Option, Some}
+use Rattle.std.specs.Io.KnownBytes.{Appends}
+use Rattle.log_disk.specs.Streams.{AppendsPart}
+use Rattle.log_record.specs.declared.rec.Rec.{Rec}
+use Rattle.log_recovery.specs.declared.recovery.RecoverFault.{RecoverFault}
+use Rattle.log_recovery.specs.declared.recovery.RecoverFault.TheVariants as fault
+use Rattle.log_recovery.specs.Recovery.{HoldsList, HoldsLawful, IsFaultOf}
+use Rattle.log_recovery.specs.Dump.{dump_text}
+use Rattle.log_recovery.specs.Text.{accounts_text}
+use Rattle.cli_shared.specs.declared.report.Detail.{Detail}
+use Rattle.cli_shared.specs.declared.report.Detail.TheVariants.{Fine, NoMemory, Usage, Script, Read, Write, Disk, NotALog, BadBatch, BadRec, Unlawful, LogEnd, TxnEnd, Exists}
+
+-- the answers that there are to `recover`
+abbrev pub IsOfRecover : Detail → Type 0
+IsOfRecover Fine = Unit {0}
+IsOfRecover NoMemory = Unit {0}
+IsOfRecover Read = Unit {0}
+IsOfRecover Write = Unit {0}
+IsOfRecover NotALog = Unit {0}
+IsOfRecover (BadBatch offset) = Unit {0}
+IsOfRecover (BadRec lsn) = Unit {0}
+IsOfRecover (Unlawful lsn why) = Unit {0}
+IsOfRecover detail = ⊥
+
+-- the answers that there are to `dump`
+abbrev pub IsOfDump : Detail → Type 0
+IsOfDump Fine = Unit {0}
+IsOfDump NoMemory = Unit {0}
+IsOfDump Read = Unit {0}
+IsOfDump Write = Unit {0}
+IsOfDump NotALog = Unit {0}
+IsOfDump (BadBatch offset) = Unit {0}
+IsOfDump (BadRec lsn) = Unit {0}
+IsOfDump detail = ⊥
+
+-- the input was read to its end, and has this fault
+abbrev pub HasFault : List ℕ → Option (List ℕ) → RecoverFault → Type 0
+HasFault bytes left fault' = (left ≡ Some []) × IsFaultOf bytes fault'
+
+-- `recover` on these bytes: what is left of them and what is written, for each detail. Where all is fine, or the writing
+-- failed, the input was read to its end, and what is written is the text of its list, or a part of it.
+abbrev pub AnswersRecover : List ℕ → Option (List ℕ) → Option (List ℕ) → Option (List ℕ) → Detail → Type 0
+AnswersRecover bytes left old new Fine =
+    (left ≡ Some []) × (records : List Rec) × HoldsLawful bytes records × Appends old new (accounts_text records)
+AnswersRecover bytes left old new Write =
+    (left ≡ Some []) × (records : List Rec) × HoldsLawful bytes records × AppendsPart old new (accounts_text records)
+AnswersRecover bytes left old new NotALog = HasFault bytes left fault.NotALog
+AnswersRecover bytes left old new (BadBatch offset) = HasFault bytes left (fault.BadBatch offset)
+AnswersRecover bytes left old new (BadRec lsn) = HasFault bytes left (fault.BadRec lsn)
+AnswersRecover bytes left old new (Unlawful lsn why) = HasFault bytes left (fault.Unlawful lsn why)
+AnswersRecover bytes left old new Read = Unit {0}
+AnswersRecover bytes left old new NoMemory = Unit {0}
+AnswersRecover bytes left old new Usage = ⊥
+AnswersRecover bytes left old new (Script line) = ⊥
+AnswersRecover bytes left old new Disk = ⊥
+AnswersRecover bytes left old new (LogEnd tail total) = ⊥
+AnswersRecover bytes left old new (TxnEnd first count) = ⊥
+AnswersRecover bytes left old new Exists = ⊥
+
+-- `dump` on these bytes: the same, but the list need not be lawful, and what is written is its dump, or a part of it
+abbrev pub AnswersDump : List ℕ → Option (List ℕ) → Option (List ℕ) → Option (List ℕ) → Detail → Type 0
+AnswersDump bytes left old new Fine =
+    (left ≡ Some []) × (records : List Rec) × HoldsList bytes records × Appends old new (dump_text records)
+AnswersDump bytes left old new Write =
+    (left ≡ Some []) × (records : List Rec) × HoldsList bytes records × AppendsPart old new (dump_text records)
+AnswersDump bytes left old new NotALog = HasFault bytes left fault.NotALog
+AnswersDump bytes left old new (BadBatch offset) = HasFault bytes left (fault.BadBatch offset)
+AnswersDump bytes left old new (BadRec lsn) = HasFault bytes left (fault.BadRec lsn)
+AnswersDump bytes left old new Read = Unit {0}
+AnswersDump bytes left old new NoMemory = Unit {0}
+AnswersDump bytes left old new Usage = ⊥
+AnswersDump bytes left old new (Unlawful lsn why) = ⊥
+AnswersDump bytes left old new (LogEnd tail total) = ⊥
+AnswersDump bytes left old new (TxnEnd first count) = ⊥
+AnswersDump bytes left old new (Script line) = ⊥
+AnswersDump bytes left old new Disk = ⊥
+AnswersDump bytes left old new Exists = ⊥

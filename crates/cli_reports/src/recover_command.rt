@@ -1,0 +1,34 @@
+ghost use Rattle.std.specs.Prelude.{◌≡◌, ◌≤◌, IfSome};
+ghost use Rattle.log_disk.specs.Faults.{Rose};
+ghost use Rattle.cli_reports.specs.Answers.{AnswersRecover, IsOfRecover};
+ghost use Rattle.cli_shared.specs.Answers.{StaysSilent};
+
+use cli_shared::{Detail, ReadFault, detail_of, read_all};
+use log_disk::{Sink, Source};
+use log_recovery::{put_accounts, recover};
+use std::alloc::Global;
+
+/// Answers the bytes of a log by its accounts text.
+pub fn recover_command<S: Source, K: Sink>(alloc: Global, script: &mut S, out: &mut K) -> Detail
+    ensures answer { IfSome (S.left script.old) (λ bytes.
+        AnswersRecover bytes (S.left script.new) (K.held_bytes out.old) (K.held_bytes out.new) result) }
+    ensures silent { StaysSilent (K.held_bytes out.old) (K.held_bytes out.new) result }
+    ensures range { IsOfRecover result }
+    ensures read { result ≡ Detail.Read → Rose (S.faults script.old) (S.faults script.new) }
+    ensures write { result ≡ Detail.Write → Rose (K.faults out.old) (K.faults out.new) }
+    ensures later { (S.faults script.old ≤ S.faults script.new) × (K.faults out.old ≤ K.faults out.new) }
+{
+    let bytes = match read_all(alloc, script) {
+        Ok(bytes) => bytes,
+        Err(ReadFault::Failed) => return Detail::Read,
+        Err(ReadFault::NoMemory) => return Detail::NoMemory,
+    };
+    let recovered = match recover(alloc, bytes.as_slice()) {
+        Ok(recovered) => recovered,
+        Err(fault) => return detail_of(fault),
+    };
+    match put_accounts(recovered.lsn, &recovered.accounts, out) {
+        Ok(()) => Detail::Fine,
+        Err(_) => Detail::Write,
+    }
+}

@@ -1,0 +1,3 @@
+pub mod OpenedAccounts
+pub mod ReadyLemmas
+pub mod RunAnswerLemmas

@@ -1,0 +1,155 @@
+-- From the opened log to what is ready before the first transfer of a run, or to the answer that there is no run.
+use Rattle.std.proofs.Common.{◌≡◌, ◌≤◌, ◌⊎◌, ⊎_elim, inl, inr, refl, ap, sym, ◌∙◌, subst, ℕ, ◌+◌, List, length, Option, Some, None, arith}
+use Rattle.std.specs.Io.KnownBytes.{Keeps}
+use Rattle.command_line.specs.declared.options.RunOptions.{RunOptions}
+use Rattle.log_disk.specs.Disk.{Leaves}
+use Rattle.log_disk.specs.declared.disk.LogDisk.{Ghosts}
+use Rattle.log_disk.proofs.Moments.{Leaves-trans, Leaves-weaken}
+use Rattle.log_record.specs.declared.limits.TheConstants.{LAST_TXN}
+use Rattle.log_record.specs.declared.rec.Rec.{Rec}
+use Rattle.lock_core.specs.History.{history}
+use Rattle.lock_core.specs.Lawful.{genesis_of}
+use Rattle.lock_core.specs.Sums.{ShowsAccounts}
+use Rattle.log_recovery.specs.declared.recovery.RecoverFault.TheVariants as fault
+use Rattle.log_recovery.specs.Recovery.{HoldsLawful, IsFaultOf}
+use Rattle.cli_shared.specs.declared.report.Detail.{Detail}
+use Rattle.cli_shared.specs.declared.report.Detail.TheVariants.{Fine, NoMemory, Usage, Script, Read, Write, Disk, NotALog, BadBatch, BadRec, Unlawful, LogEnd, TxnEnd, Exists}
+use Rattle.log_record.specs.LogList.{units_of}
+use Rattle.log_recovery.specs.declared.recovery.Recovered.{Recovered}
+use Rattle.log_table.specs.Seats.{key_of}
+use Rattle.segment_file.specs.declared.scan_result.Tail.{Tail}
+use Rattle.segment_file.specs.File.{HoldsUnits}
+use Rattle.segment_file.specs.Standing.{AllStand, IsShut}
+use Rattle.txn_script.specs.declared.job.Job.{Job}
+use Rattle.cli_threads.specs.declared.transfers.Prepared.{Prepared}
+use Rattle.cli_shared.specs.Opening.{Opens, HasOpeningFault}
+use Rattle.cli_run.specs.RunAnswers.{AnswersRun, AreAsked, OnlyReads, OnlySettles, HoldsAsRead, accounts_of, next_txn, outside}
+use Rattle.cli_run.specs.RunReady.{IsPreparedFor}
+use Rattle.cli_shared.specs.Scripts.{HasNoScript, IsWholeScript}
+use Rattle.cli_threads.specs.Transferred.{IsOpened}
+use Rattle.cli_run.proofs.OpenedAccounts.{some-accounts}
+
+pub keeps-refl : (text : Option (List ℕ)) → Keeps text text
+keeps-refl None = tt
+keeps-refl (Some bytes) = refl
+
+-- a disk that was attached, synced and read, and then perhaps settled
+module _ {D : Type 0} (g : Ghosts D) (old mid : D) where
+  -- the one moment and the images of it
+  abbrev pub Reads : Type 0
+  Reads = (g.reads mid ≡ g.reads old) × Leaves g.moment g.images_since (g.images old) old mid × (g.written_count mid ≤ g.written_count old + 1)
+
+  module _ (reads : Reads) (left left_new text : Option (List ℕ)) where
+    pub only-reads : OnlyReads g (outside old left text) (outside mid left_new text)
+    only-reads = record { silent = keeps-refl text; disk = record { images = reads.1; reads = reads.0; count = reads.2 } }
+
+    pub only-settles : OnlySettles g (outside old left text) (outside mid left_new text)
+    only-settles = record {
+      silent = keeps-refl text;
+      images = Leaves-weaken g.moment g.images_since (g.images old) (λ bytes. g.images old bytes ⊎ HoldsAsRead g old bytes) old mid
+          (λ bytes image. inl image) reads.1;
+      count = omega (arith, reads.2);
+    }
+
+    module _ (workers : ℕ) where
+      -- the log was not opened
+      pub answers-opening : (detail : Detail) → HasOpeningFault g old detail → g.honest old
+          → AnswersRun g workers (outside old left text) (outside mid left_new text) detail
+      answers-opening NotALog has honest = (only-reads, subst (λ bytes. IsFaultOf bytes fault.NotALog) (has.1 honest) has.2)
+      answers-opening (BadBatch offset) has honest = (only-reads, subst (λ bytes. IsFaultOf bytes (fault.BadBatch offset)) (has.1 honest) has.2)
+      answers-opening (BadRec lsn) has honest = (only-reads, subst (λ bytes. IsFaultOf bytes (fault.BadRec lsn)) (has.1 honest) has.2)
+      answers-opening (Unlawful lsn why) has honest = (only-reads, subst (λ bytes. IsFaultOf bytes (fault.Unlawful lsn why)) (has.1 honest) has.2)
+      answers-opening Disk has honest = inl only-settles
+      answers-opening NoMemory has honest = only-reads
+      answers-opening Fine has honest = absurd has.2
+      answers-opening Usage has honest = absurd has.2
+      answers-opening (Script line) has honest = absurd has.2
+      answers-opening Read has honest = absurd has.2
+      answers-opening Write has honest = absurd has.2
+      answers-opening (LogEnd tail total) has honest = absurd has.2
+      answers-opening (TxnEnd first count) has honest = absurd has.2
+      answers-opening Exists has honest = absurd has.2
+
+      -- the input is no script
+      pub answers-script : (opened : List Rec) (detail : Detail) → HoldsLawful (g.reads old) opened
+          → HasNoScript (accounts_of opened) left left_new detail → AnswersRun g workers (outside old left text) (outside mid left_new text) detail
+      answers-script opened (Script line) held has = (only-reads, (opened, held, has))
+      answers-script opened Read held has = only-reads
+      answers-script opened NoMemory held has = only-reads
+      answers-script opened Fine held has = absurd has
+      answers-script opened Usage held has = absurd has
+      answers-script opened Write held has = absurd has
+      answers-script opened Disk held has = absurd has
+      answers-script opened NotALog held has = absurd has
+      answers-script opened (BadBatch offset) held has = absurd has
+      answers-script opened (BadRec lsn) held has = absurd has
+      answers-script opened (Unlawful lsn why) held has = absurd has
+      answers-script opened (LogEnd tail total) held has = absurd has
+      answers-script opened (TxnEnd first count) held has = absurd has
+      answers-script opened Exists held has = absurd has
+
+module _ {D : Type 0} (g : Ghosts D) (old mid : D) (opened : Recovered) (opens : Opens g opened old mid) where
+  abbrev pub records : List Rec
+  records = opens.recovers.records
+
+  pub held-read : g.honest old → HoldsLawful (g.reads old) records
+  held-read honest = subst (λ bytes. HoldsLawful bytes records) (opens.read honest) opens.recovers.held
+
+  -- what holds the units of the opened list holds the list
+  holds-opened : (bytes : List ℕ) → HoldsUnits bytes (units_of records) → HoldsLawful bytes records
+  holds-opened bytes held =
+      record { list = record { each = opens.recovers.held.list.each; holds = held }; lawful = opens.recovers.held.lawful }
+
+  -- and the disk as it was settled
+  module _ (new : D) (reads : Reads g old mid) (moments : Leaves g.moment g.images_since (λ c. HoldsUnits c (units_of records)) mid new)
+      (count : g.written_count new ≤ g.written_count mid + 2) where
+    pub leaves-settled : Leaves g.moment g.images_since (λ bytes. g.images old bytes ⊎ HoldsLawful bytes records) old new
+    leaves-settled = Leaves-trans g.moment g.images_since (λ bytes. g.images old bytes ⊎ HoldsLawful bytes records) old mid new
+        (Leaves-weaken g.moment g.images_since (g.images old) (λ bytes. g.images old bytes ⊎ HoldsLawful bytes records) old mid
+        (λ bytes image. inl image) reads.1)
+        (Leaves-weaken g.moment g.images_since (λ c. HoldsUnits c (units_of records)) (λ bytes. g.images old bytes ⊎ HoldsLawful bytes records)
+        mid new (λ bytes held. inr (holds-opened bytes held)) moments)
+
+    pub count-settled : g.written_count new ≤ g.written_count old + 3
+    count-settled = omega (arith, reads.2, count)
+
+    pub settles : g.honest old → (left left_new text : Option (List ℕ)) → OnlySettles g (outside old left text) (outside new left_new text)
+    settles honest left left_new text = record {
+      silent = keeps-refl text;
+      images = Leaves-weaken g.moment g.images_since (λ bytes. g.images old bytes ⊎ HoldsLawful bytes records)
+          (λ bytes. g.images old bytes ⊎ HoldsAsRead g old bytes) old new
+          (λ bytes. ⊎_elim (λ image. inl image) (λ held. inr (records, held-read honest, held))) leaves-settled;
+      count = count-settled;
+    }
+
+  module _ (options : RunOptions) (script : List Job) (prepared : Prepared) (is : IsPreparedFor options opened script prepared) where
+    pub asked-prepared : (accounts : ℕ) (left left_new : Option (List ℕ)) → accounts ≡ length opened.accounts.rows
+        → IsWholeScript accounts left left_new script → opened.next_txn + length script ≤ LAST_TXN
+        → AreAsked options.workers records left left_new prepared.jobs
+    asked-prepared accounts left left_new counted whole fits =
+        let same : accounts ≡ accounts_of records = counted ∙ opens.recovers.accounts.count in
+        let first : prepared.jobs.first ≡ next_txn records = is.first ∙ opens.recovers.next_txn in
+        record {
+          script = subst (λ (jobs : List Job). IsWholeScript (accounts_of records) left left_new jobs) (sym is.script_is)
+              (subst (λ n. IsWholeScript n left left_new script) same whole);
+          first = first;
+          numbered = omega (arith, is.first, ap length is.script_is, fits);
+          workers_are = is.workers_are;
+        }
+
+    pub opened-prepared : (new : D) (tail : Tail) → tail ≡ opened.tail
+        → (g.honest old → AllStand opened.tail (units_of records) (g.images new)) → (g.honest old → IsShut opened.tail.at (g.images new))
+        → (g.honest new → g.honest old) → IsOpened g new tail records prepared.jobs.first (key_of prepared.table)
+    opened-prepared new tail same stand shut honest = record {
+      spellable = opens.recovers.held.list.each;
+      lawful = opens.recovers.held.lawful;
+      some_accounts = some-accounts opens.bytes opened opens.recovers;
+      below = omega (arith, is.first, opens.recovers.next_txn);
+      stand = λ is_honest. subst (λ t. AllStand t (units_of records) (g.images new)) (sym same) (stand (honest is_honest));
+      shut = λ is_honest. subst (λ (t : Tail). IsShut t.at (g.images new)) (sym same) (shut (honest is_honest));
+      next = ap (λ (t : Tail). t.next) same ∙ opens.recovers.next;
+      place = let at : tail.at ≡ opened.tail.at = ap (λ (t : Tail). t.at) same in omega (arith, at, opens.place);
+      start = is.start ∙ opens.recovers.lsn;
+      accounts = subst (λ rows. ShowsAccounts rows (genesis_of (history records)) (history records)) (sym (λ i. (is.accounts i).rows))
+          opens.recovers.accounts;
+    }

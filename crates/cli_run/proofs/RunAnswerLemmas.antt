@@ -1,0 +1,130 @@
+-- What `run` answers, from what was ready, what is promised of the transfers, and what was concluded.
+use Rattle.std.proofs.Common.{Bool, ◌≡◌, ◌⊎◌, inr, refl, ap, sym, subst, ℕ, List, [], ◌++◌, Option, None, arith}
+use Rattle.std.proofs.KnownBytes.{Appends-trans}
+use Rattle.std.proofs.lemmas.List.{append-nil}
+use Rattle.std.specs.Io.KnownBytes.{Appends}
+use Rattle.log_disk.specs.Disk.{Leaves}
+use Rattle.log_disk.specs.Streams.{AppendsPrefix, AppendsPart}
+use Rattle.log_disk.proofs.Prefixes.{AppendsPart-prefix}
+use Rattle.log_disk.specs.declared.disk.LogDisk.{Ghosts}
+use Rattle.log_disk.specs.declared.sink.Sink.{Ghosts as SinkGhosts}
+use Rattle.log_record.specs.declared.rec.Rec.{Rec}
+use Rattle.log_record.specs.LogList.{end_of}
+use Rattle.log_recovery.specs.Text.{accounts_text, rows_text}
+use Rattle.log_recovery.proofs.TextLemmas.{AppendsPrefix-first, AppendsPrefix-behind}
+use Rattle.txn_runner.specs.declared.jobs.Jobs.{Jobs}
+use Rattle.commit_pipeline.specs.EndLines.{end_lines}
+use Rattle.commit_pipeline.specs.declared.voice.Voice.TheVariants.{Lines}
+use Rattle.cli_shared.specs.declared.report.Detail.{Detail}
+use Rattle.cli_threads.specs.declared.transfers.ReadyRun.{ReadyRun}
+use Rattle.cli_threads.specs.declared.transfers.Ended.{Ended}
+use Rattle.cli_threads.specs.Ending.{Concludes, HasEnded, closed_text}
+use Rattle.cli_threads.specs.Run.{GoesOn, HoldsRun, RunIsDrained}
+use Rattle.cli_run.specs.RunAnswers.{AnswersRun, HoldsTold, Ran, RanOut, Outside, outside, run_text}
+use Rattle.cli_run.specs.RunReady.{IsReadyFor}
+use Rattle.cli_threads.proofs.EndingLemmas.{by-conclusion, list, keeps-ended, whole-ended, drained-ended, stops-ended}
+use Rattle.cli_threads.proofs.RunBegun.{images-begun}
+
+module _ {D : Type 0} {K : Type 0} (g : Ghosts D) (h : SinkGhosts K) (workers : ℕ) (ready : ReadyRun) {wait : Bool} (entry disk disk_new : D)
+    (left left_new : Option (List ℕ)) (sink sink_mid sink_new : K) (ended : Ended) (is : IsReadyFor g workers entry disk left left_new ready)
+    (has : HasEnded g h ready.prepared is.opened Lines wait disk disk_new sink sink_mid ended) (honest : g.honest entry) (honest_mid : g.honest disk) where
+  abbrev opened : List Rec
+  opened = is.opened
+
+  abbrev jobs : Jobs
+  jobs = ready.prepared.jobs
+
+  abbrev records : List Rec
+  records = list g h ready.prepared opened Lines disk disk_new sink sink_mid ended has
+
+  abbrev old : Outside D
+  old = outside entry left (h.held_bytes sink)
+
+  abbrev new : Outside D
+  new = outside disk_new left_new (h.held_bytes sink_new)
+
+  images-ran : Leaves g.moment g.images_since (λ bytes. g.images entry bytes ⊎ HoldsRun opened jobs records bytes) entry disk_new
+  images-ran = images-begun g disk ready.tail opened jobs _ is.log records (g.images entry) entry disk_new (is.images honest)
+      ((keeps-ended g h ready.prepared opened Lines disk disk_new sink sink_mid ended has).moments honest_mid)
+
+  goes_on-ran : GoesOn opened jobs (opened ++ records)
+  goes_on-ran = (keeps-ended g h ready.prepared opened Lines disk disk_new sink sink_mid ended has).goes_on
+
+  abbrev ran : ((image : List ℕ) → g.images disk_new image → HoldsTold g opened jobs records old new image) → Ran g workers old new
+  ran kept = record {
+    opened = opened;
+    held = is.held honest;
+    jobs = jobs;
+    asked = is.asked;
+    list = records;
+    goes_on = goes_on-ran;
+    images = images-ran;
+    kept = kept;
+  }
+
+  -- where the daemon failed, it wrote a front of the lines of each image's list
+  ran-failed : sink_new ≡ sink_mid → Ran g workers old new
+  ran-failed same = ran (λ image left_image.
+      let kept = (keeps-ended g h ready.prepared opened Lines disk disk_new sink sink_mid ended has).left honest_mid image left_image in
+      let count = is.count honest in
+      record {
+        run = kept.run;
+        told = subst (λ text. AppendsPrefix (h.held_bytes sink) text (run_text opened kept.run.front)) (sym (ap h.held_bytes same))
+            (AppendsPrefix-first (h.held_bytes sink) (h.held_bytes sink_mid) (run_text opened kept.run.front)
+            (end_lines (end_of opened) kept.run.front) (accounts_text (opened ++ kept.run.front)) kept.text refl);
+        count = omega (arith, count, kept.count);
+      })
+
+  module _ (fine : ended.fault ≡ None) where
+    drained : RunIsDrained g Lines opened jobs records disk disk_new (h.held_bytes sink) (h.held_bytes sink_mid) ended.closed.tail ended.closed.accounts.rows
+    drained = drained-ended g h ready.prepared opened Lines disk disk_new sink sink_mid ended has fine
+
+    -- else each image holds the whole list, of whose text a front was written
+    abbrev ran-drained : AppendsPrefix (h.held_bytes sink) (h.held_bytes sink_new) (run_text opened records) → Ran g workers old new
+    ran-drained told = ran (λ image left_image.
+        let count = is.count honest in
+        let writes = drained.count honest_mid in
+        record {
+          run = record {
+            front = records;
+            rest = [];
+            whole = sym (append-nil records);
+            holds = drained.images honest_mid image left_image;
+            goes_on = goes_on-ran;
+          };
+          told = told;
+          count = omega (arith, count, writes);
+        })
+
+    abbrev out : (told : AppendsPrefix (h.held_bytes sink) (h.held_bytes sink_new) (run_text opened records)) → RanOut g workers old new
+    out told = record { ran = ran-drained told; all = drained.images honest_mid }
+
+    -- the accounts text is that of the whole list
+    told-part : AppendsPart (h.held_bytes sink_mid) (h.held_bytes sink_new) (rows_text ended.closed.tail ended.closed.accounts.rows)
+        → AppendsPrefix (h.held_bytes sink) (h.held_bytes sink_new) (run_text opened records)
+    told-part text = AppendsPrefix-behind (h.held_bytes sink) (h.held_bytes sink_mid) (h.held_bytes sink_new) (run_text opened records)
+        (end_lines (end_of opened) records) (accounts_text (opened ++ records)) [] drained.text
+        (rw (← drained.accounts) (AppendsPart-prefix _ _ _ text))
+        (sym (append-nil (run_text opened records)))
+
+    told-whole : Appends (h.held_bytes sink_mid) (h.held_bytes sink_new) (rows_text ended.closed.tail ended.closed.accounts.rows)
+        → Appends (h.held_bytes sink) (h.held_bytes sink_new) (run_text opened records)
+    told-whole text = Appends-trans (h.held_bytes sink) (h.held_bytes sink_mid) (h.held_bytes sink_new) (end_lines (end_of opened) records)
+        (accounts_text (opened ++ records)) drained.text (rw (← drained.accounts) text)
+
+    told-lines : sink_new ≡ sink_mid → Appends (h.held_bytes sink) (h.held_bytes sink_new) (end_lines (end_of opened) records)
+    told-lines same = subst (λ text. Appends (h.held_bytes sink) text (end_lines (end_of opened) records)) (sym (ap h.held_bytes same)) drained.text
+
+  pub answers-concluded : (detail : Detail) → Concludes h ended (closed_text ended) sink_mid sink_new detail → AnswersRun g workers old new detail
+  answers-concluded = by-conclusion h ended (closed_text ended) sink_mid sink_new (AnswersRun g workers old new) (λ said. inr (ran-failed said.1))
+      (λ said. ran-failed said.1) (λ said. ran-drained said.0.0 (told-part said.0.0 said.1))
+      (λ said. let text = told-whole said.0.0 said.1 in record {
+        out = out said.0.0 (run_text opened records, [], sym (append-nil (run_text opened records)), text);
+        whole = whole-ended g h ready.prepared opened Lines disk disk_new sink sink_mid ended has said.0.1;
+        text = text;
+      })
+      (λ tail total said. let text = told-lines said.0.0 said.1 in record {
+        out = out said.0.0 (end_lines (end_of opened) records, accounts_text (opened ++ records), refl, text);
+        stops = stops-ended g h ready.prepared opened Lines disk disk_new sink sink_mid ended has said.0.0 tail total said.0.1;
+        text = text;
+      })

@@ -1,0 +1,54 @@
+use Rattle.std.proofs.Common.{rules, ◌≡◌, ◌∙◌, inl}
+use Rattle.std.proofs.lemmas.Result.{err_from_is_err_and}
+use Rattle.log_record.specs.LogList.{units_of}
+use Rattle.cli_run.proofs.ReadyLemmas.{Reads, answers-opening, answers-script, held-read, leaves-settled, count-settled, settles, asked-prepared, opened-prepared}
+use Rattle.cli_run.proofs.run_command.make_ready.Goals as goal
+
+pub returns-in_err-opened-clause-none : goal.returns-in_err-opened-clause-none
+returns-in_err-opened-clause-none g c = λ honest.
+    let said = c.in_err-opened.ensures in
+    let failed = err_from_is_err_and c.from_residual.result c.from_residual.ensures.1 in
+    let same : failed.0 ≡ c.in_err-opened.field-0.0 = search rules in
+    rw (failed.1, same) (λ text. answers-opening g.D.LogDisk c.args.disk.now c.open_log.new.disk
+    (said.reads honest, said.moments, said.count honest) _ _ text c.args.options.now.workers c.in_err-opened.field-0.0 said.fault honest)
+
+pub returns-in_err-transfers-clause-none : goal.returns-in_err-transfers-clause-none
+returns-in_err-transfers-clause-none g c = λ honest.
+    let said = c.in_ok-opened.ensures in
+    let failed = err_from_is_err_and c.from_residual-in_err-transfers.result c.from_residual-in_err-transfers.ensures.1 in
+    let same : failed.0 ≡ c.in_err-transfers.field-0.0 = search rules in
+    let counted = c.count.ensures ∙ said.opened.recovers.accounts.count in
+    rw (failed.1, same) (λ text. answers-script g.D.LogDisk c.args.disk.now c.open_log.new.disk
+    (said.reads honest, said.moments, said.count honest) _ _ text c.args.options.now.workers _ c.in_err-transfers.field-0.0
+    (held-read g.D.LogDisk _ _ _ said.opened honest) (rw counted at c.in_err-transfers.ensures.err))
+
+pub returns-in-Ok-clause-ready : goal.returns-in-Ok-clause-ready
+returns-in-Ok-clause-ready g c =
+    let said = c.in_ok-opened.ensures in
+    let settled = c.in-Ok.ensures in
+    let opens = said.opened in
+    let units = units_of opens.recovers.records in
+    let prepared = c.in_ok-prepared.prepared in
+    let stood = λ (honest : g.D.LogDisk.honest c.args.disk.now). settled.moments (said.honest.0 honest) units (opens.stand honest) in
+    let reads : g.D.LogDisk.honest c.args.disk.now → Reads g.D.LogDisk c.args.disk.now c.open_log.new.disk =
+    λ honest. (said.reads honest, said.moments, said.count honest) in
+    record {
+      opened = opens.recovers.records;
+      held = held-read g.D.LogDisk _ _ _ opens;
+      log = opened-prepared g.D.LogDisk _ _ _ opens _ _ prepared c.in_ok-prepared.ensures.prepared c.settle.new.disk c.in-Ok.tail
+          settled.tail (λ honest. settled.stand (said.honest.0 honest) units (opens.stand honest)) (λ honest. settled.shut (said.honest.0 honest))
+          (λ honest. said.honest.1 (settled.honest.1 honest));
+      asked = asked-prepared g.D.LogDisk _ _ _ opens _ _ prepared c.in_ok-prepared.ensures.prepared _ _ _ c.count.ensures
+          c.in_ok-transfers.ensures.ok (search rules);
+      prepared = c.in_ok-prepared.ensures.prepared.ready;
+      images = λ honest. leaves-settled g.D.LogDisk _ _ _ opens c.settle.new.disk (reads honest) (stood honest) (settled.count (said.honest.0 honest));
+      count = λ honest. count-settled g.D.LogDisk _ _ _ opens c.settle.new.disk (reads honest) (stood honest) (settled.count (said.honest.0 honest));
+    }
+
+pub returns-in-Err-clause-none : goal.returns-in-Err-clause-none
+returns-in-Err-clause-none g c = λ honest text.
+    let said = c.in_ok-opened.ensures in
+    let settled = c.in-Err.ensures in
+    inl (settles g.D.LogDisk _ _ _ said.opened c.settle.new.disk (said.reads honest, said.moments, said.count honest)
+    (settled.moments (said.honest.0 honest) (units_of said.opened.recovers.records) (said.opened.stand honest))
+    (settled.count (said.honest.0 honest)) honest _ _ text)

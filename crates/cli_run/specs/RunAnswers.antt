@@ -1,0 +1,167 @@
+-- What `run` answers. `g` is what a disk shows; `old` and `new` are what is outside before and after.
+use Rattle.std.specs.Prelude.{◌≡◌, ◌≤◌, ◌<◌, ◌⊎◌, ℕ, ◌+◌, ◌*◌, List, ◌++◌, length, Option}
+use Rattle.std.specs.Io.KnownBytes.{Keeps, Appends}
+use Rattle.log_disk.specs.Disk.{Leaves}
+use Rattle.log_disk.specs.Streams.{AppendsPrefix}
+use Rattle.log_disk.specs.declared.disk.LogDisk.{Ghosts}
+use Rattle.log_record.specs.declared.limits.TheConstants.{LAST_TXN}
+use Rattle.log_record.specs.declared.rec.Rec.{Rec}
+use Rattle.log_record.specs.LogList.{end_of}
+use Rattle.lock_core.specs.History.{history}
+use Rattle.lock_core.specs.Lawful.{genesis_of}
+use Rattle.lock_core.specs.Sums.{greatest_txn}
+use Rattle.log_recovery.specs.declared.recovery.RecoverFault.TheVariants as fault
+use Rattle.log_recovery.specs.Recovery.{HoldsLawful, IsFaultOf}
+use Rattle.log_recovery.specs.Text.{accounts_text}
+use Rattle.commit_pipeline.specs.EndLines.{end_lines}
+use Rattle.txn_runner.specs.declared.jobs.Jobs.{Jobs}
+use Rattle.txn_script.specs.declared.job.Job.{Job}
+use Rattle.cli_shared.specs.declared.report.Detail.{Detail}
+use Rattle.cli_shared.specs.declared.report.Detail.TheVariants.{Fine, NoMemory, Usage, Script, Read, Write, Disk, NotALog, BadBatch, BadRec, Unlawful, LogEnd, TxnEnd, Exists}
+use Rattle.cli_threads.specs.Run.{HoldsRun, GoesOn, RunsWhole}
+use Rattle.cli_threads.specs.RunStops.{StopsAtLogEnd}
+use Rattle.cli_shared.specs.Scripts.{IsWholeScript, HasNoScript}
+use Rattle.cli_shared.specs.Opening.{OnlyLooks}
+
+-- the number of accounts of a list
+abbrev pub accounts_of : List Rec → ℕ
+accounts_of records = (genesis_of (history records)).accounts
+
+-- the first transaction number that the list leaves
+abbrev pub next_txn : List Rec → ℕ
+next_txn records = greatest_txn (history records) + 1
+
+-- the lines of all end records behind the opened list, and then the accounts text of the whole list
+abbrev pub run_text : List Rec → List Rec → List ℕ
+run_text opened list = end_lines (end_of opened) list ++ accounts_text (opened ++ list)
+
+-- what is outside: the disk, what the input has left, and what is known of the output
+pub record Outside (D : Type 0) : Type 0 where
+  pub disk : D
+  pub left : Option (List ℕ)
+  pub text : Option (List ℕ)
+
+abbrev pub outside : {D : Type 0} → D → Option (List ℕ) → Option (List ℕ) → Outside D
+outside disk left text = record { disk = disk; left = left; text = text }
+
+-- and nothing was written
+pub record OnlyReads {D : Type 0} (g : Ghosts D) (old new : Outside D) : Type 0 where
+  pub silent : Keeps old.text new.text
+  pub disk : OnlyLooks g old.disk new.disk
+
+-- the bytes hold the list that a read gave
+abbrev pub HoldsAsRead : {D : Type 0} → Ghosts D → D → List ℕ → Type 0
+HoldsAsRead g disk bytes = (opened : List Rec) × HoldsLawful (g.reads disk) opened × HoldsLawful bytes opened
+
+-- no transfer was begun: nothing was written, and each image of a moment is one of before or holds the list that a read gave
+pub record OnlySettles {D : Type 0} (g : Ghosts D) (old new : Outside D) : Type 0 where
+  pub silent : Keeps old.text new.text
+  pub images : Leaves g.moment g.images_since (λ bytes. g.images old.disk bytes ⊎ HoldsAsRead g old.disk bytes) old.disk new.disk
+  pub count : g.written_count new.disk ≤ g.written_count old.disk + 3
+
+-- the transfers of the whole input, under the numbers from the first on that the opened list leaves, dealt out to so many workers
+pub record AreAsked (workers : ℕ) (opened : List Rec) (left left_new : Option (List ℕ)) (jobs : Jobs) : Type 0 where
+  pub script : IsWholeScript (accounts_of opened) left left_new jobs.script
+  pub first : jobs.first ≡ next_txn opened
+  pub numbered : jobs.first + length jobs.script ≤ LAST_TXN
+  pub workers_are : jobs.workers ≡ workers
+
+-- The image holds the opened list and a front of what the run inserted. What was written is a prefix of the text of the image's list, so each
+-- commit that was told is in it. At most 4 writes and syncs succeeded for each record of the front, and 7 more.
+pub record HoldsTold {D : Type 0} (g : Ghosts D) (opened : List Rec) (jobs : Jobs) (list : List Rec) (old new : Outside D) (image : List ℕ)
+    : Type 0 where
+  pub run : HoldsRun opened jobs list image
+  pub told : AppendsPrefix old.text new.text (run_text opened run.front)
+  pub count : g.written_count new.disk ≤ g.written_count old.disk + 4 * length run.front + 7
+
+-- Transfers were begun. Each image of a moment is one of before, or holds the list that was opened and a front of one and the same list, which
+-- goes on from it as the script says; so of two of the latter the one is a prefix of the other.
+pub record Ran {D : Type 0} (g : Ghosts D) (workers : ℕ) (old new : Outside D) : Type 0 where
+  pub opened : List Rec
+  pub held : HoldsLawful (g.reads old.disk) opened
+  pub jobs : Jobs
+  pub asked : AreAsked workers opened old.left new.left jobs
+  pub list : List Rec
+  pub goes_on : GoesOn opened jobs (opened ++ list)
+  pub images : Leaves g.moment g.images_since (λ bytes. g.images old.disk bytes ⊎ HoldsRun opened jobs list bytes) old.disk new.disk
+  pub kept : (image : List ℕ) → g.images new.disk image → HoldsTold g opened jobs list old new image
+
+-- the log was drained: each image holds the whole list
+pub record RanOut {D : Type 0} (g : Ghosts D) (workers : ℕ) (old new : Outside D) : Type 0 where
+  pub ran : Ran g workers old new
+  pub all : (image : List ℕ) → g.images new.disk image → HoldsLawful image (ran.opened ++ ran.list)
+
+-- each transfer ran whole, and all of the text was written
+pub record RanWhole {D : Type 0} (g : Ghosts D) (workers : ℕ) (old new : Outside D) : Type 0 where
+  pub out : RanOut g workers old new
+  pub whole : RunsWhole out.ran.opened out.ran.jobs out.ran.list
+  pub text : Appends old.text new.text (run_text out.ran.opened out.ran.list)
+
+-- a record did not fit in the log, and the lines of all end records were written
+pub record RanIntoEnd {D : Type 0} (g : Ghosts D) (workers tail total : ℕ) (old new : Outside D) : Type 0 where
+  pub out : RanOut g workers old new
+  pub stops : StopsAtLogEnd out.ran.opened out.ran.jobs out.ran.list tail total
+  pub text : Appends old.text new.text (end_lines (end_of out.ran.opened) out.ran.list)
+
+-- the whole input is a script, but the number that would follow those of its transfers is above the last transaction number
+pub record RunsOutOfNumbers {D : Type 0} (g : Ghosts D) (first count : ℕ) (old new : Outside D) : Type 0 where
+  pub opened : List Rec
+  pub held : HoldsLawful (g.reads old.disk) opened
+  pub jobs : List Job
+  pub script : IsWholeScript (accounts_of opened) old.left new.left jobs
+  pub first_is : first ≡ next_txn opened
+  pub count_is : count ≡ length jobs
+  pub past : LAST_TXN < first + count
+
+-- this line of the input is the first that is neither empty nor a transfer of the log that a read gave
+abbrev pub IsFirstOutside : {D : Type 0} → Ghosts D → ℕ → Outside D → Outside D → Type 0
+IsFirstOutside g line old new =
+    (opened : List Rec) × HoldsLawful (g.reads old.disk) opened × HasNoScript (accounts_of opened) old.left new.left (Script line)
+
+-- `run` with so many workers, for each detail
+abbrev pub AnswersRun : {D : Type 0} → Ghosts D → ℕ → Outside D → Outside D → Detail → Type 0
+AnswersRun g workers old new Fine = RanWhole g workers old new
+AnswersRun g workers old new (LogEnd tail total) = RanIntoEnd g workers tail total old new
+AnswersRun g workers old new Write = Ran g workers old new
+AnswersRun g workers old new Disk = OnlySettles g old new ⊎ Ran g workers old new
+AnswersRun g workers old new NoMemory = OnlyReads g old new
+AnswersRun g workers old new (TxnEnd first count) = OnlyReads g old new × RunsOutOfNumbers g first count old new
+AnswersRun g workers old new (Script line) = OnlyReads g old new × IsFirstOutside g line old new
+AnswersRun g workers old new Read = OnlyReads g old new
+AnswersRun g workers old new NotALog = OnlyReads g old new × IsFaultOf (g.reads old.disk) fault.NotALog
+AnswersRun g workers old new (BadBatch offset) = OnlyReads g old new × IsFaultOf (g.reads old.disk) (fault.BadBatch offset)
+AnswersRun g workers old new (BadRec lsn) = OnlyReads g old new × IsFaultOf (g.reads old.disk) (fault.BadRec lsn)
+AnswersRun g workers old new (Unlawful lsn why) = OnlyReads g old new × IsFaultOf (g.reads old.disk) (fault.Unlawful lsn why)
+AnswersRun g workers old new Usage = ⊥
+AnswersRun g workers old new Exists = ⊥
+
+-- where nothing is written, whatever the disk tells
+abbrev pub RunStaysSilent : Option (List ℕ) → Option (List ℕ) → Detail → Type 0
+RunStaysSilent old new Fine = Unit {0}
+RunStaysSilent old new (LogEnd tail total) = Unit {0}
+RunStaysSilent old new Write = Unit {0}
+RunStaysSilent old new Disk = Unit {0}
+RunStaysSilent old new detail = Keeps old new
+
+-- the answers that there are to `run`
+abbrev pub IsOfRun : Detail → Type 0
+IsOfRun Fine = Unit {0}
+IsOfRun NoMemory = Unit {0}
+IsOfRun (Script line) = Unit {0}
+IsOfRun Read = Unit {0}
+IsOfRun Write = Unit {0}
+IsOfRun Disk = Unit {0}
+IsOfRun NotALog = Unit {0}
+IsOfRun (BadBatch offset) = Unit {0}
+IsOfRun (BadRec lsn) = Unit {0}
+IsOfRun (Unlawful lsn why) = Unit {0}
+IsOfRun (LogEnd tail total) = Unit {0}
+IsOfRun (TxnEnd first count) = Unit {0}
+IsOfRun detail = ⊥
+
+-- the answers that there are to `run` where nothing stands in its way
+abbrev pub IsRunDone : Detail → Type 0
+IsRunDone Fine = Unit {0}
+IsRunDone NoMemory = Unit {0}
+IsRunDone (LogEnd tail total) = Unit {0}
+IsRunDone detail = ⊥

@@ -1,0 +1,53 @@
+-- What stands before the first transfer of a run, and why there may be none. `g` is what a disk shows; `old` and `new` are the disk before
+-- and after, `left` and `left_new` what the input has left.
+use Rattle.std.specs.Prelude.{◌≡◌, ◌≤◌, ◌⊎◌, ℕ, ◌+◌, List, Option}
+use Rattle.command_line.specs.declared.options.RunOptions.{RunOptions}
+use Rattle.log_disk.specs.Disk.{Leaves}
+use Rattle.log_disk.specs.declared.disk.LogDisk.{Ghosts}
+use Rattle.log_record.specs.declared.rec.Rec.{Rec}
+use Rattle.log_recovery.specs.declared.recovery.Recovered.{Recovered}
+use Rattle.log_recovery.specs.Recovery.{HoldsLawful}
+use Rattle.log_table.specs.Seats.{key_of}
+use Rattle.txn_script.specs.declared.job.Job.{Job}
+use Rattle.cli_shared.specs.declared.report.Detail.{Detail}
+use Rattle.cli_shared.specs.declared.report.Detail.TheVariants.{Fine, Usage, Write, LogEnd, Exists}
+use Rattle.cli_threads.specs.declared.transfers.ReadyRun.{ReadyRun}
+use Rattle.cli_threads.specs.declared.transfers.Prepared.{Prepared}
+use Rattle.cli_threads.specs.Prepared.{IsPrepared}
+use Rattle.cli_run.specs.RunAnswers.{AnswersRun, AreAsked, outside}
+use Rattle.cli_threads.specs.Transferred.{IsOpened}
+
+-- the table starts where the opened log ends, with its accounts and a ring as it was asked, and these are the transfers, for the workers asked
+pub record IsPreparedFor (options : RunOptions) (opened : Recovered) (script : List Job) (prepared : Prepared) : Type 0 where
+  pub start : (key_of prepared.table).start ≡ opened.lsn
+  pub accounts : (key_of prepared.table).accounts ≡ opened.accounts
+  pub ring : (key_of prepared.table).ring ≡ options.ring
+  pub script_is : prepared.jobs.script ≡ script
+  pub first : prepared.jobs.first ≡ opened.next_txn
+  pub workers_are : prepared.jobs.workers ≡ options.workers
+  pub ready : IsPrepared prepared
+
+-- The transfers that are asked are ready to be made over the log that was opened. Each image of a moment is one of before or holds its list.
+pub record IsReadyFor {D : Type 0} (g : Ghosts D) (workers : ℕ) (old new : D) (left left_new : Option (List ℕ)) (ready : ReadyRun)
+    : Type 0 where
+  pub opened : List Rec
+  pub held : g.honest old → HoldsLawful (g.reads old) opened
+  pub log : IsOpened g new ready.tail opened ready.prepared.jobs.first (key_of ready.prepared.table)
+  pub asked : AreAsked workers opened left left_new ready.prepared.jobs
+  pub prepared : IsPrepared ready.prepared
+  pub images : g.honest old → Leaves g.moment g.images_since (λ bytes. g.images old bytes ⊎ HoldsLawful bytes opened) old new
+  pub count : g.honest old → g.written_count new ≤ g.written_count old + 3
+
+-- there is no run, which is answered so, whatever is known of the output
+abbrev pub HasNoRun : {D : Type 0} → Ghosts D → ℕ → D → D → Option (List ℕ) → Option (List ℕ) → Detail → Type 0
+HasNoRun g workers old new left left_new detail = (text : Option (List ℕ))
+    → AnswersRun g workers (outside old left text) (outside new left_new text) detail
+
+-- the answers that come before any transfer
+abbrev pub IsBeforeRun : Detail → Type 0
+IsBeforeRun Fine = ⊥
+IsBeforeRun Usage = ⊥
+IsBeforeRun Write = ⊥
+IsBeforeRun (LogEnd tail total) = ⊥
+IsBeforeRun Exists = ⊥
+IsBeforeRun detail = Unit {0}

@@ -1,0 +1,128 @@
+ghost use Rattle.std.specs.Prelude.{◌≡◌, ◌≤◌, ◌+◌, ◌<◌, ◌↔◌, ℕ, List, All, length, IfOk, IfErr, OnOk, IsErrOf};
+ghost use Rattle.command_line.specs.Ranges.{AreInRange};
+ghost use Rattle.log_disk.specs.Faults.{Rose};
+ghost use Rattle.log_record.specs.declared.limits.TheConstants.{LAST_TXN};
+ghost use Rattle.log_recovery.specs.Recovery.{Recovers};
+ghost use Rattle.txn_script.specs.Script.{IsAllowedJob};
+ghost use Rattle.cli_run.specs.RunAnswers.{AnswersRun, IsOfRun, RunStaysSilent, outside};
+ghost use Rattle.cli_run.specs.RunReady.{IsReadyFor, IsPreparedFor, HasNoRun, IsBeforeRun};
+
+use cli_shared::{Detail, open_log, read_script};
+use cli_threads::{Prepared, ReadyRun, conclude, prepare, run_transfers};
+use command_line::RunOptions;
+use commit_pipeline::Voice;
+use log_disk::{Gate, LogDisk, Sink, Source};
+use log_record::LAST_TXN;
+use log_recovery::Recovered;
+use log_table::Start;
+use lsn_space::Word;
+use segment_file::settle;
+use std::alloc::Global;
+use std::sync::Wait;
+use std::thread::Threads;
+use txn_script::Script;
+
+/// Makes the transfers of a script over a log, tells each that is durable, and then answers the accounts. It waits for the
+/// workers.
+pub fn run_command<R: Threads + Wait + Sync, D: LogDisk, S: Source, K: Sink, G: Gate + Sync>(
+    rt: &R,
+    alloc: Global,
+    log: &Word,
+    options: &RunOptions,
+    disk: &mut D,
+    script: &mut S,
+    out: &mut K,
+    gate: &G,
+) -> Detail
+    requires { AreInRange options.now }
+    ensures answer { D.honest disk.old
+        → AnswersRun D.LogDisk options.now.workers (outside disk.old (S.left script.old) (K.held_bytes out.old))
+        (outside disk.new (S.left script.new) (K.held_bytes out.new)) result }
+    ensures silent { RunStaysSilent (K.held_bytes out.old) (K.held_bytes out.new) result }
+    ensures range { IsOfRun result }
+    ensures honest { D.honest disk.old ↔ D.honest disk.new }
+    ensures read { result ≡ Detail.Read → Rose (S.faults script.old) (S.faults script.new) }
+    ensures write { result ≡ Detail.Write → Rose (K.faults out.old) (K.faults out.new) }
+    ensures disk { result ≡ Detail.Disk → Rose (D.faults disk.old) (D.faults disk.new) }
+    ensures no_fault { (result ≡ Detail.Disk → ⊥) → D.faults disk.new ≡ D.faults disk.old }
+    ensures later { (S.faults script.old ≤ S.faults script.new) × (K.faults out.old ≤ K.faults out.new) }
+    ensures later_disk { D.faults disk.old ≤ D.faults disk.new }
+{
+    let ReadyRun { prepared, tail } = match make_ready(rt, alloc, log, options, disk, script) {
+        Ok(ready) => ready,
+        Err(detail) => return detail,
+    };
+    let wait = options.wait;
+    let ended = run_transfers(rt, prepared, disk, tail, out, Voice::Lines, wait, gate);
+    conclude(&ended, out)
+}
+
+/// Opens the log, reads the script, and asks for all memory. Nothing is written to the disk before all of it is there.
+fn make_ready<R, D: LogDisk, S: Source>(
+    rt: &R,
+    alloc: Global,
+    log: &Word,
+    options: &RunOptions,
+    disk: &mut D,
+    script: &mut S,
+) -> Result<ReadyRun, Detail>
+    requires { AreInRange options.now }
+    ensures ready { IfOk result (IsReadyFor D.LogDisk options.now.workers disk.old disk.new (S.left script.old) (S.left script.new)) }
+    ensures none { D.honest disk.old → IfErr result
+        (HasNoRun D.LogDisk options.now.workers disk.old disk.new (S.left script.old) (S.left script.new)) }
+    ensures range { IfErr result IsBeforeRun }
+    ensures honest { D.honest disk.old ↔ D.honest disk.new }
+    ensures read { IsErrOf result Detail.Read → Rose (S.faults script.old) (S.faults script.new) }
+    ensures disk { IsErrOf result Detail.Disk → Rose (D.faults disk.old) (D.faults disk.new) }
+    ensures no_fault { (IsErrOf result Detail.Disk → ⊥) → D.faults disk.new ≡ D.faults disk.old }
+    ensures later { S.faults script.old ≤ S.faults script.new }
+    ensures later_disk { D.faults disk.old ≤ D.faults disk.new }
+{
+    let opened = open_log(alloc, log, disk)?;
+    let transfers = read_script(alloc, opened.accounts.count(), script)?;
+    check_numbers(opened.next_txn, transfers.count())?;
+    let tail = opened.tail;
+    let prepared = prepare_run(rt, alloc, opened, transfers, options)?;
+    match settle(disk, tail.at, tail.next) {
+        Ok(tail) => Ok(ReadyRun { prepared, tail }),
+        Err(_) => Err(Detail::Disk),
+    }
+}
+
+/// Whether so many transfers have numbers, from the first on, and one is left for what comes after.
+fn check_numbers(first: u64, count: u64) -> Result<(), Detail>
+    ensures fit { OnOk result (first + count ≤ LAST_TXN) }
+    ensures past { IfErr result (λ detail. (detail ≡ Detail.TxnEnd first count) × (LAST_TXN < first + count)) }
+{
+    match first.checked_add(count) {
+        Some(end) if end <= LAST_TXN as u64 => Ok(()),
+        _ => Err(Detail::TxnEnd { first, count }),
+    }
+}
+
+/// Asks for the memory of a run that goes on from the opened log.
+fn prepare_run<R>(
+    rt: &R,
+    alloc: Global,
+    opened: Recovered,
+    script: Script,
+    options: &RunOptions,
+) -> Result<Prepared, Detail>
+    requires options { AreInRange options.now }
+    requires opened { (bytes : List ℕ) × Recovers opened bytes }
+    requires numbered { opened.next_txn + length script ≤ LAST_TXN }
+    requires allowed { All (IsAllowedJob (length opened.accounts.rows)) script }
+    ensures prepared { IfOk result (IsPreparedFor options.now opened script) }
+    ensures memory { IfErr result (λ detail. detail ≡ Detail.NoMemory) }
+{
+    let start = Start {
+        start: opened.lsn,
+        ring: options.ring,
+        slots: 0,
+        accounts: opened.accounts,
+    };
+    match prepare(rt, alloc, start, script, opened.next_txn, options.workers) {
+        Ok(prepared) => Ok(prepared),
+        Err(_) => Err(Detail::NoMemory),
+    }
+}

@@ -1,0 +1,3 @@
+pub mod FindingLemmas
+pub mod GenesisLemmas
+pub mod OpeningLemmas

@@ -1,0 +1,5 @@
+pub mod Answers
+pub mod Creation
+pub mod FaultText
+pub mod Opening
+pub mod Scripts

@@ -1,0 +1,47 @@
+-- How a log is opened. `g` is what a disk shows; `old` and `new` are the disk before and after.
+use Rattle.std.specs.Prelude.{◌≡◌, ◌≤◌, ◌^◌, ℕ, List, length, ◌+◌}
+use Rattle.log_disk.specs.declared.disk.LogDisk.{Ghosts}
+use Rattle.log_disk.specs.Disk.{IsOnlyImage, Leaves}
+use Rattle.log_record.specs.LogList.{units_of}
+use Rattle.log_recovery.specs.declared.recovery.Recovered.{Recovered}
+use Rattle.log_recovery.specs.declared.recovery.RecoverFault.TheVariants as fault
+use Rattle.log_recovery.specs.Recovery.{Recovers, IsFaultOf}
+use Rattle.segment_file.specs.Standing.{AllStand, IsStableGate}
+use Rattle.cli_shared.specs.declared.report.Detail.{Detail}
+use Rattle.cli_shared.specs.declared.report.Detail.TheVariants.{NoMemory, Disk, NotALog, BadBatch, BadRec, Unlawful}
+
+-- a read of the disk gives these bytes, where it tells what it gives
+abbrev pub MayHold : {D : Type 0} → Ghosts D → D → List ℕ → Type 0
+MayHold g disk bytes = g.honest disk → bytes ≡ g.reads disk
+
+-- The bytes that were read hold a lawful list, and this is what it says. A crash leaves what was read: each image holds the list and
+-- goes on at the tail, where each has the same gate.
+pub record Opens {D : Type 0} (g : Ghosts D) (opened : Recovered) (old new : D) : Type 0 where
+  pub bytes : List ℕ
+  pub read : MayHold g old bytes
+  pub recovers : Recovers opened bytes
+  pub place : opened.tail.at ≤ 2 ^ 63
+  pub settled : g.honest old → IsOnlyImage (g.reads new) (g.images new)
+  pub within : g.honest old → opened.tail.at ≤ length (g.reads new)
+  pub stand : g.honest old → AllStand opened.tail (units_of recovers.records) (g.images new)
+  pub gate : g.honest old → IsStableGate opened.tail.at (g.images new)
+
+-- why these bytes are opened as no log; a fault of the disk and want of memory say nothing of them
+abbrev pub IsOpeningFault : List ℕ → Detail → Type 0
+IsOpeningFault bytes NotALog = IsFaultOf bytes fault.NotALog
+IsOpeningFault bytes (BadBatch offset) = IsFaultOf bytes (fault.BadBatch offset)
+IsOpeningFault bytes (BadRec lsn) = IsFaultOf bytes (fault.BadRec lsn)
+IsOpeningFault bytes (Unlawful lsn why) = IsFaultOf bytes (fault.Unlawful lsn why)
+IsOpeningFault bytes Disk = Unit {0}
+IsOpeningFault bytes NoMemory = Unit {0}
+IsOpeningFault bytes detail = ⊥
+
+-- why the disk's log isn't opened
+abbrev pub HasOpeningFault : {D : Type 0} → Ghosts D → D → Detail → Type 0
+HasOpeningFault g disk detail = (bytes : List ℕ) × MayHold g disk bytes × IsOpeningFault bytes detail
+
+-- the disk was only attached, synced and read
+pub record OnlyLooks {D : Type 0} (g : Ghosts D) (old new : D) : Type 0 where
+  pub images : Leaves g.moment g.images_since (g.images old) old new
+  pub reads : g.reads new ≡ g.reads old
+  pub count : g.written_count new ≤ g.written_count old + 1

@@ -1,0 +1,52 @@
+ghost use Rattle.std.specs.Prelude.{◌≡◌, ◌≤◌, ◌+◌, ◌↔◌, List, ℕ, IfOk, IfErr, OnOk, IsErrOf};
+ghost use Rattle.log_disk.specs.Disk.{IsOnlyImage, Leaves};
+ghost use Rattle.log_disk.specs.Faults.{Rose};
+ghost use Rattle.cli_shared.specs.Opening.{Opens, HasOpeningFault, MayHold};
+
+use crate::report::{Detail, detail_of};
+use log_disk::LogDisk;
+use log_recovery::{Recovered, recover};
+use lsn_space::Word;
+use segment_file::{OpenFault, open_image};
+use std::alloc::Global;
+
+/// Opens the log of that name, which has to be there, and answers what it says. From then on a crash leaves what was read.
+pub fn open_log<D: LogDisk>(alloc: Global, log: &Word, disk: &mut D) -> Result<Recovered, Detail>
+    ensures opened { IfOk result (λ opened. Opens D.LogDisk opened disk.old disk.new) }
+    ensures fault { IfErr result (HasOpeningFault D.LogDisk disk.old) }
+    ensures reads { D.honest disk.old → D.reads disk.new ≡ D.reads disk.old }
+    ensures images { (c : List ℕ) → D.images disk.new c → D.images disk.old c }
+    ensures moments { Leaves D.moment D.images_since (D.images disk.old) disk.old disk.new }
+    ensures count { D.honest disk.old → D.written_count disk.new ≤ D.written_count disk.old + 1 }
+    ensures honest { D.honest disk.old ↔ D.honest disk.new }
+    ensures disk { IsErrOf result Detail.Disk → Rose (D.faults disk.old) (D.faults disk.new) }
+    ensures no_fault { (IsErrOf result Detail.Disk → ⊥) → D.faults disk.new ≡ D.faults disk.old }
+    ensures later { D.faults disk.old ≤ D.faults disk.new }
+{
+    let bytes = match image_of(alloc, log, disk) {
+        Ok(bytes) => bytes,
+        Err(OpenFault::DiskFault) => return Err(Detail::Disk),
+        Err(OpenFault::NoMemory) => return Err(Detail::NoMemory),
+    };
+    match recover(alloc, bytes.as_slice()) {
+        Ok(opened) => Ok(opened),
+        Err(fault) => Err(detail_of(fault)),
+    }
+}
+
+/// All bytes of the file of that name, after a sync that makes them stable.
+fn image_of<D: LogDisk>(alloc: Global, log: &Word, disk: &mut D) -> Result<Vec<u8>, OpenFault>
+    ensures bytes { IfOk result (λ bytes. MayHold D.LogDisk disk.old bytes.items) }
+    ensures settled { D.honest disk.old → OnOk result (IsOnlyImage (D.reads disk.new) (D.images disk.new)) }
+    ensures reads { D.honest disk.old → D.reads disk.new ≡ D.reads disk.old }
+    ensures images { (c : List ℕ) → D.images disk.new c → D.images disk.old c }
+    ensures moments { Leaves D.moment D.images_since (D.images disk.old) disk.old disk.new }
+    ensures count { D.honest disk.old → D.written_count disk.new ≤ D.written_count disk.old + 1 }
+    ensures honest { D.honest disk.old ↔ D.honest disk.new }
+    ensures fault { IsErrOf result OpenFault.DiskFault → Rose (D.faults disk.old) (D.faults disk.new) }
+    ensures no_fault { (IsErrOf result OpenFault.DiskFault → ⊥) → D.faults disk.new ≡ D.faults disk.old }
+    ensures later { D.faults disk.old ≤ D.faults disk.new }
+{
+    disk.attach(log, false)?;
+    open_image(alloc, disk)
+}

@@ -1,0 +1,58 @@
+-- A run that was begun over the opened list: at first an image holds that list alone.
+use Rattle.std.proofs.Common.{◌⊎◌, ⊎_elim, inl, inr, refl, sym, subst, arith, ℕ, ◌+◌, List, [], ◌∷◌, ◌++◌}
+use Rattle.std.proofs.lemmas.List.{append-nil}
+use Rattle.std.specs.List.{AllByRecursion}
+use Rattle.log_disk.specs.Disk.{Leaves}
+use Rattle.log_disk.specs.declared.disk.LogDisk.{Ghosts}
+use Rattle.log_disk.proofs.Moments.{Leaves-trans, Leaves-weaken}
+use Rattle.log_record.specs.declared.rec.Rec.{Rec}
+use Rattle.log_record.specs.Spelling.{IsSpellable}
+use Rattle.log_recovery.specs.Recovery.{HoldsLawful}
+use Rattle.log_table.specs.declared.table.Start.{Start}
+use Rattle.lock_core.specs.Alone.{PlainTransfer, with_note, leg_updates}
+use Rattle.lock_core.specs.Serial.{numbered, IsRunWhole, IsCutShort}
+use Rattle.lock_core.specs.Sums.{BaseState}
+use Rattle.segment_file.specs.declared.scan_result.Tail.{Tail}
+use Rattle.txn_runner.specs.declared.jobs.Jobs.{Jobs}
+use Rattle.cli_threads.specs.Run.{HoldsRun, GoesOn, transfers_of}
+use Rattle.cli_threads.specs.Transferred.{IsOpened}
+use Rattle.txn_runner.specs.Stripes.{number_at}
+use Rattle.cli_threads.proofs.RunHistory.{history-own}
+use Rattle.cli_threads.proofs.RunLedger.{goes-on}
+
+-- of no records, each transfer is cut short before its first
+partly-none : (base : BaseState) (first : ℕ) (jobs : List PlainTransfer)
+    → AllByRecursion (λ task. IsRunWhole base [] task ⊎ IsCutShort [] task) (numbered first jobs)
+partly-none base first [] = tt
+partly-none base first (job ∷ jobs) =
+    (inr (record { rest = with_note first job.note (leg_updates first job.legs); front = refl }), partly-none base (first + 1) jobs)
+
+module _ {D : Type 0} (g : Ghosts D) (disk : D) (tail : Tail) (opened : List Rec) (jobs : Jobs) (key : Start)
+    (is : IsOpened g disk tail opened jobs.first key) (records : List Rec) where
+  nothing-goes_on : GoesOn opened jobs (opened ++ [])
+  nothing-goes_on = goes-on opened [] jobs is.lawful is.some_accounts is.below
+      (subst (AllByRecursion IsSpellable) (sym (append-nil opened)) is.spellable) tt
+      (record { each = partly-none _ jobs.first (transfers_of jobs); others = λ txn apart. refl })
+      (λ worker i j small less recorded. absurd (recorded (history-own opened [] (number_at jobs worker j) (omega (arith, is.below)))))
+
+  holds-nothing : (bytes : List ℕ) → HoldsLawful bytes opened → HoldsRun opened jobs records bytes
+  holds-nothing bytes held = record {
+    front = [];
+    rest = records;
+    whole = refl;
+    holds = subst (HoldsLawful bytes) (sym (append-nil opened)) held;
+    goes_on = nothing-goes_on;
+  }
+
+  -- the images of all moments, those before the run and those of it
+  pub images-begun : (Before : List ℕ → Type 0) (entry new : D)
+      → Leaves g.moment g.images_since (λ bytes. Before bytes ⊎ HoldsLawful bytes opened) entry disk
+      → Leaves g.moment g.images_since (HoldsRun opened jobs records) disk new
+      → Leaves g.moment g.images_since (λ bytes. Before bytes ⊎ HoldsRun opened jobs records bytes) entry new
+  images-begun Before entry new first then =
+      Leaves-trans g.moment g.images_since (λ bytes. Before bytes ⊎ HoldsRun opened jobs records bytes) entry disk new
+      (Leaves-weaken g.moment g.images_since (λ bytes. Before bytes ⊎ HoldsLawful bytes opened)
+      (λ bytes. Before bytes ⊎ HoldsRun opened jobs records bytes) entry disk
+      (λ bytes. ⊎_elim (λ before. inl before) (λ held. inr (holds-nothing bytes held))) first)
+      (Leaves-weaken g.moment g.images_since (HoldsRun opened jobs records) (λ bytes. Before bytes ⊎ HoldsRun opened jobs records bytes)
+      disk new (λ bytes held. inr held) then)

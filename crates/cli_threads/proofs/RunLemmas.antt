@@ -1,0 +1,287 @@
+-- What a run promises, from what is known once all seats are gathered.
+use Rattle.std.proofs.Common.{◌≢◌, ◌≡◌, inl, inr, ⊎_elim, ◌≤◌, ℕ, ◌+◌, false, List, [], ◌++◌, length, map, None, Some, refl, ap, ◌∙◌, sym, subst, arith, add-zero, append-nil, append_assoc, length-append}
+use Rattle.std.specs.List.{AllByRecursion}
+use Rattle.std.proofs.lemmas.List.Elements.{All-from_recursion}
+use mathlib.Core.Option.{some}
+use lib.ListN.{get_elem?}
+use Rattle.lsn_space.proofs.TilingLemmas.{all-weaker}
+use Rattle.log_disk.proofs.Moments.{Leaves-weaken}
+use Rattle.log_disk.specs.declared.disk.LogDisk.{Ghosts}
+use Rattle.log_disk.specs.declared.sink.Sink.{Ghosts as SinkGhosts}
+use Rattle.log_record.specs.declared.rec.Rec.{Rec}
+use Rattle.log_record.specs.LogList.{units_of, end_of}
+use Rattle.log_record.specs.Spelling.{IsSpellable}
+use Rattle.log_record.proofs.SpellingLemmas.{units_of-injective}
+use Rattle.lock_core.specs.History.{history, history_from}
+use Rattle.lock_core.specs.Lawful.{IsLawfulAfter, base_state_of}
+use Rattle.lock_core.specs.Serial.{Task, IsPartlySerialAfter, IsSerialAfter}
+use Rattle.lock_core.specs.Settling.{KeepsRows}
+use Rattle.lock_core.specs.Sums.{BaseState}
+use Rattle.lock_core.proofs.ListLemmas.{all-append, all-split}
+use Rattle.lock_core.proofs.SerialFronts.{partly-serial}
+use Rattle.lock_core.proofs.SerialTasks.{partly_serial-more}
+use Rattle.log_recovery.proofs.ListingLemmas.{units_of-append}
+use Rattle.log_recovery.proofs.TextLemmas.{AppendsPrefix-first}
+use Rattle.log_table.specs.declared.table.Start.{Start}
+use Rattle.log_table.specs.declared.view.Constants.{Constants}
+use Rattle.log_table.specs.declared.view.Given.{Given}
+use Rattle.log_table.specs.declared.view.Sending.{Sending}
+use Rattle.log_table.specs.declared.view.View.{View}
+use Rattle.log_table.specs.Accounts.{WentBack}
+use Rattle.log_table.specs.Books.{task_of, times_taken}
+use Rattle.log_table.specs.Closing.{records_of, IsLedger}
+use Rattle.log_table.specs.Log.{units_in}
+use Rattle.log_table.specs.Seats.{view_of}
+use Rattle.log_table.specs.Sound.{base_of}
+use Rattle.flusher.specs.Flushing.{sent_of}
+use Rattle.commit_pipeline.specs.declared.daemon.Daemon.{Daemon}
+use Rattle.commit_pipeline.specs.EndLines.{text_of}
+use Rattle.commit_pipeline.specs.declared.daemon.DaemonFault.TheVariants.{DiskFault, WriteFault}
+use Rattle.commit_pipeline.specs.declared.tally.Tally.{Tally}
+use Rattle.commit_pipeline.specs.Later.{Later, Ran, HasReason}
+use Rattle.commit_pipeline.specs.Telling.{counted}
+use Rattle.commit_pipeline.specs.Turning.{IsSameDaemon, durable}
+use Rattle.commit_pipeline.proofs.RanLemmas.{Later-disk_fine, Later-same, Later-reason, none≢some}
+use Rattle.commit_pipeline.proofs.LineLemmas.{text_of-append}
+use Rattle.txn_runner.specs.declared.cause.Cause.TheVariants.{Stop, LogEnd}
+use Rattle.txn_runner.specs.declared.cause.Worked.TheVariants.{All, Cut}
+use Rattle.txn_runner.specs.declared.jobs.Jobs.{Jobs}
+use Rattle.cli_threads.specs.Run.{ComeInTurn, HoldsRun, IsLeft, RunKeepsLog, RunIsDrained, RunsWhole}
+use Rattle.cli_threads.specs.RunStops.{HadBalance, StopsAtLogEnd}
+use Rattle.cli_threads.specs.Shares.{Share, all_taken}
+use Rattle.cli_threads.specs.Transferred.{HasTransferred}
+use Rattle.cli_threads.proofs.RunBalances.{had-balance}
+use Rattle.cli_threads.proofs.RunEnds.{all-ended, no-stop, stops}
+use Rattle.cli_threads.proofs.RunHistory.{later_of}
+use Rattle.cli_threads.proofs.RunImages.{HoldsBoth, HoldsSome, RunSends, RunSent, sends-still, sent-still, sent-now, read-now, sends-ran, sent-ran}
+use Rattle.cli_threads.proofs.RunLedger.{base-opened, apart, whole-lawful, goes-on, runs-whole, text-shown, front-spellable, front-lawful, front-goes-on}
+use Rattle.cli_threads.proofs.RunRecords.{records-spellable, units_in-records, records-front, tiling-end}
+use Rattle.cli_threads.proofs.RunTurns.{front-in_turn}
+use Rattle.cli_threads.proofs.RunStripes.{tasks_of, each-numbered, taken-once, taken-numbered, taken-or_not}
+
+module _ {D : Type 0} {K : Type 0} (g : Ghosts D) (h : SinkGhosts K) (opened : List Rec) (jobs : Jobs) (shares : List Share) (key : Start)
+    (old new : Daemon D K) (view : View) (lsn : ℕ) (rows : List (ℕ × ℕ)) (known : HasTransferred g h opened jobs shares key old new view lsn rows) where
+  abbrev list : List Rec
+  list = records_of view.entries
+
+  abbrev base : BaseState
+  base = base_state_of (history opened)
+
+  abbrev taken : List Task
+  taken = map task_of (all_taken jobs 0 shares)
+
+  -- ---- the list
+
+  list-spellable : AllByRecursion IsSpellable list
+  list-spellable = records-spellable view.entries known.gathered.spelled
+
+  spellable : AllByRecursion IsSpellable (opened ++ list)
+  spellable = all-append IsSpellable opened list known.log.spellable list-spellable
+
+  list-units : units_in view.entries ≡ units_of list
+  list-units = units_in-records view.entries known.gathered.spelled
+
+  once : (number : ℕ) → times_taken number view.books.jobs ≤ 1
+  once number = subst (λ jobs. times_taken number jobs ≤ 1) (sym known.workers.taken)
+      (taken-once jobs 0 shares number (let count = known.workers.count in omega arith))
+
+  ledger : IsLedger base (later_of opened list) taken rows
+  ledger =
+      let same = base-opened opened key known.log.lawful known.log.start known.log.accounts in
+      subst (λ from. IsLedger from (later_of opened list) taken rows) same
+      (subst (λ end. IsLedger (base_of key) (history_from end [] list) taken rows) known.log.start
+      (subst (λ jobs. IsLedger (base_of key) (history_from key.start [] list) (map task_of jobs) rows) known.workers.taken
+      (known.settled.ledger once)))
+
+  -- each account that was given back uncommitted went back with the balance of a front
+  went-back : AllByRecursion (WentBack base (later_of opened list)) view.books.given
+  went-back =
+      let same = base-opened opened key known.log.lawful known.log.start known.log.accounts in
+      subst (λ from. AllByRecursion (WentBack from (later_of opened list)) view.books.given) same
+      (subst (λ end. AllByRecursion (WentBack (base_of key) (history_from end [] list)) view.books.given) known.log.start (known.settled.given once))
+
+  pub serial : IsPartlySerialAfter base (tasks_of jobs) (later_of opened list)
+  serial = partly_serial-more base taken (tasks_of jobs) (later_of opened list)
+      (taken-numbered jobs shares known.workers.count (λ i share at. (known.workers.each i share at).stripe))
+      (each-numbered _ jobs.first jobs.script (λ place inside. taken-or_not jobs shares known.workers.count place inside jobs.shared))
+      ledger.serial
+
+  lawful_after : IsLawfulAfter base (later_of opened list)
+  lawful_after = ledger.lawful
+
+  pub kept : KeepsRows rows base (later_of opened list)
+  kept = ledger.accounts
+
+  -- each worker's transfers come one behind another, in each front
+  in_turn : (front rest : List Rec) → list ≡ front ++ rest → ComeInTurn jobs (history (opened ++ front))
+  in_turn = front-in_turn opened jobs view known.log.below shares known.workers ledger.serial.others lsn known.gathered
+
+  -- ---- the turns
+
+  start-old : durable old ≡ end_of opened
+  start-old =
+      let start = ap (λ (c : Constants). c.start) known.fresh.constants in let none = ap length known.fresh.sent in
+      omega (arith, start, none, known.log.start)
+
+  start-view : view.constants.start ≡ end_of opened
+  start-view = ap (λ (c : Constants). c.start) (known.constants ∙ kept known.later ∙ known.fresh.constants) ∙ known.log.start
+    where
+      kept : Later g h old new → (view_of new.flusher.seat).constants ≡ (view_of old.flusher.seat).constants
+      kept (inl is) = ap (λ (d : Daemon D K). (view_of d.flusher.seat).constants) is
+      kept (inr ran) = ran.constants
+
+  pub sends : RunSends g old.voice opened list old.flusher.disk.now new.flusher.disk.now (h.held_bytes old.sink.now) (h.held_bytes new.sink.now)
+  sends = by_later known.later
+    where
+      by_later : Later g h old new
+          → RunSends g old.voice opened list old.flusher.disk.now new.flusher.disk.now (h.held_bytes old.sink.now) (h.held_bytes new.sink.now)
+      by_later (inl same) = subst (λ (d : Daemon D K). RunSends g old.voice opened list old.flusher.disk.now d.flusher.disk.now
+          (h.held_bytes old.sink.now) (h.held_bytes d.sink.now)) (sym same)
+          (sends-still g h opened list old old known.log.stand known.fresh.sent start-old)
+      by_later (inr ran) =
+          let sent : view.sending.sent ≡ units_of ran.more =
+          ap (λ (s : Sending). s.sent) known.sending ∙ sent-now g h opened list old new known.log.stand known.fresh.sent start-old ran in
+          let read : view.sending.read ≡ units_of ran.cut =
+          ap (λ (s : Sending). s.read) known.sending ∙ read-now g h opened list old new known.log.stand known.fresh.sent start-old ran in
+          let whole : units_of list ≡ units_of (ran.more ++ ran.cut) ++ known.gathered.unsent =
+          sym list-units ∙ known.gathered.sent ∙ (λ i. (sent i ++ read i) ++ known.gathered.unsent)
+          ∙ ap (λ l. l ++ known.gathered.unsent) (sym (units_of-append ran.more ran.cut)) in
+          let front = records-front list (ran.more ++ ran.cut) known.gathered.unsent list-spellable ran.spellable whole in
+          sends-ran g h opened list old new known.log.stand known.fresh.sent start-old ran front.0 front.1
+
+  -- ---- what each image holds
+
+  abbrev image-run : (front rest : List Rec) → list ≡ front ++ rest → (bytes : List ℕ) → HoldsBoth opened front bytes → HoldsRun opened jobs list bytes
+  image-run front rest splits bytes held = record {
+    front = front;
+    rest = rest;
+    whole = splits;
+    holds = record {
+      list = record {
+        each = front-spellable opened list jobs known.log.lawful known.log.some_accounts known.log.below spellable lawful_after serial front rest splits;
+        holds = held;
+      };
+      lawful = front-lawful opened list jobs known.log.lawful known.log.some_accounts known.log.below spellable lawful_after serial front rest splits;
+    };
+    goes_on = front-goes-on opened list jobs known.log.lawful known.log.some_accounts known.log.below spellable lawful_after serial front rest splits
+        (in_turn front rest splits);
+  }
+
+  pub keeps : RunKeepsLog g old.voice opened jobs list old.flusher.disk.now new.flusher.disk.now (h.held_bytes old.sink.now) (h.held_bytes new.sink.now)
+  keeps = record {
+    goes_on = goes-on opened list jobs known.log.lawful known.log.some_accounts known.log.below spellable lawful_after serial
+        (in_turn list [] (sym (append-nil list)));
+    moments = λ honest. Leaves-weaken g.moment g.images_since (HoldsSome opened list) (HoldsRun opened jobs list) old.flusher.disk.now new.flusher.disk.now
+        (λ bytes held. image-run held.0 held.1 held.2 bytes held.3) (sends.moments honest);
+    left = λ honest bytes image. ⊎_elim (left-first honest bytes) (left-both honest bytes) (sends.now honest bytes image);
+  }
+    where
+      left-first : g.honest old.flusher.disk.now → (bytes : List ℕ) → HoldsBoth opened sends.more bytes
+          → IsLeft g old.voice opened jobs list old.flusher.disk.now new.flusher.disk.now (h.held_bytes old.sink.now) (h.held_bytes new.sink.now) bytes
+      left-first honest bytes held = record {
+        run = image-run sends.more (sends.cut ++ sends.rest) (sends.splits ∙ append_assoc sends.more sends.cut sends.rest) bytes held;
+        text = sends.text;
+        count = sends.count honest;
+      }
+
+      left-both : g.honest old.flusher.disk.now → (bytes : List ℕ) → HoldsBoth opened (sends.more ++ sends.cut) bytes
+          → IsLeft g old.voice opened jobs list old.flusher.disk.now new.flusher.disk.now (h.held_bytes old.sink.now) (h.held_bytes new.sink.now) bytes
+      left-both honest bytes held = record {
+        run = image-run (sends.more ++ sends.cut) sends.rest sends.splits bytes held;
+        text = AppendsPrefix-first (h.held_bytes old.sink.now) (h.held_bytes new.sink.now) (text_of old.voice (end_of opened) (sends.more ++ sends.cut))
+            (text_of old.voice (end_of opened) sends.more) (text_of old.voice (end_of opened + length (units_of sends.more)) sends.cut) sends.text
+            (text_of-append old.voice (end_of opened) sends.more sends.cut);
+        count = let long = length-append sends.more sends.cut in let counted = sends.count honest in omega arith;
+      }
+
+  -- ---- what befell the daemon
+
+  pub reason : HasReason g h old new new.fault
+  reason = Later-reason g h old new known.later known.fresh.fine
+
+  pub disk_fine : new.fault ≢ Some DiskFault → g.faults new.flusher.disk.now ≡ g.faults old.flusher.disk.now
+  disk_fine = Later-disk_fine g h old new known.later
+
+  pub same : IsSameDaemon g h old new
+  same = Later-same g h old new known.later
+
+  -- ---- without a fault
+
+  module _ (fine : new.fault ≡ None) where
+    -- all records were sent
+    list-is : (records : List Rec) → AllByRecursion IsSpellable records → view.sending.sent ≡ units_of records → records ≡ list
+    list-is records each sent = units_of-injective records list (All-from_recursion IsSpellable records each)
+        (All-from_recursion IsSpellable list list-spellable) (sym sent ∙ sym (known.gathered.drained (known.drained fine)) ∙ list-units)
+
+    list-none : new ≡ old → [] ≡ list
+    list-none same = list-is [] tt (ap (λ (s : Sending). s.sent) known.sending ∙ ap (λ (d : Daemon D K). sent_of d.flusher) same ∙ known.fresh.sent)
+
+    list-more : (ran : Ran g h old new) → ran.more ≡ list
+    list-more ran = list-is ran.more (all-split IsSpellable ran.more ran.cut ran.spellable).0
+        (ap (λ (s : Sending). s.sent) known.sending ∙ sent-now g h opened list old new known.log.stand known.fresh.sent start-old ran)
+
+    sent-all : RunSent g old.voice opened list old.flusher.disk.now new.flusher.disk.now (h.held_bytes old.sink.now) (h.held_bytes new.sink.now)
+    sent-all = by_later known.later
+      where
+        by_later : Later g h old new
+            → RunSent g old.voice opened list old.flusher.disk.now new.flusher.disk.now (h.held_bytes old.sink.now) (h.held_bytes new.sink.now)
+        by_later (inl same) =
+            subst (λ (d : Daemon D K). RunSent g old.voice opened list old.flusher.disk.now d.flusher.disk.now (h.held_bytes old.sink.now) (h.held_bytes d.sink.now)) (sym same)
+            (subst (λ (records : List Rec). RunSent g old.voice opened records old.flusher.disk.now old.flusher.disk.now (h.held_bytes old.sink.now) (h.held_bytes old.sink.now))
+            (list-none same) (sent-still g h opened list old old known.log.stand known.fresh.sent start-old))
+        by_later (inr ran) =
+            subst (λ (records : List Rec). RunSent g old.voice opened records old.flusher.disk.now new.flusher.disk.now (h.held_bytes old.sink.now) (h.held_bytes new.sink.now))
+            (list-more ran) (sent-ran g h opened list old new known.log.stand known.fresh.sent start-old ran fine)
+
+    -- and the end record of each was counted
+    pub tally-all : new.tally ≡ counted old.tally list
+    tally-all = by_later known.later
+      where
+        counted-none : (tally : Tally) → tally ≡ counted tally []
+        counted-none tally = λ i. record { done = sym (add-zero tally.done) i; refused = sym (add-zero tally.refused) i }
+
+        by_later : Later g h old new → new.tally ≡ counted old.tally list
+        by_later (inl still) = ap (λ (d : Daemon D K). d.tally) still ∙ counted-none old.tally ∙ ap (counted old.tally) (list-none still)
+        by_later (inr ran) = (ran.all (λ failed. none≢some WriteFault (sym fine ∙ failed))).1 ∙ ap (counted old.tally) (list-more ran)
+
+    pub drained : RunIsDrained g old.voice opened jobs list old.flusher.disk.now new.flusher.disk.now (h.held_bytes old.sink.now) (h.held_bytes new.sink.now) lsn rows
+    drained = record {
+      images = λ honest bytes image. record {
+        list = record { each = spellable; holds = sent-all.now honest bytes image };
+        lawful = whole-lawful opened list jobs known.log.lawful known.log.some_accounts known.log.below spellable lawful_after serial;
+      };
+      text = sent-all.text;
+      end = end;
+      accounts = text-shown opened list jobs known.log.lawful known.log.some_accounts known.log.below spellable lawful_after serial lsn rows end ledger.accounts;
+      count = sent-all.count;
+    }
+      where
+        end : lsn ≡ end_of (opened ++ list)
+        end =
+            let tiles = tiling-end view.constants.start lsn view.entries known.gathered.full known.gathered.spelled known.gathered.tiles in
+            let sizes : end_of (opened ++ list) ≡ end_of opened + end_of list = ap length (units_of-append opened list) ∙ length-append (units_of opened) (units_of list) in
+            omega (arith, tiles, start-view, sizes)
+
+    stop-none : view.sending.stop ≡ 0
+    stop-none = ap (λ (s : Sending). s.stop) known.sending ∙ subst (HasReason g h old new) fine reason ∙ known.fresh.stop
+
+    had : AllByRecursion (λ (given : Given). given.committed ≡ false → HadBalance (opened ++ list) given.tail given.account given.balance) view.books.given
+    had = all-weaker (WentBack base (later_of opened list)) _ view.books.given (had-balance opened list known.log.lawful lawful_after
+        (apart opened list jobs known.log.lawful known.log.some_accounts known.log.below spellable lawful_after serial)) went-back
+
+    pub stops-at-end : (worker count tail total : ℕ) → get_elem? shares worker ≡ some (record { taken = count; worked = Cut (LogEnd tail total) })
+        → StopsAtLogEnd opened jobs list tail total
+    stops-at-end worker count tail total at = stops opened jobs view known.log.below shares known.workers ledger.serial.others had lsn known.gathered start-view
+        stop-none worker tail total (record { taken = count; worked = Cut (LogEnd tail total) }) at refl
+
+    pub never-stops : (worker count word : ℕ) → get_elem? shares worker ≡ some (record { taken = count; worked = Cut (Stop word) }) → ⊥
+    never-stops worker count word at =
+        no-stop opened jobs view known.log.below shares known.workers stop-none worker word (record { taken = count; worked = Cut (Stop word) }) at refl
+
+  pub whole_after : AllByRecursion (λ (share : Share). share.worked ≡ All) shares → IsSerialAfter base (tasks_of jobs) (later_of opened list)
+  whole_after all = partly-serial base (tasks_of jobs) (later_of opened list)
+      (all-ended opened jobs view known.log.below shares known.workers jobs.shared all) serial
+
+  pub whole : AllByRecursion (λ (share : Share). share.worked ≡ All) shares → RunsWhole opened jobs list
+  whole all = runs-whole opened list jobs known.log.lawful known.log.some_accounts known.log.below spellable lawful_after serial
+      (all-ended opened jobs view known.log.below shares known.workers jobs.shared all)

@@ -1,0 +1,180 @@
+-- A run's end: the seats are gathered, the table is closed, and what is known then.
+use Rattle.std.proofs.Common.{◌≡◌, ◌∙◌, ℕ, ◌+◌, Bool, true, cond, eqb, List, [], ◌∷◌, length, map, sym, refl, ap, subst, arith, add-one, add-zero, Option, None, Some, IsSome, IsSomeAnd}
+use Rattle.std.specs.List.{AllByRecursion, list_any}
+use Rattle.log_disk.specs.declared.disk.LogDisk.{Ghosts}
+use Rattle.log_disk.specs.declared.sink.Sink.{Ghosts as SinkGhosts}
+use Rattle.log_record.specs.declared.rec.Rec.{Rec}
+use Rattle.segment_file.specs.declared.scan_result.Tail.{Tail}
+use Rattle.log_table.specs.declared.table.LogTable.{LogTable}
+use Rattle.log_table.specs.declared.table.Seat.{Seat}
+use Rattle.log_table.specs.declared.table.Start.{Start}
+use Rattle.log_table.specs.declared.view.Books.{Books}
+use Rattle.log_table.specs.declared.view.Role.{Role}
+use Rattle.log_table.specs.declared.view.Role.TheVariants.{Flusher}
+use Rattle.log_table.specs.declared.view.Sending.{Sending}
+use Rattle.log_table.specs.declared.view.Standing.{Standing}
+use Rattle.log_table.specs.declared.view.View.{View}
+use Rattle.log_table.specs.Closing.{IsGathered, IsSettled}
+use Rattle.log_table.specs.May.{MayClose}
+use Rattle.log_table.specs.Seats.{view_of}
+use Rattle.log_table.specs.Sends.{IsDrained}
+use Rattle.log_table.specs.Sound.{HasReadStop, base_of}
+use Rattle.log_table.specs.Roles.{is_worker}
+use Rattle.log_table.specs.Views.{constants_of, sent_to}
+use Rattle.log_table.specs.CrewViews.{takes_in}
+use Rattle.commit_pipeline.specs.declared.voice.Voice.{Voice}
+use Rattle.commit_pipeline.specs.Turning.{IsSameDaemon}
+use Rattle.commit_pipeline.proofs.RanLemmas.{Later-same}
+use Rattle.txn_runner.specs.declared.cause.Worked.{Worked}
+use Rattle.txn_runner.specs.declared.jobs.Jobs.{Jobs}
+use Rattle.cli_threads.specs.declared.transfers.Served.{Served}
+use Rattle.cli_threads.specs.declared.workers.Worker.{Worker}
+use Rattle.cli_threads.specs.Gathering.{HasLeft, share_of, takes_all, view_in, worked_of}
+use Rattle.cli_threads.specs.Prepared.{HasTurned}
+use Rattle.cli_threads.specs.Shares.{Share, HasGathered}
+use Rattle.cli_threads.specs.Transferred.{HasTransferred, IsFresh, IsOpened}
+use Rattle.cli_threads.specs.Workers.{AreDone, HasServed, IsDone, IsDoneAs, KnowsHired, Numbered, hired_numbers}
+use Rattle.cli_threads.proofs.GatheredShares.{HasGathered-all, served}
+
+-- a worker that is done has left
+HasLeft-done : (table : LogTable) (jobs : Jobs) (wait : Bool) (worker : Worker) → IsDone table jobs wait worker → HasLeft table worker
+HasLeft-done table jobs wait worker done =
+    let has = served table jobs wait worker done in record { seat = has.seat; ended = has.ended; worked = by_case worker.worked done }
+  where
+    by_case : (worked : Option Worked) → IsSomeAnd worked (HasServed table jobs wait worker) → IsSome worked
+    by_case None done = absurd done
+    by_case (Some worked) done = refl
+
+pub HasLeft-all : (table : LogTable) (jobs : Jobs) (wait : Bool) (number : ℕ) (workers : List Worker) → Numbered (IsDoneAs table jobs wait) number workers
+    → AllByRecursion (HasLeft table) workers
+HasLeft-all table jobs wait number [] done = tt
+HasLeft-all table jobs wait number (worker ∷ workers) done = (HasLeft-done table jobs wait worker done.0.1, HasLeft-all table jobs wait (number + 1) workers done.1)
+
+-- what the flusher's seat keeps as it is, while it takes in others
+takes_all-constants : (view : View) (others : List View) → (takes_all view others).constants ≡ view.constants
+takes_all-constants view [] = refl
+takes_all-constants view (other ∷ others) = takes_all-constants (takes_in view other) others
+
+takes_all-sending : (view : View) (others : List View) → (takes_all view others).sending ≡ view.sending
+takes_all-sending view [] = refl
+takes_all-sending view (other ∷ others) = takes_all-sending (takes_in view other) others
+
+takes_all-role : (view : View) (others : List View) → (takes_all view others).standing.role ≡ view.standing.role
+takes_all-role view [] = refl
+takes_all-role view (other ∷ others) = takes_all-role (takes_in view other) others
+
+takes_all-made : (view : View) (others : List View) → (takes_all view others).standing.made ≡ view.standing.made
+takes_all-made view [] = refl
+takes_all-made view (other ∷ others) = takes_all-made (takes_in view other) others
+
+-- the numbers of the workers whose seats it took in
+takes_all-merged : (table : LogTable) (jobs : Jobs) (wait : Bool) (number : ℕ) (workers : List Worker) → Numbered (IsDoneAs table jobs wait) number workers
+    → (view : View) → view.standing.merged ≡ hired_numbers number
+    → (takes_all view (map view_in workers)).standing.merged ≡ hired_numbers (number + length workers)
+takes_all-merged table jobs wait number [] done view below = below ∙ ap hired_numbers (sym (add-zero number))
+takes_all-merged table jobs wait number (worker ∷ workers) done view below =
+    let own = view_in worker in
+    let ended = (served table jobs wait worker done.0.1).ended in
+    let one : (takes_in view own).standing.merged ≡ own.standing.worker ∷ view.standing.merged =
+    ap (λ (role : Role). cond (is_worker role) (own.standing.worker ∷ view.standing.merged) view.standing.merged) ended in
+    let named : own.standing.worker ≡ number = sym worker.seat.named ∙ done.0.0 in
+    let next : (takes_in view own).standing.merged ≡ hired_numbers (number + 1) =
+    one ∙ ((λ i. named i ∷ below i) ∙ ap hired_numbers (sym (add-one number))) in
+    takes_all-merged table jobs wait (number + 1) workers done.1 (takes_in view own) next ∙ ap hired_numbers (omega arith)
+
+-- a view that sends as another, from the same start, is drained where that is
+IsDrained-same : (view other : View) → view.sending ≡ other.sending → view.constants ≡ other.constants → IsDrained other → IsDrained view
+IsDrained-same view other sending constants drained =
+    let ends : sent_to view ≡ sent_to other = λ i. (constants i).start + length (sending i).sent in
+    record {
+      quiet = ap (λ (s : Sending). s.quiet) sending ∙ drained.quiet;
+      looked = ap (λ (s : Sending). s.looked) sending ∙ drained.looked;
+      all = ap (λ (s : Sending). s.exposed) sending ∙ (drained.all ∙ sym ends);
+    }
+
+-- what is left of what the flusher's seat knew before the turns: it made so many workers, and took in nothing
+pub record HasTaken (key : Start) (workers : ℕ) (view : View) : Type 0 where
+  pub flusher : view.standing.role ≡ Flusher
+  pub made : view.standing.made ≡ hired_numbers workers
+  pub merged : view.standing.merged ≡ []
+  pub constants : view.constants ≡ constants_of key
+  pub entries : view.entries ≡ []
+  pub jobs : view.books.jobs ≡ []
+
+module _ {D : Type 0} {K : Type 0} (g : Ghosts D) (h : SinkGhosts K) (tail : Tail) (voice : Voice) (boss : Seat) (disk disk_new : D)
+    (sink sink_new : K) (served' : Served) (turned : HasTurned g h tail voice boss disk disk_new sink sink_new served') where
+  same : IsSameDaemon g h turned.first turned.last
+  same = Later-same g h turned.first turned.last turned.later
+
+  standing : (view_of served'.boss).standing ≡ (view_of boss).standing
+  standing = ap (λ (s : Seat). (view_of s).standing) (sym turned.seat_is)
+      ∙ (same.flusher.workers ∙ ap (λ (s : Seat). (view_of s).standing) turned.seat_old)
+
+  pub HasTaken-turned : (key : Start) (workers : ℕ) → KnowsHired key workers (view_of boss) → HasTaken key workers (view_of served'.boss)
+  HasTaken-turned key workers knows = record {
+    flusher = ap (λ (s : Standing). s.role) standing ∙ knows.flusher;
+    made = ap (λ (s : Standing). s.made) standing ∙ knows.made;
+    merged = ap (λ (s : Standing). s.merged) standing ∙ knows.merged;
+    constants = ap (λ (s : Seat). (view_of s).constants) (sym turned.seat_is)
+        ∙ (same.flusher.seat.constants ∙ (ap (λ (s : Seat). (view_of s).constants) turned.seat_old ∙ knows.constants));
+    entries = ap (λ (s : Seat). (view_of s).entries) (sym turned.seat_is)
+        ∙ (same.flusher.seat.entries ∙ (ap (λ (s : Seat). (view_of s).entries) turned.seat_old ∙ knows.entries));
+    jobs = ap (λ (s : Seat). (view_of s).books.jobs) (sym turned.seat_is)
+        ∙ (ap (λ (books : Books). books.jobs) same.flusher.seat.books
+        ∙ (ap (λ (s : Seat). (view_of s).books.jobs) turned.seat_old ∙ ap (λ (books : Books). books.jobs) knows.books));
+  }
+
+  -- the first daemon had sent nothing
+  IsFresh-turned : (key : Start) (workers : ℕ) → KnowsHired key workers (view_of boss) → IsFresh key turned.first
+  IsFresh-turned key workers knows = record {
+    constants = ap (λ (s : Seat). (view_of s).constants) turned.seat_old ∙ knows.constants;
+    sent = ap (λ (s : Seat). (view_of s).sending.sent) turned.seat_old ∙ ap (λ (s : Sending). s.sent) knows.sending;
+    stop = ap (λ (s : Seat). (view_of s).sending.stop) turned.seat_old ∙ ap (λ (s : Sending). s.stop) knows.sending;
+    fine = turned.fine;
+  }
+
+  -- Once all seats are taken in, and the table is closed, all is known of the run.
+  pub HasTransferred-gathered : (key : Start) (table : LogTable) (jobs : Jobs) (wait : Bool) → KnowsHired key jobs.workers (view_of boss)
+      → (opened : List Rec) → IsOpened g disk tail opened jobs.first key
+      → AreDone table jobs wait served'.workers.items → length served'.workers.items ≡ jobs.workers
+      → AllByRecursion (HasReadStop (view_of served'.boss).sending.stop) (map view_in served'.workers.items)
+      → (view : View) → view ≡ takes_all (view_of served'.boss) (map view_in served'.workers.items)
+      → (lsn : ℕ) (rows : List (ℕ × ℕ)) → IsGathered lsn view → IsSettled (base_of key) view rows
+      → HasTransferred g h opened jobs (map share_of served'.workers.items) key turned.first turned.last view lsn rows
+  HasTransferred-gathered key table jobs wait knows opened log done count stops view is lsn rows gathered settled =
+      let others = map view_in served'.workers.items in
+      let taken = HasTaken-turned key jobs.workers knows in
+      let sending = ap (λ (v : View). v.sending) is ∙ takes_all-sending (view_of served'.boss) others in
+      let constants = ap (λ (v : View). v.constants) is ∙ takes_all-constants (view_of served'.boss) others in
+      let shares = HasGathered-all table jobs wait served'.workers.items done count (view_of served'.boss) taken.entries taken.jobs stops lsn
+      (subst (IsGathered lsn) is gathered) in
+      record {
+        log = subst (λ d. IsOpened g d turned.first.flusher.tail opened jobs.first key) (sym turned.disk_old)
+            (subst (λ t. IsOpened g disk t opened jobs.first key) (sym turned.tail_is) log);
+        fresh = IsFresh-turned key jobs.workers knows;
+        later = turned.later;
+        sending = sending ∙ ap (λ (s : Seat). (view_of s).sending) (sym turned.seat_is);
+        constants = constants ∙ ap (λ (s : Seat). (view_of s).constants) (sym turned.seat_is);
+        drained = λ fine. IsDrained-same view (view_of served'.boss) sending constants (turned.drained (sym turned.fault_is ∙ fine));
+        workers = subst (HasGathered jobs (map share_of served'.workers.items)) (sym is) shares;
+        gathered = gathered;
+        settled = settled;
+      }
+
+-- Once the seats of all workers are taken in, the table may be closed.
+pub MayClose-all : (table : LogTable) (jobs : Jobs) (wait : Bool) (key : Start) (workers : List Worker) → AreDone table jobs wait workers
+    → (view : View) → HasTaken key (length workers) view → MayClose (takes_all view (map view_in workers))
+MayClose-all table jobs wait key workers done view taken =
+    let all = takes_all view (map view_in workers) in
+    let merged = takes_all-merged table jobs wait 0 workers done view taken.merged in
+    let made = takes_all-made view (map view_in workers) ∙ taken.made in
+    let count : 0 + length workers ≡ length workers = omega arith in
+    record {
+      flusher = takes_all-role view (map view_in workers) ∙ taken.flusher;
+      all_merged = λ worker known. subst (λ l. list_any (eqb worker) l ≡ true) (made ∙ sym (merged ∙ ap hired_numbers count)) known;
+    }
+
+-- the shares are those of what the works came to
+pub ends-of_shares : (workers : List Worker) → map (λ (share : Share). share.worked) (map share_of workers) ≡ map worked_of workers
+ends-of_shares [] = refl
+ends-of_shares (worker ∷ workers) = ap (λ l. worked_of worker ∷ l) (ends-of_shares workers)

@@ -1,0 +1,22 @@
+use Rattle.std.proofs.Common.{◌≡◌, ◌+◌, ◌++◌, length, map, vec_len, vec_capacity}
+use Rattle.std.specs.List.{AllByRecursion}
+use Rattle.log_table.specs.declared.view.Role.TheVariants.{Flusher}
+use Rattle.log_table.specs.Seats.{IsOf, view_of}
+use Rattle.log_table.specs.Sound.{HasReadStop}
+use Rattle.cli_threads.specs.Gathering.{HasLeft, takes_all, view_in, worked_of}
+use Rattle.cli_threads.proofs.gathering.gather.Given as goal
+
+abbrev pub invariant-loop-worker : goal.invariant-loop-worker
+invariant-loop-worker l = record {
+  left : AllByRecursion (HasLeft l.table) l.worker-iterator.rest.items;
+  boss : IsOf l.table l.boss;
+  flusher : (view_of l.boss).standing.role ≡ Flusher;
+  sending : (view_of l.boss).sending ≡ (view_of l.initial.boss).sending;
+  view : takes_all (view_of l.boss) (map view_in l.worker-iterator.rest.items)
+      ≡ takes_all (view_of l.initial.boss) (map view_in l.initial.worker-iterator.rest.items);
+  stops : AllByRecursion (HasReadStop (view_of l.initial.boss).sending.stop) (map view_in l.worker-iterator.rest.items)
+      → AllByRecursion (HasReadStop (view_of l.initial.boss).sending.stop) (map view_in l.initial.worker-iterator.rest.items);
+  ends : l.ends.items ++ map worked_of l.worker-iterator.rest.items ≡ map worked_of l.initial.worker-iterator.rest.items;
+  all : vec_len l.ends + length l.worker-iterator.rest.items ≡ length l.initial.worker-iterator.rest.items;
+  room : vec_capacity l.ends ≡ vec_capacity l.initial.ends;
+}

@@ -1,0 +1,16 @@
+use Rattle.std.proofs.Common.{◌∙◌}
+use Rattle.commit_pipeline.proofs.RanLemmas.{Later-same, Later-trans}
+use Rattle.cli_threads.proofs.scope.fn.serve_all.scope.Goals as goal
+
+pub returns : goal.returns
+returns g c =
+    let starts = Later-trans g.D.LogDisk g.K.Sink _ _ _ c.start_all-started.ensures.later c.drain.ensures.later in
+    let joins = Later-trans g.D.LogDisk g.K.Sink _ _ _ starts c.join_all-workers.ensures.later in
+    let all = Later-trans g.D.LogDisk g.K.Sink _ _ _ joins c.drain-2.ensures.later in
+    record {
+      done = c.join_all-workers.ensures.done;
+      count = c.join_all-workers.ensures.count ∙ c.start_all-started.ensures.count;
+      drained = c.drain-2.ensures.drained;
+      later = all;
+      same = Later-same g.D.LogDisk g.K.Sink _ _ all;
+    }

@@ -1,0 +1,69 @@
+-- A run before the first worker has started.
+use Rattle.std.specs.Prelude.{◌≡◌, ℕ, ◌≤◌, Bool, [], None, All, vec_len, vec_capacity}
+use Rattle.log_disk.specs.declared.disk.LogDisk.{Ghosts}
+use Rattle.log_disk.specs.declared.sink.Sink.{Ghosts as SinkGhosts}
+use Rattle.segment_file.specs.declared.scan_result.Tail.{Tail}
+use Rattle.txn_script.specs.Script.{IsAllowedJob}
+use Rattle.log_table.specs.declared.table.LogTable.{LogTable}
+use Rattle.log_table.specs.declared.table.Seat.{Seat}
+use Rattle.log_table.specs.Seats.{view_of}
+use Rattle.log_table.specs.Sends.{IsDrained}
+use Rattle.commit_pipeline.specs.declared.daemon.Daemon.{Daemon}
+use Rattle.commit_pipeline.specs.declared.voice.Voice.{Voice}
+use Rattle.commit_pipeline.specs.Later.{Later}
+use Rattle.txn_runner.specs.declared.jobs.Jobs.{Jobs}
+use Rattle.cli_threads.specs.declared.transfers.Crew.{Crew}
+use Rattle.cli_threads.specs.declared.room.Room.{Room}
+use Rattle.cli_threads.specs.declared.transfers.Prepared.{Prepared}
+use Rattle.cli_threads.specs.declared.transfers.Served.{Served}
+use Rattle.cli_threads.specs.Workers.{AreDone, AreUnused, HasHired}
+
+-- there is room for so many workers
+pub record HasRoomFor (workers : ℕ) (room : Room) : Type 0 where
+  pub none : (room.started.items ≡ []) × (room.back.items ≡ []) × (room.ends.items ≡ [])
+  pub started : workers ≤ vec_capacity room.started
+  pub back : workers ≤ vec_capacity room.back
+  pub ends : workers ≤ vec_capacity room.ends
+
+-- All workers are enrolled, as the flusher's seat knows, and there is room for all that they and the daemon need.
+pub record IsCrew (table : LogTable) (jobs : Jobs) (crew : Crew) : Type 0 where
+  pub boss : HasHired table jobs.workers crew.boss
+  pub workers : AreUnused table jobs crew.workers.items
+  pub count : vec_len crew.workers ≡ jobs.workers
+  pub batch : table.ring ≤ crew.batch.room
+  pub room : HasRoomFor jobs.workers crew.room
+
+-- and the table allows the transfers, and each worker has its flag
+pub record IsPrepared (prepared : Prepared) : Type 0 where
+  pub flags : vec_len prepared.refused ≡ prepared.jobs.workers
+  pub allowed : All (IsAllowedJob prepared.table.accounts) prepared.jobs.script
+  pub crew : IsCrew prepared.table prepared.jobs prepared.crew
+
+-- each worker is done, and there is room for what their work came to
+pub record IsServed (table : LogTable) (jobs : Jobs) (wait : Bool) (served : Served) : Type 0 where
+  pub done : AreDone table jobs wait served.workers.items
+  pub count : vec_len served.workers ≡ jobs.workers
+  pub none : served.ends.items ≡ []
+  pub room : jobs.workers ≤ vec_capacity served.ends
+
+-- Turns led from a daemon over the one seat, disk and sink, which nothing had befallen, to one over the others; and the log was drained
+-- where nothing befell that.
+pub record HasTurned {D : Type 0} {K : Type 0} (g : Ghosts D) (h : SinkGhosts K) (tail : Tail) (voice : Voice) (seat : Seat) (disk disk_new : D)
+    (sink sink_new : K) (served : Served) : Type 0 where
+  pub first : Daemon D K
+  pub last : Daemon D K
+  pub later : Later g h first last
+  pub fine : first.fault ≡ None
+  pub speaks : first.voice ≡ voice
+  pub tail_is : first.flusher.tail ≡ tail
+  pub seat_old : first.flusher.seat ≡ seat
+  pub seat_is : last.flusher.seat ≡ served.boss
+  pub disk_old : first.flusher.disk.now ≡ disk
+  pub disk_is : last.flusher.disk.now ≡ disk_new
+  pub sink_old : first.sink.now ≡ sink
+  pub sink_is : last.sink.now ≡ sink_new
+  pub fault_is : last.fault ≡ served.fault
+  pub none_counted : (first.tally.done ≡ 0) × (first.tally.refused ≡ 0)
+  pub done_is : last.tally.done ≡ served.done
+  pub refused_is : last.tally.refused ≡ served.refused
+  pub drained : served.fault ≡ None → IsDrained (view_of served.boss)

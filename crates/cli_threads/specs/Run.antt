@@ -1,0 +1,74 @@
+-- What a run leaves on the disk and writes. `opened` is the list that was opened, `jobs` are the transfers of the script under their numbers,
+-- and `list` has the records that the run inserted. `g` is what a disk shows, and `old` and `new` are what is known of the output.
+use Rattle.std.specs.Prelude.{◌≡◌, ◌≢◌, ◌<◌, ◌≤◌, ℕ, ◌+◌, ◌*◌, true, List, [], ◌++◌, length, map, Option}
+use Rattle.std.specs.Io.KnownBytes.{Appends}
+use Rattle.log_disk.specs.Disk.{Leaves}
+use Rattle.log_disk.specs.Streams.{AppendsPrefix}
+use Rattle.log_disk.specs.declared.disk.LogDisk.{Ghosts}
+use Rattle.log_record.specs.declared.rec.Rec.{Rec}
+use Rattle.log_record.specs.declared.rec.Placed.{Placed}
+use Rattle.log_record.specs.LogList.{end_of}
+use Rattle.lock_core.specs.Alone.{PlainTransfer}
+use Rattle.lock_core.specs.History.{history}
+use Rattle.lock_core.specs.Serial.{IsSerial, IsPartlySerial}
+use Rattle.lock_core.specs.Soundness.{IsSoundAfter}
+use Rattle.lock_core.specs.Transactions.{own_records_of}
+use Rattle.log_recovery.specs.Recovery.{HoldsLawful}
+use Rattle.log_recovery.specs.Text.{accounts_text, rows_text}
+use Rattle.txn_script.specs.Transfers.{transfer_of}
+use Rattle.commit_pipeline.specs.declared.voice.Voice.{Voice}
+use Rattle.commit_pipeline.specs.EndLines.{text_of}
+use Rattle.txn_runner.specs.declared.jobs.Jobs.{Jobs}
+use Rattle.txn_runner.specs.Stripes.{number_at}
+use Rattle.cli_threads.specs.RunStops.{EndsAs}
+
+-- the transfers of the script
+abbrev pub transfers_of : Jobs → List PlainTransfer
+transfers_of jobs = map transfer_of jobs.script
+
+-- The transfers of each worker come one behind another: where one has a record, each before it in the worker's stripe has its end record.
+abbrev pub ComeInTurn : Jobs → List Placed → Type 0
+ComeInTurn jobs h = (worker i j : ℕ) → worker < jobs.workers → i < j → own_records_of (number_at jobs worker j) h ≢ [] → EndsAs jobs worker i h true
+
+-- the list goes on from the opened one as the script says: each transfer ran whole, or was cut short, each worker's in turn
+pub record GoesOn (opened : List Rec) (jobs : Jobs) (records : List Rec) : Type 0 where
+  pub sound : IsSoundAfter (history opened) (history records)
+  pub serial : IsPartlySerial (history opened) jobs.first (transfers_of jobs) (history records)
+  pub in_turn : ComeInTurn jobs (history records)
+
+-- the bytes hold the opened list and then a front of what the run inserted
+pub record HoldsRun (opened : List Rec) (jobs : Jobs) (list : List Rec) (bytes : List ℕ) : Type 0 where
+  pub front : List Rec
+  pub rest : List Rec
+  pub whole : list ≡ front ++ rest
+  pub holds : HoldsLawful bytes (opened ++ front)
+  pub goes_on : GoesOn opened jobs (opened ++ front)
+
+-- The bytes are such, and what was written is a prefix of the lines of their end records: so each commit that was told is in them. At most 4
+-- writes and syncs succeeded for each record, and 4 more in a flush that failed.
+pub record IsLeft {D : Type 0} (g : Ghosts D) (voice : Voice) (opened : List Rec) (jobs : Jobs) (list : List Rec) (before after : D)
+    (old new : Option (List ℕ)) (bytes : List ℕ) : Type 0 where
+  pub run : HoldsRun opened jobs list bytes
+  pub text : AppendsPrefix old new (text_of voice (end_of opened) run.front)
+  pub count : g.written_count after ≤ g.written_count before + 4 * length run.front + 4
+
+-- The list goes on from the opened one as the script says. At each moment an image holds the opened list and a front of it, so that of two
+-- such the one is a prefix of the other; and at the exit each image holds all that was told.
+pub record RunKeepsLog {D : Type 0} (g : Ghosts D) (voice : Voice) (opened : List Rec) (jobs : Jobs) (list : List Rec) (before after : D)
+    (old new : Option (List ℕ)) : Type 0 where
+  pub goes_on : GoesOn opened jobs (opened ++ list)
+  pub moments : g.honest before → Leaves g.moment g.images_since (HoldsRun opened jobs list) before after
+  pub left : g.honest before → (bytes : List ℕ) → g.images after bytes → IsLeft g voice opened jobs list before after old new bytes
+
+-- The log was drained: each image holds the whole list, whose lines are written, and the rows of the closed table are its accounts.
+pub record RunIsDrained {D : Type 0} (g : Ghosts D) (voice : Voice) (opened : List Rec) (jobs : Jobs) (list : List Rec) (before after : D)
+    (old new : Option (List ℕ)) (lsn : ℕ) (rows : List (ℕ × ℕ)) : Type 0 where
+  pub images : g.honest before → (bytes : List ℕ) → g.images after bytes → HoldsLawful bytes (opened ++ list)
+  pub text : Appends old new (text_of voice (end_of opened) list)
+  pub end : lsn ≡ end_of (opened ++ list)
+  pub accounts : rows_text lsn rows ≡ accounts_text (opened ++ list)
+  pub count : g.honest before → g.written_count after ≤ g.written_count before + 4 * length list
+
+-- each transfer of the script ran whole
+abbrev pub RunsWhole : List Rec → Jobs → List Rec → Type 0
+RunsWhole opened jobs list = IsSerial (history opened) jobs.first (transfers_of jobs) (history (opened ++ list))

@@ -1,0 +1,60 @@
+-- What a run goes on from, and what is known of it once all seats are gathered: from that follows all that a run promises.
+use Rattle.std.specs.Prelude.{◌≡◌, ℕ, ◌+◌, ◌*◌, ◌^◌, ◌<◌, ◌≤◌, List, [], None}
+use Rattle.std.specs.List.{AllByRecursion}
+use Rattle.log_disk.specs.declared.disk.LogDisk.{Ghosts}
+use Rattle.log_disk.specs.declared.sink.Sink.{Ghosts as SinkGhosts}
+use Rattle.log_record.specs.declared.rec.Rec.{Rec}
+use Rattle.log_record.specs.LogList.{units_of, end_of}
+use Rattle.log_record.specs.Spelling.{IsSpellable}
+use Rattle.lock_core.specs.History.{history}
+use Rattle.lock_core.specs.Lawful.{IsLawful, genesis_of}
+use Rattle.lock_core.specs.Sums.{ShowsAccounts, greatest_txn}
+use Rattle.segment_file.specs.Standing.{AllStand, IsShut}
+use Rattle.segment_file.specs.declared.scan_result.Tail.{Tail}
+use Rattle.log_table.specs.declared.table.Start.{Start}
+use Rattle.log_table.specs.declared.view.View.{View}
+use Rattle.log_table.specs.Closing.{IsGathered, IsSettled}
+use Rattle.log_table.specs.Seats.{view_of}
+use Rattle.log_table.specs.Sends.{IsDrained}
+use Rattle.log_table.specs.Sound.{base_of}
+use Rattle.log_table.specs.Views.{constants_of}
+use Rattle.flusher.specs.Flushing.{sent_of}
+use Rattle.commit_pipeline.specs.declared.daemon.Daemon.{Daemon}
+use Rattle.commit_pipeline.specs.Later.{Later}
+use Rattle.txn_runner.specs.declared.jobs.Jobs.{Jobs}
+use Rattle.cli_threads.specs.Shares.{Share, HasGathered}
+
+-- Each image stands at the tail with the opened list, which is lawful and has no transaction from the first number on. The table is made to
+-- start at its end, with its accounts.
+pub record IsOpened {D : Type 0} (g : Ghosts D) (disk : D) (tail : Tail) (opened : List Rec) (first : ℕ) (key : Start) : Type 0 where
+  pub spellable : AllByRecursion IsSpellable opened
+  pub lawful : IsLawful (history opened)
+  pub some_accounts : 0 < (genesis_of (history opened)).accounts
+  pub below : greatest_txn (history opened) < first
+  pub stand : g.honest disk → AllStand tail (units_of opened) (g.images disk)
+  pub shut : g.honest disk → IsShut tail.at (g.images disk)
+  pub next : tail.next ≡ end_of opened
+  pub place : tail.at ≤ 2 ^ 63 + 16 * tail.next
+  pub start : key.start ≡ end_of opened
+  pub accounts : ShowsAccounts key.accounts.rows (genesis_of (history opened)) (history opened)
+
+-- the daemon has sent nothing, and its seat is the first of a table that was made with this key
+pub record IsFresh {D : Type 0} {K : Type 0} (key : Start) (d : Daemon D K) : Type 0 where
+  pub constants : (view_of d.flusher.seat).constants ≡ constants_of key
+  pub sent : sent_of d.flusher ≡ []
+  pub stop : (view_of d.flusher.seat).sending.stop ≡ 0
+  pub fine : d.fault ≡ None
+
+-- The run went on from the opened log. Turns led from the one daemon to the other, whose seat then took in all workers' seats, which left it
+-- with this view. Then the table was closed, with this end of the log and these rows.
+pub record HasTransferred {D : Type 0} {K : Type 0} (g : Ghosts D) (h : SinkGhosts K) (opened : List Rec) (jobs : Jobs) (shares : List Share)
+    (key : Start) (old new : Daemon D K) (view : View) (lsn : ℕ) (rows : List (ℕ × ℕ)) : Type 0 where
+  pub log : IsOpened g old.flusher.disk.now old.flusher.tail opened jobs.first key
+  pub fresh : IsFresh key old
+  pub later : Later g h old new
+  pub sending : view.sending ≡ (view_of new.flusher.seat).sending
+  pub constants : view.constants ≡ (view_of new.flusher.seat).constants
+  pub drained : new.fault ≡ None → IsDrained view
+  pub workers : HasGathered jobs shares view
+  pub gathered : IsGathered lsn view
+  pub settled : IsSettled (base_of key) view rows

@@ -1,0 +1,75 @@
+//! The workers in their threads, and the daemon beside them.
+ghost use Rattle.std.specs.Prelude.{◌≡◌, ◌≤◌, [], None, true, vec_len, vec_capacity};
+ghost use Rattle.log_table.specs.Seats.{view_of};
+ghost use Rattle.log_table.specs.Sends.{IsDrained};
+ghost use Rattle.log_table.specs.Views.{knows_all_enrolled};
+ghost use Rattle.commit_pipeline.specs.Later.{Later};
+ghost use Rattle.commit_pipeline.specs.Turning.{IsSameDaemon, MayTurn};
+ghost use Rattle.cli_threads.specs.Workers.{AreDone, AreUnused};
+
+use crate::flushing_relief::FlushingRelief;
+use crate::serving::{Run, Started};
+use crate::workers::Worker;
+use commit_pipeline::Daemon;
+use log_disk::{Gate, LogDisk, Sink};
+use std::sync::Wait;
+use std::thread;
+use std::thread::Threads;
+
+/// Turns until the log is drained, where nothing befell the daemon yet.
+fn drain<'a, R: Wait, D: LogDisk, K: Sink>(rt: &R, daemon: &mut Daemon<'a, D, K>)
+    requires ready { daemon.old.fault ≡ None → MayTurn D.LogDisk daemon.old }
+    requires told { knows_all_enrolled (view_of daemon.old.flusher.seat).standing ≡ true }
+    ensures ready { daemon.new.fault ≡ None → MayTurn D.LogDisk daemon.new }
+    ensures drained { daemon.new.fault ≡ None → IsDrained (view_of daemon.new.flusher.seat) }
+    ensures later { Later D.LogDisk K.Sink daemon.old daemon.new }
+{
+    if daemon.fault().is_none() {
+        let _ = daemon.run_until_drained(rt);
+    }
+}
+
+/// Starts all workers, and is the daemon until all of them have served.
+pub(crate) fn serve_all<'a, R: Threads + Wait + Sync, D: LogDisk, K: Sink, G: Gate + Sync>(
+    run: Run<'a, R, G>,
+    workers: Vec<Worker>,
+    started: Vec<Started>,
+    back: Vec<Worker>,
+    relief: FlushingRelief<'a, D, K>,
+) -> (FlushingRelief<'a, D, K>, Vec<Worker>)
+    requires workers { AreUnused run.table.now run.jobs.now workers.items }
+    requires none { (started.items ≡ []) × (back.items ≡ []) }
+    requires room { (vec_len workers ≤ vec_capacity started) × (vec_len workers ≤ vec_capacity back) }
+    requires ready { relief.daemon.fault ≡ None → MayTurn D.LogDisk relief.daemon }
+    requires told { knows_all_enrolled (view_of relief.daemon.flusher.seat).standing ≡ true }
+    ensures done { AreDone run.entry.table.now run.entry.jobs.now run.entry.wait result.1.items }
+    ensures count { vec_len result.1 ≡ vec_len workers }
+    ensures drained { result.0.daemon.fault ≡ None → IsDrained (view_of result.0.daemon.flusher.seat) }
+    ensures later { Later D.LogDisk K.Sink relief.entry.daemon result.0.daemon }
+    ensures same { IsSameDaemon D.LogDisk K.Sink relief.entry.daemon result.0.daemon }
+{
+    thread::scope(
+        thread::scope_env(),
+        run.rt,
+        move |scope| -> (FlushingRelief<D, K>, Vec<Worker>)
+            requires workers { AreUnused run.table.now run.jobs.now workers.items }
+            requires none { (started.items ≡ []) × (back.items ≡ []) }
+            requires room { (vec_len workers ≤ vec_capacity started) × (vec_len workers ≤ vec_capacity back) }
+            requires ready { relief.daemon.fault ≡ None → MayTurn D.LogDisk relief.daemon }
+            requires told { knows_all_enrolled (view_of relief.daemon.flusher.seat).standing ≡ true }
+            ensures done { AreDone run.entry.table.now run.entry.jobs.now run.entry.wait result.1.items }
+            ensures count { vec_len result.1 ≡ vec_len workers }
+            ensures drained { result.0.daemon.fault ≡ None → IsDrained (view_of result.0.daemon.flusher.seat) }
+            ensures later { Later D.LogDisk K.Sink relief.entry.daemon result.0.daemon }
+            ensures same { IsSameDaemon D.LogDisk K.Sink relief.entry.daemon result.0.daemon }
+        {
+            let mut relief = relief;
+            let started = run.start_all(scope, workers, started, &mut relief);
+            drain(run.rt, &mut relief.daemon);
+            let workers = run.join_all(started, back, &mut relief);
+            // A worker that came back as it was hired was served here, and what it released is to be sent as well.
+            drain(run.rt, &mut relief.daemon);
+            (relief, workers)
+        },
+    )
+}
