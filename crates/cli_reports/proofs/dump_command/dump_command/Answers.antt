@@ -23,3 +23,21 @@ pub returns-in-Err-clause-range : goal.returns-in-Err-clause-range
 returns-in-Err-clause-range g c =
     let fault = rw c.as_slice.ensures.value at c.in-Err.ensures.fault in
     rw c.detail_of.ensures (range_dump-fault _ c.in-Err.fault fault)
+
+pub returns-in-Ok-put_dump-clause-silent : goal.returns-in-Ok-put_dump-clause-silent
+returns-in-Ok-put_dump-clause-silent g c = tt
+
+pub returns-in-Ok-put_dump-clause-range : goal.returns-in-Ok-put_dump-clause-range
+returns-in-Ok-put_dump-clause-range g c = tt
+
+pub returns-in-Ok-put_dump-clause-read : goal.returns-in-Ok-put_dump-clause-read
+returns-in-Ok-put_dump-clause-read g c = λ is. cc
+
+pub returns-in-Ok-put_dump-clause-write : goal.returns-in-Ok-put_dump-clause-write
+returns-in-Ok-put_dump-clause-write g c = λ is. cc
+
+pub returns-clause-silent : goal.returns-clause-silent
+returns-clause-silent g c = tt
+
+pub returns-clause-read : goal.returns-clause-read
+returns-clause-read g c = λ is. cc

@@ -4,7 +4,7 @@ use Rattle.log_table.specs.declared.view.Books.{Books}
 use Rattle.log_table.specs.declared.view.TakenJob.{TakenJob}
 use Rattle.log_table.specs.Seats.{view_of}
 use Rattle.txn_runner.specs.declared.cause.Cause.TheVariants.{Stop}
-use Rattle.txn_runner.specs.Holdings.{given_behind}
+use Rattle.txn_runner.specs.Holdings.{given_behind, GoesBack}
 use Rattle.txn_runner.proofs.Composing.{accounts-known, holds-job, still-known, gave-back, still-held, took, still-taken, keeps-held, keeps-then, has-inserted, still-stops, uncommitted-at, has-cut, has-stopped, cut-early, has-run}
 use Rattle.txn_runner.proofs.Held.{given-held}
 use Rattle.txn_runner.proofs.GivenLemmas.{given-same, given-trans}
@@ -79,6 +79,12 @@ give_all-requires-2-clause-known g c =
     still-known _ _ _ _ _ _ _ _ c.as_slice.ensures.value list.rising list.only c.requires.may.allowed c.in_ok-holdings.ensures.taken
     _ c.in-Ok.ensures.taken
 
+pub give_all-requires-2-clause-values : goal.give_all-requires-2-clause-values
+give_all-requires-2-clause-values g c =
+    let paid = c.insert_transfer.new.holdings.items in
+    subst (λ books. All (GoesBack c.release.result books) paid) (sym c.see_durable-seen.ensures.kept.books_are)
+    (subst (λ release. All (GoesBack release (view_of c.insert_transfer.new.seat).books) paid) (sym c.release.ensures) c.in-Ok.ensures.ended.back)
+
 pub returns-in_err-seen-clause-cut : goal.returns-in_err-seen-clause-cut
 returns-in_err-seen-clause-cut g c =
     let failed = err_from_is_err_and c.from_residual-in_err-seen.result c.from_residual-in_err-seen.ensures.1 in
@@ -137,3 +143,11 @@ returns-clause-given g c = given-trans _ _ _
     (given-same _ _ (ap (λ (books : Books). books.given) (c.see_durable-seen.ensures.kept.books_are ∙ c.in-Ok.ensures.ended.adds.entries.books_are)
     ∙ ap (λ (books : Books). books.given) c.in_ok-holdings.ensures.taken.entries.books_are ∙ ap (λ m. m.0.books.given) c.take_job-word.ensures.view.me))
     (given-held _ _ _ _ c.give_all-2.ensures)
+
+pub returns-in_err-seen-clause-later : goal.returns-in_err-seen-clause-later
+returns-in_err-seen-clause-later g c = g.met.Q.Relief.later_trans _ _ _ c.in_ok-holdings.ensures.later
+    (g.met.Q.Relief.later_trans _ _ _ c.in-Ok.ensures.later c.in_err-seen.ensures.later)
+
+pub returns-clause-later : goal.returns-clause-later
+returns-clause-later g c = g.met.Q.Relief.later_trans _ _ _ c.in_ok-holdings.ensures.later
+    (g.met.Q.Relief.later_trans _ _ _ c.in-Ok.ensures.later c.in_ok-seen.ensures.later)

@@ -11,6 +11,9 @@ use Rattle.txn_runner.proofs.Finishing.{enters-last, ends-transfer}
 use Rattle.txn_runner.proofs.Passing.{holds-behind}
 use Rattle.txn_runner.proofs.transfer.insert_transfer.Goals as goal
 
+pub insert_note-requires-clause-job : goal.insert_note-requires-clause-job
+insert_note-requires-clause-job g c = c.requires.job.last
+
 pub make_legs-requires-clause-job : goal.make_legs-requires-clause-job
 make_legs-requires-clause-job g c =
     let noted = c.in_ok-insert_note.ensures.noted in

@@ -75,3 +75,6 @@ returns-in-Err-clause-works g c = (stopped g c).works
 
 pub returns-in-Err-clause-rows : goal.returns-in-Err-clause-rows
 returns-in-Err-clause-rows g c = (stopped g c).adds
+
+pub returns-in-Err-clause-later : goal.returns-in-Err-clause-later
+returns-in-Err-clause-later g c = g.met.Q.Relief.later_trans _ _ _ c.stripe.invariant.later c.in-Err.ensures.later

@@ -1,0 +1,4 @@
+use Rattle.txn_runner.proofs.inserting.may_come.Goals as goal
+
+pub returns-in-LogEnd : goal.returns-in-LogEnd
+returns-in-LogEnd c = c.in-LogEnd.is
