@@ -1,10 +1,8 @@
 //! A worker alone waits for nobody.
-ghost use Rattle.std.specs.Prelude.{◌≡◌, ◌<◌, false, All, IfOk};
+ghost use Rattle.std.specs.Prelude.{◌≡◌, ◌<◌, All, IfOk};
 ghost use Rattle.lock_core.specs.Transfers.{IsAllowedJob};
 ghost use Rattle.log_table.specs.declared.view.Role.TheVariants.{Ended};
 ghost use Rattle.log_table.specs.Seats.{IsOf, view_of};
-ghost use Rattle.txn_runner.specs.Stripes.{HasStripe, stripe_jobs};
-ghost use Rattle.txn_runner.specs.Working.{Works, taken_in};
 ghost use Rattle.test_rig.specs.NotedJobs.{IsNew};
 
 use schedule_hook::OpenGate;
@@ -51,9 +49,6 @@ pub(crate) fn work_alone<R: Wait + Abort>(
     ensures seat { IfOk result (λ came. IsOf table.now came.2) }
     ensures ended { IfOk result (λ came. (view_of came.2).standing.role ≡ Ended) }
     ensures number { IfOk result (λ came. (view_of came.2).standing.worker ≡ seat.worker) }
-    ensures jobs { IfOk result (λ came. (view_of came.2).books.jobs ≡ stripe_jobs jobs.now seat.worker (taken_in came.1)) }
-    ensures stripe { IfOk result (λ came. HasStripe jobs.now seat.worker (taken_in came.1)) }
-    ensures works { IfOk result (λ came. Works jobs.now seat.worker 0 (taken_in came.1) false came.0 (view_of came.2)) }
 {
     let mut relief = NeverRests { rt };
     let (worked, rows) = work_stripe(

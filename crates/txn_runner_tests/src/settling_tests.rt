@@ -3,9 +3,11 @@ ghost use Rattle.std.specs.Prelude.{◌≡◌, [], ◌∷◌, None, IfOk, IfSome
 ghost use Rattle.lock_core.specs.Transfers.{IsAllowedJob};
 ghost use Rattle.txn_runner_tests.specs.Settled.{SettlesOne};
 
-use crate::alone::work_alone;
+use crate::alone::NeverRests;
+use schedule_hook::OpenGate;
 use log_table::Closed;
 use lsn_space::{Lsn, NoMemory};
+use run_rig::work_stripe;
 use std::alloc::Global;
 use std::process::Abort;
 use std::sync::Wait;
@@ -32,10 +34,22 @@ fn settle_one<R: Wait + Abort>(rt: &R, alloc: Global) -> Result<Closed, NoMemory
     ensures { IfOk result (SettlesOne 4 ((100, 0) ∷ (0, 0) ∷ []) 1 (record { legs = (0, 1, 30) ∷ []; note = None })) }
 {
     let (table, mut boss) = table_of(alloc, (100, 0), 4)?;
-    let seat = worker(&table, &mut boss, 0, 1);
+    let mut seat = worker(&table, &mut boss, 0, 1);
     let jobs = one_job(rt, alloc)?;
-    let (_, _, seat) = work_alone(rt, alloc, &table, seat, &jobs)?;
+    let mut relief = NeverRests { rt };
+    let came = work_stripe(
+        rt,
+        alloc,
+        &table,
+        &mut seat,
+        &jobs,
+        &mut relief,
+        false,
+        &OpenGate,
+    )?;
+    table.leave(&mut seat);
     table.merge(&mut boss, seat);
+    let (_worked, _rows) = came;
     Ok(table.close(boss))
 }
 
