@@ -81,6 +81,7 @@ pub struct Report {
 }
 
 impl Report {
+    /// The report of an answer, with its status.
     pub fn of(detail: Detail) -> Report
         ensures status { result.status ≡ status_of detail }
         ensures detail { result.detail ≡ detail }

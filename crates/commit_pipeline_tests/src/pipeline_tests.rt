@@ -8,6 +8,7 @@ ghost use Rattle.commit_pipeline.specs.Turning.{MayTurn};
 ghost use Rattle.test_rig.specs.NotedJobs.{IsNotedJob, IsNew, MayInsert};
 
 use commit_pipeline::{Daemon, DaemonFault, Voice};
+use lock_core::Job;
 use log_disk::{FileDisk, LogDisk, MemoryDisk, MemorySink, OpenGate};
 use log_table::{LogTable, Seat};
 use lsn_space::{Lsn, Word};
@@ -19,7 +20,6 @@ use std::test::Fail;
 use std::thread::{Threads, join};
 use test_rig::{insert_all, noted_job, table_of, worker};
 use txn_runner::{Jobs, YieldRelief};
-use lock_core::Job;
 
 /// What account 0 begins with; account 1 begins with nothing.
 const RICH: u32 = 100_000;

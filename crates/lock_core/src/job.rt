@@ -22,6 +22,7 @@ impl Model for Legs {
 }
 
 impl Legs {
+    /// No legs yet.
     pub fn new() -> Legs
         ensures { result ≡ [] }
     {
@@ -54,6 +55,7 @@ impl Legs {
         Legs { legs }
     }
 
+    /// The legs, in their order.
     pub fn as_slice(&self) -> &[(u32, u32, u32)]
         ensures legs { result.now ≡ self.now }
         ensures few { length self.now ≤ MOST_LEGS }
@@ -102,6 +104,7 @@ impl Remark {
         }
     }
 
+    /// Its bytes.
     pub fn as_slice(&self) -> &[u8]
         ensures bytes { result.now ≡ self.now }
         ensures note { IsNoteText self.now }

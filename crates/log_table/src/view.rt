@@ -1,8 +1,8 @@
 //! What a seat knows of the table and has done in it. These types stand in contracts alone: no value
 //! of them is ever made, so their numbers have no bound and their lists take no memory.
+use lock_core::Job;
 use log_record::Rec;
 use std::collections::LinkedList;
-use lock_core::Job;
 
 /// A record for which one seat reserved a run of units: from `start` on, `size` of them, of which
 /// `units` are copied into the ring so far.

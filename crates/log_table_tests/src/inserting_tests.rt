@@ -5,17 +5,17 @@ ghost use Rattle.log_table.specs.declared.view.Role.TheVariants.{Ended};
 ghost use Rattle.log_table.specs.Seats.{IsOf, view_of};
 ghost use Rattle.test_rig.specs.NotedJobs.{IsNotedJob, MayInsert};
 
-use schedule_hook::{Gate, OpenGate, Place};
+use lock_core::Job;
 use log_table::{LogTable, Seat};
 use lsn_space::{LAST, Lsn, NoMemory};
 use ring_buffer::Refused;
+use schedule_hook::{Gate, OpenGate, Place};
 use std::alloc::Global;
 use std::sync::Wait;
 use std::sync::atomic::{AtomicBool, AtomicU32, Ordering};
 use std::test::Fail;
 use std::thread::{Threads, join, yield_now};
 use test_rig::{insert_all, insert_note, noted_job, table_of, worker};
-use lock_core::Job;
 
 /// How often a held thread looks for the other before it gives up.
 const MOST_TURNS: u32 = 1_000_000;

@@ -1,6 +1,6 @@
 //! What a worker inserted is read and sent by the flusher's seat, on one thread.
-use schedule_hook::OpenGate;
 use lsn_space::Lsn;
+use schedule_hook::OpenGate;
 use std::test::Fail;
 use test_rig::{insert_note, noted_job, send_all, table_of, worker};
 

@@ -7,9 +7,9 @@ ghost use Rattle.txn_runner.specs.Stripes.{HasStripe, stripe_jobs};
 ghost use Rattle.txn_runner.specs.Working.{Works, taken_in};
 ghost use Rattle.test_rig.specs.NotedJobs.{IsNew};
 
-use schedule_hook::Gate;
 use log_table::{LogTable, Seat};
 use lsn_space::NoMemory;
+use schedule_hook::Gate;
 use std::alloc::Global;
 use std::sync::Wait;
 use test_rig::job_of;

@@ -1,3 +1,5 @@
+//! The hook, and the places at which a worker passes it.
+
 /// Where a worker has come to.
 #[derive(Clone, Copy, Debug, PartialEq, Eq)]
 pub enum Place {

@@ -5,13 +5,13 @@ ghost use Rattle.log_record.specs.Spelling.{spelling, IsTxn};
 ghost use Rattle.log_table.specs.Seats.{view_of};
 ghost use Rattle.test_rig.specs.NotedJobs.{IsNotedJob, MayInsert};
 
-use schedule_hook::{Gate, OpenGate};
+use lock_core::{Job, Legs, Remark};
 use log_record::{Rec, Text, Units, spell};
 use log_table::{LogTable, Seat};
 use lsn_space::Lsn;
 use ring_buffer::{Refused, insert_alone};
+use schedule_hook::{Gate, OpenGate};
 use std::sync::Wait;
-use lock_core::{Job, Legs, Remark};
 
 /// A job of one leg between the two accounts, with this note.
 pub fn noted_job(note: &[u8]) -> Option<Job>

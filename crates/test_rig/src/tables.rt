@@ -7,10 +7,10 @@ ghost use Rattle.log_table.specs.Hiring.{HasHired};
 ghost use Rattle.log_table.specs.Seats.{view_of, key_of};
 ghost use Rattle.test_rig.specs.NotedJobs.{IsNew, MayInsert};
 
+use lock_core::{Job, Legs};
 use log_table::{LogTable, Seat, Start};
 use lsn_space::{Balances, Lsn, NoMemory};
 use std::alloc::Global;
-use lock_core::{Job, Legs};
 
 /// A table of two accounts with these balances, over a log that ends here, and the flusher's seat. The
 /// ring has 1024 units.

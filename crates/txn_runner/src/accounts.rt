@@ -6,8 +6,8 @@ ghost use Rattle.txn_runner.specs.declared.accounts.TheConstants.{MOST_PARTIES};
 ghost use Rattle.txn_runner.specs.Accounts.{HasAccountsOf, IsAccountOf, AddsAccount};
 
 use arrayvec::ArrayVec;
-use log_record::MOST_LEGS;
 use lock_core::Job;
+use log_record::MOST_LEGS;
 
 /// The most accounts of a transfer: two for each leg.
 pub const MOST_PARTIES: usize = 2 * MOST_LEGS as usize;

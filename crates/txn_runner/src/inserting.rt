@@ -9,11 +9,11 @@ ghost use Rattle.txn_runner.specs.Inserts.{Puts, StopsFor, IsLogEnd};
 use crate::cause::Cause;
 use crate::relief::Relief;
 use crate::waiting::pause;
-use schedule_hook::Gate;
 use log_record::{Rec, Units, spell_into};
 use log_table::{LogTable, Seat};
 use lsn_space::Lsn;
 use ring_buffer::{Refused, insert_alone};
+use schedule_hook::Gate;
 use std::sync::Wait;
 
 /// Inserts the record, which is the next of the seat's last job, and answers where it ends. While the ring is full it waits.

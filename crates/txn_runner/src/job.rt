@@ -15,10 +15,10 @@ use crate::rows::Row;
 use crate::taking::take_all;
 use crate::transfer::insert_transfer;
 use crate::waiting::see_durable;
-use schedule_hook::{Gate, Place};
-use log_table::{LogTable, Seat};
-use std::sync::Wait;
 use lock_core::Job;
+use log_table::{LogTable, Seat};
+use schedule_hook::{Gate, Place};
+use std::sync::Wait;
 
 /// Makes the transfer under this transaction number, and answers its row.
 pub(crate) fn run_job<R: Wait, Q: Relief, G: Gate>(

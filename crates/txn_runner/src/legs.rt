@@ -14,12 +14,12 @@ use crate::holding::Holding;
 use crate::inserting::insert_record;
 use crate::relief::Relief;
 use crate::rows::Answer;
-use schedule_hook::Gate;
+use lock_core::Job;
 use log_record::{MOST_BALANCE, Rec};
 use log_table::{LogTable, Seat};
 use lsn_space::Lsn;
+use schedule_hook::Gate;
 use std::sync::Wait;
-use lock_core::Job;
 
 /// Makes the legs, each on the balances as those before it left them, up to the first that can't be made. Answers how the
 /// transfer ends.

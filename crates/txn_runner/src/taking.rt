@@ -19,8 +19,8 @@ use crate::relief::Relief;
 use crate::waiting::pause;
 use arrayvec::ArrayVec;
 use early_locks::{Taken, try_take};
-use schedule_hook::{Gate, Place};
 use log_table::{LogTable, Seat};
+use schedule_hook::{Gate, Place};
 use std::sync::Wait;
 
 /// Takes the accounts, which ascend, one after another, each once no other worker holds it. After an Err none is held.

@@ -19,12 +19,12 @@ use crate::legs::make_legs;
 use crate::relief::Relief;
 use crate::rows::Answer;
 use arrayvec::ArrayVec;
-use schedule_hook::Gate;
+use lock_core::{Job, Remark};
 use log_record::{Rec, Text};
 use log_table::{LogTable, Seat};
 use lsn_space::Lsn;
+use schedule_hook::Gate;
 use std::sync::Wait;
-use lock_core::{Job, Remark};
 
 /// How a transfer ended, and where its end record does.
 #[derive(Clone, Copy, Debug)]

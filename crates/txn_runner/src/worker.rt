@@ -11,10 +11,10 @@ use crate::job::run_job;
 use crate::jobs::Jobs;
 use crate::relief::Relief;
 use crate::rows::Rows;
-use schedule_hook::Gate;
-use log_table::{LogTable, Seat};
-use std::sync::Wait;
 use lock_core::Job;
+use log_table::{LogTable, Seat};
+use schedule_hook::Gate;
+use std::sync::Wait;
 
 /// Makes the transfers of the worker's stripe, as many as are left, and for each that ended there is a row, but for the
 /// last one where the worker waits and the log stops before it saw that end durable. It waits: for accounts that others hold,

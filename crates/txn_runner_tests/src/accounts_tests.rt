@@ -1,7 +1,7 @@
 //! The order in which a transfer takes its accounts.
+use lock_core::{Job, Legs};
 use log_record::MOST_LEGS;
 use txn_runner::accounts_of;
-use lock_core::{Job, Legs};
 
 #[test]
 fn each_account_stands_once_and_in_order(rt: HostRuntime) {

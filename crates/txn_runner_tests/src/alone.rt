@@ -5,15 +5,16 @@ ghost use Rattle.log_table.specs.declared.view.Role.TheVariants.{Ended};
 ghost use Rattle.log_table.specs.Seats.{IsOf, view_of};
 ghost use Rattle.test_rig.specs.NotedJobs.{IsNew};
 
-use schedule_hook::OpenGate;
 use log_table::{LogTable, Seat};
 use lsn_space::NoMemory;
 use run_rig::work_stripe;
+use schedule_hook::OpenGate;
 use std::alloc::Global;
 use std::process::Abort;
 use std::sync::Wait;
 use txn_runner::{Jobs, Relief, Rows, Worked};
 
+/// The relief of a worker that has nobody to wait for: a rest ends the test.
 #[derive(Drop)]
 pub(crate) struct NeverRests<'a, R> {
     pub rt: &'a R,

@@ -5,10 +5,10 @@ ghost use Rattle.log_table.specs.May.{IsAtRest, HasBegunNothing};
 ghost use Rattle.log_table.specs.Seats.{IsOf, view_of};
 
 use crate::alone::{NeverRests, work_alone};
-use schedule_hook::OpenGate;
 use log_table::{LogTable, Seat};
 use lsn_space::{LAST, Lsn};
 use run_rig::{jobs_of, work_stripe};
+use schedule_hook::OpenGate;
 use std::alloc::Global;
 use std::process::Abort;
 use std::test::Fail;

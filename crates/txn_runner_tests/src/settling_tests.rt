@@ -4,10 +4,10 @@ ghost use Rattle.lock_core.specs.Transfers.{IsAllowedJob};
 ghost use Rattle.txn_runner_tests.specs.Settled.{SettlesOne};
 
 use crate::alone::NeverRests;
-use schedule_hook::OpenGate;
 use log_table::Closed;
 use lsn_space::{Lsn, NoMemory};
 use run_rig::work_stripe;
+use schedule_hook::OpenGate;
 use std::alloc::Global;
 use std::process::Abort;
 use std::sync::Wait;

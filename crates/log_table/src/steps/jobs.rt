@@ -9,8 +9,8 @@ ghost use Rattle.log_table.specs.AccountViews.{took_job};
 use crate::layout::STOP;
 use crate::plays::{TakeJob, Task};
 use crate::table::{LogTable, Seat};
-use std::marker::Brand;
 use lock_core::Job;
+use std::marker::Brand;
 
 /// The job and its number, which a step can't see, come by the type.
 fn take_job_as<N: Task>(table: &LogTable, seat: &mut Seat, number: u32, job: &Job) -> u64
