@@ -60,7 +60,9 @@ fn work_and_flush<R: Wait, D: LogDisk>(
 ) -> Option<Outcome>
     requires { D.honest disk.old → IsStableGate 0 (D.images disk.old) }
 {
-    let (table, mut boss) = table_of(alloc, (100, 0), 4).ok()?;
+    let Ok((table, mut boss)) = table_of(alloc, (100, 0), 4) else {
+        return None;
+    };
     let jobs = jobs_of(rt, alloc, b"pay 0 1 30\npay 1 0 30\n", 1)?;
     let mut seat = worker(&table, &mut boss, 0, 1);
     let looker = table.note(&mut seat);
@@ -71,7 +73,7 @@ fn work_and_flush<R: Wait, D: LogDisk>(
         seat: looker,
         held: true,
     };
-    let (worked, rows) = work_stripe(
+    let came = work_stripe(
         rt,
         alloc,
         &table,
@@ -80,8 +82,10 @@ fn work_and_flush<R: Wait, D: LogDisk>(
         &mut relief,
         true,
         &OpenGate,
-    )
-    .ok()?;
+    );
+    let Ok((worked, rows)) = came else {
+        return None;
+    };
     table.leave(&mut seat);
     let fault = relief.flushing.daemon.fault();
     Some((worked, rows, fault, relief.held))
