@@ -11,10 +11,10 @@ use crate::filling::fill;
 use crate::placing::{look, try_place};
 use crate::refused::Refused;
 use crate::releasing::finish_in_turn;
-use schedule_hook::{Gate, Place};
 use log_record::Units;
 use log_table::{LogTable, Seat};
 use lsn_space::Lsn;
+use schedule_hook::{Gate, Place};
 use std::sync::Wait;
 
 /// Inserts the next record of the seat's last job, which has these units, behind what other workers
