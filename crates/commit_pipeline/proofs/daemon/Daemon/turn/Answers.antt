@@ -50,4 +50,4 @@ returns-in-Err-clause-later g c =
     inr (Ran-unwritten g.D.LogDisk g.K.Sink c.args.self.now c.stop-in-Err.new.self c.requires.ready lost (search rules))
 
 pub returns-in_default-flushed-clause-turned : goal.returns-in_default-flushed-clause-turned
-returns-in_default-flushed-clause-turned g c = record { flush = search rules steps 1200000; rest = refl }
+returns-in_default-flushed-clause-turned g c = record { flush = search rules steps 3600000; rest = refl }
