@@ -48,3 +48,6 @@ returns-in-Err-clause-later g c =
     c.in-To.from c.in-To.to sends c.in-Err.ensures.front c.in-Err.ensures.cause.failed c.stop-in-Err.ensures.stops c.stop-in-Err.ensures.rest
     c.in-Ok.ensures.cause.fine in
     inr (Ran-unwritten g.D.LogDisk g.K.Sink c.args.self.now c.stop-in-Err.new.self c.requires.ready lost (search rules))
+
+pub returns-in_default-flushed-clause-turned : goal.returns-in_default-flushed-clause-turned
+returns-in_default-flushed-clause-turned g c = record { flush = search rules steps 3600000; rest = refl }

@@ -91,3 +91,6 @@ returns-then-eq-clause-flushed g c = record { durable = search rules steps 12000
 pub returns-then-eq-clause-ready : goal.returns-then-eq-clause-ready
 returns-then-eq-clause-ready g c =
     MayFlush-step g.D.LogDisk c.args.self.now c.load_exposed-to.new.seat _ c.requires.ready c.load_exposed-to.ensures.view refl refl refl refl (seen-newer _ _)
+
+pub returns-in_err-self-clause-cause : goal.returns-in_err-self-clause-cause
+returns-in_err-self-clause-cause g c = search rules steps 1200000
