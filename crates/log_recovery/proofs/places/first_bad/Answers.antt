@@ -1,4 +1,5 @@
-use Rattle.std.proofs.Common.{◌∙◌, ap, drop, refl, []}
+use Rattle.std.proofs.Common.{◌∙◌, ap, arith, drop, refl, []}
+use Rattle.std.proofs.lemmas.Grind.{common_steps}
 use Rattle.log_recovery.proofs.UnitsLemmas.{front-next}
 use Rattle.log_recovery.proofs.places.first_bad.Goals as goal
 
@@ -11,3 +12,6 @@ records-preserved c =
 
 pub records-init : goal.records-init
 records-init c = record { units = c.requires.front; front = record { records = []; each = tt; whole = refl } }
+
+pub returns-clause-none : goal.returns-clause-none
+returns-clause-none c = grind (arith, common_steps) steps 300000

@@ -47,3 +47,17 @@ returns-clause-read c =
     let count : length c.lines.balances.rows ≡ length before.read = ap length before.rows ∙ length-map before.read _ in
     let whole = before.text ∙ ap (λ rest. map number_text before.read ++ rest) c.in_default.ensures.none ∙ append-nil (map number_text before.read) in
     (before.read, record { some = omega (arith, count); most = before.most; each = before.each; text = whole }, before.rows)
+
+pub returns-then-count-eq0-clause-fault : goal.returns-then-count-eq0-clause-fault
+returns-then-count-eq0-clause-fault c =
+    let before = c.lines.invariant in
+    let count : length c.lines.balances.rows ≡ length before.read = ap length before.rows ∙ length-map before.read _ in
+    record {
+      before = before.read;
+      most = before.most;
+      each = before.each;
+      rest = [];
+      text = before.text ∙ ap (λ rest. map number_text before.read ++ rest) c.in_default.ensures.none;
+      at = omega (arith, count);
+      outside = omega (arith, count);
+    }

@@ -1,4 +1,4 @@
-use Rattle.std.proofs.Common.{◌≡◌, ◌∙◌, sym, ap, inl, inr, ◌++◌, ◌∷◌, [], length-append, arith}
+use Rattle.std.proofs.Common.{rules, ◌≡◌, ◌∙◌, sym, ap, inl, inr, ◌++◌, ◌∷◌, [], length-append, arith}
 use Rattle.std.proofs.lemmas.Bool.{eqb-true}
 use Rattle.std.proofs.lemmas.List.{nil_from_length}
 use Rattle.std.proofs.lemmas.List.Elements.{All-push}
@@ -45,3 +45,6 @@ returns-in_default-read_job-clause-fault c =
     let bad = bad_line-first c.args.accounts c.args.bytes.now before.before c.in-Some.line.now (lines c.in-Some.after.now) before.each text
     c.if-not-is_empty.ensures c.in_default-read_job.ensures.none in
     rw (before.number) bad
+
+pub returns-clause-read : goal.returns-clause-read
+returns-clause-read c = search rules steps 900000

@@ -12,6 +12,13 @@ pub returns-then-count-eq0 : goal.returns-then-count-eq0
 returns-then-count-eq0 c = λ end h kept. let counted = c.count.ensures in
     fails-first c.args.self.now h kept (record { end = end; rec = Update c.args.txn c.args.change.account c.args.change.delta c.args.change.prev }) (λ never. never) (omega arith)
 
+pub returns-in_default : goal.returns-in_default
+returns-in_default c = λ end h kept. let counted = c.count.ensures in let same = kept.judged.rows.count in
+    record {
+      passes = (some-taken c.args.self.now h kept (λ none. omega arith), (omega arith, tt));
+      fails = λ unended. true≢false (sym (c.in_default.ensures.ended h kept.transactions) ∙ unended);
+    }
+
 pub returns-then-newest : goal.returns-then-newest
 returns-then-newest c = λ end h kept. let counted = c.count.ensures in let again = c.count-2.ensures in let place = c.in-Some.ensures.unended h kept.transactions in
     let links = c.args.self.now.txns.updates in let first = kept.transactions.first in let updates = updates_of c.args.txn h in
