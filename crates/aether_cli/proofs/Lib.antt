@@ -1,3 +1,4 @@
+pub mod Asked
 pub mod CompletenessLemmas
 pub mod DemoAsked
 pub mod DemoCompleteness
