@@ -1,19 +1,19 @@
 //! The word of an account, and its fields.
 
 use slot_word::AccountWord;
+use std::process::Abort;
+
+fn is_packed(rt: &impl Abort, account: AccountWord, word: u64) {
+    assert_eq!(rt; account.pack(), word);
+    assert_eq!(rt; AccountWord::unpack(word), account);
+}
 
 #[test]
 fn the_fields_stand_in_their_places(rt: HostRuntime) {
     let most = 0x7fff_ffff;
-    let cases = [
-        (AccountWord::free(100, 9), 0x0000_0064_0000_0009),
-        (AccountWord::taken(100, 9), 0x8000_0064_0000_0009),
-        (AccountWord::free(0, 0), 0),
-        (AccountWord::free(0, u32::MAX), 0xffff_ffff),
-        (AccountWord::taken(most, u32::MAX), u64::MAX),
-    ];
-    for (account, word) in cases {
-        assert_eq!(rt; account.pack(), word);
-        assert_eq!(rt; AccountWord::unpack(word), account);
-    }
+    is_packed(&rt, AccountWord::free(100, 9), 0x0000_0064_0000_0009);
+    is_packed(&rt, AccountWord::taken(100, 9), 0x8000_0064_0000_0009);
+    is_packed(&rt, AccountWord::free(0, 0), 0);
+    is_packed(&rt, AccountWord::free(0, u32::MAX), 0xffff_ffff);
+    is_packed(&rt, AccountWord::taken(most, u32::MAX), u64::MAX);
 }

@@ -2,6 +2,7 @@
 
 use lsn_space::Lsn;
 use ring_core::{RingEvent, RingRun};
+use std::process::Abort;
 use std::test::Fail;
 
 /// Whether the event is taken, and what is exposed then.
@@ -10,6 +11,18 @@ fn applied(run: &mut RingRun, event: RingEvent) -> Result<(bool, u32), Fail> {
         Ok(taken) => Ok((taken, run.exposed().units())),
         Err(_) => Err(Fail::new("no memory")),
     }
+}
+
+/// The event is taken or not, and so much is exposed then.
+fn is_applied(
+    rt: &impl Abort,
+    run: &mut RingRun,
+    event: RingEvent,
+    taken: bool,
+    exposed: u32,
+) -> Result<(), Fail> {
+    assert_eq!(rt; applied(run, event)?, (taken, exposed), "{event:?}");
+    Ok(())
 }
 
 #[test]
@@ -33,8 +46,8 @@ fn releases_in_order(rt: HostRuntime) -> Result<(), Fail> {
         (RingEvent::Flushed { to: Lsn::new(8) }, false, 9),
         (RingEvent::Flushed { to: Lsn::new(6) }, true, 9),
     ];
-    for (event, want, exposed) in schedule {
-        assert_eq!(rt; applied(&mut run, event)?, (want, exposed), "{event:?}");
+    for (event, taken, exposed) in schedule {
+        is_applied(&rt, &mut run, event, taken, exposed)?;
     }
     assert_eq!(rt; run.tail().units(), 9);
     assert_eq!(rt; run.durable().units(), 6);
