@@ -3,7 +3,15 @@
 use lock_core::{Judge, JudgeFault, Why};
 use log_record::Rec;
 use lsn_space::Lsn;
+use std::process::Abort;
 use std::test::Fail;
+
+/// The accounts of the test, with no commit and no transaction.
+fn has_two_accounts(rt: &impl Abort, judge: &Judge) {
+    assert_eq!(rt; judge.accounts(), 2);
+    let found = (judge.balance(0), judge.last(1), judge.greatest_txn());
+    assert_eq!(rt; found, (100, 0, 0));
+}
 
 /// A judge takes two accounts, of balances 100 and 0, and refuses a Short whose leg says that there were two Updates.
 #[test]
@@ -25,10 +33,7 @@ fn takes_and_refuses(rt: HostRuntime) -> Result<(), Fail> {
     let Ok(()) = judge.take(Lsn::new(2), &second) else {
         return Err(Fail::new("the second account is refused"));
     };
-    assert_eq!(rt; judge.accounts(), 2);
-    assert_eq!(rt; judge.balance(0), 100);
-    assert_eq!(rt; judge.last(1), 0);
-    assert_eq!(rt; judge.greatest_txn(), 0);
+    has_two_accounts(&rt, &judge);
     let short = Rec::Short { txn: 1, leg: 2 };
     assert_eq!(rt;
         judge.take(Lsn::new(4), &short),
