@@ -1,11 +1,12 @@
 //! What `run` answers, over a disk, a source and a sink in memory.
 
 use crate::tests::{
-    GENESIS_LOG, UNFINISHED_TRANSFER, answer_at, answer_of, answer_on, disk_of, sink_of,
+    Answer, End, GENESIS_LOG, Given, NEW, UNFINISHED_TRANSFER, answer_at, answer_on, answers,
+    has_answered, is_no_command, leaves, log_of, sink_of,
 };
-use cli_shared::{Detail, Report};
-use log_disk::{Gate, MemoryDisk, MemorySink, Place};
-use std::alloc::{AllocError, AllocGlobal, Global};
+use log_disk::{Gate, OpenGate, Place};
+use std::alloc::AllocGlobal;
+use std::process::Abort;
 use std::sync::Wait;
 use std::sync::atomic::{AtomicBool, AtomicU32, Ordering};
 use std::test::Fail;
@@ -15,297 +16,373 @@ const ALONE: &[&str] = &["aether", "run", "bank.log", "--workers", "1"];
 
 const BOTH: &[&str] = &["aether", "run", "bank.log", "--workers", "2"];
 
-/// Room for the writes and syncs of a few transfers.
-const ROOM: usize = 4000;
+const ALONE_WAITING: &[&str] = &["aether", "run", "bank.log", "--workers", "1", "--wait"];
 
 /// A transfer under the greatest number, refused.
 const GREATEST_TRANSACTION: &[u8] = b"O\0\0\0\x01\x04\x01\0\x01\xff\xff\xff\xff\0";
 
-/// The genesis log's batch, and these bytes behind it.
-fn log_of(alloc: Global, rest: &[u8]) -> Result<Vec<u8>, AllocError> {
-    let (front, _) = GENESIS_LOG.split_at(44);
-    let mut bytes = Vec::from_slice(alloc, front)?;
-    bytes.extend_from_slice(rest)?;
-    Ok(bytes)
-}
-
-/// A run, what it wrote, what it left, and what `recover` writes of that.
-#[derive(Drop)]
-struct Ran {
-    report: Report,
-    text: MemorySink,
-    disk: MemoryDisk,
-    recovered: MemorySink,
-}
-
-/// Runs the script over the log.
-fn runs<R: Threads + Wait + Sync + AllocGlobal>(
+/// The run of the script over the log ends well, and writes this.
+fn runs<R: Threads + Wait + Sync + AllocGlobal + Abort>(
     rt: &R,
     words: &[&str],
     log: &[u8],
     script: &[u8],
-) -> Result<Ran, Fail> {
-    let mut disk = disk_of(rt, log, ROOM, &[])?;
-    let mut text = sink_of(rt, &[])?;
-    let report = answer_on(rt, words, &mut disk, script, &[], &mut text)?;
-    let mut recovered = sink_of(rt, &[])?;
-    answer_of(
-        rt,
-        &["aether", "recover"],
-        disk.bytes(),
-        &[],
-        &mut recovered,
-    )?;
-    Ok(Ran {
-        report,
-        text,
-        disk,
-        recovered,
-    })
+    text: &[u8],
+) -> Result<Answer, Fail> {
+    let given = Given {
+        held: log,
+        input: script,
+        ..Given::words(words)
+    };
+    let answer = answer_at(rt, &given, &OpenGate)?;
+    has_answered(rt, &given, &answer, &End::Fine, text);
+    Ok(answer)
 }
+
+/// This is read from the log that a run left.
+fn reads<R: Threads + Wait + Sync + AllocGlobal + Abort>(
+    rt: &R,
+    words: &[&str],
+    log: &[u8],
+    text: &[u8],
+) -> Result<(), Fail> {
+    let given = Given {
+        input: log,
+        ..Given::words(words)
+    };
+    answers(rt, &given, &End::Fine, text)
+}
+
+/// The run of the script over the genesis log writes this, and `recover` reads these accounts from what it leaves.
+fn recovers_ran<R: Threads + Wait + Sync + AllocGlobal + Abort>(
+    rt: &R,
+    words: &[&str],
+    script: &[u8],
+    text: &[u8],
+    accounts: &[u8],
+) -> Result<(), Fail> {
+    let ran = runs(rt, words, GENESIS_LOG, script, text)?;
+    reads(rt, &["aether", "recover"], ran.disk.bytes(), accounts)
+}
+
+const ONE_TRANSFER_WORDS: &[&[&str]] = &[
+    ALONE,
+    BOTH,
+    ALONE_WAITING,
+    &["aether", "run", "bank.log", "--wait"],
+];
 
 #[test]
 fn one_transfer(rt: HostRuntime) -> Result<(), Fail> {
-    let cases: [&[&str]; 4] = [
-        ALONE,
-        BOTH,
-        &["aether", "run", "bank.log", "--workers", "1", "--wait"],
-        &["aether", "run", "bank.log", "--wait"],
-    ];
-    let accounts: &[u8] = b"lsn 9\n0 70\n1 30\n";
-    for words in cases {
-        let text: &[u8] = b"done 1 9\nlsn 9\n0 70\n1 30\n";
-        let ran = runs(&rt, words, GENESIS_LOG, b"pay 0 1 30\n")?;
-        assert_eq!(rt; ran.report, Report::of(Detail::Fine), "{words:?}");
-        assert_eq!(rt; ran.text.bytes(), text, "{words:?}");
-        assert_eq!(rt; ran.recovered.bytes(), accounts, "{words:?}");
+    for words in ONE_TRANSFER_WORDS {
+        recovers_ran(
+            &rt,
+            words,
+            b"pay 0 1 30\n",
+            b"done 1 9\nlsn 9\n0 70\n1 30\n",
+            b"lsn 9\n0 70\n1 30\n",
+        )?;
     }
     Ok(())
 }
+
+const THERE_AND_BACK: &[u8] =
+    b"0 genesis 0 100\n2 genesis 1 0\n4 update 1 0 -30 0\n6 update 1 1 30 0\n8 commit 1 1\n\
+    9 update 2 1 -30 9\n11 update 2 0 30 9\n13 commit 2 1\nlsn 14\n";
 
 #[test]
 fn transfer_there_and_back(rt: HostRuntime) -> Result<(), Fail> {
     let script = b"pay 0 1 30\npay 1 0 30\n";
-    let text: &[u8] = b"done 1 9\ndone 2 14\nlsn 14\n0 100\n1 0\n";
-    let accounts: &[u8] = b"lsn 14\n0 100\n1 0\n";
-    let ran = runs(&rt, ALONE, GENESIS_LOG, script)?;
-    assert_eq!(rt; ran.report, Report::of(Detail::Fine));
-    assert_eq!(rt; ran.text.bytes(), text);
-    assert_eq!(rt; ran.recovered.bytes(), accounts);
-    let mut dumped = sink_of(&rt, &[])?;
-    answer_of(&rt, &["aether", "dump"], ran.disk.bytes(), &[], &mut dumped)?;
-    let records: &[u8] =
-        b"0 genesis 0 100\n2 genesis 1 0\n4 update 1 0 -30 0\n6 update 1 1 30 0\n8 commit 1 1\n\
-        9 update 2 1 -30 9\n11 update 2 0 30 9\n13 commit 2 1\nlsn 14\n";
-    assert_eq!(rt; dumped.bytes(), records);
-    Ok(())
+    let text = b"done 1 9\ndone 2 14\nlsn 14\n0 100\n1 0\n";
+    let ran = runs(&rt, ALONE, GENESIS_LOG, script, text)?;
+    let log = ran.disk.bytes();
+    reads(&rt, &["aether", "recover"], log, b"lsn 14\n0 100\n1 0\n")?;
+    reads(&rt, &["aether", "dump"], log, THERE_AND_BACK)
 }
+
+const OUTCOMES: &[(&[u8], &[u8], &[u8])] = &[
+    (
+        b"pay 0 1 500\n",
+        b"short 1 1 5\nlsn 5\n0 100\n1 0\n",
+        b"lsn 5\n0 100\n1 0\n",
+    ),
+    (
+        b"pay 0 1 60 1 0 200\n",
+        b"short 1 2 9\nlsn 9\n0 100\n1 0\n",
+        b"lsn 9\n0 100\n1 0\n",
+    ),
+    (
+        b"pay 0 1 60 1 0 20\n",
+        b"done 1 13\nlsn 13\n0 60\n1 40\n",
+        b"lsn 13\n0 60\n1 40\n",
+    ),
+    (
+        b"\npay 0 1 30\n\n\n",
+        b"done 1 9\nlsn 9\n0 70\n1 30\n",
+        b"lsn 9\n0 70\n1 30\n",
+    ),
+    (
+        b"pay 0 1 30 : rent\n",
+        b"done 1 11\nlsn 11\n0 70\n1 30\n",
+        b"lsn 11\n0 70\n1 30\n",
+    ),
+];
 
 #[test]
 fn each_outcome_of_a_transfer(rt: HostRuntime) -> Result<(), Fail> {
-    let cases: [(&[u8], &[u8], &[u8]); 5] = [
-        (
-            b"pay 0 1 500\n",
-            b"short 1 1 5\nlsn 5\n0 100\n1 0\n",
-            b"lsn 5\n0 100\n1 0\n",
-        ),
-        (
-            b"pay 0 1 60 1 0 200\n",
-            b"short 1 2 9\nlsn 9\n0 100\n1 0\n",
-            b"lsn 9\n0 100\n1 0\n",
-        ),
-        (
-            b"pay 0 1 60 1 0 20\n",
-            b"done 1 13\nlsn 13\n0 60\n1 40\n",
-            b"lsn 13\n0 60\n1 40\n",
-        ),
-        (
-            b"\npay 0 1 30\n\n\n",
-            b"done 1 9\nlsn 9\n0 70\n1 30\n",
-            b"lsn 9\n0 70\n1 30\n",
-        ),
-        (
-            b"pay 0 1 30 : rent\n",
-            b"done 1 11\nlsn 11\n0 70\n1 30\n",
-            b"lsn 11\n0 70\n1 30\n",
-        ),
-    ];
-    for (script, text, accounts) in cases {
-        let ran = runs(&rt, ALONE, GENESIS_LOG, script)?;
-        assert_eq!(rt; ran.report, Report::of(Detail::Fine), "{script:?}");
-        assert_eq!(rt; ran.text.bytes(), text, "{script:?}");
-        assert_eq!(rt; ran.recovered.bytes(), accounts, "{script:?}");
+    for (script, text, accounts) in OUTCOMES {
+        recovers_ran(&rt, ALONE, script, text, accounts)?;
     }
+    Ok(())
+}
+
+/// Makes a log of these balances.
+fn made<R: Threads + Wait + Sync + AllocGlobal>(rt: &R, balances: &[u8]) -> Result<Answer, Fail> {
+    let given = Given {
+        input: balances,
+        ..Given::words(NEW)
+    };
+    answer_at(rt, &given, &OpenGate)
+}
+
+/// Runs the script over the disk that is there.
+fn run_on<R: Threads + Wait + Sync + AllocGlobal, G: Gate + Sync>(
+    rt: &R,
+    given: &Given,
+    answer: &mut Answer,
+    gate: &G,
+) -> Result<(), Fail> {
+    answer.text = sink_of(rt, given.sink_failing)?;
+    answer.report = answer_on(rt, given, &mut answer.disk, &mut answer.text, gate)?;
     Ok(())
 }
 
 #[test]
 fn over_at_the_greatest_balance(rt: HostRuntime) -> Result<(), Fail> {
-    let mut disk = disk_of(&rt, b"", ROOM, &[])?;
-    let mut made = sink_of(&rt, &[])?;
-    let new = ["aether", "new", "bank.log"];
-    answer_on(&rt, &new, &mut disk, b"100\n2147483647\n", &[], &mut made)?;
-    let mut out = sink_of(&rt, &[])?;
-    let report = answer_on(&rt, ALONE, &mut disk, b"pay 0 1 1\n", &[], &mut out)?;
-    assert_eq!(rt; report, Report::of(Detail::Fine));
-    let text: &[u8] = b"over 1 1 5\nlsn 5\n0 100\n1 2147483647\n";
-    assert_eq!(rt; out.bytes(), text);
+    let mut answer = made(&rt, b"100\n2147483647\n")?;
+    let given = Given {
+        input: b"pay 0 1 1\n",
+        ..Given::words(ALONE)
+    };
+    run_on(&rt, &given, &mut answer, &OpenGate)?;
+    let text = b"over 1 1 5\nlsn 5\n0 100\n1 2147483647\n";
+    has_answered(&rt, &given, &answer, &End::Fine, text);
     Ok(())
 }
 
+/// An empty script, over the genesis log's batch and these bytes behind it.
+fn closes_the_gate<R: Threads + Wait + Sync + AllocGlobal + Abort>(
+    rt: &R,
+    words: &[&str],
+    rest: &[u8],
+) -> Result<(), Fail> {
+    let log = log_of(rt, rest)?;
+    let given = Given {
+        held: log.as_slice(),
+        ..Given::words(words)
+    };
+    let text = b"lsn 4\n0 100\n1 0\n";
+    leaves(rt, &given, &End::Fine, text, GENESIS_LOG)
+}
+
+const GATES: &[&[u8]] = &[b"\0", b"", b"O"];
+
 #[test]
 fn an_empty_script_changes_nothing_but_a_missing_gate(rt: HostRuntime) -> Result<(), Fail> {
-    let accounts: &[u8] = b"lsn 4\n0 100\n1 0\n";
-    for rest in [b"\0".as_slice(), b"", b"O"] {
-        for words in [ALONE, BOTH] {
-            let log = log_of(rt.alloc(), rest)?;
-            let ran = runs(&rt, words, log.as_slice(), b"")?;
-            assert_eq!(rt; ran.report, Report::of(Detail::Fine), "{rest:?}");
-            assert_eq!(rt; ran.text.bytes(), accounts, "{rest:?}");
-            assert_eq!(rt; ran.disk.bytes(), GENESIS_LOG, "{rest:?}");
-        }
+    for rest in GATES {
+        closes_the_gate(&rt, ALONE, rest)?;
+        closes_the_gate(&rt, BOTH, rest)?;
     }
     Ok(())
 }
 
 #[test]
 fn goes_on_behind_an_unfinished_transfer(rt: HostRuntime) -> Result<(), Fail> {
-    let log = log_of(rt.alloc(), UNFINISHED_TRANSFER)?;
-    let text: &[u8] = b"done 8 13\nlsn 13\n0 90\n1 10\n";
-    let ran = runs(&rt, ALONE, log.as_slice(), b"pay 0 1 10\n")?;
-    assert_eq!(rt; ran.report, Report::of(Detail::Fine));
-    assert_eq!(rt; ran.text.bytes(), text);
+    let log = log_of(&rt, UNFINISHED_TRANSFER)?;
+    let text = b"done 8 13\nlsn 13\n0 90\n1 10\n";
+    runs(&rt, ALONE, log.as_slice(), b"pay 0 1 10\n", text)?;
     Ok(())
+}
+
+/// A transfer of 30 with a note of so many bytes.
+fn noted<R: AllocGlobal>(rt: &R, length: u32) -> Result<Vec<u8>, Fail> {
+    let mut script = Vec::from_slice(rt.alloc(), b"pay 0 1 30 : ")?;
+    for _ in 0..length {
+        script.push(b'x')?;
+    }
+    Ok(script)
+}
+
+/// The run of a transfer with a note of so many bytes, over the genesis log.
+fn runs_noted<R: Threads + Wait + Sync + AllocGlobal + Abort>(
+    rt: &R,
+    length: u32,
+    end: &End,
+    text: &[u8],
+) -> Result<(), Fail> {
+    let script = noted(rt, length)?;
+    let given = Given {
+        held: GENESIS_LOG,
+        input: script.as_slice(),
+        ..Given::words(ALONE)
+    };
+    answers(rt, &given, end, text)
 }
 
 #[test]
 fn the_longest_note(rt: HostRuntime) -> Result<(), Fail> {
-    let mut script = Vec::from_slice(rt.alloc(), b"pay 0 1 30 : ")?;
-    for _ in 0..200 {
-        script.push(b'x')?;
-    }
-    let text: &[u8] = b"done 1 35\nlsn 35\n0 70\n1 30\n";
-    let ran = runs(&rt, ALONE, GENESIS_LOG, script.as_slice())?;
-    assert_eq!(rt; ran.report, Report::of(Detail::Fine));
-    assert_eq!(rt; ran.text.bytes(), text);
+    let text = b"done 1 35\nlsn 35\n0 70\n1 30\n";
+    runs_noted(&rt, 200, &End::Fine, text)?;
+    runs_noted(&rt, 201, &End::Script(1), b"")
+}
 
-    script.push(b'x')?;
-    let mut disk = disk_of(&rt, GENESIS_LOG, ROOM, &[])?;
-    let mut out = sink_of(&rt, &[])?;
-    let report = answer_on(&rt, ALONE, &mut disk, script.as_slice(), &[], &mut out)?;
-    assert_eq!(rt; report, Report::of(Detail::Script { line: 1 }));
-    Ok(())
+/// The run ended well, and wrote one of these.
+fn has_written(rt: &impl Abort, given: &Given, answer: &Answer, first: &[u8], second: &[u8]) {
+    let text = answer.text.bytes();
+    let written = if text == second { second } else { first };
+    has_answered(rt, given, answer, &End::Fine, written);
 }
 
 #[test]
 fn two_orders_of_two_transfers(rt: HostRuntime) -> Result<(), Fail> {
-    let mut disk = disk_of(&rt, GENESIS_LOG, ROOM, &[])?;
-    let mut out = sink_of(&rt, &[])?;
-    let script = b"pay 0 1 30\npay 0 1 80\n";
-    let report = answer_on(&rt, BOTH, &mut disk, script, &[], &mut out)?;
-    assert_eq!(rt; report, Report::of(Detail::Fine));
-    let first: &[u8] = b"done 1 9\nshort 2 1 10\nlsn 10\n0 70\n1 30\n";
-    let second: &[u8] = b"done 2 9\nshort 1 1 10\nlsn 10\n0 20\n1 80\n";
-    let text = out.bytes();
-    assert!(rt; text == first || text == second, "{text:?}");
+    let given = Given {
+        held: GENESIS_LOG,
+        input: b"pay 0 1 30\npay 0 1 80\n",
+        ..Given::words(BOTH)
+    };
+    let answer = answer_at(&rt, &given, &OpenGate)?;
+    has_written(
+        &rt,
+        &given,
+        &answer,
+        b"done 1 9\nshort 2 1 10\nlsn 10\n0 70\n1 30\n",
+        b"done 2 9\nshort 1 1 10\nlsn 10\n0 20\n1 80\n",
+    );
     Ok(())
 }
+
+/// A run over the genesis log's batch and these bytes behind it writes nothing, leaves them as they are, and ends so.
+fn refuses<R: Threads + Wait + Sync + AllocGlobal + Abort>(
+    rt: &R,
+    rest: &[u8],
+    script: &[u8],
+    disk_failing: &[u64],
+    source_failing: &[u64],
+    end: &End,
+) -> Result<(), Fail> {
+    let log = log_of(rt, rest)?;
+    let given = Given {
+        held: log.as_slice(),
+        input: script,
+        disk_failing,
+        source_failing,
+        ..Given::words(ALONE)
+    };
+    leaves(rt, &given, end, b"", given.held)
+}
+
+const REFUSED: &[(&[u8], &[u8], &[u64], &[u64], End)] = &[
+    (&[0], b"pay 0 1 30\npay 1 1 5\n", &[], &[], End::Script(2)),
+    (&[0], b"pay 0 2 5\n", &[], &[], End::Script(1)),
+    (&[0], b"pay 0 1 30\n", &[], &[1], End::Read),
+    (&[0], b"pay 0 1 30\n", &[1], &[], End::Disk),
+    (&[0], b"pay 0 1 30\n", &[2], &[], End::Disk),
+    (b"O\0\0", b"", &[], &[1], End::BadBatch(44)),
+    (
+        GREATEST_TRANSACTION,
+        b"",
+        &[],
+        &[],
+        End::TxnEnd(4294967296, 0),
+    ),
+    (
+        GREATEST_TRANSACTION,
+        b"pay 0 1 1\n",
+        &[],
+        &[],
+        End::TxnEnd(4294967296, 1),
+    ),
+];
 
 #[test]
 fn refuses_and_leaves_the_log(rt: HostRuntime) -> Result<(), Fail> {
-    let cases: [(&[u8], &[u8], &[u64], &[u64], Detail); 8] = [
-        (
-            &[0],
-            b"pay 0 1 30\npay 1 1 5\n",
-            &[],
-            &[],
-            Detail::Script { line: 2 },
-        ),
-        (&[0], b"pay 0 2 5\n", &[], &[], Detail::Script { line: 1 }),
-        (&[0], b"pay 0 1 30\n", &[], &[1], Detail::Read),
-        (&[0], b"pay 0 1 30\n", &[1], &[], Detail::Disk),
-        (&[0], b"pay 0 1 30\n", &[2], &[], Detail::Disk),
-        (b"O\0\0", b"", &[], &[1], Detail::BadBatch { offset: 44 }),
-        (
-            GREATEST_TRANSACTION,
-            b"",
-            &[],
-            &[],
-            Detail::TxnEnd {
-                first: 4294967296,
-                count: 0,
-            },
-        ),
-        (
-            GREATEST_TRANSACTION,
-            b"pay 0 1 1\n",
-            &[],
-            &[],
-            Detail::TxnEnd {
-                first: 4294967296,
-                count: 1,
-            },
-        ),
-    ];
-    for (rest, script, disk_failing, source_failing, want) in cases {
-        let log = log_of(rt.alloc(), rest)?;
-        let mut disk = disk_of(&rt, log.as_slice(), ROOM, disk_failing)?;
-        let mut out = sink_of(&rt, &[])?;
-        let report = answer_on(&rt, ALONE, &mut disk, script, source_failing, &mut out)?;
-        assert_eq!(rt; report, Report::of(want), "{script:?}");
-        assert!(rt; out.bytes().is_empty(), "{script:?}");
-        assert_eq!(rt; disk.bytes(), log.as_slice(), "{script:?}");
+    for (rest, script, disk_failing, source_failing, end) in REFUSED {
+        refuses(&rt, rest, script, disk_failing, source_failing, end)?;
     }
     Ok(())
 }
+
+/// A run over these bytes reads no script, and leaves them as they are.
+fn is_no_log<R: Threads + Wait + Sync + AllocGlobal + Abort>(
+    rt: &R,
+    bytes: &[u8],
+) -> Result<(), Fail> {
+    let given = Given {
+        held: bytes,
+        input: b"pay 0 1 1\n",
+        source_failing: &[1],
+        ..Given::words(BOTH)
+    };
+    leaves(rt, &given, &End::NotALog, b"", bytes)
+}
+
+const NO_LOGS: &[&[u8]] = &[b"", b"text", b"O", b"OAETHER2"];
 
 #[test]
 fn refuses_what_is_no_log(rt: HostRuntime) -> Result<(), Fail> {
-    for bytes in [b"".as_slice(), b"text", b"O", b"OAETHER2"] {
-        let mut disk = disk_of(&rt, bytes, ROOM, &[])?;
-        let mut out = sink_of(&rt, &[])?;
-        let report = answer_on(&rt, BOTH, &mut disk, b"pay 0 1 1\n", &[1], &mut out)?;
-        assert_eq!(rt; report, Report::of(Detail::NotALog), "{bytes:?}");
-        assert_eq!(rt; disk.bytes(), bytes);
-        assert!(rt; out.bytes().is_empty(), "{bytes:?}");
+    for bytes in NO_LOGS {
+        is_no_log(&rt, bytes)?;
     }
     Ok(())
 }
+
+const OTHER_WORDS: &[&[&str]] = &[
+    &["aether", "run"],
+    &["aether", "run", "log", "--ring", "1000"],
+    &["aether", "run", "log", "--workers", "3"],
+    &["aether", "move", "log"],
+];
 
 #[test]
 fn refuses_other_words_of_run(rt: HostRuntime) -> Result<(), Fail> {
-    let cases: [&[&str]; 4] = [
-        &["aether", "run"],
-        &["aether", "run", "log", "--ring", "1000"],
-        &["aether", "run", "log", "--workers", "3"],
-        &["aether", "move", "log"],
-    ];
-    for words in cases {
-        let mut disk = disk_of(&rt, GENESIS_LOG, 0, &[1])?;
-        let mut out = sink_of(&rt, &[])?;
-        let report = answer_on(&rt, words, &mut disk, b"pay 0 1 1\n", &[1], &mut out)?;
-        assert_eq!(rt; report, Report::of(Detail::Usage), "{words:?}");
-        assert!(rt; out.bytes().is_empty(), "{words:?}");
+    for words in OTHER_WORDS {
+        is_no_command(&rt, words, GENESIS_LOG, b"pay 0 1 1\n")?;
     }
     Ok(())
 }
 
+/// The run of a transfer at a fault ends so, having written this.
+fn runs_into<R: Threads + Wait + Sync + AllocGlobal + Abort>(
+    rt: &R,
+    disk_failing: &[u64],
+    sink_failing: &[u64],
+    end: &End,
+    text: &[u8],
+) -> Result<(), Fail> {
+    let given = Given {
+        held: GENESIS_LOG,
+        input: b"pay 0 1 30\n",
+        disk_failing,
+        sink_failing,
+        ..Given::words(ALONE)
+    };
+    answers(rt, &given, end, text)
+}
+
+/// The sixth call of the disk is the first write of a batch, behind attach, sync, length, a read of the file and one of the gate
+/// at the tail.
+const FIRST_WRITE: &[u64] = &[6];
+
+const FAULTS: &[(&[u64], &[u64], End, &[u8])] = &[
+    (FIRST_WRITE, &[], End::Disk, b""),
+    (&[], &[1], End::Write, b""),
+    (&[], &[2], End::Write, b"done 1 9\n"),
+];
+
 #[test]
 fn faults_out_of_the_run(rt: HostRuntime) -> Result<(), Fail> {
-    // The sixth call of the disk is the first write of a batch, behind attach, sync, length, a read of the file and one of the gate
-    // at the tail.
-    let mut disk = disk_of(&rt, GENESIS_LOG, ROOM, &[6])?;
-    let mut out = sink_of(&rt, &[])?;
-    let report = answer_on(&rt, ALONE, &mut disk, b"pay 0 1 30\n", &[], &mut out)?;
-    assert_eq!(rt; report, Report::of(Detail::Disk));
-    assert!(rt; out.bytes().is_empty());
-
-    for (failing, text) in [(1, b"".as_slice()), (2, b"done 1 9\n")] {
-        let mut disk = disk_of(&rt, GENESIS_LOG, ROOM, &[])?;
-        let mut out = sink_of(&rt, &[failing])?;
-        let report = answer_on(&rt, ALONE, &mut disk, b"pay 0 1 30\n", &[], &mut out)?;
-        assert_eq!(rt; report, Report::of(Detail::Write), "{failing}");
-        assert_eq!(rt; out.bytes(), text, "{failing}");
+    for (disk_failing, sink_failing, end, text) in FAULTS {
+        runs_into(&rt, disk_failing, sink_failing, end, text)?;
     }
     Ok(())
 }
@@ -331,6 +408,15 @@ impl OneWaits {
         }
         self.gave_up.store(true, Ordering::SeqCst);
     }
+
+    /// Two transfers were taken, and the worker that was held went on behind the other.
+    fn has_held_one(&self, rt: &impl Abort) {
+        assert!(rt;
+            !self.gave_up.load(Ordering::SeqCst),
+            "no worker went past the other"
+        );
+        assert_eq!(rt; self.taken.load(Ordering::SeqCst), 2);
+    }
 }
 
 impl Gate for OneWaits {
@@ -349,29 +435,25 @@ impl Gate for OneWaits {
 
 #[test]
 fn workers_overlap(rt: HostRuntime) -> Result<(), Fail> {
-    let mut disk = disk_of(&rt, b"", ROOM, &[])?;
-    let mut made = sink_of(&rt, &[])?;
-    let new = ["aether", "new", "bank.log"];
-    answer_on(&rt, &new, &mut disk, b"100\n0\n100\n0\n", &[], &mut made)?;
-
+    let mut answer = made(&rt, b"100\n0\n100\n0\n")?;
     let gate = OneWaits {
         taken: AtomicU32::new(0),
         ended: AtomicBool::new(false),
         gave_up: AtomicBool::new(false),
     };
-    let mut out = sink_of(&rt, &[])?;
-    let script = b"pay 0 1 10\npay 2 3 20\n";
-    let report = answer_at(&rt, BOTH, &mut disk, script, &[], &mut out, &gate)?;
-    assert_eq!(rt; report, Report::of(Detail::Fine));
-    assert!(rt;
-        !gate.gave_up.load(Ordering::SeqCst),
-        "no worker went past the other"
+    let given = Given {
+        input: b"pay 0 1 10\npay 2 3 20\n",
+        ..Given::words(BOTH)
+    };
+    run_on(&rt, &given, &mut answer, &gate)?;
+    gate.has_held_one(&rt);
+    has_written(
+        &rt,
+        &given,
+        &answer,
+        b"done 1 13\ndone 2 18\nlsn 18\n0 90\n1 10\n2 80\n3 20\n",
+        b"done 2 13\ndone 1 18\nlsn 18\n0 90\n1 10\n2 80\n3 20\n",
     );
-    assert_eq!(rt; gate.taken.load(Ordering::SeqCst), 2);
-    let first: &[u8] = b"done 1 13\ndone 2 18\nlsn 18\n0 90\n1 10\n2 80\n3 20\n";
-    let second: &[u8] = b"done 2 13\ndone 1 18\nlsn 18\n0 90\n1 10\n2 80\n3 20\n";
-    let text = out.bytes();
-    assert!(rt; text == first || text == second, "{text:?}");
     Ok(())
 }
 
@@ -392,15 +474,17 @@ impl Gate for Takes {
 /// The first write of a batch fails, so nothing becomes durable: a worker that waits takes no second transfer.
 #[test]
 fn waits_for_the_disk_where_asked(rt: HostRuntime) -> Result<(), Fail> {
-    let wait: &[&str] = &["aether", "run", "bank.log", "--workers", "1", "--wait"];
-    let mut disk = disk_of(&rt, GENESIS_LOG, ROOM, &[6])?;
-    let mut out = sink_of(&rt, &[])?;
     let gate = Takes {
         count: AtomicU32::new(0),
     };
-    let script = b"pay 0 1 30\npay 0 1 20\n";
-    let report = answer_at(&rt, wait, &mut disk, script, &[], &mut out, &gate)?;
-    assert_eq!(rt; report, Report::of(Detail::Disk));
+    let given = Given {
+        held: GENESIS_LOG,
+        input: b"pay 0 1 30\npay 0 1 20\n",
+        disk_failing: FIRST_WRITE,
+        ..Given::words(ALONE_WAITING)
+    };
+    let answer = answer_at(&rt, &given, &gate)?;
+    has_answered(&rt, &given, &answer, &End::Disk, b"");
     assert_eq!(rt; gate.count.load(Ordering::SeqCst), 1);
     Ok(())
 }
