@@ -127,60 +127,74 @@ fn appends_a_transfer(rt: HostRuntime) -> Result<(), Fail> {
     Ok(())
 }
 
+/// These are the units that were read.
+fn is_read(rt: &impl Abort, units: &[u64], want: &[u64], call: u64, pick: u64) {
+    assert_eq!(rt; units, want, "call {call}, pick {pick}");
+}
+
+/// Appends the transfer, unless a device call fails. Says whether the whole new list is read after a crash; else it's the list
+/// before.
+fn appends(rt: &impl Abort, alloc: Global, call: u64, pick: u64) -> Result<bool, Fail> {
+    let bytes = genesis_and(alloc, &[0])?;
+    let mut disk = MemoryDisk::make(alloc, bytes.as_slice(), 1000, &[call])?;
+    let appended = append_transfer(alloc, &mut disk).is_some();
+    assert!(rt; appended == (call > 8), "call {call}");
+    let units = units_after_crash(alloc, disk, pick)?;
+    if !appended && units.as_slice() == ACCOUNTS.as_slice() {
+        return Ok(false);
+    }
+    is_read(rt, units.as_slice(), ALL.as_slice(), call, pick);
+    Ok(true)
+}
+
 /// What is read after a crash at any device call is the list before, or the whole new one; after Ok the latter.
 #[test]
 fn appends_all_or_nothing(rt: HostRuntime) -> Result<(), Fail> {
-    let alloc = rt.alloc();
-    let bytes = genesis_and(alloc, &[0])?;
     let (mut before, mut after) = (false, false);
     for call in [1, 2, 3, 4, 5, 6, 7, 8, NONE] {
         for pick in 0..400 {
-            let mut disk = MemoryDisk::make(alloc, bytes.as_slice(), 1000, &[call])?;
-            let appended = append_transfer(alloc, &mut disk).is_some();
-            assert_eq!(rt; appended, call > 8, "call {call}");
-            let units = units_after_crash(alloc, disk, pick)?;
-            if !appended && units.as_slice() == ACCOUNTS.as_slice() {
-                before = true;
-            } else {
-                assert_eq!(rt;
-                    units.as_slice(),
-                    ALL.as_slice(),
-                    "call {call}, pick {pick}"
-                );
-                after = true;
-            }
+            let is_new = appends(&rt, rt.alloc(), call, pick)?;
+            before = before || !is_new;
+            after = after || is_new;
         }
     }
     assert!(rt; before && after);
     Ok(())
 }
 
+/// Creates the log of the accounts, unless a device call fails. Says whether it is read after a crash; else there is none.
+fn creates(rt: &impl Abort, alloc: Global, call: u64, pick: u64) -> Result<bool, Fail> {
+    let mut disk = MemoryDisk::make(alloc, &[], 1000, &[call])?;
+    let Some(mut batch) = accounts(alloc) else {
+        return Err(Fail::new("no memory"));
+    };
+    let created = create(&mut disk, &mut batch).is_ok();
+    assert!(rt; created == (call > 7), "call {call}");
+    let units = units_after_crash(alloc, disk, pick)?;
+    if !created && units.is_empty() {
+        return Ok(false);
+    }
+    is_read(rt, units.as_slice(), ACCOUNTS.as_slice(), call, pick);
+    Ok(true)
+}
+
 #[test]
 fn creates_all_or_nothing(rt: HostRuntime) -> Result<(), Fail> {
-    let alloc = rt.alloc();
     let (mut before, mut after) = (false, false);
     for call in [1, 2, 3, 4, 5, 6, 7, NONE] {
         for pick in 0..400 {
-            let mut disk = MemoryDisk::make(alloc, &[], 1000, &[call])?;
-            let Some(mut batch) = accounts(alloc) else {
-                return Err(Fail::new("no memory"));
-            };
-            let created = create(&mut disk, &mut batch).is_ok();
-            assert_eq!(rt; created, call > 7, "call {call}");
-            let units = units_after_crash(alloc, disk, pick)?;
-            if !created && units.is_empty() {
-                before = true;
-            } else {
-                assert_eq!(rt;
-                    units.as_slice(),
-                    ACCOUNTS.as_slice(),
-                    "call {call}, pick {pick}"
-                );
-                after = true;
-            }
+            let is_new = creates(&rt, rt.alloc(), call, pick)?;
+            before = before || !is_new;
+            after = after || is_new;
         }
     }
     assert!(rt; before && after);
+    Ok(())
+}
+
+/// These are the bytes of the genesis log, and some behind them.
+fn is_held(rt: &impl Abort, alloc: Global, bytes: &[u8], rest: &[u8]) -> Result<(), Fail> {
+    assert_eq!(rt; bytes, genesis_and(alloc, rest)?.as_slice());
     Ok(())
 }
 
@@ -196,38 +210,44 @@ fn settles(
     let bytes = genesis_and(alloc, rest)?;
     let mut disk = MemoryDisk::make(alloc, bytes.as_slice(), 1000, &[failing])?;
     let opened = reopen(alloc, &mut disk).is_some();
-    assert_eq!(rt; opened, failing == NONE, "{rest:?}, call {failing}");
+    assert!(rt; opened == (failing == NONE), "{rest:?}, call {failing}");
     if opened {
-        assert_eq!(rt;
-            disk.bytes(),
-            genesis_and(alloc, settled)?.as_slice(),
-            "{rest:?}"
-        );
+        is_held(rt, alloc, disk.bytes(), settled)?;
     }
     let units = units_after_crash(alloc, disk, pick)?;
-    assert_eq!(rt;
-        units.as_slice(),
-        ACCOUNTS.as_slice(),
-        "{rest:?}, call {failing}, pick {pick}"
-    );
+    is_read(rt, units.as_slice(), ACCOUNTS.as_slice(), failing, pick);
     Ok(())
 }
 
+/// The same for each of many crashes.
+fn settles_at_each(
+    rt: &impl Abort,
+    alloc: Global,
+    rest: &[u8],
+    settled: &[u8],
+    failing: u64,
+) -> Result<(), Fail> {
+    for pick in 0..400 {
+        settles(rt, alloc, rest, settled, failing, pick)?;
+    }
+    Ok(())
+}
+
+/// The bytes behind the accounts, those that are left, and how many device calls are made.
+const GATES: &[(&[u8], &[u8], u64)] = &[
+    (&[], &[0], 6),
+    (&[0x4f], &[0], 6),
+    (&[0xff], &[0xff], 4),
+    (&[0, 0x4f], &[0, 0x4f], 4),
+];
+
 #[test]
 fn settles_a_gate_that_lacks(rt: HostRuntime) -> Result<(), Fail> {
-    let cases: [(&[u8], &[u8], u64); 4] = [
-        (&[], &[0], 6),
-        (&[0x4f], &[0], 6),
-        (&[0xff], &[0xff], 4),
-        (&[0, 0x4f], &[0, 0x4f], 4),
-    ];
-    for (rest, settled, calls) in cases {
-        for call in 1..calls + 2 {
-            let failing = if call > calls { NONE } else { call };
-            for pick in 0..400 {
-                settles(&rt, rt.alloc(), rest, settled, failing, pick)?;
-            }
+    for (rest, settled, calls) in GATES {
+        for call in 1..=*calls {
+            settles_at_each(&rt, rt.alloc(), rest, settled, call)?;
         }
+        settles_at_each(&rt, rt.alloc(), rest, settled, NONE)?;
     }
     Ok(())
 }
