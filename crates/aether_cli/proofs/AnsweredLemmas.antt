@@ -41,41 +41,41 @@ module _ {D S K : Type 0} (g : Ghosts D) (h : SourceGhosts S) (i : SinkGhosts K)
   -- a call that did nothing has done what a command without memory does
   nothing-done : (old : World D S K) (command : Command) → Does g h i command old old NoMemory
   nothing-done old (New log) = record {
-      answer = nothing-said _;
-      silent = kept-text _;
-      range = tt;
-      images = λ honest. Leaves-refl _ _ _ _;
-      made = λ honest follows. absurd follows;
-      kept = λ precedes. Leaves-refl _ _ _ _;
-      unchanged = λ honest precedes. refl;
-      exists = λ honest. tt;
-      count = λ honest. omega arith;
-    }
+    answer = nothing-said _;
+    silent = kept-text _;
+    range = tt;
+    images = λ honest. Leaves-refl _ _ _ _;
+    made = λ honest follows. absurd follows;
+    kept = λ precedes. Leaves-refl _ _ _ _;
+    unchanged = λ honest precedes. refl;
+    exists = λ honest. tt;
+    count = λ honest. omega arith;
+  }
   nothing-done old (Run log options) = record {
-      answer = λ honest. record { silent = kept-text _; disk = record { images = Leaves-refl _ _ _ _; reads = refl; count = omega arith } };
-      silent = kept-text _;
-      range = tt;
-    }
+    answer = λ honest. record { silent = kept-text _; disk = record { images = Leaves-refl _ _ _ _; reads = refl; count = omega arith } };
+    silent = kept-text _;
+    range = tt;
+  }
   nothing-done old Recover = record { answer = nothing-said _; silent = kept-text _; range = tt; untouched = refl }
   nothing-done old Dump = record { answer = nothing-said _; silent = kept-text _; range = tt; untouched = refl }
   nothing-done old (Demo log n seed options) = record {
-      answer = λ honest. record { images = Leaves-refl _ _ _ _; reads = refl; count = omega arith };
-      text = kept-text _;
-      range = tt;
-      exists = λ honest. tt;
-      unread = refl;
-    }
+    answer = λ honest. record { images = Leaves-refl _ _ _ _; reads = refl; count = omega arith };
+    text = kept-text _;
+    range = tt;
+    exists = λ honest. tt;
+    unread = refl;
+  }
 
   no-faults : (old : World D S K) (detail : Detail) → (IsFault detail → ⊥) → TellsFaults g h i old old detail
   no-faults old detail none = record {
-      read = λ read. absurd (none (subst IsFault (sym read) tt));
-      write = λ write. absurd (none (subst IsFault (sym write) tt));
-      disk = λ disk. absurd (none (subst IsFault (sym disk) tt));
-      no_fault = λ not_disk. refl;
-      later = (omega arith, omega arith);
-      later_disk = omega arith;
-      honest = (λ honest. honest, λ honest. honest);
-    }
+    read = λ read. absurd (none (subst IsFault (sym read) tt));
+    write = λ write. absurd (none (subst IsFault (sym write) tt));
+    disk = λ disk. absurd (none (subst IsFault (sym disk) tt));
+    no_fault = λ not_disk. refl;
+    later = (omega arith, omega arith);
+    later_disk = omega arith;
+    honest = (λ honest. honest, λ honest. honest);
+  }
 
   not-usage : (old new : World D S K) (detail : Detail) (command : Command) → Does g h i command old new detail → detail ≡ Usage → ⊥
   not-usage old new detail (New log) done usage = subst IsOfNew usage done.range
@@ -166,3 +166,9 @@ module _ {D S K : Type 0} (g : Ghosts D) (h : SourceGhosts S) (i : SinkGhosts K)
         subst (StaysSilent (i.held_bytes old.out) (i.held_bytes new.out)) (sym usage) (still-kept old new same)
     silent-of (inr (inr (memory, same))) = λ not_run.
         subst (StaysSilent (i.held_bytes old.out) (i.held_bytes new.out)) (sym memory) (still-kept old new same)
+
+    -- the command that the words ask did what it promises, and what it answered is the detail
+    pub came : (answered : Detail) (command : Command) → IsCommandLine words command → TellsFaults g h i old new answered
+        → Does g h i command old new answered → answered ≡ detail → Answered g h i words old new detail
+    came answered command asked faults done is = subst (Answered g h i words old new) is
+        (inl (record { command = command; asked = asked; faults = faults; done = done }))
