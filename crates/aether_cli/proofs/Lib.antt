@@ -1,3 +1,4 @@
+pub mod AnsweredLemmas
 pub mod Asked
 pub mod CompletenessLemmas
 pub mod DemoAsked

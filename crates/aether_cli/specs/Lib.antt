@@ -1,3 +1,4 @@
+pub mod Answered
 pub mod Asks
 pub mod RunWitness
 pub mod Told

@@ -12,6 +12,7 @@ ghost use Rattle.txn_script.specs.Balances.{IsBalancesText};
 ghost use Rattle.cli_shared.specs.Answers.{status_of, StaysSilent};
 ghost use Rattle.cli_reports.specs.Answers.{AnswersRecover, AnswersDump, IsOfDump, IsOfRecover};
 ghost use Rattle.cli_new.specs.Answers.{AnswersNew, IsOfNew};
+ghost use Rattle.aether_cli.specs.Answered.{Answered, world};
 ghost use Rattle.aether_cli.specs.Asks.{AsksNew, AsksRun, AsksDemo};
 ghost use Rattle.cli_demo.specs.Demo.{AnswersDemo, IsOfDemo, TellsSummary};
 ghost use Rattle.cli_new.specs.Creation.{AllHoldNew, FollowsLog, MayBeLeft, PrecedesLog};
@@ -130,13 +131,28 @@ pub fn aether<R: Threads + Wait + Sync, D: LogDisk, S: Source, K: Sink, G: Gate 
     ensures later { (S.faults script.old ≤ S.faults script.new) × (K.faults out.old ≤ K.faults out.new) }
     ensures later_disk { D.faults disk.old ≤ D.faults disk.new }
 {
+    Report::of(answer(rt, alloc, words, disk, script, out, gate))
+}
+
+/// What the command answers that the words ask, or why they ask none.
+fn answer<R: Threads + Wait + Sync, D: LogDisk, S: Source, K: Sink, G: Gate + Sync>(
+    rt: &R,
+    alloc: Global,
+    words: &[Word],
+    disk: &mut D,
+    script: &mut S,
+    out: &mut K,
+    gate: &G,
+) -> Detail
+    ensures { Answered D.LogDisk S.Source K.Sink words.now (world disk.old script.old out.old) (world disk.new script.new out.new) result }
+{
     match parse(alloc, words) {
-        Ok(Command::New { log }) => Report::of(new_command(alloc, &log, disk, script, out)),
-        Ok(Command::Run { log, options }) => Report::of(run_command(
-            rt, alloc, &log, &options, disk, script, out, gate,
-        )),
-        Ok(Command::Recover) => Report::of(recover_command(alloc, script, out)),
-        Ok(Command::Dump) => Report::of(dump_command(alloc, script, out)),
+        Ok(Command::New { log }) => new_command(alloc, &log, disk, script, out),
+        Ok(Command::Run { log, options }) => {
+            run_command(rt, alloc, &log, &options, disk, script, out, gate)
+        }
+        Ok(Command::Recover) => recover_command(alloc, script, out),
+        Ok(Command::Dump) => dump_command(alloc, script, out),
         Ok(
             Command::Demo {
                 log,
@@ -144,8 +160,8 @@ pub fn aether<R: Threads + Wait + Sync, D: LogDisk, S: Source, K: Sink, G: Gate 
                 seed,
                 options,
             },
-        ) => Report::of(demo_command(rt, alloc, &log, transfers, seed, &options, disk, out, gate)),
-        Err(Refused::Usage) => Report::of(Detail::Usage),
-        Err(Refused::NoMemory) => Report::of(Detail::NoMemory),
+        ) => demo_command(rt, alloc, &log, transfers, seed, &options, disk, out, gate),
+        Err(Refused::Usage) => Detail::Usage,
+        Err(Refused::NoMemory) => Detail::NoMemory,
     }
 }
