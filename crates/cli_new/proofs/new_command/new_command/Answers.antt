@@ -1,4 +1,4 @@
-use Rattle.std.proofs.Common.{◌∙◌, rules, ap, Err, sym, subst, ◌*◌, arith}
+use Rattle.std.proofs.Common.{◌∙◌, ◌*◌, rules, ap, Err, sym, subst, le_refl}
 use Rattle.cli_shared.proofs.ToldLemmas.{TellsRead, TellsWrite, TellsDisk}
 use Rattle.cli_new.proofs.AnswerLemmas.{answers_new-fine, answers_new-write, unmade-fault}
 use Rattle.cli_new.proofs.new_command.new_command.Goals as goal
@@ -23,7 +23,7 @@ returns-in-Err g c =
       write = λ is. absurd (told.write (subst TellsWrite (sym is) tt));
       disk = λ is. made.disk (ap Err is);
       no_fault = λ not_disk. made.no_fault (λ is. not_disk cc);
-      later = (made.later, omega arith);
+      later = (made.later, le_refl _);
       later_disk = made.later_disk;
     }
 

@@ -1,4 +1,4 @@
-use Rattle.std.proofs.Common.{◌∙◌, ap, Err, subst, sym, arith}
+use Rattle.std.proofs.Common.{◌∙◌, ap, Err, subst, sym, le_refl}
 use Rattle.cli_shared.proofs.ToldLemmas.{TellsRead, TellsWrite, kept-text, nothing-said}
 use Rattle.cli_reports.proofs.AnswerLemmas.{answers_dump-fault, answers_dump-fine, answers_dump-write, range_dump-fault, read-fault, silent-fault, write-fault}
 use Rattle.cli_reports.proofs.dump_command.dump_command.Goals as goal
@@ -59,7 +59,7 @@ returns-in-Err g c =
       range = rw detail (range_dump-fault _ c.in-Err.fault fault);
       read = λ is. absurd (read-fault c.in-Err.fault (subst TellsRead (sym is ∙ detail) tt));
       write = λ is. absurd (write-fault c.in-Err.fault (subst TellsWrite (sym is ∙ detail) tt));
-      later = (c.in-Ok.ensures.later, omega arith);
+      later = (c.in-Ok.ensures.later, le_refl _);
     }
 
 -- the bytes could not be read, or there was no memory for them
@@ -70,7 +70,7 @@ returns-in-Err-Failed g c = record {
   range = tt;
   read = λ is. c.in-Err-Failed.ensures.failed (ap Err c.in-Err-Failed.field-0-is);
   write = λ is. absurd (subst TellsWrite (sym is) tt);
-  later = (c.in-Err-Failed.ensures.later, omega arith);
+  later = (c.in-Err-Failed.ensures.later, le_refl _);
 }
 
 pub returns-in-Err-NoMemory : goal.returns-in-Err-NoMemory
@@ -80,5 +80,5 @@ returns-in-Err-NoMemory g c = record {
   range = tt;
   read = λ is. absurd (subst TellsRead (sym is) tt);
   write = λ is. absurd (subst TellsWrite (sym is) tt);
-  later = (c.in-Err-NoMemory.ensures.later, omega arith);
+  later = (c.in-Err-NoMemory.ensures.later, le_refl _);
 }

@@ -1,4 +1,4 @@
-use Rattle.std.proofs.Common.{◌∙◌, ap, Err, subst, sym, arith}
+use Rattle.std.proofs.Common.{◌∙◌, ap, Err, subst, sym, le_refl}
 use Rattle.cli_shared.proofs.ToldLemmas.{TellsRead, TellsWrite, kept-text, nothing-said}
 use Rattle.cli_reports.proofs.AnswerLemmas.{answers-fault, answers-fine, answers-write, range-fault, read-fault, silent-fault, write-fault}
 use Rattle.cli_reports.proofs.recover_command.recover_command.Goals as goal
@@ -56,7 +56,7 @@ returns-in-Err g c =
       range = rw detail (range-fault c.in-Err.fault);
       read = λ is. absurd (read-fault c.in-Err.fault (subst TellsRead (sym is ∙ detail) tt));
       write = λ is. absurd (write-fault c.in-Err.fault (subst TellsWrite (sym is ∙ detail) tt));
-      later = (c.in-Ok.ensures.later, omega arith);
+      later = (c.in-Ok.ensures.later, le_refl _);
     }
 
 -- the bytes could not be read, or there was no memory for them
@@ -67,7 +67,7 @@ returns-in-Err-Failed g c = record {
   range = tt;
   read = λ is. c.in-Err-Failed.ensures.failed (ap Err c.in-Err-Failed.field-0-is);
   write = λ is. absurd (subst TellsWrite (sym is) tt);
-  later = (c.in-Err-Failed.ensures.later, omega arith);
+  later = (c.in-Err-Failed.ensures.later, le_refl _);
 }
 
 pub returns-in-Err-NoMemory : goal.returns-in-Err-NoMemory
@@ -77,5 +77,5 @@ returns-in-Err-NoMemory g c = record {
   range = tt;
   read = λ is. absurd (subst TellsRead (sym is) tt);
   write = λ is. absurd (subst TellsWrite (sym is) tt);
-  later = (c.in-Err-NoMemory.ensures.later, omega arith);
+  later = (c.in-Err-NoMemory.ensures.later, le_refl _);
 }
