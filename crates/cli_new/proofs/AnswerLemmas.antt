@@ -5,10 +5,14 @@ use Rattle.std.specs.Io.KnownBytes.{Appends}
 use Rattle.log_disk.specs.Streams.{AppendsPart}
 use Rattle.log_recovery.specs.Text.{rows_text, accounts_text}
 use Rattle.lsn_space.specs.Accounts.{Accounts}
-use Rattle.txn_script.specs.Balances.{IsBalancesText}
-use Rattle.cli_shared.specs.declared.report.Detail.TheVariants.{Fine, Write}
-use Rattle.cli_new.specs.Answers.{AnswersNew, AreOpening}
+use Rattle.txn_script.specs.Balances.{IsBalancesText, IsFirstBadBalance}
+use Rattle.cli_shared.specs.declared.report.Detail.{Detail}
+use Rattle.cli_shared.specs.declared.report.Detail.TheVariants.{Fine, NoMemory, Usage, Script, Read, Write, Disk, NotALog, BadBatch, BadRec, Unlawful, LogEnd, TxnEnd, Exists}
+use Rattle.cli_new.specs.Answers.{AnswersNew, AreOpening, IsMakingFault, IsOfNew}
+use Rattle.cli_new.specs.Creation.{FollowsLog}
+use Rattle.cli_shared.specs.Answers.{StaysSilent}
 use Rattle.cli_shared.specs.Creation.{genesis_list}
+use Rattle.cli_shared.proofs.ToldLemmas.{TellsWrite, kept-text, nothing-said}
 use Rattle.cli_shared.proofs.GenesisLemmas.{genesis-text}
 
 -- the text of the new log's accounts
@@ -41,3 +45,38 @@ answers_new-write (Some bytes) left_new old new accounts lsn opening is written 
   subst (λ text. IsBalancesText text opening.2.0) opening.1.0 opening.2.1,
   rw (text-opening (Some bytes) left_new accounts opening lsn is) at written,
 )
+
+-- what the answer says where no log was made: it is one of `new`, nothing was written, and it doesn't follow a log
+pub record IsUnmade (left left_new text : Option (List ℕ)) (detail : Detail) : Type 0 where
+  pub answer : IfSome left (λ bytes. AnswersNew bytes left_new text text detail)
+  pub range : IsOfNew detail
+  pub silent : StaysSilent text text detail
+  pub write : TellsWrite detail → ⊥
+  pub follows : FollowsLog detail → ⊥
+
+first_bad : (left left_new text : Option (List ℕ)) (line : ℕ) → IsMakingFault left left_new (Script line)
+    → IfSome left (λ bytes. AnswersNew bytes left_new text text (Script line))
+first_bad None left_new text line is = tt
+first_bad (Some bytes) left_new text line is = (is.1.1, subst (λ all. IsFirstBadBalance all line) is.1.0 is.2)
+
+pub unmade-fault : (left left_new text : Option (List ℕ)) (detail : Detail) → IsMakingFault left left_new detail
+    → IsUnmade left left_new text detail
+unmade-fault left left_new text (Script line) is =
+    record { answer = first_bad left left_new text line is; range = tt; silent = kept-text text; write = λ tells. tells; follows = λ follows. follows }
+unmade-fault left left_new text Read is =
+    record { answer = nothing-said left; range = tt; silent = kept-text text; write = λ tells. tells; follows = λ follows. follows }
+unmade-fault left left_new text NoMemory is =
+    record { answer = nothing-said left; range = tt; silent = kept-text text; write = λ tells. tells; follows = λ follows. follows }
+unmade-fault left left_new text Disk is =
+    record { answer = nothing-said left; range = tt; silent = kept-text text; write = λ tells. tells; follows = λ follows. follows }
+unmade-fault left left_new text Exists is =
+    record { answer = nothing-said left; range = tt; silent = kept-text text; write = λ tells. tells; follows = λ follows. follows }
+unmade-fault left left_new text Usage is = absurd is
+unmade-fault left left_new text NotALog is = absurd is
+unmade-fault left left_new text (BadBatch offset) is = absurd is
+unmade-fault left left_new text (BadRec lsn) is = absurd is
+unmade-fault left left_new text (Unlawful lsn why) is = absurd is
+unmade-fault left left_new text (LogEnd tail total) is = absurd is
+unmade-fault left left_new text (TxnEnd first count) is = absurd is
+unmade-fault left left_new text Fine is = absurd is
+unmade-fault left left_new text Write is = absurd is

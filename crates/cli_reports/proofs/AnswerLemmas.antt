@@ -7,12 +7,51 @@ use Rattle.log_recovery.specs.declared.recovery.Recovered.{Recovered}
 use Rattle.log_recovery.specs.declared.recovery.RecoverFault.{RecoverFault}
 use Rattle.log_recovery.specs.declared.recovery.RecoverFault.TheVariants as fault
 use Rattle.log_recovery.specs.Dump.{dump_text}
-use Rattle.log_recovery.specs.Recovery.{HoldsList, IsListedFaultOf, ListsBytes, Recovers}
+use Rattle.log_recovery.specs.Recovery.{HoldsList, IsFaultOf, IsListedFaultOf, ListsBytes, Recovers}
 use Rattle.log_recovery.specs.Text.{rows_text}
 use Rattle.log_recovery.proofs.TextLemmas.{rows_text-shown}
 use Rattle.cli_shared.specs.declared.report.Detail.TheVariants.{Fine, Write}
-use Rattle.cli_reports.specs.Answers.{AnswersRecover, AnswersDump, IsOfDump}
-use Rattle.cli_shared.specs.Answers.{ReadsAll, recover_detail}
+use Rattle.cli_reports.specs.Answers.{AnswersRecover, AnswersDump, IsOfDump, IsOfRecover}
+use Rattle.cli_shared.specs.Answers.{ReadsAll, StaysSilent, recover_detail}
+use Rattle.cli_shared.proofs.ToldLemmas.{TellsRead, TellsWrite, kept-text}
+
+-- the fault of a log tells of no read or write, and before it nothing was written
+pub read-fault : (f : RecoverFault) → TellsRead (recover_detail f) → ⊥
+read-fault fault.NotALog tells = tells
+read-fault (fault.BadBatch offset) tells = tells
+read-fault (fault.BadRec lsn) tells = tells
+read-fault (fault.Unlawful lsn why) tells = tells
+read-fault fault.NoMemory tells = tells
+
+pub write-fault : (f : RecoverFault) → TellsWrite (recover_detail f) → ⊥
+write-fault fault.NotALog tells = tells
+write-fault (fault.BadBatch offset) tells = tells
+write-fault (fault.BadRec lsn) tells = tells
+write-fault (fault.Unlawful lsn why) tells = tells
+write-fault fault.NoMemory tells = tells
+
+pub silent-fault : (text : Option (List ℕ)) (f : RecoverFault) → StaysSilent text text (recover_detail f)
+silent-fault text fault.NotALog = kept-text text
+silent-fault text (fault.BadBatch offset) = kept-text text
+silent-fault text (fault.BadRec lsn) = kept-text text
+silent-fault text (fault.Unlawful lsn why) = kept-text text
+silent-fault text fault.NoMemory = kept-text text
+
+pub answers-fault : (left left_new old new : Option (List ℕ)) (bytes : List ℕ) (f : RecoverFault) → ReadsAll left left_new bytes
+    → IsFaultOf bytes f → IfSome left (λ all. AnswersRecover all left_new old new (recover_detail f))
+answers-fault None left_new old new bytes f read is = tt
+answers-fault (Some all) left_new old new bytes fault.NotALog read is = (read.1, subst (λ b. IsFaultOf b fault.NotALog) read.0 is)
+answers-fault (Some all) left_new old new bytes (fault.BadBatch offset) read is = (read.1, subst (λ b. IsFaultOf b (fault.BadBatch offset)) read.0 is)
+answers-fault (Some all) left_new old new bytes (fault.BadRec lsn) read is = (read.1, subst (λ b. IsFaultOf b (fault.BadRec lsn)) read.0 is)
+answers-fault (Some all) left_new old new bytes (fault.Unlawful lsn why) read is = (read.1, subst (λ b. IsFaultOf b (fault.Unlawful lsn why)) read.0 is)
+answers-fault (Some all) left_new old new bytes fault.NoMemory read is = tt
+
+pub range-fault : (f : RecoverFault) → IsOfRecover (recover_detail f)
+range-fault fault.NotALog = tt
+range-fault (fault.BadBatch offset) = tt
+range-fault (fault.BadRec lsn) = tt
+range-fault (fault.Unlawful lsn why) = tt
+range-fault fault.NoMemory = tt
 
 pub answers-fine : (left left_new old new : Option (List ℕ)) (bytes : List ℕ) (r : Recovered) → ReadsAll left left_new bytes → Recovers r bytes
     → Appends old new (rows_text r.lsn r.accounts.rows) → IfSome left (λ all. AnswersRecover all left_new old new Fine)

@@ -1,7 +1,6 @@
 -- Workers of a run, before and after their work. Each has a number, from 0 on.
 use Rattle.std.specs.Prelude.{◌≡◌, ℕ, ◌+◌, ◌<◌, Bool, true, List, [], ◌∷◌, None, MatchOption, IsSomeAnd}
 use Rattle.log_table.specs.declared.table.LogTable.{LogTable}
-use Rattle.log_table.specs.declared.table.Seat.{Seat}
 use Rattle.log_table.specs.declared.view.Role.TheVariants.{Ended}
 use Rattle.log_table.specs.Books.{no_books}
 use Rattle.log_table.specs.Seats.{IsOf, view_of}

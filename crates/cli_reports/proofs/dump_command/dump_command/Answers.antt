@@ -1,28 +1,16 @@
-use Rattle.cli_reports.proofs.AnswerLemmas.{answers_dump-fine, answers_dump-write, answers_dump-fault, range_dump-fault}
+use Rattle.std.proofs.Common.{◌∙◌, ap, Err, subst, sym, le_refl}
+use Rattle.cli_shared.proofs.ToldLemmas.{TellsRead, TellsWrite, kept-text, nothing-said}
+use Rattle.cli_reports.proofs.AnswerLemmas.{answers_dump-fault, answers_dump-fine, answers_dump-write, range_dump-fault, read-fault, silent-fault, write-fault}
 use Rattle.cli_reports.proofs.dump_command.dump_command.Goals as goal
 
 pub put_dump-requires : goal.put_dump-requires
 put_dump-requires g c = let found = c.in-Ok-listed.ensures.found in (found.records, found.has)
 
+-- the dump is written
 pub returns-in-Ok-put_dump-clause-answer : goal.returns-in-Ok-put_dump-clause-answer
 returns-in-Ok-put_dump-clause-answer g c =
     let found = rw c.as_slice.ensures.value at c.in-Ok-listed.ensures.found in
     answers_dump-fine _ _ _ _ _ c.in-Ok-listed.list c.in-Ok.ensures.all found (c.in-Ok-put_dump.ensures.all found.records found.has)
-
-pub returns-clause-answer : goal.returns-clause-answer
-returns-clause-answer g c =
-    let found = rw c.as_slice.ensures.value at c.in-Ok-listed.ensures.found in
-    answers_dump-write _ _ _ _ _ c.in-Ok-listed.list c.in-Ok.ensures.all found (c.in-Err-put_dump.ensures.prefix found.records found.has)
-
-pub returns-in-Err-clause-answer : goal.returns-in-Err-clause-answer
-returns-in-Err-clause-answer g c =
-    let fault = rw c.as_slice.ensures.value at c.in-Err.ensures.fault in
-    rw c.detail_of.ensures (answers_dump-fault _ _ _ _ _ c.in-Err.fault c.in-Ok.ensures.all fault)
-
-pub returns-in-Err-clause-range : goal.returns-in-Err-clause-range
-returns-in-Err-clause-range g c =
-    let fault = rw c.as_slice.ensures.value at c.in-Err.ensures.fault in
-    rw c.detail_of.ensures (range_dump-fault _ c.in-Err.fault fault)
 
 pub returns-in-Ok-put_dump-clause-silent : goal.returns-in-Ok-put_dump-clause-silent
 returns-in-Ok-put_dump-clause-silent g c = tt
@@ -31,13 +19,66 @@ pub returns-in-Ok-put_dump-clause-range : goal.returns-in-Ok-put_dump-clause-ran
 returns-in-Ok-put_dump-clause-range g c = tt
 
 pub returns-in-Ok-put_dump-clause-read : goal.returns-in-Ok-put_dump-clause-read
-returns-in-Ok-put_dump-clause-read g c = λ is. cc
+returns-in-Ok-put_dump-clause-read g c = λ is. absurd (subst TellsRead (sym is) tt)
 
 pub returns-in-Ok-put_dump-clause-write : goal.returns-in-Ok-put_dump-clause-write
-returns-in-Ok-put_dump-clause-write g c = λ is. cc
+returns-in-Ok-put_dump-clause-write g c = λ is. absurd (subst TellsWrite (sym is) tt)
+
+pub returns-in-Ok-put_dump-clause-later : goal.returns-in-Ok-put_dump-clause-later
+returns-in-Ok-put_dump-clause-later g c = (c.in-Ok.ensures.later, c.in-Ok-put_dump.ensures.cause.later)
+
+-- the writing failed
+pub returns-clause-answer : goal.returns-clause-answer
+returns-clause-answer g c =
+    let found = rw c.as_slice.ensures.value at c.in-Ok-listed.ensures.found in
+    answers_dump-write _ _ _ _ _ c.in-Ok-listed.list c.in-Ok.ensures.all found (c.in-Err-put_dump.ensures.prefix found.records found.has)
 
 pub returns-clause-silent : goal.returns-clause-silent
 returns-clause-silent g c = tt
 
+pub returns-clause-range : goal.returns-clause-range
+returns-clause-range g c = tt
+
 pub returns-clause-read : goal.returns-clause-read
-returns-clause-read g c = λ is. cc
+returns-clause-read g c = λ is. absurd (subst TellsRead (sym is) tt)
+
+pub returns-clause-write : goal.returns-clause-write
+returns-clause-write g c = λ is. c.in-Err-put_dump.ensures.cause.failed
+
+pub returns-clause-later : goal.returns-clause-later
+returns-clause-later g c = (c.in-Ok.ensures.later, c.in-Err-put_dump.ensures.cause.later)
+
+-- the bytes are no log
+pub returns-in-Err : goal.returns-in-Err
+returns-in-Err g c =
+    let detail = c.detail_of.ensures in
+    let fault = rw c.as_slice.ensures.value at c.in-Err.ensures.fault in
+    record {
+      answer = rw detail (answers_dump-fault _ _ _ _ _ c.in-Err.fault c.in-Ok.ensures.all fault);
+      silent = rw detail (silent-fault _ c.in-Err.fault);
+      range = rw detail (range_dump-fault _ c.in-Err.fault fault);
+      read = λ is. absurd (read-fault c.in-Err.fault (subst TellsRead (sym is ∙ detail) tt));
+      write = λ is. absurd (write-fault c.in-Err.fault (subst TellsWrite (sym is ∙ detail) tt));
+      later = (c.in-Ok.ensures.later, le_refl _);
+    }
+
+-- the bytes could not be read, or there was no memory for them
+pub returns-in-Err-Failed : goal.returns-in-Err-Failed
+returns-in-Err-Failed g c = record {
+  answer = nothing-said _;
+  silent = kept-text _;
+  range = tt;
+  read = λ is. c.in-Err-Failed.ensures.failed (ap Err c.in-Err-Failed.field-0-is);
+  write = λ is. absurd (subst TellsWrite (sym is) tt);
+  later = (c.in-Err-Failed.ensures.later, le_refl _);
+}
+
+pub returns-in-Err-NoMemory : goal.returns-in-Err-NoMemory
+returns-in-Err-NoMemory g c = record {
+  answer = nothing-said _;
+  silent = kept-text _;
+  range = tt;
+  read = λ is. absurd (subst TellsRead (sym is) tt);
+  write = λ is. absurd (subst TellsWrite (sym is) tt);
+  later = (c.in-Err-NoMemory.ensures.later, le_refl _);
+}

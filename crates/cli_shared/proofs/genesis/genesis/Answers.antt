@@ -1,4 +1,4 @@
-use Rattle.std.proofs.Common.{◌∙◌, ap, sym, length, arith, ◌++◌}
+use Rattle.std.proofs.Common.{◌∙◌, ◌*◌, ap, sym, length, arith, ◌++◌}
 use Rattle.log_record.specs.Spelling.{spelling}
 use Rattle.log_record.specs.declared.rec.Rec.TheVariants.{Genesis}
 use Rattle.cli_shared.proofs.GenesisLemmas.{units_of-row_more, end_of-rows_below}
@@ -18,3 +18,9 @@ accounts-preserved c =
       spelled = pushed ∙ before ∙ sym (units_of-row_more c.args.balances.now.rows c.accounts.account row c.at-balance.ensures);
       room = ap (λ b. b.room) c.push_genesis.ensures ∙ c.accounts.invariant.room;
     }
+
+pub accounts-init : goal.accounts-init
+accounts-init c = record {
+  spelled = c.in_ok-batch.ensures.0;
+  room = c.in_ok-batch.ensures.1 ∙ ap (λ count. 2 * count) c.count.ensures;
+}

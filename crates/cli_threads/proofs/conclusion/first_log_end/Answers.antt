@@ -19,3 +19,6 @@ returns-in-Cut-LogEnd-clause-some c =
 
 pub returns-clause-none : goal.returns-clause-none
 returns-clause-none c = subst AreWhole (take_all c.ends.worked-index c.args.ends.now (omega arith)) c.ends.invariant
+
+pub returns-in-Cut-LogEnd-clause-none : goal.returns-in-Cut-LogEnd-clause-none
+returns-in-Cut-LogEnd-clause-none c = tt
