@@ -1,5 +1,5 @@
 -- The summary of generated transfers is told by their number and seed.
-use Rattle.std.proofs.Common.{◌≡◌, ◌≤◌, ◌<◌, ℕ, zero, suc, ◌+◌, ◌*◌, List, [], ◌∷◌, length, replicate, refl, ap, ◌∙◌, sym, arith}
+use Rattle.std.proofs.Common.{◌≡◌, ◌≤◌, ◌<◌, ℕ, zero, suc, ◌+◌, ◌*◌, List, [], ◌∷◌, length, replicate, refl, ap, ◌∙◌, sym, arith, add-one}
 use Rattle.std.proofs.lemmas.List.Elements.{All-replicate}
 use Rattle.log_record.specs.declared.rec.Rec.{Rec}
 use Rattle.log_record.specs.declared.rec.Rec.TheVariants.{Genesis, Update, Commit, Short, Over, Note}
@@ -110,3 +110,8 @@ opening-generated =
 
 pub opening-end : (base_state_of (history generated_opening)).end ≡ 128
 opening-end = refl
+
+-- one account more is mixed in
+pub mix_below-next : (n mix balance : ℕ) (balances : ℕ → ℕ) → mix ≡ mix_below n balances → balance ≡ balances n
+    → mix + (n + 1) * balance ≡ mix_below (n + 1) balances
+mix_below-next n mix balance balances same at = (λ i. same i + (n + 1) * at i) ∙ ap (λ k. mix_below k balances) (sym (add-one n))

@@ -1,5 +1,5 @@
 -- From the opened log to what is ready before the first transfer of a run, or to the answer that there is no run.
-use Rattle.std.proofs.Common.{◌≡◌, ◌≤◌, ◌⊎◌, ⊎_elim, inl, inr, refl, ap, sym, ◌∙◌, subst, ℕ, ◌+◌, List, length, Option, Some, None, arith}
+use Rattle.std.proofs.Common.{◌≡◌, ◌≤◌, ◌<◌, ◌⊎◌, ⊎_elim, inl, inr, refl, ap, sym, ◌∙◌, subst, ℕ, ◌+◌, List, length, Option, Some, None, arith}
 use Rattle.std.specs.Io.KnownBytes.{Keeps}
 use Rattle.command_line.specs.declared.options.RunOptions.{RunOptions}
 use Rattle.log_disk.specs.Disk.{Leaves}
@@ -121,6 +121,25 @@ module _ {D : Type 0} (g : Ghosts D) (old mid : D) (opened : Recovered) (opens :
           (λ bytes. ⊎_elim (λ image. inl image) (λ held. inr (records, held-read honest, held))) leaves-settled;
       count = count-settled;
     }
+
+  -- the numbers of the transfers would end
+  module _ (script : List Job) where
+    pub answers-numbers : Reads g old mid → g.honest old → (workers accounts count : ℕ) (left left_new text : Option (List ℕ))
+        → accounts ≡ length opened.accounts.rows → IsWholeScript accounts left left_new script → count ≡ length script
+        → LAST_TXN < opened.next_txn + count
+        → AnswersRun g workers (outside old left text) (outside mid left_new text) (TxnEnd opened.next_txn count)
+    answers-numbers reads honest workers accounts count left left_new text counted whole count_is past = (
+      only-reads g old mid reads left left_new text,
+      record {
+        opened = records;
+        held = held-read honest;
+        jobs = script;
+        script = subst (λ n. IsWholeScript n left left_new script) (counted ∙ opens.recovers.accounts.count) whole;
+        first_is = opens.recovers.next_txn;
+        count_is = count_is;
+        past = past;
+      },
+    )
 
   module _ (options : RunOptions) (script : List Job) (prepared : Prepared) (is : IsPreparedFor options opened script prepared) where
     pub asked-prepared : (accounts : ℕ) (left left_new : Option (List ℕ)) → accounts ≡ length opened.accounts.rows

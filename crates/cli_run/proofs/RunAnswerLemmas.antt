@@ -1,9 +1,10 @@
 -- What `run` answers, from what was ready, what is promised of the transfers, and what was concluded.
-use Rattle.std.proofs.Common.{Bool, ◌≡◌, ◌⊎◌, inr, refl, ap, sym, subst, ℕ, List, [], ◌++◌, Option, None, arith}
+use Rattle.std.proofs.Common.{Bool, ◌≡◌, ◌≤◌, ◌⊎◌, inr, refl, ap, sym, subst, ℕ, List, [], ◌++◌, Option, None, arith}
 use Rattle.std.proofs.KnownBytes.{Appends-trans}
 use Rattle.std.proofs.lemmas.List.{append-nil}
 use Rattle.std.specs.Io.KnownBytes.{Appends}
 use Rattle.log_disk.specs.Disk.{Leaves}
+use Rattle.log_disk.specs.Faults.{Rose}
 use Rattle.log_disk.specs.Streams.{AppendsPrefix, AppendsPart}
 use Rattle.log_disk.proofs.Prefixes.{AppendsPart-prefix}
 use Rattle.log_disk.specs.declared.disk.LogDisk.{Ghosts}
@@ -16,12 +17,14 @@ use Rattle.txn_runner.specs.declared.jobs.Jobs.{Jobs}
 use Rattle.commit_pipeline.specs.EndLines.{end_lines}
 use Rattle.commit_pipeline.specs.declared.voice.Voice.TheVariants.{Lines}
 use Rattle.cli_shared.specs.declared.report.Detail.{Detail}
+use Rattle.cli_shared.specs.declared.report.Detail.TheVariants.{Fine, NoMemory, Usage, Script, Read, Write, Disk, NotALog, BadBatch, BadRec, Unlawful, LogEnd, TxnEnd, Exists}
 use Rattle.cli_threads.specs.declared.transfers.ReadyRun.{ReadyRun}
 use Rattle.cli_threads.specs.declared.transfers.Ended.{Ended}
 use Rattle.cli_threads.specs.Ending.{Concludes, HasEnded, closed_text}
 use Rattle.cli_threads.specs.Run.{GoesOn, HoldsRun, RunIsDrained}
-use Rattle.cli_run.specs.RunAnswers.{AnswersRun, HoldsTold, Ran, RanOut, Outside, outside, run_text}
-use Rattle.cli_run.specs.RunReady.{IsReadyFor}
+use Rattle.cli_run.specs.RunAnswers.{AnswersRun, HoldsTold, IsOfRun, Ran, RanOut, RunStaysSilent, Outside, outside, run_text}
+use Rattle.cli_run.specs.RunReady.{IsBeforeRun, IsReadyFor}
+use Rattle.cli_run.proofs.ReadyLemmas.{keeps-refl}
 use Rattle.cli_threads.proofs.EndingLemmas.{by-conclusion, list, keeps-ended, whole-ended, drained-ended, stops-ended}
 use Rattle.cli_threads.proofs.RunBegun.{images-begun}
 
@@ -128,3 +131,56 @@ module _ {D : Type 0} {K : Type 0} (g : Ghosts D) (h : SinkGhosts K) (workers : 
         stops = stops-ended g h ready.prepared opened Lines disk disk_new sink sink_mid ended has said.0.0 tail total said.0.1;
         text = text;
       })
+
+-- ---- what is promised of each answer besides
+
+-- the answers that come before any transfer are answers of `run`, and nothing is written then
+pub range-before : (detail : Detail) → IsBeforeRun detail → IsOfRun detail
+range-before NoMemory before = tt
+range-before (Script line) before = tt
+range-before Read before = tt
+range-before Disk before = tt
+range-before NotALog before = tt
+range-before (BadBatch offset) before = tt
+range-before (BadRec lsn) before = tt
+range-before (Unlawful lsn why) before = tt
+range-before (TxnEnd first count) before = tt
+range-before Fine before = absurd before
+range-before Usage before = absurd before
+range-before Write before = absurd before
+range-before (LogEnd tail total) before = absurd before
+range-before Exists before = absurd before
+
+pub silent-before : (text : Option (List ℕ)) (detail : Detail) → IsBeforeRun detail → RunStaysSilent text text detail
+silent-before text NoMemory before = keeps-refl text
+silent-before text (Script line) before = keeps-refl text
+silent-before text Read before = keeps-refl text
+silent-before text Disk before = tt
+silent-before text NotALog before = keeps-refl text
+silent-before text (BadBatch offset) before = keeps-refl text
+silent-before text (BadRec lsn) before = keeps-refl text
+silent-before text (Unlawful lsn why) before = keeps-refl text
+silent-before text (TxnEnd first count) before = keeps-refl text
+silent-before text Fine before = absurd before
+silent-before text Usage before = absurd before
+silent-before text Write before = absurd before
+silent-before text (LogEnd tail total) before = absurd before
+silent-before text Exists before = absurd before
+
+-- none of them is a fault of the output
+pub write-before : (detail : Detail) → IsBeforeRun detail → detail ≡ Write → ⊥
+write-before detail before is = subst IsBeforeRun is before
+
+-- what is concluded is an answer of `run` at which something may be written, and no fault of the input
+module _ {K : Type 0} (h : SinkGhosts K) (ended : Ended) (text : List ℕ) (sink sink_new : K) where
+  pub range-concluded : (detail : Detail) → Concludes h ended text sink sink_new detail → IsOfRun detail
+  range-concluded = by-conclusion h ended text sink sink_new IsOfRun (λ _. tt) (λ _. tt) (λ _. tt) (λ _. tt) (λ _ _ _. tt)
+
+  pub silent-concluded : (old new : Option (List ℕ)) (detail : Detail) → Concludes h ended text sink sink_new detail → RunStaysSilent old new detail
+  silent-concluded old new = by-conclusion h ended text sink sink_new (RunStaysSilent old new) (λ _. tt) (λ _. tt) (λ _. tt) (λ _. tt) (λ _ _ _. tt)
+
+  pub read-concluded : (detail : Detail) → Concludes h ended text sink sink_new detail → detail ≡ Read → ⊥
+  read-concluded detail concludes is = subst (Concludes h ended text sink sink_new) is concludes
+
+pub Rose-later : (before mid now : ℕ) → before ≤ mid → Rose mid now → Rose before now
+Rose-later before mid now later rose = omega arith
