@@ -2,7 +2,7 @@ use Rattle.std.proofs.Common.{rules}
 use Rattle.std.proofs.lemmas.Result.{err_from_is_err_and}
 use Rattle.log_table.specs.Seats.{view_of}
 use Rattle.ring_buffer.specs.Calls.{HasEntries}
-use Rattle.txn_runner.proofs.Beginning.{enters-note, cut-note, none-noted}
+use Rattle.txn_runner.proofs.Beginning.{enters-note, cut-note, noted-by, none-noted}
 use Rattle.txn_runner.proofs.transfer.insert_note.Goals as goal
 
 pub insert_record-requires-clause-next : goal.insert_record-requires-clause-next
@@ -22,3 +22,7 @@ returns-in_default-clause-noted g c =
     let seat = c.args.seat.now in
     let kept : HasEntries seat seat (view_of seat).entries (view_of seat).books = search rules in
     none-noted c.args.number c.args.job.now seat kept c.in_default.is
+
+pub returns-clause-noted : goal.returns-clause-noted
+returns-clause-noted g c = noted-by _ _ _ c.args.seat.now _ c.note.ensures.note c.requires.job c.in-Some.is c.requires.begins
+    c.note.ensures.text.0 _ _ c.in_ok-insert_record.ensures.put
