@@ -1,5 +1,5 @@
 -- Ascending lists of accounts, and one more account.
-use Rattle.std.proofs.Common.{◌≡◌, ℕ, zero, suc, ◌+◌, ◌-◌, ◌<◌, ◌≤◌, ◌⊎◌, inl, inr, List, [], ◌∷◌, length, get_or, min, max, take, insert, All, Contains, Ok, Err, ◌∙◌, sym, refl, ap, subst, arith}
+use Rattle.std.proofs.Common.{◌≡◌, ◌≢◌, ℕ, zero, suc, ◌+◌, ◌-◌, ◌<◌, ◌≤◌, ◌⊎◌, inl, inr, List, [], ◌∷◌, length, get_or, min, max, take, insert, All, Contains, Ok, Err, ◌∙◌, sym, refl, ap, subst, arith}
 use mathlib.Core.Logic.{dite}
 use native.Mathlib.Decide.{ℕ_discrete}
 use Rattle.std.specs.Ordering.{nat_cmp}
@@ -120,16 +120,40 @@ module _ (legs : List (ℕ × ℕ × ℕ)) (i : ℕ) (within : i < length legs) 
       → All (HasAccountsOf after) (take (i + 1) legs) × All (IsAccountOf legs) after
   lists-more all only = (all-more all, only-more only)
 
--- both accounts of a leg are in the list of the lower and the higher
-module _ (payer payee amount : ℕ) where
-  abbrev leg : ℕ × ℕ × ℕ
-  leg = (payer, payee, amount)
+-- the list of a leg's two accounts, the lower and the higher, or of the one that they are
+module _ (payer payee : ℕ) where
+  pub one-rising : IsStrictlyIncreasing (payer ∷ [])
+  one-rising k within = absurd (omega arith)
 
-  pub two-has : HasAccountsOf (min payer payee ∷ max payer payee ∷ []) leg
-  two-has = elim (cases_lt payer payee) [
-    | inl less ↦ ((0, omega arith, omega arith), (1, omega arith, omega arith))
-    | inr more ↦ ((1, omega arith, omega arith), (0, omega arith, omega arith))
-  ]
+  pub two-rising : payer ≢ payee → IsStrictlyIncreasing (min payer payee ∷ max payer payee ∷ [])
+  two-rising apart zero within = omega arith
+  two-rising apart (suc k) within = absurd (omega arith)
+
+  module _ (amount : ℕ) where
+    abbrev leg : ℕ × ℕ × ℕ
+    leg = (payer, payee, amount)
+
+    pub one-has : payer ≡ payee → HasAccountsOf (payer ∷ []) leg
+    one-has same = ((0, omega arith, refl), (0, omega arith, same))
+
+    pub two-has : HasAccountsOf (min payer payee ∷ max payer payee ∷ []) leg
+    two-has = elim (cases_lt payer payee) [
+      | inl less ↦ ((0, omega arith, omega arith), (1, omega arith, omega arith))
+      | inr more ↦ ((1, omega arith, omega arith), (0, omega arith, omega arith))
+    ]
+
+    own : (account : ℕ) → (payer ≡ account) ⊎ (payee ≡ account) → IsAccountOf (leg ∷ []) account
+    own account side = (0, leg, omega arith, refl, side)
+
+    pub one-only : All (IsAccountOf (leg ∷ [])) (payer ∷ [])
+    one-only = All-cons (IsAccountOf (leg ∷ [])) payer [] (own payer (inl refl)) (All-nil (IsAccountOf (leg ∷ [])))
+
+    pub two-only : All (IsAccountOf (leg ∷ [])) (min payer payee ∷ max payer payee ∷ [])
+    two-only = All-cons (IsAccountOf (leg ∷ [])) (min payer payee) (max payer payee ∷ [])
+        (own (min payer payee) (elim (cases_lt payer payee) [ inl less ↦ inl (omega arith) | inr more ↦ inr (omega arith) ]))
+        (All-cons (IsAccountOf (leg ∷ [])) (max payer payee) []
+        (own (max payer payee) (elim (cases_lt payer payee) [ inl less ↦ inr (omega arith) | inr more ↦ inl (omega arith) ]))
+        (All-nil (IsAccountOf (leg ∷ []))))
 
 -- where there is one leg, its accounts are all
 module _ (xs : List ℕ) where
