@@ -1,5 +1,5 @@
 -- The first record of a transfer: its Note, if it has one.
-use Rattle.std.proofs.Common.{◌≡◌, ℕ, ◌+◌, ◌≤◌, false, List, [], ◌∷◌, ◌++◌, length, get_or, Some, All, inl, refl, sym, ap, ◌∙◌, subst}
+use Rattle.std.proofs.Common.{◌≡◌, ℕ, ◌+◌, ◌≤◌, false, List, [], ◌∷◌, ◌++◌, length, get_or, Some, None, All, inl, refl, sym, ap, ◌∙◌, subst, arith}
 use Rattle.std.proofs.lemmas.List.Elements.{All-nil}
 use Rattle.log_record.specs.declared.rec.Rec.{Rec}
 use Rattle.log_record.specs.declared.rec.Rec.TheVariants.{Note}
@@ -17,12 +17,13 @@ use Rattle.lock_core.specs.Transfers.{transfer_of, note_of}
 use Rattle.log_table.specs.Closing.{records_of}
 use Rattle.log_table.specs.Seats.{view_of}
 use Rattle.log_table.proofs.Nexting.{note-next}
+use Rattle.ring_buffer.specs.Calls.{HasEntries, entry_of}
 use Rattle.txn_runner.specs.declared.cause.Cause.{Cause}
 use Rattle.txn_runner.specs.declared.holding.Holding.{Holding}
 use Rattle.txn_runner.specs.Holdings.{IsUnchanged}
-use Rattle.txn_runner.specs.Inserts.{placing_all, IsLeft, StopsFor, IsCutOff}
-use Rattle.txn_runner.specs.Legs.{changes_by, HoldsJob, StandsBefore, TouchesLeg}
-use Rattle.txn_runner.proofs.Adding.{left-behind, records-behind, cut-off}
+use Rattle.txn_runner.specs.Inserts.{Puts, placing_all, IsLeft, StopsFor, IsCutOff}
+use Rattle.txn_runner.specs.Legs.{changes_by, HoldsJob, AddsRecords, StandsBefore, TouchesLeg}
+use Rattle.txn_runner.proofs.Adding.{adds-none, left-behind, records-behind, cut-off}
 
 module _ (number : ℕ) (job : Job) (text : List ℕ) (old : Seat) (rec : Rec) (is : rec ≡ Note number text)
     (last : (view_of old).books.last ≡ record { number = number; job = job })
@@ -41,6 +42,23 @@ module _ (number : ℕ) (job : Job) (text : List ℕ) (old : Seat) (rec : Rec) (
   pub cut-note : (cause : Cause) (new : Seat) → (view_of new).books ≡ (view_of old).books
       → StopsFor cause (rec ∷ []) (view_of new) → IsCutOff cause (view_of new)
   cut-note cause new = cut-off rec next.rest cause old new next.plan (ap (λ placed. has_commit (recs_of placed)) none)
+
+  pub noted-by : (end : ℕ) (new : Seat) → Puts rec end old new → AddsRecords (with_note number (note_of job.note) []) old new
+  noted-by end new put = record {
+    added = entry_of put.start rec ∷ [];
+    adds = put.adds;
+    records_are = (λ i. is i ∷ []) ∙ sym (ap (λ note. with_note number (note_of note) []) noted ∙ long text some);
+  }
+    where
+      long : (bytes : List ℕ) → 1 ≤ length bytes → with_note number bytes [] ≡ Note number bytes ∷ []
+      long [] some = absurd (omega arith)
+      long (byte ∷ bytes) some = refl
+
+-- a job without a note needs no record before its first leg
+pub none-noted : (number : ℕ) (job : Job) (seat : Seat) → HasEntries seat seat (view_of seat).entries (view_of seat).books → job.note ≡ None
+    → AddsRecords (with_note number (note_of job.note) []) seat seat
+none-noted number job seat kept none = subst (λ note. AddsRecords (with_note number (note_of note) []) seat seat) (sym none)
+    record { added = []; adds = adds-none seat seat kept; records_are = refl }
 
 no-changes : (number : ℕ) (text : List ℕ) → changes_in (in_order (with_note number text []) []) ≡ []
 no-changes number [] = refl

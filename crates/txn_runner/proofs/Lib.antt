@@ -16,4 +16,5 @@ pub mod ProgressLemmas
 pub mod Putting
 pub mod RowLemmas
 pub mod StripeLemmas
+pub mod Trying
 pub mod WorkLemmas

@@ -1,5 +1,5 @@
 -- Ascending lists of accounts, and one more account.
-use Rattle.std.proofs.Common.{◌≡◌, ℕ, zero, suc, ◌+◌, ◌-◌, ◌<◌, ◌≤◌, ◌⊎◌, inl, inr, List, [], ◌∷◌, length, get_or, min, max, take, insert, All, Contains, Err, ◌∙◌, sym, refl, ap, subst, arith}
+use Rattle.std.proofs.Common.{◌≡◌, ◌≢◌, ℕ, zero, suc, ◌+◌, ◌-◌, ◌<◌, ◌≤◌, ◌⊎◌, inl, inr, List, [], ◌∷◌, length, get_or, min, max, take, insert, All, Contains, Ok, Err, ◌∙◌, sym, refl, ap, subst, arith}
 use mathlib.Core.Logic.{dite}
 use native.Mathlib.Decide.{ℕ_discrete}
 use Rattle.std.specs.Ordering.{nat_cmp}
@@ -49,16 +49,28 @@ module _ (xs : List ℕ) (i x : ℕ) (rising : IsStrictlyIncreasing xs) (within 
         let up = rising-below xs rising (k - 1) k (omega arith) (omega arith) in omega arith
   ]
 
+not-falling : (xs : List ℕ) → IsStrictlyIncreasing xs → (j k : ℕ) → j ≤ k → k < length xs → get_or xs j 0 ≤ get_or xs k 0
+not-falling xs rising j k le within = dite (ℕ_discrete j k) (λ same. subst (λ n. get_or xs j 0 ≤ get_or xs n 0) same (omega arith))
+    (λ apart. let less = rising-below xs rising j k (omega arith) within in omega arith)
+
 -- the place that a binary search answers is such a one
 pub rising-searched : (xs ys : List ℕ) (i x : ℕ) → IsStrictlyIncreasing xs → ys ≡ xs → IsBinarySearchResult (λ y. nat_cmp y x) ys (Err i)
     → IsStrictlyIncreasing (insert xs i x)
 rising-searched xs ys i x rising is search =
-    let found = searched xs x (Err i) (subst (λ list. IsBinarySearchResult (λ y. nat_cmp y x) list (Err i)) is search) not_falling in
+    let found = searched xs x (Err i) (subst (λ list. IsBinarySearchResult (λ y. nat_cmp y x) list (Err i)) is search) (not-falling xs rising) in
     rising-insert xs i x rising found.0 found.1 found.2
-  where
-    not_falling : (j k : ℕ) → j ≤ k → k < length xs → get_or xs j 0 ≤ get_or xs k 0
-    not_falling j k le within = dite (ℕ_discrete j k) (λ same. subst (λ n. get_or xs j 0 ≤ get_or xs n 0) same (omega arith))
-        (λ apart. let less = rising-below xs rising j k (omega arith) within in omega arith)
+
+-- an account that the search finds is there already
+pub adds-found : (account : ℕ) (xs ys : List ℕ) (i : ℕ) → IsStrictlyIncreasing xs → ys ≡ xs → IsBinarySearchResult (λ y. nat_cmp y account) ys (Ok i)
+    → AddsAccount account xs xs
+adds-found account xs ys i rising is result =
+    let found = searched xs account (Ok i) (subst (λ list. IsBinarySearchResult (λ y. nat_cmp y account) list (Ok i)) is result)
+    (not-falling xs rising) in record {
+      has = (i, found.0, get_or_default xs i _ _ found.0 ∙ found.1);
+      keeps = λ other has. has;
+      only = λ other has. inr has;
+      longer = omega arith;
+    }
 
 pub adds-insert : (account : ℕ) (old new : List ℕ) (i : ℕ) → i ≤ length old → new ≡ insert old i account → AddsAccount account old new
 adds-insert account old new i within is = subst (AddsAccount account old) (sym is) record {
@@ -84,7 +96,7 @@ module _ (legs : List (ℕ × ℕ × ℕ)) (i : ℕ) (within : i < length legs) 
   abbrev keeps : (account : ℕ) → Contains before account → Contains after account
   keeps account has = second.keeps account (first.keeps account has)
 
-  pub all-more : All (HasAccountsOf before) (take i legs) → All (HasAccountsOf after) (take (i + 1) legs)
+  all-more : All (HasAccountsOf before) (take i legs) → All (HasAccountsOf after) (take (i + 1) legs)
   all-more all = All-more (HasAccountsOf after) legs i (0, 0, 0) within
       (All-weaker (HasAccountsOf before) (HasAccountsOf after) (λ leg has. (keeps leg.0 has.0, keeps leg.1 has.1)) (take i legs) all)
       (second.keeps _ first.has, second.has)
@@ -93,7 +105,7 @@ module _ (legs : List (ℕ × ℕ × ℕ)) (i : ℕ) (within : i < length legs) 
   of-leg : (account : ℕ) → ((get_or legs i (0, 0, 0)).0 ≡ account) ⊎ ((get_or legs i (0, 0, 0)).1 ≡ account) → IsAccountOf legs account
   of-leg account is = (i, get_or legs i (0, 0, 0), within, get_or_default legs i _ _ within, is)
 
-  pub only-more : All (IsAccountOf legs) before → All (IsAccountOf legs) after
+  only-more : All (IsAccountOf legs) before → All (IsAccountOf legs) after
   only-more only = All-from_get_or (IsAccountOf legs) after 0 (λ k lt.
       elim (second.only (get_or after k 0) (Contains-get_or after k 0 lt)) [
         | inl same ↦ of-leg _ (inr (sym same))
@@ -103,16 +115,45 @@ module _ (legs : List (ℕ × ℕ × ℕ)) (i : ℕ) (within : i < length legs) 
         ]
       ])
 
--- both accounts of a leg are in the list of the lower and the higher
-module _ (payer payee amount : ℕ) where
-  abbrev leg : ℕ × ℕ × ℕ
-  leg = (payer, payee, amount)
+  -- with the first i legs' accounts, and no others, so it is with this leg's
+  pub lists-more : All (HasAccountsOf before) (take i legs) → All (IsAccountOf legs) before
+      → All (HasAccountsOf after) (take (i + 1) legs) × All (IsAccountOf legs) after
+  lists-more all only = (all-more all, only-more only)
 
-  pub two-has : HasAccountsOf (min payer payee ∷ max payer payee ∷ []) leg
-  two-has = elim (cases_lt payer payee) [
-    | inl less ↦ ((0, omega arith, omega arith), (1, omega arith, omega arith))
-    | inr more ↦ ((1, omega arith, omega arith), (0, omega arith, omega arith))
-  ]
+-- the list of a leg's two accounts, the lower and the higher, or of the one that they are
+module _ (payer payee : ℕ) where
+  pub one-rising : IsStrictlyIncreasing (payer ∷ [])
+  one-rising k within = absurd (omega arith)
+
+  pub two-rising : payer ≢ payee → IsStrictlyIncreasing (min payer payee ∷ max payer payee ∷ [])
+  two-rising apart zero within = omega arith
+  two-rising apart (suc k) within = absurd (omega arith)
+
+  module _ (amount : ℕ) where
+    abbrev leg : ℕ × ℕ × ℕ
+    leg = (payer, payee, amount)
+
+    pub one-has : payer ≡ payee → HasAccountsOf (payer ∷ []) leg
+    one-has same = ((0, omega arith, refl), (0, omega arith, same))
+
+    pub two-has : HasAccountsOf (min payer payee ∷ max payer payee ∷ []) leg
+    two-has = elim (cases_lt payer payee) [
+      | inl less ↦ ((0, omega arith, omega arith), (1, omega arith, omega arith))
+      | inr more ↦ ((1, omega arith, omega arith), (0, omega arith, omega arith))
+    ]
+
+    own : (account : ℕ) → (payer ≡ account) ⊎ (payee ≡ account) → IsAccountOf (leg ∷ []) account
+    own account side = (0, leg, omega arith, refl, side)
+
+    pub one-only : All (IsAccountOf (leg ∷ [])) (payer ∷ [])
+    one-only = All-cons (IsAccountOf (leg ∷ [])) payer [] (own payer (inl refl)) (All-nil (IsAccountOf (leg ∷ [])))
+
+    pub two-only : All (IsAccountOf (leg ∷ [])) (min payer payee ∷ max payer payee ∷ [])
+    two-only = All-cons (IsAccountOf (leg ∷ [])) (min payer payee) (max payer payee ∷ [])
+        (own (min payer payee) (elim (cases_lt payer payee) [ inl less ↦ inl (omega arith) | inr more ↦ inr (omega arith) ]))
+        (All-cons (IsAccountOf (leg ∷ [])) (max payer payee) []
+        (own (max payer payee) (elim (cases_lt payer payee) [ inl less ↦ inr (omega arith) | inr more ↦ inl (omega arith) ]))
+        (All-nil (IsAccountOf (leg ∷ []))))
 
 -- where there is one leg, its accounts are all
 module _ (xs : List ℕ) where

@@ -25,11 +25,12 @@ use Rattle.lock_core.specs.Transfers.{transfer_of}
 use Rattle.log_table.specs.Closing.{records_of}
 use Rattle.log_table.proofs.Planning.{leg-sums}
 use Rattle.txn_runner.specs.declared.holding.Holding.{Holding}
+use Rattle.txn_runner.specs.declared.rows.Answer.{Answer}
 use Rattle.txn_runner.specs.declared.rows.Answer.TheVariants as answer
 use Rattle.txn_runner.specs.Accounts.{HasAccountsOf, IsAccountOf}
 use Rattle.txn_runner.specs.Holdings.{account_of, taken_of}
 use Rattle.txn_runner.specs.Inserts.{placing_all, IsLeft}
-use Rattle.txn_runner.specs.Legs.{AreHeld, changes_by, HoldsJob, leg_records, MayMakeLeg, IsAfter, TouchesLeg, StandsBefore, HasChanged, ReachesEnd}
+use Rattle.txn_runner.specs.Legs.{AreHeld, HasBalance, IsRefused, CanMake, changes_by, HoldsJob, leg_records, MayMakeLeg, IsAfter, TouchesLeg, StandsBefore, HasChanged, ReachesEnd}
 use Rattle.txn_runner.proofs.Adding.{left-behind, records-behind, uncommitted-behind}
 use Rattle.txn_runner.proofs.Held.{same-accounts, all-same}
 
@@ -193,110 +194,122 @@ module _ (accounts number : ℕ) (job : Job) (holdings : List Holding) (books : 
     pub leg-accounts : HasAccountsOf (map account_of holdings) leg
     leg-accounts = subst (All (HasAccountsOf (map account_of holdings))) (sym same) holds.all i (0, 0, 0) within
 
-    module _ (payer : Holding) (payer-in : Contains holdings payer) (payer-is : payer.taken.account ≡ leg.0) where
-      -- the payer has too little
-      pub reaches-short : payer.balance < leg.2 → ReachesEnd (answer.Short (i + 1)) number job holdings books
-      reaches-short little = record {
-        left = subst (λ records. IsLeft records books) (cond-true (lacks leg balances) _ _ short) left-at;
+    pub leg-most : leg.2 ≤ MOST_BALANCE
+    leg-most = leg-allowed.most
+
+    balance-of : (account : ℕ) (Such : ℕ → Type 0) → HasBalance holdings account Such → Such (balances account)
+    balance-of account Such of = subst Such (balance-is of.holding account of.contains of.account_is) of.balance
+
+    -- the payer has too little
+    reaches-short : HasBalance holdings leg.0 (λ balance. balance < leg.2) → ReachesEnd (answer.Short (i + 1)) number job holdings books
+    reaches-short payer = record {
+      left = subst (λ records. IsLeft records books) (cond-true (lacks leg balances) _ _ short) left-at;
+      spellable = (holds.allowed.number, leg-number);
+      outcome = sym (outcome-at ∙ cond-true (lacks leg balances) _ _ short);
+      moved = λ is. cc;
+      uncommitted = stands.uncommitted;
+    }
+      where
+        short : lacks leg balances ≡ true
+        short = lt-ltb (balances leg.0) leg.2 (balance-of leg.0 _ payer)
+
+    module _ (payer : HasBalance holdings leg.0 (λ balance. leg.2 ≤ balance)) where
+      covered : leg.2 ≤ balances leg.0
+      covered = balance-of leg.0 _ payer
+
+      has : lacks leg balances ≡ false
+      has = le-ltb (balances leg.0) leg.2 covered
+
+      -- the payee would have too much
+      reaches-over : HasBalance holdings leg.1 (λ balance. MOST_BALANCE - leg.2 < balance)
+          → ReachesEnd (answer.Over (i + 1)) number job holdings books
+      reaches-over payee = record {
+        left = subst (λ records. IsLeft records books) (cond-false (lacks leg balances) _ _ has
+            ∙ cond-true (overfills leg balances) _ _ over) left-at;
         spellable = (holds.allowed.number, leg-number);
-        outcome = sym (outcome-at ∙ cond-true (lacks leg balances) _ _ short);
+        outcome = sym (outcome-at ∙ cond-false (lacks leg balances) _ _ has ∙ cond-true (overfills leg balances) _ _ over);
         moved = λ is. cc;
         uncommitted = stands.uncommitted;
       }
         where
-          short : lacks leg balances ≡ true
-          short = lt-ltb (balances leg.0) leg.2 (omega (arith, balance-is payer leg.0 payer-in payer-is))
+          over : overfills leg balances ≡ true
+          over = lt-ltb MOST_BALANCE (balances leg.1 + leg.2) (omega (arith, balance-of leg.1 _ payee))
 
-      module _ (enough : leg.2 ≤ payer.balance) (payee : Holding) (payee-in : Contains holdings payee)
-          (payee-is : payee.taken.account ≡ leg.1) where
-        covered : leg.2 ≤ balances leg.0
-        covered = omega (arith, balance-is payer leg.0 payer-in payer-is)
+    pub reaches-refused : (answer : Answer) → IsRefused holdings leg (i + 1) answer → ReachesEnd answer number job holdings books
+    reaches-refused answer.Done refused = absurd refused
+    reaches-refused (answer.Short at) (is, payer) = subst (λ k. ReachesEnd (answer.Short k) number job holdings books) (sym is)
+        (reaches-short payer)
+    reaches-refused (answer.Over at) (is, payer, payee) = subst (λ k. ReachesEnd (answer.Over k) number job holdings books) (sym is)
+        (reaches-over payer payee)
 
-        has : lacks leg balances ≡ false
-        has = le-ltb (balances leg.0) leg.2 covered
+    module _ (can : CanMake holdings leg) where
+      room-left : balances leg.1 + leg.2 ≤ MOST_BALANCE
+      room-left = omega (arith, balance-of leg.1 _ can.payee, leg-allowed.most)
 
-        -- the payee would have too much
-        pub reaches-over : MOST_BALANCE - leg.2 < payee.balance → ReachesEnd (answer.Over (i + 1)) number job holdings books
-        reaches-over much = record {
-          left = subst (λ records. IsLeft records books) (cond-false (lacks leg balances) _ _ has
-              ∙ cond-true (overfills leg balances) _ _ over) left-at;
-          spellable = (holds.allowed.number, leg-number);
-          outcome = sym (outcome-at ∙ cond-false (lacks leg balances) _ _ has ∙ cond-true (overfills leg balances) _ _ over);
-          moved = λ is. cc;
-          uncommitted = stands.uncommitted;
+      fits : overfills leg balances ≡ false
+      fits = le-ltb MOST_BALANCE (balances leg.1 + leg.2) room-left
+
+      left-leg : IsLeft (leg_records number mark leg ++ behind) books
+      left-leg = subst (λ records. IsLeft records books) (cond-false (lacks leg balances) _ _ (has can.payer)
+          ∙ cond-false (overfills leg balances) _ _ fits) left-at
+
+      pub may-make : MayMakeLeg accounts number leg holdings books
+      may-make = record {
+        some_job = subst (λ (last : TakenJob). 1 ≤ last.number) (sym holds.last) holds.allowed.number.0;
+        holds = holds-accounts accounts number job holdings books holds;
+        txn = holds.allowed.number;
+        leg_allowed = leg-allowed;
+        both = leg-accounts;
+        taken = holds.taken;
+        uncommitted = stands.uncommitted;
+        rest = behind;
+        left = left-leg;
+      }
+
+      -- the holdings after the leg, and the books once its Updates are placed
+      module _ (holdings' : List Holding) (paid : AllZip (IsAfter leg) holdings holdings') (books' : Books) (added : List Entry)
+          (placed : books' ≡ placing_all added books) (records-are : records_of added ≡ leg_records number mark leg) where
+        held : books'.held ≡ books.held
+        held = ap (λ (b : Books). b.held) placed
+
+        records' : recs_of books'.placed ≡ Update number leg.1 (pos leg.2) (mark leg.1) ∷ Update number leg.0
+            (neg_ℤ (pos leg.2)) (mark leg.0) ∷ recs_of books.placed
+        records' = ap (λ (b : Books). recs_of b.placed) placed ∙ records-behind added books.placed
+            ∙ ap (λ records. in_order records (recs_of books.placed)) records-are
+
+        abbrev less : Change
+        less = record { account = leg.0; delta = neg_ℤ (pos leg.2); prev = mark leg.0 }
+
+        abbrev more : Change
+        more = record { account = leg.1; delta = pos leg.2; prev = mark leg.1 }
+
+        changes' : changes_by books' ≡ more ∷ less ∷ changes
+        changes' = ap changes_in records'
+
+        pub still-holds : HoldsJob accounts number job holdings' books'
+        still-holds = holds-same accounts number job holdings holdings' books' (paid-taken leg holdings holdings' paid)
+            (holds-behind accounts number job holdings books books' added placed holds)
+
+        touched' : All (TouchesLeg (changes_by books')) (take (i + 1) job.legs)
+        touched' = subst (λ (p : List (ℕ × ℕ × ℕ) × List Change). All (TouchesLeg p.1) (take (i + 1) p.0))
+            (λ k. (same k, sym changes' k))
+            (touches-more legs i changes less more within refl refl
+            (subst (λ list. All (TouchesLeg changes) (take i list)) (sym same) stands.touched))
+
+        pub stands-next : StandsBefore (i + 1) number job holdings' books'
+        stands-next = record {
+          balances = after_leg leg balances;
+          left = subst (λ list. IsLeft (planned_from number (mark_taken list) (after_leg leg balances) (i + 1) rest) books') (sym held)
+              (left-behind added behind books books' placed (subst (λ records. IsLeft (records ++ behind) books)
+              (sym records-are) left-leg));
+          outcome = ap (λ list. outcome_alone (transfer_of job) (balance_taken list)) held
+              ∙ outcome-at ∙ cond-false (lacks leg balances) _ _ (has can.payer) ∙ cond-false (overfills leg balances) _ _ fits;
+          now = paid-now leg balances holdings holdings' paid stands.now;
+          sums = λ account. subst (λ (p : List Held × List Change). after_leg leg balances account + moved loss account p.1
+              ≡ balance_taken p.0 account + moved gain account p.1)
+              (λ i. (sym held i, sym changes' i))
+              (leg-sums leg balances (balance_taken books.held) changes (mark leg.0)
+              (mark leg.1) account leg-allowed.two (covered can.payer) (stands.sums account));
+          touched = touched';
+          uncommitted = uncommitted-behind added books books' placed (ap has_commit records-are) stands.uncommitted;
         }
-          where
-            over : overfills leg balances ≡ true
-            over = lt-ltb MOST_BALANCE (balances leg.1 + leg.2) (omega (arith, balance-is payee leg.1 payee-in payee-is))
-
-        module _ (room : payee.balance ≤ MOST_BALANCE - leg.2) where
-          room-left : balances leg.1 + leg.2 ≤ MOST_BALANCE
-          room-left = omega (arith, balance-is payee leg.1 payee-in payee-is, leg-allowed.most)
-
-          fits : overfills leg balances ≡ false
-          fits = le-ltb MOST_BALANCE (balances leg.1 + leg.2) room-left
-
-          left-leg : IsLeft (leg_records number mark leg ++ behind) books
-          left-leg = subst (λ records. IsLeft records books) (cond-false (lacks leg balances) _ _ has
-              ∙ cond-false (overfills leg balances) _ _ fits) left-at
-
-          pub may-make : MayMakeLeg accounts number leg holdings books
-          may-make = record {
-            some_job = subst (λ (last : TakenJob). 1 ≤ last.number) (sym holds.last) holds.allowed.number.0;
-            holds = holds-accounts accounts number job holdings books holds;
-            txn = holds.allowed.number;
-            leg_allowed = leg-allowed;
-            both = leg-accounts;
-            taken = holds.taken;
-            uncommitted = stands.uncommitted;
-            rest = behind;
-            left = left-leg;
-          }
-
-          -- the holdings after the leg, and the books once its Updates are placed
-          module _ (holdings' : List Holding) (paid : AllZip (IsAfter leg) holdings holdings') (books' : Books) (added : List Entry)
-              (placed : books' ≡ placing_all added books) (records-are : records_of added ≡ leg_records number mark leg) where
-            held : books'.held ≡ books.held
-            held = ap (λ (b : Books). b.held) placed
-
-            records' : recs_of books'.placed ≡ Update number leg.1 (pos leg.2) (mark leg.1) ∷ Update number leg.0
-                (neg_ℤ (pos leg.2)) (mark leg.0) ∷ recs_of books.placed
-            records' = ap (λ (b : Books). recs_of b.placed) placed ∙ records-behind added books.placed
-                ∙ ap (λ records. in_order records (recs_of books.placed)) records-are
-
-            abbrev less : Change
-            less = record { account = leg.0; delta = neg_ℤ (pos leg.2); prev = mark leg.0 }
-
-            abbrev more : Change
-            more = record { account = leg.1; delta = pos leg.2; prev = mark leg.1 }
-
-            changes' : changes_by books' ≡ more ∷ less ∷ changes
-            changes' = ap changes_in records'
-
-            pub still-holds : HoldsJob accounts number job holdings' books'
-            still-holds = holds-same accounts number job holdings holdings' books' (paid-taken leg holdings holdings' paid)
-                (holds-behind accounts number job holdings books books' added placed holds)
-
-            touched' : All (TouchesLeg (changes_by books')) (take (i + 1) job.legs)
-            touched' = subst (λ (p : List (ℕ × ℕ × ℕ) × List Change). All (TouchesLeg p.1) (take (i + 1) p.0))
-                (λ k. (same k, sym changes' k))
-                (touches-more legs i changes less more within refl refl
-                (subst (λ list. All (TouchesLeg changes) (take i list)) (sym same) stands.touched))
-
-            pub stands-next : StandsBefore (i + 1) number job holdings' books'
-            stands-next = record {
-              balances = after_leg leg balances;
-              left = subst (λ list. IsLeft (planned_from number (mark_taken list) (after_leg leg balances) (i + 1) rest) books') (sym held)
-                  (left-behind added behind books books' placed (subst (λ records. IsLeft (records ++ behind) books)
-                  (sym records-are) left-leg));
-              outcome = ap (λ list. outcome_alone (transfer_of job) (balance_taken list)) held
-                  ∙ outcome-at ∙ cond-false (lacks leg balances) _ _ has ∙ cond-false (overfills leg balances) _ _ fits;
-              now = paid-now leg balances holdings holdings' paid stands.now;
-              sums = λ account. subst (λ (p : List Held × List Change). after_leg leg balances account + moved loss account p.1
-                  ≡ balance_taken p.0 account + moved gain account p.1)
-                  (λ i. (sym held i, sym changes' i))
-                  (leg-sums leg balances (balance_taken books.held) changes (mark leg.0)
-                  (mark leg.1) account leg-allowed.two covered (stands.sums account));
-              touched = touched';
-              uncommitted = uncommitted-behind added books books' placed (ap has_commit records-are) stands.uncommitted;
-            }

@@ -1,5 +1,5 @@
 -- The legs of a transfer, one after another.
-use Rattle.std.specs.Prelude.{◌≡◌, ℕ, ◌+◌, ◌≤◌, true, false, pos, neg_ℤ, List, [], ◌∷◌, ◌++◌, map, take, drop, All}
+use Rattle.std.specs.Prelude.{◌≡◌, ℕ, ◌+◌, ◌-◌, ◌<◌, ◌≤◌, true, false, pos, neg_ℤ, List, [], ◌∷◌, ◌++◌, map, take, drop, All, Contains}
 use Rattle.log_record.specs.declared.rec.Rec.{Rec}
 use Rattle.log_record.specs.declared.rec.Rec.TheVariants.{Update}
 use Rattle.log_record.specs.Spelling.{IsTxn, IsSpellable}
@@ -20,7 +20,7 @@ use Rattle.lock_core.specs.Transfers.{transfer_of}
 use Rattle.log_table.specs.Closing.{records_of}
 use Rattle.txn_runner.specs.declared.holding.Holding.{Holding}
 use Rattle.txn_runner.specs.declared.rows.Answer.{Answer}
-use Rattle.txn_runner.specs.declared.rows.Answer.TheVariants.{Done}
+use Rattle.txn_runner.specs.declared.rows.Answer.TheVariants.{Done, Short, Over}
 use Rattle.txn_runner.specs.Accounts.{HasAccountsOf, IsAccountOf}
 use Rattle.txn_runner.specs.Holdings.{account_of}
 use Rattle.txn_runner.specs.Inserts.{Adds, IsLeft}
@@ -29,6 +29,25 @@ use Rattle.txn_runner.specs.Running.{outcome_of}
 -- these accounts are held with these values
 abbrev pub AreHeld : List Holding → Books → Type 0
 AreHeld holdings books = All (λ (holding : Holding). HoldsTaken holding.taken books) holdings
+
+-- one of the holdings is of this account, and has such a balance
+pub record HasBalance (holdings : List Holding) (account : ℕ) (Such : ℕ → Type 0) : Type 0 where
+  pub holding : Holding
+  pub contains : Contains holdings holding
+  pub account_is : holding.taken.account ≡ account
+  pub balance : Such holding.balance
+
+-- The leg at this place, from 1, can't be made: its payer has too little; or else its payee would have too much.
+abbrev pub IsRefused : List Holding → ℕ × ℕ × ℕ → ℕ → Answer → Type 0
+IsRefused holdings leg place Done = ⊥
+IsRefused holdings leg place (Short at) = (at ≡ place) × HasBalance holdings leg.0 (λ balance. balance < leg.2)
+IsRefused holdings leg place (Over at) = (at ≡ place) × HasBalance holdings leg.0 (λ balance. leg.2 ≤ balance)
+    × HasBalance holdings leg.1 (λ balance. MOST_BALANCE - leg.2 < balance)
+
+-- the leg can be made: its payer has the amount, and its payee has room for it
+pub record CanMake (holdings : List Holding) (leg : ℕ × ℕ × ℕ) : Type 0 where
+  pub payer : HasBalance holdings leg.0 (λ balance. leg.2 ≤ balance)
+  pub payee : HasBalance holdings leg.1 (λ balance. balance ≤ MOST_BALANCE - leg.2)
 
 -- what the records of the seat's last job change so far
 abbrev pub changes_by : Books → List Change

@@ -9,10 +9,11 @@ use arrayvec::ArrayVec;
 use lock_core::Job;
 use log_record::MOST_LEGS;
 
-/// The most accounts of a transfer: two for each leg.
+/// The most accounts of a transfer: two for each leg. It is public since what `accounts_of` answers names it.
 pub const MOST_PARTIES: usize = 2 * MOST_LEGS as usize;
 
-/// The accounts of the transfer in ascending order, none of them twice.
+/// The accounts of the transfer in ascending order, none of them twice. It is public for its test: what `work` leaves behind is the
+/// same in whatever order a worker took the accounts.
 pub fn accounts_of(job: &Job) -> ArrayVec<u32, MOST_PARTIES>
     ensures rising { IsStrictlyIncreasing result.items }
     ensures all { All (HasAccountsOf result.items) job.now.legs }

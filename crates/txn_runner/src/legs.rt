@@ -1,11 +1,12 @@
 //! The legs of a transfer, one after another.
-ghost use Rattle.std.specs.Prelude.{◌≡◌, ◌≤◌, ◌<◌, pos, neg_ℤ, true, map, All, Contains, IfOk, IfErr, OnOk, OnErr};
+ghost use Rattle.std.specs.Prelude.{◌≡◌, ◌≤◌, ◌<◌, pos, neg_ℤ, true, map, All, Contains, IfOk, IfErr, IfSome, IfNone, OnOk, OnErr};
 ghost use Rattle.std.specs.List.{AllZip};
 ghost use Rattle.log_table.specs.Seats.{IsOf, view_of};
 ghost use Rattle.ring_buffer.specs.Calls.{IsReady};
+ghost use Rattle.txn_runner.specs.Accounts.{HasAccountsOf};
 ghost use Rattle.txn_runner.specs.Holdings.{account_of, taken_of};
 ghost use Rattle.txn_runner.specs.Inserts.{HasAdded, IsCutOff};
-ghost use Rattle.txn_runner.specs.Legs.{HoldsJob, StandsBefore, ReachesEnd, MayMakeLeg, AddsRecords, leg_records, CanBear, IsAfter};
+ghost use Rattle.txn_runner.specs.Legs.{HoldsJob, IsRefused, CanMake, StandsBefore, ReachesEnd, MayMakeLeg, AddsRecords, leg_records, CanBear, IsAfter};
 ghost use Rattle.log_table.specs.Books.{mark_taken};
 ghost use Rattle.log_record.specs.declared.limits.TheConstants.{MOST_BALANCE};
 
@@ -48,16 +49,29 @@ pub(crate) fn make_legs<R: Wait, Q: Relief, G: Gate>(
     let legs = job.legs.as_slice();
     'legs: for i in 0..legs.len() {
         let leg = legs[i];
-        if holding_of(holdings, leg.0).balance < leg.2 {
-            return Ok(Answer::Short(i as u32 + 1));
-        }
-        if holding_of(holdings, leg.1).balance > MOST_BALANCE - leg.2 {
-            return Ok(Answer::Over(i as u32 + 1));
+        if let Some(answer) = refusal(holdings, leg, i as u32 + 1) {
+            return Ok(answer);
         }
         make_leg(rt, table, seat, number, leg, holdings, relief, gate)?;
         move_amount(holdings, leg);
     }
     Ok(Answer::Done)
+}
+
+/// The answer that refuses the leg at this place, from 1, on the balances as they are now. None: it can be made.
+fn refusal(holdings: &[Holding], leg: (u32, u32, u32), place: u32) -> Option<Answer>
+    requires both { HasAccountsOf (map account_of holdings.now) leg }
+    requires amount { leg.2 ≤ MOST_BALANCE }
+    ensures refused { IfSome result (IsRefused holdings.now leg place) }
+    ensures fits { IfNone result (CanMake holdings.now leg) }
+{
+    if holding_of(holdings, leg.0).balance < leg.2 {
+        return Some(Answer::Short(place));
+    }
+    if holding_of(holdings, leg.1).balance > MOST_BALANCE - leg.2 {
+        return Some(Answer::Over(place));
+    }
+    None
 }
 
 /// Inserts the Updates of the leg's two accounts.

@@ -1,5 +1,5 @@
 //! A worker waits: between two attempts it looks whether the log has stopped, and rests.
-ghost use Rattle.std.specs.Prelude.{◌≡◌, ◌≤◌, [], true, IfOk, IfErr, OnErr};
+ghost use Rattle.std.specs.Prelude.{◌≡◌, ◌≤◌, [], true, IfOk, IfErr, IfSome, IfNone, OnErr};
 ghost use Rattle.log_table.specs.Seats.{IsOf, view_of};
 ghost use Rattle.ring_buffer.specs.Calls.{IsReady, HasEntries};
 ghost use Rattle.txn_runner.specs.Inserts.{StopsFor};
@@ -53,11 +53,26 @@ pub(crate) fn see_durable<R: Wait, Q: Relief>(
     ensures later { Q.later relief.old relief.new }
 {
     for _ in rt.forever() {
-        let seen = table.load_durable(seat);
-        if !wait || end <= seen {
+        if let Some(seen) = look_at_durable(table, seat, end, wait) {
             return Ok(seen);
         }
         pause(table, seat, relief)?;
     }
     unreachable!()
+}
+
+/// The durable LSN as the worker sees it now. None: the worker is to wait, and that is below the end.
+fn look_at_durable(table: &LogTable, seat: &mut Seat, end: Lsn, wait: bool) -> Option<Lsn>
+    requires seat { IsOf table.now seat.old }
+    requires ready { IsReady (view_of seat.old) }
+    ensures kept { HasEntries seat.old seat.new (view_of seat.old).entries (view_of seat.old).books }
+    ensures seen { IfSome result (λ seen. seen ≡ (view_of seat.new).seen.durable) }
+    ensures waited { IfSome result (λ seen. wait ≡ true → end ≤ seen) }
+    ensures waits { IfNone result (wait ≡ true) }
+{
+    let seen = table.load_durable(seat);
+    if !wait || end <= seen {
+        return Some(seen);
+    }
+    None
 }

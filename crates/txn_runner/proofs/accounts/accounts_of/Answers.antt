@@ -1,16 +1,17 @@
 use Rattle.std.proofs.Common.{All, subst, arith, ◌∙◌}
 use Rattle.std.proofs.lemmas.List.{take_all}
 use Rattle.txn_runner.specs.Accounts.{HasAccountsOf, IsAccountOf}
-use Rattle.txn_runner.proofs.Listing.{all-more, only-more, all-of-one, only-of-one}
+use Rattle.txn_runner.proofs.Listing.{lists-more, all-of-one, only-of-one}
 use Rattle.txn_runner.proofs.accounts.accounts_of.Goals as goal
 
 pub legs-preserved : goal.legs-preserved
 legs-preserved c =
     let first = c.add.ensures.added in
-    let second = c.add-in-legs.ensures.added in record {
+    let second = c.add-in-legs.ensures.added in
+    let more = lists-more _ _ c.legs-test.true _ _ _ first second c.legs.invariant.all c.legs.invariant.only in record {
       rising = c.add-in-legs.ensures.rising;
-      all = all-more _ _ c.legs-test.true _ _ _ first second c.legs.invariant.all;
-      only = only-more _ _ c.legs-test.true _ _ _ first second c.legs.invariant.only;
+      all = more.0;
+      only = more.1;
       few = omega (arith, first.longer, second.longer);
     }
 

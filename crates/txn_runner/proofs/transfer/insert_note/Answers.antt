@@ -1,5 +1,8 @@
+use Rattle.std.proofs.Common.{rules}
 use Rattle.std.proofs.lemmas.Result.{err_from_is_err_and}
-use Rattle.txn_runner.proofs.Beginning.{enters-note, cut-note}
+use Rattle.log_table.specs.Seats.{view_of}
+use Rattle.ring_buffer.specs.Calls.{HasEntries}
+use Rattle.txn_runner.proofs.Beginning.{enters-note, cut-note, noted-by, none-noted}
 use Rattle.txn_runner.proofs.transfer.insert_note.Goals as goal
 
 pub insert_record-requires-clause-next : goal.insert_record-requires-clause-next
@@ -13,3 +16,13 @@ returns-in_err-insert_record-clause-cut g c =
     rw (failed.1, failed.2) (cut-note _ _ _ c.args.seat.now _ c.note.ensures.note c.requires.job c.in-Some.is c.requires.begins
     c.note.ensures.text.0 _
     c.insert_record.new.seat err.kept.books_are err.stopped)
+
+pub returns-in_default-clause-noted : goal.returns-in_default-clause-noted
+returns-in_default-clause-noted g c =
+    let seat = c.args.seat.now in
+    let kept : HasEntries seat seat (view_of seat).entries (view_of seat).books = search rules in
+    none-noted c.args.number c.args.job.now seat kept c.in_default.is
+
+pub returns-clause-noted : goal.returns-clause-noted
+returns-clause-noted g c = noted-by _ _ _ c.args.seat.now _ c.note.ensures.note c.requires.job c.in-Some.is c.requires.begins
+    c.note.ensures.text.0 _ _ c.in_ok-insert_record.ensures.put

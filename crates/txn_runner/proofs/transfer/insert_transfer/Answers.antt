@@ -1,9 +1,10 @@
-use Rattle.std.proofs.Common.{◌++◌, [], length, ap, sym, subst, ◌∙◌}
+use Rattle.std.proofs.Common.{◌++◌, [], length, map, ap, sym, subst, ◌∙◌}
 use Rattle.std.proofs.lemmas.Result.{err_from_is_err_and}
 use Rattle.arrayvec.proofs.ArrayVecLemmas.{items-with_items}
 use Rattle.log_table.specs.Seats.{view_of}
 use Rattle.txn_runner.specs.declared.transfer.Ended.{Ended}
 use Rattle.txn_runner.specs.Endings.{EndsTransfer}
+use Rattle.txn_runner.specs.Holdings.{taken_of}
 use Rattle.txn_runner.specs.Legs.{HoldsJob, StandsBefore}
 use Rattle.txn_runner.proofs.Adding.{adds-none, adds-trans}
 use Rattle.txn_runner.proofs.Beginning.{stands-first}
@@ -63,3 +64,32 @@ returns-clause-ended g c =
     subst (λ list. EndsTransfer c.args.number c.args.job.now ended list c.args.seat.now c.insert_record.new.seat) (sym same)
     (ends-transfer _ _ ended _ _ _ _ _ _ (adds-trans _ _ _ _ _ noted.adds legs.1) c.in_ok-answer.ensures.ended
     c.end_record-last.ensures c.in_ok-end.ensures.put)
+
+pub returns-in_err-answer-clause-taken : goal.returns-in_err-answer-clause-taken
+returns-in_err-answer-clause-taken g c =
+    let value = c.as_mut_slice-list.ensures.value in
+    ap (map taken_of) (items-with_items c.args.holdings.now c.make_legs.new.holdings (c.make_legs.auto.holdings ∙ ap length value))
+    ∙ c.in_err-answer.ensures.taken ∙ ap (map taken_of) value
+
+pub returns-in_err-end-clause-taken : goal.returns-in_err-end-clause-taken
+returns-in_err-end-clause-taken g c =
+    let value = c.as_mut_slice-list.ensures.value in
+    ap (map taken_of) (items-with_items c.args.holdings.now c.make_legs.new.holdings (c.make_legs.auto.holdings ∙ ap length value))
+    ∙ c.in_ok-answer.ensures.taken ∙ ap (map taken_of) value
+
+pub returns-clause-taken : goal.returns-clause-taken
+returns-clause-taken g c =
+    let value = c.as_mut_slice-list.ensures.value in
+    ap (map taken_of) (items-with_items c.args.holdings.now c.make_legs.new.holdings (c.make_legs.auto.holdings ∙ ap length value))
+    ∙ c.in_ok-answer.ensures.taken ∙ ap (map taken_of) value
+
+pub returns-in_err-answer-clause-later : goal.returns-in_err-answer-clause-later
+returns-in_err-answer-clause-later g c = g.met.Q.Relief.later_trans _ _ _ c.in_ok-insert_note.ensures.later c.in_err-answer.ensures.later
+
+pub returns-in_err-end-clause-later : goal.returns-in_err-end-clause-later
+returns-in_err-end-clause-later g c = g.met.Q.Relief.later_trans _ _ _
+    (g.met.Q.Relief.later_trans _ _ _ c.in_ok-insert_note.ensures.later c.in_ok-answer.ensures.later) c.in_err-end.ensures.later
+
+pub returns-clause-later : goal.returns-clause-later
+returns-clause-later g c = g.met.Q.Relief.later_trans _ _ _
+    (g.met.Q.Relief.later_trans _ _ _ c.in_ok-insert_note.ensures.later c.in_ok-answer.ensures.later) c.in_ok-end.ensures.later

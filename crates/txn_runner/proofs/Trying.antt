@@ -1,0 +1,78 @@
+-- One account is tried: it is taken, or it was held.
+use Rattle.std.proofs.Common.{◌≡◌, ℕ, ◌≤◌, ◌∙◌, List, Bool, true, false, sym, ap, arith}
+use Rattle.std.specs.Prelude.{MatchBool}
+use Rattle.log_record.specs.declared.limits.TheConstants.{MOST_BALANCE}
+use Rattle.log_table.specs.Books.{taking}
+use Rattle.log_table.specs.Seats.{Becomes, view_of}
+use Rattle.log_table.specs.declared.table.Seat.{Seat}
+use Rattle.log_table.specs.declared.view.Seen.{Seen}
+use Rattle.log_table.specs.declared.view.Books.{Books}
+use Rattle.log_table.specs.declared.view.Call.TheVariants.{Idle}
+use Rattle.log_table.specs.declared.view.Entry.{Entry}
+use Rattle.ring_buffer.specs.Calls.{HasEntries}
+use Rattle.ring_buffer.proofs.TwoCalls.{IsSameWorker-trans}
+use Rattle.early_locks.specs.declared.taking.Held.{Held}
+use Rattle.early_locks.specs.declared.taking.Taken.{Taken}
+use Rattle.early_locks.specs.Locks.{HasTaken, WasHeld, held_of}
+
+-- what a second call leaves as it was
+pub stays : (first second third : Seat) (entries : List Entry) (books : Books) → HasEntries first second entries books
+    → HasEntries second third (view_of second).entries (view_of second).books → HasEntries first third entries books
+stays first second third entries books before after = record {
+  same = IsSameWorker-trans first second third before.same after.same;
+  idle = after.idle;
+  entries_are = after.entries_are ∙ before.entries_are;
+  books_are = after.books_are ∙ before.books_are;
+}
+
+-- the seat saw more, and its books are these
+changes : (old new : Seat) (seen : Seen) (books : Books) → (view_of old).call ≡ Idle
+    → Becomes old new (record (view_of old) { seen = seen; books = books })
+    → (view_of old).seen.tail ≤ seen.tail → (view_of old).seen.exposed ≤ seen.exposed → (view_of old).seen.durable ≤ seen.durable
+    → (view_of old).seen.steps ≤ seen.steps → HasEntries old new (view_of old).entries books
+changes old new seen books idle becomes tail exposed durable steps = record {
+  same = record {
+    table_is = becomes.table_is;
+    number = becomes.number;
+    slots = ap (λ m. m.1) becomes.me;
+    worker = becomes.worker;
+    constants = ap (λ m. m.0.constants) becomes.me;
+    standing = ap (λ m. m.0.standing) becomes.me;
+    contended = ap (λ m. m.0.contended) becomes.me;
+    grows = omega (arith, tail, ap (λ m. m.0.seen.tail) becomes.me);
+    exposed = omega (arith, exposed, ap (λ m. m.0.seen.exposed) becomes.me);
+    durable = omega (arith, durable, ap (λ m. m.0.seen.durable) becomes.me);
+    steps = omega (arith, steps, ap (λ m. m.0.seen.steps) becomes.me);
+  };
+  idle = ap (λ m. m.0.call) becomes.me ∙ idle;
+  entries_are = ap (λ m. m.0.entries) becomes.me;
+  books_are = ap (λ m. m.0.books) becomes.me;
+}
+
+pub taken-fits : (old new : Seat) (account : ℕ) (taken : Taken) → HasTaken old new account taken → taken.balance ≤ MOST_BALANCE
+taken-fits old new account taken has = omega (arith, has.balance, has.word.fits)
+
+either : {X Y Z : Type 0} (so : Bool) → MatchBool so X Y → (X → Z) → (Y → Z) → Z
+either true has f g = f has
+either false has f g = g has
+
+module _ (first second third : Seat) (account : ℕ) (before : HasEntries first second (view_of first).entries (view_of first).books) where
+  pub takes-one : (taken : Taken) → HasTaken second third account taken
+      → HasEntries first third (view_of first).entries (taking (held_of taken) (view_of first).books)
+  takes-one taken has =
+      let step = changes second third _ _ before.idle has.becomes (omega arith) (omega arith) (omega arith) (omega arith) in record {
+        same = IsSameWorker-trans first second third before.same step.same;
+        idle = step.idle;
+        entries_are = step.entries_are ∙ before.entries_are;
+        books_are = has.books ∙ (λ i. taking (record { account = sym has.account_is i; balance = taken.balance; mark = taken.mark }) (before.books_are i));
+      }
+
+  saw : (seen : Seen) → Becomes second third (record (view_of second) { seen = seen }) → (view_of second).seen.tail ≤ seen.tail
+      → (view_of second).seen.exposed ≤ seen.exposed → (view_of second).seen.durable ≤ seen.durable → (view_of second).seen.steps ≤ seen.steps
+      → HasEntries first third (view_of first).entries (view_of first).books
+  saw seen becomes tail exposed durable steps =
+      stays _ _ _ _ _ before (changes second third seen (view_of second).books before.idle becomes tail exposed durable steps)
+
+  pub passes-one : (held : Held) → WasHeld second third account held → HasEntries first third (view_of first).entries (view_of first).books
+  passes-one held was = either held.loaded.held was (λ same. saw _ same.1 (omega arith) (omega arith) (omega arith) (omega arith))
+      (λ other. saw _ other.1 (omega arith) (omega arith) (omega arith) (omega arith))
