@@ -15,5 +15,6 @@ pub mod PlanLemmas
 pub mod ProgressLemmas
 pub mod Putting
 pub mod RowLemmas
+pub mod StageLemmas
 pub mod StripeLemmas
 pub mod WorkLemmas
