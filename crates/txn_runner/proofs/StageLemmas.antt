@@ -1,6 +1,7 @@
 -- The stages of one transfer, one after another, and what they come to.
 use Rattle.std.proofs.Common.{◌≡◌, ℕ, ◌≤◌, Bool, true, List, [], map, All, IfOk, IfErr, OnErr, Ok, Err, Result, refl, sym, ap, ◌∙◌, subst, arith}
 use Rattle.std.specs.List.Sorted.{IsStrictlyIncreasing}
+use Rattle.std.proofs.lemmas.Result.{IfOk-weaker, IfErr-weaker}
 use Rattle.lock_core.specs.Transactions.{recs_of, has_commit}
 use Rattle.lock_core.specs.declared.job.Job.{Job}
 use Rattle.log_table.specs.declared.table.LogTable.{LogTable}
@@ -24,11 +25,11 @@ use Rattle.txn_runner.specs.declared.rows.Row.{Row}
 use Rattle.txn_runner.specs.declared.transfer.Ended.{Ended}
 use Rattle.txn_runner.specs.Accounts.{HasAccountsOf, IsAccountOf}
 use Rattle.txn_runner.specs.Endings.{EndsTransfer}
-use Rattle.txn_runner.specs.Holdings.{taken_of, given_behind, with_held, KeepsBooks, KeepsGiven, TakesAll}
+use Rattle.txn_runner.specs.Holdings.{taken_of, given_behind, with_held, HoldsAll, KeepsBooks, KeepsGiven, TakesAll}
 use Rattle.txn_runner.specs.Inserts.{Adds, HasAdded, IsCutOff, StopsFor, placing_all}
 use Rattle.txn_runner.specs.Running.{GaveBack, HasRun, HasCut}
-use Rattle.txn_runner.specs.Stages.{HasTakenJob, MayMakeTransfer, TakesTransfer, GivesAll, LetsGo, HasRunTaken, HasCutTaken}
-use Rattle.txn_runner.proofs.Composing.{Keeps, IsGivenFrom, may-make, gave-back, has-inserted, uncommitted-at, has-cut, has-stopped, cut-early, has-run}
+use Rattle.txn_runner.specs.Stages.{HasTakenJob, MayMakeTransfer, TakesTransfer, MayEndTransfer, GivesAll, LetsGo, HasRunTaken, HasCutTaken}
+use Rattle.txn_runner.proofs.Composing.{Keeps, IsGivenFrom, may-make, still-known, still-held, gave-back, has-inserted, uncommitted-at, has-cut, has-stopped, cut-early, has-run}
 use Rattle.txn_runner.proofs.GivenLemmas.{given-same, given-trans}
 use Rattle.txn_runner.proofs.Held.{given-front}
 
@@ -152,6 +153,22 @@ takes-transfer accounts number job list slice holdings first second third same r
     job-taken : HasTakenJob number job (view_of first) (view_of second)
     job-taken = took number job first second taken
 
+-- The transfer was made from `second` to `third`, as far as it came: all its accounts are held still.
+module _ (accounts number : ℕ) (job : Job) (holdings paid : List Holding) (second third : Seat)
+    (may : MayMakeTransfer accounts number job holdings (view_of second).books) (same : map taken_of paid ≡ map taken_of holdings) where
+  pub holds-made : (added : List Entry) → Adds added second third → HoldsAll paid (view_of third).books
+  holds-made added adds = still-held accounts number job holdings paid (view_of second).books may same (view_of third).books
+      (ap (λ (books : Books). books.held) adds.entries.books_are)
+
+  pub may-end : (ended : Ended) → EndsTransfer number job ended paid second third → MayEndTransfer accounts ended paid (view_of third).books
+  may-end ended ends = record {
+    is_last = ends.is_last;
+    has_ended = ends.has_ended;
+    all = holds-made _ ends.adds;
+    known = still-known accounts number job holdings paid (view_of second).books may same;
+    values = ends.back;
+  }
+
 -- the accounts went back
 pub gives-all : (back : List Holding) (first second : Seat) → IsReady (view_of first)
     → Becomes first second (with_held [] back (view_of first)) → GivesAll back first second
@@ -180,7 +197,7 @@ gives-then back first second third kept gives = record {
   books = gives.books ∙ ap (λ (books : Books). record books { held = []; given = given_behind gives.from back books.given }) kept.books_are;
 }
 
--- The transfer was made from `second` to `third`, as far as it came, and its accounts went back then.
+-- Its accounts went back then.
 module _ (accounts number : ℕ) (job : Job) (wait : Bool) (holdings paid : List Holding) (second third fourth : Seat)
     (may : MayMakeTransfer accounts number job holdings (view_of second).books) (same : map taken_of paid ≡ map taken_of holdings)
     (gives : GivesAll paid third fourth) where
@@ -252,3 +269,14 @@ module _ (accounts number : ℕ) (job : Job) (holdings : List Holding) (first se
     given = given-trans (view_of first) (view_of second) (view_of third)
         (given-same (view_of first) (view_of second) takes.taken.given) made.given;
   }
+
+  module _ (wait : Bool) (result : Result Row Cause) where
+    pub run-taken : IfOk result (λ row. HasRunTaken number job wait row (view_of second) (view_of third))
+        → IfOk result (λ row. HasRun number job wait row (view_of first) (view_of third))
+    run-taken = IfOk-weaker result (λ row. HasRunTaken number job wait row (view_of second) (view_of third))
+        (λ row. HasRun number job wait row (view_of first) (view_of third)) (λ row run. run (view_of first) takes.taken)
+
+    pub cut-behind : IfErr result (λ cause. HasCutTaken number job wait cause (view_of second) (view_of third))
+        → IfErr result (λ cause. HasCut number job wait cause (view_of first) (view_of third))
+    cut-behind = IfErr-weaker result (λ cause. HasCutTaken number job wait cause (view_of second) (view_of third))
+        (λ cause. HasCut number job wait cause (view_of first) (view_of third)) (λ cause cut. cut (view_of first) takes.taken)

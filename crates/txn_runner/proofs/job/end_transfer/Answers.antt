@@ -1,0 +1,53 @@
+use Rattle.std.proofs.Common.{All, ap, subst, sym, ◌∙◌}
+use Rattle.std.proofs.lemmas.Result.{err_from_is_err_and}
+use Rattle.log_table.specs.declared.view.Books.{Books}
+use Rattle.log_table.specs.Seats.{view_of}
+use Rattle.txn_runner.specs.declared.rows.Row.{Row}
+use Rattle.txn_runner.specs.Holdings.{HoldsAll, GoesBack}
+use Rattle.txn_runner.proofs.Composing.{still-stops}
+use Rattle.txn_runner.proofs.StageLemmas.{IsOf-same, IsReady-same, gives-all, gives-then}
+use Rattle.txn_runner.proofs.job.end_transfer.Goals as goal
+
+pub give_all-requires-clause-seat : goal.give_all-requires-clause-seat
+give_all-requires-clause-seat g c = IsOf-same _ _ _ c.requires.seat c.see_durable-seen.ensures.kept.same
+
+pub give_all-requires-clause-ready : goal.give_all-requires-clause-ready
+give_all-requires-clause-ready g c =
+    let kept = c.see_durable-seen.ensures.kept in
+    IsReady-same _ _ c.requires.ready kept.same kept.idle
+
+pub give_all-requires-clause-holds : goal.give_all-requires-clause-holds
+give_all-requires-clause-holds g c = subst (HoldsAll c.args.holdings.items) (sym c.see_durable-seen.ensures.kept.books_are) c.requires.may.all
+
+pub give_all-requires-clause-values : goal.give_all-requires-clause-values
+give_all-requires-clause-values g c =
+    let paid = c.args.holdings.items in
+    subst (λ (books : Books). All (GoesBack c.release.result books) paid) (sym c.see_durable-seen.ensures.kept.books_are)
+    (subst (λ release. All (GoesBack release (view_of c.args.seat.now).books) paid) (sym c.release.ensures) c.requires.may.values)
+
+pub returns-in_err-seen-clause-gives : goal.returns-in_err-seen-clause-gives
+returns-in_err-seen-clause-gives g c =
+    let kept = c.see_durable-seen.ensures.kept in
+    gives-then _ _ _ _ kept (gives-all _ _ _ (IsReady-same _ _ c.requires.ready kept.same kept.idle) c.give_all.ensures)
+
+pub returns-in_err-seen-clause-waits : goal.returns-in_err-seen-clause-waits
+returns-in_err-seen-clause-waits g c =
+    let failed = err_from_is_err_and c.from_residual.result c.from_residual.ensures.1 in
+    rw failed.1 c.in_err-seen.ensures.waits
+
+pub returns-in_err-seen-clause-stopped : goal.returns-in_err-seen-clause-stopped
+returns-in_err-seen-clause-stopped g c =
+    let failed = err_from_is_err_and c.from_residual.result c.from_residual.ensures.1 in
+    rw (failed.1, failed.2) (still-stops _ _ _ _ _ _ c.give_all.ensures c.in_err-seen.ensures.stopped)
+
+pub returns-clause-gives : goal.returns-clause-gives
+returns-clause-gives g c =
+    let kept = c.see_durable-seen.ensures.kept in
+    gives-then _ _ _ _ kept (gives-all _ _ _ (IsReady-same _ _ c.requires.ready kept.same kept.idle) c.give_all.ensures)
+
+pub returns-clause-row : goal.returns-clause-row
+returns-clause-row g c = ap (λ seen. record { txn = c.args.number; answer = c.args.ended.answer; end = c.args.ended.end; seen = seen })
+    (c.in_ok-seen.ensures.seen ∙ sym (ap (λ m. m.0.seen.durable) c.give_all.ensures.me))
+
+pub returns-clause-waited : goal.returns-clause-waited
+returns-clause-waited g c = c.in_ok-seen.ensures.waited

@@ -1,0 +1,53 @@
+use Rattle.std.proofs.lemmas.Result.{err_from_is_err_and}
+use Rattle.txn_runner.proofs.StageLemmas.{IsOf-same, IsReady-same, lets-go-made, run-taken, cut-behind}
+use Rattle.txn_runner.proofs.job.run_job.Goals as goal
+
+pub returns-in_err-holdings-clause-seat : goal.returns-in_err-holdings-clause-seat
+returns-in_err-holdings-clause-seat g c = IsOf-same _ _ _ c.requires.seat c.in_err-holdings.ensures.let_go.same
+
+pub returns-in_err-holdings-clause-ready : goal.returns-in_err-holdings-clause-ready
+returns-in_err-holdings-clause-ready g c =
+    let gone = c.in_err-holdings.ensures.let_go in
+    IsReady-same _ _ c.requires.ready gone.same gone.idle
+
+pub returns-in_err-holdings-clause-cut : goal.returns-in_err-holdings-clause-cut
+returns-in_err-holdings-clause-cut g c =
+    let failed = err_from_is_err_and c.from_residual.result c.from_residual.ensures.1 in
+    rw (failed.1, failed.2) (c.in_err-holdings.ensures.cut c.args.wait)
+
+pub make_transfer-requires-clause-seat : goal.make_transfer-requires-clause-seat
+make_transfer-requires-clause-seat g c = IsOf-same _ _ _ c.requires.seat c.in_ok-holdings.ensures.taken.same
+
+pub make_transfer-requires-clause-ready : goal.make_transfer-requires-clause-ready
+make_transfer-requires-clause-ready g c =
+    let takes = c.in_ok-holdings.ensures.taken in
+    IsReady-same _ _ c.requires.ready takes.same takes.idle
+
+pub make_transfer-requires-clause-may : goal.make_transfer-requires-clause-may
+make_transfer-requires-clause-may g c = c.in_ok-holdings.ensures.taken.may
+
+pub returns-clause-seat : goal.returns-clause-seat
+returns-clause-seat g c = IsOf-same _ _ _ c.requires.seat
+    (lets-go-made _ _ _ _ _ _ _ c.in_ok-holdings.ensures.taken c.make_transfer.ensures.let_go).same
+
+pub returns-clause-ready : goal.returns-clause-ready
+returns-clause-ready g c =
+    let gone = lets-go-made _ _ _ _ _ _ c.make_transfer.new.seat c.in_ok-holdings.ensures.taken c.make_transfer.ensures.let_go in
+    IsReady-same _ _ c.requires.ready gone.same gone.idle
+
+pub returns-clause-same : goal.returns-clause-same
+returns-clause-same g c = (lets-go-made _ _ _ _ _ _ _ c.in_ok-holdings.ensures.taken c.make_transfer.ensures.let_go).same
+
+pub returns-clause-given : goal.returns-clause-given
+returns-clause-given g c = (lets-go-made _ _ _ _ _ _ _ c.in_ok-holdings.ensures.taken c.make_transfer.ensures.let_go).given
+
+pub returns-clause-run : goal.returns-clause-run
+returns-clause-run g c = run-taken _ _ _ _ _ _ c.make_transfer.new.seat c.in_ok-holdings.ensures.taken c.args.wait c.make_transfer.result
+    c.make_transfer.ensures.run
+
+pub returns-clause-cut : goal.returns-clause-cut
+returns-clause-cut g c = cut-behind _ _ _ _ _ _ c.make_transfer.new.seat c.in_ok-holdings.ensures.taken c.args.wait c.make_transfer.result
+    c.make_transfer.ensures.cut
+
+pub returns-clause-later : goal.returns-clause-later
+returns-clause-later g c = g.met.Q.Relief.later_trans _ _ _ c.in_ok-holdings.ensures.later c.make_transfer.ensures.later
