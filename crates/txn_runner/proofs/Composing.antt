@@ -21,8 +21,7 @@ use Rattle.log_table.specs.Books.{balance_taken, mark_taken}
 use Rattle.lock_core.specs.Transfers.{transfer_of}
 use Rattle.log_table.specs.Closing.{records_of}
 use Rattle.log_table.specs.Seats.{Becomes, view_of}
-use Rattle.log_table.specs.AccountViews.{took_job}
-use Rattle.ring_buffer.specs.Calls.{HasEntries, entry_of}
+use Rattle.ring_buffer.specs.Calls.{entry_of}
 use Rattle.txn_runner.specs.declared.cause.Cause.{Cause}
 use Rattle.txn_runner.specs.declared.cause.Cause.TheVariants.{Stop, LogEnd}
 use Rattle.txn_runner.specs.declared.holding.Holding.{Holding}

@@ -10,7 +10,6 @@ use Rattle.log_table.specs.declared.view.Books.{Books}
 use Rattle.log_table.specs.declared.view.Call.TheVariants.{Idle}
 use Rattle.log_table.specs.declared.view.Constants.{Constants}
 use Rattle.log_table.specs.declared.view.Entry.{Entry}
-use Rattle.log_table.specs.declared.view.Held.{Held}
 use Rattle.log_table.specs.declared.view.TakenJob.{TakenJob}
 use Rattle.log_table.specs.declared.view.View.{View}
 use Rattle.log_table.specs.Accounts.{MayBeTaken}
@@ -26,12 +25,27 @@ use Rattle.txn_runner.specs.declared.transfer.Ended.{Ended}
 use Rattle.txn_runner.specs.Accounts.{HasAccountsOf, IsAccountOf}
 use Rattle.txn_runner.specs.Endings.{EndsTransfer}
 use Rattle.txn_runner.specs.Holdings.{taken_of, given_behind, with_held, HoldsAll, KeepsBooks, KeepsGiven, TakesAll}
-use Rattle.txn_runner.specs.Inserts.{Adds, HasAdded, IsCutOff, StopsFor, placing_all}
+use Rattle.txn_runner.specs.Inserts.{Adds, HasAdded, IsCutOff, StopsFor}
 use Rattle.txn_runner.specs.Running.{GaveBack, HasRun, HasCut}
 use Rattle.txn_runner.specs.Stages.{HasTakenJob, MayMakeTransfer, TakesTransfer, MayEndTransfer, GivesAll, LetsGo, HasRunTaken, HasCutTaken}
 use Rattle.txn_runner.proofs.Composing.{Keeps, IsGivenFrom, may-make, still-known, still-held, gave-back, has-inserted, uncommitted-at, has-cut, has-stopped, cut-early, has-run}
 use Rattle.txn_runner.proofs.GivenLemmas.{given-same, given-trans}
 use Rattle.txn_runner.proofs.Held.{given-front}
+
+pub IsSameWorker-refl : (seat : Seat) → IsSameWorker seat seat
+IsSameWorker-refl seat = record {
+  table_is = refl;
+  number = refl;
+  slots = refl;
+  worker = refl;
+  constants = refl;
+  standing = refl;
+  contended = refl;
+  grows = omega arith;
+  exposed = omega arith;
+  durable = omega arith;
+  steps = omega arith;
+}
 
 -- the same worker's seat is the table's still, and ready where nothing is under way
 pub IsOf-same : (table : LogTable) (first second : Seat) → IsOf table first → IsSameWorker first second → IsOf table second

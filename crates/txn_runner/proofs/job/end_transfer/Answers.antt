@@ -2,7 +2,6 @@ use Rattle.std.proofs.Common.{All, ap, subst, sym, ◌∙◌}
 use Rattle.std.proofs.lemmas.Result.{err_from_is_err_and}
 use Rattle.log_table.specs.declared.view.Books.{Books}
 use Rattle.log_table.specs.Seats.{view_of}
-use Rattle.txn_runner.specs.declared.rows.Row.{Row}
 use Rattle.txn_runner.specs.Holdings.{HoldsAll, GoesBack}
 use Rattle.txn_runner.proofs.Composing.{still-stops}
 use Rattle.txn_runner.proofs.StageLemmas.{IsOf-same, IsReady-same, gives-all, gives-then}
@@ -18,6 +17,9 @@ give_all-requires-clause-ready g c =
 
 pub give_all-requires-clause-holds : goal.give_all-requires-clause-holds
 give_all-requires-clause-holds g c = subst (HoldsAll c.args.holdings.items) (sym c.see_durable-seen.ensures.kept.books_are) c.requires.may.all
+
+pub give_all-requires-clause-known : goal.give_all-requires-clause-known
+give_all-requires-clause-known g c = c.requires.may.known
 
 pub give_all-requires-clause-values : goal.give_all-requires-clause-values
 give_all-requires-clause-values g c =

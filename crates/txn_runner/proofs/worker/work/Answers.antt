@@ -1,12 +1,34 @@
-use Rattle.std.proofs.Common.{◌∙◌, ap, subst, arith, length, ◌+◌, ◌++◌, ◌∷◌, []}
+use Rattle.std.proofs.Common.{◌∙◌, sym, ap, subst, arith, length, ◌<◌, ◌+◌, ◌++◌, ◌∷◌, []}
 use Rattle.log_table.specs.Seats.{view_of}
 use Rattle.ring_buffer.proofs.TwoCalls.{IsSameWorker-trans}
+use Rattle.txn_runner.specs.Stripes.{HasStripe}
 use Rattle.txn_runner.specs.Working.{taken_in, rows_in, room_of}
-use Rattle.txn_runner.proofs.ProgressLemmas.{Progress-next, Progress-cut, Stopped}
+use Rattle.txn_runner.proofs.ProgressLemmas.{Progress-first, Progress-next, Progress-cut, Stopped}
+use Rattle.txn_runner.proofs.StageLemmas.{IsSameWorker-refl}
 use Rattle.txn_runner.proofs.StripeLemmas.{HasStripe-more, stripe-nears}
 use Rattle.txn_runner.proofs.WorkLemmas.{IsNextJob, IsNextJob-fetched, MayTakeJob-next}
 use Rattle.txn_runner.proofs.worker.work.Goals as goal
 use Rattle.txn_runner.proofs.worker.work.Goals.{In-Some, In-Err}
+
+pub stripe-init : goal.stripe-init
+stripe-init g c = record {
+  seat = c.requires.seat;
+  ready = c.requires.ready;
+  none_held = c.requires.none_held;
+  same = IsSameWorker-refl c.args.seat.now;
+  progress = Progress-first _ _ c.args.wait _ _ c.requires.worked c.requires.room;
+  relief = c.requires.relief;
+  later = g.met.Q.Relief.later_refl c.args.relief.now;
+}
+
+pub fetch-requires-clause-worker : goal.fetch-requires-clause-worker
+fetch-requires-clause-worker g c = subst (λ worker. worker < c.args.jobs.now.workers)
+    (sym (c.worker.ensures.worker ∙ c.stripe.invariant.same.worker)) c.requires.worker
+
+pub fetch-requires-clause-stripe : goal.fetch-requires-clause-stripe
+fetch-requires-clause-stripe g c = subst (λ k. HasStripe c.args.jobs.now c.worker.result k) (sym c.taken.ensures)
+    (subst (λ worker. HasStripe c.args.jobs.now worker (taken_in c.stripe.rows))
+    (sym (c.worker.ensures.worker ∙ c.stripe.invariant.same.worker)) c.stripe.invariant.progress.worked.stripe)
 
 -- the transfer is the worker's next
 next-is : (g : _) (c : In-Some g) → IsNextJob c.args.jobs.now c.args.seat.now.worker (taken_in c.stripe.rows) c.in-Some.number c.fetch.new.job
