@@ -3,9 +3,11 @@ use Rattle.std.proofs.lemmas.Result.{err_from_is_err_and}
 use Rattle.log_table.specs.declared.view.Books.{Books}
 use Rattle.log_table.specs.Seats.{view_of}
 use Rattle.txn_runner.specs.Holdings.{HoldsAll, GoesBack}
+use Rattle.txn_runner.specs.Stages.{GivesAll}
 use Rattle.txn_runner.proofs.Composing.{still-stops}
 use Rattle.txn_runner.proofs.StageLemmas.{IsOf-same, IsReady-same, gives-all, gives-then}
 use Rattle.txn_runner.proofs.job.end_transfer.Goals as goal
+use Rattle.txn_runner.proofs.job.end_transfer.Goals.{After-give_all}
 
 pub give_all-requires-clause-seat : goal.give_all-requires-clause-seat
 give_all-requires-clause-seat g c = IsOf-same _ _ _ c.requires.seat c.see_durable-seen.ensures.kept.same
@@ -27,10 +29,16 @@ give_all-requires-clause-values g c =
     subst (λ (books : Books). All (GoesBack c.release.result books) paid) (sym c.see_durable-seen.ensures.kept.books_are)
     (subst (λ release. All (GoesBack release (view_of c.args.seat.now).books) paid) (sym c.release.ensures) c.requires.may.values)
 
-pub returns-in_err-seen-clause-gives : goal.returns-in_err-seen-clause-gives
-returns-in_err-seen-clause-gives g c =
+-- with what was seen of durable they went back
+went-back : (g : _) (c : After-give_all g) → GivesAll c.args.holdings.items c.args.seat.now c.give_all.new.seat
+went-back g c =
     let kept = c.see_durable-seen.ensures.kept in
-    gives-then _ _ _ _ kept (gives-all _ _ _ (IsReady-same _ _ c.requires.ready kept.same kept.idle) c.give_all.ensures)
+    gives-then c.args.holdings.items c.args.seat.now c.see_durable-seen.new.seat c.give_all.new.seat kept
+    (gives-all c.args.holdings.items c.see_durable-seen.new.seat c.give_all.new.seat
+    (IsReady-same c.args.seat.now c.see_durable-seen.new.seat c.requires.ready kept.same kept.idle) c.give_all.ensures)
+
+pub returns-in_err-seen-clause-gives : goal.returns-in_err-seen-clause-gives
+returns-in_err-seen-clause-gives g c = went-back g (goal.at.returns-in_err-seen-clause-gives g c).After-give_all
 
 pub returns-in_err-seen-clause-waits : goal.returns-in_err-seen-clause-waits
 returns-in_err-seen-clause-waits g c =
@@ -43,9 +51,7 @@ returns-in_err-seen-clause-stopped g c =
     rw (failed.1, failed.2) (still-stops _ _ _ _ _ _ c.give_all.ensures c.in_err-seen.ensures.stopped)
 
 pub returns-clause-gives : goal.returns-clause-gives
-returns-clause-gives g c =
-    let kept = c.see_durable-seen.ensures.kept in
-    gives-then _ _ _ _ kept (gives-all _ _ _ (IsReady-same _ _ c.requires.ready kept.same kept.idle) c.give_all.ensures)
+returns-clause-gives g c = went-back g (goal.at.returns-clause-gives g c).After-give_all
 
 pub returns-clause-row : goal.returns-clause-row
 returns-clause-row g c = ap (λ seen. record { txn = c.args.number; answer = c.args.ended.answer; end = c.args.ended.end; seen = seen })

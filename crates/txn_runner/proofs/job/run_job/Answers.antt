@@ -1,6 +1,8 @@
 use Rattle.std.proofs.lemmas.Result.{err_from_is_err_and}
+use Rattle.txn_runner.specs.Stages.{LetsGo}
 use Rattle.txn_runner.proofs.StageLemmas.{IsOf-same, IsReady-same, lets-go-made, run-taken, cut-behind}
 use Rattle.txn_runner.proofs.job.run_job.Goals as goal
+use Rattle.txn_runner.proofs.job.run_job.Goals.{After-make_transfer}
 
 pub returns-in_err-holdings-clause-seat : goal.returns-in_err-holdings-clause-seat
 returns-in_err-holdings-clause-seat g c = IsOf-same _ _ _ c.requires.seat c.in_err-holdings.ensures.let_go.same
@@ -26,20 +28,22 @@ make_transfer-requires-clause-ready g c =
 pub make_transfer-requires-clause-may : goal.make_transfer-requires-clause-may
 make_transfer-requires-clause-may g c = c.in_ok-holdings.ensures.taken.may
 
+-- what was made of the transfer since it was taken, and before
+gone : (g : _) (c : After-make_transfer g) → LetsGo c.args.seat.now c.make_transfer.new.seat
+gone g c = lets-go-made c.args.table.now.accounts c.args.number c.args.job.now c.in_ok-holdings.holdings.items c.args.seat.now
+    c.take_transfer.new.seat c.make_transfer.new.seat c.in_ok-holdings.ensures.taken c.make_transfer.ensures.let_go
+
 pub returns-clause-seat : goal.returns-clause-seat
-returns-clause-seat g c = IsOf-same _ _ _ c.requires.seat
-    (lets-go-made _ _ _ _ _ _ _ c.in_ok-holdings.ensures.taken c.make_transfer.ensures.let_go).same
+returns-clause-seat g c = IsOf-same c.args.table.now c.args.seat.now c.make_transfer.new.seat c.requires.seat (gone g c).same
 
 pub returns-clause-ready : goal.returns-clause-ready
-returns-clause-ready g c =
-    let gone = lets-go-made _ _ _ _ _ _ c.make_transfer.new.seat c.in_ok-holdings.ensures.taken c.make_transfer.ensures.let_go in
-    IsReady-same _ _ c.requires.ready gone.same gone.idle
+returns-clause-ready g c = IsReady-same c.args.seat.now c.make_transfer.new.seat c.requires.ready (gone g c).same (gone g c).idle
 
 pub returns-clause-same : goal.returns-clause-same
-returns-clause-same g c = (lets-go-made _ _ _ _ _ _ _ c.in_ok-holdings.ensures.taken c.make_transfer.ensures.let_go).same
+returns-clause-same g c = (gone g c).same
 
 pub returns-clause-given : goal.returns-clause-given
-returns-clause-given g c = (lets-go-made _ _ _ _ _ _ _ c.in_ok-holdings.ensures.taken c.make_transfer.ensures.let_go).given
+returns-clause-given g c = (gone g c).given
 
 pub returns-clause-run : goal.returns-clause-run
 returns-clause-run g c = run-taken _ _ _ _ _ _ c.make_transfer.new.seat c.in_ok-holdings.ensures.taken c.args.wait c.make_transfer.result

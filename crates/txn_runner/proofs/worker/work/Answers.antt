@@ -1,11 +1,11 @@
 use Rattle.std.proofs.Common.{◌∙◌, sym, ap, subst, arith, length, ◌<◌, ◌+◌, ◌++◌, ◌∷◌, []}
 use Rattle.log_table.specs.Seats.{view_of}
 use Rattle.ring_buffer.proofs.TwoCalls.{IsSameWorker-trans}
-use Rattle.txn_runner.specs.Stripes.{HasStripe}
+use Rattle.txn_runner.specs.Stripes.{IsStripeEnd}
 use Rattle.txn_runner.specs.Working.{taken_in, rows_in, room_of}
 use Rattle.txn_runner.proofs.ProgressLemmas.{Progress-first, Progress-next, Progress-cut, Stopped}
 use Rattle.txn_runner.proofs.StageLemmas.{IsSameWorker-refl}
-use Rattle.txn_runner.proofs.StripeLemmas.{HasStripe-more, stripe-nears}
+use Rattle.txn_runner.proofs.StripeLemmas.{HasStripe-more, stripe-few, stripe-nears}
 use Rattle.txn_runner.proofs.WorkLemmas.{IsNextJob, IsNextJob-fetched, MayTakeJob-next}
 use Rattle.txn_runner.proofs.worker.work.Goals as goal
 use Rattle.txn_runner.proofs.worker.work.Goals.{In-Some, In-Err}
@@ -25,11 +25,6 @@ pub fetch-requires-clause-worker : goal.fetch-requires-clause-worker
 fetch-requires-clause-worker g c = subst (λ worker. worker < c.args.jobs.now.workers)
     (sym (c.worker.ensures.worker ∙ c.stripe.invariant.same.worker)) c.requires.worker
 
-pub fetch-requires-clause-stripe : goal.fetch-requires-clause-stripe
-fetch-requires-clause-stripe g c = subst (λ k. HasStripe c.args.jobs.now c.worker.result k) (sym c.taken.ensures)
-    (subst (λ worker. HasStripe c.args.jobs.now worker (taken_in c.stripe.rows))
-    (sym (c.worker.ensures.worker ∙ c.stripe.invariant.same.worker)) c.stripe.invariant.progress.worked.stripe)
-
 -- the transfer is the worker's next
 next-is : (g : _) (c : In-Some g) → IsNextJob c.args.jobs.now c.args.seat.now.worker (taken_in c.stripe.rows) c.in-Some.number c.fetch.new.job
 next-is g c = IsNextJob-fetched c.args.jobs.now _ _ _ _ _ _ (c.worker.ensures.worker ∙ c.stripe.invariant.same.worker) c.taken.ensures
@@ -40,6 +35,13 @@ run_job-requires-clause-may g c = MayTakeJob-next c.args.jobs.now c.args.seat.no
     (IsNextJob-fetched c.args.jobs.now _ _ _ _ _ _ (c.worker.ensures.worker ∙ c.stripe.invariant.same.worker) c.taken.ensures
     c.in-Some.ensures.within c.in-Some.ensures.number c.in-Some.ensures.job) c.args.table.now.accounts (view_of c.stripe.seat) c.stripe.invariant.ready
     c.stripe.invariant.none_held c.requires.allowed c.stripe.invariant.progress.worked
+
+pub take-requires : goal.take-requires
+take-requires g c = omega (
+  arith,
+  stripe-few c.args.jobs.now c.args.seat.now.worker (taken_in c.stripe.rows) (next-is g (goal.at.take-requires g c).In-Some).within,
+  c.args.jobs.now.numbered,
+)
 
 pub push-requires : goal.push-requires
 push-requires g c = record {
@@ -107,3 +109,24 @@ returns-in-Err-clause-rows g c = (stopped g c).adds
 
 pub returns-in-Err-clause-later : goal.returns-in-Err-clause-later
 returns-in-Err-clause-later g c = g.met.Q.Relief.later_trans _ _ _ c.stripe.invariant.later c.in-Err.ensures.later
+
+pub returns : goal.returns
+returns g c =
+    let progress = c.stripe.invariant.progress in
+    let ends : IsStripeEnd c.args.jobs.now c.args.seat.now.worker (taken_in c.stripe.rows) =
+    subst (λ worker. IsStripeEnd c.args.jobs.now worker (taken_in c.stripe.rows)) (c.worker.ensures.worker ∙ c.stripe.invariant.same.worker)
+    (subst (IsStripeEnd c.args.jobs.now c.worker.result) c.taken.ensures c.in_default.ensures.end) in
+    record {
+      seat = c.stripe.invariant.seat;
+      ready = c.stripe.invariant.ready;
+      none_held = c.stripe.invariant.none_held;
+      same = c.stripe.invariant.same;
+      worked = progress.worked;
+      kept = progress.kept;
+      given = progress.given;
+      jobs = progress.takes;
+      works = (omega (arith, progress.adds.each), ends, progress.ended);
+      rows = progress.adds;
+      relief = c.stripe.invariant.relief;
+      later = c.stripe.invariant.later;
+    }
