@@ -1,5 +1,8 @@
-use Rattle.std.proofs.Common.{All, ap, subst, sym, ◌∙◌}
+use Rattle.std.proofs.Common.{◌≡◌, ◌≤◌, true, All, ap, arith, subst, sym, ◌∙◌}
+use Rattle.std.proofs.lemmas.Grind.{common_steps}
 use Rattle.std.proofs.lemmas.Result.{err_from_is_err_and}
+use Rattle.lock_core.specs.History.{end_from}
+use Rattle.lock_core.specs.Transactions.{recs_of, has_end}
 use Rattle.log_table.specs.declared.view.Books.{Books}
 use Rattle.log_table.specs.Seats.{view_of}
 use Rattle.txn_runner.specs.Holdings.{HoldsAll, GoesBack}
@@ -28,6 +31,16 @@ give_all-requires-clause-values g c =
     let paid = c.args.holdings.items in
     subst (λ (books : Books). All (GoesBack c.release.result books) paid) (sym c.see_durable-seen.ensures.kept.books_are)
     (subst (λ release. All (GoesBack release (view_of c.args.seat.now).books) paid) (sym c.release.ensures) c.requires.may.values)
+
+pub give_all-requires-clause-durable : goal.give_all-requires-clause-durable
+give_all-requires-clause-durable g c = λ on.
+    let kept = c.see_durable-seen.ensures.kept in
+    record {
+      ended = subst (λ (books : Books). has_end (recs_of books.placed) ≡ true) (sym kept.books_are) c.requires.may.has_ended;
+      durable = subst (λ (books : Books). end_from 0 books.placed ≤ (view_of c.see_durable-seen.new.seat).seen.durable) (sym kept.books_are)
+          (subst (λ end. end ≤ (view_of c.see_durable-seen.new.seat).seen.durable) (sym c.requires.may.is_last)
+          (grind (arith, common_steps)));
+    }
 
 -- with what was seen of durable they went back
 went-back : (g : _) (c : After-give_all g) → GivesAll c.args.holdings.items c.args.seat.now c.give_all.new.seat
