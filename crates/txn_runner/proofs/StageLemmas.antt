@@ -254,23 +254,23 @@ module _ (accounts number : ℕ) (job : Job) (wait : Bool) (holdings paid : List
   module _ (ended : Ended) (ends : EndsTransfer number job ended paid second third) where
     -- it ran
     pub run-made : (result : Result Row Cause)
-        → IfOk result (λ row. row ≡ record { txn = number; answer = ended.answer; end = ended.end; seen = (view_of fourth).seen.durable })
-        → IfOk result (λ row. wait ≡ true → ended.end ≤ row.seen)
+        → IfOk result (λ row. (row ≡ record { txn = number; answer = ended.answer; end = ended.end; seen = (view_of fourth).seen.durable })
+        × (wait ≡ true → ended.end ≤ row.seen))
         → IfOk result (λ row. HasRunTaken number job wait row (view_of second) (view_of fourth))
-    run-made (Ok row) is waited = λ first taken.
+    run-made (Ok row) told = λ first taken.
         let gave = went-back _ ends.adds first taken in
-        subst (λ row. HasRun number job wait row first (view_of fourth)) (sym is)
+        subst (λ row. HasRun number job wait row first (view_of fourth)) (sym told.0)
         (has-run number job wait ended (view_of fourth).seen.durable paid first (view_of fourth) second third taken ends keeps refl
-        (λ on. subst (λ row. ended.end ≤ row.seen) is (waited on)) gave.0
+        (λ on. subst (λ row. ended.end ≤ row.seen) told.0 (told.1 on)) gave.0
         (λ k d within. (gave.1 k d within).durable ∙ gives.from_durable))
-    run-made (Err cause) is waited = tt
+    run-made (Err cause) told = tt
 
     -- the worker waited for the disk, and was stopped
-    pub stop-made : (result : Result Row Cause) → OnErr result (wait ≡ true) → IfErr result (λ cause. StopsFor cause [] (view_of fourth))
+    pub stop-made : (result : Result Row Cause) → IfErr result (λ cause. (wait ≡ true) × StopsFor cause [] (view_of fourth))
         → IfErr result (λ cause. HasCutTaken number job wait cause (view_of second) (view_of fourth))
-    stop-made (Ok row) waits stops = tt
-    stop-made (Err cause) waits stops = λ first taken. has-stopped number job wait cause first (view_of fourth)
-        (has-inserted number job [] first (view_of fourth) second third _ taken ends.adds ends.left keeps) waits stops
+    stop-made (Ok row) cut = tt
+    stop-made (Err cause) cut = λ first taken. has-stopped number job wait cause first (view_of fourth)
+        (has-inserted number job [] first (view_of fourth) second third _ taken ends.adds ends.left keeps) cut.0 cut.1
 
 -- the transfer was taken, and is made or cut off
 module _ (accounts number : ℕ) (job : Job) (holdings : List Holding) (first second third : Seat)

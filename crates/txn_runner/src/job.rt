@@ -150,10 +150,8 @@ fn end_transfer<R: Wait, Q: Relief, G: Gate>(
     requires may { MayEndTransfer table.now.accounts ended holdings.items (view_of seat.old).books }
     requires relief { Q.ready relief.old }
     ensures gives { GivesAll holdings.items seat.old seat.new }
-    ensures row { IfOk result (λ row. row ≡ record { txn = number; answer = ended.answer; end = ended.end; seen = (view_of seat.new).seen.durable }) }
-    ensures waited { IfOk result (λ row. wait ≡ true → ended.end ≤ row.seen) }
-    ensures waits { OnErr result (wait ≡ true) }
-    ensures stopped { IfErr result (λ cause. StopsFor cause [] (view_of seat.new)) }
+    ensures row { IfOk result (λ row. (row ≡ record { txn = number; answer = ended.answer; end = ended.end; seen = (view_of seat.new).seen.durable }) × (wait ≡ true → ended.end ≤ row.seen)) }
+    ensures cut { IfErr result (λ cause. (wait ≡ true) × StopsFor cause [] (view_of seat.new)) }
     ensures relief { Q.ready relief.new }
     ensures later { Q.later relief.old relief.new }
 {

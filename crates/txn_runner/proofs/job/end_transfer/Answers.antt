@@ -53,22 +53,17 @@ went-back g c =
 pub returns-in_err-seen-clause-gives : goal.returns-in_err-seen-clause-gives
 returns-in_err-seen-clause-gives g c = went-back g (goal.at.returns-in_err-seen-clause-gives g c).After-give_all
 
-pub returns-in_err-seen-clause-waits : goal.returns-in_err-seen-clause-waits
-returns-in_err-seen-clause-waits g c =
+pub returns-in_err-seen-clause-cut : goal.returns-in_err-seen-clause-cut
+returns-in_err-seen-clause-cut g c =
     let failed = err_from_is_err_and c.from_residual.result c.from_residual.ensures.1 in
-    rw failed.1 c.in_err-seen.ensures.waits
-
-pub returns-in_err-seen-clause-stopped : goal.returns-in_err-seen-clause-stopped
-returns-in_err-seen-clause-stopped g c =
-    let failed = err_from_is_err_and c.from_residual.result c.from_residual.ensures.1 in
-    rw (failed.1, failed.2) (still-stops _ _ _ _ _ _ c.give_all.ensures c.in_err-seen.ensures.stopped)
+    rw (failed.1, failed.2) (c.in_err-seen.ensures.waits, still-stops _ _ _ _ _ _ c.give_all.ensures c.in_err-seen.ensures.stopped)
 
 pub returns-clause-gives : goal.returns-clause-gives
 returns-clause-gives g c = went-back g (goal.at.returns-clause-gives g c).After-give_all
 
 pub returns-clause-row : goal.returns-clause-row
-returns-clause-row g c = ap (λ seen. record { txn = c.args.number; answer = c.args.ended.answer; end = c.args.ended.end; seen = seen })
-    (c.in_ok-seen.ensures.seen ∙ sym (ap (λ m. m.0.seen.durable) c.give_all.ensures.me))
-
-pub returns-clause-waited : goal.returns-clause-waited
-returns-clause-waited g c = c.in_ok-seen.ensures.waited
+returns-clause-row g c = (
+  ap (λ seen. record { txn = c.args.number; answer = c.args.ended.answer; end = c.args.ended.end; seen = seen })
+      (c.in_ok-seen.ensures.seen ∙ sym (ap (λ m. m.0.seen.durable) c.give_all.ensures.me)),
+  c.in_ok-seen.ensures.waited,
+)

@@ -41,11 +41,11 @@ returns-in-Ok-clause-let_go g c = lets-go _ _ _ c.args.wait _ _ _ _ _ c.requires
 
 pub returns-in-Ok-clause-run : goal.returns-in-Ok-clause-run
 returns-in-Ok-clause-run g c = run-made _ _ _ _ _ _ _ _ _ c.requires.may c.in-Ok.ensures.taken c.end_transfer.ensures.gives _
-    c.in-Ok.ensures.ended _ c.end_transfer.ensures.row c.end_transfer.ensures.waited
+    c.in-Ok.ensures.ended _ c.end_transfer.ensures.row
 
 pub returns-in-Ok-clause-cut : goal.returns-in-Ok-clause-cut
 returns-in-Ok-clause-cut g c = stop-made _ _ _ _ _ _ _ _ _ c.requires.may c.in-Ok.ensures.taken c.end_transfer.ensures.gives _
-    c.in-Ok.ensures.ended _ c.end_transfer.ensures.waits c.end_transfer.ensures.stopped
+    c.in-Ok.ensures.ended _ c.end_transfer.ensures.cut
 
 pub returns-in-Err-clause-let_go : goal.returns-in-Err-clause-let_go
 returns-in-Err-clause-let_go g c = lets-go _ _ _ c.args.wait _ _ _ _ _ c.requires.may c.in-Err.ensures.taken

@@ -1,9 +1,9 @@
 use Rattle.std.proofs.Common.{◌<◌, All, sym, subst}
-use Rattle.std.proofs.lemmas.Result.{err_from_is_err_and, IfOk-weaker}
+use Rattle.std.proofs.lemmas.Result.{IfOk-weaker}
 use Rattle.txn_runner.specs.Holdings.{TakesAll}
 use Rattle.txn_runner.specs.Stages.{TakesTransfer}
 use Rattle.txn_runner.proofs.Composing.{accounts-known}
-use Rattle.txn_runner.proofs.StageLemmas.{lets-go-first, lets-go-taken, cut-taken, takes-transfer}
+use Rattle.txn_runner.proofs.StageLemmas.{lets-go-taken, cut-taken, takes-transfer}
 use Rattle.txn_runner.proofs.job.take_transfer.Goals as goal
 
 pub take_all-requires-clause-known : goal.take_all-requires-clause-known
