@@ -70,7 +70,7 @@ pub record LetsGo (old new : Seat) : Type 0 where
   pub none_held : (view_of new).books.held ≡ []
   pub given : KeepsGiven (view_of old) (view_of new)
 
--- from wherever the seat took the job, which it had taken at `old`, it ran the transfer, or was cut off
+-- The seat had taken the job at `old`. From whichever view it took it, it has run the transfer since, or was cut off.
 abbrev pub HasRunTaken : ℕ → Job → Bool → Row → View → View → Type 0
 HasRunTaken number job wait row old new = (first : View) → HasTakenJob number job first old → HasRun number job wait row first new
 
