@@ -104,8 +104,14 @@ returns-in-Err-clause-jobs g c = (stopped g c).takes
 pub returns-in-Err-clause-works : goal.returns-in-Err-clause-works
 returns-in-Err-clause-works g c = (stopped g c).works
 
+-- (whole, so that it is read behind another call too)
 pub returns-in-Err-clause-rows : goal.returns-in-Err-clause-rows
-returns-in-Err-clause-rows g c = (stopped g c).adds
+returns-in-Err-clause-rows g c = (Progress-cut c.args.jobs.now c.args.seat.now.worker c.args.wait c.args.rows.now c.stripe.rows c.take.new.self
+    (view_of c.args.seat.now) (view_of c.stripe.seat) (view_of c.run_job.new.seat) c.stripe.invariant.progress c.in-Some.number c.fetch.new.job
+    (next-is g (goal.at.returns-in-Err-clause-rows g c).In-Some)
+    record { tail = c.stripe.invariant.same.grows; durable = c.stripe.invariant.same.durable }
+    record { tail = c.in-Err.ensures.same.grows; durable = c.in-Err.ensures.same.durable } c.in-Err.ensures.given
+    (ap room_of c.take.ensures) (ap taken_in c.take.ensures) c.in-Err.cause c.in-Err.ensures.cut (ap rows_in c.take.ensures)).adds
 
 pub returns-in-Err-clause-later : goal.returns-in-Err-clause-later
 returns-in-Err-clause-later g c = g.met.Q.Relief.later_trans _ _ _ c.stripe.invariant.later c.in-Err.ensures.later
