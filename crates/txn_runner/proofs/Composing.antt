@@ -21,8 +21,7 @@ use Rattle.log_table.specs.Books.{balance_taken, mark_taken}
 use Rattle.lock_core.specs.Transfers.{transfer_of}
 use Rattle.log_table.specs.Closing.{records_of}
 use Rattle.log_table.specs.Seats.{Becomes, view_of}
-use Rattle.log_table.specs.AccountViews.{took_job}
-use Rattle.ring_buffer.specs.Calls.{HasEntries, entry_of}
+use Rattle.ring_buffer.specs.Calls.{entry_of}
 use Rattle.txn_runner.specs.declared.cause.Cause.{Cause}
 use Rattle.txn_runner.specs.declared.cause.Cause.TheVariants.{Stop, LogEnd}
 use Rattle.txn_runner.specs.declared.holding.Holding.{Holding}
@@ -38,7 +37,8 @@ use Rattle.txn_runner.specs.Running.{LieInOrder, GaveBack, HasInserted, IsUncomm
 use Rattle.txn_runner.proofs.Adding.{lie-longer, lie-sooner, placed-front}
 use Rattle.txn_runner.proofs.Gaining.{all-known}
 use Rattle.txn_runner.proofs.PlanLemmas.{planned_records-some}
-use Rattle.txn_runner.proofs.Held.{distinct, given-all, given-each, given-front, same-accounts, all-same, taken-behind, taken-first}
+use Rattle.txn_runner.specs.Stages.{HasTakenJob, MayMakeTransfer}
+use Rattle.txn_runner.proofs.Held.{distinct, still-distinct, given-all, given-each, given-front, same-accounts, all-same, taken-behind, taken-first}
 
 -- every account of a job that the table allows is one of the table's
 pub accounts-known : (accounts : ℕ) (legs : List (ℕ × ℕ × ℕ)) (list : List ℕ) → AllByRecursion (IsAllowedLeg accounts) legs
@@ -89,101 +89,74 @@ module _ (accounts number : ℕ) (job : Job) (list slice : List ℕ) (holdings :
     taken = are-held;
   }
 
-  module _ (paid : List Holding) (same : map taken_of paid ≡ map taken_of holdings) where
-    -- with other balances they are still the table's accounts
-    pub still-known : All (IsKnown accounts) paid
-    still-known = all-same holdings paid same (λ taken. taken.account < accounts)
-        (all-known accounts holdings list listed (accounts-known accounts job.legs list allowed.job.legs.each only))
+  -- and its transfer made
+  pub may-make : All (HasAccountsOf list) job.legs → (view_of old).books.last ≡ record { number = number; job = job }
+      → (view_of old).books.placed ≡ [] → MayMakeTransfer accounts number job holdings (view_of new).books
+  may-make all last none = record {
+    holds = holds-job all last;
+    all = record {
+      distinct = distinct holdings (subst IsStrictlyIncreasing (sym listed) rising);
+      held = ap (λ (books : Books). books.held) takes.entries.books_are;
+    };
+    known = all-known accounts holdings list listed (accounts-known accounts job.legs list allowed.job.legs.each only);
+    unchanged = takes.unchanged;
+    none = ap (λ (books : Books). books.placed) takes.entries.books_are ∙ none;
+  }
 
-    -- those of every leg
-    still-all : All (HasAccountsOf list) job.legs → All (HasAccountsOf (map account_of paid)) job.legs
-    still-all all = subst (λ xs. All (HasAccountsOf xs) job.legs) (sym (same-accounts holdings paid same ∙ listed)) all
+-- the accounts are held, and have other balances now
+module _ (accounts number : ℕ) (job : Job) (holdings paid : List Holding) (books : Books)
+    (may : MayMakeTransfer accounts number job holdings books) (same : map taken_of paid ≡ map taken_of holdings) where
+  -- they are still the table's accounts
+  pub still-known : All (IsKnown accounts) paid
+  still-known = all-same holdings paid same (λ taken. taken.account < accounts) may.known
 
-    -- each taken with the balance that is known of it
-    still-as : All (λ (holding : Holding). balance_taken (view_of new).books.held holding.taken.account ≡ holding.taken.balance) paid
-    still-as = all-same holdings paid same (λ taken. balance_taken (view_of new).books.held taken.account ≡ taken.balance)
-        (λ k d within. (are-held k d within).balance)
+  -- and all that is held
+  pub still-held : (later : Books) → later.held ≡ books.held → HoldsAll paid later
+  still-held later held = record {
+    distinct = still-distinct holdings paid same may.all.distinct;
+    held = held ∙ may.all.held ∙ behind holdings [] ∙ ap (λ (list : List Taken). onto list []) (sym same) ∙ sym (behind paid []);
+  }
+    where
+      onto : List Taken → List Held → List Held
+      onto [] held = held
+      onto (taken ∷ list) held = onto list (held_of taken ∷ held)
 
-    -- a seat with this view gave them back
-    pub gave-back : (from view : View) (before : List Given) → All (HasAccountsOf list) job.legs → from.books.last.number ≡ number
-        → view.books.given ≡ given_behind from paid before
-        → (gave : GaveBack number job (balance_taken (view_of new).books.held) before view) × All (IsGivenFrom from) gave.back
-    gave-back from view before all own given = (
-      record {
-        back = given_behind from paid [];
-        given_are = given ∙ given-front from paid before;
-        own = said (λ one. one.txn ≡ number) (λ k d within. own);
-        taken_as = said (λ one. balance_taken (view_of new).books.held one.account ≡ one.balance) still-as;
-        each = λ k d within. let both = still-all all k d within in (given-all from paid [] _ both.0, given-all from paid [] _ both.1);
-      },
-      said (IsGivenFrom from) (λ k d within. record { tail = refl; durable = refl; committed = refl }),
-    )
-      where
-        said : (P : Given → Type 0) → All (λ (holding : Holding). P (given_at from holding.taken)) paid → All P (given_behind from paid [])
-        said P all = given-each from P paid []
-            (recursion_from_All (λ (holding : Holding). P (given_at from holding.taken)) paid all) (All-from_recursion P [] tt)
+      behind : (holdings : List Holding) (held : List Held) → held_behind holdings held ≡ onto (map taken_of holdings) held
+      behind [] held = refl
+      behind (holding ∷ holdings) held = behind holdings (held_of holding.taken ∷ held)
 
-    -- and all that is held
-    pub still-held : (books : Books) → books.held ≡ (view_of new).books.held → HoldsAll paid books
-    still-held books held = record {
-      distinct = distinct paid (subst IsStrictlyIncreasing (sym (same-accounts holdings paid same ∙ listed)) rising);
-      held = held ∙ ap (λ (b : Books). b.held) takes.entries.books_are ∙ behind holdings []
-          ∙ ap (λ (list : List Taken). onto list []) (sym same) ∙ sym (behind paid []);
-    }
-      where
-        onto : List Taken → List Held → List Held
-        onto [] held = held
-        onto (taken ∷ list) held = onto list (held_of taken ∷ held)
+  -- each taken with the balance that is known of it
+  still-as : All (λ (holding : Holding). balance_taken books.held holding.taken.account ≡ holding.taken.balance) paid
+  still-as = all-same holdings paid same (λ taken. balance_taken books.held taken.account ≡ taken.balance)
+      (λ k d within. (may.holds.taken k d within).balance)
 
-        behind : (holdings : List Holding) (held : List Held) → held_behind holdings held ≡ onto (map taken_of holdings) held
-        behind [] held = refl
-        behind (holding ∷ holdings) held = behind holdings (held_of holding.taken ∷ held)
+  -- a seat with this view gave them back
+  pub gave-back : (from view : View) (before : List Given) → from.books.last.number ≡ number
+      → view.books.given ≡ given_behind from paid before
+      → (gave : GaveBack number job (balance_taken books.held) before view) × All (IsGivenFrom from) gave.back
+  gave-back from view before own given = (
+    record {
+      back = given_behind from paid [];
+      given_are = given ∙ given-front from paid before;
+      own = said (λ one. one.txn ≡ number) (λ k d within. own);
+      taken_as = said (λ one. balance_taken books.held one.account ≡ one.balance) still-as;
+      each = λ k d within. let both = all k d within in (given-all from paid [] _ both.0, given-all from paid [] _ both.1);
+    },
+    said (IsGivenFrom from) (λ k d within. record { tail = refl; durable = refl; committed = refl }),
+  )
+    where
+      said : (P : Given → Type 0) → All (λ (holding : Holding). P (given_at from holding.taken)) paid → All P (given_behind from paid [])
+      said P all = given-each from P paid []
+          (recursion_from_All (λ (holding : Holding). P (given_at from holding.taken)) paid all) (All-from_recursion P [] tt)
 
--- the seat took the job, and has nothing of it in the log
-pub record HasTakenJob (number : ℕ) (job : Job) (old new : View) : Type 0 where
-  pub entries : new.entries ≡ old.entries
-  pub grows : old.seen.tail ≤ new.seen.tail
-  pub jobs : new.books.jobs ≡ record { number = number; job = job } ∷ old.books.jobs
-  pub last : new.books.last ≡ record { number = number; job = job }
-  pub none : new.books.placed ≡ []
+      all : All (HasAccountsOf (map account_of paid)) job.legs
+      all = subst (λ xs. All (HasAccountsOf xs) job.legs) (sym (same-accounts holdings paid same)) may.holds.all
 
 -- the entries and jobs stay
 pub record Keeps (old new : View) : Type 0 where
   pub entries : new.entries ≡ old.entries
   pub grows : old.seen.tail ≤ new.seen.tail
   pub jobs : new.books.jobs ≡ old.books.jobs
-
-pub took : (number word : ℕ) (job : Job) (first second : Seat) → Becomes first second (took_job number job word (view_of first))
-    → HasTakenJob number job (view_of first) (view_of second)
-took number word job first second becomes = subst (HasTakenJob number job (view_of first)) (sym (ap (λ m. m.0) becomes.me))
-    record { entries = refl; grows = omega arith; jobs = refl; last = refl; none = refl }
-
--- accounts are taken after the job
-pub still-taken : (number : ℕ) (job : Job) (first second third : View) (books : Books) → HasTakenJob number job first second
-    → third.entries ≡ second.entries → second.seen.tail ≤ third.seen.tail → third.books ≡ books
-    → books.jobs ≡ second.books.jobs → books.last ≡ second.books.last → books.placed ≡ second.books.placed
-    → HasTakenJob number job first third
-still-taken number job first second third books taken entries grows books-are jobs last placed = record {
-  entries = entries ∙ taken.entries;
-  grows = omega (arith, taken.grows, grows);
-  jobs = ap (λ (b : Books). b.jobs) books-are ∙ jobs ∙ taken.jobs;
-  last = ap (λ (b : Books). b.last) books-are ∙ last ∙ taken.last;
-  none = ap (λ (b : Books). b.placed) books-are ∙ placed ∙ taken.none;
-}
-
-pub keeps-held : (back : List Holding) (held : List Held) (first second : Seat)
-    → Becomes first second (with_held held back (view_of first)) → Keeps (view_of first) (view_of second)
-keeps-held back held first second becomes = subst (Keeps (view_of first))
-    (sym (ap (λ m. m.0) becomes.me)) record { entries = refl; grows = omega arith; jobs = refl }
-
-pub keeps-then : (first second : Seat) (third : View) → HasEntries first second (view_of first).entries (view_of first).books
-    → Keeps (view_of second) third
-    → Keeps (view_of first) third
-keeps-then first second third kept keeps = record {
-  entries = keeps.entries ∙ kept.entries_are;
-  grows = omega (arith, kept.same.grows, keeps.grows);
-  jobs = keeps.jobs ∙ ap (λ (b : Books). b.jobs) kept.books_are;
-}
 
 module _ (number : ℕ) (job : Job) (rest : List Rec) (first last : View) (second third : Seat) (added : List Entry)
     (taken : HasTakenJob number job first (view_of second))
@@ -250,24 +223,24 @@ has-stopped number job wait (Stop word) old new inserted waits stops = ([], inse
 has-stopped number job wait (LogEnd tail total) old new inserted waits stops = absurd stops
 
 -- the transfer is cut off before its first record
-pub cut-early : (number : ℕ) (job : Job) (wait : Bool) (cause : Cause) (old new : View) → HasTakenJob number job old new
+pub cut-early : (number : ℕ) (job : Job) (wait : Bool) (cause : Cause) (old mid new : View) → HasTakenJob number job old mid → Keeps mid new
     → StopsFor cause [] new → HasCut number job wait cause old new
-cut-early number job wait (Stop word) old new taken stops = (
+cut-early number job wait (Stop word) old mid new taken keeps stops = (
   planned_records number (transfer_of job) (λ _. 0) (λ _. 0),
   record {
     balances = λ _. 0;
     marks = λ _. 0;
     added = [];
-    entries = taken.entries ∙ sym (append-nil old.entries);
-    within = taken.grows;
+    entries = keeps.entries ∙ taken.entries ∙ sym (append-nil old.entries);
+    within = omega (arith, taken.grows, keeps.grows);
     plan = refl;
-    jobs = taken.jobs;
+    jobs = keeps.jobs ∙ taken.jobs;
   },
   λ none. absurd (planned_records-some number (transfer_of job) (λ _. 0) (λ _. 0) none),
   stops.0,
   stops.1,
 )
-cut-early number job wait (LogEnd tail total) old new taken stops = absurd stops
+cut-early number job wait (LogEnd tail total) old mid new taken keeps stops = absurd stops
 
 one-unit : (number : ℕ) (job : Job) (answer : Answer) → size_of (last_record number job answer) ≡ 1
 one-unit number job answer.Done = refl

@@ -189,6 +189,22 @@ module _ (first second : Seat) (back holdings rest : List Holding) (holding : Ho
       left : without holding.taken.account (held_behind (holding ∷ rest) []) ≡ held_behind rest []
       left = without-behind rest [] (held_of holding.taken) distinct-both.0 tt
 
+lacks-same : (account : ℕ) (old new : List Holding) → map account_of new ≡ map account_of old → Lacks account old → Lacks account new
+lacks-same account old [] same lacks = tt
+lacks-same account [] (holding ∷ new) same lacks = absurd (omega (arith, ap length same))
+lacks-same account (first ∷ old) (holding ∷ new) same lacks =
+    let here : holding.taken.account ≡ first.taken.account = cc in
+    let rest : map account_of new ≡ map account_of old = cc in
+    (λ is. lacks.0 (sym here ∙ is), lacks-same account old new rest lacks.1)
+
+distinct-same : (old new : List Holding) → map account_of new ≡ map account_of old → AreDistinct old → AreDistinct new
+distinct-same old [] same apart = tt
+distinct-same [] (holding ∷ new) same apart = absurd (omega (arith, ap length same))
+distinct-same (first ∷ old) (holding ∷ new) same apart =
+    let here : holding.taken.account ≡ first.taken.account = cc in
+    let rest : map account_of new ≡ map account_of old = cc in
+    (subst (λ account. Lacks account new) (sym here) (lacks-same first.taken.account old new rest apart.0), distinct-same old new rest apart.1)
+
 -- holdings of the same accounts, taken with the same values
 module _ (old new : List Holding) (same : map taken_of new ≡ map taken_of old) where
   same-length : length new ≡ length old
@@ -207,3 +223,6 @@ module _ (old new : List Holding) (same : map taken_of new ≡ map taken_of old)
 
   pub all-same : (P : Taken → Type 0) → All (λ (holding : Holding). P holding.taken) old → All (λ (holding : Holding). P holding.taken) new
   all-same P all k d within = subst P (sym (same-taken k d within)) (all k d (omega (arith, same-length)))
+
+  pub still-distinct : AreDistinct old → AreDistinct new
+  still-distinct = distinct-same old new same-accounts

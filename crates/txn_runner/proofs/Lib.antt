@@ -15,6 +15,7 @@ pub mod PlanLemmas
 pub mod ProgressLemmas
 pub mod Putting
 pub mod RowLemmas
+pub mod StageLemmas
 pub mod StripeLemmas
 pub mod Trying
 pub mod WorkLemmas

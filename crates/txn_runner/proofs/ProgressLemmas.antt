@@ -1,6 +1,6 @@
 -- A worker's progress along its stripe. `first` and `before` are its seat's view and its rows at the start, `old` and `mid` those before
 -- one transfer, `new` and `after` those behind it.
-use Rattle.std.proofs.Common.{◌≡◌, ◌∙◌, ℕ, ◌+◌, ◌≤◌, Bool, List, [], ◌∷◌, ◌++◌, length, sym, ap, subst, arith, length-append, append_assoc}
+use Rattle.std.proofs.Common.{◌≡◌, ◌∙◌, ℕ, ◌+◌, ◌≤◌, Bool, List, [], ◌∷◌, ◌++◌, length, refl, sym, ap, subst, arith, length-append, append-nil, append_assoc}
 use Rattle.log_record.specs.declared.rec.Rec.{Rec}
 use Rattle.lock_core.specs.declared.job.Job.{Job}
 use Rattle.log_table.specs.declared.view.View.{View}
@@ -15,7 +15,7 @@ use Rattle.txn_runner.specs.Running.{HasInserted, HasRun, HasCut}
 use Rattle.txn_runner.specs.Stripes.{number_at, job_at}
 use Rattle.txn_runner.specs.Working.{rows_in, room_of, taken_in, HasWorked, HasRoomForRows, KeepsEntries, TakesJobs, HaveEnded, Works, AddsRows}
 use Rattle.txn_runner.proofs.RowLemmas.{AddsRows-push, AddsRows-cut}
-use Rattle.txn_runner.proofs.GivenLemmas.{given-trans}
+use Rattle.txn_runner.proofs.GivenLemmas.{given-same, given-trans}
 use Rattle.txn_runner.proofs.WorkLemmas.{IsNextJob, at-stripe, HasWorked-next, TakesJobs-next, HaveEnded-next, HaveEnded-still, IsCutBy-next}
 
 -- so far each transfer taken has its end record and its row
@@ -27,6 +27,19 @@ pub record Progress (jobs : Jobs) (worker : ℕ) (wait : Bool) (before rows : Ro
   pub takes : TakesJobs jobs worker (taken_in before) (taken_in rows) first view
   pub ended : HaveEnded jobs worker (taken_in before) (taken_in rows) view
   pub adds : AddsRows jobs worker wait All before rows first view
+
+-- before the first transfer
+pub Progress-first : (jobs : Jobs) (worker : ℕ) (wait : Bool) (rows : Rows) (view : View) → HasWorked jobs worker (taken_in rows) view
+    → HasRoomForRows jobs worker rows → Progress jobs worker wait rows rows view view
+Progress-first jobs worker wait rows view worked room = record {
+  worked = worked;
+  room = room;
+  kept = record { added = []; entries = sym (append-nil view.entries) };
+  given = given-same view view refl;
+  takes = record { earlier = worked.earlier; before = worked.taken; after = worked.taken };
+  ended = λ j low high. absurd (omega (arith, low, high));
+  adds = record { added = []; rows = sym (append-nil (rows_in rows)); room = refl; tell = tt; each = omega arith };
+}
 
 -- the transfer taken last was cut off
 pub record Stopped (jobs : Jobs) (worker : ℕ) (wait : Bool) (before rows : Rows) (first view : View) (cause : Cause) : Type 0 where

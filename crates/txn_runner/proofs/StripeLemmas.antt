@@ -1,5 +1,5 @@
 -- Stripes, one transfer after another.
-use Rattle.std.proofs.Common.{◌≡◌, ℕ, zero, suc, ◌+◌, ◌<◌, ◌≤◌, [], ◌∷◌, length, All, None, ap, arith, add-one}
+use Rattle.std.proofs.Common.{◌≡◌, ℕ, zero, suc, ◌+◌, ◌-◌, ◌<◌, ◌≤◌, [], ◌∷◌, length, All, None, ap, arith, add-one}
 use Rattle.std.proofs.Math.Nat.{mul-le-mul_left}
 use Rattle.std.proofs.lemmas.List.Elements.{All-get_or}
 use Rattle.std.specs.List.{AllByRecursion}
@@ -18,6 +18,13 @@ module _ (jobs : Jobs) (worker : ℕ) where
   number_at-rises j k less =
       let next : j + 1 ≤ k = omega arith in
       omega (arith, mul-le-mul_left jobs.workers next, jobs.shared)
+
+  -- and each leaves less of the script
+  pub stripe-nears : (j k : ℕ) → k ≡ j + 1 → place_of jobs worker j < length jobs.script
+      → length jobs.script - place_of jobs worker k < length jobs.script - place_of jobs worker j
+  stripe-nears j k next within =
+      let up : j + 1 ≤ k = omega arith in
+      omega (arith, mul-le-mul_left jobs.workers up, jobs.shared)
 
   pub HasStripe-more : (k : ℕ) → HasStripe jobs worker k → place_of jobs worker k < length jobs.script → HasStripe jobs worker (k + 1)
   HasStripe-more k stripe within = below_more (λ j. place_of jobs worker j < length jobs.script) k stripe within

@@ -36,6 +36,13 @@ pub record IsNextJob (jobs : Jobs) (worker k number : ℕ) (job : Job) : Type 0 
   pub number_is : number ≡ number_at jobs worker k
   pub job_is : job ≡ job_at jobs worker k
 
+-- it was fetched so
+pub IsNextJob-fetched : (jobs : Jobs) (worker k number : ℕ) (job : Job) (by at : ℕ) → by ≡ worker → at ≡ k
+    → place_of jobs by at < length jobs.script → number ≡ number_at jobs by at → job ≡ job_at jobs by at → IsNextJob jobs worker k number job
+IsNextJob-fetched jobs worker k number job by at by-is at-is within number-is job-is =
+    subst (λ worker. IsNextJob jobs worker k number job) by-is
+    (subst (λ k. IsNextJob jobs by k number job) at-is record { within = within; number_is = number-is; job_is = job-is })
+
 -- the record of an entry is of a transaction before the worker's first, or of one of its first k
 abbrev pub IsOwnEntry : Jobs → ℕ → ℕ → Entry → Type 0
 IsOwnEntry jobs worker k entry = (txn_of entry.rec < jobs.first) ⊎ IsOfStripe jobs worker k (txn_of entry.rec)

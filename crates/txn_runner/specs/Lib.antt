@@ -4,5 +4,6 @@ pub mod Holdings
 pub mod Inserts
 pub mod Legs
 pub mod Running
+pub mod Stages
 pub mod Stripes
 pub mod Working

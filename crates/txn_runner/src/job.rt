@@ -1,20 +1,25 @@
 //! One transfer, from its first account to its last.
-ghost use Rattle.std.specs.Prelude.{◌≡◌, [], IfOk, IfErr};
+ghost use Rattle.std.specs.Prelude.{◌≡◌, ◌≤◌, [], Bool, true, IfOk, IfErr, OnErr};
 ghost use Rattle.lock_core.specs.Transfers.{IsAllowedJob};
+ghost use Rattle.log_table.specs.Books.{taking_job};
 ghost use Rattle.log_table.specs.May.{MayTakeJob};
 ghost use Rattle.log_table.specs.Seats.{IsOf, view_of};
-ghost use Rattle.ring_buffer.specs.Calls.{IsReady, IsSameWorker};
+ghost use Rattle.ring_buffer.specs.Calls.{IsReady, IsSameWorker, HasEntries};
 ghost use Rattle.txn_runner.specs.Holdings.{KeepsGiven};
+ghost use Rattle.txn_runner.specs.Inserts.{StopsFor};
 ghost use Rattle.txn_runner.specs.Running.{HasRun, HasCut};
+ghost use Rattle.txn_runner.specs.Stages.{MayMakeTransfer, TakesTransfer, MayEndTransfer, GivesAll, LetsGo, HasRunTaken, HasCutTaken};
 
-use crate::accounts::accounts_of;
+use crate::accounts::{MOST_PARTIES, accounts_of};
 use crate::cause::Cause;
 use crate::giving::{Release, give_all};
+use crate::holding::Holding;
 use crate::relief::Relief;
 use crate::rows::Row;
 use crate::taking::take_all;
-use crate::transfer::insert_transfer;
+use crate::transfer::{Ended, insert_transfer};
 use crate::waiting::see_durable;
+use arrayvec::ArrayVec;
 use lock_core::Job;
 use log_table::{LogTable, Seat};
 use schedule_hook::{Gate, Place};
@@ -45,21 +50,111 @@ pub(crate) fn run_job<R: Wait, Q: Relief, G: Gate>(
     ensures relief { Q.ready relief.new }
     ensures later { Q.later relief.old relief.new }
 {
+    let holdings = take_transfer(rt, table, seat, number, job, relief, gate)?;
+    make_transfer(rt, table, seat, number, job, holdings, relief, wait, gate)
+}
+
+/// Takes the transfer, and then its accounts. After an Err none is held.
+fn take_transfer<R: Wait, Q: Relief, G: Gate>(
+    rt: &R,
+    table: &LogTable,
+    seat: &mut Seat,
+    number: u32,
+    job: &Job,
+    relief: &mut Q,
+    gate: &G,
+) -> Result<ArrayVec<Holding, MOST_PARTIES>, Cause>
+    requires seat { IsOf table.now seat.old }
+    requires ready { IsReady (view_of seat.old) }
+    requires may { MayTakeJob table.now.accounts number job.now (view_of seat.old) }
+    requires relief { Q.ready relief.old }
+    ensures taken { IfOk result (λ holdings. TakesTransfer table.now.accounts number job.now holdings.items seat.old seat.new) }
+    ensures let_go { OnErr result (LetsGo seat.old seat.new) }
+    ensures cut { IfErr result (λ cause. (wait : Bool) → HasCut number job.now wait cause (view_of seat.old) (view_of seat.new)) }
+    ensures relief { Q.ready relief.new }
+    ensures later { Q.later relief.old relief.new }
+{
+    begin_job(table, seat, number, job, gate)?;
+    let accounts = accounts_of(job);
+    take_all(rt, table, seat, accounts.as_slice(), relief, gate)
+}
+
+/// Takes the transfer as the seat's job, together with a look at the stop word.
+fn begin_job<G: Gate>(
+    table: &LogTable,
+    seat: &mut Seat,
+    number: u32,
+    job: &Job,
+    gate: &G,
+) -> Result<(), Cause>
+    requires seat { IsOf table.now seat.old }
+    requires ready { IsReady (view_of seat.old) }
+    requires may { MayTakeJob table.now.accounts number job.now (view_of seat.old) }
+    ensures taken { HasEntries seat.old seat.new (view_of seat.old).entries (taking_job (record { number = number; job = job.now }) (view_of seat.old).books) }
+    ensures cut { IfErr result (λ cause. (wait : Bool) → HasCut number job.now wait cause (view_of seat.old) (view_of seat.new)) }
+{
     let word = table.take_job(seat, number, job);
     gate.at(seat.worker(), Place::JobTaken);
     if word != 0 {
         return Err(Cause::Stop(word));
     }
-    let accounts = accounts_of(job);
-    let mut holdings = take_all(rt, table, seat, accounts.as_slice(), relief, gate)?;
+    Ok(())
+}
+
+/// Inserts the records of the transfer, whose accounts are held, and gives the accounts back.
+fn make_transfer<R: Wait, Q: Relief, G: Gate>(
+    rt: &R,
+    table: &LogTable,
+    seat: &mut Seat,
+    number: u32,
+    job: &Job,
+    mut holdings: ArrayVec<Holding, MOST_PARTIES>,
+    relief: &mut Q,
+    wait: bool,
+    gate: &G,
+) -> Result<Row, Cause>
+    requires seat { IsOf table.now seat.old }
+    requires ready { IsReady (view_of seat.old) }
+    requires may { MayMakeTransfer table.now.accounts number job.now holdings.items (view_of seat.old).books }
+    requires relief { Q.ready relief.old }
+    ensures let_go { LetsGo seat.old seat.new }
+    ensures run { IfOk result (λ row. HasRunTaken number job.now wait row (view_of seat.old) (view_of seat.new)) }
+    ensures cut { IfErr result (λ cause. HasCutTaken number job.now wait cause (view_of seat.old) (view_of seat.new)) }
+    ensures relief { Q.ready relief.new }
+    ensures later { Q.later relief.old relief.new }
+{
     let list = &mut holdings;
-    let ended = match insert_transfer(rt, table, seat, number, job, list, relief, gate) {
-        Ok(ended) => ended,
+    match insert_transfer(rt, table, seat, number, job, list, relief, gate) {
+        Ok(ended) => end_transfer(rt, table, seat, number, ended, holdings, relief, wait, gate),
         Err(cause) => {
             give_all(table, seat, holdings, Release::Unchanged, false);
-            return Err(cause);
+            Err(cause)
         }
-    };
+    }
+}
+
+/// Gives the accounts back behind the end record, where asked once that is durable, and answers the row.
+fn end_transfer<R: Wait, Q: Relief, G: Gate>(
+    rt: &R,
+    table: &LogTable,
+    seat: &mut Seat,
+    number: u32,
+    ended: Ended,
+    holdings: ArrayVec<Holding, MOST_PARTIES>,
+    relief: &mut Q,
+    wait: bool,
+    gate: &G,
+) -> Result<Row, Cause>
+    requires seat { IsOf table.now seat.old }
+    requires ready { IsReady (view_of seat.old) }
+    requires may { MayEndTransfer table.now.accounts ended holdings.items (view_of seat.old).books }
+    requires relief { Q.ready relief.old }
+    ensures gives { GivesAll holdings.items seat.old seat.new }
+    ensures row { IfOk result (λ row. (row ≡ record { txn = number; answer = ended.answer; end = ended.end; seen = (view_of seat.new).seen.durable }) × (wait ≡ true → ended.end ≤ row.seen)) }
+    ensures cut { IfErr result (λ cause. (wait ≡ true) × StopsFor cause [] (view_of seat.new)) }
+    ensures relief { Q.ready relief.new }
+    ensures later { Q.later relief.old relief.new }
+{
     // The row tells what was durable just before the accounts went back.
     let seen = see_durable(rt, table, seat, ended.end, relief, wait);
     give_all(table, seat, holdings, ended.release(), wait && seen.is_ok());

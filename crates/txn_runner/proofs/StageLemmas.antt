@@ -1,0 +1,296 @@
+-- The stages of one transfer, one after another, and what they come to.
+use Rattle.std.proofs.Common.{◌≡◌, ℕ, ◌≤◌, Bool, true, List, [], map, All, IfOk, IfErr, OnErr, Ok, Err, Result, refl, sym, ap, ◌∙◌, subst, arith}
+use Rattle.std.specs.List.Sorted.{IsStrictlyIncreasing}
+use Rattle.std.proofs.lemmas.Result.{IfOk-weaker, IfErr-weaker}
+use Rattle.lock_core.specs.Transactions.{recs_of, has_commit}
+use Rattle.lock_core.specs.declared.job.Job.{Job}
+use Rattle.log_table.specs.declared.table.LogTable.{LogTable}
+use Rattle.log_table.specs.declared.table.Seat.{Seat}
+use Rattle.log_table.specs.declared.view.Books.{Books}
+use Rattle.log_table.specs.declared.view.Call.TheVariants.{Idle}
+use Rattle.log_table.specs.declared.view.Constants.{Constants}
+use Rattle.log_table.specs.declared.view.Entry.{Entry}
+use Rattle.log_table.specs.declared.view.TakenJob.{TakenJob}
+use Rattle.log_table.specs.declared.view.View.{View}
+use Rattle.log_table.specs.Accounts.{MayBeTaken}
+use Rattle.log_table.specs.AccountViews.{took_job}
+use Rattle.log_table.specs.Books.{balance_taken, taking_job}
+use Rattle.log_table.specs.Seats.{IsOf, Becomes, view_of}
+use Rattle.ring_buffer.specs.Calls.{IsReady, IsSameWorker, HasEntries}
+use Rattle.ring_buffer.proofs.TwoCalls.{IsSameWorker-trans}
+use Rattle.txn_runner.specs.declared.cause.Cause.{Cause}
+use Rattle.txn_runner.specs.declared.holding.Holding.{Holding}
+use Rattle.txn_runner.specs.declared.rows.Row.{Row}
+use Rattle.txn_runner.specs.declared.transfer.Ended.{Ended}
+use Rattle.txn_runner.specs.Accounts.{HasAccountsOf, IsAccountOf}
+use Rattle.txn_runner.specs.Endings.{EndsTransfer}
+use Rattle.txn_runner.specs.Holdings.{taken_of, given_behind, with_held, HoldsAll, KeepsBooks, KeepsGiven, TakesAll}
+use Rattle.txn_runner.specs.Inserts.{Adds, HasAdded, IsCutOff, StopsFor}
+use Rattle.txn_runner.specs.Running.{GaveBack, HasRun, HasCut}
+use Rattle.txn_runner.specs.Stages.{HasTakenJob, MayMakeTransfer, TakesTransfer, MayEndTransfer, GivesAll, LetsGo, HasRunTaken, HasCutTaken}
+use Rattle.txn_runner.proofs.Composing.{Keeps, IsGivenFrom, may-make, still-known, still-held, gave-back, has-inserted, uncommitted-at, has-cut, has-stopped, cut-early, has-run}
+use Rattle.txn_runner.proofs.GivenLemmas.{given-same, given-trans}
+use Rattle.txn_runner.proofs.Held.{given-front}
+
+pub IsSameWorker-refl : (seat : Seat) → IsSameWorker seat seat
+IsSameWorker-refl seat = record {
+  table_is = refl;
+  number = refl;
+  slots = refl;
+  worker = refl;
+  constants = refl;
+  standing = refl;
+  contended = refl;
+  grows = omega arith;
+  exposed = omega arith;
+  durable = omega arith;
+  steps = omega arith;
+}
+
+-- the same worker's seat is the table's still, and ready where nothing is under way
+pub IsOf-same : (table : LogTable) (first second : Seat) → IsOf table first → IsSameWorker first second → IsOf table second
+IsOf-same table first second of same = record {
+  table_is = same.table_is ∙ of.table_is;
+  no_slots = same.slots ∙ of.no_slots;
+  ring = ap (λ (constants : Constants). constants.ring) same.constants ∙ of.ring;
+}
+
+pub IsReady-same : (first second : Seat) → IsReady (view_of first) → IsSameWorker first second → (view_of second).call ≡ Idle
+    → IsReady (view_of second)
+IsReady-same first second ready same idle = record {
+  rests = record { active = ap (λ standing. standing.role) same.standing ∙ ready.rests.active; idle = idle };
+  alone = same.contended ∙ ready.alone;
+}
+
+-- steps that change the books alone, beside what was seen of the stop word
+same-worker : (first second : Seat) (steps stop : ℕ) (books : Books) → (view_of first).seen.steps ≤ steps
+    → Becomes first second (record (view_of first) { seen = record (view_of first).seen { steps = steps; stop = stop }; books = books })
+    → IsSameWorker first second
+same-worker first second steps stop books more becomes = record {
+  table_is = becomes.table_is;
+  number = becomes.number;
+  slots = ap (λ m. m.1) becomes.me;
+  worker = becomes.worker;
+  constants = ap (λ m. m.0.constants) becomes.me;
+  standing = ap (λ m. m.0.standing) becomes.me;
+  contended = ap (λ m. m.0.contended) becomes.me;
+  grows = omega (arith, ap (λ m. m.0.seen.tail) becomes.me);
+  exposed = omega (arith, ap (λ m. m.0.seen.exposed) becomes.me);
+  durable = omega (arith, ap (λ m. m.0.seen.durable) becomes.me);
+  steps = omega (arith, more, ap (λ m. m.0.seen.steps) becomes.me);
+}
+
+-- the job is taken
+module _ (number : ℕ) (job : Job) (first second : Seat) where
+  abbrev IsTaken : Type 0
+  IsTaken = HasEntries first second (view_of first).entries (taking_job (record { number = number; job = job }) (view_of first).books)
+
+  pub takes-job : (word : ℕ) → IsReady (view_of first) → Becomes first second (took_job number job word (view_of first)) → IsTaken
+  takes-job word ready becomes = record {
+    same = same-worker first second _ word _ (omega arith) becomes;
+    idle = ap (λ m. m.0.call) becomes.me ∙ ready.rests.idle;
+    entries_are = ap (λ m. m.0.entries) becomes.me;
+    books_are = ap (λ m. m.0.books) becomes.me;
+  }
+
+  pub took : IsTaken → HasTakenJob number job (view_of first) (view_of second)
+  took taken = record {
+    entries = taken.entries_are;
+    grows = taken.same.grows;
+    jobs = ap (λ (books : Books). books.jobs) taken.books_are;
+    last = ap (λ (books : Books). books.last) taken.books_are;
+    given = ap (λ (books : Books). books.given) taken.books_are;
+    none = ap (λ (books : Books). books.placed) taken.books_are;
+  }
+
+  pub cut-first : (wait : Bool) (cause : Cause) → IsTaken → StopsFor cause [] (view_of second)
+      → HasCut number job wait cause (view_of first) (view_of second)
+  cut-first wait cause taken = cut-early number job wait cause (view_of first) (view_of second) (view_of second) (took taken)
+      record { entries = refl; grows = omega arith; jobs = refl }
+
+  module _ (none_held : (view_of first).books.held ≡ []) (taken : IsTaken) where
+    pub lets-go-first : LetsGo first second
+    lets-go-first = record {
+      same = taken.same;
+      idle = taken.idle;
+      none_held = ap (λ (books : Books). books.held) taken.books_are ∙ none_held;
+      given = given-same (view_of first) (view_of second) (ap (λ (books : Books). books.given) taken.books_are);
+    }
+
+    -- then its accounts are, but for a cut
+    module _ {T : Type 0} (result : Result T Cause) (third : Seat) where
+      pub lets-go-taken : OnErr result (KeepsBooks second third) → OnErr result (KeepsGiven (view_of second) (view_of third))
+          → OnErr result (LetsGo first third)
+      lets-go-taken = both result
+        where
+          both : (result : Result T Cause) → OnErr result (KeepsBooks second third) → OnErr result (KeepsGiven (view_of second) (view_of third))
+              → OnErr result (LetsGo first third)
+          both (Ok holdings) kept given = tt
+          both (Err cause) kept given = record {
+            same = IsSameWorker-trans first second third taken.same kept.same;
+            idle = kept.idle;
+            none_held = ap (λ (books : Books). books.held) (kept.books) ∙ lets-go-first.none_held;
+            given = given-trans (view_of first) (view_of second) (view_of third) lets-go-first.given given;
+          }
+
+      pub cut-taken : OnErr result (KeepsBooks second third) → IfErr result (λ cause. StopsFor cause [] (view_of third))
+          → IfErr result (λ cause. (wait : Bool) → HasCut number job wait cause (view_of first) (view_of third))
+      cut-taken = both result
+        where
+          both : (result : Result T Cause) → OnErr result (KeepsBooks second third) → IfErr result (λ cause. StopsFor cause [] (view_of third))
+              → IfErr result (λ cause. (wait : Bool) → HasCut number job wait cause (view_of first) (view_of third))
+          both (Ok holdings) kept stops = tt
+          both (Err cause) kept stops = λ wait. cut-early number job wait cause (view_of first) (view_of second) (view_of third)
+              (took taken)
+              record { entries = kept.entries; grows = kept.same.grows; jobs = ap (λ (books : Books). books.jobs) kept.books } stops
+
+-- and its accounts, which are held then
+pub takes-transfer : (accounts number : ℕ) (job : Job) (list slice : List ℕ) (holdings : List Holding) (first second third : Seat)
+    → slice ≡ list → IsStrictlyIncreasing list → All (IsAccountOf job.legs) list → MayBeTaken accounts (record { number = number; job = job })
+    → All (HasAccountsOf list) job.legs
+    → HasEntries first second (view_of first).entries (taking_job (record { number = number; job = job }) (view_of first).books)
+    → TakesAll slice holdings second third → TakesTransfer accounts number job holdings first third
+takes-transfer accounts number job list slice holdings first second third same rising only allowed all taken takes = record {
+  same = IsSameWorker-trans first second third taken.same takes.entries.same;
+  idle = takes.entries.idle;
+  taken = record {
+    entries = takes.entries.entries_are ∙ taken.entries_are;
+    grows = omega (arith, taken.same.grows, takes.entries.same.grows);
+    jobs = ap (λ (books : Books). books.jobs) takes.entries.books_are ∙ job-taken.jobs;
+    last = ap (λ (books : Books). books.last) takes.entries.books_are ∙ job-taken.last;
+    given = ap (λ (books : Books). books.given) takes.entries.books_are ∙ job-taken.given;
+    none = ap (λ (books : Books). books.placed) takes.entries.books_are ∙ job-taken.none;
+  };
+  may = may-make accounts number job list slice holdings second third same rising only allowed takes all job-taken.last job-taken.none;
+}
+  where
+    job-taken : HasTakenJob number job (view_of first) (view_of second)
+    job-taken = took number job first second taken
+
+-- The transfer was made from `second` to `third`, as far as it came: all its accounts are held still.
+module _ (accounts number : ℕ) (job : Job) (holdings paid : List Holding) (second third : Seat)
+    (may : MayMakeTransfer accounts number job holdings (view_of second).books) (same : map taken_of paid ≡ map taken_of holdings) where
+  pub holds-made : (added : List Entry) → Adds added second third → HoldsAll paid (view_of third).books
+  holds-made added adds = still-held accounts number job holdings paid (view_of second).books may same (view_of third).books
+      (ap (λ (books : Books). books.held) adds.entries.books_are)
+
+  pub may-end : (ended : Ended) → EndsTransfer number job ended paid second third → MayEndTransfer accounts ended paid (view_of third).books
+  may-end ended ends = record {
+    is_last = ends.is_last;
+    has_ended = ends.has_ended;
+    all = holds-made _ ends.adds;
+    known = still-known accounts number job holdings paid (view_of second).books may same;
+    values = ends.back;
+  }
+
+-- the accounts went back
+pub gives-all : (back : List Holding) (first second : Seat) → IsReady (view_of first)
+    → Becomes first second (with_held [] back (view_of first)) → GivesAll back first second
+gives-all back first second ready becomes = record {
+  same = same-worker first second _ _ _ (omega arith) becomes;
+  idle = ap (λ m. m.0.call) becomes.me ∙ ready.rests.idle;
+  entries = ap (λ m. m.0.entries) becomes.me;
+  from = view_of first;
+  from_books = refl;
+  from_tail = sym (ap (λ m. m.0.seen.tail) becomes.me);
+  from_durable = sym (ap (λ m. m.0.seen.durable) becomes.me);
+  books = ap (λ m. m.0.books) becomes.me;
+}
+
+-- after a call that left the entries and the books as they were
+pub gives-then : (back : List Holding) (first second third : Seat) → HasEntries first second (view_of first).entries (view_of first).books
+    → GivesAll back second third → GivesAll back first third
+gives-then back first second third kept gives = record {
+  same = IsSameWorker-trans first second third kept.same gives.same;
+  idle = gives.idle;
+  entries = gives.entries ∙ kept.entries_are;
+  from = gives.from;
+  from_books = gives.from_books ∙ kept.books_are;
+  from_tail = gives.from_tail;
+  from_durable = gives.from_durable;
+  books = gives.books ∙ ap (λ (books : Books). record books { held = []; given = given_behind gives.from back books.given }) kept.books_are;
+}
+
+-- Its accounts went back then.
+module _ (accounts number : ℕ) (job : Job) (wait : Bool) (holdings paid : List Holding) (second third fourth : Seat)
+    (may : MayMakeTransfer accounts number job holdings (view_of second).books) (same : map taken_of paid ≡ map taken_of holdings)
+    (gives : GivesAll paid third fourth) where
+  keeps : Keeps (view_of third) (view_of fourth)
+  keeps = record { entries = gives.entries; grows = gives.same.grows; jobs = ap (λ (books : Books). books.jobs) gives.books }
+
+  pub lets-go : (added : List Entry) → Adds added second third → LetsGo second fourth
+  lets-go added adds = record {
+    same = IsSameWorker-trans second third fourth adds.entries.same gives.same;
+    idle = gives.idle;
+    none_held = ap (λ (books : Books). books.held) gives.books;
+    given = record {
+      back = given_behind gives.from paid [];
+      given_are = ap (λ (books : Books). books.given) gives.books
+          ∙ ap (λ (books : Books). given_behind gives.from paid books.given) adds.entries.books_are
+          ∙ given-front gives.from paid (view_of second).books.given;
+    };
+  }
+
+  went-back : (added : List Entry) → Adds added second third → (first : View) → HasTakenJob number job first (view_of second)
+      → (gave : GaveBack number job (balance_taken (view_of second).books.held) first.books.given (view_of fourth))
+      × All (IsGivenFrom gives.from) gave.back
+  went-back added adds first taken = gave-back accounts number job holdings paid (view_of second).books may same gives.from
+      (view_of fourth) first.books.given
+      (ap (λ (books : Books). books.last.number) (gives.from_books ∙ adds.entries.books_are) ∙ ap (λ (job : TakenJob). job.number) taken.last)
+      (ap (λ (books : Books). books.given) gives.books
+      ∙ ap (given_behind gives.from paid) (ap (λ (books : Books). books.given) adds.entries.books_are ∙ taken.given))
+
+  -- it was cut off
+  pub cut-made : (cause : Cause) → HasAdded second third → (cut : IsCutOff cause (view_of third)) → StopsFor cause cut.rest (view_of fourth)
+      → HasCutTaken number job wait cause (view_of second) (view_of fourth)
+  cut-made cause added cut stops first taken =
+      let gave = went-back added.0 added.1 first taken in
+      has-cut number job wait cause cut.rest first (view_of fourth)
+      (has-inserted number job cut.rest first (view_of fourth) second third added.0 taken added.1 cut.left keeps) gave.0
+      (uncommitted-at gives.from (view_of fourth) gave.0.back gave.1 gives.from_tail
+      (ap (λ (books : Books). has_commit (recs_of books.placed)) gives.from_books ∙ cut.uncommitted))
+      cut.some stops
+
+  module _ (ended : Ended) (ends : EndsTransfer number job ended paid second third) where
+    -- it ran
+    pub run-made : (result : Result Row Cause)
+        → IfOk result (λ row. (row ≡ record { txn = number; answer = ended.answer; end = ended.end; seen = (view_of fourth).seen.durable })
+        × (wait ≡ true → ended.end ≤ row.seen))
+        → IfOk result (λ row. HasRunTaken number job wait row (view_of second) (view_of fourth))
+    run-made (Ok row) told = λ first taken.
+        let gave = went-back _ ends.adds first taken in
+        subst (λ row. HasRun number job wait row first (view_of fourth)) (sym told.0)
+        (has-run number job wait ended (view_of fourth).seen.durable paid first (view_of fourth) second third taken ends keeps refl
+        (λ on. subst (λ row. ended.end ≤ row.seen) told.0 (told.1 on)) gave.0
+        (λ k d within. (gave.1 k d within).durable ∙ gives.from_durable))
+    run-made (Err cause) told = tt
+
+    -- the worker waited for the disk, and was stopped
+    pub stop-made : (result : Result Row Cause) → IfErr result (λ cause. (wait ≡ true) × StopsFor cause [] (view_of fourth))
+        → IfErr result (λ cause. HasCutTaken number job wait cause (view_of second) (view_of fourth))
+    stop-made (Ok row) cut = tt
+    stop-made (Err cause) cut = λ first taken. has-stopped number job wait cause first (view_of fourth)
+        (has-inserted number job [] first (view_of fourth) second third _ taken ends.adds ends.left keeps) cut.0 cut.1
+
+-- the transfer was taken, and is made or cut off
+module _ (accounts number : ℕ) (job : Job) (holdings : List Holding) (first second third : Seat)
+    (takes : TakesTransfer accounts number job holdings first second) where
+  pub lets-go-made : LetsGo second third → LetsGo first third
+  lets-go-made made = record {
+    same = IsSameWorker-trans first second third takes.same made.same;
+    idle = made.idle;
+    none_held = made.none_held;
+    given = given-trans (view_of first) (view_of second) (view_of third)
+        (given-same (view_of first) (view_of second) takes.taken.given) made.given;
+  }
+
+  module _ (wait : Bool) (result : Result Row Cause) where
+    pub run-taken : IfOk result (λ row. HasRunTaken number job wait row (view_of second) (view_of third))
+        → IfOk result (λ row. HasRun number job wait row (view_of first) (view_of third))
+    run-taken = IfOk-weaker result (λ row. HasRunTaken number job wait row (view_of second) (view_of third))
+        (λ row. HasRun number job wait row (view_of first) (view_of third)) (λ row run. run (view_of first) takes.taken)
+
+    pub cut-behind : IfErr result (λ cause. HasCutTaken number job wait cause (view_of second) (view_of third))
+        → IfErr result (λ cause. HasCut number job wait cause (view_of first) (view_of third))
+    cut-behind = IfErr-weaker result (λ cause. HasCutTaken number job wait cause (view_of second) (view_of third))
+        (λ cause. HasCut number job wait cause (view_of first) (view_of third)) (λ cause cut. cut (view_of first) takes.taken)

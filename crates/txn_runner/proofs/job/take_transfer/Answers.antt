@@ -1,0 +1,28 @@
+use Rattle.std.proofs.Common.{◌<◌, All, sym, subst}
+use Rattle.std.proofs.lemmas.Result.{IfOk-weaker}
+use Rattle.txn_runner.specs.Holdings.{TakesAll}
+use Rattle.txn_runner.specs.Stages.{TakesTransfer}
+use Rattle.txn_runner.proofs.Composing.{accounts-known}
+use Rattle.txn_runner.proofs.StageLemmas.{lets-go-taken, cut-taken, takes-transfer}
+use Rattle.txn_runner.proofs.job.take_transfer.Goals as goal
+
+pub take_all-requires-clause-known : goal.take_all-requires-clause-known
+take_all-requires-clause-known g c = subst (All (λ account. account < c.args.table.now.accounts)) (sym c.as_slice.ensures.value)
+    (accounts-known _ _ _ c.requires.may.allowed.job.legs.each c.accounts_of-accounts.ensures.only)
+
+pub returns-clause-taken : goal.returns-clause-taken
+returns-clause-taken g c =
+    let list = c.accounts_of-accounts.ensures in
+    IfOk-weaker c.take_all.result (λ holdings. TakesAll c.as_slice.result.now holdings.items c.begin_job.new.seat c.take_all.new.seat)
+    (λ holdings. TakesTransfer c.args.table.now.accounts c.args.number c.args.job.now holdings.items c.args.seat.now c.take_all.new.seat)
+    (λ holdings takes. takes-transfer _ _ _ _ _ _ _ _ _ c.as_slice.ensures.value list.rising list.only c.requires.may.allowed list.all
+    c.begin_job.ensures.taken takes)
+    c.take_all.ensures.taken
+
+pub returns-clause-let_go : goal.returns-clause-let_go
+returns-clause-let_go g c = lets-go-taken _ _ _ _ c.requires.may.none_held c.begin_job.ensures.taken c.take_all.result _
+    c.take_all.ensures.kept c.take_all.ensures.given
+
+pub returns-clause-cut : goal.returns-clause-cut
+returns-clause-cut g c = cut-taken _ _ _ _ c.requires.may.none_held c.begin_job.ensures.taken c.take_all.result _
+    c.take_all.ensures.kept c.take_all.ensures.stopped
