@@ -1,5 +1,5 @@
 -- What the steps of a flush come to.
-use Rattle.std.proofs.Common.{◌≡◌, ◌≤◌, ◌+◌, ◌∙◌, sym, ap, refl, subst, inl, ℕ, List, [], ◌∷◌, ◌++◌, length, length-append, arith, append_assoc}
+use Rattle.std.proofs.Common.{◌≡◌, ◌≤◌, ◌<◌, ◌+◌, ◌*◌, ◌^◌, ◌∙◌, sym, ap, refl, subst, inl, ℕ, List, [], ◌∷◌, ◌++◌, length, length-append, arith, append_assoc}
 use Rattle.std.specs.List.{AllByRecursion, Contains}
 use Rattle.std.proofs.lemmas.List.Elements.{Contains-append_left, Contains-append_right, Contains-push}
 use Rattle.log_disk.specs.Disk.{Leaves}
@@ -13,7 +13,7 @@ use Rattle.log_table.specs.Log.{IsSpelled, units_in}
 use Rattle.log_table.specs.declared.view.View.{View}
 use Rattle.log_table.specs.Seats.{Becomes, view_of}
 use Rattle.segment_file.specs.File.{HoldsUnits}
-use Rattle.segment_file.specs.Standing.{StandsAt, AllStand, HoldsEither}
+use Rattle.segment_file.specs.Standing.{StandsAt, AllStand, HoldsEither, tail_after}
 use Rattle.segment_file.specs.declared.scan_result.Tail.{Tail}
 use Rattle.flusher.specs.declared.flusher.Flusher.{Flusher}
 use Rattle.log_table.specs.Sends.{AreEntries, ReadsWholeEntries}
@@ -153,3 +153,18 @@ pub seen-flushed : (view now : View) (to : ℕ) (units : List ℕ) → now ≡ f
     → Contains now.seen.lsns (sent_to now)
 seen-flushed view now to units is at =
     subst (Contains now.seen.lsns) (sym at) (subst (λ v. Contains v.seen.lsns to) (sym is) (seen-newest to (gathered to units view).seen.lsns))
+
+-- where an append of these units goes on
+pub tail-appended : (old new : Tail) (batch units : List ℕ) → batch ≡ units → new.at ≡ old.at + 5 + 8 * length batch
+    → new.next ≡ old.next + length batch → new ≡ tail_after old units
+tail-appended old new batch units same at next i = record {
+  at = (at ∙ sum old.at (length batch) ∙ ap (λ us. old.at + (5 + 8 * length us)) same) i;
+  next = (next ∙ ap (λ us. old.next + length us) same) i;
+}
+  where
+    sum : (n m : ℕ) → n + 5 + 8 * m ≡ n + (5 + 8 * m)
+    sum n m = omega arith
+
+pub tail-place : (old new : Tail) (batch : List ℕ) → new.at ≡ old.at + 5 + 8 * length batch → new.next ≡ old.next + length batch
+    → 0 < length batch → old.at ≤ 2 ^ 63 + 16 * old.next → new.at ≤ 2 ^ 63 + 16 * new.next
+tail-place old new batch at next some place = omega (arith, at, next, some, place)

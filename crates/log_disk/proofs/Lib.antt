@@ -1,5 +1,6 @@
 pub mod Calls
 pub mod Cuts
+pub mod Folders
 pub mod Moments
 pub mod Prefixes
 pub mod Recorded

@@ -1,5 +1,6 @@
 pub mod Disk
 pub mod Faults
+pub mod Folders
 pub mod History
 pub mod Laws
 pub mod Memory

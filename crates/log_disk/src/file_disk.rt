@@ -1,5 +1,6 @@
-ghost use Rattle.std.specs.Prelude.{◌≡◌, ◌≤◌, IfSome, length};
+ghost use Rattle.std.specs.Prelude.{◌≡◌, ◌≤◌, ◌++◌, ◌∷◌, ℕ, List, IfSome, length, codes, Contains};
 ghost use Rattle.log_disk.specs.Faults.{Rose};
+ghost use Rattle.log_disk.specs.Folders.{SLASH, folder_before};
 
 use crate::{Failed, LogDisk};
 use lsn_space::Word;
@@ -127,9 +128,12 @@ fn open_file<R: Files<File = File>>(rt: &R, name: &str, make: bool) -> Option<Fi
     Some(file)
 }
 
-/// The folder in which a file of this name stands.
-pub fn folder_of(name: &str) -> &str {
-    match name.rsplit_once('/') {
+/// The folder in which the file at this path stands: what is before the last slash.
+pub fn folder_of(path: &str) -> &str
+    ensures behind { (front name : List ℕ) → path.now ≡ front ++ SLASH ∷ name → (Contains name SLASH → ⊥) → result.now ≡ folder_before front }
+    ensures alone { (Contains path.now SLASH → ⊥) → result.now ≡ codes "." }
+{
+    match path.rsplit_once('/') {
         Some((folder, _)) => { if folder.is_empty() { "/" } else { folder } }
         None => ".",
     }

@@ -13,7 +13,7 @@ invariant-records g l = record {
   lines_few : l.lines ≤ l.at;
   few : l.tally.done + l.tally.refused ≤ (l.fn.tally.done + l.fn.tally.refused) + l.at;
   told : (text : List ℕ) × Appends (g.K.Sink.held_bytes l.fn.sink) (g.K.Sink.held_bytes l.sink) text
-      × ((records : List Rec) → AreUnitsOf l.batch.units records → ToldUpTo l.voice l.from l.at l.batch.units text l.lines l.fn.tally l.tally records);
+      × ((records : List Rec) → AreUnitsOf l.batch.units records → ToldUpTo l.fn.voice l.from l.at l.batch.units text l.lines l.fn.tally l.tally records);
 }
 
 abbrev pub decreases-records : goal.decreases-records

@@ -16,4 +16,4 @@ returns-clause-landed c = λ within few.
     put-front _ _ _ _ _ _ _ _ _ few c.up_to-landed.ensures.digit c.up_to-landed.ensures.rest c.up_to-noisy.ensures.digit (search rules) c.overwrite.ensures.torn
 
 pub returns-clause-none : goal.returns-clause-none
-returns-clause-none c = grind (arith, common_steps) steps 2000000
+returns-clause-none c = grind (arith, common_steps) steps 3000000

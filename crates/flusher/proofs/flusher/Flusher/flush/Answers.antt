@@ -3,13 +3,13 @@ use Rattle.std.proofs.lemmas.Result.{err_from_is_err_and}
 use Rattle.log_table.specs.Seats.{view_of}
 use Rattle.log_table.specs.Views.{has_sent}
 use Rattle.flusher.specs.Sending.{read_units}
-use Rattle.flusher.proofs.Flushes.{Becomes-then, Leaves-append, Reads-gathered, sent_to-flushed, seen-flushed, HoldsDurablePrefix-append, MayHoldBatchInFlight-append, MayFlush-step, seen-newer}
+use Rattle.flusher.proofs.Flushes.{Becomes-then, Leaves-append, Reads-gathered, sent_to-flushed, seen-flushed, HoldsDurablePrefix-append, MayHoldBatchInFlight-append, MayFlush-step, seen-newer, tail-appended, tail-place}
 use Rattle.flusher.proofs.flusher.Flusher.flush.Goals as goal
 
 pub returns-in_err-self-clause-lost : goal.returns-in_err-self-clause-lost
 returns-in_err-self-clause-lost g c =
     let failed = err_from_is_err_and c.from_residual.result c.from_residual.ensures.1 in
-    let apart : c.load_exposed-to.result ≢ c.args.self.now.tail.next = search rules in
+    let apart : c.load_exposed-to.result ≢ c.args.self.now.tail.next = search rules steps 900000 in
     let units = ap (λ batch. batch.units) c.gather.ensures.batch in
     let below : c.args.self.now.tail.next < c.load_exposed-to.result =
     omega (arith, (c.load_exposed-to.ensures.flusher c.requires.ready.flusher).read, c.requires.ready.next, apart) in
@@ -39,7 +39,7 @@ returns-in_err-self-clause-lost g c =
 
 pub returns-clause-flushed : goal.returns-clause-flushed
 returns-clause-flushed g c =
-    let apart : c.load_exposed-to.result ≢ c.args.self.now.tail.next = search rules in
+    let apart : c.load_exposed-to.result ≢ c.args.self.now.tail.next = search rules steps 900000 in
     let units = ap (λ batch. batch.units) c.gather.ensures.batch in
     let below : c.args.self.now.tail.next < c.load_exposed-to.result =
     omega (arith, (c.load_exposed-to.ensures.flusher c.requires.ready.flusher).read, c.requires.ready.next, apart) in
@@ -56,7 +56,7 @@ returns-clause-flushed g c =
       spelled = read_up.spelled;
       seat = seat;
       batch = c.append.ensures.batch ∙ c.gather.ensures.batch;
-      tail = search rules steps 1200000;
+      tail = tail-appended _ _ _ _ units c.in_ok-self.ensures.place c.in_ok-self.ensures.next;
       writes = record {
         moments = λ honest. Leaves-append g.D.LogDisk c.args.self.now _ _ _ units (c.append.ensures.moments honest);
         count = c.append.ensures.count;
@@ -74,19 +74,24 @@ returns-clause-ready g c =
     let durable = sent_to-flushed (view_of c.args.self.now.seat) _ _ _ _ (ap (λ m. m.0) seat.me) c.requires.ready.unread c.requires.ready.next
     c.gather.ensures.whole in
     let units = ap (λ batch. length batch.units) c.gather.ensures.batch in
+    let some : 0 < length c.gather.new.batch.units = omega (arith, units, c.gather.ensures.whole, (returns-clause-flushed g c).some) in
     record {
-      seat = search rules;
-      flusher = search rules;
-      unread = search rules;
+      seat = record {
+        table_is = seat.table_is ∙ c.requires.ready.seat.table_is;
+        no_slots = ap (λ m. m.1) seat.me ∙ c.requires.ready.seat.no_slots;
+        ring = ap (λ m. m.0.constants.ring) seat.me ∙ c.requires.ready.seat.ring;
+      };
+      flusher = ap (λ m. m.0.standing.role) seat.me ∙ c.requires.ready.flusher;
+      unread = ap (λ m. m.0.sending.read) seat.me;
       seen = seen-flushed (view_of c.args.self.now.seat) _ _ _ (ap (λ m. m.0) seat.me) durable;
-      next = omega (arith, durable, c.in_ok-self.ensures.next, units, c.gather.ensures.whole);
-      place = search rules;
-      shut = search rules;
-      room = search rules;
+      next = c.in_ok-self.ensures.next ∙ omega (arith, durable, units, c.gather.ensures.whole);
+      place = tail-place _ _ _ c.in_ok-self.ensures.place c.in_ok-self.ensures.next some c.requires.ready.place;
+      shut = λ honest. c.in_ok-self.ensures.shut (c.append.ensures.honest.1 honest);
+      room = omega (arith, c.requires.ready.room, ap (λ batch. batch.room) (c.append.ensures.batch ∙ c.gather.ensures.batch));
     }
 
 pub returns-then-eq-clause-flushed : goal.returns-then-eq-clause-flushed
-returns-then-eq-clause-flushed g c = record { durable = search rules steps 1200000; seat = c.load_exposed-to.ensures.view; rest = refl }
+returns-then-eq-clause-flushed g c = record { durable = search rules steps 900000; seat = c.load_exposed-to.ensures.view; rest = refl }
 
 pub returns-then-eq-clause-ready : goal.returns-then-eq-clause-ready
 returns-then-eq-clause-ready g c =
@@ -94,3 +99,13 @@ returns-then-eq-clause-ready g c =
 
 pub returns-in_err-self-clause-cause : goal.returns-in_err-self-clause-cause
 returns-in_err-self-clause-cause g c = search rules steps 1200000
+
+pub returns-clause-lost : goal.returns-clause-lost
+returns-clause-lost g c = tt
+
+pub returns-clause-cause : goal.returns-clause-cause
+returns-clause-cause g c = record {
+  later = c.in_ok-self.ensures.cause.later;
+  fine = c.in_ok-self.ensures.cause.fine;
+  failed = tt;
+}

@@ -15,3 +15,6 @@ compare_exchange-found-requires g c =
 
 pub returns-else-found-pack-clause-ok : goal.returns-else-found-pack-clause-ok
 returns-else-found-pack-clause-ok g c = search rules steps 100000
+
+pub returns-then-found-pack-clause-ok : goal.returns-then-found-pack-clause-ok
+returns-then-found-pack-clause-ok g c = search rules steps 900000

@@ -1,4 +1,4 @@
-use Rattle.std.proofs.Common.{◌≡◌, ◌∙◌, ap, ◌++◌, ◌∷◌, [], List, map, length, arith}
+use Rattle.std.proofs.Common.{rules, ◌≡◌, ◌∙◌, ap, ◌++◌, ◌∷◌, [], List, map, length, arith}
 use Rattle.std.proofs.lemmas.Result.{IfOk-weaker, on_err_weaker}
 use Rattle.lock_core.specs.declared.job.Job.{Job}
 use Rattle.txn_script.specs.declared.stored.Stored.TheVariants.{Long}
@@ -28,3 +28,6 @@ returns-clause-kept c =
     ∙ ap (map (job_stored (long ++ job ∷ []))) stored_is
     ∙ jobs_stored-append long (job ∷ []) stored c.self.invariant
     ∙ c.self.view_is) c.put-3.ensures.kept
+
+pub returns-in-Some-clause-kept : goal.returns-in-Some-clause-kept
+returns-in-Some-clause-kept c = search rules steps 900000
