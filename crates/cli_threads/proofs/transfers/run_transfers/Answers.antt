@@ -12,6 +12,18 @@ use Rattle.cli_threads.proofs.TransferredLemmas.{HasLeft-all, HasTaken, HasTaken
 use Rattle.cli_threads.proofs.WaitedLemmas.{HaveWaited-all}
 use Rattle.cli_threads.proofs.transfers.run_transfers.Goals as goal
 
+pub serve_crew-outside-requires-clause-crew : goal.serve_crew-outside-requires-clause-crew
+serve_crew-outside-requires-clause-crew g c = λ κs within. c.requires.prepared.crew
+
+pub serve_crew-outside-requires-clause-shut : goal.serve_crew-outside-requires-clause-shut
+serve_crew-outside-requires-clause-shut g c = λ κs within. c.requires.opened.1.shut
+
+pub serve_crew-outside-requires-clause-next : goal.serve_crew-outside-requires-clause-next
+serve_crew-outside-requires-clause-next g c = λ κs within. let log = c.requires.opened.1 in log.next ∙ sym log.start
+
+pub serve_crew-outside-requires-clause-place : goal.serve_crew-outside-requires-clause-place
+serve_crew-outside-requires-clause-place g c = λ κs within. c.requires.opened.1.place
+
 pub gather-ends-requires-clause-workers : goal.gather-ends-requires-clause-workers
 gather-ends-requires-clause-workers g c =
     let table = c.args.prepared.table in
