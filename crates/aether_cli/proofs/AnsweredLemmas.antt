@@ -16,7 +16,7 @@ use Rattle.cli_reports.specs.Answers.{IsOfDump, IsOfRecover}
 use Rattle.cli_new.specs.Answers.{IsOfNew}
 use Rattle.cli_run.specs.RunAnswers.{IsOfRun}
 use Rattle.cli_demo.specs.Demo.{IsOfDemo}
-use Rattle.aether_cli.specs.Answered.{Answered, Does, HasDone, TellsFaults, World}
+use Rattle.aether_cli.specs.Answered.{Answered, Does, Obeys, TellsFaults, World}
 use Rattle.aether_cli.specs.Asks.{AsksDemo, AsksNew, AsksRun}
 use Rattle.aether_cli.proofs.DemoAsked.{silent-told}
 
@@ -118,7 +118,7 @@ module _ {D S K : Type 0} (g : Ghosts D) (h : SourceGhosts S) (i : SinkGhosts K)
 
   module _ (words : List (List ℕ)) (old new : World D S K) (detail : Detail) where
     pub faults-of : Answered g h i words old new detail → TellsFaults g h i old new detail
-    faults-of (inl has) = has.faults
+    faults-of (inl has) = has.obeys.faults
     faults-of (inr (inl (usage, none, same))) =
         subst (λ w. TellsFaults g h i old w detail) (sym same) (no-faults old detail (λ fault. subst IsFault usage fault))
     faults-of (inr (inr (memory, same))) =
@@ -126,13 +126,13 @@ module _ {D S K : Type 0} (g : Ghosts D) (h : SourceGhosts S) (i : SinkGhosts K)
 
     -- where the words ask this command, it did what it promises
     pub done-of : Answered g h i words old new detail → (command : Command) → IsCommandLine words command → Does g h i command old new detail
-    done-of (inl has) command asked = subst (λ c. Does g h i c old new detail) (asks-one words has.command command has.asked asked) has.done
+    done-of (inl has) command asked = subst (λ c. Does g h i c old new detail) (asks-one words has.command command has.asked asked) has.obeys.done
     done-of (inr (inl (usage, none, same))) command asked = absurd (none (command, asked))
     done-of (inr (inr (memory, same))) command asked =
         subst (λ d. Does g h i command old new d) (sym memory) (subst (λ w. Does g h i command old w NoMemory) (sym same) (nothing-done old command))
 
     pub usage-of : Answered g h i words old new detail → detail ≡ Usage → AreTaken words → ⊥
-    usage-of (inl has) usage taken = not-usage old new detail has.command has.done usage
+    usage-of (inl has) usage taken = not-usage old new detail has.command has.obeys.done usage
     usage-of (inr (inl (_, none, same))) usage taken = none taken
     usage-of (inr (inr (memory, same))) usage taken = subst IsOfRecover (sym memory ∙ usage) tt
 
@@ -148,27 +148,27 @@ module _ {D S K : Type 0} (g : Ghosts D) (h : SourceGhosts S) (i : SinkGhosts K)
     same-of (inr (inr (memory, same))) none = same
 
     pub untouched-of : Answered g h i words old new detail → (AsksNew words → ⊥) → (AsksRun words → ⊥) → (AsksDemo words → ⊥) → new.disk ≡ old.disk
-    untouched-of (inl has) = done-untouched words old new detail has.command has.asked has.done
+    untouched-of (inl has) = done-untouched words old new detail has.command has.asked has.obeys.done
     untouched-of (inr (inl (usage, _, same))) = λ not_new not_run not_demo. ap (λ (w : World D S K). w.disk) same
     untouched-of (inr (inr (memory, same))) = λ not_new not_run not_demo. ap (λ (w : World D S K). w.disk) same
 
     pub count-of : Answered g h i words old new detail → (AsksRun words → ⊥) → (AsksDemo words → ⊥) → g.honest old.disk
         → g.written_count new.disk ≤ g.written_count old.disk + 7
-    count-of (inl has) = done-count words old new detail has.command has.asked has.done
+    count-of (inl has) = done-count words old new detail has.command has.asked has.obeys.done
     count-of (inr (inl (usage, _, same))) = λ not_run not_demo honest.
         subst (λ w. g.written_count w ≤ g.written_count old.disk + 7) (sym (ap (λ (w : World D S K). w.disk) same)) (omega arith)
     count-of (inr (inr (memory, same))) = λ not_run not_demo honest.
         subst (λ w. g.written_count w ≤ g.written_count old.disk + 7) (sym (ap (λ (w : World D S K). w.disk) same)) (omega arith)
 
     pub silent-of : Answered g h i words old new detail → (AsksRun words → ⊥) → StaysSilent (i.held_bytes old.out) (i.held_bytes new.out) detail
-    silent-of (inl has) = done-silent words old new detail has.command has.asked has.done
+    silent-of (inl has) = done-silent words old new detail has.command has.asked has.obeys.done
     silent-of (inr (inl (usage, _, same))) = λ not_run.
         subst (StaysSilent (i.held_bytes old.out) (i.held_bytes new.out)) (sym usage) (still-kept old new same)
     silent-of (inr (inr (memory, same))) = λ not_run.
         subst (StaysSilent (i.held_bytes old.out) (i.held_bytes new.out)) (sym memory) (still-kept old new same)
 
-    -- the command that the words ask did what it promises, and what it answered is the detail
-    pub came : (answered : Detail) (command : Command) → IsCommandLine words command → TellsFaults g h i old new answered
-        → Does g h i command old new answered → answered ≡ detail → Answered g h i words old new detail
-    came answered command asked faults done is = subst (Answered g h i words old new) is
-        (inl (record { command = command; asked = asked; faults = faults; done = done }))
+  -- the command did what it promises, and what it answered is the detail
+  pub obeyed : (old new : World D S K) (answered detail : Detail) (command : Command) → TellsFaults g h i old new answered
+      → Does g h i command old new answered → answered ≡ detail → Obeys g h i command old new detail
+  obeyed old new answered detail command faults done is =
+      subst (Obeys g h i command old new) is (record { faults = faults; done = done })

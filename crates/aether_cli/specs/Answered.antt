@@ -91,15 +91,20 @@ Does g h i Recover old new detail = DoesRecover h i old new detail
 Does g h i Dump old new detail = DoesDump h i old new detail
 Does g h i (Demo log n seed options) old new detail = DoesDemo g i n seed options old new detail
 
--- the words ask this command, and it did what it promises
-pub record HasDone {D S K : Type 0} (g : Ghosts D) (h : SourceGhosts S) (i : SinkGhosts K) (words : List (List ℕ)) (old new : World D S K)
+-- the command did what it promises, and told of faults
+pub record Obeys {D S K : Type 0} (g : Ghosts D) (h : SourceGhosts S) (i : SinkGhosts K) (command : Command) (old new : World D S K)
     (detail : Detail) : Type 0 where
-  pub command : Command
-  pub asked : IsCommandLine words command
   pub faults : TellsFaults g h i old new detail
   pub done : Does g h i command old new detail
 
--- a command was asked and done; or the words ask none; or there was no memory to read them
+-- the words ask this command, and it was obeyed
+pub record HasObeyed {D S K : Type 0} (g : Ghosts D) (h : SourceGhosts S) (i : SinkGhosts K) (words : List (List ℕ)) (old new : World D S K)
+    (detail : Detail) : Type 0 where
+  pub command : Command
+  pub asked : IsCommandLine words command
+  pub obeys : Obeys g h i command old new detail
+
+-- a command was asked and obeyed; or the words ask none; or there was no memory to read them
 abbrev pub Answered : {D S K : Type 0} → Ghosts D → SourceGhosts S → SinkGhosts K → List (List ℕ) → World D S K → World D S K → Detail → Type 0
-Answered g h i words old new detail = HasDone g h i words old new detail
+Answered g h i words old new detail = HasObeyed g h i words old new detail
     ⊎ ((detail ≡ Usage) × (AreTaken words → ⊥) × (new ≡ old)) ⊎ ((detail ≡ NoMemory) × (new ≡ old))

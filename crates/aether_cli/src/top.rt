@@ -12,7 +12,7 @@ ghost use Rattle.txn_script.specs.Balances.{IsBalancesText};
 ghost use Rattle.cli_shared.specs.Answers.{status_of, StaysSilent};
 ghost use Rattle.cli_reports.specs.Answers.{AnswersRecover, AnswersDump, IsOfDump, IsOfRecover};
 ghost use Rattle.cli_new.specs.Answers.{AnswersNew, IsOfNew};
-ghost use Rattle.aether_cli.specs.Answered.{Answered, world};
+ghost use Rattle.aether_cli.specs.Answered.{Answered, Obeys, world};
 ghost use Rattle.aether_cli.specs.Asks.{AsksNew, AsksRun, AsksDemo};
 ghost use Rattle.cli_demo.specs.Demo.{AnswersDemo, IsOfDemo, TellsSummary};
 ghost use Rattle.cli_new.specs.Creation.{AllHoldNew, FollowsLog, MayBeLeft, PrecedesLog};
@@ -147,21 +147,37 @@ fn answer<R: Threads + Wait + Sync, D: LogDisk, S: Source, K: Sink, G: Gate + Sy
     ensures { Answered D.LogDisk S.Source K.Sink words.now (world disk.old script.old out.old) (world disk.new script.new out.new) result }
 {
     match parse(alloc, words) {
-        Ok(Command::New { log }) => new_command(alloc, &log, disk, script, out),
-        Ok(Command::Run { log, options }) => {
-            run_command(rt, alloc, &log, &options, disk, script, out, gate)
-        }
-        Ok(Command::Recover) => recover_command(alloc, script, out),
-        Ok(Command::Dump) => dump_command(alloc, script, out),
-        Ok(
-            Command::Demo {
-                log,
-                transfers,
-                seed,
-                options,
-            },
-        ) => demo_command(rt, alloc, &log, transfers, seed, &options, disk, out, gate),
+        Ok(command) => obey(rt, alloc, &command, disk, script, out, gate),
         Err(Refused::Usage) => Detail::Usage,
         Err(Refused::NoMemory) => Detail::NoMemory,
+    }
+}
+
+/// What the command answers.
+fn obey<R: Threads + Wait + Sync, D: LogDisk, S: Source, K: Sink, G: Gate + Sync>(
+    rt: &R,
+    alloc: Global,
+    command: &Command,
+    disk: &mut D,
+    script: &mut S,
+    out: &mut K,
+    gate: &G,
+) -> Detail
+    requires { (words : List (List ℕ)) × IsCommandLine words command.now }
+    ensures { Obeys D.LogDisk S.Source K.Sink command.now (world disk.old script.old out.old) (world disk.new script.new out.new) result }
+{
+    match command {
+        Command::New { log } => new_command(alloc, log, disk, script, out),
+        Command::Run { log, options } => {
+            run_command(rt, alloc, log, options, disk, script, out, gate)
+        }
+        Command::Recover => recover_command(alloc, script, out),
+        Command::Dump => dump_command(alloc, script, out),
+        Command::Demo {
+            log,
+            transfers,
+            seed,
+            options,
+        } => demo_command(rt, alloc, log, *transfers, *seed, options, disk, out, gate),
     }
 }

@@ -2,7 +2,6 @@
 #![tactic(auto)]
 
 mod conclusion;
-mod flushing_relief;
 mod gathering;
 mod reserving;
 mod room;
@@ -12,5 +11,4 @@ mod transfers;
 mod workers;
 
 pub use conclusion::{conclude, stopped};
-pub use flushing_relief::FlushingRelief;
 pub use transfers::{Ended, Prepared, ReadyRun, prepare, run_transfers};

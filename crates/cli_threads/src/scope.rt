@@ -7,10 +7,10 @@ ghost use Rattle.commit_pipeline.specs.Later.{Later};
 ghost use Rattle.commit_pipeline.specs.Turning.{IsSameDaemon, MayTurn};
 ghost use Rattle.cli_threads.specs.Workers.{AreDone, AreUnused};
 
-use crate::flushing_relief::FlushingRelief;
 use crate::serving::{Run, Started};
 use crate::workers::Worker;
 use commit_pipeline::Daemon;
+use flushing_relief::FlushingRelief;
 use log_disk::{Gate, LogDisk, Sink};
 use std::sync::Wait;
 use std::thread;

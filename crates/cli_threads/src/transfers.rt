@@ -13,7 +13,6 @@ ghost use Rattle.cli_threads.specs.Prepared.{IsCrew, IsPrepared, IsServed, HasTu
 ghost use Rattle.cli_threads.specs.Transferred.{IsOpened};
 ghost use Rattle.commit_pipeline.specs.Turning.{MayTurn};
 
-use crate::flushing_relief::FlushingRelief;
 use crate::gathering::gather;
 use crate::room::{Room, flags};
 use crate::scope::serve_all;
@@ -21,6 +20,7 @@ use crate::serving::Run;
 use crate::workers::{Worker, hire_all};
 use commit_pipeline::{Daemon, DaemonFault, Voice};
 use flusher::Flusher;
+use flushing_relief::FlushingRelief;
 use log_disk::{Gate, LogDisk, Sink};
 use log_table::{Closed, LogTable, Seat, Start};
 use lsn_space::NoMemory;

@@ -4,8 +4,8 @@ ghost use Rattle.segment_file.specs.Standing.{IsStableGate};
 
 use cli_reports::recover_command::recover_command;
 use cli_shared::Detail;
-use cli_threads::FlushingRelief;
 use commit_pipeline::{DaemonFault, Voice};
+use flushing_relief::FlushingRelief;
 use log_disk::{LogDisk, MemoryDisk, MemorySink, MemorySource, OpenGate, Sink};
 use log_table::{LogTable, Seat};
 use lsn_space::Lsn;
