@@ -167,8 +167,8 @@ module _ {D S K : Type 0} (g : Ghosts D) (h : SourceGhosts S) (i : SinkGhosts K)
     silent-of (inr (inr (memory, same))) = λ not_run.
         subst (StaysSilent (i.held_bytes old.out) (i.held_bytes new.out)) (sym memory) (still-kept old new same)
 
-  -- the command did what it promises, and what it answered is the detail
-  pub obeyed : (old new : World D S K) (answered detail : Detail) (command : Command) → TellsFaults g h i old new answered
-      → Does g h i command old new answered → answered ≡ detail → Obeys g h i command old new detail
-  obeyed old new answered detail command faults done is =
-      subst (Obeys g h i command old new) is (record { faults = faults; done = done })
+  -- the command that was given did what it promises, and what it answered is the detail
+  pub obeyed : (old new : World D S K) (answered detail : Detail) (command given : Command) → given ≡ command → TellsFaults g h i old new answered
+      → Does g h i command old new answered → answered ≡ detail → Obeys g h i given old new detail
+  obeyed old new answered detail command given is faults done told =
+      subst (λ c. Obeys g h i c old new detail) (sym is) (subst (Obeys g h i command old new) told (record { faults = faults; done = done }))

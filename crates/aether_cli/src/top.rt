@@ -163,7 +163,7 @@ fn obey<R: Threads + Wait + Sync, D: LogDisk, S: Source, K: Sink, G: Gate + Sync
     out: &mut K,
     gate: &G,
 ) -> Detail
-    requires { (words : List (List ℕ)) × IsCommandLine words command.now }
+    requires asked { (words : List (List ℕ)) × IsCommandLine words command.now }
     ensures { Obeys D.LogDisk S.Source K.Sink command.now (world disk.old script.old out.old) (world disk.new script.new out.new) result }
 {
     match command {

@@ -1,14 +1,17 @@
-use Rattle.std.proofs.Common.{inl, inr, refl, subst}
+use Rattle.std.proofs.Common.{inl, inr, refl, subst, ℕ, List}
 use Rattle.command_line.specs.CommandLine.{IsCommandLine, IsRefusalOf}
 use Rattle.aether_cli.proofs.top.answer.Goals as goal
 
-pub obey-requires : goal.obey-requires
-obey-requires g c = (c.args.words.now, subst (IsCommandLine c.args.words.now) c.in-Ok.field-0-is c.in-Ok.ensures.exact)
+pub obey-requires-clause-asked : goal.obey-requires-clause-asked
+obey-requires-clause-asked g c =
+    let asked : (words : List (List ℕ)) × IsCommandLine words c.in-Ok.command =
+    (c.args.words.now, subst (IsCommandLine c.args.words.now) c.in-Ok.command-is c.in-Ok.ensures.exact) in
+    λ lifetimes outlive. asked
 
 pub returns-in-Ok : goal.returns-in-Ok
 returns-in-Ok g c = inl (record {
   command = c.in-Ok.command;
-  asked = subst (IsCommandLine c.args.words.now) c.in-Ok.field-0-is c.in-Ok.ensures.exact;
+  asked = subst (IsCommandLine c.args.words.now) c.in-Ok.command-is c.in-Ok.ensures.exact;
   obeys = c.obey.ensures;
 })
 

@@ -12,7 +12,7 @@ returns-in-New g c =
     let old = world c.args.disk.now c.args.script.now c.args.out.now in
     let new = world c.new_command.new.disk c.new_command.new.script c.new_command.new.out in
     obeyed g.D.LogDisk g.S.Source g.K.Sink old new
-    c.new_command.result _ (New c.in-New.log)
+    c.new_command.result _ (New c.in-New.log) _ c.in-New.is
     (record {
       read = called.read;
       write = called.write;
@@ -41,7 +41,7 @@ returns-in-Run g c =
     let old = world c.args.disk.now c.args.script.now c.args.out.now in
     let new = world c.run_command.new.disk c.run_command.new.script c.run_command.new.out in
     obeyed g.D.LogDisk g.S.Source g.K.Sink old new
-    c.run_command.result _ (Run c.in-Run.log c.in-Run.options)
+    c.run_command.result _ (Run c.in-Run.log c.in-Run.options) _ c.in-Run.is
     (record {
       read = called.read;
       write = called.write;
@@ -64,7 +64,7 @@ returns-in-Recover g c =
     let old = world c.args.disk.now c.args.script.now c.args.out.now in
     let new = world c.args.disk.now c.recover_command.new.script c.recover_command.new.out in
     obeyed g.D.LogDisk g.S.Source g.K.Sink old new
-    c.recover_command.result _ (Recover)
+    c.recover_command.result _ (Recover) _ c.in-Recover.is
     (record {
       read = called.read;
       write = called.write;
@@ -88,7 +88,7 @@ returns-in-Dump g c =
     let old = world c.args.disk.now c.args.script.now c.args.out.now in
     let new = world c.args.disk.now c.dump_command.new.script c.dump_command.new.out in
     obeyed g.D.LogDisk g.S.Source g.K.Sink old new
-    c.dump_command.result _ (Dump)
+    c.dump_command.result _ (Dump) _ c.in-Dump.is
     (record {
       read = called.read;
       write = called.write;
@@ -112,7 +112,7 @@ returns-in-Demo g c =
     let old = world c.args.disk.now c.args.script.now c.args.out.now in
     let new = world c.demo_command.new.disk c.args.script.now c.demo_command.new.out in
     obeyed g.D.LogDisk g.S.Source g.K.Sink old new
-    c.demo_command.result _ (Demo c.in-Demo.log c.in-Demo.transfers c.in-Demo.seed c.in-Demo.options)
+    c.demo_command.result _ (Demo c.in-Demo.log c.in-Demo.transfers c.in-Demo.seed c.in-Demo.options) _ c.in-Demo.is
     (record {
       read = λ read. absurd (subst IsOfDemo read called.range);
       write = called.write;
