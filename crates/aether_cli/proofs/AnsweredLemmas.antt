@@ -1,5 +1,5 @@
 -- What a call came to says, of each command, what it promises where the words ask it; and what is so whatever they ask.
-use Rattle.std.proofs.Common.{◌≡◌, ◌≤◌, ◌+◌, ◌⊎◌, inl, inr, ◌∙◌, refl, ap, sym, subst, ℕ, List, Option, Some, None, IfSome, arith}
+use Rattle.std.proofs.Common.{◌≡◌, ◌≤◌, ◌+◌, ◌⊎◌, inl, inr, ◌∙◌, refl, ap, sym, subst, ℕ, List, arith}
 use Rattle.std.specs.Io.KnownBytes.{Keeps}
 use Rattle.command_line.specs.CommandLine.{AreTaken, IsCommandLine}
 use Rattle.command_line.specs.declared.command.Command.{Command}
@@ -12,6 +12,7 @@ use Rattle.log_disk.proofs.Moments.{Leaves-refl}
 use Rattle.cli_shared.specs.declared.report.Detail.{Detail}
 use Rattle.cli_shared.specs.declared.report.Detail.TheVariants.{NoMemory, Usage, Read, Write, Disk}
 use Rattle.cli_shared.specs.Answers.{StaysSilent}
+use Rattle.cli_shared.proofs.ToldLemmas.{kept-text, nothing-said}
 use Rattle.cli_reports.specs.Answers.{IsOfDump, IsOfRecover}
 use Rattle.cli_new.specs.Answers.{IsOfNew}
 use Rattle.cli_run.specs.RunAnswers.{IsOfRun}
@@ -19,16 +20,6 @@ use Rattle.cli_demo.specs.Demo.{IsOfDemo}
 use Rattle.aether_cli.specs.Answered.{Answered, Does, Obeys, TellsFaults, World}
 use Rattle.aether_cli.specs.Asks.{AsksDemo, AsksNew, AsksRun}
 use Rattle.aether_cli.proofs.DemoAsked.{silent-told}
-
--- what may be known of a text stays as it was
-kept-text : (text : Option (List ℕ)) → Keeps text text
-kept-text None = tt
-kept-text (Some bytes) = refl
-
--- of want of memory nothing is said, whatever an input holds
-nothing-said : (left : Option (List ℕ)) → IfSome left (λ bytes. Unit {0})
-nothing-said None = tt
-nothing-said (Some bytes) = tt
 
 -- a detail that names the object of a fault
 abbrev IsFault : Detail → Type 0
