@@ -279,8 +279,12 @@ impl LogDisk for MemoryDisk {
         ensures room { OnOk result (self.new.room ≡ self.old.room - RECORD) }
         ensures failed { IsErr result → (self.new.history ≡ self.old.history) × (self.new.room ≡ self.old.room) }
     {
-        self.count_call(RECORD)?;
-        self.keep_sync();
-        Ok(())
+        match self.count_call(RECORD) {
+            Ok(()) => {
+                self.keep_sync();
+                Ok(())
+            }
+            Err(failed) => Err(failed),
+        }
     }
 }

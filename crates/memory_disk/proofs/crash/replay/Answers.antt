@@ -1,4 +1,4 @@
-use Rattle.std.proofs.Common.{rules, ◌∙◌, ap, subst, ◌+◌, List, ◌∷◌, [], drop}
+use Rattle.std.proofs.Common.{rules, ◌∙◌, ap, refl, subst, ◌+◌, List, ◌∷◌, [], drop, length, arith}
 use Rattle.std.proofs.lemmas.List.{drop_more}
 use Rattle.memory_disk.specs.MemoryDisks.{recorded}
 use Rattle.memory_disk.specs.declared.step.Step.{Step}
@@ -36,4 +36,17 @@ steps-preserved c =
     ]
 
 pub steps-init : goal.steps-init
-steps-init c = search rules steps 1200000
+steps-init c = record {
+  replayed = record {
+    history = [];
+    leads_on = refl;
+    left = refl;
+    picked = record { none = λ zero. refl; none_left = λ zero. zero; whole = λ synced. refl; landed = tt };
+    read = c.copy_over.ensures.same;
+    bytes = c.requires.whole;
+  };
+  image_length = omega arith;
+  file_length = omega (arith, ap length c.copy_over.ensures.same);
+  image_capacity = omega arith;
+  file_capacity = c.copy_over.ensures.capacity;
+}
