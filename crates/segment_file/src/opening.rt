@@ -67,7 +67,10 @@ fn read_up_to<D: LogDisk>(alloc: Global, disk: &mut D, len: u64) -> Result<Vec<u
     let mut bytes = Vec::new(alloc);
     let mut buffer = [0; 4096];
     'reading: while (bytes.len() as u64) < len {
-        let count = disk.read_at(bytes.len() as u64, &mut buffer)?;
+        let count = match disk.read_at(bytes.len() as u64, &mut buffer) {
+            Ok(count) => count,
+            Err(_) => return Err(OpenFault::DiskFault),
+        };
         if count == 0 {
             break;
         }

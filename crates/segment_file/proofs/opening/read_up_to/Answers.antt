@@ -1,5 +1,5 @@
-use Rattle.std.proofs.Common.{rules}
+use Rattle.std.proofs.Common.{refl}
 use Rattle.segment_file.proofs.opening.read_up_to.Goals as goal
 
-pub returns-in_err-count-clause-no_fault : goal.returns-in_err-count-clause-no_fault
-returns-in_err-count-clause-no_fault g c = search rules steps 2500000
+pub returns-in-Err-clause-no_fault : goal.returns-in-Err-clause-no_fault
+returns-in-Err-clause-no_fault g c = λ other. absurd (other refl)
