@@ -90,8 +90,33 @@ fn replay(image: &mut Vec<u8>, file: &mut Vec<u8>, steps: &[Step], log: &[u8], p
     ensures file_capacity { vec_capacity file.old ≤ vec_capacity file.new }
 {
     copy_over(file, image);
+    let digits = Digits { left: pick };
+    replay_steps(image, file, steps, log, pick, digits);
+}
+
+/// Goes through the steps, from a file that is read as it is on the disk, with all digits of the pick.
+fn replay_steps(
+    image: &mut Vec<u8>,
+    file: &mut Vec<u8>,
+    steps: &[Step],
+    log: &[u8],
+    pick: u64,
+    all: Digits,
+)
+    requires whole { total_len steps.now ≡ length log.now }
+    requires image_room { length image.old.items + length log.now ≤ vec_capacity image.old }
+    requires file_room { length image.old.items + length log.now ≤ vec_capacity file.old }
+    requires same { file.old.items ≡ image.old.items }
+    requires digits { all.left ≡ pick }
+    ensures image { Images image.old.items (recorded steps.now log.now []) image.new.items }
+    ensures none { pick ≡ 0 → image.new.items ≡ file_at_sync image.old.items (recorded steps.now log.now []) }
+    ensures landed { Lands pick image.old.items (recorded steps.now log.now []) image.new.items }
+    ensures length { length image.new.items ≤ length image.old.items + length log.now }
+    ensures image_capacity { vec_capacity image.old ≤ vec_capacity image.new }
+    ensures file_capacity { vec_capacity file.old ≤ vec_capacity file.new }
+{
     let mut rest = log;
-    let mut digits = Digits { left: pick };
+    let mut digits = all;
     'steps: for step in steps {
         match *step {
             Step::Write { at, len } => {

@@ -4,8 +4,8 @@ use Rattle.memory_disk.specs.MemoryDisks.{recorded}
 use Rattle.memory_disk.specs.declared.step.Step.{Step}
 use Rattle.memory_disk.specs.declared.step.Step.TheVariants.{Write}
 use Rattle.memory_disk.proofs.Replays.{IsReplayed, replayed-write, replayed-sync}
-use Rattle.memory_disk.proofs.crash.replay.Goals as goal
-use Rattle.memory_disk.proofs.crash.replay.Goals.{in-Write, in-Sync}
+use Rattle.memory_disk.proofs.crash.replay_steps.Goals as goal
+use Rattle.memory_disk.proofs.crash.replay_steps.Goals.{in-Write, in-Sync}
 
 pub steps-preserved : goal.steps-preserved
 steps-preserved c =
@@ -27,7 +27,7 @@ steps-preserved c =
       | in-Sync w ↦
           let was = subst from (ahead ∙ ap (λ (step : Step). step ∷ behind) w.in-Sync.is) c.steps.invariant.replayed in
           rw (w.image-is, w.file-is, w.rest-is, w.digits-is) record {
-            replayed = replayed-sync _ _ _ _ _ _ _ _ _ was w.copy_over-in-Sync.ensures.same;
+            replayed = replayed-sync _ _ _ _ _ _ _ _ _ was w.copy_over.ensures.same;
             image_length = search rules;
             file_length = search rules;
             image_capacity = search rules;
@@ -41,12 +41,12 @@ steps-init c = record {
     history = [];
     leads_on = refl;
     left = refl;
-    picked = record { none = λ zero. refl; none_left = λ zero. zero; whole = λ synced. refl; landed = tt };
-    read = c.copy_over.ensures.same;
+    picked = record { none = λ zero. refl; none_left = λ zero. c.requires.digits ∙ zero; whole = λ synced. c.requires.digits; landed = tt };
+    read = c.requires.same;
     bytes = c.requires.whole;
   };
   image_length = omega arith;
-  file_length = omega (arith, ap length c.copy_over.ensures.same);
+  file_length = omega (arith, ap length c.requires.same);
   image_capacity = omega arith;
-  file_capacity = c.copy_over.ensures.capacity;
+  file_capacity = omega arith;
 }

@@ -1,7 +1,7 @@
 use Rattle.std.proofs.Common.{◌≤◌, ◌+◌, [], length, drop, vec_capacity}
 use Rattle.memory_disk.specs.MemoryDisks.{recorded}
 use Rattle.memory_disk.proofs.Replays.{IsReplayed}
-use Rattle.memory_disk.proofs.crash.replay.Given as goal
+use Rattle.memory_disk.proofs.crash.replay_steps.Given as goal
 
 abbrev pub invariant-steps : goal.invariant-steps
 invariant-steps l = record {
