@@ -16,10 +16,11 @@ mod top;
 use cli_shared::put_fault;
 pub use cli_shared::{Detail, Report};
 use command::words_of;
-use log_disk::{FileDisk, OpenGate, StdSink, StdSource};
+use log_disk::OpenGate;
 use std::fs::File;
 use std::io;
 use std::process::ExitCode;
+use system_disk::{FileDisk, StdSink, StdSource};
 pub use top::aether;
 
 /// The root folder, opened thrice. Where standard streams are closed it takes their numbers, so that no file that is

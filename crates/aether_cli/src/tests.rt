@@ -2,9 +2,10 @@
 
 use crate::top::aether;
 use cli_shared::{Detail, Report, put_fault};
-use log_disk::{Gate, MemoryDisk, MemorySink, MemorySource, OpenGate};
+use log_disk::{Gate, OpenGate};
 use log_recovery::Why;
 use lsn_space::{LAST, Lsn, Word};
+use memory_disk::{MemoryDisk, MemorySink, MemorySource};
 use std::alloc::AllocGlobal;
 use std::process::Abort;
 use std::sync::Wait;

@@ -1,7 +1,7 @@
 //! A transfer that a worker inserts and a daemon reports, with faults of the disk and of the sink.
 ghost use Rattle.std.specs.Prelude.{◌≡◌, ◌<◌, [], true, OnOk};
 ghost use Rattle.log_disk.specs.Disk.{IsOnlyImage};
-ghost use Rattle.log_disk.specs.MemoryDisks.{ImagesOf};
+ghost use Rattle.memory_disk.specs.MemoryDisks.{ImagesOf};
 ghost use Rattle.log_table.specs.Seats.{IsOf, view_of};
 ghost use Rattle.log_table.specs.Views.{knows_all_enrolled};
 ghost use Rattle.ring_buffer.specs.Calls.{IsReady};
@@ -10,9 +10,10 @@ ghost use Rattle.test_rig.specs.NotedJobs.{IsNew};
 
 use commit_pipeline::{Daemon, DaemonFault, Turn, Voice};
 use flusher::Drained;
-use log_disk::{LogDisk, MemoryDisk, MemorySink, OpenGate};
+use log_disk::{LogDisk, OpenGate};
 use log_table::{LogTable, Seat};
 use lsn_space::{Lsn, NoMemory};
+use memory_disk::{MemoryDisk, MemorySink};
 use run_rig::{CREATED, daemon_on, thirties, work_stripe};
 use std::alloc::Global;
 use std::process::Abort;

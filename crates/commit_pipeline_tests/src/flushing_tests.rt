@@ -1,7 +1,8 @@
 //! A ring that is full until it is flushed.
 use flusher::Flushed;
-use log_disk::{MemoryDisk, OpenGate};
+use log_disk::OpenGate;
 use lsn_space::{Lsn, place};
+use memory_disk::MemoryDisk;
 use ring_buffer::Refused;
 use run_rig::flusher_on;
 use std::test::Fail;

@@ -9,15 +9,17 @@ ghost use Rattle.test_rig.specs.NotedJobs.{IsNotedJob, IsNew, MayInsert};
 
 use commit_pipeline::{Daemon, DaemonFault, Voice};
 use lock_core::Job;
-use log_disk::{FileDisk, LogDisk, MemoryDisk, MemorySink, OpenGate};
+use log_disk::{LogDisk, OpenGate};
 use log_table::{LogTable, Seat};
 use lsn_space::{Lsn, Word};
+use memory_disk::{MemoryDisk, MemorySink};
 use run_rig::{CREATED, daemon_on, recovered_balances, recovered_end, thirties, work_stripe};
 use std::alloc::Global;
 use std::fs;
 use std::sync::Wait;
 use std::test::Fail;
 use std::thread::{Threads, join};
+use system_disk::FileDisk;
 use test_rig::{insert_all, noted_job, table_of, worker};
 use txn_runner::{Jobs, YieldRelief};
 

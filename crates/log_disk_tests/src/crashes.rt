@@ -1,6 +1,7 @@
 //! What a crash leaves on a disk in memory, by its pick.
 
-use log_disk::{LogDisk, MemoryDisk};
+use log_disk::LogDisk;
+use memory_disk::MemoryDisk;
 use std::test::Fail;
 
 #[test]

@@ -1,7 +1,9 @@
 //! Disks in memory, and what both kinds of disk have alike.
 
-use log_disk::{Failed, FileDisk, LogDisk, MemoryDisk};
+use log_disk::{Failed, LogDisk};
+use memory_disk::MemoryDisk;
 use std::test::Fail;
+use system_disk::FileDisk;
 
 fn store<D: LogDisk>(disk: &mut D, bytes: &[u8]) -> Result<u64, Failed> {
     disk.write_at(0, bytes)?;

@@ -1,10 +1,11 @@
 //! A disk over the system's files.
 
-use log_disk::{Failed, FileDisk, LogDisk, folder_of};
+use log_disk::{Failed, LogDisk};
 use lsn_space::Word;
 use std::fs;
 use std::process::Abort;
 use std::test::Fail;
+use system_disk::{FileDisk, folder_of};
 
 /// No file is made, and each call is a fault.
 fn refuses_without_a_file(rt: &impl Abort, disk: &mut FileDisk<HostRuntime>, name: &Word) {

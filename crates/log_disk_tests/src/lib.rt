@@ -1,4 +1,4 @@
-//! Tests of `log_disk`.
+//! Tests of `log_disk`, `memory_disk` and `system_disk`.
 #![tactic(auto)]
 
 #[cfg(test)]

@@ -1,9 +1,9 @@
 //! Sources and sinks, in memory and over the system.
 
-use log_disk::{
-    Failed, MemorySink, MemorySource, Sink, Source, StdSink, StdSource, WriteFault, put_all,
-};
+use log_disk::{Failed, Sink, Source, WriteFault, put_all};
+use memory_disk::{MemorySink, MemorySource};
 use std::test::Fail;
+use system_disk::{StdSink, StdSource};
 
 #[test]
 fn holds_what_was_put_in(rt: HostRuntime) -> Result<(), Fail> {

@@ -5,9 +5,9 @@ ghost use Rattle.log_record.specs.declared.rec.Rec.{Rec};
 ghost use Rattle.log_recovery.specs.Recovery.{HasRecords};
 
 use crate::images::{GENESIS, TRANSFER, image};
-use log_disk::MemorySink;
 use log_recovery::{Listed, RecoverFault, listed, put_dump};
 use lsn_space::Lsn;
+use memory_disk::MemorySink;
 use std::test::Fail;
 
 const TRANSFER_DUMP: &[u8] =

@@ -9,9 +9,10 @@ ghost use Rattle.commit_pipeline.specs.Turning.{MayTurn};
 
 use commit_pipeline::{Daemon, Voice};
 use flusher::Flusher;
-use log_disk::{LogDisk, MemorySink};
+use log_disk::LogDisk;
 use log_table::{LogTable, Seat};
 use lsn_space::NoMemory;
+use memory_disk::MemorySink;
 use segment_file::{Batch, create};
 use std::alloc::Global;
 

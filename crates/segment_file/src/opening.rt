@@ -1,6 +1,6 @@
 ghost use Rattle.std.specs.Prelude.{◌≡◌, ◌≤◌, ◌<◌, ◌+◌, ◌++◌, ◌↔◌, List, ℕ, length, take, IfOk, OnOk, IsErrOf};
-ghost use Rattle.log_disk.specs.Faults.{Rose};
-ghost use Rattle.log_disk.specs.Disk.{IsOnlyImage, Leaves};
+ghost use Rattle.log_disk.specs.Faults.{Rose, HasCause};
+ghost use Rattle.log_disk.specs.Disk.{IsOnlyImage, Keeps, Leaves};
 ghost use Rattle.segment_file.specs.declared.opening.OpenFault.TheVariants.{DiskFault};
 
 use log_disk::{Failed, LogDisk};
@@ -35,12 +35,42 @@ pub fn open_image<D: LogDisk>(alloc: Global, disk: &mut D) -> Result<Vec<u8>, Op
     ensures faults { D.faults disk.old ≤ D.faults disk.new }
     ensures no_fault { (IsErrOf result OpenFault.DiskFault → ⊥) → D.faults disk.new ≡ D.faults disk.old }
 {
+    let len = synced_len(disk)?;
+    read_up_to(alloc, disk, len)
+}
+
+/// Makes all bytes stable, and tells how many there are.
+fn synced_len<D: LogDisk>(disk: &mut D) -> Result<u64, Failed>
+    ensures len { D.honest disk.old → IfOk result (λ len. len ≡ length (D.reads disk.old)) }
+    ensures settled { D.honest disk.old → OnOk result (IsOnlyImage (D.reads disk.new) (D.images disk.new)) }
+    ensures reads { D.honest disk.old → D.reads disk.new ≡ D.reads disk.old }
+    ensures images { (c : List ℕ) → D.images disk.new c → D.images disk.old c }
+    ensures moments { Leaves D.moment D.images_since (D.images disk.old) disk.old disk.new }
+    ensures count { D.honest disk.old → D.written_count disk.new ≤ D.written_count disk.old + 1 }
+    ensures honest { D.honest disk.old ↔ D.honest disk.new }
+    ensures cause { HasCause (D.faults disk.old) (D.faults disk.new) result }
+{
     disk.sync()?;
-    let len = disk.len()?;
+    disk.len()
+}
+
+/// The bytes up to this length, or up to where a read gives none.
+fn read_up_to<D: LogDisk>(alloc: Global, disk: &mut D, len: u64) -> Result<Vec<u8>, OpenFault>
+    ensures bytes { D.honest disk.old → len ≡ length (D.reads disk.old) → IfOk result (λ bytes. bytes.items ≡ D.reads disk.old) }
+    ensures keeps { Keeps D.honest D.reads D.images D.written_count disk.old disk.new }
+    ensures moments { Leaves D.moment D.images_since (D.images disk.old) disk.old disk.new }
+    ensures honest { D.honest disk.old ↔ D.honest disk.new }
+    ensures fault { IsErrOf result OpenFault.DiskFault → Rose (D.faults disk.old) (D.faults disk.new) }
+    ensures faults { D.faults disk.old ≤ D.faults disk.new }
+    ensures no_fault { (IsErrOf result OpenFault.DiskFault → ⊥) → D.faults disk.new ≡ D.faults disk.old }
+{
     let mut bytes = Vec::new(alloc);
     let mut buffer = [0; 4096];
     'reading: while (bytes.len() as u64) < len {
-        let count = disk.read_at(bytes.len() as u64, &mut buffer)?;
+        let count = match disk.read_at(bytes.len() as u64, &mut buffer) {
+            Ok(count) => count,
+            Err(_) => return Err(OpenFault::DiskFault),
+        };
         if count == 0 {
             break;
         }

@@ -4,8 +4,9 @@ ghost use Rattle.std.specs.Prelude.{◌≡◌, ◌≤◌, ◌+◌, ◌*◌, ◌^
 ghost use Rattle.segment_file.specs.Standing.{IsShut};
 
 use crate::scanning::GENESIS;
-use log_disk::{LogDisk, MemoryDisk};
+use log_disk::LogDisk;
 use lsn_space::Lsn;
+use memory_disk::MemoryDisk;
 use segment_file::{Batch, Tail, append, create, open_image, scan, settle};
 use std::alloc::Global;
 use std::process::Abort;

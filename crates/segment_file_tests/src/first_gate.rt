@@ -1,6 +1,6 @@
 //! The first gate of a file.
 
-use log_disk::MemoryDisk;
+use memory_disk::MemoryDisk;
 use segment_file::has_open_gate;
 use std::test::Fail;
 

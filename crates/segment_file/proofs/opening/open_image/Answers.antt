@@ -1,8 +1,7 @@
-use Rattle.std.proofs.Common.{rules}
+use Rattle.log_disk.proofs.Moments.{Leaves-trans, Leaves-weaken}
 use Rattle.segment_file.proofs.opening.open_image.Goals as goal
 
-pub returns-in_err-count-clause-no_fault : goal.returns-in_err-count-clause-no_fault
-returns-in_err-count-clause-no_fault g c = search rules steps 2500000
-
-pub reading-init : goal.reading-init
-reading-init g c = search rules steps 2500000
+pub returns-clause-moments : goal.returns-clause-moments
+returns-clause-moments g c =
+    Leaves-trans g.D.LogDisk.moment g.D.LogDisk.images_since _ _ _ _ c.synced_len.ensures.moments
+    (Leaves-weaken g.D.LogDisk.moment g.D.LogDisk.images_since _ _ _ _ c.synced_len.ensures.images c.read_up_to.ensures.moments)

@@ -1,5 +1,0 @@
-use Rattle.std.proofs.Common.{rules}
-use Rattle.log_disk.proofs.file_disk.FileDisk.fail.Goals as goal
-
-pub returns-clause-rose : goal.returns-clause-rose
-returns-clause-rose g c = search rules steps 450000

@@ -1,6 +1,0 @@
-use Rattle.std.proofs.Common.{rules}
-use Rattle.log_disk.proofs.Calls.{images-sync}
-use Rattle.log_disk.proofs.memory_disk.MemoryDiskLogDisk.sync.Goals as goal
-
-pub returns-clause-images : goal.returns-clause-images
-returns-clause-images c = images-sync c.args.self.now c.keep_sync.new.self (search rules) (search rules)

@@ -1,5 +1,0 @@
-use Rattle.std.proofs.Common.{rules}
-use Rattle.log_disk.proofs.memory_sink.MemorySinkSink.write.Goals as goal
-
-pub returns-then-is_full-clause-fails : goal.returns-then-is_full-clause-fails
-returns-then-is_full-clause-fails c = search rules steps 2500000

@@ -1,0 +1,4 @@
+pub mod Calls
+pub mod Cuts
+pub mod Recorded
+pub mod Replays

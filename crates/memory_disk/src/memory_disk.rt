@@ -1,0 +1,290 @@
+ghost use Rattle.std.specs.Prelude.{◌≡◌, ◌≤◌, ◌<◌, ◌+◌, ◌-◌, ◌/◌, ◌↔◌, ⊤, ℕ, List, [], ◌∷◌, min, take, drop, length, vec_capacity, if◌then◌else◌, is_ok, IsErr, IfOk, OnOk};
+ghost use Rattle.log_disk.specs.Disk.{put, IsTorn, MayBeTorn, IsOnlyImage, Elapses, Keeps, CountsOne};
+ghost use Rattle.log_disk.specs.Faults.{HasCause, raised};
+ghost use Rattle.memory_disk.specs.History.Event.{Wrote, Synced};
+ghost use Rattle.memory_disk.specs.MemoryDisks.{file_of, ImagesOf, ImagesSinceOf, moment_of, written_count_of, CallFails, CountsCall};
+
+use crate::contents::{copy_from, place};
+use crate::step::Step;
+use log_disk::{Failed, LogDisk};
+use lsn_space::{NoMemory, Word};
+use std::alloc::Global;
+use std::marker::Model;
+
+/// What the record of a write or of a sync takes of the room, beside the bytes.
+pub const RECORD: usize = 16;
+
+/// A disk in memory, which keeps what was done to it, so that `crash` can leave one of its images: not each of
+/// them, but one for each number.
+#[derive(Drop)]
+pub struct MemoryDisk {
+    pub(crate) start: Vec<u8>,
+    pub(crate) held: Vec<u8>,
+    pub(crate) steps: Vec<Step>,
+    pub(crate) log: Vec<u8>,
+    pub(crate) room: usize,
+    pub(crate) failing: Vec<u64>,
+    pub(crate) calls: u64,
+    pub(crate) written_count: u64,
+    pub(crate) faults: u64,
+}
+
+impl Model for MemoryDisk {
+    ghost use Rattle.std.specs.Prelude.{◌≤◌, ◌+◌, ◌*◌, [], length, vec_capacity};
+    ghost use Rattle.memory_disk.specs.MemoryDisks.{DiskState, IsRecord, recorded};
+    ghost use Rattle.memory_disk.specs.declared.memory_disk.TheConstants.{RECORD};
+
+    ghost Value = { DiskState };
+
+    ghost view = { λ d. record {
+      start = d.start.items;
+      history = recorded d.steps.items d.log.items [];
+      room = d.room;
+      failing = d.failing.items;
+      calls = d.calls;
+      written_count = d.written_count;
+      faults = d.faults;
+    } };
+
+    ghost invariant = { λ d. IsRecord d.start.items d.held.items d.log.items d.steps.items d.room d.written_count
+        × (length d.start.items + length d.log.items + d.room ≤ vec_capacity d.start)
+        × (length d.start.items + length d.log.items + d.room ≤ vec_capacity d.held)
+        × (length d.log.items + d.room ≤ vec_capacity d.log)
+        × (RECORD * length d.steps.items + d.room ≤ RECORD * vec_capacity d.steps) };
+}
+
+impl MemoryDisk {
+    /// A disk that holds these bytes, all of them stable. Each write takes its length and `RECORD` of the
+    /// room, each sync `RECORD`. The calls whose numbers are in `failing` fail, counted from 1.
+    pub fn make(
+        alloc: Global,
+        bytes: &[u8],
+        room: usize,
+        failing: &[u64],
+    ) -> Result<MemoryDisk, NoMemory>
+        ensures settled { IfOk result (λ disk. IsOnlyImage bytes.now (ImagesOf disk)) }
+        ensures reads { IfOk result (λ disk. file_of disk ≡ bytes.now) }
+        ensures start { IfOk result (λ disk. disk.start ≡ bytes.now) }
+        ensures history { IfOk result (λ disk. disk.history ≡ []) }
+        ensures room { IfOk result (λ disk. disk.room ≡ room) }
+        ensures failing { IfOk result (λ disk. disk.failing ≡ failing.now) }
+        ensures calls { IfOk result (λ disk. disk.calls ≡ 0) }
+        ensures written { IfOk result (λ disk. disk.written_count ≡ 0) }
+        ensures faults { IfOk result (λ disk. disk.faults ≡ 0) }
+    {
+        let Some(most) = bytes.len().checked_add(room) else {
+            return Err(NoMemory);
+        };
+        let mut start = Vec::with_capacity(alloc, most).map_err(|_| NoMemory)?;
+        start.extend_from_slice(bytes).unwrap();
+        let mut held = Vec::with_capacity(alloc, most).map_err(|_| NoMemory)?;
+        held.extend_from_slice(bytes).unwrap();
+        let steps = Vec::with_capacity(alloc, room / RECORD + 1).map_err(|_| NoMemory)?;
+        let log = Vec::with_capacity(alloc, room).map_err(|_| NoMemory)?;
+        let failing = Vec::from_slice(alloc, failing).map_err(|_| NoMemory)?;
+        Ok(MemoryDisk {
+            start,
+            held,
+            steps,
+            log,
+            room,
+            failing,
+            calls: 0,
+            written_count: 0,
+            faults: 0,
+        })
+    }
+
+    /// What a read gives.
+    pub fn bytes(&self) -> &[u8]
+        ensures { result.now ≡ file_of self.now }
+    {
+        self.held.as_slice()
+    }
+
+    /// Counts a call that takes so much of the room, and a fault where it fails.
+    fn count_call(&mut self, cost: usize) -> Result<(), Failed>
+        ensures fails { IsErr result ↔ CallFails self.old cost }
+        ensures cause { HasCause self.old.faults self.new.faults result }
+        ensures state { self.new ≡ record self.old {
+          calls = raised self.old.calls;
+          faults = if is_ok result then self.old.faults else raised self.old.faults;
+        } }
+    {
+        self.calls = self.calls.saturating_add(1);
+        if self.room < cost || self.failing.contains(&self.calls) {
+            self.faults = self.faults.saturating_add(1);
+            return Err(Failed);
+        }
+        Ok(())
+    }
+
+    /// Carries out a write, of a call that succeeds or of one that fails.
+    fn keep_write(&mut self, at: usize, bytes: &[u8], succeeds: bool)
+        requires { RECORD + length bytes.now ≤ self.old.room }
+        ensures { self.new ≡ record self.old {
+          history = Wrote at bytes.now ∷ self.old.history;
+          room = self.old.room - (RECORD + length bytes.now);
+          written_count = self.old.written_count + (if succeeds then 1 else 0);
+        } }
+    {
+        let len = bytes.len();
+        place(&mut self.held, at, bytes);
+        self.log.extend_from_slice(bytes).unwrap();
+        self.steps.push_reserved(Step::Write { at, len });
+        self.room -= RECORD + len;
+        self.written_count += u64::from(succeeds);
+    }
+
+    fn keep_sync(&mut self)
+        requires { RECORD ≤ self.old.room }
+        ensures { self.new ≡ record self.old {
+          history = Synced ∷ self.old.history;
+          room = self.old.room - RECORD;
+          written_count = self.old.written_count + 1;
+        } }
+    {
+        self.steps.push_reserved(Step::Sync);
+        self.room -= RECORD;
+        self.written_count += 1;
+    }
+}
+
+impl LogDisk for MemoryDisk {
+    ghost use Rattle.std.specs.Prelude.{⊤};
+    ghost use Rattle.memory_disk.specs.MemoryDisks.{file_of, ImagesOf, ImagesSinceOf, moment_of, written_count_of};
+    ghost use Rattle.memory_disk.specs.Laws.{file-is-image, images-count, images-only};
+
+    ghost honest = { λ _. ⊤ };
+
+    ghost reads = { file_of };
+
+    ghost images = { ImagesOf };
+
+    ghost moment = { moment_of };
+
+    ghost images_since = { ImagesSinceOf };
+
+    ghost written_count = { written_count_of };
+
+    ghost faults = { λ d. d.faults };
+
+    ghost read_is_image = { λ d _. file-is-image d.start d.history };
+
+    ghost counts_now = { λ d. images-count d.start d.history };
+
+    ghost only_now = { λ d. images-only d.start d.history };
+
+    fn attach(&mut self, _name: &Word, _make: bool) -> Result<(), Failed>
+        ensures keeps { Keeps (λ _. ⊤) file_of ImagesOf written_count_of self.old self.new }
+        ensures time { Elapses moment_of ImagesOf ImagesSinceOf self.old self.new }
+        ensures cause { HasCause self.old.faults self.new.faults result }
+
+        // Beside the trait's: it fails exactly where it was told to.
+        ensures fails { IsErr result ↔ CallFails self.old 0 }
+        ensures counts { CountsCall self.old self.new result }
+        ensures room { self.new.room ≡ self.old.room }
+    {
+        self.count_call(0)
+    }
+
+    fn len(&mut self) -> Result<u64, Failed>
+        ensures len { IfOk result (λ n. n ≡ length (file_of self.old)) }
+        ensures keeps { Keeps (λ _. ⊤) file_of ImagesOf written_count_of self.old self.new }
+        ensures time { Elapses moment_of ImagesOf ImagesSinceOf self.old self.new }
+        ensures cause { HasCause self.old.faults self.new.faults result }
+
+        // Beside the trait's: it fails exactly where it was told to.
+        ensures fails { IsErr result ↔ CallFails self.old 0 }
+        ensures counts { CountsCall self.old self.new result }
+        ensures room { self.new.room ≡ self.old.room }
+    {
+        self.count_call(0)?;
+        Ok(self.held.len() as u64)
+    }
+
+    fn read_at(&mut self, at: u64, buf: &mut [u8]) -> Result<usize, Failed>
+        ensures fits { IfOk result (λ n. n ≤ length buf.new) }
+        ensures count { IfOk result (λ n. n ≡ min (length buf.old) (length (file_of self.old) - at)) }
+        ensures bytes { IfOk result (λ n. take n buf.new ≡ take n (drop at (file_of self.old))) }
+        ensures keeps { Keeps (λ _. ⊤) file_of ImagesOf written_count_of self.old self.new }
+        ensures time { Elapses moment_of ImagesOf ImagesSinceOf self.old self.new }
+        ensures cause { HasCause self.old.faults self.new.faults result }
+
+        // Beside the trait's: it fails exactly where it was told to.
+        ensures fails { IsErr result ↔ CallFails self.old 0 }
+        ensures counts { CountsCall self.old self.new result }
+        ensures room { self.new.room ≡ self.old.room }
+    {
+        self.count_call(0)?;
+        Ok(copy_from(&self.held, at as usize, buf))
+    }
+
+    // A write that fails leaves the first half of its bytes, where there is room for its record.
+    fn write_at(&mut self, at: u64, bytes: &[u8]) -> Result<(), Failed>
+        requires { at ≤ length (file_of self.old) }
+        ensures written { OnOk result (file_of self.new ≡ put at bytes.now (file_of self.old)) }
+        ensures torn { IsTorn at (length bytes.now) (file_of self.old) (file_of self.new) }
+        ensures images { (c : List ℕ) → ImagesOf self.new c → MayBeTorn at (length bytes.now) (ImagesOf self.old) c }
+        ensures count { CountsOne self.old.written_count self.new.written_count result }
+        ensures time { Elapses moment_of ImagesOf ImagesSinceOf self.old self.new }
+        ensures cause { HasCause self.old.faults self.new.faults result }
+
+        // Beside the trait's: it fails exactly where it was told to, or where too little room is left.
+        ensures fails { IsErr result ↔ CallFails self.old (RECORD + length bytes.now) }
+        ensures counts { CountsCall self.old self.new result }
+
+        // What the disk keeps of the write, and what that takes of the room.
+        ensures start { self.new.start ≡ self.old.start }
+        ensures kept { OnOk result (self.new.history ≡ Wrote at bytes.now ∷ self.old.history) }
+        ensures room { OnOk result (self.new.room ≡ self.old.room - (RECORD + length bytes.now)) }
+        ensures half { IsErr result → RECORD + length bytes.now ≤ self.old.room
+            → self.new.history ≡ Wrote at (take ((length bytes.now + 1) / 2) bytes.now) ∷ self.old.history }
+        ensures half_room { IsErr result → RECORD + length bytes.now ≤ self.old.room
+            → self.new.room ≡ self.old.room - (RECORD + (length bytes.now + 1) / 2) }
+        ensures no_room { self.old.room < RECORD + length bytes.now
+            → (self.new.history ≡ self.old.history) × (self.new.room ≡ self.old.room) }
+    {
+        let cost = RECORD + bytes.len();
+        match self.count_call(cost) {
+            Ok(()) => {
+                self.keep_write(at as usize, bytes, true);
+                Ok(())
+            }
+            Err(failed) => {
+                if cost <= self.room {
+                    let half = bytes.split_at(bytes.len().div_ceil(2)).0;
+                    self.keep_write(at as usize, half, false);
+                }
+                Err(failed)
+            }
+        }
+    }
+
+    fn sync(&mut self) -> Result<(), Failed>
+        ensures settled { OnOk result (IsOnlyImage (file_of self.old) (ImagesOf self.new)) }
+        ensures reads { file_of self.new ≡ file_of self.old }
+        ensures images { (c : List ℕ) → ImagesOf self.new c → ImagesOf self.old c }
+        ensures count { CountsOne self.old.written_count self.new.written_count result }
+        ensures time { Elapses moment_of ImagesOf ImagesSinceOf self.old self.new }
+        ensures cause { HasCause self.old.faults self.new.faults result }
+
+        // Beside the trait's: it fails exactly where it was told to, or where too little room is left.
+        ensures fails { IsErr result ↔ CallFails self.old RECORD }
+        ensures counts { CountsCall self.old self.new result }
+
+        // What the disk keeps of the sync, and what that takes of the room.
+        ensures start { self.new.start ≡ self.old.start }
+        ensures kept { OnOk result (self.new.history ≡ Synced ∷ self.old.history) }
+        ensures room { OnOk result (self.new.room ≡ self.old.room - RECORD) }
+        ensures failed { IsErr result → (self.new.history ≡ self.old.history) × (self.new.room ≡ self.old.room) }
+    {
+        match self.count_call(RECORD) {
+            Ok(()) => {
+                self.keep_sync();
+                Ok(())
+            }
+            Err(failed) => Err(failed),
+        }
+    }
+}

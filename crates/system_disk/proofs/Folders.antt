@@ -1,0 +1,57 @@
+-- A path has one last slash.
+use Rattle.std.proofs.Common.{◌≡◌, ◌<◌, suc, refl, [], codes, ◌+◌, ◌-◌, ◌∙◌, sym, ap, subst, ℕ, List, ◌∷◌, ◌++◌, Some, None, length, take, drop, get_or, get_or-drop, length-append, length-drop, arith}
+use Rattle.std.specs.List.{Contains}
+use Rattle.std.specs.Str.Pattern.{RFindsChar}
+use Rattle.std.proofs.Math.Seq.{get_or-append_seam, get_or-append_right, take-append_seam}
+use Rattle.std.proofs.lemmas.List.Elements.{Contains-get_or}
+use Rattle.std.proofs.lemmas.Str.{len_utf8_ascii}
+use Rattle.std.proofs.lemmas.Str.Pattern.{NoCharPasses-char}
+use Rattle.system_disk.specs.Folders.{SLASH, folder_before}
+
+-- in a path with a slash before a name it is at this index
+slash-at : (path front name : List ℕ) → path ≡ front ++ SLASH ∷ name → get_or path (length front) 0 ≡ SLASH
+slash-at path front name is = ap (λ l. get_or l (length front) 0) is ∙ get_or-append_seam front SLASH name 0
+
+slash-within : (path front name : List ℕ) → path ≡ front ++ SLASH ∷ name → length path ≡ length front + (1 + length name)
+slash-within path front name is = omega (arith, ap length is, length-append front (SLASH ∷ name))
+
+-- where no slash is found, there is none
+pub found-none : (path front name : List ℕ) → RFindsChar SLASH path None → path ≡ front ++ SLASH ∷ name → ⊥
+found-none path front name found is =
+    NoCharPasses-char SLASH path (length front) found (omega arith) (omega (arith, slash-within path front name is)) (slash-at path front name is)
+
+module _ (path : List ℕ) (i j : ℕ) (found : RFindsChar SLASH path (Some (i, j))) (within : i < length path) where
+  here : get_or path i 0 ≡ SLASH
+  here = found.1.byte (omega arith)
+
+  -- where one is found, there is one
+  pub found-some : Contains path SLASH
+  found-some = subst (Contains path) here (Contains-get_or path i 0 within)
+
+  -- and it is the last
+  pub found-last : (front name : List ℕ) → path ≡ front ++ SLASH ∷ name → (Contains name SLASH → ⊥) → take i path ≡ front
+  found-last front name is lacks =
+      let next : j ≡ i + 1 = omega (arith, found.1.ends, len_utf8_ascii SLASH (omega arith)) in
+      let size = slash-within path front name is in
+      let below : i < length front → ⊥ = λ less.
+      let back : j + (length front - j) ≡ length front = omega arith in
+      NoCharPasses-char SLASH (drop j path) (length front - j) found.0 (omega arith) (omega (arith, length-drop j path))
+      (get_or-drop j path (length front - j) 0 ∙ ap (λ n. get_or path n 0) back ∙ slash-at path front name is) in
+      let above : length front < i → ⊥ = λ more.
+      let k = (i - length front) - 1 in
+      let past : i - length front ≡ suc k = omega arith in
+      let read : get_or name k 0 ≡ SLASH = sym (
+      ap (λ l. get_or l i 0) is ∙ get_or-append_right front (SLASH ∷ name) i 0 (omega arith) ∙ ap (λ n. get_or (SLASH ∷ name) n 0) past
+      ) ∙ here in
+      lacks (subst (Contains name) read (Contains-get_or name k 0 (omega arith))) in
+      let same : i ≡ length front = omega (arith, below, above) in
+      ap (λ n. take n path) same ∙ ap (take (length front)) is ∙ take-append_seam front (SLASH ∷ name)
+
+-- a folder that isn't empty, and the root
+pub folder-some : (front folder : List ℕ) → folder ≡ front → 0 < length folder → folder ≡ folder_before front
+folder-some [] folder is some = absurd (omega (arith, some, ap length is))
+folder-some (byte ∷ front) folder is some = is
+
+pub folder-root : (front : List ℕ) → length front ≡ 0 → codes "/" ≡ folder_before front
+folder-root [] is = refl
+folder-root (byte ∷ front) is = absurd (omega arith)

@@ -1,0 +1,173 @@
+ghost use Rattle.std.specs.Prelude.{◌≡◌, ◌≤◌, ◌++◌, ◌∷◌, ℕ, List, IfSome, length, codes, Contains};
+ghost use Rattle.log_disk.specs.Faults.{Rose};
+ghost use Rattle.system_disk.specs.Folders.{SLASH, folder_before};
+
+use log_disk::{Failed, LogDisk};
+use lsn_space::Word;
+use std::fs::{File, Files, OpenOptions};
+use std::os::fd::AsRawFd;
+use std::os::unix::fs::FileExt;
+
+/// The number of the standard error, the last of the streams that every program begins with.
+const LAST_STREAM: i32 = 2;
+
+/// A file of the system, read and written at offsets. It tells nothing of its bytes, so nothing is
+/// said of them here but what the system promises: a write that comes back short, or not at all, is a
+/// fault, and after `sync` the bytes and the length are on the disk.
+#[derive(Drop)]
+pub struct FileDisk<R: Files<File = File> + Drop> {
+    rt: R,
+    file: Option<File>,
+    faults: u64,
+}
+
+impl<R: Files<File = File> + Drop> FileDisk<R> {
+    /// No file yet: until `attach` each other call is a fault.
+    pub fn make(rt: R) -> Self
+        ensures { result.faults ≡ 0 }
+    {
+        FileDisk {
+            rt,
+            file: None,
+            faults: 0,
+        }
+    }
+
+    /// How often a call has failed.
+    pub fn faults(&self) -> u64
+        ensures { result ≡ self.now.faults }
+    {
+        self.faults
+    }
+
+    fn fail(&mut self) -> Failed
+        ensures later { self.old.faults ≤ self.new.faults }
+        ensures rose { Rose self.old.faults self.new.faults }
+    {
+        self.faults = self.faults.saturating_add(1);
+        Failed
+    }
+}
+
+impl<R: Files<File = File> + Drop> LogDisk for FileDisk<R> {
+    ghost use Rattle.std.specs.Prelude.{⊤, []};
+
+    ghost honest = { λ _. ⊥ };
+
+    ghost reads = { λ _. [] };
+
+    ghost images = { λ _ _. ⊤ };
+
+    ghost moment = { λ _. 0 };
+
+    ghost images_since = { λ _ _ _. ⊤ };
+
+    ghost written_count = { λ _. 0 };
+
+    ghost faults = { λ disk. disk.faults };
+
+    ghost read_is_image = { λ _ _. tt };
+
+    ghost counts_now = { λ _ _ _ _ _. tt };
+
+    ghost only_now = { λ _ _ _. tt };
+
+    // Where it fails, the file that was attached before stays.
+    fn attach(&mut self, name: &Word, make: bool) -> Result<(), Failed> {
+        match open_file(&self.rt, name.text(), make) {
+            Some(file) => {
+                self.file = Some(file);
+                Ok(())
+            }
+            None => Err(self.fail()),
+        }
+    }
+
+    fn len(&mut self) -> Result<u64, Failed> {
+        match len_of(&self.file) {
+            Some(len) => Ok(len),
+            None => Err(self.fail()),
+        }
+    }
+
+    fn read_at(&mut self, at: u64, buf: &mut [u8]) -> Result<usize, Failed> {
+        match read_from(&self.file, at, buf) {
+            Some(count) => Ok(count),
+            None => Err(self.fail()),
+        }
+    }
+
+    fn write_at(&mut self, at: u64, bytes: &[u8]) -> Result<(), Failed> {
+        match write_to(&self.file, at, bytes) {
+            Some(_) => Ok(()),
+            None => Err(self.fail()),
+        }
+    }
+
+    fn sync(&mut self) -> Result<(), Failed> {
+        match sync_of(&self.file) {
+            Some(_) => Ok(()),
+            None => Err(self.fail()),
+        }
+    }
+}
+
+/// Opens for reading and writing, with what the file holds left as it is.
+fn open_file<R: Files<File = File>>(rt: &R, name: &str, make: bool) -> Option<File> {
+    let mut options = OpenOptions::new();
+    options.read(true).write(true).create(make);
+    let file = options.open(rt, name).ok()?;
+    // A standard stream was closed, and the file got its number: what the program writes to the stream would go into it.
+    if file.as_raw_fd() <= LAST_STREAM {
+        return None;
+    }
+    // The entry of a new file stands in its folder, which has to be synced too.
+    if make {
+        File::open(rt, folder_of(name)).ok()?.sync_all().ok()?;
+    }
+    Some(file)
+}
+
+/// The folder in which the file at this path stands: what is before the last slash.
+pub fn folder_of(path: &str) -> &str
+    ensures behind { (front name : List ℕ) → path.now ≡ front ++ SLASH ∷ name → (Contains name SLASH → ⊥) → result.now ≡ folder_before front }
+    ensures alone { (Contains path.now SLASH → ⊥) → result.now ≡ codes "." }
+{
+    match path.rsplit_once('/') {
+        Some((folder, _)) => { if folder.is_empty() { "/" } else { folder } }
+        None => ".",
+    }
+}
+
+fn len_of(file: &Option<File>) -> Option<u64> {
+    match file {
+        Some(file) => Some(file.metadata().ok()?.len()),
+        None => None,
+    }
+}
+
+// An interrupted read is a fault, as any other.
+fn read_from(file: &Option<File>, at: u64, buf: &mut [u8]) -> Option<usize>
+    ensures { IfSome result (λ count. count ≤ length buf.new) }
+{
+    match file {
+        Some(file) => file.read_at(buf, at).ok(),
+        None => None,
+    }
+}
+
+// `write_all_at` goes on after a short or interrupted write, and fails where the system takes no more.
+fn write_to(file: &Option<File>, at: u64, bytes: &[u8]) -> Option<()> {
+    match file {
+        Some(file) => file.write_all_at(bytes, at).ok(),
+        None => None,
+    }
+}
+
+// The data and the length, without which the data could not be read again.
+fn sync_of(file: &Option<File>) -> Option<()> {
+    match file {
+        Some(file) => file.sync_data().ok(),
+        None => None,
+    }
+}

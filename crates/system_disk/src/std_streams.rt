@@ -1,0 +1,98 @@
+ghost use Rattle.std.specs.Prelude.{◌≡◌};
+
+use log_disk::{Failed, READ_ALLOWANCE, Sink, Source};
+use std::io::{Read, Write};
+
+/// A reader of the system, such as the standard input. It tells nothing of its bytes.
+#[derive(Drop)]
+pub struct StdSource<R: Read + Drop> {
+    reader: R,
+    read_allowance: u64,
+    faults: u64,
+}
+
+impl<R: Read + Drop> StdSource<R> {
+    pub fn make(reader: R) -> Self
+        ensures allowance { result.read_allowance ≡ READ_ALLOWANCE }
+        ensures faults { result.faults ≡ 0 }
+    {
+        StdSource {
+            reader,
+            read_allowance: READ_ALLOWANCE,
+            faults: 0,
+        }
+    }
+
+    /// How often a call has failed.
+    pub fn faults(&self) -> u64
+        ensures { result ≡ self.now.faults }
+    {
+        self.faults
+    }
+}
+
+impl<R: Read + Drop> Source for StdSource<R> {
+    ghost use Rattle.std.specs.Prelude.{None};
+
+    ghost left = { λ _. None };
+
+    ghost read_allowance = { λ source. source.read_allowance };
+
+    ghost faults = { λ source. source.faults };
+
+    // An interrupted read is a fault like any other.
+    fn read(&mut self, buf: &mut [u8]) -> Result<usize, Failed> {
+        if self.read_allowance > 0 {
+            if let Ok(count) = self.reader.read(buf) {
+                if count > 0 {
+                    self.read_allowance -= 1;
+                }
+                return Ok(count);
+            }
+        }
+        self.faults = self.faults.saturating_add(1);
+        Err(Failed)
+    }
+}
+
+/// A writer of the system, such as the standard output. It tells nothing of its bytes.
+#[derive(Drop)]
+pub struct StdSink<W: Write + Drop> {
+    writer: W,
+    faults: u64,
+}
+
+impl<W: Write + Drop> StdSink<W> {
+    pub fn make(writer: W) -> Self
+        ensures { result.faults ≡ 0 }
+    {
+        StdSink { writer, faults: 0 }
+    }
+
+    /// How often a call has failed.
+    pub fn faults(&self) -> u64
+        ensures { result ≡ self.now.faults }
+    {
+        self.faults
+    }
+}
+
+impl<W: Write + Drop> Sink for StdSink<W> {
+    ghost use Rattle.std.specs.Prelude.{None};
+
+    ghost held_bytes = { λ _. None };
+
+    ghost faults = { λ sink. sink.faults };
+
+    // A write that takes nothing is a fault, or a caller would try it again without end; so is an
+    // interrupted one.
+    fn write(&mut self, piece: &[u8]) -> Result<usize, Failed> {
+        match self.writer.write(piece) {
+            Ok(count) if count > 0 => Ok(count),
+            _ => {
+                self.faults = self.faults.saturating_add(1);
+                Err(Failed)
+            }
+        }
+    }
+}
