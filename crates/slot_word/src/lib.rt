@@ -3,6 +3,12 @@
 
 mod account_packing;
 mod account_word;
+mod phase;
+mod slot_packing;
+mod slot_word;
 
 pub use account_packing::account_word_law;
 pub use account_word::AccountWord;
+pub use phase::Phase;
+pub use slot_packing::slot_word_law;
+pub use slot_word::SlotWord;
