@@ -8,4 +8,6 @@ mod records;
 #[cfg(test)]
 mod ring;
 #[cfg(test)]
+mod slot_words;
+#[cfg(test)]
 mod small_types;

@@ -1,1 +1,2 @@
 pub mod AccountWordLemmas
+pub mod SlotWordLemmas

@@ -1,1 +1,2 @@
 pub mod AccountWord
+pub mod SlotWord
