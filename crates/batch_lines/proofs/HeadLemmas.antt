@@ -4,10 +4,10 @@ use Rattle.log_record.specs.declared.rec.Rec.{Rec}
 use Rattle.log_record.specs.declared.rec.Rec.TheVariants.{Genesis, Update, Commit, Short, Over, Note}
 use Rattle.log_record.specs.Spelling.{header, spelling, IsSpellable, BeginsWith}
 use Rattle.log_record.proofs.Fronts.{parts_of, parts_of-fit, first_unit, spelling-parts_of, header-injective}
-use Rattle.commit_pipeline.specs.declared.voice.Voice.{Voice}
-use Rattle.commit_pipeline.specs.declared.voice.Voice.TheVariants.{Lines, Count}
-use Rattle.commit_pipeline.specs.EndLines.{line_said, count_said, is_done, is_refused}
-use Rattle.commit_pipeline.specs.Telling.{ended}
+use Rattle.end_lines.specs.declared.voice.Voice.{Voice}
+use Rattle.end_lines.specs.declared.voice.Voice.TheVariants.{Lines, Count}
+use Rattle.end_lines.specs.EndLines.{line_said, count_said, is_done, is_refused}
+use Rattle.end_lines.specs.Telling.{ended}
 
 -- the unit at an index is the first of those behind it
 unit-at : (units : List ℕ) (at unit : ℕ) (rest : List ℕ) → drop at units ≡ unit ∷ rest → get_or units at 0 ≡ unit

@@ -9,13 +9,13 @@ use Rattle.log_record.specs.LogList.{AreUnitsOf, units_of, size_of}
 use Rattle.log_record.specs.Spelling.{spelling, IsSpellable, BeginsWith}
 use Rattle.log_record.proofs.Fronts.{spelling-parts_of}
 use Rattle.log_record.proofs.SpellingLemmas.{spelling-append-injective}
-use Rattle.commit_pipeline.specs.declared.tally.Tally.{Tally}
-use Rattle.commit_pipeline.specs.declared.voice.Voice.{Voice}
-use Rattle.commit_pipeline.specs.declared.voice.Voice.TheVariants.{Lines, Count}
-use Rattle.commit_pipeline.specs.EndLines.{text_of, lines_in, line_said, count_said, is_done, is_refused}
-use Rattle.commit_pipeline.specs.Telling.{TellsAll, TellsFront, counted}
-use Rattle.commit_pipeline.proofs.HeadLemmas.{Silent}
-use Rattle.commit_pipeline.proofs.LineLemmas.{text_of-append, text_of-one, lines_in-append, lines_in-one, counted-append}
+use Rattle.end_lines.specs.declared.tally.Tally.{Tally}
+use Rattle.end_lines.specs.declared.voice.Voice.{Voice}
+use Rattle.end_lines.specs.declared.voice.Voice.TheVariants.{Lines, Count}
+use Rattle.end_lines.specs.EndLines.{text_of, lines_in, line_said, count_said, is_done, is_refused}
+use Rattle.end_lines.specs.Telling.{TellsAll, TellsFront, counted}
+use Rattle.batch_lines.proofs.HeadLemmas.{Silent}
+use Rattle.end_lines.proofs.LineLemmas.{text_of-append, text_of-one, lines_in-append, lines_in-one, counted-append}
 
 -- a spelling has at least one unit
 pub size_of-some : (rec : Rec) → 0 < size_of rec

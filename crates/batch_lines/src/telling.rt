@@ -3,23 +3,19 @@ ghost use Rattle.std.specs.Prelude.{◌≡◌, ◌≤◌, ◌+◌, ◌∷◌, Li
 ghost use Rattle.std.specs.Io.KnownBytes.{Appends};
 ghost use Rattle.lsn_space.specs.declared.lsn.TheConstants.{LAST};
 ghost use Rattle.log_disk.specs.Faults.{HasCause};
-ghost use Rattle.log_disk.specs.Streams.{AppendsPart};
 ghost use Rattle.log_record.specs.declared.rec.Rec.{Rec};
 ghost use Rattle.log_record.specs.Spelling.{header, spelling, IsSpellable, BeginsWith};
 ghost use Rattle.log_record.specs.LogList.{AreUnitsOf};
-ghost use Rattle.commit_pipeline.specs.EndLines.{line_said, count_said};
-ghost use Rattle.commit_pipeline.specs.Telling.{TellsAll, TellsFront, ended};
+ghost use Rattle.end_lines.specs.Telling.{TellsAll, TellsFront, ended};
 
-use crate::end_line::line_of;
-use crate::tally::Tally;
-use crate::voice::Voice;
-use log_disk::{Sink, WriteFault, put_all};
+use end_lines::{Tally, Voice, tell_record};
+use log_disk::{Sink, WriteFault};
 use log_record::{COMMIT, Header, OVER, Rec, SHORT};
 use lsn_space::Lsn;
 use segment_file::Batch;
 
 /// Counts the end records of the batch, whose first unit is at this LSN, and writes a line for each.
-pub(crate) fn tell<K: Sink>(
+pub fn tell<K: Sink>(
     batch: &Batch,
     from: Lsn,
     voice: Voice,
@@ -72,21 +68,4 @@ fn end_of(head: Header) -> Option<Rec>
         OVER => Some(Rec::Over { txn, leg: number }),
         _ => None,
     }
-}
-
-/// Writes the line of a record that ends at this LSN, where it ends a transaction, and answers how many lines that is.
-fn tell_record<K: Sink>(rec: &Rec, end: Lsn, voice: Voice, sink: &mut K) -> Result<u32, WriteFault>
-    ensures all { IfOk result (λ lines. Appends (K.held_bytes sink.old) (K.held_bytes sink.new) (line_said voice end rec.now)
-        × (lines ≡ count_said voice rec.now)) }
-    ensures prefix { OnErr result (AppendsPart (K.held_bytes sink.old) (K.held_bytes sink.new) (line_said voice end rec.now)) }
-    ensures cause { HasCause (K.faults sink.old) (K.faults sink.new) result }
-{
-    if voice == Voice::Count {
-        return Ok(0);
-    }
-    let Some(line) = line_of(rec, end) else {
-        return Ok(0);
-    };
-    put_all(sink, line.as_slice())?;
-    Ok(1)
 }

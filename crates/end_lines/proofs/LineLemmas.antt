@@ -3,11 +3,11 @@ use Rattle.std.proofs.Common.{◌≡◌, ◌∙◌, sym, ap, refl, ℕ, ◌+◌,
 use Rattle.log_record.specs.declared.rec.Rec.{Rec}
 use Rattle.log_record.specs.LogList.{units_of, size_of}
 use Rattle.log_record.specs.Spelling.{spelling}
-use Rattle.commit_pipeline.specs.declared.tally.Tally.{Tally}
-use Rattle.commit_pipeline.specs.declared.voice.Voice.{Voice}
-use Rattle.commit_pipeline.specs.declared.voice.Voice.TheVariants.{Lines, Count}
-use Rattle.commit_pipeline.specs.EndLines.{end_line, end_lines, done_in, refused_in, text_of, lines_in, line_said, count_said}
-use Rattle.commit_pipeline.specs.Telling.{counted}
+use Rattle.end_lines.specs.declared.tally.Tally.{Tally}
+use Rattle.end_lines.specs.declared.voice.Voice.{Voice}
+use Rattle.end_lines.specs.declared.voice.Voice.TheVariants.{Lines, Count}
+use Rattle.end_lines.specs.EndLines.{end_line, end_lines, done_in, refused_in, text_of, lines_in, line_said, count_said}
+use Rattle.end_lines.specs.Telling.{counted}
 
 pub end_lines-append : (at : ℕ) (xs ys : List Rec) → end_lines at (xs ++ ys) ≡ end_lines at xs ++ end_lines (at + length (units_of xs)) ys
 end_lines-append at [] ys = ap (λ n. end_lines n ys) (omega arith)

@@ -4,8 +4,8 @@ use Rattle.lsn_space.specs.Number.{number_text}
 use Rattle.log_record.specs.declared.rec.Rec.{Rec}
 use Rattle.log_record.specs.declared.rec.Rec.TheVariants.{Genesis, Update, Commit, Short, Over, Note}
 use Rattle.log_record.specs.LogList.{size_of}
-use Rattle.commit_pipeline.specs.declared.voice.Voice.{Voice}
-use Rattle.commit_pipeline.specs.declared.voice.Voice.TheVariants.{Lines, Count}
+use Rattle.end_lines.specs.declared.voice.Voice.{Voice}
+use Rattle.end_lines.specs.declared.voice.Voice.TheVariants.{Lines, Count}
 
 -- `done`, the transaction, and the LSN
 unfoldable pub done_line : ℕ → ℕ → List ℕ

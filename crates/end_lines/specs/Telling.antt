@@ -3,9 +3,9 @@ use Rattle.std.specs.Prelude.{◌≡◌, ◌<◌, ℕ, ◌+◌, List, [], ◌∷
 use Rattle.log_record.specs.declared.rec.Rec.{Rec}
 use Rattle.log_record.specs.declared.rec.Rec.TheVariants.{Genesis, Update, Commit, Short, Over, Note}
 use Rattle.log_record.specs.LogList.{end_of, size_of}
-use Rattle.commit_pipeline.specs.declared.tally.Tally.{Tally}
-use Rattle.commit_pipeline.specs.declared.voice.Voice.{Voice}
-use Rattle.commit_pipeline.specs.EndLines.{text_of, line_said, lines_in, done_in, refused_in}
+use Rattle.end_lines.specs.declared.tally.Tally.{Tally}
+use Rattle.end_lines.specs.declared.voice.Voice.{Voice}
+use Rattle.end_lines.specs.EndLines.{text_of, line_said, lines_in, done_in, refused_in}
 
 -- the tally with the end records among these
 abbrev pub counted : Tally → List Rec → Tally

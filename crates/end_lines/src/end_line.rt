@@ -1,6 +1,6 @@
 //! The line of an end record.
 ghost use Rattle.std.specs.Prelude.{◌≡◌, ◌+◌, [], IfSome, IfNone};
-ghost use Rattle.commit_pipeline.specs.EndLines.{done_line, short_line, over_line, end_line, is_done, is_refused};
+ghost use Rattle.end_lines.specs.EndLines.{done_line, short_line, over_line, end_line, is_done, is_refused};
 
 use arrayvec::ArrayVec;
 use log_record::Rec;

@@ -2,10 +2,10 @@ use Rattle.std.proofs.Common.{arith, refl, sym, ap, ◌≡◌, ◌∙◌, ◌+�
 use Rattle.std.proofs.lemmas.Result.{err_from_is_err_and}
 use Rattle.std.proofs.KnownBytes.{Appends-nil, Appends-trans}
 use Rattle.log_record.specs.Spelling.{spelling, BeginsWith}
-use Rattle.commit_pipeline.specs.EndLines.{count_said}
-use Rattle.commit_pipeline.proofs.ToldLemmas.{size_of-some, window-within, ends-few, count_said-few, told-begins, told-none, told-more, told-still, told-cut, told-all}
-use Rattle.commit_pipeline.proofs.HeadLemmas.{ended-silent, ended-same}
-use Rattle.commit_pipeline.proofs.telling.tell.Goals as goal
+use Rattle.end_lines.specs.EndLines.{count_said}
+use Rattle.batch_lines.proofs.ToldLemmas.{size_of-some, window-within, ends-few, count_said-few, told-begins, told-none, told-more, told-still, told-cut, told-all}
+use Rattle.batch_lines.proofs.HeadLemmas.{ended-silent, ended-same}
+use Rattle.batch_lines.proofs.telling.tell.Goals as goal
 
 pub records-init : goal.records-init
 records-init g c = record {

@@ -2,8 +2,8 @@ use Rattle.std.proofs.Common.{◌≡◌, ◌≤◌, ◌+◌, ◌-◌, List, ℕ,
 use Rattle.std.specs.Io.KnownBytes.{Appends}
 use Rattle.log_record.specs.declared.rec.Rec.{Rec}
 use Rattle.log_record.specs.LogList.{AreUnitsOf}
-use Rattle.commit_pipeline.proofs.ToldLemmas.{ToldUpTo}
-use Rattle.commit_pipeline.proofs.telling.tell.Given as goal
+use Rattle.batch_lines.proofs.ToldLemmas.{ToldUpTo}
+use Rattle.batch_lines.proofs.telling.tell.Given as goal
 
 abbrev pub invariant-records : goal.invariant-records
 invariant-records g l = record {

@@ -1,5 +1,5 @@
 use Rattle.std.proofs.Common.{rules}
-use Rattle.commit_pipeline.proofs.telling.tell_record.Goals as goal
+use Rattle.end_lines.proofs.saying.tell_record.Goals as goal
 
 pub returns-clause-all : goal.returns-clause-all
 returns-clause-all g c = search rules steps 900000

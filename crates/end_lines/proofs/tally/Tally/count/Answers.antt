@@ -1,5 +1,5 @@
 use Rattle.std.proofs.Common.{rules}
-use Rattle.commit_pipeline.proofs.tally.Tally.count.Goals as goal
+use Rattle.end_lines.proofs.tally.Tally.count.Goals as goal
 
 pub returns-in-Short-clause-done : goal.returns-in-Short-clause-done
 returns-in-Short-clause-done c = search rules steps 400000
