@@ -34,7 +34,7 @@ use Rattle.log_table.specs.Closing.{IsGathered, IsSettled}
 use Rattle.log_table.specs.Sound.{base_of}
 use Rattle.log_table.specs.Views.{flusher}
 use Rattle.commit_pipeline.specs.declared.daemon.Daemon.{Daemon}
-use Rattle.commit_pipeline.specs.declared.voice.Voice.TheVariants.{Lines}
+use Rattle.end_lines.specs.declared.voice.Voice.TheVariants.{Lines}
 use Rattle.txn_runner.specs.declared.cause.Cause.TheVariants.{LogEnd}
 use Rattle.txn_runner.specs.declared.cause.Worked.TheVariants.{Cut}
 use Rattle.txn_runner.specs.declared.jobs.Jobs.{Jobs}

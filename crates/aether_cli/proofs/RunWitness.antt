@@ -36,8 +36,8 @@ use Rattle.log_table.specs.Sound.{base_of}
 use Rattle.log_table.specs.Views.{flusher}
 use Rattle.log_table.proofs.Deltas.{more-delta, less-delta}
 use Rattle.commit_pipeline.specs.declared.daemon.Daemon.{Daemon}
-use Rattle.commit_pipeline.specs.declared.daemon.DaemonFault.TheVariants.{WriteFault}
-use Rattle.commit_pipeline.specs.declared.voice.Voice.TheVariants.{Lines}
+use Rattle.stop_word.specs.declared.fault.DaemonFault.TheVariants.{WriteFault}
+use Rattle.end_lines.specs.declared.voice.Voice.TheVariants.{Lines}
 use Rattle.commit_pipeline.specs.EndLines.{done_line, end_lines}
 use Rattle.commit_pipeline.specs.Later.{Ran, HoldsFront}
 use Rattle.commit_pipeline.specs.Turning.{MayTurn}

@@ -26,9 +26,9 @@ use Rattle.log_table.specs.Seats.{key_of}
 use Rattle.segment_file.specs.File.{HoldsUnits}
 use Rattle.segment_file.specs.Standing.{AllStand, HoldsNoneOr, IsShut}
 use Rattle.segment_file.specs.declared.scan_result.Tail.{Tail}
-use Rattle.commit_pipeline.specs.declared.daemon.DaemonFault.TheVariants.{WriteFault}
-use Rattle.commit_pipeline.specs.declared.voice.Voice.{Voice}
-use Rattle.commit_pipeline.specs.declared.voice.Voice.TheVariants.{Count, Lines}
+use Rattle.stop_word.specs.declared.fault.DaemonFault.TheVariants.{WriteFault}
+use Rattle.end_lines.specs.declared.voice.Voice.{Voice}
+use Rattle.end_lines.specs.declared.voice.Voice.TheVariants.{Count, Lines}
 use Rattle.txn_runner.specs.declared.jobs.Jobs.{Jobs}
 use Rattle.txn_script.specs.Generator.{generated_transfers}
 use Rattle.lock_core.specs.Transfers.{transfer_of}

@@ -15,7 +15,7 @@ use Rattle.log_recovery.specs.Text.{accounts_text, rows_text}
 use Rattle.log_recovery.proofs.TextLemmas.{AppendsPrefix-first, AppendsPrefix-behind}
 use Rattle.txn_runner.specs.declared.jobs.Jobs.{Jobs}
 use Rattle.commit_pipeline.specs.EndLines.{end_lines}
-use Rattle.commit_pipeline.specs.declared.voice.Voice.TheVariants.{Lines}
+use Rattle.end_lines.specs.declared.voice.Voice.TheVariants.{Lines}
 use Rattle.cli_shared.specs.declared.report.Detail.{Detail}
 use Rattle.cli_shared.specs.declared.report.Detail.TheVariants.{Fine, NoMemory, Usage, Script, Read, Write, Disk, NotALog, BadBatch, BadRec, Unlawful, LogEnd, TxnEnd, Exists}
 use Rattle.cli_threads.specs.declared.transfers.ReadyRun.{ReadyRun}

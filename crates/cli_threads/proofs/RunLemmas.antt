@@ -36,8 +36,8 @@ use Rattle.log_table.specs.Sound.{base_of}
 use Rattle.flusher.specs.Flushing.{sent_of}
 use Rattle.commit_pipeline.specs.declared.daemon.Daemon.{Daemon}
 use Rattle.commit_pipeline.specs.EndLines.{text_of}
-use Rattle.commit_pipeline.specs.declared.daemon.DaemonFault.TheVariants.{DiskFault, WriteFault}
-use Rattle.commit_pipeline.specs.declared.tally.Tally.{Tally}
+use Rattle.stop_word.specs.declared.fault.DaemonFault.TheVariants.{DiskFault, WriteFault}
+use Rattle.end_lines.specs.declared.tally.Tally.{Tally}
 use Rattle.commit_pipeline.specs.Later.{Later, Ran, HasReason}
 use Rattle.commit_pipeline.specs.Telling.{counted}
 use Rattle.commit_pipeline.specs.Turning.{IsSameDaemon, durable}

@@ -22,7 +22,7 @@ use Rattle.log_table.specs.Sound.{HasReadStop, base_of}
 use Rattle.log_table.specs.Roles.{is_worker}
 use Rattle.log_table.specs.Views.{constants_of, sent_to}
 use Rattle.log_table.specs.CrewViews.{takes_in}
-use Rattle.commit_pipeline.specs.declared.voice.Voice.{Voice}
+use Rattle.end_lines.specs.declared.voice.Voice.{Voice}
 use Rattle.commit_pipeline.specs.Turning.{IsSameDaemon}
 use Rattle.commit_pipeline.proofs.RanLemmas.{Later-same}
 use Rattle.txn_runner.specs.declared.cause.Worked.{Worked}

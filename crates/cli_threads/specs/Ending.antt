@@ -11,8 +11,8 @@ use Rattle.log_recovery.specs.Text.{rows_text}
 use Rattle.log_table.specs.declared.view.View.{View}
 use Rattle.log_table.specs.Seats.{key_of}
 use Rattle.commit_pipeline.specs.declared.daemon.Daemon.{Daemon}
-use Rattle.commit_pipeline.specs.declared.daemon.DaemonFault.TheVariants.{DiskFault, WriteFault}
-use Rattle.commit_pipeline.specs.declared.voice.Voice.{Voice}
+use Rattle.stop_word.specs.declared.fault.DaemonFault.TheVariants.{DiskFault, WriteFault}
+use Rattle.end_lines.specs.declared.voice.Voice.{Voice}
 use Rattle.txn_runner.specs.declared.cause.Cause.TheVariants as cause
 use Rattle.txn_runner.specs.declared.cause.Worked.{Worked}
 use Rattle.txn_runner.specs.declared.cause.Worked.TheVariants as worked

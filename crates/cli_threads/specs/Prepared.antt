@@ -10,7 +10,7 @@ use Rattle.log_table.specs.Hiring.{HasHired}
 use Rattle.log_table.specs.Seats.{view_of}
 use Rattle.log_table.specs.Sends.{IsDrained}
 use Rattle.commit_pipeline.specs.declared.daemon.Daemon.{Daemon}
-use Rattle.commit_pipeline.specs.declared.voice.Voice.{Voice}
+use Rattle.end_lines.specs.declared.voice.Voice.{Voice}
 use Rattle.commit_pipeline.specs.Later.{Later}
 use Rattle.txn_runner.specs.declared.jobs.Jobs.{Jobs}
 use Rattle.cli_threads.specs.declared.transfers.Crew.{Crew}

@@ -15,7 +15,7 @@ use Rattle.flusher.specs.Flushing.{MayFlush, HoldsDurablePrefix, MayHoldBatchInF
 use Rattle.flusher.specs.Sending.{gathered, flushed}
 use Rattle.flusher.proofs.Flushes.{StandsAt-holds}
 use Rattle.commit_pipeline.specs.Later.{HoldsFront}
-use Rattle.commit_pipeline.specs.Turning.{Stops}
+use Rattle.daemon_turn.specs.OneTurn.{Stops}
 
 -- these records were sent, those cut are in flight, and at most so many writes and syncs succeeded
 pub record Flew {D : Type 0} (g : Ghosts D) (more cut : List Rec) (most : ℕ) (old new : Flusher D) : Type 0 where

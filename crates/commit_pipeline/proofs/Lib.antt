@@ -1,7 +1,6 @@
 pub mod FlewLemmas
-pub mod HeadLemmas
-pub mod LineLemmas
 pub mod RanLemmas
 pub mod RanTurns
-pub mod ToldLemmas
 pub mod TurnLemmas
+pub use Rattle.end_lines.proofs.LineLemmas
+pub use Rattle.batch_lines.proofs.ToldLemmas

@@ -16,16 +16,16 @@ use Rattle.log_table.specs.declared.view.View.{View}
 use Rattle.segment_file.specs.File.{HoldsUnits}
 use Rattle.flusher.specs.Flushing.{sent_of}
 use Rattle.commit_pipeline.specs.declared.daemon.Daemon.{Daemon}
-use Rattle.commit_pipeline.specs.declared.daemon.DaemonFault.{DaemonFault}
-use Rattle.commit_pipeline.specs.declared.daemon.DaemonFault.TheVariants.{DiskFault, WriteFault}
-use Rattle.commit_pipeline.specs.declared.tally.Tally.{Tally}
-use Rattle.commit_pipeline.specs.declared.voice.Voice.{Voice}
-use Rattle.commit_pipeline.specs.declared.voice.Voice.TheVariants.{Lines, Count}
-use Rattle.commit_pipeline.specs.EndLines.{text_of, line_said}
+use Rattle.stop_word.specs.declared.fault.DaemonFault.{DaemonFault}
+use Rattle.stop_word.specs.declared.fault.DaemonFault.TheVariants.{DiskFault, WriteFault}
+use Rattle.end_lines.specs.declared.tally.Tally.{Tally}
+use Rattle.end_lines.specs.declared.voice.Voice.{Voice}
+use Rattle.end_lines.specs.declared.voice.Voice.TheVariants.{Lines, Count}
+use Rattle.end_lines.specs.EndLines.{text_of, line_said}
 use Rattle.commit_pipeline.specs.Later.{HoldsFront, InFlight, HasReason, extra, Ran, Later}
-use Rattle.commit_pipeline.specs.Telling.{TellsFront, counted}
+use Rattle.end_lines.specs.Telling.{TellsFront, counted}
 use Rattle.commit_pipeline.specs.Turning.{IsSameDaemon, durable}
-use Rattle.commit_pipeline.proofs.LineLemmas.{text_of-append, text_of-cons, counted-append}
+use Rattle.end_lines.proofs.LineLemmas.{text_of-append, text_of-cons, counted-append}
 
 pub IsSameDaemon-trans : {D : Type 0} {K : Type 0} (g : Ghosts D) (h : SinkGhosts K) (a b c : Daemon D K)
     → IsSameDaemon g h a b → IsSameDaemon g h b c → IsSameDaemon g h a c

@@ -16,14 +16,17 @@ use Rattle.flusher.specs.Flushing.{Asks, IsSameSeat, sent_of}
 use Rattle.log_record.specs.LogList.{AreUnitsOf}
 use Rattle.flusher.proofs.Flushes.{IsSameSeat-becomes}
 use Rattle.commit_pipeline.specs.declared.daemon.Daemon.{Daemon}
-use Rattle.commit_pipeline.specs.declared.daemon.DaemonFault.TheVariants.{DiskFault, WriteFault}
-use Rattle.commit_pipeline.specs.EndLines.{text_of}
+use Rattle.daemon_turn.specs.declared.one_turn.Turn.{Turn}
+use Rattle.daemon_turn.specs.declared.one_turn.Turn.TheVariants.{Idle, Sent}
+use Rattle.stop_word.specs.declared.fault.DaemonFault.{DaemonFault}
+use Rattle.stop_word.specs.declared.fault.DaemonFault.TheVariants.{DiskFault, WriteFault}
+use Rattle.end_lines.specs.EndLines.{text_of}
 use Rattle.commit_pipeline.specs.Later.{InFlight, HasReason, extra, Ran}
-use Rattle.commit_pipeline.specs.Telling.{TellsFront, counted}
-use Rattle.commit_pipeline.specs.Turning.{MayTurn, IsSameDaemon, Idles, SendsLines, LosesUnits, LosesLines, durable}
+use Rattle.end_lines.specs.Telling.{TellsFront, counted}
+use Rattle.commit_pipeline.specs.Turning.{MayTurn, IsSameDaemon, Idles, SendsLines, LosesUnits, LosesLines, Turns, Fails, durable}
 use Rattle.commit_pipeline.proofs.FlewLemmas.{Flew, Flew-step, Flew-sends, Flew-loses, Flew-stop}
 use Rattle.commit_pipeline.proofs.RanLemmas.{none≢some, TellsFront-speaks}
-use Rattle.commit_pipeline.proofs.ToldLemmas.{text_of-none, counted-none}
+use Rattle.batch_lines.proofs.ToldLemmas.{text_of-none, counted-none}
 
 module _ {D : Type 0} {K : Type 0} (g : Ghosts D) (h : SinkGhosts K) (old new : Daemon D K) where
   Ran-of : (more cut : List Rec) (text : List ℕ) (most : ℕ) → old.fault ≡ None → AllByRecursion IsSpellable (more ++ cut)
@@ -84,7 +87,7 @@ module _ {D : Type 0} {K : Type 0} (g : Ghosts D) (h : SinkGhosts K) (old new : 
   some-records units [] spelled some = absurd (omega (arith, some, ap length spelled.units_are))
   some-records units (record_ ∷ records) spelled some = omega arith
 
-  pub Ran-sent : (lines to : ℕ) → MayTurn g old → SendsLines g h old new lines to → IsSameDaemon g h old new → MayTurn g new → Ran g h old new
+  Ran-sent : (lines to : ℕ) → MayTurn g old → SendsLines g h old new lines to → IsSameDaemon g h old new → MayTurn g new → Ran g h old new
   Ran-sent lines to ready sent same may =
       let is = ap (λ m. m.0) sent.flush.seat.me in
       let flew = Flew-sends g old.flusher new.flusher (durable old) to ready.flusher sent.flush in
@@ -97,7 +100,7 @@ module _ {D : Type 0} {K : Type 0} (g : Ghosts D) (h : SinkGhosts K) (old new : 
       (omega (arith, some, ap extra may.fine))
 
   -- the disk failed
-  pub Ran-lost : MayTurn g old → LosesUnits g old new → IsSameDaemon g h old new → Ran g h old new
+  Ran-lost : MayTurn g old → LosesUnits g old new → IsSameDaemon g h old new → Ran g h old new
   Ran-lost ready lost same =
       let fault : new.fault ≡ Some DiskFault = ap (λ (d : Daemon D K). d.fault) lost.rest in
       let is = ap (λ m. m.0) lost.stops.seat.me in
@@ -113,7 +116,7 @@ module _ {D : Type 0} {K : Type 0} (g : Ghosts D) (h : SinkGhosts K) (old new : 
       (omega (arith, ap extra fault))
 
   -- the sink failed
-  pub Ran-unwritten : MayTurn g old → LosesLines g h old new → IsSameDaemon g h old new → Ran g h old new
+  Ran-unwritten : MayTurn g old → LosesLines g h old new → IsSameDaemon g h old new → Ran g h old new
   Ran-unwritten ready lost same =
       let is = ap (λ m. m.0) lost.stops.seat.me in
       let flew = Flew-stop g lost.flush.records [] 4 2 old.flusher lost.sent new.flusher
@@ -172,5 +175,13 @@ module _ {D : Type 0} {K : Type 0} (g : Ghosts D) (h : SinkGhosts K) (old new : 
     Ran-asked (Active n) asks ready may = Ran-steps _ asks.1 ready may refl refl refl refl refl refl refl
     Ran-asked (Behind exposed durable) asks ready may = Ran-steps _ asks.2 ready may refl refl refl refl refl refl refl
 
-  pub Ran-idle : Idles old new → MayTurn g old → MayTurn g new → Ran g h old new
+  Ran-idle : Idles old new → MayTurn g old → MayTurn g new → Ran g h old new
   Ran-idle idles ready may = Ran-steps idles.rest idles.flush.rest _ idles.flush.seat ready may refl refl refl refl refl refl refl
+
+  pub Ran-turned : (turn : Turn) → Turns g h old new turn → MayTurn g old → IsSameDaemon g h old new → MayTurn g new → Ran g h old new
+  Ran-turned Idle idles ready same may = Ran-idle idles ready may
+  Ran-turned (Sent lines to) sent ready same may = Ran-sent lines to ready sent same may
+
+  pub Ran-failed : (fault : DaemonFault) → Fails g h old new fault → MayTurn g old → IsSameDaemon g h old new → Ran g h old new
+  Ran-failed DiskFault lost ready same = Ran-lost ready lost same
+  Ran-failed WriteFault lost ready same = Ran-unwritten ready lost same

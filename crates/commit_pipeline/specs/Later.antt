@@ -14,12 +14,12 @@ use Rattle.log_table.specs.Seats.{view_of}
 use Rattle.segment_file.specs.File.{HoldsUnits}
 use Rattle.flusher.specs.Flushing.{HoldsDurablePrefix, MayHoldBatchInFlight, sent_of}
 use Rattle.commit_pipeline.specs.declared.daemon.Daemon.{Daemon}
-use Rattle.commit_pipeline.specs.declared.daemon.DaemonFault.{DaemonFault}
-use Rattle.commit_pipeline.specs.declared.daemon.DaemonFault.TheVariants.{DiskFault, WriteFault}
-use Rattle.commit_pipeline.specs.declared.voice.Voice.TheVariants.{Lines}
-use Rattle.commit_pipeline.specs.EndLines.{text_of}
-use Rattle.commit_pipeline.specs.Stopping.{stop_word}
-use Rattle.commit_pipeline.specs.Telling.{TellsFront, counted}
+use Rattle.stop_word.specs.declared.fault.DaemonFault.{DaemonFault}
+use Rattle.stop_word.specs.declared.fault.DaemonFault.TheVariants.{DiskFault, WriteFault}
+use Rattle.end_lines.specs.declared.voice.Voice.TheVariants.{Lines}
+use Rattle.end_lines.specs.EndLines.{text_of}
+use Rattle.stop_word.specs.Stopping.{stop_word}
+use Rattle.end_lines.specs.Telling.{TellsFront, counted}
 use Rattle.commit_pipeline.specs.Turning.{MayTurn, IsSameDaemon, durable}
 
 -- the bytes hold these units, and then those of a front of the records

@@ -1,5 +1,5 @@
-pub mod EndLines
 pub mod Later
-pub mod Stopping
-pub mod Telling
 pub mod Turning
+pub use Rattle.end_lines.specs.EndLines
+pub use Rattle.end_lines.specs.Telling
+pub use Rattle.stop_word.specs.Stopping

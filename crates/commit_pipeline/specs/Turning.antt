@@ -5,17 +5,18 @@ use Rattle.std.specs.Io.KnownBytes.{Appends}
 use Rattle.log_disk.specs.declared.disk.LogDisk.{Ghosts}
 use Rattle.log_disk.specs.declared.sink.Sink.{Ghosts as SinkGhosts}
 use Rattle.log_disk.specs.Faults.{Rose}
-use Rattle.log_table.specs.Seats.{Becomes, view_of}
-use Rattle.log_table.specs.Views.{sent_to, has_stopped}
+use Rattle.log_table.specs.Seats.{view_of}
+use Rattle.log_table.specs.Views.{sent_to}
 use Rattle.flusher.specs.declared.flusher.Flusher.{Flusher}
 use Rattle.flusher.specs.Flushing.{MayFlush, IsSame, FindsNothing, Sends, Loses, sent_of}
+use Rattle.daemon_turn.specs.declared.one_turn.Turn.{Turn}
+use Rattle.daemon_turn.specs.declared.one_turn.Turn.TheVariants.{Idle, Sent}
+use Rattle.daemon_turn.specs.OneTurn.{Stops}
 use Rattle.commit_pipeline.specs.declared.daemon.Daemon.{Daemon}
-use Rattle.commit_pipeline.specs.declared.daemon.DaemonFault.{DaemonFault}
-use Rattle.commit_pipeline.specs.declared.daemon.DaemonFault.TheVariants.{DiskFault, WriteFault}
-use Rattle.commit_pipeline.specs.declared.daemon.Turn.{Turn}
-use Rattle.commit_pipeline.specs.declared.daemon.Turn.TheVariants.{Idle, Sent}
-use Rattle.commit_pipeline.specs.Stopping.{stop_word}
-use Rattle.commit_pipeline.specs.Telling.{TellsAll, TellsFront}
+use Rattle.stop_word.specs.declared.fault.DaemonFault.{DaemonFault}
+use Rattle.stop_word.specs.declared.fault.DaemonFault.TheVariants.{DiskFault, WriteFault}
+use Rattle.stop_word.specs.Stopping.{stop_word}
+use Rattle.end_lines.specs.Telling.{TellsAll, TellsFront}
 
 -- where the next units go
 abbrev pub durable : {D : Type 0} → {K : Type 0} → Daemon D K → ℕ
@@ -36,11 +37,6 @@ pub record IsSameDaemon {D : Type 0} {K : Type 0} (g : Ghosts D) (h : SinkGhosts
   pub voice : new.voice ≡ old.voice
   pub disk_faults : g.faults old.flusher.disk.now ≤ g.faults new.flusher.disk.now
   pub sink_faults : h.faults old.sink.now ≤ h.faults new.sink.now
-
--- the stop word was stored, and nothing else was done
-pub record Stops {D : Type 0} (word : ℕ) (old new : Flusher D) : Type 0 where
-  pub seat : Becomes old.seat new.seat (has_stopped word (view_of old.seat))
-  pub rest : new ≡ record old { seat = new.seat }
 
 -- exposed, as loaded, is durable, and nothing else was done
 pub record Idles {D : Type 0} {K : Type 0} (old new : Daemon D K) : Type 0 where

@@ -1,10 +1,8 @@
 ghost use Rattle.std.specs.Prelude.{◌≡◌, None};
-ghost use Rattle.commit_pipeline.specs.Stopping.{stop_word};
 
-use crate::tally::Tally;
-use crate::voice::Voice;
+use end_lines::{Tally, Voice};
 use flusher::Flusher;
-use lsn_space::Lsn;
+use stop_word::DaemonFault;
 
 /// A flusher, and the sink that the lines of ended transactions go to.
 #[derive(Drop)]
@@ -14,36 +12,6 @@ pub struct Daemon<'a, D, K> {
     pub voice: Voice,
     pub(crate) tally: Tally,
     pub(crate) fault: Option<DaemonFault>,
-}
-
-/// What a turn did.
-#[derive(Clone, Copy, Debug, PartialEq, Eq)]
-pub enum Turn {
-    /// Nothing was released beyond durable.
-    Idle,
-    /// Units were sent up to this LSN, and then so many lines were written.
-    Sent { lines: u32, to: Lsn },
-}
-
-/// Why a daemon stopped.
-#[derive(Clone, Copy, Debug, PartialEq, Eq)]
-pub enum DaemonFault {
-    /// The disk failed in a flush. The stop word is 1.
-    DiskFault,
-    /// The sink failed, after the flush. The stop word is 2.
-    WriteFault,
-}
-
-impl DaemonFault {
-    /// The stop word that tells it.
-    pub fn word(self) -> u64
-        ensures { result ≡ stop_word self }
-    {
-        match self {
-            DaemonFault::DiskFault => 1,
-            DaemonFault::WriteFault => 2,
-        }
-    }
 }
 
 impl<'a, D, K> Daemon<'a, D, K> {

@@ -2,12 +2,10 @@
 #![tactic(auto)]
 
 mod daemon;
-mod end_line;
 mod running;
-mod tally;
-mod telling;
 mod turning;
-mod voice;
 
-pub use daemon::{Daemon, DaemonFault, Turn};
-pub use voice::Voice;
+pub use daemon::Daemon;
+pub use daemon_turn::Turn;
+pub use end_lines::Voice;
+pub use stop_word::DaemonFault;

@@ -7,12 +7,14 @@ ghost use Rattle.flusher.specs.Flushing.{Asks};
 ghost use Rattle.commit_pipeline.specs.Later.{Later};
 ghost use Rattle.commit_pipeline.specs.Turning.{MayTurn, durable};
 
-use crate::daemon::{Daemon, DaemonFault, Turn};
+use crate::daemon::Daemon;
+use daemon_turn::Turn;
 use flusher::Drained;
 use log_disk::{LogDisk, Sink};
 use lsn_space::Lsn;
 use std::sync::Wait;
 use std::thread::yield_now;
+use stop_word::DaemonFault;
 
 impl<'a, D: LogDisk, K: Sink> Daemon<'a, D, K> {
     /// Makes turns until no worker is active and all that was released is on the disk, and answers the end of the log. It

@@ -1,15 +1,12 @@
-//! A turn: one flush, and then the lines of what it sent.
-ghost use Rattle.std.specs.Prelude.{◌≡◌, IfOk, IfErr, OnOk, OnErr, Some};
-ghost use Rattle.log_table.specs.May.{MayStop};
-ghost use Rattle.log_table.specs.Seats.{IsOf, view_of};
+//! A turn, and what is kept of one that failed.
+ghost use Rattle.std.specs.Prelude.{◌≡◌, IfOk, IfErr, OnOk};
 ghost use Rattle.commit_pipeline.specs.Later.{Later};
-ghost use Rattle.commit_pipeline.specs.Turning.{MayTurn, IsSameDaemon, Turns, Fails, Stops};
-ghost use Rattle.commit_pipeline.specs.Stopping.{stop_word};
+ghost use Rattle.commit_pipeline.specs.Turning.{MayTurn, IsSameDaemon, Turns, Fails};
 
-use crate::daemon::{Daemon, DaemonFault, Turn};
-use crate::telling::tell;
-use flusher::Flushed;
+use crate::daemon::Daemon;
+use daemon_turn::{Turn, make_turn};
 use log_disk::{LogDisk, Sink};
+use stop_word::DaemonFault;
 
 impl<'a, D: LogDisk, K: Sink> Daemon<'a, D, K> {
     /// Flushes, and then writes a line for each end record in what was sent. A fault is told to the workers by the stop
@@ -22,37 +19,13 @@ impl<'a, D: LogDisk, K: Sink> Daemon<'a, D, K> {
         ensures same { IsSameDaemon D.LogDisk K.Sink self.old self.new }
         ensures later { Later D.LogDisk K.Sink self.old self.new }
     {
-        let Ok(flushed) = self.flusher.flush() else {
-            return Err(self.stop(DaemonFault::DiskFault));
-        };
-        let Flushed::To { from, to } = flushed else {
-            return Ok(Turn::Idle);
-        };
-        let told = tell(
-            &self.flusher.batch,
-            from,
-            self.voice,
-            self.sink,
-            &mut self.tally,
-        );
-        match told {
-            Ok(lines) => Ok(Turn::Sent { lines, to }),
-            Err(_) => Err(self.stop(DaemonFault::WriteFault)),
+        let made = make_turn(&mut self.flusher, self.voice, self.sink, &mut self.tally);
+        match made {
+            Ok(turn) => Ok(turn),
+            Err(fault) => {
+                self.fault = Some(fault);
+                Err(fault)
+            }
         }
-    }
-
-    /// Tells the workers of the fault, and keeps it.
-    fn stop(&mut self, fault: DaemonFault) -> DaemonFault
-        requires seat { IsOf self.old.flusher.table.now self.old.flusher.seat }
-        requires may { MayStop (stop_word fault) (view_of self.old.flusher.seat) }
-        ensures stops { Stops (stop_word fault) self.old.flusher self.new.flusher }
-        ensures rest { self.new ≡ record self.old { flusher = self.new.flusher; fault = Some fault } }
-        ensures fault { result ≡ fault }
-    {
-        self.flusher
-            .table
-            .store_stop(&mut self.flusher.seat, fault.word());
-        self.fault = Some(fault);
-        fault
     }
 }

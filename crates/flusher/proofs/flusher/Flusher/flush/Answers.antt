@@ -1,4 +1,5 @@
-use Rattle.std.proofs.Common.{rules, arith, ◌≢◌, ◌∙◌, ap, refl, length, ◌<◌, ◌+◌, ◌++◌}
+use Rattle.std.proofs.Common.{rules, arith, ◌≢◌, ◌∙◌, sym, ap, refl, length, ◌<◌, ◌+◌, ◌++◌}
+use Rattle.std.proofs.lemmas.Bool.{eqb-true}
 use Rattle.std.proofs.lemmas.Result.{err_from_is_err_and}
 use Rattle.log_table.specs.Seats.{view_of}
 use Rattle.log_table.specs.Views.{has_sent}
@@ -91,7 +92,7 @@ returns-clause-ready g c =
     }
 
 pub returns-then-eq-clause-flushed : goal.returns-then-eq-clause-flushed
-returns-then-eq-clause-flushed g c = record { durable = search rules steps 900000; seat = c.load_exposed-to.ensures.view; rest = refl }
+returns-then-eq-clause-flushed g c = record { durable = eqb-true _ _ (sym c.eq.ensures ∙ c.if-eq.true) ∙ c.requires.ready.next; seat = c.load_exposed-to.ensures.view; rest = refl }
 
 pub returns-then-eq-clause-ready : goal.returns-then-eq-clause-ready
 returns-then-eq-clause-ready g c =

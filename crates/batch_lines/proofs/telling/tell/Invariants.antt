@@ -1,0 +1,20 @@
+use Rattle.std.proofs.Common.{◌≡◌, ◌≤◌, ◌+◌, ◌-◌, List, ℕ, length}
+use Rattle.std.specs.Io.KnownBytes.{Appends}
+use Rattle.log_record.specs.declared.rec.Rec.{Rec}
+use Rattle.log_record.specs.LogList.{AreUnitsOf}
+use Rattle.batch_lines.proofs.ToldLemmas.{ToldUpTo}
+use Rattle.batch_lines.proofs.telling.tell.Given as goal
+
+abbrev pub invariant-records : goal.invariant-records
+invariant-records g l = record {
+  same : l.batch ≡ l.initial.batch;
+  no_fault : g.K.Sink.faults l.sink ≡ g.K.Sink.faults l.fn.sink;
+  within : l.at ≤ length l.batch.units;
+  lines_few : l.lines ≤ l.at;
+  few : l.tally.done + l.tally.refused ≤ (l.fn.tally.done + l.fn.tally.refused) + l.at;
+  told : (text : List ℕ) × Appends (g.K.Sink.held_bytes l.fn.sink) (g.K.Sink.held_bytes l.sink) text
+      × ((records : List Rec) → AreUnitsOf l.batch.units records → ToldUpTo l.fn.voice l.from l.at l.batch.units text l.lines l.fn.tally l.tally records);
+}
+
+abbrev pub decreases-records : goal.decreases-records
+decreases-records g l = length l.batch.units - l.at

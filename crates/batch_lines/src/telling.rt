@@ -1,0 +1,71 @@
+//! The lines of what a flush sent.
+ghost use Rattle.std.specs.Prelude.{◌≡◌, ◌≤◌, ◌+◌, ◌∷◌, List, ℕ, length, drop, IfOk, OnErr};
+ghost use Rattle.std.specs.Io.KnownBytes.{Appends};
+ghost use Rattle.lsn_space.specs.declared.lsn.TheConstants.{LAST};
+ghost use Rattle.log_disk.specs.Faults.{HasCause};
+ghost use Rattle.log_record.specs.declared.rec.Rec.{Rec};
+ghost use Rattle.log_record.specs.Spelling.{header, spelling, IsSpellable, BeginsWith};
+ghost use Rattle.log_record.specs.LogList.{AreUnitsOf};
+ghost use Rattle.end_lines.specs.Telling.{TellsAll, TellsFront, ended};
+
+use end_lines::{Tally, Voice, tell_record};
+use log_disk::{Sink, WriteFault};
+use log_record::{COMMIT, Header, OVER, Rec, SHORT};
+use lsn_space::Lsn;
+use segment_file::Batch;
+
+/// Counts the end records of the batch, whose first unit is at this LSN, and writes a line for each.
+pub fn tell<K: Sink>(
+    batch: &Batch,
+    from: Lsn,
+    voice: Voice,
+    sink: &mut K,
+    tally: &mut Tally,
+) -> Result<u32, WriteFault>
+    requires spelled { (records : List Rec) × AreUnitsOf batch.now.units records }
+    requires end { from + length batch.now.units ≤ LAST }
+    requires few { tally.old.done + tally.old.refused + length batch.now.units ≤ LAST }
+    ensures told { IfOk result (λ lines. (text : List ℕ) × Appends (K.held_bytes sink.old) (K.held_bytes sink.new) text
+        × ((records : List Rec) → AreUnitsOf batch.now.units records → TellsAll voice from records text lines tally.old tally.new)) }
+    ensures front { OnErr result ((text : List ℕ) × Appends (K.held_bytes sink.old) (K.held_bytes sink.new) text
+        × ((records : List Rec) → AreUnitsOf batch.now.units records → TellsFront voice from records text tally.old tally.new)) }
+    ensures few { tally.new.done + tally.new.refused ≤ tally.old.done + tally.old.refused + length batch.now.units }
+    ensures cause { HasCause (K.faults sink.old) (K.faults sink.new) result }
+{
+    let mut at = 0;
+    let mut lines = 0;
+    'records: while at < batch.count() {
+        let (end, size) = end_at(batch, at);
+        at += u32::from(size);
+        let Some(rec) = &end else {
+            continue;
+        };
+        tally.count(rec);
+        lines += tell_record(rec, Lsn::new(from.units() + at), voice, sink)?;
+    }
+    Ok(lines)
+}
+
+/// The record that begins at that index, where it ends a transaction, and how many units it has. Its first unit alone
+/// says that, so the units of the other records aren't read.
+fn end_at(batch: &Batch, at: u32) -> (Option<Rec>, u8)
+    requires { (rec : Rec) × BeginsWith (drop at batch.now.units) rec }
+    ensures { (rec : Rec) × BeginsWith (drop at batch.now.units) rec × (result.0 ≡ ended rec) × (result.1 ≡ length (spelling rec)) }
+{
+    let head = Header::of(batch.at(at));
+    (end_of(head), head.units)
+}
+
+/// The record of one unit that ends a transaction, where this is the first unit of one.
+fn end_of(head: Header) -> Option<Rec>
+    ensures { (rec : Rec) → (body : List ℕ) → IsSpellable rec
+        → spelling rec ≡ header head.kind head.units head.field head.txn ∷ body → result ≡ ended rec }
+{
+    let (txn, number) = (head.txn, u32::from(head.field));
+    match head.kind {
+        COMMIT => Some(Rec::Commit { txn, legs: number }),
+        SHORT => Some(Rec::Short { txn, leg: number }),
+        OVER => Some(Rec::Over { txn, leg: number }),
+        _ => None,
+    }
+}

@@ -1,0 +1,46 @@
+//! One flush, and then the lines of what it sent.
+ghost use Rattle.std.specs.Prelude.{IfOk, IfErr, OnOk};
+ghost use Rattle.daemon_turn.specs.OneTurn.{MayGoOn, Made, Failed, StaysSame};
+
+use batch_lines::tell;
+use end_lines::{Tally, Voice};
+use flusher::{Flushed, Flusher};
+use log_disk::{LogDisk, Sink};
+use lsn_space::Lsn;
+use stop_word::{DaemonFault, tell_fault};
+
+/// What a turn did.
+#[derive(Clone, Copy, Debug, PartialEq, Eq)]
+pub enum Turn {
+    /// Nothing was released beyond durable.
+    Idle,
+    /// Units were sent up to this LSN, and then so many lines were written.
+    Sent { lines: u32, to: Lsn },
+}
+
+/// Flushes, and then writes a line for each end record in what was sent. A fault is told to the workers by the stop
+/// word before it is answered, and no further turn may be made.
+pub fn make_turn<D: LogDisk, K: Sink>(
+    flusher: &mut Flusher<D>,
+    voice: Voice,
+    sink: &mut K,
+    tally: &mut Tally,
+) -> Result<Turn, DaemonFault>
+    requires ready { MayGoOn D.LogDisk flusher.old tally.old }
+    ensures made { IfOk result (Made D.LogDisk K.Sink voice flusher.old flusher.new sink.old sink.new tally.old tally.new) }
+    ensures failed { IfErr result (Failed D.LogDisk K.Sink voice flusher.old flusher.new sink.old sink.new tally.old tally.new) }
+    ensures ready { OnOk result (MayGoOn D.LogDisk flusher.new tally.new) }
+    ensures same { StaysSame D.LogDisk K.Sink flusher.old flusher.new sink.old sink.new }
+{
+    let Ok(flushed) = flusher.flush() else {
+        return Err(tell_fault(flusher.table, &mut flusher.seat, DaemonFault::DiskFault));
+    };
+    let Flushed::To { from, to } = flushed else {
+        return Ok(Turn::Idle);
+    };
+    let told = tell(&flusher.batch, from, voice, sink, tally);
+    match told {
+        Ok(lines) => Ok(Turn::Sent { lines, to }),
+        Err(_) => Err(tell_fault(flusher.table, &mut flusher.seat, DaemonFault::WriteFault)),
+    }
+}

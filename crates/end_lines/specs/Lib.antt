@@ -1,0 +1,2 @@
+pub mod EndLines
+pub mod Telling
