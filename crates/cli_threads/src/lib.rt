@@ -1,7 +1,6 @@
-//! The transfers of a run: workers in threads, the daemon beside them, and what the program answers once all of them have ended.
+//! The transfers of a run: workers in threads, the daemon beside them, and what is known once all of them have ended.
 #![tactic(auto)]
 
-mod conclusion;
 mod gathering;
 mod reserving;
 mod room;
@@ -10,5 +9,4 @@ mod serving;
 mod transfers;
 mod workers;
 
-pub use conclusion::{conclude, stopped};
-pub use transfers::{Ended, Prepared, ReadyRun, prepare, run_transfers};
+pub use transfers::{Prepared, ReadyRun, prepare, run_transfers};

@@ -18,11 +18,12 @@ use crate::room::{Room, flags};
 use crate::scope::serve_all;
 use crate::serving::Run;
 use crate::workers::{Worker, hire_all};
+use cli_ending::Ended;
 use commit_pipeline::{Daemon, DaemonFault, Voice};
 use flusher::Flusher;
 use flushing_relief::FlushingRelief;
 use log_disk::{Gate, LogDisk, Sink};
-use log_table::{Closed, LogTable, Seat, Start};
+use log_table::{LogTable, Seat, Start};
 use lsn_space::NoMemory;
 use segment_file::{Batch, Tail};
 use std::alloc::Global;
@@ -74,17 +75,6 @@ struct Served {
     boss: Seat,
     workers: Vec<Worker>,
     ends: Vec<Worked>,
-}
-
-/// How a run ended: what befell the daemon, how many transfers it counted as done and as refused, how each worker's work ended,
-/// and what the table held.
-#[derive(Drop)]
-pub struct Ended {
-    pub fault: Option<DaemonFault>,
-    pub done: u32,
-    pub refused: u32,
-    pub ends: Vec<Worked>,
-    pub closed: Closed,
 }
 
 /// Makes the table, and all that workers and the daemon need.

@@ -3,8 +3,8 @@ use Rattle.std.proofs.Math.Seq.{split_at}
 use Rattle.std.proofs.lemmas.List.{take_all}
 use Rattle.txn_runner.specs.declared.cause.Worked.TheVariants.{Cut}
 use Rattle.txn_runner.specs.declared.cause.Cause.TheVariants.{LogEnd}
-use Rattle.cli_threads.specs.Ending.{AreWhole}
-use Rattle.cli_threads.proofs.conclusion.first_log_end.Goals as goal
+use Rattle.cli_ending.specs.Ending.{AreWhole}
+use Rattle.cli_ending.proofs.conclusion.first_log_end.Goals as goal
 
 pub returns-in-Cut-LogEnd-clause-some : goal.returns-in-Cut-LogEnd-clause-some
 returns-in-Cut-LogEnd-clause-some c =

@@ -1,6 +1,6 @@
 use Rattle.std.proofs.Common.{rules}
-use Rattle.cli_threads.proofs.EndingLemmas.{concludes-stopped, concludes-fine, concludes-write}
-use Rattle.cli_threads.proofs.conclusion.conclude.Goals as goal
+use Rattle.cli_ending.proofs.ConclusionLemmas.{concludes-stopped, concludes-fine, concludes-write}
+use Rattle.cli_ending.proofs.conclusion.conclude.Goals as goal
 
 pub returns-in-Some-clause-concludes : goal.returns-in-Some-clause-concludes
 returns-in-Some-clause-concludes g c = concludes-stopped g.K.Sink c.args.ended.now _ _ c.in-Some.why c.in-Some.ensures.some

@@ -1,6 +1,6 @@
 use Rattle.std.proofs.Common.{rules, sym, subst}
-use Rattle.cli_threads.specs.Ending.{NoneStopped}
-use Rattle.cli_threads.proofs.conclusion.stopped.Goals as goal
+use Rattle.cli_ending.specs.Ending.{NoneStopped}
+use Rattle.cli_ending.proofs.conclusion.stopped.Goals as goal
 
 pub returns-in-Some-DiskFault-clause-some : goal.returns-in-Some-DiskFault-clause-some
 returns-in-Some-DiskFault-clause-some c = search rules steps 300000

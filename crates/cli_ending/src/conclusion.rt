@@ -1,14 +1,26 @@
+//! How the transfers of a run ended, and what the program answers then.
 ghost use Rattle.std.specs.Prelude.{◌≡◌, ◌≤◌, IfSome, IfNone, None};
 ghost use Rattle.log_disk.specs.Faults.{Rose};
-ghost use Rattle.cli_threads.specs.Ending.{AreWhole, Concludes, IsFirstLogEnd, NoneStopped, NothingStopped, StoppedAs, closed_text};
+ghost use Rattle.cli_ending.specs.Ending.{AreWhole, Concludes, IsFirstLogEnd, NoneStopped, NothingStopped, StoppedAs, closed_text};
 
-use crate::transfers::Ended;
 use cli_shared::Detail;
 use commit_pipeline::DaemonFault;
 use log_disk::Sink;
 use log_recovery::put_accounts;
+use log_table::Closed;
 use lsn_space::Lsn;
 use txn_runner::{Cause, Worked};
+
+/// How a run ended: what befell the daemon, how many transfers it counted as done and as refused, how each worker's work ended,
+/// and what the table held.
+#[derive(Drop)]
+pub struct Ended {
+    pub fault: Option<DaemonFault>,
+    pub done: u32,
+    pub refused: u32,
+    pub ends: Vec<Worked>,
+    pub closed: Closed,
+}
 
 /// What the program answers once the transfers have ended. Where nothing befell them it writes the accounts text.
 pub fn conclude<K: Sink>(ended: &Ended, out: &mut K) -> Detail
