@@ -1,5 +1,5 @@
 -- What is concluded, in each of the cases that there are.
-use Rattle.std.proofs.Common.{◌≡◌, refl, ℕ, inl, inr}
+use Rattle.std.proofs.Common.{◌≡◌, refl, ℕ, List, inl, inr}
 use Rattle.std.specs.Io.KnownBytes.{Appends}
 use Rattle.lsn_space.specs.Accounts.{Accounts}
 use Rattle.log_disk.specs.declared.sink.Sink.{Ghosts as SinkGhosts}
