@@ -1,7 +1,6 @@
 pub mod EndingLemmas
 pub mod GatheredShares
 pub mod MergedEntries
-pub mod NumberedLemmas
 pub mod RunBalances
 pub mod RunBegun
 pub mod RunEnds
@@ -12,7 +11,5 @@ pub mod RunLemmas
 pub mod RunRecords
 pub mod RunStripes
 pub mod RunTurns
-pub mod ServedLemmas
 pub mod TransferredLemmas
 pub mod WaitedLemmas
-pub mod WorkerLemmas

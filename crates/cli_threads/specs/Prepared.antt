@@ -17,7 +17,7 @@ use Rattle.cli_threads.specs.declared.transfers.Crew.{Crew}
 use Rattle.cli_threads.specs.declared.room.Room.{Room}
 use Rattle.cli_threads.specs.declared.transfers.Prepared.{Prepared}
 use Rattle.cli_threads.specs.declared.transfers.Served.{Served}
-use Rattle.cli_threads.specs.Workers.{AreDone, AreUnused}
+use Rattle.cli_workers.specs.Workers.{AreDone, AreUnused}
 
 -- there is room for so many workers
 pub record HasRoomFor (workers : ℕ) (room : Room) : Type 0 where

@@ -2,11 +2,9 @@
 #![tactic(auto)]
 
 mod gathering;
-mod reserving;
 mod room;
 mod scope;
 mod serving;
 mod transfers;
-mod workers;
 
 pub use transfers::{Prepared, ReadyRun, prepare, run_transfers};

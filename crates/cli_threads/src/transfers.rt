@@ -16,9 +16,8 @@ ghost use Rattle.commit_pipeline.specs.Turning.{MayTurn};
 use crate::gathering::gather;
 use crate::room::{Room, flags};
 use crate::scope::serve_all;
-use crate::serving::Run;
-use crate::workers::{Worker, hire_all};
 use cli_ending::Ended;
+use cli_workers::{Run, Worker, hire_all};
 use commit_pipeline::{Daemon, DaemonFault, Voice};
 use flusher::Flusher;
 use flushing_relief::FlushingRelief;
@@ -217,14 +216,7 @@ pub fn run_transfers<R: Threads + Wait + Sync, D: LogDisk, K: Sink, G: Gate + Sy
         refused,
         crew,
     } = prepared;
-    let run = Run {
-        rt,
-        table: &table,
-        jobs: &jobs,
-        refused: refused.as_slice(),
-        wait,
-        gate,
-    };
+    let run = Run::make(rt, &table, &jobs, refused.as_slice(), wait, gate);
     let mut served = None;
     let _outside = serve_crew(run, crew, tail, voice, Outside { disk, out }, &mut served);
     let Some(served) = served else { unreachable!() };

@@ -1,13 +1,13 @@
-use Rattle.std.proofs.Common.{rules, ◌≡◌, ap, sym, subst}
+use Rattle.std.proofs.Common.{rules, ◌≡◌, ◌∙◌, ap, sym, subst}
 use Rattle.log_table.specs.declared.view.Books.{Books}
 use Rattle.log_table.specs.declared.view.View.{View}
 use Rattle.log_table.specs.Seats.{view_of}
 use Rattle.log_table.specs.CrewViews.{retired}
 use Rattle.txn_runner.specs.Working.{taken_in}
-use Rattle.cli_threads.specs.Waiting.{HaveWaited, made_of}
-use Rattle.cli_threads.proofs.WaitedLemmas.{HaveWaited-worked}
-use Rattle.cli_threads.proofs.ServedLemmas.{HasDone, HasDone-left}
-use Rattle.cli_threads.proofs.serving.Run.serve.Goals as goal
+use Rattle.cli_workers.specs.Waiting.{HaveWaited, made_of}
+use Rattle.cli_workers.proofs.WaitedLemmas.{HaveWaited-worked}
+use Rattle.cli_workers.proofs.ServedLemmas.{HasDone, HasDone-left}
+use Rattle.cli_workers.proofs.serving.Run.serve.Goals as goal
 
 pub returns-clause-done : goal.returns-clause-done
 returns-clause-done g c =
@@ -33,5 +33,5 @@ returns-clause-done g c =
       waited = λ waits.
           subst (λ n. HaveWaited jobs n (made_of taken worked) (view_of c.leave.new.seat).entries (view_of c.leave.new.seat).books.given) (sym same)
           (subst (λ (v : View). HaveWaited jobs number (made_of taken worked) v.entries v.books.given) (sym left)
-          (HaveWaited-worked jobs number c.args.self.now.wait worked _ c.work-worked.new.rows _ new did.rows hired.taken waits));
+          (HaveWaited-worked jobs number c.waits-wait.result worked _ c.work-worked.new.rows _ new did.rows hired.taken (c.waits-wait.ensures ∙ waits)));
     }

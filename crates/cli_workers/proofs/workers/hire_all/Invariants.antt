@@ -1,7 +1,7 @@
 use Rattle.std.proofs.Common.{◌≡◌, vec_len, vec_capacity}
 use Rattle.log_table.specs.Hiring.{HasHired}
-use Rattle.cli_threads.specs.Workers.{AreUnused}
-use Rattle.cli_threads.proofs.workers.hire_all.Given as goal
+use Rattle.cli_workers.specs.Workers.{AreUnused}
+use Rattle.cli_workers.proofs.workers.hire_all.Given as goal
 
 abbrev pub invariant-loop-number : goal.invariant-loop-number
 invariant-loop-number l = record {

@@ -1,14 +1,15 @@
 use Rattle.std.proofs.Common.{rules, arith, ◌≡◌, ◌∙◌, ◌∷◌, ◌++◌, [], ap, length, length-append, sym, subst}
-use Rattle.cli_threads.specs.Workers.{IsStartedAs, IsDoneAs}
-use Rattle.cli_threads.proofs.NumberedLemmas.{Makes, Makes-next}
-use Rattle.cli_threads.proofs.serving.Run.join_all.Goals as goal
+use Rattle.cli_workers.specs.Workers.{IsDoneAs}
+use Rattle.cli_threads.specs.Workers.{IsStartedAs}
+use Rattle.cli_workers.proofs.NumberedLemmas.{Makes, Makes-next}
+use Rattle.cli_threads.proofs.serving.join_all.Goals as goal
 
 pub loop-one-preserved : goal.loop-one-preserved
 loop-one-preserved g c =
     let was = c.loop-one.invariant in
-    let table = c.args.self.now.table.now in
-    let jobs = c.args.self.now.jobs.now in
-    let wait = c.args.self.now.wait in
+    let table = c.args.run.now.table.now in
+    let jobs = c.args.run.now.jobs.now in
+    let wait = c.args.run.now.wait in
     let one = c.in-Some.one in
     let yielded = c.loop-one.yielded in
     let left = c.next.new.self.rest.items in

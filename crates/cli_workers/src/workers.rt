@@ -3,7 +3,7 @@ ghost use Rattle.std.specs.Prelude.{◌≡◌, ◌+◌, ◌<◌, ◌≤◌, [], 
 ghost use Rattle.log_table.specs.Hiring.{HasHired};
 ghost use Rattle.txn_runner.specs.Stripes.{HasStripe};
 ghost use Rattle.txn_runner.specs.Working.{HasRoomForRows, rows_in, taken_in};
-ghost use Rattle.cli_threads.specs.Workers.{AreUnused, IsUnused};
+ghost use Rattle.cli_workers.specs.Workers.{AreUnused, IsUnused};
 
 use crate::reserving::room_for;
 use log_table::{LogTable, Seat};
@@ -13,14 +13,14 @@ use txn_runner::{Jobs, Rows, Worked};
 
 /// A worker: its seat, its rows, and what its work came to, where it was done.
 #[derive(Drop)]
-pub(crate) struct Worker {
-    pub(crate) seat: Seat,
-    pub(crate) rows: Rows,
-    pub(crate) worked: Option<Worked>,
+pub struct Worker {
+    pub seat: Seat,
+    pub rows: Rows,
+    pub worked: Option<Worked>,
 }
 
 /// The worker of the next number. It is enrolled, and the flusher's seat knows that.
-pub(crate) fn hire(
+fn hire(
     table: &LogTable,
     boss: &mut Seat,
     jobs: &Jobs,
@@ -52,7 +52,7 @@ fn most_of_one(jobs: &Jobs, count: u32) -> u32
 }
 
 /// All workers of a run, so many, in the order of their numbers.
-pub(crate) fn hire_all(
+pub fn hire_all(
     alloc: Global,
     table: &LogTable,
     boss: &mut Seat,

@@ -5,7 +5,7 @@ use lsn_space::NoMemory;
 use std::alloc::Global;
 
 /// Room for so many.
-pub(crate) fn room_for<T>(alloc: Global, count: u32) -> Result<Vec<T>, NoMemory>
+pub fn room_for<T>(alloc: Global, count: u32) -> Result<Vec<T>, NoMemory>
     ensures none { IfOk result (λ room. room.items ≡ []) }
     ensures room { IfOk result (λ room. count ≤ vec_capacity room) }
 {

@@ -1,14 +1,15 @@
 use Rattle.std.proofs.Common.{rules, arith, ◌≡◌, ◌∙◌, ◌∷◌, ◌++◌, [], ap, length, length-append, sym, subst}
-use Rattle.cli_threads.specs.Workers.{IsUnusedAs, IsStartedAs}
-use Rattle.cli_threads.proofs.NumberedLemmas.{Makes, Makes-next}
-use Rattle.cli_threads.proofs.serving.Run.start_all.Goals as goal
+use Rattle.cli_workers.specs.Workers.{IsUnusedAs}
+use Rattle.cli_threads.specs.Workers.{IsStartedAs}
+use Rattle.cli_workers.proofs.NumberedLemmas.{Makes, Makes-next}
+use Rattle.cli_threads.proofs.serving.start_all.Goals as goal
 
 pub loop-worker-preserved : goal.loop-worker-preserved
 loop-worker-preserved g c =
     let was = c.loop-worker.invariant in
-    let table = c.args.self.now.table.now in
-    let jobs = c.args.self.now.jobs.now in
-    let wait = c.args.self.now.wait in
+    let table = c.args.run.now.table.now in
+    let jobs = c.args.run.now.jobs.now in
+    let wait = c.args.run.now.wait in
     let worker = c.in-Some.worker in
     let yielded = c.loop-worker.yielded in
     let left = c.next.new.self.rest.items in

@@ -1,7 +1,7 @@
 use Rattle.std.proofs.Common.{arith, ◌≡◌, ◌∙◌, ◌+◌, length, sym, subst}
-use Rattle.cli_threads.specs.Workers.{AreUnused, IsUnusedAs}
-use Rattle.cli_threads.proofs.NumberedLemmas.{Numbered-push}
-use Rattle.cli_threads.proofs.workers.hire_all.Goals as goal
+use Rattle.cli_workers.specs.Workers.{AreUnused, IsUnusedAs}
+use Rattle.cli_workers.proofs.NumberedLemmas.{Numbered-push}
+use Rattle.cli_workers.proofs.workers.hire_all.Goals as goal
 
 pub loop-number-preserved : goal.loop-number-preserved
 loop-number-preserved c =

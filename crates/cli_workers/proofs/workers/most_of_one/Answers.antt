@@ -1,6 +1,6 @@
 use Rattle.std.proofs.Common.{rules, ◌≡◌, ◌+◌, ◌/◌, ◌≤◌, length, subst, sym}
-use Rattle.cli_threads.proofs.WorkerLemmas.{stripe-most}
-use Rattle.cli_threads.proofs.workers.most_of_one.Goals as goal
+use Rattle.cli_workers.proofs.WorkerLemmas.{stripe-most}
+use Rattle.cli_workers.proofs.workers.most_of_one.Goals as goal
 
 pub returns : goal.returns
 returns c worker k stripe =

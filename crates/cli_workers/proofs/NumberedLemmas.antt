@@ -1,6 +1,6 @@
 -- Loops that make one element of each, where elements are numbered from 0 on.
 use Rattle.std.proofs.Common.{◌≡◌, ℕ, ◌+◌, List, [], ◌∷◌, ◌++◌, length, length-append, add-zero, sym, subst, arith}
-use Rattle.cli_threads.specs.Workers.{Numbered}
+use Rattle.cli_workers.specs.Workers.{Numbered}
 
 pub Numbered-push : {A : Type 0} (P : ℕ → A → Type 0) (number : ℕ) (xs : List A) (x : A) → Numbered P number xs → P (number + length xs) x
     → Numbered P number (xs ++ x ∷ [])

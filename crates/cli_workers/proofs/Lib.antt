@@ -1,0 +1,4 @@
+pub mod NumberedLemmas
+pub mod ServedLemmas
+pub mod WaitedLemmas
+pub mod WorkerLemmas
