@@ -11,5 +11,6 @@ pub mod RunLemmas
 pub mod RunRecords
 pub mod RunStripes
 pub mod RunTurns
+pub mod ServedLemmas
 pub mod TransferredLemmas
 pub mod WaitedLemmas

@@ -34,7 +34,8 @@ use Rattle.cli_threads.specs.Prepared.{HasTurned}
 use Rattle.cli_threads.specs.Shares.{Share, HasGathered}
 use Rattle.cli_threads.specs.Transferred.{HasTransferred, IsFresh, IsOpened}
 use Rattle.log_table.specs.Hiring.{KnowsHired, hired_numbers}
-use Rattle.cli_workers.specs.Workers.{AreDone, HasServed, IsDone, IsDoneAs, Numbered}
+use Rattle.cli_workers.specs.Workers.{Numbered}
+use Rattle.cli_threads.specs.Workers.{AreDone, HasServed, IsDone, IsDoneAs}
 use Rattle.cli_threads.proofs.GatheredShares.{HasGathered-all, served}
 
 -- a worker that is done has left

@@ -13,7 +13,7 @@ use Rattle.cli_ending.specs.declared.conclusion.Ended.{Ended}
 use Rattle.cli_threads.specs.declared.transfers.Prepared.{Prepared}
 use Rattle.cli_threads.specs.Shares.{Share}
 use Rattle.cli_threads.specs.Transferred.{HasTransferred}
-use Rattle.cli_workers.specs.Waiting.{HaveWaited, made_of}
+use Rattle.cli_threads.specs.Waiting.{HaveWaited, made_of}
 
 -- Turns led from a daemon over the one disk and sink to one over the other, and the transfers ended so. Where workers wait, each transfer
 -- that they made, but for one that was cut off, gave its accounts back once its end was durable.

@@ -5,4 +5,5 @@ pub mod Run
 pub mod RunStops
 pub mod Shares
 pub mod Transferred
+pub mod Waiting
 pub mod Workers

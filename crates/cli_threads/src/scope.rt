@@ -5,7 +5,8 @@ ghost use Rattle.log_table.specs.Sends.{IsDrained};
 ghost use Rattle.log_table.specs.Views.{knows_all_enrolled};
 ghost use Rattle.commit_pipeline.specs.Later.{Later};
 ghost use Rattle.commit_pipeline.specs.Turning.{IsSameDaemon, MayTurn};
-ghost use Rattle.cli_workers.specs.Workers.{AreDone, AreUnused};
+ghost use Rattle.cli_workers.specs.Workers.{AreUnused};
+ghost use Rattle.cli_threads.specs.Workers.{AreDone};
 
 use crate::serving::{Started, join_all, start_all};
 use cli_workers::{Run, Worker};

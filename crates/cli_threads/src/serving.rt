@@ -1,8 +1,8 @@
-//! Workers in threads of their own, and in this one where none can be made.
+//! The life of a worker, in a thread of its own or, where none can be made, in this one.
 ghost use Rattle.std.specs.Prelude.{◌≡◌, ◌≤◌, [], All, length, vec_len, vec_capacity};
 ghost use Rattle.lock_core.specs.Transfers.{IsAllowedJob};
-ghost use Rattle.cli_workers.specs.Workers.{IsUnused, IsDone, ComesBack, AreUnused, AreDone};
-ghost use Rattle.cli_threads.specs.Workers.{IsStarted, AreStarted, number_of};
+ghost use Rattle.cli_workers.specs.Workers.{IsHired, IsUnused, AreUnused};
+ghost use Rattle.cli_threads.specs.Workers.{IsDone, ComesBack, IsStarted, AreDone, AreStarted, number_of};
 
 use cli_workers::{Run, Worker};
 use log_disk::Gate;
@@ -11,7 +11,7 @@ use std::snapshot::Snapshot;
 use std::sync::Wait;
 use std::sync::atomic::{AtomicBool, Ordering};
 use std::thread::{Promise, PromisedHandle, Scope, Threads};
-use txn_runner::{Jobs, Relief, YieldRelief};
+use txn_runner::{Jobs, Relief, YieldRelief, work};
 
 /// What a worker's thread brings: the worker of this number, which served or is as it was hired.
 #[derive(Drop)]
@@ -33,8 +33,42 @@ pub(crate) enum Started {
     Refused(Worker),
 }
 
+/// A worker's whole life: its work, and its end.
+fn serve<'a, R: Wait, G: Gate, Q: Relief>(
+    run: &Run<'a, R, G>,
+    worker: Worker,
+    relief: &mut Q,
+) -> Worker
+    requires hired { IsHired run.now.table.now run.now.jobs.now worker }
+    requires relief { Q.ready relief.old }
+    ensures number { result.seat.worker ≡ worker.seat.worker }
+    ensures done { IsDone run.now.table.now run.now.jobs.now run.now.wait result }
+    ensures relief { Q.ready relief.new }
+    ensures later { Q.later relief.old relief.new }
+{
+    let wait = run.waits();
+    let Worker {
+        mut seat,
+        mut rows,
+        ..
+    } = worker;
+    let worked = work(
+        run.rt, run.table, &mut seat, run.jobs, &mut rows, relief, wait, run.gate,
+    );
+    run.table.leave(&mut seat);
+    Worker {
+        seat,
+        rows,
+        worked: Some(worked),
+    }
+}
+
 /// The worker once it served: here, with this relief, where it did not yet.
-fn finish<'a, R: Wait, G: Gate, Q: Relief>(run: &Run<'a, R, G>, worker: Worker, relief: &mut Q) -> Worker
+fn finish<'a, R: Wait, G: Gate, Q: Relief>(
+    run: &Run<'a, R, G>,
+    worker: Worker,
+    relief: &mut Q,
+) -> Worker
     requires comes { ComesBack run.now.table.now run.now.jobs.now run.now.wait worker }
     requires relief { Q.ready relief.old }
     ensures number { result.seat.worker ≡ worker.seat.worker }
@@ -45,7 +79,7 @@ fn finish<'a, R: Wait, G: Gate, Q: Relief>(run: &Run<'a, R, G>, worker: Worker, 
     if worker.worked.is_some() {
         return worker;
     }
-    run.serve(worker, relief)
+    serve(run, worker, relief)
 }
 
 /// Starts a thread for the worker. Where none can be made, the worker is served here, with this relief.
@@ -99,7 +133,7 @@ fn start<'a, R: Threads + Wait + Sync, G: Gate + Sync, E, Q: Relief>(
                 wait,
                 gate,
             };
-            run.serve(worker, &mut YieldRelief::new())
+            serve(&run, worker, &mut YieldRelief::new())
         },
     ) {
         Ok(child) => Started::Running(child),

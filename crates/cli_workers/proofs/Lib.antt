@@ -1,4 +1,2 @@
 pub mod NumberedLemmas
-pub mod ServedLemmas
-pub mod WaitedLemmas
 pub mod WorkerLemmas

@@ -1,10 +1,10 @@
-//! The workers of a run: how each is hired, and its whole life, in whatever thread.
+//! The workers of a run, as they are hired, and what all of them share.
 #![tactic(auto)]
 
 mod reserving;
-mod serving;
+mod shared;
 mod workers;
 
 pub use reserving::room_for;
-pub use serving::Run;
+pub use shared::Run;
 pub use workers::{Worker, hire_all};

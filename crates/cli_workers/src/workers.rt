@@ -20,13 +20,7 @@ pub struct Worker {
 }
 
 /// The worker of the next number. It is enrolled, and the flusher's seat knows that.
-fn hire(
-    table: &LogTable,
-    boss: &mut Seat,
-    jobs: &Jobs,
-    number: u32,
-    rows: Rows,
-) -> Worker
+fn hire(table: &LogTable, boss: &mut Seat, jobs: &Jobs, number: u32, rows: Rows) -> Worker
     requires boss { HasHired table.now number boss.old }
     requires number { number < jobs.now.workers }
     requires room { HasRoomForRows jobs.now number rows }

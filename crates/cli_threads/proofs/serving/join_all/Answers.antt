@@ -1,6 +1,5 @@
 use Rattle.std.proofs.Common.{rules, arith, ◌≡◌, ◌∙◌, ◌∷◌, ◌++◌, [], ap, length, length-append, sym, subst}
-use Rattle.cli_workers.specs.Workers.{IsDoneAs}
-use Rattle.cli_threads.specs.Workers.{IsStartedAs}
+use Rattle.cli_threads.specs.Workers.{IsDoneAs, IsStartedAs}
 use Rattle.cli_workers.proofs.NumberedLemmas.{Makes, Makes-next}
 use Rattle.cli_threads.proofs.serving.join_all.Goals as goal
 

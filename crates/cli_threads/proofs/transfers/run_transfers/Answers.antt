@@ -7,7 +7,7 @@ use Rattle.log_table.specs.Seats.{key_of, view_of}
 use Rattle.cli_threads.specs.Gathering.{share_of, takes_all, view_in}
 use Rattle.cli_threads.specs.Prepared.{IsServed}
 use Rattle.cli_threads.specs.Shares.{Share}
-use Rattle.cli_workers.specs.Waiting.{HaveWaited, made_of}
+use Rattle.cli_threads.specs.Waiting.{HaveWaited, made_of}
 use Rattle.cli_threads.proofs.TransferredLemmas.{HasLeft-all, HasTaken, HasTaken-turned, HasTransferred-gathered, MayClose-all, ends-of_shares}
 use Rattle.cli_threads.proofs.WaitedLemmas.{HaveWaited-all}
 use Rattle.cli_threads.proofs.transfers.run_transfers.Goals as goal

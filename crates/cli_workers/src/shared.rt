@@ -1,15 +1,11 @@
-//! The life of a worker, in whatever thread.
+//! What all workers of a run share.
 ghost use Rattle.std.specs.Prelude.{◌≡◌, ◌≤◌, All, length};
 ghost use Rattle.std.proofs.Props.{props};
 ghost use Rattle.lock_core.specs.Transfers.{IsAllowedJob};
-ghost use Rattle.cli_workers.specs.Workers.{IsHired, IsDone};
 
-use crate::workers::Worker;
 use log_table::LogTable;
-use schedule_hook::Gate;
-use std::sync::Wait;
 use std::sync::atomic::AtomicBool;
-use txn_runner::{Jobs, Relief, work};
+use txn_runner::Jobs;
 
 /// What all workers of a run share.
 #[derive(Drop)]
@@ -53,37 +49,9 @@ impl<'a, R, G> Run<'a, R, G> {
     }
 
     /// Whether a worker keeps the accounts of a transfer until its end is durable.
-    fn waits(&self) -> bool
+    pub fn waits(&self) -> bool
         ensures { result ≡ self.now.wait }
     {
         self.wait
-    }
-}
-
-impl<'a, R: Wait, G: Gate> Run<'a, R, G> {
-    /// A worker's whole life: its work, and its end.
-    pub fn serve<Q: Relief>(&self, worker: Worker, relief: &mut Q) -> Worker
-        requires hired { IsHired self.now.table.now self.now.jobs.now worker }
-        requires relief { Q.ready relief.old }
-        ensures number { result.seat.worker ≡ worker.seat.worker }
-        ensures done { IsDone self.now.table.now self.now.jobs.now self.now.wait result }
-        ensures relief { Q.ready relief.new }
-        ensures later { Q.later relief.old relief.new }
-    {
-        let wait = self.waits();
-        let Worker {
-            mut seat,
-            mut rows,
-            ..
-        } = worker;
-        let worked = work(
-            self.rt, self.table, &mut seat, self.jobs, &mut rows, relief, wait, self.gate,
-        );
-        self.table.leave(&mut seat);
-        Worker {
-            seat,
-            rows,
-            worked: Some(worked),
-        }
     }
 }

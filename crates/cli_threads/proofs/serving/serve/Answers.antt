@@ -4,16 +4,16 @@ use Rattle.log_table.specs.declared.view.View.{View}
 use Rattle.log_table.specs.Seats.{view_of}
 use Rattle.log_table.specs.CrewViews.{retired}
 use Rattle.txn_runner.specs.Working.{taken_in}
-use Rattle.cli_workers.specs.Waiting.{HaveWaited, made_of}
-use Rattle.cli_workers.proofs.WaitedLemmas.{HaveWaited-worked}
-use Rattle.cli_workers.proofs.ServedLemmas.{HasDone, HasDone-left}
-use Rattle.cli_workers.proofs.serving.Run.serve.Goals as goal
+use Rattle.cli_threads.specs.Waiting.{HaveWaited, made_of}
+use Rattle.cli_threads.proofs.WaitedLemmas.{HaveWaited-worked}
+use Rattle.cli_threads.proofs.ServedLemmas.{HasDone, HasDone-left}
+use Rattle.cli_threads.proofs.serving.serve.Goals as goal
 
 pub returns-clause-done : goal.returns-clause-done
 returns-clause-done g c =
     let hired = c.requires.hired in
     let did = c.work-worked.ensures in
-    let jobs = c.args.self.now.jobs.now in
+    let jobs = c.args.run.now.jobs.now in
     let number = c.args.worker.seat.worker in
     let taken = taken_in c.work-worked.new.rows in
     let worked = c.work-worked.result in
