@@ -35,11 +35,12 @@ use Rattle.lock_core.specs.Transfers.{transfer_of}
 use Rattle.cli_shared.specs.declared.report.Detail.{Detail}
 use Rattle.cli_shared.specs.declared.report.Detail.TheVariants.{Fine, NoMemory, Usage, Script, Read, Write, Disk, NotALog, BadBatch, BadRec, Unlawful, LogEnd, TxnEnd, Exists}
 use Rattle.cli_threads.specs.declared.transfers.ReadyRun.{ReadyRun}
-use Rattle.cli_threads.specs.declared.transfers.Ended.{Ended}
+use Rattle.cli_ending.specs.declared.conclusion.Ended.{Ended}
 use Rattle.cli_threads.specs.declared.transfers.Prepared.{Prepared}
 use Rattle.cli_shared.specs.Creation.{IsFindingFault, TellsWhether, genesis_list}
 use Rattle.cli_demo.specs.Demo.{AnswersDemo, IsOfDemo, IsPreparedDemo, IsReadyDemo, MayPrecede, OnlyMakes, RanAllGenerated, RanGenerated, TellsSummary}
-use Rattle.cli_threads.specs.Ending.{AreWhole, Concludes, HasEnded, IsFirstLogEnd, NothingStopped}
+use Rattle.cli_ending.specs.Ending.{AreWhole, Concludes, IsFirstLogEnd, NothingStopped}
+use Rattle.cli_threads.specs.Ending.{HasEnded}
 use Rattle.cli_demo.specs.Summary.{counted_text, generated_opening, generated_rows, summary_of, summary_text}
 use Rattle.cli_shared.specs.Opening.{OnlyLooks}
 use Rattle.cli_threads.specs.Transferred.{IsOpened}

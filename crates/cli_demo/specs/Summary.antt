@@ -8,7 +8,7 @@ use Rattle.txn_script.specs.declared.generator.TheConstants.{GENERATED_ACCOUNTS,
 use Rattle.txn_script.specs.Generator.{generated_balance}
 use Rattle.cli_demo.specs.declared.summary.Counts.{Counts}
 use Rattle.cli_shared.specs.Creation.{genesis_list}
-use Rattle.cli_threads.specs.declared.transfers.Ended.{Ended}
+use Rattle.cli_ending.specs.declared.conclusion.Ended.{Ended}
 
 -- the list on which generated transfers run: their accounts, each with the balance that it begins with
 abbrev pub generated_opening : List Rec

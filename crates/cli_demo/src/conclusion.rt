@@ -1,12 +1,12 @@
 ghost use Rattle.std.specs.Prelude.{◌≡◌, ◌≤◌, length, None};
 ghost use Rattle.log_disk.specs.Faults.{Rose};
 ghost use Rattle.log_record.specs.declared.limits.TheConstants.{MOST_ACCOUNTS};
-ghost use Rattle.cli_threads.specs.Ending.{Concludes, NoneStopped};
+ghost use Rattle.cli_ending.specs.Ending.{Concludes, NoneStopped};
 ghost use Rattle.cli_demo.specs.Summary.{counted_text};
 
 use crate::summary::{Counts, put_summary};
+use cli_ending::{Ended, stopped};
 use cli_shared::Detail;
-use cli_threads::{Ended, stopped};
 use log_disk::Sink;
 
 /// What the program answers once so many transfers, which were counted and not told, have ended. Where nothing befell them it writes their

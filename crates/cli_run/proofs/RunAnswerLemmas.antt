@@ -19,8 +19,9 @@ use Rattle.end_lines.specs.declared.voice.Voice.TheVariants.{Lines}
 use Rattle.cli_shared.specs.declared.report.Detail.{Detail}
 use Rattle.cli_shared.specs.declared.report.Detail.TheVariants.{Fine, NoMemory, Usage, Script, Read, Write, Disk, NotALog, BadBatch, BadRec, Unlawful, LogEnd, TxnEnd, Exists}
 use Rattle.cli_threads.specs.declared.transfers.ReadyRun.{ReadyRun}
-use Rattle.cli_threads.specs.declared.transfers.Ended.{Ended}
-use Rattle.cli_threads.specs.Ending.{Concludes, HasEnded, closed_text}
+use Rattle.cli_ending.specs.declared.conclusion.Ended.{Ended}
+use Rattle.cli_ending.specs.Ending.{Concludes, closed_text}
+use Rattle.cli_threads.specs.Ending.{HasEnded}
 use Rattle.cli_threads.specs.Run.{GoesOn, HoldsRun, RunIsDrained}
 use Rattle.cli_run.specs.RunAnswers.{AnswersRun, HoldsTold, IsOfRun, Ran, RanOut, RunStaysSilent, Outside, outside, run_text}
 use Rattle.cli_run.specs.RunReady.{IsBeforeRun, IsReadyFor}

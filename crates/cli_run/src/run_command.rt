@@ -7,8 +7,9 @@ ghost use Rattle.lock_core.specs.Transfers.{IsAllowedJob};
 ghost use Rattle.cli_run.specs.RunAnswers.{AnswersRun, IsOfRun, RunStaysSilent, outside};
 ghost use Rattle.cli_run.specs.RunReady.{IsReadyFor, IsPreparedFor, HasNoRun, IsBeforeRun};
 
+use cli_ending::conclude;
 use cli_shared::{Detail, open_log, read_script};
-use cli_threads::{Prepared, ReadyRun, conclude, prepare, run_transfers};
+use cli_threads::{Prepared, ReadyRun, prepare, run_transfers};
 use command_line::RunOptions;
 use commit_pipeline::Voice;
 use log_disk::{Gate, LogDisk, Sink, Source};

@@ -8,12 +8,9 @@ use lib.ListN.{get_elem?}
 use Rattle.log_disk.specs.declared.disk.LogDisk.{Ghosts}
 use Rattle.log_disk.specs.declared.sink.Sink.{Ghosts as SinkGhosts}
 use Rattle.log_disk.specs.Faults.{Rose}
-use Rattle.std.specs.Io.KnownBytes.{Appends}
 use Rattle.log_disk.specs.Streams.{AppendsPrefix, AppendsPart}
 use Rattle.log_record.specs.declared.rec.Rec.{Rec}
 use Rattle.log_record.specs.LogList.{end_of}
-use Rattle.log_recovery.specs.Text.{rows_text}
-use Rattle.lsn_space.specs.Accounts.{Accounts}
 use Rattle.lock_core.specs.History.{history}
 use Rattle.lock_core.specs.Lawful.{base_state_of}
 use Rattle.lock_core.specs.Serial.{IsPartlySerialAfter, IsSerialAfter}
@@ -32,9 +29,10 @@ use Rattle.txn_runner.specs.declared.cause.Worked.{Worked}
 use Rattle.txn_runner.specs.declared.cause.Worked.TheVariants as worked
 use Rattle.cli_shared.specs.declared.report.Detail.{Detail}
 use Rattle.cli_shared.specs.declared.report.Detail.TheVariants.{Fine, NoMemory, Usage, Script, Read, Write, Disk, NotALog, BadBatch, BadRec, Unlawful, LogEnd, TxnEnd, Exists}
-use Rattle.cli_threads.specs.declared.transfers.Ended.{Ended}
+use Rattle.cli_ending.specs.declared.conclusion.Ended.{Ended}
+use Rattle.cli_ending.specs.Ending.{AreWhole, Concludes, NoneStopped, NothingStopped, StoppedAs, IsFirstLogEnd}
 use Rattle.cli_threads.specs.declared.transfers.Prepared.{Prepared}
-use Rattle.cli_threads.specs.Ending.{HasEnded, AreWhole, Concludes, NoneStopped, NothingStopped, StoppedAs, IsFirstLogEnd, closed_text}
+use Rattle.cli_threads.specs.Ending.{HasEnded}
 use Rattle.cli_threads.specs.Run.{RunKeepsLog, RunIsDrained, RunsWhole}
 use Rattle.cli_threads.specs.RunStops.{StopsAtLogEnd}
 use Rattle.cli_threads.specs.Shares.{Share}
@@ -227,32 +225,3 @@ module _ {D : Type 0} {K : Type 0} (g : Ghosts D) (h : SinkGhosts K) (prepared :
         (λ _ _ same. cc) (λ said _ _. subst (λ s. Rose (h.faults sink) (h.faults s)) (sym said.1) (reason-write said.0))
         (λ said ends same. rose-later (h.faults sink) (h.faults sink_new) (h.faults sink_end) later-ended.1 (ends same said.0.0)) (λ _ _ same. cc)
         (λ tail total _ _ same. cc)
-
--- why the transfers were stopped is what the program answers, and it writes nothing
-pub concludes-stopped : {K : Type 0} (h : SinkGhosts K) (ended : Ended) (text : List ℕ) (sink : K) (why : Detail) → StoppedAs ended why
-    → Concludes h ended text sink sink why
-concludes-stopped h ended text sink Disk is = (is, refl)
-concludes-stopped h ended text sink Write is = inl (is, refl)
-concludes-stopped h ended text sink (LogEnd tail total) is = (is, refl)
-concludes-stopped h ended text sink Fine is = absurd is
-concludes-stopped h ended text sink NoMemory is = absurd is
-concludes-stopped h ended text sink Usage is = absurd is
-concludes-stopped h ended text sink (Script line) is = absurd is
-concludes-stopped h ended text sink Read is = absurd is
-concludes-stopped h ended text sink NotALog is = absurd is
-concludes-stopped h ended text sink (BadBatch offset) is = absurd is
-concludes-stopped h ended text sink (BadRec lsn) is = absurd is
-concludes-stopped h ended text sink (Unlawful lsn why) is = absurd is
-concludes-stopped h ended text sink (TxnEnd first count) is = absurd is
-concludes-stopped h ended text sink Exists is = absurd is
-
--- where nothing stopped them it writes the text that ends where the table was closed, or a part of it
-pub concludes-fine : {K : Type 0} (h : SinkGhosts K) (ended : Ended) (old new : K) (lsn : ℕ) (accounts : Accounts) → accounts ≡ ended.closed.accounts
-    → NothingStopped ended → Appends (h.held_bytes old) (h.held_bytes new) (rows_text lsn accounts.rows) → lsn ≡ ended.closed.tail
-    → Concludes h ended (closed_text ended) old new Fine
-concludes-fine h ended old new lsn accounts accounts_are none written end_is = (none, rw (end_is, accounts_are) at written)
-
-pub concludes-write : {K : Type 0} (h : SinkGhosts K) (ended : Ended) (old new : K) (lsn : ℕ) (accounts : Accounts) → accounts ≡ ended.closed.accounts
-    → NothingStopped ended → AppendsPart (h.held_bytes old) (h.held_bytes new) (rows_text lsn accounts.rows) → lsn ≡ ended.closed.tail
-    → Concludes h ended (closed_text ended) old new Write
-concludes-write h ended old new lsn accounts accounts_are none written end_is = inr (none, rw (end_is, accounts_are) at written)

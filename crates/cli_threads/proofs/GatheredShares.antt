@@ -30,10 +30,11 @@ use Rattle.txn_runner.specs.Working.{EndsLog, HasEnd, HaveEnded, IsCutBy, LieInT
 use Rattle.txn_runner.proofs.EntryLemmas.{LieInOrder-ends}
 use Rattle.txn_runner.proofs.Held.{account-given}
 use Rattle.txn_runner.proofs.WorkLemmas.{IsOwnEntry}
-use Rattle.cli_threads.specs.declared.workers.Worker.{Worker}
+use Rattle.cli_workers.specs.declared.workers.Worker.{Worker}
 use Rattle.cli_threads.specs.Gathering.{share_of, takes_all, view_in, worked_of}
 use Rattle.cli_threads.specs.Shares.{Share, all_taken, IsGivenUncommitted, AreGivenUncommitted, CameTo, HasGathered, HasShare, WasCutBy}
-use Rattle.cli_threads.specs.Workers.{AreDone, HasServed, IsDone, IsDoneAs, Numbered}
+use Rattle.cli_workers.specs.Workers.{Numbered}
+use Rattle.cli_threads.specs.Workers.{AreDone, HasServed, IsDone, IsDoneAs}
 use Rattle.cli_threads.proofs.MergedEntries.{all-merged, merged-all, contains-first, contains-second, contains-merged, Rises-in_order, merged-others, merged-own}
 
 -- the transfers of two workers have other numbers

@@ -1,7 +1,6 @@
 pub mod EndingLemmas
 pub mod GatheredShares
 pub mod MergedEntries
-pub mod NumberedLemmas
 pub mod RunBalances
 pub mod RunBegun
 pub mod RunEnds
@@ -15,4 +14,3 @@ pub mod RunTurns
 pub mod ServedLemmas
 pub mod TransferredLemmas
 pub mod WaitedLemmas
-pub mod WorkerLemmas

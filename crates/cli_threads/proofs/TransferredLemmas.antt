@@ -28,13 +28,14 @@ use Rattle.commit_pipeline.proofs.RanLemmas.{Later-same}
 use Rattle.txn_runner.specs.declared.cause.Worked.{Worked}
 use Rattle.txn_runner.specs.declared.jobs.Jobs.{Jobs}
 use Rattle.cli_threads.specs.declared.transfers.Served.{Served}
-use Rattle.cli_threads.specs.declared.workers.Worker.{Worker}
+use Rattle.cli_workers.specs.declared.workers.Worker.{Worker}
 use Rattle.cli_threads.specs.Gathering.{HasLeft, share_of, takes_all, view_in, worked_of}
 use Rattle.cli_threads.specs.Prepared.{HasTurned}
 use Rattle.cli_threads.specs.Shares.{Share, HasGathered}
 use Rattle.cli_threads.specs.Transferred.{HasTransferred, IsFresh, IsOpened}
 use Rattle.log_table.specs.Hiring.{KnowsHired, hired_numbers}
-use Rattle.cli_threads.specs.Workers.{AreDone, HasServed, IsDone, IsDoneAs, Numbered}
+use Rattle.cli_workers.specs.Workers.{Numbered}
+use Rattle.cli_threads.specs.Workers.{AreDone, HasServed, IsDone, IsDoneAs}
 use Rattle.cli_threads.proofs.GatheredShares.{HasGathered-all, served}
 
 -- a worker that is done has left

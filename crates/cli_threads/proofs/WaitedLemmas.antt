@@ -21,11 +21,12 @@ use Rattle.txn_runner.specs.Running.{outcome_of}
 use Rattle.txn_runner.specs.Stripes.{number_at, job_at}
 use Rattle.txn_runner.specs.Working.{AddsRows, AreRowsFrom, AreGivenAt, EachHasRow, IsGivenAt, TellsEnd, taken_in}
 use Rattle.txn_runner.proofs.PlanLemmas.{end_record-own, end_record-ends}
-use Rattle.cli_threads.specs.declared.workers.Worker.{Worker}
+use Rattle.cli_workers.specs.declared.workers.Worker.{Worker}
 use Rattle.cli_threads.specs.Gathering.{share_of, takes_all, view_in, worked_of}
 use Rattle.cli_threads.specs.Shares.{Share}
 use Rattle.cli_threads.specs.Waiting.{HasWaited, HaveWaited, IsGivenFrom, AreGivenFrom, made_of}
-use Rattle.cli_threads.specs.Workers.{IsDoneAs, Numbered}
+use Rattle.cli_workers.specs.Workers.{Numbered}
+use Rattle.cli_threads.specs.Workers.{IsDoneAs}
 use Rattle.cli_threads.proofs.GatheredShares.{served}
 use Rattle.cli_threads.proofs.MergedEntries.{contains-first, contains-second}
 

@@ -9,7 +9,7 @@ use Rattle.log_table.specs.CrewViews.{takes_in}
 use Rattle.txn_runner.specs.declared.cause.Worked.{Worked}
 use Rattle.txn_runner.specs.declared.cause.Worked.TheVariants.{All}
 use Rattle.txn_runner.specs.Working.{taken_in}
-use Rattle.cli_threads.specs.declared.workers.Worker.{Worker}
+use Rattle.cli_workers.specs.declared.workers.Worker.{Worker}
 use Rattle.cli_threads.specs.Shares.{Share}
 
 -- the worker came to an end and left the table

@@ -17,7 +17,8 @@ use Rattle.cli_threads.specs.declared.transfers.Crew.{Crew}
 use Rattle.cli_threads.specs.declared.room.Room.{Room}
 use Rattle.cli_threads.specs.declared.transfers.Prepared.{Prepared}
 use Rattle.cli_threads.specs.declared.transfers.Served.{Served}
-use Rattle.cli_threads.specs.Workers.{AreDone, AreUnused}
+use Rattle.cli_workers.specs.Workers.{AreUnused}
+use Rattle.cli_threads.specs.Workers.{AreDone}
 
 -- there is room for so many workers
 pub record HasRoomFor (workers : ℕ) (room : Room) : Type 0 where

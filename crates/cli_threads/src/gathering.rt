@@ -6,7 +6,7 @@ ghost use Rattle.log_table.specs.Seats.{IsOf, view_of};
 ghost use Rattle.log_table.specs.Sound.{HasReadStop};
 ghost use Rattle.cli_threads.specs.Gathering.{HasLeft, takes_all, view_in, worked_of};
 
-use crate::workers::Worker;
+use cli_workers::Worker;
 use log_table::{LogTable, Seat};
 use txn_runner::Worked;
 

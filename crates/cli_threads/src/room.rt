@@ -2,9 +2,8 @@
 ghost use Rattle.std.specs.Prelude.{◌≡◌, IfOk, vec_len};
 ghost use Rattle.cli_threads.specs.Prepared.{HasRoomFor};
 
-use crate::reserving::room_for;
 use crate::serving::Started;
-use crate::workers::Worker;
+use cli_workers::{Worker, room_for};
 use lsn_space::NoMemory;
 use std::alloc::Global;
 use std::sync::atomic::AtomicBool;

@@ -5,10 +5,11 @@ ghost use Rattle.log_table.specs.Sends.{IsDrained};
 ghost use Rattle.log_table.specs.Views.{knows_all_enrolled};
 ghost use Rattle.commit_pipeline.specs.Later.{Later};
 ghost use Rattle.commit_pipeline.specs.Turning.{IsSameDaemon, MayTurn};
-ghost use Rattle.cli_threads.specs.Workers.{AreDone, AreUnused};
+ghost use Rattle.cli_workers.specs.Workers.{AreUnused};
+ghost use Rattle.cli_threads.specs.Workers.{AreDone};
 
-use crate::serving::{Run, Started};
-use crate::workers::Worker;
+use crate::serving::{Started, join_all, start_all};
+use cli_workers::{Run, Worker};
 use commit_pipeline::Daemon;
 use flushing_relief::FlushingRelief;
 use log_disk::{Gate, LogDisk, Sink};
@@ -64,9 +65,9 @@ pub(crate) fn serve_all<'a, R: Threads + Wait + Sync, D: LogDisk, K: Sink, G: Ga
             ensures same { IsSameDaemon D.LogDisk K.Sink relief.entry.daemon result.0.daemon }
         {
             let mut relief = relief;
-            let started = run.start_all(scope, workers, started, &mut relief);
+            let started = start_all(&run, scope, workers, started, &mut relief);
             drain(run.rt, &mut relief.daemon);
-            let workers = run.join_all(started, back, &mut relief);
+            let workers = join_all(&run, started, back, &mut relief);
             // A worker that came back as it was hired was served here, and what it released is to be sent as well.
             drain(run.rt, &mut relief.daemon);
             (relief, workers)

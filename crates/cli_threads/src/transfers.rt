@@ -16,13 +16,13 @@ ghost use Rattle.commit_pipeline.specs.Turning.{MayTurn};
 use crate::gathering::gather;
 use crate::room::{Room, flags};
 use crate::scope::serve_all;
-use crate::serving::Run;
-use crate::workers::{Worker, hire_all};
+use cli_ending::Ended;
+use cli_workers::{Run, Worker, hire_all};
 use commit_pipeline::{Daemon, DaemonFault, Voice};
 use flusher::Flusher;
 use flushing_relief::FlushingRelief;
 use log_disk::{Gate, LogDisk, Sink};
-use log_table::{Closed, LogTable, Seat, Start};
+use log_table::{LogTable, Seat, Start};
 use lsn_space::NoMemory;
 use segment_file::{Batch, Tail};
 use std::alloc::Global;
@@ -74,17 +74,6 @@ struct Served {
     boss: Seat,
     workers: Vec<Worker>,
     ends: Vec<Worked>,
-}
-
-/// How a run ended: what befell the daemon, how many transfers it counted as done and as refused, how each worker's work ended,
-/// and what the table held.
-#[derive(Drop)]
-pub struct Ended {
-    pub fault: Option<DaemonFault>,
-    pub done: u32,
-    pub refused: u32,
-    pub ends: Vec<Worked>,
-    pub closed: Closed,
 }
 
 /// Makes the table, and all that workers and the daemon need.
@@ -227,14 +216,7 @@ pub fn run_transfers<R: Threads + Wait + Sync, D: LogDisk, K: Sink, G: Gate + Sy
         refused,
         crew,
     } = prepared;
-    let run = Run {
-        rt,
-        table: &table,
-        jobs: &jobs,
-        refused: refused.as_slice(),
-        wait,
-        gate,
-    };
+    let run = Run::make(rt, &table, &jobs, refused.as_slice(), wait, gate);
     let mut served = None;
     let _outside = serve_crew(run, crew, tail, voice, Outside { disk, out }, &mut served);
     let Some(served) = served else { unreachable!() };

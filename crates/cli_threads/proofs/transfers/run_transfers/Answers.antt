@@ -13,13 +13,13 @@ use Rattle.cli_threads.proofs.WaitedLemmas.{HaveWaited-all}
 use Rattle.cli_threads.proofs.transfers.run_transfers.Goals as goal
 
 pub serve_crew-outside-requires-clause-crew : goal.serve_crew-outside-requires-clause-crew
-serve_crew-outside-requires-clause-crew g c = λ κs within. c.requires.prepared.crew
+serve_crew-outside-requires-clause-crew g c = λ κs within. rw (c.make-run.ensures.table, c.make-run.ensures.jobs) c.requires.prepared.crew
 
 pub serve_crew-outside-requires-clause-shut : goal.serve_crew-outside-requires-clause-shut
 serve_crew-outside-requires-clause-shut g c = λ κs within. c.requires.opened.1.shut
 
 pub serve_crew-outside-requires-clause-next : goal.serve_crew-outside-requires-clause-next
-serve_crew-outside-requires-clause-next g c = λ κs within. let log = c.requires.opened.1 in log.next ∙ sym log.start
+serve_crew-outside-requires-clause-next g c = λ κs within. let log = c.requires.opened.1 in rw c.make-run.ensures.table (log.next ∙ sym log.start)
 
 pub serve_crew-outside-requires-clause-place : goal.serve_crew-outside-requires-clause-place
 serve_crew-outside-requires-clause-place g c = λ κs within. c.requires.opened.1.place
@@ -28,7 +28,8 @@ pub gather-ends-requires-clause-workers : goal.gather-ends-requires-clause-worke
 gather-ends-requires-clause-workers g c =
     let table = c.args.prepared.table in
     let jobs = c.args.prepared.jobs in
-    let served = subst (λ o. IsSomeAnd o (IsServed table jobs c.args.wait)) c.in-Some.is c.serve_crew-outside.ensures.served in
+    let told = rw (c.make-run.ensures.table, c.make-run.ensures.jobs, c.make-run.ensures.wait) at c.serve_crew-outside.ensures.served in
+    let served = subst (λ o. IsSomeAnd o (IsServed table jobs c.args.wait)) c.in-Some.is told in
     HasLeft-all table jobs c.args.wait 0 c.in-Some.served.workers.items served.done
 
 pub close-requires-clause-may : goal.close-requires-clause-may
@@ -36,7 +37,8 @@ close-requires-clause-may g c =
     let table = c.args.prepared.table in
     let jobs = c.args.prepared.jobs in
     let workers = c.in-Some.served.workers in
-    let served = subst (λ o. IsSomeAnd o (IsServed table jobs c.args.wait)) c.in-Some.is c.serve_crew-outside.ensures.served in
+    let told = rw (c.make-run.ensures.table, c.make-run.ensures.jobs, c.make-run.ensures.wait) at c.serve_crew-outside.ensures.served in
+    let served = subst (λ o. IsSomeAnd o (IsServed table jobs c.args.wait)) c.in-Some.is told in
     let turned = rw c.in-Some.is at c.serve_crew-outside.ensures.turned in
     let taken = HasTaken-turned g.D.LogDisk g.K.Sink _ _ _ _ _ _ _ _ turned (key_of table) jobs.workers c.requires.prepared.crew.boss.knows in
     let count : jobs.workers ≡ length workers.items = sym served.count ∙ workers.ok.0 in
@@ -48,7 +50,8 @@ returns g c =
     let table = c.args.prepared.table in
     let jobs = c.args.prepared.jobs in
     let workers = c.in-Some.served.workers in
-    let served = subst (λ o. IsSomeAnd o (IsServed table jobs c.args.wait)) c.in-Some.is c.serve_crew-outside.ensures.served in
+    let told = rw (c.make-run.ensures.table, c.make-run.ensures.jobs, c.make-run.ensures.wait) at c.serve_crew-outside.ensures.served in
+    let served = subst (λ o. IsSomeAnd o (IsServed table jobs c.args.wait)) c.in-Some.is told in
     let turned = rw c.in-Some.is at c.serve_crew-outside.ensures.turned in
     let count : length workers.items ≡ jobs.workers = sym workers.ok.0 ∙ served.count in
     let gathered = c.gather-ends.ensures in

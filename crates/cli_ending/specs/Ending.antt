@@ -1,0 +1,52 @@
+-- What the program answers once the transfers of a run have ended. `h` is what a sink shows.
+use Rattle.std.specs.Prelude.{◌≡◌, ◌⊎◌, ℕ, List, ◌∷◌, ◌++◌, All, Some, None}
+use Rattle.std.specs.Io.KnownBytes.{Appends}
+use Rattle.log_disk.specs.Streams.{AppendsPart}
+use Rattle.log_disk.specs.declared.sink.Sink.{Ghosts as SinkGhosts}
+use Rattle.log_recovery.specs.Text.{rows_text}
+use Rattle.commit_pipeline.specs.declared.daemon.DaemonFault.TheVariants.{DiskFault, WriteFault}
+use Rattle.txn_runner.specs.declared.cause.Cause.TheVariants as cause
+use Rattle.txn_runner.specs.declared.cause.Worked.{Worked}
+use Rattle.txn_runner.specs.declared.cause.Worked.TheVariants as worked
+use Rattle.cli_shared.specs.declared.report.Detail.{Detail}
+use Rattle.cli_shared.specs.declared.report.Detail.TheVariants.{Fine, Write, Disk, LogEnd}
+use Rattle.cli_ending.specs.declared.conclusion.Ended.{Ended}
+
+-- all workers came to the end of their stripes
+abbrev pub AreWhole : List Worked → Type 0
+AreWhole ends = All (λ end. end ≡ worked.All) ends
+
+-- no worker read a stop word
+abbrev pub NoneStopped : List Worked → Type 0
+NoneStopped ends = All (λ end. (word : ℕ) → end ≡ worked.Cut (cause.Stop word) → ⊥) ends
+
+-- the lowest worker that did not come to its end found no room for so many units behind this tail
+pub record IsFirstLogEnd (ends : List Worked) (tail total : ℕ) : Type 0 where
+  pub below : List Worked
+  pub above : List Worked
+  pub whole : ends ≡ below ++ worked.Cut (cause.LogEnd tail total) ∷ above
+  pub all_whole : AreWhole below
+
+-- why the transfers were stopped: the daemon's fault before all else, and then the end of the log that the lowest worker met
+abbrev pub StoppedAs : Ended → Detail → Type 0
+StoppedAs ended Disk = ended.fault ≡ Some DiskFault
+StoppedAs ended Write = ended.fault ≡ Some WriteFault
+StoppedAs ended (LogEnd tail total) = (ended.fault ≡ None) × IsFirstLogEnd ended.ends.items tail total
+StoppedAs ended detail = ⊥
+
+-- nothing stopped them
+abbrev pub NothingStopped : Ended → Type 0
+NothingStopped ended = (ended.fault ≡ None) × AreWhole ended.ends.items
+
+-- What the program answers once the transfers have ended: why they were stopped; and where nothing stopped them, this text is written.
+abbrev pub Concludes : {K : Type 0} → SinkGhosts K → Ended → List ℕ → K → K → Detail → Type 0
+Concludes h ended text old new Disk = StoppedAs ended Disk × (new ≡ old)
+Concludes h ended text old new Write =
+    (StoppedAs ended Write × (new ≡ old)) ⊎ (NothingStopped ended × AppendsPart (h.held_bytes old) (h.held_bytes new) text)
+Concludes h ended text old new (LogEnd tail total) = StoppedAs ended (LogEnd tail total) × (new ≡ old)
+Concludes h ended text old new Fine = NothingStopped ended × Appends (h.held_bytes old) (h.held_bytes new) text
+Concludes h ended text old new detail = ⊥
+
+-- the text of the accounts of the closed table
+abbrev pub closed_text : Ended → List ℕ
+closed_text ended = rows_text ended.closed.tail ended.closed.accounts.rows
