@@ -1,4 +1,4 @@
-ghost use Rattle.std.specs.Prelude.{◌≡◌, ◌≤◌, ◌+◌, ◌<◌, ◌↔◌, ℕ, List, All, length, IfOk, IfErr, OnOk, IsErrOf};
+ghost use Rattle.std.specs.Prelude.{◌≡◌, ◌≤◌, ◌+◌, ◌↔◌, ℕ, List, All, length, IfOk, IfErr, IsErrOf};
 ghost use Rattle.command_line.specs.Ranges.{AreInRange};
 ghost use Rattle.log_disk.specs.Faults.{Rose};
 ghost use Rattle.log_record.specs.declared.limits.TheConstants.{LAST_TXN};
@@ -8,12 +8,11 @@ ghost use Rattle.cli_run.specs.RunAnswers.{AnswersRun, IsOfRun, RunStaysSilent, 
 ghost use Rattle.cli_run.specs.RunReady.{IsReadyFor, IsPreparedFor, HasNoRun, IsBeforeRun};
 
 use cli_ending::conclude;
-use cli_shared::{Detail, open_log, read_script};
+use cli_shared::{Detail, open_log, read_transfers};
 use cli_threads::{Prepared, ReadyRun, prepare, run_transfers};
 use command_line::RunOptions;
 use commit_pipeline::Voice;
 use log_disk::{Gate, LogDisk, Sink, Source};
-use log_record::LAST_TXN;
 use log_recovery::Recovered;
 use log_table::Start;
 use lsn_space::Word;
@@ -80,24 +79,12 @@ fn make_ready<R, D: LogDisk, S: Source>(
     ensures later_disk { D.faults disk.old ≤ D.faults disk.new }
 {
     let opened = open_log(alloc, log, disk)?;
-    let transfers = read_script(alloc, opened.accounts.count(), script)?;
-    check_numbers(opened.next_txn, transfers.count())?;
+    let transfers = read_transfers(alloc, &opened, script)?;
     let tail = opened.tail;
     let prepared = prepare_run(rt, alloc, opened, transfers, options)?;
     match settle(disk, tail.at, tail.next) {
         Ok(tail) => Ok(ReadyRun { prepared, tail }),
         Err(_) => Err(Detail::Disk),
-    }
-}
-
-/// Whether so many transfers have numbers, from the first on, and one is left for what comes after.
-fn check_numbers(first: u64, count: u64) -> Result<(), Detail>
-    ensures fit { OnOk result (first + count ≤ LAST_TXN) }
-    ensures past { IfErr result (λ detail. (detail ≡ Detail.TxnEnd first count) × (LAST_TXN < first + count)) }
-{
-    match first.checked_add(count) {
-        Some(end) if end <= LAST_TXN as u64 => Ok(()),
-        _ => Err(Detail::TxnEnd { first, count }),
     }
 }
 
