@@ -9,7 +9,7 @@ ghost use Rattle.cli_shared.specs.Creation.{TellsWhether};
 ghost use Rattle.cli_demo.specs.Demo.{AnswersDemo, IsBeforeDemo, IsOfDemo, IsPreparedDemo, IsReadyDemo, TellsSummary};
 ghost use Rattle.cli_demo.specs.Summary.{generated_opening, generated_rows};
 
-use crate::conclusion::conclude_counted;
+use cli_ending::conclude_counted;
 use cli_shared::genesis::genesis;
 use cli_shared::{Detail, finds_none};
 use cli_threads::{Prepared, ReadyRun, prepare, run_transfers};

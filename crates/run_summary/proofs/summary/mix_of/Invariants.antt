@@ -1,6 +1,6 @@
 use Rattle.std.proofs.Common.{◌≡◌, ◌≤◌, ◌*◌}
-use Rattle.cli_demo.specs.Summary.{balance_in, mix_below}
-use Rattle.cli_demo.proofs.summary.mix_of.Given as goal
+use Rattle.run_summary.specs.Summary.{balance_in, mix_below}
+use Rattle.run_summary.proofs.summary.mix_of.Given as goal
 
 abbrev pub invariant-loop-account : goal.invariant-loop-account
 invariant-loop-account l = record {

@@ -1,5 +1,5 @@
 use Rattle.std.proofs.Common.{inr}
-use Rattle.cli_demo.proofs.conclusion.conclude_counted.Goals as goal
+use Rattle.cli_ending.proofs.counted.conclude_counted.Goals as goal
 
 pub returns-in-Ok-clause-concludes : goal.returns-in-Ok-clause-concludes
 returns-in-Ok-clause-concludes g c = (c.in_default.ensures.none, rw (c.lsn.ensures, c.accounts.ensures) at c.in-Ok.ensures.all)

@@ -1,5 +1,3 @@
-//! The summary of a run of generated transfers.
-
 ghost use Rattle.std.specs.Prelude.{◌≡◌, ◌≤◌, ◌+◌, ◌*◌, ◌++◌, length, codes, OnOk, OnErr};
 ghost use Rattle.std.specs.Io.KnownBytes.{Appends};
 ghost use Rattle.lsn_space.specs.Number.{number_text};
@@ -7,7 +5,7 @@ ghost use Rattle.log_disk.specs.Faults.{HasCause};
 ghost use Rattle.log_disk.specs.Streams.{AppendsPart};
 ghost use Rattle.lock_core.specs.Sums.{sum_below};
 ghost use Rattle.log_record.specs.declared.limits.TheConstants.{MOST_ACCOUNTS};
-ghost use Rattle.cli_demo.specs.Summary.{balance_in, count_line, mix_below, summary_of};
+ghost use Rattle.run_summary.specs.Summary.{balance_in, count_line, mix_below, summary_of};
 
 use arrayvec::ArrayVec;
 use log_disk::{Sink, WriteFault, put_all};

@@ -1,13 +1,12 @@
 ghost use Rattle.std.specs.Prelude.{◌≡◌, ◌≤◌, length, None};
 ghost use Rattle.log_disk.specs.Faults.{Rose};
 ghost use Rattle.log_record.specs.declared.limits.TheConstants.{MOST_ACCOUNTS};
-ghost use Rattle.cli_ending.specs.Ending.{Concludes, NoneStopped};
-ghost use Rattle.cli_demo.specs.Summary.{counted_text};
+ghost use Rattle.cli_ending.specs.Ending.{Concludes, NoneStopped, counted_text};
 
-use crate::summary::{Counts, put_summary};
-use cli_ending::{Ended, stopped};
+use crate::conclusion::{Ended, stopped};
 use cli_shared::Detail;
 use log_disk::Sink;
+use run_summary::{Counts, put_summary};
 
 /// What the program answers once so many transfers, which were counted and not told, have ended. Where nothing befell them it writes their
 /// summary.
