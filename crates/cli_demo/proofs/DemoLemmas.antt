@@ -5,6 +5,7 @@ use Rattle.std.proofs.lemmas.List.{length-replicate}
 use Rattle.std.proofs.lemmas.List.Elements.{All-replicate}
 use Rattle.std.specs.Io.KnownBytes.{Appends, Keeps}
 use Rattle.log_disk.specs.Disk.{Leaves}
+use Rattle.log_disk.specs.Faults.{Rose}
 use Rattle.log_disk.specs.Streams.{AppendsPrefix}
 use Rattle.log_disk.specs.declared.disk.LogDisk.{Ghosts}
 use Rattle.log_disk.specs.declared.sink.Sink.{Ghosts as SinkGhosts}
@@ -39,9 +40,10 @@ use Rattle.cli_ending.specs.declared.conclusion.Ended.{Ended}
 use Rattle.cli_threads.specs.declared.transfers.Prepared.{Prepared}
 use Rattle.cli_shared.specs.Creation.{IsFindingFault, TellsWhether, genesis_list}
 use Rattle.cli_demo.specs.Demo.{AnswersDemo, IsOfDemo, IsPreparedDemo, IsReadyDemo, MayPrecede, OnlyMakes, RanAllGenerated, RanGenerated, TellsSummary}
-use Rattle.cli_ending.specs.Ending.{AreWhole, Concludes, IsFirstLogEnd, NothingStopped}
+use Rattle.cli_ending.specs.Ending.{AreWhole, Concludes, IsFirstLogEnd, NothingStopped, counted_text}
 use Rattle.cli_threads.specs.Ending.{HasEnded}
-use Rattle.cli_demo.specs.Summary.{counted_text, generated_opening, generated_rows, summary_of, summary_text}
+use Rattle.cli_demo.specs.Summary.{generated_opening, generated_rows, summary_text}
+use Rattle.run_summary.specs.Summary.{summary_of}
 use Rattle.cli_shared.specs.Opening.{OnlyLooks}
 use Rattle.cli_threads.specs.Transferred.{IsOpened}
 use Rattle.cli_threads.proofs.EndingLemmas.{by-conclusion, list, counted-ended, drained-ended, keeps-ended, kept-ended, serial-ended, speaks-ended, stops-ended, told-ended, whole-ended, whole_after-ended}
@@ -237,12 +239,6 @@ module _ {D : Type 0} {K : Type 0} (g : Ghosts D) (h : SinkGhosts K) (n seed wor
       (λ i. summary_of (record { transfers = n; done = counts.0 i; refused = counts.1 i; lsn = lsn i }) ended.closed.accounts.rows)
       ∙ summary-same n seed 1 base records ended.closed.accounts.rows few opening-generated whole kept opening-end
 
-  -- there is a row for each account
-  pub rows-ended : length ended.closed.accounts.rows ≤ 4096
-  rows-ended =
-      let count = (kept-ended g h ready.prepared generated_opening Count disk disk_new sink sink_mid ended has).count in
-      omega (arith, count, opening-generated.accounts)
-
   pub text-concluded : (detail : Detail) → Concludes h ended (counted_text n ended) sink_mid sink_new detail
       → TellsSummary n seed (h.held_bytes sink) (h.held_bytes sink_new) detail
   text-concluded = by-conclusion h ended (counted_text n ended) sink_mid sink_new (TellsSummary n seed (h.held_bytes sink) (h.held_bytes sink_new))
@@ -301,3 +297,6 @@ module _ {D : Type 0} {K : Type 0} (g : Ghosts D) (h : SinkGhosts K) (n seed wor
     answers-demo = by-conclusion h ended (counted_text n ended) sink_mid sink_new (AnswersDemo g n seed workers entry disk_new) (λ _. inr ran)
         (λ said. absurd (never-fails said.0)) (λ said. ran-all said.0) (λ said. ran-all said.0)
         (λ tail total said. no-log_end tail total said.0.0 said.0.1)
+
+pub Rose-later : (before mid now : ℕ) → before ≤ mid → Rose mid now → Rose before now
+Rose-later before mid now later rose = omega arith

@@ -1,3 +1,4 @@
+pub mod CountedRows
 pub mod DemoLemmas
 pub mod GeneratedEnd
 pub mod SummaryLemmas

@@ -1,5 +1,5 @@
 -- The summary of generated transfers is told by their number and seed.
-use Rattle.std.proofs.Common.{◌≡◌, ◌≤◌, ◌<◌, ℕ, zero, suc, ◌+◌, ◌*◌, List, [], ◌∷◌, length, replicate, refl, ap, ◌∙◌, sym, arith, add-one}
+use Rattle.std.proofs.Common.{◌≡◌, ◌≤◌, ◌<◌, ℕ, zero, suc, ◌+◌, ◌*◌, List, [], ◌∷◌, length, replicate, refl, ap, ◌∙◌, sym, arith}
 use Rattle.std.proofs.lemmas.List.Elements.{All-replicate}
 use Rattle.log_record.specs.declared.rec.Rec.{Rec}
 use Rattle.log_record.specs.declared.rec.Rec.TheVariants.{Genesis, Update, Commit, Short, Over, Note}
@@ -20,7 +20,8 @@ use Rattle.commit_pipeline.specs.EndLines.{is_done, is_refused, done_in, refused
 use Rattle.txn_script.specs.Generator.{number_after, job_from, generated_transfers, generated_balance, OpensGenerated}
 use Rattle.lock_core.specs.Transfers.{transfer_of}
 use Rattle.txn_script.proofs.OrderLemmas.{room-generated, generated-balance, generated-end}
-use Rattle.cli_demo.specs.Summary.{generated_opening, balance_in, mix_below, summary_lines, summary_of, summary_text}
+use Rattle.cli_demo.specs.Summary.{generated_opening, summary_text}
+use Rattle.run_summary.specs.Summary.{balance_in, mix_below, summary_lines, summary_of}
 use Rattle.cli_shared.proofs.GenesisLemmas.{opening_rows, genesis-kept}
 
 done_in-weight : (records : List Rec) → done_in records ≡ weight_of is_done records
@@ -110,8 +111,3 @@ opening-generated =
 
 pub opening-end : (base_state_of (history generated_opening)).end ≡ 128
 opening-end = refl
-
--- one account more is mixed in
-pub mix_below-next : (n mix balance : ℕ) (balances : ℕ → ℕ) → mix ≡ mix_below n balances → balance ≡ balances n
-    → mix + (n + 1) * balance ≡ mix_below (n + 1) balances
-mix_below-next n mix balance balances same at = (λ i. same i + (n + 1) * at i) ∙ ap (λ k. mix_below k balances) (sym (add-one n))

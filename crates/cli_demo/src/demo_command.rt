@@ -3,13 +3,17 @@ ghost use Rattle.std.specs.Prelude.{◌≡◌, ◌≤◌, ◌+◌, ◌↔◌, On
 ghost use Rattle.command_line.specs.Ranges.{AreInRange};
 ghost use Rattle.log_disk.specs.Faults.{Rose};
 ghost use Rattle.log_record.specs.LogList.{units_of};
+ghost use Rattle.log_table.specs.Seats.{key_of};
 ghost use Rattle.segment_file.specs.File.{BeginsOpen};
 ghost use Rattle.lsn_space.specs.declared.numerals.TheConstants.{MOST_GENERATED};
 ghost use Rattle.cli_shared.specs.Creation.{TellsWhether};
 ghost use Rattle.cli_demo.specs.Demo.{AnswersDemo, IsBeforeDemo, IsOfDemo, IsPreparedDemo, IsReadyDemo, TellsSummary};
+ghost use Rattle.cli_demo.specs.Finished.{HasFinished};
 ghost use Rattle.cli_demo.specs.Summary.{generated_opening, generated_rows};
+ghost use Rattle.cli_threads.specs.Prepared.{IsPrepared};
+ghost use Rattle.cli_threads.specs.Transferred.{IsOpened};
 
-use crate::conclusion::conclude_counted;
+use cli_ending::conclude_counted;
 use cli_shared::genesis::genesis;
 use cli_shared::{Detail, finds_none};
 use cli_threads::{Prepared, ReadyRun, prepare, run_transfers};
@@ -50,12 +54,26 @@ pub fn demo_command<R: Threads + Wait + Sync, D: LogDisk, K: Sink, G: Gate + Syn
     ensures later { K.faults out.old ≤ K.faults out.new }
     ensures later_disk { D.faults disk.old ≤ D.faults disk.new }
 {
-    let ReadyRun { prepared, tail } = match make_ready(
-        rt, alloc, log, transfers, seed, options, disk,
-    ) {
-        Ok(ready) => ready,
-        Err(detail) => return detail,
-    };
+    match make_ready(rt, alloc, log, transfers, seed, options, disk) {
+        Ok(ready) => finish(rt, ready, transfers, disk, out, gate),
+        Err(detail) => detail,
+    }
+}
+
+/// Makes the transfers that are ready, which are counted and not told, and then answers the summary of so many.
+fn finish<R: Threads + Wait + Sync, D: LogDisk, K: Sink, G: Gate + Sync>(
+    rt: &R,
+    ready: ReadyRun,
+    transfers: u32,
+    disk: &mut D,
+    out: &mut K,
+    gate: &G,
+) -> Detail
+    requires prepared { IsPrepared ready.prepared }
+    requires opened { IsOpened D.LogDisk disk.old ready.tail generated_opening ready.prepared.jobs.first (key_of ready.prepared.table) }
+    ensures { HasFinished D.LogDisk K.Sink ready.prepared transfers disk.old disk.new out.old out.new result }
+{
+    let ReadyRun { prepared, tail } = ready;
     let ended = run_transfers(rt, prepared, disk, tail, out, Voice::Count, false, gate);
     conclude_counted(&ended, transfers, out)
 }

@@ -10,6 +10,7 @@ use Rattle.txn_runner.specs.declared.cause.Worked.{Worked}
 use Rattle.txn_runner.specs.declared.cause.Worked.TheVariants as worked
 use Rattle.cli_shared.specs.declared.report.Detail.{Detail}
 use Rattle.cli_shared.specs.declared.report.Detail.TheVariants.{Fine, Write, Disk, LogEnd}
+use Rattle.run_summary.specs.Summary.{summary_of}
 use Rattle.cli_ending.specs.declared.conclusion.Ended.{Ended}
 
 -- all workers came to the end of their stripes
@@ -50,3 +51,8 @@ Concludes h ended text old new detail = ⊥
 -- the text of the accounts of the closed table
 abbrev pub closed_text : Ended → List ℕ
 closed_text ended = rows_text ended.closed.tail ended.closed.accounts.rows
+
+-- the summary of so many transfers: what the daemon counted of them, and the accounts of the closed table
+abbrev pub counted_text : ℕ → Ended → List ℕ
+counted_text transfers ended =
+    summary_of (record { transfers = transfers; done = ended.done; refused = ended.refused; lsn = ended.closed.tail }) ended.closed.accounts.rows

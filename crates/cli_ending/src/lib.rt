@@ -2,5 +2,7 @@
 #![tactic(auto)]
 
 mod conclusion;
+mod counted;
 
 pub use conclusion::{Ended, conclude, stopped};
+pub use counted::conclude_counted;

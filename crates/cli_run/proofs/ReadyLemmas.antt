@@ -1,5 +1,5 @@
 -- From the opened log to what is ready before the first transfer of a run, or to the answer that there is no run.
-use Rattle.std.proofs.Common.{◌≡◌, ◌≤◌, ◌<◌, ◌⊎◌, ⊎_elim, inl, inr, refl, ap, sym, ◌∙◌, subst, ℕ, ◌+◌, List, length, Option, Some, None, arith}
+use Rattle.std.proofs.Common.{◌≡◌, ◌≤◌, ◌⊎◌, ⊎_elim, inl, inr, refl, ap, sym, ◌∙◌, subst, ℕ, ◌+◌, List, length, Option, Some, None, arith}
 use Rattle.std.specs.Io.KnownBytes.{Keeps}
 use Rattle.command_line.specs.declared.options.RunOptions.{RunOptions}
 use Rattle.log_disk.specs.Disk.{Leaves}
@@ -25,7 +25,7 @@ use Rattle.cli_threads.specs.declared.transfers.Prepared.{Prepared}
 use Rattle.cli_shared.specs.Opening.{Opens, HasOpeningFault}
 use Rattle.cli_run.specs.RunAnswers.{AnswersRun, AreAsked, OnlyReads, OnlySettles, HoldsAsRead, accounts_of, next_txn, outside}
 use Rattle.cli_run.specs.RunReady.{IsPreparedFor}
-use Rattle.cli_shared.specs.Scripts.{HasNoScript, IsWholeScript}
+use Rattle.cli_shared.specs.Scripts.{HasNoScript, HasNoTransfers, IsWholeScript}
 use Rattle.cli_threads.specs.Transferred.{IsOpened}
 use Rattle.cli_run.proofs.OpenedAccounts.{some-accounts}
 
@@ -122,31 +122,32 @@ module _ {D : Type 0} (g : Ghosts D) (old mid : D) (opened : Recovered) (opens :
       count = count-settled;
     }
 
-  -- the numbers of the transfers would end
-  module _ (script : List Job) where
-    pub answers-numbers : Reads g old mid → g.honest old → (workers accounts count : ℕ) (left left_new text : Option (List ℕ))
-        → accounts ≡ length opened.accounts.rows → IsWholeScript accounts left left_new script → count ≡ length script
-        → LAST_TXN < opened.next_txn + count
-        → AnswersRun g workers (outside old left text) (outside mid left_new text) (TxnEnd opened.next_txn count)
-    answers-numbers reads honest workers accounts count left left_new text counted whole count_is past = (
-      only-reads g old mid reads left left_new text,
-      record {
-        opened = records;
-        held = held-read honest;
-        jobs = script;
-        script = subst (λ n. IsWholeScript n left left_new script) (counted ∙ opens.recovers.accounts.count) whole;
-        first_is = opens.recovers.next_txn;
-        count_is = count_is;
-        past = past;
-      },
-    )
+  -- the input gives no transfers that have numbers
+  pub answers-transfers : Reads g old mid → g.honest old → (workers : ℕ) (left left_new text : Option (List ℕ)) (detail : Detail)
+      → HasNoTransfers (length opened.accounts.rows) opened.next_txn left left_new detail
+      → AnswersRun g workers (outside old left text) (outside mid left_new text) detail
+  answers-transfers reads honest workers left left_new text detail (inl none) =
+      answers-script g old mid reads left left_new text workers records detail (held-read honest)
+      (subst (λ n. HasNoScript n left left_new detail) opens.recovers.accounts.count none)
+  answers-transfers reads honest workers left left_new text detail (inr end) =
+      subst (AnswersRun g workers (outside old left text) (outside mid left_new text)) (sym end.detail_is) (
+        only-reads g old mid reads left left_new text,
+        record {
+          opened = records;
+          held = held-read honest;
+          jobs = end.jobs;
+          script = subst (λ n. IsWholeScript n left left_new end.jobs) opens.recovers.accounts.count end.script;
+          first_is = opens.recovers.next_txn;
+          count_is = refl;
+          past = end.past;
+        },
+      )
 
   module _ (options : RunOptions) (script : List Job) (prepared : Prepared) (is : IsPreparedFor options opened script prepared) where
-    pub asked-prepared : (accounts : ℕ) (left left_new : Option (List ℕ)) → accounts ≡ length opened.accounts.rows
-        → IsWholeScript accounts left left_new script → opened.next_txn + length script ≤ LAST_TXN
-        → AreAsked options.workers records left left_new prepared.jobs
-    asked-prepared accounts left left_new counted whole fits =
-        let same : accounts ≡ accounts_of records = counted ∙ opens.recovers.accounts.count in
+    pub asked-prepared : (left left_new : Option (List ℕ)) → IsWholeScript (length opened.accounts.rows) left left_new script
+        → opened.next_txn + length script ≤ LAST_TXN → AreAsked options.workers records left left_new prepared.jobs
+    asked-prepared left left_new whole fits =
+        let same : length opened.accounts.rows ≡ accounts_of records = opens.recovers.accounts.count in
         let first : prepared.jobs.first ≡ next_txn records = is.first ∙ opens.recovers.next_txn in
         record {
           script = subst (λ (jobs : List Job). IsWholeScript (accounts_of records) left left_new jobs) (sym is.script_is)

@@ -1,2 +1,3 @@
 pub mod RunAnswers
+pub mod RunFinished
 pub mod RunReady

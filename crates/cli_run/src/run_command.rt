@@ -1,19 +1,23 @@
-ghost use Rattle.std.specs.Prelude.{◌≡◌, ◌≤◌, ◌+◌, ◌<◌, ◌↔◌, ℕ, List, All, length, IfOk, IfErr, OnOk, IsErrOf};
+ghost use Rattle.std.specs.Prelude.{◌≡◌, ◌≤◌, ◌+◌, ◌↔◌, ℕ, List, All, length, IfOk, IfErr, IsErrOf};
 ghost use Rattle.command_line.specs.Ranges.{AreInRange};
 ghost use Rattle.log_disk.specs.Faults.{Rose};
 ghost use Rattle.log_record.specs.declared.limits.TheConstants.{LAST_TXN};
+ghost use Rattle.log_record.specs.declared.rec.Rec.{Rec};
 ghost use Rattle.log_recovery.specs.Recovery.{Recovers};
+ghost use Rattle.log_table.specs.Seats.{key_of};
 ghost use Rattle.lock_core.specs.Transfers.{IsAllowedJob};
 ghost use Rattle.cli_run.specs.RunAnswers.{AnswersRun, IsOfRun, RunStaysSilent, outside};
 ghost use Rattle.cli_run.specs.RunReady.{IsReadyFor, IsPreparedFor, HasNoRun, IsBeforeRun};
+ghost use Rattle.cli_run.specs.RunFinished.{HasFinished};
+ghost use Rattle.cli_threads.specs.Prepared.{IsPrepared};
+ghost use Rattle.cli_threads.specs.Transferred.{IsOpened};
 
 use cli_ending::conclude;
-use cli_shared::{Detail, open_log, read_script};
+use cli_shared::{Detail, open_log, read_transfers};
 use cli_threads::{Prepared, ReadyRun, prepare, run_transfers};
 use command_line::RunOptions;
 use commit_pipeline::Voice;
 use log_disk::{Gate, LogDisk, Sink, Source};
-use log_record::LAST_TXN;
 use log_recovery::Recovered;
 use log_table::Start;
 use lsn_space::Word;
@@ -49,11 +53,27 @@ pub fn run_command<R: Threads + Wait + Sync, D: LogDisk, S: Source, K: Sink, G: 
     ensures later { (S.faults script.old ≤ S.faults script.new) × (K.faults out.old ≤ K.faults out.new) }
     ensures later_disk { D.faults disk.old ≤ D.faults disk.new }
 {
-    let ReadyRun { prepared, tail } = match make_ready(rt, alloc, log, options, disk, script) {
-        Ok(ready) => ready,
-        Err(detail) => return detail,
-    };
-    let wait = options.wait;
+    match make_ready(rt, alloc, log, options, disk, script) {
+        Ok(ready) => finish(rt, ready, options.wait, disk, out, gate),
+        Err(detail) => detail,
+    }
+}
+
+/// Makes the transfers that are ready, tells each that is durable, and then answers the accounts.
+fn finish<R: Threads + Wait + Sync, D: LogDisk, K: Sink, G: Gate + Sync>(
+    rt: &R,
+    ready: ReadyRun,
+    wait: bool,
+    disk: &mut D,
+    out: &mut K,
+    gate: &G,
+) -> Detail
+    requires prepared { IsPrepared ready.prepared }
+    requires opened { (opened : List Rec) × IsOpened D.LogDisk disk.old ready.tail opened ready.prepared.jobs.first (key_of ready.prepared.table) }
+    ensures { (opened : List Rec) → IsOpened D.LogDisk disk.old ready.tail opened ready.prepared.jobs.first (key_of ready.prepared.table)
+        → HasFinished D.LogDisk K.Sink ready.prepared opened wait disk.old disk.new out.old out.new result }
+{
+    let ReadyRun { prepared, tail } = ready;
     let ended = run_transfers(rt, prepared, disk, tail, out, Voice::Lines, wait, gate);
     conclude(&ended, out)
 }
@@ -80,24 +100,12 @@ fn make_ready<R, D: LogDisk, S: Source>(
     ensures later_disk { D.faults disk.old ≤ D.faults disk.new }
 {
     let opened = open_log(alloc, log, disk)?;
-    let transfers = read_script(alloc, opened.accounts.count(), script)?;
-    check_numbers(opened.next_txn, transfers.count())?;
+    let transfers = read_transfers(alloc, &opened, script)?;
     let tail = opened.tail;
     let prepared = prepare_run(rt, alloc, opened, transfers, options)?;
     match settle(disk, tail.at, tail.next) {
         Ok(tail) => Ok(ReadyRun { prepared, tail }),
         Err(_) => Err(Detail::Disk),
-    }
-}
-
-/// Whether so many transfers have numbers, from the first on, and one is left for what comes after.
-fn check_numbers(first: u64, count: u64) -> Result<(), Detail>
-    ensures fit { OnOk result (first + count ≤ LAST_TXN) }
-    ensures past { IfErr result (λ detail. (detail ≡ Detail.TxnEnd first count) × (LAST_TXN < first + count)) }
-{
-    match first.checked_add(count) {
-        Some(end) if end <= LAST_TXN as u64 => Ok(()),
-        _ => Err(Detail::TxnEnd { first, count }),
     }
 }
 

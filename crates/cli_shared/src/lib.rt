@@ -15,4 +15,4 @@ pub use finding::finds_none;
 pub use input::{ReadFault, read_all};
 pub use opening::open_log;
 pub use report::{Detail, Report, detail_of};
-pub use script_input::read_script;
+pub use script_input::{read_script, read_transfers};

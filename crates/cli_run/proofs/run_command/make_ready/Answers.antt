@@ -1,8 +1,7 @@
-use Rattle.std.proofs.Common.{rules, ◌≡◌, ◌∙◌, All, inl, subst}
+use Rattle.std.proofs.Common.{rules, ◌≡◌, inl}
 use Rattle.std.proofs.lemmas.Result.{err_from_is_err_and}
 use Rattle.log_record.specs.LogList.{units_of}
-use Rattle.lock_core.specs.Transfers.{IsAllowedJob}
-use Rattle.cli_run.proofs.ReadyLemmas.{Reads, answers-numbers, answers-opening, answers-script, held-read, leaves-settled, count-settled, settles, asked-prepared, opened-prepared}
+use Rattle.cli_run.proofs.ReadyLemmas.{Reads, answers-opening, answers-transfers, held-read, leaves-settled, count-settled, settles, asked-prepared, opened-prepared}
 use Rattle.cli_run.proofs.run_command.make_ready.Goals as goal
 
 pub returns-in_err-opened-clause-none : goal.returns-in_err-opened-clause-none
@@ -18,24 +17,9 @@ returns-in_err-transfers-clause-none g c = λ honest.
     let said = c.in_ok-opened.ensures in
     let failed = err_from_is_err_and c.from_residual-in_err-transfers.result c.from_residual-in_err-transfers.ensures.1 in
     let same : failed.0 ≡ c.in_err-transfers.field-0.0 = search rules in
-    let counted = c.count.ensures ∙ said.opened.recovers.accounts.count in
-    rw (failed.1, same) (λ text. answers-script g.D.LogDisk c.args.disk.now c.open_log.new.disk
-    (said.reads honest, said.moments, said.count honest) _ _ text c.args.options.now.workers _ c.in_err-transfers.field-0.0
-    (held-read g.D.LogDisk _ _ _ said.opened honest) (rw counted at c.in_err-transfers.ensures.err))
-
-pub returns-in_err-check_numbers-clause-none : goal.returns-in_err-check_numbers-clause-none
-returns-in_err-check_numbers-clause-none g c = λ honest.
-    let said = c.in_ok-opened.ensures in
-    let failed = err_from_is_err_and c.from_residual-in_err-check_numbers.result c.from_residual-in_err-check_numbers.ensures.1 in
-    let past = c.in_err-check_numbers.ensures.past in
-    let same : failed.0 ≡ c.in_err-check_numbers.field-0.0 = search rules in
-    rw (failed.1, same, past.0) (λ text. answers-numbers g.D.LogDisk c.args.disk.now c.open_log.new.disk _ said.opened c.in_ok-transfers.transfers
-    (said.reads honest, said.moments, said.count honest) honest c.args.options.now.workers _ _ _ _ text c.count.ensures
-    c.in_ok-transfers.ensures.ok c.count-2.ensures past.1)
-
-pub prepare_run-requires-clause-allowed : goal.prepare_run-requires-clause-allowed
-prepare_run-requires-clause-allowed g c =
-    subst (λ n. All (IsAllowedJob n) c.in_ok-transfers.transfers) c.count.ensures c.in_ok-transfers.ensures.ok.2.each
+    rw (failed.1, same) (λ text. answers-transfers g.D.LogDisk c.args.disk.now c.open_log.new.disk _ said.opened
+    (said.reads honest, said.moments, said.count honest) honest c.args.options.now.workers _ _ text c.in_err-transfers.field-0.0
+    c.in_err-transfers.ensures.err)
 
 pub returns-in-Ok-clause-ready : goal.returns-in-Ok-clause-ready
 returns-in-Ok-clause-ready g c =
@@ -53,8 +37,8 @@ returns-in-Ok-clause-ready g c =
       log = opened-prepared g.D.LogDisk _ _ _ opens _ _ prepared c.in_ok-prepared.ensures.prepared c.settle.new.disk c.in-Ok.tail
           settled.tail (λ honest. settled.stand (said.honest.0 honest) units (opens.stand honest)) (λ honest. settled.shut (said.honest.0 honest))
           (λ honest. said.honest.1 (settled.honest.1 honest));
-      asked = asked-prepared g.D.LogDisk _ _ _ opens _ _ prepared c.in_ok-prepared.ensures.prepared _ _ _ c.count.ensures
-          c.in_ok-transfers.ensures.ok (search rules);
+      asked = asked-prepared g.D.LogDisk _ _ _ opens _ _ prepared c.in_ok-prepared.ensures.prepared _ _ c.in_ok-transfers.ensures.ok
+          c.in_ok-transfers.ensures.fit;
       prepared = c.in_ok-prepared.ensures.prepared.ready;
       images = λ honest. leaves-settled g.D.LogDisk _ _ _ opens c.settle.new.disk (reads honest) (stood honest) (settled.count (said.honest.0 honest));
       count = λ honest. count-settled g.D.LogDisk _ _ _ opens c.settle.new.disk (reads honest) (stood honest) (settled.count (said.honest.0 honest));

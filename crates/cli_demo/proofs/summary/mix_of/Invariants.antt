@@ -1,9 +1,0 @@
-use Rattle.std.proofs.Common.{◌≡◌, ◌≤◌, ◌*◌}
-use Rattle.cli_demo.specs.Summary.{balance_in, mix_below}
-use Rattle.cli_demo.proofs.summary.mix_of.Given as goal
-
-abbrev pub invariant-loop-account : goal.invariant-loop-account
-invariant-loop-account l = record {
-  mix : l.mix ≡ mix_below l.account (balance_in l.accounts.rows);
-  small : l.mix ≤ l.account * (4096 * 4294967295);
-}

@@ -1,0 +1,33 @@
+ghost use Rattle.std.specs.Prelude.{◌≡◌, ◌≤◌, length, None};
+ghost use Rattle.log_disk.specs.Faults.{Rose};
+ghost use Rattle.log_record.specs.declared.limits.TheConstants.{MOST_ACCOUNTS};
+ghost use Rattle.cli_ending.specs.Ending.{Concludes, NoneStopped, counted_text};
+
+use crate::conclusion::{Ended, stopped};
+use cli_shared::Detail;
+use log_disk::Sink;
+use run_summary::{Counts, put_summary};
+
+/// What the program answers once so many transfers, which were counted and not told, have ended. Where nothing befell them it writes their
+/// summary.
+pub fn conclude_counted<K: Sink>(ended: &Ended, transfers: u32, out: &mut K) -> Detail
+    requires stopped { ended.now.fault ≡ None → NoneStopped ended.now.ends.items }
+    requires few { length ended.now.closed.accounts.rows ≤ MOST_ACCOUNTS }
+    ensures concludes { Concludes K.Sink ended.now (counted_text transfers ended.now) out.old out.new result }
+    ensures write { result ≡ Detail.Write → ended.now.fault ≡ None → Rose (K.faults out.old) (K.faults out.new) }
+    ensures later { K.faults out.old ≤ K.faults out.new }
+{
+    if let Some(detail) = stopped(ended) {
+        return detail;
+    }
+    let counts = Counts {
+        transfers: transfers as u64,
+        done: ended.done as u64,
+        refused: ended.refused as u64,
+        lsn: ended.closed.lsn(),
+    };
+    match put_summary(counts, ended.closed.accounts(), out) {
+        Ok(()) => Detail::Fine,
+        Err(_) => Detail::Write,
+    }
+}

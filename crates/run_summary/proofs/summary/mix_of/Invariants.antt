@@ -1,0 +1,9 @@
+use Rattle.std.proofs.Common.{◌≡◌, ◌≤◌, ◌*◌}
+use Rattle.run_summary.specs.Summary.{balance_in, mix_below}
+use Rattle.run_summary.proofs.summary.mix_of.Given as goal
+
+abbrev pub invariant-loop-account : goal.invariant-loop-account
+invariant-loop-account l = record {
+  mix : l.mix ≡ mix_below l.account (balance_in l.accounts.rows);
+  small : l.mix ≤ l.account * (4096 * 4294967295);
+}
