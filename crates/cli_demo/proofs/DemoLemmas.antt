@@ -29,7 +29,7 @@ use Rattle.segment_file.specs.declared.scan_result.Tail.{Tail}
 use Rattle.commit_pipeline.specs.declared.daemon.DaemonFault.TheVariants.{WriteFault}
 use Rattle.commit_pipeline.specs.declared.voice.Voice.{Voice}
 use Rattle.commit_pipeline.specs.declared.voice.Voice.TheVariants.{Count, Lines}
-use Rattle.txn_runner.specs.declared.jobs.Jobs.{Jobs}
+use Rattle.txn_jobs.specs.declared.jobs.Jobs.{Jobs}
 use Rattle.txn_script.specs.Generator.{generated_transfers}
 use Rattle.lock_core.specs.Transfers.{transfer_of}
 use Rattle.cli_shared.specs.declared.report.Detail.{Detail}

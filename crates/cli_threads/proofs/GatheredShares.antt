@@ -19,11 +19,11 @@ use Rattle.log_table.specs.Log.{IsFull, IsSpelled}
 use Rattle.log_table.specs.Sound.{HasReadStop}
 use Rattle.log_table.specs.CrewViews.{takes_in}
 use Rattle.commit_pipeline.proofs.ToldLemmas.{size_of-some}
-use Rattle.txn_runner.specs.declared.cause.Cause.{Cause}
-use Rattle.txn_runner.specs.declared.cause.Cause.TheVariants.{Stop, LogEnd}
-use Rattle.txn_runner.specs.declared.cause.Worked.{Worked}
-use Rattle.txn_runner.specs.declared.cause.Worked.TheVariants.{All, Cut}
-use Rattle.txn_runner.specs.declared.jobs.Jobs.{Jobs}
+use Rattle.txn_jobs.specs.declared.cause.Cause.{Cause}
+use Rattle.txn_jobs.specs.declared.cause.Cause.TheVariants.{Stop, LogEnd}
+use Rattle.txn_jobs.specs.declared.cause.Worked.{Worked}
+use Rattle.txn_jobs.specs.declared.cause.Worked.TheVariants.{All, Cut}
+use Rattle.txn_jobs.specs.declared.jobs.Jobs.{Jobs}
 use Rattle.txn_runner.specs.Running.{account_given, IsUncommittedAt}
 use Rattle.txn_runner.specs.Stripes.{number_at, job_at, IsOfStripe, stripe_jobs}
 use Rattle.txn_runner.specs.Working.{EndsLog, HasEnd, HaveEnded, IsCutBy, LieInTurn, Works}

@@ -5,8 +5,8 @@ use Rattle.log_table.specs.declared.view.Role.TheVariants.{Ended}
 use Rattle.log_table.specs.Books.{no_books}
 use Rattle.log_table.specs.Seats.{IsOf, view_of}
 use Rattle.ring_buffer.specs.Calls.{IsReady}
-use Rattle.txn_runner.specs.declared.cause.Worked.{Worked}
-use Rattle.txn_runner.specs.declared.jobs.Jobs.{Jobs}
+use Rattle.txn_jobs.specs.declared.cause.Worked.{Worked}
+use Rattle.txn_jobs.specs.declared.jobs.Jobs.{Jobs}
 use Rattle.txn_runner.specs.Stripes.{stripe_jobs}
 use Rattle.txn_runner.specs.Working.{HasWorked, HasRoomForRows, Works, rows_in, taken_in}
 use Rattle.cli_threads.specs.declared.serving.Started.{Started}

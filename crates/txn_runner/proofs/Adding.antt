@@ -11,8 +11,8 @@ use Rattle.log_table.specs.declared.view.Entry.{Entry}
 use Rattle.log_table.specs.Closing.{records_of}
 use Rattle.log_table.specs.Seats.{view_of}
 use Rattle.ring_buffer.specs.Calls.{HasEntries}
-use Rattle.txn_runner.specs.declared.cause.Cause.{Cause}
-use Rattle.txn_runner.specs.declared.cause.Cause.TheVariants.{Stop, LogEnd}
+use Rattle.txn_jobs.specs.declared.cause.Cause.{Cause}
+use Rattle.txn_jobs.specs.declared.cause.Cause.TheVariants.{Stop, LogEnd}
 use Rattle.txn_runner.specs.Inserts.{placed_behind, placing_all, Adds, IsLeft, StopsFor, IsCutOff}
 use Rattle.txn_runner.specs.Running.{LieInOrder}
 use Rattle.ring_buffer.proofs.TwoCalls.{HasEntries-trans}

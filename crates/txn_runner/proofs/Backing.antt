@@ -11,8 +11,8 @@ use Rattle.lock_core.specs.Sums.{moved}
 use Rattle.lock_core.specs.Transactions.{recs_of, changes_in, has_commit, touches}
 use Rattle.log_table.specs.declared.view.Books.{Books}
 use Rattle.log_table.specs.Books.{IsNote}
-use Rattle.txn_runner.specs.declared.giving.Release.TheVariants.{Unchanged}
-use Rattle.txn_runner.specs.declared.holding.Holding.{Holding}
+use Rattle.txn_parts.specs.declared.release.Release.TheVariants.{Unchanged}
+use Rattle.txn_parts.specs.declared.holding.Holding.{Holding}
 use Rattle.txn_runner.specs.Holdings.{GoesBack}
 
 note-uncommitted : (rec : Rec) → IsNote rec → commits rec ≡ false

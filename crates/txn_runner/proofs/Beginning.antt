@@ -18,8 +18,8 @@ use Rattle.log_table.specs.Closing.{records_of}
 use Rattle.log_table.specs.Seats.{view_of}
 use Rattle.log_table.proofs.Nexting.{note-next}
 use Rattle.ring_buffer.specs.Calls.{HasEntries, entry_of}
-use Rattle.txn_runner.specs.declared.cause.Cause.{Cause}
-use Rattle.txn_runner.specs.declared.holding.Holding.{Holding}
+use Rattle.txn_jobs.specs.declared.cause.Cause.{Cause}
+use Rattle.txn_parts.specs.declared.holding.Holding.{Holding}
 use Rattle.txn_runner.specs.Holdings.{IsUnchanged}
 use Rattle.txn_runner.specs.Inserts.{Puts, placing_all, IsLeft, StopsFor, IsCutOff}
 use Rattle.txn_runner.specs.Legs.{changes_by, HoldsJob, AddsRecords, StandsBefore, TouchesLeg}

@@ -22,13 +22,13 @@ use Rattle.lock_core.specs.Transfers.{transfer_of}
 use Rattle.log_table.specs.Closing.{records_of}
 use Rattle.log_table.specs.Seats.{Becomes, view_of}
 use Rattle.ring_buffer.specs.Calls.{entry_of}
-use Rattle.txn_runner.specs.declared.cause.Cause.{Cause}
-use Rattle.txn_runner.specs.declared.cause.Cause.TheVariants.{Stop, LogEnd}
-use Rattle.txn_runner.specs.declared.holding.Holding.{Holding}
-use Rattle.txn_runner.specs.declared.rows.Answer.{Answer}
-use Rattle.txn_runner.specs.declared.rows.Answer.TheVariants as answer
-use Rattle.txn_runner.specs.declared.transfer.Ended.{Ended}
-use Rattle.txn_runner.specs.Accounts.{HasAccountsOf, IsAccountOf}
+use Rattle.txn_jobs.specs.declared.cause.Cause.{Cause}
+use Rattle.txn_jobs.specs.declared.cause.Cause.TheVariants.{Stop, LogEnd}
+use Rattle.txn_parts.specs.declared.holding.Holding.{Holding}
+use Rattle.txn_jobs.specs.declared.rows.Answer.{Answer}
+use Rattle.txn_jobs.specs.declared.rows.Answer.TheVariants as answer
+use Rattle.txn_parts.specs.declared.ended.Ended.{Ended}
+use Rattle.txn_jobs.specs.Accounts.{HasAccountsOf, IsAccountOf}
 use Rattle.txn_runner.specs.Endings.{EndsTransfer}
 use Rattle.txn_runner.specs.Holdings.{account_of, taken_of, IsKnown, held_behind, given_behind, holding_all, AreDistinct, HoldsAll, TakesAll, with_held}
 use Rattle.txn_runner.specs.Inserts.{Adds, IsLeft, StopsFor}

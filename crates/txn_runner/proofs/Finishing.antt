@@ -16,11 +16,11 @@ use Rattle.log_table.specs.Books.{balance_taken, MayEnter}
 use Rattle.lock_core.specs.Transfers.{transfer_of}
 use Rattle.log_table.specs.Seats.{view_of}
 use Rattle.ring_buffer.specs.Calls.{entry_of}
-use Rattle.txn_runner.specs.declared.giving.Release.TheVariants.{Committed}
-use Rattle.txn_runner.specs.declared.holding.Holding.{Holding}
-use Rattle.txn_runner.specs.declared.rows.Answer.{Answer}
-use Rattle.txn_runner.specs.declared.rows.Answer.TheVariants.{Done, Short, Over}
-use Rattle.txn_runner.specs.declared.transfer.Ended.{Ended}
+use Rattle.txn_parts.specs.declared.release.Release.TheVariants.{Committed}
+use Rattle.txn_parts.specs.declared.holding.Holding.{Holding}
+use Rattle.txn_jobs.specs.declared.rows.Answer.{Answer}
+use Rattle.txn_jobs.specs.declared.rows.Answer.TheVariants.{Done, Short, Over}
+use Rattle.txn_parts.specs.declared.ended.Ended.{Ended}
 use Rattle.txn_runner.specs.Endings.{release_at, EndsTransfer}
 use Rattle.txn_runner.specs.Holdings.{GoesBack}
 use Rattle.txn_runner.specs.Inserts.{placing_all, Adds, Puts, IsLeft}

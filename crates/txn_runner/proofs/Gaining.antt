@@ -10,7 +10,7 @@ use Rattle.log_table.specs.declared.view.Held.{Held}
 use Rattle.log_table.specs.Books.{taking}
 use Rattle.log_table.specs.Seats.{view_of}
 use Rattle.ring_buffer.specs.Calls.{HasEntries}
-use Rattle.txn_runner.specs.declared.holding.Holding.{Holding}
+use Rattle.txn_parts.specs.declared.holding.Holding.{Holding}
 use Rattle.early_locks.specs.Locks.{held_of}
 use Rattle.txn_runner.specs.Holdings.{account_of, held_behind, holding_all, IsKnown, HoldsAll, TakesAll}
 use Rattle.txn_runner.proofs.Held.{distinct}

@@ -14,10 +14,10 @@ use Rattle.log_table.specs.Seats.{Becomes, view_of}
 use Rattle.log_table.specs.AccountViews.{gave_account}
 use Rattle.early_locks.specs.declared.taking.Taken.{Taken}
 use Rattle.early_locks.specs.Locks.{HoldsTaken, held_of, given_at}
-use Rattle.txn_runner.specs.declared.holding.Holding.{Holding}
+use Rattle.txn_parts.specs.declared.holding.Holding.{Holding}
 use Rattle.txn_runner.specs.Holdings.{account_of, taken_of, held_behind, given_behind, Lacks, AreDistinct, with_held, KeepsGiven}
 use Rattle.txn_runner.specs.Running.{account_given}
-use Rattle.txn_runner.proofs.Listing.{rising-below}
+use Rattle.txn_jobs.proofs.Listing.{rising-below}
 
 -- ascending accounts are distinct
 pub distinct : (holdings : List Holding) → IsStrictlyIncreasing (map account_of holdings) → AreDistinct holdings

@@ -7,9 +7,7 @@ pub mod Finishing
 pub mod Gaining
 pub mod GivenLemmas
 pub mod Held
-pub mod Listing
 pub mod Making
-pub mod Moving
 pub mod Passing
 pub mod PlanLemmas
 pub mod ProgressLemmas

@@ -10,8 +10,8 @@ use Rattle.log_table.specs.Books.{mark_taken, HoldsAccounts, MayEnter}
 use Rattle.log_table.specs.Seats.{view_of}
 use Rattle.ring_buffer.specs.Calls.{entry_of}
 use Rattle.early_locks.specs.Locks.{HoldsTaken}
-use Rattle.txn_runner.specs.declared.cause.Cause.{Cause}
-use Rattle.txn_runner.specs.declared.holding.Holding.{Holding}
+use Rattle.txn_jobs.specs.declared.cause.Cause.{Cause}
+use Rattle.txn_parts.specs.declared.holding.Holding.{Holding}
 use Rattle.txn_runner.specs.Inserts.{Puts, IsLeft, StopsFor, IsCutOff}
 use Rattle.txn_runner.specs.Legs.{MayMakeLeg, AddsRecords, leg_records}
 use Rattle.txn_runner.proofs.Adding.{adds-trans, left-behind, uncommitted-behind, cut-off}

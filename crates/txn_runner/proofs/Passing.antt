@@ -24,10 +24,10 @@ use Rattle.log_table.specs.Books.{times_held, balance_taken, mark_taken, HoldsLe
 use Rattle.lock_core.specs.Transfers.{transfer_of}
 use Rattle.log_table.specs.Closing.{records_of}
 use Rattle.log_table.proofs.Planning.{leg-sums}
-use Rattle.txn_runner.specs.declared.holding.Holding.{Holding}
-use Rattle.txn_runner.specs.declared.rows.Answer.{Answer}
-use Rattle.txn_runner.specs.declared.rows.Answer.TheVariants as answer
-use Rattle.txn_runner.specs.Accounts.{HasAccountsOf, IsAccountOf}
+use Rattle.txn_parts.specs.declared.holding.Holding.{Holding}
+use Rattle.txn_jobs.specs.declared.rows.Answer.{Answer}
+use Rattle.txn_jobs.specs.declared.rows.Answer.TheVariants as answer
+use Rattle.txn_jobs.specs.Accounts.{HasAccountsOf, IsAccountOf}
 use Rattle.txn_runner.specs.Holdings.{account_of, taken_of}
 use Rattle.txn_runner.specs.Inserts.{placing_all, IsLeft}
 use Rattle.txn_runner.specs.Legs.{AreHeld, HasBalance, IsRefused, CanMake, changes_by, HoldsJob, leg_records, MayMakeLeg, IsAfter, TouchesLeg, StandsBefore, HasChanged, ReachesEnd}

@@ -18,11 +18,11 @@ use Rattle.log_table.specs.Books.{balance_taken, taking_job}
 use Rattle.log_table.specs.Seats.{IsOf, Becomes, view_of}
 use Rattle.ring_buffer.specs.Calls.{IsReady, IsSameWorker, HasEntries}
 use Rattle.ring_buffer.proofs.TwoCalls.{IsSameWorker-trans}
-use Rattle.txn_runner.specs.declared.cause.Cause.{Cause}
-use Rattle.txn_runner.specs.declared.holding.Holding.{Holding}
-use Rattle.txn_runner.specs.declared.rows.Row.{Row}
-use Rattle.txn_runner.specs.declared.transfer.Ended.{Ended}
-use Rattle.txn_runner.specs.Accounts.{HasAccountsOf, IsAccountOf}
+use Rattle.txn_jobs.specs.declared.cause.Cause.{Cause}
+use Rattle.txn_parts.specs.declared.holding.Holding.{Holding}
+use Rattle.txn_jobs.specs.declared.rows.Row.{Row}
+use Rattle.txn_parts.specs.declared.ended.Ended.{Ended}
+use Rattle.txn_jobs.specs.Accounts.{HasAccountsOf, IsAccountOf}
 use Rattle.txn_runner.specs.Endings.{EndsTransfer}
 use Rattle.txn_runner.specs.Holdings.{taken_of, given_behind, with_held, HoldsAll, KeepsBooks, KeepsGiven, TakesAll}
 use Rattle.txn_runner.specs.Inserts.{Adds, HasAdded, IsCutOff, StopsFor}

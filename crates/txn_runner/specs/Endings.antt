@@ -11,22 +11,13 @@ use Rattle.log_table.specs.Books.{balance_taken}
 use Rattle.lock_core.specs.Transfers.{transfer_of}
 use Rattle.log_table.specs.Seats.{view_of}
 use Rattle.ring_buffer.specs.Calls.{entry_of}
-use Rattle.txn_runner.specs.declared.giving.Release.{Release}
-use Rattle.txn_runner.specs.declared.giving.Release.TheVariants.{Unchanged, Committed}
-use Rattle.txn_runner.specs.declared.holding.Holding.{Holding}
-use Rattle.txn_runner.specs.declared.rows.Answer.{Answer}
-use Rattle.txn_runner.specs.declared.rows.Answer.TheVariants.{Done, Short, Over}
-use Rattle.txn_runner.specs.declared.transfer.Ended.{Ended}
+use Rattle.txn_parts.specs.declared.holding.Holding.{Holding}
+use Rattle.txn_parts.specs.declared.ended.Ended.{Ended}
+pub use Rattle.txn_parts.specs.Holdings.{release_at}
 use Rattle.txn_runner.specs.Holdings.{GoesBack}
 use Rattle.txn_runner.specs.Inserts.{Adds, IsLeft}
 use Rattle.txn_runner.specs.Legs.{last_record}
 use Rattle.txn_runner.specs.Running.{outcome_of}
-
--- with which values the accounts go back where the end record ends there
-abbrev pub release_at : ℕ → Answer → Release
-release_at end Done = Committed end
-release_at end (Short leg) = Unchanged
-release_at end (Over leg) = Unchanged
 
 -- The seat inserted records of the transfer, its end record last, and none is left. The answer is the outcome of the transfer run alone on the
 -- balances as taken, and the holdings have the values with which they go back.

@@ -9,17 +9,10 @@ use Rattle.log_table.specs.declared.view.Held.{Held}
 use Rattle.log_table.specs.declared.view.View.{View}
 use Rattle.log_table.specs.Seats.{view_of}
 use Rattle.ring_buffer.specs.Calls.{IsSameWorker, HasEntries}
-use Rattle.early_locks.specs.declared.taking.Taken.{Taken}
 use Rattle.early_locks.specs.Locks.{GivesBack, held_of, given_at}
-use Rattle.txn_runner.specs.declared.giving.Release.{Release}
-use Rattle.txn_runner.specs.declared.giving.Release.TheVariants.{Unchanged, Committed}
-use Rattle.txn_runner.specs.declared.holding.Holding.{Holding}
-
-abbrev pub taken_of : Holding → Taken
-taken_of holding = holding.taken
-
-abbrev pub account_of : Holding → ℕ
-account_of holding = holding.taken.account
+use Rattle.txn_parts.specs.declared.holding.Holding.{Holding}
+use Rattle.txn_parts.specs.declared.release.Release.{Release}
+pub use Rattle.txn_parts.specs.Holdings.{taken_of, account_of, back_of}
 
 -- the account is one of so many
 abbrev pub IsKnown : ℕ → Holding → Type 0
@@ -57,11 +50,6 @@ pub record TakesAll (accounts : List ℕ) (holdings : List Holding) (old new : S
   pub accounts_are : map account_of holdings ≡ accounts
   pub unchanged : All IsUnchanged holdings
   pub entries : HasEntries old new (view_of old).entries (holding_all holdings (view_of old).books)
-
--- the balance and the last commit with which an account goes back
-abbrev pub back_of : Release → Holding → ℕ × ℕ
-back_of Unchanged holding = (holding.taken.balance, holding.taken.mark)
-back_of (Committed end) holding = (holding.balance, end)
 
 -- these are the values with which the account has to go back
 abbrev pub GoesBack : Release → Books → Holding → Type 0

@@ -12,10 +12,8 @@ use Rattle.log_table.specs.declared.view.View.{View}
 use Rattle.log_table.specs.Books.{plan_of}
 use Rattle.log_table.specs.Seats.{view_of}
 use Rattle.ring_buffer.specs.Calls.{HasEntries, entry_of}
-use Rattle.ring_buffer.specs.declared.refused.Refused.{Refused}
-use Rattle.ring_buffer.specs.declared.refused.Refused.TheVariants as refusal
-use Rattle.txn_runner.specs.declared.cause.Cause.{Cause}
-use Rattle.txn_runner.specs.declared.cause.Cause.TheVariants.{Stop, LogEnd}
+use Rattle.txn_jobs.specs.declared.cause.Cause.{Cause}
+pub use Rattle.txn_parts.specs.Stops.{StopsFor, IsLogEnd}
 use Rattle.txn_runner.specs.Running.{LieInOrder}
 
 -- the entries behind those that were placed before, newest first
@@ -45,18 +43,6 @@ pub record Puts (rec : Rec) (end : ℕ) (old new : Seat) : Type 0 where
 -- these records of the seat's last job are left: with those in the log before them they are all
 abbrev pub IsLeft : List Rec → Books → Type 0
 IsLeft rest books = in_order (recs_of books.placed) rest ≡ plan_of books
-
--- the refusal says that the log is at its end, and so does the cause, with the same numbers
-abbrev pub IsLogEnd : Refused → Cause → Type 0
-IsLogEnd refused (Stop word) = ⊥
-IsLogEnd refused (LogEnd tail total) = refused ≡ refusal.LogEnd tail total
-
--- The log stopped; or the next of the records that are left doesn't fit in the log behind the tail that the seat saw last.
-abbrev pub StopsFor : Cause → List Rec → View → Type 0
-StopsFor (Stop word) rest view = (word ≢ 0) × (view.seen.stop ≡ word)
-StopsFor (LogEnd tail total) [] view = ⊥
-StopsFor (LogEnd tail total) (next ∷ rest) view =
-    (total ≡ size_of next) × (LAST < tail + total) × (tail ≡ view.seen.tail) × Contains view.seen.lsns tail
 
 -- the seat's last job has no Commit, and for that cause these records of it are left, one at least
 pub record IsCutOff (cause : Cause) (view : View) : Type 0 where

@@ -18,10 +18,11 @@ use Rattle.log_table.specs.Accounts.{MayBeTaken}
 use Rattle.log_table.specs.Books.{balance_taken, mark_taken, HoldsAccounts}
 use Rattle.lock_core.specs.Transfers.{transfer_of}
 use Rattle.log_table.specs.Closing.{records_of}
-use Rattle.txn_runner.specs.declared.holding.Holding.{Holding}
-use Rattle.txn_runner.specs.declared.rows.Answer.{Answer}
-use Rattle.txn_runner.specs.declared.rows.Answer.TheVariants.{Done, Short, Over}
-use Rattle.txn_runner.specs.Accounts.{HasAccountsOf, IsAccountOf}
+use Rattle.txn_parts.specs.declared.holding.Holding.{Holding}
+pub use Rattle.txn_parts.specs.Leg.{HasBalance, IsRefused, CanMake, CanBear, IsAfter}
+use Rattle.txn_jobs.specs.declared.rows.Answer.{Answer}
+use Rattle.txn_jobs.specs.declared.rows.Answer.TheVariants.{Done, Short, Over}
+use Rattle.txn_jobs.specs.Accounts.{HasAccountsOf, IsAccountOf}
 use Rattle.txn_runner.specs.Holdings.{account_of}
 use Rattle.txn_runner.specs.Inserts.{Adds, IsLeft}
 use Rattle.txn_runner.specs.Running.{outcome_of}
@@ -29,25 +30,6 @@ use Rattle.txn_runner.specs.Running.{outcome_of}
 -- these accounts are held with these values
 abbrev pub AreHeld : List Holding → Books → Type 0
 AreHeld holdings books = All (λ (holding : Holding). HoldsTaken holding.taken books) holdings
-
--- one of the holdings is of this account, and has such a balance
-pub record HasBalance (holdings : List Holding) (account : ℕ) (Such : ℕ → Type 0) : Type 0 where
-  pub holding : Holding
-  pub contains : Contains holdings holding
-  pub account_is : holding.taken.account ≡ account
-  pub balance : Such holding.balance
-
--- The leg at this place, from 1, can't be made: its payer has too little; or else its payee would have too much.
-abbrev pub IsRefused : List Holding → ℕ × ℕ × ℕ → ℕ → Answer → Type 0
-IsRefused holdings leg place Done = ⊥
-IsRefused holdings leg place (Short at) = (at ≡ place) × HasBalance holdings leg.0 (λ balance. balance < leg.2)
-IsRefused holdings leg place (Over at) = (at ≡ place) × HasBalance holdings leg.0 (λ balance. leg.2 ≤ balance)
-    × HasBalance holdings leg.1 (λ balance. MOST_BALANCE - leg.2 < balance)
-
--- the leg can be made: its payer has the amount, and its payee has room for it
-pub record CanMake (holdings : List Holding) (leg : ℕ × ℕ × ℕ) : Type 0 where
-  pub payer : HasBalance holdings leg.0 (λ balance. leg.2 ≤ balance)
-  pub payee : HasBalance holdings leg.1 (λ balance. balance ≤ MOST_BALANCE - leg.2)
 
 -- what the records of the seat's last job change so far
 abbrev pub changes_by : Books → List Change
@@ -82,16 +64,6 @@ pub record MayMakeLeg (accounts number : ℕ) (leg : ℕ × ℕ × ℕ) (holding
   pub uncommitted : has_commit (recs_of books.placed) ≡ false
   pub rest : List Rec
   pub left : IsLeft (leg_records number (mark_taken books.held) leg ++ rest) books
-
--- what a leg makes of a holding
-pub record IsAfter (leg : ℕ × ℕ × ℕ) (old new : Holding) : Type 0 where
-  pub taken : new.taken ≡ old.taken
-  pub balance : new.balance ≡ after_leg leg (λ account. old.balance) old.taken.account
-
--- an account that pays has enough, and one that receives has room
-pub record CanBear (leg : ℕ × ℕ × ℕ) (holding : Holding) : Type 0 where
-  pub pays : holding.taken.account ≡ leg.0 → leg.2 ≤ holding.balance
-  pub receives : holding.taken.account ≡ leg.1 → holding.balance + leg.2 ≤ MOST_BALANCE
 
 -- both accounts of the leg are changed
 abbrev pub TouchesLeg : List Change → ℕ × ℕ × ℕ → Type 0

@@ -1,4 +1,3 @@
-pub mod Accounts
 pub mod Endings
 pub mod Holdings
 pub mod Inserts

@@ -3,25 +3,18 @@ use Rattle.std.specs.Prelude.{◌≡◌, ◌≢◌, ℕ, ◌+◌, ◌<◌, ◌�
 use Rattle.lsn_space.specs.declared.lsn.TheConstants.{LAST}
 use Rattle.log_record.specs.declared.rec.Rec.{Rec}
 use Rattle.log_record.specs.LogList.{size_of}
-use Rattle.lock_core.specs.Alone.{Outcome, Done, ShortAt, OverAt, outcome_alone, end_record, planned_records}
+use Rattle.lock_core.specs.Alone.{outcome_alone, end_record, planned_records}
 use Rattle.lock_core.specs.declared.job.Job.{Job}
 use Rattle.log_table.specs.declared.view.Entry.{Entry}
 use Rattle.log_table.specs.declared.view.Given.{Given}
 use Rattle.log_table.specs.declared.view.View.{View}
 use Rattle.lock_core.specs.Transfers.{transfer_of}
 use Rattle.log_table.specs.Closing.{records_of}
-use Rattle.txn_runner.specs.declared.cause.Cause.{Cause}
-use Rattle.txn_runner.specs.declared.cause.Cause.TheVariants.{Stop, LogEnd}
-use Rattle.txn_runner.specs.declared.rows.Answer.{Answer}
-use Rattle.txn_runner.specs.declared.rows.Answer.TheVariants as answer
-use Rattle.txn_runner.specs.declared.rows.Row.{Row}
-use Rattle.txn_runner.specs.Accounts.{HasAccountsOf}
-
--- the outcome that an answer tells
-abbrev pub outcome_of : Answer → Outcome
-outcome_of answer.Done = Done
-outcome_of (answer.Short leg) = ShortAt leg
-outcome_of (answer.Over leg) = OverAt leg
+use Rattle.txn_jobs.specs.declared.cause.Cause.{Cause}
+use Rattle.txn_jobs.specs.declared.cause.Cause.TheVariants.{Stop, LogEnd}
+use Rattle.txn_jobs.specs.declared.rows.Row.{Row}
+pub use Rattle.txn_jobs.specs.Rows.{outcome_of}
+use Rattle.txn_jobs.specs.Accounts.{HasAccountsOf}
 
 -- the entries lie one behind another, from the one LSN up to the other
 abbrev pub LieInOrder : ℕ → ℕ → List Entry → Type 0

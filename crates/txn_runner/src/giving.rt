@@ -5,36 +5,13 @@ ghost use Rattle.log_table.specs.Seats.{IsOf, Becomes, view_of};
 ghost use Rattle.log_table.specs.AccountViews.{gave_account};
 ghost use Rattle.ring_buffer.specs.Calls.{IsReady};
 ghost use Rattle.early_locks.specs.Locks.{HoldsTaken, GivesBack, HasSeenDurable};
-ghost use Rattle.txn_runner.specs.Holdings.{HoldsAll, IsKnown, GoesBack, back_of, with_held};
+ghost use Rattle.txn_runner.specs.Holdings.{HoldsAll, IsKnown, GoesBack, with_held};
 
-use crate::accounts::MOST_PARTIES;
-use crate::holding::Holding;
 use arrayvec::ArrayVec;
 use early_locks::{Taken, give, give_durable};
 use log_table::{LogTable, Seat};
-use lsn_space::Lsn;
-
-/// With which values accounts go back.
-#[derive(Clone, Copy, Debug, PartialEq, Eq)]
-pub(crate) enum Release {
-    /// As they were taken.
-    Unchanged,
-    /// With their new balances. The transfer's Commit ends there.
-    Committed(Lsn),
-}
-
-impl Release {
-    /// The balance and the last commit with which this account goes back.
-    fn values(&self, holding: &Holding) -> (u32, u32)
-        ensures values { result ≡ back_of self.now holding.now }
-        ensures fits { result.0 ≤ MOST_BALANCE }
-    {
-        match *self {
-            Release::Unchanged => (holding.taken.balance, holding.taken.mark),
-            Release::Committed(end) => (holding.balance, end.units()),
-        }
-    }
-}
+use txn_jobs::MOST_PARTIES;
+use txn_parts::{Holding, Release};
 
 /// Gives the accounts back in the order in which they were taken. `durable`: the worker has seen that the end record of the
 /// transfer is on the disk.

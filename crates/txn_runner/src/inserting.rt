@@ -4,17 +4,16 @@ ghost use Rattle.log_record.specs.Spelling.{IsSpellable};
 ghost use Rattle.log_table.specs.Books.{MayEnter};
 ghost use Rattle.log_table.specs.Seats.{IsOf, view_of};
 ghost use Rattle.ring_buffer.specs.Calls.{IsReady, HasEntries};
-ghost use Rattle.txn_runner.specs.Inserts.{Puts, StopsFor, IsLogEnd};
+ghost use Rattle.txn_runner.specs.Inserts.{Puts, StopsFor};
 
-use crate::cause::Cause;
-use crate::relief::Relief;
-use crate::waiting::pause;
 use log_record::{Rec, Units, spell_into};
 use log_table::{LogTable, Seat};
 use lsn_space::Lsn;
-use ring_buffer::{Refused, insert_alone};
+use ring_buffer::insert_alone;
 use schedule_hook::Gate;
 use std::sync::Wait;
+use txn_jobs::Cause;
+use txn_parts::{Relief, may_come, pause};
 
 /// Inserts the record, which is the next of the seat's last job, and answers where it ends. While the ring is full it waits.
 pub(crate) fn insert_record<R: Wait, Q: Relief, G: Gate>(
@@ -47,14 +46,4 @@ pub(crate) fn insert_record<R: Wait, Q: Relief, G: Gate>(
         pause(table, seat, relief)?;
     }
     unreachable!()
-}
-
-/// Whether there may be room once more is on the disk. Err: there is no use in another attempt.
-fn may_come(refused: Refused) -> Result<(), Cause>
-    ensures { IfErr result (IsLogEnd refused) }
-{
-    match refused {
-        Refused::LogEnd { tail, total } => Err(Cause::LogEnd { tail, total }),
-        Refused::RingFull { .. } => Ok(()),
-    }
 }

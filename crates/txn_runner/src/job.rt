@@ -1,6 +1,5 @@
 //! One transfer, from its first account to its last.
 ghost use Rattle.std.specs.Prelude.{◌≡◌, ◌≤◌, [], Bool, true, IfOk, IfErr, OnErr};
-ghost use Rattle.lock_core.specs.Transfers.{IsAllowedJob};
 ghost use Rattle.log_table.specs.Books.{taking_job};
 ghost use Rattle.log_table.specs.May.{MayTakeJob};
 ghost use Rattle.log_table.specs.Seats.{IsOf, view_of};
@@ -10,20 +9,16 @@ ghost use Rattle.txn_runner.specs.Inserts.{StopsFor};
 ghost use Rattle.txn_runner.specs.Running.{HasRun, HasCut};
 ghost use Rattle.txn_runner.specs.Stages.{MayMakeTransfer, TakesTransfer, MayEndTransfer, GivesAll, LetsGo, HasRunTaken, HasCutTaken};
 
-use crate::accounts::{MOST_PARTIES, accounts_of};
-use crate::cause::Cause;
-use crate::giving::{Release, give_all};
-use crate::holding::Holding;
-use crate::relief::Relief;
-use crate::rows::Row;
+use crate::giving::give_all;
 use crate::taking::take_all;
-use crate::transfer::{Ended, insert_transfer};
-use crate::waiting::see_durable;
+use crate::transfer::insert_transfer;
 use arrayvec::ArrayVec;
 use lock_core::Job;
 use log_table::{LogTable, Seat};
 use schedule_hook::{Gate, Place};
 use std::sync::Wait;
+use txn_jobs::{Cause, MOST_PARTIES, Row, accounts_of};
+use txn_parts::{Ended, Holding, Release, Relief, see_durable};
 
 /// Makes the transfer under this transaction number, and answers its row.
 pub(crate) fn run_job<R: Wait, Q: Relief, G: Gate>(

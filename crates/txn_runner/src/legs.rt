@@ -1,26 +1,19 @@
 //! The legs of a transfer, one after another.
-ghost use Rattle.std.specs.Prelude.{◌≡◌, ◌≤◌, ◌<◌, pos, neg_ℤ, true, map, All, Contains, IfOk, IfErr, IfSome, IfNone, OnOk, OnErr};
-ghost use Rattle.std.specs.List.{AllZip};
+ghost use Rattle.std.specs.Prelude.{◌≡◌, ◌<◌, map, IfOk, IfErr, OnOk, OnErr};
 ghost use Rattle.log_table.specs.Seats.{IsOf, view_of};
 ghost use Rattle.ring_buffer.specs.Calls.{IsReady};
-ghost use Rattle.txn_runner.specs.Accounts.{HasAccountsOf};
-ghost use Rattle.txn_runner.specs.Holdings.{account_of, taken_of};
+ghost use Rattle.txn_runner.specs.Holdings.{taken_of};
 ghost use Rattle.txn_runner.specs.Inserts.{HasAdded, IsCutOff};
-ghost use Rattle.txn_runner.specs.Legs.{HoldsJob, IsRefused, CanMake, StandsBefore, ReachesEnd, MayMakeLeg, AddsRecords, leg_records, CanBear, IsAfter};
+ghost use Rattle.txn_runner.specs.Legs.{HoldsJob, StandsBefore, ReachesEnd, MayMakeLeg, AddsRecords, leg_records};
 ghost use Rattle.log_table.specs.Books.{mark_taken};
-ghost use Rattle.log_record.specs.declared.limits.TheConstants.{MOST_BALANCE};
 
-use crate::cause::Cause;
-use crate::holding::Holding;
 use crate::inserting::insert_record;
-use crate::relief::Relief;
-use crate::rows::Answer;
 use lock_core::Job;
-use log_record::{MOST_BALANCE, Rec};
 use log_table::{LogTable, Seat};
-use lsn_space::Lsn;
 use schedule_hook::Gate;
 use std::sync::Wait;
+use txn_jobs::{Answer, Cause};
+use txn_parts::{Holding, Relief, credit, debit, holding_of, move_amount, refusal};
 
 /// Makes the legs, each on the balances as those before it left them, up to the first that can't be made. Answers how the
 /// transfer ends.
@@ -58,22 +51,6 @@ pub(crate) fn make_legs<R: Wait, Q: Relief, G: Gate>(
     Ok(Answer::Done)
 }
 
-/// The answer that refuses the leg at this place, from 1, on the balances as they are now. None: it can be made.
-fn refusal(holdings: &[Holding], leg: (u32, u32, u32), place: u32) -> Option<Answer>
-    requires both { HasAccountsOf (map account_of holdings.now) leg }
-    requires amount { leg.2 ≤ MOST_BALANCE }
-    ensures refused { IfSome result (IsRefused holdings.now leg place) }
-    ensures fits { IfNone result (CanMake holdings.now leg) }
-{
-    if holding_of(holdings, leg.0).balance < leg.2 {
-        return Some(Answer::Short(place));
-    }
-    if holding_of(holdings, leg.1).balance > MOST_BALANCE - leg.2 {
-        return Some(Answer::Over(place));
-    }
-    None
-}
-
 /// Inserts the Updates of the leg's two accounts.
 fn make_leg<R: Wait, Q: Relief, G: Gate>(
     rt: &R,
@@ -101,66 +78,4 @@ fn make_leg<R: Wait, Q: Relief, G: Gate>(
     let more = credit(number, holding_of(holdings, payee), amount);
     insert_record(rt, table, seat, &more, relief, gate)?;
     Ok(())
-}
-
-/// The holding of this account.
-fn holding_of(holdings: &[Holding], account: u32) -> &Holding
-    requires { Contains (map account_of holdings.now) account }
-    ensures found { Contains holdings.now result.now }
-    ensures account { result.now.taken.account ≡ account }
-{
-    'holdings: for holding in holdings {
-        if holding.taken.account == account {
-            return holding;
-        }
-    }
-    unreachable!()
-}
-
-/// The Update of an account that pays.
-fn debit(number: u32, holding: &Holding, amount: u32) -> Rec
-    requires { amount ≤ MOST_BALANCE }
-    ensures { result ≡ Rec.Update number holding.now.taken.account (neg_ℤ (pos amount)) holding.now.taken.mark }
-{
-    Rec::Update {
-        txn: number,
-        account: holding.taken.account,
-        delta: -(amount as i32),
-        prev: Lsn::new(holding.taken.mark),
-    }
-}
-
-/// The Update of an account that receives.
-fn credit(number: u32, holding: &Holding, amount: u32) -> Rec
-    requires { amount ≤ MOST_BALANCE }
-    ensures { result ≡ Rec.Update number holding.now.taken.account (pos amount) holding.now.taken.mark }
-{
-    Rec::Update {
-        txn: number,
-        account: holding.taken.account,
-        delta: amount as i32,
-        prev: Lsn::new(holding.taken.mark),
-    }
-}
-
-/// Moves the leg's amount from the balance of its payer to that of its payee.
-fn move_amount(holdings: &mut [Holding], leg: (u32, u32, u32))
-    requires { All (CanBear leg) holdings.old }
-    ensures { AllZip (IsAfter leg) holdings.old holdings.new }
-{
-    'holdings: for holding in holdings.iter_mut() {
-        bear(holding, leg);
-    }
-}
-
-fn bear(holding: &mut Holding, leg: (u32, u32, u32))
-    requires { CanBear leg holding.old }
-    ensures { IsAfter leg holding.old holding.new }
-{
-    let (payer, payee, amount) = leg;
-    if holding.taken.account == payer {
-        holding.balance -= amount;
-    } else if holding.taken.account == payee {
-        holding.balance += amount;
-    }
 }

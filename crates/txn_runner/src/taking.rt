@@ -7,21 +7,18 @@ ghost use Rattle.log_table.specs.May.{HasBegunNothing};
 ghost use Rattle.log_table.specs.Seats.{IsOf, view_of};
 ghost use Rattle.ring_buffer.specs.Calls.{IsReady, HasEntries};
 ghost use Rattle.early_locks.specs.Locks.{held_of};
-ghost use Rattle.txn_runner.specs.declared.accounts.TheConstants.{MOST_PARTIES};
+ghost use Rattle.txn_jobs.specs.declared.accounts.TheConstants.{MOST_PARTIES};
 ghost use Rattle.txn_runner.specs.Holdings.{TakesAll, KeepsGiven, KeepsBooks};
 ghost use Rattle.txn_runner.specs.Inserts.{StopsFor};
 
-use crate::accounts::MOST_PARTIES;
-use crate::cause::Cause;
-use crate::giving::{Release, give_all};
-use crate::holding::Holding;
-use crate::relief::Relief;
-use crate::waiting::pause;
+use crate::giving::give_all;
 use arrayvec::ArrayVec;
 use early_locks::{Taken, try_take};
 use log_table::{LogTable, Seat};
 use schedule_hook::{Gate, Place};
 use std::sync::Wait;
+use txn_jobs::{Cause, MOST_PARTIES};
+use txn_parts::{Holding, Release, Relief, pause};
 
 /// Takes the accounts, which ascend, one after another, each once no other worker holds it. After an Err none is held.
 pub(crate) fn take_all<R: Wait, Q: Relief, G: Gate>(

@@ -8,42 +8,18 @@ ghost use Rattle.ring_buffer.specs.Calls.{IsReady};
 ghost use Rattle.txn_runner.specs.Holdings.{taken_of, IsUnchanged};
 ghost use Rattle.txn_runner.specs.Inserts.{HasAdded, IsCutOff};
 ghost use Rattle.txn_runner.specs.Legs.{HoldsJob, AddsRecords, last_record};
-ghost use Rattle.txn_runner.specs.Endings.{release_at, EndsTransfer};
+ghost use Rattle.txn_runner.specs.Endings.{EndsTransfer};
 
-use crate::accounts::MOST_PARTIES;
-use crate::cause::Cause;
-use crate::giving::Release;
-use crate::holding::Holding;
 use crate::inserting::insert_record;
 use crate::legs::make_legs;
-use crate::relief::Relief;
-use crate::rows::Answer;
 use arrayvec::ArrayVec;
 use lock_core::{Job, Remark};
 use log_record::{Rec, Text};
 use log_table::{LogTable, Seat};
-use lsn_space::Lsn;
 use schedule_hook::Gate;
 use std::sync::Wait;
-
-/// How a transfer ended, and where its end record does.
-#[derive(Clone, Copy, Debug)]
-pub(crate) struct Ended {
-    pub answer: Answer,
-    pub end: Lsn,
-}
-
-impl Ended {
-    /// With which values the accounts go back.
-    pub fn release(&self) -> Release
-        ensures { result ≡ release_at self.now.end self.now.answer }
-    {
-        match self.answer {
-            Answer::Done => Release::Committed(self.end),
-            Answer::Short(_) | Answer::Over(_) => Release::Unchanged,
-        }
-    }
-}
+use txn_jobs::{Answer, Cause, MOST_PARTIES};
+use txn_parts::{Ended, Holding, Relief};
 
 /// Inserts the records of the transfer, whose accounts are held: its Note, if it has one, two Updates for each leg that is
 /// made, and its end record.

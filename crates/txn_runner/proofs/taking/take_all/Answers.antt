@@ -7,7 +7,7 @@ use Rattle.std.proofs.lemmas.List.Elements.{All-take}
 use Rattle.txn_runner.proofs.Backing.{notes-uncommitted, all-unchanged}
 use Rattle.txn_runner.proofs.Gaining.{all-known, holds-all, takes-more}
 use Rattle.txn_runner.proofs.Held.{given-held}
-use Rattle.txn_runner.proofs.Listing.{rising-take}
+use Rattle.txn_jobs.proofs.Listing.{rising-take}
 use Rattle.txn_runner.proofs.GivenLemmas.{given-same, given-trans}
 use Rattle.txn_runner.proofs.taking.take_all.Goals as goal
 

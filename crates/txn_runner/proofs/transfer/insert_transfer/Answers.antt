@@ -2,7 +2,7 @@ use Rattle.std.proofs.Common.{◌++◌, [], length, map, ap, sym, subst, ◌∙�
 use Rattle.std.proofs.lemmas.Result.{err_from_is_err_and}
 use Rattle.arrayvec.proofs.ArrayVecLemmas.{items-with_items}
 use Rattle.log_table.specs.Seats.{view_of}
-use Rattle.txn_runner.specs.declared.transfer.Ended.{Ended}
+use Rattle.txn_parts.specs.declared.ended.Ended.{Ended}
 use Rattle.txn_runner.specs.Endings.{EndsTransfer}
 use Rattle.txn_runner.specs.Holdings.{taken_of}
 use Rattle.txn_runner.specs.Legs.{HoldsJob, StandsBefore}

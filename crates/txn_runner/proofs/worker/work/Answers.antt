@@ -37,22 +37,21 @@ run_job-requires-clause-may g c = MayTakeJob-next c.args.jobs.now c.args.seat.no
     c.stripe.invariant.none_held c.requires.allowed c.stripe.invariant.progress.worked
 
 pub take-requires : goal.take-requires
-take-requires g c = omega (
-  arith,
-  stripe-few c.args.jobs.now c.args.seat.now.worker (taken_in c.stripe.rows) (next-is g (goal.at.take-requires g c).In-Some).within,
-  c.args.jobs.now.numbered,
-)
-
-pub push-requires : goal.push-requires
-push-requires g c = record {
+take-requires g c = record {
+  few = omega (
+    arith,
+    stripe-few c.args.jobs.now c.args.seat.now.worker (taken_in c.stripe.rows) (next-is g (goal.at.take-requires g c).In-Some).within,
+    c.args.jobs.now.numbered,
+  );
   room = omega (
     arith,
     c.stripe.invariant.progress.room (taken_in c.stripe.rows + 1) (HasStripe-more c.args.jobs.now c.args.seat.now.worker
-        (taken_in c.stripe.rows) c.stripe.invariant.progress.worked.stripe (next-is g (goal.at.push-requires g c).In-Some).within),
-    ap (λ rows. length (rows_in rows)) c.take.ensures,
-    ap room_of c.take.ensures,
+        (taken_in c.stripe.rows) c.stripe.invariant.progress.worked.stripe (next-is g (goal.at.take-requires g c).In-Some).within),
   );
 }
+
+pub push-requires : goal.push-requires
+push-requires g c = record { room = c.take.ensures.room }
 
 pub stripe-preserved : goal.stripe-preserved
 stripe-preserved g c = record {
@@ -65,15 +64,15 @@ stripe-preserved g c = record {
       (next-is g (goal.at.stripe-preserved g c).In-Some)
       record { tail = c.stripe.invariant.same.grows; durable = c.stripe.invariant.same.durable }
       record { tail = c.in-Ok.ensures.same.grows; durable = c.in-Ok.ensures.same.durable } c.in-Ok.ensures.given
-      (c.push.ensures.room ∙ ap room_of c.take.ensures) (c.push.ensures.taken ∙ ap taken_in c.take.ensures) c.in-Ok.row c.in-Ok.ensures.run
-      (c.push.ensures.rows ∙ ap (λ rows. rows_in rows ++ c.in-Ok.row ∷ []) c.take.ensures);
+      (c.push.ensures.room ∙ ap room_of c.take.ensures.counted) (c.push.ensures.taken ∙ ap taken_in c.take.ensures.counted) c.in-Ok.row c.in-Ok.ensures.run
+      (c.push.ensures.rows ∙ ap (λ rows. rows_in rows ++ c.in-Ok.row ∷ []) c.take.ensures.counted);
   relief = c.in-Ok.ensures.relief;
   later = g.met.Q.Relief.later_trans c.args.relief.now c.stripe.relief c.run_job.new.relief c.stripe.invariant.later c.in-Ok.ensures.later;
 }
 
 pub stripe-smaller : goal.stripe-smaller
 stripe-smaller g c = stripe-nears c.args.jobs.now c.args.seat.now.worker (taken_in c.stripe.rows) (taken_in c.push.new.self)
-    (c.push.ensures.taken ∙ ap taken_in c.take.ensures)
+    (c.push.ensures.taken ∙ ap taken_in c.take.ensures.counted)
     (next-is g (goal.at.stripe-smaller g c).In-Some).within
 
 -- the transfer that was cut off
@@ -84,7 +83,7 @@ stopped g c = Progress-cut c.args.jobs.now c.args.seat.now.worker c.args.wait c.
     (next-is g (goal.at.returns-in-Err-clause-worked g c).In-Some)
     record { tail = c.stripe.invariant.same.grows; durable = c.stripe.invariant.same.durable }
     record { tail = c.in-Err.ensures.same.grows; durable = c.in-Err.ensures.same.durable } c.in-Err.ensures.given
-    (ap room_of c.take.ensures) (ap taken_in c.take.ensures) c.in-Err.cause c.in-Err.ensures.cut (ap rows_in c.take.ensures)
+    (ap room_of c.take.ensures.counted) (ap taken_in c.take.ensures.counted) c.in-Err.cause c.in-Err.ensures.cut (ap rows_in c.take.ensures.counted)
 
 pub returns-in-Err-clause-same : goal.returns-in-Err-clause-same
 returns-in-Err-clause-same g c = IsSameWorker-trans _ _ _ c.stripe.invariant.same c.in-Err.ensures.same
@@ -111,7 +110,7 @@ returns-in-Err-clause-rows g c = (Progress-cut c.args.jobs.now c.args.seat.now.w
     (next-is g (goal.at.returns-in-Err-clause-rows g c).In-Some)
     record { tail = c.stripe.invariant.same.grows; durable = c.stripe.invariant.same.durable }
     record { tail = c.in-Err.ensures.same.grows; durable = c.in-Err.ensures.same.durable } c.in-Err.ensures.given
-    (ap room_of c.take.ensures) (ap taken_in c.take.ensures) c.in-Err.cause c.in-Err.ensures.cut (ap rows_in c.take.ensures)).adds
+    (ap room_of c.take.ensures.counted) (ap taken_in c.take.ensures.counted) c.in-Err.cause c.in-Err.ensures.cut (ap rows_in c.take.ensures.counted)).adds
 
 pub returns-in-Err-clause-later : goal.returns-in-Err-clause-later
 returns-in-Err-clause-later g c = g.met.Q.Relief.later_trans _ _ _ c.stripe.invariant.later c.in-Err.ensures.later
