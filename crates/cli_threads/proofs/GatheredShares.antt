@@ -28,7 +28,7 @@ use Rattle.txn_runner.specs.Running.{account_given, IsUncommittedAt}
 use Rattle.txn_runner.specs.Stripes.{number_at, job_at, IsOfStripe, stripe_jobs}
 use Rattle.txn_runner.specs.Working.{EndsLog, HasEnd, HaveEnded, IsCutBy, LieInTurn, Works}
 use Rattle.txn_runner.proofs.EntryLemmas.{LieInOrder-ends}
-use Rattle.txn_runner.proofs.Held.{account-given}
+use Rattle.txn_making.proofs.Held.{account-given}
 use Rattle.txn_runner.proofs.WorkLemmas.{IsOwnEntry}
 use Rattle.cli_threads.specs.declared.workers.Worker.{Worker}
 use Rattle.cli_threads.specs.Gathering.{share_of, takes_all, view_in, worked_of}

@@ -28,7 +28,7 @@ pub struct Row {
 #[derive(Drop)]
 pub struct Rows {
     rows: Vec<Row>,
-    taken: u64,
+    pub(crate) taken: u64,
 }
 
 impl Rows {
@@ -50,19 +50,10 @@ impl Rows {
         self.rows.as_slice()
     }
 
-    /// How many transfers of its stripe the worker took.
-    pub fn taken(&self) -> u64
-        ensures { result ≡ taken_in self.now }
-    {
-        self.taken
-    }
-
-    /// Counts one more transfer as taken, for whose row there is room.
-    pub fn take(&mut self)
-        requires few { taken_in self.old < 2 ^ 32 }
-        requires room { length (rows_in self.old) < room_of self.old }
-        ensures counted { self.new ≡ record self.old { taken = taken_in self.old + 1 } }
-        ensures room { length (rows_in self.new) < room_of self.new }
+    /// Counts one more transfer as taken.
+    pub(crate) fn take(&mut self)
+        requires { taken_in self.old < 2 ^ 32 }
+        ensures { self.new ≡ record self.old { taken = taken_in self.old + 1 } }
     {
         self.taken += 1;
     }

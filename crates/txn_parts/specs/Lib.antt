@@ -1,3 +1,4 @@
 pub mod Holdings
 pub mod Leg
+pub mod Note
 pub mod Stops

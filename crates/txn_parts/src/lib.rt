@@ -5,6 +5,7 @@
 mod ended;
 mod holding;
 mod leg;
+mod noting;
 mod release;
 mod relief;
 mod waiting;
@@ -12,6 +13,7 @@ mod waiting;
 pub use ended::Ended;
 pub use holding::Holding;
 pub use leg::{credit, debit, holding_of, move_amount, refusal};
+pub use noting::note;
 pub use release::Release;
 pub use relief::{Relief, YieldRelief};
 pub use waiting::{may_come, pause, see_durable};

@@ -12,11 +12,7 @@ use std::sync::Wait;
 use txn_jobs::Cause;
 
 /// What a worker does between two attempts. Err: the log has stopped.
-pub fn pause<Q: Relief>(
-    table: &LogTable,
-    seat: &mut Seat,
-    relief: &mut Q,
-) -> Result<(), Cause>
+pub fn pause<Q: Relief>(table: &LogTable, seat: &mut Seat, relief: &mut Q) -> Result<(), Cause>
     requires seat { IsOf table.now seat.old }
     requires ready { IsReady (view_of seat.old) }
     requires relief { Q.ready relief.old }

@@ -10,12 +10,12 @@ use Rattle.txn_jobs.specs.declared.cause.Worked.TheVariants.{All, Cut}
 use Rattle.txn_jobs.specs.declared.jobs.Jobs.{Jobs}
 use Rattle.txn_jobs.specs.declared.rows.Row.{Row}
 use Rattle.txn_jobs.specs.declared.rows.Rows.{Rows}
-use Rattle.txn_runner.specs.Holdings.{KeepsGiven}
+use Rattle.txn_making.specs.Holdings.{KeepsGiven}
 use Rattle.txn_runner.specs.Running.{HasInserted, HasRun, HasCut}
 use Rattle.txn_runner.specs.Stripes.{number_at, job_at}
 use Rattle.txn_runner.specs.Working.{rows_in, room_of, taken_in, HasWorked, HasRoomForRows, KeepsEntries, TakesJobs, HaveEnded, Works, AddsRows}
 use Rattle.txn_runner.proofs.RowLemmas.{AddsRows-push, AddsRows-cut}
-use Rattle.txn_runner.proofs.GivenLemmas.{given-same, given-trans}
+use Rattle.txn_making.proofs.GivenLemmas.{given-same, given-trans}
 use Rattle.txn_runner.proofs.WorkLemmas.{IsNextJob, at-stripe, HasWorked-next, TakesJobs-next, HaveEnded-next, HaveEnded-still, IsCutBy-next}
 
 -- so far each transfer taken has its end record and its row

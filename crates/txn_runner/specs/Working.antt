@@ -19,13 +19,9 @@ use Rattle.txn_jobs.specs.declared.cause.Worked.TheVariants.{All, Cut}
 use Rattle.txn_jobs.specs.declared.jobs.Jobs.{Jobs}
 use Rattle.txn_jobs.specs.declared.rows.Row.{Row}
 use Rattle.txn_jobs.specs.declared.rows.Rows.{Rows}
-pub use Rattle.txn_jobs.specs.Rows.{rows_in, room_of, taken_in}
+pub use Rattle.txn_jobs.specs.Rows.{rows_in, room_of, taken_in, HasRoomForRows}
 use Rattle.txn_runner.specs.Running.{outcome_of, LieInOrder, GaveBack, IsUncommittedAt}
 use Rattle.txn_runner.specs.Stripes.{number_at, job_at, stripe_jobs, IsOfStripe, HasStripe, IsStripeEnd}
-
--- there is room for a row of each transfer of the stripe that is left
-abbrev pub HasRoomForRows : Jobs → ℕ → Rows → Type 0
-HasRoomForRows jobs worker rows = (k : ℕ) → HasStripe jobs worker k → length (rows_in rows) + k ≤ room_of rows + taken_in rows
 
 -- among the entries each of a transfer of the worker ends at or below the start of each of a later one in its stripe
 abbrev pub LieInTurn : Jobs → ℕ → List Entry → Type 0

@@ -4,20 +4,18 @@ ghost use Rattle.log_table.specs.Books.{taking_job};
 ghost use Rattle.log_table.specs.May.{MayTakeJob};
 ghost use Rattle.log_table.specs.Seats.{IsOf, view_of};
 ghost use Rattle.ring_buffer.specs.Calls.{IsReady, IsSameWorker, HasEntries};
-ghost use Rattle.txn_runner.specs.Holdings.{KeepsGiven};
-ghost use Rattle.txn_runner.specs.Inserts.{StopsFor};
+ghost use Rattle.txn_making.specs.Holdings.{KeepsGiven};
+ghost use Rattle.txn_making.specs.Inserts.{StopsFor};
 ghost use Rattle.txn_runner.specs.Running.{HasRun, HasCut};
 ghost use Rattle.txn_runner.specs.Stages.{MayMakeTransfer, TakesTransfer, MayEndTransfer, GivesAll, LetsGo, HasRunTaken, HasCutTaken};
 
-use crate::giving::give_all;
-use crate::taking::take_all;
-use crate::transfer::insert_transfer;
 use arrayvec::ArrayVec;
 use lock_core::Job;
 use log_table::{LogTable, Seat};
 use schedule_hook::{Gate, Place};
 use std::sync::Wait;
 use txn_jobs::{Cause, MOST_PARTIES, Row, accounts_of};
+use txn_making::{give_all, insert_transfer, take_all};
 use txn_parts::{Ended, Holding, Release, Relief, see_durable};
 
 /// Makes the transfer under this transaction number, and answers its row.

@@ -2,12 +2,7 @@
 //! accounts, inserts the records, and gives the accounts back once the end record has its place in the log.
 #![tactic(auto)]
 
-mod giving;
-mod inserting;
 mod job;
-mod legs;
-mod taking;
-mod transfer;
 mod worker;
 
 pub use txn_jobs::{Answer, Cause, Jobs, MOST_PARTIES, Row, Rows, Worked, accounts_of};

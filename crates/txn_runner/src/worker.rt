@@ -3,7 +3,7 @@ ghost use Rattle.std.specs.Prelude.{◌≡◌, ◌<◌, [], All};
 ghost use Rattle.lock_core.specs.Transfers.{IsAllowedJob};
 ghost use Rattle.log_table.specs.Seats.{IsOf, view_of};
 ghost use Rattle.ring_buffer.specs.Calls.{IsReady, IsSameWorker};
-ghost use Rattle.txn_runner.specs.Holdings.{KeepsGiven};
+ghost use Rattle.txn_making.specs.Holdings.{KeepsGiven};
 ghost use Rattle.txn_runner.specs.Working.{HasWorked, HasRoomForRows, KeepsEntries, TakesJobs, Works, taken_in, AddsRows};
 
 use crate::job::run_job;
@@ -50,8 +50,7 @@ pub fn work<R: Wait, Q: Relief, G: Gate>(
 {
     // One place for all of them, so that none is copied.
     let mut job = Job::new();
-    'stripe: while let Some(number) = jobs.fetch(seat.worker(), rows.taken(), &mut job) {
-        rows.take();
+    'stripe: while let Some(number) = jobs.take_next(seat.worker(), rows, &mut job) {
         match run_job(rt, table, seat, number, &job, relief, wait, gate) {
             Ok(row) => rows.push(row),
             Err(cause) => return Worked::Cut(cause),
