@@ -42,8 +42,8 @@ use Rattle.commit_pipeline.specs.EndLines.{done_line, end_lines}
 use Rattle.commit_pipeline.specs.Later.{Ran, HoldsFront}
 use Rattle.commit_pipeline.specs.Turning.{MayTurn}
 use Rattle.commit_pipeline.proofs.RanLemmas.{none≢some}
-use Rattle.txn_runner.specs.declared.cause.Worked.TheVariants.{All}
-use Rattle.txn_runner.specs.declared.jobs.Jobs.{Jobs}
+use Rattle.txn_jobs.specs.declared.cause.Worked.TheVariants.{All}
+use Rattle.txn_jobs.specs.declared.jobs.Jobs.{Jobs}
 use Rattle.aether_cli.specs.RunWitness.{payment, file_at, plain_disk, plain_sink, HasMadePayment}
 use Rattle.cli_threads.specs.Shares.{Share, HasShare, HasGathered}
 use Rattle.cli_threads.specs.Transferred.{IsOpened}

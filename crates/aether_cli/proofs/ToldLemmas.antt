@@ -15,7 +15,7 @@ use Rattle.log_recovery.specs.Recovery.{HoldsLawful}
 use Rattle.log_recovery.specs.Text.{lsn_line, account_line, accounts_text}
 use Rattle.log_recovery.proofs.ListingLemmas.{units_of-append}
 use Rattle.commit_pipeline.specs.EndLines.{done_line, short_line, over_line, end_line, end_lines}
-use Rattle.txn_runner.specs.declared.jobs.Jobs.{Jobs}
+use Rattle.txn_jobs.specs.declared.jobs.Jobs.{Jobs}
 use Rattle.cli_run.specs.RunAnswers.{Outside, HoldsTold, run_text}
 use Rattle.aether_cli.specs.Told.{HasLine, HasCommitAt}
 use Rattle.aether_cli.proofs.WholeLines.{HasLine-nil, HasLine-append, HasLine-first}

@@ -16,9 +16,9 @@ use Rattle.log_table.specs.declared.view.View.{View}
 use Rattle.log_table.specs.Closing.{records_of}
 use Rattle.commit_pipeline.specs.declared.daemon.Daemon.{Daemon}
 use Rattle.commit_pipeline.specs.EndLines.{done_line}
-use Rattle.txn_runner.specs.declared.cause.Cause.TheVariants.{LogEnd}
-use Rattle.txn_runner.specs.declared.cause.Worked.TheVariants.{Cut}
-use Rattle.txn_runner.specs.declared.jobs.Jobs.{Jobs}
+use Rattle.txn_jobs.specs.declared.cause.Cause.TheVariants.{LogEnd}
+use Rattle.txn_jobs.specs.declared.cause.Worked.TheVariants.{Cut}
+use Rattle.txn_jobs.specs.declared.jobs.Jobs.{Jobs}
 use Rattle.cli_threads.specs.Shares.{Share}
 use Rattle.cli_threads.specs.Transferred.{HasTransferred}
 

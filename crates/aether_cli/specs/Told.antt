@@ -5,7 +5,7 @@ use Rattle.log_record.specs.declared.rec.Rec.TheVariants.{Commit}
 use Rattle.log_record.specs.LogList.{end_of, size_of}
 use Rattle.lock_core.specs.Witness.{genesis_log, transfer_records}
 use Rattle.commit_pipeline.specs.EndLines.{done_line}
-use Rattle.txn_runner.specs.declared.jobs.Jobs.{Jobs}
+use Rattle.txn_jobs.specs.declared.jobs.Jobs.{Jobs}
 use Rattle.cli_run.specs.RunAnswers.{HoldsTold, outside}
 use Rattle.aether_cli.specs.RunWitness.{plain_disk, file_at}
 

@@ -20,7 +20,7 @@ use Rattle.lock_core.specs.declared.job.Job.{Job}
 use Rattle.txn_script.specs.Generator.{number_after, leg_from, job_from, generated_jobs, generated_transfers, OpensGenerated}
 use Rattle.lock_core.specs.Transfers.{transfer_of}
 use Rattle.txn_script.proofs.OrderLemmas.{room-generated}
-use Rattle.txn_runner.specs.declared.jobs.Jobs.{Jobs}
+use Rattle.txn_jobs.specs.declared.jobs.Jobs.{Jobs}
 use Rattle.txn_runner.specs.Stripes.{number_at, place_of, job_at}
 use Rattle.cli_threads.specs.RunStops.{HasNextOf, StopsAtLogEnd}
 

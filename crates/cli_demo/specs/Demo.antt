@@ -9,7 +9,7 @@ use Rattle.log_record.specs.declared.rec.Rec.{Rec}
 use Rattle.log_recovery.specs.Recovery.{HoldsLawful}
 use Rattle.log_table.specs.Seats.{key_of}
 use Rattle.segment_file.specs.File.{BeginsAsLog}
-use Rattle.txn_runner.specs.declared.jobs.Jobs.{Jobs}
+use Rattle.txn_jobs.specs.declared.jobs.Jobs.{Jobs}
 use Rattle.txn_script.specs.declared.generator.TheConstants.{GENERATED_ACCOUNTS}
 use Rattle.txn_script.specs.Generator.{generated_jobs}
 use Rattle.cli_shared.specs.declared.report.Detail.{Detail}

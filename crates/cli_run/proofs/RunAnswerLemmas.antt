@@ -13,7 +13,7 @@ use Rattle.log_record.specs.declared.rec.Rec.{Rec}
 use Rattle.log_record.specs.LogList.{end_of}
 use Rattle.log_recovery.specs.Text.{accounts_text, rows_text}
 use Rattle.log_recovery.proofs.TextLemmas.{AppendsPrefix-first, AppendsPrefix-behind}
-use Rattle.txn_runner.specs.declared.jobs.Jobs.{Jobs}
+use Rattle.txn_jobs.specs.declared.jobs.Jobs.{Jobs}
 use Rattle.commit_pipeline.specs.EndLines.{end_lines}
 use Rattle.end_lines.specs.declared.voice.Voice.TheVariants.{Lines}
 use Rattle.cli_shared.specs.declared.report.Detail.{Detail}

@@ -14,7 +14,7 @@ use Rattle.log_recovery.specs.declared.recovery.RecoverFault.TheVariants as faul
 use Rattle.log_recovery.specs.Recovery.{HoldsLawful, IsFaultOf}
 use Rattle.log_recovery.specs.Text.{accounts_text}
 use Rattle.commit_pipeline.specs.EndLines.{end_lines}
-use Rattle.txn_runner.specs.declared.jobs.Jobs.{Jobs}
+use Rattle.txn_jobs.specs.declared.jobs.Jobs.{Jobs}
 use Rattle.lock_core.specs.declared.job.Job.{Job}
 use Rattle.cli_shared.specs.declared.report.Detail.{Detail}
 use Rattle.cli_shared.specs.declared.report.Detail.TheVariants.{Fine, NoMemory, Usage, Script, Read, Write, Disk, NotALog, BadBatch, BadRec, Unlawful, LogEnd, TxnEnd, Exists}

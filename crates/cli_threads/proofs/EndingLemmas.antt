@@ -24,9 +24,9 @@ use Rattle.end_lines.specs.declared.voice.Voice.TheVariants.{Lines}
 use Rattle.commit_pipeline.specs.EndLines.{done_in, refused_in, text_of}
 use Rattle.commit_pipeline.specs.Later.{HasReason}
 use Rattle.commit_pipeline.proofs.RanLemmas.{none≢some}
-use Rattle.txn_runner.specs.declared.cause.Cause.TheVariants as cause
-use Rattle.txn_runner.specs.declared.cause.Worked.{Worked}
-use Rattle.txn_runner.specs.declared.cause.Worked.TheVariants as worked
+use Rattle.txn_jobs.specs.declared.cause.Cause.TheVariants as cause
+use Rattle.txn_jobs.specs.declared.cause.Worked.{Worked}
+use Rattle.txn_jobs.specs.declared.cause.Worked.TheVariants as worked
 use Rattle.cli_shared.specs.declared.report.Detail.{Detail}
 use Rattle.cli_shared.specs.declared.report.Detail.TheVariants.{Fine, NoMemory, Usage, Script, Read, Write, Disk, NotALog, BadBatch, BadRec, Unlawful, LogEnd, TxnEnd, Exists}
 use Rattle.cli_ending.specs.declared.conclusion.Ended.{Ended}

@@ -19,16 +19,16 @@ use Rattle.log_table.specs.Log.{IsFull, IsSpelled}
 use Rattle.log_table.specs.Sound.{HasReadStop}
 use Rattle.log_table.specs.CrewViews.{takes_in}
 use Rattle.commit_pipeline.proofs.ToldLemmas.{size_of-some}
-use Rattle.txn_runner.specs.declared.cause.Cause.{Cause}
-use Rattle.txn_runner.specs.declared.cause.Cause.TheVariants.{Stop, LogEnd}
-use Rattle.txn_runner.specs.declared.cause.Worked.{Worked}
-use Rattle.txn_runner.specs.declared.cause.Worked.TheVariants.{All, Cut}
-use Rattle.txn_runner.specs.declared.jobs.Jobs.{Jobs}
+use Rattle.txn_jobs.specs.declared.cause.Cause.{Cause}
+use Rattle.txn_jobs.specs.declared.cause.Cause.TheVariants.{Stop, LogEnd}
+use Rattle.txn_jobs.specs.declared.cause.Worked.{Worked}
+use Rattle.txn_jobs.specs.declared.cause.Worked.TheVariants.{All, Cut}
+use Rattle.txn_jobs.specs.declared.jobs.Jobs.{Jobs}
 use Rattle.txn_runner.specs.Running.{account_given, IsUncommittedAt}
 use Rattle.txn_runner.specs.Stripes.{number_at, job_at, IsOfStripe, stripe_jobs}
 use Rattle.txn_runner.specs.Working.{EndsLog, HasEnd, HaveEnded, IsCutBy, LieInTurn, Works}
 use Rattle.txn_runner.proofs.EntryLemmas.{LieInOrder-ends}
-use Rattle.txn_runner.proofs.Held.{account-given}
+use Rattle.txn_making.proofs.Held.{account-given}
 use Rattle.txn_runner.proofs.WorkLemmas.{IsOwnEntry}
 use Rattle.cli_workers.specs.declared.workers.Worker.{Worker}
 use Rattle.cli_threads.specs.Gathering.{share_of, takes_all, view_in, worked_of}

@@ -13,7 +13,7 @@ use Rattle.lock_core.specs.Alone.{PlainTransfer, with_note, leg_updates}
 use Rattle.lock_core.specs.Serial.{numbered, IsRunWhole, IsCutShort}
 use Rattle.lock_core.specs.Sums.{BaseState}
 use Rattle.segment_file.specs.declared.scan_result.Tail.{Tail}
-use Rattle.txn_runner.specs.declared.jobs.Jobs.{Jobs}
+use Rattle.txn_jobs.specs.declared.jobs.Jobs.{Jobs}
 use Rattle.cli_threads.specs.Run.{HoldsRun, GoesOn, transfers_of}
 use Rattle.cli_threads.specs.Transferred.{IsOpened}
 use Rattle.txn_runner.specs.Stripes.{number_at}

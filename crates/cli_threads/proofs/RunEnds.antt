@@ -28,10 +28,10 @@ use Rattle.log_table.specs.Books.{task_of}
 use Rattle.lock_core.specs.Transfers.{transfer_of}
 use Rattle.log_table.specs.Closing.{records_of, IsGathered}
 use Rattle.log_table.specs.Log.{IsEntryBoundary}
-use Rattle.txn_runner.specs.declared.cause.Cause.TheVariants.{Stop, LogEnd}
-use Rattle.txn_runner.specs.declared.cause.Worked.{Worked}
-use Rattle.txn_runner.specs.declared.cause.Worked.TheVariants.{All, Cut}
-use Rattle.txn_runner.specs.declared.jobs.Jobs.{Jobs}
+use Rattle.txn_jobs.specs.declared.cause.Cause.TheVariants.{Stop, LogEnd}
+use Rattle.txn_jobs.specs.declared.cause.Worked.{Worked}
+use Rattle.txn_jobs.specs.declared.cause.Worked.TheVariants.{All, Cut}
+use Rattle.txn_jobs.specs.declared.jobs.Jobs.{Jobs}
 use Rattle.txn_runner.specs.Stripes.{number_at, job_at, IsStripeEnd}
 use Rattle.txn_runner.specs.Working.{HasEnd, own_records}
 use Rattle.cli_threads.specs.RunStops.{IsOfScript, IsWholeStripe, IsCutStripe, HadBalance, HadBalances, HasNextOf, StopsAtLogEnd}

@@ -29,7 +29,7 @@ use Rattle.log_recovery.proofs.TextLemmas.{rows_text-shown}
 use Rattle.log_recovery.specs.Text.{rows_text, accounts_text}
 use Rattle.log_table.specs.declared.table.Start.{Start}
 use Rattle.log_table.specs.Sound.{base_of}
-use Rattle.txn_runner.specs.declared.jobs.Jobs.{Jobs}
+use Rattle.txn_jobs.specs.declared.jobs.Jobs.{Jobs}
 use Rattle.cli_threads.specs.Run.{transfers_of, ComeInTurn, GoesOn, RunsWhole}
 use Rattle.cli_threads.proofs.RunHistory.{later_of, history-later, later-append, end-opened, spellable-history}
 use Rattle.cli_threads.proofs.RunStripes.{tasks_of}

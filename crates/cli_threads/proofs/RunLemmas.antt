@@ -43,9 +43,9 @@ use Rattle.commit_pipeline.specs.Telling.{counted}
 use Rattle.commit_pipeline.specs.Turning.{IsSameDaemon, durable}
 use Rattle.commit_pipeline.proofs.RanLemmas.{Later-disk_fine, Later-same, Later-reason, none≢some}
 use Rattle.commit_pipeline.proofs.LineLemmas.{text_of-append}
-use Rattle.txn_runner.specs.declared.cause.Cause.TheVariants.{Stop, LogEnd}
-use Rattle.txn_runner.specs.declared.cause.Worked.TheVariants.{All, Cut}
-use Rattle.txn_runner.specs.declared.jobs.Jobs.{Jobs}
+use Rattle.txn_jobs.specs.declared.cause.Cause.TheVariants.{Stop, LogEnd}
+use Rattle.txn_jobs.specs.declared.cause.Worked.TheVariants.{All, Cut}
+use Rattle.txn_jobs.specs.declared.jobs.Jobs.{Jobs}
 use Rattle.cli_threads.specs.Run.{ComeInTurn, HoldsRun, IsLeft, RunKeepsLog, RunIsDrained, RunsWhole}
 use Rattle.cli_threads.specs.RunStops.{HadBalance, StopsAtLogEnd}
 use Rattle.cli_threads.specs.Shares.{Share, all_taken}

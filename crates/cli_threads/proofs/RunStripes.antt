@@ -13,7 +13,7 @@ use Rattle.log_table.specs.declared.view.TakenJob.{TakenJob}
 use Rattle.log_table.specs.Books.{task_of, times_taken}
 use Rattle.lock_core.specs.Transfers.{transfer_of}
 use Rattle.lock_core.specs.declared.job.Job.{Job}
-use Rattle.txn_runner.specs.declared.jobs.Jobs.{Jobs}
+use Rattle.txn_jobs.specs.declared.jobs.Jobs.{Jobs}
 use Rattle.txn_runner.specs.Stripes.{place_of, number_at, taken_at, stripe_jobs, HasStripe}
 use Rattle.cli_threads.specs.Shares.{Share, all_taken}
 

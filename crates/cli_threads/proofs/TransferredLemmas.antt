@@ -25,8 +25,8 @@ use Rattle.log_table.specs.CrewViews.{takes_in}
 use Rattle.end_lines.specs.declared.voice.Voice.{Voice}
 use Rattle.commit_pipeline.specs.Turning.{IsSameDaemon}
 use Rattle.commit_pipeline.proofs.RanLemmas.{Later-same}
-use Rattle.txn_runner.specs.declared.cause.Worked.{Worked}
-use Rattle.txn_runner.specs.declared.jobs.Jobs.{Jobs}
+use Rattle.txn_jobs.specs.declared.cause.Worked.{Worked}
+use Rattle.txn_jobs.specs.declared.jobs.Jobs.{Jobs}
 use Rattle.cli_threads.specs.declared.transfers.Served.{Served}
 use Rattle.cli_workers.specs.declared.workers.Worker.{Worker}
 use Rattle.cli_threads.specs.Gathering.{HasLeft, share_of, takes_all, view_in, worked_of}

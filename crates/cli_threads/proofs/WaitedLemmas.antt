@@ -11,11 +11,11 @@ use Rattle.log_table.specs.declared.view.Entry.{Entry}
 use Rattle.log_table.specs.declared.view.Given.{Given}
 use Rattle.log_table.specs.declared.view.View.{View}
 use Rattle.log_table.specs.CrewViews.{takes_in}
-use Rattle.txn_runner.specs.declared.cause.Worked.{Worked}
-use Rattle.txn_runner.specs.declared.cause.Worked.TheVariants.{All, Cut}
-use Rattle.txn_runner.specs.declared.jobs.Jobs.{Jobs}
-use Rattle.txn_runner.specs.declared.rows.Row.{Row}
-use Rattle.txn_runner.specs.declared.rows.Rows.{Rows}
+use Rattle.txn_jobs.specs.declared.cause.Worked.{Worked}
+use Rattle.txn_jobs.specs.declared.cause.Worked.TheVariants.{All, Cut}
+use Rattle.txn_jobs.specs.declared.jobs.Jobs.{Jobs}
+use Rattle.txn_jobs.specs.declared.rows.Row.{Row}
+use Rattle.txn_jobs.specs.declared.rows.Rows.{Rows}
 use Rattle.lock_core.specs.Transfers.{transfer_of}
 use Rattle.txn_runner.specs.Running.{outcome_of}
 use Rattle.txn_runner.specs.Stripes.{number_at, job_at}

@@ -12,7 +12,7 @@ use Rattle.log_table.specs.Sends.{IsDrained}
 use Rattle.commit_pipeline.specs.declared.daemon.Daemon.{Daemon}
 use Rattle.end_lines.specs.declared.voice.Voice.{Voice}
 use Rattle.commit_pipeline.specs.Later.{Later}
-use Rattle.txn_runner.specs.declared.jobs.Jobs.{Jobs}
+use Rattle.txn_jobs.specs.declared.jobs.Jobs.{Jobs}
 use Rattle.cli_threads.specs.declared.transfers.Crew.{Crew}
 use Rattle.cli_threads.specs.declared.room.Room.{Room}
 use Rattle.cli_threads.specs.declared.transfers.Prepared.{Prepared}

@@ -18,7 +18,7 @@ use Rattle.log_recovery.specs.Text.{accounts_text, rows_text}
 use Rattle.lock_core.specs.Transfers.{transfer_of}
 use Rattle.end_lines.specs.declared.voice.Voice.{Voice}
 use Rattle.commit_pipeline.specs.EndLines.{text_of}
-use Rattle.txn_runner.specs.declared.jobs.Jobs.{Jobs}
+use Rattle.txn_jobs.specs.declared.jobs.Jobs.{Jobs}
 use Rattle.txn_runner.specs.Stripes.{number_at}
 use Rattle.cli_threads.specs.RunStops.{EndsAs}
 

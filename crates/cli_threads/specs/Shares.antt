@@ -12,11 +12,11 @@ use Rattle.log_table.specs.declared.view.Given.{Given}
 use Rattle.log_table.specs.declared.view.TakenJob.{TakenJob}
 use Rattle.log_table.specs.declared.view.View.{View}
 use Rattle.lock_core.specs.Transfers.{transfer_of}
-use Rattle.txn_runner.specs.declared.cause.Cause.{Cause}
-use Rattle.txn_runner.specs.declared.cause.Cause.TheVariants.{Stop, LogEnd}
-use Rattle.txn_runner.specs.declared.cause.Worked.{Worked}
-use Rattle.txn_runner.specs.declared.cause.Worked.TheVariants.{All, Cut}
-use Rattle.txn_runner.specs.declared.jobs.Jobs.{Jobs}
+use Rattle.txn_jobs.specs.declared.cause.Cause.{Cause}
+use Rattle.txn_jobs.specs.declared.cause.Cause.TheVariants.{Stop, LogEnd}
+use Rattle.txn_jobs.specs.declared.cause.Worked.{Worked}
+use Rattle.txn_jobs.specs.declared.cause.Worked.TheVariants.{All, Cut}
+use Rattle.txn_jobs.specs.declared.jobs.Jobs.{Jobs}
 use Rattle.txn_runner.specs.Stripes.{number_at, job_at, stripe_jobs, HasStripe, IsStripeEnd}
 use Rattle.txn_runner.specs.Working.{LieInTurn, HaveEnded, own_records}
 

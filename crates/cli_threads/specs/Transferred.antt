@@ -21,7 +21,7 @@ use Rattle.log_table.specs.Views.{constants_of}
 use Rattle.flusher.specs.Flushing.{sent_of}
 use Rattle.commit_pipeline.specs.declared.daemon.Daemon.{Daemon}
 use Rattle.commit_pipeline.specs.Later.{Later}
-use Rattle.txn_runner.specs.declared.jobs.Jobs.{Jobs}
+use Rattle.txn_jobs.specs.declared.jobs.Jobs.{Jobs}
 use Rattle.cli_threads.specs.Shares.{Share, HasGathered}
 
 -- Each image stands at the tail with the opened list, which is lawful and has no transaction from the first number on. The table is made to

@@ -1,7 +1,7 @@
 -- The transfers of a worker.
 use Rattle.std.proofs.Common.{ℕ, zero, suc, ◌+◌, ◌/◌, ◌≤◌, length, arith}
 use Rattle.std.proofs.lemmas.Nat.{le-div}
-use Rattle.txn_runner.specs.declared.jobs.Jobs.{Jobs}
+use Rattle.txn_jobs.specs.declared.jobs.Jobs.{Jobs}
 use Rattle.txn_runner.specs.Stripes.{HasStripe}
 
 -- a worker has at most so many transfers

@@ -22,23 +22,23 @@ use Rattle.lock_core.specs.Transfers.{transfer_of}
 use Rattle.log_table.specs.Closing.{records_of}
 use Rattle.log_table.specs.Seats.{Becomes, view_of}
 use Rattle.ring_buffer.specs.Calls.{entry_of}
-use Rattle.txn_runner.specs.declared.cause.Cause.{Cause}
-use Rattle.txn_runner.specs.declared.cause.Cause.TheVariants.{Stop, LogEnd}
-use Rattle.txn_runner.specs.declared.holding.Holding.{Holding}
-use Rattle.txn_runner.specs.declared.rows.Answer.{Answer}
-use Rattle.txn_runner.specs.declared.rows.Answer.TheVariants as answer
-use Rattle.txn_runner.specs.declared.transfer.Ended.{Ended}
-use Rattle.txn_runner.specs.Accounts.{HasAccountsOf, IsAccountOf}
-use Rattle.txn_runner.specs.Endings.{EndsTransfer}
-use Rattle.txn_runner.specs.Holdings.{account_of, taken_of, IsKnown, held_behind, given_behind, holding_all, AreDistinct, HoldsAll, TakesAll, with_held}
-use Rattle.txn_runner.specs.Inserts.{Adds, IsLeft, StopsFor}
-use Rattle.txn_runner.specs.Legs.{AreHeld, HoldsJob, last_record}
+use Rattle.txn_jobs.specs.declared.cause.Cause.{Cause}
+use Rattle.txn_jobs.specs.declared.cause.Cause.TheVariants.{Stop, LogEnd}
+use Rattle.txn_parts.specs.declared.holding.Holding.{Holding}
+use Rattle.txn_jobs.specs.declared.rows.Answer.{Answer}
+use Rattle.txn_jobs.specs.declared.rows.Answer.TheVariants as answer
+use Rattle.txn_parts.specs.declared.ended.Ended.{Ended}
+use Rattle.txn_jobs.specs.Accounts.{HasAccountsOf, IsAccountOf}
+use Rattle.txn_making.specs.Endings.{EndsTransfer}
+use Rattle.txn_making.specs.Holdings.{account_of, taken_of, IsKnown, held_behind, given_behind, holding_all, AreDistinct, HoldsAll, TakesAll, with_held}
+use Rattle.txn_making.specs.Inserts.{Adds, IsLeft, StopsFor}
+use Rattle.txn_making.specs.Legs.{AreHeld, HoldsJob, last_record}
 use Rattle.txn_runner.specs.Running.{LieInOrder, GaveBack, HasInserted, IsUncommittedAt, HasRun, HasCut}
-use Rattle.txn_runner.proofs.Adding.{lie-longer, lie-sooner, placed-front}
-use Rattle.txn_runner.proofs.Gaining.{all-known}
+use Rattle.txn_making.proofs.Adding.{lie-longer, lie-sooner, placed-front}
+use Rattle.txn_making.proofs.Gaining.{all-known}
 use Rattle.txn_runner.proofs.PlanLemmas.{planned_records-some}
 use Rattle.txn_runner.specs.Stages.{HasTakenJob, MayMakeTransfer}
-use Rattle.txn_runner.proofs.Held.{distinct, still-distinct, given-all, given-each, given-front, same-accounts, all-same, taken-behind, taken-first}
+use Rattle.txn_making.proofs.Held.{distinct, still-distinct, given-all, given-each, given-front, same-accounts, all-same, taken-behind, taken-first}
 
 -- every account of a job that the table allows is one of the table's
 pub accounts-known : (accounts : ℕ) (legs : List (ℕ × ℕ × ℕ)) (list : List ℕ) → AllByRecursion (IsAllowedLeg accounts) legs

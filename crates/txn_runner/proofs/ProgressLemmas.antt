@@ -4,18 +4,18 @@ use Rattle.std.proofs.Common.{◌≡◌, ◌∙◌, ℕ, ◌+◌, ◌≤◌, Boo
 use Rattle.log_record.specs.declared.rec.Rec.{Rec}
 use Rattle.lock_core.specs.declared.job.Job.{Job}
 use Rattle.log_table.specs.declared.view.View.{View}
-use Rattle.txn_runner.specs.declared.cause.Cause.{Cause}
-use Rattle.txn_runner.specs.declared.cause.Cause.TheVariants.{Stop, LogEnd}
-use Rattle.txn_runner.specs.declared.cause.Worked.TheVariants.{All, Cut}
-use Rattle.txn_runner.specs.declared.jobs.Jobs.{Jobs}
-use Rattle.txn_runner.specs.declared.rows.Row.{Row}
-use Rattle.txn_runner.specs.declared.rows.Rows.{Rows}
-use Rattle.txn_runner.specs.Holdings.{KeepsGiven}
+use Rattle.txn_jobs.specs.declared.cause.Cause.{Cause}
+use Rattle.txn_jobs.specs.declared.cause.Cause.TheVariants.{Stop, LogEnd}
+use Rattle.txn_jobs.specs.declared.cause.Worked.TheVariants.{All, Cut}
+use Rattle.txn_jobs.specs.declared.jobs.Jobs.{Jobs}
+use Rattle.txn_jobs.specs.declared.rows.Row.{Row}
+use Rattle.txn_jobs.specs.declared.rows.Rows.{Rows}
+use Rattle.txn_making.specs.Holdings.{KeepsGiven}
 use Rattle.txn_runner.specs.Running.{HasInserted, HasRun, HasCut}
 use Rattle.txn_runner.specs.Stripes.{number_at, job_at}
 use Rattle.txn_runner.specs.Working.{rows_in, room_of, taken_in, HasWorked, HasRoomForRows, KeepsEntries, TakesJobs, HaveEnded, Works, AddsRows}
 use Rattle.txn_runner.proofs.RowLemmas.{AddsRows-push, AddsRows-cut}
-use Rattle.txn_runner.proofs.GivenLemmas.{given-same, given-trans}
+use Rattle.txn_making.proofs.GivenLemmas.{given-same, given-trans}
 use Rattle.txn_runner.proofs.WorkLemmas.{IsNextJob, at-stripe, HasWorked-next, TakesJobs-next, HaveEnded-next, HaveEnded-still, IsCutBy-next}
 
 -- so far each transfer taken has its end record and its row

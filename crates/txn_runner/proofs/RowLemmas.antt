@@ -7,17 +7,17 @@ use Rattle.log_table.specs.declared.view.Entry.{Entry}
 use Rattle.log_table.specs.declared.view.Given.{Given}
 use Rattle.log_table.specs.declared.view.View.{View}
 use Rattle.lock_core.specs.Transfers.{transfer_of}
-use Rattle.txn_runner.specs.declared.cause.Cause.{Cause}
-use Rattle.txn_runner.specs.declared.cause.Worked.TheVariants.{All, Cut}
-use Rattle.txn_runner.specs.declared.jobs.Jobs.{Jobs}
-use Rattle.txn_runner.specs.declared.rows.Row.{Row}
-use Rattle.txn_runner.specs.declared.rows.Rows.{Rows}
-use Rattle.txn_runner.specs.Holdings.{KeepsGiven}
+use Rattle.txn_jobs.specs.declared.cause.Cause.{Cause}
+use Rattle.txn_jobs.specs.declared.cause.Worked.TheVariants.{All, Cut}
+use Rattle.txn_jobs.specs.declared.jobs.Jobs.{Jobs}
+use Rattle.txn_jobs.specs.declared.rows.Row.{Row}
+use Rattle.txn_jobs.specs.declared.rows.Rows.{Rows}
+use Rattle.txn_making.specs.Holdings.{KeepsGiven}
 use Rattle.txn_runner.specs.Running.{outcome_of, LieInOrder, account_given, HasRun}
 use Rattle.txn_runner.specs.Stripes.{number_at, job_at}
 use Rattle.txn_runner.specs.Working.{rows_in, room_of, taken_in, IsGivenAt, AreGivenAt, TellsEnd, AreRowsFrom, AddsRows}
 use Rattle.txn_runner.proofs.EntryLemmas.{LieInOrder-ends}
-use Rattle.txn_runner.proofs.Held.{account-given}
+use Rattle.txn_making.proofs.Held.{account-given}
 
 -- the view has more entries, has seen no smaller durable LSN, and has more accounts given back
 pub record Goes (old new : View) : Type 0 where

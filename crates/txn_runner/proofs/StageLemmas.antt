@@ -18,19 +18,19 @@ use Rattle.log_table.specs.Books.{balance_taken, taking_job}
 use Rattle.log_table.specs.Seats.{IsOf, Becomes, view_of}
 use Rattle.ring_buffer.specs.Calls.{IsReady, IsSameWorker, HasEntries}
 use Rattle.ring_buffer.proofs.TwoCalls.{IsSameWorker-trans}
-use Rattle.txn_runner.specs.declared.cause.Cause.{Cause}
-use Rattle.txn_runner.specs.declared.holding.Holding.{Holding}
-use Rattle.txn_runner.specs.declared.rows.Row.{Row}
-use Rattle.txn_runner.specs.declared.transfer.Ended.{Ended}
-use Rattle.txn_runner.specs.Accounts.{HasAccountsOf, IsAccountOf}
-use Rattle.txn_runner.specs.Endings.{EndsTransfer}
-use Rattle.txn_runner.specs.Holdings.{taken_of, given_behind, with_held, HoldsAll, KeepsBooks, KeepsGiven, TakesAll}
-use Rattle.txn_runner.specs.Inserts.{Adds, HasAdded, IsCutOff, StopsFor}
+use Rattle.txn_jobs.specs.declared.cause.Cause.{Cause}
+use Rattle.txn_parts.specs.declared.holding.Holding.{Holding}
+use Rattle.txn_jobs.specs.declared.rows.Row.{Row}
+use Rattle.txn_parts.specs.declared.ended.Ended.{Ended}
+use Rattle.txn_jobs.specs.Accounts.{HasAccountsOf, IsAccountOf}
+use Rattle.txn_making.specs.Endings.{EndsTransfer}
+use Rattle.txn_making.specs.Holdings.{taken_of, given_behind, with_held, HoldsAll, KeepsBooks, KeepsGiven, TakesAll}
+use Rattle.txn_making.specs.Inserts.{Adds, HasAdded, IsCutOff, StopsFor}
 use Rattle.txn_runner.specs.Running.{GaveBack, HasRun, HasCut}
 use Rattle.txn_runner.specs.Stages.{HasTakenJob, MayMakeTransfer, TakesTransfer, MayEndTransfer, GivesAll, LetsGo, HasRunTaken, HasCutTaken}
 use Rattle.txn_runner.proofs.Composing.{Keeps, IsGivenFrom, may-make, still-known, still-held, gave-back, has-inserted, uncommitted-at, has-cut, has-stopped, cut-early, has-run}
-use Rattle.txn_runner.proofs.GivenLemmas.{given-same, given-trans}
-use Rattle.txn_runner.proofs.Held.{given-front}
+use Rattle.txn_making.proofs.GivenLemmas.{given-same, given-trans}
+use Rattle.txn_making.proofs.Held.{given-front}
 
 pub IsSameWorker-refl : (seat : Seat) → IsSameWorker seat seat
 IsSameWorker-refl seat = record {

@@ -3,12 +3,12 @@ use Rattle.std.proofs.Common.{◌≡◌, ℕ, zero, suc, ◌+◌, ◌-◌, ◌<�
 use Rattle.std.proofs.Math.Nat.{mul-le-mul_left}
 use Rattle.std.proofs.lemmas.List.Elements.{All-get_or}
 use Rattle.std.specs.List.{AllByRecursion}
-use borrow.Author.Count.{below_more}
 use Rattle.lock_core.specs.Transfers.{IsAllowedJob}
 use Rattle.log_table.specs.declared.view.TakenJob.{TakenJob}
 use Rattle.log_table.specs.Accounts.{MayBeTaken}
-use Rattle.txn_runner.specs.declared.jobs.Jobs.{Jobs}
-use Rattle.txn_runner.specs.declared.rows.Rows.{Rows}
+use Rattle.txn_jobs.specs.declared.jobs.Jobs.{Jobs}
+use Rattle.txn_jobs.specs.declared.rows.Rows.{Rows}
+use Rattle.txn_jobs.proofs.StripeSteps.{stripe-few}
 use Rattle.txn_runner.specs.Stripes.{place_of, number_at, taken_at, stripe_jobs, HasStripe}
 use Rattle.txn_runner.specs.Working.{rows_in, room_of, taken_in, HasRoomForRows}
 
@@ -25,13 +25,6 @@ module _ (jobs : Jobs) (worker : ℕ) where
   stripe-nears j k next within =
       let up : j + 1 ≤ k = omega arith in
       omega (arith, mul-le-mul_left jobs.workers up, jobs.shared)
-
-  pub HasStripe-more : (k : ℕ) → HasStripe jobs worker k → place_of jobs worker k < length jobs.script → HasStripe jobs worker (k + 1)
-  HasStripe-more k stripe within = below_more (λ j. place_of jobs worker j < length jobs.script) k stripe within
-
-  -- a stripe has no more transfers than the script
-  pub stripe-few : (k : ℕ) → place_of jobs worker k < length jobs.script → k < length jobs.script
-  stripe-few k within = omega (arith, mul-le-mul_left k jobs.shared)
 
   pub stripe_jobs-more : (k : ℕ) → stripe_jobs jobs worker (k + 1) ≡ taken_at jobs worker k ∷ stripe_jobs jobs worker k
   stripe_jobs-more k = ap (stripe_jobs jobs worker) (add-one k)
@@ -52,7 +45,7 @@ module _ (jobs : Jobs) (worker : ℕ) where
   -- so room for a row of each transfer is enough for a stripe
   pub HasStripe-few : (k : ℕ) → HasStripe jobs worker k → k ≤ length jobs.script
   HasStripe-few zero stripe = omega arith
-  HasStripe-few (suc k) stripe = omega (arith, stripe-few k (stripe k (omega arith)))
+  HasStripe-few (suc k) stripe = omega (arith, stripe-few jobs worker k (stripe k (omega arith)))
 
   pub HasRoomForRows-none : (rows : Rows) → rows_in rows ≡ [] → taken_in rows ≡ 0 → length jobs.script ≤ room_of rows → HasRoomForRows jobs worker rows
   HasRoomForRows-none rows empty none enough k stripe = omega (arith, HasStripe-few k stripe, ap length empty, none, enough)

@@ -17,18 +17,19 @@ use Rattle.lock_core.specs.Transfers.{transfer_of}
 use Rattle.log_table.specs.Closing.{records_of}
 use Rattle.log_table.specs.May.{MayTakeJob}
 use Rattle.ring_buffer.specs.Calls.{IsReady}
-use Rattle.txn_runner.specs.declared.cause.Cause.{Cause}
-use Rattle.txn_runner.specs.declared.cause.Cause.TheVariants.{Stop, LogEnd}
-use Rattle.txn_runner.specs.declared.cause.Worked.{Worked}
-use Rattle.txn_runner.specs.declared.cause.Worked.TheVariants as worked
-use Rattle.txn_runner.specs.declared.jobs.Jobs.{Jobs}
-use Rattle.txn_runner.specs.declared.rows.Row.{Row}
+use Rattle.txn_jobs.specs.declared.cause.Cause.{Cause}
+use Rattle.txn_jobs.specs.declared.cause.Cause.TheVariants.{Stop, LogEnd}
+use Rattle.txn_jobs.specs.declared.cause.Worked.{Worked}
+use Rattle.txn_jobs.specs.declared.cause.Worked.TheVariants as worked
+use Rattle.txn_jobs.specs.declared.jobs.Jobs.{Jobs}
+use Rattle.txn_jobs.specs.declared.rows.Row.{Row}
 use Rattle.txn_runner.specs.Running.{outcome_of, LieInOrder, IsUncommittedAt, HasInserted, HasRun, HasCut}
 use Rattle.txn_runner.specs.Stripes.{place_of, number_at, job_at, taken_at, stripe_jobs, IsOfStripe}
 use Rattle.txn_runner.specs.Working.{LieInTurn, HasWorked, TakesJobs, HasEnd, HaveEnded, own_records, IsCutBy, Works}
 use Rattle.txn_runner.proofs.EntryLemmas.{all-records, own_records-append, own_records-none, own_records-all, LieInOrder-append, LieInOrder-starts, LieInOrder-ends}
 use Rattle.txn_runner.proofs.PlanLemmas.{IsRecordOf, planned_records-own, planned_records-front, end_record-own, end_record-ends}
-use Rattle.txn_runner.proofs.StripeLemmas.{number_at-rises, HasStripe-more, stripe_jobs-more, stripe_jobs-below, taken_at-allowed}
+use Rattle.txn_jobs.proofs.StripeSteps.{HasStripe-more}
+use Rattle.txn_runner.proofs.StripeLemmas.{number_at-rises, stripe_jobs-more, stripe_jobs-below, taken_at-allowed}
 
 -- this is the worker's k-th transfer, under its number
 pub record IsNextJob (jobs : Jobs) (worker k number : ℕ) (job : Job) : Type 0 where
@@ -36,12 +37,11 @@ pub record IsNextJob (jobs : Jobs) (worker k number : ℕ) (job : Job) : Type 0 
   pub number_is : number ≡ number_at jobs worker k
   pub job_is : job ≡ job_at jobs worker k
 
--- it was fetched so
-pub IsNextJob-fetched : (jobs : Jobs) (worker k number : ℕ) (job : Job) (by at : ℕ) → by ≡ worker → at ≡ k
-    → place_of jobs by at < length jobs.script → number ≡ number_at jobs by at → job ≡ job_at jobs by at → IsNextJob jobs worker k number job
-IsNextJob-fetched jobs worker k number job by at by-is at-is within number-is job-is =
-    subst (λ worker. IsNextJob jobs worker k number job) by-is
-    (subst (λ k. IsNextJob jobs by k number job) at-is record { within = within; number_is = number-is; job_is = job-is })
+-- it was taken so, by this number of the worker
+pub IsNextJob-taken : (jobs : Jobs) (worker k number : ℕ) (job : Job) (by : ℕ) → by ≡ worker
+    → place_of jobs by k < length jobs.script → number ≡ number_at jobs by k → job ≡ job_at jobs by k → IsNextJob jobs worker k number job
+IsNextJob-taken jobs worker k number job by by-is within number-is job-is =
+    subst (λ worker. IsNextJob jobs worker k number job) by-is record { within = within; number_is = number-is; job_is = job-is }
 
 -- the record of an entry is of a transaction before the worker's first, or of one of its first k
 abbrev pub IsOwnEntry : Jobs → ℕ → ℕ → Entry → Type 0

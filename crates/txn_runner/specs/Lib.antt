@@ -1,8 +1,3 @@
-pub mod Accounts
-pub mod Endings
-pub mod Holdings
-pub mod Inserts
-pub mod Legs
 pub mod Running
 pub mod Stages
 pub mod Stripes

@@ -3,30 +3,20 @@ use Rattle.std.specs.Prelude.{◌≡◌, ◌≢◌, ℕ, ◌+◌, ◌<◌, ◌�
 use Rattle.lsn_space.specs.declared.lsn.TheConstants.{LAST}
 use Rattle.log_record.specs.declared.rec.Rec.{Rec}
 use Rattle.log_record.specs.LogList.{size_of}
-use Rattle.lock_core.specs.Alone.{Outcome, Done, ShortAt, OverAt, outcome_alone, end_record, planned_records}
+use Rattle.lock_core.specs.Alone.{outcome_alone, end_record, planned_records}
 use Rattle.lock_core.specs.declared.job.Job.{Job}
 use Rattle.log_table.specs.declared.view.Entry.{Entry}
 use Rattle.log_table.specs.declared.view.Given.{Given}
 use Rattle.log_table.specs.declared.view.View.{View}
 use Rattle.lock_core.specs.Transfers.{transfer_of}
 use Rattle.log_table.specs.Closing.{records_of}
-use Rattle.txn_runner.specs.declared.cause.Cause.{Cause}
-use Rattle.txn_runner.specs.declared.cause.Cause.TheVariants.{Stop, LogEnd}
-use Rattle.txn_runner.specs.declared.rows.Answer.{Answer}
-use Rattle.txn_runner.specs.declared.rows.Answer.TheVariants as answer
-use Rattle.txn_runner.specs.declared.rows.Row.{Row}
-use Rattle.txn_runner.specs.Accounts.{HasAccountsOf}
-
--- the outcome that an answer tells
-abbrev pub outcome_of : Answer → Outcome
-outcome_of answer.Done = Done
-outcome_of (answer.Short leg) = ShortAt leg
-outcome_of (answer.Over leg) = OverAt leg
-
--- the entries lie one behind another, from the one LSN up to the other
-abbrev pub LieInOrder : ℕ → ℕ → List Entry → Type 0
-LieInOrder from to [] = from ≤ to
-LieInOrder from to (entry ∷ entries) = (from ≤ entry.start) × LieInOrder (entry.start + entry.size) to entries
+use Rattle.txn_jobs.specs.declared.cause.Cause.{Cause}
+use Rattle.txn_jobs.specs.declared.cause.Cause.TheVariants.{Stop, LogEnd}
+use Rattle.txn_jobs.specs.declared.rows.Row.{Row}
+pub use Rattle.txn_jobs.specs.Rows.{outcome_of}
+pub use Rattle.txn_making.specs.Inserts.{LieInOrder}
+pub use Rattle.txn_making.specs.Holdings.{account_given}
+use Rattle.txn_jobs.specs.Accounts.{HasAccountsOf}
 
 -- The seat took the transfer under this number, and inserted its records but for the rest, each behind the tail as it had seen it: those of
 -- the transfer run alone on some balances and last Commits.
@@ -38,9 +28,6 @@ pub record HasInserted (number : ℕ) (job : Job) (rest : List Rec) (old new : V
   pub within : LieInOrder old.seen.tail new.seen.tail added
   pub plan : records_of added ++ rest ≡ planned_records number (transfer_of job) marks balances
   pub jobs : new.books.jobs ≡ record { number = number; job = job } ∷ old.books.jobs
-
-abbrev pub account_given : Given → ℕ
-account_given given = given.account
 
 -- The seat gave each account of this job back behind those that it gave back before, each under this number, and with this balance as it was
 -- taken.

@@ -9,13 +9,13 @@ use Rattle.log_table.specs.declared.view.Call.TheVariants.{Idle}
 use Rattle.log_table.specs.declared.view.View.{View}
 use Rattle.log_table.specs.Seats.{view_of}
 use Rattle.ring_buffer.specs.Calls.{IsSameWorker}
-use Rattle.txn_runner.specs.declared.cause.Cause.{Cause}
-use Rattle.txn_runner.specs.declared.holding.Holding.{Holding}
-use Rattle.txn_runner.specs.declared.rows.Row.{Row}
-use Rattle.txn_runner.specs.declared.transfer.Ended.{Ended}
-use Rattle.txn_runner.specs.Endings.{release_at}
-use Rattle.txn_runner.specs.Holdings.{IsKnown, IsUnchanged, GoesBack, HoldsAll, KeepsGiven, given_behind}
-use Rattle.txn_runner.specs.Legs.{HoldsJob}
+use Rattle.txn_jobs.specs.declared.cause.Cause.{Cause}
+use Rattle.txn_parts.specs.declared.holding.Holding.{Holding}
+use Rattle.txn_jobs.specs.declared.rows.Row.{Row}
+use Rattle.txn_parts.specs.declared.ended.Ended.{Ended}
+use Rattle.txn_making.specs.Endings.{release_at}
+use Rattle.txn_making.specs.Holdings.{IsKnown, IsUnchanged, GoesBack, HoldsAll, KeepsGiven, given_behind}
+use Rattle.txn_making.specs.Legs.{HoldsJob}
 use Rattle.txn_runner.specs.Running.{HasRun, HasCut}
 
 -- the seat took the job under this number, and nothing of it is in the log

@@ -1,20 +1,10 @@
--- Stripes: of n workers, worker w has the transfers at the places w, w + n, w + 2 n and so on of the script.
-use Rattle.std.specs.Prelude.{◌≡◌, ℕ, zero, suc, ◌+◌, ◌*◌, ◌<◌, ◌≤◌, None, List, [], ◌∷◌, length, get_or}
-use Rattle.lock_core.specs.declared.job.Job.{Job}
+-- Stripes, as a seat takes them.
+use Rattle.std.specs.Prelude.{ℕ, zero, suc, List, [], ◌∷◌}
 use Rattle.log_table.specs.declared.view.TakenJob.{TakenJob}
-use Rattle.txn_runner.specs.declared.jobs.Jobs.{Jobs}
+use Rattle.txn_jobs.specs.declared.jobs.Jobs.{Jobs}
+pub use Rattle.txn_jobs.specs.Stripes.{place_of, number_at, job_at, IsOfStripe, HasStripe, IsStripeEnd}
 
--- the place of the k-th transfer of a worker, from 0, and its transaction number
-abbrev pub place_of : Jobs → ℕ → ℕ → ℕ
-place_of jobs worker k = worker + jobs.workers * k
-
-abbrev pub number_at : Jobs → ℕ → ℕ → ℕ
-number_at jobs worker k = jobs.first + place_of jobs worker k
-
--- that transfer, and as a seat takes it
-abbrev pub job_at : Jobs → ℕ → ℕ → Job
-job_at jobs worker k = get_or jobs.script (place_of jobs worker k) (record { legs = []; note = None })
-
+-- the k-th transfer of a worker, from 0, as a seat takes it
 abbrev pub taken_at : Jobs → ℕ → ℕ → TakenJob
 taken_at jobs worker k = record { number = number_at jobs worker k; job = job_at jobs worker k }
 
@@ -22,15 +12,3 @@ taken_at jobs worker k = record { number = number_at jobs worker k; job = job_at
 abbrev pub stripe_jobs : Jobs → ℕ → ℕ → List TakenJob
 stripe_jobs jobs worker zero = []
 stripe_jobs jobs worker (suc k) = taken_at jobs worker k ∷ stripe_jobs jobs worker k
-
--- the number is that of one of the first k transfers of the worker
-abbrev pub IsOfStripe : Jobs → ℕ → ℕ → ℕ → Type 0
-IsOfStripe jobs worker k number = (j : ℕ) × (j < k) × (number ≡ number_at jobs worker j)
-
--- the script has the first k transfers of the worker
-abbrev pub HasStripe : Jobs → ℕ → ℕ → Type 0
-HasStripe jobs worker k = (j : ℕ) → j < k → place_of jobs worker j < length jobs.script
-
--- the script has no more than the first k transfers of the worker
-abbrev pub IsStripeEnd : Jobs → ℕ → ℕ → Type 0
-IsStripeEnd jobs worker k = length jobs.script ≤ place_of jobs worker k

@@ -1,5 +1,5 @@
 -- What a worker has done of its stripe. `old` and `new` are its seat's view before and after, and `k` counts transfers of the stripe.
-use Rattle.std.specs.Prelude.{◌≡◌, ◌≢◌, ◌⊎◌, ℕ, ◌+◌, ◌<◌, ◌≤◌, ◌==◌, true, Bool, List, [], ◌∷◌, ◌++◌, length, filter, vec_capacity, Contains}
+use Rattle.std.specs.Prelude.{◌≡◌, ◌≢◌, ◌⊎◌, ℕ, ◌+◌, ◌<◌, ◌≤◌, ◌==◌, true, Bool, List, [], ◌∷◌, ◌++◌, length, filter, Contains}
 use Rattle.std.specs.List.{AllByRecursion}
 use Rattle.lsn_space.specs.declared.lsn.TheConstants.{LAST}
 use Rattle.log_record.specs.declared.rec.Rec.{Rec}
@@ -12,28 +12,16 @@ use Rattle.log_table.specs.declared.view.TakenJob.{TakenJob}
 use Rattle.log_table.specs.declared.view.View.{View}
 use Rattle.lock_core.specs.Transfers.{transfer_of}
 use Rattle.log_table.specs.Closing.{records_of}
-use Rattle.txn_runner.specs.declared.cause.Cause.{Cause}
-use Rattle.txn_runner.specs.declared.cause.Cause.TheVariants.{Stop, LogEnd}
-use Rattle.txn_runner.specs.declared.cause.Worked.{Worked}
-use Rattle.txn_runner.specs.declared.cause.Worked.TheVariants.{All, Cut}
-use Rattle.txn_runner.specs.declared.jobs.Jobs.{Jobs}
-use Rattle.txn_runner.specs.declared.rows.Row.{Row}
-use Rattle.txn_runner.specs.declared.rows.Rows.{Rows}
+use Rattle.txn_jobs.specs.declared.cause.Cause.{Cause}
+use Rattle.txn_jobs.specs.declared.cause.Cause.TheVariants.{Stop, LogEnd}
+use Rattle.txn_jobs.specs.declared.cause.Worked.{Worked}
+use Rattle.txn_jobs.specs.declared.cause.Worked.TheVariants.{All, Cut}
+use Rattle.txn_jobs.specs.declared.jobs.Jobs.{Jobs}
+use Rattle.txn_jobs.specs.declared.rows.Row.{Row}
+use Rattle.txn_jobs.specs.declared.rows.Rows.{Rows}
+pub use Rattle.txn_jobs.specs.Rows.{rows_in, room_of, taken_in, HasRoomForRows}
 use Rattle.txn_runner.specs.Running.{outcome_of, LieInOrder, GaveBack, IsUncommittedAt}
 use Rattle.txn_runner.specs.Stripes.{number_at, job_at, stripe_jobs, IsOfStripe, HasStripe, IsStripeEnd}
-
-abbrev pub rows_in : Rows → List Row
-rows_in rows = rows.rows.items
-
-abbrev pub room_of : Rows → ℕ
-room_of rows = vec_capacity rows.rows
-
-abbrev pub taken_in : Rows → ℕ
-taken_in rows = rows.taken
-
--- there is room for a row of each transfer of the stripe that is left
-abbrev pub HasRoomForRows : Jobs → ℕ → Rows → Type 0
-HasRoomForRows jobs worker rows = (k : ℕ) → HasStripe jobs worker k → length (rows_in rows) + k ≤ room_of rows + taken_in rows
 
 -- among the entries each of a transfer of the worker ends at or below the start of each of a later one in its stripe
 abbrev pub LieInTurn : Jobs → ℕ → List Entry → Type 0

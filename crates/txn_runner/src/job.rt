@@ -1,29 +1,22 @@
 //! One transfer, from its first account to its last.
 ghost use Rattle.std.specs.Prelude.{◌≡◌, ◌≤◌, [], Bool, true, IfOk, IfErr, OnErr};
-ghost use Rattle.lock_core.specs.Transfers.{IsAllowedJob};
 ghost use Rattle.log_table.specs.Books.{taking_job};
 ghost use Rattle.log_table.specs.May.{MayTakeJob};
 ghost use Rattle.log_table.specs.Seats.{IsOf, view_of};
 ghost use Rattle.ring_buffer.specs.Calls.{IsReady, IsSameWorker, HasEntries};
-ghost use Rattle.txn_runner.specs.Holdings.{KeepsGiven};
-ghost use Rattle.txn_runner.specs.Inserts.{StopsFor};
+ghost use Rattle.txn_making.specs.Holdings.{KeepsGiven};
+ghost use Rattle.txn_making.specs.Inserts.{StopsFor};
 ghost use Rattle.txn_runner.specs.Running.{HasRun, HasCut};
 ghost use Rattle.txn_runner.specs.Stages.{MayMakeTransfer, TakesTransfer, MayEndTransfer, GivesAll, LetsGo, HasRunTaken, HasCutTaken};
 
-use crate::accounts::{MOST_PARTIES, accounts_of};
-use crate::cause::Cause;
-use crate::giving::{Release, give_all};
-use crate::holding::Holding;
-use crate::relief::Relief;
-use crate::rows::Row;
-use crate::taking::take_all;
-use crate::transfer::{Ended, insert_transfer};
-use crate::waiting::see_durable;
 use arrayvec::ArrayVec;
 use lock_core::Job;
 use log_table::{LogTable, Seat};
 use schedule_hook::{Gate, Place};
 use std::sync::Wait;
+use txn_jobs::{Cause, MOST_PARTIES, Row, accounts_of};
+use txn_making::{give_all, insert_transfer, take_all};
+use txn_parts::{Ended, Holding, Release, Relief, see_durable};
 
 /// Makes the transfer under this transaction number, and answers its row.
 pub(crate) fn run_job<R: Wait, Q: Relief, G: Gate>(

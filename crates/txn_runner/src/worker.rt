@@ -1,20 +1,18 @@
 //! A worker: the transfers of its stripe, one after another.
-ghost use Rattle.std.specs.Prelude.{◌≡◌, ◌<◌, ◌≤◌, ◌+◌, [], All};
+ghost use Rattle.std.specs.Prelude.{◌≡◌, ◌<◌, [], All};
 ghost use Rattle.lock_core.specs.Transfers.{IsAllowedJob};
 ghost use Rattle.log_table.specs.Seats.{IsOf, view_of};
 ghost use Rattle.ring_buffer.specs.Calls.{IsReady, IsSameWorker};
-ghost use Rattle.txn_runner.specs.Holdings.{KeepsGiven};
-ghost use Rattle.txn_runner.specs.Working.{HasWorked, HasRoomForRows, KeepsEntries, TakesJobs, Works, taken_in, rows_in, room_of, AddsRows};
+ghost use Rattle.txn_making.specs.Holdings.{KeepsGiven};
+ghost use Rattle.txn_runner.specs.Working.{HasWorked, HasRoomForRows, KeepsEntries, TakesJobs, Works, taken_in, AddsRows};
 
-use crate::cause::Worked;
 use crate::job::run_job;
-use crate::jobs::Jobs;
-use crate::relief::Relief;
-use crate::rows::Rows;
 use lock_core::Job;
 use log_table::{LogTable, Seat};
 use schedule_hook::Gate;
 use std::sync::Wait;
+use txn_jobs::{Jobs, Rows, Worked};
+use txn_parts::Relief;
 
 /// Makes the transfers of the worker's stripe, as many as are left, and for each that ended there is a row, but for the
 /// last one where the worker waits and the log stops before it saw that end durable. It waits: for accounts that others hold,
@@ -52,8 +50,7 @@ pub fn work<R: Wait, Q: Relief, G: Gate>(
 {
     // One place for all of them, so that none is copied.
     let mut job = Job::new();
-    'stripe: while let Some(number) = jobs.fetch(seat.worker(), rows.taken(), &mut job) {
-        rows.take();
+    'stripe: while let Some(number) = jobs.take_next(seat.worker(), rows, &mut job) {
         match run_job(rt, table, seat, number, &job, relief, wait, gate) {
             Ok(row) => rows.push(row),
             Err(cause) => return Worked::Cut(cause),

@@ -15,9 +15,9 @@ use Rattle.log_table.specs.CrewViews.{takes_in}
 use Rattle.log_table.specs.Hiring.{KnowsHired}
 use Rattle.log_table.specs.Sound.{base_of}
 use Rattle.txn_runner_tests.specs.Settled.{SettlesOne}
-use Rattle.txn_runner.specs.declared.cause.Worked.{Worked}
-use Rattle.txn_runner.specs.declared.cause.Worked.TheVariants.{All, Cut}
-use Rattle.txn_runner.specs.declared.jobs.Jobs.{Jobs}
+use Rattle.txn_jobs.specs.declared.cause.Worked.{Worked}
+use Rattle.txn_jobs.specs.declared.cause.Worked.TheVariants.{All, Cut}
+use Rattle.txn_jobs.specs.declared.jobs.Jobs.{Jobs}
 use Rattle.txn_runner.specs.Stripes.{place_of, number_at, job_at, stripe_jobs, HasStripe}
 use Rattle.txn_runner.specs.Working.{Works}
 

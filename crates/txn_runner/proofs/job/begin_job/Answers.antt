@@ -1,5 +1,5 @@
 use Rattle.std.proofs.Common.{ap}
-use Rattle.txn_runner.specs.declared.cause.Cause.TheVariants.{Stop}
+use Rattle.txn_jobs.specs.declared.cause.Cause.TheVariants.{Stop}
 use Rattle.txn_runner.proofs.StageLemmas.{takes-job, cut-first}
 use Rattle.txn_runner.proofs.job.begin_job.Goals as goal
 

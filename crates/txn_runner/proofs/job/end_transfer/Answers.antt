@@ -5,7 +5,7 @@ use Rattle.lock_core.specs.History.{end_from}
 use Rattle.lock_core.specs.Transactions.{recs_of, has_end}
 use Rattle.log_table.specs.declared.view.Books.{Books}
 use Rattle.log_table.specs.Seats.{view_of}
-use Rattle.txn_runner.specs.Holdings.{HoldsAll, GoesBack}
+use Rattle.txn_making.specs.Holdings.{HoldsAll, GoesBack}
 use Rattle.txn_runner.specs.Stages.{GivesAll}
 use Rattle.txn_runner.proofs.Composing.{still-stops}
 use Rattle.txn_runner.proofs.StageLemmas.{IsOf-same, IsReady-same, gives-all, gives-then}

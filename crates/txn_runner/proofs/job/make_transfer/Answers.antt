@@ -1,5 +1,5 @@
 use Rattle.log_table.specs.Seats.{view_of}
-use Rattle.txn_runner.proofs.Backing.{all-unchanged}
+use Rattle.txn_making.proofs.Backing.{all-unchanged}
 use Rattle.txn_runner.proofs.Composing.{still-known, still-stops}
 use Rattle.txn_runner.proofs.StageLemmas.{IsOf-same, IsReady-same, holds-made, may-end, gives-all, lets-go, cut-made, run-made, stop-made}
 use Rattle.txn_runner.proofs.job.make_transfer.Goals as goal

@@ -1,6 +1,6 @@
 use Rattle.std.proofs.Common.{◌<◌, All, sym, subst}
 use Rattle.std.proofs.lemmas.Result.{IfOk-weaker}
-use Rattle.txn_runner.specs.Holdings.{TakesAll}
+use Rattle.txn_making.specs.Holdings.{TakesAll}
 use Rattle.txn_runner.specs.Stages.{TakesTransfer}
 use Rattle.txn_runner.proofs.Composing.{accounts-known}
 use Rattle.txn_runner.proofs.StageLemmas.{lets-go-taken, cut-taken, takes-transfer}

@@ -1,0 +1,70 @@
+ghost use Rattle.std.specs.Prelude.{◌≡◌, ◌≤◌, ◌<◌, ◌+◌, ◌++◌, ◌∷◌, ◌^◌, [], length, IfOk};
+ghost use Rattle.txn_jobs.specs.Rows.{rows_in, room_of, taken_in};
+
+use lsn_space::{Lsn, NoMemory};
+use std::alloc::Global;
+
+/// How a transfer ended. A leg is counted from 1.
+#[derive(Clone, Copy, Debug, PartialEq, Eq)]
+pub enum Answer {
+    Done,
+    /// At this leg the payer had too little.
+    Short(u32),
+    /// At this leg the payee would have had too much.
+    Over(u32),
+}
+
+/// How a transaction ended, where its end record ends, and the durable LSN that the worker saw last before it gave the
+/// accounts back.
+#[derive(Clone, Copy, Debug, PartialEq, Eq)]
+pub struct Row {
+    pub txn: u32,
+    pub answer: Answer,
+    pub end: Lsn,
+    pub seen: Lsn,
+}
+
+/// The rows of one worker, in the order of their ends, and how many transfers of its stripe it took.
+#[derive(Drop)]
+pub struct Rows {
+    rows: Vec<Row>,
+    pub(crate) taken: u64,
+}
+
+impl Rows {
+    /// Room for so many rows.
+    pub fn make(alloc: Global, n: u32) -> Result<Rows, NoMemory>
+        ensures rows { IfOk result (λ rows. rows_in rows ≡ []) }
+        ensures room { IfOk result (λ rows. n ≤ room_of rows) }
+        ensures taken { IfOk result (λ rows. taken_in rows ≡ 0) }
+    {
+        match Vec::with_capacity(alloc, n as usize) {
+            Ok(rows) => Ok(Rows { rows, taken: 0 }),
+            Err(_) => Err(NoMemory),
+        }
+    }
+
+    pub fn as_slice(&self) -> &[Row]
+        ensures { result.now ≡ rows_in self.now }
+    {
+        self.rows.as_slice()
+    }
+
+    /// Counts one more transfer as taken.
+    pub(crate) fn take(&mut self)
+        requires { taken_in self.old < 2 ^ 32 }
+        ensures { self.new ≡ record self.old { taken = taken_in self.old + 1 } }
+    {
+        self.taken += 1;
+    }
+
+    /// Adds the row of the transfer that was taken last.
+    pub fn push(&mut self, row: Row)
+        requires room { length (rows_in self.old) < room_of self.old }
+        ensures rows { rows_in self.new ≡ rows_in self.old ++ row ∷ [] }
+        ensures room { room_of self.new ≡ room_of self.old }
+        ensures taken { taken_in self.new ≡ taken_in self.old }
+    {
+        self.rows.push_reserved(row);
+    }
+}

@@ -1,0 +1,49 @@
+-- The values with which accounts go back.
+use Rattle.std.proofs.Common.{◌≡◌, ◌&&◌, ◌||◌, ◌+◌, cond, false, List, [], ◌∷◌, get_or, All, refl, sym, ◌∙◌}
+use Rattle.std.specs.List.{AllByRecursion}
+use Rattle.log_record.specs.declared.rec.Rec.{Rec}
+use Rattle.log_record.specs.declared.rec.Rec.TheVariants.{Genesis, Update, Commit, Short, Over, Note}
+use Rattle.log_record.specs.declared.rec.Placed.{Placed}
+use Rattle.lock_core.specs.declared.update.Change.{Change}
+use Rattle.lock_core.specs.History.{end_from}
+use Rattle.lock_core.specs.Records.{commits, gain, loss}
+use Rattle.lock_core.specs.Sums.{moved}
+use Rattle.lock_core.specs.Transactions.{recs_of, changes_in, has_commit, touches}
+use Rattle.log_table.specs.declared.view.Books.{Books}
+use Rattle.log_table.specs.Books.{IsNote}
+use Rattle.txn_parts.specs.declared.release.Release.TheVariants.{Unchanged}
+use Rattle.txn_parts.specs.declared.holding.Holding.{Holding}
+use Rattle.txn_making.specs.Holdings.{GoesBack}
+
+note-uncommitted : (rec : Rec) → IsNote rec → commits rec ≡ false
+note-uncommitted (Note txn text) note = refl
+note-uncommitted (Genesis account balance) note = refl
+note-uncommitted (Update txn account delta prev) note = refl
+note-uncommitted (Short txn leg) note = refl
+note-uncommitted (Over txn leg) note = refl
+note-uncommitted (Commit txn legs) note = absurd note
+
+-- a Note is no Commit
+pub notes-uncommitted : (placed : List Placed) → AllByRecursion (λ (entry : Placed). IsNote entry.rec) placed
+    → has_commit (recs_of placed) ≡ false
+notes-uncommitted [] notes = refl
+notes-uncommitted (entry ∷ placed) notes = λ i. note-uncommitted entry.rec notes.0 i || notes-uncommitted placed notes.1 i
+
+-- where there is no Commit, accounts go back as they were taken
+back-unchanged : (books : Books) → has_commit (recs_of books.placed) ≡ false → (holding : Holding) → GoesBack Unchanged books holding
+back-unchanged books none holding = record {
+  balance_is = λ i. holding.taken.balance + both i;
+  mark_is = λ i. cond (sym none i && touches holding.taken.account changes) (end_from 0 books.placed) holding.taken.mark;
+}
+  where
+    changes : List Change
+    changes = changes_in (recs_of books.placed)
+
+    both : cond (has_commit (recs_of books.placed)) (moved loss holding.taken.account changes) 0
+        ≡ cond (has_commit (recs_of books.placed)) (moved gain holding.taken.account changes) 0
+    both = (λ i. cond (none i) (moved loss holding.taken.account changes) 0)
+        ∙ (λ i. cond (sym none i) (moved gain holding.taken.account changes) 0)
+
+pub all-unchanged : (books : Books) → has_commit (recs_of books.placed) ≡ false → (holdings : List Holding)
+    → All (GoesBack Unchanged books) holdings
+all-unchanged books none holdings k d within = back-unchanged books none (get_or holdings k d)

@@ -1,0 +1,111 @@
+-- The first record of a transfer: its Note, if it has one.
+use Rattle.std.proofs.Common.{◌≡◌, ℕ, ◌+◌, ◌≤◌, false, List, [], ◌∷◌, ◌++◌, length, get_or, Some, None, All, inl, refl, sym, ap, ◌∙◌, subst, arith}
+use Rattle.std.proofs.lemmas.List.Elements.{All-nil}
+use Rattle.log_record.specs.declared.rec.Rec.{Rec}
+use Rattle.log_record.specs.declared.rec.Rec.TheVariants.{Note}
+use Rattle.lock_core.specs.Alone.{planned_from, planned_records, with_note}
+use Rattle.lock_core.specs.Records.{gain, loss}
+use Rattle.lock_core.specs.Sums.{moved}
+use Rattle.lock_core.specs.Transactions.{recs_of, changes_in, has_commit, in_order}
+use Rattle.lock_core.specs.declared.job.Job.{Job}
+use Rattle.log_table.specs.declared.table.Seat.{Seat}
+use Rattle.log_table.specs.declared.view.Books.{Books}
+use Rattle.log_table.specs.declared.view.Entry.{Entry}
+use Rattle.log_table.specs.declared.view.TakenJob.{TakenJob}
+use Rattle.log_table.specs.Books.{balance_taken, mark_taken, IsNote, IsNext, MayEnter}
+use Rattle.lock_core.specs.Transfers.{transfer_of, note_of}
+use Rattle.log_table.specs.Closing.{records_of}
+use Rattle.log_table.specs.Seats.{view_of}
+use Rattle.log_table.proofs.Nexting.{note-next}
+use Rattle.ring_buffer.specs.Calls.{HasEntries, entry_of}
+use Rattle.txn_jobs.specs.declared.cause.Cause.{Cause}
+use Rattle.txn_parts.specs.declared.holding.Holding.{Holding}
+use Rattle.txn_making.specs.Holdings.{IsUnchanged}
+use Rattle.txn_making.specs.Inserts.{Puts, placing_all, IsLeft, StopsFor, IsCutOff}
+use Rattle.txn_making.specs.Legs.{changes_by, HoldsJob, AddsRecords, StandsBefore, TouchesLeg}
+use Rattle.txn_making.proofs.Adding.{adds-none, left-behind, records-behind, cut-off}
+
+module _ (number : ℕ) (job : Job) (text : List ℕ) (old : Seat) (rec : Rec) (is : rec ≡ Note number text)
+    (last : (view_of old).books.last ≡ record { number = number; job = job })
+    (noted : job.note ≡ Some text) (none : (view_of old).books.placed ≡ []) (some : 1 ≤ length text) where
+  next : IsNext rec (view_of old).books
+  next = subst (λ r. IsNext r (view_of old).books) (ap (λ (taken : TakenJob). Note taken.number text) last ∙ sym is)
+      (note-next (view_of old).books text none (ap (λ (taken : TakenJob). taken.job.note) last ∙ noted) some)
+
+  pub enters-note : 1 ≤ number → MayEnter rec (view_of old).books
+  enters-note least = record {
+    some_job = subst (λ (taken : TakenJob). 1 ≤ taken.number) (sym last) least;
+    next = next;
+    accounts = inl (subst IsNote (sym is) tt);
+  }
+
+  pub cut-note : (cause : Cause) (new : Seat) → (view_of new).books ≡ (view_of old).books
+      → StopsFor cause (rec ∷ []) (view_of new) → IsCutOff cause (view_of new)
+  cut-note cause new = cut-off rec next.rest cause old new next.plan (ap (λ placed. has_commit (recs_of placed)) none)
+
+  pub noted-by : (end : ℕ) (new : Seat) → Puts rec end old new → AddsRecords (with_note number (note_of job.note) []) old new
+  noted-by end new put = record {
+    added = entry_of put.start rec ∷ [];
+    adds = put.adds;
+    records_are = (λ i. is i ∷ []) ∙ sym (ap (λ note. with_note number (note_of note) []) noted ∙ long text some);
+  }
+    where
+      long : (bytes : List ℕ) → 1 ≤ length bytes → with_note number bytes [] ≡ Note number bytes ∷ []
+      long [] some = absurd (omega arith)
+      long (byte ∷ bytes) some = refl
+
+-- a job without a note needs no record before its first leg
+pub none-noted : (number : ℕ) (job : Job) (seat : Seat) → HasEntries seat seat (view_of seat).entries (view_of seat).books → job.note ≡ None
+    → AddsRecords (with_note number (note_of job.note) []) seat seat
+none-noted number job seat kept none = subst (λ note. AddsRecords (with_note number (note_of note) []) seat seat) (sym none)
+    record { added = []; adds = adds-none seat seat kept; records_are = refl }
+
+no-changes : (number : ℕ) (text : List ℕ) → changes_in (in_order (with_note number text []) []) ≡ []
+no-changes number [] = refl
+no-changes number (byte ∷ bytes) = refl
+
+no-commit : (number : ℕ) (text : List ℕ) → has_commit (in_order (with_note number text []) []) ≡ false
+no-commit number [] = refl
+no-commit number (byte ∷ bytes) = refl
+
+note-first : (number : ℕ) (text : List ℕ) (rest : List Rec) → with_note number text [] ++ rest ≡ with_note number text rest
+note-first number [] rest = refl
+note-first number (byte ∷ bytes) rest = refl
+
+-- behind its Note the transfer stands before its first leg
+module _ (accounts number : ℕ) (job : Job) (holdings : List Holding) (start books : Books) (added : List Entry)
+    (placed : books ≡ placing_all added start)
+    (records-are : records_of added ≡ with_note number (note_of job.note) []) (none : start.placed ≡ [])
+    (holds : HoldsJob accounts number job holdings start) where
+  abbrev rest : List Rec
+  rest = planned_from number (mark_taken start.held) (balance_taken start.held) 0 job.legs
+
+  held : books.held ≡ start.held
+  held = ap (λ (b : Books). b.held) placed
+
+  records : recs_of books.placed ≡ in_order (with_note number (note_of job.note) []) []
+  records = ap (λ (b : Books). recs_of b.placed) placed ∙ records-behind added start.placed
+      ∙ (λ i. in_order (records-are i) (recs_of (none i)))
+
+  changes : changes_by books ≡ []
+  changes = ap changes_in records ∙ no-changes number (note_of job.note)
+
+  left-first : IsLeft (records_of added ++ rest) start
+  left-first = subst (λ list. IsLeft list start) (sym (note-first number (note_of job.note) rest) ∙ (λ i. sym records-are i ++ rest))
+      ((λ i. in_order (recs_of (none i)) (planned_records number (transfer_of job) (mark_taken start.held) (balance_taken start.held)))
+      ∙ (λ i. planned_records (sym holds.last i).number (transfer_of (sym holds.last i).job) (mark_taken start.held)
+      (balance_taken start.held)))
+
+  pub stands-first : All IsUnchanged holdings → StandsBefore 0 number job holdings books
+  stands-first unchanged = record {
+    balances = balance_taken books.held;
+    left = subst (λ list. IsLeft (planned_from number (mark_taken list) (balance_taken list) 0 job.legs) books) (sym held)
+        (left-behind added rest start books placed left-first);
+    outcome = refl;
+    now = λ k d within. unchanged k d within ∙ sym (holds.taken k d within).balance
+        ∙ ap (λ list. balance_taken list (get_or holdings k d).taken.account) (sym held);
+    sums = λ account. subst (λ list. balance_taken books.held account + moved loss account list
+        ≡ balance_taken books.held account + moved gain account list) (sym changes) refl;
+    touched = All-nil (TouchesLeg (changes_by books));
+    uncommitted = ap has_commit records ∙ no-commit number (note_of job.note);
+  }

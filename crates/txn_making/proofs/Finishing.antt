@@ -1,0 +1,96 @@
+-- The end record of a transfer.
+use Rattle.std.proofs.Common.{◌≡◌, ◌||◌, ℕ, ◌+◌, ◌≤◌, cond, true, List, [], ◌∷◌, ◌++◌, length, get_or, All, refl, sym, ap, ◌∙◌, subst}
+use Rattle.log_record.specs.declared.rec.Rec.{Rec}
+use Rattle.log_record.specs.declared.rec.Rec.TheVariants.{Commit}
+use Rattle.log_record.specs.LogList.{size_of}
+use Rattle.lock_core.specs.Alone.{outcome_alone}
+use Rattle.lock_core.specs.History.{end_from}
+use Rattle.lock_core.specs.Records.{ends}
+use Rattle.lock_core.specs.Transactions.{recs_of, has_end}
+use Rattle.lock_core.specs.declared.job.Job.{Job}
+use Rattle.log_table.specs.declared.table.Seat.{Seat}
+use Rattle.log_table.specs.declared.view.Books.{Books}
+use Rattle.log_table.specs.declared.view.Entry.{Entry}
+use Rattle.log_table.specs.declared.view.TakenJob.{TakenJob}
+use Rattle.log_table.specs.Books.{balance_taken, MayEnter}
+use Rattle.lock_core.specs.Transfers.{transfer_of}
+use Rattle.log_table.specs.Seats.{view_of}
+use Rattle.ring_buffer.specs.Calls.{entry_of}
+use Rattle.txn_parts.specs.declared.release.Release.TheVariants.{Committed}
+use Rattle.txn_parts.specs.declared.holding.Holding.{Holding}
+use Rattle.txn_jobs.specs.declared.rows.Answer.{Answer}
+use Rattle.txn_jobs.specs.declared.rows.Answer.TheVariants.{Done, Short, Over}
+use Rattle.txn_parts.specs.declared.ended.Ended.{Ended}
+use Rattle.txn_making.specs.Endings.{release_at, EndsTransfer}
+use Rattle.txn_making.specs.Holdings.{GoesBack}
+use Rattle.txn_making.specs.Inserts.{placing_all, Adds, Puts, IsLeft}
+use Rattle.txn_making.specs.Legs.{HoldsJob, HasChanged, ReachesEnd, last_record}
+use Rattle.txn_making.proofs.Adding.{adds-trans, left-behind}
+use Rattle.txn_making.proofs.Backing.{all-unchanged}
+use Rattle.txn_making.proofs.Making.{enters}
+use Rattle.txn_making.proofs.Passing.{holds-behind, holds-accounts}
+
+ends-last : (number : ℕ) (job : Job) (answer : Answer) → ends (last_record number job answer) ≡ true
+ends-last number job Done = refl
+ends-last number job (Short leg) = refl
+ends-last number job (Over leg) = refl
+
+-- after the Commit an account goes back with its new balance
+back-moved : (number legs start : ℕ) (books : Books) (holding : Holding) → HasChanged books holding
+    → GoesBack (Committed (start + size_of (Commit number legs))) (placing_all (entry_of start (Commit number legs) ∷ []) books) holding
+back-moved number legs start books holding has = record {
+  balance_is = has.sum;
+  mark_is = λ i. cond (sym has.touched i) (start + size_of (Commit number legs)) holding.taken.mark;
+}
+
+all-back : (number : ℕ) (job : Job) (answer : Answer) (holdings : List Holding) (books : Books) (start : ℕ)
+    → ReachesEnd answer number job holdings books
+    → All (GoesBack (release_at (start + size_of (last_record number job answer)) answer)
+    (placing_all (entry_of start (last_record number job answer) ∷ []) books)) holdings
+all-back number job Done holdings books start reaches = λ k d within. back-moved number (length job.legs) start books
+    (get_or holdings k d) (reaches.moved refl k d within)
+all-back number job (Short leg) holdings books start reaches = all-unchanged
+    (placing_all (entry_of start (last_record number job (Short leg)) ∷ []) books) reaches.uncommitted holdings
+all-back number job (Over leg) holdings books start reaches = all-unchanged
+    (placing_all (entry_of start (last_record number job (Over leg)) ∷ []) books) reaches.uncommitted holdings
+
+-- the end record comes next
+pub enters-last : (accounts number : ℕ) (job : Job) (answer : Answer) (holdings holdings' : List Holding) (old between : Seat)
+    (before : List Entry) (rec : Rec)
+    → Adds before old between → HoldsJob accounts number job holdings (view_of old).books
+    → ReachesEnd answer number job holdings' (view_of between).books
+    → rec ≡ last_record number job answer → MayEnter rec (view_of between).books
+enters-last accounts number job answer holdings holdings' old between before rec adds holds reaches is =
+    enters rec [] (view_of between).books (subst (λ (last : TakenJob). 1 ≤ last.number) (sym still.last) holds.allowed.number.0)
+    (holds-accounts accounts number job holdings (view_of between).books still)
+    (subst (λ r. IsLeft (r ∷ []) (view_of between).books) (sym is) reaches.left)
+  where
+    still : HoldsJob accounts number job holdings (view_of between).books
+    still = holds-behind accounts number job holdings (view_of old).books (view_of between).books before adds.entries.books_are holds
+
+pub ends-transfer : (number : ℕ) (job : Job) (ended : Ended) (holdings : List Holding) (old between new : Seat)
+    (before : List Entry) (rec : Rec)
+    → Adds before old between → ReachesEnd ended.answer number job holdings (view_of between).books
+    → rec ≡ last_record number job ended.answer
+    → Puts rec ended.end between new → EndsTransfer number job ended holdings old new
+ends-transfer number job ended holdings old between new before rec adds reaches is put = record {
+  before = before;
+  start = put.start;
+  end_is = end;
+  adds = subst (λ r. Adds (before ++ entry_of put.start r ∷ []) old new) is
+      (adds-trans before (entry_of put.start rec ∷ []) old between new adds put.adds);
+  left = left-behind (entry_of put.start rec ∷ []) [] (view_of between).books (view_of new).books put.adds.entries.books_are
+      (subst (λ r. IsLeft (r ∷ []) (view_of between).books) (sym is) reaches.left);
+  outcome = reaches.outcome ∙ ap (λ (b : Books). outcome_alone (transfer_of job) (balance_taken b.held)) adds.entries.books_are;
+  back = subst (λ (p : ℕ × Books). All (GoesBack (release_at p.0 ended.answer) p.1) holdings) (λ i. (sym end i, sym placed i))
+      (all-back number job ended.answer holdings (view_of between).books put.start reaches);
+  is_last = ap (λ (b : Books). end_from 0 b.placed) placed ∙ sym end;
+  has_ended = ap (λ (b : Books). has_end (recs_of b.placed)) placed
+      ∙ (λ i. ends-last number job ended.answer i || has_end (recs_of (view_of between).books.placed));
+}
+  where
+    end : ended.end ≡ put.start + size_of (last_record number job ended.answer)
+    end = put.ends ∙ ap (λ r. put.start + size_of r) is
+
+    placed : (view_of new).books ≡ placing_all (entry_of put.start (last_record number job ended.answer) ∷ []) (view_of between).books
+    placed = put.adds.entries.books_are ∙ ap (λ r. placing_all (entry_of put.start r ∷ []) (view_of between).books) is

@@ -1,0 +1,11 @@
+pub mod Adding
+pub mod Backing
+pub mod Beginning
+pub mod Finishing
+pub mod Gaining
+pub mod GivenLemmas
+pub mod Held
+pub mod Making
+pub mod Passing
+pub mod Putting
+pub mod Trying

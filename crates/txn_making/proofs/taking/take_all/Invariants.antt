@@ -1,0 +1,7 @@
+use Rattle.std.proofs.Common.{take}
+use Rattle.txn_making.specs.Holdings.{TakesAll}
+use Rattle.txn_making.proofs.taking.take_all.Given as goal
+
+abbrev pub invariant-accounts : goal.invariant-accounts
+invariant-accounts g l = TakesAll (take l.account-index l.fn.accounts) l.holdings.items l.fn.seat l.seat
+    × g.Q.Relief.ready l.relief × g.Q.Relief.later l.fn.relief l.relief

@@ -1,0 +1,95 @@
+use Rattle.std.proofs.Common.{◌++◌, [], length, map, ap, sym, subst, ◌∙◌}
+use Rattle.std.proofs.lemmas.Result.{err_from_is_err_and}
+use Rattle.arrayvec.proofs.ArrayVecLemmas.{items-with_items}
+use Rattle.log_table.specs.Seats.{view_of}
+use Rattle.txn_parts.specs.declared.ended.Ended.{Ended}
+use Rattle.txn_making.specs.Endings.{EndsTransfer}
+use Rattle.txn_making.specs.Holdings.{taken_of}
+use Rattle.txn_making.specs.Legs.{HoldsJob, StandsBefore}
+use Rattle.txn_making.proofs.Adding.{adds-none, adds-trans}
+use Rattle.txn_making.proofs.Beginning.{stands-first}
+use Rattle.txn_making.proofs.Finishing.{enters-last, ends-transfer}
+use Rattle.txn_making.proofs.Passing.{holds-behind}
+use Rattle.txn_making.proofs.transfer.insert_transfer.Goals as goal
+
+pub insert_note-requires-clause-job : goal.insert_note-requires-clause-job
+insert_note-requires-clause-job g c = c.requires.job.last
+
+pub make_legs-requires-clause-job : goal.make_legs-requires-clause-job
+make_legs-requires-clause-job g c =
+    let noted = c.in_ok-insert_note.ensures.noted in
+    subst (λ list. HoldsJob c.args.table.now.accounts c.args.number c.args.job.now list (view_of c.insert_note.new.seat).books)
+    (sym c.as_mut_slice-list.ensures.value)
+    (holds-behind _ _ _ _ _ _ noted.added noted.adds.entries.books_are c.requires.job)
+
+pub make_legs-requires-clause-first : goal.make_legs-requires-clause-first
+make_legs-requires-clause-first g c =
+    let noted = c.in_ok-insert_note.ensures.noted in
+    subst (λ list. StandsBefore 0 c.args.number c.args.job.now list (view_of c.insert_note.new.seat).books)
+    (sym c.as_mut_slice-list.ensures.value)
+    (stands-first _ _ _ _ _ _ noted.added noted.adds.entries.books_are noted.records_are c.requires.begins c.requires.job
+    c.requires.unchanged)
+
+pub returns-in_err-answer-clause-added : goal.returns-in_err-answer-clause-added
+returns-in_err-answer-clause-added g c =
+    let failed = err_from_is_err_and c.from_residual-in_err-answer.result c.from_residual-in_err-answer.ensures.1 in
+    let noted = c.in_ok-insert_note.ensures.noted in
+    let legs = c.in_err-answer.ensures.added in
+    rw failed.1 (noted.added ++ legs.0, adds-trans _ _ _ _ _ noted.adds legs.1)
+
+pub insert_record-requires-clause-next : goal.insert_record-requires-clause-next
+insert_record-requires-clause-next g c =
+    let noted = c.in_ok-insert_note.ensures.noted in
+    let legs = c.in_ok-answer.ensures.added in
+    enters-last _ _ _ _ _ _ _ _ _ _ (adds-trans _ _ _ _ _ noted.adds legs.1) c.requires.job c.in_ok-answer.ensures.ended
+    c.end_record-last.ensures
+
+pub returns-in_err-end-clause-added : goal.returns-in_err-end-clause-added
+returns-in_err-end-clause-added g c =
+    let failed = err_from_is_err_and c.from_residual-in_err-end.result c.from_residual-in_err-end.ensures.1 in
+    let noted = c.in_ok-insert_note.ensures.noted in
+    let legs = c.in_ok-answer.ensures.added in
+    rw failed.1 (
+      (noted.added ++ legs.0) ++ [],
+      adds-trans _ _ _ _ _ (adds-trans _ _ _ _ _ noted.adds legs.1) (adds-none _ _ c.in_err-end.ensures.kept),
+    )
+
+pub returns-clause-ended : goal.returns-clause-ended
+returns-clause-ended g c =
+    let noted = c.in_ok-insert_note.ensures.noted in
+    let legs = c.in_ok-answer.ensures.added in
+    let same = items-with_items c.args.holdings.now c.make_legs.new.holdings
+    (c.make_legs.auto.holdings ∙ ap length c.as_mut_slice-list.ensures.value) in
+    let ended : Ended = record { answer = c.in_ok-answer.answer; end = c.in_ok-end.end } in
+    subst (λ list. EndsTransfer c.args.number c.args.job.now ended list c.args.seat.now c.insert_record.new.seat) (sym same)
+    (ends-transfer _ _ ended _ _ _ _ _ _ (adds-trans _ _ _ _ _ noted.adds legs.1) c.in_ok-answer.ensures.ended
+    c.end_record-last.ensures c.in_ok-end.ensures.put)
+
+pub returns-in_err-answer-clause-taken : goal.returns-in_err-answer-clause-taken
+returns-in_err-answer-clause-taken g c =
+    let value = c.as_mut_slice-list.ensures.value in
+    ap (map taken_of) (items-with_items c.args.holdings.now c.make_legs.new.holdings (c.make_legs.auto.holdings ∙ ap length value))
+    ∙ c.in_err-answer.ensures.taken ∙ ap (map taken_of) value
+
+pub returns-in_err-end-clause-taken : goal.returns-in_err-end-clause-taken
+returns-in_err-end-clause-taken g c =
+    let value = c.as_mut_slice-list.ensures.value in
+    ap (map taken_of) (items-with_items c.args.holdings.now c.make_legs.new.holdings (c.make_legs.auto.holdings ∙ ap length value))
+    ∙ c.in_ok-answer.ensures.taken ∙ ap (map taken_of) value
+
+pub returns-clause-taken : goal.returns-clause-taken
+returns-clause-taken g c =
+    let value = c.as_mut_slice-list.ensures.value in
+    ap (map taken_of) (items-with_items c.args.holdings.now c.make_legs.new.holdings (c.make_legs.auto.holdings ∙ ap length value))
+    ∙ c.in_ok-answer.ensures.taken ∙ ap (map taken_of) value
+
+pub returns-in_err-answer-clause-later : goal.returns-in_err-answer-clause-later
+returns-in_err-answer-clause-later g c = g.met.Q.Relief.later_trans _ _ _ c.in_ok-insert_note.ensures.later c.in_err-answer.ensures.later
+
+pub returns-in_err-end-clause-later : goal.returns-in_err-end-clause-later
+returns-in_err-end-clause-later g c = g.met.Q.Relief.later_trans _ _ _
+    (g.met.Q.Relief.later_trans _ _ _ c.in_ok-insert_note.ensures.later c.in_ok-answer.ensures.later) c.in_err-end.ensures.later
+
+pub returns-clause-later : goal.returns-clause-later
+returns-clause-later g c = g.met.Q.Relief.later_trans _ _ _
+    (g.met.Q.Relief.later_trans _ _ _ c.in_ok-insert_note.ensures.later c.in_ok-answer.ensures.later) c.in_ok-end.ensures.later

@@ -1,0 +1,83 @@
+-- The accounts that a transfer holds.
+use Rattle.std.specs.Prelude.{◌≡◌, ◌≢◌, ℕ, ◌+◌, ◌<◌, List, [], ◌∷◌, ◌++◌, length, map, All}
+use Rattle.std.specs.List.{AllByRecursion}
+use Rattle.log_table.specs.declared.table.Seat.{Seat}
+use Rattle.log_table.specs.declared.view.Books.{Books}
+use Rattle.log_table.specs.declared.view.Call.TheVariants.{Idle}
+use Rattle.log_table.specs.declared.view.Given.{Given}
+use Rattle.log_table.specs.declared.view.Held.{Held}
+use Rattle.log_table.specs.declared.view.View.{View}
+use Rattle.log_table.specs.Seats.{view_of}
+use Rattle.ring_buffer.specs.Calls.{IsSameWorker, HasEntries}
+use Rattle.early_locks.specs.Locks.{GivesBack, held_of, given_at}
+use Rattle.txn_parts.specs.declared.holding.Holding.{Holding}
+use Rattle.txn_parts.specs.declared.release.Release.{Release}
+pub use Rattle.txn_parts.specs.Holdings.{taken_of, account_of, back_of}
+
+abbrev pub account_given : Given → ℕ
+account_given given = given.account
+
+-- the account is one of so many
+abbrev pub IsKnown : ℕ → Holding → Type 0
+IsKnown accounts holding = holding.taken.account < accounts
+
+-- the accounts taken one after another, newest first, after those that were held before
+abbrev pub held_behind : List Holding → List Held → List Held
+held_behind [] held = held
+held_behind (holding ∷ holdings) held = held_behind holdings (held_of holding.taken ∷ held)
+
+-- the books with these accounts held alone
+abbrev pub holding_all : List Holding → Books → Books
+holding_all holdings books = record books { held = held_behind holdings [] }
+
+-- none of them is of this account
+abbrev pub Lacks : ℕ → List Holding → Type 0
+Lacks account holdings = AllByRecursion (λ (holding : Holding). holding.taken.account ≢ account) holdings
+
+-- no account stands twice
+abbrev pub AreDistinct : List Holding → Type 0
+AreDistinct [] = Unit {0}
+AreDistinct (holding ∷ holdings) = Lacks holding.taken.account holdings × AreDistinct holdings
+
+-- these accounts are held, each once, and no other
+pub record HoldsAll (holdings : List Holding) (books : Books) : Type 0 where
+  pub distinct : AreDistinct holdings
+  pub held : books.held ≡ held_behind holdings []
+
+-- no leg has changed the balance yet
+abbrev pub IsUnchanged : Holding → Type 0
+IsUnchanged holding = holding.balance ≡ holding.taken.balance
+
+-- the seat, which held none, took these accounts in this order
+pub record TakesAll (accounts : List ℕ) (holdings : List Holding) (old new : Seat) : Type 0 where
+  pub accounts_are : map account_of holdings ≡ accounts
+  pub unchanged : All IsUnchanged holdings
+  pub entries : HasEntries old new (view_of old).entries (holding_all holdings (view_of old).books)
+
+-- these are the values with which the account has to go back
+abbrev pub GoesBack : Release → Books → Holding → Type 0
+GoesBack release books holding = GivesBack holding.taken (back_of release holding).0 (back_of release holding).1 books
+
+-- the accounts given back one after another by a seat with this view, newest first, after those that were given back before
+abbrev pub given_behind : View → List Holding → List Given → List Given
+given_behind view [] given = given
+given_behind view (holding ∷ holdings) given = given_behind view holdings (given_at view holding.taken ∷ given)
+
+-- after these accounts were given back, in a step each, with those held
+abbrev pub with_held : List Held → List Holding → View → View
+with_held held back view = record view {
+  seen = record view.seen { steps = view.seen.steps + length back };
+  books = record view.books { held = held; given = given_behind view back view.books.given };
+}
+
+-- what the seat gave back before stands behind what it gave back since
+pub record KeepsGiven (old new : View) : Type 0 where
+  pub back : List Given
+  pub given_are : new.books.given ≡ back ++ old.books.given
+
+-- the seat has nothing under way, and the entries and books that it had, but for accounts that it may have given back
+pub record KeepsBooks (old new : Seat) : Type 0 where
+  pub same : IsSameWorker old new
+  pub idle : (view_of new).call ≡ Idle
+  pub entries : (view_of new).entries ≡ (view_of old).entries
+  pub books : (view_of new).books ≡ record (view_of old).books { given = (view_of new).books.given }

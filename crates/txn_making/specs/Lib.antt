@@ -1,0 +1,4 @@
+pub mod Endings
+pub mod Holdings
+pub mod Inserts
+pub mod Legs

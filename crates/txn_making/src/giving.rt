@@ -1,0 +1,54 @@
+//! A transfer gives its accounts back.
+ghost use Rattle.std.specs.Prelude.{◌≡◌, ◌<◌, ◌≤◌, [], true, All};
+ghost use Rattle.log_record.specs.declared.limits.TheConstants.{MOST_BALANCE};
+ghost use Rattle.log_table.specs.Seats.{IsOf, Becomes, view_of};
+ghost use Rattle.log_table.specs.AccountViews.{gave_account};
+ghost use Rattle.ring_buffer.specs.Calls.{IsReady};
+ghost use Rattle.early_locks.specs.Locks.{HoldsTaken, GivesBack, HasSeenDurable};
+ghost use Rattle.txn_making.specs.Holdings.{HoldsAll, IsKnown, GoesBack, with_held};
+
+use arrayvec::ArrayVec;
+use early_locks::{Taken, give, give_durable};
+use log_table::{LogTable, Seat};
+use txn_jobs::MOST_PARTIES;
+use txn_parts::{Holding, Release};
+
+/// Gives the accounts back in the order in which they were taken. `durable`: the worker has seen that the end record of the
+/// transfer is on the disk.
+pub fn give_all(
+    table: &LogTable,
+    seat: &mut Seat,
+    holdings: ArrayVec<Holding, MOST_PARTIES>,
+    release: Release,
+    durable: bool,
+)
+    requires seat { IsOf table.now seat.old }
+    requires ready { IsReady (view_of seat.old) }
+    requires holds { HoldsAll holdings.items (view_of seat.old).books }
+    requires known { All (IsKnown table.now.accounts) holdings.items }
+    requires values { All (GoesBack release (view_of seat.old).books) holdings.items }
+    requires durable { durable ≡ true → HasSeenDurable (view_of seat.old) }
+    ensures { Becomes seat.old seat.new (with_held [] holdings.items (view_of seat.old)) }
+{
+    'holdings: for holding in holdings {
+        let (balance, mark) = release.values(&holding);
+        give_one(table, seat, holding.taken, balance, mark, durable);
+    }
+}
+
+fn give_one(table: &LogTable, seat: &mut Seat, taken: Taken, balance: u32, mark: u32, durable: bool)
+    requires seat { IsOf table.now seat.old }
+    requires ready { IsReady (view_of seat.old) }
+    requires holds { HoldsTaken taken (view_of seat.old).books }
+    requires known { taken.account < table.now.accounts }
+    requires balance { balance ≤ MOST_BALANCE }
+    requires values { GivesBack taken balance mark (view_of seat.old).books }
+    requires durable { durable ≡ true → HasSeenDurable (view_of seat.old) }
+    ensures { Becomes seat.old seat.new (gave_account taken.account (view_of seat.old)) }
+{
+    if durable {
+        give_durable(table, seat, taken, balance, mark);
+    } else {
+        give(table, seat, taken, balance, mark);
+    }
+}

@@ -1,0 +1,4 @@
+pub mod Holdings
+pub mod Leg
+pub mod Note
+pub mod Stops

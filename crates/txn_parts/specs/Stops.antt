@@ -1,0 +1,22 @@
+-- Why a worker gives up.
+use Rattle.std.specs.Prelude.{◌≡◌, ◌≢◌, ◌+◌, ◌<◌, List, [], ◌∷◌, Contains}
+use Rattle.lsn_space.specs.declared.lsn.TheConstants.{LAST}
+use Rattle.log_record.specs.declared.rec.Rec.{Rec}
+use Rattle.log_record.specs.LogList.{size_of}
+use Rattle.log_table.specs.declared.view.View.{View}
+use Rattle.ring_buffer.specs.declared.refused.Refused.{Refused}
+use Rattle.ring_buffer.specs.declared.refused.Refused.TheVariants as refusal
+use Rattle.txn_jobs.specs.declared.cause.Cause.{Cause}
+use Rattle.txn_jobs.specs.declared.cause.Cause.TheVariants.{Stop, LogEnd}
+
+-- the refusal says that the log is at its end, and so does the cause, with the same numbers
+abbrev pub IsLogEnd : Refused → Cause → Type 0
+IsLogEnd refused (Stop word) = ⊥
+IsLogEnd refused (LogEnd tail total) = refused ≡ refusal.LogEnd tail total
+
+-- The log stopped; or the next of the records that are left doesn't fit in the log behind the tail that the seat saw last.
+abbrev pub StopsFor : Cause → List Rec → View → Type 0
+StopsFor (Stop word) rest view = (word ≢ 0) × (view.seen.stop ≡ word)
+StopsFor (LogEnd tail total) [] view = ⊥
+StopsFor (LogEnd tail total) (next ∷ rest) view =
+    (total ≡ size_of next) × (LAST < tail + total) × (tail ≡ view.seen.tail) × Contains view.seen.lsns tail

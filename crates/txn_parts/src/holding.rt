@@ -1,0 +1,28 @@
+//! An account that a transfer holds.
+ghost use Rattle.std.specs.Prelude.{◌≤◌};
+ghost use Rattle.log_record.specs.declared.limits.TheConstants.{MOST_BALANCE};
+
+use early_locks::Taken;
+
+/// An account as it was taken, and its balance after the legs so far.
+#[derive(Drop)]
+pub struct Holding {
+    pub taken: Taken,
+    pub balance: u32,
+    ghost fits: { balance ≤ MOST_BALANCE },
+    ghost taken_fits: { taken.balance ≤ MOST_BALANCE },
+}
+
+/// It stands where a list of holdings has no element.
+impl Default for Holding {
+    fn default() -> Holding {
+        Holding {
+            taken: Taken {
+                account: 0,
+                balance: 0,
+                mark: 0,
+            },
+            balance: 0,
+        }
+    }
+}

@@ -1,0 +1,90 @@
+//! One leg of a transfer, on the balances of the accounts that are held.
+ghost use Rattle.std.specs.Prelude.{◌≡◌, ◌≤◌, pos, neg_ℤ, map, All, Contains, IfSome, IfNone};
+ghost use Rattle.std.specs.List.{AllZip};
+ghost use Rattle.log_record.specs.declared.limits.TheConstants.{MOST_BALANCE};
+ghost use Rattle.txn_jobs.specs.Accounts.{HasAccountsOf};
+ghost use Rattle.txn_parts.specs.Holdings.{account_of};
+ghost use Rattle.txn_parts.specs.Leg.{IsRefused, CanMake, CanBear, IsAfter};
+
+use crate::holding::Holding;
+use log_record::{MOST_BALANCE, Rec};
+use lsn_space::Lsn;
+use txn_jobs::Answer;
+
+/// The answer that refuses the leg at this place, from 1, on the balances as they are now. None: it can be made.
+pub fn refusal(holdings: &[Holding], leg: (u32, u32, u32), place: u32) -> Option<Answer>
+    requires both { HasAccountsOf (map account_of holdings.now) leg }
+    requires amount { leg.2 ≤ MOST_BALANCE }
+    ensures refused { IfSome result (IsRefused holdings.now leg place) }
+    ensures fits { IfNone result (CanMake holdings.now leg) }
+{
+    if holding_of(holdings, leg.0).balance < leg.2 {
+        return Some(Answer::Short(place));
+    }
+    if holding_of(holdings, leg.1).balance > MOST_BALANCE - leg.2 {
+        return Some(Answer::Over(place));
+    }
+    None
+}
+
+/// The holding of this account.
+pub fn holding_of(holdings: &[Holding], account: u32) -> &Holding
+    requires { Contains (map account_of holdings.now) account }
+    ensures found { Contains holdings.now result.now }
+    ensures account { result.now.taken.account ≡ account }
+{
+    'holdings: for holding in holdings {
+        if holding.taken.account == account {
+            return holding;
+        }
+    }
+    unreachable!()
+}
+
+/// The Update of an account that pays.
+pub fn debit(number: u32, holding: &Holding, amount: u32) -> Rec
+    requires { amount ≤ MOST_BALANCE }
+    ensures { result ≡ Rec.Update number holding.now.taken.account (neg_ℤ (pos amount)) holding.now.taken.mark }
+{
+    Rec::Update {
+        txn: number,
+        account: holding.taken.account,
+        delta: -(amount as i32),
+        prev: Lsn::new(holding.taken.mark),
+    }
+}
+
+/// The Update of an account that receives.
+pub fn credit(number: u32, holding: &Holding, amount: u32) -> Rec
+    requires { amount ≤ MOST_BALANCE }
+    ensures { result ≡ Rec.Update number holding.now.taken.account (pos amount) holding.now.taken.mark }
+{
+    Rec::Update {
+        txn: number,
+        account: holding.taken.account,
+        delta: amount as i32,
+        prev: Lsn::new(holding.taken.mark),
+    }
+}
+
+/// Moves the leg's amount from the balance of its payer to that of its payee.
+pub fn move_amount(holdings: &mut [Holding], leg: (u32, u32, u32))
+    requires { All (CanBear leg) holdings.old }
+    ensures { AllZip (IsAfter leg) holdings.old holdings.new }
+{
+    'holdings: for holding in holdings.iter_mut() {
+        bear(holding, leg);
+    }
+}
+
+fn bear(holding: &mut Holding, leg: (u32, u32, u32))
+    requires { CanBear leg holding.old }
+    ensures { IsAfter leg holding.old holding.new }
+{
+    let (payer, payee, amount) = leg;
+    if holding.taken.account == payer {
+        holding.balance -= amount;
+    } else if holding.taken.account == payee {
+        holding.balance += amount;
+    }
+}

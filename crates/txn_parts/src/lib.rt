@@ -1,0 +1,19 @@
+//! The parts of which a worker makes a transfer: an account that it holds, a leg on the balances of such accounts, with which
+//! values accounts go back, and what a worker does while it waits.
+#![tactic(auto)]
+
+mod ended;
+mod holding;
+mod leg;
+mod noting;
+mod release;
+mod relief;
+mod waiting;
+
+pub use ended::Ended;
+pub use holding::Holding;
+pub use leg::{credit, debit, holding_of, move_amount, refusal};
+pub use noting::note;
+pub use release::Release;
+pub use relief::{Relief, YieldRelief};
+pub use waiting::{may_come, pause, see_durable};

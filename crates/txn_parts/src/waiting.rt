@@ -1,0 +1,85 @@
+//! A worker waits: between two attempts it looks whether the log has stopped, and rests.
+ghost use Rattle.std.specs.Prelude.{◌≡◌, ◌≤◌, [], true, IfOk, IfErr, IfSome, IfNone, OnErr};
+ghost use Rattle.log_table.specs.Seats.{IsOf, view_of};
+ghost use Rattle.ring_buffer.specs.Calls.{IsReady, HasEntries};
+ghost use Rattle.txn_parts.specs.Stops.{StopsFor, IsLogEnd};
+
+use crate::relief::Relief;
+use log_table::{LogTable, Seat};
+use lsn_space::Lsn;
+use ring_buffer::Refused;
+use std::sync::Wait;
+use txn_jobs::Cause;
+
+/// What a worker does between two attempts. Err: the log has stopped.
+pub fn pause<Q: Relief>(table: &LogTable, seat: &mut Seat, relief: &mut Q) -> Result<(), Cause>
+    requires seat { IsOf table.now seat.old }
+    requires ready { IsReady (view_of seat.old) }
+    requires relief { Q.ready relief.old }
+    ensures kept { HasEntries seat.old seat.new (view_of seat.old).entries (view_of seat.old).books }
+    ensures stopped { IfErr result (λ cause. StopsFor cause [] (view_of seat.new)) }
+    ensures relief { Q.ready relief.new }
+    ensures later { Q.later relief.old relief.new }
+{
+    let word = table.load_stop(seat);
+    if word != 0 {
+        return Err(Cause::Stop(word));
+    }
+    relief.rest();
+    Ok(())
+}
+
+/// The durable LSN as the worker sees it now; where it is to `wait`, once that is at or above the end.
+pub fn see_durable<R: Wait, Q: Relief>(
+    rt: &R,
+    table: &LogTable,
+    seat: &mut Seat,
+    end: Lsn,
+    relief: &mut Q,
+    wait: bool,
+) -> Result<Lsn, Cause>
+    requires seat { IsOf table.now seat.old }
+    requires ready { IsReady (view_of seat.old) }
+    requires relief { Q.ready relief.old }
+    ensures kept { HasEntries seat.old seat.new (view_of seat.old).entries (view_of seat.old).books }
+    ensures seen { IfOk result (λ seen. seen ≡ (view_of seat.new).seen.durable) }
+    ensures waited { IfOk result (λ seen. wait ≡ true → end ≤ seen) }
+    ensures waits { OnErr result (wait ≡ true) }
+    ensures stopped { IfErr result (λ cause. StopsFor cause [] (view_of seat.new)) }
+    ensures relief { Q.ready relief.new }
+    ensures later { Q.later relief.old relief.new }
+{
+    for _ in rt.forever() {
+        if let Some(seen) = look_at_durable(table, seat, end, wait) {
+            return Ok(seen);
+        }
+        pause(table, seat, relief)?;
+    }
+    unreachable!()
+}
+
+/// The durable LSN as the worker sees it now. None: the worker is to wait, and that is below the end.
+fn look_at_durable(table: &LogTable, seat: &mut Seat, end: Lsn, wait: bool) -> Option<Lsn>
+    requires seat { IsOf table.now seat.old }
+    requires ready { IsReady (view_of seat.old) }
+    ensures kept { HasEntries seat.old seat.new (view_of seat.old).entries (view_of seat.old).books }
+    ensures seen { IfSome result (λ seen. seen ≡ (view_of seat.new).seen.durable) }
+    ensures waited { IfSome result (λ seen. wait ≡ true → end ≤ seen) }
+    ensures waits { IfNone result (wait ≡ true) }
+{
+    let seen = table.load_durable(seat);
+    if !wait || end <= seen {
+        return Some(seen);
+    }
+    None
+}
+
+/// Whether there may be room once more is on the disk. Err: there is no use in another attempt.
+pub fn may_come(refused: Refused) -> Result<(), Cause>
+    ensures { IfErr result (IsLogEnd refused) }
+{
+    match refused {
+        Refused::LogEnd { tail, total } => Err(Cause::LogEnd { tail, total }),
+        Refused::RingFull { .. } => Ok(()),
+    }
+}

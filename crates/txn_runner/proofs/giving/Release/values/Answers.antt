@@ -1,4 +1,0 @@
-use Rattle.txn_runner.proofs.giving.Release.values.Goals as goal
-
-pub returns-in-Committed-clause-values : goal.returns-in-Committed-clause-values
-returns-in-Committed-clause-values c = rw c.in-Committed.is (λ i. (c.args.holding.now.balance, c.units.ensures i))

@@ -1,7 +1,0 @@
-use Rattle.txn_runner.proofs.inserting.may_come.Goals as goal
-
-pub returns-in-LogEnd : goal.returns-in-LogEnd
-returns-in-LogEnd c = c.in-LogEnd.is
-
-pub returns-in-RingFull : goal.returns-in-RingFull
-returns-in-RingFull c = tt

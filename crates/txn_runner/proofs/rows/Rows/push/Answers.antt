@@ -1,4 +1,0 @@
-use Rattle.txn_runner.proofs.rows.Rows.push.Goals as goal
-
-pub returns-clause-rows : goal.returns-clause-rows
-returns-clause-rows c = c.push_reserved.ensures.items

@@ -1,7 +1,0 @@
-use Rattle.std.proofs.Common.{take}
-use Rattle.txn_runner.specs.Holdings.{TakesAll}
-use Rattle.txn_runner.proofs.taking.take_all.Given as goal
-
-abbrev pub invariant-accounts : goal.invariant-accounts
-invariant-accounts g l = TakesAll (take l.account-index l.fn.accounts) l.holdings.items l.fn.seat l.seat
-    × g.Q.Relief.ready l.relief × g.Q.Relief.later l.fn.relief l.relief

@@ -1,7 +1,0 @@
-use Rattle.log_table.specs.Seats.{view_of}
-use Rattle.ring_buffer.specs.Calls.{HasEntries}
-use Rattle.txn_runner.proofs.taking.take_one.Given as goal
-
-abbrev pub invariant-loop : goal.invariant-loop
-invariant-loop g l = HasEntries l.fn.seat l.seat (view_of l.fn.seat).entries (view_of l.fn.seat).books
-    × g.Q.Relief.ready l.relief × g.Q.Relief.later l.fn.relief l.relief

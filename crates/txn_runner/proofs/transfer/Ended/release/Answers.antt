@@ -1,5 +1,0 @@
-use Rattle.std.proofs.Common.{rules}
-use Rattle.txn_runner.proofs.transfer.Ended.release.Goals as goal
-
-pub returns-in-Short : goal.returns-in-Short
-returns-in-Short c = search rules steps 300000
