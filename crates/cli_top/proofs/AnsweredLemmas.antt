@@ -17,7 +17,8 @@ use Rattle.cli_reports.specs.Answers.{IsOfDump, IsOfRecover}
 use Rattle.cli_new.specs.Answers.{IsOfNew}
 use Rattle.cli_run.specs.RunAnswers.{IsOfRun}
 use Rattle.cli_demo.specs.Demo.{IsOfDemo}
-use Rattle.cli_top.specs.Answered.{Answered, Does, Obeys, TellsFaults, World}
+use Rattle.cli_world.specs.World.{TellsFaults, World}
+use Rattle.cli_top.specs.Answered.{Answered, Does, Obeys}
 use Rattle.cli_top.specs.Asks.{AsksDemo, AsksNew, AsksRun}
 use Rattle.cli_top.proofs.DemoAsked.{silent-told}
 

@@ -12,7 +12,8 @@ ghost use Rattle.txn_script.specs.Balances.{IsBalancesText};
 ghost use Rattle.cli_shared.specs.Answers.{status_of, StaysSilent};
 ghost use Rattle.cli_reports.specs.Answers.{AnswersRecover, AnswersDump, IsOfDump, IsOfRecover};
 ghost use Rattle.cli_new.specs.Answers.{AnswersNew, IsOfNew};
-ghost use Rattle.cli_top.specs.Answered.{Answered, Obeys, world};
+ghost use Rattle.cli_top.specs.Answered.{Answered, Obeys};
+ghost use Rattle.cli_world.specs.World.{world};
 ghost use Rattle.cli_top.specs.Asks.{AsksNew, AsksRun, AsksDemo};
 ghost use Rattle.cli_demo.specs.Demo.{AnswersDemo, IsOfDemo, TellsSummary};
 ghost use Rattle.cli_new.specs.Creation.{AllHoldNew, FollowsLog, MayBeLeft, PrecedesLog};
@@ -22,11 +23,9 @@ ghost use Rattle.lock_core.specs.declared.job.Job.{Job};
 ghost use Rattle.txn_script.specs.Script.{IsScriptText};
 
 use cli_demo::demo_command::demo_command;
-use cli_new::new_command::new_command;
-use cli_reports::dump_command::dump_command;
-use cli_reports::recover_command::recover_command;
 use cli_run::run_command::run_command;
 use cli_shared::{Detail, Report};
+use cli_world::{obey_dump, obey_new, obey_recover};
 use command_line::{Command, Refused, parse};
 use log_disk::{Gate, LogDisk, Sink, Source};
 use lsn_space::Word;
@@ -167,12 +166,12 @@ fn obey<R: Threads + Wait + Sync, D: LogDisk, S: Source, K: Sink, G: Gate + Sync
     ensures { Obeys D.LogDisk S.Source K.Sink command.now (world disk.old script.old out.old) (world disk.new script.new out.new) result }
 {
     match command {
-        Command::New { log } => new_command(alloc, log, disk, script, out),
+        Command::New { log } => obey_new(alloc, log, disk, script, out),
         Command::Run { log, options } => {
             run_command(rt, alloc, log, options, disk, script, out, gate)
         }
-        Command::Recover => recover_command(alloc, script, out),
-        Command::Dump => dump_command(alloc, script, out),
+        Command::Recover => obey_recover(alloc, disk, script, out),
+        Command::Dump => obey_dump(alloc, disk, script, out),
         Command::Demo {
             log,
             transfers,

@@ -1,7 +1,8 @@
 use Rattle.std.proofs.Common.{◌∙◌, sym, ap, subst}
 use Rattle.command_line.specs.declared.command.Command.TheVariants.{New, Run, Recover, Dump, Demo}
 use Rattle.cli_shared.specs.Answers.{status_of}
-use Rattle.cli_top.specs.Answered.{Answered, World, world}
+use Rattle.cli_world.specs.World.{World, world}
+use Rattle.cli_top.specs.Answered.{Answered}
 use Rattle.cli_top.proofs.AnsweredLemmas.{count-of, done-of, faults-of, refused-of, same-of, silent-of, untouched-of, usage-of}
 use Rattle.cli_top.proofs.CompletenessLemmas.{dump-complete, new-complete, recover-complete}
 use Rattle.cli_top.proofs.DemoCompleteness.{demo-complete}
