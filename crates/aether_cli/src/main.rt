@@ -2,26 +2,15 @@
 #![tactic(auto)]
 
 mod command;
-#[cfg(test)]
-mod demo_tests;
-#[cfg(test)]
-mod dump_tests;
-mod laws;
-#[cfg(test)]
-mod run_tests;
-#[cfg(test)]
-mod tests;
-mod top;
 
 use cli_shared::put_fault;
-pub use cli_shared::{Detail, Report};
+pub use cli_top::{Detail, Report, aether};
 use command::words_of;
 use log_disk::OpenGate;
 use std::fs::File;
 use std::io;
 use std::process::ExitCode;
 use system_disk::{FileDisk, StdSink, StdSource};
-pub use top::aether;
 
 /// The root folder, opened thrice. Where standard streams are closed it takes their numbers, so that no file that is
 /// opened later gets one of them.

@@ -1,9 +1,0 @@
-use Rattle.std.proofs.Common.{◌++◌}
-use Rattle.aether_cli.proofs.LawLemmas.{lawful-status, lawful-text}
-use Rattle.aether_cli.proofs.laws.run_is_recovered.Goals as goal
-
-pub returns-clause-status : goal.returns-clause-status
-returns-clause-status c = lawful-status
-
-pub returns-clause-text : goal.returns-clause-text
-returns-clause-text c = λ bytes opened list jobs left old new held. lawful-text bytes (opened ++ held.front) left old new held.holds

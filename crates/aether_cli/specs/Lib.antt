@@ -1,4 +1,0 @@
-pub mod Answered
-pub mod Asks
-pub mod RunWitness
-pub mod Told

@@ -1,0 +1,337 @@
+-- A transfer that finds no room: the log is full of notes of one transaction, but for one unit.
+use Rattle.std.proofs.Common.{◌≡◌, inl, inr, ◌<◌, ◌≤◌, ℕ, zero, suc, ◌+◌, ◌*◌, pos, negsuc, true, false, true≢false, List, [], ◌∷◌, ◌++◌, length, Some, None, slice_get, All, Contains, refl, ap, ◌∙◌, sym, subst, arith, append-nil, length-append}
+use Rattle.std.specs.List.{AllByRecursion, flat_map}
+use Rattle.std.proofs.lemmas.List.Elements.{All-cons, All-nil}
+use mathlib.Core.Option.{some, some-injective, some-ne-none}
+use lib.ListN.{get_elem?}
+use Rattle.lsn_space.specs.declared.lsn.TheConstants.{LAST}
+use Rattle.log_record.specs.declared.rec.Rec.{Rec}
+use Rattle.log_record.specs.declared.rec.Rec.TheVariants.{Update, Commit, Note}
+use Rattle.log_record.specs.declared.rec.Placed.{Placed}
+use Rattle.log_record.specs.LogList.{units_of, end_of}
+use Rattle.log_record.specs.Spelling.{spelling, IsSpellable, IsBalance, IsPrintable}
+use Rattle.lock_core.specs.History.{end_from, entry_at, history_from, history}
+use Rattle.lock_core.specs.Lawful.{IsLawful, genesis_of}
+use Rattle.lock_core.specs.Records.{gain, loss}
+use Rattle.lock_core.specs.Settling.{row}
+use Rattle.lock_core.specs.Sums.{ShowsAccounts, balance_of, last_commit_of, greatest_txn, total}
+use Rattle.lock_core.specs.Transactions.{own_records_of, has_end}
+use Rattle.lock_core.specs.Witness.{genesis_log}
+use Rattle.lock_core.proofs.Fronts.{history_from-append}
+use Rattle.lock_core.proofs.ListLemmas.{all-append}
+use Rattle.lock_core.proofs.OneMore.{total-empty}
+use Rattle.lock_core.specs.Alone.{leg_updates}
+use Rattle.segment_file.specs.File.{written, batch, gated, joined, IsCountedBatch}
+use Rattle.segment_file.specs.Standing.{StandsAt}
+use Rattle.segment_file.specs.declared.layout.TheConstants.{CLOSED}
+use Rattle.segment_file.specs.declared.scan_result.Tail.{Tail}
+use Rattle.segment_file.proofs.BatchLemmas.{length-batch}
+use Rattle.log_table.specs.declared.table.Start.{Start}
+use Rattle.log_table.specs.declared.view.Given.{Given}
+use Rattle.log_table.specs.declared.view.View.{View}
+use Rattle.log_table.specs.Accounts.{IsOfFront}
+use Rattle.log_table.specs.Closing.{IsGathered, IsSettled}
+use Rattle.log_table.specs.Sound.{base_of}
+use Rattle.log_table.specs.Views.{flusher}
+use Rattle.commit_pipeline.specs.declared.daemon.Daemon.{Daemon}
+use Rattle.end_lines.specs.declared.voice.Voice.TheVariants.{Lines}
+use Rattle.txn_runner.specs.declared.cause.Cause.TheVariants.{LogEnd}
+use Rattle.txn_runner.specs.declared.cause.Worked.TheVariants.{Cut}
+use Rattle.txn_runner.specs.declared.jobs.Jobs.{Jobs}
+use Rattle.cli_laws.specs.RunWitness.{payment, plain_disk, HasHitLogEnd}
+use Rattle.cli_threads.specs.Shares.{Share, IsGivenUncommitted, HasShare}
+use Rattle.cli_threads.specs.Transferred.{IsOpened}
+use Rattle.cli_laws.proofs.RunWitness.{genesis-counted, genesis-spellable, genesis-lawful, shut-at}
+
+-- ---- the log
+
+abbrev note : Rec
+note = Note 1 (120 ∷ [])
+
+abbrev notes : ℕ → List Rec
+notes zero = []
+notes (suc n) = note ∷ notes n
+
+abbrev batches : ℕ → List (List ℕ)
+batches zero = []
+batches (suc n) = spelling note ∷ batches n
+
+-- what a history keeps to which notes are added
+record Stays (h : List Placed) : Type 0 where
+  some : 0 < length h
+  lawful : IsLawful h
+  unended : has_end (own_records_of 1 h) ≡ false
+  few : greatest_txn h ≤ 1
+  count : (genesis_of h).accounts ≡ 2
+  balance : (account : ℕ) → (genesis_of h).balance account ≡ (genesis_of (history genesis_log)).balance account
+  totals : (account : ℕ) → (total gain account h ≡ 0) × (total loss account h ≡ 0)
+  marks : (account : ℕ) → last_commit_of (genesis_of h) h account ≡ 0
+
+stays-note : (end : ℕ) (h : List Placed) → Stays h → Stays (record { end = end; rec = note } ∷ h)
+stays-note end h before = record {
+  some = omega arith;
+  lawful = ((before.some, (tt, (before.unended, (tt, (tt, (tt, (tt, ((λ on. absurd (true≢false (sym on))), tt)))))))), before.lawful);
+  unended = before.unended;
+  few = (let most = before.few in omega arith);
+  count = before.count;
+  balance = before.balance;
+  totals = λ account. (
+    total-empty gain account (record { end = end; rec = note }) h refl refl ∙ (before.totals account).0,
+    total-empty loss account (record { end = end; rec = note }) h refl refl ∙ (before.totals account).1,
+  );
+  marks = before.marks;
+}
+
+stays-notes : (n : ℕ) (h : List Placed) → Stays h → Stays (history_from 0 h (notes n))
+stays-notes zero h before = before
+stays-notes (suc n) h before = stays-notes n (entry_at (end_from 0 h) note ∷ h) (stays-note (end_from 0 h + 2) h before)
+
+stays-genesis : Stays (history genesis_log)
+stays-genesis = record {
+  some = omega arith;
+  lawful = genesis-lawful;
+  unended = refl;
+  few = omega arith;
+  count = refl;
+  balance = λ account. refl;
+  totals = λ account. (refl, refl);
+  marks = λ account. refl;
+}
+
+notes-spellable : (n : ℕ) → AllByRecursion IsSpellable (notes n)
+notes-spellable zero = tt
+notes-spellable (suc n) = (((omega arith, omega arith), (omega arith, omega arith, printable)), notes-spellable n)
+  where
+    printable : All IsPrintable (120 ∷ [])
+    printable = All-cons IsPrintable 120 [] (omega arith, omega arith) (All-nil IsPrintable)
+
+end-notes : (n : ℕ) → end_of (notes n) ≡ 2 * n
+end-notes zero = refl
+end-notes (suc n) = let rest = end-notes n in omega arith
+
+rows-shown : (h : List Placed) → Stays h → ShowsAccounts ((100, 0) ∷ (0, 0) ∷ []) (genesis_of h) h
+rows-shown h stays = record { count = sym stays.count; each = each }
+  where
+    each : (account : ℕ) → account < (genesis_of h).accounts → slice_get {X = ℕ × ℕ} ((100, 0) ∷ (0, 0) ∷ []) account
+        ≡ Some (balance_of (genesis_of h) h account, last_commit_of (genesis_of h) h account)
+    each zero inside =
+        let is : 100 ≡ balance_of (genesis_of h) h 0 = omega (arith, stays.balance 0, (stays.totals 0).0, (stays.totals 0).1) in
+        λ i. Some (is i, sym (stays.marks 0) i)
+    each (suc zero) inside =
+        let is : 0 ≡ balance_of (genesis_of h) h 1 = omega (arith, stays.balance 1, (stays.totals 1).0, (stays.totals 1).1) in
+        λ i. Some (is i, sym (stays.marks 1) i)
+    each (suc (suc n)) inside = absurd (omega (arith, stays.count))
+
+-- ---- its file
+
+note-counted : IsCountedBatch (spelling note)
+note-counted = record { some = omega arith; most = omega arith; each = (omega arith, (omega arith, tt)) }
+
+batches-counted : (n : ℕ) → AllByRecursion IsCountedBatch (batches n)
+batches-counted zero = tt
+batches-counted (suc n) = (note-counted, batches-counted n)
+
+joined-notes : (n : ℕ) → joined (batches n) ≡ units_of (notes n)
+joined-notes zero = refl
+joined-notes (suc n) = ap (λ units. spelling note ++ units) (joined-notes n)
+
+length-notes : (n : ℕ) → length (flat_map gated (batches n)) ≡ 21 * n
+length-notes zero = refl
+length-notes (suc n) =
+    let rest = length-notes n in
+    let one = length-batch (batch (spelling note)) (spelling note) [] (sym (append-nil (batch (spelling note)))) in
+    let sum = length-append (batch (spelling note)) (flat_map gated (batches n)) in omega arith
+
+module _ (n : ℕ) (full : 4 + 2 * n ≤ LAST) (near : LAST < 4 + 2 * n + 2) where
+  abbrev opened : List Rec
+  opened = genesis_log ++ notes n
+
+  abbrev file : List ℕ
+  file = written (units_of genesis_log ∷ batches n) ++ CLOSED ∷ []
+
+  abbrev tail : Tail
+  tail = record { at = length (written (units_of genesis_log ∷ batches n)); next = 4 + 2 * n }
+
+  end-opened : end_of opened ≡ 4 + 2 * n
+  end-opened = omega (arith, end-notes n)
+
+  stays-opened : Stays (history opened)
+  stays-opened = subst Stays (sym (history_from-append 0 [] genesis_log (notes n))) (stays-notes n (history genesis_log) stays-genesis)
+
+  stands : StandsAt tail (units_of opened) file
+  stands = record {
+    batches = units_of genesis_log ∷ batches n;
+    rest = CLOSED ∷ [];
+    file = record {
+      some = omega arith;
+      each = (genesis-counted, batches-counted n);
+      whole = refl;
+      closed = λ opened. opened;
+      total = omega (arith, ap length (joined-notes n), end-notes n);
+    };
+    units_are = ap (λ units. units_of genesis_log ++ units) (sym (joined-notes n));
+    place = refl;
+    next = sym end-opened;
+  }
+
+  abbrev key : Start
+  key = record { start = 4 + 2 * n; ring = 1024; slots = 0; accounts = record { rows = (100, 0) ∷ (0, 0) ∷ []; room = 2 } }
+
+  is-opened : IsOpened (plain_disk (λ moment. file)) 0 tail opened 2 key
+  is-opened = record {
+    spellable = all-append IsSpellable genesis_log (notes n) genesis-spellable (notes-spellable n);
+    lawful = stays-opened.lawful;
+    some_accounts = omega (arith, stays-opened.count);
+    below = omega (arith, stays-opened.few);
+    stand = λ honest bytes is. subst (StandsAt tail (units_of opened)) (sym is) stands;
+    shut = λ honest. shut-at (λ moment. file) 0 tail.at (written (units_of genesis_log ∷ batches n)) refl refl;
+    next = sym end-opened;
+    place = omega (
+      arith,
+      full,
+      length-notes n,
+      length-append (batch (units_of genesis_log)) (flat_map gated (batches n)),
+      length-batch (batch (units_of genesis_log)) (units_of genesis_log) [] (sym (append-nil (batch (units_of genesis_log)))),
+    );
+    start = sym end-opened;
+    accounts = rows-shown (history opened) stays-opened;
+  }
+
+  -- ---- the run
+
+  abbrev jobs : Jobs
+  jobs = record { script = payment ∷ []; first = 2; workers = 1; some = omega arith; shared = omega arith; numbered = omega arith }
+
+  abbrev cut : Share
+  cut = record { taken = 1; worked = Cut (LogEnd (4 + 2 * n) 2) }
+
+  abbrev view_old : View
+  view_old = record (flusher key) { sending = record (flusher key).sending { quiet = true; looked = true } }
+
+  -- the account as the worker gave it back
+  abbrev given_of : ℕ → Given
+  given_of account = record {
+    txn = 2;
+    account = account;
+    balance = (row key.accounts.rows account).0;
+    tail = 4 + 2 * n;
+    durable = 4 + 2 * n;
+    committed = false;
+  }
+
+  abbrev view : View
+  view = record view_old { books = record (flusher key).books { jobs = record { number = 2; job = payment } ∷ []; given = given_of 1 ∷ given_of 0 ∷ [] } }
+
+  gathered : IsGathered (4 + 2 * n) view
+  gathered = record {
+    tiles = refl;
+    full = tt;
+    seen = (refl, tt);
+    unsent = [];
+    sent = refl;
+    drained = λ drained. refl;
+    spelled = tt;
+  }
+
+  settled : IsSettled (base_of key) view key.accounts.rows
+  settled = record {
+    count = refl;
+    ledger = λ once. record {
+      lawful = tt;
+      serial = record {
+        each = (inr (record { rest = leg_updates 2 payment.legs; front = refl }), tt);
+        others = λ txn none. refl;
+      };
+      accounts = record { count = refl; range = range; balance = λ account inside. refl; last = λ account inside. refl };
+    };
+    given = λ once. (λ uncommitted. all-of 1, (λ uncommitted. all-of 0, tt));
+  }
+    where
+      all-of : (account : ℕ) → IsOfFront (base_of key) [] (given_of account)
+      all-of account = record { later = []; front = []; whole = refl; balance = refl; tail = omega arith }
+
+      range : (account : ℕ) → account < 2 → IsBalance (row ((100, 0) ∷ (0, 0) ∷ []) account).0
+      range zero inside = omega arith
+      range (suc zero) inside = omega arith
+      range (suc (suc n)) inside = absurd (omega arith)
+
+  given-at : (account : ℕ) → Contains view.books.given (given_of account) → IsGivenUncommitted 2 (4 + 2 * n) (row key.accounts.rows account).0 view.books.given account
+  given-at account has = record {
+    back = given_of account;
+    contains = has;
+    txn = refl;
+    account_is = refl;
+    uncommitted = refl;
+    tail_is = refl;
+    balance_is = refl;
+  }
+
+  has-share : (worker : ℕ) (share : Share) → get_elem? (cut ∷ []) worker ≡ some share → HasShare jobs worker share view
+  has-share zero share at = subst (λ (s : Share). HasShare jobs 0 s view) (some-injective cut share at) (record {
+    stripe = λ j below. omega arith;
+    came_to = (
+      0,
+      refl,
+      λ j from below. absurd (omega arith),
+      record {
+        balances = λ account. (row key.accounts.rows account).0;
+        marks = λ account. 0;
+        gave = ((given-at 0 (1, omega arith, refl), given-at 1 (0, omega arith, refl)), tt);
+        next = Update 2 0 (negsuc 29) 0;
+        rest = Update 2 1 (pos 30) 0 ∷ Commit 2 1 ∷ [];
+        plan = refl;
+        size = refl;
+        too_long = near;
+        seen = (0, omega arith, refl);
+        alone = λ one. tt;
+      },
+    );
+    in_turn = λ i j before after less has. absurd (omega (arith, has.1));
+  })
+  has-share (suc worker) share at = absurd (some-ne-none share (sym at))
+
+  module _ (d : Daemon ℕ (List ℕ)) where
+    abbrev daemon : Daemon ℕ (List ℕ)
+    daemon = record {
+      flusher = record d.flusher {
+        disk = record d.flusher.disk { now = 0 };
+        seat = record { base = record d.flusher.seat.base { me = (view_old, []) }; worker = 0; named = refl };
+        tail = tail;
+      };
+      sink = record d.sink { now = [] };
+      voice = Lines;
+      tally = record { done = 0; refused = 0 };
+      fault = None;
+    }
+
+    hit : HasHitLogEnd
+    hit = record {
+      file = file;
+      opened = opened;
+      jobs = jobs;
+      shares = cut ∷ [];
+      key = key;
+      old = daemon;
+      new = daemon;
+      view = view;
+      lsn = 4 + 2 * n;
+      rows = key.accounts.rows;
+      known = record {
+        log = is-opened;
+        fresh = record { constants = refl; sent = refl; stop = refl; fine = refl };
+        later = inl refl;
+        sending = refl;
+        constants = refl;
+        drained = λ fine. record { quiet = refl; looked = refl; all = omega arith };
+        workers = record { count = refl; taken = refl; each = has-share };
+        gathered = gathered;
+        settled = settled;
+      };
+      script = refl;
+      fine = refl;
+      share = refl;
+    }
+
+-- 2147483645 notes of 2 units each behind two Genesis records leave one unit
+pub log-end-hit : Daemon ℕ (List ℕ) → HasHitLogEnd
+log-end-hit d = hit 2147483645 (omega arith) (omega arith) d

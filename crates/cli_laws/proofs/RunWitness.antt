@@ -1,0 +1,379 @@
+-- One transfer, from the opened log to the closed table: all that is known of such a run holds of it.
+use Rattle.std.proofs.Common.{◌≡◌, ◌⊎◌, inl, inr, ◌<◌, ◌≤◌, ℕ, zero, suc, pos, negsuc, true, List, [], ◌∷◌, ◌++◌, length, Some, None, slice_get, refl, ap, ◌∙◌, sym, subst, arith, append-nil, length-append, Contains}
+use Rattle.std.specs.List.{AllByRecursion}
+use Rattle.std.proofs.lemmas.List.Elements.{All-contains, All-from_recursion}
+use mathlib.Core.Option.{some, some-injective, some-ne-none}
+use lib.ListN.{get_elem?}
+use Rattle.log_disk.specs.Disk.{Leaves}
+use Rattle.log_record.specs.declared.rec.Rec.{Rec}
+use Rattle.log_record.specs.declared.rec.Rec.TheVariants.{Genesis, Update, Commit}
+use Rattle.log_record.specs.LogList.{units_of}
+use Rattle.log_record.specs.Spelling.{spelling, IsSpellable, IsBalance}
+use Rattle.lock_core.specs.Records.{txn_of}
+use Rattle.lock_core.specs.History.{history}
+use Rattle.lock_core.specs.Lawful.{IsLawful, genesis_of, base_state_of}
+use Rattle.lock_core.specs.Serial.{numbered}
+use Rattle.lock_core.specs.Settling.{row, KeepsRows}
+use Rattle.lock_core.specs.Sums.{BaseState, ShowsAccounts, IsBalanceOf, balance_of, last_commit_of}
+use Rattle.lock_core.specs.Witness.{genesis_log, transfer, transfer_records, transfer_history}
+use Rattle.lock_core.proofs.KindLemmas.{passes-genesis}
+use Rattle.lock_core.proofs.SerialFronts.{serial-partly}
+use Rattle.lock_core.proofs.Witnessing.{transfer-lawful, transfer-serial}
+use Rattle.segment_file.specs.File.{written, batch, IsCountedBatch, HoldsUnits}
+use Rattle.segment_file.specs.Standing.{StandsAt, IsShut}
+use Rattle.segment_file.specs.declared.layout.TheConstants.{OPEN, CLOSED}
+use Rattle.segment_file.specs.declared.scan_result.Tail.{Tail}
+use Rattle.segment_file.proofs.BatchLemmas.{length-batch}
+use Rattle.segment_file.proofs.OneReading.{one_reading-units}
+use Rattle.segment_file.proofs.StandingLemmas.{holds}
+use Rattle.log_table.specs.declared.table.Seat.{Seat}
+use Rattle.log_table.specs.declared.table.Start.{Start}
+use Rattle.log_table.specs.declared.view.Entry.{Entry}
+use Rattle.log_table.specs.declared.view.View.{View}
+use Rattle.log_table.specs.Closing.{IsGathered, IsSettled, IsLedger}
+use Rattle.log_table.specs.Seats.{IsOf}
+use Rattle.log_table.specs.Sound.{base_of}
+use Rattle.log_table.specs.Views.{flusher}
+use Rattle.log_table.proofs.Deltas.{more-delta, less-delta}
+use Rattle.commit_pipeline.specs.declared.daemon.Daemon.{Daemon}
+use Rattle.stop_word.specs.declared.fault.DaemonFault.TheVariants.{WriteFault}
+use Rattle.end_lines.specs.declared.voice.Voice.TheVariants.{Lines}
+use Rattle.commit_pipeline.specs.EndLines.{done_line, end_lines}
+use Rattle.commit_pipeline.specs.Later.{Ran, HoldsFront}
+use Rattle.commit_pipeline.specs.Turning.{MayTurn}
+use Rattle.commit_pipeline.proofs.RanLemmas.{none≢some}
+use Rattle.txn_jobs.specs.declared.cause.Worked.TheVariants.{All}
+use Rattle.txn_jobs.specs.declared.jobs.Jobs.{Jobs}
+use Rattle.cli_laws.specs.RunWitness.{payment, file_at, plain_disk, plain_sink, HasMadePayment}
+use Rattle.cli_threads.specs.Shares.{Share, HasShare, HasGathered}
+use Rattle.cli_threads.specs.Transferred.{IsOpened}
+use Rattle.cli_threads.proofs.RunLedger.{base-opened}
+
+-- ---- the data
+
+abbrev pub jobs : Jobs
+jobs = record { script = payment ∷ []; first = 1; workers = 1; some = omega arith; shared = omega arith; numbered = omega arith }
+
+abbrev shares : List Share
+shares = record { taken = 1; worked = All } ∷ []
+
+abbrev key : Start
+key = record { start = 4; ring = 1024; slots = 0; accounts = record { rows = (100, 0) ∷ (0, 0) ∷ []; room = 2 } }
+
+abbrev rows : List (ℕ × ℕ)
+rows = (70, 9) ∷ (30, 9) ∷ []
+
+abbrev entry : ℕ → ℕ → Rec → Entry
+entry start size rec = record { start = start; size = size; units = spelling rec; rec = rec }
+
+-- the flusher's view before, after its turns, and with the worker's seat taken in
+abbrev view_old : View
+view_old = flusher key
+
+abbrev view_new : View
+view_new = record (flusher key) {
+  seen = record (flusher key).seen { exposed = 9; durable = 9; lsns = 9 ∷ 4 ∷ [] };
+  sending = record { sent = units_of transfer_records; read = []; exposed = 9; stop = 0; quiet = true; looked = true };
+}
+
+abbrev view : View
+view = record view_new {
+  entries = entry 4 2 (Update 1 0 (negsuc 29) 0) ∷ entry 6 2 (Update 1 1 (pos 30) 0) ∷ entry 8 1 (Commit 1 1) ∷ [];
+  books = record (flusher key).books { jobs = record { number = 1; job = payment } ∷ [] };
+}
+
+abbrev tail_old : Tail
+tail_old = record { at = length (written (units_of genesis_log ∷ [])); next = 4 }
+
+abbrev pub tail_new : Tail
+tail_new = record { at = length (written (units_of genesis_log ∷ units_of transfer_records ∷ [])); next = 9 }
+
+-- ---- the files
+
+pub genesis-counted : IsCountedBatch (units_of genesis_log)
+genesis-counted = record { some = omega arith; most = omega arith; each = (omega arith, (omega arith, (omega arith, (omega arith, tt)))) }
+
+transfer-counted : IsCountedBatch (units_of transfer_records)
+transfer-counted = record { some = omega arith; most = omega arith; each = (omega arith, (omega arith, (omega arith, (omega arith, (omega arith, tt))))) }
+
+stands-old : StandsAt tail_old (units_of genesis_log) (file_at 0)
+stands-old = record {
+  batches = units_of genesis_log ∷ [];
+  rest = CLOSED ∷ [];
+  file = record { some = omega arith; each = (genesis-counted, tt); whole = refl; closed = λ opened. opened; total = omega arith };
+  units_are = refl;
+  place = refl;
+  next = refl;
+}
+
+pub stands-new : StandsAt tail_new (units_of genesis_log ++ units_of transfer_records) (file_at 1)
+stands-new = record {
+  batches = units_of genesis_log ∷ units_of transfer_records ∷ [];
+  rest = CLOSED ∷ [];
+  file = record { some = omega arith; each = (genesis-counted, (transfer-counted, tt)); whole = refl; closed = λ opened. opened; total = omega arith };
+  units_are = refl;
+  place = refl;
+  next = refl;
+}
+
+at-length : (xs : List ℕ) (x : ℕ) → slice_get (xs ++ x ∷ []) (length xs) ≡ Some x
+at-length [] x = refl
+at-length (y ∷ xs) x = at-length xs x
+
+-- a closed gate stands at the end of the file
+pub shut-at : (file : ℕ → List ℕ) (moment at : ℕ) (xs : List ℕ) → file moment ≡ xs ++ CLOSED ∷ [] → at ≡ length xs
+    → IsShut at ((plain_disk file).images moment)
+shut-at file moment at xs whole place = record {
+  gate = CLOSED;
+  shut = λ same. absurd (omega (arith, same));
+  stable = λ bytes is. ap (λ b. slice_get b at) (is ∙ whole) ∙ ap (slice_get (xs ++ CLOSED ∷ [])) place ∙ at-length xs CLOSED;
+}
+
+-- ---- the opened log
+
+pub genesis-spellable : AllByRecursion IsSpellable genesis_log
+genesis-spellable = ((omega arith, omega arith), ((omega arith, omega arith), tt))
+
+pub transfer-spellable : AllByRecursion IsSpellable transfer_records
+transfer-spellable = (
+  ((omega arith, omega arith), omega arith, less-delta 30 (omega arith) (omega arith), omega arith),
+  (((omega arith, omega arith), omega arith, more-delta 30 (omega arith) (omega arith), omega arith), (((omega arith, omega arith), (omega arith, omega arith)), tt)),
+)
+
+pub genesis-lawful : IsLawful (history genesis_log)
+genesis-lawful =
+    (passes-genesis (record { end = 2; rec = Genesis 0 100 } ∷ []) 4 1 0 (tt, tt) refl, (passes-genesis [] 2 0 100 tt refl, tt))
+
+genesis-shown : ShowsAccounts key.accounts.rows (genesis_of (history genesis_log)) (history genesis_log)
+genesis-shown = record { count = refl; each = each }
+  where
+    each : (account : ℕ) → account < 2 → slice_get {X = ℕ × ℕ} ((100, 0) ∷ (0, 0) ∷ []) account
+        ≡ Some (balance_of (genesis_of (history genesis_log)) (history genesis_log) account, last_commit_of (genesis_of (history genesis_log)) (history genesis_log) account)
+    each zero inside = refl
+    each (suc zero) inside = refl
+    each (suc (suc n)) inside = absurd (omega arith)
+
+opened : IsOpened (plain_disk file_at) 0 tail_old genesis_log 1 key
+opened = record {
+  spellable = genesis-spellable;
+  lawful = genesis-lawful;
+  some_accounts = omega arith;
+  below = omega arith;
+  stand = λ honest bytes is. subst (StandsAt tail_old (units_of genesis_log)) (sym is) stands-old;
+  shut = λ honest. shut-at file_at 0 tail_old.at (written (units_of genesis_log ∷ [])) refl refl;
+  next = refl;
+  place = omega (arith, length-batch (batch (units_of genesis_log) ++ []) (units_of genesis_log) [] refl, length-append (batch (units_of genesis_log)) []);
+  start = refl;
+  accounts = genesis-shown;
+}
+
+-- ---- the closed table
+
+base-is : base_of key ≡ base_state_of (history genesis_log)
+base-is = base-opened genesis_log key genesis-lawful refl genesis-shown
+
+rows-kept : KeepsRows rows (base_state_of (history genesis_log)) transfer_history
+rows-kept = record { count = refl; range = range; balance = balance; last = last }
+  where
+    range : (account : ℕ) → account < 2 → IsBalance (row rows account).0
+    range zero inside = omega arith
+    range (suc zero) inside = omega arith
+    range (suc (suc n)) inside = absurd (omega arith)
+
+    balance : (account : ℕ) → account < 2 → IsBalanceOf (base_state_of (history genesis_log)) transfer_history account (row rows account).0
+    balance zero inside = refl
+    balance (suc zero) inside = refl
+    balance (suc (suc n)) inside = absurd (omega arith)
+
+    last : (account : ℕ) → account < 2 → (row rows account).1 ≡ last_commit_of (base_state_of (history genesis_log)) transfer_history account
+    last zero inside = refl
+    last (suc zero) inside = refl
+    last (suc (suc n)) inside = absurd (omega arith)
+
+settled : IsSettled (base_of key) view rows
+settled = record {
+  count = refl;
+  ledger = λ once. subst (λ (base : BaseState). IsLedger base transfer_history (numbered 1 (transfer ∷ [])) rows) (sym base-is) (record {
+    lawful = transfer-lawful;
+    serial = serial-partly (base_state_of (history genesis_log)) (numbered 1 (transfer ∷ [])) transfer_history transfer-serial;
+    accounts = rows-kept;
+  });
+  given = λ once. tt;
+}
+
+gathered : IsGathered 9 view
+gathered = record {
+  tiles = (refl, (refl, (refl, refl)));
+  full = (refl, (refl, (refl, tt)));
+  seen = (inr (inr (inr refl)), (inl refl, tt));
+  unsent = [];
+  sent = refl;
+  drained = λ drained. refl;
+  spelled = (
+    record { spellable = transfer-spellable.0; units = refl },
+    (record { spellable = transfer-spellable.1.0; units = refl }, (record { spellable = transfer-spellable.1.1.0; units = refl }, tt)),
+  );
+}
+
+-- each entry is of the first transaction
+of-first : (entry : Entry) → Contains view.entries entry → txn_of entry.rec ≡ 1
+of-first entry = All-contains IsFirst view.entries entry (All-from_recursion IsFirst view.entries (refl, (refl, (refl, tt))))
+  where
+    IsFirst : Entry → Type 0
+    IsFirst other = txn_of other.rec ≡ 1
+
+has-share : (worker : ℕ) (share : Share) → get_elem? shares worker ≡ some share → HasShare jobs worker share view
+has-share zero share at = subst (λ (s : Share). HasShare jobs 0 s view) (some-injective (record { taken = 1; worked = All }) share at) (record {
+  stripe = λ j below. omega arith;
+  came_to = (
+    omega arith,
+    λ j from below. record {
+      end = entry 8 1 (Commit 1 1);
+      contains = (2, omega arith, refl);
+      number_is = omega arith;
+      is_end = refl;
+    },
+  );
+  in_turn = λ i j before after less has has' is is'. absurd (omega (arith, less, is', of-first after has'));
+})
+has-share (suc worker) share at = absurd (some-ne-none share (sym at))
+
+workers : HasGathered jobs shares view
+workers = record { count = refl; taken = refl; each = has-share }
+
+-- ---- the turns
+
+module _ (d : Daemon ℕ (List ℕ)) (of : IsOf d.flusher.table.now d.flusher.seat) (ring : d.flusher.table.now.ring ≡ 1024) where
+  -- the seat with this view
+  abbrev seat_with : (v : View) → v.standing.worker ≡ 0 → Seat
+  seat_with v is = record { base = record d.flusher.seat.base { me = (v, []) }; worker = 0; named = sym is }
+
+  abbrev old : Daemon ℕ (List ℕ)
+  old = record {
+    flusher = record d.flusher { disk = record d.flusher.disk { now = 0 }; seat = seat_with view_old refl; batch = record { units = []; room = 1024 }; tail = tail_old };
+    sink = record d.sink { now = [] };
+    voice = Lines;
+    tally = record { done = 0; refused = 0 };
+    fault = None;
+  }
+
+  abbrev new : Daemon ℕ (List ℕ)
+  new = record {
+    flusher = record d.flusher { disk = record d.flusher.disk { now = 1 }; seat = seat_with view_new refl; batch = record { units = []; room = 1024 }; tail = tail_new };
+    sink = record d.sink { now = end_lines 4 transfer_records };
+    voice = Lines;
+    tally = record { done = 1; refused = 0 };
+    fault = None;
+  }
+
+  may-turn : MayTurn (plain_disk file_at) new
+  may-turn = record {
+    flusher = record {
+      seat = record { table_is = of.table_is; no_slots = refl; ring = sym ring };
+      flusher = refl;
+      unread = refl;
+      seen = (0, omega arith, refl);
+      next = refl;
+      place = omega (
+        arith,
+        length-append (batch (units_of genesis_log)) (OPEN ∷ batch (units_of transfer_records) ++ []),
+        length-append (batch (units_of transfer_records)) [],
+        length-batch (batch (units_of genesis_log)) (units_of genesis_log) [] (sym (append-nil (batch (units_of genesis_log)))),
+        length-batch (batch (units_of transfer_records)) (units_of transfer_records) [] (sym (append-nil (batch (units_of transfer_records)))),
+      );
+      shut = λ honest. shut-at file_at 1 tail_new.at (written (units_of genesis_log ∷ units_of transfer_records ∷ [])) refl refl;
+      room = omega (arith, ring);
+    };
+    fine = refl;
+    running = refl;
+    counted = omega arith;
+  }
+
+  -- what all images held at first are the units of the opened list
+  opening-is : (opening : List ℕ) → ((bytes : List ℕ) → bytes ≡ file_at 0 → StandsAt tail_old (opening ++ []) bytes) → opening ≡ units_of genesis_log
+  opening-is opening stand = sym (append-nil opening)
+      ∙ one_reading-units (file_at 0) (opening ++ []) (units_of genesis_log)
+      (holds tail_old (opening ++ []) (file_at 0) (stand (file_at 0) refl)) (holds tail_old (units_of genesis_log) (file_at 0) stands-old)
+
+  stands-later : (opening : List ℕ) → ((bytes : List ℕ) → bytes ≡ file_at 0 → StandsAt tail_old (opening ++ []) bytes)
+      → (bytes : List ℕ) → bytes ≡ file_at 1 → StandsAt tail_new (opening ++ units_of transfer_records) bytes
+  stands-later opening stand bytes is =
+      subst (λ (units : List ℕ). StandsAt tail_new (units ++ units_of transfer_records) bytes) (sym (opening-is opening stand))
+      (subst (StandsAt tail_new (units_of genesis_log ++ units_of transfer_records)) (sym is) stands-new)
+
+  moments : (opening : List ℕ) → ((bytes : List ℕ) → bytes ≡ file_at 0 → StandsAt tail_old (opening ++ []) bytes)
+      → Leaves (plain_disk file_at).moment (plain_disk file_at).images_since (HoldsFront (opening ++ []) (transfer_records ++ [])) 0 1
+  moments opening stand = record { later = omega arith; each = each }
+    where
+      each : (from : ℕ) (bytes : List ℕ) → from ≤ 0 → (moment : ℕ) × (from ≤ moment) × (moment ≤ 1) × (bytes ≡ file_at moment)
+          → ((moment : ℕ) × (from ≤ moment) × (moment ≤ 0) × (bytes ≡ file_at moment)) ⊎ HoldsFront (opening ++ []) (transfer_records ++ []) bytes
+      each from bytes early (zero, after, before, is) = inl (0, after, omega arith, is)
+      each from bytes early (suc moment, after, before, is) = inr (record {
+        front = transfer_records;
+        rest = [];
+        whole = refl;
+        holds = subst (λ (first : List ℕ). HoldsUnits bytes (first ++ units_of transfer_records)) (sym (append-nil opening))
+            (holds tail_new (opening ++ units_of transfer_records) bytes (stands-later opening stand bytes is));
+      })
+
+  ran : Ran (plain_disk file_at) plain_sink old new
+  ran = record {
+    was_fine = refl;
+    more = transfer_records;
+    cut = [];
+    text = end_lines 4 transfer_records;
+    spellable = transfer-spellable;
+    same = record {
+      flusher = record {
+        table = refl;
+        seat = record { table_is = refl; slots = refl; constants = refl; entries = refl; books = refl };
+        workers = refl;
+        disk = refl;
+        honest = (λ honest. honest, λ honest. honest);
+        later = omega arith;
+      };
+      sink = refl;
+      voice = refl;
+      disk_faults = omega arith;
+      sink_faults = omega arith;
+    };
+    constants = refl;
+    sent = refl;
+    in_flight = (refl, refl);
+    may_turn = λ fine. may-turn;
+    moments = λ honest opening stand. moments opening stand;
+    prefix = λ fault honest opening stand. stands-later opening stand;
+    torn = λ honest opening stand bytes is. inl (holds tail_new (opening ++ units_of transfer_records) bytes (stands-later opening stand bytes is));
+    appended = refl;
+    front = λ failed. absurd (none≢some WriteFault failed);
+    all = λ fault. (refl, refl);
+    reason = refl;
+    disk_fine = λ sent. refl;
+    count = λ honest. omega arith;
+  }
+
+  pub payment-made : HasMadePayment
+  payment-made = record {
+    jobs = jobs;
+    shares = shares;
+    key = key;
+    old = old;
+    new = new;
+    view = view;
+    rows = rows;
+    known = record {
+      log = opened;
+      fresh = record { constants = refl; sent = refl; stop = refl; fine = refl };
+      later = inr ran;
+      sending = refl;
+      constants = refl;
+      drained = λ fine. record { quiet = refl; looked = refl; all = refl };
+      workers = workers;
+      gathered = gathered;
+      settled = settled;
+    };
+    script = refl;
+    list = refl;
+    fine = refl;
+    text = append-nil (done_line 1 9);
+  }

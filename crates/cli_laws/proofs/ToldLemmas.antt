@@ -1,0 +1,124 @@
+-- A `done` line that a run's text has whole is that of a Commit of the list.
+use Rattle.std.proofs.Common.{◌≡◌, ◌⊎◌, inl, inr, ⊎_elim, ◌≤◌, ◌∙◌, sym, refl, ap, subst, subst₂, ℕ, ◌+◌, List, [], ◌∷◌, ◌++◌, Some, Option, append_assoc, length, length-append, drop, drop_at, flat_map, arith}
+use Rattle.std.specs.List.{AllByRecursion}
+use Rattle.std.specs.Io.KnownBytes.{Appends}
+use Rattle.lsn_space.specs.declared.lsn.TheConstants.{LAST}
+use Rattle.log_disk.specs.Streams.{AppendsPrefix}
+use Rattle.log_disk.specs.declared.disk.LogDisk.{Ghosts}
+use Rattle.log_record.specs.declared.rec.Rec.{Rec}
+use Rattle.log_record.specs.declared.rec.Rec.TheVariants.{Genesis, Update, Commit, Short, Over, Note}
+use Rattle.log_record.specs.LogList.{units_of, end_of, size_of}
+use Rattle.log_record.specs.Spelling.{IsSpellable}
+use Rattle.log_record.proofs.LogListLemmas.{end_of-cons}
+use Rattle.lock_core.proofs.ListLemmas.{all-split}
+use Rattle.log_recovery.specs.Recovery.{HoldsLawful}
+use Rattle.log_recovery.specs.Text.{lsn_line, account_line, accounts_text}
+use Rattle.log_recovery.proofs.ListingLemmas.{units_of-append}
+use Rattle.commit_pipeline.specs.EndLines.{done_line, short_line, over_line, end_line, end_lines}
+use Rattle.txn_jobs.specs.declared.jobs.Jobs.{Jobs}
+use Rattle.cli_run.specs.RunAnswers.{Outside, HoldsTold, run_text}
+use Rattle.cli_laws.specs.Told.{HasLine, HasCommitAt}
+use Rattle.cli_laws.proofs.WholeLines.{HasLine-nil, HasLine-append, HasLine-first}
+use Rattle.cli_laws.proofs.DoneLines.{done-whole, short-whole, over-whole, lsn-whole, account-whole, done-short, done-over, done-lsn, done-account, done-injective}
+
+-- ---- lines that it is not among
+
+account_lines-none : (balance : ℕ → ℕ) (accounts : List ℕ) (txn end : ℕ)
+    → HasLine (flat_map (λ account. account_line account (balance account)) accounts) (done_line txn end) → ⊥
+account_lines-none balance [] txn end has = HasLine-nil (done_line txn end) (done-whole txn end) has
+account_lines-none balance (account ∷ accounts) txn end has =
+    ⊎_elim (done-account txn end account (balance account)) (account_lines-none balance accounts txn end)
+    (HasLine-first (account_line account (balance account)) _ (done_line txn end) (account-whole account (balance account)) (done-whole txn end) has)
+
+accounts_text-none : (records : List Rec) (txn end : ℕ) → HasLine (accounts_text records) (done_line txn end) → ⊥
+accounts_text-none records txn end has =
+    ⊎_elim (done-lsn txn end (end_of records)) (account_lines-none _ _ txn end)
+    (HasLine-first (lsn_line (end_of records)) _ (done_line txn end) (lsn-whole (end_of records)) (done-whole txn end) has)
+
+-- ---- the lines of end records
+
+-- a record that ends at this LSN is a Commit of the transaction that ends there
+abbrev IsCommitOf : ℕ → Rec → ℕ → ℕ → Type 0
+IsCommitOf at rec txn end = (legs : ℕ) × (rec ≡ Commit txn legs) × (end ≡ at)
+
+-- it is the line of this record, or stands behind that
+end_line-commit : (at : ℕ) (rec : Rec) (rest : List ℕ) (txn end : ℕ) → IsSpellable rec → at ≤ LAST
+    → HasLine (end_line at rec ++ rest) (done_line txn end) → IsCommitOf at rec txn end ⊎ HasLine rest (done_line txn end)
+end_line-commit at (Genesis account balance) rest txn end fits room has = inr has
+end_line-commit at (Update other account delta prev) rest txn end fits room has = inr has
+end_line-commit at (Note other text) rest txn end fits room has = inr has
+end_line-commit at (Commit other legs) rest txn end fits room has =
+    ⊎_elim (λ same. inl (commit same)) (λ behind. inr behind)
+    (HasLine-first (done_line other at) rest (done_line txn end) (done-whole other at) (done-whole txn end) has)
+  where
+    commit : done_line txn end ≡ done_line other at → IsCommitOf at (Commit other legs) txn end
+    commit same =
+        let both = done-injective other at txn end (omega (arith, fits.0.1)) (omega arith) same in
+        (legs, ap (λ t. Commit t legs) both.0, sym both.1)
+end_line-commit at (Short other leg) rest txn end fits room has =
+    ⊎_elim (λ same. absurd (done-short txn end other leg at same)) (λ behind. inr behind)
+    (HasLine-first (short_line other leg at) rest (done_line txn end) (short-whole other leg at) (done-whole txn end) has)
+end_line-commit at (Over other leg) rest txn end fits room has =
+    ⊎_elim (λ same. absurd (done-over txn end other leg at same)) (λ behind. inr behind)
+    (HasLine-first (over_line other leg at) rest (done_line txn end) (over-whole other leg at) (done-whole txn end) has)
+
+HasCommitAt-first : (at : ℕ) (rec : Rec) (records : List Rec) (txn end legs : ℕ) → rec ≡ Commit txn legs → end ≡ at + size_of rec
+    → HasCommitAt at (rec ∷ records) txn end
+HasCommitAt-first at rec records txn end legs is ended = record {
+  front = [];
+  legs = legs;
+  rest = records;
+  whole = ap (λ r. r ∷ records) is;
+  place = omega (arith, ended, ap size_of is);
+}
+
+HasCommitAt-behind : (at : ℕ) (rec : Rec) (records : List Rec) (txn end : ℕ) → HasCommitAt (at + size_of rec) records txn end
+    → HasCommitAt at (rec ∷ records) txn end
+HasCommitAt-behind at rec records txn end commit = record {
+  front = rec ∷ commit.front;
+  legs = commit.legs;
+  rest = commit.rest;
+  whole = ap (λ rs. rec ∷ rs) commit.whole;
+  place = omega (arith, commit.place, end_of-cons rec commit.front);
+}
+
+end_lines-commit : (at : ℕ) (records : List Rec) (rest : List ℕ) (txn end : ℕ) → AllByRecursion IsSpellable records → at + end_of records ≤ LAST
+    → (HasLine rest (done_line txn end) → ⊥) → HasLine (end_lines at records ++ rest) (done_line txn end) → HasCommitAt at records txn end
+end_lines-commit at [] rest txn end each room none has = absurd (none has)
+end_lines-commit at (rec ∷ records) rest txn end each room none has =
+    let next : ℕ = at + size_of rec in
+    let text = append_assoc (end_line next rec) (end_lines next records) rest in
+    ⊎_elim (λ found. HasCommitAt-first at rec records txn end found.0 found.1 found.2)
+    (λ more. HasCommitAt-behind at rec records txn end
+    (end_lines-commit next records rest txn end each.1 (omega (arith, end_of-cons rec records)) none more))
+    (end_line-commit next rec (end_lines next records ++ rest) txn end each.0 (omega (arith, end_of-cons rec records))
+    (subst (λ t. HasLine t (done_line txn end)) text has))
+
+-- ---- what was told
+
+pub told-commit : (bytes text rest : List ℕ) (opened front : List Rec) (txn end : ℕ) → HoldsLawful bytes (opened ++ front)
+    → run_text opened front ≡ text ++ rest → HasLine text (done_line txn end) → HasCommitAt (end_of opened) front txn end
+told-commit bytes text rest opened front txn end held whole has =
+    let (batches, shut, file, units) = held.list.holds in
+    let most : end_of (opened ++ front) ≤ LAST = omega (arith, file.total, ap length units) in
+    let sizes = ap length (units_of-append opened front) in
+    end_lines-commit (end_of opened) front (accounts_text (opened ++ front)) txn end (all-split IsSpellable opened front held.list.each).1
+    (omega (arith, length-append (units_of opened) (units_of front))) (accounts_text-none (opened ++ front) txn end)
+    (subst (λ t. HasLine t (done_line txn end)) (sym whole) (HasLine-append text rest (done_line txn end) has))
+
+-- what a sink has more is a front of the text
+told-front : (old new : Option (List ℕ)) (before text whole : List ℕ) → old ≡ Some before → new ≡ Some (before ++ text)
+    → AppendsPrefix old new whole → (rest : List ℕ) × (whole ≡ text ++ rest)
+told-front old new before text whole was is (prefix, rest, split, appended) =
+    let grown : before ++ text ≡ before ++ prefix = subst₂ (λ x y. Appends x y prefix) was is appended in
+    let same : text ≡ prefix =
+    sym (drop_at before text (length before) refl) ∙ ap (drop (length before)) grown ∙ drop_at before prefix (length before) refl in
+    (rest, split ∙ ap (λ t. t ++ rest) (sym same))
+
+module _ {D : Type 0} (g : Ghosts D) where
+  pub image-commit : (opened list : List Rec) (jobs : Jobs) (old new : Outside D) (image before text : List ℕ) (txn end : ℕ)
+      → (held : HoldsTold g opened jobs list old new image) → old.text ≡ Some before → new.text ≡ Some (before ++ text)
+      → HasLine text (done_line txn end) → HasCommitAt (end_of opened) held.run.front txn end
+  image-commit opened list jobs old new image before text txn end held was is has =
+      let (rest, whole) = told-front old.text new.text before text (run_text opened held.run.front) was is held.told in
+      told-commit image text rest opened held.run.front txn end held.run.holds whole has

@@ -1,0 +1,67 @@
+-- The `done` line of one transfer is told, and the file holds what was told.
+use Rattle.std.proofs.Common.{◌≢◌, ◌∙◌, inl, refl, sym, ap, [], ◌++◌, append-nil, arith}
+use Rattle.std.specs.List.{AllByRecursion}
+use Rattle.log_record.specs.LogList.{units_of, end_of}
+use Rattle.log_record.specs.Spelling.{IsSpellable}
+use Rattle.lock_core.specs.History.{history}
+use Rattle.lock_core.specs.Lawful.{base_state_of}
+use Rattle.lock_core.specs.Serial.{IsPartlySerialAfter}
+use Rattle.lock_core.specs.Transactions.{recs_of}
+use Rattle.lock_core.specs.Witness.{genesis_log, transfer_records, transfer_history}
+use Rattle.lock_core.proofs.ListLemmas.{all-append}
+use Rattle.lock_core.proofs.SerialFronts.{serial-partly}
+use Rattle.lock_core.proofs.Witnessing.{transfer-lawful, transfer-serial}
+use Rattle.log_recovery.specs.Text.{accounts_text}
+use Rattle.segment_file.proofs.StandingLemmas.{holds}
+use Rattle.commit_pipeline.specs.EndLines.{done_line}
+use Rattle.txn_runner.specs.Stripes.{number_at}
+use Rattle.cli_threads.specs.Run.{ComeInTurn, HoldsRun}
+use Rattle.cli_laws.specs.RunWitness.{file_at}
+use Rattle.cli_laws.specs.Told.{HasToldPayment}
+use Rattle.cli_threads.proofs.RunHistory.{history-own, history-others}
+use Rattle.cli_threads.proofs.RunLedger.{whole-lawful, goes-on}
+use Rattle.cli_threads.proofs.RunStripes.{tasks_of}
+use Rattle.cli_laws.proofs.RunWitness.{jobs, tail_new, stands-new, genesis-spellable, transfer-spellable, genesis-lawful}
+
+spellable : AllByRecursion IsSpellable (genesis_log ++ transfer_records)
+spellable = all-append IsSpellable genesis_log transfer_records genesis-spellable transfer-spellable
+
+serial : IsPartlySerialAfter (base_state_of (history genesis_log)) (tasks_of jobs) transfer_history
+serial = serial-partly (base_state_of (history genesis_log)) (tasks_of jobs) transfer_history transfer-serial
+
+-- no transfer but the first has a record
+in_turn : ComeInTurn jobs (history (genesis_log ++ transfer_records))
+in_turn worker i j small less recorded = absurd (recorded (history-own genesis_log transfer_records (number_at jobs worker j) (omega (arith, less))
+    ∙ ap recs_of (history-others (number_at jobs worker j) (end_of genesis_log) [] transfer_records (other, (other, (other, tt))) refl)))
+  where
+    other : 1 ≢ number_at jobs worker j
+    other same = absurd (omega (arith, same, less))
+
+run : HoldsRun genesis_log jobs transfer_records (file_at 1)
+run = record {
+  front = transfer_records;
+  rest = [];
+  whole = refl;
+  holds = record {
+    list = record { each = spellable; holds = holds tail_new (units_of genesis_log ++ units_of transfer_records) (file_at 1) stands-new };
+    lawful = whole-lawful genesis_log transfer_records jobs genesis-lawful (omega arith) (omega arith) spellable transfer-lawful serial;
+  };
+  goes_on = goes-on genesis_log transfer_records jobs genesis-lawful (omega arith) (omega arith) spellable transfer-lawful serial in_turn;
+}
+
+pub payment-told : HasToldPayment
+unfolding run
+payment-told = record {
+  jobs = jobs;
+  held = record {
+    run = run;
+    told = (
+      done_line 1 9,
+      accounts_text (genesis_log ++ transfer_records),
+      ap (λ text. text ++ accounts_text (genesis_log ++ transfer_records)) (append-nil (done_line 1 9)),
+      refl,
+    );
+    count = omega arith;
+  };
+  line = record { before = []; after = []; whole = sym (append-nil (done_line 1 9)); begins = inl refl };
+}

@@ -1,0 +1,2 @@
+pub mod RunWitness
+pub mod Told

@@ -1,0 +1,134 @@
+//! Laws of the definitions. The functions do nothing.
+
+ghost use Rattle.std.specs.Prelude.{◌≡◌, ◌≢◌, ◌++◌, ℕ, List, Option, None, ◌≤◌, ◌+◌, ◌*◌, [], Some};
+ghost use Rattle.std.specs.Io.KnownBytes.{Appends};
+ghost use Rattle.std.specs.List.{AllByRecursion};
+ghost use mathlib.Core.Option.{some};
+ghost use lib.ListN.{get_elem?};
+ghost use Rattle.log_record.specs.declared.rec.Rec.{Rec};
+ghost use Rattle.log_table.specs.declared.table.Start.{Start};
+ghost use Rattle.log_table.specs.declared.view.View.{View};
+ghost use Rattle.log_table.specs.Closing.{records_of};
+ghost use Rattle.log_table.specs.Seats.{IsOf};
+ghost use Rattle.commit_pipeline.specs.declared.daemon.Daemon.{Daemon};
+ghost use Rattle.commit_pipeline.specs.Later.{HasReason};
+ghost use Rattle.commit_pipeline.specs.Turning.{IsSameDaemon};
+ghost use Rattle.txn_jobs.specs.declared.jobs.Jobs.{Jobs};
+ghost use Rattle.txn_jobs.specs.declared.cause.Cause.{Cause};
+ghost use Rattle.txn_jobs.specs.declared.cause.Worked.{Worked};
+ghost use Rattle.commit_pipeline.specs.EndLines.{done_in, done_line, refused_in};
+ghost use Rattle.lock_core.specs.History.{history, history_from};
+ghost use Rattle.lock_core.specs.Lawful.{base_state_of};
+ghost use Rattle.lock_core.specs.Serial.{numbered, IsSerialAfter};
+ghost use Rattle.lock_core.specs.Settling.{KeepsRows};
+ghost use Rattle.lock_core.specs.Sums.{BaseState};
+ghost use Rattle.log_record.specs.LogList.{end_of};
+ghost use Rattle.log_recovery.specs.Recovery.{HoldsLawful};
+ghost use Rattle.log_recovery.specs.Text.{accounts_text};
+ghost use Rattle.lsn_space.specs.declared.numerals.TheConstants.{MOST_GENERATED};
+ghost use Rattle.txn_script.specs.declared.generator.TheConstants.{GENERATED_ACCOUNTS};
+ghost use Rattle.txn_script.specs.Generator.{generated_balance, generated_transfers, OpensGenerated};
+ghost use Rattle.cli_reports.specs.Answers.{AnswersRecover};
+ghost use Rattle.cli_shared.specs.Answers.{status_of};
+ghost use Rattle.cli_shared.specs.Creation.{genesis_list};
+ghost use Rattle.cli_threads.specs.Run.{HoldsRun, RunKeepsLog, RunIsDrained, RunsWhole};
+ghost use Rattle.cli_run.specs.RunAnswers.{Outside, HoldsTold, run_text};
+ghost use Rattle.cli_threads.specs.RunStops.{StopsAtLogEnd};
+ghost use Rattle.cli_laws.specs.RunWitness.{HasMadePayment, HasHitLogEnd};
+ghost use Rattle.cli_threads.specs.Shares.{Share};
+ghost use Rattle.cli_laws.specs.Told.{HasLine, HasCommitAt, HasToldPayment};
+ghost use Rattle.cli_threads.specs.Transferred.{HasTransferred};
+ghost use Rattle.cli_demo.specs.Summary.{generated_opening, mix_below, summary_of, summary_text};
+
+use cli_shared::Detail;
+use log_disk::{LogDisk, Sink};
+
+/// A law: `recover` reads what `new` left. It finds no fault in it, and what it writes of it is the text of the new log.
+pub fn new_is_recovered()
+    ensures status { (bytes balances : List ℕ) (left old new : Option (List ℕ)) (detail : Detail)
+        → HoldsLawful bytes (genesis_list balances)
+        → AnswersRecover bytes left old new detail → status_of detail ≢ 7 }
+    ensures text { (bytes balances : List ℕ) (left old new : Option (List ℕ)) → HoldsLawful bytes (genesis_list balances)
+        → AnswersRecover bytes left old new Detail.Fine → Appends old new (accounts_text (genesis_list balances)) }
+{}
+
+/// A law: `recover` reads what `run` left. It finds no fault in it, and what it writes of it is the text of the opened list and
+/// the front that the bytes hold. So it does where the bytes hold the opened list alone.
+pub fn run_is_recovered()
+    ensures status { (bytes : List ℕ) (records : List Rec) (left old new : Option (List ℕ)) (detail : Detail)
+        → HoldsLawful bytes records → AnswersRecover bytes left old new detail → status_of detail ≢ 7 }
+    ensures text { (bytes : List ℕ) (opened list : List Rec) (jobs : Jobs) (left old new : Option (List ℕ))
+        → (held : HoldsRun opened jobs list bytes) → AnswersRecover bytes left old new Detail.Fine
+        → Appends old new (accounts_text (opened ++ held.front)) }
+{}
+
+/// A law: what is known of a run once all seats are gathered is what it promises. Of the records that it inserted, in order,
+/// each image holds a front behind the opened list, and all of them where the log was drained. A stop word that a worker
+/// read is the fault's, and a fault has its reason.
+pub fn run_keeps_log<D: LogDisk, K: Sink>()
+    ensures keeps { (opened : List Rec) (jobs : Jobs) (shares : List Share) (key : Start) (old new : Daemon D K) (view : View)
+        (lsn : ℕ) (rows : List (ℕ × ℕ)) → HasTransferred D.LogDisk K.Sink opened jobs shares key old new view lsn rows
+        → RunKeepsLog D.LogDisk old.voice opened jobs (records_of view.entries) old.flusher.disk.now new.flusher.disk.now
+        (K.held_bytes old.sink.now) (K.held_bytes new.sink.now) }
+    ensures drained { (opened : List Rec) (jobs : Jobs) (shares : List Share) (key : Start) (old new : Daemon D K) (view : View)
+        (lsn : ℕ) (rows : List (ℕ × ℕ)) → HasTransferred D.LogDisk K.Sink opened jobs shares key old new view lsn rows
+        → new.fault ≡ None
+        → RunIsDrained D.LogDisk old.voice opened jobs (records_of view.entries) old.flusher.disk.now new.flusher.disk.now
+        (K.held_bytes old.sink.now) (K.held_bytes new.sink.now) lsn rows }
+    ensures whole { (opened : List Rec) (jobs : Jobs) (shares : List Share) (key : Start) (old new : Daemon D K) (view : View)
+        (lsn : ℕ) (rows : List (ℕ × ℕ)) → HasTransferred D.LogDisk K.Sink opened jobs shares key old new view lsn rows
+        → AllByRecursion (λ (share : Share). share.worked ≡ Worked.All) shares → RunsWhole opened jobs (records_of view.entries) }
+    ensures log_end { (opened : List Rec) (jobs : Jobs) (shares : List Share) (key : Start) (old new : Daemon D K) (view : View)
+        (lsn : ℕ) (rows : List (ℕ × ℕ)) → HasTransferred D.LogDisk K.Sink opened jobs shares key old new view lsn rows
+        → new.fault ≡ None
+        → (worker taken tail total : ℕ) → get_elem? shares worker ≡ some (record { taken = taken; worked = Worked.Cut (Cause.LogEnd tail total) })
+        → StopsAtLogEnd opened jobs (records_of view.entries) tail total }
+    ensures stop { (opened : List Rec) (jobs : Jobs) (shares : List Share) (key : Start) (old new : Daemon D K) (view : View)
+        (lsn : ℕ) (rows : List (ℕ × ℕ)) → HasTransferred D.LogDisk K.Sink opened jobs shares key old new view lsn rows
+        → new.fault ≡ None
+        → (worker taken word : ℕ) → get_elem? shares worker ≡ some (record { taken = taken; worked = Worked.Cut (Cause.Stop word) }) → ⊥ }
+    ensures reason { (opened : List Rec) (jobs : Jobs) (shares : List Share) (key : Start) (old new : Daemon D K) (view : View)
+        (lsn : ℕ) (rows : List (ℕ × ℕ)) → HasTransferred D.LogDisk K.Sink opened jobs shares key old new view lsn rows
+        → HasReason D.LogDisk K.Sink old new new.fault }
+    ensures same { (opened : List Rec) (jobs : Jobs) (shares : List Share) (key : Start) (old new : Daemon D K) (view : View)
+        (lsn : ℕ) (rows : List (ℕ × ℕ)) → HasTransferred D.LogDisk K.Sink opened jobs shares key old new view lsn rows
+        → IsSameDaemon D.LogDisk K.Sink old new }
+{}
+
+/// A law: a `done` line that was written whole is of a Commit in the list of each image, which ends at the LSN of the line.
+/// `text` says so of a front of the text of an image's list, `image` of what a run told its sink. One transfer was told: `met`.
+pub fn told_commits_are_held<D: LogDisk>()
+    ensures text { (bytes text rest : List ℕ) (opened front : List Rec) (txn end : ℕ) → HoldsLawful bytes (opened ++ front)
+        → run_text opened front ≡ text ++ rest → HasLine text (done_line txn end) → HasCommitAt (end_of opened) front txn end }
+    ensures image { (opened list : List Rec) (jobs : Jobs) (old new : Outside D) (image before text : List ℕ) (txn end : ℕ)
+        → (held : HoldsTold D.LogDisk opened jobs list old new image) → old.text ≡ Some before → new.text ≡ Some (before ++ text)
+        → HasLine text (done_line txn end) → HasCommitAt (end_of opened) held.run.front txn end }
+    ensures met { HasToldPayment }
+{}
+
+/// A witness that the premises of the law on runs can be met, all at once: with any daemon whose seat is its table's there
+/// is a run of one transfer, and one that finds no room for it at the end of the log.
+pub fn one_payment_is_made()
+    ensures made { (d : Daemon ℕ (List ℕ)) → IsOf d.flusher.table.now d.flusher.seat → d.flusher.table.now.ring ≡ 1024
+        → HasMadePayment }
+    ensures log_end { Daemon ℕ (List ℕ) → HasHitLogEnd }
+{}
+
+/// A law: the summary of generated transfers is told by their number and seed, in whatever order they ran. The list of their
+/// accounts opens them.
+pub fn summary_in_any_order()
+    ensures text { (n seed first : ℕ) (base : BaseState) (records : List Rec) (rows : List (ℕ × ℕ)) → n ≤ MOST_GENERATED
+        → OpensGenerated base → base.end ≡ 2 * GENERATED_ACCOUNTS
+        → IsSerialAfter base (numbered first (generated_transfers n seed)) (history_from base.end [] records)
+        → KeepsRows rows base (history_from base.end [] records)
+        → summary_of (record { transfers = n; done = done_in records; refused = refused_in records; lsn = base.end + end_of records }) rows
+        ≡ summary_text n seed }
+    ensures opening { OpensGenerated (base_state_of (history generated_opening)) }
+    ensures start { (base_state_of (history generated_opening)).end ≡ 2 * GENERATED_ACCOUNTS }
+{}
+
+/// Mixes that were reckoned by hand.
+pub fn known_mixes()
+    ensures none { mix_below GENERATED_ACCOUNTS (generated_balance 0 7) ≡ 2080000000 }
+    ensures three { mix_below GENERATED_ACCOUNTS (generated_balance 3 7) ≡ 2080000080 }
+{}

@@ -1,0 +1,166 @@
+-- What a call came to says, of each command, what it promises where the words ask it; and what is so whatever they ask.
+use Rattle.std.proofs.Common.{◌≡◌, ◌≤◌, ◌+◌, ◌⊎◌, inl, inr, ◌∙◌, refl, ap, sym, subst, ℕ, List, arith}
+use Rattle.std.specs.Io.KnownBytes.{Keeps}
+use Rattle.command_line.specs.CommandLine.{AreTaken, IsCommandLine}
+use Rattle.command_line.specs.declared.command.Command.{Command}
+use Rattle.command_line.specs.declared.command.Command.TheVariants.{New, Run, Recover, Dump, Demo}
+use Rattle.command_line.proofs.Asking.{asks-one}
+use Rattle.log_disk.specs.declared.disk.LogDisk.{Ghosts}
+use Rattle.log_disk.specs.declared.source.Source.{Ghosts as SourceGhosts}
+use Rattle.log_disk.specs.declared.sink.Sink.{Ghosts as SinkGhosts}
+use Rattle.log_disk.proofs.Moments.{Leaves-refl}
+use Rattle.cli_shared.specs.declared.report.Detail.{Detail}
+use Rattle.cli_shared.specs.declared.report.Detail.TheVariants.{NoMemory, Usage, Read, Write, Disk}
+use Rattle.cli_shared.specs.Answers.{StaysSilent}
+use Rattle.cli_shared.proofs.ToldLemmas.{kept-text, nothing-said}
+use Rattle.cli_reports.specs.Answers.{IsOfDump, IsOfRecover}
+use Rattle.cli_new.specs.Answers.{IsOfNew}
+use Rattle.cli_run.specs.RunAnswers.{IsOfRun}
+use Rattle.cli_demo.specs.Demo.{IsOfDemo}
+use Rattle.cli_world.specs.World.{TellsFaults, World}
+use Rattle.cli_top.specs.Answered.{Answered, Does, Obeys}
+use Rattle.cli_top.specs.Asks.{AsksDemo, AsksNew, AsksRun}
+use Rattle.cli_top.proofs.DemoAsked.{silent-told}
+
+-- a detail that names the object of a fault
+abbrev IsFault : Detail → Type 0
+IsFault Read = Unit {0}
+IsFault Write = Unit {0}
+IsFault Disk = Unit {0}
+IsFault detail = ⊥
+
+module _ {D S K : Type 0} (g : Ghosts D) (h : SourceGhosts S) (i : SinkGhosts K) where
+  -- a call that did nothing has done what a command without memory does
+  nothing-done : (old : World D S K) (command : Command) → Does g h i command old old NoMemory
+  nothing-done old (New log) = record {
+    answer = nothing-said _;
+    silent = kept-text _;
+    range = tt;
+    images = λ honest. Leaves-refl _ _ _ _;
+    made = λ honest follows. absurd follows;
+    kept = λ precedes. Leaves-refl _ _ _ _;
+    unchanged = λ honest precedes. refl;
+    exists = λ honest. tt;
+    count = λ honest. omega arith;
+  }
+  nothing-done old (Run log options) = record {
+    answer = λ honest. record { silent = kept-text _; disk = record { images = Leaves-refl _ _ _ _; reads = refl; count = omega arith } };
+    silent = kept-text _;
+    range = tt;
+  }
+  nothing-done old Recover = record { answer = nothing-said _; silent = kept-text _; range = tt; untouched = refl }
+  nothing-done old Dump = record { answer = nothing-said _; silent = kept-text _; range = tt; untouched = refl }
+  nothing-done old (Demo log n seed options) = record {
+    answer = λ honest. record { images = Leaves-refl _ _ _ _; reads = refl; count = omega arith };
+    text = kept-text _;
+    range = tt;
+    exists = λ honest. tt;
+    unread = refl;
+  }
+
+  no-faults : (old : World D S K) (detail : Detail) → (IsFault detail → ⊥) → TellsFaults g h i old old detail
+  no-faults old detail none = record {
+    read = λ read. absurd (none (subst IsFault (sym read) tt));
+    write = λ write. absurd (none (subst IsFault (sym write) tt));
+    disk = λ disk. absurd (none (subst IsFault (sym disk) tt));
+    no_fault = λ not_disk. refl;
+    later = (omega arith, omega arith);
+    later_disk = omega arith;
+    honest = (λ honest. honest, λ honest. honest);
+  }
+
+  not-usage : (old new : World D S K) (detail : Detail) (command : Command) → Does g h i command old new detail → detail ≡ Usage → ⊥
+  not-usage old new detail (New log) done usage = subst IsOfNew usage done.range
+  not-usage old new detail (Run log options) done usage = subst IsOfRun usage done.range
+  not-usage old new detail Recover done usage = subst IsOfRecover usage done.range
+  not-usage old new detail Dump done usage = subst IsOfDump usage done.range
+  not-usage old new detail (Demo log n seed options) done usage = subst IsOfDemo usage done.range
+
+  done-untouched : (words : List (List ℕ)) (old new : World D S K) (detail : Detail) (command : Command) → IsCommandLine words command
+      → Does g h i command old new detail → (AsksNew words → ⊥) → (AsksRun words → ⊥) → (AsksDemo words → ⊥) → new.disk ≡ old.disk
+  done-untouched words old new detail (New log) asked done not_new not_run not_demo = absurd (not_new (log, asked))
+  done-untouched words old new detail (Run log options) asked done not_new not_run not_demo = absurd (not_run (log, options, asked))
+  done-untouched words old new detail Recover asked done not_new not_run not_demo = done.untouched
+  done-untouched words old new detail Dump asked done not_new not_run not_demo = done.untouched
+  done-untouched words old new detail (Demo log n seed options) asked done not_new not_run not_demo =
+      absurd (not_demo (log, n, seed, options, asked))
+
+  done-count : (words : List (List ℕ)) (old new : World D S K) (detail : Detail) (command : Command) → IsCommandLine words command
+      → Does g h i command old new detail → (AsksRun words → ⊥) → (AsksDemo words → ⊥) → g.honest old.disk
+      → g.written_count new.disk ≤ g.written_count old.disk + 7
+  done-count words old new detail (New log) asked done not_run not_demo honest = done.count honest
+  done-count words old new detail (Run log options) asked done not_run not_demo honest = absurd (not_run (log, options, asked))
+  done-count words old new detail Recover asked done not_run not_demo honest =
+      subst (λ w. g.written_count w ≤ g.written_count old.disk + 7) (sym done.untouched) (omega arith)
+  done-count words old new detail Dump asked done not_run not_demo honest =
+      subst (λ w. g.written_count w ≤ g.written_count old.disk + 7) (sym done.untouched) (omega arith)
+  done-count words old new detail (Demo log n seed options) asked done not_run not_demo honest =
+      absurd (not_demo (log, n, seed, options, asked))
+
+  done-silent : (words : List (List ℕ)) (old new : World D S K) (detail : Detail) (command : Command) → IsCommandLine words command
+      → Does g h i command old new detail → (AsksRun words → ⊥) → StaysSilent (i.held_bytes old.out) (i.held_bytes new.out) detail
+  done-silent words old new detail (New log) asked done not_run = done.silent
+  done-silent words old new detail (Run log options) asked done not_run = absurd (not_run (log, options, asked))
+  done-silent words old new detail Recover asked done not_run = done.silent
+  done-silent words old new detail Dump asked done not_run = done.silent
+  done-silent words old new detail (Demo log n seed options) asked done not_run = silent-told n seed _ _ detail done.text
+
+  still-kept : (old new : World D S K) → new ≡ old → Keeps (i.held_bytes old.out) (i.held_bytes new.out)
+  still-kept old new same = subst (λ (w : World D S K). Keeps (i.held_bytes old.out) (i.held_bytes w.out)) (sym same) (kept-text _)
+
+  module _ (words : List (List ℕ)) (old new : World D S K) (detail : Detail) where
+    pub faults-of : Answered g h i words old new detail → TellsFaults g h i old new detail
+    faults-of (inl has) = has.obeys.faults
+    faults-of (inr (inl (usage, none, same))) =
+        subst (λ w. TellsFaults g h i old w detail) (sym same) (no-faults old detail (λ fault. subst IsFault usage fault))
+    faults-of (inr (inr (memory, same))) =
+        subst (λ w. TellsFaults g h i old w detail) (sym same) (no-faults old detail (λ fault. subst IsFault memory fault))
+
+    -- where the words ask this command, it did what it promises
+    pub done-of : Answered g h i words old new detail → (command : Command) → IsCommandLine words command → Does g h i command old new detail
+    done-of (inl has) command asked = subst (λ c. Does g h i c old new detail) (asks-one words has.command command has.asked asked) has.obeys.done
+    done-of (inr (inl (usage, none, same))) command asked = absurd (none (command, asked))
+    done-of (inr (inr (memory, same))) command asked =
+        subst (λ d. Does g h i command old new d) (sym memory) (subst (λ w. Does g h i command old w NoMemory) (sym same) (nothing-done old command))
+
+    pub usage-of : Answered g h i words old new detail → detail ≡ Usage → AreTaken words → ⊥
+    usage-of (inl has) usage taken = not-usage old new detail has.command has.obeys.done usage
+    usage-of (inr (inl (_, none, same))) usage taken = none taken
+    usage-of (inr (inr (memory, same))) usage taken = subst IsOfRecover (sym memory ∙ usage) tt
+
+    pub refused-of : Answered g h i words old new detail → (AreTaken words → ⊥) → (detail ≡ Usage) ⊎ (detail ≡ NoMemory)
+    refused-of (inl has) none = absurd (none (has.command, has.asked))
+    refused-of (inr (inl (usage, _, same))) none = inl usage
+    refused-of (inr (inr (memory, same))) none = inr memory
+
+    -- words that ask nothing change nothing
+    pub same-of : Answered g h i words old new detail → (AreTaken words → ⊥) → new ≡ old
+    same-of (inl has) none = absurd (none (has.command, has.asked))
+    same-of (inr (inl (usage, _, same))) none = same
+    same-of (inr (inr (memory, same))) none = same
+
+    pub untouched-of : Answered g h i words old new detail → (AsksNew words → ⊥) → (AsksRun words → ⊥) → (AsksDemo words → ⊥) → new.disk ≡ old.disk
+    untouched-of (inl has) = done-untouched words old new detail has.command has.asked has.obeys.done
+    untouched-of (inr (inl (usage, _, same))) = λ not_new not_run not_demo. ap (λ (w : World D S K). w.disk) same
+    untouched-of (inr (inr (memory, same))) = λ not_new not_run not_demo. ap (λ (w : World D S K). w.disk) same
+
+    pub count-of : Answered g h i words old new detail → (AsksRun words → ⊥) → (AsksDemo words → ⊥) → g.honest old.disk
+        → g.written_count new.disk ≤ g.written_count old.disk + 7
+    count-of (inl has) = done-count words old new detail has.command has.asked has.obeys.done
+    count-of (inr (inl (usage, _, same))) = λ not_run not_demo honest.
+        subst (λ w. g.written_count w ≤ g.written_count old.disk + 7) (sym (ap (λ (w : World D S K). w.disk) same)) (omega arith)
+    count-of (inr (inr (memory, same))) = λ not_run not_demo honest.
+        subst (λ w. g.written_count w ≤ g.written_count old.disk + 7) (sym (ap (λ (w : World D S K). w.disk) same)) (omega arith)
+
+    pub silent-of : Answered g h i words old new detail → (AsksRun words → ⊥) → StaysSilent (i.held_bytes old.out) (i.held_bytes new.out) detail
+    silent-of (inl has) = done-silent words old new detail has.command has.asked has.obeys.done
+    silent-of (inr (inl (usage, _, same))) = λ not_run.
+        subst (StaysSilent (i.held_bytes old.out) (i.held_bytes new.out)) (sym usage) (still-kept old new same)
+    silent-of (inr (inr (memory, same))) = λ not_run.
+        subst (StaysSilent (i.held_bytes old.out) (i.held_bytes new.out)) (sym memory) (still-kept old new same)
+
+  -- the command that was given did what it promises, and what it answered is the detail
+  pub obeyed : (old new : World D S K) (answered detail : Detail) (command given : Command) → given ≡ command → TellsFaults g h i old new answered
+      → Does g h i command old new answered → answered ≡ detail → Obeys g h i given old new detail
+  obeyed old new answered detail command given is faults done told =
+      subst (λ c. Obeys g h i c old new detail) (sym is) (subst (Obeys g h i command old new) told (record { faults = faults; done = done }))

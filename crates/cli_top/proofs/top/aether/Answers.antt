@@ -1,0 +1,65 @@
+use Rattle.std.proofs.Common.{◌∙◌, sym, ap, subst}
+use Rattle.command_line.specs.declared.command.Command.TheVariants.{New, Run, Recover, Dump, Demo}
+use Rattle.cli_shared.specs.Answers.{status_of}
+use Rattle.cli_world.specs.World.{World, world}
+use Rattle.cli_top.specs.Answered.{Answered}
+use Rattle.cli_top.proofs.AnsweredLemmas.{count-of, done-of, faults-of, refused-of, same-of, silent-of, untouched-of, usage-of}
+use Rattle.cli_top.proofs.CompletenessLemmas.{dump-complete, new-complete, recover-complete}
+use Rattle.cli_top.proofs.DemoCompleteness.{demo-complete}
+use Rattle.cli_top.proofs.RunCompleteness.{run-complete}
+use Rattle.cli_top.proofs.top.aether.Goals as goal
+
+pub returns : goal.returns
+returns g c =
+    let words = c.args.words.now in
+    let old = world c.args.disk.now c.args.script.now c.args.out.now in
+    let new = world c.answer.new.disk c.answer.new.script c.answer.new.out in
+    let detail = c.of.result.detail in
+    let came : Answered g.D.LogDisk g.S.Source g.K.Sink words old new detail =
+    subst (Answered g.D.LogDisk g.S.Source g.K.Sink words old new) (sym c.of.ensures.detail) c.answer.ensures in
+    let faults = faults-of _ _ _ words old new detail came in
+    let done = done-of _ _ _ words old new detail came in
+    record {
+      status = c.of.ensures.status ∙ ap status_of (sym c.of.ensures.detail);
+      usage = usage-of _ _ _ words old new detail came;
+      refused = refused-of _ _ _ words old new detail came;
+      unread = λ none. ap (λ (w : World _ _ _). w.script) (same-of _ _ _ words old new detail came none);
+      unwritten = λ none. ap (λ (w : World _ _ _). w.out) (same-of _ _ _ words old new detail came none);
+      untouched = untouched-of _ _ _ words old new detail came;
+      recover = λ asked. (done Recover asked).answer;
+      of_recover = λ asked. (done Recover asked).range;
+      complete_recover = λ asked. recover-complete _ _ _ _ _ _ detail (done Recover asked).answer faults.read faults.write;
+      dump = λ asked. (done Dump asked).answer;
+      of_dump = λ asked. (done Dump asked).range;
+      complete_dump = λ asked. dump-complete _ _ _ _ _ _ detail (done Dump asked).answer faults.read faults.write;
+      new = λ asked. (done (New asked.0) asked.1).answer;
+      of_new = λ asked. (done (New asked.0) asked.1).range;
+      images = λ asked. (done (New asked.0) asked.1).images;
+      made = λ asked. (done (New asked.0) asked.1).made;
+      kept = λ asked. (done (New asked.0) asked.1).kept;
+      unchanged = λ asked. (done (New asked.0) asked.1).unchanged;
+      exists = λ asked. (done (New asked.0) asked.1).exists;
+      count = count-of _ _ _ words old new detail came;
+      complete = λ asked honest closed. new-complete _ _ _ _ _ _ _ _ detail (done (New asked.0) asked.1).answer
+          ((done (New asked.0) asked.1).exists honest) faults.read faults.write faults.disk closed;
+      run = λ log options asked. (done (Run log options) asked).answer;
+      of_run = λ asked. (done (Run asked.0 asked.1) asked.2).range;
+      quiet = λ asked. (done (Run asked.0 asked.1) asked.2).silent;
+      complete_run = λ asked honest. run-complete g.D.LogDisk _ _ _ _ _ _ _ _ _ _ detail ((done (Run asked.0 asked.1) asked.2).answer honest)
+          faults.read faults.write faults.disk;
+      demo = λ log n seed options asked. (done (Demo log n seed options) asked).answer;
+      summary = λ log n seed options asked. (done (Demo log n seed options) asked).text;
+      of_demo = λ asked. (done (Demo asked.0 asked.1 asked.2 asked.3) asked.4).range;
+      exists_demo = λ asked. (done (Demo asked.0 asked.1 asked.2 asked.3) asked.4).exists;
+      unread_demo = λ asked. (done (Demo asked.0 asked.1 asked.2 asked.3) asked.4).unread;
+      complete_demo = λ asked honest. demo-complete _ _ _ detail (done (Demo asked.0 asked.1 asked.2 asked.3) asked.4).range
+          ((done (Demo asked.0 asked.1 asked.2 asked.3) asked.4).exists honest) faults.write faults.disk;
+      silent = silent-of _ _ _ words old new detail came;
+      honest = faults.honest;
+      read = faults.read;
+      write = faults.write;
+      disk = faults.disk;
+      no_fault = faults.no_fault;
+      later = faults.later;
+      later_disk = faults.later_disk;
+    }

@@ -1,0 +1,182 @@
+ghost use Rattle.std.specs.Prelude.{◌≡◌, ◌≤◌, ◌+◌, ◌⊎◌, ◌↔◌, ℕ, List, length, IfSome};
+ghost use Rattle.command_line.specs.CommandLine.{IsCommandLine, AreTaken};
+ghost use Rattle.command_line.specs.declared.command.Command.TheVariants.{New, Run, Recover, Dump, Demo};
+ghost use Rattle.command_line.specs.declared.options.RunOptions.{RunOptions};
+ghost use Rattle.log_disk.specs.Disk.{Leaves};
+ghost use Rattle.log_disk.specs.Faults.{Rose};
+ghost use Rattle.log_record.specs.declared.limits.TheConstants.{LAST_TXN};
+ghost use Rattle.log_record.specs.declared.rec.Rec.{Rec};
+ghost use Rattle.log_recovery.specs.Recovery.{HoldsLawful, HoldsList};
+ghost use Rattle.segment_file.specs.File.{BeginsOpen};
+ghost use Rattle.txn_script.specs.Balances.{IsBalancesText};
+ghost use Rattle.cli_shared.specs.Answers.{status_of, StaysSilent};
+ghost use Rattle.cli_reports.specs.Answers.{AnswersRecover, AnswersDump, IsOfDump, IsOfRecover};
+ghost use Rattle.cli_new.specs.Answers.{AnswersNew, IsOfNew};
+ghost use Rattle.cli_top.specs.Answered.{Answered, Obeys};
+ghost use Rattle.cli_world.specs.World.{world};
+ghost use Rattle.cli_top.specs.Asks.{AsksNew, AsksRun, AsksDemo};
+ghost use Rattle.cli_demo.specs.Demo.{AnswersDemo, IsOfDemo, TellsSummary};
+ghost use Rattle.cli_new.specs.Creation.{AllHoldNew, FollowsLog, MayBeLeft, PrecedesLog};
+ghost use Rattle.cli_shared.specs.Creation.{TellsWhether};
+ghost use Rattle.cli_run.specs.RunAnswers.{AnswersRun, IsOfRun, IsRunDone, RunStaysSilent, accounts_of, next_txn, outside};
+ghost use Rattle.lock_core.specs.declared.job.Job.{Job};
+ghost use Rattle.txn_script.specs.Script.{IsScriptText};
+
+use cli_demo::demo_command::demo_command;
+use cli_run::run_command::run_command;
+use cli_shared::{Detail, Report};
+use cli_world::{obey_dump, obey_new, obey_recover};
+use command_line::{Command, Refused, parse};
+use log_disk::{Gate, LogDisk, Sink, Source};
+use lsn_space::Word;
+use std::alloc::Global;
+use std::sync::Wait;
+use std::thread::Threads;
+
+/// All that the program does, on its words, the program's name first, on a disk, and on what it reads and writes.
+pub fn aether<R: Threads + Wait + Sync, D: LogDisk, S: Source, K: Sink, G: Gate + Sync>(
+    rt: &R,
+    alloc: Global,
+    words: &[Word],
+    disk: &mut D,
+    script: &mut S,
+    out: &mut K,
+    gate: &G,
+) -> Report
+    ensures status { result.status ≡ status_of result.detail }
+
+    // The words alone decide whether they are a command; where they aren't, nothing is read or written.
+    ensures usage { result.detail ≡ Detail.Usage → AreTaken words.now → ⊥ }
+    ensures refused { (AreTaken words.now → ⊥) → (result.detail ≡ Detail.Usage) ⊎ (result.detail ≡ Detail.NoMemory) }
+    ensures unread { (AreTaken words.now → ⊥) → script.new ≡ script.old }
+    ensures unwritten { (AreTaken words.now → ⊥) → out.new ≡ out.old }
+    ensures untouched { (AsksNew words.now → ⊥) → (AsksRun words.now → ⊥) → (AsksDemo words.now → ⊥) → disk.new ≡ disk.old }
+
+    // `recover`: for the bytes of the input, the text that is written, and what is left of both; and a lawful list is recovered.
+    ensures recover { IsCommandLine words.now Recover → IfSome (S.left script.old) (λ bytes.
+        AnswersRecover bytes (S.left script.new) (K.held_bytes out.old) (K.held_bytes out.new) result.detail) }
+    ensures of_recover { IsCommandLine words.now Recover → IsOfRecover result.detail }
+    ensures complete_recover { IsCommandLine words.now Recover
+        → IfSome (S.left script.old) (λ bytes. (records : List Rec) → HoldsLawful bytes records
+        → (Rose (S.faults script.old) (S.faults script.new) → ⊥) → (Rose (K.faults out.old) (K.faults out.new) → ⊥)
+        → (result.detail ≡ Detail.Fine) ⊎ (result.detail ≡ Detail.NoMemory)) }
+
+    // `dump`: the same, and where the bytes hold a list it is shown.
+    ensures dump { IsCommandLine words.now Dump → IfSome (S.left script.old) (λ bytes.
+        AnswersDump bytes (S.left script.new) (K.held_bytes out.old) (K.held_bytes out.new) result.detail) }
+    ensures of_dump { IsCommandLine words.now Dump → IsOfDump result.detail }
+    ensures complete_dump { IsCommandLine words.now Dump
+        → IfSome (S.left script.old) (λ bytes. (records : List Rec) → HoldsList bytes records
+        → (Rose (S.faults script.old) (S.faults script.new) → ⊥) → (Rose (K.faults out.old) (K.faults out.new) → ⊥)
+        → (result.detail ≡ Detail.Fine) ⊎ (result.detail ≡ Detail.NoMemory)) }
+
+    // `new`: the same, and what a crash may leave of the disk.
+    ensures new { AsksNew words.now → IfSome (S.left script.old) (λ bytes.
+        AnswersNew bytes (S.left script.new) (K.held_bytes out.old) (K.held_bytes out.new) result.detail) }
+    ensures of_new { AsksNew words.now → IsOfNew result.detail }
+    ensures images { AsksNew words.now → D.honest disk.old
+        → Leaves D.moment D.images_since (MayBeLeft (S.left script.old) (D.images disk.old)) disk.old disk.new }
+    ensures made { AsksNew words.now → D.honest disk.old → FollowsLog result.detail
+        → AllHoldNew (S.left script.old) (D.images disk.new) }
+    ensures kept { AsksNew words.now → PrecedesLog result.detail
+        → Leaves D.moment D.images_since (D.images disk.old) disk.old disk.new }
+    ensures unchanged { AsksNew words.now → D.honest disk.old → PrecedesLog result.detail → D.reads disk.new ≡ D.reads disk.old }
+    ensures exists { AsksNew words.now → D.honest disk.old → TellsWhether (BeginsOpen (D.reads disk.old)) result.detail }
+    ensures count { (AsksRun words.now → ⊥) → (AsksDemo words.now → ⊥) → D.honest disk.old → D.written_count disk.new ≤ D.written_count disk.old + 7 }
+    ensures complete { AsksNew words.now → D.honest disk.old → (BeginsOpen (D.reads disk.old) → ⊥)
+        → IfSome (S.left script.old) (λ bytes. (balances : List ℕ) → IsBalancesText bytes balances
+        → (Rose (S.faults script.old) (S.faults script.new) → ⊥) → (Rose (K.faults out.old) (K.faults out.new) → ⊥)
+        → (Rose (D.faults disk.old) (D.faults disk.new) → ⊥)
+        → (result.detail ≡ Detail.Fine) ⊎ (result.detail ≡ Detail.NoMemory)) }
+
+    // `run`: what a crash may leave of the disk at each moment, what was written, and why it ended.
+    ensures run { (log : List ℕ) (options : RunOptions) → IsCommandLine words.now (Run log options) → D.honest disk.old
+        → AnswersRun D.LogDisk options.workers (outside disk.old (S.left script.old) (K.held_bytes out.old))
+        (outside disk.new (S.left script.new) (K.held_bytes out.new)) result.detail }
+    ensures of_run { AsksRun words.now → IsOfRun result.detail }
+    ensures quiet { AsksRun words.now → RunStaysSilent (K.held_bytes out.old) (K.held_bytes out.new) result.detail }
+
+    ensures complete_run { AsksRun words.now → D.honest disk.old
+        → IfSome (S.left script.old) (λ bytes. (opened : List Rec) (jobs : List Job) → HoldsLawful (D.reads disk.old) opened
+        → IsScriptText (accounts_of opened) bytes jobs → next_txn opened + length jobs ≤ LAST_TXN
+        → (Rose (S.faults script.old) (S.faults script.new) → ⊥) → (Rose (K.faults out.old) (K.faults out.new) → ⊥)
+        → (Rose (D.faults disk.old) (D.faults disk.new) → ⊥) → IsRunDone result.detail) }
+
+    // `demo`: what a crash may leave of the disk at each moment, and the summary, which is the same whatever the options. It reads nothing.
+    ensures demo { (log : List ℕ) (n seed : ℕ) (options : RunOptions) → IsCommandLine words.now (Demo log n seed options)
+        → D.honest disk.old → AnswersDemo D.LogDisk n seed options.workers disk.old disk.new result.detail }
+    ensures summary { (log : List ℕ) (n seed : ℕ) (options : RunOptions) → IsCommandLine words.now (Demo log n seed options)
+        → TellsSummary n seed (K.held_bytes out.old) (K.held_bytes out.new) result.detail }
+    ensures of_demo { AsksDemo words.now → IsOfDemo result.detail }
+    ensures exists_demo { AsksDemo words.now → D.honest disk.old → TellsWhether (BeginsOpen (D.reads disk.old)) result.detail }
+    ensures unread_demo { AsksDemo words.now → script.new ≡ script.old }
+    ensures complete_demo { AsksDemo words.now → D.honest disk.old → (BeginsOpen (D.reads disk.old) → ⊥)
+        → (Rose (K.faults out.old) (K.faults out.new) → ⊥) → (Rose (D.faults disk.old) (D.faults disk.new) → ⊥)
+        → (result.detail ≡ Detail.Fine) ⊎ (result.detail ≡ Detail.NoMemory) }
+
+    // By the commands other than `run` nothing is written but where all is fine or the writing failed.
+    ensures silent { (AsksRun words.now → ⊥) → StaysSilent (K.held_bytes out.old) (K.held_bytes out.new) result.detail }
+
+    // What is said of an honest disk may be said of it again at the next call.
+    ensures honest { D.honest disk.old ↔ D.honest disk.new }
+
+    // A fault comes only where the object that it names counted one in this call.
+    ensures read { result.detail ≡ Detail.Read → Rose (S.faults script.old) (S.faults script.new) }
+    ensures write { result.detail ≡ Detail.Write → Rose (K.faults out.old) (K.faults out.new) }
+    ensures disk { result.detail ≡ Detail.Disk → Rose (D.faults disk.old) (D.faults disk.new) }
+
+    // A call of the disk that failed isn't tried again, and its fault is answered.
+    ensures no_fault { (result.detail ≡ Detail.Disk → ⊥) → D.faults disk.new ≡ D.faults disk.old }
+    ensures later { (S.faults script.old ≤ S.faults script.new) × (K.faults out.old ≤ K.faults out.new) }
+    ensures later_disk { D.faults disk.old ≤ D.faults disk.new }
+{
+    Report::of(answer(rt, alloc, words, disk, script, out, gate))
+}
+
+/// What the command answers that the words ask, or why they ask none.
+fn answer<R: Threads + Wait + Sync, D: LogDisk, S: Source, K: Sink, G: Gate + Sync>(
+    rt: &R,
+    alloc: Global,
+    words: &[Word],
+    disk: &mut D,
+    script: &mut S,
+    out: &mut K,
+    gate: &G,
+) -> Detail
+    ensures { Answered D.LogDisk S.Source K.Sink words.now (world disk.old script.old out.old) (world disk.new script.new out.new) result }
+{
+    match parse(alloc, words) {
+        Ok(command) => obey(rt, alloc, &command, disk, script, out, gate),
+        Err(Refused::Usage) => Detail::Usage,
+        Err(Refused::NoMemory) => Detail::NoMemory,
+    }
+}
+
+/// What the command answers.
+fn obey<R: Threads + Wait + Sync, D: LogDisk, S: Source, K: Sink, G: Gate + Sync>(
+    rt: &R,
+    alloc: Global,
+    command: &Command,
+    disk: &mut D,
+    script: &mut S,
+    out: &mut K,
+    gate: &G,
+) -> Detail
+    requires asked { (words : List (List ℕ)) × IsCommandLine words command.now }
+    ensures { Obeys D.LogDisk S.Source K.Sink command.now (world disk.old script.old out.old) (world disk.new script.new out.new) result }
+{
+    match command {
+        Command::New { log } => obey_new(alloc, log, disk, script, out),
+        Command::Run { log, options } => {
+            run_command(rt, alloc, log, options, disk, script, out, gate)
+        }
+        Command::Recover => obey_recover(alloc, disk, script, out),
+        Command::Dump => obey_dump(alloc, disk, script, out),
+        Command::Demo {
+            log,
+            transfers,
+            seed,
+            options,
+        } => demo_command(rt, alloc, log, *transfers, *seed, options, disk, out, gate),
+    }
+}

@@ -1,0 +1,27 @@
+use Rattle.cli_world.proofs.commands.obey_new.Goals as goal
+
+pub returns : goal.returns
+returns g c =
+    let called = c.new_command.ensures in
+    record {
+      done = record {
+        answer = called.answer;
+        silent = called.silent;
+        range = called.range;
+        images = called.images;
+        made = called.made;
+        kept = called.kept;
+        unchanged = called.unchanged;
+        exists = called.exists;
+        count = called.count;
+      };
+      faults = record {
+        read = called.read;
+        write = called.write;
+        disk = called.disk;
+        no_fault = called.no_fault;
+        later = called.later;
+        later_disk = called.later_disk;
+        honest = called.honest;
+      };
+    }

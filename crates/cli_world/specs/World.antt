@@ -1,0 +1,62 @@
+-- What a command works on, and what those do to it that need no workers. `g`, `h` and `i` are what the disk, the input and the output show; `old`
+-- and `new` are the three of them before and after. The fields are the clauses of the commands.
+use Rattle.std.specs.Prelude.{◌≡◌, ◌≤◌, ◌+◌, ◌↔◌, IfSome}
+use Rattle.log_disk.specs.Disk.{Leaves}
+use Rattle.log_disk.specs.Faults.{Rose}
+use Rattle.log_disk.specs.declared.disk.LogDisk.{Ghosts}
+use Rattle.log_disk.specs.declared.source.Source.{Ghosts as SourceGhosts}
+use Rattle.log_disk.specs.declared.sink.Sink.{Ghosts as SinkGhosts}
+use Rattle.segment_file.specs.File.{BeginsOpen}
+use Rattle.cli_shared.specs.declared.report.Detail.{Detail}
+use Rattle.cli_shared.specs.declared.report.Detail.TheVariants.{Read, Write, Disk}
+use Rattle.cli_shared.specs.Answers.{StaysSilent}
+use Rattle.cli_shared.specs.Creation.{TellsWhether}
+use Rattle.cli_reports.specs.Answers.{AnswersRecover, AnswersDump, IsOfDump, IsOfRecover}
+use Rattle.cli_new.specs.Answers.{AnswersNew, IsOfNew}
+use Rattle.cli_new.specs.Creation.{AllHoldNew, FollowsLog, MayBeLeft, PrecedesLog}
+
+-- what the program works on
+pub record World (D S K : Type 0) : Type 0 where
+  pub disk : D
+  pub script : S
+  pub out : K
+
+abbrev pub world : {D S K : Type 0} → D → S → K → World D S K
+world disk script out = record { disk = disk; script = script; out = out }
+
+-- A fault is answered only where the object that it names counted one, and one of the disk wherever the disk did. Counts don't fall.
+pub record TellsFaults {D S K : Type 0} (g : Ghosts D) (h : SourceGhosts S) (i : SinkGhosts K) (old new : World D S K) (detail : Detail) : Type 0 where
+  pub read : detail ≡ Read → Rose (h.faults old.script) (h.faults new.script)
+  pub write : detail ≡ Write → Rose (i.faults old.out) (i.faults new.out)
+  pub disk : detail ≡ Disk → Rose (g.faults old.disk) (g.faults new.disk)
+  pub no_fault : (detail ≡ Disk → ⊥) → g.faults new.disk ≡ g.faults old.disk
+  pub later : (h.faults old.script ≤ h.faults new.script) × (i.faults old.out ≤ i.faults new.out)
+  pub later_disk : g.faults old.disk ≤ g.faults new.disk
+  pub honest : g.honest old.disk ↔ g.honest new.disk
+
+pub record DoesNew {D S K : Type 0} (g : Ghosts D) (h : SourceGhosts S) (i : SinkGhosts K) (old new : World D S K) (detail : Detail) : Type 0 where
+  pub answer : IfSome (h.left old.script) (λ bytes.
+      AnswersNew bytes (h.left new.script) (i.held_bytes old.out) (i.held_bytes new.out) detail)
+  pub silent : StaysSilent (i.held_bytes old.out) (i.held_bytes new.out) detail
+  pub range : IsOfNew detail
+  pub images : g.honest old.disk
+      → Leaves g.moment g.images_since (MayBeLeft (h.left old.script) (g.images old.disk)) old.disk new.disk
+  pub made : g.honest old.disk → FollowsLog detail → AllHoldNew (h.left old.script) (g.images new.disk)
+  pub kept : PrecedesLog detail → Leaves g.moment g.images_since (g.images old.disk) old.disk new.disk
+  pub unchanged : g.honest old.disk → PrecedesLog detail → g.reads new.disk ≡ g.reads old.disk
+  pub exists : g.honest old.disk → TellsWhether (BeginsOpen (g.reads old.disk)) detail
+  pub count : g.honest old.disk → g.written_count new.disk ≤ g.written_count old.disk + 7
+
+pub record DoesRecover {D S K : Type 0} (h : SourceGhosts S) (i : SinkGhosts K) (old new : World D S K) (detail : Detail) : Type 0 where
+  pub answer : IfSome (h.left old.script) (λ bytes.
+      AnswersRecover bytes (h.left new.script) (i.held_bytes old.out) (i.held_bytes new.out) detail)
+  pub silent : StaysSilent (i.held_bytes old.out) (i.held_bytes new.out) detail
+  pub range : IsOfRecover detail
+  pub untouched : new.disk ≡ old.disk
+
+pub record DoesDump {D S K : Type 0} (h : SourceGhosts S) (i : SinkGhosts K) (old new : World D S K) (detail : Detail) : Type 0 where
+  pub answer : IfSome (h.left old.script) (λ bytes.
+      AnswersDump bytes (h.left new.script) (i.held_bytes old.out) (i.held_bytes new.out) detail)
+  pub silent : StaysSilent (i.held_bytes old.out) (i.held_bytes new.out) detail
+  pub range : IsOfDump detail
+  pub untouched : new.disk ≡ old.disk
