@@ -4,7 +4,7 @@ use Rattle.log_disk.specs.declared.disk.LogDisk.{Ghosts}
 use Rattle.log_disk.specs.declared.sink.Sink.{Ghosts as SinkGhosts}
 use Rattle.lock_core.specs.History.{history}
 use Rattle.lock_core.specs.Lawful.{base_state_of}
-use Rattle.commit_pipeline.specs.declared.voice.Voice.TheVariants.{Count}
+use Rattle.end_lines.specs.declared.voice.Voice.TheVariants.{Count}
 use Rattle.cli_ending.specs.declared.conclusion.Ended.{Ended}
 use Rattle.cli_threads.specs.declared.transfers.Prepared.{Prepared}
 use Rattle.cli_threads.specs.Ending.{HasEnded}

@@ -3,7 +3,7 @@ use Rattle.std.specs.Prelude.{◌≡◌, ◌≤◌, ℕ, false, None}
 use Rattle.log_disk.specs.Faults.{Rose}
 use Rattle.log_disk.specs.declared.disk.LogDisk.{Ghosts}
 use Rattle.log_disk.specs.declared.sink.Sink.{Ghosts as SinkGhosts}
-use Rattle.commit_pipeline.specs.declared.voice.Voice.TheVariants.{Count}
+use Rattle.end_lines.specs.declared.voice.Voice.TheVariants.{Count}
 use Rattle.cli_shared.specs.declared.report.Detail.{Detail}
 use Rattle.cli_shared.specs.declared.report.Detail.TheVariants.{Write}
 use Rattle.cli_ending.specs.declared.conclusion.Ended.{Ended}

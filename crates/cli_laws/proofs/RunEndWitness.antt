@@ -35,9 +35,9 @@ use Rattle.log_table.specs.Sound.{base_of}
 use Rattle.log_table.specs.Views.{flusher}
 use Rattle.commit_pipeline.specs.declared.daemon.Daemon.{Daemon}
 use Rattle.end_lines.specs.declared.voice.Voice.TheVariants.{Lines}
-use Rattle.txn_runner.specs.declared.cause.Cause.TheVariants.{LogEnd}
-use Rattle.txn_runner.specs.declared.cause.Worked.TheVariants.{Cut}
-use Rattle.txn_runner.specs.declared.jobs.Jobs.{Jobs}
+use Rattle.txn_jobs.specs.declared.cause.Cause.TheVariants.{LogEnd}
+use Rattle.txn_jobs.specs.declared.cause.Worked.TheVariants.{Cut}
+use Rattle.txn_jobs.specs.declared.jobs.Jobs.{Jobs}
 use Rattle.cli_laws.specs.RunWitness.{payment, plain_disk, HasHitLogEnd}
 use Rattle.cli_threads.specs.Shares.{Share, IsGivenUncommitted, HasShare}
 use Rattle.cli_threads.specs.Transferred.{IsOpened}

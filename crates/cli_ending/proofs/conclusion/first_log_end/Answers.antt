@@ -1,8 +1,8 @@
 use Rattle.std.proofs.Common.{rules, ◌∙◌, ap, subst, ◌∷◌, ◌++◌, take, drop, suc, arith}
 use Rattle.std.proofs.Math.Seq.{split_at}
 use Rattle.std.proofs.lemmas.List.{take_all}
-use Rattle.txn_runner.specs.declared.cause.Worked.TheVariants.{Cut}
-use Rattle.txn_runner.specs.declared.cause.Cause.TheVariants.{LogEnd}
+use Rattle.txn_jobs.specs.declared.cause.Worked.TheVariants.{Cut}
+use Rattle.txn_jobs.specs.declared.cause.Cause.TheVariants.{LogEnd}
 use Rattle.cli_ending.specs.Ending.{AreWhole}
 use Rattle.cli_ending.proofs.conclusion.first_log_end.Goals as goal
 
