@@ -1,5 +1,5 @@
 //! A turn, and what is kept of one that failed.
-ghost use Rattle.std.specs.Prelude.{◌≡◌, IfOk, IfErr, OnOk};
+ghost use Rattle.std.specs.Prelude.{IfOk, IfErr, OnOk};
 ghost use Rattle.commit_pipeline.specs.Later.{Later};
 ghost use Rattle.commit_pipeline.specs.Turning.{MayTurn, IsSameDaemon, Turns, Fails};
 

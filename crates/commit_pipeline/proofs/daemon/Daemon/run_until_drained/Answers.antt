@@ -23,4 +23,4 @@ loop-preserved g c =
     }
 
 pub returns-in-At-clause-drained : goal.returns-in-At-clause-drained
-returns-in-At-clause-drained g c = search rules steps 1200000
+returns-in-At-clause-drained g c = search rules steps 400000
