@@ -18,6 +18,8 @@ use Rattle.cli_new.specs.Answers.{IsOfNew}
 use Rattle.cli_run.specs.RunAnswers.{IsOfRun}
 use Rattle.cli_demo.specs.Demo.{IsOfDemo}
 use Rattle.cli_world.specs.World.{TellsFaults, World}
+use Rattle.cli_world.specs.Alone.{AnsweredAlone, DoesAlone}
+use Rattle.cli_world.specs.declared.answer.Answer.TheVariants.{Done}
 use Rattle.cli_top.specs.Answered.{Answered, Does, Obeys}
 use Rattle.cli_top.specs.Asks.{AsksDemo, AsksNew, AsksRun}
 use Rattle.cli_top.proofs.DemoAsked.{silent-told}
@@ -159,8 +161,28 @@ module _ {D S K : Type 0} (g : Ghosts D) (h : SourceGhosts S) (i : SinkGhosts K)
     silent-of (inr (inr (memory, same))) = λ not_run.
         subst (StaysSilent (i.held_bytes old.out) (i.held_bytes new.out)) (sym memory) (still-kept old new same)
 
-  -- the command that was given did what it promises, and what it answered is the detail
-  pub obeyed : (old new : World D S K) (answered detail : Detail) (command given : Command) → given ≡ command → TellsFaults g h i old new answered
-      → Does g h i command old new answered → answered ≡ detail → Obeys g h i given old new detail
-  obeyed old new answered detail command given is faults done told =
-      subst (λ c. Obeys g h i c old new detail) (sym is) (subst (Obeys g h i command old new) told (record { faults = faults; done = done }))
+  does-alone : (old new : World D S K) (detail : Detail) (command : Command) → DoesAlone g h i command old new detail → Does g h i command old new detail
+  does-alone old new detail (New log) done = done
+  does-alone old new detail (Run log options) done = absurd done
+  does-alone old new detail Recover done = done
+  does-alone old new detail Dump done = done
+  does-alone old new detail (Demo log n seed options) done = absurd done
+
+  -- where no workers were needed
+  pub answered-alone : (words : List (List ℕ)) (old new : World D S K) (detail : Detail) → AnsweredAlone g h i words old new (Done detail)
+      → Answered g h i words old new detail
+  answered-alone words old new detail (inl has) = inl (record {
+    command = has.command;
+    asked = has.asked;
+    obeys = record { faults = has.faults; done = does-alone old new detail has.command has.done };
+  })
+  answered-alone words old new detail (inr none) = inr none
+
+  -- where the words were read first, and nothing was done by that
+  pub answered-then : (words : List (List ℕ)) (old read new : World D S K) (detail : Detail) (command : Command) → IsCommandLine words command
+      → read ≡ old → TellsFaults g h i read new detail → Does g h i command read new detail → Answered g h i words old new detail
+  answered-then words old read new detail command asked same faults done = inl (record {
+    command = command;
+    asked = asked;
+    obeys = subst (λ w. Obeys g h i command w new detail) same (record { faults = faults; done = done });
+  })

@@ -12,7 +12,7 @@ ghost use Rattle.txn_script.specs.Balances.{IsBalancesText};
 ghost use Rattle.cli_shared.specs.Answers.{status_of, StaysSilent};
 ghost use Rattle.cli_reports.specs.Answers.{AnswersRecover, AnswersDump, IsOfDump, IsOfRecover};
 ghost use Rattle.cli_new.specs.Answers.{AnswersNew, IsOfNew};
-ghost use Rattle.cli_top.specs.Answered.{Answered, Obeys};
+ghost use Rattle.cli_top.specs.Answered.{Answered};
 ghost use Rattle.cli_world.specs.World.{world};
 ghost use Rattle.cli_top.specs.Asks.{AsksNew, AsksRun, AsksDemo};
 ghost use Rattle.cli_demo.specs.Demo.{AnswersDemo, IsOfDemo, TellsSummary};
@@ -25,8 +25,7 @@ ghost use Rattle.txn_script.specs.Script.{IsScriptText};
 use cli_demo::demo_command::demo_command;
 use cli_run::run_command::run_command;
 use cli_shared::{Detail, Report};
-use cli_world::{obey_dump, obey_new, obey_recover};
-use command_line::{Command, Refused, parse};
+use cli_world::{Answer, answer_alone};
 use log_disk::{Gate, LogDisk, Sink, Source};
 use lsn_space::Word;
 use std::alloc::Global;
@@ -145,38 +144,16 @@ fn answer<R: Threads + Wait + Sync, D: LogDisk, S: Source, K: Sink, G: Gate + Sy
 ) -> Detail
     ensures { Answered D.LogDisk S.Source K.Sink words.now (world disk.old script.old out.old) (world disk.new script.new out.new) result }
 {
-    match parse(alloc, words) {
-        Ok(command) => obey(rt, alloc, &command, disk, script, out, gate),
-        Err(Refused::Usage) => Detail::Usage,
-        Err(Refused::NoMemory) => Detail::NoMemory,
-    }
-}
-
-/// What the command answers.
-fn obey<R: Threads + Wait + Sync, D: LogDisk, S: Source, K: Sink, G: Gate + Sync>(
-    rt: &R,
-    alloc: Global,
-    command: &Command,
-    disk: &mut D,
-    script: &mut S,
-    out: &mut K,
-    gate: &G,
-) -> Detail
-    requires asked { (words : List (List ℕ)) × IsCommandLine words command.now }
-    ensures { Obeys D.LogDisk S.Source K.Sink command.now (world disk.old script.old out.old) (world disk.new script.new out.new) result }
-{
-    match command {
-        Command::New { log } => obey_new(alloc, log, disk, script, out),
-        Command::Run { log, options } => {
-            run_command(rt, alloc, log, options, disk, script, out, gate)
+    match answer_alone(alloc, words, disk, script, out) {
+        Answer::Done(detail) => detail,
+        Answer::Run { log, options } => {
+            run_command(rt, alloc, &log, &options, disk, script, out, gate)
         }
-        Command::Recover => obey_recover(alloc, disk, script, out),
-        Command::Dump => obey_dump(alloc, disk, script, out),
-        Command::Demo {
+        Answer::Demo {
             log,
             transfers,
             seed,
             options,
-        } => demo_command(rt, alloc, log, *transfers, *seed, options, disk, out, gate),
+        } => demo_command(rt, alloc, &log, transfers, seed, &options, disk, out, gate),
     }
 }

@@ -1,6 +1,10 @@
 //! What a command works on: a disk, an input and an output; and the commands that need no workers, as changes of these.
 #![tactic(auto)]
 
+mod answer;
+mod answering;
 mod commands;
 
+pub use answer::Answer;
+pub use answering::answer_alone;
 pub use commands::{obey_dump, obey_new, obey_recover};

@@ -1,0 +1,40 @@
+use Rattle.std.proofs.Common.{inl, inr, refl, subst}
+use Rattle.command_line.specs.CommandLine.{IsCommandLine, IsRefusalOf}
+use Rattle.command_line.specs.declared.command.Command.TheVariants.{New, Recover, Dump}
+use Rattle.cli_world.proofs.answering.answer_alone.Goals as goal
+
+pub returns-in-Ok-New : goal.returns-in-Ok-New
+returns-in-Ok-New g c = inl (record {
+  command = New c.in-Ok-New.log;
+  asked = subst (IsCommandLine c.args.words.now) c.in-Ok-New.field-0-is c.in-Ok-New.ensures.exact;
+  done = c.obey_new.ensures.done;
+  faults = c.obey_new.ensures.faults;
+})
+
+pub returns-in-Ok-Recover : goal.returns-in-Ok-Recover
+returns-in-Ok-Recover g c = inl (record {
+  command = Recover;
+  asked = subst (IsCommandLine c.args.words.now) c.in-Ok-Recover.field-0-is c.in-Ok-Recover.ensures.exact;
+  done = c.obey_recover.ensures.done;
+  faults = c.obey_recover.ensures.faults;
+})
+
+pub returns-in-Ok-Dump : goal.returns-in-Ok-Dump
+returns-in-Ok-Dump g c = inl (record {
+  command = Dump;
+  asked = subst (IsCommandLine c.args.words.now) c.in-Ok-Dump.field-0-is c.in-Ok-Dump.ensures.exact;
+  done = c.obey_dump.ensures.done;
+  faults = c.obey_dump.ensures.faults;
+})
+
+pub returns-in-Ok-Run : goal.returns-in-Ok-Run
+returns-in-Ok-Run g c = (subst (IsCommandLine c.args.words.now) c.in-Ok-Run.field-0-is c.in-Ok-Run.ensures.exact, refl)
+
+pub returns-in-Ok-Demo : goal.returns-in-Ok-Demo
+returns-in-Ok-Demo g c = (subst (IsCommandLine c.args.words.now) c.in-Ok-Demo.field-0-is c.in-Ok-Demo.ensures.exact, refl)
+
+pub returns-in-Err-Usage : goal.returns-in-Err-Usage
+returns-in-Err-Usage g c = inr (inl (refl, subst (IsRefusalOf c.args.words.now) c.in-Err-Usage.field-0-is c.in-Err-Usage.ensures.exact, refl))
+
+pub returns-in-Err-NoMemory : goal.returns-in-Err-NoMemory
+returns-in-Err-NoMemory g c = inr (inr (refl, refl))

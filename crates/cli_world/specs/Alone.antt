@@ -1,0 +1,36 @@
+-- What comes of the words where no workers are needed.
+use Rattle.std.specs.Prelude.{◌≡◌, ◌⊎◌, ℕ, List}
+use Rattle.command_line.specs.CommandLine.{IsCommandLine, AreTaken}
+use Rattle.command_line.specs.declared.command.Command.{Command}
+use Rattle.command_line.specs.declared.command.Command.TheVariants.{New, Run, Recover, Dump, Demo}
+use Rattle.log_disk.specs.declared.disk.LogDisk.{Ghosts}
+use Rattle.log_disk.specs.declared.source.Source.{Ghosts as SourceGhosts}
+use Rattle.log_disk.specs.declared.sink.Sink.{Ghosts as SinkGhosts}
+use Rattle.cli_shared.specs.declared.report.Detail.{Detail}
+use Rattle.cli_shared.specs.declared.report.Detail.TheVariants.{NoMemory, Usage}
+use Rattle.cli_world.specs.declared.answer.Answer.{Answer}
+use Rattle.cli_world.specs.declared.answer.Answer.TheVariants as answer
+use Rattle.cli_world.specs.World.{World, TellsFaults, DoesDump, DoesNew, DoesRecover}
+
+-- the command is one that needs no workers, and did what it promises
+abbrev pub DoesAlone : {D S K : Type 0} → Ghosts D → SourceGhosts S → SinkGhosts K → Command → World D S K → World D S K → Detail → Type 0
+DoesAlone g h i (New log) old new detail = DoesNew g h i old new detail
+DoesAlone g h i (Run log options) old new detail = ⊥
+DoesAlone g h i Recover old new detail = DoesRecover h i old new detail
+DoesAlone g h i Dump old new detail = DoesDump h i old new detail
+DoesAlone g h i (Demo log n seed options) old new detail = ⊥
+
+-- the words ask such a command, it did what it promises, and told of faults
+pub record HasObeyedAlone {D S K : Type 0} (g : Ghosts D) (h : SourceGhosts S) (i : SinkGhosts K) (words : List (List ℕ)) (old new : World D S K)
+    (detail : Detail) : Type 0 where
+  pub command : Command
+  pub asked : IsCommandLine words command
+  pub done : DoesAlone g h i command old new detail
+  pub faults : TellsFaults g h i old new detail
+
+-- a command was asked and obeyed; or the words ask none; or there was no memory to read them; or the words ask `run`, or `demo`
+abbrev pub AnsweredAlone : {D S K : Type 0} → Ghosts D → SourceGhosts S → SinkGhosts K → List (List ℕ) → World D S K → World D S K → Answer → Type 0
+AnsweredAlone g h i words old new (answer.Done detail) = HasObeyedAlone g h i words old new detail
+    ⊎ ((detail ≡ Usage) × (AreTaken words → ⊥) × (new ≡ old)) ⊎ ((detail ≡ NoMemory) × (new ≡ old))
+AnsweredAlone g h i words old new (answer.Run log options) = IsCommandLine words (Run log options) × (new ≡ old)
+AnsweredAlone g h i words old new (answer.Demo log n seed options) = IsCommandLine words (Demo log n seed options) × (new ≡ old)

@@ -1,0 +1,24 @@
+use cli_shared::Detail;
+use command_line::RunOptions;
+use lsn_space::Word;
+
+/// What comes of the words where no workers are needed.
+#[derive(Drop)]
+pub enum Answer {
+    /// All is done, and the program ends so.
+    Done(Detail),
+
+    /// Nothing is done yet: the words ask `run`.
+    Run {
+        log: Word,
+        options: RunOptions,
+    },
+
+    /// Nothing is done yet: the words ask `demo`.
+    Demo {
+        log: Word,
+        transfers: u32,
+        seed: u32,
+        options: RunOptions,
+    },
+}

@@ -1,0 +1,43 @@
+ghost use Rattle.cli_world.specs.Alone.{AnsweredAlone};
+ghost use Rattle.cli_world.specs.World.{world};
+
+use crate::answer::Answer;
+use crate::commands::{obey_dump, obey_new, obey_recover};
+use cli_shared::Detail;
+use command_line::{Command, Refused, parse};
+use log_disk::{LogDisk, Sink, Source};
+use lsn_space::Word;
+use std::alloc::Global;
+
+/// What the command answers that the words ask, or why they ask none; `run` and `demo` are left to the caller.
+pub fn answer_alone<D: LogDisk, S: Source, K: Sink>(
+    alloc: Global,
+    words: &[Word],
+    disk: &mut D,
+    script: &mut S,
+    out: &mut K,
+) -> Answer
+    ensures { AnsweredAlone D.LogDisk S.Source K.Sink words.now (world disk.old script.old out.old) (world disk.new script.new out.new) result }
+{
+    match parse(alloc, words) {
+        Ok(Command::New { log }) => Answer::Done(obey_new(alloc, &log, disk, script, out)),
+        Ok(Command::Recover) => Answer::Done(obey_recover(alloc, disk, script, out)),
+        Ok(Command::Dump) => Answer::Done(obey_dump(alloc, disk, script, out)),
+        Ok(Command::Run { log, options }) => Answer::Run { log, options },
+        Ok(
+            Command::Demo {
+                log,
+                transfers,
+                seed,
+                options,
+            },
+        ) => Answer::Demo {
+            log,
+            transfers,
+            seed,
+            options,
+        },
+        Err(Refused::Usage) => Answer::Done(Detail::Usage),
+        Err(Refused::NoMemory) => Answer::Done(Detail::NoMemory),
+    }
+}
