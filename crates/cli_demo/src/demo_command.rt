@@ -9,7 +9,7 @@ ghost use Rattle.lsn_space.specs.declared.numerals.TheConstants.{MOST_GENERATED}
 ghost use Rattle.cli_shared.specs.Creation.{TellsWhether};
 ghost use Rattle.cli_demo.specs.Demo.{AnswersDemo, IsBeforeDemo, IsOfDemo, IsPreparedDemo, IsReadyDemo, TellsSummary};
 ghost use Rattle.cli_demo.specs.Finished.{HasFinished};
-ghost use Rattle.cli_demo.specs.Summary.{generated_opening, generated_rows};
+ghost use Rattle.cli_demo.specs.Summary.{generated_opening};
 ghost use Rattle.cli_threads.specs.Prepared.{IsPrepared};
 ghost use Rattle.cli_threads.specs.Transferred.{IsOpened};
 
@@ -18,15 +18,15 @@ use cli_shared::genesis::genesis;
 use cli_shared::{Detail, finds_none};
 use cli_threads::{Prepared, ReadyRun, prepare, run_transfers};
 use command_line::RunOptions;
-use commit_pipeline::Voice;
 use log_disk::{Gate, LogDisk, Sink};
 use log_table::Start;
-use lsn_space::{Balances, Lsn, NoMemory, Word};
+use lsn_space::{Lsn, NoMemory, Word};
+use run_plan::{Generated, generate, plan_of_demo};
 use segment_file::{Batch, create};
 use std::alloc::Global;
 use std::sync::Wait;
 use std::thread::Threads;
-use txn_script::{GENERATED_ACCOUNTS, GENERATED_BALANCE, make};
+use txn_script::GENERATED_ACCOUNTS;
 
 /// Makes a log of generated accounts, makes so many transfers over it that the seed generates, and then answers their summary. It
 /// waits for the workers.
@@ -55,7 +55,7 @@ pub fn demo_command<R: Threads + Wait + Sync, D: LogDisk, K: Sink, G: Gate + Syn
     ensures later_disk { D.faults disk.old ≤ D.faults disk.new }
 {
     match make_ready(rt, alloc, log, transfers, seed, options, disk) {
-        Ok(ready) => finish(rt, ready, transfers, disk, out, gate),
+        Ok(ready) => finish(rt, ready, transfers, options, disk, out, gate),
         Err(detail) => detail,
     }
 }
@@ -65,6 +65,7 @@ fn finish<R: Threads + Wait + Sync, D: LogDisk, K: Sink, G: Gate + Sync>(
     rt: &R,
     ready: ReadyRun,
     transfers: u32,
+    options: &RunOptions,
     disk: &mut D,
     out: &mut K,
     gate: &G,
@@ -74,7 +75,8 @@ fn finish<R: Threads + Wait + Sync, D: LogDisk, K: Sink, G: Gate + Sync>(
     ensures { HasFinished D.LogDisk K.Sink ready.prepared transfers disk.old disk.new out.old out.new result }
 {
     let ReadyRun { prepared, tail } = ready;
-    let ended = run_transfers(rt, prepared, disk, tail, out, Voice::Count, false, gate);
+    let plan = plan_of_demo(options);
+    let ended = run_transfers(rt, prepared, disk, tail, out, plan.voice, plan.wait, gate);
     conclude_counted(&ended, transfers, out)
 }
 
@@ -123,8 +125,7 @@ fn prepare_demo<R>(
     ensures prepared { IfOk result (λ made. IsPreparedDemo transfers seed options.now.workers made.0) }
     ensures batch { IfOk result (λ made. made.1.units ≡ units_of generated_opening) }
 {
-    let script = make(alloc, transfers, seed)?;
-    let accounts = generated_accounts(alloc)?;
+    let Generated { script, accounts } = generate(alloc, transfers, seed)?;
     let batch = genesis(alloc, &accounts)?;
     let start = Start {
         start: Lsn::new(2 * GENERATED_ACCOUNTS),
@@ -132,17 +133,7 @@ fn prepare_demo<R>(
         slots: 0,
         accounts,
     };
-    let prepared = prepare(rt, alloc, start, script, 1, options.workers)?;
+    let plan = plan_of_demo(options);
+    let prepared = prepare(rt, alloc, start, script, 1, plan.workers)?;
     Ok((prepared, batch))
-}
-
-/// The accounts between which generated transfers go.
-fn generated_accounts(alloc: Global) -> Result<Balances, NoMemory>
-    ensures { IfOk result (λ accounts. accounts.rows ≡ generated_rows) }
-{
-    let mut accounts = Balances::make(alloc, GENERATED_ACCOUNTS)?;
-    'accounts: for _ in 0..GENERATED_ACCOUNTS {
-        accounts.push(GENERATED_BALANCE, 0);
-    }
-    Ok(accounts)
 }

@@ -16,11 +16,11 @@ use cli_ending::conclude;
 use cli_shared::{Detail, open_log, read_transfers};
 use cli_threads::{Prepared, ReadyRun, prepare, run_transfers};
 use command_line::RunOptions;
-use commit_pipeline::Voice;
 use log_disk::{Gate, LogDisk, Sink, Source};
 use log_recovery::Recovered;
 use log_table::Start;
 use lsn_space::Word;
+use run_plan::plan_of_run;
 use segment_file::settle;
 use std::alloc::Global;
 use std::sync::Wait;
@@ -54,7 +54,7 @@ pub fn run_command<R: Threads + Wait + Sync, D: LogDisk, S: Source, K: Sink, G: 
     ensures later_disk { D.faults disk.old ≤ D.faults disk.new }
 {
     match make_ready(rt, alloc, log, options, disk, script) {
-        Ok(ready) => finish(rt, ready, options.wait, disk, out, gate),
+        Ok(ready) => finish(rt, ready, options, disk, out, gate),
         Err(detail) => detail,
     }
 }
@@ -63,7 +63,7 @@ pub fn run_command<R: Threads + Wait + Sync, D: LogDisk, S: Source, K: Sink, G: 
 fn finish<R: Threads + Wait + Sync, D: LogDisk, K: Sink, G: Gate + Sync>(
     rt: &R,
     ready: ReadyRun,
-    wait: bool,
+    options: &RunOptions,
     disk: &mut D,
     out: &mut K,
     gate: &G,
@@ -71,10 +71,11 @@ fn finish<R: Threads + Wait + Sync, D: LogDisk, K: Sink, G: Gate + Sync>(
     requires prepared { IsPrepared ready.prepared }
     requires opened { (opened : List Rec) × IsOpened D.LogDisk disk.old ready.tail opened ready.prepared.jobs.first (key_of ready.prepared.table) }
     ensures { (opened : List Rec) → IsOpened D.LogDisk disk.old ready.tail opened ready.prepared.jobs.first (key_of ready.prepared.table)
-        → HasFinished D.LogDisk K.Sink ready.prepared opened wait disk.old disk.new out.old out.new result }
+        → HasFinished D.LogDisk K.Sink ready.prepared opened options.now.wait disk.old disk.new out.old out.new result }
 {
     let ReadyRun { prepared, tail } = ready;
-    let ended = run_transfers(rt, prepared, disk, tail, out, Voice::Lines, wait, gate);
+    let plan = plan_of_run(options);
+    let ended = run_transfers(rt, prepared, disk, tail, out, plan.voice, plan.wait, gate);
     conclude(&ended, out)
 }
 
@@ -130,7 +131,8 @@ fn prepare_run<R>(
         slots: 0,
         accounts: opened.accounts,
     };
-    match prepare(rt, alloc, start, script, opened.next_txn, options.workers) {
+    let plan = plan_of_run(options);
+    match prepare(rt, alloc, start, script, opened.next_txn, plan.workers) {
         Ok(prepared) => Ok(prepared),
         Err(_) => Err(Detail::NoMemory),
     }

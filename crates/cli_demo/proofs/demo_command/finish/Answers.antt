@@ -8,13 +8,13 @@ conclude_counted-requires-clause-stopped g c = λ fine.
 
 pub conclude_counted-requires-clause-few : goal.conclude_counted-requires-clause-few
 conclude_counted-requires-clause-few g c =
-    rows-ended g.D.LogDisk g.K.Sink _ _ _ _ _ _ (c.run_transfers-ended.ensures.ended _ c.requires.opened)
+    rows-ended g.D.LogDisk g.K.Sink _ _ _ _ _ _ (rw (c.plan_of_demo-plan.ensures.voice, c.plan_of_demo-plan.ensures.wait) at (c.run_transfers-ended.ensures.ended _ c.requires.opened))
 
 pub returns : goal.returns
 returns g c = record {
   ended = c.run_transfers-ended.result;
   left = c.run_transfers-ended.new.out;
-  has = c.run_transfers-ended.ensures.ended _ c.requires.opened;
+  has = rw (c.plan_of_demo-plan.ensures.voice, c.plan_of_demo-plan.ensures.wait) at (c.run_transfers-ended.ensures.ended _ c.requires.opened);
   concludes = c.conclude_counted.ensures.concludes;
   write = c.conclude_counted.ensures.write;
   later = c.conclude_counted.ensures.later;

@@ -10,7 +10,7 @@ pub returns : goal.returns
 returns g c = λ opened log. record {
   ended = c.run_transfers-ended.result;
   told = c.run_transfers-ended.new.out;
-  has = c.run_transfers-ended.ensures.ended opened log;
+  has = rw (c.plan_of_run-plan.ensures.voice, c.plan_of_run-plan.ensures.wait) at (c.run_transfers-ended.ensures.ended opened log);
   concludes = c.conclude.ensures.concludes;
   write = c.conclude.ensures.write;
   later = c.conclude.ensures.later;

@@ -1,4 +1,4 @@
-use Rattle.std.proofs.Common.{ap, refl}
+use Rattle.std.proofs.Common.{◌∙◌, ap, refl}
 use Rattle.log_table.specs.declared.table.Start.{Start}
 use Rattle.cli_run.proofs.OpenedAccounts.{has-accounts}
 use Rattle.cli_run.proofs.run_command.prepare_run.Goals as goal
@@ -15,6 +15,6 @@ returns-in-Ok-clause-prepared g c =
       ring = ap (λ (key : Start). key.ring) made.key;
       script_is = made.script;
       first = made.first;
-      workers_are = made.workers;
+      workers_are = made.workers ∙ c.plan_of_run-plan.ensures.workers;
       ready = made.prepared;
     }

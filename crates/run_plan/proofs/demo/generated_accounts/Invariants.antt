@@ -1,5 +1,5 @@
 use Rattle.std.proofs.Common.{◌≡◌, replicate}
-use Rattle.cli_demo.proofs.demo_command.generated_accounts.Given as goal
+use Rattle.run_plan.proofs.demo.generated_accounts.Given as goal
 
 abbrev pub invariant-accounts : goal.invariant-accounts
 invariant-accounts l = record {

@@ -1,7 +1,7 @@
 use Rattle.std.proofs.Common.{◌∙◌, ap, ◌++◌, ◌∷◌, [], ℕ, List}
 use Rattle.std.proofs.lemmas.List.{replicate_more}
 use Rattle.lsn_space.specs.Accounts.{Accounts}
-use Rattle.cli_demo.proofs.demo_command.generated_accounts.Goals as goal
+use Rattle.run_plan.proofs.demo.generated_accounts.Goals as goal
 
 pub accounts-preserved : goal.accounts-preserved
 accounts-preserved c = record {
