@@ -1,9 +1,10 @@
 //! The dump of a list of records: a line for each with the place where it starts, and the end.
 
-ghost use Rattle.std.specs.Prelude.{◌≡◌, ◌+◌, ◌≤◌, ◌++◌, List, length, codes, OnOk, OnErr};
+ghost use Rattle.std.specs.Prelude.{◌≡◌, ◌+◌, ◌≤◌, ◌++◌, List, length, drop, codes, OnOk, OnErr};
 ghost use Rattle.std.specs.Io.KnownBytes.{Appends};
 ghost use Rattle.log_disk.specs.Faults.{HasCause};
 ghost use Rattle.log_disk.specs.Streams.{AppendsPart};
+ghost use Rattle.log_record.specs.Spelling.{spelling, BeginsWith};
 ghost use Rattle.log_record.specs.declared.rec.Rec.{Rec};
 ghost use Rattle.lsn_space.specs.Number.{number_text};
 ghost use Rattle.log_recovery.specs.Dump.{dump_text, rec_text, record_line, signed_text, update_text};
@@ -32,13 +33,23 @@ pub fn put_dump<K: Sink>(listed: &Listed, sink: &mut K) -> Result<(), WriteFault
     let mut rest = listed.units.as_slice();
     'records: while !rest.is_empty() {
         let start = start_of(rest, end);
-        let Ok((rec, size)) = read(rest) else {
-            unreachable!()
-        };
+        let (rec, behind) = first_of(rest);
         put_record(start, &rec, sink)?;
-        rest = rest.split_at(size).1;
+        rest = behind;
     }
     put_end(end, sink)
+}
+
+/// The record that a rest of a list's units begins with, and the rest behind it.
+fn first_of(rest: &[u64]) -> (Rec, &[u64])
+    requires { ((rec : Rec) → BeginsWith rest.now rec → ⊥) → ⊥ }
+    ensures rec { BeginsWith rest.now result.0 }
+    ensures behind { result.1.now ≡ drop (length (spelling result.0)) rest.now }
+{
+    let Ok((rec, size)) = read(rest) else {
+        unreachable!()
+    };
+    (rec, rest.split_at(size).1)
 }
 
 /// Where this rest of a list's units starts, if the list ends here.

@@ -136,6 +136,26 @@ impl MemoryDisk {
         self.written_count += u64::from(succeeds);
     }
 
+    /// Keeps the first half of a write that fails, where there is room for its record.
+    fn keep_half(&mut self, at: usize, bytes: &[u8])
+        requires { at ≤ length (file_of self.old) }
+        ensures same { self.new ≡ record self.old { history = self.new.history; room = self.new.room } }
+        ensures half { RECORD + length bytes.now ≤ self.old.room
+            → self.new.history ≡ Wrote at (take ((length bytes.now + 1) / 2) bytes.now) ∷ self.old.history }
+        ensures half_room { RECORD + length bytes.now ≤ self.old.room
+            → self.new.room ≡ self.old.room - (RECORD + (length bytes.now + 1) / 2) }
+        ensures no_room { self.old.room < RECORD + length bytes.now
+            → (self.new.history ≡ self.old.history) × (self.new.room ≡ self.old.room) }
+        ensures torn { IsTorn at (length bytes.now) (file_of self.old) (file_of self.new) }
+        ensures images { (c : List ℕ) → ImagesOf self.new c → MayBeTorn at (length bytes.now) (ImagesOf self.old) c }
+        ensures time { Elapses moment_of ImagesOf ImagesSinceOf self.old self.new }
+    {
+        if RECORD + bytes.len() <= self.room {
+            let half = bytes.split_at(bytes.len().div_ceil(2)).0;
+            self.keep_write(at, half, false);
+        }
+    }
+
     fn keep_sync(&mut self)
         requires { RECORD ≤ self.old.room }
         ensures { self.new ≡ record self.old {
@@ -245,17 +265,13 @@ impl LogDisk for MemoryDisk {
         ensures no_room { self.old.room < RECORD + length bytes.now
             → (self.new.history ≡ self.old.history) × (self.new.room ≡ self.old.room) }
     {
-        let cost = RECORD + bytes.len();
-        match self.count_call(cost) {
+        match self.count_call(RECORD + bytes.len()) {
             Ok(()) => {
                 self.keep_write(at as usize, bytes, true);
                 Ok(())
             }
             Err(failed) => {
-                if cost <= self.room {
-                    let half = bytes.split_at(bytes.len().div_ceil(2)).0;
-                    self.keep_write(at as usize, half, false);
-                }
+                self.keep_half(at as usize, bytes);
                 Err(failed)
             }
         }

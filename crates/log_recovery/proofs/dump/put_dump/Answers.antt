@@ -1,4 +1,4 @@
-use Rattle.std.proofs.Common.{◌∙◌, length, drop, ap, sym, refl}
+use Rattle.std.proofs.Common.{◌∙◌, length, ap, sym, refl}
 use Rattle.std.proofs.lemmas.Bool.{eqb-true, eqb-false}
 use Rattle.std.proofs.lemmas.List.{nil_from_length}
 use Rattle.std.proofs.lemmas.Result.{err_from_is_err_and, on_ok_weaker, on_err_weaker}
@@ -15,23 +15,22 @@ pub start_of-start-requires : goal.start_of-start-requires
 start_of-start-requires g c =
     dumps-fits _ _ _ _ c.records.invariant.dumped c.args.listed.now.tail.next (c.requires.1.end ∙ ap length (sym c.requires.1.list.units_are))
 
-pub unreachable-requires : goal.unreachable-requires
-unreachable-requires g c = dumps-some _ _ _ _ c.records.invariant.dumped (eqb-false _ _ (sym c.is_empty.ensures ∙ c.records-test.true)) c.in_default.ensures.bad
+pub first_of-rec-requires : goal.first_of-rec-requires
+first_of-rec-requires g c = dumps-some _ _ _ _ c.records.invariant.dumped (eqb-false _ _ (sym c.is_empty.ensures ∙ c.records-test.true))
 
 pub returns-in_err-put_record-clause-prefix : goal.returns-in_err-put_record-clause-prefix
 returns-in_err-put_record-clause-prefix g c = λ records has.
     let failed = err_from_is_err_and c.from_residual.result c.from_residual.ensures.1 in
     let place = c.start_of-start.ensures ∙ has.end ∙ ap length (sym has.list.units_are) in
-    rw failed.1 (dumps-cut _ _ _ _ c.records.invariant.dumped c.start_of-start.result place c.in-Ok.rec c.in-Ok.ensures.found.0
+    rw failed.1 (dumps-cut _ _ _ _ c.records.invariant.dumped c.start_of-start.result place c.first_of-rec.result.0 c.first_of-rec.ensures.rec
     (eqb-false _ _ (sym c.is_empty.ensures ∙ c.records-test.true)) _ records has.list c.in_err-put_record.ensures.prefix)
 
 pub records-preserved : goal.records-preserved
 records-preserved g c =
-    let dropped = c.split_at.ensures.back ∙ ap (λ n. drop n c.records.rest.now) c.in-Ok.ensures.found.1 in
     let place = c.start_of-start.ensures ∙ c.requires.1.end ∙ ap length (sym c.requires.1.list.units_are) in
     record {
-      dumped = dumps-more _ _ _ _ c.records.invariant.dumped c.start_of-start.result place c.in-Ok.rec c.in-Ok.ensures.found.0
-          (eqb-false _ _ (sym c.is_empty.ensures ∙ c.records-test.true)) _ _ dropped c.in_ok-put_record.ensures.all;
+      dumped = dumps-more _ _ _ _ c.records.invariant.dumped c.start_of-start.result place c.first_of-rec.result.0 c.first_of-rec.ensures.rec
+          (eqb-false _ _ (sym c.is_empty.ensures ∙ c.records-test.true)) _ _ c.first_of-rec.ensures.behind c.in_ok-put_record.ensures.all;
       same = c.in_ok-put_record.ensures.cause.fine ∙ c.records.invariant.same;
     }
 

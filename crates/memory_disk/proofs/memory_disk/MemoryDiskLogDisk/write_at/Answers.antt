@@ -1,72 +1,56 @@
-use Rattle.std.proofs.Common.{◌∙◌, ap, arith, rules, length}
+use Rattle.std.proofs.Common.{◌∙◌, ap, rules, length}
 use Rattle.memory_disk.specs.MemoryDisks.{DiskState}
-use Rattle.memory_disk.proofs.Calls.{file-write, images-write}
+use Rattle.memory_disk.proofs.Calls.{images-write}
 use Rattle.memory_disk.proofs.memory_disk.MemoryDiskLogDisk.write_at.Goals as goal
 
 pub returns-in-Ok-clause-images : goal.returns-in-Ok-clause-images
 returns-in-Ok-clause-images c =
     images-write c.args.self.now c.keep_write.new.self (search rules steps 600000) c.args.at (length c.args.bytes.now) c.args.bytes.now (search rules steps 600000) c.requires (search rules steps 600000)
 
-pub returns-then-cost-self-clause-torn : goal.returns-then-cost-self-clause-torn
-returns-then-cost-self-clause-torn c =
-    file-write c.args.self.now c.keep_write-then-cost-self.new.self (search rules steps 600000) c.args.at (length c.args.bytes.now) c.split_at.result.0.now (search rules steps 600000) c.requires (search rules steps 600000)
+pub returns-in-Err-clause-written : goal.returns-in-Err-clause-written
+returns-in-Err-clause-written c = tt
 
-pub returns-then-cost-self-clause-images : goal.returns-then-cost-self-clause-images
-returns-then-cost-self-clause-images c =
-    images-write c.args.self.now c.keep_write-then-cost-self.new.self (search rules steps 600000) c.args.at (length c.args.bytes.now) c.split_at.result.0.now (search rules steps 600000) c.requires (search rules steps 600000)
+pub returns-in-Err-clause-torn : goal.returns-in-Err-clause-torn
+returns-in-Err-clause-torn c = (rw c.in-Err.ensures.state at c.keep_half.ensures).torn
 
-pub returns-then-cost-self-clause-written : goal.returns-then-cost-self-clause-written
-returns-then-cost-self-clause-written c = tt
+pub returns-in-Err-clause-images : goal.returns-in-Err-clause-images
+returns-in-Err-clause-images c = (rw c.in-Err.ensures.state at c.keep_half.ensures).images
 
-pub returns-then-cost-self-clause-count : goal.returns-then-cost-self-clause-count
-returns-then-cost-self-clause-count c = omega (arith, ap (λ (d : DiskState). d.written_count) c.keep_write-then-cost-self.ensures, ap (λ (d : DiskState). d.written_count) c.in-Err.ensures.state)
+pub returns-in-Err-clause-count : goal.returns-in-Err-clause-count
+returns-in-Err-clause-count c = ap (λ (d : DiskState). d.written_count) (rw c.in-Err.ensures.state at c.keep_half.ensures).same
 
-pub returns-then-cost-self-clause-cause : goal.returns-then-cost-self-clause-cause
-returns-then-cost-self-clause-cause c = rw (ap (λ (d : DiskState). d.faults) c.keep_write-then-cost-self.ensures) c.in-Err.ensures.cause
+pub returns-in-Err-clause-time : goal.returns-in-Err-clause-time
+returns-in-Err-clause-time c =
+    let half = rw c.in-Err.ensures.state at c.keep_half.ensures in
+    record { later = half.time.later; stay = half.time.stay; no_others = half.time.no_others; still = half.time.still }
 
-pub returns-then-cost-self-clause-fails : goal.returns-then-cost-self-clause-fails
-returns-then-cost-self-clause-fails c = c.in-Err.ensures.fails
+pub returns-in-Err-clause-cause : goal.returns-in-Err-clause-cause
+returns-in-Err-clause-cause c = rw (ap (λ (d : DiskState). d.faults) c.keep_half.ensures.same) c.in-Err.ensures.cause
 
-pub returns-then-cost-self-clause-counts : goal.returns-then-cost-self-clause-counts
-returns-then-cost-self-clause-counts c = record {
-  failing = ap (λ (d : DiskState). d.failing) c.keep_write-then-cost-self.ensures ∙ ap (λ (d : DiskState). d.failing) c.in-Err.ensures.state;
-  calls = ap (λ (d : DiskState). d.calls) c.keep_write-then-cost-self.ensures ∙ ap (λ (d : DiskState). d.calls) c.in-Err.ensures.state;
-  faults = ap (λ (d : DiskState). d.faults) c.keep_write-then-cost-self.ensures ∙ ap (λ (d : DiskState). d.faults) c.in-Err.ensures.state;
+pub returns-in-Err-clause-fails : goal.returns-in-Err-clause-fails
+returns-in-Err-clause-fails c = c.in-Err.ensures.fails
+
+pub returns-in-Err-clause-counts : goal.returns-in-Err-clause-counts
+returns-in-Err-clause-counts c = record {
+  failing = ap (λ (d : DiskState). d.failing) c.keep_half.ensures.same ∙ ap (λ (d : DiskState). d.failing) c.in-Err.ensures.state;
+  calls = ap (λ (d : DiskState). d.calls) c.keep_half.ensures.same ∙ ap (λ (d : DiskState). d.calls) c.in-Err.ensures.state;
+  faults = ap (λ (d : DiskState). d.faults) c.keep_half.ensures.same ∙ ap (λ (d : DiskState). d.faults) c.in-Err.ensures.state;
 }
 
-pub returns-then-cost-self-clause-kept : goal.returns-then-cost-self-clause-kept
-returns-then-cost-self-clause-kept c = tt
+pub returns-in-Err-clause-start : goal.returns-in-Err-clause-start
+returns-in-Err-clause-start c = ap (λ (d : DiskState). d.start) c.keep_half.ensures.same ∙ ap (λ (d : DiskState). d.start) c.in-Err.ensures.state
 
-pub returns-then-cost-self-clause-room : goal.returns-then-cost-self-clause-room
-returns-then-cost-self-clause-room c = tt
+pub returns-in-Err-clause-kept : goal.returns-in-Err-clause-kept
+returns-in-Err-clause-kept c = tt
 
-pub returns-else-cost-self-clause-written : goal.returns-else-cost-self-clause-written
-returns-else-cost-self-clause-written c = tt
+pub returns-in-Err-clause-room : goal.returns-in-Err-clause-room
+returns-in-Err-clause-room c = tt
 
-pub returns-else-cost-self-clause-count : goal.returns-else-cost-self-clause-count
-returns-else-cost-self-clause-count c = ap (λ (d : DiskState). d.written_count) c.in-Err.ensures.state
+pub returns-in-Err-clause-half : goal.returns-in-Err-clause-half
+returns-in-Err-clause-half c = λ failed. (rw c.in-Err.ensures.state at c.keep_half.ensures).half
 
-pub returns-else-cost-self-clause-cause : goal.returns-else-cost-self-clause-cause
-returns-else-cost-self-clause-cause c = c.in-Err.ensures.cause
+pub returns-in-Err-clause-half_room : goal.returns-in-Err-clause-half_room
+returns-in-Err-clause-half_room c = λ failed. (rw c.in-Err.ensures.state at c.keep_half.ensures).half_room
 
-pub returns-else-cost-self-clause-fails : goal.returns-else-cost-self-clause-fails
-returns-else-cost-self-clause-fails c = c.in-Err.ensures.fails
-
-pub returns-else-cost-self-clause-counts : goal.returns-else-cost-self-clause-counts
-returns-else-cost-self-clause-counts c = record {
-  failing = ap (λ (d : DiskState). d.failing) c.in-Err.ensures.state;
-  calls = ap (λ (d : DiskState). d.calls) c.in-Err.ensures.state;
-  faults = ap (λ (d : DiskState). d.faults) c.in-Err.ensures.state;
-}
-
-pub returns-else-cost-self-clause-kept : goal.returns-else-cost-self-clause-kept
-returns-else-cost-self-clause-kept c = tt
-
-pub returns-else-cost-self-clause-room : goal.returns-else-cost-self-clause-room
-returns-else-cost-self-clause-room c = tt
-
-pub returns-then-cost-self-clause-half : goal.returns-then-cost-self-clause-half
-returns-then-cost-self-clause-half c = search rules steps 1200000
-
-pub returns-then-cost-self-clause-half_room : goal.returns-then-cost-self-clause-half_room
-returns-then-cost-self-clause-half_room c = search rules steps 1200000
+pub returns-in-Err-clause-no_room : goal.returns-in-Err-clause-no_room
+returns-in-Err-clause-no_room c = (rw c.in-Err.ensures.state at c.keep_half.ensures).no_room
