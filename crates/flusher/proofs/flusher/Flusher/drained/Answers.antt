@@ -1,16 +1,9 @@
-use Rattle.std.proofs.Common.{rules, arith, refl, ◌≡◌, ◌∙◌, sym, ap, subst}
+use Rattle.std.proofs.Common.{arith, refl, ◌≡◌, ◌∙◌, sym, ap, subst}
 use Rattle.std.proofs.lemmas.Bool.{eqb-true}
 use Rattle.log_table.specs.Seats.{Becomes, view_of}
 use Rattle.log_table.specs.Views.{saw_crew, saw_exposed, sent_to}
 use Rattle.flusher.proofs.Flushes.{Becomes-then, MayFlush-step, seen-newer}
 use Rattle.flusher.proofs.flusher.Flusher.drained.Goals as goal
-
-pub returns-then-active-gt0-clause-asks : goal.returns-then-active-gt0-clause-asks
-returns-then-active-gt0-clause-asks g c = (search rules steps 200000, c.load_crew-active.ensures.view)
-
-pub returns-then-active-gt0-clause-ready : goal.returns-then-active-gt0-clause-ready
-returns-then-active-gt0-clause-ready g c =
-    MayFlush-step g.D.LogDisk c.args.self.now c.load_crew-active.new.seat _ c.requires.ready c.load_crew-active.ensures.view refl refl refl refl (λ x seen. seen)
 
 pub returns-else-eq-clause-ready : goal.returns-else-eq-clause-ready
 returns-else-eq-clause-ready g c =
@@ -20,7 +13,7 @@ returns-else-eq-clause-ready g c =
 
 pub returns-then-eq-clause-asks : goal.returns-then-eq-clause-asks
 returns-then-eq-clause-asks g c =
-    let none : c.load_crew-active.result ≡ 0 = search rules steps 200000 in
+    let none : c.load_crew-active.result ≡ 0 = omega arith in
     let all : c.load_exposed-exposed.result ≡ c.args.self.now.tail.next = eqb-true _ _ (sym c.eq.ensures ∙ c.if-eq.true) in
     let old = view_of c.args.self.now.seat in
     let seat = Becomes-then _ _ _ _
@@ -38,7 +31,7 @@ returns-then-eq-clause-asks g c =
 
 pub returns-else-eq-clause-asks : goal.returns-else-eq-clause-asks
 returns-else-eq-clause-asks g c =
-    let none : c.load_crew-active.result ≡ 0 = search rules steps 200000 in
+    let none : c.load_crew-active.result ≡ 0 = omega arith in
     let old = view_of c.args.self.now.seat in
     let seat = Becomes-then _ _ _ _
     (saw_exposed c.load_exposed-exposed.result) c.load_crew-active.ensures.view c.load_exposed-exposed.ensures.view in (
