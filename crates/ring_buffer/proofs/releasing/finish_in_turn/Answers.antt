@@ -1,4 +1,4 @@
-use Rattle.std.proofs.Common.{arith, rules, ◌≡◌, ◌∙◌, sym, ap}
+use Rattle.std.proofs.Common.{arith, ◌≡◌, ◌∙◌, sym, ap}
 use Rattle.ring_buffer.proofs.releasing.finish_in_turn.Goals as goal
 
 pub store_exposed-requires-clause-next : goal.store_exposed-requires-clause-next

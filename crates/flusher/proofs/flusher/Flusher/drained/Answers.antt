@@ -1,5 +1,7 @@
-use Rattle.std.proofs.Common.{rules, arith, refl}
-use Rattle.log_table.specs.Views.{saw_exposed}
+use Rattle.std.proofs.Common.{arith, refl, ◌≡◌, ◌∙◌, sym, ap, subst}
+use Rattle.std.proofs.lemmas.Bool.{eqb-true}
+use Rattle.log_table.specs.Seats.{Becomes, view_of}
+use Rattle.log_table.specs.Views.{saw_crew, saw_exposed, sent_to}
 use Rattle.flusher.proofs.Flushes.{Becomes-then, MayFlush-step, seen-newer}
 use Rattle.flusher.proofs.flusher.Flusher.drained.Goals as goal
 
@@ -10,10 +12,33 @@ returns-else-eq-clause-ready g c =
     MayFlush-step g.D.LogDisk c.args.self.now c.load_exposed-exposed.new.seat _ c.requires.ready seat refl refl refl refl (seen-newer _ _)
 
 pub returns-then-eq-clause-asks : goal.returns-then-eq-clause-asks
-returns-then-eq-clause-asks g c = (c.requires.ready.next, search rules steps 400000, search rules steps 1200000)
+returns-then-eq-clause-asks g c =
+    let none : c.load_crew-active.result ≡ 0 = omega arith in
+    let all : c.load_exposed-exposed.result ≡ c.args.self.now.tail.next = eqb-true _ _ (sym c.eq.ensures ∙ c.if-eq.true) in
+    let old = view_of c.args.self.now.seat in
+    let seat = Becomes-then _ _ _ _
+    (saw_exposed c.load_exposed-exposed.result) c.load_crew-active.ensures.view c.load_exposed-exposed.ensures.view in
+    let quiet = subst (λ n. Becomes c.args.self.now.seat c.load_exposed-exposed.new.seat (saw_exposed c.load_exposed-exposed.result (saw_crew n old))) none seat in
+    let is = ap (λ m. m.0) quiet.me in (
+      c.requires.ready.next,
+      record {
+        quiet = ap (λ view. view.sending.quiet) is ∙ c.requires.told;
+        looked = ap (λ view. view.sending.looked) is;
+        all = ap (λ view. view.sending.exposed) is ∙ all ∙ c.requires.ready.next ∙ sym (ap sent_to is);
+      },
+      subst (λ n. Becomes c.args.self.now.seat c.load_exposed-exposed.new.seat (saw_exposed n (saw_crew 0 old))) all quiet,
+    )
 
 pub returns-else-eq-clause-asks : goal.returns-else-eq-clause-asks
-returns-else-eq-clause-asks g c = (c.requires.ready.next, grind arith steps 400000, search rules steps 1200000)
+returns-else-eq-clause-asks g c =
+    let none : c.load_crew-active.result ≡ 0 = omega arith in
+    let old = view_of c.args.self.now.seat in
+    let seat = Becomes-then _ _ _ _
+    (saw_exposed c.load_exposed-exposed.result) c.load_crew-active.ensures.view c.load_exposed-exposed.ensures.view in (
+      c.requires.ready.next,
+      grind arith steps 400000,
+      subst (λ n. Becomes c.args.self.now.seat c.load_exposed-exposed.new.seat (saw_exposed c.load_exposed-exposed.result (saw_crew n old))) none seat,
+    )
 
 pub returns-then-eq-clause-ready : goal.returns-then-eq-clause-ready
 returns-then-eq-clause-ready g c =

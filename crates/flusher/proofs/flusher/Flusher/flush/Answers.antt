@@ -1,21 +1,23 @@
-use Rattle.std.proofs.Common.{rules, arith, ◌≢◌, ◌∙◌, sym, ap, refl, length, ◌<◌, ◌+◌, ◌++◌}
-use Rattle.std.proofs.lemmas.Bool.{eqb-true}
+use Rattle.std.proofs.Common.{arith, ◌≡◌, ◌≢◌, ◌∙◌, sym, ap, refl, length, ◌<◌, ◌+◌, ◌++◌}
+use Rattle.std.proofs.lemmas.Bool.{eqb-true, eqb-false}
 use Rattle.std.proofs.lemmas.Result.{err_from_is_err_and}
+use Rattle.log_table.specs.declared.view.View.{View}
 use Rattle.log_table.specs.Seats.{view_of}
 use Rattle.log_table.specs.Views.{has_sent}
-use Rattle.flusher.specs.Sending.{read_units}
-use Rattle.flusher.proofs.Flushes.{Becomes-then, Leaves-append, Reads-gathered, sent_to-flushed, seen-flushed, HoldsDurablePrefix-append, MayHoldBatchInFlight-append, MayFlush-step, seen-newer, tail-appended, tail-place}
+use Rattle.flusher.specs.Sending.{read_units, gathered}
+use Rattle.flusher.proofs.Flushes.{Becomes-then, IsSameSeat-becomes, Leaves-append, Reads-gathered, sent_to-flushed, seen-flushed, HoldsDurablePrefix-append, MayHoldBatchInFlight-append, MayFlush-step, seen-newer, tail-appended, tail-place}
 use Rattle.flusher.proofs.flusher.Flusher.flush.Goals as goal
 
 pub returns-in_err-self-clause-lost : goal.returns-in_err-self-clause-lost
 returns-in_err-self-clause-lost g c =
     let failed = err_from_is_err_and c.from_residual.result c.from_residual.ensures.1 in
-    let apart : c.load_exposed-to.result ≢ c.args.self.now.tail.next = search rules steps 900000 in
+    let apart : c.load_exposed-to.result ≢ c.args.self.now.tail.next = eqb-false _ _ (sym c.eq.ensures ∙ c.if-eq.false) in
     let units = ap (λ batch. batch.units) c.gather.ensures.batch in
     let below : c.args.self.now.tail.next < c.load_exposed-to.result =
     omega (arith, (c.load_exposed-to.ensures.flusher c.requires.ready.flusher).read, c.requires.ready.next, apart) in
     let seat = Becomes-then _ _ _ _ (read_units c.gather.ensures.units) c.load_exposed-to.ensures.view c.gather.ensures.seat in
-    let read_up = Reads-gathered (view_of c.args.self.now.seat) _ _ _ _ (ap (λ m. m.0) seat.me) c.requires.ready.unread c.requires.ready.next
+    let is : view_of c.gather.new.seat ≡ gathered c.load_exposed-to.result c.gather.ensures.units (view_of c.args.self.now.seat) = ap (λ m. m.0) seat.me in
+    let read_up = Reads-gathered (view_of c.args.self.now.seat) _ _ _ _ is c.requires.ready.unread c.requires.ready.next
     c.gather.ensures.whole (c.gather.ensures.entries below) in
     rw failed.1 record {
       to = c.load_exposed-to.result;
@@ -34,13 +36,13 @@ returns-in_err-self-clause-lost g c =
       prefix = λ honest. MayHoldBatchInFlight-append g.D.LogDisk g.met.D.LogDisk.counts_now g.met.D.LogDisk.only_now c.args.self.now _
           c.gather.ensures.units _ _
           (Leaves-append g.D.LogDisk c.args.self.now _ _ _ units (c.append.ensures.moments honest))
-          (ap (λ m. m.0.sending.sent) seat.me)
-          (ap (λ m. m.0.sending.read) seat.me ∙ ap (λ us. us ++ c.gather.ensures.units) c.requires.ready.unread);
+          (ap (λ (view : View). view.sending.sent) is)
+          (ap (λ (view : View). view.sending.read) is ∙ ap (λ us. us ++ c.gather.ensures.units) c.requires.ready.unread);
     }
 
 pub returns-clause-flushed : goal.returns-clause-flushed
 returns-clause-flushed g c =
-    let apart : c.load_exposed-to.result ≢ c.args.self.now.tail.next = search rules steps 900000 in
+    let apart : c.load_exposed-to.result ≢ c.args.self.now.tail.next = eqb-false _ _ (sym c.eq.ensures ∙ c.if-eq.false) in
     let units = ap (λ batch. batch.units) c.gather.ensures.batch in
     let below : c.args.self.now.tail.next < c.load_exposed-to.result =
     omega (arith, (c.load_exposed-to.ensures.flusher c.requires.ready.flusher).read, c.requires.ready.next, apart) in
@@ -99,7 +101,13 @@ returns-then-eq-clause-ready g c =
     MayFlush-step g.D.LogDisk c.args.self.now c.load_exposed-to.new.seat _ c.requires.ready c.load_exposed-to.ensures.view refl refl refl refl (seen-newer _ _)
 
 pub returns-in_err-self-clause-cause : goal.returns-in_err-self-clause-cause
-returns-in_err-self-clause-cause g c = search rules steps 1200000
+returns-in_err-self-clause-cause g c =
+    let failed = err_from_is_err_and c.from_residual.result c.from_residual.ensures.1 in
+    rw failed.1 record {
+      later = c.append.ensures.cause.later;
+      fine = tt;
+      failed = c.in_err-self.ensures.cause.failed;
+    }
 
 pub returns-clause-lost : goal.returns-clause-lost
 returns-clause-lost g c = tt
@@ -110,3 +118,38 @@ returns-clause-cause g c = record {
   fine = c.in_ok-self.ensures.cause.fine;
   failed = tt;
 }
+
+pub returns-then-eq-clause-same : goal.returns-then-eq-clause-same
+returns-then-eq-clause-same g c = record {
+  table = refl;
+  seat = IsSameSeat-becomes _ _ _ c.load_exposed-to.ensures.view refl refl refl;
+  workers = ap (λ m. m.0.standing) c.load_exposed-to.ensures.view.me;
+  disk = refl;
+  honest = (λ honest. honest, λ honest. honest);
+  later = omega arith;
+}
+
+pub returns-in_err-self-clause-same : goal.returns-in_err-self-clause-same
+returns-in_err-self-clause-same g c =
+    let seat = Becomes-then _ _ _ _ (read_units c.gather.ensures.units) c.load_exposed-to.ensures.view c.gather.ensures.seat in
+    record {
+      table = refl;
+      seat = IsSameSeat-becomes _ _ _ seat refl refl refl;
+      workers = ap (λ m. m.0.standing) seat.me;
+      disk = refl;
+      honest = c.append.ensures.honest;
+      later = c.append.ensures.later;
+    }
+
+pub returns-clause-same : goal.returns-clause-same
+returns-clause-same g c =
+    let read = Becomes-then _ _ _ _ (read_units c.gather.ensures.units) c.load_exposed-to.ensures.view c.gather.ensures.seat in
+    let seat = Becomes-then _ _ _ _ (has_sent c.load_exposed-to.result) read c.store_durable.ensures.view in
+    record {
+      table = refl;
+      seat = IsSameSeat-becomes _ _ _ seat refl refl refl;
+      workers = ap (λ m. m.0.standing) seat.me;
+      disk = refl;
+      honest = c.append.ensures.honest;
+      later = c.append.ensures.later;
+    }
