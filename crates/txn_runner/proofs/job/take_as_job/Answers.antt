@@ -1,4 +1,4 @@
-use Rattle.std.proofs.Common.{◌≡◌, ◌∙◌, ap, subst, sym}
+use Rattle.std.proofs.Common.{ap}
 use Rattle.txn_runner.proofs.StageLemmas.{takes-job, cut-first-by}
 use Rattle.txn_runner.proofs.job.take_as_job.Goals as goal
 
