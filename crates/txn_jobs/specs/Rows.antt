@@ -1,6 +1,9 @@
 -- The rows of one worker.
-use Rattle.std.specs.Prelude.{ℕ, ◌+◌, ◌≤◌, List, length, vec_capacity}
+use Rattle.std.specs.Prelude.{◌≡◌, ℕ, ◌+◌, ◌≤◌, List, [], ◌∷◌, ◌++◌, length, Option, None, Some, Result, Ok, Err, vec_capacity}
 use Rattle.lock_core.specs.Alone.{Outcome, Done, ShortAt, OverAt}
+use Rattle.txn_jobs.specs.declared.cause.Cause.{Cause}
+use Rattle.txn_jobs.specs.declared.cause.Worked.{Worked}
+use Rattle.txn_jobs.specs.declared.cause.Worked.TheVariants.{Cut}
 use Rattle.txn_jobs.specs.declared.jobs.Jobs.{Jobs}
 use Rattle.txn_jobs.specs.declared.rows.Answer.{Answer}
 use Rattle.txn_jobs.specs.declared.rows.Answer.TheVariants as answer
@@ -26,3 +29,10 @@ taken_in rows = rows.taken
 -- there is room for a row of each transfer of the stripe that is left
 abbrev pub HasRoomForRows : Jobs → ℕ → Rows → Type 0
 HasRoomForRows jobs worker rows = (k : ℕ) → HasStripe jobs worker k → length (rows_in rows) + k ≤ room_of rows + taken_in rows
+
+-- a transfer that ended has its row behind those before; one that was cut off has none, and the worker ends so
+abbrev pub IsTold : Result Row Cause → Option Worked → List Row → List Row → Type 0
+IsTold (Ok row) None old new = new ≡ old ++ row ∷ []
+IsTold (Ok row) (Some worked) old new = ⊥
+IsTold (Err cause) None old new = ⊥
+IsTold (Err cause) (Some worked) old new = (worked ≡ Cut cause) × (new ≡ old)

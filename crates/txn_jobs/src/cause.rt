@@ -1,3 +1,5 @@
+ghost use Rattle.std.specs.Prelude.{◌≡◌, ◌≢◌, IfErr, OnOk};
+
 use lsn_space::Lsn;
 
 /// Why a worker left a transfer unfinished, or did not see that it is durable.
@@ -16,4 +18,15 @@ pub enum Worked {
     All,
     /// The transfer that it took last was cut off.
     Cut(Cause),
+}
+
+/// A worker goes on where the stop word is 0. Err: the daemon has stopped.
+pub fn unless_stopped(word: u64) -> Result<(), Cause>
+    ensures runs { OnOk result (word ≡ 0) }
+    ensures stopped { IfErr result (λ cause. (cause ≡ Cause.Stop word) × (word ≢ 0)) }
+{
+    if word != 0 {
+        return Err(Cause::Stop(word));
+    }
+    Ok(())
 }

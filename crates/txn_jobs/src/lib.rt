@@ -9,6 +9,6 @@ mod rows;
 mod stripes;
 
 pub use accounts::{MOST_PARTIES, accounts_of};
-pub use cause::{Cause, Worked};
+pub use cause::{Cause, Worked, unless_stopped};
 pub use jobs::Jobs;
 pub use rows::{Answer, Row, Rows};

@@ -1,6 +1,7 @@
 ghost use Rattle.std.specs.Prelude.{◌≡◌, ◌≤◌, ◌<◌, ◌+◌, ◌++◌, ◌∷◌, ◌^◌, [], length, IfOk};
-ghost use Rattle.txn_jobs.specs.Rows.{rows_in, room_of, taken_in};
+ghost use Rattle.txn_jobs.specs.Rows.{rows_in, room_of, taken_in, IsTold};
 
+use crate::cause::{Cause, Worked};
 use lsn_space::{Lsn, NoMemory};
 use std::alloc::Global;
 
@@ -66,5 +67,21 @@ impl Rows {
         ensures taken { taken_in self.new ≡ taken_in self.old }
     {
         self.rows.push_reserved(row);
+    }
+    /// Adds the row of the transfer that was taken last, where it ended. Some: it was cut off and has no row, and so the worker
+    /// ends.
+    pub fn tell(&mut self, made: Result<Row, Cause>) -> Option<Worked>
+        requires room { length (rows_in self.old) < room_of self.old }
+        ensures told { IsTold made result (rows_in self.old) (rows_in self.new) }
+        ensures room { room_of self.new ≡ room_of self.old }
+        ensures taken { taken_in self.new ≡ taken_in self.old }
+    {
+        match made {
+            Ok(row) => {
+                self.push(row);
+                None
+            }
+            Err(cause) => Some(Worked::Cut(cause)),
+        }
     }
 }

@@ -1,6 +1,7 @@
 //! A transfer gives its accounts back.
-ghost use Rattle.std.specs.Prelude.{◌≡◌, ◌<◌, ◌≤◌, [], true, All};
+ghost use Rattle.std.specs.Prelude.{◌≡◌, ◌<◌, ◌≤◌, [], true, false, All};
 ghost use Rattle.log_record.specs.declared.limits.TheConstants.{MOST_BALANCE};
+ghost use Rattle.lock_core.specs.Transactions.{recs_of, has_commit};
 ghost use Rattle.log_table.specs.Seats.{IsOf, Becomes, view_of};
 ghost use Rattle.log_table.specs.AccountViews.{gave_account};
 ghost use Rattle.ring_buffer.specs.Calls.{IsReady};
@@ -34,6 +35,18 @@ pub fn give_all(
         let (balance, mark) = release.values(&holding);
         give_one(table, seat, holding.taken, balance, mark, durable);
     }
+}
+
+/// Gives the accounts back as they were taken. The transfer has no Commit.
+pub fn give_unchanged(table: &LogTable, seat: &mut Seat, holdings: ArrayVec<Holding, MOST_PARTIES>)
+    requires seat { IsOf table.now seat.old }
+    requires ready { IsReady (view_of seat.old) }
+    requires holds { HoldsAll holdings.items (view_of seat.old).books }
+    requires known { All (IsKnown table.now.accounts) holdings.items }
+    requires uncommitted { has_commit (recs_of (view_of seat.old).books.placed) ≡ false }
+    ensures { Becomes seat.old seat.new (with_held [] holdings.items (view_of seat.old)) }
+{
+    give_all(table, seat, holdings, Release::Unchanged, false);
 }
 
 fn give_one(table: &LogTable, seat: &mut Seat, taken: Taken, balance: u32, mark: u32, durable: bool)

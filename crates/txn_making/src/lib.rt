@@ -7,6 +7,6 @@ mod legs;
 mod taking;
 mod transfer;
 
-pub use giving::give_all;
+pub use giving::{give_all, give_unchanged};
 pub use taking::take_all;
 pub use transfer::insert_transfer;

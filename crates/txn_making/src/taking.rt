@@ -11,14 +11,14 @@ ghost use Rattle.txn_jobs.specs.declared.accounts.TheConstants.{MOST_PARTIES};
 ghost use Rattle.txn_making.specs.Holdings.{TakesAll, KeepsGiven, KeepsBooks};
 ghost use Rattle.txn_making.specs.Inserts.{StopsFor};
 
-use crate::giving::give_all;
+use crate::giving::give_unchanged;
 use arrayvec::ArrayVec;
 use early_locks::{Taken, try_take};
 use log_table::{LogTable, Seat};
 use schedule_hook::{Gate, Place};
 use std::sync::Wait;
 use txn_jobs::{Cause, MOST_PARTIES};
-use txn_parts::{Holding, Release, Relief, pause};
+use txn_parts::{Holding, Relief, pause};
 
 /// Takes the accounts, which ascend, one after another, each once no other worker holds it. After an Err none is held.
 pub fn take_all<R: Wait, Q: Relief, G: Gate>(
@@ -52,7 +52,7 @@ pub fn take_all<R: Wait, Q: Relief, G: Gate>(
                 holdings.push(Holding { taken, balance });
             }
             Err(cause) => {
-                give_all(table, seat, holdings, Release::Unchanged, false);
+                give_unchanged(table, seat, holdings);
                 return Err(cause);
             }
         }

@@ -1,15 +1,17 @@
 -- A worker's progress along its stripe. `first` and `before` are its seat's view and its rows at the start, `old` and `mid` those before
 -- one transfer, `new` and `after` those behind it.
-use Rattle.std.proofs.Common.{◌≡◌, ◌∙◌, ℕ, ◌+◌, ◌≤◌, Bool, List, [], ◌∷◌, ◌++◌, length, refl, sym, ap, subst, arith, length-append, append-nil, append_assoc}
+use Rattle.std.proofs.Common.{◌≡◌, ◌∙◌, ℕ, ◌+◌, ◌≤◌, Bool, Option, None, Some, Result, Ok, Err, IfNone, IfSome, IfOk, IfErr, List, [], ◌∷◌, ◌++◌, length, refl, sym, ap, subst, arith, length-append, append-nil, append_assoc}
 use Rattle.log_record.specs.declared.rec.Rec.{Rec}
 use Rattle.lock_core.specs.declared.job.Job.{Job}
 use Rattle.log_table.specs.declared.view.View.{View}
 use Rattle.txn_jobs.specs.declared.cause.Cause.{Cause}
 use Rattle.txn_jobs.specs.declared.cause.Cause.TheVariants.{Stop, LogEnd}
+use Rattle.txn_jobs.specs.declared.cause.Worked.{Worked}
 use Rattle.txn_jobs.specs.declared.cause.Worked.TheVariants.{All, Cut}
 use Rattle.txn_jobs.specs.declared.jobs.Jobs.{Jobs}
 use Rattle.txn_jobs.specs.declared.rows.Row.{Row}
 use Rattle.txn_jobs.specs.declared.rows.Rows.{Rows}
+use Rattle.txn_jobs.specs.Rows.{IsTold}
 use Rattle.txn_making.specs.Holdings.{KeepsGiven}
 use Rattle.txn_runner.specs.Running.{HasInserted, HasRun, HasCut}
 use Rattle.txn_runner.specs.Stripes.{number_at, job_at}
@@ -42,13 +44,13 @@ Progress-first jobs worker wait rows view worked room = record {
 }
 
 -- the transfer taken last was cut off
-pub record Stopped (jobs : Jobs) (worker : ℕ) (wait : Bool) (before rows : Rows) (first view : View) (cause : Cause) : Type 0 where
+pub record Stopped (jobs : Jobs) (worker : ℕ) (wait : Bool) (before rows : Rows) (first view : View) (ended : Worked) : Type 0 where
   pub worked : HasWorked jobs worker (taken_in rows) view
   pub kept : KeepsEntries first view
   pub given : KeepsGiven first view
   pub takes : TakesJobs jobs worker (taken_in before) (taken_in rows) first view
-  pub works : Works jobs worker (taken_in before) (taken_in rows) wait (Cut cause) view
-  pub adds : AddsRows jobs worker wait (Cut cause) before rows first view
+  pub works : Works jobs worker (taken_in before) (taken_in rows) wait ended view
+  pub adds : AddsRows jobs worker wait ended before rows first view
 
 -- the seat has seen no smaller LSNs
 pub record SawNoLess (old new : View) : Type 0 where
@@ -92,7 +94,7 @@ module _ (jobs : Jobs) (worker : ℕ) (wait : Bool) (before mid after : Rows) (f
 
   -- one transfer more was taken, and cut off
   pub Progress-cut : (cause : Cause) → HasCut number job wait cause old new → rows_in after ≡ rows_in mid
-      → Stopped jobs worker wait before after first new cause
+      → Stopped jobs worker wait before after first new (Cut cause)
   Progress-cut cause has_cut rows = record {
     worked = subst (λ k. HasWorked jobs worker k new) (sym taken)
         (HasWorked-next jobs worker (taken_in mid) (inserted.0) old new inserted.1 progress.worked next.within);
@@ -116,3 +118,19 @@ module _ (jobs : Jobs) (worker : ℕ) (wait : Bool) (before mid after : Rows) (f
 
       inserted : (rest : List Rec) × HasInserted (number_at jobs worker (taken_in mid)) (job_at jobs worker (taken_in mid)) rest old new
       inserted = inserted-in (number_at jobs worker (taken_in mid)) (job_at jobs worker (taken_in mid)) wait cause old new cut
+
+  -- as it was told: its row was put, or why it was cut off is how the worker ends
+  pub Progress-told : (made : Result Row Cause) (told : Option Worked) → IsTold made told (rows_in mid) (rows_in after)
+      → IfOk made (λ row. HasRun number job wait row old new) → IfNone told (Progress jobs worker wait before after first new)
+  Progress-told (Ok row) None put run = Progress-next row run put
+  Progress-told (Ok row) (Some ended) put run = tt
+  Progress-told (Err cause) None put run = absurd put
+  Progress-told (Err cause) (Some ended) put run = tt
+
+  pub Stopped-told : (made : Result Row Cause) (told : Option Worked) → IsTold made told (rows_in mid) (rows_in after)
+      → IfErr made (λ cause. HasCut number job wait cause old new) → IfSome told (Stopped jobs worker wait before after first new)
+  Stopped-told (Ok row) None put cut = tt
+  Stopped-told (Ok row) (Some ended) put cut = absurd put
+  Stopped-told (Err cause) None put cut = tt
+  Stopped-told (Err cause) (Some ended) put cut = subst (Stopped jobs worker wait before after first new) (sym put.0)
+      (Progress-cut cause cut put.1)

@@ -1,5 +1,5 @@
 -- The stages of one transfer, one after another, and what they come to.
-use Rattle.std.proofs.Common.{◌≡◌, ℕ, ◌≤◌, Bool, true, List, [], map, All, IfOk, IfErr, OnErr, Ok, Err, Result, refl, sym, ap, ◌∙◌, subst, arith}
+use Rattle.std.proofs.Common.{◌≡◌, ◌≢◌, ℕ, ◌≤◌, Bool, true, List, [], map, All, IfOk, IfErr, OnErr, Ok, Err, Result, refl, sym, ap, ◌∙◌, subst, arith}
 use Rattle.std.specs.List.Sorted.{IsStrictlyIncreasing}
 use Rattle.std.proofs.lemmas.Result.{IfOk-weaker, IfErr-weaker}
 use Rattle.lock_core.specs.Transactions.{recs_of, has_commit}
@@ -19,6 +19,7 @@ use Rattle.log_table.specs.Seats.{IsOf, Becomes, view_of}
 use Rattle.ring_buffer.specs.Calls.{IsReady, IsSameWorker, HasEntries}
 use Rattle.ring_buffer.proofs.TwoCalls.{IsSameWorker-trans}
 use Rattle.txn_jobs.specs.declared.cause.Cause.{Cause}
+use Rattle.txn_jobs.specs.declared.cause.Cause.TheVariants.{Stop}
 use Rattle.txn_parts.specs.declared.holding.Holding.{Holding}
 use Rattle.txn_jobs.specs.declared.rows.Row.{Row}
 use Rattle.txn_parts.specs.declared.ended.Ended.{Ended}
@@ -28,7 +29,7 @@ use Rattle.txn_making.specs.Holdings.{taken_of, given_behind, with_held, HoldsAl
 use Rattle.txn_making.specs.Inserts.{Adds, HasAdded, IsCutOff, StopsFor}
 use Rattle.txn_runner.specs.Running.{GaveBack, HasRun, HasCut}
 use Rattle.txn_runner.specs.Stages.{HasTakenJob, MayMakeTransfer, TakesTransfer, MayEndTransfer, GivesAll, LetsGo, HasRunTaken, HasCutTaken}
-use Rattle.txn_runner.proofs.Composing.{Keeps, IsGivenFrom, may-make, still-known, still-held, gave-back, has-inserted, uncommitted-at, has-cut, has-stopped, cut-early, has-run}
+use Rattle.txn_runner.proofs.Composing.{Keeps, IsGivenFrom, may-make, still-known, still-held, gave-back, has-inserted, uncommitted-at, has-cut, has-stopped, cut-early, has-run, still-stops}
 use Rattle.txn_making.proofs.GivenLemmas.{given-same, given-trans}
 use Rattle.txn_making.proofs.Held.{given-front}
 
@@ -107,6 +108,14 @@ module _ (number : ℕ) (job : Job) (first second : Seat) where
       → HasCut number job wait cause (view_of first) (view_of second)
   cut-first wait cause taken = cut-early number job wait cause (view_of first) (view_of second) (view_of second) (took taken)
       record { entries = refl; grows = omega arith; jobs = refl }
+
+  -- so by a stop word that was read
+  pub cut-first-by : (word : ℕ) (result : Result (Unit {0}) Cause) → IsTaken → (view_of second).seen.stop ≡ word
+      → IfErr result (λ cause. (cause ≡ Stop word) × (word ≢ 0))
+      → IfErr result (λ cause. (wait : Bool) → HasCut number job wait cause (view_of first) (view_of second))
+  cut-first-by word (Ok done) taken read stopped = tt
+  cut-first-by word (Err cause) taken read stopped = λ wait. cut-first wait cause taken
+      (subst (λ cause. StopsFor cause [] (view_of second)) (sym stopped.0) (stopped.1, read))
 
   module _ (none_held : (view_of first).books.held ≡ []) (taken : IsTaken) where
     pub lets-go-first : LetsGo first second
@@ -210,6 +219,19 @@ gives-then back first second third kept gives = record {
   from_durable = gives.from_durable;
   books = gives.books ∙ ap (λ (books : Books). record books { held = []; given = given_behind gives.from back books.given }) kept.books_are;
 }
+
+-- what was seen just before is seen still
+module _ (wait : Bool) (end : ℕ) (back : List Holding) (first second : Seat) (becomes : Becomes first second (with_held [] back (view_of first))) where
+  pub still-seen : (result : Result ℕ Cause) → IfOk result (λ seen. seen ≡ (view_of first).seen.durable)
+      → IfOk result (λ seen. wait ≡ true → end ≤ seen)
+      → IfOk result (λ seen. (seen ≡ (view_of second).seen.durable) × (wait ≡ true → end ≤ seen))
+  still-seen (Ok seen) saw waited = (saw ∙ sym (ap (λ m. m.0.seen.durable) becomes.me), waited)
+  still-seen (Err cause) saw waited = tt
+
+  pub still-stopped : (result : Result ℕ Cause) → OnErr result (wait ≡ true) → IfErr result (λ cause. StopsFor cause [] (view_of first))
+      → IfErr result (λ cause. (wait ≡ true) × StopsFor cause [] (view_of second))
+  still-stopped (Ok seen) waits stopped = tt
+  still-stopped (Err cause) waits stopped = (waits, still-stops cause [] [] back first second becomes stopped)
 
 -- Its accounts went back then.
 module _ (accounts number : ℕ) (job : Job) (wait : Bool) (holdings paid : List Holding) (second third fourth : Seat)

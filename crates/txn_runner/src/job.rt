@@ -12,11 +12,12 @@ ghost use Rattle.txn_runner.specs.Stages.{MayMakeTransfer, TakesTransfer, MayEnd
 use arrayvec::ArrayVec;
 use lock_core::Job;
 use log_table::{LogTable, Seat};
+use lsn_space::Lsn;
 use schedule_hook::{Gate, Place};
 use std::sync::Wait;
-use txn_jobs::{Cause, MOST_PARTIES, Row, accounts_of};
-use txn_making::{give_all, insert_transfer, take_all};
-use txn_parts::{Ended, Holding, Release, Relief, see_durable};
+use txn_jobs::{Cause, MOST_PARTIES, Row, accounts_of, unless_stopped};
+use txn_making::{give_all, give_unchanged, insert_transfer, take_all};
+use txn_parts::{Ended, Holding, Relief, see_durable};
 
 /// Makes the transfer under this transaction number, and answers its row.
 pub(crate) fn run_job<R: Wait, Q: Relief, G: Gate>(
@@ -72,7 +73,7 @@ fn take_transfer<R: Wait, Q: Relief, G: Gate>(
     take_all(rt, table, seat, accounts.as_slice(), relief, gate)
 }
 
-/// Takes the transfer as the seat's job, together with a look at the stop word.
+/// Takes the transfer as the seat's job, and goes on unless the log has stopped.
 fn begin_job<G: Gate>(
     table: &LogTable,
     seat: &mut Seat,
@@ -86,12 +87,21 @@ fn begin_job<G: Gate>(
     ensures taken { HasEntries seat.old seat.new (view_of seat.old).entries (taking_job (record { number = number; job = job.now }) (view_of seat.old).books) }
     ensures cut { IfErr result (λ cause. (wait : Bool) → HasCut number job.now wait cause (view_of seat.old) (view_of seat.new)) }
 {
-    let word = table.take_job(seat, number, job);
+    let taken = take_as_job(table, seat, number, job);
     gate.at(seat.worker(), Place::JobTaken);
-    if word != 0 {
-        return Err(Cause::Stop(word));
-    }
-    Ok(())
+    taken
+}
+
+/// Takes the transfer as the seat's job, together with a look at the stop word.
+fn take_as_job(table: &LogTable, seat: &mut Seat, number: u32, job: &Job) -> Result<(), Cause>
+    requires seat { IsOf table.now seat.old }
+    requires ready { IsReady (view_of seat.old) }
+    requires may { MayTakeJob table.now.accounts number job.now (view_of seat.old) }
+    ensures taken { HasEntries seat.old seat.new (view_of seat.old).entries (taking_job (record { number = number; job = job.now }) (view_of seat.old).books) }
+    ensures cut { IfErr result (λ cause. (wait : Bool) → HasCut number job.now wait cause (view_of seat.old) (view_of seat.new)) }
+{
+    let word = table.take_job(seat, number, job);
+    unless_stopped(word)
 }
 
 /// Inserts the records of the transfer, whose accounts are held, and gives the accounts back.
@@ -120,13 +130,13 @@ fn make_transfer<R: Wait, Q: Relief, G: Gate>(
     match insert_transfer(rt, table, seat, number, job, list, relief, gate) {
         Ok(ended) => end_transfer(rt, table, seat, number, ended, holdings, relief, wait, gate),
         Err(cause) => {
-            give_all(table, seat, holdings, Release::Unchanged, false);
+            give_unchanged(table, seat, holdings);
             Err(cause)
         }
     }
 }
 
-/// Gives the accounts back behind the end record, where asked once that is durable, and answers the row.
+/// Gives the accounts back behind the end record (`give_behind`), and answers the row.
 fn end_transfer<R: Wait, Q: Relief, G: Gate>(
     rt: &R,
     table: &LogTable,
@@ -148,10 +158,7 @@ fn end_transfer<R: Wait, Q: Relief, G: Gate>(
     ensures relief { Q.ready relief.new }
     ensures later { Q.later relief.old relief.new }
 {
-    // The row tells what was durable just before the accounts went back.
-    let seen = see_durable(rt, table, seat, ended.end, relief, wait);
-    give_all(table, seat, holdings, ended.release(), wait && seen.is_ok());
-    let seen = seen?;
+    let seen = give_behind(rt, table, seat, &ended, holdings, relief, wait)?;
     gate.at(seat.worker(), Place::JobEnded);
     Ok(Row {
         txn: number,
@@ -159,4 +166,29 @@ fn end_transfer<R: Wait, Q: Relief, G: Gate>(
         end: ended.end,
         seen,
     })
+}
+
+/// Gives the accounts back behind the end record, where asked once that is durable, and answers what was durable just before.
+fn give_behind<R: Wait, Q: Relief>(
+    rt: &R,
+    table: &LogTable,
+    seat: &mut Seat,
+    ended: &Ended,
+    holdings: ArrayVec<Holding, MOST_PARTIES>,
+    relief: &mut Q,
+    wait: bool,
+) -> Result<Lsn, Cause>
+    requires seat { IsOf table.now seat.old }
+    requires ready { IsReady (view_of seat.old) }
+    requires may { MayEndTransfer table.now.accounts ended.now holdings.items (view_of seat.old).books }
+    requires relief { Q.ready relief.old }
+    ensures gives { GivesAll holdings.items seat.old seat.new }
+    ensures seen { IfOk result (λ seen. (seen ≡ (view_of seat.new).seen.durable) × (wait ≡ true → ended.now.end ≤ seen)) }
+    ensures cut { IfErr result (λ cause. (wait ≡ true) × StopsFor cause [] (view_of seat.new)) }
+    ensures relief { Q.ready relief.new }
+    ensures later { Q.later relief.old relief.new }
+{
+    let seen = see_durable(rt, table, seat, ended.end, relief, wait);
+    give_all(table, seat, holdings, ended.release(), wait && seen.is_ok());
+    seen
 }

@@ -51,9 +51,9 @@ pub fn work<R: Wait, Q: Relief, G: Gate>(
     // One place for all of them, so that none is copied.
     let mut job = Job::new();
     'stripe: while let Some(number) = jobs.take_next(seat.worker(), rows, &mut job) {
-        match run_job(rt, table, seat, number, &job, relief, wait, gate) {
-            Ok(row) => rows.push(row),
-            Err(cause) => return Worked::Cut(cause),
+        let made = run_job(rt, table, seat, number, &job, relief, wait, gate);
+        if let Some(worked) = rows.tell(made) {
+            return worked;
         }
     }
     Worked::All

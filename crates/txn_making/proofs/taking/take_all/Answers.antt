@@ -1,32 +1,31 @@
 use Rattle.std.proofs.Common.{◌≡◌, ◌<◌, ◌∷◌, ◌++◌, [], get_or, take, ap, sym, refl, ◌∙◌}
 use Rattle.lock_core.specs.Transactions.{recs_of, has_commit}
 use Rattle.log_table.specs.declared.view.Books.{Books}
-use Rattle.log_table.specs.Seats.{view_of}
 use Rattle.std.proofs.lemmas.List.{take_more}
 use Rattle.std.proofs.lemmas.List.Elements.{All-take}
-use Rattle.txn_making.proofs.Backing.{notes-uncommitted, all-unchanged}
+use Rattle.txn_making.proofs.Backing.{notes-uncommitted}
 use Rattle.txn_making.proofs.Gaining.{all-known, holds-all, takes-more}
 use Rattle.txn_making.proofs.Held.{given-held}
 use Rattle.txn_jobs.proofs.Listing.{rising-take}
 use Rattle.txn_making.proofs.GivenLemmas.{given-same, given-trans}
 use Rattle.txn_making.proofs.taking.take_all.Goals as goal
 
-pub give_all-requires-clause-holds : goal.give_all-requires-clause-holds
-give_all-requires-clause-holds g c = holds-all _ _ _ _ _ c.accounts.invariant.0 (rising-take _ _ c.requires.rising) c.in-Err.ensures.kept
+pub give_unchanged-requires-clause-holds : goal.give_unchanged-requires-clause-holds
+give_unchanged-requires-clause-holds g c = holds-all _ _ _ _ _ c.accounts.invariant.0 (rising-take _ _ c.requires.rising) c.in-Err.ensures.kept
 
-pub give_all-requires-clause-known : goal.give_all-requires-clause-known
-give_all-requires-clause-known g c = all-known _ _ _ c.accounts.invariant.0.accounts_are
+pub give_unchanged-requires-clause-known : goal.give_unchanged-requires-clause-known
+give_unchanged-requires-clause-known g c = all-known _ _ _ c.accounts.invariant.0.accounts_are
     (All-take (λ account. account < c.args.table.now.accounts) _ _ c.requires.known)
 
-pub give_all-requires-clause-values : goal.give_all-requires-clause-values
-give_all-requires-clause-values g c = all-unchanged (view_of c.take_one.new.seat).books (
+pub give_unchanged-requires-clause-uncommitted : goal.give_unchanged-requires-clause-uncommitted
+give_unchanged-requires-clause-uncommitted g c =
     ap (λ (books : Books). has_commit (recs_of books.placed)) (c.in-Err.ensures.kept.books_are ∙ c.accounts.invariant.0.entries.books_are)
-    ∙ notes-uncommitted _ c.requires.begins.only_note) _
+    ∙ notes-uncommitted _ c.requires.begins.only_note
 
 pub returns-in-Err-clause-given : goal.returns-in-Err-clause-given
 returns-in-Err-clause-given g c = given-trans _ _ _
     (given-same _ _ (ap (λ (books : Books). books.given) (c.in-Err.ensures.kept.books_are ∙ c.accounts.invariant.0.entries.books_are)))
-    (given-held _ _ _ _ c.give_all.ensures)
+    (given-held _ _ _ _ c.give_unchanged.ensures)
 
 pub accounts-preserved : goal.accounts-preserved
 accounts-preserved g c =

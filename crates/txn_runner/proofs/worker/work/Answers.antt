@@ -1,14 +1,15 @@
-use Rattle.std.proofs.Common.{◌∙◌, sym, ap, subst, arith, ◌<◌, ◌++◌, ◌∷◌, []}
+use Rattle.std.proofs.Common.{◌∙◌, sym, ap, subst, arith, ◌<◌, Some, None}
 use Rattle.log_table.specs.Seats.{view_of}
 use Rattle.ring_buffer.proofs.TwoCalls.{IsSameWorker-trans}
+use Rattle.txn_jobs.specs.Rows.{IsTold}
 use Rattle.txn_runner.specs.Stripes.{IsStripeEnd}
 use Rattle.txn_runner.specs.Working.{taken_in, rows_in, room_of, HasRoomForRows}
-use Rattle.txn_runner.proofs.ProgressLemmas.{Progress-first, Progress-next, Progress-cut, Stopped}
+use Rattle.txn_runner.proofs.ProgressLemmas.{Progress-first, Progress-told, Stopped-told, Stopped}
 use Rattle.txn_runner.proofs.StageLemmas.{IsSameWorker-refl}
 use Rattle.txn_runner.proofs.StripeLemmas.{stripe-nears}
 use Rattle.txn_runner.proofs.WorkLemmas.{IsNextJob, IsNextJob-taken, MayTakeJob-next}
 use Rattle.txn_runner.proofs.worker.work.Goals as goal
-use Rattle.txn_runner.proofs.worker.work.Goals.{In-Some, In-Err}
+use Rattle.txn_runner.proofs.worker.work.Goals.{In-Some, In-Some-tell}
 
 pub stripe-init : goal.stripe-init
 stripe-init g c = record {
@@ -34,76 +35,75 @@ next-is : (g : _) (c : In-Some g) → IsNextJob c.args.jobs.now c.args.seat.now.
 next-is g c = IsNextJob-taken c.args.jobs.now _ _ _ _ _ (c.worker.ensures.worker ∙ c.stripe.invariant.same.worker)
     c.in-Some.ensures.within c.in-Some.ensures.number c.in-Some.ensures.job
 
-pub run_job-requires-clause-may : goal.run_job-requires-clause-may
-run_job-requires-clause-may g c = MayTakeJob-next c.args.jobs.now c.args.seat.now.worker (taken_in c.stripe.rows) c.in-Some.number c.take_next.new.job
+pub run_job-made-requires-clause-may : goal.run_job-made-requires-clause-may
+run_job-made-requires-clause-may g c = MayTakeJob-next c.args.jobs.now c.args.seat.now.worker (taken_in c.stripe.rows) c.in-Some.number c.take_next.new.job
     (IsNextJob-taken c.args.jobs.now _ _ _ _ _ (c.worker.ensures.worker ∙ c.stripe.invariant.same.worker)
     c.in-Some.ensures.within c.in-Some.ensures.number c.in-Some.ensures.job) c.args.table.now.accounts (view_of c.stripe.seat) c.stripe.invariant.ready
     c.stripe.invariant.none_held c.requires.allowed c.stripe.invariant.progress.worked
 
-pub push-requires : goal.push-requires
-push-requires g c = record { room = c.in-Some.ensures.room }
+pub tell-requires : goal.tell-requires
+tell-requires g c = record { room = c.in-Some.ensures.room }
 
 pub stripe-preserved : goal.stripe-preserved
 stripe-preserved g c = record {
-  seat = c.in-Ok.ensures.seat;
-  ready = c.in-Ok.ensures.ready;
-  none_held = c.in-Ok.ensures.none_held;
-  same = IsSameWorker-trans _ _ _ c.stripe.invariant.same c.in-Ok.ensures.same;
-  progress = Progress-next c.args.jobs.now c.args.seat.now.worker c.args.wait c.args.rows.now c.stripe.rows c.push.new.self
-      (view_of c.args.seat.now) (view_of c.stripe.seat) (view_of c.run_job.new.seat) c.stripe.invariant.progress c.in-Some.number c.take_next.new.job
+  seat = c.run_job-made.ensures.seat;
+  ready = c.run_job-made.ensures.ready;
+  none_held = c.run_job-made.ensures.none_held;
+  same = IsSameWorker-trans _ _ _ c.stripe.invariant.same c.run_job-made.ensures.same;
+  progress = Progress-told c.args.jobs.now c.args.seat.now.worker c.args.wait c.args.rows.now c.stripe.rows c.tell.new.self
+      (view_of c.args.seat.now) (view_of c.stripe.seat) (view_of c.run_job-made.new.seat) c.stripe.invariant.progress c.in-Some.number c.take_next.new.job
       (next-is g (goal.at.stripe-preserved g c).In-Some)
       record { tail = c.stripe.invariant.same.grows; durable = c.stripe.invariant.same.durable }
-      record { tail = c.in-Ok.ensures.same.grows; durable = c.in-Ok.ensures.same.durable } c.in-Ok.ensures.given
-      (c.push.ensures.room ∙ ap room_of c.in-Some.ensures.counted) (c.push.ensures.taken ∙ ap taken_in c.in-Some.ensures.counted) c.in-Ok.row c.in-Ok.ensures.run
-      (c.push.ensures.rows ∙ ap (λ rows. rows_in rows ++ c.in-Ok.row ∷ []) c.in-Some.ensures.counted);
-  relief = c.in-Ok.ensures.relief;
-  later = g.met.Q.Relief.later_trans c.args.relief.now c.stripe.relief c.run_job.new.relief c.stripe.invariant.later c.in-Ok.ensures.later;
+      record { tail = c.run_job-made.ensures.same.grows; durable = c.run_job-made.ensures.same.durable } c.run_job-made.ensures.given
+      (c.tell.ensures.room ∙ ap room_of c.in-Some.ensures.counted) (c.tell.ensures.taken ∙ ap taken_in c.in-Some.ensures.counted) c.run_job-made.result None
+      (subst (λ rows. IsTold c.run_job-made.result None rows (rows_in c.tell.new.self)) (ap rows_in c.in-Some.ensures.counted) c.in_default-tell.ensures.told)
+      c.run_job-made.ensures.run;
+  relief = c.run_job-made.ensures.relief;
+  later = g.met.Q.Relief.later_trans c.args.relief.now c.stripe.relief c.run_job-made.new.relief c.stripe.invariant.later c.run_job-made.ensures.later;
 }
 
 pub stripe-smaller : goal.stripe-smaller
-stripe-smaller g c = stripe-nears c.args.jobs.now c.args.seat.now.worker (taken_in c.stripe.rows) (taken_in c.push.new.self)
-    (c.push.ensures.taken ∙ ap taken_in c.in-Some.ensures.counted)
+stripe-smaller g c = stripe-nears c.args.jobs.now c.args.seat.now.worker (taken_in c.stripe.rows) (taken_in c.tell.new.self)
+    (c.tell.ensures.taken ∙ ap taken_in c.in-Some.ensures.counted)
     (next-is g (goal.at.stripe-smaller g c).In-Some).within
 
 -- the transfer that was cut off
-stopped : (g : _) (c : In-Err g) → Stopped c.args.jobs.now c.args.seat.now.worker c.args.wait c.args.rows.now c.take_next.new.rows
-    (view_of c.args.seat.now) (view_of c.run_job.new.seat) c.in-Err.cause
-stopped g c = Progress-cut c.args.jobs.now c.args.seat.now.worker c.args.wait c.args.rows.now c.stripe.rows c.take_next.new.rows
-    (view_of c.args.seat.now) (view_of c.stripe.seat) (view_of c.run_job.new.seat) c.stripe.invariant.progress c.in-Some.number c.take_next.new.job
-    (next-is g (goal.at.returns-in-Err-clause-worked g c).In-Some)
+stopped : (g : _) (c : In-Some-tell g) → Stopped c.args.jobs.now c.args.seat.now.worker c.args.wait c.args.rows.now c.tell.new.self
+    (view_of c.args.seat.now) (view_of c.run_job-made.new.seat) c.in-Some-tell.worked
+stopped g c = Stopped-told c.args.jobs.now c.args.seat.now.worker c.args.wait c.args.rows.now c.stripe.rows c.tell.new.self
+    (view_of c.args.seat.now) (view_of c.stripe.seat) (view_of c.run_job-made.new.seat) c.stripe.invariant.progress c.in-Some.number c.take_next.new.job
+    (next-is g (goal.at.returns-in-Some-tell-clause-worked g c).In-Some)
     record { tail = c.stripe.invariant.same.grows; durable = c.stripe.invariant.same.durable }
-    record { tail = c.in-Err.ensures.same.grows; durable = c.in-Err.ensures.same.durable } c.in-Err.ensures.given
-    (ap room_of c.in-Some.ensures.counted) (ap taken_in c.in-Some.ensures.counted) c.in-Err.cause c.in-Err.ensures.cut (ap rows_in c.in-Some.ensures.counted)
+    record { tail = c.run_job-made.ensures.same.grows; durable = c.run_job-made.ensures.same.durable } c.run_job-made.ensures.given
+    (c.tell.ensures.room ∙ ap room_of c.in-Some.ensures.counted) (c.tell.ensures.taken ∙ ap taken_in c.in-Some.ensures.counted)
+    c.run_job-made.result (Some c.in-Some-tell.worked)
+    (subst (λ rows. IsTold c.run_job-made.result (Some c.in-Some-tell.worked) rows (rows_in c.tell.new.self)) (ap rows_in c.in-Some.ensures.counted)
+    c.in-Some-tell.ensures.told)
+    c.run_job-made.ensures.cut
 
-pub returns-in-Err-clause-same : goal.returns-in-Err-clause-same
-returns-in-Err-clause-same g c = IsSameWorker-trans _ _ _ c.stripe.invariant.same c.in-Err.ensures.same
+pub returns-in-Some-tell-clause-same : goal.returns-in-Some-tell-clause-same
+returns-in-Some-tell-clause-same g c = IsSameWorker-trans _ _ _ c.stripe.invariant.same c.run_job-made.ensures.same
 
-pub returns-in-Err-clause-worked : goal.returns-in-Err-clause-worked
-returns-in-Err-clause-worked g c = (stopped g c).worked
+pub returns-in-Some-tell-clause-worked : goal.returns-in-Some-tell-clause-worked
+returns-in-Some-tell-clause-worked g c = (stopped g c).worked
 
-pub returns-in-Err-clause-kept : goal.returns-in-Err-clause-kept
-returns-in-Err-clause-kept g c = (stopped g c).kept
+pub returns-in-Some-tell-clause-kept : goal.returns-in-Some-tell-clause-kept
+returns-in-Some-tell-clause-kept g c = (stopped g c).kept
 
-pub returns-in-Err-clause-given : goal.returns-in-Err-clause-given
-returns-in-Err-clause-given g c = (stopped g c).given
+pub returns-in-Some-tell-clause-given : goal.returns-in-Some-tell-clause-given
+returns-in-Some-tell-clause-given g c = (stopped g c).given
 
-pub returns-in-Err-clause-jobs : goal.returns-in-Err-clause-jobs
-returns-in-Err-clause-jobs g c = (stopped g c).takes
+pub returns-in-Some-tell-clause-jobs : goal.returns-in-Some-tell-clause-jobs
+returns-in-Some-tell-clause-jobs g c = (stopped g c).takes
 
-pub returns-in-Err-clause-works : goal.returns-in-Err-clause-works
-returns-in-Err-clause-works g c = (stopped g c).works
+pub returns-in-Some-tell-clause-works : goal.returns-in-Some-tell-clause-works
+returns-in-Some-tell-clause-works g c = (stopped g c).works
 
--- (whole, so that it is read behind another call too)
-pub returns-in-Err-clause-rows : goal.returns-in-Err-clause-rows
-returns-in-Err-clause-rows g c = (Progress-cut c.args.jobs.now c.args.seat.now.worker c.args.wait c.args.rows.now c.stripe.rows c.take_next.new.rows
-    (view_of c.args.seat.now) (view_of c.stripe.seat) (view_of c.run_job.new.seat) c.stripe.invariant.progress c.in-Some.number c.take_next.new.job
-    (next-is g (goal.at.returns-in-Err-clause-rows g c).In-Some)
-    record { tail = c.stripe.invariant.same.grows; durable = c.stripe.invariant.same.durable }
-    record { tail = c.in-Err.ensures.same.grows; durable = c.in-Err.ensures.same.durable } c.in-Err.ensures.given
-    (ap room_of c.in-Some.ensures.counted) (ap taken_in c.in-Some.ensures.counted) c.in-Err.cause c.in-Err.ensures.cut (ap rows_in c.in-Some.ensures.counted)).adds
+pub returns-in-Some-tell-clause-rows : goal.returns-in-Some-tell-clause-rows
+returns-in-Some-tell-clause-rows g c = (stopped g c).adds
 
-pub returns-in-Err-clause-later : goal.returns-in-Err-clause-later
-returns-in-Err-clause-later g c = g.met.Q.Relief.later_trans _ _ _ c.stripe.invariant.later c.in-Err.ensures.later
+pub returns-in-Some-tell-clause-later : goal.returns-in-Some-tell-clause-later
+returns-in-Some-tell-clause-later g c = g.met.Q.Relief.later_trans _ _ _ c.stripe.invariant.later c.run_job-made.ensures.later
 
 pub returns : goal.returns
 returns g c =

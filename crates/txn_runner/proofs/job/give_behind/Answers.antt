@@ -1,0 +1,54 @@
+use Rattle.std.proofs.Common.{◌≡◌, ◌≤◌, true, All, arith, subst, sym}
+use Rattle.std.proofs.lemmas.Grind.{common_steps}
+use Rattle.lock_core.specs.History.{end_from}
+use Rattle.lock_core.specs.Transactions.{recs_of, has_end}
+use Rattle.log_table.specs.declared.view.Books.{Books}
+use Rattle.log_table.specs.Seats.{view_of}
+use Rattle.txn_making.specs.Holdings.{HoldsAll, GoesBack}
+use Rattle.txn_runner.proofs.StageLemmas.{IsOf-same, IsReady-same, gives-all, gives-then, still-seen, still-stopped}
+use Rattle.txn_runner.proofs.job.give_behind.Goals as goal
+
+pub give_all-requires-clause-seat : goal.give_all-requires-clause-seat
+give_all-requires-clause-seat g c = IsOf-same _ _ _ c.requires.seat c.see_durable-seen.ensures.kept.same
+
+pub give_all-requires-clause-ready : goal.give_all-requires-clause-ready
+give_all-requires-clause-ready g c =
+    let kept = c.see_durable-seen.ensures.kept in
+    IsReady-same _ _ c.requires.ready kept.same kept.idle
+
+pub give_all-requires-clause-holds : goal.give_all-requires-clause-holds
+give_all-requires-clause-holds g c = subst (HoldsAll c.args.holdings.items) (sym c.see_durable-seen.ensures.kept.books_are) c.requires.may.all
+
+pub give_all-requires-clause-known : goal.give_all-requires-clause-known
+give_all-requires-clause-known g c = c.requires.may.known
+
+pub give_all-requires-clause-values : goal.give_all-requires-clause-values
+give_all-requires-clause-values g c =
+    let paid = c.args.holdings.items in
+    subst (λ (books : Books). All (GoesBack c.release.result books) paid) (sym c.see_durable-seen.ensures.kept.books_are)
+    (subst (λ release. All (GoesBack release (view_of c.args.seat.now).books) paid) (sym c.release.ensures) c.requires.may.values)
+
+pub give_all-requires-clause-durable : goal.give_all-requires-clause-durable
+give_all-requires-clause-durable g c = λ on.
+    let kept = c.see_durable-seen.ensures.kept in
+    record {
+      ended = subst (λ (books : Books). has_end (recs_of books.placed) ≡ true) (sym kept.books_are) c.requires.may.has_ended;
+      durable = subst (λ (books : Books). end_from 0 books.placed ≤ (view_of c.see_durable-seen.new.seat).seen.durable) (sym kept.books_are)
+          (subst (λ end. end ≤ (view_of c.see_durable-seen.new.seat).seen.durable) (sym c.requires.may.is_last)
+          (grind (arith, common_steps)));
+    }
+
+pub returns-clause-gives : goal.returns-clause-gives
+returns-clause-gives g c =
+    let kept = c.see_durable-seen.ensures.kept in
+    gives-then c.args.holdings.items c.args.seat.now c.see_durable-seen.new.seat c.give_all.new.seat kept
+    (gives-all c.args.holdings.items c.see_durable-seen.new.seat c.give_all.new.seat
+    (IsReady-same c.args.seat.now c.see_durable-seen.new.seat c.requires.ready kept.same kept.idle) c.give_all.ensures)
+
+pub returns-clause-seen : goal.returns-clause-seen
+returns-clause-seen g c = still-seen c.args.wait c.args.ended.now.end c.args.holdings.items c.see_durable-seen.new.seat c.give_all.new.seat c.give_all.ensures
+    c.see_durable-seen.result c.see_durable-seen.ensures.seen c.see_durable-seen.ensures.waited
+
+pub returns-clause-cut : goal.returns-clause-cut
+returns-clause-cut g c = still-stopped c.args.wait c.args.ended.now.end c.args.holdings.items c.see_durable-seen.new.seat c.give_all.new.seat c.give_all.ensures
+    c.see_durable-seen.result c.see_durable-seen.ensures.waits c.see_durable-seen.ensures.stopped
