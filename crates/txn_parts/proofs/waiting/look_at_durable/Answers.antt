@@ -13,3 +13,6 @@ returns-then-not-wait-clause-waited c = elim c.then-not-wait.branch [
   | then-not-wait-via-then-not-wait w ↦ λ waits. cc
   | then-not-wait-via-else-not-wait+then-le w ↦ λ waits. le-from_is_le _ _ (sym w.le.ensures ∙ w.if-le.true)
 ]
+
+pub returns-clause-waits : goal.returns-clause-waits
+returns-clause-waits c = search rules steps 300000
