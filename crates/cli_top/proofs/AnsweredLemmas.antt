@@ -180,9 +180,9 @@ module _ {D S K : Type 0} (g : Ghosts D) (h : SourceGhosts S) (i : SinkGhosts K)
 
   -- where the words were read first, and nothing was done by that
   pub answered-then : (words : List (List ℕ)) (old read new : World D S K) (detail : Detail) (command : Command) → IsCommandLine words command
-      → read ≡ old → TellsFaults g h i read new detail → Does g h i command read new detail → Answered g h i words old new detail
-  answered-then words old read new detail command asked same faults done = inl (record {
+      → read ≡ old → Obeys g h i command read new detail → Answered g h i words old new detail
+  answered-then words old read new detail command asked same obeys = inl (record {
     command = command;
     asked = asked;
-    obeys = subst (λ w. Obeys g h i command w new detail) same (record { faults = faults; done = done });
+    obeys = subst (λ w. Obeys g h i command w new detail) same obeys;
   })

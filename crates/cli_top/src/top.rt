@@ -12,7 +12,8 @@ ghost use Rattle.txn_script.specs.Balances.{IsBalancesText};
 ghost use Rattle.cli_shared.specs.Answers.{status_of, StaysSilent};
 ghost use Rattle.cli_reports.specs.Answers.{AnswersRecover, AnswersDump, IsOfDump, IsOfRecover};
 ghost use Rattle.cli_new.specs.Answers.{AnswersNew, IsOfNew};
-ghost use Rattle.cli_top.specs.Answered.{Answered};
+ghost use Rattle.cli_top.specs.Answered.{Answered, Obeys};
+ghost use Rattle.cli_world.specs.Alone.{command_of};
 ghost use Rattle.cli_world.specs.World.{world};
 ghost use Rattle.cli_top.specs.Asks.{AsksNew, AsksRun, AsksDemo};
 ghost use Rattle.cli_demo.specs.Demo.{AnswersDemo, IsOfDemo, TellsSummary};
@@ -25,7 +26,7 @@ ghost use Rattle.txn_script.specs.Script.{IsScriptText};
 use cli_demo::demo_command::demo_command;
 use cli_run::run_command::run_command;
 use cli_shared::{Detail, Report};
-use cli_world::{Answer, answer_alone};
+use cli_world::{Answer, WithWorkers, answer_alone};
 use log_disk::{Gate, LogDisk, Sink, Source};
 use lsn_space::Word;
 use std::alloc::Global;
@@ -146,14 +147,32 @@ fn answer<R: Threads + Wait + Sync, D: LogDisk, S: Source, K: Sink, G: Gate + Sy
 {
     match answer_alone(alloc, words, disk, script, out) {
         Answer::Done(detail) => detail,
-        Answer::Run { log, options } => {
-            run_command(rt, alloc, &log, &options, disk, script, out, gate)
+        Answer::Asked(asked) => obey(rt, alloc, &asked, disk, script, out, gate),
+    }
+}
+
+/// Obeys a command that needs workers.
+fn obey<R: Threads + Wait + Sync, D: LogDisk, S: Source, K: Sink, G: Gate + Sync>(
+    rt: &R,
+    alloc: Global,
+    asked: &WithWorkers,
+    disk: &mut D,
+    script: &mut S,
+    out: &mut K,
+    gate: &G,
+) -> Detail
+    requires { (words : List (List ℕ)) × IsCommandLine words (command_of asked.now) }
+    ensures { Obeys D.LogDisk S.Source K.Sink (command_of asked.now) (world disk.old script.old out.old) (world disk.new script.new out.new) result }
+{
+    match asked {
+        WithWorkers::Run { log, options } => {
+            run_command(rt, alloc, log, options, disk, script, out, gate)
         }
-        Answer::Demo {
+        WithWorkers::Demo {
             log,
             transfers,
             seed,
             options,
-        } => demo_command(rt, alloc, &log, transfers, seed, &options, disk, out, gate),
+        } => demo_command(rt, alloc, log, *transfers, *seed, options, disk, out, gate),
     }
 }

@@ -9,7 +9,9 @@ use Rattle.log_disk.specs.declared.sink.Sink.{Ghosts as SinkGhosts}
 use Rattle.cli_shared.specs.declared.report.Detail.{Detail}
 use Rattle.cli_shared.specs.declared.report.Detail.TheVariants.{NoMemory, Usage}
 use Rattle.cli_world.specs.declared.answer.Answer.{Answer}
-use Rattle.cli_world.specs.declared.answer.Answer.TheVariants as answer
+use Rattle.cli_world.specs.declared.answer.Answer.TheVariants.{Done, Asked}
+use Rattle.cli_world.specs.declared.answer.WithWorkers.{WithWorkers}
+use Rattle.cli_world.specs.declared.answer.WithWorkers.TheVariants as with_workers
 use Rattle.cli_world.specs.World.{World, TellsFaults, DoesDump, DoesNew, DoesRecover}
 
 -- the command is one that needs no workers, and did what it promises
@@ -28,9 +30,13 @@ pub record HasObeyedAlone {D S K : Type 0} (g : Ghosts D) (h : SourceGhosts S) (
   pub done : DoesAlone g h i command old new detail
   pub faults : TellsFaults g h i old new detail
 
--- a command was asked and obeyed; or the words ask none; or there was no memory to read them; or the words ask `run`, or `demo`
+-- the command that is asked
+abbrev pub command_of : WithWorkers → Command
+command_of (with_workers.Run log options) = Run log options
+command_of (with_workers.Demo log n seed options) = Demo log n seed options
+
+-- a command was asked and obeyed; or the words ask none; or there was no memory to read them; or they ask a command that needs workers
 abbrev pub AnsweredAlone : {D S K : Type 0} → Ghosts D → SourceGhosts S → SinkGhosts K → List (List ℕ) → World D S K → World D S K → Answer → Type 0
-AnsweredAlone g h i words old new (answer.Done detail) = HasObeyedAlone g h i words old new detail
+AnsweredAlone g h i words old new (Done detail) = HasObeyedAlone g h i words old new detail
     ⊎ ((detail ≡ Usage) × (AreTaken words → ⊥) × (new ≡ old)) ⊎ ((detail ≡ NoMemory) × (new ≡ old))
-AnsweredAlone g h i words old new (answer.Run log options) = IsCommandLine words (Run log options) × (new ≡ old)
-AnsweredAlone g h i words old new (answer.Demo log n seed options) = IsCommandLine words (Demo log n seed options) × (new ≡ old)
+AnsweredAlone g h i words old new (Asked asked) = IsCommandLine words (command_of asked) × (new ≡ old)

@@ -8,13 +8,17 @@ pub enum Answer {
     /// All is done, and the program ends so.
     Done(Detail),
 
-    /// Nothing is done yet: the words ask `run`.
+    /// Nothing is done yet: this is asked.
+    Asked(WithWorkers),
+}
+
+/// A command that needs workers, as it is asked.
+#[derive(Drop)]
+pub enum WithWorkers {
     Run {
         log: Word,
         options: RunOptions,
     },
-
-    /// Nothing is done yet: the words ask `demo`.
     Demo {
         log: Word,
         transfers: u32,

@@ -1,7 +1,7 @@
 ghost use Rattle.cli_world.specs.Alone.{AnsweredAlone};
 ghost use Rattle.cli_world.specs.World.{world};
 
-use crate::answer::Answer;
+use crate::answer::{Answer, WithWorkers};
 use crate::commands::{obey_dump, obey_new, obey_recover};
 use cli_shared::Detail;
 use command_line::{Command, Refused, parse};
@@ -23,7 +23,7 @@ pub fn answer_alone<D: LogDisk, S: Source, K: Sink>(
         Ok(Command::New { log }) => Answer::Done(obey_new(alloc, &log, disk, script, out)),
         Ok(Command::Recover) => Answer::Done(obey_recover(alloc, disk, script, out)),
         Ok(Command::Dump) => Answer::Done(obey_dump(alloc, disk, script, out)),
-        Ok(Command::Run { log, options }) => Answer::Run { log, options },
+        Ok(Command::Run { log, options }) => Answer::Asked(WithWorkers::Run { log, options }),
         Ok(
             Command::Demo {
                 log,
@@ -31,12 +31,14 @@ pub fn answer_alone<D: LogDisk, S: Source, K: Sink>(
                 seed,
                 options,
             },
-        ) => Answer::Demo {
-            log,
-            transfers,
-            seed,
-            options,
-        },
+        ) => Answer::Asked(
+            WithWorkers::Demo {
+                log,
+                transfers,
+                seed,
+                options,
+            },
+        ),
         Err(Refused::Usage) => Answer::Done(Detail::Usage),
         Err(Refused::NoMemory) => Answer::Done(Detail::NoMemory),
     }

@@ -5,6 +5,6 @@ mod answer;
 mod answering;
 mod commands;
 
-pub use answer::Answer;
+pub use answer::{Answer, WithWorkers};
 pub use answering::answer_alone;
 pub use commands::{obey_dump, obey_new, obey_recover};

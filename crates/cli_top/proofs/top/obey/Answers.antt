@@ -1,0 +1,42 @@
+use Rattle.std.proofs.Common.{refl, subst, sym, arith}
+use Rattle.cli_demo.specs.Demo.{IsOfDemo}
+use Rattle.cli_world.specs.Alone.{command_of}
+use Rattle.cli_world.specs.World.{world}
+use Rattle.cli_top.specs.Answered.{Obeys}
+use Rattle.cli_top.proofs.top.obey.Goals as goal
+
+pub returns-in-Run : goal.returns-in-Run
+returns-in-Run g c =
+    let called = c.run_command.ensures in
+    subst (λ asked. Obeys g.D.LogDisk g.S.Source g.K.Sink (command_of asked) (world c.args.disk.now c.args.script.now c.args.out.now)
+        (world c.run_command.new.disk c.run_command.new.script c.run_command.new.out) c.run_command.result) (sym c.in-Run.is)
+    (record {
+      faults = record {
+        read = called.read;
+        write = called.write;
+        disk = called.disk;
+        no_fault = called.no_fault;
+        later = called.later;
+        later_disk = called.later_disk;
+        honest = called.honest;
+      };
+      done = record { answer = called.answer; silent = called.silent; range = called.range };
+    })
+
+pub returns-in-Demo : goal.returns-in-Demo
+returns-in-Demo g c =
+    let called = c.demo_command.ensures in
+    subst (λ asked. Obeys g.D.LogDisk g.S.Source g.K.Sink (command_of asked) (world c.args.disk.now c.args.script.now c.args.out.now)
+        (world c.demo_command.new.disk c.args.script.now c.demo_command.new.out) c.demo_command.result) (sym c.in-Demo.is)
+    (record {
+      faults = record {
+        read = λ read. absurd (subst IsOfDemo read called.range);
+        write = called.write;
+        disk = called.disk;
+        no_fault = called.no_fault;
+        later = (omega arith, called.later);
+        later_disk = called.later_disk;
+        honest = called.honest;
+      };
+      done = record { answer = called.answer; text = called.text; range = called.range; exists = called.exists; unread = refl };
+    })
