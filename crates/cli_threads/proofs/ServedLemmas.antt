@@ -1,7 +1,11 @@
 -- What a worker did stands once it has ended.
 use Rattle.std.proofs.Common.{◌≡◌, ℕ, Bool, true, ◌++◌, [], append-nil, sym, ap, subst, ◌∙◌}
+use Rattle.log_table.specs.declared.table.Seat.{Seat}
+use Rattle.log_table.specs.declared.table.LogTable.{LogTable}
+use Rattle.log_table.specs.declared.view.Role.TheVariants.{Ended}
 use Rattle.log_table.specs.declared.view.View.{View}
 use Rattle.log_table.specs.CrewViews.{retired}
+use Rattle.log_table.specs.Seats.{Becomes, IsOf, view_of}
 use Rattle.txn_jobs.specs.declared.cause.Cause.{Cause}
 use Rattle.txn_jobs.specs.declared.cause.Cause.TheVariants.{Stop, LogEnd}
 use Rattle.txn_jobs.specs.declared.cause.Worked.{Worked}
@@ -10,6 +14,21 @@ use Rattle.txn_jobs.specs.declared.jobs.Jobs.{Jobs}
 use Rattle.txn_runner.specs.Stripes.{stripe_jobs}
 use Rattle.txn_runner.specs.Working.{HasWorked, IsCutBy, TakesJobs, Works}
 use Rattle.txn_runner.proofs.WorkLemmas.{Works-may_wait}
+
+-- a seat that left is of the table that it was of
+module _ (old new : Seat) (left : Becomes old new (retired (view_of old))) where
+  pub view-left : view_of new ≡ retired (view_of old)
+  view-left = ap (λ me. me.0) left.me
+
+  pub ended-left : (view_of new).standing.role ≡ Ended
+  ended-left = ap (λ (view : View). view.standing.role) view-left
+
+  pub IsOf-left : (table : LogTable) → IsOf table old → IsOf table new
+  IsOf-left table of = record {
+    table_is = left.table_is ∙ of.table_is;
+    no_slots = ap (λ me. me.1) left.me ∙ of.no_slots;
+    ring = ap (λ (view : View). view.constants.ring) view-left ∙ of.ring;
+  }
 
 module _ (jobs : Jobs) (number : ℕ) where
   HasWorked-retired : (k : ℕ) (view : View) → HasWorked jobs number k view → HasWorked jobs number k (retired view)

@@ -1,4 +1,4 @@
-use Rattle.std.proofs.Common.{rules, ◌≡◌, ◌∙◌, ap, sym, subst}
+use Rattle.std.proofs.Common.{◌≡◌, ◌∙◌, ap, sym, subst}
 use Rattle.log_table.specs.declared.view.Books.{Books}
 use Rattle.log_table.specs.declared.view.View.{View}
 use Rattle.log_table.specs.Seats.{view_of}
@@ -6,7 +6,7 @@ use Rattle.log_table.specs.CrewViews.{retired}
 use Rattle.txn_runner.specs.Working.{taken_in}
 use Rattle.cli_threads.specs.Waiting.{HaveWaited, made_of}
 use Rattle.cli_threads.proofs.WaitedLemmas.{HaveWaited-worked}
-use Rattle.cli_threads.proofs.ServedLemmas.{HasDone, HasDone-left}
+use Rattle.cli_threads.proofs.ServedLemmas.{HasDone, HasDone-left, IsOf-left, ended-left, view-left}
 use Rattle.cli_threads.proofs.serving.serve.Goals as goal
 
 pub returns-clause-done : goal.returns-clause-done
@@ -19,14 +19,15 @@ returns-clause-done g c =
     let worked = c.work-worked.result in
     let new = view_of c.work-worked.new.seat in
     let none = ap (λ (books : Books). books.jobs) hired.books in
-    let left : view_of c.leave.new.seat ≡ retired new = search rules in
-    let same : c.leave.new.seat.worker ≡ number = search rules in
+    let leaves = c.leave.ensures.view in
+    let left = view-left c.work-worked.new.seat c.leave.new.seat leaves in
+    let same : c.leave.new.seat.worker ≡ number = leaves.worker ∙ did.same.worker in
     let done = HasDone-left jobs number _ taken _ worked (view_of c.args.worker.seat) new hired.taken none did.worked did.jobs did.works in
     let all = subst (HasDone jobs number taken worked) (sym left) done in
     let mine = subst (λ n. HasDone jobs n taken worked (view_of c.leave.new.seat)) (sym same) all in
     record {
-      seat = search rules;
-      ended = search rules;
+      seat = IsOf-left c.work-worked.new.seat c.leave.new.seat leaves c.args.run.now.table.now did.seat;
+      ended = ended-left c.work-worked.new.seat c.leave.new.seat leaves;
       jobs_are = mine.jobs_are;
       has = mine.has;
       works = mine.works;
