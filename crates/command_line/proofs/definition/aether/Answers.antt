@@ -1,13 +1,11 @@
-use Rattle.std.proofs.Common.{◌∙◌, ap, ap₂}
-use Rattle.std.proofs.lemmas.Result.{IfOk-weaker}
-use Rattle.clap.specs.Words.{App, with_subcommand}
-use Rattle.command_line.specs.Building.{with_readers, writers_command}
 use Rattle.command_line.specs.CommandLine.{aether_command}
 use Rattle.command_line.proofs.definition.aether.Goals as goal
 
 pub returns : goal.returns
-unfolding aether_command writers_command with_readers
+unfolding aether_command
 returns c =
-    let readers = c.in_ok-with_readers.ensures ∙ ap with_readers c.in_ok-writers.ensures in
-    IfOk-weaker c.subcommand.result _ _
-    (λ r h. h.shape c.in_ok-demo.ensures.local ∙ ap₂ with_subcommand readers (ap (λ (a : App). a.top) c.in_ok-demo.ensures.app)) c.subcommand.ensures
+    let new = c.and_subcommand-command.ensures _ _ c.bare.ensures c.new.ensures in
+    let run = c.and_subcommand-command-2.ensures _ _ new c.run.ensures in
+    let recover = c.and_subcommand-command-3.ensures _ _ run (c.new-2.ensures.app, c.new-2.ensures.local) in
+    let dump = c.and_subcommand-command-4.ensures _ _ recover (c.new-3.ensures.app, c.new-3.ensures.local) in
+    c.and_subcommand.ensures _ _ dump c.demo.ensures
