@@ -1,7 +1,7 @@
 //! The command of the program, as `clap` builds it. `specs/CommandLine.antt` has it as one term.
 ghost use Rattle.std.specs.Prelude.{◌≡◌, IfOk, false};
-ghost use Rattle.clap.specs.Words.{app_of, rule_of};
-ghost use Rattle.clap.specs.declared.builder.command.Command.TheViews.{out-Command};
+ghost use Rattle.clap.specs.Words.{App, Rule, app_of, rule_of, with_rule, with_subcommand};
+ghost use Rattle.command_line.specs.Building.{Builds, log_command};
 ghost use Rattle.command_line.specs.CommandLine.{aether_command, bare_command, demo_command, flag_rule, new_command, option_rule, required_rule, run_command};
 
 use clap::{Arg, ArgAction, Command};
@@ -31,36 +31,70 @@ fn flag<'a>(alloc: Global, name: &'a str) -> Arg<'a>
     Arg::new(alloc, name).long(name).action(ArgAction::SetTrue)
 }
 
-fn new<'a>(alloc: Global) -> Result<Command<'a>, AllocError>
-    ensures app { IfOk result (λ r. app_of r ≡ new_command) }
-    ensures local { IfOk result (λ r. (out-Command r).has_globals ≡ false) }
+/// Adds an argument, where there was memory for the command.
+fn and_arg<'a>(
+    command: Result<Command<'a>, AllocError>,
+    arg: Arg<'a>,
+) -> Result<Command<'a>, AllocError>
+    ensures { (app : App) (rule : Rule) → Builds command.entry app → rule_of arg.entry ≡ rule → arg.entry.global ≡ false
+        → Builds result (with_rule app rule) }
 {
-    Command::new(alloc, "new").arg(required(alloc, "LOG"))
+    command?.arg(arg)
+}
+
+/// Adds a subcommand, where there was memory for it.
+fn with_subcommand<'a>(
+    command: Command<'a>,
+    subcommand: Result<Command<'a>, AllocError>,
+) -> Result<Command<'a>, AllocError>
+    ensures { (sub : App) → Builds subcommand.entry sub → IfOk result (λ r. app_of r ≡ with_subcommand (app_of command.entry) sub.top) }
+{
+    command.subcommand(subcommand?)
+}
+
+/// Adds a subcommand, where there was memory for both.
+fn and_subcommand<'a>(
+    command: Result<Command<'a>, AllocError>,
+    subcommand: Result<Command<'a>, AllocError>,
+) -> Result<Command<'a>, AllocError>
+    ensures { (app sub : App) → IfOk command.entry (λ c. app_of c ≡ app) → Builds subcommand.entry sub
+        → IfOk result (λ r. app_of r ≡ with_subcommand app sub.top) }
+{
+    with_subcommand(command?, subcommand)
+}
+
+/// A command that is given a log.
+fn on_log<'a>(alloc: Global, name: &'a str) -> Result<Command<'a>, AllocError>
+    ensures { Builds result (log_command name.entry.now) }
+{
+    and_arg(Ok(Command::new(alloc, name)), required(alloc, "LOG"))
+}
+
+fn new<'a>(alloc: Global) -> Result<Command<'a>, AllocError>
+    ensures { Builds result new_command }
+{
+    on_log(alloc, "new")
 }
 
 fn run<'a>(alloc: Global) -> Result<Command<'a>, AllocError>
-    ensures app { IfOk result (λ r. app_of r ≡ run_command) }
-    ensures local { IfOk result (λ r. (out-Command r).has_globals ≡ false) }
+    ensures { Builds result run_command }
 {
-    Command::new(alloc, "run")
-        .arg(required(alloc, "LOG"))?
-        .arg(option(alloc, "workers"))?
-        .arg(option(alloc, "ring"))?
-        .arg(option(alloc, "slots"))?
-        .arg(flag(alloc, "wait"))
+    let command = on_log(alloc, "run");
+    let command = and_arg(command, option(alloc, "workers"));
+    let command = and_arg(command, option(alloc, "ring"));
+    let command = and_arg(command, option(alloc, "slots"));
+    and_arg(command, flag(alloc, "wait"))
 }
 
 fn demo<'a>(alloc: Global) -> Result<Command<'a>, AllocError>
-    ensures app { IfOk result (λ r. app_of r ≡ demo_command) }
-    ensures local { IfOk result (λ r. (out-Command r).has_globals ≡ false) }
+    ensures { Builds result demo_command }
 {
-    Command::new(alloc, "demo")
-        .arg(required(alloc, "LOG"))?
-        .arg(required(alloc, "N"))?
-        .arg(required(alloc, "SEED"))?
-        .arg(option(alloc, "workers"))?
-        .arg(option(alloc, "ring"))?
-        .arg(option(alloc, "slots"))
+    let command = on_log(alloc, "demo");
+    let command = and_arg(command, required(alloc, "N"));
+    let command = and_arg(command, required(alloc, "SEED"));
+    let command = and_arg(command, option(alloc, "workers"));
+    let command = and_arg(command, option(alloc, "ring"));
+    and_arg(command, option(alloc, "slots"))
 }
 
 /// A command line that asks for help is a faulty one, so nothing here stands for help or for a version.
@@ -78,10 +112,9 @@ fn bare<'a>(alloc: Global) -> Command<'a>
 pub(crate) fn aether<'a>(alloc: Global) -> Result<Command<'a>, AllocError>
     ensures { IfOk result (λ r. app_of r ≡ aether_command) }
 {
-    bare(alloc)
-        .subcommand(new(alloc)?)?
-        .subcommand(run(alloc)?)?
-        .subcommand(Command::new(alloc, "recover"))?
-        .subcommand(Command::new(alloc, "dump"))?
-        .subcommand(demo(alloc)?)
+    let command = and_subcommand(Ok(bare(alloc)), new(alloc));
+    let command = and_subcommand(command, run(alloc));
+    let command = and_subcommand(command, Ok(Command::new(alloc, "recover")));
+    let command = and_subcommand(command, Ok(Command::new(alloc, "dump")));
+    and_subcommand(command, demo(alloc))
 }

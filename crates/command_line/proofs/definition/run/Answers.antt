@@ -1,23 +1,10 @@
-use Rattle.std.proofs.Common.{◌∙◌, ap₂}
-use Rattle.std.proofs.lemmas.Result.{IfOk-weaker}
-use Rattle.clap.specs.Words.{with_rule}
 use Rattle.command_line.specs.CommandLine.{run_command}
-use Rattle.command_line.proofs.Facts.{both_false}
 use Rattle.command_line.proofs.definition.run.Goals as goal
 
-pub returns-clause-app : goal.returns-clause-app
+pub returns : goal.returns
 unfolding run_command
-returns-clause-app c =
-    let log = c.in_ok-arg.ensures.shape c.required.ensures.local ∙ ap₂ with_rule c.new.ensures.app c.required.ensures.rule in
-    let workers = c.in_ok-arg-2.ensures.shape c.option.ensures.local ∙ ap₂ with_rule log c.option.ensures.rule in
-    let ring = c.in_ok-arg-3.ensures.shape c.option-2.ensures.local ∙ ap₂ with_rule workers c.option-2.ensures.rule in
-    let slots = c.in_ok-arg-4.ensures.shape c.option-3.ensures.local ∙ ap₂ with_rule ring c.option-3.ensures.rule in
-    IfOk-weaker c.arg-5.result _ _ (λ r h. h.shape c.flag.ensures.local ∙ ap₂ with_rule slots c.flag.ensures.rule) c.arg-5.ensures
-
-pub returns-clause-local : goal.returns-clause-local
-returns-clause-local c =
-    let log = both_false _ _ _ c.in_ok-arg.ensures.globals c.new.ensures.local c.required.ensures.local in
-    let workers = both_false _ _ _ c.in_ok-arg-2.ensures.globals log c.option.ensures.local in
-    let ring = both_false _ _ _ c.in_ok-arg-3.ensures.globals workers c.option-2.ensures.local in
-    let slots = both_false _ _ _ c.in_ok-arg-4.ensures.globals ring c.option-3.ensures.local in
-    IfOk-weaker c.arg-5.result _ _ (λ r h. both_false _ _ _ h.globals slots c.flag.ensures.local) c.arg-5.ensures
+returns c =
+    let workers = c.and_arg-command.ensures _ _ c.on_log-command.ensures c.option.ensures.rule c.option.ensures.local in
+    let ring = c.and_arg-command-2.ensures _ _ workers c.option-2.ensures.rule c.option-2.ensures.local in
+    let slots = c.and_arg-command-3.ensures _ _ ring c.option-3.ensures.rule c.option-3.ensures.local in
+    c.and_arg.ensures _ _ slots c.flag.ensures.rule c.flag.ensures.local

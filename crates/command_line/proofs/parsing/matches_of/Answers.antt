@@ -36,3 +36,6 @@ returns-in-OutOfMemory-clause-exact c = tt
 
 pub returns-in-OutOfMemory-clause-taken : goal.returns-in-OutOfMemory-clause-taken
 returns-in-OutOfMemory-clause-taken c = λ taken. refl
+
+pub returns-in-Ok-try_get_matches_from-clause-taken : goal.returns-in-Ok-try_get_matches_from-clause-taken
+returns-in-Ok-try_get_matches_from-clause-taken c = λ taken. tt
