@@ -94,6 +94,16 @@ fn report_one<R: Wait + Abort>(
     Some([(active, sent), (at_end, idle)])
 }
 
+/// The daemon wrote this, and the log of one transfer is on the disk.
+fn has_left(rt: &impl Abort, disk: &MemoryDisk, sink: &MemorySink, text: &[u8]) {
+    has_bytes(rt, "sink", sink.bytes(), text);
+    has_bytes(rt, "disk", disk.bytes(), ONE_TRANSFER_LOG.as_slice());
+}
+
+fn has_bytes(rt: &impl Abort, place: &str, bytes: &[u8], wanted: &[u8]) {
+    assert_eq!(rt; bytes, wanted, "{place}");
+}
+
 #[test]
 fn one_transfer(rt: HostRuntime) -> Result<(), Fail> {
     let mut disk = MemoryDisk::make(rt.alloc(), &[], 1000, &[])?;
@@ -102,8 +112,7 @@ fn one_transfer(rt: HostRuntime) -> Result<(), Fail> {
     let to = Lsn::new(9);
     let first = (Drained::Active(1), Turn::Sent { lines: 1, to });
     assert_eq!(rt; told, Some([first, (Drained::At(to), Turn::Idle)]));
-    assert_eq!(rt; sink.bytes(), b"done 1 9\n".as_slice());
-    assert_eq!(rt; disk.bytes(), ONE_TRANSFER_LOG.as_slice());
+    has_left(&rt, &disk, &sink, b"done 1 9\n");
     Ok(())
 }
 
@@ -136,8 +145,7 @@ fn behind_until_sent(rt: HostRuntime) -> Result<(), Fail> {
         told,
         Some((Drained::Behind { exposed, durable }, exposed, [1, 0]))
     );
-    assert!(rt; sink.bytes().is_empty());
-    assert_eq!(rt; disk.bytes(), ONE_TRANSFER_LOG.as_slice());
+    has_left(&rt, &disk, &sink, b"");
     Ok(())
 }
 
@@ -163,23 +171,39 @@ fn faulty_turn<R: Wait + Abort>(
     Ok((answer, table.load_stop(&mut seat)))
 }
 
+/// Which calls of the disk and of the sink fail, what befalls the daemon, and the stop word.
+const FAULTS: &[(&[u64], &[u64], Option<DaemonFault>, u64)] = &[
+    (&[CREATED + 1], &[], Some(DaemonFault::DiskFault), 1),
+    (&[CREATED + 2], &[], Some(DaemonFault::DiskFault), 1),
+    (&[CREATED + 3], &[], Some(DaemonFault::DiskFault), 1),
+    (&[CREATED + 4], &[], Some(DaemonFault::DiskFault), 1),
+    (&[], &[1], Some(DaemonFault::WriteFault), 2),
+    (&[], &[], None, 0),
+];
+
+/// A turn answers with this fault, or that one transfer was sent; and a worker reads this stop word.
+fn tells<R: Wait + Abort>(
+    rt: &R,
+    alloc: Global,
+    disk_failing: &[u64],
+    sink_failing: &[u64],
+    fault: Option<DaemonFault>,
+    stop: u64,
+) -> Result<(), Fail> {
+    let to = Lsn::new(9);
+    let answer = match fault {
+        Some(fault) => Err(fault),
+        None => Ok(Turn::Sent { lines: 1, to }),
+    };
+    let told = faulty_turn(rt, alloc, disk_failing, sink_failing)?;
+    assert_eq!(rt; told, (answer, stop), "{disk_failing:?} {sink_failing:?}");
+    Ok(())
+}
+
 #[test]
 fn faults_are_told_by_the_stop_word(rt: HostRuntime) -> Result<(), Fail> {
-    let sent = Turn::Sent {
-        lines: 1,
-        to: Lsn::new(9),
-    };
-    for call in 1..5 {
-        let (answer, stop) = faulty_turn(&rt, rt.alloc(), &[CREATED + call], &[])?;
-        assert_eq!(rt;
-            (answer, stop),
-            (Err(DaemonFault::DiskFault), 1),
-            "call {call}"
-        );
+    for (disk_failing, sink_failing, fault, stop) in FAULTS {
+        tells(&rt, rt.alloc(), disk_failing, sink_failing, *fault, *stop)?;
     }
-    let (answer, stop) = faulty_turn(&rt, rt.alloc(), &[], &[1])?;
-    assert_eq!(rt; (answer, stop), (Err(DaemonFault::WriteFault), 2));
-    let (answer, stop) = faulty_turn(&rt, rt.alloc(), &[], &[])?;
-    assert_eq!(rt; (answer, stop), (Ok(sent), 0));
     Ok(())
 }

@@ -16,6 +16,7 @@ use memory_disk::{MemoryDisk, MemorySink};
 use run_rig::{CREATED, daemon_on, recovered_balances, recovered_end, thirties, work_stripe};
 use std::alloc::Global;
 use std::fs;
+use std::process::Abort;
 use std::sync::Wait;
 use std::test::Fail;
 use std::thread::{Threads, join};
@@ -190,17 +191,28 @@ fn run_transfers<R: Threads + Wait + Sync, D: LogDisk>(
     ))
 }
 
+/// The run ended well, with all in the log up to this end.
+fn has_drained(rt: &impl Abort, (answer, durable, _): Outcome, end: u32) {
+    let end = Lsn::new(end);
+    assert_eq!(rt; (answer, durable), (Ok(end), end));
+}
+
+/// All notes were recovered.
+fn is_recovered(rt: &impl Abort, found: Option<Lsn>) {
+    assert!(rt; found == Some(Lsn::new(END)), "{found:?}");
+}
+
 #[test]
 fn two_threads_and_a_daemon(rt: HostRuntime) -> Result<(), Fail> {
     let alloc = rt.alloc();
     let mut disk = MemoryDisk::make(alloc, &[], 20_000, &[])?;
     let mut sink = MemorySink::make(alloc, 100, &[])?;
-    let Some((inserted, (answer, durable, _))) = run_notes(&rt, alloc, &mut disk, &mut sink) else {
+    let Some((inserted, outcome)) = run_notes(&rt, alloc, &mut disk, &mut sink) else {
         return Err(Fail::new("no memory"));
     };
-    let end = Lsn::new(END);
-    assert_eq!(rt; (inserted, answer, durable), (2 * NOTES, Ok(end), end));
-    assert_eq!(rt; recovered_end(alloc, &mut disk), Some(end));
+    assert!(rt; inserted == 2 * NOTES, "{inserted} were inserted");
+    has_drained(&rt, outcome, END);
+    is_recovered(&rt, recovered_end(alloc, &mut disk));
     Ok(())
 }
 
@@ -210,48 +222,63 @@ fn a_thousand_transfers(rt: HostRuntime) -> Result<(), Fail> {
     let mut disk = MemoryDisk::make(alloc, &[], 200_000, &[])?;
     let mut sink = MemorySink::make(alloc, 20_000, &[])?;
     let run = run_transfers(&rt, alloc, &mut disk, &mut sink);
-    let Some((made, (answer, durable, _))) = run else {
+    let Some((made, outcome)) = run else {
         return Err(Fail::new("no memory"));
     };
-    let end = Lsn::new(TRANSFERS_END);
-    assert_eq!(rt;
-        (made, answer, durable),
-        (2 * TRANSFERS as usize, Ok(end), end)
-    );
-    assert_eq!(rt;
-        recovered_balances(alloc, &mut disk),
-        Some((70_000, 30_000))
-    );
+    assert!(rt; made == 2 * TRANSFERS as usize, "{made} were made");
+    has_drained(&rt, outcome, TRANSFERS_END);
+    let balances = recovered_balances(alloc, &mut disk);
+    assert!(rt; balances == Some((70_000, 30_000)), "{balances:?}");
     Ok(())
+}
+
+/// What a run came to where this call of the disk fails, and where the log ends that this crash left.
+fn crash_at<R: Threads + Wait + Sync>(
+    rt: &R,
+    alloc: Global,
+    failing: u64,
+    pick: u64,
+) -> Result<(Outcome, Lsn), Fail> {
+    let mut disk = MemoryDisk::make(alloc, &[], 20_000, &[failing])?;
+    let mut sink = MemorySink::make(alloc, 100, &[])?;
+    let Some((_, outcome)) = run_notes(rt, alloc, &mut disk, &mut sink) else {
+        return Err(Fail::new("no memory"));
+    };
+    let mut left = disk.crash(pick);
+    // A call that the run did not come to fails here, once.
+    let first = recovered_end(alloc, &mut left);
+    let second = recovered_end(alloc, &mut left);
+    let Some(found) = first.or(second) else {
+        return Err(Fail::new("no log is left"));
+    };
+    Ok((outcome, found))
+}
+
+/// The log ends at its whole end where the run ended well, and else at durable, or at the end of the batch in flight.
+fn is_left(rt: &impl Abort, call: u64, outcome: Outcome, found: Lsn) {
+    let (answer, durable, flying) = outcome;
+    let fits = match answer {
+        Ok(end) => end == Lsn::new(END) && found == end,
+        Err(_) => found == durable || Some(found) == durable.plus(flying),
+    };
+    assert!(rt; fits, "call {call}: {outcome:?}, {found:?}");
 }
 
 /// After a fault of the disk a crash leaves the log up to durable, or up to the end of the batch in flight.
 #[test]
 fn the_disk_fails_beside_two_threads(rt: HostRuntime) -> Result<(), Fail> {
-    let alloc = rt.alloc();
     for call in 1..9 {
         for pick in [0, 1, 77, 12_345] {
-            let mut disk = MemoryDisk::make(alloc, &[], 20_000, &[CREATED + call])?;
-            let mut sink = MemorySink::make(alloc, 100, &[])?;
-            let Some((_, (answer, durable, flying))) = run_notes(&rt, alloc, &mut disk, &mut sink)
-            else {
-                return Err(Fail::new("no memory"));
-            };
-            let mut left = disk.crash(pick);
-            // A call that the run did not come to fails here, once.
-            let first = recovered_end(alloc, &mut left);
-            let second = recovered_end(alloc, &mut left);
-            let Some(found) = first.or(second) else {
-                return Err(Fail::new("no log is left"));
-            };
-            let longer = durable.plus(flying);
-            match answer {
-                Ok(end) => assert_eq!(rt; (end, found), (Lsn::new(END), end), "call {call}"),
-                Err(_) => assert!(rt; found == durable || Some(found) == longer, "call {call}"),
-            }
+            let (outcome, found) = crash_at(&rt, rt.alloc(), CREATED + call, pick)?;
+            is_left(&rt, call, outcome, found);
         }
     }
     Ok(())
+}
+
+/// The file of this name is opened, or made.
+fn attaches(rt: &impl Abort, disk: &mut FileDisk<HostRuntime>, name: &Word, make: bool) {
+    assert!(rt; disk.attach(name, make).is_ok());
 }
 
 #[test]
@@ -261,16 +288,15 @@ fn two_threads_and_a_real_file(rt: HostRuntime) -> Result<(), Fail> {
     };
     let _ = fs::remove_file(&rt, name.text());
     let mut disk = FileDisk::make(rt);
-    assert_eq!(rt; disk.attach(&name, true), Ok(()));
+    attaches(&rt, &mut disk, &name, true);
     let mut sink = MemorySink::make(rt.alloc(), 100, &[])?;
-    let Some((_, (answer, _, _))) = run_notes(&rt, rt.alloc(), &mut disk, &mut sink) else {
+    let Some((_, outcome)) = run_notes(&rt, rt.alloc(), &mut disk, &mut sink) else {
         return Err(Fail::new("no memory"));
     };
-    let end = Lsn::new(END);
-    assert_eq!(rt; answer, Ok(end));
+    has_drained(&rt, outcome, END);
     let mut again = FileDisk::make(rt);
-    assert_eq!(rt; again.attach(&name, false), Ok(()));
-    assert_eq!(rt; recovered_end(rt.alloc(), &mut again), Some(end));
+    attaches(&rt, &mut again, &name, false);
+    is_recovered(&rt, recovered_end(rt.alloc(), &mut again));
     assert!(rt; fs::remove_file(&rt, name.text()).is_ok());
     Ok(())
 }

@@ -5,12 +5,14 @@ ghost use Rattle.log_table.specs.declared.view.Role.TheVariants.{Ended};
 ghost use Rattle.log_table.specs.Seats.{IsOf, view_of};
 ghost use Rattle.test_rig.specs.NotedJobs.{IsNotedJob, MayInsert};
 
+use crate::found::has_answered;
 use lock_core::Job;
 use log_table::{LogTable, Seat};
 use lsn_space::{LAST, Lsn, NoMemory};
 use ring_buffer::Refused;
 use schedule_hook::{Gate, OpenGate, Place};
 use std::alloc::Global;
+use std::process::Abort;
 use std::sync::Wait;
 use std::sync::atomic::{AtomicBool, AtomicU32, Ordering};
 use std::test::Fail;
@@ -30,9 +32,9 @@ fn inserts_answer_their_lsns(rt: HostRuntime) -> Result<(), Fail> {
     let first = insert_note(&rt, &table, &mut seat, 1, &job, &OpenGate);
     let second = insert_note(&rt, &table, &mut seat, 2, &job, &OpenGate);
     let third = insert_note(&rt, &table, &mut seat, 3, &job, &OpenGate);
-    assert_eq!(rt; first, Ok(Lsn::new(4)));
-    assert_eq!(rt; second, Ok(Lsn::new(6)));
-    assert_eq!(rt; third, Ok(Lsn::new(8)));
+    has_answered(&rt, 1, first, Ok(Lsn::new(4)));
+    has_answered(&rt, 2, second, Ok(Lsn::new(6)));
+    has_answered(&rt, 3, third, Ok(Lsn::new(8)));
     Ok(())
 }
 
@@ -43,11 +45,9 @@ fn refuses_units_past_the_last_lsn(rt: HostRuntime) -> Result<(), Fail> {
     let Some(job) = noted_job(b"aaaaaaaa") else {
         return Err(Fail::new("no job"));
     };
-    let Err(refused) = insert_note(&rt, &table, &mut seat, 1, &job, &OpenGate) else {
-        panic!(rt; "there is no room for two units");
-    };
+    let answer = insert_note(&rt, &table, &mut seat, 1, &job, &OpenGate);
     let tail = Lsn::new(LAST - 1);
-    assert_eq!(rt; refused, Refused::LogEnd { tail, total: 2 });
+    has_answered(&rt, 1, answer, Err(Refused::LogEnd { tail, total: 2 }));
     Ok(())
 }
 
@@ -58,18 +58,16 @@ fn refuses_units_past_the_ring(rt: HostRuntime) -> Result<(), Fail> {
     let Some(job) = noted_job(b"aaaaaaaa") else {
         return Err(Fail::new("no job"));
     };
-    let inserted = insert_all(&rt, &table, &mut seat, 1, 512, &job);
-    assert_eq!(rt; inserted, (512, Lsn::new(1026)));
-    let refused = insert_note(&rt, &table, &mut seat, 513, &job, &OpenGate);
-    let (tail, durable) = (Lsn::new(1028), Lsn::new(4));
-    assert_eq!(rt;
-        refused,
-        Err(Refused::RingFull {
-            tail,
-            durable,
-            total: 2
-        })
-    );
+    let (inserted, last) = insert_all(&rt, &table, &mut seat, 1, 512, &job);
+    assert!(rt; inserted == 512, "{inserted} notes are in the ring");
+    has_answered(&rt, 512, Ok(last), Ok(Lsn::new(1026)));
+    let answer = insert_note(&rt, &table, &mut seat, 513, &job, &OpenGate);
+    let full = Refused::RingFull {
+        tail: Lsn::new(1028),
+        durable: Lsn::new(4),
+        total: 2,
+    };
+    has_answered(&rt, 513, answer, Err(full));
     Ok(())
 }
 
@@ -95,6 +93,9 @@ fn work<R: Wait, G: Gate>(
     (at.ok(), seat)
 }
 
+/// Where the records of two workers start, and where the log ends behind them.
+type Places = (Option<Lsn>, Option<Lsn>, Lsn);
+
 /// Two workers insert at once; answers where, and the log's end once both were merged.
 fn insert_both<R: Threads + Wait + Sync, G: Gate + Sync>(
     rt: &R,
@@ -102,7 +103,7 @@ fn insert_both<R: Threads + Wait + Sync, G: Gate + Sync>(
     first: &Job,
     second: &Job,
     gate: &G,
-) -> Result<(Option<Lsn>, Option<Lsn>, Lsn), NoMemory>
+) -> Result<Places, NoMemory>
     requires first { IsNotedJob first.now }
     requires second { IsNotedJob second.now }
 {
@@ -125,6 +126,20 @@ fn insert_both<R: Threads + Wait + Sync, G: Gate + Sync>(
     table.merge(&mut boss, two);
     let closed = table.close(boss);
     Ok((at_first, at_second, closed.lsn()))
+}
+
+fn places(first: u32, second: u32, end: u32) -> Places {
+    (Some(Lsn::new(first)), Some(Lsn::new(second)), Lsn::new(end))
+}
+
+/// The records have these places, or those.
+fn are_at(rt: &impl Abort, found: Places, these: Places, those: Places) {
+    assert!(rt; found == these || found == those, "{found:?}");
+}
+
+/// No thread gave up while it was held.
+fn have_met(rt: &impl Abort, gave_up: &AtomicBool) {
+    assert!(rt; !gave_up.load(Ordering::SeqCst), "the threads did not meet");
 }
 
 /// A thread waits until as many have come as it wants, or notes that it gave up.
@@ -172,17 +187,9 @@ fn the_later_range_is_filled_first(rt: HostRuntime) -> Result<(), Fail> {
     let (Some(first), Some(second)) = (noted_job(b"aaaaaaaa"), noted_job(b"bbbbbbbb")) else {
         return Err(Fail::new("no job"));
     };
-    let (one, two, end) = insert_both(&rt, rt.alloc(), &first, &second, &gate)?;
-    let starts = (one.map(|at| at.units()), two.map(|at| at.units()));
-    assert!(rt;
-        starts == (Some(4), Some(6)) || starts == (Some(6), Some(4)),
-        "{starts:?}"
-    );
-    assert_eq!(rt; end, Lsn::new(8));
-    assert!(rt;
-        !gate.gave_up.load(Ordering::SeqCst),
-        "the threads did not meet"
-    );
+    let found = insert_both(&rt, rt.alloc(), &first, &second, &gate)?;
+    are_at(&rt, found, places(4, 6, 8), places(6, 4, 8));
+    have_met(&rt, &gate.gave_up);
     Ok(())
 }
 
@@ -211,21 +218,10 @@ fn a_lost_exchange_is_made_again(rt: HostRuntime) -> Result<(), Fail> {
     let (Some(first), Some(second)) = (noted_job(b"aaaaaaaa"), noted_job(b"bbbbbbbbb")) else {
         return Err(Fail::new("no job"));
     };
-    let (one, two, end) = insert_both(&rt, rt.alloc(), &first, &second, &gate)?;
-    let starts = (one.map(|at| at.units()), two.map(|at| at.units()));
-    assert!(rt;
-        starts == (Some(4), Some(6)) || starts == (Some(7), Some(4)),
-        "{starts:?}"
-    );
-    assert_eq!(rt; end, Lsn::new(9));
-    assert_eq!(rt;
-        gate.looked.load(Ordering::SeqCst),
-        3,
-        "one worker looked twice"
-    );
-    assert!(rt;
-        !gate.gave_up.load(Ordering::SeqCst),
-        "the threads did not meet"
-    );
+    let found = insert_both(&rt, rt.alloc(), &first, &second, &gate)?;
+    are_at(&rt, found, places(4, 6, 9), places(7, 4, 9));
+    let looked = gate.looked.load(Ordering::SeqCst);
+    assert!(rt; looked == 3, "one worker looked twice: {looked}");
+    have_met(&rt, &gate.gave_up);
     Ok(())
 }

@@ -2,6 +2,8 @@
 #![tactic(auto)]
 
 #[cfg(test)]
+mod found;
+#[cfg(test)]
 mod inserting_tests;
 #[cfg(test)]
 mod sending_tests;

@@ -4,8 +4,8 @@ ghost use Rattle.log_table.specs.May.{MaySplit};
 ghost use Rattle.log_table.specs.Seats.{IsOf, view_of};
 ghost use Rattle.log_table.specs.CrewViews.{hires, hired, enrolled};
 
+use crate::found::{is_at, is_number};
 use log_table::{LogTable, Seat};
-use lsn_space::Lsn;
 use std::test::Fail;
 use test_rig::table_of;
 
@@ -27,28 +27,28 @@ fn worker(table: &LogTable, boss: &mut Seat, number: u32) -> Seat
 fn a_worker_sees_the_stop_word(rt: HostRuntime) -> Result<(), Fail> {
     let (table, mut boss) = table_of(rt.alloc(), (100, 0), 4)?;
     let mut seat = worker(&table, &mut boss, 7);
-    assert_eq!(rt; seat.worker(), 7);
-    assert_eq!(rt; table.load_stop(&mut seat), 0);
+    is_number(&rt, "worker", u64::from(seat.worker()), 7);
+    is_number(&rt, "stop", table.load_stop(&mut seat), 0);
     table.store_stop(&mut boss, 2);
-    assert_eq!(rt; table.load_stop(&mut seat), 2);
-    assert_eq!(rt; table.load_stop(&mut boss), 2);
+    is_number(&rt, "stop to a worker", table.load_stop(&mut seat), 2);
+    is_number(&rt, "stop to the flusher", table.load_stop(&mut boss), 2);
     table.leave(&mut seat);
     table.merge(&mut boss, seat);
-    assert_eq!(rt; table.close(boss).lsn(), Lsn::new(4));
+    is_at(&rt, "end", table.close(boss).lsn(), 4);
     Ok(())
 }
 
 #[test]
 fn the_crew_is_counted(rt: HostRuntime) -> Result<(), Fail> {
     let (table, mut boss) = table_of(rt.alloc(), (100, 0), 4)?;
-    assert_eq!(rt; table.load_crew(&mut boss), 0);
+    is_number(&rt, "at first", table.load_crew(&mut boss), 0);
     let mut one = worker(&table, &mut boss, 0);
     let mut two = worker(&table, &mut boss, 1);
-    assert_eq!(rt; table.load_crew(&mut boss), 2);
+    is_number(&rt, "both", table.load_crew(&mut boss), 2);
     table.leave(&mut two);
-    assert_eq!(rt; table.load_crew(&mut boss), 1);
+    is_number(&rt, "one left", table.load_crew(&mut boss), 1);
     table.leave(&mut one);
-    assert_eq!(rt; table.load_crew(&mut boss), 0);
+    is_number(&rt, "both left", table.load_crew(&mut boss), 0);
     Ok(())
 }
 
@@ -57,12 +57,11 @@ fn a_note_leaves_its_worker_to_be_merged(rt: HostRuntime) -> Result<(), Fail> {
     let (table, mut boss) = table_of(rt.alloc(), (100, 0), 4)?;
     let mut seat = worker(&table, &mut boss, 5);
     let note = table.note(&mut seat);
-    assert_eq!(rt; note.worker(), 5);
+    is_number(&rt, "worker", u64::from(note.worker()), 5);
     table.merge(&mut boss, note);
     table.leave(&mut seat);
     table.merge(&mut boss, seat);
-    let closed = table.close(boss);
-    assert_eq!(rt; closed.lsn(), Lsn::new(4));
+    is_at(&rt, "end", table.close(boss).lsn(), 4);
     Ok(())
 }
 
@@ -70,11 +69,11 @@ fn a_note_leaves_its_worker_to_be_merged(rt: HostRuntime) -> Result<(), Fail> {
 fn nothing_read_may_be_sent(rt: HostRuntime) -> Result<(), Fail> {
     let (table, mut boss) = table_of(rt.alloc(), (100, 0), 4)?;
     let exposed = table.load_exposed(&mut boss);
-    assert_eq!(rt; exposed, Lsn::new(4));
+    is_at(&rt, "exposed", exposed, 4);
     let durable = table.load_durable(&mut boss);
     if exposed == durable {
         table.store_durable(&mut boss, exposed);
     }
-    assert_eq!(rt; table.load_durable(&mut boss), Lsn::new(4));
+    is_at(&rt, "durable", table.load_durable(&mut boss), 4);
     Ok(())
 }

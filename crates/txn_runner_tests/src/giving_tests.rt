@@ -1,19 +1,20 @@
 //! When the accounts of a transfer go back: early, or once its end is durable; and the log's end.
-ghost use Rattle.std.specs.Prelude.{◌≡◌, ◌<◌, ◌+◌};
+ghost use Rattle.std.specs.Prelude.{◌≡◌, ◌<◌, ◌+◌, IfOk};
 ghost use Rattle.log_table.specs.Hiring.{HasHired};
 ghost use Rattle.log_table.specs.May.{IsAtRest, HasBegunNothing};
 ghost use Rattle.log_table.specs.Seats.{IsOf, view_of};
 
-use crate::alone::{NeverRests, work_alone};
+use crate::alone::{Given, has_ended, has_rows, run_two, work_alone};
 use log_table::{LogTable, Seat};
 use lsn_space::{LAST, Lsn};
 use run_rig::{jobs_of, work_stripe};
 use schedule_hook::OpenGate;
 use std::alloc::Global;
 use std::process::Abort;
+use std::sync::Wait;
 use std::test::Fail;
 use test_rig::{job_of, send_all, table_of, values_of, worker};
-use txn_runner::{Answer, Cause, Relief, Row, Worked};
+use txn_runner::{Answer, Cause, Relief, Rows, Worked};
 
 /// Another worker, the second, which took a job and no account yet.
 fn looker(table: &LogTable, boss: &mut Seat) -> Seat
@@ -29,30 +30,55 @@ fn looker(table: &LogTable, boss: &mut Seat) -> Seat
     seat
 }
 
-/// The row of a first transfer.
-fn row(answer: Answer, end: u32, seen: u32) -> Row {
-    Row {
-        txn: 1,
-        answer,
-        end: Lsn::new(end),
-        seen: Lsn::new(seen),
-    }
+/// A table behind a worker that made this script, the seat of the looker, how the worker ended, and its rows.
+type Ran = (LogTable, Seat, Worked, Rows);
+
+/// A worker alone makes the script over balances 100 and 0, beside a looker.
+fn run_beside<R: Wait + Abort>(rt: &R, alloc: Global, given: Given) -> Result<Ran, Fail>
+    ensures accounts { IfOk result (λ ran. ran.0.accounts ≡ 2) }
+    ensures seat { IfOk result (λ ran. IsOf ran.0 ran.1) }
+    ensures rests { IfOk result (λ ran. IsAtRest (view_of ran.1)) }
+    ensures begins { IfOk result (λ ran. HasBegunNothing (view_of ran.1)) }
+{
+    let (script, end) = given;
+    let (table, mut boss) = table_of(alloc, (100, 0), end)?;
+    let seat = worker(&table, &mut boss, 0, 1);
+    let looker = looker(&table, &mut boss);
+    let Some(jobs) = jobs_of(rt, alloc, script, 1) else {
+        return Err(Fail::new("no script"));
+    };
+    let (worked, rows, _) = work_alone(rt, alloc, &table, seat, &jobs)?;
+    Ok((table, looker, worked, rows))
+}
+
+/// Another worker finds the account free, with this balance and this last commit.
+fn finds(rt: &impl Abort, table: &LogTable, looker: &mut Seat, account: u32, values: (u32, u32))
+    requires account { account < table.now.accounts }
+    requires seat { IsOf table.now looker.old }
+    requires rests { IsAtRest (view_of looker.old) }
+    requires begins { HasBegunNothing (view_of looker.old) }
+    ensures seat { IsOf table.now looker.new }
+    ensures rests { IsAtRest (view_of looker.new) }
+    ensures begins { HasBegunNothing (view_of looker.new) }
+{
+    let found = values_of(table, looker, account);
+    assert_eq!(rt; found, Ok(values), "account {account}");
+}
+
+/// What was read of the log stands at this LSN.
+fn stands_at(rt: &impl Abort, lsn: Lsn, wanted: u32) {
+    assert_eq!(rt; lsn.units(), wanted);
 }
 
 #[test]
 fn accounts_are_given_back_before_durable(rt: HostRuntime) -> Result<(), Fail> {
-    let (table, mut boss) = table_of(rt.alloc(), (100, 0), 4)?;
-    let one = worker(&table, &mut boss, 0, 1);
-    let mut two = looker(&table, &mut boss);
-    let Some(jobs) = jobs_of(&rt, rt.alloc(), b"pay 0 1 30\n", 1) else {
-        return Err(Fail::new("no script"));
-    };
-    let (worked, rows, _) = work_alone(&rt, rt.alloc(), &table, one, &jobs)?;
-    assert_eq!(rt; worked, Worked::All);
-    assert_eq!(rt; rows.as_slice(), [row(Answer::Done, 9, 4)].as_slice());
-    assert_eq!(rt; values_of(&table, &mut two, 0), Ok((70, 9)));
-    assert_eq!(rt; values_of(&table, &mut two, 1), Ok((30, 9)));
-    assert_eq!(rt; table.load_durable(&mut two), Lsn::new(4));
+    let given: Given = (b"pay 0 1 30\n", 4);
+    let (table, mut looker, worked, rows) = run_beside(&rt, rt.alloc(), given)?;
+    has_ended(&rt, given, worked, Worked::All);
+    has_rows(&rt, given, &rows, &[(1, Answer::Done, 9, 4)]);
+    finds(&rt, &table, &mut looker, 0, (70, 9));
+    finds(&rt, &table, &mut looker, 1, (30, 9));
+    stands_at(&rt, table.load_durable(&mut looker), 4);
     Ok(())
 }
 
@@ -105,7 +131,8 @@ fn accounts_are_given_back_at_durable(rt: HostRuntime) -> Result<(), Fail> {
     let (table, mut boss) = table_of(alloc, (100, 0), 4)?;
     let mut one = worker(&table, &mut boss, 0, 1);
     let mut two = looker(&table, &mut boss);
-    let Some(jobs) = jobs_of(&rt, alloc, b"pay 0 1 30\n", 1) else {
+    let given: Given = (b"pay 0 1 30\n", 4);
+    let Some(jobs) = jobs_of(&rt, alloc, given.0, 1) else {
         return Err(Fail::new("no script"));
     };
     let looker = table.note(&mut two);
@@ -128,50 +155,42 @@ fn accounts_are_given_back_at_durable(rt: HostRuntime) -> Result<(), Fail> {
         true,
         &OpenGate,
     )?;
-    assert_eq!(rt; worked, Worked::All);
-    assert_eq!(rt; rows.as_slice(), [row(Answer::Done, 9, 9)].as_slice());
+    has_ended(&rt, given, worked, Worked::All);
+    has_rows(&rt, given, &rows, &[(1, Answer::Done, 9, 9)]);
     assert!(rt;
         relief.held,
         "the accounts went back before the end was durable"
     );
-    assert_eq!(rt; values_of(&table, &mut two, 0), Ok((70, 9)));
-    assert_eq!(rt; values_of(&table, &mut two, 1), Ok((30, 9)));
-    assert_eq!(rt; table.load_durable(&mut two), Lsn::new(9));
+    finds(&rt, &table, &mut two, 0, (70, 9));
+    finds(&rt, &table, &mut two, 1, (30, 9));
+    stands_at(&rt, table.load_durable(&mut two), 9);
     Ok(())
 }
 
 #[test]
 fn accounts_of_a_refused_transfer_are_as_before(rt: HostRuntime) -> Result<(), Fail> {
-    let (table, mut boss) = table_of(rt.alloc(), (100, 0), 4)?;
-    let one = worker(&table, &mut boss, 0, 1);
-    let mut two = looker(&table, &mut boss);
-    let Some(jobs) = jobs_of(&rt, rt.alloc(), b"pay 0 1 500\n", 1) else {
-        return Err(Fail::new("no script"));
-    };
-    let (_, rows, _) = work_alone(&rt, rt.alloc(), &table, one, &jobs)?;
-    assert_eq!(rt; rows.as_slice(), [row(Answer::Short(1), 5, 4)].as_slice());
-    assert_eq!(rt; values_of(&table, &mut two, 0), Ok((100, 0)));
-    assert_eq!(rt; values_of(&table, &mut two, 1), Ok((0, 0)));
-    assert_eq!(rt; table.load_tail(&mut two), Lsn::new(5));
+    let given: Given = (b"pay 0 1 500\n", 4);
+    let (table, mut looker, _, rows) = run_beside(&rt, rt.alloc(), given)?;
+    has_rows(&rt, given, &rows, &[(1, Answer::Short(1), 5, 4)]);
+    finds(&rt, &table, &mut looker, 0, (100, 0));
+    finds(&rt, &table, &mut looker, 1, (0, 0));
+    stands_at(&rt, table.load_tail(&mut looker), 5);
     Ok(())
 }
 
 /// There is no place for a Note of two units, and then one for a Short of one.
 #[test]
 fn one_unit_has_a_place_where_two_have_none(rt: HostRuntime) -> Result<(), Fail> {
-    let (table, mut boss) = table_of(rt.alloc(), (100, 0), LAST - 1)?;
-    let one = worker(&table, &mut boss, 0, 1);
-    let two = worker(&table, &mut boss, 1, 2);
-    let text = b"pay 0 1 30 : aaaaaaaa\npay 0 1 500\n";
-    let Some(jobs) = jobs_of(&rt, rt.alloc(), text, 2) else {
-        return Err(Fail::new("no script"));
-    };
-    let (worked, _, _) = work_alone(&rt, rt.alloc(), &table, one, &jobs)?;
+    let given: Given = (b"pay 0 1 30 : aaaaaaaa\npay 0 1 500\n", LAST - 1);
+    let ((first, _none), (second, rows), _balances) = run_two(&rt, rt.alloc(), given)?;
     let tail = Lsn::new(LAST - 1);
-    assert_eq!(rt; worked, Worked::Cut(Cause::LogEnd { tail, total: 2 }));
-    let (worked, rows, _) = work_alone(&rt, rt.alloc(), &table, two, &jobs)?;
-    assert_eq!(rt; (worked, rows.as_slice().len()), (Worked::All, 1));
-    let Row { answer, end, .. } = rows.as_slice()[0];
-    assert_eq!(rt; (answer, end), (Answer::Short(1), Lsn::new(LAST)));
+    has_ended(
+        &rt,
+        given,
+        first,
+        Worked::Cut(Cause::LogEnd { tail, total: 2 }),
+    );
+    has_ended(&rt, given, second, Worked::All);
+    has_rows(&rt, given, &rows, &[(2, Answer::Short(1), LAST, LAST - 1)]);
     Ok(())
 }

@@ -56,8 +56,9 @@ fn settle_one<R: Wait + Abort>(rt: &R, alloc: Global) -> Result<Closed, NoMemory
 #[test]
 fn the_closed_table_has_the_new_balances(rt: HostRuntime) -> Result<(), Fail> {
     let closed = settle_one(&rt, rt.alloc())?;
-    assert_eq!(rt; closed.lsn(), Lsn::new(9));
-    assert_eq!(rt; (closed.balance(0), closed.balance(1)), (70, 30));
-    assert_eq!(rt; (closed.mark(0), closed.mark(1)), (9, 9));
+    let first = (closed.balance(0), closed.mark(0));
+    let second = (closed.balance(1), closed.mark(1));
+    let found = (closed.lsn(), first, second);
+    assert_eq!(rt; found, (Lsn::new(9), (70, 9), (30, 9)));
     Ok(())
 }
