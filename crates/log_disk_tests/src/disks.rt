@@ -2,6 +2,7 @@
 
 use log_disk::{Failed, LogDisk};
 use memory_disk::MemoryDisk;
+use std::process::Abort;
 use std::test::Fail;
 use system_disk::FileDisk;
 
@@ -11,14 +12,17 @@ fn store<D: LogDisk>(disk: &mut D, bytes: &[u8]) -> Result<u64, Failed> {
     disk.len()
 }
 
+/// This disk stored so many bytes, or failed.
+fn has_stored(rt: &impl Abort, disk: &str, found: Result<u64, Failed>, want: Result<u64, Failed>) {
+    assert_eq!(rt; found, want, "{disk}");
+}
+
 #[test]
 fn is_met_by_both_disks(rt: HostRuntime) -> Result<(), Fail> {
-    let Ok(mut memory) = MemoryDisk::make(rt.alloc(), b"", 64, &[]) else {
-        return Err(Fail::new("no memory"));
-    };
-    assert_eq!(rt; store(&mut memory, b"abc"), Ok(3));
+    let mut memory = MemoryDisk::make(rt.alloc(), b"", 64, &[])?;
+    has_stored(&rt, "in memory", store(&mut memory, b"abc"), Ok(3));
     let mut no_file = FileDisk::make(rt);
-    assert_eq!(rt; store(&mut no_file, b"abc"), Err(Failed));
+    has_stored(&rt, "no file", store(&mut no_file, b"abc"), Err(Failed));
     Ok(())
 }
 
@@ -28,21 +32,33 @@ fn stores(disk: &mut MemoryDisk) -> (bool, bool) {
     (writes, disk.sync().is_ok())
 }
 
+/// These calls succeeded, and the disk with so much room holds these bytes.
+fn is_left(
+    rt: &impl Abort,
+    room: usize,
+    failing: &[u64],
+    found: (bool, bool, &[u8]),
+    want: (bool, bool, &[u8]),
+) {
+    assert_eq!(rt; found, want, "room {room}, {failing:?}");
+}
+
+/// A disk's room, the calls that fail; whether a write succeeds, and a sync; what is held then.
+const CALLS: &[(usize, &[u64], bool, bool, &[u8])] = &[
+    (35, &[], true, true, b"abc"),
+    (34, &[], true, false, b"abc"),
+    (18, &[], false, true, b""),
+    (35, &[1], false, true, b"ab"),
+    (35, &[2], true, false, b"abc"),
+];
+
 #[test]
 fn a_call_fails_where_told_or_without_room(rt: HostRuntime) -> Result<(), Fail> {
-    let cases: [(usize, &[u64], bool, bool, &[u8]); 5] = [
-        (35, &[], true, true, b"abc"),
-        (34, &[], true, false, b"abc"),
-        (18, &[], false, true, b""),
-        (35, &[1], false, true, b"ab"),
-        (35, &[2], true, false, b"abc"),
-    ];
-    for (room, failing, writes, syncs, held) in cases {
-        let Ok(mut disk) = MemoryDisk::make(rt.alloc(), b"", room, failing) else {
-            return Err(Fail::new("no memory"));
-        };
-        assert_eq!(rt; stores(&mut disk), (writes, syncs), "room {room}");
-        assert_eq!(rt; disk.bytes(), held, "room {room}");
+    for (room, failing, writes, syncs, held) in CALLS {
+        let mut disk = MemoryDisk::make(rt.alloc(), b"", *room, failing)?;
+        let (wrote, synced) = stores(&mut disk);
+        let found = (wrote, synced, disk.bytes());
+        is_left(&rt, *room, failing, found, (*writes, *syncs, held));
     }
     Ok(())
 }

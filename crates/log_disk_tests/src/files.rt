@@ -1,5 +1,6 @@
 //! A disk over the system's files.
 
+use crate::outcomes::{has_ended, has_given, is_number};
 use log_disk::{Failed, LogDisk};
 use lsn_space::Word;
 use std::fs;
@@ -7,30 +8,65 @@ use std::process::Abort;
 use std::test::Fail;
 use system_disk::{FileDisk, folder_of};
 
+type Disk = FileDisk<HostRuntime>;
+
+/// Files are attached so, made where they lack and `make` says so.
+fn attaches(rt: &impl Abort, disk: &mut Disk, name: &Word, make: bool, want: Result<(), Failed>) {
+    has_ended(rt, "attach", disk.attach(name, make), want);
+}
+
+/// A write ends so.
+fn writes(rt: &impl Abort, disk: &mut Disk, at: u64, bytes: &[u8], want: Result<(), Failed>) {
+    has_ended(rt, "write", disk.write_at(at, bytes), want);
+}
+
+/// A sync ends so.
+fn syncs(rt: &impl Abort, disk: &mut Disk, want: Result<(), Failed>) {
+    has_ended(rt, "sync", disk.sync(), want);
+}
+
+/// So many calls of the disk failed until then.
+fn counts(rt: &impl Abort, disk: &Disk, when: &str, faults: u64) {
+    is_number(rt, when, disk.faults(), faults);
+}
+
+/// The disk has this length, or that is a fault.
+fn has_length(rt: &impl Abort, disk: &mut Disk, want: Option<u64>) {
+    assert_eq!(rt; disk.len().ok(), want);
+}
+
+/// A read of four bytes from here on gives these.
+fn reads(rt: &impl Abort, disk: &mut Disk, at: u64, want: &[u8]) {
+    let mut buf = [0; 4];
+    let found = match disk.read_at(at, &mut buf) {
+        Ok(count) => Some(&buf[..count]),
+        Err(Failed) => None,
+    };
+    has_given(rt, at, found, Some(want));
+}
+
 /// No file is made, and each call is a fault.
-fn refuses_without_a_file(rt: &impl Abort, disk: &mut FileDisk<HostRuntime>, name: &Word) {
-    assert_eq!(rt; disk.len(), Err(Failed));
-    assert_eq!(rt; disk.attach(name, false), Err(Failed));
-    assert_eq!(rt; disk.faults(), 2);
+fn refuses_without_a_file(rt: &impl Abort, disk: &mut Disk, name: &Word) {
+    has_length(rt, disk, None);
+    attaches(rt, disk, name, false, Err(Failed));
+    counts(rt, disk, "without a file", 2);
 }
 
 /// Two writes, of which the second goes on over the end of the first.
-fn writes(rt: &impl Abort, disk: &mut FileDisk<HostRuntime>, name: &Word) {
-    assert_eq!(rt; disk.attach(name, true), Ok(()));
-    assert_eq!(rt; disk.write_at(0, b"abc"), Ok(()));
-    assert_eq!(rt; disk.write_at(2, b"XYZ"), Ok(()));
-    assert_eq!(rt; disk.sync(), Ok(()));
+fn writes_twice(rt: &impl Abort, disk: &mut Disk, name: &Word) {
+    attaches(rt, disk, name, true, Ok(()));
+    writes(rt, disk, 0, b"abc", Ok(()));
+    writes(rt, disk, 2, b"XYZ", Ok(()));
+    syncs(rt, disk, Ok(()));
 }
 
 /// What they left is read by another disk.
-fn reads_back(rt: &impl Abort, again: &mut FileDisk<HostRuntime>, name: &Word) {
-    assert_eq!(rt; again.attach(name, true), Ok(()));
-    assert_eq!(rt; again.len(), Ok(5));
-    let mut buf = [0; 4];
-    assert_eq!(rt; again.read_at(1, &mut buf), Ok(4));
-    assert_eq!(rt; &buf, b"bXYZ");
-    assert_eq!(rt; again.read_at(5, &mut buf), Ok(0));
-    assert_eq!(rt; again.faults(), 0);
+fn reads_back(rt: &impl Abort, again: &mut Disk, name: &Word) {
+    attaches(rt, again, name, true, Ok(()));
+    has_length(rt, again, Some(5));
+    reads(rt, again, 1, b"bXYZ");
+    reads(rt, again, 5, b"");
+    counts(rt, again, "of the other disk", 0);
 }
 
 #[test]
@@ -41,10 +77,10 @@ fn keeps_a_real_file(rt: HostRuntime) -> Result<(), Fail> {
     let _ = fs::remove_file(&rt, name.text());
     let mut disk = FileDisk::make(rt);
     refuses_without_a_file(&rt, &mut disk, &name);
-    writes(&rt, &mut disk, &name);
+    writes_twice(&rt, &mut disk, &name);
     let mut again = FileDisk::make(rt);
     reads_back(&rt, &mut again, &name);
-    assert_eq!(rt; disk.faults(), 2);
+    counts(&rt, &disk, "of the first disk", 2);
     assert!(rt; fs::remove_file(&rt, name.text()).is_ok());
     Ok(())
 }
@@ -56,24 +92,30 @@ fn counts_what_the_system_refuses(rt: HostRuntime) -> Result<(), Fail> {
         return Err(Fail::new("no memory"));
     };
     let mut disk = FileDisk::make(rt);
-    assert_eq!(rt; disk.attach(&name, false), Ok(()));
-    assert_eq!(rt; disk.write_at(0, b"abc"), Err(Failed));
-    assert_eq!(rt; disk.faults(), 1);
-    assert_eq!(rt; disk.sync(), Err(Failed));
-    assert_eq!(rt; disk.faults(), 2);
+    attaches(&rt, &mut disk, &name, false, Ok(()));
+    writes(&rt, &mut disk, 0, b"abc", Err(Failed));
+    counts(&rt, &disk, "after the write", 1);
+    syncs(&rt, &mut disk, Err(Failed));
+    counts(&rt, &disk, "after the sync", 2);
     Ok(())
 }
 
+/// The folder of the file of this name.
+fn is_in(rt: &impl Abort, name: &str, folder: &str) {
+    assert_eq!(rt; folder_of(name), folder, "{name}");
+}
+
+const FOLDERS: &[(&str, &str)] = &[
+    ("x.log", "."),
+    ("a/x.log", "a"),
+    ("a/b/x.log", "a/b"),
+    ("/x.log", "/"),
+    ("/a/x.log", "/a"),
+];
+
 #[test]
 fn knows_the_folder_of_a_file(rt: HostRuntime) {
-    let cases = [
-        ("x.log", "."),
-        ("a/x.log", "a"),
-        ("a/b/x.log", "a/b"),
-        ("/x.log", "/"),
-        ("/a/x.log", "/a"),
-    ];
-    for (name, folder) in cases {
-        assert_eq!(rt; folder_of(name), folder, "{name}");
+    for (name, folder) in FOLDERS {
+        is_in(&rt, name, folder);
     }
 }

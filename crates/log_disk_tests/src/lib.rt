@@ -8,4 +8,6 @@ mod disks;
 #[cfg(test)]
 mod files;
 #[cfg(test)]
+mod outcomes;
+#[cfg(test)]
 mod streams;

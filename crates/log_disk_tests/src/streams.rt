@@ -1,47 +1,71 @@
 //! Sources and sinks, in memory and over the system.
 
-use log_disk::{Failed, Sink, Source, WriteFault, put_all};
+use crate::outcomes::{has_given, is_number};
+use log_disk::{Failed, Sink, Source, put_all};
 use memory_disk::{MemorySink, MemorySource};
+use std::process::Abort;
 use std::test::Fail;
 use system_disk::{StdSink, StdSource};
 
+/// Whether two texts are put in whole.
+fn puts_two(sink: &mut MemorySink) -> bool {
+    put_all(sink, b"lsn 4\n").is_ok() && put_all(sink, b"0 1").is_ok()
+}
+
+/// These bytes were put in, and they were all or weren't.
+fn is_held(rt: &impl Abort, room: usize, found: (bool, &[u8]), want: (bool, &[u8])) {
+    assert_eq!(rt; found, want, "room {room}");
+}
+
+/// A sink's room, the writes that fail; whether both texts are put in whole, and what is held then.
+const PUT: &[(usize, &[u64], bool, &[u8])] = &[
+    (9, &[], true, b"lsn 4\n0 1"),
+    (8, &[], false, b"lsn 4\n0 "),
+    (9, &[1], false, b""),
+    (9, &[2], false, b"lsn 4\n"),
+];
+
 #[test]
 fn holds_what_was_put_in(rt: HostRuntime) -> Result<(), Fail> {
-    let cases: [(usize, &[u64], Result<(), WriteFault>, &[u8]); 4] = [
-        (9, &[], Ok(()), b"lsn 4\n0 1"),
-        (8, &[], Err(WriteFault), b"lsn 4\n0 "),
-        (9, &[1], Err(WriteFault), b""),
-        (9, &[2], Err(WriteFault), b"lsn 4\n"),
-    ];
-    for (room, failing, want, held) in cases {
-        let Ok(mut sink) = MemorySink::make(rt.alloc(), room, failing) else {
-            return Err(Fail::new("no memory"));
-        };
-        let mut got = put_all(&mut sink, b"lsn 4\n");
-        if got.is_ok() {
-            got = put_all(&mut sink, b"0 1");
-        }
-        assert_eq!(rt; got, want, "room {room}");
-        assert_eq!(rt; sink.bytes(), held, "room {room}");
+    for (room, failing, whole, held) in PUT {
+        let mut sink = MemorySink::make(rt.alloc(), *room, failing)?;
+        let is_whole = puts_two(&mut sink);
+        is_held(&rt, *room, (is_whole, sink.bytes()), (*whole, held));
     }
     Ok(())
 }
 
+/// The next read of at most three bytes gives these, or fails.
+fn gives<S: Source>(rt: &impl Abort, source: &mut S, read: u64, want: Option<&[u8]>) {
+    let mut buf = [0; 3];
+    let found = match source.read(&mut buf) {
+        Ok(count) => Some(&buf[..count]),
+        Err(Failed) => None,
+    };
+    has_given(rt, read, found, want);
+}
+
+const READS: &[(u64, Option<&[u8]>)] = &[
+    (1, Some(b"ab")),
+    (2, None),
+    (3, Some(b"cd")),
+    (4, Some(b"e")),
+    (5, None),
+    (6, Some(b"")),
+];
+
 #[test]
 fn gives_pieces_and_fails_where_told(rt: HostRuntime) -> Result<(), Fail> {
-    let Ok(mut source) = MemorySource::make(rt.alloc(), b"abcde", 2, &[2, 5]) else {
-        return Err(Fail::new("no memory"));
-    };
-    let reads: [Option<&[u8]>; 6] = [Some(b"ab"), None, Some(b"cd"), Some(b"e"), None, Some(b"")];
-    for want in reads {
-        let mut buf = [0; 3];
-        let got = match source.read(&mut buf) {
-            Ok(count) => Some(&buf[..count]),
-            Err(Failed) => None,
-        };
-        assert_eq!(rt; got, want);
+    let mut source = MemorySource::make(rt.alloc(), b"abcde", 2, &[2, 5])?;
+    for (read, want) in READS {
+        gives(&rt, &mut source, *read, *want);
     }
     Ok(())
+}
+
+/// A call has this number of bytes, or fails.
+fn moves(rt: &impl Abort, found: Result<usize, Failed>, want: Result<usize, Failed>) {
+    assert_eq!(rt; found, want);
 }
 
 #[test]
@@ -50,17 +74,17 @@ fn reads_from_the_system(rt: HostRuntime) {
     let mut source = StdSource::make(text);
     let mut buf = [0; 2];
     for want in [2, 1, 0] {
-        assert_eq!(rt; source.read(&mut buf), Ok(want));
+        moves(&rt, source.read(&mut buf), Ok(want));
     }
-    assert_eq!(rt; source.faults(), 0);
+    is_number(&rt, "faults", source.faults(), 0);
 }
 
 #[test]
 fn counts_what_the_system_refuses(rt: HostRuntime) {
     let mut held = [0; 2];
     let mut sink = StdSink::make(held.as_mut_slice());
-    assert_eq!(rt; sink.write(b"abc"), Ok(2));
-    assert_eq!(rt; sink.faults(), 0);
-    assert_eq!(rt; sink.write(b"c"), Err(Failed));
-    assert_eq!(rt; sink.faults(), 1);
+    moves(&rt, sink.write(b"abc"), Ok(2));
+    is_number(&rt, "after the first write", sink.faults(), 0);
+    moves(&rt, sink.write(b"c"), Err(Failed));
+    is_number(&rt, "after the second write", sink.faults(), 1);
 }

@@ -1,10 +1,11 @@
 //! Whole images of logs, as batches of units. Most begin with the genesis log's batch: accounts 0 and 1, of balances
 //! 100 and 0.
 
-use crate::plainly::is_same;
-use log_recovery::{RecoverFault, Why, recover};
-use lsn_space::{Lsn, bytes_of};
-use std::alloc::{AllocError, Global};
+use crate::answers::{Fault, has_same_answers, is_recovered, is_refused};
+use log_recovery::Why;
+use lsn_space::bytes_of;
+use std::alloc::{AllocError, AllocGlobal, Global};
+use std::process::Abort;
 use std::test::Fail;
 
 pub(crate) const GENESIS: [u64; 4] = [0x0102_0000_0000_0000, 100, 0x0102_0001_0000_0000, 0];
@@ -18,6 +19,16 @@ pub(crate) const TRANSFER: [u64; 5] = [
     0x0301_0001_0000_0001,
 ];
 
+/// Adds a count and so many units to the bytes of a log file.
+fn push_units(bytes: &mut Vec<u8>, units: &[u64]) -> Result<(), AllocError> {
+    let count = u32::try_from(units.len()).unwrap_or(0);
+    bytes.extend_from_slice(&count.to_be_bytes())?;
+    for unit in units {
+        bytes.extend_from_slice(&bytes_of(*unit))?;
+    }
+    Ok(())
+}
+
 /// A log file of these batches, and a closed gate.
 pub(crate) fn image(alloc: Global, batches: &[&[u64]]) -> Result<Vec<u8>, AllocError> {
     let mut bytes = Vec::new(alloc);
@@ -26,208 +37,198 @@ pub(crate) fn image(alloc: Global, batches: &[&[u64]]) -> Result<Vec<u8>, AllocE
         if i == 0 {
             bytes.extend_from_slice(b"AETHER1")?;
         }
-        let count = u32::try_from(units.len()).unwrap_or(0);
-        bytes.extend_from_slice(&count.to_be_bytes())?;
-        for unit in *units {
-            bytes.extend_from_slice(&bytes_of(*unit))?;
-        }
+        push_units(&mut bytes, units)?;
     }
     bytes.push(0)?;
     Ok(bytes)
 }
 
-/// The end of the log, the next transaction number, and each account's balance and last Commit.
-fn accounts_of(alloc: Global, bytes: &[u8]) -> Result<(u32, u64, Vec<(u32, u32)>), Fail> {
-    let Ok(recovered) = recover(alloc, bytes) else {
-        return Err(Fail::new("not recovered"));
-    };
-    let mut rows = Vec::new(alloc);
-    for account in 0..recovered.accounts.count() {
-        rows.push(recovered.accounts.at(account))?;
-    }
-    Ok((recovered.lsn.units(), recovered.next_txn, rows))
+/// A lawful image: its batches, the end of its list with the next transaction number, and the rows of its accounts.
+type Lawful = (&'static [&'static [u64]], (u32, u64), &'static [(u32, u32)]);
+
+const LAWFUL: &[Lawful] = &[
+    (&[&GENESIS], (4, 1), &[(100, 0), (0, 0)]),
+    (&[&GENESIS, &TRANSFER], (9, 2), &[(70, 9), (30, 9)]),
+    // An unfinished transfer has no effect.
+    (
+        &[
+            &GENESIS,
+            &[
+                0x0202_0000_0000_0007,
+                0xffff_ffe2_0000_0000,
+                0x0202_0001_0000_0007,
+                0x0000_001e_0000_0000,
+            ],
+        ],
+        (8, 8),
+        &[(100, 0), (0, 0)],
+    ),
+    // The greatest transaction number.
+    (
+        &[&GENESIS, &[0x0401_0001_ffff_ffff]],
+        (5, 4294967296),
+        &[(100, 0), (0, 0)],
+    ),
+    // The note `hi`.
+    (
+        &[&GENESIS, &[0x0602_0002_0000_0001, 0x6869_0000_0000_0000]],
+        (6, 2),
+        &[(100, 0), (0, 0)],
+    ),
+    (
+        &[&GENESIS, &[0x0102_0002_0000_0000, 7]],
+        (6, 1),
+        &[(100, 0), (0, 0), (7, 0)],
+    ),
+];
+
+/// The image of these batches is recovered so.
+fn recovers<R: AllocGlobal + Abort>(
+    rt: &R,
+    batches: &[&[u64]],
+    end: (u32, u64),
+    rows: &[(u32, u32)],
+) -> Result<(), Fail> {
+    let bytes = image(rt.alloc(), batches)?;
+    is_recovered(rt, "image", bytes.as_slice(), end, rows)?;
+    has_same_answers(rt, "image", bytes.as_slice());
+    Ok(())
 }
 
 #[test]
 fn recovers_lawful_lists(rt: HostRuntime) -> Result<(), Fail> {
+    for (batches, end, rows) in LAWFUL {
+        recovers(&rt, batches, *end, rows)?;
+    }
+    // A record may lie across two batches.
     let (front, back) = TRANSFER.split_at(1);
-    let cases: [(&[&[u64]], u32, u64, &[(u32, u32)]); 7] = [
-        (&[&GENESIS], 4, 1, &[(100, 0), (0, 0)]),
-        (&[&GENESIS, &TRANSFER], 9, 2, &[(70, 9), (30, 9)]),
-        // A record may lie across two batches.
-        (&[&GENESIS, front, back], 9, 2, &[(70, 9), (30, 9)]),
-        // An unfinished transfer has no effect.
-        (
+    let batches: [&[u64]; 3] = [&GENESIS, front, back];
+    recovers(&rt, &batches, (9, 2), &[(70, 9), (30, 9)])
+}
+
+const FAULTY: &[(&[&[u64]], Fault)] = &[
+    (
+        &[&[0x0102_0000_0000_0000, 100, 0x0102_0001_0000_0000]],
+        Fault::BadRec(2),
+    ),
+    (
+        &[&[
+            0x0102_0000_0000_0000,
+            0x8000_0000_0000_0000,
+            0x0102_0001_0000_0000,
+            0,
+        ]],
+        Fault::BadRec(0),
+    ),
+    (&[&GENESIS, &[0x0202_0000_0000_0001, 0]], Fault::BadRec(4)),
+    (
+        &[&GENESIS, &[0x0602_0002_0000_0001, 0x6869_0000_0000_0001]],
+        Fault::BadRec(4),
+    ),
+    // A bad record hides an unlawful one before it.
+    (&[&[0x0102_0001_0000_0000, 0, 0]], Fault::BadRec(2)),
+    (
+        &[&[0x0102_0001_0000_0000, 0]],
+        Fault::Unlawful(0, Why::Genesis),
+    ),
+    (&[&TRANSFER], Fault::Unlawful(0, Why::Genesis)),
+    (
+        &[&GENESIS, &[0x0202_0002_0000_0001, 0xffff_ffe2_0000_0000]],
+        Fault::Unlawful(4, Why::Account),
+    ),
+    (
+        &[&GENESIS, &[0x0401_0001_0000_0001, 0x0401_0001_0000_0001]],
+        Fault::Unlawful(5, Why::Ended),
+    ),
+    (
+        &[&GENESIS, &[0x0301_0001_0000_0001]],
+        Fault::Unlawful(4, Why::Legs),
+    ),
+    (
+        &[&GENESIS, &[0x0501_0002_0000_0001]],
+        Fault::Unlawful(4, Why::Legs),
+    ),
+    (
+        &[&GENESIS, &[0x0202_0000_0000_0001, 0x0000_001e_0000_0000]],
+        Fault::Unlawful(4, Why::Pair),
+    ),
+    (
+        &[&GENESIS, &[0x0202_0000_0000_0001, 0xffff_ffe2_0000_0004]],
+        Fault::Unlawful(4, Why::Prev),
+    ),
+    (
+        &[
+            &GENESIS,
             &[
-                &GENESIS,
-                &[
-                    0x0202_0000_0000_0007,
-                    0xffff_ffe2_0000_0000,
-                    0x0202_0001_0000_0007,
-                    0x0000_001e_0000_0000,
-                ],
+                0x0202_0000_0000_0001,
+                0xffff_ffe2_0000_0000,
+                0x0202_0001_0000_0001,
+                0x0000_001e_0000_0000,
+                0x0202_0000_0000_0002,
+                0xffff_ffe2_0000_0000,
+                0x0202_0001_0000_0002,
+                0x0000_001e_0000_0000,
+                0x0301_0001_0000_0002,
+                0x0301_0001_0000_0001,
             ],
-            8,
-            8,
-            &[(100, 0), (0, 0)],
-        ),
-        // The greatest transaction number.
-        (
-            &[&GENESIS, &[0x0401_0001_ffff_ffff]],
-            5,
-            4294967296,
-            &[(100, 0), (0, 0)],
-        ),
-        // The note `hi`.
-        (
-            &[&GENESIS, &[0x0602_0002_0000_0001, 0x6869_0000_0000_0000]],
-            6,
-            2,
-            &[(100, 0), (0, 0)],
-        ),
-        (
-            &[&GENESIS, &[0x0102_0002_0000_0000, 7]],
-            6,
-            1,
-            &[(100, 0), (0, 0), (7, 0)],
-        ),
-    ];
-    for (batches, lsn, next_txn, rows) in cases {
-        let bytes = image(rt.alloc(), batches)?;
-        let found = accounts_of(rt.alloc(), bytes.as_slice())?;
-        assert_eq!(rt; found.0, lsn, "{batches:?}");
-        assert_eq!(rt; found.1, next_txn, "{batches:?}");
-        assert_eq!(rt; found.2.as_slice(), rows, "{batches:?}");
-        assert!(rt; is_same(rt.alloc(), bytes.as_slice()), "{batches:?}");
-    }
+        ],
+        Fault::Unlawful(13, Why::Stale),
+    ),
+    (
+        &[
+            &GENESIS,
+            &[
+                0x0202_0000_0000_0001,
+                0xffff_fe0c_0000_0000,
+                0x0202_0001_0000_0001,
+                0x0000_01f4_0000_0000,
+                0x0301_0001_0000_0001,
+            ],
+        ],
+        Fault::Unlawful(8, Why::Balance),
+    ),
+];
+
+/// The image of these batches is refused so.
+fn refuses<R: AllocGlobal + Abort>(rt: &R, batches: &[&[u64]], fault: &Fault) -> Result<(), Fail> {
+    let bytes = image(rt.alloc(), batches)?;
+    is_refused(rt, "image", bytes.as_slice(), fault);
     Ok(())
-}
-
-fn unlawful(lsn: u32, why: Why) -> RecoverFault {
-    RecoverFault::Unlawful {
-        lsn: Lsn::new(lsn),
-        why,
-    }
-}
-
-fn bad_rec(lsn: u32) -> RecoverFault {
-    RecoverFault::BadRec { lsn: Lsn::new(lsn) }
 }
 
 #[test]
 fn names_the_first_fault(rt: HostRuntime) -> Result<(), Fail> {
-    let cases: [(&[&[u64]], RecoverFault); 15] = [
-        (
-            &[&[0x0102_0000_0000_0000, 100, 0x0102_0001_0000_0000]],
-            bad_rec(2),
-        ),
-        (
-            &[&[
-                0x0102_0000_0000_0000,
-                0x8000_0000_0000_0000,
-                0x0102_0001_0000_0000,
-                0,
-            ]],
-            bad_rec(0),
-        ),
-        (&[&GENESIS, &[0x0202_0000_0000_0001, 0]], bad_rec(4)),
-        (
-            &[&GENESIS, &[0x0602_0002_0000_0001, 0x6869_0000_0000_0001]],
-            bad_rec(4),
-        ),
-        // A bad record hides an unlawful one before it.
-        (&[&[0x0102_0001_0000_0000, 0, 0]], bad_rec(2)),
-        (&[&[0x0102_0001_0000_0000, 0]], unlawful(0, Why::Genesis)),
-        (&[&TRANSFER], unlawful(0, Why::Genesis)),
-        (
-            &[&GENESIS, &[0x0202_0002_0000_0001, 0xffff_ffe2_0000_0000]],
-            unlawful(4, Why::Account),
-        ),
-        (
-            &[&GENESIS, &[0x0401_0001_0000_0001, 0x0401_0001_0000_0001]],
-            unlawful(5, Why::Ended),
-        ),
-        (
-            &[&GENESIS, &[0x0301_0001_0000_0001]],
-            unlawful(4, Why::Legs),
-        ),
-        (
-            &[&GENESIS, &[0x0501_0002_0000_0001]],
-            unlawful(4, Why::Legs),
-        ),
-        (
-            &[&GENESIS, &[0x0202_0000_0000_0001, 0x0000_001e_0000_0000]],
-            unlawful(4, Why::Pair),
-        ),
-        (
-            &[&GENESIS, &[0x0202_0000_0000_0001, 0xffff_ffe2_0000_0004]],
-            unlawful(4, Why::Prev),
-        ),
-        (
-            &[
-                &GENESIS,
-                &[
-                    0x0202_0000_0000_0001,
-                    0xffff_ffe2_0000_0000,
-                    0x0202_0001_0000_0001,
-                    0x0000_001e_0000_0000,
-                    0x0202_0000_0000_0002,
-                    0xffff_ffe2_0000_0000,
-                    0x0202_0001_0000_0002,
-                    0x0000_001e_0000_0000,
-                    0x0301_0001_0000_0002,
-                    0x0301_0001_0000_0001,
-                ],
-            ],
-            unlawful(13, Why::Stale),
-        ),
-        (
-            &[
-                &GENESIS,
-                &[
-                    0x0202_0000_0000_0001,
-                    0xffff_fe0c_0000_0000,
-                    0x0202_0001_0000_0001,
-                    0x0000_01f4_0000_0000,
-                    0x0301_0001_0000_0001,
-                ],
-            ],
-            unlawful(8, Why::Balance),
-        ),
-    ];
-    for (batches, fault) in cases {
-        let bytes = image(rt.alloc(), batches)?;
-        assert_eq!(rt;
-            recover(rt.alloc(), bytes.as_slice()).err(),
-            Some(fault),
-            "{batches:?}"
-        );
-        assert!(rt; is_same(rt.alloc(), bytes.as_slice()), "{batches:?}");
+    for (batches, fault) in FAULTY {
+        refuses(&rt, batches, fault)?;
     }
     Ok(())
 }
 
-#[test]
-fn names_a_file_that_is_no_log(rt: HostRuntime) -> Result<(), Fail> {
-    assert_eq!(rt;
-        recover(rt.alloc(), b"OAETHER3\0\0\0\x01").err(),
-        Some(RecoverFault::NotALog)
-    );
-
-    // A cut batch hides the bad record before it.
-    let mut bytes = image(rt.alloc(), &[&[5]])?;
+/// A cut batch behind a bad record.
+fn cut_batch(alloc: Global) -> Result<Vec<u8>, AllocError> {
+    let mut bytes = image(alloc, &[&[5]])?;
     let _gate = bytes.pop();
     bytes.extend_from_slice(b"O\0")?;
-    assert_eq!(rt;
-        recover(rt.alloc(), bytes.as_slice()).err(),
-        Some(RecoverFault::BadBatch { offset: 20 })
-    );
-    Ok(())
+    Ok(bytes)
 }
 
 #[test]
-fn recovers_two_thousand_transfers(rt: HostRuntime) -> Result<(), Fail> {
-    let mut units = Vec::from_slice(rt.alloc(), &GENESIS)?;
+fn names_a_file_that_is_no_log(rt: HostRuntime) -> Result<(), Fail> {
+    is_refused(
+        &rt,
+        "another format",
+        b"OAETHER3\0\0\0\x01",
+        &Fault::NotALog,
+    );
+    // The cut batch hides the bad record before it.
+    let bytes = cut_batch(rt.alloc())?;
+    is_refused(&rt, "a cut batch", bytes.as_slice(), &Fault::BadBatch(20));
+    Ok(())
+}
+
+/// The log of 2000 transfers of 1, back and forth.
+fn back_and_forth(alloc: Global) -> Result<Vec<u8>, AllocError> {
+    let mut units = Vec::from_slice(alloc, &GENESIS)?;
     let mut prev = 0;
     for txn in 1..=2000u64 {
         let (from, to) = if txn % 2 == 1 {
@@ -244,12 +245,20 @@ fn recovers_two_thousand_transfers(rt: HostRuntime) -> Result<(), Fail> {
         ])?;
         prev = 4 + 5 * txn;
     }
-    let bytes = image(rt.alloc(), &[units.as_slice()])?;
-    let (lsn, next_txn, rows) = accounts_of(rt.alloc(), bytes.as_slice())?;
-    assert_eq!(rt; lsn, 10004);
-    assert_eq!(rt; next_txn, 2001);
-    assert_eq!(rt; rows.as_slice(), [(100, 10004), (0, 10004)].as_slice());
-    Ok(())
+    image(alloc, &[units.as_slice()])
+}
+
+#[test]
+fn recovers_two_thousand_transfers(rt: HostRuntime) -> Result<(), Fail> {
+    let bytes = back_and_forth(rt.alloc())?;
+    let rows = [(100, 10004), (0, 10004)];
+    is_recovered(
+        &rt,
+        "2000 transfers",
+        bytes.as_slice(),
+        (10004, 2001),
+        &rows,
+    )
 }
 
 /// The log of so many refused transfers, numbered by `number`, that are all open at once: first each takes 1 from account 0,
@@ -271,32 +280,45 @@ fn open_at_once(alloc: Global, count: u64, spread: u64) -> Result<Vec<u8>, Alloc
     image(alloc, &[units.as_slice()])
 }
 
+/// The log of 300 transfers that are all open at once has this next transaction number, and none has an effect.
+fn recovers_open_at_once<R: AllocGlobal + Abort>(
+    rt: &R,
+    name: &str,
+    spread: u64,
+    next_txn: u64,
+) -> Result<(), Fail> {
+    let bytes = open_at_once(rt.alloc(), 300, spread)?;
+    let rows = [(100, 0), (0, 0)];
+    is_recovered(rt, name, bytes.as_slice(), (1504, next_txn), &rows)?;
+    has_same_answers(rt, name, bytes.as_slice());
+    Ok(())
+}
+
+const SPREADS: &[(&str, u64, u64)] = &[
+    ("spread 1", 1, 301),
+    ("spread 7", 7, 2095),
+    ("spread 14316557", 14316557, 4280650545),
+];
+
 #[test]
 fn transactions_that_are_open_at_once(rt: HostRuntime) -> Result<(), Fail> {
-    for (count, spread) in [(300, 1), (300, 7), (300, 14316557)] {
-        let bytes = open_at_once(rt.alloc(), count, spread)?;
-        let (lsn, _, rows) = accounts_of(rt.alloc(), bytes.as_slice())?;
-        assert_eq!(rt; lsn, 1504, "{spread}");
-        assert_eq!(rt; rows.as_slice(), [(100, 0), (0, 0)].as_slice());
-        assert!(rt; is_same(rt.alloc(), bytes.as_slice()), "{spread}");
+    for (name, spread, next_txn) in SPREADS {
+        recovers_open_at_once(&rt, name, *spread, *next_txn)?;
     }
     Ok(())
+}
+
+/// A second end of this transaction is refused, also with the end of another between.
+fn ends_once<R: AllocGlobal + Abort>(rt: &R, txn: u64) -> Result<(), Fail> {
+    let end = 0x0401_0001_0000_0000 | txn;
+    let batch = [end, 0x0401_0001_0000_0000 | 9, end];
+    refuses(rt, &[&GENESIS, &batch], &Fault::Unlawful(6, Why::Ended))
 }
 
 #[test]
 fn far_numbers_end_once(rt: HostRuntime) -> Result<(), Fail> {
     for txn in [1, 4095, 4096, 70000, 0x8000_0000, 0xffff_ffff] {
-        let end = 0x0401_0001_0000_0000 | txn;
-        let bytes = image(
-            rt.alloc(),
-            &[&GENESIS, &[end, 0x0401_0001_0000_0000 | 9, end]],
-        )?;
-        assert_eq!(rt;
-            recover(rt.alloc(), bytes.as_slice()).err(),
-            Some(unlawful(6, Why::Ended)),
-            "{txn}"
-        );
-        assert!(rt; is_same(rt.alloc(), bytes.as_slice()), "{txn}");
+        ends_once(&rt, txn)?;
     }
     Ok(())
 }

@@ -13,6 +13,11 @@ fn has_two_accounts(rt: &impl Abort, judge: &Judge) {
     assert_eq!(rt; found, (100, 0, 0));
 }
 
+/// The record was refused by its leg.
+fn is_refused_by_its_leg(rt: &impl Abort, found: Result<(), JudgeFault>) {
+    assert_eq!(rt; found, Err(JudgeFault::Why(Why::Legs)));
+}
+
 /// A judge takes two accounts, of balances 100 and 0, and refuses a Short whose leg says that there were two Updates.
 #[test]
 fn takes_and_refuses(rt: HostRuntime) -> Result<(), Fail> {
@@ -35,9 +40,6 @@ fn takes_and_refuses(rt: HostRuntime) -> Result<(), Fail> {
     };
     has_two_accounts(&rt, &judge);
     let short = Rec::Short { txn: 1, leg: 2 };
-    assert_eq!(rt;
-        judge.take(Lsn::new(4), &short),
-        Err(JudgeFault::Why(Why::Legs))
-    );
+    is_refused_by_its_leg(&rt, judge.take(Lsn::new(4), &short));
     Ok(())
 }

@@ -3,9 +3,8 @@
 ghost use Rattle.std.specs.Prelude.{◌≡◌, ◌≤◌, ◌+◌, ◌*◌, ◌^◌, length, IfSome};
 ghost use Rattle.segment_file.specs.Standing.{IsShut};
 
-use crate::scanning::GENESIS;
+use crate::scanning::{ACCOUNTS, genesis_and, is_tail};
 use log_disk::LogDisk;
-use lsn_space::Lsn;
 use memory_disk::MemoryDisk;
 use segment_file::{Batch, Tail, append, create, open_image, scan, settle};
 use std::alloc::Global;
@@ -14,9 +13,6 @@ use std::test::Fail;
 
 /// The number of a device call that is never made.
 const NONE: u64 = 99;
-
-/// Two accounts of balances 100 and 0.
-const ACCOUNTS: [u64; 4] = [0x0102_0000_0000_0000, 100, 0x0102_0001_0000_0000, 0];
 
 /// The accounts, and then a transfer of 30 from the first to the second.
 const ALL: [u64; 9] = [
@@ -107,25 +103,26 @@ fn units_after_crash(alloc: Global, disk: MemoryDisk, pick: u64) -> Result<Vec<u
     }
 }
 
-/// The bytes of the genesis log, and some behind them.
-fn genesis_and(alloc: Global, rest: &[u8]) -> Result<Vec<u8>, Fail> {
-    let mut bytes = Vec::from_slice(alloc, &GENESIS)?;
-    bytes.extend_from_slice(rest)?;
-    Ok(bytes)
+/// These are the bytes of the genesis log, and some behind them.
+fn is_held(rt: &impl Abort, alloc: Global, bytes: &[u8], rest: &[u8]) -> Result<(), Fail> {
+    assert_eq!(rt; bytes, genesis_and(alloc, rest)?.as_slice());
+    Ok(())
 }
 
 #[test]
 fn appends_a_transfer(rt: HostRuntime) -> Result<(), Fail> {
     let alloc = rt.alloc();
     let mut disk = MemoryDisk::make(alloc, genesis_and(alloc, &[0])?.as_slice(), 142, &[])?;
-    let tail = Tail {
-        at: 89,
-        next: Lsn::new(9),
+    let Some(tail) = append_transfer(alloc, &mut disk) else {
+        return Err(Fail::new("not appended"));
     };
-    assert_eq!(rt; append_transfer(alloc, &mut disk), Some(tail));
-    let held = open_image(alloc, &mut disk)?;
-    assert_eq!(rt; held.as_slice(), genesis_and(alloc, &APPENDED)?.as_slice());
-    Ok(())
+    is_tail(&rt, &[0], &tail, (89, 9));
+    is_held(
+        &rt,
+        alloc,
+        open_image(alloc, &mut disk)?.as_slice(),
+        &APPENDED,
+    )
 }
 
 /// These are the units that were read.
@@ -190,12 +187,6 @@ fn creates_all_or_nothing(rt: HostRuntime) -> Result<(), Fail> {
         }
     }
     assert!(rt; before && after);
-    Ok(())
-}
-
-/// These are the bytes of the genesis log, and some behind them.
-fn is_held(rt: &impl Abort, alloc: Global, bytes: &[u8], rest: &[u8]) -> Result<(), Fail> {
-    assert_eq!(rt; bytes, genesis_and(alloc, rest)?.as_slice());
     Ok(())
 }
 

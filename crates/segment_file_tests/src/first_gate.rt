@@ -2,16 +2,23 @@
 
 use memory_disk::MemoryDisk;
 use segment_file::has_open_gate;
+use std::alloc::AllocGlobal;
+use std::process::Abort;
 use std::test::Fail;
+
+/// Whether a disk of these bytes has an open gate.
+fn is_open<R: AllocGlobal + Abort>(rt: &R, bytes: &[u8], want: bool) -> Result<(), Fail> {
+    let mut disk = MemoryDisk::make(rt.alloc(), bytes, 0, &[])?;
+    assert_eq!(rt; has_open_gate(&mut disk), Ok(want), "{bytes:?}");
+    Ok(())
+}
+
+const GATES: &[(&[u8], bool)] = &[(b"", false), (b"O", false), (b"\0O", false), (b"O\0", true)];
 
 #[test]
 fn a_lone_byte_is_no_open_gate(rt: HostRuntime) -> Result<(), Fail> {
-    let cases: [(&[u8], bool); 4] = [(b"", false), (b"O", false), (b"\0O", false), (b"O\0", true)];
-    for (bytes, want) in cases {
-        let Ok(mut disk) = MemoryDisk::make(rt.alloc(), bytes, 0, &[]) else {
-            return Err(Fail::new("no memory"));
-        };
-        assert_eq!(rt; has_open_gate(&mut disk), Ok(want), "{bytes:?}");
+    for (bytes, want) in GATES {
+        is_open(&rt, bytes, *want)?;
     }
     Ok(())
 }

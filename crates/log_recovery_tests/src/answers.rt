@@ -1,0 +1,82 @@
+//! What `recover` answers of an image, beside what is wanted.
+
+use crate::plainly::is_same;
+use log_recovery::{RecoverFault, Why, recover};
+use lsn_space::Lsn;
+use std::alloc::AllocGlobal;
+use std::process::Abort;
+use std::test::Fail;
+
+/// A fault, in numbers that a constant can hold.
+pub(crate) enum Fault {
+    NotALog,
+    BadBatch(u64),
+    BadRec(u32),
+    Unlawful(u32, Why),
+}
+
+impl Fault {
+    pub fn wanted(&self) -> RecoverFault {
+        match *self {
+            Fault::NotALog => RecoverFault::NotALog,
+            Fault::BadBatch(offset) => RecoverFault::BadBatch { offset },
+            Fault::BadRec(lsn) => RecoverFault::BadRec { lsn: Lsn::new(lsn) },
+            Fault::Unlawful(lsn, why) => RecoverFault::Unlawful {
+                lsn: Lsn::new(lsn),
+                why,
+            },
+        }
+    }
+}
+
+/// This is the fault that was found in the image.
+pub(crate) fn is_fault(
+    rt: &impl Abort,
+    name: &str,
+    bytes: &[u8],
+    found: Option<RecoverFault>,
+    fault: &Fault,
+) {
+    assert_eq!(rt; found, Some(fault.wanted()), "{name} {bytes:?}");
+}
+
+/// The plain program answers the same of the image.
+pub(crate) fn has_same_answers<R: AllocGlobal + Abort>(rt: &R, name: &str, bytes: &[u8]) {
+    assert!(rt; is_same(rt.alloc(), bytes), "{name} {bytes:?}");
+}
+
+/// The image is refused so.
+pub(crate) fn is_refused<R: AllocGlobal + Abort>(rt: &R, name: &str, bytes: &[u8], fault: &Fault) {
+    is_fault(rt, name, bytes, recover(rt.alloc(), bytes).err(), fault);
+    has_same_answers(rt, name, bytes);
+}
+
+/// These rows, each an account's balance and last Commit, were recovered.
+fn are_rows(rt: &impl Abort, name: &str, found: &[(u32, u32)], rows: &[(u32, u32)]) {
+    assert_eq!(rt; found, rows, "{name}");
+}
+
+/// The list ends here, and this is the next transaction number.
+fn is_end(rt: &impl Abort, name: &str, found: (u32, u64), end: (u32, u64)) {
+    assert_eq!(rt; found, end, "{name}");
+}
+
+/// What is recovered of the image ends here, with this next transaction number and these rows of accounts.
+pub(crate) fn is_recovered<R: AllocGlobal + Abort>(
+    rt: &R,
+    name: &str,
+    bytes: &[u8],
+    end: (u32, u64),
+    rows: &[(u32, u32)],
+) -> Result<(), Fail> {
+    let Ok(recovered) = recover(rt.alloc(), bytes) else {
+        return Err(Fail::new("not recovered"));
+    };
+    let mut found = Vec::new(rt.alloc());
+    for account in 0..recovered.accounts.count() {
+        found.push(recovered.accounts.at(account))?;
+    }
+    is_end(rt, name, (recovered.lsn.units(), recovered.next_txn), end);
+    are_rows(rt, name, found.as_slice(), rows);
+    Ok(())
+}
