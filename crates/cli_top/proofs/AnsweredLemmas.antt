@@ -22,7 +22,7 @@ use Rattle.cli_world.specs.Alone.{AnsweredAlone, DoesAlone}
 use Rattle.cli_world.specs.declared.answer.Answer.TheVariants.{Done}
 use Rattle.cli_top.specs.Answered.{Answered, Does, Obeys}
 use Rattle.cli_top.specs.Asks.{AsksDemo, AsksNew, AsksRun}
-use Rattle.cli_top.proofs.DemoAsked.{silent-told}
+use Rattle.cli_top.proofs.DemoTold.{silent-told}
 
 -- a detail that names the object of a fault
 abbrev IsFault : Detail → Type 0

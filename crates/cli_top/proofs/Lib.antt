@@ -1,6 +1,5 @@
 pub mod AnsweredLemmas
-pub mod Asked
 pub mod CompletenessLemmas
-pub mod DemoAsked
 pub mod DemoCompleteness
+pub mod DemoTold
 pub mod RunCompleteness

@@ -68,6 +68,7 @@ impl Rows {
     {
         self.rows.push_reserved(row);
     }
+
     /// Adds the row of the transfer that was taken last, where it ended. Some: it was cut off and has no row, and so the worker
     /// ends.
     pub fn tell(&mut self, made: Result<Row, Cause>) -> Option<Worked>
