@@ -31,14 +31,12 @@ pub fn answer_alone<D: LogDisk, S: Source, K: Sink>(
                 seed,
                 options,
             },
-        ) => Answer::Asked(
-            WithWorkers::Demo {
-                log,
-                transfers,
-                seed,
-                options,
-            },
-        ),
+        ) => Answer::Asked(WithWorkers::Demo {
+            log,
+            transfers,
+            seed,
+            options,
+        }),
         Err(Refused::Usage) => Answer::Done(Detail::Usage),
         Err(Refused::NoMemory) => Answer::Done(Detail::NoMemory),
     }

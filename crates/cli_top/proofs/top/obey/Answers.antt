@@ -9,7 +9,7 @@ pub returns-in-Run : goal.returns-in-Run
 returns-in-Run g c =
     let called = c.run_command.ensures in
     subst (λ asked. Obeys g.D.LogDisk g.S.Source g.K.Sink (command_of asked) (world c.args.disk.now c.args.script.now c.args.out.now)
-        (world c.run_command.new.disk c.run_command.new.script c.run_command.new.out) c.run_command.result) (sym c.in-Run.is)
+    (world c.run_command.new.disk c.run_command.new.script c.run_command.new.out) c.run_command.result) (sym c.in-Run.is)
     (record {
       faults = record {
         read = called.read;
@@ -27,7 +27,7 @@ pub returns-in-Demo : goal.returns-in-Demo
 returns-in-Demo g c =
     let called = c.demo_command.ensures in
     subst (λ asked. Obeys g.D.LogDisk g.S.Source g.K.Sink (command_of asked) (world c.args.disk.now c.args.script.now c.args.out.now)
-        (world c.demo_command.new.disk c.args.script.now c.demo_command.new.out) c.demo_command.result) (sym c.in-Demo.is)
+    (world c.demo_command.new.disk c.args.script.now c.demo_command.new.out) c.demo_command.result) (sym c.in-Demo.is)
     (record {
       faults = record {
         read = λ read. absurd (subst IsOfDemo read called.range);
