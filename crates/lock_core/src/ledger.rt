@@ -87,10 +87,11 @@ impl Ledger {
         requires account { IsAccount change.account }
         ensures { (end : ℕ) → TakesEntry self.old self.new end (Rec.Update txn change.account change.delta change.prev) result }
     {
-        if self.accounts.count() == 0 {
+        let accounts = self.accounts.count();
+        if accounts == 0 {
             return Err(JudgeFault::Why(Why::Genesis));
         }
-        if change.account >= self.accounts.count() {
+        if change.account >= accounts {
             return Err(JudgeFault::Why(Why::Account));
         }
         let Some(place) = self.txns.place(txn) else {
@@ -164,11 +165,13 @@ impl Ledger {
         if self.accounts.count() == 0 {
             return Err(JudgeFault::Why(Why::Genesis));
         }
-        let Some(_) = self.txns.place(txn) else {
-            return Err(JudgeFault::Why(Why::Ended));
-        };
-        self.is_opening = false;
-        Ok(())
+        match self.txns.place(txn) {
+            Some(_) => {
+                self.is_opening = false;
+                Ok(())
+            }
+            None => Err(JudgeFault::Why(Why::Ended)),
+        }
     }
 
     /// Ends a transaction.

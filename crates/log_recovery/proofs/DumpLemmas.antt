@@ -1,5 +1,5 @@
 -- How the lines of a dump are written, record by record.
-use Rattle.std.proofs.Common.{◌≡◌, ◌≤◌, ℕ, ◌+◌, List, [], ◌∷◌, ◌++◌, length, drop, Option, refl, ap, ◌∙◌, sym, subst, arith, length-append, append_assoc}
+use Rattle.std.proofs.Common.{◌≡◌, ◌<◌, ◌≤◌, ℕ, ◌+◌, List, [], ◌∷◌, ◌++◌, length, drop, Option, refl, ap, ◌∙◌, sym, subst, arith, length-append, length-drop, append_assoc}
 use Rattle.std.specs.List.{AllByRecursion}
 use Rattle.std.proofs.lemmas.List.{append-nil}
 use Rattle.std.proofs.lemmas.List.Elements.{All-from_recursion}
@@ -7,6 +7,7 @@ use Rattle.std.proofs.KnownBytes.{Appends-nil, Appends-trans}
 use Rattle.std.specs.Io.KnownBytes.{Appends}
 use Rattle.log_disk.specs.Streams.{AppendsPart}
 use Rattle.log_record.specs.declared.rec.Rec.{Rec}
+use Rattle.log_record.specs.declared.rec.Rec.TheVariants.{Genesis, Update, Commit, Short, Over, Note}
 use Rattle.log_record.specs.LogList.{AreUnitsOf, units_of, end_of, size_of}
 use Rattle.log_record.specs.Spelling.{spelling, IsSpellable, BeginsWith}
 use Rattle.log_record.proofs.SpellingLemmas.{spelling-append-injective, units_of-injective}
@@ -29,6 +30,19 @@ record_lines-append at (rec ∷ xs) ys =
 one-list_of : (units : List ℕ) (xs ys : List Rec) → AreUnitsOf units xs → AreUnitsOf units ys → xs ≡ ys
 one-list_of units xs ys first second =
     units_of-injective xs ys (All-from_recursion IsSpellable xs first.spellable) (All-from_recursion IsSpellable ys second.spellable) (sym first.units_are ∙ second.units_are)
+
+some-units : (rec : Rec) → 0 < length (spelling rec)
+some-units (Genesis account balance) = omega arith
+some-units (Update txn account delta prev) = omega arith
+some-units (Commit txn legs) = omega arith
+some-units (Short txn leg) = omega arith
+some-units (Over txn leg) = omega arith
+some-units (Note txn text) = omega arith
+
+-- what is behind a record is shorter
+pub dumps-less : (rest after : List ℕ) (rec : Rec) → (length rest ≡ 0 → ⊥) → after ≡ drop (length (spelling rec)) rest → length after < length rest
+dumps-less rest after rec some behind =
+    let less = ap length behind ∙ length-drop (length (spelling rec)) rest in let units = some-units rec in omega (arith, some)
 
 -- the lines of the records before this rest of the units are written
 pub record DumpsFront (units rest : List ℕ) (old new : Option (List ℕ)) : Type 0 where

@@ -1,9 +1,14 @@
-use Rattle.std.proofs.Common.{◌∙◌, length, ap, sym, refl}
+use Rattle.std.proofs.Common.{◌≡◌, ◌∙◌, ℕ, Result, length, ap, sym, subst, refl}
 use Rattle.std.proofs.lemmas.Bool.{eqb-true, eqb-false}
 use Rattle.std.proofs.lemmas.List.{nil_from_length}
 use Rattle.std.proofs.lemmas.Result.{err_from_is_err_and, on_ok_weaker, on_err_weaker}
-use Rattle.log_recovery.proofs.DumpLemmas.{dumps-none, dumps-fits, dumps-some, dumps-more, dumps-cut, dumps-all, dumps-end_cut}
+use Rattle.log_disk.specs.Faults.{HasCause}
+use Rattle.log_recovery.proofs.DumpLemmas.{dumps-none, dumps-fits, dumps-some, dumps-less, dumps-more, dumps-cut, dumps-all, dumps-end_cut}
 use Rattle.log_recovery.proofs.dump.put_dump.Goals as goal
+
+-- where no fault was counted until then
+cause-since : {T E : Type 0} (first before now : ℕ) (result : Result T E) → before ≡ first → HasCause before now result → HasCause first now result
+cause-since first before now result same cause = subst (λ count. HasCause count now result) same cause
 
 pub records-init : goal.records-init
 records-init g c = record {
@@ -34,6 +39,17 @@ records-preserved g c =
       same = c.in_ok-put_record.ensures.cause.fine ∙ c.records.invariant.same;
     }
 
+pub records-smaller : goal.records-smaller
+records-smaller g c = dumps-less c.records.rest.now c.first_of-rec.result.1.now c.first_of-rec.result.0
+    (eqb-false _ _ (sym c.is_empty.ensures ∙ c.records-test.true)) c.first_of-rec.ensures.behind
+
+pub returns-in_err-put_record-clause-all : goal.returns-in_err-put_record-clause-all
+returns-in_err-put_record-clause-all g c = λ records has. let failed = err_from_is_err_and c.from_residual.result c.from_residual.ensures.1 in rw failed.1 tt
+
+pub returns-in_err-put_record-clause-cause : goal.returns-in_err-put_record-clause-cause
+returns-in_err-put_record-clause-cause g c = let failed = err_from_is_err_and c.from_residual.result c.from_residual.ensures.1 in
+    rw failed.1 (cause-since (g.K.Sink.faults c.args.sink.now) (g.K.Sink.faults c.records.sink) (g.K.Sink.faults c.put_record.new.sink) _ c.records.invariant.same c.in_err-put_record.ensures.cause)
+
 pub returns-clause-all : goal.returns-clause-all
 returns-clause-all g c = λ records has.
     let empty = nil_from_length c.records.rest.now (eqb-true _ _ (sym c.is_empty.ensures ∙ c.records-test.false)) in
@@ -44,3 +60,6 @@ returns-clause-prefix g c = λ records has.
     let empty = nil_from_length c.records.rest.now (eqb-true _ _ (sym c.is_empty.ensures ∙ c.records-test.false)) in
     on_err_weaker c.put_end.result (dumps-end_cut _ _ _ _ c.records.invariant.dumped empty records has.list _ c.args.listed.now.tail.next has.end)
     c.put_end.ensures.prefix
+
+pub returns-clause-cause : goal.returns-clause-cause
+returns-clause-cause g c = cause-since _ _ _ c.put_end.result c.records.invariant.same c.put_end.ensures.cause
