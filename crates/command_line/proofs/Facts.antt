@@ -1,5 +1,5 @@
 -- What follows of the program's command where it takes the words: a subcommand is named, one of those that there are.
-use Rattle.std.proofs.Common.{◌≡◌, ◌⊎◌, ◌||◌, ◌∙◌, ap₂, sym, inl, inr, Bool, true, false, refl, List, [], ◌∷◌, codes, Option, Some, None, is_some}
+use Rattle.std.proofs.Common.{◌≡◌, ◌⊎◌, ◌||◌, ◌∙◌, ap₂, sym, inl, inr, Bool, true, false, refl, List, [], ◌∷◌, Option, Some, None, is_some}
 use Rattle.std.specs.Prelude.{◌&&◌, not, unwrap_or, find, option_map, map}
 use Rattle.std.specs.List.{list_any}
 use Rattle.clap.specs.declared.error.kind.ErrorKind.TheVariants.{DisplayHelpOnMissingArgumentOrSubcommand, MissingSubcommand}
@@ -10,7 +10,7 @@ use Rattle.clap.specs.Kinds.{Kinds, or_else}
 use Rattle.clap.specs.Simple.{entered, rows_at, names_of, argument_words}
 use Rattle.clap.specs.Walk.{Names, Held, Text, finished, nothing_held, settled, stop_after, walk, walk_from}
 use Rattle.clap.specs.Words.{App, Row, Shape, is_simple, is_simple_and_free, subcommand_of, fault_of, built}
-use Rattle.command_line.specs.CommandLine.{aether_command, demo_command, new_command, run_command, AreKnown, NamesSubcommand}
+use Rattle.command_line.specs.CommandLine.{aether_command, demo_command, new_command, run_command, AreKnown, IsSubcommand, NamesSubcommand}
 
 pub is_simple-aether : is_simple aether_command ≡ true
 unfolding aether_command new_command run_command demo_command
@@ -79,8 +79,7 @@ pub named_some : (words : List Text) → AreKnown words → is_some (subcommand_
 unfolding aether_command new_command run_command demo_command
 named_some words known = names_some aether_command words refl known
 
-pub named-one : (words : List Text) (name : Text) (rows : List Row) → NamesSubcommand words name rows
-    → (name ≡ codes "new") ⊎ (name ≡ codes "run") ⊎ (name ≡ codes "recover") ⊎ (name ≡ codes "dump") ⊎ (name ≡ codes "demo")
+pub named-one : (words : List Text) (name : Text) (rows : List Row) → NamesSubcommand words name rows → IsSubcommand name
 unfolding aether_command new_command run_command demo_command
 named-one words name rows named =
     let a = built aether_command in

@@ -67,6 +67,11 @@ AreKnown words = fault_of aether_command words ≡ []
 abbrev pub NamesSubcommand : List (List ℕ) → List ℕ → List Row → Type 0
 NamesSubcommand words name rows = subcommand_of aether_command words ≡ Some (name, rows)
 
+-- one of the subcommands has this name
+abbrev pub IsSubcommand : List ℕ → Type 0
+IsSubcommand name =
+    (name ≡ codes "new") ⊎ (name ≡ codes "run") ⊎ (name ≡ codes "recover") ⊎ (name ≡ codes "dump") ⊎ (name ≡ codes "demo")
+
 -- the value of LOG, which stands first in its row
 abbrev pub log_in : List Row → List ℕ
 log_in rows = unwrap_or (first_of (codes "LOG") rows) []

@@ -1,6 +1,6 @@
-ghost use Rattle.std.specs.Prelude.{◌≡◌, ◌≢◌, ◌⊎◌, ℕ, [], IfErr, IfOk, MatchResult, map, true};
+ghost use Rattle.std.specs.Prelude.{◌≡◌, ◌≢◌, ◌⊎◌, List, ℕ, [], IfErr, IfOk, MatchResult, map, true};
 ghost use Rattle.clap.specs.Words.{fault_of, found_of, rows_of, subcommand_of, subcommand_rows_of, takes};
-ghost use Rattle.command_line.specs.CommandLine.{aether_command, log_in, AreKnown, AreOptions, HasNoDemo, HasNoOptions, IsCommandLine, IsDemo, IsMismatchOf, IsRefusalOf, NamesBadNumbers};
+ghost use Rattle.command_line.specs.CommandLine.{aether_command, log_in, AreKnown, AreOptions, HasNoDemo, HasNoOptions, IsCommandLine, IsDemo, IsMismatchOf, IsRefusalOf, IsSubcommand, NamesBadNumbers, NamesSubcommand};
 ghost use Rattle.command_line.specs.declared.command.Command.TheVariants.{Demo, New, Run};
 ghost use Rattle.command_line.specs.declared.options.RunOptions.{RunOptions};
 
@@ -24,6 +24,17 @@ pub fn parse(alloc: Global, words: &[Word]) -> Result<Command, Refused>
     let Some((name, found)) = matches.subcommand() else {
         unreachable!()
     };
+    asked(alloc, name, found)
+}
+
+/// What words ask that name this subcommand, with what is found of it.
+fn asked(alloc: Global, name: &str, found: &ArgMatches<'_>) -> Result<Command, Refused>
+    requires { IsSubcommand name.now }
+    ensures exact { (words : List (List ℕ)) → AreKnown words → NamesSubcommand words name.now (rows_of (found_of found.now))
+        → MatchResult result (IsCommandLine words) (IsRefusalOf words) }
+    ensures taken { (words : List (List ℕ)) → AreKnown words → NamesSubcommand words name.now (rows_of (found_of found.now))
+        → IfErr result (λ e. (e ≡ Refused.NoMemory) ⊎ NamesBadNumbers words) }
+{
     match name {
         "new" => new(alloc, found),
         "run" => run(alloc, found),

@@ -10,14 +10,14 @@ returns-then-not-is_power_of_two-clause-none c = λ options are.
     one-number (first_of (codes "ring") (rows_of (found_of c.args.found.now))) 65536 _ _ (omega arith) (omega (arith, are.range.ring))
     c.in_ok-ring.ensures.some are.ring in
     let one : count_ones c.in_ok-ring.ring ≡ 1 = ap count_ones (same ∙ are.range.power.1) ∙ one-power are.range.power.0 in
-    search rules
+    search rules steps 1000000
 
 pub returns-clause-some : goal.returns-clause-some
 returns-clause-some c = record {
   range = record {
     workers = (c.in_ok-workers.ensures.least, c.in_ok-workers.ensures.most);
     ring = (c.in_ok-ring.ensures.least, c.in_ok-ring.ensures.most);
-    power = power-one c.in_ok-ring.ring (search rules);
+    power = power-one c.in_ok-ring.ring (search rules steps 1000000);
     slots = c.in_ok-slots.ensures.most;
   };
   workers = c.in_ok-workers.ensures.some;

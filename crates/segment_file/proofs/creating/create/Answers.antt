@@ -1,4 +1,4 @@
-use Rattle.std.proofs.Common.{rules}
+use Rattle.std.proofs.Common.{◌∙◌, arith}
 use Rattle.log_disk.proofs.Moments.{Leaves-trans, Leaves-weaken}
 use Rattle.segment_file.proofs.StableGates.{stays-none}
 use Rattle.segment_file.proofs.creating.create.Goals as goal
@@ -18,4 +18,12 @@ returns-clause-moments g c = λ honest.
     Leaves-trans g.D.LogDisk.moment g.D.LogDisk.images_since _ _ _ _ closed (c.create_sealed.ensures.moments (c.close_gate.ensures.honest.0 honest))
 
 pub returns-clause-count : goal.returns-clause-count
-returns-clause-count g c = search rules steps 1000000
+returns-clause-count g c = λ honest.
+    omega (arith, c.close_gate.ensures.count honest, c.create_sealed.ensures.count (c.close_gate.ensures.honest.0 honest))
+
+pub returns-clause-cause : goal.returns-clause-cause
+returns-clause-cause g c = record {
+  later = omega (arith, c.close_gate.ensures.cause.later, c.create_sealed.ensures.cause.later);
+  fine = c.in_ok-create_sealed.ensures.cause.fine ∙ c.in_ok-close_gate.ensures.cause.fine;
+  failed = tt;
+}

@@ -27,3 +27,12 @@ returns-else-branch-clause-shut g c = λ honest.
     stable-shut c.args.at _ _ (g.met.D.LogDisk.read_is_image _ honest) (c.requires.stable honest)
     (λ lacks. true≢false (sym ((c.in_ok-lacks_gate.ensures.lacks honest).1 lacks) ∙ c.if-branch.false)) _
     (λ crash left. (c.lacks_gate.ensures.keeps.image crash).0 left)
+
+pub returns-else-branch-clause-moments : goal.returns-else-branch-clause-moments
+returns-else-branch-clause-moments g c = λ honest.
+    let image = g.met.D.LogDisk.read_is_image _ honest in
+    Leaves-call g.D.LogDisk.moment g.D.LogDisk.images_since g.D.LogDisk.images _ _ _ c.lacks_gate.ensures.time
+    (λ crash left. stays-closed c.args.at _ _ image (c.requires.stable honest) crash ((c.lacks_gate.ensures.keeps.image crash).0 left))
+
+pub returns-else-branch-clause-keeps : goal.returns-else-branch-clause-keeps
+returns-else-branch-clause-keeps g c = λ honest has. c.lacks_gate.ensures.keeps
