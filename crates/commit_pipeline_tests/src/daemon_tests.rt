@@ -70,6 +70,18 @@ fn turn(daemon: &mut Daemon<MemoryDisk, MemorySink>) -> Result<Turn, DaemonFault
     daemon.turn()
 }
 
+/// Whether the log has come to its end, and what a turn then does.
+fn ask_and_turn(daemon: &mut Daemon<MemoryDisk, MemorySink>) -> Result<(Drained, Turn), DaemonFault>
+    requires ready { MayTurn ⟦<MemoryDisk as LogDisk>⟧ daemon.old }
+    requires told { knows_all_enrolled (view_of daemon.old.flusher.seat).standing ≡ true }
+    ensures ready { OnOk result (MayTurn ⟦<MemoryDisk as LogDisk>⟧ daemon.new) }
+    ensures told { knows_all_enrolled (view_of daemon.new.flusher.seat).standing ≡ true }
+{
+    let drained = ask(daemon);
+    let turn = turn(daemon)?;
+    Ok((drained, turn))
+}
+
 /// What a daemon answers while a worker that inserted a transfer is active, and once it has ended.
 fn report_worker<R: Wait + Abort>(
     rt: &R,
@@ -85,12 +97,10 @@ fn report_worker<R: Wait + Abort>(
     requires told { knows_all_enrolled (view_of daemon.old.flusher.seat).standing ≡ true }
 {
     transfer(rt, alloc, table, &mut seat);
-    let active = ask(daemon);
-    let sent = turn(daemon)?;
+    let active = ask_and_turn(daemon)?;
     table.leave(&mut seat);
-    let at_end = ask(daemon);
-    let idle = turn(daemon)?;
-    Ok([(active, sent), (at_end, idle)])
+    let at_end = ask_and_turn(daemon)?;
+    Ok([active, at_end])
 }
 
 /// The same, of a daemon over this disk and this sink.
@@ -102,7 +112,9 @@ fn report_one<R: Wait + Abort>(
 ) -> Option<[(Drained, Turn); 2]>
     requires { IsOnlyImage [] (ImagesOf disk.old) }
 {
-    let (table, mut boss) = table_of(alloc, (100, 0), 4).ok()?;
+    let Ok((table, mut boss)) = table_of(alloc, (100, 0), 4) else {
+        return None;
+    };
     let seat = worker(&table, &mut boss, 0, 1);
     let mut daemon = daemon_on(alloc, (100, 0), &table, boss, disk, sink, Voice::Lines)?;
     report_worker(rt, alloc, &table, seat, &mut daemon).ok()
@@ -139,7 +151,9 @@ fn count_one<R: Wait + Abort>(
 ) -> Option<(Drained, Lsn, [u32; 2])>
     requires { IsOnlyImage [] (ImagesOf disk.old) }
 {
-    let (table, mut boss) = table_of(alloc, (100, 0), 4).ok()?;
+    let Ok((table, mut boss)) = table_of(alloc, (100, 0), 4) else {
+        return None;
+    };
     let mut seat = worker(&table, &mut boss, 0, 1);
     let mut daemon = daemon_on(alloc, (100, 0), &table, boss, disk, sink, Voice::Count)?;
     transfer(rt, alloc, &table, &mut seat);

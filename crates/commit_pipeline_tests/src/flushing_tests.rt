@@ -71,6 +71,19 @@ fn empties<R: Abort>(rt: &R, alloc: Global, table: &LogTable, boss: Seat) -> Res
     Ok(())
 }
 
+/// The worker's next note starts where the flush ended, at the ring's fourth place.
+fn goes_on<R: Wait + Abort>(rt: &R, table: &LogTable, seat: &mut Seat, job: &Job)
+    requires worker { MayInsert table.now 514 seat.old }
+    requires accounts { table.now.accounts ≡ 2 }
+    requires ring { table.now.ring ≡ 1024 }
+    requires job { IsNotedJob job.now }
+{
+    let to = Lsn::new(ENDS.1);
+    let answer = insert_note(rt, table, seat, 514, job, &OpenGate);
+    has_answered(rt, 514, answer, Ok(to));
+    assert!(rt; place(to, table.ring()) == 4);
+}
+
 #[test]
 fn ring_full_until_flushed(rt: HostRuntime) -> Result<(), Fail> {
     let alloc = rt.alloc();
@@ -81,9 +94,6 @@ fn ring_full_until_flushed(rt: HostRuntime) -> Result<(), Fail> {
     };
     fills(&rt, &table, &mut seat, &job);
     empties(&rt, alloc, &table, boss)?;
-    let to = Lsn::new(ENDS.1);
-    let answer = insert_note(&rt, &table, &mut seat, 514, &job, &OpenGate);
-    has_answered(&rt, 514, answer, Ok(to));
-    assert!(rt; place(to, table.ring()) == 4);
+    goes_on(&rt, &table, &mut seat, &job);
     Ok(())
 }

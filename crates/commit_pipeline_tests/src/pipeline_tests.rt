@@ -100,7 +100,9 @@ fn run_notes<R: Threads + Wait + Sync, D: LogDisk>(
 ) -> Option<(u32, Outcome)>
     requires { D.honest disk.old → IsStableGate 0 (D.images disk.old) }
 {
-    let (table, mut boss) = table_of(alloc, (RICH, 0), 4).ok()?;
+    let Ok((table, mut boss)) = table_of(alloc, (RICH, 0), 4) else {
+        return None;
+    };
     let one = worker(&table, &mut boss, 0, 1);
     let two = worker(&table, &mut boss, 1, 501);
     let mut daemon = daemon_on(alloc, (RICH, 0), &table, boss, disk, sink, Voice::Lines)?;
@@ -165,7 +167,9 @@ fn run_transfers<R: Threads + Wait + Sync, D: LogDisk>(
 ) -> Option<(usize, Outcome)>
     requires { D.honest disk.old → IsStableGate 0 (D.images disk.old) }
 {
-    let (table, mut boss) = table_of(alloc, (RICH, 0), 4).ok()?;
+    let Ok((table, mut boss)) = table_of(alloc, (RICH, 0), 4) else {
+        return None;
+    };
     let one = worker(&table, &mut boss, 0, 1);
     let two = worker(&table, &mut boss, 1, 1);
     let mut daemon = daemon_on(alloc, (RICH, 0), &table, boss, disk, sink, Voice::Lines)?;
