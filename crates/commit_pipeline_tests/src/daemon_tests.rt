@@ -2,25 +2,26 @@
 ghost use Rattle.std.specs.Prelude.{◌≡◌, ◌<◌, [], true, OnOk};
 ghost use Rattle.log_disk.specs.Disk.{IsOnlyImage};
 ghost use Rattle.memory_disk.specs.MemoryDisks.{ImagesOf};
+ghost use Rattle.log_table.specs.May.{MayLeave};
 ghost use Rattle.log_table.specs.Seats.{IsOf, view_of};
 ghost use Rattle.log_table.specs.Views.{knows_all_enrolled};
-ghost use Rattle.ring_buffer.specs.Calls.{IsReady};
 ghost use Rattle.commit_pipeline.specs.Turning.{MayTurn};
 ghost use Rattle.test_rig.specs.NotedJobs.{IsNew};
 
+use crate::transfers::make_transfers;
 use commit_pipeline::{Daemon, DaemonFault, Turn, Voice};
 use flusher::Drained;
-use log_disk::{LogDisk, OpenGate};
+use log_disk::LogDisk;
 use log_table::{LogTable, Seat};
 use lsn_space::{Lsn, NoMemory};
 use memory_disk::{MemoryDisk, MemorySink};
-use run_rig::{CREATED, daemon_on, thirties, work_stripe};
+use run_rig::{CREATED, daemon_on, thirties};
 use std::alloc::Global;
 use std::process::Abort;
 use std::sync::Wait;
 use std::test::Fail;
 use test_rig::{table_of, worker};
-use txn_runner::{Worked, YieldRelief};
+use txn_runner::Worked;
 
 /// The log of the two accounts, and the transfer behind it.
 const ONE_TRANSFER_LOG: [u8; 90] = [
@@ -39,18 +40,14 @@ fn transfer<R: Wait + Abort>(rt: &R, alloc: Global, table: &LogTable, seat: &mut
     requires first { seat.old.worker < 1 }
     requires accounts { table.now.accounts ≡ 2 }
     ensures seat { IsOf table.now seat.new }
-    ensures ready { IsReady (view_of seat.new) }
-    ensures none_held { (view_of seat.new).books.held ≡ [] }
+    ensures may { MayLeave (view_of seat.new) }
 {
     let Some(jobs) = thirties(rt, alloc, 1, 1) else {
         panic!(rt; "no memory");
     };
-    let mut relief = YieldRelief::new();
-    let came = work_stripe(rt, alloc, table, seat, &jobs, &mut relief, false, &OpenGate);
-    let Ok((worked, _rows)) = came else {
-        panic!(rt; "no memory");
-    };
-    assert!(rt; worked == Worked::All, "the transfer was not made");
+    let made = make_transfers(rt, alloc, table, seat, &jobs);
+    let is_made = matches!(made, Some((Worked::All, _)));
+    assert!(rt; is_made, "the transfer was not made");
 }
 
 /// Whether the log has come to its end.
@@ -73,7 +70,40 @@ fn turn(daemon: &mut Daemon<MemoryDisk, MemorySink>) -> Result<Turn, DaemonFault
     daemon.turn()
 }
 
+/// Whether the log has come to its end, and what a turn then does.
+fn ask_and_turn(daemon: &mut Daemon<MemoryDisk, MemorySink>) -> Result<(Drained, Turn), DaemonFault>
+    requires ready { MayTurn ⟦<MemoryDisk as LogDisk>⟧ daemon.old }
+    requires told { knows_all_enrolled (view_of daemon.old.flusher.seat).standing ≡ true }
+    ensures ready { OnOk result (MayTurn ⟦<MemoryDisk as LogDisk>⟧ daemon.new) }
+    ensures told { knows_all_enrolled (view_of daemon.new.flusher.seat).standing ≡ true }
+{
+    let drained = ask(daemon);
+    let turn = turn(daemon)?;
+    Ok((drained, turn))
+}
+
 /// What a daemon answers while a worker that inserted a transfer is active, and once it has ended.
+fn report_worker<R: Wait + Abort>(
+    rt: &R,
+    alloc: Global,
+    table: &LogTable,
+    mut seat: Seat,
+    daemon: &mut Daemon<MemoryDisk, MemorySink>,
+) -> Result<[(Drained, Turn); 2], DaemonFault>
+    requires unused { IsNew table.now seat }
+    requires first { seat.worker < 1 }
+    requires accounts { table.now.accounts ≡ 2 }
+    requires ready { MayTurn ⟦<MemoryDisk as LogDisk>⟧ daemon.old }
+    requires told { knows_all_enrolled (view_of daemon.old.flusher.seat).standing ≡ true }
+{
+    transfer(rt, alloc, table, &mut seat);
+    let active = ask_and_turn(daemon)?;
+    table.leave(&mut seat);
+    let at_end = ask_and_turn(daemon)?;
+    Ok([active, at_end])
+}
+
+/// The same, of a daemon over this disk and this sink.
 fn report_one<R: Wait + Abort>(
     rt: &R,
     alloc: Global,
@@ -82,16 +112,12 @@ fn report_one<R: Wait + Abort>(
 ) -> Option<[(Drained, Turn); 2]>
     requires { IsOnlyImage [] (ImagesOf disk.old) }
 {
-    let (table, mut boss) = table_of(alloc, (100, 0), 4).ok()?;
-    let mut seat = worker(&table, &mut boss, 0, 1);
+    let Ok((table, mut boss)) = table_of(alloc, (100, 0), 4) else {
+        return None;
+    };
+    let seat = worker(&table, &mut boss, 0, 1);
     let mut daemon = daemon_on(alloc, (100, 0), &table, boss, disk, sink, Voice::Lines)?;
-    transfer(rt, alloc, &table, &mut seat);
-    let active = ask(&mut daemon);
-    let sent = turn(&mut daemon).ok()?;
-    table.leave(&mut seat);
-    let at_end = ask(&mut daemon);
-    let idle = turn(&mut daemon).ok()?;
-    Some([(active, sent), (at_end, idle)])
+    report_worker(rt, alloc, &table, seat, &mut daemon).ok()
 }
 
 /// The daemon wrote this, and the log of one transfer is on the disk.
@@ -125,7 +151,9 @@ fn count_one<R: Wait + Abort>(
 ) -> Option<(Drained, Lsn, [u32; 2])>
     requires { IsOnlyImage [] (ImagesOf disk.old) }
 {
-    let (table, mut boss) = table_of(alloc, (100, 0), 4).ok()?;
+    let Ok((table, mut boss)) = table_of(alloc, (100, 0), 4) else {
+        return None;
+    };
     let mut seat = worker(&table, &mut boss, 0, 1);
     let mut daemon = daemon_on(alloc, (100, 0), &table, boss, disk, sink, Voice::Count)?;
     transfer(rt, alloc, &table, &mut seat);

@@ -7,3 +7,5 @@ mod daemon_tests;
 mod flushing_tests;
 #[cfg(test)]
 mod pipeline_tests;
+#[cfg(test)]
+mod transfers;

@@ -7,13 +7,14 @@ ghost use Rattle.lock_core.specs.Transfers.{IsAllowedJob};
 ghost use Rattle.commit_pipeline.specs.Turning.{MayTurn};
 ghost use Rattle.test_rig.specs.NotedJobs.{IsNotedJob, IsNew, MayInsert};
 
+use crate::transfers::make_transfers;
 use commit_pipeline::{Daemon, DaemonFault, Voice};
 use lock_core::Job;
-use log_disk::{LogDisk, OpenGate};
+use log_disk::LogDisk;
 use log_table::{LogTable, Seat};
 use lsn_space::{Lsn, Word};
 use memory_disk::{MemoryDisk, MemorySink};
-use run_rig::{CREATED, daemon_on, recovered_balances, recovered_end, thirties, work_stripe};
+use run_rig::{CREATED, daemon_on, recovered_balances, recovered_end, thirties};
 use std::alloc::Global;
 use std::fs;
 use std::process::Abort;
@@ -22,7 +23,7 @@ use std::test::Fail;
 use std::thread::{Threads, join};
 use system_disk::FileDisk;
 use test_rig::{insert_all, noted_job, table_of, worker};
-use txn_runner::{Jobs, YieldRelief};
+use txn_runner::Jobs;
 
 /// What account 0 begins with; account 1 begins with nothing.
 const RICH: u32 = 100_000;
@@ -60,9 +61,9 @@ fn insert<R: Wait>(rt: &R, table: &LogTable, mut seat: Seat, first: u32, job: &J
     requires accounts { table.now.accounts ≡ 2 }
     requires job { IsNotedJob job.now }
 {
-    let (done, _) = insert_all(rt, table, &mut seat, first, NOTES, job);
+    let inserted = insert_all(rt, table, &mut seat, first, NOTES, job);
     table.leave(&mut seat);
-    done
+    inserted.0
 }
 
 /// Both workers insert notes, each in a thread.
@@ -99,7 +100,9 @@ fn run_notes<R: Threads + Wait + Sync, D: LogDisk>(
 ) -> Option<(u32, Outcome)>
     requires { D.honest disk.old → IsStableGate 0 (D.images disk.old) }
 {
-    let (table, mut boss) = table_of(alloc, (RICH, 0), 4).ok()?;
+    let Ok((table, mut boss)) = table_of(alloc, (RICH, 0), 4) else {
+        return None;
+    };
     let one = worker(&table, &mut boss, 0, 1);
     let two = worker(&table, &mut boss, 1, 501);
     let mut daemon = daemon_on(alloc, (RICH, 0), &table, boss, disk, sink, Voice::Lines)?;
@@ -122,22 +125,12 @@ fn transfer<R: Wait>(rt: &R, alloc: Global, table: &LogTable, mut seat: Seat, jo
     requires worker { seat.worker < jobs.now.workers }
     requires allowed { All (IsAllowedJob table.now.accounts) jobs.now.script }
 {
-    let mut relief = YieldRelief::new();
-    let came = work_stripe(
-        rt,
-        alloc,
-        table,
-        &mut seat,
-        jobs,
-        &mut relief,
-        false,
-        &OpenGate,
-    );
-    let Ok((_worked, rows)) = came else {
+    let made = make_transfers(rt, alloc, table, &mut seat, jobs);
+    table.leave(&mut seat);
+    let Some((_, rows)) = made else {
         return 0;
     };
-    table.leave(&mut seat);
-    rows.as_slice().len()
+    rows
 }
 
 /// Both workers make transfers, each in a thread.
@@ -174,7 +167,9 @@ fn run_transfers<R: Threads + Wait + Sync, D: LogDisk>(
 ) -> Option<(usize, Outcome)>
     requires { D.honest disk.old → IsStableGate 0 (D.images disk.old) }
 {
-    let (table, mut boss) = table_of(alloc, (RICH, 0), 4).ok()?;
+    let Ok((table, mut boss)) = table_of(alloc, (RICH, 0), 4) else {
+        return None;
+    };
     let one = worker(&table, &mut boss, 0, 1);
     let two = worker(&table, &mut boss, 1, 1);
     let mut daemon = daemon_on(alloc, (RICH, 0), &table, boss, disk, sink, Voice::Lines)?;
@@ -281,22 +276,36 @@ fn attaches(rt: &impl Abort, disk: &mut FileDisk<HostRuntime>, name: &Word, make
     assert!(rt; disk.attach(name, make).is_ok());
 }
 
+/// Two threads insert notes while a daemon sends them to the file of this name, which is made.
+fn writes_notes<R: Threads + Wait + Sync + Abort>(
+    rt: &R,
+    alloc: Global,
+    mut disk: FileDisk<HostRuntime>,
+    name: &Word,
+) -> Result<(), Fail> {
+    attaches(rt, &mut disk, name, true);
+    let mut sink = MemorySink::make(alloc, 100, &[])?;
+    let Some((_, outcome)) = run_notes(rt, alloc, &mut disk, &mut sink) else {
+        return Err(Fail::new("no memory"));
+    };
+    has_drained(rt, outcome, END);
+    Ok(())
+}
+
+/// All notes are recovered from the file of this name.
+fn has_notes(rt: &impl Abort, alloc: Global, mut disk: FileDisk<HostRuntime>, name: &Word) {
+    attaches(rt, &mut disk, name, false);
+    is_recovered(rt, recovered_end(alloc, &mut disk));
+}
+
 #[test]
 fn two_threads_and_a_real_file(rt: HostRuntime) -> Result<(), Fail> {
     let Ok(name) = Word::make(rt.alloc(), "pipeline_test.log") else {
         return Err(Fail::new("no memory"));
     };
     let _ = fs::remove_file(&rt, name.text());
-    let mut disk = FileDisk::make(rt);
-    attaches(&rt, &mut disk, &name, true);
-    let mut sink = MemorySink::make(rt.alloc(), 100, &[])?;
-    let Some((_, outcome)) = run_notes(&rt, rt.alloc(), &mut disk, &mut sink) else {
-        return Err(Fail::new("no memory"));
-    };
-    has_drained(&rt, outcome, END);
-    let mut again = FileDisk::make(rt);
-    attaches(&rt, &mut again, &name, false);
-    is_recovered(&rt, recovered_end(rt.alloc(), &mut again));
+    writes_notes(&rt, rt.alloc(), FileDisk::make(rt), &name)?;
+    has_notes(&rt, rt.alloc(), FileDisk::make(rt), &name);
     assert!(rt; fs::remove_file(&rt, name.text()).is_ok());
     Ok(())
 }

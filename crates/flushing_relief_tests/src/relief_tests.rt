@@ -1,10 +1,14 @@
 //! A worker that waits for the disk, in the one thread that flushes.
-ghost use Rattle.std.specs.Prelude.{◌≡◌, true};
+ghost use Rattle.std.specs.Prelude.{◌≡◌, ◌<◌, All};
+ghost use Rattle.log_table.specs.Seats.{IsOf};
+ghost use Rattle.lock_core.specs.Transfers.{IsAllowedJob};
 ghost use Rattle.segment_file.specs.Standing.{IsStableGate};
+ghost use Rattle.commit_pipeline.specs.Turning.{MayTurn};
+ghost use Rattle.test_rig.specs.NotedJobs.{IsNew};
 
 use cli_reports::recover_command::recover_command;
 use cli_shared::Detail;
-use commit_pipeline::{DaemonFault, Voice};
+use commit_pipeline::{Daemon, DaemonFault, Voice};
 use flushing_relief::FlushingRelief;
 use log_disk::{LogDisk, OpenGate, Sink};
 use log_table::{LogTable, Seat};
@@ -12,10 +16,11 @@ use lsn_space::Lsn;
 use memory_disk::{MemoryDisk, MemorySink, MemorySource};
 use run_rig::{CREATED, daemon_on, jobs_of, recovered_balances, work_stripe};
 use std::alloc::Global;
+use std::process::Abort;
 use std::sync::Wait;
 use std::test::Fail;
 use test_rig::{table_of, worker};
-use txn_runner::{Answer, Cause, Relief, Row, Rows, Worked};
+use txn_runner::{Answer, Cause, Jobs, Relief, Row, Rows, Worked};
 
 /// A relief that flushes, and first looks whether account 0 is held.
 #[derive(Drop)]
@@ -52,6 +57,53 @@ impl<'a, D: LogDisk, K: Sink> Relief for Looking<'a, D, K> {
 /// What a worker came to, its rows, what befell the daemon, and whether its accounts were held while it waited.
 type Outcome = (Worked, Rows, Option<DaemonFault>, bool);
 
+/// A new worker makes its transfers, and waits for the disk after each.
+fn works<R: Wait, Q: Relief>(
+    rt: &R,
+    alloc: Global,
+    table: &LogTable,
+    mut seat: Seat,
+    jobs: &Jobs,
+    relief: &mut Q,
+) -> Option<(Worked, Rows)>
+    requires unused { IsNew table.now seat }
+    requires worker { seat.worker < jobs.now.workers }
+    requires allowed { All (IsAllowedJob table.now.accounts) jobs.now.script }
+    requires relief { Q.ready relief.old }
+{
+    let came = work_stripe(rt, alloc, table, &mut seat, jobs, relief, true, &OpenGate);
+    table.leave(&mut seat);
+    came.ok()
+}
+
+/// The worker's relief looks whether account 0 is held, and then flushes; nothing else does.
+fn looks_and_flushes<R: Wait, D: LogDisk>(
+    rt: &R,
+    alloc: Global,
+    table: &LogTable,
+    seat: Seat,
+    looker: Seat,
+    jobs: &Jobs,
+    daemon: Daemon<D, MemorySink>,
+) -> Option<Outcome>
+    requires unused { IsNew table.now seat }
+    requires worker { seat.worker < jobs.now.workers }
+    requires allowed { All (IsAllowedJob table.now.accounts) jobs.now.script }
+    requires looker { IsOf table.now looker }
+    requires accounts { table.now.accounts ≡ 2 }
+    requires daemon { MayTurn D.LogDisk daemon }
+{
+    let mut relief = Looking {
+        flushing: FlushingRelief { daemon },
+        table,
+        seat: looker,
+        held: true,
+    };
+    let (worked, rows) = works(rt, alloc, table, seat, jobs, &mut relief)?;
+    let fault = relief.flushing.daemon.fault();
+    Some((worked, rows, fault, relief.held))
+}
+
 /// A worker makes both transfers, and waits for the disk after each; only its relief flushes.
 fn work_and_flush<R: Wait, D: LogDisk>(
     rt: &R,
@@ -68,28 +120,35 @@ fn work_and_flush<R: Wait, D: LogDisk>(
     let mut seat = worker(&table, &mut boss, 0, 1);
     let looker = table.note(&mut seat);
     let daemon = daemon_on(alloc, (100, 0), &table, boss, disk, sink, Voice::Lines)?;
-    let mut relief = Looking {
-        flushing: FlushingRelief { daemon },
-        table: &table,
-        seat: looker,
-        held: true,
+    looks_and_flushes(rt, alloc, &table, seat, looker, &jobs, daemon)
+}
+
+/// The run of the worker over a disk and a sink in memory, and these two behind it.
+type Ran = (Outcome, MemoryDisk, MemorySink);
+
+/// Both transfers, where these calls of the disk fail.
+fn run_over<R: Wait>(rt: &R, alloc: Global, failing: &[u64]) -> Result<Ran, Fail> {
+    let mut disk = MemoryDisk::make(alloc, &[], 20_000, failing)?;
+    let mut sink = MemorySink::make(alloc, 100, &[])?;
+    let Some(outcome) = work_and_flush(rt, alloc, &mut disk, &mut sink) else {
+        return Err(Fail::new("no memory"));
     };
-    let came = work_stripe(
-        rt,
-        alloc,
-        &table,
-        &mut seat,
-        &jobs,
-        &mut relief,
-        true,
-        &OpenGate,
-    );
-    let Ok((worked, rows)) = came else {
-        return None;
-    };
-    table.leave(&mut seat);
-    let fault = relief.flushing.daemon.fault();
-    Some((worked, rows, fault, relief.held))
+    Ok((outcome, disk, sink))
+}
+
+/// The worker ended so, and this befell the daemon.
+fn has_ended(
+    rt: &impl Abort,
+    failing: &[u64],
+    ended: (Worked, Option<DaemonFault>),
+    wanted: (Worked, Option<DaemonFault>),
+) {
+    assert_eq!(rt; ended, wanted, "calls {failing:?} fail");
+}
+
+/// The daemon wrote this.
+fn has_written(rt: &impl Abort, sink: &MemorySink, text: &[u8]) {
+    assert_eq!(rt; sink.bytes(), text);
 }
 
 /// The row of a transfer that was seen to be durable.
@@ -102,70 +161,100 @@ fn durable_row(txn: u32, end: u32) -> Row {
     }
 }
 
-#[test]
-fn a_waiting_worker_flushes(rt: HostRuntime) -> Result<(), Fail> {
-    let alloc = rt.alloc();
-    let mut disk = MemoryDisk::make(alloc, &[], 20_000, &[])?;
-    let mut sink = MemorySink::make(alloc, 100, &[])?;
-    let outcome = work_and_flush(&rt, alloc, &mut disk, &mut sink);
-    let Some((worked, rows, fault, held)) = outcome else {
-        return Err(Fail::new("no memory"));
-    };
-    assert_eq!(rt; (worked, fault), (Worked::All, None));
-    assert!(rt; held, "the accounts went back before the end was durable");
+/// Both transfers were seen to be durable.
+fn has_both_rows(rt: &impl Abort, rows: &Rows) {
     let wanted = [durable_row(1, 9), durable_row(2, 14)];
     assert_eq!(rt; rows.as_slice(), wanted.as_slice());
-    assert_eq!(rt; sink.bytes(), b"done 1 9\ndone 2 14\n".as_slice());
-    assert_eq!(rt; recovered_balances(alloc, &mut disk), Some((100, 0)));
+}
+
+#[test]
+fn a_waiting_worker_flushes(rt: HostRuntime) -> Result<(), Fail> {
+    let (outcome, mut disk, sink) = run_over(&rt, rt.alloc(), &[])?;
+    let (worked, rows, fault, held) = outcome;
+    has_ended(&rt, &[], (worked, fault), (Worked::All, None));
+    assert!(rt; held, "the accounts went back before the end was durable");
+    has_both_rows(&rt, &rows);
+    has_written(&rt, &sink, b"done 1 9\ndone 2 14\n");
+    assert!(rt; recovered_balances(rt.alloc(), &mut disk) == Some((100, 0)));
+    Ok(())
+}
+
+/// A call of the disk, and how many transfers a worker ends where it fails: a flush makes four
+/// calls.
+const STOPS: &[(u64, usize)] = &[
+    (CREATED + 1, 0),
+    (CREATED + 4, 0),
+    (CREATED + 5, 1),
+    (CREATED + 8, 1),
+    (CREATED + 9, 2),
+];
+
+/// Where this call of the disk fails, so many transfers are made. The relief flushes no more, and the worker reads the stop word,
+/// unless both were made before.
+fn makes_before<R: Wait + Abort>(
+    rt: &R,
+    alloc: Global,
+    call: u64,
+    made: usize,
+) -> Result<(), Fail> {
+    let failing = [call];
+    let ((worked, rows, fault, _), _, _) = run_over(rt, alloc, &failing)?;
+    let count = rows.as_slice().len();
+    assert!(rt; count == made, "{count} are made before call {call}");
+    let stopped = (Worked::Cut(Cause::Stop(1)), Some(DaemonFault::DiskFault));
+    let wanted = if made < 2 {
+        stopped
+    } else {
+        (Worked::All, None)
+    };
+    has_ended(rt, &failing, (worked, fault), wanted);
     Ok(())
 }
 
 /// A flush makes four calls of the disk. Where one fails, the relief flushes no more, and the worker reads the stop word.
 #[test]
 fn a_waiting_worker_stops_where_the_disk_fails(rt: HostRuntime) -> Result<(), Fail> {
-    let alloc = rt.alloc();
-    for (call, made) in [(1, 0), (4, 0), (5, 1), (8, 1), (9, 2)] {
-        let mut disk = MemoryDisk::make(alloc, &[], 20_000, &[CREATED + call])?;
-        let mut sink = MemorySink::make(alloc, 100, &[])?;
-        let outcome = work_and_flush(&rt, alloc, &mut disk, &mut sink);
-        let Some((worked, rows, fault, _)) = outcome else {
-            return Err(Fail::new("no memory"));
-        };
-        assert_eq!(rt; rows.as_slice().len(), made, "call {call}");
-        if made < 2 {
-            assert_eq!(rt; worked, Worked::Cut(Cause::Stop(1)), "call {call}");
-            assert_eq!(rt; fault, Some(DaemonFault::DiskFault), "call {call}");
-        } else {
-            assert_eq!(rt; (worked, fault), (Worked::All, None), "call {call}");
-        }
+    for (call, made) in STOPS {
+        makes_before(&rt, rt.alloc(), *call, *made)?;
     }
+    Ok(())
+}
+
+const PICKS: &[u64] = &[0, 1, 2, 3, 77, 12_345];
+
+/// What `recover` writes of a disk.
+fn recovered_text<R: Abort>(rt: &R, alloc: Global, disk: &MemoryDisk) -> Result<MemorySink, Fail> {
+    let Ok(mut source) = MemorySource::make(alloc, disk.bytes(), 7, &[]) else {
+        return Err(Fail::new("no memory"));
+    };
+    let mut text = MemorySink::make(alloc, 300, &[])?;
+    let detail = recover_command(alloc, &mut source, &mut text);
+    assert!(rt; detail == Detail::Fine, "{detail:?}");
+    Ok(text)
+}
+
+/// The text is that of one transfer, or of both.
+fn is_one_or_both(rt: &impl Abort, pick: u64, text: &[u8]) {
+    let first: &[u8] = b"lsn 9\n0 70\n1 30\n";
+    let both: &[u8] = b"lsn 14\n0 100\n1 0\n";
+    assert!(rt; text == first || text == both, "{pick}: {text:?}");
+}
+
+/// The second flush fails at its gate's sync, and this crash leaves one transfer or both.
+fn leaves_one_or_both<R: Wait + Abort>(rt: &R, alloc: Global, pick: u64) -> Result<(), Fail> {
+    let ((_, _, fault, _), disk, sink) = run_over(rt, alloc, &[CREATED + 8])?;
+    assert!(rt; fault == Some(DaemonFault::DiskFault), "{fault:?}");
+    has_written(rt, &sink, b"done 1 9\n");
+    let text = recovered_text(rt, alloc, &disk.crash(pick))?;
+    is_one_or_both(rt, pick, text.bytes());
     Ok(())
 }
 
 /// The fourth sync is that of the second flush's gate. Its line is not written, and a crash leaves one transfer or both.
 #[test]
 fn no_line_after_a_failed_sync(rt: HostRuntime) -> Result<(), Fail> {
-    let alloc = rt.alloc();
-    let first: &[u8] = b"lsn 9\n0 70\n1 30\n";
-    let both: &[u8] = b"lsn 14\n0 100\n1 0\n";
-    for pick in [0, 1, 2, 3, 77, 12_345] {
-        let mut disk = MemoryDisk::make(alloc, &[], 20_000, &[CREATED + 8])?;
-        let mut sink = MemorySink::make(alloc, 100, &[])?;
-        let outcome = work_and_flush(&rt, alloc, &mut disk, &mut sink);
-        let Some((_, _, fault, _)) = outcome else {
-            return Err(Fail::new("no memory"));
-        };
-        assert_eq!(rt; fault, Some(DaemonFault::DiskFault));
-        assert_eq!(rt; sink.bytes(), b"done 1 9\n".as_slice());
-        let left = disk.crash(pick);
-        let Ok(mut source) = MemorySource::make(alloc, left.bytes(), 7, &[]) else {
-            return Err(Fail::new("no memory"));
-        };
-        let mut text = MemorySink::make(alloc, 300, &[])?;
-        let detail = recover_command(alloc, &mut source, &mut text);
-        assert_eq!(rt; detail, Detail::Fine);
-        let text = text.bytes();
-        assert!(rt; text == first || text == both, "{pick}: {text:?}");
+    for pick in PICKS {
+        leaves_one_or_both(&rt, rt.alloc(), *pick)?;
     }
     Ok(())
 }

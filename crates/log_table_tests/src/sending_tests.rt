@@ -1,8 +1,19 @@
 //! What a worker inserted is read and sent by the flusher's seat, on one thread.
+ghost use Rattle.std.specs.Prelude.{◌≡◌, ◌+◌, [], IfOk};
+ghost use Rattle.log_record.specs.Spelling.{IsTxn};
+ghost use Rattle.log_table.specs.declared.view.Role.TheVariants.{Flusher};
+ghost use Rattle.log_table.specs.Seats.{IsOf, view_of};
+ghost use Rattle.log_table.specs.Views.{sent_to};
+ghost use Rattle.test_rig.specs.NotedJobs.{IsNotedJob, MayInsert};
+
 use crate::found::{has_answered, is_at, is_number};
+use lock_core::Job;
+use log_table::{LogTable, Seat};
 use lsn_space::Lsn;
 use schedule_hook::OpenGate;
+use std::alloc::Global;
 use std::process::Abort;
+use std::sync::Wait;
 use std::test::Fail;
 use test_rig::{insert_note, noted_job, send_all, table_of, worker};
 
@@ -22,6 +33,50 @@ fn has_sent(rt: &impl Abort, units: &[u64], to: Lsn, wanted: &[u64], end: u32) {
     is_at(rt, "sent", to, end);
 }
 
+/// A worker inserts the note of this number, which starts here.
+fn inserts<R: Wait + Abort>(
+    rt: &R,
+    table: &LogTable,
+    seat: &mut Seat,
+    number: u32,
+    job: &Job,
+    at: u32,
+)
+    requires worker { MayInsert table.now number seat.old }
+    requires next { IsTxn (number + 1) }
+    requires accounts { table.now.accounts ≡ 2 }
+    requires job { IsNotedJob job.now }
+    ensures worker { MayInsert table.now (number + 1) seat.new }
+    ensures standing { (view_of seat.new).standing ≡ (view_of seat.old).standing }
+{
+    let answer = insert_note(rt, table, seat, number, job, &OpenGate);
+    has_answered(rt, number, answer, Ok(Lsn::new(at)));
+}
+
+/// The flusher's seat sends all that is exposed: these units, up to this end. Answers that end.
+fn sends<R: Abort>(
+    rt: &R,
+    alloc: Global,
+    table: &LogTable,
+    boss: &mut Seat,
+    from: Lsn,
+    wanted: &[u64],
+    end: u32,
+) -> Result<Lsn, Fail>
+    requires boss { IsOf table.now boss.old }
+    requires flusher { (view_of boss.old).standing.role ≡ Flusher }
+    requires rests { (view_of boss.old).sending.read ≡ [] }
+    requires from { sent_to (view_of boss.old) ≡ from }
+    ensures boss { IfOk result (λ to. IsOf table.now boss.new) }
+    ensures standing { IfOk result (λ to. (view_of boss.new).standing ≡ (view_of boss.old).standing) }
+    ensures rests { IfOk result (λ to. (view_of boss.new).sending.read ≡ []) }
+    ensures to { IfOk result (λ to. sent_to (view_of boss.new) ≡ to) }
+{
+    let (units, to) = send_all(alloc, table, boss, from)?;
+    has_sent(rt, units.as_slice(), to, wanted, end);
+    Ok(to)
+}
+
 #[test]
 fn the_flusher_reads_what_was_inserted(rt: HostRuntime) -> Result<(), Fail> {
     let alloc = rt.alloc();
@@ -31,17 +86,13 @@ fn the_flusher_reads_what_was_inserted(rt: HostRuntime) -> Result<(), Fail> {
     let (Some(first), Some(second)) = (noted_job(b"abcdefghi"), noted_job(b"jklmnopq")) else {
         return Err(Fail::new("no job"));
     };
-    let at = insert_note(&rt, &table, &mut seat, 1, &first, &OpenGate);
-    has_answered(&rt, 1, at, Ok(Lsn::new(1022)));
-    let (units, to) = send_all(alloc, &table, &mut boss, Lsn::new(1022))?;
-    has_sent(&rt, units.as_slice(), to, FIRST.as_slice(), 1025);
+    let start = Lsn::new(1022);
+    inserts(&rt, &table, &mut seat, 1, &first, 1022);
+    let to = sends(&rt, alloc, &table, &mut boss, start, FIRST.as_slice(), 1025)?;
     is_at(&rt, "durable", table.load_durable(&mut seat), 1025);
-    let at = insert_note(&rt, &table, &mut seat, 2, &second, &OpenGate);
-    has_answered(&rt, 2, at, Ok(Lsn::new(1025)));
-    let (units, to) = send_all(alloc, &table, &mut boss, to)?;
-    has_sent(&rt, units.as_slice(), to, SECOND.as_slice(), 1027);
-    let (units, to) = send_all(alloc, &table, &mut boss, to)?;
-    has_sent(&rt, units.as_slice(), to, &[], 1027);
+    inserts(&rt, &table, &mut seat, 2, &second, 1025);
+    let to = sends(&rt, alloc, &table, &mut boss, to, SECOND.as_slice(), 1027)?;
+    sends(&rt, alloc, &table, &mut boss, to, &[], 1027)?;
     table.leave(&mut seat);
     is_number(&rt, "workers", table.load_crew(&mut boss), 0);
     is_at(&rt, "exposed", table.load_exposed(&mut boss), 1027);
