@@ -1,7 +1,8 @@
 //! What a worker inserted is read and sent by the flusher's seat, on one thread.
-ghost use Rattle.std.specs.Prelude.{◌≡◌, ◌+◌, [], IfOk};
+ghost use Rattle.std.specs.Prelude.{◌≡◌, ◌+◌, ◌∷◌, [], IfOk};
 ghost use Rattle.log_record.specs.Spelling.{IsTxn};
 ghost use Rattle.log_table.specs.declared.view.Role.TheVariants.{Flusher};
+ghost use Rattle.log_table.specs.May.{MayLeave};
 ghost use Rattle.log_table.specs.Seats.{IsOf, view_of};
 ghost use Rattle.log_table.specs.Views.{sent_to};
 ghost use Rattle.test_rig.specs.NotedJobs.{IsNotedJob, MayInsert};
@@ -77,6 +78,22 @@ fn sends<R: Abort>(
     Ok(to)
 }
 
+/// The one worker that was hired leaves, and the log ends here.
+fn ends_at<R: Abort>(rt: &R, table: LogTable, mut boss: Seat, mut seat: Seat, end: u32)
+    requires worker { IsOf table seat }
+    requires leaves { MayLeave (view_of seat) }
+    requires number { (view_of seat).standing.worker ≡ 0 }
+    requires boss { IsOf table boss }
+    requires flusher { (view_of boss).standing.role ≡ Flusher }
+    requires made { (view_of boss).standing.made ≡ 0 ∷ [] }
+{
+    table.leave(&mut seat);
+    is_number(rt, "workers", table.load_crew(&mut boss), 0);
+    is_at(rt, "exposed", table.load_exposed(&mut boss), end);
+    table.merge(&mut boss, seat);
+    is_at(rt, "end", table.close(boss).lsn(), end);
+}
+
 #[test]
 fn the_flusher_reads_what_was_inserted(rt: HostRuntime) -> Result<(), Fail> {
     let alloc = rt.alloc();
@@ -93,10 +110,6 @@ fn the_flusher_reads_what_was_inserted(rt: HostRuntime) -> Result<(), Fail> {
     inserts(&rt, &table, &mut seat, 2, &second, 1025);
     let to = sends(&rt, alloc, &table, &mut boss, to, SECOND.as_slice(), 1027)?;
     sends(&rt, alloc, &table, &mut boss, to, &[], 1027)?;
-    table.leave(&mut seat);
-    is_number(&rt, "workers", table.load_crew(&mut boss), 0);
-    is_at(&rt, "exposed", table.load_exposed(&mut boss), 1027);
-    table.merge(&mut boss, seat);
-    is_at(&rt, "end", table.close(boss).lsn(), 1027);
+    ends_at(&rt, table, boss, seat, 1027);
     Ok(())
 }
