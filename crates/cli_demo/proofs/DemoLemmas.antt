@@ -5,7 +5,6 @@ use Rattle.std.proofs.lemmas.List.{length-replicate}
 use Rattle.std.proofs.lemmas.List.Elements.{All-replicate}
 use Rattle.std.specs.Io.KnownBytes.{Appends, Keeps}
 use Rattle.log_disk.specs.Disk.{Leaves}
-use Rattle.log_disk.specs.Faults.{Rose}
 use Rattle.log_disk.specs.Streams.{AppendsPrefix}
 use Rattle.log_disk.specs.declared.disk.LogDisk.{Ghosts}
 use Rattle.log_disk.specs.declared.sink.Sink.{Ghosts as SinkGhosts}
@@ -298,5 +297,3 @@ module _ {D : Type 0} {K : Type 0} (g : Ghosts D) (h : SinkGhosts K) (n seed wor
         (λ said. absurd (never-fails said.0)) (λ said. ran-all said.0) (λ said. ran-all said.0)
         (λ tail total said. no-log_end tail total said.0.0 said.0.1)
 
-pub Rose-later : (before mid now : ℕ) → before ≤ mid → Rose mid now → Rose before now
-Rose-later before mid now later rose = omega arith

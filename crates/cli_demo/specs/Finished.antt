@@ -1,6 +1,6 @@
 -- What is known of generated transfers that were made and concluded. `g` is what a disk shows and `h` what a sink shows.
 use Rattle.std.specs.Prelude.{◌≡◌, ◌≤◌, ℕ, false, None}
-use Rattle.log_disk.specs.Faults.{Rose}
+use Rattle.log_disk.specs.Faults.{CountsWhere}
 use Rattle.log_disk.specs.declared.disk.LogDisk.{Ghosts}
 use Rattle.log_disk.specs.declared.sink.Sink.{Ghosts as SinkGhosts}
 use Rattle.end_lines.specs.declared.voice.Voice.TheVariants.{Count}
@@ -19,5 +19,4 @@ pub record HasFinished {D : Type 0} {K : Type 0} (g : Ghosts D) (h : SinkGhosts 
   pub left : K
   pub has : HasEnded g h prepared generated_opening Count false disk disk_new sink left ended
   pub concludes : Concludes h ended (counted_text transfers ended) left sink_new detail
-  pub write : detail ≡ Write → ended.fault ≡ None → Rose (h.faults left) (h.faults sink_new)
-  pub later : h.faults left ≤ h.faults sink_new
+  pub write : CountsWhere ((detail ≡ Write) × (ended.fault ≡ None)) (h.faults left) (h.faults sink_new)

@@ -1,7 +1,7 @@
 //! A log of generated accounts, and generated transfers over it.
 ghost use Rattle.std.specs.Prelude.{◌≡◌, ◌≤◌, ◌+◌, ◌↔◌, OnOk, IfOk, IfErr, IsErrOf};
 ghost use Rattle.command_line.specs.Ranges.{AreInRange};
-ghost use Rattle.log_disk.specs.Faults.{Rose};
+ghost use Rattle.log_disk.specs.Faults.{CountsWhere};
 ghost use Rattle.log_record.specs.LogList.{units_of};
 ghost use Rattle.log_table.specs.Seats.{key_of};
 ghost use Rattle.segment_file.specs.File.{BeginsOpen};
@@ -48,11 +48,8 @@ pub fn demo_command<R: Threads + Wait + Sync, D: LogDisk, K: Sink, G: Gate + Syn
     ensures range { IsOfDemo result }
     ensures honest { D.honest disk.old ↔ D.honest disk.new }
     ensures exists { D.honest disk.old → TellsWhether (BeginsOpen (D.reads disk.old)) result }
-    ensures write { result ≡ Detail.Write → Rose (K.faults out.old) (K.faults out.new) }
-    ensures disk { result ≡ Detail.Disk → Rose (D.faults disk.old) (D.faults disk.new) }
-    ensures no_fault { (result ≡ Detail.Disk → ⊥) → D.faults disk.new ≡ D.faults disk.old }
-    ensures later { K.faults out.old ≤ K.faults out.new }
-    ensures later_disk { D.faults disk.old ≤ D.faults disk.new }
+    ensures write { CountsWhere (result ≡ Detail.Write) (K.faults out.old) (K.faults out.new) }
+    ensures disk { CountsWhere (result ≡ Detail.Disk) (D.faults disk.old) (D.faults disk.new) }
 {
     match make_ready(rt, alloc, log, transfers, seed, options, disk) {
         Ok(ready) => finish(rt, ready, transfers, options, disk, out, gate),
@@ -98,9 +95,7 @@ fn make_ready<R, D: LogDisk>(
     ensures exists { D.honest disk.old → IfErr result (TellsWhether (BeginsOpen (D.reads disk.old))) }
     ensures range { IfErr result IsBeforeDemo }
     ensures honest { D.honest disk.old ↔ D.honest disk.new }
-    ensures disk { IsErrOf result Detail.Disk → Rose (D.faults disk.old) (D.faults disk.new) }
-    ensures no_fault { (IsErrOf result Detail.Disk → ⊥) → D.faults disk.new ≡ D.faults disk.old }
-    ensures later { D.faults disk.old ≤ D.faults disk.new }
+    ensures disk { CountsWhere (IsErrOf result Detail.Disk) (D.faults disk.old) (D.faults disk.new) }
 {
     finds_none(disk, log)?;
     let Ok((prepared, mut batch)) = prepare_demo(rt, alloc, transfers, seed, options) else {

@@ -1,6 +1,6 @@
 //! How the transfers of a run ended, and what the program answers then.
 ghost use Rattle.std.specs.Prelude.{◌≡◌, ◌≤◌, IfSome, IfNone, None};
-ghost use Rattle.log_disk.specs.Faults.{Rose};
+ghost use Rattle.log_disk.specs.Faults.{CountsWhere};
 ghost use Rattle.cli_ending.specs.Ending.{AreWhole, Concludes, IsFirstLogEnd, NoneStopped, NothingStopped, StoppedAs, closed_text};
 
 use cli_shared::Detail;
@@ -26,8 +26,7 @@ pub struct Ended {
 pub fn conclude<K: Sink>(ended: &Ended, out: &mut K) -> Detail
     requires { ended.now.fault ≡ None → NoneStopped ended.now.ends.items }
     ensures concludes { Concludes K.Sink ended.now (closed_text ended.now) out.old out.new result }
-    ensures write { result ≡ Detail.Write → ended.now.fault ≡ None → Rose (K.faults out.old) (K.faults out.new) }
-    ensures later { K.faults out.old ≤ K.faults out.new }
+    ensures write { CountsWhere ((result ≡ Detail.Write) × (ended.now.fault ≡ None)) (K.faults out.old) (K.faults out.new) }
 {
     if let Some(why) = stopped(ended) {
         return why;

@@ -1,5 +1,5 @@
 ghost use Rattle.std.specs.Prelude.{◌≡◌, ◌≤◌, length, None};
-ghost use Rattle.log_disk.specs.Faults.{Rose};
+ghost use Rattle.log_disk.specs.Faults.{CountsWhere};
 ghost use Rattle.log_record.specs.declared.limits.TheConstants.{MOST_ACCOUNTS};
 ghost use Rattle.cli_ending.specs.Ending.{Concludes, NoneStopped, counted_text};
 
@@ -14,8 +14,7 @@ pub fn conclude_counted<K: Sink>(ended: &Ended, transfers: u32, out: &mut K) -> 
     requires stopped { ended.now.fault ≡ None → NoneStopped ended.now.ends.items }
     requires few { length ended.now.closed.accounts.rows ≤ MOST_ACCOUNTS }
     ensures concludes { Concludes K.Sink ended.now (counted_text transfers ended.now) out.old out.new result }
-    ensures write { result ≡ Detail.Write → ended.now.fault ≡ None → Rose (K.faults out.old) (K.faults out.new) }
-    ensures later { K.faults out.old ≤ K.faults out.new }
+    ensures write { CountsWhere ((result ≡ Detail.Write) × (ended.now.fault ≡ None)) (K.faults out.old) (K.faults out.new) }
 {
     if let Some(detail) = stopped(ended) {
         return detail;

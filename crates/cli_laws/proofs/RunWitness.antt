@@ -334,8 +334,6 @@ module _ (d : Daemon ℕ (List ℕ)) (of : IsOf d.flusher.table.now d.flusher.se
       };
       sink = refl;
       voice = refl;
-      disk_faults = omega arith;
-      sink_faults = omega arith;
     };
     constants = refl;
     sent = refl;
@@ -347,8 +345,11 @@ module _ (d : Daemon ℕ (List ℕ)) (of : IsOf d.flusher.table.now d.flusher.se
     appended = refl;
     front = λ failed. absurd (none≢some WriteFault failed);
     all = λ fault. (refl, refl);
-    reason = refl;
-    disk_fine = λ sent. refl;
+    reason = record {
+      stop = refl;
+      disk = record { counted = λ failed. absurd (none≢some DiskFault failed); fine = λ sent. refl };
+      sink = record { counted = λ failed. absurd (none≢some WriteFault failed); fine = λ written. refl };
+    };
     count = λ honest. omega arith;
   }
 

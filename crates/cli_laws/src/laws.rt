@@ -89,10 +89,10 @@ pub fn run_keeps_log<D: LogDisk, K: Sink>()
         → (worker taken word : ℕ) → get_elem? shares worker ≡ some (record { taken = taken; worked = Worked.Cut (Cause.Stop word) }) → ⊥ }
     ensures reason { (opened : List Rec) (jobs : Jobs) (shares : List Share) (key : Start) (old new : Daemon D K) (view : View)
         (lsn : ℕ) (rows : List (ℕ × ℕ)) → HasTransferred D.LogDisk K.Sink opened jobs shares key old new view lsn rows
-        → HasReason D.LogDisk K.Sink old new new.fault }
+        → HasReason D.LogDisk K.Sink old new }
     ensures same { (opened : List Rec) (jobs : Jobs) (shares : List Share) (key : Start) (old new : Daemon D K) (view : View)
         (lsn : ℕ) (rows : List (ℕ × ℕ)) → HasTransferred D.LogDisk K.Sink opened jobs shares key old new view lsn rows
-        → IsSameDaemon D.LogDisk K.Sink old new }
+        → IsSameDaemon D.LogDisk old new }
 {}
 
 /// A law: a `done` line that was written whole is of a Commit in the list of each image, which ends at the LSN of the line.

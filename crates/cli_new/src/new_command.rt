@@ -1,6 +1,6 @@
 ghost use Rattle.std.specs.Prelude.{◌≡◌, ◌≤◌, ◌+◌, ◌↔◌, IfSome, IfOk, IfErr, OnOk, MatchResult, IsErrOf};
 ghost use Rattle.log_disk.specs.Disk.{Leaves};
-ghost use Rattle.log_disk.specs.Faults.{Rose};
+ghost use Rattle.log_disk.specs.Faults.{CountsWhere};
 ghost use Rattle.segment_file.specs.File.{BeginsOpen};
 ghost use Rattle.cli_new.specs.Answers.{AnswersNew, AreOpening, IsInputFault, IsMakingFault, IsOfNew};
 ghost use Rattle.cli_shared.specs.Answers.{StaysSilent};
@@ -36,12 +36,9 @@ pub fn new_command<D: LogDisk, S: Source, K: Sink>(
     ensures exists { D.honest disk.old → TellsWhether (BeginsOpen (D.reads disk.old)) result }
     ensures count { D.honest disk.old → D.written_count disk.new ≤ D.written_count disk.old + 7 }
     ensures honest { D.honest disk.old ↔ D.honest disk.new }
-    ensures read { result ≡ Detail.Read → Rose (S.faults script.old) (S.faults script.new) }
-    ensures write { result ≡ Detail.Write → Rose (K.faults out.old) (K.faults out.new) }
-    ensures disk { result ≡ Detail.Disk → Rose (D.faults disk.old) (D.faults disk.new) }
-    ensures no_fault { (result ≡ Detail.Disk → ⊥) → D.faults disk.new ≡ D.faults disk.old }
-    ensures later { (S.faults script.old ≤ S.faults script.new) × (K.faults out.old ≤ K.faults out.new) }
-    ensures later_disk { D.faults disk.old ≤ D.faults disk.new }
+    ensures read { CountsWhere (result ≡ Detail.Read) (S.faults script.old) (S.faults script.new) }
+    ensures write { CountsWhere (result ≡ Detail.Write) (K.faults out.old) (K.faults out.new) }
+    ensures disk { CountsWhere (result ≡ Detail.Disk) (D.faults disk.old) (D.faults disk.new) }
 {
     let accounts = match make_log(alloc, log, disk, script) {
         Ok(accounts) => accounts,
@@ -72,11 +69,8 @@ fn make_log<D: LogDisk, S: Source>(
         → MatchResult result (λ _. BeginsOpen (D.reads disk.old) → ⊥) (TellsWhether (BeginsOpen (D.reads disk.old))) }
     ensures count { D.honest disk.old → D.written_count disk.new ≤ D.written_count disk.old + 7 }
     ensures honest { D.honest disk.old ↔ D.honest disk.new }
-    ensures read { IsErrOf result Detail.Read → Rose (S.faults script.old) (S.faults script.new) }
-    ensures disk { IsErrOf result Detail.Disk → Rose (D.faults disk.old) (D.faults disk.new) }
-    ensures no_fault { (IsErrOf result Detail.Disk → ⊥) → D.faults disk.new ≡ D.faults disk.old }
-    ensures later { S.faults script.old ≤ S.faults script.new }
-    ensures later_disk { D.faults disk.old ≤ D.faults disk.new }
+    ensures read { CountsWhere (IsErrOf result Detail.Read) (S.faults script.old) (S.faults script.new) }
+    ensures disk { CountsWhere (IsErrOf result Detail.Disk) (D.faults disk.old) (D.faults disk.new) }
 {
     finds_none(disk, log)?;
     let accounts = read_balances(alloc, script)?;
@@ -93,8 +87,7 @@ fn make_log<D: LogDisk, S: Source>(
 fn read_balances<S: Source>(alloc: Global, script: &mut S) -> Result<Balances, Detail>
     ensures ok { IfOk result (AreOpening (S.left script.old) (S.left script.new)) }
     ensures err { IfErr result (IsInputFault (S.left script.old) (S.left script.new)) }
-    ensures read { IsErrOf result Detail.Read → Rose (S.faults script.old) (S.faults script.new) }
-    ensures later { S.faults script.old ≤ S.faults script.new }
+    ensures read { CountsWhere (IsErrOf result Detail.Read) (S.faults script.old) (S.faults script.new) }
 {
     let bytes = match read_all(alloc, script) {
         Ok(bytes) => bytes,

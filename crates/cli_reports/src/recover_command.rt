@@ -1,5 +1,5 @@
 ghost use Rattle.std.specs.Prelude.{◌≡◌, ◌≤◌, IfSome};
-ghost use Rattle.log_disk.specs.Faults.{Rose};
+ghost use Rattle.log_disk.specs.Faults.{CountsWhere};
 ghost use Rattle.cli_reports.specs.Answers.{AnswersRecover, IsOfRecover};
 ghost use Rattle.cli_shared.specs.Answers.{StaysSilent};
 
@@ -14,9 +14,8 @@ pub fn recover_command<S: Source, K: Sink>(alloc: Global, script: &mut S, out: &
         AnswersRecover bytes (S.left script.new) (K.held_bytes out.old) (K.held_bytes out.new) result) }
     ensures silent { StaysSilent (K.held_bytes out.old) (K.held_bytes out.new) result }
     ensures range { IsOfRecover result }
-    ensures read { result ≡ Detail.Read → Rose (S.faults script.old) (S.faults script.new) }
-    ensures write { result ≡ Detail.Write → Rose (K.faults out.old) (K.faults out.new) }
-    ensures later { (S.faults script.old ≤ S.faults script.new) × (K.faults out.old ≤ K.faults out.new) }
+    ensures read { CountsWhere (result ≡ Detail.Read) (S.faults script.old) (S.faults script.new) }
+    ensures write { CountsWhere (result ≡ Detail.Write) (K.faults out.old) (K.faults out.new) }
 {
     let bytes = match read_all(alloc, script) {
         Ok(bytes) => bytes,

@@ -4,7 +4,6 @@ use Rattle.std.proofs.KnownBytes.{Appends-trans}
 use Rattle.std.proofs.lemmas.List.{append-nil}
 use Rattle.std.specs.Io.KnownBytes.{Appends}
 use Rattle.log_disk.specs.Disk.{Leaves}
-use Rattle.log_disk.specs.Faults.{Rose}
 use Rattle.log_disk.specs.Streams.{AppendsPrefix, AppendsPart}
 use Rattle.log_disk.proofs.Prefixes.{AppendsPart-prefix}
 use Rattle.log_disk.specs.declared.disk.LogDisk.{Ghosts}
@@ -183,5 +182,3 @@ module _ {K : Type 0} (h : SinkGhosts K) (ended : Ended) (text : List ℕ) (sink
   pub read-concluded : (detail : Detail) → Concludes h ended text sink sink_new detail → detail ≡ Read → ⊥
   read-concluded detail concludes is = subst (Concludes h ended text sink sink_new) is concludes
 
-pub Rose-later : (before mid now : ℕ) → before ≤ mid → Rose mid now → Rose before now
-Rose-later before mid now later rose = omega arith

@@ -1,6 +1,6 @@
 -- What is known of a run whose transfers were made and concluded. `g` is what a disk shows and `h` what a sink shows.
 use Rattle.std.specs.Prelude.{◌≡◌, ◌≤◌, Bool, List, None}
-use Rattle.log_disk.specs.Faults.{Rose}
+use Rattle.log_disk.specs.Faults.{CountsWhere}
 use Rattle.log_disk.specs.declared.disk.LogDisk.{Ghosts}
 use Rattle.log_disk.specs.declared.sink.Sink.{Ghosts as SinkGhosts}
 use Rattle.log_record.specs.declared.rec.Rec.{Rec}
@@ -19,5 +19,4 @@ pub record HasFinished {D : Type 0} {K : Type 0} (g : Ghosts D) (h : SinkGhosts 
   pub told : K
   pub has : HasEnded g h prepared opened Lines wait disk disk_new sink told ended
   pub concludes : Concludes h ended (closed_text ended) told sink_new detail
-  pub write : detail ≡ Write → ended.fault ≡ None → Rose (h.faults told) (h.faults sink_new)
-  pub later : h.faults told ≤ h.faults sink_new
+  pub write : CountsWhere ((detail ≡ Write) × (ended.fault ≡ None)) (h.faults told) (h.faults sink_new)

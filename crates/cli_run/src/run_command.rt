@@ -1,6 +1,6 @@
 ghost use Rattle.std.specs.Prelude.{◌≡◌, ◌≤◌, ◌+◌, ◌↔◌, ℕ, List, All, length, IfOk, IfErr, IsErrOf};
 ghost use Rattle.command_line.specs.Ranges.{AreInRange};
-ghost use Rattle.log_disk.specs.Faults.{Rose};
+ghost use Rattle.log_disk.specs.Faults.{CountsWhere};
 ghost use Rattle.log_record.specs.declared.limits.TheConstants.{LAST_TXN};
 ghost use Rattle.log_record.specs.declared.rec.Rec.{Rec};
 ghost use Rattle.log_recovery.specs.Recovery.{Recovers};
@@ -46,12 +46,9 @@ pub fn run_command<R: Threads + Wait + Sync, D: LogDisk, S: Source, K: Sink, G: 
     ensures silent { RunStaysSilent (K.held_bytes out.old) (K.held_bytes out.new) result }
     ensures range { IsOfRun result }
     ensures honest { D.honest disk.old ↔ D.honest disk.new }
-    ensures read { result ≡ Detail.Read → Rose (S.faults script.old) (S.faults script.new) }
-    ensures write { result ≡ Detail.Write → Rose (K.faults out.old) (K.faults out.new) }
-    ensures disk { result ≡ Detail.Disk → Rose (D.faults disk.old) (D.faults disk.new) }
-    ensures no_fault { (result ≡ Detail.Disk → ⊥) → D.faults disk.new ≡ D.faults disk.old }
-    ensures later { (S.faults script.old ≤ S.faults script.new) × (K.faults out.old ≤ K.faults out.new) }
-    ensures later_disk { D.faults disk.old ≤ D.faults disk.new }
+    ensures read { CountsWhere (result ≡ Detail.Read) (S.faults script.old) (S.faults script.new) }
+    ensures write { CountsWhere (result ≡ Detail.Write) (K.faults out.old) (K.faults out.new) }
+    ensures disk { CountsWhere (result ≡ Detail.Disk) (D.faults disk.old) (D.faults disk.new) }
 {
     match make_ready(rt, alloc, log, options, disk, script) {
         Ok(ready) => finish(rt, ready, options, disk, out, gate),
@@ -94,11 +91,8 @@ fn make_ready<R, D: LogDisk, S: Source>(
         (HasNoRun D.LogDisk options.now.workers disk.old disk.new (S.left script.old) (S.left script.new)) }
     ensures range { IfErr result IsBeforeRun }
     ensures honest { D.honest disk.old ↔ D.honest disk.new }
-    ensures read { IsErrOf result Detail.Read → Rose (S.faults script.old) (S.faults script.new) }
-    ensures disk { IsErrOf result Detail.Disk → Rose (D.faults disk.old) (D.faults disk.new) }
-    ensures no_fault { (IsErrOf result Detail.Disk → ⊥) → D.faults disk.new ≡ D.faults disk.old }
-    ensures later { S.faults script.old ≤ S.faults script.new }
-    ensures later_disk { D.faults disk.old ≤ D.faults disk.new }
+    ensures read { CountsWhere (IsErrOf result Detail.Read) (S.faults script.old) (S.faults script.new) }
+    ensures disk { CountsWhere (IsErrOf result Detail.Disk) (D.faults disk.old) (D.faults disk.new) }
 {
     let opened = open_log(alloc, log, disk)?;
     let transfers = read_transfers(alloc, &opened, script)?;

@@ -1,5 +1,5 @@
 ghost use Rattle.std.specs.Prelude.{◌≡◌, ◌≤◌, ◌+◌, ◌↔◌, ℕ, List, IfOk, IfErr, OnOk, IsErrOf, IsTrue};
-ghost use Rattle.log_disk.specs.Faults.{HasCause, Rose};
+ghost use Rattle.log_disk.specs.Faults.{CountsWhere, HasCause};
 ghost use Rattle.log_disk.specs.Disk.{IsOnlyImage, Leaves};
 ghost use Rattle.segment_file.specs.File.{BeginsOpen};
 ghost use Rattle.segment_file.specs.Standing.{IsStableGate};
@@ -38,9 +38,7 @@ pub fn finds_none<D: LogDisk>(disk: &mut D, log: &Word) -> Result<(), Detail>
     ensures moments { Leaves D.moment D.images_since (D.images disk.old) disk.old disk.new }
     ensures count { D.honest disk.old → D.written_count disk.new ≤ D.written_count disk.old + 1 }
     ensures honest { D.honest disk.old ↔ D.honest disk.new }
-    ensures disk { IsErrOf result Detail.Disk → Rose (D.faults disk.old) (D.faults disk.new) }
-    ensures no_fault { (IsErrOf result Detail.Disk → ⊥) → D.faults disk.new ≡ D.faults disk.old }
-    ensures later { D.faults disk.old ≤ D.faults disk.new }
+    ensures disk { CountsWhere (IsErrOf result Detail.Disk) (D.faults disk.old) (D.faults disk.new) }
 {
     match finds_log(disk, log) {
         Ok(false) => Ok(()),

@@ -1,6 +1,6 @@
 ghost use Rattle.std.specs.Prelude.{◌≡◌, ◌≤◌, ◌+◌, ◌↔◌, List, ℕ, IfOk, IfErr, OnOk, IsErrOf};
 ghost use Rattle.log_disk.specs.Disk.{IsOnlyImage, Leaves};
-ghost use Rattle.log_disk.specs.Faults.{Rose};
+ghost use Rattle.log_disk.specs.Faults.{CountsWhere};
 ghost use Rattle.cli_shared.specs.Opening.{Opens, HasOpeningFault, MayHold};
 
 use crate::report::{Detail, detail_of};
@@ -19,9 +19,7 @@ pub fn open_log<D: LogDisk>(alloc: Global, log: &Word, disk: &mut D) -> Result<R
     ensures moments { Leaves D.moment D.images_since (D.images disk.old) disk.old disk.new }
     ensures count { D.honest disk.old → D.written_count disk.new ≤ D.written_count disk.old + 1 }
     ensures honest { D.honest disk.old ↔ D.honest disk.new }
-    ensures disk { IsErrOf result Detail.Disk → Rose (D.faults disk.old) (D.faults disk.new) }
-    ensures no_fault { (IsErrOf result Detail.Disk → ⊥) → D.faults disk.new ≡ D.faults disk.old }
-    ensures later { D.faults disk.old ≤ D.faults disk.new }
+    ensures disk { CountsWhere (IsErrOf result Detail.Disk) (D.faults disk.old) (D.faults disk.new) }
 {
     let bytes = match image_of(alloc, log, disk) {
         Ok(bytes) => bytes,
@@ -43,9 +41,7 @@ fn image_of<D: LogDisk>(alloc: Global, log: &Word, disk: &mut D) -> Result<Vec<u
     ensures moments { Leaves D.moment D.images_since (D.images disk.old) disk.old disk.new }
     ensures count { D.honest disk.old → D.written_count disk.new ≤ D.written_count disk.old + 1 }
     ensures honest { D.honest disk.old ↔ D.honest disk.new }
-    ensures fault { IsErrOf result OpenFault.DiskFault → Rose (D.faults disk.old) (D.faults disk.new) }
-    ensures no_fault { (IsErrOf result OpenFault.DiskFault → ⊥) → D.faults disk.new ≡ D.faults disk.old }
-    ensures later { D.faults disk.old ≤ D.faults disk.new }
+    ensures faults { CountsWhere (IsErrOf result OpenFault.DiskFault) (D.faults disk.old) (D.faults disk.new) }
 {
     disk.attach(log, false)?;
     open_image(alloc, disk)

@@ -1,5 +1,5 @@
 ghost use Rattle.std.specs.Prelude.{◌≤◌, ◌+◌, length, IfOk, IfErr, IsErrOf};
-ghost use Rattle.log_disk.specs.Faults.{Rose};
+ghost use Rattle.log_disk.specs.Faults.{CountsWhere};
 ghost use Rattle.log_record.specs.declared.limits.TheConstants.{LAST_TXN};
 ghost use Rattle.cli_shared.specs.Scripts.{IsWholeScript, HasNoScript, HasNoTransfers};
 
@@ -19,8 +19,7 @@ pub fn read_script<S: Source>(
 ) -> Result<Script, Detail>
     ensures ok { IfOk result (IsWholeScript accounts (S.left script.old) (S.left script.new)) }
     ensures err { IfErr result (HasNoScript accounts (S.left script.old) (S.left script.new)) }
-    ensures read { IsErrOf result Detail.Read → Rose (S.faults script.old) (S.faults script.new) }
-    ensures later { S.faults script.old ≤ S.faults script.new }
+    ensures read { CountsWhere (IsErrOf result Detail.Read) (S.faults script.old) (S.faults script.new) }
 {
     let bytes = match read_all(alloc, script) {
         Ok(bytes) => bytes,
@@ -45,8 +44,7 @@ pub fn read_transfers<S: Source>(
     ensures fit { IfOk result (λ transfers. opened.now.next_txn + length transfers ≤ LAST_TXN) }
     ensures err { IfErr result
         (HasNoTransfers (length opened.now.accounts.rows) opened.now.next_txn (S.left script.old) (S.left script.new)) }
-    ensures read { IsErrOf result Detail.Read → Rose (S.faults script.old) (S.faults script.new) }
-    ensures later { S.faults script.old ≤ S.faults script.new }
+    ensures read { CountsWhere (IsErrOf result Detail.Read) (S.faults script.old) (S.faults script.new) }
 {
     let transfers = read_script(alloc, opened.accounts.count(), script)?;
     let first = opened.next_txn;

@@ -7,7 +7,7 @@ use mathlib.Core.Option.{some}
 use lib.ListN.{get_elem?}
 use Rattle.log_disk.specs.declared.disk.LogDisk.{Ghosts}
 use Rattle.log_disk.specs.declared.sink.Sink.{Ghosts as SinkGhosts}
-use Rattle.log_disk.specs.Faults.{Rose}
+use Rattle.log_disk.specs.Faults.{CountsWhere, raised}
 use Rattle.log_disk.specs.Streams.{AppendsPrefix, AppendsPart}
 use Rattle.log_record.specs.declared.rec.Rec.{Rec}
 use Rattle.log_record.specs.LogList.{end_of}
@@ -17,12 +17,13 @@ use Rattle.lock_core.specs.Serial.{IsPartlySerialAfter, IsSerialAfter}
 use Rattle.lock_core.specs.Settling.{KeepsRows}
 use Rattle.log_table.specs.Closing.{records_of}
 use Rattle.log_table.specs.Seats.{key_of}
+use Rattle.stop_word.specs.declared.fault.DaemonFault.{DaemonFault}
 use Rattle.stop_word.specs.declared.fault.DaemonFault.TheVariants.{DiskFault, WriteFault}
 use Rattle.end_lines.specs.declared.tally.Tally.{Tally}
 use Rattle.end_lines.specs.declared.voice.Voice.{Voice}
 use Rattle.end_lines.specs.declared.voice.Voice.TheVariants.{Lines}
 use Rattle.commit_pipeline.specs.EndLines.{done_in, refused_in, text_of}
-use Rattle.commit_pipeline.specs.Later.{HasReason}
+use Rattle.commit_pipeline.specs.Later.{HasReason, StopTells}
 use Rattle.commit_pipeline.proofs.RanLemmas.{none≢some}
 use Rattle.txn_jobs.specs.declared.cause.Cause.TheVariants as cause
 use Rattle.txn_jobs.specs.declared.cause.Worked.{Worked}
@@ -36,7 +37,7 @@ use Rattle.cli_threads.specs.Ending.{HasEnded}
 use Rattle.cli_threads.specs.Run.{RunKeepsLog, RunIsDrained, RunsWhole}
 use Rattle.cli_threads.specs.RunStops.{StopsAtLogEnd}
 use Rattle.cli_threads.specs.Shares.{Share}
-use Rattle.cli_threads.proofs.RunLemmas.{sends, serial, kept, whole_after, tally-all, keeps, drained, whole, stops-at-end, never-stops, disk_fine, reason, same}
+use Rattle.cli_threads.proofs.RunLemmas.{sends, serial, kept, whole_after, tally-all, keeps, drained, whole, stops-at-end, never-stops, reason, same}
 use Rattle.cli_threads.proofs.RunHistory.{later_of}
 use Rattle.cli_threads.proofs.RunStripes.{tasks_of}
 
@@ -122,37 +123,19 @@ module _ {D : Type 0} {K : Type 0} (g : Ghosts D) (h : SinkGhosts K) (prepared :
   whole_after-ended all = whole_after g h opened prepared.jobs has.shares (key_of prepared.table) has.first has.last has.view ended.closed.tail
       ended.closed.accounts.rows has.transferred (all-whole has.shares (subst AreWhole (sym has.ends) all))
 
-  -- no count of faults fell
-  pub later-ended : (g.faults disk ≤ g.faults disk_new) × (h.faults sink ≤ h.faults sink_new)
-  later-ended =
-      let is = same g h opened prepared.jobs has.shares (key_of prepared.table) has.first has.last has.view ended.closed.tail
-      ended.closed.accounts.rows has.transferred in
-      rw (← has.disk_old, ← has.disk_is, ← has.sink_old, ← has.sink_is) (is.disk_faults, is.sink_faults)
+  -- what befell the daemon, and what was counted then
+  reason-ended : HasReason g h has.first has.last
+  reason-ended = reason g h opened prepared.jobs has.shares (key_of prepared.table) has.first has.last has.view ended.closed.tail
+      ended.closed.accounts.rows has.transferred
 
-  -- why the daemon failed
-  pub reason-disk : ended.fault ≡ Some DiskFault → Rose (g.faults disk) (g.faults disk_new)
-  reason-disk fault =
-      let why = subst (HasReason g h has.first has.last) (has.fault ∙ fault) (reason g h opened prepared.jobs has.shares (key_of prepared.table)
-      has.first has.last has.view ended.closed.tail ended.closed.accounts.rows has.transferred) in
-      rw (← has.disk_old, ← has.disk_is) why.0
+  disk-ended : CountsWhere (ended.fault ≡ Some DiskFault) (g.faults disk) (g.faults disk_new)
+  disk-ended = rw (← has.disk_old, ← has.disk_is, ← has.fault) reason-ended.disk
 
-  -- where the disk did not fail the daemon, it counted no fault
-  pub fine-ended : ended.fault ≢ Some DiskFault → g.faults disk_new ≡ g.faults disk
-  fine-ended sent = rw (← has.disk_old, ← has.disk_is)
-      (disk_fine g h opened prepared.jobs has.shares (key_of prepared.table) has.first has.last has.view ended.closed.tail
-      ended.closed.accounts.rows has.transferred (λ failed. sent (sym has.fault ∙ failed)))
-
-  pub reason-write : ended.fault ≡ Some WriteFault → Rose (h.faults sink) (h.faults sink_new)
-  reason-write fault =
-      let why = subst (HasReason g h has.first has.last) (has.fault ∙ fault) (reason g h opened prepared.jobs has.shares (key_of prepared.table)
-      has.first has.last has.view ended.closed.tail ended.closed.accounts.rows has.transferred) in
-      rw (← has.sink_old, ← has.sink_is) why.0
+  sink-ended : CountsWhere (ended.fault ≡ Some WriteFault) (h.faults sink) (h.faults sink_new)
+  sink-ended = rw (← has.sink_old, ← has.sink_is, ← has.fault) reason-ended.sink
 
   pub speaks-ended : ended.fault ≡ Some WriteFault → voice ≡ Lines
-  speaks-ended fault =
-      let why = subst (HasReason g h has.first has.last) (has.fault ∙ fault) (reason g h opened prepared.jobs has.shares (key_of prepared.table)
-      has.first has.last has.view ended.closed.tail ended.closed.accounts.rows has.transferred) in
-      sym has.speaks ∙ why.2
+  speaks-ended fault = sym has.speaks ∙ (subst (StopTells has.first has.last) (has.fault ∙ fault) reason-ended.stop).1
 
   -- the disk is as honest as it was
   pub honest-ended : g.honest disk ↔ g.honest disk_new
@@ -198,30 +181,43 @@ module _ {D : Type 0} {K : Type 0} (g : Ghosts D) (h : SinkGhosts K) (prepared :
         ended.closed.accounts.rows has.transferred (has.fault ∙ fine) (length first.below) found.0.taken tail total
         (found.1 ∙ (λ i. some (record { taken = found.0.taken; worked = stopped i })))
 
-  -- what is answered where a fault is answered
+  -- what was counted where a fault is answered, and elsewhere
   module _ (text : List ℕ) (sink_end : K) where
-    rose-later : (before mid now : ℕ) → before ≤ mid → Rose mid now → Rose before now
-    rose-later before mid now later rose = omega arith
+    none-failed : (fault : DaemonFault) → ended.fault ≡ None → ended.fault ≢ Some fault
+    none-failed fault none failed = none≢some fault (sym none ∙ failed)
 
-    pub disk-concluded : (detail : Detail) → Concludes h ended text sink_new sink_end detail → detail ≡ Disk → Rose (g.faults disk) (g.faults disk_new)
-    disk-concluded = by-conclusion h ended text sink_new sink_end (λ detail. detail ≡ Disk → Rose (g.faults disk) (g.faults disk_new))
-        (λ said _. reason-disk said.0) (λ _ same. cc) (λ _ same. cc) (λ _ same. cc) (λ tail total _ same. cc)
-
-    pub fine-concluded : (detail : Detail) → Concludes h ended text sink_new sink_end detail → (detail ≡ Disk → ⊥)
-        → g.faults disk_new ≡ g.faults disk
-    fine-concluded = by-conclusion h ended text sink_new sink_end (λ detail. (detail ≡ Disk → ⊥) → g.faults disk_new ≡ g.faults disk)
-        (λ _ other. absurd (other refl)) (λ said _. let cut = said.0 in fine-ended (λ failed. absurd cc)) (λ said _. none-failed said.0.0)
-        (λ said _. none-failed said.0.0) (λ tail total said _. none-failed said.0.0)
-      where
-        none-failed : ended.fault ≡ None → g.faults disk_new ≡ g.faults disk
-        none-failed none = fine-ended (λ failed. none≢some DiskFault (sym none ∙ failed))
+    pub disk-concluded : (detail : Detail) → Concludes h ended text sink_new sink_end detail
+        → CountsWhere (detail ≡ Disk) (g.faults disk) (g.faults disk_new)
+    disk-concluded = by-conclusion h ended text sink_new sink_end (λ detail. CountsWhere (detail ≡ Disk) (g.faults disk) (g.faults disk_new))
+        (λ said. record { counted = λ _. disk-ended.counted said.0; fine = λ other. absurd (other refl) })
+        (λ said. let cut = said.0 in record { counted = λ same. cc; fine = λ _. disk-ended.fine (λ failed. absurd cc) })
+        (λ said. record { counted = λ same. cc; fine = λ _. disk-ended.fine (none-failed DiskFault said.0.0) })
+        (λ said. record { counted = λ same. cc; fine = λ _. disk-ended.fine (none-failed DiskFault said.0.0) })
+        (λ tail total said. record { counted = λ same. cc; fine = λ _. disk-ended.fine (none-failed DiskFault said.0.0) })
 
     pub write-concluded : (detail : Detail) → Concludes h ended text sink_new sink_end detail
-        → (detail ≡ Write → ended.fault ≡ None → Rose (h.faults sink_new) (h.faults sink_end)) → detail ≡ Write
-        → Rose (h.faults sink) (h.faults sink_end)
+        → CountsWhere ((detail ≡ Write) × (ended.fault ≡ None)) (h.faults sink_new) (h.faults sink_end)
+        → CountsWhere (detail ≡ Write) (h.faults sink) (h.faults sink_end)
     write-concluded = by-conclusion h ended text sink_new sink_end
-        (λ detail. (detail ≡ Write → ended.fault ≡ None → Rose (h.faults sink_new) (h.faults sink_end)) → detail ≡ Write
-        → Rose (h.faults sink) (h.faults sink_end))
-        (λ _ _ same. cc) (λ said _ _. subst (λ s. Rose (h.faults sink) (h.faults s)) (sym said.1) (reason-write said.0))
-        (λ said ends same. rose-later (h.faults sink) (h.faults sink_new) (h.faults sink_end) later-ended.1 (ends same said.0.0)) (λ _ _ same. cc)
-        (λ tail total _ _ same. cc)
+        (λ detail. CountsWhere ((detail ≡ Write) × (ended.fault ≡ None)) (h.faults sink_new) (h.faults sink_end)
+        → CountsWhere (detail ≡ Write) (h.faults sink) (h.faults sink_end))
+        (λ said last. let cut = said.0 in record {
+          counted = λ same. cc;
+          fine = λ _. last.fine (λ both. absurd cc) ∙ sink-ended.fine (λ failed. absurd cc);
+        })
+        (λ said last. record {
+          counted = λ _. last.fine (λ both. none-failed WriteFault both.1 said.0) ∙ sink-ended.counted said.0;
+          fine = λ other. absurd (other refl);
+        })
+        (λ said last. record {
+          counted = λ same. last.counted (same, said.0.0) ∙ ap raised (sink-ended.fine (none-failed WriteFault said.0.0));
+          fine = λ other. absurd (other refl);
+        })
+        (λ said last. record {
+          counted = λ same. cc;
+          fine = λ other. last.fine (λ both. other both.0) ∙ sink-ended.fine (none-failed WriteFault said.0.0);
+        })
+        (λ tail total said last. record {
+          counted = λ same. cc;
+          fine = λ other. last.fine (λ both. other both.0) ∙ sink-ended.fine (none-failed WriteFault said.0.0);
+        })

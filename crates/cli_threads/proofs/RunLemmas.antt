@@ -38,10 +38,10 @@ use Rattle.commit_pipeline.specs.declared.daemon.Daemon.{Daemon}
 use Rattle.commit_pipeline.specs.EndLines.{text_of}
 use Rattle.stop_word.specs.declared.fault.DaemonFault.TheVariants.{DiskFault, WriteFault}
 use Rattle.end_lines.specs.declared.tally.Tally.{Tally}
-use Rattle.commit_pipeline.specs.Later.{Later, Ran, HasReason}
+use Rattle.commit_pipeline.specs.Later.{Later, Ran, HasReason, StopTells}
 use Rattle.commit_pipeline.specs.Telling.{counted}
 use Rattle.commit_pipeline.specs.Turning.{IsSameDaemon, durable}
-use Rattle.commit_pipeline.proofs.RanLemmas.{Later-disk_fine, Later-same, Later-reason, none≢some}
+use Rattle.commit_pipeline.proofs.RanLemmas.{Later-same, Later-reason, none≢some}
 use Rattle.commit_pipeline.proofs.LineLemmas.{text_of-append}
 use Rattle.txn_jobs.specs.declared.cause.Cause.TheVariants.{Stop, LogEnd}
 use Rattle.txn_jobs.specs.declared.cause.Worked.TheVariants.{All, Cut}
@@ -196,13 +196,10 @@ module _ {D : Type 0} {K : Type 0} (g : Ghosts D) (h : SinkGhosts K) (opened : L
 
   -- ---- what befell the daemon
 
-  pub reason : HasReason g h old new new.fault
+  pub reason : HasReason g h old new
   reason = Later-reason g h old new known.later known.fresh.fine
 
-  pub disk_fine : new.fault ≢ Some DiskFault → g.faults new.flusher.disk.now ≡ g.faults old.flusher.disk.now
-  disk_fine = Later-disk_fine g h old new known.later
-
-  pub same : IsSameDaemon g h old new
+  pub same : IsSameDaemon g old new
   same = Later-same g h old new known.later
 
   -- ---- without a fault
@@ -263,7 +260,7 @@ module _ {D : Type 0} {K : Type 0} (g : Ghosts D) (h : SinkGhosts K) (opened : L
             omega (arith, tiles, start-view, sizes)
 
     stop-none : view.sending.stop ≡ 0
-    stop-none = ap (λ (s : Sending). s.stop) known.sending ∙ subst (HasReason g h old new) fine reason ∙ known.fresh.stop
+    stop-none = ap (λ (s : Sending). s.stop) known.sending ∙ subst (StopTells old new) fine reason.stop ∙ known.fresh.stop
 
     had : AllByRecursion (λ (given : Given). given.committed ≡ false → HadBalance (opened ++ list) given.tail given.account given.balance) view.books.given
     had = all-weaker (WentBack base (later_of opened list)) _ view.books.given (had-balance opened list known.log.lawful lawful_after

@@ -105,7 +105,7 @@ pub record HasTaken (key : Start) (workers : ℕ) (view : View) : Type 0 where
 
 module _ {D : Type 0} {K : Type 0} (g : Ghosts D) (h : SinkGhosts K) (tail : Tail) (voice : Voice) (boss : Seat) (disk disk_new : D)
     (sink sink_new : K) (served' : Served) (turned : HasTurned g h tail voice boss disk disk_new sink sink_new served') where
-  same : IsSameDaemon g h turned.first turned.last
+  same : IsSameDaemon g turned.first turned.last
   same = Later-same g h turned.first turned.last turned.later
 
   standing : (view_of served'.boss).standing ≡ (view_of boss).standing

@@ -47,7 +47,7 @@ pub(crate) fn serve_all<'a, R: Threads + Wait + Sync, D: LogDisk, K: Sink, G: Ga
     ensures count { vec_len result.1 ≡ vec_len workers }
     ensures drained { result.0.daemon.fault ≡ None → IsDrained (view_of result.0.daemon.flusher.seat) }
     ensures later { Later D.LogDisk K.Sink relief.entry.daemon result.0.daemon }
-    ensures same { IsSameDaemon D.LogDisk K.Sink relief.entry.daemon result.0.daemon }
+    ensures same { IsSameDaemon D.LogDisk relief.entry.daemon result.0.daemon }
 {
     thread::scope(
         thread::scope_env(),
@@ -62,7 +62,7 @@ pub(crate) fn serve_all<'a, R: Threads + Wait + Sync, D: LogDisk, K: Sink, G: Ga
             ensures count { vec_len result.1 ≡ vec_len workers }
             ensures drained { result.0.daemon.fault ≡ None → IsDrained (view_of result.0.daemon.flusher.seat) }
             ensures later { Later D.LogDisk K.Sink relief.entry.daemon result.0.daemon }
-            ensures same { IsSameDaemon D.LogDisk K.Sink relief.entry.daemon result.0.daemon }
+            ensures same { IsSameDaemon D.LogDisk relief.entry.daemon result.0.daemon }
         {
             let mut relief = relief;
             let started = start_all(&run, scope, workers, started, &mut relief);

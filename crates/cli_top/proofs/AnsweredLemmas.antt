@@ -62,12 +62,9 @@ module _ {D S K : Type 0} (g : Ghosts D) (h : SourceGhosts S) (i : SinkGhosts K)
 
   no-faults : (old : World D S K) (detail : Detail) → (IsFault detail → ⊥) → TellsFaults g h i old old detail
   no-faults old detail none = record {
-    read = λ read. absurd (none (subst IsFault (sym read) tt));
-    write = λ write. absurd (none (subst IsFault (sym write) tt));
-    disk = λ disk. absurd (none (subst IsFault (sym disk) tt));
-    no_fault = λ not_disk. refl;
-    later = (omega arith, omega arith);
-    later_disk = omega arith;
+    read = record { counted = λ read. absurd (none (subst IsFault (sym read) tt)); fine = λ other. refl };
+    write = record { counted = λ write. absurd (none (subst IsFault (sym write) tt)); fine = λ other. refl };
+    disk = record { counted = λ disk. absurd (none (subst IsFault (sym disk) tt)); fine = λ other. refl };
     honest = (λ honest. honest, λ honest. honest);
   }
 

@@ -3,7 +3,7 @@ ghost use Rattle.command_line.specs.CommandLine.{IsCommandLine, AreTaken};
 ghost use Rattle.command_line.specs.declared.command.Command.TheVariants.{New, Run, Recover, Dump, Demo};
 ghost use Rattle.command_line.specs.declared.options.RunOptions.{RunOptions};
 ghost use Rattle.log_disk.specs.Disk.{Leaves};
-ghost use Rattle.log_disk.specs.Faults.{Rose};
+ghost use Rattle.log_disk.specs.Faults.{CountsWhere, Rose};
 ghost use Rattle.log_record.specs.declared.limits.TheConstants.{LAST_TXN};
 ghost use Rattle.log_record.specs.declared.rec.Rec.{Rec};
 ghost use Rattle.log_recovery.specs.Recovery.{HoldsLawful, HoldsList};
@@ -120,15 +120,11 @@ pub fn aether<R: Threads + Wait + Sync, D: LogDisk, S: Source, K: Sink, G: Gate 
     // What is said of an honest disk may be said of it again at the next call.
     ensures honest { D.honest disk.old ↔ D.honest disk.new }
 
-    // A fault comes only where the object that it names counted one in this call.
-    ensures read { result.detail ≡ Detail.Read → Rose (S.faults script.old) (S.faults script.new) }
-    ensures write { result.detail ≡ Detail.Write → Rose (K.faults out.old) (K.faults out.new) }
-    ensures disk { result.detail ≡ Detail.Disk → Rose (D.faults disk.old) (D.faults disk.new) }
-
-    // A call of the disk that failed isn't tried again, and its fault is answered.
-    ensures no_fault { (result.detail ≡ Detail.Disk → ⊥) → D.faults disk.new ≡ D.faults disk.old }
-    ensures later { (S.faults script.old ≤ S.faults script.new) × (K.faults out.old ≤ K.faults out.new) }
-    ensures later_disk { D.faults disk.old ≤ D.faults disk.new }
+    // At most one fault is counted in the whole call, of all three together, and it is the one that is answered: no call that failed is
+    // tried again, none is made of an object that failed, and any other answer counts none.
+    ensures read { CountsWhere (result.detail ≡ Detail.Read) (S.faults script.old) (S.faults script.new) }
+    ensures write { CountsWhere (result.detail ≡ Detail.Write) (K.faults out.old) (K.faults out.new) }
+    ensures disk { CountsWhere (result.detail ≡ Detail.Disk) (D.faults disk.old) (D.faults disk.new) }
 {
     Report::of(answer(rt, alloc, words, disk, script, out, gate))
 }

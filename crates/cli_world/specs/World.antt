@@ -2,7 +2,7 @@
 -- and `new` are the three of them before and after. The fields are the clauses of the commands.
 use Rattle.std.specs.Prelude.{◌≡◌, ◌≤◌, ◌+◌, ◌↔◌, IfSome}
 use Rattle.log_disk.specs.Disk.{Leaves}
-use Rattle.log_disk.specs.Faults.{Rose}
+use Rattle.log_disk.specs.Faults.{CountsWhere}
 use Rattle.log_disk.specs.declared.disk.LogDisk.{Ghosts}
 use Rattle.log_disk.specs.declared.source.Source.{Ghosts as SourceGhosts}
 use Rattle.log_disk.specs.declared.sink.Sink.{Ghosts as SinkGhosts}
@@ -24,14 +24,11 @@ pub record World (D S K : Type 0) : Type 0 where
 abbrev pub world : {D S K : Type 0} → D → S → K → World D S K
 world disk script out = record { disk = disk; script = script; out = out }
 
--- A fault is answered only where the object that it names counted one, and one of the disk wherever the disk did. Counts don't fall.
+-- One fault is counted where one is answered, by the object that the answer names, and none else.
 pub record TellsFaults {D S K : Type 0} (g : Ghosts D) (h : SourceGhosts S) (i : SinkGhosts K) (old new : World D S K) (detail : Detail) : Type 0 where
-  pub read : detail ≡ Read → Rose (h.faults old.script) (h.faults new.script)
-  pub write : detail ≡ Write → Rose (i.faults old.out) (i.faults new.out)
-  pub disk : detail ≡ Disk → Rose (g.faults old.disk) (g.faults new.disk)
-  pub no_fault : (detail ≡ Disk → ⊥) → g.faults new.disk ≡ g.faults old.disk
-  pub later : (h.faults old.script ≤ h.faults new.script) × (i.faults old.out ≤ i.faults new.out)
-  pub later_disk : g.faults old.disk ≤ g.faults new.disk
+  pub read : CountsWhere (detail ≡ Read) (h.faults old.script) (h.faults new.script)
+  pub write : CountsWhere (detail ≡ Write) (i.faults old.out) (i.faults new.out)
+  pub disk : CountsWhere (detail ≡ Disk) (g.faults old.disk) (g.faults new.disk)
   pub honest : g.honest old.disk ↔ g.honest new.disk
 
 pub record DoesNew {D S K : Type 0} (g : Ghosts D) (h : SourceGhosts S) (i : SinkGhosts K) (old new : World D S K) (detail : Detail) : Type 0 where

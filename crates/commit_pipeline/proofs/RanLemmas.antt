@@ -3,9 +3,9 @@ use Rattle.std.proofs.Common.{◌≡◌, ◌≢◌, ◌∙◌, sym, ap, refl, su
 use Rattle.std.proofs.KnownBytes.{Appends-trans}
 use Rattle.std.proofs.lemmas.List.Concat.{flat_map-append}
 use Rattle.std.specs.List.{AllByRecursion}
-use Rattle.log_disk.specs.Faults.{Rose}
 use Rattle.log_disk.specs.declared.disk.LogDisk.{Ghosts}
 use Rattle.log_disk.specs.declared.sink.Sink.{Ghosts as SinkGhosts}
+use Rattle.log_disk.proofs.Counting.{CountsWhere-after}
 use Rattle.log_disk.proofs.Moments.{Leaves-trans, Leaves-weaken}
 use Rattle.log_record.specs.declared.rec.Rec.{Rec}
 use Rattle.log_record.specs.LogList.{units_of, size_of}
@@ -22,14 +22,14 @@ use Rattle.end_lines.specs.declared.tally.Tally.{Tally}
 use Rattle.end_lines.specs.declared.voice.Voice.{Voice}
 use Rattle.end_lines.specs.declared.voice.Voice.TheVariants.{Lines, Count}
 use Rattle.end_lines.specs.EndLines.{text_of, line_said}
-use Rattle.commit_pipeline.specs.Later.{HoldsFront, InFlight, HasReason, extra, Ran, Later}
+use Rattle.commit_pipeline.specs.Later.{HoldsFront, InFlight, HasReason, StopTells, extra, Ran, Later}
 use Rattle.end_lines.specs.Telling.{TellsFront, counted}
 use Rattle.commit_pipeline.specs.Turning.{IsSameDaemon, durable}
 use Rattle.end_lines.proofs.LineLemmas.{text_of-append, text_of-cons, counted-append}
 
-pub IsSameDaemon-trans : {D : Type 0} {K : Type 0} (g : Ghosts D) (h : SinkGhosts K) (a b c : Daemon D K)
-    → IsSameDaemon g h a b → IsSameDaemon g h b c → IsSameDaemon g h a c
-IsSameDaemon-trans g h a b c first second = record {
+pub IsSameDaemon-trans : {D : Type 0} {K : Type 0} (g : Ghosts D) (a b c : Daemon D K)
+    → IsSameDaemon g a b → IsSameDaemon g b c → IsSameDaemon g a c
+IsSameDaemon-trans g a b c first second = record {
   flusher = record {
     table = second.flusher.table ∙ first.flusher.table;
     seat = record {
@@ -46,8 +46,6 @@ IsSameDaemon-trans g h a b c first second = record {
   };
   sink = second.sink ∙ first.sink;
   voice = second.voice ∙ first.voice;
-  disk_faults = omega (arith, first.disk_faults, second.disk_faults);
-  sink_faults = omega (arith, first.sink_faults, second.sink_faults);
 }
 
 -- a front of the first few is a front of all
@@ -136,9 +134,6 @@ none-in_flight fault view cut fine flight = (subst (λ f. InFlight f view cut) f
 extra-fine : (fault : Option DaemonFault) → fault ≡ None → extra fault ≡ 0
 extra-fine fault fine = ap extra fine
 
-Rose-later : (a b c : ℕ) → a ≤ b → Rose b c → Rose a c
-Rose-later a b c later rose = omega (arith, later, rose)
-
 module _ {D : Type 0} {K : Type 0} (g : Ghosts D) (h : SinkGhosts K) (a b c : Daemon D K) (first : Ran g h a b) (second : Ran g h b c) where
   fine : b.fault ≡ None
   fine = second.was_fine
@@ -196,10 +191,17 @@ module _ {D : Type 0} {K : Type 0} (g : Ghosts D) (h : SinkGhosts K) (a b c : Da
         more.1 ∙ ap (λ t. counted t second.more) told.1 ∙ sym (counted-append a.tally first.more second.more),
       )
 
-  reason : (fault : Option DaemonFault) → HasReason g h b c fault → HasReason g h a c fault
-  reason None kept_stop = kept_stop ∙ (subst (HasReason g h a b) fine first.reason)
-  reason (Some DiskFault) rose = (Rose-later _ _ _ first.same.disk_faults rose.0, rose.1)
-  reason (Some WriteFault) rose = (Rose-later _ _ _ first.same.sink_faults rose.0, rose.1, sym first.same.voice ∙ rose.2)
+  stop : (fault : Option DaemonFault) → StopTells b c fault → StopTells a c fault
+  stop None kept_stop = kept_stop ∙ (subst (StopTells a b) fine first.reason.stop)
+  stop (Some DiskFault) told_stop = told_stop
+  stop (Some WriteFault) told_stop = (told_stop.0, sym first.same.voice ∙ told_stop.1)
+
+  reason : HasReason g h a c
+  reason = record {
+    stop = stop c.fault second.reason.stop;
+    disk = CountsWhere-after _ _ _ _ (first.reason.disk.fine (kept DiskFault)) second.reason.disk;
+    sink = CountsWhere-after _ _ _ _ (first.reason.sink.fine (kept WriteFault)) second.reason.sink;
+  }
 
   pub Ran-trans : Ran g h a c
   Ran-trans = record {
@@ -209,7 +211,7 @@ module _ {D : Type 0} {K : Type 0} (g : Ghosts D) (h : SinkGhosts K) (a b c : Da
     text = first.text ++ second.text;
     spellable = subst (AllByRecursion IsSpellable) (sym records)
         (spellable-append first.more (second.more ++ second.cut) (subst (AllByRecursion IsSpellable) no_cut first.spellable) second.spellable);
-    same = IsSameDaemon-trans g h a b c first.same second.same;
+    same = IsSameDaemon-trans g a b c first.same second.same;
     constants = second.constants ∙ first.constants;
     sent = second.sent ∙ ap (λ us. us ++ units_of second.more) first.sent
         ∙ append_assoc (sent_of a.flusher) (units_of first.more) (units_of second.more)
@@ -228,8 +230,7 @@ module _ {D : Type 0} {K : Type 0} (g : Ghosts D) (h : SinkGhosts K) (a b c : Da
     appended = Appends-trans _ _ _ first.text second.text first.appended second.appended;
     front = front;
     all = all;
-    reason = reason c.fault second.reason;
-    disk_fine = λ sent. second.disk_fine sent ∙ first.disk_fine (kept DiskFault);
+    reason = reason;
     count = λ honest. omega (
       arith,
       first.count honest,
@@ -266,9 +267,9 @@ pub Later-standing : {D : Type 0} {K : Type 0} (g : Ghosts D) (h : SinkGhosts K)
 Later-standing g h a b (inl same) = ap (λ d. (view_of d.flusher.seat).standing) same
 Later-standing g h a b (inr ran) = ran.same.flusher.workers
 
--- it is the same daemon, whose counts of faults never fall
-pub Later-same : {D : Type 0} {K : Type 0} (g : Ghosts D) (h : SinkGhosts K) (a b : Daemon D K) → Later g h a b → IsSameDaemon g h a b
-Later-same g h a b (inl same) = subst (IsSameDaemon g h a) (sym same) (record {
+-- it is the same daemon
+pub Later-same : {D : Type 0} {K : Type 0} (g : Ghosts D) (h : SinkGhosts K) (a b : Daemon D K) → Later g h a b → IsSameDaemon g a b
+Later-same g h a b (inl same) = subst (IsSameDaemon g a) (sym same) (record {
   flusher = record {
     table = refl;
     seat = record { table_is = refl; slots = refl; constants = refl; entries = refl; books = refl };
@@ -279,20 +280,15 @@ Later-same g h a b (inl same) = subst (IsSameDaemon g h a) (sym same) (record {
   };
   sink = refl;
   voice = refl;
-  disk_faults = omega arith;
-  sink_faults = omega arith;
 })
 Later-same g h a b (inr ran) = ran.same
 
 -- what befell it since nothing had, has its reason
 pub Later-reason : {D : Type 0} {K : Type 0} (g : Ghosts D) (h : SinkGhosts K) (a b : Daemon D K) → Later g h a b → a.fault ≡ None
-    → HasReason g h a b b.fault
-Later-reason g h a b (inl same) was_fine =
-    subst (λ d. HasReason g h a d d.fault) (sym same) (subst (HasReason g h a a) (sym was_fine) refl)
+    → HasReason g h a b
+Later-reason g h a b (inl same) was_fine = subst (λ d. HasReason g h a d) (sym same) (record {
+  stop = subst (StopTells a a) (sym was_fine) refl;
+  disk = record { counted = λ failed. absurd (none≢some DiskFault (sym was_fine ∙ failed)); fine = λ sent. refl };
+  sink = record { counted = λ failed. absurd (none≢some WriteFault (sym was_fine ∙ failed)); fine = λ written. refl };
+})
 Later-reason g h a b (inr ran) _ = ran.reason
-
--- where its disk did not fail, the disk counted no fault
-pub Later-disk_fine : {D : Type 0} {K : Type 0} (g : Ghosts D) (h : SinkGhosts K) (a b : Daemon D K) → Later g h a b
-    → b.fault ≢ Some DiskFault → g.faults b.flusher.disk.now ≡ g.faults a.flusher.disk.now
-Later-disk_fine g h a b (inl same) sent = ap (λ d. g.faults d.flusher.disk.now) same
-Later-disk_fine g h a b (inr ran) sent = ran.disk_fine sent

@@ -21,7 +21,7 @@ use Rattle.daemon_turn.specs.declared.one_turn.Turn.TheVariants.{Idle, Sent}
 use Rattle.stop_word.specs.declared.fault.DaemonFault.{DaemonFault}
 use Rattle.stop_word.specs.declared.fault.DaemonFault.TheVariants.{DiskFault, WriteFault}
 use Rattle.end_lines.specs.EndLines.{text_of}
-use Rattle.commit_pipeline.specs.Later.{InFlight, HasReason, extra, Ran}
+use Rattle.commit_pipeline.specs.Later.{InFlight, HasReason, StopTells, extra, Ran}
 use Rattle.end_lines.specs.Telling.{TellsFront, counted}
 use Rattle.commit_pipeline.specs.Turning.{MayTurn, IsSameDaemon, Idles, SendsLines, LosesUnits, LosesLines, Turns, Fails, durable}
 use Rattle.commit_pipeline.proofs.FlewLemmas.{Flew, Flew-step, Flew-sends, Flew-loses, Flew-stop}
@@ -31,13 +31,12 @@ use Rattle.batch_lines.proofs.ToldLemmas.{text_of-none, counted-none}
 module _ {D : Type 0} {K : Type 0} (g : Ghosts D) (h : SinkGhosts K) (old new : Daemon D K) where
   Ran-of : (more cut : List Rec) (text : List ℕ) (most : ℕ) → old.fault ≡ None → AllByRecursion IsSpellable (more ++ cut)
       → Flew g more cut most old.flusher new.flusher
-      → IsSameDaemon g h old new → InFlight new.fault (view_of new.flusher.seat) cut → (new.fault ≡ None → MayTurn g new)
+      → IsSameDaemon g old new → InFlight new.fault (view_of new.flusher.seat) cut → (new.fault ≡ None → MayTurn g new)
       → (new.fault ≢ Some DiskFault → cut ≡ []) → Appends (h.held_bytes old.sink.now) (h.held_bytes new.sink.now) text
       → (new.fault ≡ Some WriteFault → TellsFront old.voice (durable old) more text old.tally new.tally)
       → (new.fault ≢ Some WriteFault → (text ≡ text_of old.voice (durable old) more) × (new.tally ≡ counted old.tally more))
-      → HasReason g h old new new.fault → (new.fault ≢ Some DiskFault → g.faults new.flusher.disk.now ≡ g.faults old.flusher.disk.now)
-      → most ≤ 4 * length more + extra new.fault → Ran g h old new
-  Ran-of more cut text most fine spellable flew same in_flight may_turn cuts appended front all reason disk_fine count = record {
+      → HasReason g h old new → most ≤ 4 * length more + extra new.fault → Ran g h old new
+  Ran-of more cut text most fine spellable flew same in_flight may_turn cuts appended front all reason count = record {
     was_fine = fine;
     more = more;
     cut = cut;
@@ -55,7 +54,6 @@ module _ {D : Type 0} {K : Type 0} (g : Ghosts D) (h : SinkGhosts K) (old new : 
     front = front;
     all = all;
     reason = reason;
-    disk_fine = disk_fine;
     count = λ honest. omega (arith, flew.count honest, count);
   }
 
@@ -67,11 +65,20 @@ module _ {D : Type 0} {K : Type 0} (g : Ghosts D) (h : SinkGhosts K) (old new : 
   fine-front : {T : Type 0} → new.fault ≡ None → new.fault ≡ Some WriteFault → T
   fine-front fine failed = absurd (none≢some WriteFault (sym fine ∙ failed))
 
+  -- and no fault was counted
+  fine-reason : new.fault ≡ None → (view_of new.flusher.seat).sending.stop ≡ (view_of old.flusher.seat).sending.stop
+      → g.faults new.flusher.disk.now ≡ g.faults old.flusher.disk.now → h.faults new.sink.now ≡ h.faults old.sink.now → HasReason g h old new
+  fine-reason fine stop disk_fine sink_fine = record {
+    stop = subst (StopTells old new) (sym fine) stop;
+    disk = record { counted = λ failed. absurd (none≢some DiskFault (sym fine ∙ failed)); fine = λ sent. disk_fine };
+    sink = record { counted = λ failed. absurd (none≢some WriteFault (sym fine ∙ failed)); fine = λ written. sink_fine };
+  }
+
   fine-flight : new.fault ≡ None → (view_of new.flusher.seat).sending.read ≡ [] → InFlight new.fault (view_of new.flusher.seat) []
   fine-flight fine read = subst (λ f. InFlight f (view_of new.flusher.seat) []) (sym fine) (refl, read)
 
   -- the seat made steps, and nothing was sent
-  Ran-quiet : MayTurn g old → Flew g [] [] 0 old.flusher new.flusher → IsSameDaemon g h old new → MayTurn g new
+  Ran-quiet : MayTurn g old → Flew g [] [] 0 old.flusher new.flusher → IsSameDaemon g old new → MayTurn g new
       → new ≡ record old { flusher = new.flusher }
       → (view_of new.flusher.seat).sending.stop ≡ (view_of old.flusher.seat).sending.stop
       → g.faults new.flusher.disk.now ≡ g.faults old.flusher.disk.now → Ran g h old new
@@ -80,14 +87,14 @@ module _ {D : Type 0} {K : Type 0} (g : Ghosts D) (h : SinkGhosts K) (old new : 
       (subst (λ (d : Daemon D K). Appends (h.held_bytes old.sink.now) (h.held_bytes d.sink.now) []) (sym rest)
       (Appends-nil (h.held_bytes old.sink.now)))
       (fine-front may.fine) (λ written. nothing-all (ap (λ (d : Daemon D K). d.tally) rest))
-      (subst (HasReason g h old new) (sym may.fine) stop) (λ sent. disk_fine) (omega (arith, ap extra may.fine))
+      (fine-reason may.fine stop disk_fine (ap (λ (d : Daemon D K). h.faults d.sink.now) rest)) (omega (arith, ap extra may.fine))
 
   -- what some units spell is some record
   some-records : (units : List ℕ) (records : List Rec) → AreUnitsOf units records → 0 < length units → 1 ≤ length records
   some-records units [] spelled some = absurd (omega (arith, some, ap length spelled.units_are))
   some-records units (record_ ∷ records) spelled some = omega arith
 
-  Ran-sent : (lines to : ℕ) → MayTurn g old → SendsLines g h old new lines to → IsSameDaemon g h old new → MayTurn g new → Ran g h old new
+  Ran-sent : (lines to : ℕ) → MayTurn g old → SendsLines g h old new lines to → IsSameDaemon g old new → MayTurn g new → Ran g h old new
   Ran-sent lines to ready sent same may =
       let is = ap (λ m. m.0) sent.flush.seat.me in
       let flew = Flew-sends g old.flusher new.flusher (durable old) to ready.flusher sent.flush in
@@ -96,11 +103,11 @@ module _ {D : Type 0} {K : Type 0} (g : Ghosts D) (h : SinkGhosts K) (old new : 
       (subst (AllByRecursion IsSpellable) (sym (append-nil sent.flush.records)) sent.flush.spelled.spellable) flew same
       (fine-flight may.fine flew.read) (λ fine. may) (λ disk. refl) sent.appended
       (fine-front may.fine) (λ written. (sent.tells.text_is, sent.tells.counts))
-      (subst (HasReason g h old new) (sym may.fine) (ap (λ (v : View). v.sending.stop) is)) (λ other. sent.disk_fine)
+      (fine-reason may.fine (ap (λ (v : View). v.sending.stop) is) sent.disk_fine sent.sink_fine)
       (omega (arith, some, ap extra may.fine))
 
   -- the disk failed
-  Ran-lost : MayTurn g old → LosesUnits g old new → IsSameDaemon g h old new → Ran g h old new
+  Ran-lost : MayTurn g old → LosesUnits g old new → IsSameDaemon g old new → Ran g h old new
   Ran-lost ready lost same =
       let fault : new.fault ≡ Some DiskFault = ap (λ (d : Daemon D K). d.fault) lost.rest in
       let is = ap (λ m. m.0) lost.stops.seat.me in
@@ -112,11 +119,15 @@ module _ {D : Type 0} {K : Type 0} (g : Ghosts D) (h : SinkGhosts K) (old new : 
       (subst (λ (d : Daemon D K). Appends (h.held_bytes old.sink.now) (h.held_bytes d.sink.now) []) (sym lost.rest)
       (Appends-nil (h.held_bytes old.sink.now)))
       (λ failed. absurd cc) (λ written. nothing-all (ap (λ (d : Daemon D K). d.tally) lost.rest))
-      (subst (HasReason g h old new) (sym fault) (lost.rose, ap (λ (v : View). v.sending.stop) is)) (λ sent. absurd (sent fault))
+      (record {
+        stop = subst (StopTells old new) (sym fault) (ap (λ (v : View). v.sending.stop) is);
+        disk = record { counted = λ failed. lost.rose; fine = λ sent. absurd (sent fault) };
+        sink = record { counted = λ failed. absurd cc; fine = λ written. ap (λ (d : Daemon D K). h.faults d.sink.now) lost.rest };
+      })
       (omega (arith, ap extra fault))
 
   -- the sink failed
-  Ran-unwritten : MayTurn g old → LosesLines g h old new → IsSameDaemon g h old new → Ran g h old new
+  Ran-unwritten : MayTurn g old → LosesLines g h old new → IsSameDaemon g old new → Ran g h old new
   Ran-unwritten ready lost same =
       let is = ap (λ m. m.0) lost.stops.seat.me in
       let flew = Flew-stop g lost.flush.records [] 4 2 old.flusher lost.sent new.flusher
@@ -127,17 +138,20 @@ module _ {D : Type 0} {K : Type 0} (g : Ghosts D) (h : SinkGhosts K) (old new : 
       (subst (λ f. InFlight f (view_of new.flusher.seat) []) (sym lost.fault) (refl, flew.read))
       (λ fine. absurd (none≢some WriteFault (sym fine ∙ lost.fault))) (λ sent. refl) lost.appended
       (λ failed. lost.tells) (λ written. absurd (written lost.fault))
-      (subst (HasReason g h old new) (sym lost.fault) (
-        lost.rose,
-        ap (λ (v : View). v.sending.stop) is,
-        TellsFront-speaks old.voice (durable old) lost.flush.records lost.text old.tally new.tally lost.tells,
-      ))
-      (λ sent. lost.disk_fine) (omega (arith, some, ap extra lost.fault))
+      (record {
+        stop = subst (StopTells old new) (sym lost.fault) (
+          ap (λ (v : View). v.sending.stop) is,
+          TellsFront-speaks old.voice (durable old) lost.flush.records lost.text old.tally new.tally lost.tells,
+        );
+        disk = record { counted = λ failed. absurd cc; fine = λ sent. lost.disk_fine };
+        sink = record { counted = λ failed. lost.rose; fine = λ written. absurd (written lost.fault) };
+      })
+      (omega (arith, some, ap extra lost.fault))
 
   module _ (rest : new ≡ record old { flusher = new.flusher }) (seat_alone : new.flusher ≡ record old.flusher { seat = new.flusher.seat }) where
     -- where the seat alone made steps, it is the same daemon
     IsSameDaemon-step : IsSameSeat old.flusher.seat new.flusher.seat → (view_of new.flusher.seat).standing ≡ (view_of old.flusher.seat).standing
-        → IsSameDaemon g h old new
+        → IsSameDaemon g old new
     IsSameDaemon-step seat workers = record {
       flusher = record {
         table = ap (λ (f : Flusher D). f.table) seat_alone;
@@ -150,8 +164,6 @@ module _ {D : Type 0} {K : Type 0} (g : Ghosts D) (h : SinkGhosts K) (old new : 
       };
       sink = ap (λ (d : Daemon D K). d.sink.ghost_name) rest;
       voice = ap (λ (d : Daemon D K). d.voice) rest;
-      disk_faults = omega (arith, ap (λ (f : Flusher D). g.faults f.disk.now) seat_alone);
-      sink_faults = omega (arith, ap (λ (d : Daemon D K). h.faults d.sink.now) rest);
     }
 
     -- the view after steps that change nothing but what was seen
@@ -178,10 +190,10 @@ module _ {D : Type 0} {K : Type 0} (g : Ghosts D) (h : SinkGhosts K) (old new : 
   Ran-idle : Idles old new → MayTurn g old → MayTurn g new → Ran g h old new
   Ran-idle idles ready may = Ran-steps idles.rest idles.flush.rest _ idles.flush.seat ready may refl refl refl refl refl refl refl
 
-  pub Ran-turned : (turn : Turn) → Turns g h old new turn → MayTurn g old → IsSameDaemon g h old new → MayTurn g new → Ran g h old new
+  pub Ran-turned : (turn : Turn) → Turns g h old new turn → MayTurn g old → IsSameDaemon g old new → MayTurn g new → Ran g h old new
   Ran-turned Idle idles ready same may = Ran-idle idles ready may
   Ran-turned (Sent lines to) sent ready same may = Ran-sent lines to ready sent same may
 
-  pub Ran-failed : (fault : DaemonFault) → Fails g h old new fault → MayTurn g old → IsSameDaemon g h old new → Ran g h old new
+  pub Ran-failed : (fault : DaemonFault) → Fails g h old new fault → MayTurn g old → IsSameDaemon g old new → Ran g h old new
   Ran-failed DiskFault lost ready same = Ran-lost ready lost same
   Ran-failed WriteFault lost ready same = Ran-unwritten ready lost same

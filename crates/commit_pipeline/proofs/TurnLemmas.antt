@@ -5,10 +5,11 @@ use Rattle.log_disk.specs.declared.sink.Sink.{Ghosts as SinkGhosts}
 use Rattle.end_lines.specs.declared.tally.Tally.{Tally}
 use Rattle.stop_word.specs.declared.fault.DaemonFault.{DaemonFault}
 use Rattle.stop_word.specs.declared.fault.DaemonFault.TheVariants.{DiskFault, WriteFault}
+use Rattle.flusher.specs.Flushing.{IsSame}
 use Rattle.flusher.specs.declared.flusher.Flusher.{Flusher}
 use Rattle.daemon_turn.specs.declared.one_turn.Turn.{Turn}
 use Rattle.daemon_turn.specs.declared.one_turn.Turn.TheVariants.{Idle, Sent}
-use Rattle.daemon_turn.specs.OneTurn.{MayGoOn, StaysSame, Made, Failed}
+use Rattle.daemon_turn.specs.OneTurn.{MayGoOn, Made, Failed}
 use Rattle.commit_pipeline.specs.declared.daemon.Daemon.{Daemon}
 use Rattle.commit_pipeline.specs.Turning.{MayTurn, IsSameDaemon, Turns, Fails}
 
@@ -34,6 +35,7 @@ module _ {D : Type 0} {K : Type 0} (g : Ghosts D) (h : SinkGhosts K) (old : Daem
     tells = sent.tells;
     fine = fine;
     disk_fine = sent.disk_fine;
+    sink_fine = sent.sink_fine;
   }
 
   pub Fails-made : (fault : DaemonFault) → Failed g h old.voice old.flusher f old.sink.now sink old.tally tally fault
@@ -61,11 +63,5 @@ module _ {D : Type 0} {K : Type 0} (g : Ghosts D) (h : SinkGhosts K) (old : Daem
   pub MayTurn-made : MayGoOn g f tally → old.fault ≡ None → MayTurn g (next old.fault)
   MayTurn-made may fine = record { flusher = may.flusher; fine = fine; running = may.running; counted = may.counted }
 
-  pub IsSameDaemon-made : (fault : Option DaemonFault) → StaysSame g h old.flusher f old.sink.now sink → IsSameDaemon g h old (next fault)
-  IsSameDaemon-made fault same = record {
-    flusher = same.flusher;
-    sink = refl;
-    voice = refl;
-    disk_faults = same.disk_faults;
-    sink_faults = same.sink_faults;
-  }
+  pub IsSameDaemon-made : (fault : Option DaemonFault) → IsSame g old.flusher f → IsSameDaemon g old (next fault)
+  IsSameDaemon-made fault same = record { flusher = same; sink = refl; voice = refl }

@@ -5,7 +5,7 @@ use Rattle.std.specs.Io.KnownBytes.{Appends}
 use Rattle.log_disk.specs.Disk.{Leaves}
 use Rattle.log_disk.specs.declared.disk.LogDisk.{Ghosts}
 use Rattle.log_disk.specs.declared.sink.Sink.{Ghosts as SinkGhosts}
-use Rattle.log_disk.specs.Faults.{Rose}
+use Rattle.log_disk.specs.Faults.{CountsWhere}
 use Rattle.log_record.specs.declared.rec.Rec.{Rec}
 use Rattle.log_record.specs.LogList.{units_of}
 use Rattle.log_record.specs.Spelling.{IsSpellable}
@@ -35,15 +35,17 @@ InFlight None view cut = (cut ≡ []) × (view.sending.read ≡ [])
 InFlight (Some DiskFault) view cut = view.sending.read ≡ units_of cut
 InFlight (Some WriteFault) view cut = (cut ≡ []) × (view.sending.read ≡ [])
 
--- the count of the object that the fault names rose, and the stop word tells it; without one the stop word is as before. To a daemon that only
--- counts the sink does not fail.
-abbrev pub HasReason : {D : Type 0} → {K : Type 0} → Ghosts D → SinkGhosts K → Daemon D K → Daemon D K
-    → Option DaemonFault → Type 0
-HasReason g h old new None = (view_of new.flusher.seat).sending.stop ≡ (view_of old.flusher.seat).sending.stop
-HasReason g h old new (Some DiskFault) = Rose (g.faults old.flusher.disk.now) (g.faults new.flusher.disk.now)
-    × ((view_of new.flusher.seat).sending.stop ≡ stop_word DiskFault)
-HasReason g h old new (Some WriteFault) = Rose (h.faults old.sink.now) (h.faults new.sink.now)
-    × ((view_of new.flusher.seat).sending.stop ≡ stop_word WriteFault) × (old.voice ≡ Lines)
+-- the stop word tells the fault; without one it is as before. To a daemon that only counts the sink does not fail.
+abbrev pub StopTells : {D : Type 0} → {K : Type 0} → Daemon D K → Daemon D K → Option DaemonFault → Type 0
+StopTells old new None = (view_of new.flusher.seat).sending.stop ≡ (view_of old.flusher.seat).sending.stop
+StopTells old new (Some DiskFault) = (view_of new.flusher.seat).sending.stop ≡ stop_word DiskFault
+StopTells old new (Some WriteFault) = ((view_of new.flusher.seat).sending.stop ≡ stop_word WriteFault) × (old.voice ≡ Lines)
+
+-- What befell the daemon has its reason: the stop word tells it, and the object that it names counted one fault. No other fault was counted.
+pub record HasReason {D : Type 0} {K : Type 0} (g : Ghosts D) (h : SinkGhosts K) (old new : Daemon D K) : Type 0 where
+  pub stop : StopTells old new new.fault
+  pub disk : CountsWhere (new.fault ≡ Some DiskFault) (g.faults old.flusher.disk.now) (g.faults new.flusher.disk.now)
+  pub sink : CountsWhere (new.fault ≡ Some WriteFault) (h.faults old.sink.now) (h.faults new.sink.now)
 
 -- what a flush that failed may have written to the disk
 abbrev pub extra : Option DaemonFault → ℕ
@@ -52,14 +54,14 @@ extra (Some DiskFault) = 4
 extra (Some WriteFault) = 0
 
 -- Turns of a daemon to which nothing had befallen. `more` are the records that they sent, `cut` those in flight at a fault of the
--- disk, and `text` is what was written. Where the disk did not fail the daemon, it counted no fault: no call that failed was made again.
+-- disk, and `text` is what was written. No call that failed was made again.
 pub record Ran {D : Type 0} {K : Type 0} (g : Ghosts D) (h : SinkGhosts K) (old new : Daemon D K) : Type 0 where
   pub was_fine : old.fault ≡ None
   pub more : List Rec
   pub cut : List Rec
   pub text : List ℕ
   pub spellable : AllByRecursion IsSpellable (more ++ cut)
-  pub same : IsSameDaemon g h old new
+  pub same : IsSameDaemon g old new
   pub constants : (view_of new.flusher.seat).constants ≡ (view_of old.flusher.seat).constants
   pub sent : sent_of new.flusher ≡ sent_of old.flusher ++ units_of more
   pub in_flight : InFlight new.fault (view_of new.flusher.seat) cut
@@ -75,8 +77,7 @@ pub record Ran {D : Type 0} {K : Type 0} (g : Ghosts D) (h : SinkGhosts K) (old 
   pub front : new.fault ≡ Some WriteFault → TellsFront old.voice (durable old) more text old.tally new.tally
   pub all : new.fault ≢ Some WriteFault
       → (text ≡ text_of old.voice (durable old) more) × (new.tally ≡ counted old.tally more)
-  pub reason : HasReason g h old new new.fault
-  pub disk_fine : new.fault ≢ Some DiskFault → g.faults new.flusher.disk.now ≡ g.faults old.flusher.disk.now
+  pub reason : HasReason g h old new
   pub count : g.honest old.flusher.disk.now
       → g.written_count new.flusher.disk.now ≤ g.written_count old.flusher.disk.now + 4 * length more + extra new.fault
 

@@ -31,19 +31,17 @@ pub record MayTurn {D : Type 0} {K : Type 0} (g : Ghosts D) (d : Daemon D K) : T
   pub counted : d.tally.done + d.tally.refused ≤ length (sent_of d.flusher)
 
 -- it is the same daemon, with the same disk and sink
-pub record IsSameDaemon {D : Type 0} {K : Type 0} (g : Ghosts D) (h : SinkGhosts K) (old new : Daemon D K) : Type 0 where
+pub record IsSameDaemon {D : Type 0} {K : Type 0} (g : Ghosts D) (old new : Daemon D K) : Type 0 where
   pub flusher : IsSame g old.flusher new.flusher
   pub sink : new.sink.ghost_name ≡ old.sink.ghost_name
   pub voice : new.voice ≡ old.voice
-  pub disk_faults : g.faults old.flusher.disk.now ≤ g.faults new.flusher.disk.now
-  pub sink_faults : h.faults old.sink.now ≤ h.faults new.sink.now
 
 -- exposed, as loaded, is durable, and nothing else was done
 pub record Idles {D : Type 0} {K : Type 0} (old new : Daemon D K) : Type 0 where
   pub flush : FindsNothing old.flusher new.flusher (durable old)
   pub rest : new ≡ record old { flusher = new.flusher }
 
--- records were sent, and then their lines were written; the disk counted no fault
+-- records were sent, and then their lines were written; no fault was counted
 pub record SendsLines {D : Type 0} {K : Type 0} (g : Ghosts D) (h : SinkGhosts K) (old new : Daemon D K) (lines to : ℕ)
     : Type 0 where
   pub flush : Sends g old.flusher new.flusher (durable old) to
@@ -52,8 +50,9 @@ pub record SendsLines {D : Type 0} {K : Type 0} (g : Ghosts D) (h : SinkGhosts K
   pub tells : TellsAll old.voice (durable old) flush.records text lines old.tally new.tally
   pub fine : new.fault ≡ None
   pub disk_fine : g.faults new.flusher.disk.now ≡ g.faults old.flusher.disk.now
+  pub sink_fine : h.faults new.sink.now ≡ h.faults old.sink.now
 
--- the disk failed to take the records; no line was written, and the stop word tells it
+-- the disk failed to take the records, and counted that; no line was written, and the stop word tells it
 pub record LosesUnits {D : Type 0} {K : Type 0} (g : Ghosts D) (old new : Daemon D K) : Type 0 where
   pub lost : Flusher D
   pub flush : Loses g old.flusher lost
@@ -61,7 +60,7 @@ pub record LosesUnits {D : Type 0} {K : Type 0} (g : Ghosts D) (old new : Daemon
   pub rest : new ≡ record old { flusher = new.flusher; fault = Some DiskFault }
   pub rose : Rose (g.faults old.flusher.disk.now) (g.faults new.flusher.disk.now)
 
--- the records were sent, and then the sink failed to take the lines; the stop word tells it, and the disk counted no fault
+-- the records were sent, and then the sink failed to take the lines, and counted that; the stop word tells it
 pub record LosesLines {D : Type 0} {K : Type 0} (g : Ghosts D) (h : SinkGhosts K) (old new : Daemon D K) : Type 0 where
   pub to : ℕ
   pub sent : Flusher D

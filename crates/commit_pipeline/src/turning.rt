@@ -16,7 +16,7 @@ impl<'a, D: LogDisk, K: Sink> Daemon<'a, D, K> {
         ensures turned { IfOk result (Turns D.LogDisk K.Sink self.old self.new) }
         ensures failed { IfErr result (Fails D.LogDisk K.Sink self.old self.new) }
         ensures ready { OnOk result (MayTurn D.LogDisk self.new) }
-        ensures same { IsSameDaemon D.LogDisk K.Sink self.old self.new }
+        ensures same { IsSameDaemon D.LogDisk self.old self.new }
         ensures later { Later D.LogDisk K.Sink self.old self.new }
     {
         let made = make_turn(&mut self.flusher, self.voice, self.sink, &mut self.tally);

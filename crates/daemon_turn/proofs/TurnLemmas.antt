@@ -28,8 +28,9 @@ module _ {D : Type 0} {K : Type 0} (g : Ghosts D) (h : SinkGhosts K) (voice : Vo
   pub SendsAndTells-told : (new : Flusher D) (sink' : K) (tally' : Tally) (from to lines : ℕ) → Sends g old new from to
       → (text : List ℕ) × Appends (h.held_bytes sink) (h.held_bytes sink') text
       × ((records : List Rec) → AreUnitsOf new.batch.units records → TellsAll voice from records text lines tally tally')
-      → g.faults new.disk.now ≡ g.faults old.disk.now → SendsAndTells g h voice old new sink sink' tally tally' lines to
-  SendsAndTells-told new sink' tally' from to lines sends told disk_fine =
+      → g.faults new.disk.now ≡ g.faults old.disk.now → h.faults sink' ≡ h.faults sink
+      → SendsAndTells g h voice old new sink sink' tally tally' lines to
+  SendsAndTells-told new sink' tally' from to lines sends told disk_fine sink_fine =
       let flush = subst (λ n. Sends g old new n to) sends.durable sends in
       record {
         flush = flush;
@@ -38,6 +39,7 @@ module _ {D : Type 0} {K : Type 0} (g : Ghosts D) (h : SinkGhosts K) (voice : Vo
         tells = subst (λ n. TellsAll voice n flush.records told.0 lines tally tally') sends.durable
             (told.2 flush.records (subst (λ us. AreUnitsOf us flush.records) (sym (ap (λ b. b.units) flush.batch)) flush.spelled));
         disk_fine = disk_fine;
+        sink_fine = sink_fine;
       }
 
   -- the disk failed, and then the stop word was stored
@@ -49,7 +51,7 @@ module _ {D : Type 0} {K : Type 0} (g : Ghosts D) (h : SinkGhosts K) (voice : Vo
     stops = stops;
     sink_is = refl;
     tally_is = refl;
-    rose = subst (λ n. Rose (g.faults old.disk.now) n) (sym (ap (λ f. g.faults f.disk.now) stops.rest)) rose;
+    rose = ap (λ f. g.faults f.disk.now) stops.rest ∙ rose;
   }
 
   -- the sink failed, and then the stop word was stored
@@ -104,7 +106,7 @@ MayGoOn-sent g old new tally tally' from to sends ready may few =
       );
     }
 
--- the stop word was stored: it is the same flusher, and no fault was counted
+-- the stop word was stored: it is the same flusher
 module _ {D : Type 0} (g : Ghosts D) (old mid new : Flusher D) (word : ℕ) (same : IsSame g old mid) (stops : Stops word mid new) where
   pub IsSame-stop : IsSame g old new
   IsSame-stop =
@@ -123,6 +125,3 @@ module _ {D : Type 0} (g : Ghosts D) (old mid new : Flusher D) (word : ℕ) (sam
         honest = subst (λ (f : Flusher D). g.honest old.disk.now ↔ g.honest f.disk.now) (sym stops.rest) same.honest;
         later = omega (arith, same.later, ap (λ (f : Flusher D). g.moment f.disk.now) stops.rest);
       }
-
-  pub faults-stop : g.faults old.disk.now ≤ g.faults mid.disk.now → g.faults old.disk.now ≤ g.faults new.disk.now
-  faults-stop faults = omega (arith, faults, ap (λ (f : Flusher D). g.faults f.disk.now) stops.rest)

@@ -14,7 +14,7 @@ use Rattle.stop_word.specs.declared.fault.DaemonFault.{DaemonFault}
 use Rattle.stop_word.specs.declared.fault.DaemonFault.TheVariants.{DiskFault, WriteFault}
 use Rattle.stop_word.specs.Stopping.{stop_word}
 use Rattle.flusher.specs.declared.flusher.Flusher.{Flusher}
-use Rattle.flusher.specs.Flushing.{MayFlush, IsSame, FindsNothing, Sends, Loses, sent_of}
+use Rattle.flusher.specs.Flushing.{MayFlush, FindsNothing, Sends, Loses, sent_of}
 use Rattle.daemon_turn.specs.declared.one_turn.Turn.{Turn}
 use Rattle.daemon_turn.specs.declared.one_turn.Turn.TheVariants.{Idle, Sent}
 
@@ -29,12 +29,6 @@ pub record Stops {D : Type 0} (word : ℕ) (old new : Flusher D) : Type 0 where
   pub seat : Becomes old.seat new.seat (has_stopped word (view_of old.seat))
   pub rest : new ≡ record old { seat = new.seat }
 
--- it is the same flusher, and no count of faults fell
-pub record StaysSame {D : Type 0} {K : Type 0} (g : Ghosts D) (h : SinkGhosts K) (old new : Flusher D) (sink sink' : K) : Type 0 where
-  pub flusher : IsSame g old new
-  pub disk_faults : g.faults old.disk.now ≤ g.faults new.disk.now
-  pub sink_faults : h.faults sink ≤ h.faults sink'
-
 module _ {D : Type 0} {K : Type 0} (g : Ghosts D) (h : SinkGhosts K) (voice : Voice) (old new : Flusher D) (sink sink' : K) (tally tally' : Tally) where
   -- exposed, as loaded, is durable, and nothing else was done
   pub record FindsAll : Type 0 where
@@ -42,15 +36,16 @@ module _ {D : Type 0} {K : Type 0} (g : Ghosts D) (h : SinkGhosts K) (voice : Vo
     pub sink_is : sink' ≡ sink
     pub tally_is : tally' ≡ tally
 
-  -- records were sent, and then their lines were written; the disk counted no fault
+  -- records were sent, and then their lines were written; no fault was counted
   pub record SendsAndTells (lines to : ℕ) : Type 0 where
     pub flush : Sends g old new (sent_to (view_of old.seat)) to
     pub text : List ℕ
     pub appended : Appends (h.held_bytes sink) (h.held_bytes sink') text
     pub tells : TellsAll voice (sent_to (view_of old.seat)) flush.records text lines tally tally'
     pub disk_fine : g.faults new.disk.now ≡ g.faults old.disk.now
+    pub sink_fine : h.faults sink' ≡ h.faults sink
 
-  -- the disk failed to take the records; no line was written, and the stop word tells it
+  -- the disk failed to take the records, and counted that; no line was written, and the stop word tells it
   pub record CannotSend : Type 0 where
     pub lost : Flusher D
     pub flush : Loses g old lost
@@ -59,7 +54,7 @@ module _ {D : Type 0} {K : Type 0} (g : Ghosts D) (h : SinkGhosts K) (voice : Vo
     pub tally_is : tally' ≡ tally
     pub rose : Rose (g.faults old.disk.now) (g.faults new.disk.now)
 
-  -- the records were sent, and then the sink failed to take the lines; the stop word tells it, and the disk counted no fault
+  -- the records were sent, and then the sink failed to take the lines, and counted that; the stop word tells it
   pub record CannotTell : Type 0 where
     pub to : ℕ
     pub sent : Flusher D

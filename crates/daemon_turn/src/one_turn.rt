@@ -1,6 +1,7 @@
 //! One flush, and then the lines of what it sent.
 ghost use Rattle.std.specs.Prelude.{IfOk, IfErr, OnOk};
-ghost use Rattle.daemon_turn.specs.OneTurn.{MayGoOn, Made, Failed, StaysSame};
+ghost use Rattle.flusher.specs.Flushing.{IsSame};
+ghost use Rattle.daemon_turn.specs.OneTurn.{MayGoOn, Made, Failed};
 
 use batch_lines::tell;
 use end_lines::{Tally, Voice};
@@ -30,7 +31,7 @@ pub fn make_turn<D: LogDisk, K: Sink>(
     ensures made { IfOk result (Made D.LogDisk K.Sink voice flusher.old flusher.new sink.old sink.new tally.old tally.new) }
     ensures failed { IfErr result (Failed D.LogDisk K.Sink voice flusher.old flusher.new sink.old sink.new tally.old tally.new) }
     ensures ready { OnOk result (MayGoOn D.LogDisk flusher.new tally.new) }
-    ensures same { StaysSame D.LogDisk K.Sink flusher.old flusher.new sink.old sink.new }
+    ensures same { IsSame D.LogDisk flusher.old flusher.new }
 {
     let Ok(flushed) = flusher.flush() else {
         return Err(tell_fault(flusher.table, &mut flusher.seat, DaemonFault::DiskFault));

@@ -5,11 +5,16 @@ use Rattle.std.specs.Prelude.{◌≡◌, ◌≤◌, ℕ, ◌+◌, ◌-◌, ◌^�
 abbrev pub raised : ℕ → ℕ
 raised count = min (count + 1) (2 ^ 64 - 1)
 
--- the count rose, or stands at its last value
+-- one fault was counted, and no other
 abbrev pub Rose : ℕ → ℕ → Type 0
-Rose before now = raised before ≤ now
+Rose before now = now ≡ raised before
 
--- the count never falls, stays where the call succeeded, and rose where it failed
+-- one fault is counted where P holds, and none where it doesn't
+pub record CountsWhere (P : Type 0) (before now : ℕ) : Type 0 where
+  pub counted : P → Rose before now
+  pub fine : (P → ⊥) → now ≡ before
+
+-- one fault is counted where the call failed, and none where it succeeded; so what failed wasn't tried again
 pub record HasCause {T E : Type 0} (before now : ℕ) (result : Result T E) : Type 0 where
   pub later : before ≤ now
   pub fine : OnOk result (now ≡ before)

@@ -1,6 +1,6 @@
-use Rattle.std.proofs.Common.{◌∙◌, le_trans}
-use Rattle.cli_threads.proofs.EndingLemmas.{disk-concluded, fine-concluded, honest-ended, later-ended, write-concluded}
-use Rattle.cli_demo.proofs.DemoLemmas.{Rose-later, answers-demo, range-concluded, tells-concluded, text-concluded}
+use Rattle.log_disk.proofs.Counting.{CountsWhere-after}
+use Rattle.cli_threads.proofs.EndingLemmas.{disk-concluded, honest-ended, write-concluded}
+use Rattle.cli_demo.proofs.DemoLemmas.{answers-demo, range-concluded, tells-concluded, text-concluded}
 use Rattle.cli_demo.proofs.demo_command.demo_command.Goals as goal
 
 pub returns-in-Ok-clause-answer : goal.returns-in-Ok-clause-answer
@@ -33,19 +33,5 @@ returns-in-Ok-clause-write g c =
     write-concluded g.D.LogDisk g.K.Sink _ _ _ _ _ _ _ _ c.finish.ensures.has _ _ c.finish.result c.finish.ensures.concludes c.finish.ensures.write
 
 pub returns-in-Ok-clause-disk : goal.returns-in-Ok-clause-disk
-returns-in-Ok-clause-disk g c = λ is.
-    Rose-later _ _ _ c.in-Ok.ensures.later
-    (disk-concluded g.D.LogDisk g.K.Sink _ _ _ _ _ _ _ _ c.finish.ensures.has _ _ c.finish.result c.finish.ensures.concludes is)
-
-pub returns-in-Ok-clause-no_fault : goal.returns-in-Ok-clause-no_fault
-returns-in-Ok-clause-no_fault g c = λ other.
-    fine-concluded g.D.LogDisk g.K.Sink _ _ _ _ _ _ _ _ c.finish.ensures.has _ _ c.finish.result c.finish.ensures.concludes other
-    ∙ c.in-Ok.ensures.no_fault (λ is. cc)
-
-pub returns-in-Ok-clause-later : goal.returns-in-Ok-clause-later
-returns-in-Ok-clause-later g c =
-    le_trans (later-ended g.D.LogDisk g.K.Sink _ _ _ _ _ _ _ _ c.finish.ensures.has).1 c.finish.ensures.later
-
-pub returns-in-Ok-clause-later_disk : goal.returns-in-Ok-clause-later_disk
-returns-in-Ok-clause-later_disk g c =
-    le_trans c.in-Ok.ensures.later (later-ended g.D.LogDisk g.K.Sink _ _ _ _ _ _ _ _ c.finish.ensures.has).0
+returns-in-Ok-clause-disk g c = CountsWhere-after _ _ _ _ (c.in-Ok.ensures.disk.fine (λ is. cc))
+    (disk-concluded g.D.LogDisk g.K.Sink _ _ _ _ _ _ _ _ c.finish.ensures.has _ _ c.finish.result c.finish.ensures.concludes)

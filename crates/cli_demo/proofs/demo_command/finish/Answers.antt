@@ -17,5 +17,4 @@ returns g c = record {
   has = rw (c.plan_of_demo-plan.ensures.voice, c.plan_of_demo-plan.ensures.wait) at (c.run_transfers-ended.ensures.ended _ c.requires.opened);
   concludes = c.conclude_counted.ensures.concludes;
   write = c.conclude_counted.ensures.write;
-  later = c.conclude_counted.ensures.later;
 }

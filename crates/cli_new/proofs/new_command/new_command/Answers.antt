@@ -1,4 +1,4 @@
-use Rattle.std.proofs.Common.{◌∙◌, ◌*◌, rules, ap, Err, sym, subst, le_refl}
+use Rattle.std.proofs.Common.{◌∙◌, ◌*◌, ap, Err, refl, sym, subst}
 use Rattle.cli_shared.proofs.ToldLemmas.{TellsRead, TellsWrite, TellsDisk}
 use Rattle.cli_new.proofs.AnswerLemmas.{answers_new-fine, answers_new-write, unmade-fault}
 use Rattle.cli_new.proofs.new_command.new_command.Goals as goal
@@ -19,12 +19,9 @@ returns-in-Err g c =
       exists = made.exists;
       count = made.count;
       honest = made.honest;
-      read = λ is. made.read (ap Err is);
-      write = λ is. absurd (told.write (subst TellsWrite (sym is) tt));
-      disk = λ is. made.disk (ap Err is);
-      no_fault = λ not_disk. made.no_fault (λ is. not_disk cc);
-      later = (made.later, le_refl _);
-      later_disk = made.later_disk;
+      read = record { counted = λ is. made.read.counted (ap Err is); fine = λ other. made.read.fine (λ is. other cc) };
+      write = record { counted = λ is. absurd (told.write (subst TellsWrite (sym is) tt)); fine = λ other. refl };
+      disk = record { counted = λ is. made.disk.counted (ap Err is); fine = λ other. made.disk.fine (λ is. other cc) };
     }
 
 -- the log is made, and its text written
@@ -61,22 +58,22 @@ pub returns-in-Ok-put_accounts-clause-honest : goal.returns-in-Ok-put_accounts-c
 returns-in-Ok-put_accounts-clause-honest g c = c.in-Ok.ensures.honest
 
 pub returns-in-Ok-put_accounts-clause-read : goal.returns-in-Ok-put_accounts-clause-read
-returns-in-Ok-put_accounts-clause-read g c = λ is. absurd (subst TellsRead (sym is) tt)
+returns-in-Ok-put_accounts-clause-read g c = record {
+  counted = λ is. absurd (subst TellsRead (sym is) tt);
+  fine = λ other. c.in-Ok.ensures.read.fine (λ is. cc);
+}
 
 pub returns-in-Ok-put_accounts-clause-write : goal.returns-in-Ok-put_accounts-clause-write
-returns-in-Ok-put_accounts-clause-write g c = λ is. absurd (subst TellsWrite (sym is) tt)
+returns-in-Ok-put_accounts-clause-write g c = record {
+  counted = λ is. absurd (subst TellsWrite (sym is) tt);
+  fine = λ other. c.in-Ok-put_accounts.ensures.cause.fine;
+}
 
 pub returns-in-Ok-put_accounts-clause-disk : goal.returns-in-Ok-put_accounts-clause-disk
-returns-in-Ok-put_accounts-clause-disk g c = λ is. absurd (subst TellsDisk (sym is) tt)
-
-pub returns-in-Ok-put_accounts-clause-no_fault : goal.returns-in-Ok-put_accounts-clause-no_fault
-returns-in-Ok-put_accounts-clause-no_fault g c = λ not_disk. c.in-Ok.ensures.no_fault (search rules steps 300000)
-
-pub returns-in-Ok-put_accounts-clause-later : goal.returns-in-Ok-put_accounts-clause-later
-returns-in-Ok-put_accounts-clause-later g c = (c.in-Ok.ensures.later, c.in-Ok-put_accounts.ensures.cause.later)
-
-pub returns-in-Ok-put_accounts-clause-later_disk : goal.returns-in-Ok-put_accounts-clause-later_disk
-returns-in-Ok-put_accounts-clause-later_disk g c = c.in-Ok.ensures.later_disk
+returns-in-Ok-put_accounts-clause-disk g c = record {
+  counted = λ is. absurd (subst TellsDisk (sym is) tt);
+  fine = λ other. c.in-Ok.ensures.disk.fine (λ is. cc);
+}
 
 -- the log is made, and the writing failed
 pub returns-clause-answer : goal.returns-clause-answer
@@ -112,19 +109,19 @@ pub returns-clause-honest : goal.returns-clause-honest
 returns-clause-honest g c = c.in-Ok.ensures.honest
 
 pub returns-clause-read : goal.returns-clause-read
-returns-clause-read g c = λ is. absurd (subst TellsRead (sym is) tt)
+returns-clause-read g c = record {
+  counted = λ is. absurd (subst TellsRead (sym is) tt);
+  fine = λ other. c.in-Ok.ensures.read.fine (λ is. cc);
+}
 
 pub returns-clause-write : goal.returns-clause-write
-returns-clause-write g c = λ is. c.in-Err-put_accounts.ensures.cause.failed
+returns-clause-write g c = record {
+  counted = λ is. c.in-Err-put_accounts.ensures.cause.failed;
+  fine = λ other. absurd (other refl);
+}
 
 pub returns-clause-disk : goal.returns-clause-disk
-returns-clause-disk g c = λ is. absurd (subst TellsDisk (sym is) tt)
-
-pub returns-clause-no_fault : goal.returns-clause-no_fault
-returns-clause-no_fault g c = λ not_disk. c.in-Ok.ensures.no_fault (search rules steps 300000)
-
-pub returns-clause-later : goal.returns-clause-later
-returns-clause-later g c = (c.in-Ok.ensures.later, c.in-Err-put_accounts.ensures.cause.later)
-
-pub returns-clause-later_disk : goal.returns-clause-later_disk
-returns-clause-later_disk g c = c.in-Ok.ensures.later_disk
+returns-clause-disk g c = record {
+  counted = λ is. absurd (subst TellsDisk (sym is) tt);
+  fine = λ other. c.in-Ok.ensures.disk.fine (λ is. cc);
+}

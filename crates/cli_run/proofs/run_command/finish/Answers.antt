@@ -13,5 +13,4 @@ returns g c = λ opened log. record {
   has = rw (c.plan_of_run-plan.ensures.voice, c.plan_of_run-plan.ensures.wait) at (c.run_transfers-ended.ensures.ended opened log);
   concludes = c.conclude.ensures.concludes;
   write = c.conclude.ensures.write;
-  later = c.conclude.ensures.later;
 }

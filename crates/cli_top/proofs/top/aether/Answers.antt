@@ -28,10 +28,10 @@ returns g c =
       untouched = untouched-of _ _ _ words old new detail came;
       recover = λ asked. (done Recover asked).answer;
       of_recover = λ asked. (done Recover asked).range;
-      complete_recover = λ asked. recover-complete _ _ _ _ _ _ detail (done Recover asked).answer faults.read faults.write;
+      complete_recover = λ asked. recover-complete _ _ _ _ _ _ detail (done Recover asked).answer faults.read.counted faults.write.counted;
       dump = λ asked. (done Dump asked).answer;
       of_dump = λ asked. (done Dump asked).range;
-      complete_dump = λ asked. dump-complete _ _ _ _ _ _ detail (done Dump asked).answer faults.read faults.write;
+      complete_dump = λ asked. dump-complete _ _ _ _ _ _ detail (done Dump asked).answer faults.read.counted faults.write.counted;
       new = λ asked. (done (New asked.0) asked.1).answer;
       of_new = λ asked. (done (New asked.0) asked.1).range;
       images = λ asked. (done (New asked.0) asked.1).images;
@@ -41,25 +41,22 @@ returns g c =
       exists = λ asked. (done (New asked.0) asked.1).exists;
       count = count-of _ _ _ words old new detail came;
       complete = λ asked honest closed. new-complete _ _ _ _ _ _ _ _ detail (done (New asked.0) asked.1).answer
-          ((done (New asked.0) asked.1).exists honest) faults.read faults.write faults.disk closed;
+          ((done (New asked.0) asked.1).exists honest) faults.read.counted faults.write.counted faults.disk.counted closed;
       run = λ log options asked. (done (Run log options) asked).answer;
       of_run = λ asked. (done (Run asked.0 asked.1) asked.2).range;
       quiet = λ asked. (done (Run asked.0 asked.1) asked.2).silent;
       complete_run = λ asked honest. run-complete g.D.LogDisk _ _ _ _ _ _ _ _ _ _ detail ((done (Run asked.0 asked.1) asked.2).answer honest)
-          faults.read faults.write faults.disk;
+          faults.read.counted faults.write.counted faults.disk.counted;
       demo = λ log n seed options asked. (done (Demo log n seed options) asked).answer;
       summary = λ log n seed options asked. (done (Demo log n seed options) asked).text;
       of_demo = λ asked. (done (Demo asked.0 asked.1 asked.2 asked.3) asked.4).range;
       exists_demo = λ asked. (done (Demo asked.0 asked.1 asked.2 asked.3) asked.4).exists;
       unread_demo = λ asked. (done (Demo asked.0 asked.1 asked.2 asked.3) asked.4).unread;
       complete_demo = λ asked honest. demo-complete _ _ _ detail (done (Demo asked.0 asked.1 asked.2 asked.3) asked.4).range
-          ((done (Demo asked.0 asked.1 asked.2 asked.3) asked.4).exists honest) faults.write faults.disk;
+          ((done (Demo asked.0 asked.1 asked.2 asked.3) asked.4).exists honest) faults.write.counted faults.disk.counted;
       silent = silent-of _ _ _ words old new detail came;
       honest = faults.honest;
       read = faults.read;
       write = faults.write;
       disk = faults.disk;
-      no_fault = faults.no_fault;
-      later = faults.later;
-      later_disk = faults.later_disk;
     }

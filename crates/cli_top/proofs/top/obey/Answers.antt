@@ -1,4 +1,4 @@
-use Rattle.std.proofs.Common.{refl, subst, sym, arith}
+use Rattle.std.proofs.Common.{refl, subst, sym}
 use Rattle.cli_demo.specs.Demo.{IsOfDemo}
 use Rattle.cli_world.specs.Alone.{command_of}
 use Rattle.cli_world.specs.World.{world}
@@ -15,9 +15,6 @@ returns-in-Run g c =
         read = called.read;
         write = called.write;
         disk = called.disk;
-        no_fault = called.no_fault;
-        later = called.later;
-        later_disk = called.later_disk;
         honest = called.honest;
       };
       done = record { answer = called.answer; silent = called.silent; range = called.range };
@@ -30,12 +27,9 @@ returns-in-Demo g c =
     (world c.demo_command.new.disk c.args.script.now c.demo_command.new.out) c.demo_command.result) (sym c.in-Demo.is)
     (record {
       faults = record {
-        read = λ read. absurd (subst IsOfDemo read called.range);
+        read = record { counted = λ read. absurd (subst IsOfDemo read called.range); fine = λ other. refl };
         write = called.write;
         disk = called.disk;
-        no_fault = called.no_fault;
-        later = (omega arith, called.later);
-        later_disk = called.later_disk;
         honest = called.honest;
       };
       done = record { answer = called.answer; text = called.text; range = called.range; exists = called.exists; unread = refl };

@@ -19,9 +19,6 @@ returns g c =
         read = called.read;
         write = called.write;
         disk = called.disk;
-        no_fault = called.no_fault;
-        later = called.later;
-        later_disk = called.later_disk;
         honest = called.honest;
       };
     }

@@ -1,4 +1,4 @@
-use Rattle.std.proofs.Common.{arith, refl, subst}
+use Rattle.std.proofs.Common.{refl, subst}
 use Rattle.flusher.specs.Flushing.{Flushes}
 use Rattle.daemon_turn.proofs.TurnLemmas.{FindsAll-found, SendsAndTells-told, CannotSend-stop, CannotTell-stop, MayGoOn-found, MayGoOn-sent, IsSame-stop}
 use Rattle.daemon_turn.proofs.one_turn.make_turn.Goals as goal
@@ -9,11 +9,8 @@ returns-in_default-clause-failed g c =
     c.flush.new.self _ c.in_default.ensures.lost record { seat = c.tell_fault.ensures.stops; rest = refl } c.in_default.ensures.cause.failed)
 
 pub returns-in_default-clause-same : goal.returns-in_default-clause-same
-returns-in_default-clause-same g c = record {
-  flusher = IsSame-stop g.D.LogDisk c.args.flusher.now c.flush.new.self _ 1 c.flush.ensures.same record { seat = c.tell_fault.ensures.stops; rest = refl };
-  disk_faults = c.flush.ensures.cause.later;
-  sink_faults = omega arith;
-}
+returns-in_default-clause-same g c =
+    IsSame-stop g.D.LogDisk c.args.flusher.now c.flush.new.self _ 1 c.flush.ensures.same record { seat = c.tell_fault.ensures.stops; rest = refl }
 
 pub returns-in_default-flushed-clause-made : goal.returns-in_default-flushed-clause-made
 returns-in_default-flushed-clause-made g c =
@@ -26,18 +23,14 @@ returns-in_default-flushed-clause-ready g c =
     MayGoOn-found g.D.LogDisk c.args.flusher.now c.flush.new.self c.args.tally.now _ finds c.requires.ready c.in-Ok.ensures.ready
 
 pub returns-in_default-flushed-clause-same : goal.returns-in_default-flushed-clause-same
-returns-in_default-flushed-clause-same g c = record {
-  flusher = c.flush.ensures.same;
-  disk_faults = c.flush.ensures.cause.later;
-  sink_faults = omega arith;
-}
+returns-in_default-flushed-clause-same g c = c.flush.ensures.same
 
 pub returns-in-Ok-told-clause-made : goal.returns-in-Ok-told-clause-made
 returns-in-Ok-told-clause-made g c =
     let sends = subst (Flushes g.D.LogDisk c.args.flusher.now c.flush.new.self) c.in-To.is c.in-Ok.ensures.flushed in
     SendsAndTells-told g.D.LogDisk g.K.Sink c.args.voice c.args.flusher.now c.args.sink.now c.args.tally.now
     c.flush.new.self c.tell-told.new.sink c.tell-told.new.tally c.in-To.from c.in-To.to c.in-Ok-told.lines sends
-    c.in-Ok-told.ensures.told c.in-Ok.ensures.cause.fine
+    c.in-Ok-told.ensures.told c.in-Ok.ensures.cause.fine c.in-Ok-told.ensures.cause.fine
 
 pub returns-in-Ok-told-clause-ready : goal.returns-in-Ok-told-clause-ready
 returns-in-Ok-told-clause-ready g c =
@@ -46,11 +39,7 @@ returns-in-Ok-told-clause-ready g c =
     c.requires.ready c.in-Ok.ensures.ready c.tell-told.ensures.few
 
 pub returns-in-Ok-told-clause-same : goal.returns-in-Ok-told-clause-same
-returns-in-Ok-told-clause-same g c = record {
-  flusher = c.flush.ensures.same;
-  disk_faults = c.flush.ensures.cause.later;
-  sink_faults = c.tell-told.ensures.cause.later;
-}
+returns-in-Ok-told-clause-same g c = c.flush.ensures.same
 
 pub returns-in-Err-clause-failed : goal.returns-in-Err-clause-failed
 returns-in-Err-clause-failed g c =
@@ -61,8 +50,5 @@ returns-in-Err-clause-failed g c =
     record { seat = c.tell_fault-in-Err.ensures.stops; rest = refl } c.in-Ok.ensures.cause.fine)
 
 pub returns-in-Err-clause-same : goal.returns-in-Err-clause-same
-returns-in-Err-clause-same g c = record {
-  flusher = IsSame-stop g.D.LogDisk c.args.flusher.now c.flush.new.self _ 2 c.flush.ensures.same record { seat = c.tell_fault-in-Err.ensures.stops; rest = refl };
-  disk_faults = c.flush.ensures.cause.later;
-  sink_faults = c.tell-told.ensures.cause.later;
-}
+returns-in-Err-clause-same g c =
+    IsSame-stop g.D.LogDisk c.args.flusher.now c.flush.new.self _ 2 c.flush.ensures.same record { seat = c.tell_fault-in-Err.ensures.stops; rest = refl }
