@@ -10,10 +10,5 @@ pub fn words_of(rt: &HostRuntime) -> Result<Vec<Word>, Detail> {
         Err(error) if error.kind() == ErrorKind::OutOfMemory => return Err(Detail::NoMemory),
         Err(_) => return Err(Detail::Usage),
     };
-    let mut words = Vec::new(rt.alloc());
-    for arg in args {
-        let word = Word::make(rt.alloc(), arg.as_str()).map_err(|_| Detail::NoMemory)?;
-        words.push(word).map_err(|_| Detail::NoMemory)?;
-    }
-    Ok(words)
+    Word::each(rt.alloc(), args).map_err(|_| Detail::NoMemory)
 }

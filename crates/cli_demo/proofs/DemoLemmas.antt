@@ -38,6 +38,7 @@ use Rattle.cli_threads.specs.declared.transfers.ReadyRun.{ReadyRun}
 use Rattle.cli_ending.specs.declared.conclusion.Ended.{Ended}
 use Rattle.cli_threads.specs.declared.transfers.Prepared.{Prepared}
 use Rattle.cli_shared.specs.Creation.{IsFindingFault, TellsWhether, genesis_list}
+use Rattle.command_line.specs.declared.options.RunOptions.{RunOptions}
 use Rattle.cli_demo.specs.Demo.{AnswersDemo, IsOfDemo, IsPreparedDemo, IsReadyDemo, MayPrecede, OnlyMakes, RanAllGenerated, RanGenerated, TellsSummary}
 use Rattle.cli_ending.specs.Ending.{AreWhole, Concludes, IsFirstLogEnd, NothingStopped, counted_text}
 use Rattle.cli_threads.specs.Ending.{HasEnded}
@@ -148,7 +149,7 @@ fault-found g n seed workers old new (Unlawful lsn why) is looks = absurd is
 fault-found g n seed workers old new (LogEnd tail total) is looks = absurd is
 fault-found g n seed workers old new (TxnEnd first count) is looks = absurd is
 
-module _ {D : Type 0} (g : Ghosts D) (n seed workers : ℕ) (prepared : Prepared) (is : IsPreparedDemo n seed workers prepared) (disk : D) (tail : Tail)
+module _ {D : Type 0} (g : Ghosts D) (n seed : ℕ) (options : RunOptions) (prepared : Prepared) (is : IsPreparedDemo n seed options prepared) (disk : D) (tail : Tail)
     (units : List ℕ) (made : units ≡ units_of generated_opening) where
   pub opened-generated : (g.honest disk → AllStand tail units (g.images disk)) → (g.honest disk → IsShut tail.at (g.images disk))
       → tail.at ≡ 12 + 8 * length units → tail.next ≡ length units

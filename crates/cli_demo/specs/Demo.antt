@@ -2,6 +2,7 @@
 -- shows; `old` and `new` are the disk before and after.
 use Rattle.std.specs.Prelude.{◌≡◌, ◌≤◌, ◌⊎◌, ℕ, ◌+◌, ◌*◌, List, ◌++◌, length, Option}
 use Rattle.std.specs.Io.KnownBytes.{Keeps, Appends}
+use Rattle.command_line.specs.declared.options.RunOptions.{RunOptions}
 use Rattle.log_disk.specs.Disk.{Leaves}
 use Rattle.log_disk.specs.Streams.{AppendsPart}
 use Rattle.log_disk.specs.declared.disk.LogDisk.{Ghosts}
@@ -89,11 +90,12 @@ IsBeforeDemo Disk = Unit {0}
 IsBeforeDemo Exists = Unit {0}
 IsBeforeDemo detail = ⊥
 
--- the table starts where the new log ends, with its accounts, and the transfers are the generated ones
-pub record IsPreparedDemo (n seed workers : ℕ) (prepared : Prepared) : Type 0 where
+-- the table starts where the new log ends, with its accounts and a ring as it was asked, and the transfers are the generated ones
+pub record IsPreparedDemo (n seed : ℕ) (options : RunOptions) (prepared : Prepared) : Type 0 where
   pub start : (key_of prepared.table).start ≡ 2 * GENERATED_ACCOUNTS
   pub accounts : (key_of prepared.table).accounts.rows ≡ generated_rows
-  pub generated : AreGenerated n seed workers prepared.jobs
+  pub ring : (key_of prepared.table).ring ≡ options.ring
+  pub generated : AreGenerated n seed options.workers prepared.jobs
   pub ready : IsPrepared prepared
 
 -- the log was made, and the transfers are ready to be run over it

@@ -117,18 +117,18 @@ fn prepare_demo<R>(
 ) -> Result<(Prepared, Batch), NoMemory>
     requires options { AreInRange options.now }
     requires few { transfers ≤ MOST_GENERATED }
-    ensures prepared { IfOk result (λ made. IsPreparedDemo transfers seed options.now.workers made.0) }
+    ensures prepared { IfOk result (λ made. IsPreparedDemo transfers seed options.now made.0) }
     ensures batch { IfOk result (λ made. made.1.units ≡ units_of generated_opening) }
 {
     let Generated { script, accounts } = generate(alloc, transfers, seed)?;
     let batch = genesis(alloc, &accounts)?;
+    let plan = plan_of_demo(options);
     let start = Start {
         start: Lsn::new(2 * GENERATED_ACCOUNTS),
-        ring: options.ring,
+        ring: plan.ring,
         slots: 0,
         accounts,
     };
-    let plan = plan_of_demo(options);
     let prepared = prepare(rt, alloc, start, script, 1, plan.workers)?;
     Ok((prepared, batch))
 }

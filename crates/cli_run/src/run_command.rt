@@ -119,13 +119,13 @@ fn prepare_run<R>(
     ensures prepared { IfOk result (IsPreparedFor options.now opened script) }
     ensures memory { IfErr result (λ detail. detail ≡ Detail.NoMemory) }
 {
+    let plan = plan_of_run(options);
     let start = Start {
         start: opened.lsn,
-        ring: options.ring,
+        ring: plan.ring,
         slots: 0,
         accounts: opened.accounts,
     };
-    let plan = plan_of_run(options);
     match prepare(rt, alloc, start, script, opened.next_txn, plan.workers) {
         Ok(prepared) => Ok(prepared),
         Err(_) => Err(Detail::NoMemory),

@@ -1,8 +1,10 @@
-ghost use Rattle.std.specs.Prelude.{◌≡◌, IfOk};
+ghost use Rattle.std.specs.Prelude.{◌≡◌, IfOk, map, string_bytes};
+ghost use Rattle.std.specs.Vec.Iter.{into_iter_items};
 
 use crate::memory::NoMemory;
 use std::alloc::Global;
 use std::convert::AsStr;
+use std::env::Args;
 use std::marker::Model;
 
 /// A word of the command line. Contracts see its bytes, which are UTF-8.
@@ -28,6 +30,18 @@ impl Word {
             Ok(text) => Ok(Word { text }),
             Err(_) => Err(NoMemory),
         }
+    }
+
+    /// A word for each string, in their order.
+    pub fn each(alloc: Global, strings: Args) -> Result<Vec<Word>, NoMemory>
+        ensures { IfOk result (λ words. words.items ≡ map string_bytes (into_iter_items strings)) }
+    {
+        let mut words = Vec::new(alloc);
+        'strings: for string in strings {
+            let word = Word::make(alloc, string.as_str())?;
+            words.push(word).map_err(|_| NoMemory)?;
+        }
+        Ok(words)
     }
 
     /// The text that it was made with.

@@ -16,14 +16,16 @@ pub struct Generated {
     pub accounts: Balances,
 }
 
-/// The plan of `demo`: the ends are counted and not told, the workers are as many as was asked, and none of them waits.
+/// The plan of `demo`: the ends are counted and not told, the workers and the ring are as was asked, and no worker waits.
 pub fn plan_of_demo(options: &RunOptions) -> Plan
     ensures workers { result.workers ≡ options.now.workers }
+    ensures ring { result.ring ≡ options.now.ring }
     ensures voice { result.voice ≡ Voice.Count }
     ensures wait { result.wait ≡ false }
 {
     Plan {
         workers: options.workers,
+        ring: options.ring,
         voice: Voice::Count,
         wait: false,
     }

@@ -9,6 +9,9 @@ pub struct Plan {
     /// How many workers make them.
     pub workers: u32,
 
+    /// The length of the log buffer in units.
+    pub ring: u32,
+
     /// What is written of each record that ends one of them.
     pub voice: Voice,
 
@@ -16,14 +19,16 @@ pub struct Plan {
     pub wait: bool,
 }
 
-/// The plan of `run`: each end is told, and the workers are as many as was asked, and wait where that was asked.
+/// The plan of `run`: each end is told, the workers and the ring are as was asked, and the workers wait where that was asked.
 pub fn plan_of_run(options: &RunOptions) -> Plan
     ensures workers { result.workers ≡ options.now.workers }
+    ensures ring { result.ring ≡ options.now.ring }
     ensures voice { result.voice ≡ Voice.Lines }
     ensures wait { result.wait ≡ options.now.wait }
 {
     Plan {
         workers: options.workers,
+        ring: options.ring,
         voice: Voice::Lines,
         wait: options.wait,
     }

@@ -12,7 +12,7 @@ returns-in-Ok-clause-prepared g c =
     record {
       start = ap (λ (key : Start). key.start) made.key;
       accounts = ap (λ (key : Start). key.accounts) made.key;
-      ring = ap (λ (key : Start). key.ring) made.key;
+      ring = ap (λ (key : Start). key.ring) made.key ∙ c.plan_of_run-plan.ensures.ring;
       script_is = made.script;
       first = made.first;
       workers_are = made.workers ∙ c.plan_of_run-plan.ensures.workers;
