@@ -116,8 +116,8 @@ module _ (n seed : ℕ) (few : n ≤ 100000) (jobs : Jobs) (script : jobs.script
   pub never-log_end : (opened list : List Rec) (tail total : ℕ) → end_of opened ≤ 128 → end_of list ≤ 5 * n
       → StopsAtLogEnd opened jobs list tail total → ⊥
   never-log_end opened list tail total first most stops =
-      let small = next-most (opened ++ list) stops.worker stops.stripe.cut tail total stops.stripe.inside stops.next in
-      let within = boundary-most (opened ++ list) tail stops.boundary in
+      let small = next-most (opened ++ list) stops.worker stops.stripe.cut tail total stops.stripe.inside stops.no_room.next in
+      let within = boundary-most (opened ++ list) tail stops.no_room.boundary in
       let longer = ap length (units_of-append opened list) ∙ length-append (units_of opened) (units_of list) in
-      let past = stops.too_long in
+      let past = stops.no_room.too_long in
       omega arith

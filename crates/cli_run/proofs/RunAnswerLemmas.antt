@@ -1,5 +1,5 @@
 -- What `run` answers, from what was ready, what is promised of the transfers, and what was concluded.
-use Rattle.std.proofs.Common.{Bool, ◌≡◌, ◌≤◌, ◌⊎◌, inr, refl, ap, sym, subst, ℕ, List, [], ◌++◌, Option, None, arith}
+use Rattle.std.proofs.Common.{Bool, ◌≡◌, ◌≤◌, ◌<◌, ◌⊎◌, ◌∙◌, inr, refl, ap, sym, subst, ℕ, List, [], ◌++◌, length, length-append, append_assoc, Option, None, arith}
 use Rattle.std.proofs.KnownBytes.{Appends-trans}
 use Rattle.std.proofs.lemmas.List.{append-nil}
 use Rattle.std.specs.Io.KnownBytes.{Appends}
@@ -10,8 +10,11 @@ use Rattle.log_disk.specs.declared.disk.LogDisk.{Ghosts}
 use Rattle.log_disk.specs.declared.sink.Sink.{Ghosts as SinkGhosts}
 use Rattle.log_record.specs.declared.rec.Rec.{Rec}
 use Rattle.log_record.specs.LogList.{end_of}
-use Rattle.log_recovery.specs.Text.{accounts_text, rows_text}
-use Rattle.log_recovery.proofs.TextLemmas.{AppendsPrefix-first, AppendsPrefix-behind}
+use Rattle.lock_core.specs.History.{history}
+use Rattle.lock_core.specs.Lawful.{genesis_of}
+use Rattle.lock_core.specs.Sums.{balance_of}
+use Rattle.log_recovery.specs.Text.{account_lines, accounts_text, lsn_line, rows_text}
+use Rattle.log_recovery.proofs.TextLemmas.{AppendsPart-behind, AppendsPrefix-first, AppendsPrefix-behind, lsn_line-some}
 use Rattle.txn_jobs.specs.declared.jobs.Jobs.{Jobs}
 use Rattle.commit_pipeline.specs.EndLines.{end_lines}
 use Rattle.end_lines.specs.declared.voice.Voice.TheVariants.{Lines}
@@ -22,11 +25,18 @@ use Rattle.cli_ending.specs.declared.conclusion.Ended.{Ended}
 use Rattle.cli_ending.specs.Ending.{Concludes, closed_text}
 use Rattle.cli_threads.specs.Ending.{HasEnded}
 use Rattle.cli_threads.specs.Run.{GoesOn, HoldsRun, RunIsDrained}
-use Rattle.cli_run.specs.RunAnswers.{AnswersRun, HoldsTold, IsOfRun, Ran, RanOut, RunStaysSilent, Outside, outside, run_text}
+use Rattle.cli_run.specs.RunAnswers.{AnswersRun, HoldsTold, IsOfRun, Ran, RanOut, RanShort, RunStaysSilent, Outside, outside, run_text}
 use Rattle.cli_run.specs.RunReady.{IsBeforeRun, IsReadyFor}
 use Rattle.cli_run.proofs.ReadyLemmas.{keeps-refl}
 use Rattle.cli_threads.proofs.EndingLemmas.{by-conclusion, list, keeps-ended, whole-ended, drained-ended, stops-ended}
 use Rattle.cli_threads.proofs.RunBegun.{images-begun}
+
+-- the accounts text begins with the end of the list
+accounts_text-some : (records : List Rec) → 0 < length (accounts_text records)
+accounts_text-some records =
+    let h = history records in
+    let lines = account_lines (balance_of (genesis_of h) h) (genesis_of h).accounts in
+    omega (arith, length-append (lsn_line (end_of records)) lines, lsn_line-some (end_of records))
 
 module _ {D : Type 0} {K : Type 0} (g : Ghosts D) (h : SinkGhosts K) (workers : ℕ) (ready : ReadyRun) {wait : Bool} (entry disk disk_new : D)
     (left left_new : Option (List ℕ)) (sink sink_mid sink_new : K) (ended : Ended) (is : IsReadyFor g workers entry disk left left_new ready)
@@ -66,8 +76,8 @@ module _ {D : Type 0} {K : Type 0} (g : Ghosts D) (h : SinkGhosts K) (workers : 
   }
 
   -- where the daemon failed, it wrote a front of the lines of each image's list
-  ran-failed : sink_new ≡ sink_mid → Ran g workers old new
-  ran-failed same = ran (λ image left_image.
+  abbrev ran-cut : sink_new ≡ sink_mid → Ran g workers old new
+  ran-cut same = ran (λ image left_image.
       let kept = (keeps-ended g h ready.prepared opened Lines disk disk_new sink sink_mid ended has).left honest_mid image left_image in
       let count = is.count honest in
       record {
@@ -77,6 +87,27 @@ module _ {D : Type 0} {K : Type 0} (g : Ghosts D) (h : SinkGhosts K) (workers : 
             (end_lines (end_of opened) kept.run.front) (accounts_text (opened ++ kept.run.front)) kept.text refl);
         count = omega (arith, count, kept.count);
       })
+
+  -- the lines of a list are never all of its text
+  lines-short : (texts texts_new : Option (List ℕ)) (list : List Rec) → AppendsPrefix texts texts_new (end_lines (end_of opened) list)
+      → AppendsPart texts texts_new (run_text opened list)
+  lines-short texts texts_new list written = (
+    written.0,
+    written.1 ++ accounts_text (opened ++ list),
+    ap (λ lines. lines ++ accounts_text (opened ++ list)) written.2 ∙ append_assoc written.0 written.1 (accounts_text (opened ++ list)),
+    written.3,
+    omega (arith, length-append written.1 (accounts_text (opened ++ list)), accounts_text-some (opened ++ list)),
+  )
+
+  -- and not all of its text
+  ran-failed : sink_new ≡ sink_mid → RanShort g workers old new
+  ran-failed same = record {
+    ran = ran-cut same;
+    short = λ image left_image.
+        let kept = (keeps-ended g h ready.prepared opened Lines disk disk_new sink sink_mid ended has).left honest_mid image left_image in
+        subst (λ text. AppendsPart (h.held_bytes sink) text (run_text opened kept.run.front)) (sym (ap h.held_bytes same))
+        (lines-short (h.held_bytes sink) (h.held_bytes sink_mid) kept.run.front kept.text);
+  }
 
   module _ (fine : ended.fault ≡ None) where
     drained : RunIsDrained g Lines opened jobs records disk disk_new (h.held_bytes sink) (h.held_bytes sink_mid) ended.closed.tail ended.closed.accounts.rows
@@ -110,6 +141,16 @@ module _ {D : Type 0} {K : Type 0} (g : Ghosts D) (h : SinkGhosts K) (workers : 
         (rw (← drained.accounts) (AppendsPart-prefix _ _ _ text))
         (sym (append-nil (run_text opened records)))
 
+    told-short : AppendsPart (h.held_bytes sink_mid) (h.held_bytes sink_new) (rows_text ended.closed.tail ended.closed.accounts.rows)
+        → AppendsPart (h.held_bytes sink) (h.held_bytes sink_new) (run_text opened records)
+    told-short text = AppendsPart-behind (h.held_bytes sink) (h.held_bytes sink_mid) (h.held_bytes sink_new) (run_text opened records)
+        (end_lines (end_of opened) records) (accounts_text (opened ++ records)) [] drained.text (rw (← drained.accounts) text)
+        (sym (append-nil (run_text opened records)))
+
+    ran-short : AppendsPart (h.held_bytes sink_mid) (h.held_bytes sink_new) (rows_text ended.closed.tail ended.closed.accounts.rows)
+        → RanShort g workers old new
+    ran-short text = record { ran = ran-drained (told-part text); short = λ image left_image. told-short text }
+
     told-whole : Appends (h.held_bytes sink_mid) (h.held_bytes sink_new) (rows_text ended.closed.tail ended.closed.accounts.rows)
         → Appends (h.held_bytes sink) (h.held_bytes sink_new) (run_text opened records)
     told-whole text = Appends-trans (h.held_bytes sink) (h.held_bytes sink_mid) (h.held_bytes sink_new) (end_lines (end_of opened) records)
@@ -120,7 +161,7 @@ module _ {D : Type 0} {K : Type 0} (g : Ghosts D) (h : SinkGhosts K) (workers : 
 
   pub answers-concluded : (detail : Detail) → Concludes h ended (closed_text ended) sink_mid sink_new detail → AnswersRun g workers old new detail
   answers-concluded = by-conclusion h ended (closed_text ended) sink_mid sink_new (AnswersRun g workers old new) (λ said. inr (ran-failed said.1))
-      (λ said. ran-failed said.1) (λ said. ran-drained said.0.0 (told-part said.0.0 said.1))
+      (λ said. ran-failed said.1) (λ said. ran-short said.0.0 said.1)
       (λ said. let text = told-whole said.0.0 said.1 in record {
         out = out said.0.0 (run_text opened records, [], sym (append-nil (run_text opened records)), text);
         whole = whole-ended g h ready.prepared opened Lines disk disk_new sink sink_mid ended has said.0.1;

@@ -2,7 +2,7 @@
 use Rattle.std.specs.Prelude.{◌≡◌, ◌≤◌, ◌<◌, ◌⊎◌, ℕ, ◌+◌, ◌*◌, List, ◌++◌, length, Option}
 use Rattle.std.specs.Io.KnownBytes.{Keeps, Appends}
 use Rattle.log_disk.specs.Disk.{Leaves}
-use Rattle.log_disk.specs.Streams.{AppendsPrefix}
+use Rattle.log_disk.specs.Streams.{AppendsPart, AppendsPrefix}
 use Rattle.log_disk.specs.declared.disk.LogDisk.{Ghosts}
 use Rattle.log_record.specs.declared.limits.TheConstants.{LAST_TXN}
 use Rattle.log_record.specs.declared.rec.Rec.{Rec}
@@ -86,6 +86,12 @@ pub record Ran {D : Type 0} (g : Ghosts D) (workers : ℕ) (old new : Outside D)
   pub images : Leaves g.moment g.images_since (λ bytes. g.images old.disk bytes ⊎ HoldsRun opened jobs list bytes) old.disk new.disk
   pub kept : (image : List ℕ) → g.images new.disk image → HoldsTold g opened jobs list old new image
 
+-- and of the text of each image's list a part was written, and not all of it
+pub record RanShort {D : Type 0} (g : Ghosts D) (workers : ℕ) (old new : Outside D) : Type 0 where
+  pub ran : Ran g workers old new
+  pub short : (image : List ℕ) (left : g.images new.disk image)
+      → AppendsPart old.text new.text (run_text ran.opened (ran.kept image left).run.front)
+
 -- the log was drained: each image holds the whole list
 pub record RanOut {D : Type 0} (g : Ghosts D) (workers : ℕ) (old new : Outside D) : Type 0 where
   pub ran : Ran g workers old new
@@ -122,8 +128,8 @@ IsFirstOutside g line old new =
 abbrev pub AnswersRun : {D : Type 0} → Ghosts D → ℕ → Outside D → Outside D → Detail → Type 0
 AnswersRun g workers old new Fine = RanWhole g workers old new
 AnswersRun g workers old new (LogEnd tail total) = RanIntoEnd g workers tail total old new
-AnswersRun g workers old new Write = Ran g workers old new
-AnswersRun g workers old new Disk = OnlySettles g old new ⊎ Ran g workers old new
+AnswersRun g workers old new Write = RanShort g workers old new
+AnswersRun g workers old new Disk = OnlySettles g old new ⊎ RanShort g workers old new
 AnswersRun g workers old new NoMemory = OnlyReads g old new
 AnswersRun g workers old new (TxnEnd first count) = OnlyReads g old new × RunsOutOfNumbers g first count old new
 AnswersRun g workers old new (Script line) = OnlyReads g old new × IsFirstOutside g line old new

@@ -34,7 +34,7 @@ use Rattle.txn_jobs.specs.declared.cause.Worked.TheVariants.{All, Cut}
 use Rattle.txn_jobs.specs.declared.jobs.Jobs.{Jobs}
 use Rattle.txn_runner.specs.Stripes.{number_at, job_at, IsStripeEnd}
 use Rattle.txn_runner.specs.Working.{HasEnd, own_records}
-use Rattle.cli_threads.specs.RunStops.{IsOfScript, IsWholeStripe, IsCutStripe, HadBalance, HadBalances, HasNextOf, StopsAtLogEnd}
+use Rattle.cli_threads.specs.RunStops.{FoundNoRoom, WasCutForRoom, IsOfScript, IsWholeStripe, IsCutStripe, HadBalance, HadBalances, HasNextOf, StopsAtLogEnd}
 use Rattle.cli_threads.specs.Shares.{Share, all_taken, IsGivenUncommitted, AreGivenUncommitted, EndsLogAt, CameTo, HasShare, HasGathered}
 use Rattle.cli_threads.proofs.RunHistory.{later_of, history-own}
 use Rattle.cli_threads.proofs.RunRecords.{tiling-end, boundary-front}
@@ -136,25 +136,6 @@ module _ (opened : List Rec) (jobs : Jobs) (view : View) (below : greatest_txn (
         size = ends.size ∙ sym (size-without_prev ends.next);
       }
 
-  cut-stripe : (shares : List Share) → HasGathered jobs shares view → IsTakenAlone shares → HadThem → (worker tail total : ℕ) (share : Share)
-      → get_elem? shares worker ≡ some share → share.worked ≡ Cut (LogEnd tail total)
-      → (stripe : IsCutStripe jobs worker (history (opened ++ list))) × HasNextOf (opened ++ list) jobs worker stripe.cut tail total
-  cut-stripe shares gathered others had worker tail total share at is =
-      let has = gathered.each worker share at in
-      let came : CameTo jobs worker share.taken (Cut (LogEnd tail total)) view = subst (λ (w : Worked). CameTo jobs worker share.taken w view) is has.came_to in
-      let j : ℕ = came.0 in
-      let next = next-of had worker j tail total came.3 in
-      let n : ℕ = number_at jobs worker j in (
-        record {
-          cut = j;
-          inside = has.stripe j (let count = came.1 in omega arith);
-          before = λ k less. ap has_end (own-later (number_at jobs worker k) (omega arith)) ∙ has_end-later (number_at jobs worker k) (came.2 k (omega arith) less);
-          unended = unended-next n (transfer_of (job_at jobs worker j)) (outcome_alone (transfer_of (job_at jobs worker j)) next.balances) (own_records_of n (history (opened ++ list))) next.rest next.next next.plan;
-          after = λ k more. none-behind shares gathered others worker k share at (let count = came.1 in omega arith);
-        },
-        next,
-      )
-
   -- ---- where the log ended
 
   tail-front : (lsn tail : ℕ) → IsGathered lsn view → view.constants.start ≡ end_of opened → Contains view.seen.lsns tail
@@ -172,6 +153,53 @@ module _ (opened : List Rec) (jobs : Jobs) (view : View) (below : greatest_txn (
   tiled-below from to tail (entry ∷ entries) tiles all low =
       tiled-below (from + entry.size) to tail entries tiles.1 all.1 (let start = tiles.0 in let end = all.0 in omega arith)
 
+  -- of one worker the entries end at that tail
+  alone : (lsn tail : ℕ) → IsGathered lsn view → view.constants.start ≡ end_of opened → lsn ≡ view.constants.start + end_of list
+      → (front rest : List Rec) × (list ≡ front ++ rest) × (tail ≡ end_of (opened ++ front))
+      → AllByRecursion (λ (entry : Entry). entry.start + entry.size ≤ tail) view.entries → tail ≡ end_of (opened ++ list)
+  alone lsn tail whole start end front all =
+      let whole_size : end_of (opened ++ list) ≡ end_of opened + end_of list = ap length (units_of-append opened list) ∙ length-append (units_of opened) (units_of list) in
+      let front_size : end_of (opened ++ front.0) ≡ end_of opened + end_of front.0 = ap length (units_of-append opened front.0) ∙ length-append (units_of opened) (units_of front.0) in
+      let list_size : end_of list ≡ end_of front.0 + end_of front.1 =
+      ap end_of front.2 ∙ ap length (units_of-append front.0 front.1) ∙ length-append (units_of front.0) (units_of front.1) in
+      let high = tiled-below view.constants.start lsn tail view.entries whole.tiles all (omega (arith, front.3, start, front_size)) in
+      omega (arith, front.3, start, end, high, whole_size, front_size, list_size)
+
+  -- what the worker's j-th transfer, which was cut off, found
+  no-room : HadThem → (lsn : ℕ) → IsGathered lsn view → view.constants.start ≡ end_of opened → (worker j tail total : ℕ)
+      → EndsLogAt jobs worker j tail total view → FoundNoRoom (opened ++ list) jobs worker j tail total
+  no-room had lsn whole start worker j tail total ends =
+      let front = tail-front lsn tail whole start ends.seen in
+      let end = tiling-end view.constants.start lsn view.entries whole.full whole.spelled whole.tiles in
+      record {
+        too_long = ends.too_long;
+        boundary = front_is_boundary (opened ++ list) tail
+            (opened ++ front.0, front.1, ap (λ l. opened ++ l) front.2 ∙ sym (append_assoc opened front.0 front.1), front.3);
+        alone = λ one. alone lsn tail whole start end front (ends.alone one);
+        next = next-of had worker j tail total ends;
+      }
+
+  cut-stripe : (shares : List Share) → HasGathered jobs shares view → IsTakenAlone shares → HadThem → (lsn : ℕ) → IsGathered lsn view
+      → view.constants.start ≡ end_of opened → (worker tail total : ℕ) (share : Share) → get_elem? shares worker ≡ some share
+      → share.worked ≡ Cut (LogEnd tail total)
+      → (stripe : IsCutStripe jobs worker (history (opened ++ list))) × FoundNoRoom (opened ++ list) jobs worker stripe.cut tail total
+  cut-stripe shares gathered others had lsn whole start worker tail total share at is =
+      let has = gathered.each worker share at in
+      let came : CameTo jobs worker share.taken (Cut (LogEnd tail total)) view = subst (λ (w : Worked). CameTo jobs worker share.taken w view) is has.came_to in
+      let j : ℕ = came.0 in
+      let found = no-room had lsn whole start worker j tail total came.3 in
+      let next = found.next in
+      let n : ℕ = number_at jobs worker j in (
+        record {
+          cut = j;
+          inside = has.stripe j (let count = came.1 in omega arith);
+          before = λ k less. ap has_end (own-later (number_at jobs worker k) (omega arith)) ∙ has_end-later (number_at jobs worker k) (came.2 k (omega arith) less);
+          unended = unended-next n (transfer_of (job_at jobs worker j)) (outcome_alone (transfer_of (job_at jobs worker j)) next.balances) (own_records_of n (history (opened ++ list))) next.rest next.next next.plan;
+          after = λ k more. none-behind shares gathered others worker k share at (let count = came.1 in omega arith);
+        },
+        found,
+      )
+
   -- a stop word that a worker read is one that was stored
   pub no-stop : (shares : List Share) → HasGathered jobs shares view → view.sending.stop ≡ 0 → (worker word : ℕ) (share : Share)
       → get_elem? shares worker ≡ some share → share.worked ≡ Cut (Stop word) → ⊥
@@ -180,44 +208,29 @@ module _ (opened : List Rec) (jobs : Jobs) (view : View) (below : greatest_txn (
       subst (λ (w : Worked). CameTo jobs worker share.taken w view) is (gathered.each worker share at).came_to in
       came.3.0 (sym came.3.1 ∙ no_stop)
 
-  each-stripe : (shares : List Share) → HasGathered jobs shares view → IsTakenAlone shares → HadThem → view.sending.stop ≡ 0 → (worker : ℕ) (share : Share)
+  each-stripe : (shares : List Share) → HasGathered jobs shares view → IsTakenAlone shares → HadThem → (lsn : ℕ) → IsGathered lsn view
+      → view.constants.start ≡ end_of opened → view.sending.stop ≡ 0 → (worker : ℕ) (share : Share)
       → get_elem? shares worker ≡ some share → (worked : Worked) → share.worked ≡ worked
-      → IsWholeStripe jobs worker (history (opened ++ list)) ⊎ IsCutStripe jobs worker (history (opened ++ list))
-  each-stripe shares gathered others had no_stop worker share at All is = inl (whole-stripe worker share (gathered.each worker share at) is)
-  each-stripe shares gathered others had no_stop worker share at (Cut (Stop word)) is = absurd (no-stop shares gathered no_stop worker word share at is)
-  each-stripe shares gathered others had no_stop worker share at (Cut (LogEnd tail total)) is =
-      inr (cut-stripe shares gathered others had worker tail total share at is).0
+      → IsWholeStripe jobs worker (history (opened ++ list)) ⊎ WasCutForRoom (opened ++ list) jobs worker
+  each-stripe shares gathered others had lsn whole start no_stop worker share at All is =
+      inl (whole-stripe worker share (gathered.each worker share at) is)
+  each-stripe shares gathered others had lsn whole start no_stop worker share at (Cut (Stop word)) is =
+      absurd (no-stop shares gathered no_stop worker word share at is)
+  each-stripe shares gathered others had lsn whole start no_stop worker share at (Cut (LogEnd tail total)) is =
+      let cut = cut-stripe shares gathered others had lsn whole start worker tail total share at is in
+      inr (record { stripe = cut.0; tail = tail; total = total; no_room = cut.1 })
 
   pub stops : (shares : List Share) → HasGathered jobs shares view → IsTakenAlone shares → HadThem → (lsn : ℕ) → IsGathered lsn view
       → view.constants.start ≡ end_of opened → view.sending.stop ≡ 0 → (worker tail total : ℕ) (share : Share) → get_elem? shares worker ≡ some share
       → share.worked ≡ Cut (LogEnd tail total) → StopsAtLogEnd opened jobs list tail total
   stops shares gathered others had lsn whole start no_stop worker tail total share at is =
-      let came : CameTo jobs worker share.taken (Cut (LogEnd tail total)) view =
-      subst (λ (w : Worked). CameTo jobs worker share.taken w view) is (gathered.each worker share at).came_to in
-      let front = tail-front lsn tail whole start came.3.seen in
-      let cut = cut-stripe shares gathered others had worker tail total share at is in
-      let end = tiling-end view.constants.start lsn view.entries whole.full whole.spelled whole.tiles in
+      let cut = cut-stripe shares gathered others had lsn whole start worker tail total share at is in
       record {
-        too_long = came.3.too_long;
-        boundary = front_is_boundary (opened ++ list) tail
-            (opened ++ front.0, front.1, ap (λ l. opened ++ l) front.2 ∙ sym (append_assoc opened front.0 front.1), front.3);
-        alone = λ one. alone lsn tail whole start end front (came.3.alone one);
         stripes = λ other small.
             let found = share-at shares other (let count = gathered.count in omega arith) in
-            each-stripe shares gathered others had no_stop other found.0 found.1 found.0.worked refl;
+            each-stripe shares gathered others had lsn whole start no_stop other found.0 found.1 found.0.worked refl;
         worker = worker;
         is_worker = (let inside = share-inside shares worker share at in let count = gathered.count in omega arith);
         stripe = cut.0;
-        next = cut.1;
+        no_room = cut.1;
       }
-    where
-      alone : (lsn tail : ℕ) → IsGathered lsn view → view.constants.start ≡ end_of opened → lsn ≡ view.constants.start + end_of list
-          → (front rest : List Rec) × (list ≡ front ++ rest) × (tail ≡ end_of (opened ++ front))
-          → AllByRecursion (λ (entry : Entry). entry.start + entry.size ≤ tail) view.entries → tail ≡ end_of (opened ++ list)
-      alone lsn tail whole start end front all =
-          let whole_size : end_of (opened ++ list) ≡ end_of opened + end_of list = ap length (units_of-append opened list) ∙ length-append (units_of opened) (units_of list) in
-          let front_size : end_of (opened ++ front.0) ≡ end_of opened + end_of front.0 = ap length (units_of-append opened front.0) ∙ length-append (units_of opened) (units_of front.0) in
-          let list_size : end_of list ≡ end_of front.0 + end_of front.1 =
-          ap end_of front.2 ∙ ap length (units_of-append front.0 front.1) ∙ length-append (units_of front.0) (units_of front.1) in
-          let high = tiled-below view.constants.start lsn tail view.entries whole.tiles all (omega (arith, front.3, start, front_size)) in
-          omega (arith, front.3, start, end, high, whole_size, front_size, list_size)

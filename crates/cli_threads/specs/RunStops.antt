@@ -57,15 +57,26 @@ pub record HasNextOf (records : List Rec) (jobs : Jobs) (worker k tail total : �
       ≡ outcome_records (number_at jobs worker k) (transfer_of (job_at jobs worker k)) (outcome_alone (transfer_of (job_at jobs worker k)) balances)
   pub size : total ≡ size_of next
 
--- A worker's transfer was cut off since its next record, of so many units, did not fit between this tail, a boundary of the list, and the last
--- LSN. Each stripe is whole or was cut. With one worker that tail is the end of the list.
-pub record StopsAtLogEnd (opened : List Rec) (jobs : Jobs) (list : List Rec) (tail total : ℕ) : Type 0 where
+-- The next record of the worker's k-th transfer, of so many units, did not fit between this tail, a boundary of the list, and the last LSN.
+-- With one worker that tail is the end of the list.
+pub record FoundNoRoom (records : List Rec) (jobs : Jobs) (worker k tail total : ℕ) : Type 0 where
   pub too_long : LAST < tail + total
-  pub boundary : IsBoundary (opened ++ list) tail
-  pub alone : jobs.workers ≡ 1 → tail ≡ end_of (opened ++ list)
+  pub boundary : IsBoundary records tail
+  pub alone : jobs.workers ≡ 1 → tail ≡ end_of records
+  pub next : HasNextOf records jobs worker k tail total
+
+-- the worker's stripe was cut in a transfer that found no room
+pub record WasCutForRoom (records : List Rec) (jobs : Jobs) (worker : ℕ) : Type 0 where
+  pub stripe : IsCutStripe jobs worker (history records)
+  pub tail : ℕ
+  pub total : ℕ
+  pub no_room : FoundNoRoom records jobs worker stripe.cut tail total
+
+-- A worker's transfer was cut off since it found no room for so many units behind this tail. Each stripe is whole, or was cut for the same reason.
+pub record StopsAtLogEnd (opened : List Rec) (jobs : Jobs) (list : List Rec) (tail total : ℕ) : Type 0 where
   pub stripes : (worker : ℕ) → worker < jobs.workers
-      → IsWholeStripe jobs worker (history (opened ++ list)) ⊎ IsCutStripe jobs worker (history (opened ++ list))
+      → IsWholeStripe jobs worker (history (opened ++ list)) ⊎ WasCutForRoom (opened ++ list) jobs worker
   pub worker : ℕ
   pub is_worker : worker < jobs.workers
   pub stripe : IsCutStripe jobs worker (history (opened ++ list))
-  pub next : HasNextOf (opened ++ list) jobs worker stripe.cut tail total
+  pub no_room : FoundNoRoom (opened ++ list) jobs worker stripe.cut tail total

@@ -1,5 +1,5 @@
 -- Texts that are written line by line.
-use Rattle.std.proofs.Common.{◌≡◌, ◌≤◌, ◌<◌, Some, slice_get, slice_index_or, sym, ap, refl, ℕ, ◌+◌, zero, suc, List, [], ◌∷◌, ◌++◌, inl, inr, Option, length, arith, append_assoc, add-one}
+use Rattle.std.proofs.Common.{◌≡◌, ◌≤◌, ◌<◌, Some, slice_get, slice_index_or, sym, ap, refl, ℕ, ◌+◌, zero, suc, List, [], ◌∷◌, ◌++◌, inl, inr, Option, length, arith, append_assoc, add-one, codes}
 use Rattle.std.proofs.lemmas.List.{append-nil}
 use Rattle.std.proofs.lemmas.Option.{get_or_from_slice_get}
 use Rattle.std.proofs.lemmas.List.Concat.{flat_map-append}
@@ -7,12 +7,13 @@ use Rattle.std.proofs.Math.Nat.{eq-or-lt_of_le}
 use Rattle.std.specs.Io.KnownBytes.{Appends}
 use Rattle.std.proofs.KnownBytes.{Appends-trans}
 use Rattle.log_disk.specs.Streams.{AppendsPrefix, AppendsPart}
+use Rattle.lsn_space.specs.Number.{number_text}
 use Rattle.log_record.specs.declared.rec.Rec.{Rec}
 use Rattle.log_record.specs.LogList.{end_of}
 use Rattle.lock_core.specs.History.{history}
 use Rattle.lock_core.specs.Lawful.{genesis_of}
 use Rattle.lock_core.specs.Sums.{ShowsAccounts, balance_of, last_commit_of}
-use Rattle.log_recovery.specs.Text.{account_line, numbers_below, account_lines, rows_text, accounts_text}
+use Rattle.log_recovery.specs.Text.{account_line, numbers_below, account_lines, lsn_line, rows_text, accounts_text}
 
 account_lines-suc : (balance : ℕ → ℕ) (n : ℕ) → account_lines balance (n + 1) ≡ account_lines balance n ++ account_line n (balance n)
 account_lines-suc balance n = rw (add-one, flat_map-append, append-nil) refl
@@ -52,6 +53,11 @@ pub AppendsPart-behind : (old middle new : Option (List ℕ)) (text done piece m
     → text ≡ (done ++ piece) ++ more → AppendsPart old new text
 AppendsPart-behind old middle new text done piece more before cut whole =
     (done ++ cut.0, cut.1 ++ more, rw (whole, cut.2) (simp append_assoc), Appends-trans old middle new done cut.0 before cut.3, longer cut.1 more cut.4)
+
+-- the line that the accounts text begins with
+pub lsn_line-some : (lsn : ℕ) → 0 < length (lsn_line lsn)
+unfolding lsn_line
+lsn_line-some lsn = longer (codes "lsn ") (number_text lsn ++ codes "\n") (omega arith)
 
 -- the balance that is kept of an account
 abbrev pub balance_in : List (ℕ × ℕ) → ℕ → ℕ
