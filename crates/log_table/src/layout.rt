@@ -22,6 +22,11 @@ pub(crate) const CREW: usize = 4 * STRIDE;
 /// The first word of the ring, which is packed. The accounts' words stand behind it.
 pub(crate) const RING: usize = 5 * STRIDE;
 
+/// A law: the words that many threads write stand 16 words apart.
+pub fn fixed_layout()
+    ensures stride { STRIDE ≡ 16 }
+{}
+
 /// Where the word of an account lies.
 pub(crate) fn account_place(ring: u32, account: u32) -> usize
     requires { (ring ≤ GREATEST_RING) × (account ≤ MOST_ACCOUNTS) }
