@@ -4,6 +4,8 @@ use Rattle.std.proofs.KnownBytes.{Appends-trans}
 use Rattle.std.proofs.lemmas.List.{length-replicate}
 use Rattle.std.proofs.lemmas.List.Elements.{All-replicate}
 use Rattle.std.specs.Io.KnownBytes.{Appends, Keeps}
+use Rattle.log_disk.proofs.Counting.{Costs-more, Costs-then}
+use Rattle.log_disk.specs.Costs.{Costs}
 use Rattle.log_disk.specs.Disk.{Leaves}
 use Rattle.log_disk.specs.Streams.{AppendsPrefix}
 use Rattle.log_disk.specs.declared.disk.LogDisk.{Ghosts}
@@ -112,42 +114,42 @@ holds-generated units bytes same held = genesis-holds balances few-balances each
 -- ---- the log is made
 
 module _ {D : Type 0} (g : Ghosts D) (old mid new : D) (units : List ℕ) (made : units ≡ units_of generated_opening)
-    (found : Leaves g.moment g.images_since (g.images old) old mid) (one : g.written_count mid ≤ g.written_count old + 1) where
-  pub only-makes : Leaves g.moment g.images_since (HoldsNoneOr units) mid new → g.written_count new ≤ g.written_count mid + 6 → OnlyMakes g old new
+    (found : Leaves g.moment g.images_since (g.images old) old mid) (one : Costs g 1 4 old mid) where
+  pub only-makes : Leaves g.moment g.images_since (HoldsNoneOr units) mid new → Costs g 6 7 mid new → OnlyMakes g old new
   only-makes created writes = record {
     images = Leaves-trans g.moment g.images_since (λ bytes. MayPrecede (g.images old) bytes ⊎ HoldsLawful bytes generated_opening) old mid new
         (Leaves-weaken g.moment g.images_since (g.images old) (λ bytes. MayPrecede (g.images old) bytes ⊎ HoldsLawful bytes generated_opening)
         old mid (λ bytes image. inl (inl image)) found)
         (Leaves-weaken g.moment g.images_since (HoldsNoneOr units) (λ bytes. MayPrecede (g.images old) bytes ⊎ HoldsLawful bytes generated_opening)
         mid new (λ bytes. ⊎_elim (λ none. inl (inr none)) (λ held. inr (holds-generated units bytes made held))) created);
-    count = omega (arith, one, writes);
+    count = Costs-then g 1 6 4 7 old mid new one writes;
   }
 
 pub only-finds : {D : Type 0} (g : Ghosts D) (old new : D) → Leaves g.moment g.images_since (g.images old) old new
-    → g.written_count new ≤ g.written_count old + 1 → OnlyMakes g old new
+    → Costs g 1 4 old new → OnlyMakes g old new
 only-finds g old new found one = record {
   images = Leaves-weaken g.moment g.images_since (g.images old) (λ bytes. MayPrecede (g.images old) bytes ⊎ HoldsLawful bytes generated_opening)
       old new (λ bytes image. inl (inl image)) found;
-  count = omega (arith, one);
+  count = Costs-more g 1 7 4 11 old new (omega arith) (omega arith) one;
 }
 
 -- no log is made, since one was found, or the disk failed
-pub fault-found : {D : Type 0} (g : Ghosts D) (n seed workers : ℕ) (old new : D) (detail : Detail) → IsFindingFault detail → OnlyLooks g old new
+pub fault-found : {D : Type 0} (g : Ghosts D) (n seed workers : ℕ) (old new : D) (detail : Detail) → IsFindingFault detail → OnlyLooks g old new → Costs g 1 4 old new
     → AnswersDemo g n seed workers old new detail
-fault-found g n seed workers old new Disk is looks = inl (only-finds g old new looks.images looks.count)
-fault-found g n seed workers old new Exists is looks = looks
-fault-found g n seed workers old new Fine is looks = absurd is
-fault-found g n seed workers old new NoMemory is looks = absurd is
-fault-found g n seed workers old new Usage is looks = absurd is
-fault-found g n seed workers old new (Script line) is looks = absurd is
-fault-found g n seed workers old new Read is looks = absurd is
-fault-found g n seed workers old new Write is looks = absurd is
-fault-found g n seed workers old new NotALog is looks = absurd is
-fault-found g n seed workers old new (BadBatch offset) is looks = absurd is
-fault-found g n seed workers old new (BadRec lsn) is looks = absurd is
-fault-found g n seed workers old new (Unlawful lsn why) is looks = absurd is
-fault-found g n seed workers old new (LogEnd tail total) is looks = absurd is
-fault-found g n seed workers old new (TxnEnd first count) is looks = absurd is
+fault-found g n seed workers old new Disk is looks few = inl (only-finds g old new looks.images few)
+fault-found g n seed workers old new Exists is looks few = looks
+fault-found g n seed workers old new Fine is looks few = absurd is
+fault-found g n seed workers old new NoMemory is looks few = absurd is
+fault-found g n seed workers old new Usage is looks few = absurd is
+fault-found g n seed workers old new (Script line) is looks few = absurd is
+fault-found g n seed workers old new Read is looks few = absurd is
+fault-found g n seed workers old new Write is looks few = absurd is
+fault-found g n seed workers old new NotALog is looks few = absurd is
+fault-found g n seed workers old new (BadBatch offset) is looks few = absurd is
+fault-found g n seed workers old new (BadRec lsn) is looks few = absurd is
+fault-found g n seed workers old new (Unlawful lsn why) is looks few = absurd is
+fault-found g n seed workers old new (LogEnd tail total) is looks few = absurd is
+fault-found g n seed workers old new (TxnEnd first count) is looks few = absurd is
 
 module _ {D : Type 0} (g : Ghosts D) (n seed : ℕ) (options : RunOptions) (prepared : Prepared) (is : IsPreparedDemo n seed options prepared) (disk : D) (tail : Tail)
     (units : List ℕ) (made : units ≡ units_of generated_opening) where
@@ -279,7 +281,11 @@ module _ {D : Type 0} {K : Type 0} (g : Ghosts D) (h : SinkGhosts K) (n seed wor
           ((keeps-ended g h ready.prepared generated_opening Count disk disk_new sink sink_mid ended has).moments honest_mid);
       kept = λ image left_image.
           let left = (keeps-ended g h ready.prepared generated_opening Count disk disk_new sink sink_mid ended has).left honest_mid image left_image in
-          record { run = left.run; count = let before = made.count in let writes = left.count in omega arith };
+          record {
+            run = left.run;
+            count = Costs-more g _ _ _ _ entry disk_new (omega arith) (omega arith)
+                (Costs-then g 7 (4 * length left.run.front + 4) 11 (4 * length left.run.front + 4) entry disk disk_new made.count left.count);
+          };
     }
 
     -- nothing stopped the transfers

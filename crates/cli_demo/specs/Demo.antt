@@ -3,6 +3,7 @@
 use Rattle.std.specs.Prelude.{◌≡◌, ◌≤◌, ◌⊎◌, ℕ, ◌+◌, ◌*◌, List, ◌++◌, length, Option}
 use Rattle.std.specs.Io.KnownBytes.{Keeps, Appends}
 use Rattle.command_line.specs.declared.options.RunOptions.{RunOptions}
+use Rattle.log_disk.specs.Costs.{Costs}
 use Rattle.log_disk.specs.Disk.{Leaves}
 use Rattle.log_disk.specs.Streams.{AppendsPart}
 use Rattle.log_disk.specs.declared.disk.LogDisk.{Ghosts}
@@ -36,12 +37,13 @@ MayPrecede images bytes = images bytes ⊎ (BeginsAsLog bytes → ⊥)
 -- No transfer was begun. Each image of a moment is one of before, or no log, or the new log of the generated accounts.
 pub record OnlyMakes {D : Type 0} (g : Ghosts D) (old new : D) : Type 0 where
   pub images : Leaves g.moment g.images_since (λ bytes. MayPrecede (g.images old) bytes ⊎ HoldsLawful bytes generated_opening) old new
-  pub count : g.written_count new ≤ g.written_count old + 7
+  pub count : Costs g 7 11 old new
 
--- the image holds the new log and a front of what the run inserted; at most 4 writes and syncs succeeded for each record of it, and 11 more
+-- the image holds the new log and a front of what the run inserted; at most 4 writes and syncs succeeded for each record of it, and 11 more, of at
+-- most 4 calls for each and 15 more
 pub record HoldsMade {D : Type 0} (g : Ghosts D) (jobs : Jobs) (list : List Rec) (old new : D) (image : List ℕ) : Type 0 where
   pub run : HoldsRun generated_opening jobs list image
-  pub count : g.written_count new ≤ g.written_count old + 4 * length run.front + 11
+  pub count : Costs g (4 * length run.front + 11) (4 * length run.front + 15) old new
 
 -- The log was made and transfers were begun. Each image of a moment is one of before, or no log, or holds the new log and a front of one and
 -- the same list, which goes on from it by these transfers.

@@ -39,6 +39,7 @@ plain_disk file = record {
   moment = λ moment. moment;
   images_since = λ now from bytes. (moment : ℕ) × (from ≤ moment) × (moment ≤ now) × (bytes ≡ file moment);
   written_count = λ moment. 4 * moment;
+  calls = λ moment. 4 * moment;
   faults = λ moment. 0;
 }
 

@@ -1,4 +1,5 @@
 ghost use Rattle.std.specs.Prelude.{◌≡◌, ◌≤◌, ◌+◌, ◌↔◌, IfSome, IfOk, IfErr, OnOk, MatchResult, IsErrOf};
+ghost use Rattle.log_disk.specs.Costs.{Costs};
 ghost use Rattle.log_disk.specs.Disk.{Leaves};
 ghost use Rattle.log_disk.specs.Faults.{CountsWhere};
 ghost use Rattle.segment_file.specs.File.{BeginsOpen};
@@ -34,7 +35,7 @@ pub fn new_command<D: LogDisk, S: Source, K: Sink>(
     ensures kept { PrecedesLog result → Leaves D.moment D.images_since (D.images disk.old) disk.old disk.new }
     ensures unchanged { D.honest disk.old → PrecedesLog result → D.reads disk.new ≡ D.reads disk.old }
     ensures exists { D.honest disk.old → TellsWhether (BeginsOpen (D.reads disk.old)) result }
-    ensures count { D.honest disk.old → D.written_count disk.new ≤ D.written_count disk.old + 7 }
+    ensures count { D.honest disk.old → Costs D.LogDisk 7 11 disk.old disk.new }
     ensures honest { D.honest disk.old ↔ D.honest disk.new }
     ensures read { CountsWhere (result ≡ Detail.Read) (S.faults script.old) (S.faults script.new) }
     ensures write { CountsWhere (result ≡ Detail.Write) (K.faults out.old) (K.faults out.new) }
@@ -67,7 +68,7 @@ fn make_log<D: LogDisk, S: Source>(
     ensures unchanged { D.honest disk.old → IfErr result (λ detail. PrecedesLog detail → D.reads disk.new ≡ D.reads disk.old) }
     ensures exists { D.honest disk.old
         → MatchResult result (λ _. BeginsOpen (D.reads disk.old) → ⊥) (TellsWhether (BeginsOpen (D.reads disk.old))) }
-    ensures count { D.honest disk.old → D.written_count disk.new ≤ D.written_count disk.old + 7 }
+    ensures count { D.honest disk.old → Costs D.LogDisk 7 11 disk.old disk.new }
     ensures honest { D.honest disk.old ↔ D.honest disk.new }
     ensures read { CountsWhere (IsErrOf result Detail.Read) (S.faults script.old) (S.faults script.new) }
     ensures disk { CountsWhere (IsErrOf result Detail.Disk) (D.faults disk.old) (D.faults disk.new) }

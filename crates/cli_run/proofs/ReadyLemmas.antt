@@ -2,6 +2,8 @@
 use Rattle.std.proofs.Common.{◌≡◌, ◌≤◌, ◌⊎◌, ⊎_elim, inl, inr, refl, ap, sym, ◌∙◌, subst, ℕ, ◌+◌, List, length, Option, Some, None, arith}
 use Rattle.std.specs.Io.KnownBytes.{Keeps}
 use Rattle.command_line.specs.declared.options.RunOptions.{RunOptions}
+use Rattle.log_disk.proofs.Counting.{Costs-more, Costs-then}
+use Rattle.log_disk.specs.Costs.{Costs}
 use Rattle.log_disk.specs.Disk.{Leaves}
 use Rattle.log_disk.specs.declared.disk.LogDisk.{Ghosts}
 use Rattle.log_disk.proofs.Moments.{Leaves-trans, Leaves-weaken}
@@ -12,6 +14,7 @@ use Rattle.lock_core.specs.Lawful.{genesis_of}
 use Rattle.lock_core.specs.Sums.{ShowsAccounts}
 use Rattle.log_recovery.specs.declared.recovery.RecoverFault.TheVariants as fault
 use Rattle.log_recovery.specs.Recovery.{HoldsLawful, IsFaultOf}
+use Rattle.cli_shared.specs.Opening.{most_calls}
 use Rattle.cli_shared.specs.declared.report.Detail.{Detail}
 use Rattle.cli_shared.specs.declared.report.Detail.TheVariants.{Fine, NoMemory, Usage, Script, Read, Write, Disk, NotALog, BadBatch, BadRec, Unlawful, LogEnd, TxnEnd, Exists}
 use Rattle.log_record.specs.LogList.{units_of}
@@ -37,7 +40,7 @@ keeps-refl (Some bytes) = refl
 module _ {D : Type 0} (g : Ghosts D) (old mid : D) where
   -- the one moment and the images of it
   abbrev pub Reads : Type 0
-  Reads = (g.reads mid ≡ g.reads old) × Leaves g.moment g.images_since (g.images old) old mid × (g.written_count mid ≤ g.written_count old + 1)
+  Reads = (g.reads mid ≡ g.reads old) × Leaves g.moment g.images_since (g.images old) old mid × Costs g 1 (most_calls g old) old mid
 
   module _ (reads : Reads) (left left_new text : Option (List ℕ)) where
     pub only-reads : OnlyReads g (outside old left text) (outside mid left_new text)
@@ -48,7 +51,7 @@ module _ {D : Type 0} (g : Ghosts D) (old mid : D) where
       silent = keeps-refl text;
       images = Leaves-weaken g.moment g.images_since (g.images old) (λ bytes. g.images old bytes ⊎ HoldsAsRead g old bytes) old mid
           (λ bytes image. inl image) reads.1;
-      count = omega (arith, reads.2);
+      count = Costs-more g 1 3 (most_calls g old) (most_calls g old + 3) old mid (omega arith) (omega arith) reads.2;
     }
 
     module _ (workers : ℕ) where
@@ -102,7 +105,7 @@ module _ {D : Type 0} (g : Ghosts D) (old mid : D) (opened : Recovered) (opens :
 
   -- and the disk as it was settled
   module _ (new : D) (reads : Reads g old mid) (moments : Leaves g.moment g.images_since (λ c. HoldsUnits c (units_of records)) mid new)
-      (count : g.written_count new ≤ g.written_count mid + 2) where
+      (count : Costs g 2 3 mid new) where
     pub leaves-settled : Leaves g.moment g.images_since (λ bytes. g.images old bytes ⊎ HoldsLawful bytes records) old new
     leaves-settled = Leaves-trans g.moment g.images_since (λ bytes. g.images old bytes ⊎ HoldsLawful bytes records) old mid new
         (Leaves-weaken g.moment g.images_since (g.images old) (λ bytes. g.images old bytes ⊎ HoldsLawful bytes records) old mid
@@ -110,8 +113,8 @@ module _ {D : Type 0} (g : Ghosts D) (old mid : D) (opened : Recovered) (opens :
         (Leaves-weaken g.moment g.images_since (λ c. HoldsUnits c (units_of records)) (λ bytes. g.images old bytes ⊎ HoldsLawful bytes records)
         mid new (λ bytes held. inr (holds-opened bytes held)) moments)
 
-    pub count-settled : g.written_count new ≤ g.written_count old + 3
-    count-settled = omega (arith, reads.2, count)
+    pub count-settled : Costs g 3 (most_calls g old + 3) old new
+    count-settled = Costs-then g 1 2 (most_calls g old) 3 old mid new reads.2 count
 
     pub settles : g.honest old → (left left_new text : Option (List ℕ)) → OnlySettles g (outside old left text) (outside new left_new text)
     settles honest left left_new text = record {

@@ -1,8 +1,9 @@
 -- What `run` answers, from what was ready, what is promised of the transfers, and what was concluded.
-use Rattle.std.proofs.Common.{Bool, ◌≡◌, ◌≤◌, ◌<◌, ◌⊎◌, ◌∙◌, inr, refl, ap, sym, subst, ℕ, List, [], ◌++◌, length, length-append, append_assoc, Option, None, arith}
+use Rattle.std.proofs.Common.{Bool, ◌≡◌, ◌≤◌, ◌<◌, ◌+◌, ◌*◌, ◌⊎◌, ◌∙◌, inr, refl, ap, sym, subst, ℕ, List, [], ◌++◌, length, length-append, append_assoc, Option, None, arith}
 use Rattle.std.proofs.KnownBytes.{Appends-trans}
 use Rattle.std.proofs.lemmas.List.{append-nil}
 use Rattle.std.specs.Io.KnownBytes.{Appends}
+use Rattle.log_disk.proofs.Counting.{Costs-more, Costs-then}
 use Rattle.log_disk.specs.Disk.{Leaves}
 use Rattle.log_disk.specs.Streams.{AppendsPrefix, AppendsPart}
 use Rattle.log_disk.proofs.Prefixes.{AppendsPart-prefix}
@@ -18,6 +19,7 @@ use Rattle.log_recovery.proofs.TextLemmas.{AppendsPart-behind, AppendsPrefix-fir
 use Rattle.txn_jobs.specs.declared.jobs.Jobs.{Jobs}
 use Rattle.commit_pipeline.specs.EndLines.{end_lines}
 use Rattle.end_lines.specs.declared.voice.Voice.TheVariants.{Lines}
+use Rattle.cli_shared.specs.Opening.{most_calls}
 use Rattle.cli_shared.specs.declared.report.Detail.{Detail}
 use Rattle.cli_shared.specs.declared.report.Detail.TheVariants.{Fine, NoMemory, Usage, Script, Read, Write, Disk, NotALog, BadBatch, BadRec, Unlawful, LogEnd, TxnEnd, Exists}
 use Rattle.cli_threads.specs.declared.transfers.ReadyRun.{ReadyRun}
@@ -85,7 +87,8 @@ module _ {D : Type 0} {K : Type 0} (g : Ghosts D) (h : SinkGhosts K) (workers : 
         told = subst (λ text. AppendsPrefix (h.held_bytes sink) text (run_text opened kept.run.front)) (sym (ap h.held_bytes same))
             (AppendsPrefix-first (h.held_bytes sink) (h.held_bytes sink_mid) (run_text opened kept.run.front)
             (end_lines (end_of opened) kept.run.front) (accounts_text (opened ++ kept.run.front)) kept.text refl);
-        count = omega (arith, count, kept.count);
+        count = Costs-more g _ _ _ _ entry disk_new (omega arith) (omega arith)
+            (Costs-then g 3 (4 * length kept.run.front + 4) (most_calls g entry + 3) (4 * length kept.run.front + 4) entry disk disk_new count kept.count);
       })
 
   -- the lines of a list are never all of its text
@@ -127,7 +130,8 @@ module _ {D : Type 0} {K : Type 0} (g : Ghosts D) (h : SinkGhosts K) (workers : 
             goes_on = goes_on-ran;
           };
           told = told;
-          count = omega (arith, count, writes);
+          count = Costs-more g _ _ _ _ entry disk_new (omega arith) (omega arith)
+              (Costs-then g 3 (4 * length records) (most_calls g entry + 3) (4 * length records) entry disk disk_new count writes);
         })
 
     abbrev out : (told : AppendsPrefix (h.held_bytes sink) (h.held_bytes sink_new) (run_text opened records)) → RanOut g workers old new

@@ -1,6 +1,7 @@
 -- What `run` answers. `g` is what a disk shows; `old` and `new` are what is outside before and after.
 use Rattle.std.specs.Prelude.{◌≡◌, ◌≤◌, ◌<◌, ◌⊎◌, ℕ, ◌+◌, ◌*◌, List, ◌++◌, length, Option}
 use Rattle.std.specs.Io.KnownBytes.{Keeps, Appends}
+use Rattle.log_disk.specs.Costs.{Costs}
 use Rattle.log_disk.specs.Disk.{Leaves}
 use Rattle.log_disk.specs.Streams.{AppendsPart, AppendsPrefix}
 use Rattle.log_disk.specs.declared.disk.LogDisk.{Ghosts}
@@ -21,7 +22,7 @@ use Rattle.cli_shared.specs.declared.report.Detail.TheVariants.{Fine, NoMemory, 
 use Rattle.cli_threads.specs.Run.{HoldsRun, GoesOn, RunsWhole}
 use Rattle.cli_threads.specs.RunStops.{StopsAtLogEnd}
 use Rattle.cli_shared.specs.Scripts.{IsWholeScript, HasNoScript}
-use Rattle.cli_shared.specs.Opening.{OnlyLooks}
+use Rattle.cli_shared.specs.Opening.{OnlyLooks, most_calls}
 
 -- the number of accounts of a list
 abbrev pub accounts_of : List Rec → ℕ
@@ -57,7 +58,7 @@ HoldsAsRead g disk bytes = (opened : List Rec) × HoldsLawful (g.reads disk) ope
 pub record OnlySettles {D : Type 0} (g : Ghosts D) (old new : Outside D) : Type 0 where
   pub silent : Keeps old.text new.text
   pub images : Leaves g.moment g.images_since (λ bytes. g.images old.disk bytes ⊎ HoldsAsRead g old.disk bytes) old.disk new.disk
-  pub count : g.written_count new.disk ≤ g.written_count old.disk + 3
+  pub count : Costs g 3 (most_calls g old.disk + 3) old.disk new.disk
 
 -- the transfers of the whole input, under the numbers from the first on that the opened list leaves, dealt out to so many workers
 pub record AreAsked (workers : ℕ) (opened : List Rec) (left left_new : Option (List ℕ)) (jobs : Jobs) : Type 0 where
@@ -67,12 +68,13 @@ pub record AreAsked (workers : ℕ) (opened : List Rec) (left left_new : Option 
   pub workers_are : jobs.workers ≡ workers
 
 -- The image holds the opened list and a front of what the run inserted. What was written is a prefix of the text of the image's list, so each
--- commit that was told is in it. At most 4 writes and syncs succeeded for each record of the front, and 7 more.
+-- commit that was told is in it. At most 4 writes and syncs succeeded for each record of the front, and 7 more, and of calls at most as many beside
+-- those that the opening took.
 pub record HoldsTold {D : Type 0} (g : Ghosts D) (opened : List Rec) (jobs : Jobs) (list : List Rec) (old new : Outside D) (image : List ℕ)
     : Type 0 where
   pub run : HoldsRun opened jobs list image
   pub told : AppendsPrefix old.text new.text (run_text opened run.front)
-  pub count : g.written_count new.disk ≤ g.written_count old.disk + 4 * length run.front + 7
+  pub count : Costs g (4 * length run.front + 7) (most_calls g old.disk + 4 * length run.front + 7) old.disk new.disk
 
 -- Transfers were begun. Each image of a moment is one of before, or holds the list that was opened and a front of one and the same list, which
 -- goes on from it as the script says; so of two of the latter the one is a prefix of the other.

@@ -2,6 +2,7 @@
 -- and after, `left` and `left_new` what the input has left.
 use Rattle.std.specs.Prelude.{◌≡◌, ◌≤◌, ◌⊎◌, ℕ, ◌+◌, List, Option}
 use Rattle.command_line.specs.declared.options.RunOptions.{RunOptions}
+use Rattle.log_disk.specs.Costs.{Costs}
 use Rattle.log_disk.specs.Disk.{Leaves}
 use Rattle.log_disk.specs.declared.disk.LogDisk.{Ghosts}
 use Rattle.log_record.specs.declared.rec.Rec.{Rec}
@@ -9,6 +10,7 @@ use Rattle.log_recovery.specs.declared.recovery.Recovered.{Recovered}
 use Rattle.log_recovery.specs.Recovery.{HoldsLawful}
 use Rattle.log_table.specs.Seats.{key_of}
 use Rattle.lock_core.specs.declared.job.Job.{Job}
+use Rattle.cli_shared.specs.Opening.{most_calls}
 use Rattle.cli_shared.specs.declared.report.Detail.{Detail}
 use Rattle.cli_shared.specs.declared.report.Detail.TheVariants.{Fine, Usage, Write, LogEnd, Exists}
 use Rattle.cli_threads.specs.declared.transfers.ReadyRun.{ReadyRun}
@@ -36,7 +38,7 @@ pub record IsReadyFor {D : Type 0} (g : Ghosts D) (workers : ℕ) (old new : D) 
   pub asked : AreAsked workers opened left left_new ready.prepared.jobs
   pub prepared : IsPrepared ready.prepared
   pub images : g.honest old → Leaves g.moment g.images_since (λ bytes. g.images old bytes ⊎ HoldsLawful bytes opened) old new
-  pub count : g.honest old → g.written_count new ≤ g.written_count old + 3
+  pub count : g.honest old → Costs g 3 (most_calls g old + 3) old new
 
 -- there is no run, which is answered so, whatever is known of the output
 abbrev pub HasNoRun : {D : Type 0} → Ghosts D → ℕ → D → D → Option (List ℕ) → Option (List ℕ) → Detail → Type 0

@@ -1,14 +1,20 @@
 -- How a log is opened. `g` is what a disk shows; `old` and `new` are the disk before and after.
 use Rattle.std.specs.Prelude.{◌≡◌, ◌≤◌, ◌^◌, ℕ, List, length, ◌+◌}
+use Rattle.log_disk.specs.Costs.{Costs}
 use Rattle.log_disk.specs.declared.disk.LogDisk.{Ghosts}
 use Rattle.log_disk.specs.Disk.{IsOnlyImage, Leaves}
 use Rattle.log_record.specs.LogList.{units_of}
 use Rattle.log_recovery.specs.declared.recovery.Recovered.{Recovered}
 use Rattle.log_recovery.specs.declared.recovery.RecoverFault.TheVariants as fault
 use Rattle.log_recovery.specs.Recovery.{Recovers, IsFaultOf}
+use Rattle.segment_file.specs.Opening.{most_reads}
 use Rattle.segment_file.specs.Standing.{AllStand, IsStableGate}
 use Rattle.cli_shared.specs.declared.report.Detail.{Detail}
 use Rattle.cli_shared.specs.declared.report.Detail.TheVariants.{NoMemory, Disk, NotALog, BadBatch, BadRec, Unlawful}
+
+-- opening takes at most an attach, a sync, the length, and the reads of all bytes
+abbrev pub most_calls : {D : Type 0} → Ghosts D → D → ℕ
+most_calls g disk = most_reads (length (g.reads disk)) + 3
 
 -- a read of the disk gives these bytes, where it tells what it gives
 abbrev pub MayHold : {D : Type 0} → Ghosts D → D → List ℕ → Type 0
@@ -44,4 +50,4 @@ HasOpeningFault g disk detail = (bytes : List ℕ) × MayHold g disk bytes × Is
 pub record OnlyLooks {D : Type 0} (g : Ghosts D) (old new : D) : Type 0 where
   pub images : Leaves g.moment g.images_since (g.images old) old new
   pub reads : g.reads new ≡ g.reads old
-  pub count : g.written_count new ≤ g.written_count old + 1
+  pub count : Costs g 1 (most_calls g old) old new

@@ -1,4 +1,5 @@
 ghost use Rattle.std.specs.Prelude.{◌≡◌, ◌≤◌, ◌+◌, ◌↔◌, ℕ, List, IfOk, IfErr, OnOk, IsErrOf, IsTrue};
+ghost use Rattle.log_disk.specs.Costs.{Costs};
 ghost use Rattle.log_disk.specs.Faults.{CountsWhere, HasCause};
 ghost use Rattle.log_disk.specs.Disk.{IsOnlyImage, Leaves};
 ghost use Rattle.segment_file.specs.File.{BeginsOpen};
@@ -18,7 +19,7 @@ fn finds_log<D: LogDisk>(disk: &mut D, log: &Word) -> Result<bool, DiskFault>
     ensures settled { D.honest disk.old → OnOk result (IsOnlyImage (D.reads disk.new) (D.images disk.new)) }
     ensures images { (c : List ℕ) → D.images disk.new c → D.images disk.old c }
     ensures moments { Leaves D.moment D.images_since (D.images disk.old) disk.old disk.new }
-    ensures count { D.honest disk.old → D.written_count disk.new ≤ D.written_count disk.old + 1 }
+    ensures count { D.honest disk.old → Costs D.LogDisk 1 4 disk.old disk.new }
     ensures honest { D.honest disk.old ↔ D.honest disk.new }
     ensures cause { HasCause (D.faults disk.old) (D.faults disk.new) result }
 {
@@ -36,7 +37,7 @@ pub fn finds_none<D: LogDisk>(disk: &mut D, log: &Word) -> Result<(), Detail>
     ensures exists { D.honest disk.old → IfErr result (TellsWhether (BeginsOpen (D.reads disk.old))) }
     ensures reads { D.honest disk.old → D.reads disk.new ≡ D.reads disk.old }
     ensures moments { Leaves D.moment D.images_since (D.images disk.old) disk.old disk.new }
-    ensures count { D.honest disk.old → D.written_count disk.new ≤ D.written_count disk.old + 1 }
+    ensures count { D.honest disk.old → Costs D.LogDisk 1 4 disk.old disk.new }
     ensures honest { D.honest disk.old ↔ D.honest disk.new }
     ensures disk { CountsWhere (IsErrOf result Detail.Disk) (D.faults disk.old) (D.faults disk.new) }
 {

@@ -1,7 +1,8 @@
 ghost use Rattle.std.specs.Prelude.{◌≡◌, ◌≤◌, ◌+◌, ◌↔◌, List, ℕ, IfOk, IfErr, OnOk, IsErrOf};
 ghost use Rattle.log_disk.specs.Disk.{IsOnlyImage, Leaves};
+ghost use Rattle.log_disk.specs.Costs.{Costs};
 ghost use Rattle.log_disk.specs.Faults.{CountsWhere};
-ghost use Rattle.cli_shared.specs.Opening.{Opens, HasOpeningFault, MayHold};
+ghost use Rattle.cli_shared.specs.Opening.{Opens, HasOpeningFault, MayHold, most_calls};
 
 use crate::report::{Detail, detail_of};
 use log_disk::LogDisk;
@@ -17,7 +18,7 @@ pub fn open_log<D: LogDisk>(alloc: Global, log: &Word, disk: &mut D) -> Result<R
     ensures reads { D.honest disk.old → D.reads disk.new ≡ D.reads disk.old }
     ensures images { (c : List ℕ) → D.images disk.new c → D.images disk.old c }
     ensures moments { Leaves D.moment D.images_since (D.images disk.old) disk.old disk.new }
-    ensures count { D.honest disk.old → D.written_count disk.new ≤ D.written_count disk.old + 1 }
+    ensures count { D.honest disk.old → Costs D.LogDisk 1 (most_calls D.LogDisk disk.old) disk.old disk.new }
     ensures honest { D.honest disk.old ↔ D.honest disk.new }
     ensures disk { CountsWhere (IsErrOf result Detail.Disk) (D.faults disk.old) (D.faults disk.new) }
 {
@@ -39,7 +40,7 @@ fn image_of<D: LogDisk>(alloc: Global, log: &Word, disk: &mut D) -> Result<Vec<u
     ensures reads { D.honest disk.old → D.reads disk.new ≡ D.reads disk.old }
     ensures images { (c : List ℕ) → D.images disk.new c → D.images disk.old c }
     ensures moments { Leaves D.moment D.images_since (D.images disk.old) disk.old disk.new }
-    ensures count { D.honest disk.old → D.written_count disk.new ≤ D.written_count disk.old + 1 }
+    ensures count { D.honest disk.old → Costs D.LogDisk 1 (most_calls D.LogDisk disk.old) disk.old disk.new }
     ensures honest { D.honest disk.old ↔ D.honest disk.new }
     ensures faults { CountsWhere (IsErrOf result OpenFault.DiskFault) (D.faults disk.old) (D.faults disk.new) }
 {

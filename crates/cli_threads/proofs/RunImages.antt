@@ -2,6 +2,8 @@
 use Rattle.std.proofs.Common.{◌≡◌, ◌⊎◌, inl, inr, ⊎_elim, ◌≤◌, ℕ, ◌+◌, ◌*◌, List, [], ◌++◌, length, Option, Some, None, refl, ap, ◌∙◌, sym, subst, arith, append_assoc, append-nil}
 use Rattle.std.specs.Io.KnownBytes.{Appends}
 use Rattle.std.proofs.KnownBytes.{Appends-nil}
+use Rattle.log_disk.proofs.Counting.{Costs-more, Costs-none}
+use Rattle.log_disk.specs.Costs.{Costs}
 use Rattle.log_disk.specs.Disk.{Leaves}
 use Rattle.log_disk.proofs.Moments.{Leaves-refl, Leaves-weaken}
 use Rattle.log_disk.specs.Streams.{AppendsPrefix}
@@ -44,13 +46,13 @@ pub record RunSends {D : Type 0} (g : Ghosts D) (voice : Voice) (opened list : L
   pub moments : g.honest before → Leaves g.moment g.images_since (HoldsSome opened list) before after
   pub now : g.honest before → (bytes : List ℕ) → g.images after bytes → HoldsBoth opened more bytes ⊎ HoldsBoth opened (more ++ cut) bytes
   pub text : AppendsPrefix old new (text_of voice (end_of opened) more)
-  pub count : g.honest before → g.written_count after ≤ g.written_count before + 4 * length more + 4
+  pub count : g.honest before → Costs g (4 * length more + 4) (4 * length more + 4) before after
 
 -- and where nothing failed, all lines of the first
 pub record RunSent {D : Type 0} (g : Ghosts D) (voice : Voice) (opened more : List Rec) (before after : D) (old new : Option (List ℕ)) : Type 0 where
   pub now : g.honest before → (bytes : List ℕ) → g.images after bytes → HoldsBoth opened more bytes
   pub text : Appends old new (text_of voice (end_of opened) more)
-  pub count : g.honest before → g.written_count after ≤ g.written_count before + 4 * length more
+  pub count : g.honest before → Costs g (4 * length more) (4 * length more) before after
 
 -- units sent and read, behind the opened ones, as records
 both-units : (opened records : List Rec) (sent units : List ℕ) → sent ≡ [] → units ≡ units_of records
@@ -89,14 +91,14 @@ module _ {D : Type 0} {K : Type 0} (g : Ghosts D) (h : SinkGhosts K) (opened lis
     moments = λ honest. Leaves-refl g.moment g.images_since (HoldsSome opened list) old.flusher.disk.now;
     now = λ honest bytes image. inl (standing honest bytes image);
     text = ([], text_of old.voice (end_of opened) [], refl, Appends-nil (h.held_bytes old.sink.now));
-    count = λ honest. omega arith;
+    count = λ honest. Costs-more g 0 _ 0 _ old.flusher.disk.now old.flusher.disk.now (omega arith) (omega arith) (Costs-none g old.flusher.disk.now);
   }
 
   pub sent-still : RunSent g old.voice opened [] old.flusher.disk.now old.flusher.disk.now (h.held_bytes old.sink.now) (h.held_bytes old.sink.now)
   sent-still = record {
     now = standing;
     text = subst (Appends (h.held_bytes old.sink.now) (h.held_bytes old.sink.now)) (text_of-none old.voice (end_of opened)) (Appends-nil (h.held_bytes old.sink.now));
-    count = λ honest. omega arith;
+    count = λ honest. Costs-more g 0 _ 0 _ old.flusher.disk.now old.flusher.disk.now (omega arith) (omega arith) (Costs-none g old.flusher.disk.now);
   }
 
   module _ (ran : Ran g h old new) where
@@ -141,7 +143,8 @@ module _ {D : Type 0} {K : Type 0} (g : Ghosts D) (h : SinkGhosts K) (opened lis
           (ran.moments honest (units_of opened) (opening honest));
       now = torn-now;
       text = text-front;
-      count = λ honest. let most = extra-few new.fault in let counted = ran.count honest in omega arith;
+      count = λ honest. let most = extra-few new.fault in
+          Costs-more g _ _ _ _ old.flusher.disk.now new.flusher.disk.now (omega (arith, most)) (omega (arith, most)) (ran.count honest);
     }
 
     pub sent-ran : new.fault ≡ None
@@ -156,5 +159,5 @@ module _ {D : Type 0} {K : Type 0} (g : Ghosts D) (h : SinkGhosts K) (opened lis
               (torn-now honest bytes image);
           text = subst (Appends (h.held_bytes old.sink.now) (h.held_bytes new.sink.now))
               (all.0 ∙ ap (λ at. text_of old.voice at ran.more) start) ran.appended;
-          count = λ honest. let counted = ran.count honest in omega arith;
+          count = λ honest. Costs-more g _ _ _ _ old.flusher.disk.now new.flusher.disk.now (omega (arith, extra_none)) (omega (arith, extra_none)) (ran.count honest);
         }

@@ -6,6 +6,7 @@ use mathlib.Core.Option.{some}
 use lib.ListN.{get_elem?}
 use Rattle.lsn_space.proofs.TilingLemmas.{all-weaker}
 use Rattle.log_disk.proofs.Moments.{Leaves-weaken}
+use Rattle.log_disk.proofs.Counting.{Costs-more}
 use Rattle.log_disk.specs.declared.disk.LogDisk.{Ghosts}
 use Rattle.log_disk.specs.declared.sink.Sink.{Ghosts as SinkGhosts}
 use Rattle.log_record.specs.declared.rec.Rec.{Rec}
@@ -191,7 +192,8 @@ module _ {D : Type 0} {K : Type 0} (g : Ghosts D) (h : SinkGhosts K) (opened : L
         text = AppendsPrefix-first (h.held_bytes old.sink.now) (h.held_bytes new.sink.now) (text_of old.voice (end_of opened) (sends.more ++ sends.cut))
             (text_of old.voice (end_of opened) sends.more) (text_of old.voice (end_of opened + length (units_of sends.more)) sends.cut) sends.text
             (text_of-append old.voice (end_of opened) sends.more sends.cut);
-        count = let long = length-append sends.more sends.cut in let counted = sends.count honest in omega arith;
+        count = let long = length-append sends.more sends.cut in
+            Costs-more g _ _ _ _ old.flusher.disk.now new.flusher.disk.now (omega (arith, long)) (omega (arith, long)) (sends.count honest);
       }
 
   -- ---- what befell the daemon

@@ -2,6 +2,7 @@
 -- and `list` has the records that the run inserted. `g` is what a disk shows, and `old` and `new` are what is known of the output.
 use Rattle.std.specs.Prelude.{◌≡◌, ◌≢◌, ◌<◌, ◌≤◌, ℕ, ◌+◌, ◌*◌, true, List, [], ◌++◌, length, map, Option}
 use Rattle.std.specs.Io.KnownBytes.{Appends}
+use Rattle.log_disk.specs.Costs.{Costs}
 use Rattle.log_disk.specs.Disk.{Leaves}
 use Rattle.log_disk.specs.Streams.{AppendsPrefix}
 use Rattle.log_disk.specs.declared.disk.LogDisk.{Ghosts}
@@ -45,12 +46,12 @@ pub record HoldsRun (opened : List Rec) (jobs : Jobs) (list : List Rec) (bytes :
   pub goes_on : GoesOn opened jobs (opened ++ front)
 
 -- The bytes are such, and what was written is a prefix of the lines of their end records: so each commit that was told is in them. At most 4
--- writes and syncs succeeded for each record, and 4 more in a flush that failed.
+-- calls of the disk were made for each record, and 4 more in a flush that failed.
 pub record IsLeft {D : Type 0} (g : Ghosts D) (voice : Voice) (opened : List Rec) (jobs : Jobs) (list : List Rec) (before after : D)
     (old new : Option (List ℕ)) (bytes : List ℕ) : Type 0 where
   pub run : HoldsRun opened jobs list bytes
   pub text : AppendsPrefix old new (text_of voice (end_of opened) run.front)
-  pub count : g.written_count after ≤ g.written_count before + 4 * length run.front + 4
+  pub count : Costs g (4 * length run.front + 4) (4 * length run.front + 4) before after
 
 -- The list goes on from the opened one as the script says. At each moment an image holds the opened list and a front of it, so that of two
 -- such the one is a prefix of the other; and at the exit each image holds all that was told.
@@ -67,7 +68,7 @@ pub record RunIsDrained {D : Type 0} (g : Ghosts D) (voice : Voice) (opened : Li
   pub text : Appends old new (text_of voice (end_of opened) list)
   pub end : lsn ≡ end_of (opened ++ list)
   pub accounts : rows_text lsn rows ≡ accounts_text (opened ++ list)
-  pub count : g.honest before → g.written_count after ≤ g.written_count before + 4 * length list
+  pub count : g.honest before → Costs g (4 * length list) (4 * length list) before after
 
 -- each transfer of the script ran whole
 abbrev pub RunsWhole : List Rec → Jobs → List Rec → Type 0

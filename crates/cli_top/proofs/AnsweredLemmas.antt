@@ -5,10 +5,13 @@ use Rattle.command_line.specs.CommandLine.{AreTaken, IsCommandLine}
 use Rattle.command_line.specs.declared.command.Command.{Command}
 use Rattle.command_line.specs.declared.command.Command.TheVariants.{New, Run, Recover, Dump, Demo}
 use Rattle.command_line.proofs.Asking.{asks-one}
+use Rattle.log_disk.proofs.Counting.{Costs-more, Costs-none}
+use Rattle.log_disk.specs.Costs.{Costs}
 use Rattle.log_disk.specs.declared.disk.LogDisk.{Ghosts}
 use Rattle.log_disk.specs.declared.source.Source.{Ghosts as SourceGhosts}
 use Rattle.log_disk.specs.declared.sink.Sink.{Ghosts as SinkGhosts}
 use Rattle.log_disk.proofs.Moments.{Leaves-refl}
+use Rattle.cli_shared.specs.Opening.{most_calls}
 use Rattle.cli_shared.specs.declared.report.Detail.{Detail}
 use Rattle.cli_shared.specs.declared.report.Detail.TheVariants.{NoMemory, Usage, Read, Write, Disk}
 use Rattle.cli_shared.specs.Answers.{StaysSilent}
@@ -32,6 +35,13 @@ IsFault Disk = Unit {0}
 IsFault detail = ⊥
 
 module _ {D S K : Type 0} (g : Ghosts D) (h : SourceGhosts S) (i : SinkGhosts K) where
+  -- nothing costs nothing
+  costs-none : (disk : D) → Costs g 7 11 disk disk
+  costs-none disk = Costs-more g 0 7 0 11 disk disk (omega arith) (omega arith) (Costs-none g disk)
+
+  costs-looks : (disk : D) → Costs g 1 (most_calls g disk) disk disk
+  costs-looks disk = Costs-more g 0 1 0 (most_calls g disk) disk disk (omega arith) (omega arith) (Costs-none g disk)
+
   -- a call that did nothing has done what a command without memory does
   nothing-done : (old : World D S K) (command : Command) → Does g h i command old old NoMemory
   nothing-done old (New log) = record {
@@ -43,17 +53,17 @@ module _ {D S K : Type 0} (g : Ghosts D) (h : SourceGhosts S) (i : SinkGhosts K)
     kept = λ precedes. Leaves-refl _ _ _ _;
     unchanged = λ honest precedes. refl;
     exists = λ honest. tt;
-    count = λ honest. omega arith;
+    count = λ honest. costs-none old.disk;
   }
   nothing-done old (Run log options) = record {
-    answer = λ honest. record { silent = kept-text _; disk = record { images = Leaves-refl _ _ _ _; reads = refl; count = omega arith } };
+    answer = λ honest. record { silent = kept-text _; disk = record { images = Leaves-refl _ _ _ _; reads = refl; count = costs-looks old.disk } };
     silent = kept-text _;
     range = tt;
   }
   nothing-done old Recover = record { answer = nothing-said _; silent = kept-text _; range = tt; untouched = refl }
   nothing-done old Dump = record { answer = nothing-said _; silent = kept-text _; range = tt; untouched = refl }
   nothing-done old (Demo log n seed options) = record {
-    answer = λ honest. record { images = Leaves-refl _ _ _ _; reads = refl; count = omega arith };
+    answer = λ honest. record { images = Leaves-refl _ _ _ _; reads = refl; count = costs-looks old.disk };
     text = kept-text _;
     range = tt;
     exists = λ honest. tt;
@@ -86,13 +96,13 @@ module _ {D S K : Type 0} (g : Ghosts D) (h : SourceGhosts S) (i : SinkGhosts K)
 
   done-count : (words : List (List ℕ)) (old new : World D S K) (detail : Detail) (command : Command) → IsCommandLine words command
       → Does g h i command old new detail → (AsksRun words → ⊥) → (AsksDemo words → ⊥) → g.honest old.disk
-      → g.written_count new.disk ≤ g.written_count old.disk + 7
+      → Costs g 7 11 old.disk new.disk
   done-count words old new detail (New log) asked done not_run not_demo honest = done.count honest
   done-count words old new detail (Run log options) asked done not_run not_demo honest = absurd (not_run (log, options, asked))
   done-count words old new detail Recover asked done not_run not_demo honest =
-      subst (λ w. g.written_count w ≤ g.written_count old.disk + 7) (sym done.untouched) (omega arith)
+      subst (λ w. Costs g 7 11 old.disk w) (sym done.untouched) (costs-none old.disk)
   done-count words old new detail Dump asked done not_run not_demo honest =
-      subst (λ w. g.written_count w ≤ g.written_count old.disk + 7) (sym done.untouched) (omega arith)
+      subst (λ w. Costs g 7 11 old.disk w) (sym done.untouched) (costs-none old.disk)
   done-count words old new detail (Demo log n seed options) asked done not_run not_demo honest =
       absurd (not_demo (log, n, seed, options, asked))
 
@@ -144,12 +154,12 @@ module _ {D S K : Type 0} (g : Ghosts D) (h : SourceGhosts S) (i : SinkGhosts K)
     untouched-of (inr (inr (memory, same))) = λ not_new not_run not_demo. ap (λ (w : World D S K). w.disk) same
 
     pub count-of : Answered g h i words old new detail → (AsksRun words → ⊥) → (AsksDemo words → ⊥) → g.honest old.disk
-        → g.written_count new.disk ≤ g.written_count old.disk + 7
+        → Costs g 7 11 old.disk new.disk
     count-of (inl has) = done-count words old new detail has.command has.asked has.obeys.done
     count-of (inr (inl (usage, _, same))) = λ not_run not_demo honest.
-        subst (λ w. g.written_count w ≤ g.written_count old.disk + 7) (sym (ap (λ (w : World D S K). w.disk) same)) (omega arith)
+        subst (λ w. Costs g 7 11 old.disk w) (sym (ap (λ (w : World D S K). w.disk) same)) (costs-none old.disk)
     count-of (inr (inr (memory, same))) = λ not_run not_demo honest.
-        subst (λ w. g.written_count w ≤ g.written_count old.disk + 7) (sym (ap (λ (w : World D S K). w.disk) same)) (omega arith)
+        subst (λ w. Costs g 7 11 old.disk w) (sym (ap (λ (w : World D S K). w.disk) same)) (costs-none old.disk)
 
     pub silent-of : Answered g h i words old new detail → (AsksRun words → ⊥) → StaysSilent (i.held_bytes old.out) (i.held_bytes new.out) detail
     silent-of (inl has) = done-silent words old new detail has.command has.asked has.obeys.done

@@ -2,6 +2,7 @@ ghost use Rattle.std.specs.Prelude.{◌≡◌, ◌≤◌, ◌+◌, ◌⊎◌, �
 ghost use Rattle.command_line.specs.CommandLine.{IsCommandLine, AreTaken};
 ghost use Rattle.command_line.specs.declared.command.Command.TheVariants.{New, Run, Recover, Dump, Demo};
 ghost use Rattle.command_line.specs.declared.options.RunOptions.{RunOptions};
+ghost use Rattle.log_disk.specs.Costs.{Costs};
 ghost use Rattle.log_disk.specs.Disk.{Leaves};
 ghost use Rattle.log_disk.specs.Faults.{CountsWhere, Rose};
 ghost use Rattle.log_record.specs.declared.limits.TheConstants.{LAST_TXN};
@@ -82,7 +83,7 @@ pub fn aether<R: Threads + Wait + Sync, D: LogDisk, S: Source, K: Sink, G: Gate 
         → Leaves D.moment D.images_since (D.images disk.old) disk.old disk.new }
     ensures unchanged { AsksNew words.now → D.honest disk.old → PrecedesLog result.detail → D.reads disk.new ≡ D.reads disk.old }
     ensures exists { AsksNew words.now → D.honest disk.old → TellsWhether (BeginsOpen (D.reads disk.old)) result.detail }
-    ensures count { (AsksRun words.now → ⊥) → (AsksDemo words.now → ⊥) → D.honest disk.old → D.written_count disk.new ≤ D.written_count disk.old + 7 }
+    ensures count { (AsksRun words.now → ⊥) → (AsksDemo words.now → ⊥) → D.honest disk.old → Costs D.LogDisk 7 11 disk.old disk.new }
     ensures complete { AsksNew words.now → D.honest disk.old → (BeginsOpen (D.reads disk.old) → ⊥)
         → IfSome (S.left script.old) (λ bytes. (balances : List ℕ) → IsBalancesText bytes balances
         → (Rose (S.faults script.old) (S.faults script.new) → ⊥) → (Rose (K.faults out.old) (K.faults out.new) → ⊥)

@@ -1,6 +1,7 @@
 -- What a command works on, and what those do to it that need no workers. `g`, `h` and `i` are what the disk, the input and the output show; `old`
 -- and `new` are the three of them before and after. The fields are the clauses of the commands.
 use Rattle.std.specs.Prelude.{◌≡◌, ◌≤◌, ◌+◌, ◌↔◌, IfSome}
+use Rattle.log_disk.specs.Costs.{Costs}
 use Rattle.log_disk.specs.Disk.{Leaves}
 use Rattle.log_disk.specs.Faults.{CountsWhere}
 use Rattle.log_disk.specs.declared.disk.LogDisk.{Ghosts}
@@ -42,7 +43,7 @@ pub record DoesNew {D S K : Type 0} (g : Ghosts D) (h : SourceGhosts S) (i : Sin
   pub kept : PrecedesLog detail → Leaves g.moment g.images_since (g.images old.disk) old.disk new.disk
   pub unchanged : g.honest old.disk → PrecedesLog detail → g.reads new.disk ≡ g.reads old.disk
   pub exists : g.honest old.disk → TellsWhether (BeginsOpen (g.reads old.disk)) detail
-  pub count : g.honest old.disk → g.written_count new.disk ≤ g.written_count old.disk + 7
+  pub count : g.honest old.disk → Costs g 7 11 old.disk new.disk
 
 pub record DoesRecover {D S K : Type 0} (h : SourceGhosts S) (i : SinkGhosts K) (old new : World D S K) (detail : Detail) : Type 0 where
   pub answer : IfSome (h.left old.script) (λ bytes.

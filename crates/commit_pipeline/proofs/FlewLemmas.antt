@@ -1,5 +1,7 @@
 -- What a flush, or a step of the seat alone, does to a flusher, in the words of what turns leave.
 use Rattle.std.proofs.Common.{◌≡◌, ◌∙◌, sym, ap, refl, subst, inl, inr, ℕ, ◌+◌, ◌≤◌, List, [], ◌++◌, length, append-nil, arith}
+use Rattle.log_disk.proofs.Counting.{Costs-none}
+use Rattle.log_disk.specs.Costs.{Costs}
 use Rattle.log_disk.specs.Disk.{Leaves}
 use Rattle.log_disk.specs.declared.disk.LogDisk.{Ghosts}
 use Rattle.log_disk.proofs.Moments.{Leaves-refl, Leaves-weaken}
@@ -17,7 +19,7 @@ use Rattle.flusher.proofs.Flushes.{StandsAt-holds}
 use Rattle.commit_pipeline.specs.Later.{HoldsFront}
 use Rattle.daemon_turn.specs.OneTurn.{Stops}
 
--- these records were sent, those cut are in flight, and at most so many writes and syncs succeeded
+-- these records were sent, those cut are in flight, and at most so many calls were made
 pub record Flew {D : Type 0} (g : Ghosts D) (more cut : List Rec) (most : ℕ) (old new : Flusher D) : Type 0 where
   pub constants : (view_of new.seat).constants ≡ (view_of old.seat).constants
   pub sent : sent_of new ≡ sent_of old ++ units_of more
@@ -26,7 +28,7 @@ pub record Flew {D : Type 0} (g : Ghosts D) (more cut : List Rec) (most : ℕ) (
       → Leaves g.moment g.images_since (HoldsFront (opening ++ sent_of old) (more ++ cut)) old.disk.now new.disk.now
   pub prefix : cut ≡ [] → g.honest old.disk.now → (opening : List ℕ) → HoldsDurablePrefix g old opening → HoldsDurablePrefix g new opening
   pub torn : g.honest old.disk.now → (opening : List ℕ) → HoldsDurablePrefix g old opening → MayHoldBatchInFlight g new opening
-  pub count : g.honest old.disk.now → g.written_count new.disk.now ≤ g.written_count old.disk.now + most
+  pub count : g.honest old.disk.now → Costs g most most old.disk.now new.disk.now
 
 -- where the whole list stands, nothing is in flight
 torn-none : {D : Type 0} (g : Ghosts D) (f : Flusher D) (opening : List ℕ) → HoldsDurablePrefix g f opening → MayHoldBatchInFlight g f opening
@@ -50,7 +52,7 @@ Flew-step g old new rest constants sent read =
           (Leaves-refl g.moment g.images_since P old.disk.now);
       prefix = λ none honest. prefix;
       torn = λ honest opening stand. torn-none g new opening (prefix opening stand);
-      count = λ honest. omega (arith, ap (λ (f : Flusher _). g.written_count f.disk.now) rest);
+      count = λ honest. subst (λ (f : Flusher _). Costs g 0 0 old.disk.now f.disk.now) (sym rest) (Costs-none g old.disk.now);
     }
 
 -- the list before, or it with all the records: a front of them
@@ -132,5 +134,5 @@ Flew-stop g more cut most word old mid new flew stops =
           (subst (λ (f : Flusher _). (c : List ℕ) → g.images f.disk.now c
           → HoldsEither (opening ++ sent_of mid) (view_of mid.seat).sending.read c) (sym stops.rest)
           (flew.torn honest opening stand)));
-      count = λ honest. omega (arith, flew.count honest, ap (λ (f : Flusher _). g.written_count f.disk.now) stops.rest);
+      count = λ honest. subst (λ (f : Flusher _). Costs g most most old.disk.now f.disk.now) (sym stops.rest) (flew.count honest);
     }

@@ -1,11 +1,11 @@
 -- Turns one after another.
-use Rattle.std.proofs.Common.{◌≡◌, ◌≢◌, ◌∙◌, sym, ap, refl, subst, inl, inr, ℕ, ◌+◌, ◌≤◌, List, [], ◌∷◌, ◌++◌, length, length-append, append_assoc, append-nil, arith, Option, Some, None}
+use Rattle.std.proofs.Common.{◌≡◌, ◌≢◌, ◌∙◌, sym, ap, refl, subst, inl, inr, ℕ, ◌+◌, ◌*◌, ◌≤◌, List, [], ◌∷◌, ◌++◌, length, length-append, append_assoc, append-nil, arith, Option, Some, None}
 use Rattle.std.proofs.KnownBytes.{Appends-trans}
 use Rattle.std.proofs.lemmas.List.Concat.{flat_map-append}
 use Rattle.std.specs.List.{AllByRecursion}
 use Rattle.log_disk.specs.declared.disk.LogDisk.{Ghosts}
 use Rattle.log_disk.specs.declared.sink.Sink.{Ghosts as SinkGhosts}
-use Rattle.log_disk.proofs.Counting.{CountsWhere-after}
+use Rattle.log_disk.proofs.Counting.{Costs-more, Costs-then, CountsWhere-after}
 use Rattle.log_disk.proofs.Moments.{Leaves-trans, Leaves-weaken}
 use Rattle.log_record.specs.declared.rec.Rec.{Rec}
 use Rattle.log_record.specs.LogList.{units_of, size_of}
@@ -231,13 +231,13 @@ module _ {D : Type 0} {K : Type 0} (g : Ghosts D) (h : SinkGhosts K) (a b c : Da
     front = front;
     all = all;
     reason = reason;
-    count = λ honest. omega (
-      arith,
-      first.count honest,
-      second.count (first.same.flusher.honest.0 honest),
-      extra-fine b.fault fine,
-      length-append first.more second.more,
-    );
+    count = λ honest.
+        let extra_none = extra-fine b.fault fine in
+        let long = length-append first.more second.more in
+        Costs-more g _ _ _ _ a.flusher.disk.now c.flusher.disk.now (omega (arith, extra_none, long)) (omega (arith, extra_none, long))
+        (Costs-then g (4 * length first.more + extra b.fault) (4 * length second.more + extra c.fault)
+        (4 * length first.more + extra b.fault) (4 * length second.more + extra c.fault)
+        a.flusher.disk.now b.flusher.disk.now c.flusher.disk.now (first.count honest) (second.count (first.same.flusher.honest.0 honest)));
   }
 
 -- what turns wrote is a front of the lines of the records that they sent

@@ -2,6 +2,7 @@
 use Rattle.std.proofs.Common.{◌≡◌, ◌≢◌, ◌↔◌, ◌∙◌, sym, ap, refl, subst, ℕ, ◌+◌, ◌*◌, ◌≤◌, ◌<◌, List, [], ◌∷◌, ◌++◌, length, append-nil, arith, Some, None}
 use Rattle.std.specs.Io.KnownBytes.{Appends}
 use Rattle.std.proofs.KnownBytes.{Appends-nil}
+use Rattle.log_disk.proofs.Counting.{Costs-more}
 use Rattle.log_disk.specs.declared.disk.LogDisk.{Ghosts}
 use Rattle.log_disk.specs.declared.sink.Sink.{Ghosts as SinkGhosts}
 use Rattle.std.specs.List.{AllByRecursion}
@@ -54,7 +55,7 @@ module _ {D : Type 0} {K : Type 0} (g : Ghosts D) (h : SinkGhosts K) (old new : 
     front = front;
     all = all;
     reason = reason;
-    count = λ honest. omega (arith, flew.count honest, count);
+    count = λ honest. Costs-more g most _ most _ old.flusher.disk.now new.flusher.disk.now count count (flew.count honest);
   }
 
   -- of no records nothing is told

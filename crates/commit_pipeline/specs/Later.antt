@@ -2,6 +2,7 @@
 use Rattle.std.specs.Prelude.{◌≡◌, ◌≢◌, ◌⊎◌, ℕ, ◌+◌, ◌*◌, ◌≤◌, List, [], ◌++◌, length, Option, Some, None}
 use Rattle.std.specs.List.{AllByRecursion}
 use Rattle.std.specs.Io.KnownBytes.{Appends}
+use Rattle.log_disk.specs.Costs.{Costs}
 use Rattle.log_disk.specs.Disk.{Leaves}
 use Rattle.log_disk.specs.declared.disk.LogDisk.{Ghosts}
 use Rattle.log_disk.specs.declared.sink.Sink.{Ghosts as SinkGhosts}
@@ -79,7 +80,7 @@ pub record Ran {D : Type 0} {K : Type 0} (g : Ghosts D) (h : SinkGhosts K) (old 
       → (text ≡ text_of old.voice (durable old) more) × (new.tally ≡ counted old.tally more)
   pub reason : HasReason g h old new
   pub count : g.honest old.flusher.disk.now
-      → g.written_count new.flusher.disk.now ≤ g.written_count old.flusher.disk.now + 4 * length more + extra new.fault
+      → Costs g (4 * length more + extra new.fault) (4 * length more + extra new.fault) old.flusher.disk.now new.flusher.disk.now
 
 -- nothing happened, or turns did
 abbrev pub Later : {D : Type 0} → {K : Type 0} → Ghosts D → SinkGhosts K → Daemon D K → Daemon D K → Type 0

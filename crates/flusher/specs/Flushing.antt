@@ -1,5 +1,6 @@
 -- What a flush asks for, and what it leaves. `g` is what a disk shows; `old` and `new` are the flusher before and after.
 use Rattle.std.specs.Prelude.{◌≡◌, ◌↔◌, ℕ, ◌+◌, ◌*◌, ◌^◌, ◌<◌, ◌≤◌, List, [], ◌++◌, length, Contains}
+use Rattle.log_disk.specs.Costs.{Costs}
 use Rattle.log_disk.specs.Disk.{IsOnlyImage, Leaves}
 use Rattle.log_disk.specs.declared.disk.LogDisk.{Ghosts}
 use Rattle.log_record.specs.declared.rec.Rec.{Rec}
@@ -66,7 +67,7 @@ MayHoldBatchInFlight g f opening = (c : List ℕ) → g.images f.disk.now c
 pub record WritesWhole {D : Type 0} (g : Ghosts D) (units : List ℕ) (old new : Flusher D) : Type 0 where
   pub moments : g.honest old.disk.now → (opening : List ℕ) → HoldsDurablePrefix g old opening
       → Leaves g.moment g.images_since (HoldsEither (opening ++ sent_of old) units) old.disk.now new.disk.now
-  pub count : g.honest old.disk.now → g.written_count new.disk.now ≤ g.written_count old.disk.now + 4
+  pub count : g.honest old.disk.now → Costs g 4 4 old.disk.now new.disk.now
 
 -- exposed, as loaded, is durable, and nothing else was done
 pub record FindsNothing {D : Type 0} (old new : Flusher D) (at : ℕ) : Type 0 where

@@ -1,5 +1,5 @@
 ghost use Rattle.std.specs.Prelude.{◌≡◌, ◌≤◌, ◌-◌, ◌↔◌, List, ℕ, length, min, take, drop, IfOk, OnOk};
-ghost use Rattle.log_disk.specs.Faults.{HasCause};
+ghost use Rattle.log_disk.specs.Faults.{HasCause, raised};
 ghost use Rattle.log_disk.specs.Disk.{put, IsTorn, MayBeTorn, IsOnlyImage, Elapses, Keeps, CountsOne};
 
 use crate::Failed;
@@ -28,6 +28,9 @@ pub trait LogDisk {
     /// How many writes and syncs have succeeded.
     ghost written_count: { Self → ℕ };
 
+    /// How many calls were made, those that failed too.
+    ghost calls: { Self → ℕ };
+
     /// How often a call has failed.
     ghost faults: { Self → ℕ };
 
@@ -36,6 +39,7 @@ pub trait LogDisk {
         ensures keeps { Keeps honest reads images written_count self.old self.new }
         ensures honest { honest self.old ↔ honest self.new }
         ensures time { Elapses moment images images_since self.old self.new }
+        ensures calls { honest self.old → calls self.new ≡ raised (calls self.old) }
         ensures cause { HasCause (faults self.old) (faults self.new) result };
 
     /// The length of the file in bytes.
@@ -44,6 +48,7 @@ pub trait LogDisk {
         ensures keeps { Keeps honest reads images written_count self.old self.new }
         ensures honest { honest self.old ↔ honest self.new }
         ensures time { Elapses moment images images_since self.old self.new }
+        ensures calls { honest self.old → calls self.new ≡ raised (calls self.old) }
         ensures cause { HasCause (faults self.old) (faults self.new) result };
 
     /// Reads from that offset on into the front of the buffer, and tells how many bytes. 0 from the
@@ -55,6 +60,7 @@ pub trait LogDisk {
         ensures keeps { Keeps honest reads images written_count self.old self.new }
         ensures honest { honest self.old ↔ honest self.new }
         ensures time { Elapses moment images images_since self.old self.new }
+        ensures calls { honest self.old → calls self.new ≡ raised (calls self.old) }
         ensures cause { HasCause (faults self.old) (faults self.new) result };
 
     /// Writes over what stands at that offset, and past the end. A write that fails may have left any
@@ -67,6 +73,7 @@ pub trait LogDisk {
         ensures count { honest self.old → CountsOne (written_count self.old) (written_count self.new) result }
         ensures honest { honest self.old ↔ honest self.new }
         ensures time { Elapses moment images images_since self.old self.new }
+        ensures calls { honest self.old → calls self.new ≡ raised (calls self.old) }
         ensures cause { HasCause (faults self.old) (faults self.new) result };
 
     /// After it a crash leaves what a read gives. A sync that fails adds no image.
@@ -77,6 +84,7 @@ pub trait LogDisk {
         ensures count { honest self.old → CountsOne (written_count self.old) (written_count self.new) result }
         ensures honest { honest self.old ↔ honest self.new }
         ensures time { Elapses moment images images_since self.old self.new }
+        ensures calls { honest self.old → calls self.new ≡ raised (calls self.old) }
         ensures cause { HasCause (faults self.old) (faults self.new) result };
 
     /// What is read is one of the images.

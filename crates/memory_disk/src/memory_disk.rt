@@ -187,6 +187,8 @@ impl LogDisk for MemoryDisk {
 
     ghost written_count = { written_count_of };
 
+    ghost calls = { λ d. d.calls };
+
     ghost faults = { λ d. d.faults };
 
     ghost read_is_image = { λ d _. file-is-image d.start d.history };

@@ -4,6 +4,7 @@ pub mod Creates
 pub mod FileLemmas
 pub mod GateBytes
 pub mod OneReading
+pub mod OpeningLemmas
 pub mod PackingLemmas
 pub mod Results
 pub mod Scanned

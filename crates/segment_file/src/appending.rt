@@ -1,4 +1,5 @@
 ghost use Rattle.std.specs.Prelude.{◌≡◌, ◌≤◌, ◌<◌, ◌+◌, ◌-◌, ◌*◌, ◌^◌, ◌++◌, ◌↔◌, List, ℕ, length, max, IfOk, OnOk};
+ghost use Rattle.log_disk.specs.Costs.{Costs};
 ghost use Rattle.log_disk.specs.Faults.{HasCause};
 ghost use Rattle.log_disk.specs.Disk.{put, IsOnlyImage, Leaves};
 ghost use Rattle.lsn_space.specs.declared.lsn.TheConstants.{LAST};
@@ -30,7 +31,7 @@ pub fn append<D: LogDisk>(disk: &mut D, tail: Tail, batch: &mut Batch) -> Result
     ensures batch { batch.new ≡ batch.old }
     ensures length { D.honest disk.old
         → length (D.reads disk.new) ≤ max (length (D.reads disk.old)) (tail.at + 6 + 8 * length batch.old.units) }
-    ensures count { D.honest disk.old → D.written_count disk.new ≤ D.written_count disk.old + 4 }
+    ensures count { D.honest disk.old → Costs D.LogDisk 4 4 disk.old disk.new }
     ensures later { D.moment disk.old ≤ D.moment disk.new }
     ensures honest { D.honest disk.old ↔ D.honest disk.new }
     ensures cause { HasCause (D.faults disk.old) (D.faults disk.new) result }
@@ -56,7 +57,7 @@ fn append_sealed<D: LogDisk>(disk: &mut D, tail: Tail, batch: &mut Batch) -> Res
     ensures batch { batch.new ≡ batch.old }
     ensures length { D.honest disk.old
         → length (D.reads disk.new) ≤ max (length (D.reads disk.old)) (tail.at + 6 + 8 * length batch.old.units) }
-    ensures count { D.honest disk.old → D.written_count disk.new ≤ D.written_count disk.old + 4 }
+    ensures count { D.honest disk.old → Costs D.LogDisk 4 4 disk.old disk.new }
     ensures later { D.moment disk.old ≤ D.moment disk.new }
     ensures honest { D.honest disk.old ↔ D.honest disk.new }
     ensures cause { HasCause (D.faults disk.old) (D.faults disk.new) result }

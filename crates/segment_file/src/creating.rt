@@ -1,4 +1,5 @@
 ghost use Rattle.std.specs.Prelude.{◌≡◌, ◌≤◌, ◌<◌, ◌+◌, ◌*◌, ◌↔◌, List, ℕ, length, max, IfOk, OnOk};
+ghost use Rattle.log_disk.specs.Costs.{Costs};
 ghost use Rattle.log_disk.specs.Faults.{HasCause};
 ghost use Rattle.log_disk.specs.Disk.{IsOnlyImage, Leaves};
 ghost use Rattle.segment_file.specs.declared.layout.TheConstants.{HEAD};
@@ -27,7 +28,7 @@ pub fn create<D: LogDisk>(disk: &mut D, batch: &mut Batch) -> Result<Tail, DiskF
     ensures batch { batch.new ≡ batch.old }
     ensures length { D.honest disk.old
         → length (D.reads disk.new) ≤ max (length (D.reads disk.old)) (HEAD + 2 + 8 * length batch.old.units) }
-    ensures count { D.honest disk.old → D.written_count disk.new ≤ D.written_count disk.old + 6 }
+    ensures count { D.honest disk.old → Costs D.LogDisk 6 7 disk.old disk.new }
     ensures later { D.moment disk.old ≤ D.moment disk.new }
     ensures honest { D.honest disk.old ↔ D.honest disk.new }
     ensures cause { HasCause (D.faults disk.old) (D.faults disk.new) result }
@@ -54,7 +55,7 @@ fn create_sealed<D: LogDisk>(disk: &mut D, batch: &mut Batch) -> Result<(), Disk
     ensures batch { batch.new ≡ batch.old }
     ensures length { D.honest disk.old
         → length (D.reads disk.new) ≤ max (length (D.reads disk.old)) (HEAD + 2 + 8 * length batch.old.units) }
-    ensures count { D.honest disk.old → D.written_count disk.new ≤ D.written_count disk.old + 4 }
+    ensures count { D.honest disk.old → Costs D.LogDisk 4 4 disk.old disk.new }
     ensures later { D.moment disk.old ≤ D.moment disk.new }
     ensures honest { D.honest disk.old ↔ D.honest disk.new }
     ensures cause { HasCause (D.faults disk.old) (D.faults disk.new) result }

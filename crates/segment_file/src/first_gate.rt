@@ -1,4 +1,4 @@
-ghost use Rattle.std.specs.Prelude.{◌≡◌, ◌↔◌, IsTrue, List, ℕ, length, take, IfOk, OnOk};
+ghost use Rattle.std.specs.Prelude.{◌≡◌, ◌≤◌, ◌+◌, ◌↔◌, IsTrue, List, ℕ, length, take, IfOk, OnOk};
 ghost use Rattle.log_disk.specs.Disk.{Elapses, Keeps};
 ghost use Rattle.log_disk.specs.Faults.{HasCause};
 ghost use Rattle.segment_file.specs.File.{BeginsOpen};
@@ -13,6 +13,7 @@ pub fn has_open_gate<D: LogDisk>(disk: &mut D) -> Result<bool, DiskFault>
     ensures opens { D.honest disk.old → IfOk result (λ yes. IsTrue yes ↔ BeginsOpen (D.reads disk.old)) }
     ensures keeps { Keeps D.honest D.reads D.images D.written_count disk.old disk.new }
     ensures time { Elapses D.moment D.images D.images_since disk.old disk.new }
+    ensures calls { D.honest disk.old → D.calls disk.new ≤ D.calls disk.old + 2 }
     ensures honest { D.honest disk.old ↔ D.honest disk.new }
     ensures cause { HasCause (D.faults disk.old) (D.faults disk.new) result }
 {

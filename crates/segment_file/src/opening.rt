@@ -1,6 +1,8 @@
 ghost use Rattle.std.specs.Prelude.{◌≡◌, ◌≤◌, ◌<◌, ◌+◌, ◌++◌, ◌↔◌, List, ℕ, length, take, IfOk, OnOk, IsErrOf};
+ghost use Rattle.log_disk.specs.Costs.{Costs};
 ghost use Rattle.log_disk.specs.Faults.{CountsWhere, HasCause};
 ghost use Rattle.log_disk.specs.Disk.{IsOnlyImage, Keeps, Leaves};
+ghost use Rattle.segment_file.specs.Opening.{most_reads};
 ghost use Rattle.segment_file.specs.declared.opening.OpenFault.TheVariants.{DiskFault};
 
 use log_disk::{Failed, LogDisk};
@@ -29,7 +31,7 @@ pub fn open_image<D: LogDisk>(alloc: Global, disk: &mut D) -> Result<Vec<u8>, Op
     ensures reads { D.honest disk.old → D.reads disk.new ≡ D.reads disk.old }
     ensures images { (c : List ℕ) → D.images disk.new c → D.images disk.old c }
     ensures moments { Leaves D.moment D.images_since (D.images disk.old) disk.old disk.new }
-    ensures count { D.honest disk.old → D.written_count disk.new ≤ D.written_count disk.old + 1 }
+    ensures count { D.honest disk.old → Costs D.LogDisk 1 (most_reads (length (D.reads disk.old)) + 2) disk.old disk.new }
     ensures honest { D.honest disk.old ↔ D.honest disk.new }
     ensures faults { CountsWhere (IsErrOf result OpenFault.DiskFault) (D.faults disk.old) (D.faults disk.new) }
 {
@@ -44,7 +46,7 @@ fn synced_len<D: LogDisk>(disk: &mut D) -> Result<u64, Failed>
     ensures reads { D.honest disk.old → D.reads disk.new ≡ D.reads disk.old }
     ensures images { (c : List ℕ) → D.images disk.new c → D.images disk.old c }
     ensures moments { Leaves D.moment D.images_since (D.images disk.old) disk.old disk.new }
-    ensures count { D.honest disk.old → D.written_count disk.new ≤ D.written_count disk.old + 1 }
+    ensures count { D.honest disk.old → Costs D.LogDisk 1 2 disk.old disk.new }
     ensures honest { D.honest disk.old ↔ D.honest disk.new }
     ensures cause { HasCause (D.faults disk.old) (D.faults disk.new) result }
 {
@@ -57,6 +59,8 @@ fn read_up_to<D: LogDisk>(alloc: Global, disk: &mut D, len: u64) -> Result<Vec<u
     ensures bytes { D.honest disk.old → len ≡ length (D.reads disk.old) → IfOk result (λ bytes. bytes.items ≡ D.reads disk.old) }
     ensures keeps { Keeps D.honest D.reads D.images D.written_count disk.old disk.new }
     ensures moments { Leaves D.moment D.images_since (D.images disk.old) disk.old disk.new }
+    ensures calls { D.honest disk.old → len ≡ length (D.reads disk.old)
+        → D.calls disk.new ≤ D.calls disk.old + most_reads (length (D.reads disk.old)) }
     ensures honest { D.honest disk.old ↔ D.honest disk.new }
     ensures faults { CountsWhere (IsErrOf result OpenFault.DiskFault) (D.faults disk.old) (D.faults disk.new) }
 {

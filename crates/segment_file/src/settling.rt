@@ -1,4 +1,5 @@
 ghost use Rattle.std.specs.Prelude.{◌≡◌, ◌≤◌, ◌+◌, ◌^◌, ◌∷◌, ◌⊎◌, ◌↔◌, [], IsTrue, List, ℕ, length, max, take, drop, IfOk, OnOk};
+ghost use Rattle.log_disk.specs.Costs.{Costs};
 ghost use Rattle.log_disk.specs.Faults.{HasCause};
 ghost use Rattle.log_disk.specs.Disk.{put, IsOnlyImage, Elapses, Keeps, Leaves};
 ghost use Rattle.segment_file.specs.File.{HoldsUnits};
@@ -30,7 +31,7 @@ pub fn settle<D: LogDisk>(disk: &mut D, at: u64, next: Lsn) -> Result<Tail, Disk
     ensures settled { D.honest disk.old → IsOnlyImage (D.reads disk.old) (D.images disk.old) ⊎ LacksGate at (D.reads disk.old)
         → OnOk result (IsOnlyImage (D.reads disk.new) (D.images disk.new)) }
     ensures length { D.honest disk.old → length (D.reads disk.new) ≤ max (length (D.reads disk.old)) (at + 1) }
-    ensures count { D.honest disk.old → D.written_count disk.new ≤ D.written_count disk.old + 2 }
+    ensures count { D.honest disk.old → Costs D.LogDisk 2 3 disk.old disk.new }
     ensures later { D.moment disk.old ≤ D.moment disk.new }
     ensures honest { D.honest disk.old ↔ D.honest disk.new }
     ensures cause { HasCause (D.faults disk.old) (D.faults disk.new) result }
@@ -52,7 +53,7 @@ pub(crate) fn close_gate<D: LogDisk>(disk: &mut D, at: u64) -> Result<(), DiskFa
     ensures settled { D.honest disk.old → IsOnlyImage (D.reads disk.old) (D.images disk.old) ⊎ LacksGate at (D.reads disk.old)
         → OnOk result (IsOnlyImage (D.reads disk.new) (D.images disk.new)) }
     ensures length { D.honest disk.old → length (D.reads disk.new) ≤ max (length (D.reads disk.old)) (at + 1) }
-    ensures count { D.honest disk.old → D.written_count disk.new ≤ D.written_count disk.old + 2 }
+    ensures count { D.honest disk.old → Costs D.LogDisk 2 3 disk.old disk.new }
     ensures later { D.moment disk.old ≤ D.moment disk.new }
     ensures honest { D.honest disk.old ↔ D.honest disk.new }
     ensures cause { HasCause (D.faults disk.old) (D.faults disk.new) result }
@@ -69,6 +70,7 @@ fn lacks_gate<D: LogDisk>(disk: &mut D, at: u64) -> Result<bool, DiskFault>
     ensures lacks { D.honest disk.old → IfOk result (λ lacks. IsTrue lacks ↔ LacksGate at (D.reads disk.old)) }
     ensures keeps { Keeps D.honest D.reads D.images D.written_count disk.old disk.new }
     ensures time { Elapses D.moment D.images D.images_since disk.old disk.new }
+    ensures calls { D.honest disk.old → D.calls disk.new ≤ D.calls disk.old + 1 }
     ensures honest { D.honest disk.old ↔ D.honest disk.new }
     ensures cause { HasCause (D.faults disk.old) (D.faults disk.new) result }
 {

@@ -64,6 +64,8 @@ impl<R: Files<File = File> + Drop> LogDisk for FileDisk<R> {
 
     ghost written_count = { λ _. 0 };
 
+    ghost calls = { λ _. 0 };
+
     ghost faults = { λ disk. disk.faults };
 
     ghost read_is_image = { λ _ _. tt };

@@ -1,5 +1,6 @@
-use Rattle.std.proofs.Common.{rules, ◌≡◌, inl}
+use Rattle.std.proofs.Common.{rules, ◌≡◌, inl, arith}
 use Rattle.std.proofs.lemmas.Result.{err_from_is_err_and}
+use Rattle.log_disk.proofs.Counting.{Costs-more}
 use Rattle.cli_demo.proofs.DemoLemmas.{fault-found, only-makes, opened-generated}
 use Rattle.cli_demo.proofs.demo_command.make_ready.Goals as goal
 
@@ -9,7 +10,12 @@ returns-in_err-finds_none-clause-none g c = λ honest.
     let failed = err_from_is_err_and c.from_residual.result c.from_residual.ensures.1 in
     let same : failed.0 ≡ c.in_err-finds_none.field-0.0 = search rules in
     rw (failed.1, same) (fault-found g.D.LogDisk _ _ _ c.args.disk.now c.finds_none.new.disk c.in_err-finds_none.field-0.0 said.fault
-    (record { images = said.moments; reads = said.reads honest; count = said.count honest }))
+    (record {
+      images = said.moments;
+      reads = said.reads honest;
+      count = Costs-more g.D.LogDisk 1 1 4 _ c.args.disk.now c.finds_none.new.disk (omega arith) (omega arith) (said.count honest);
+    })
+    (said.count honest))
 
 pub returns-in-Ok-create-clause-ready : goal.returns-in-Ok-create-clause-ready
 returns-in-Ok-create-clause-ready g c =

@@ -19,7 +19,9 @@ returns-clause-moments g c = λ honest.
 
 pub returns-clause-count : goal.returns-clause-count
 returns-clause-count g c = λ honest.
-    omega (arith, c.close_gate.ensures.count honest, c.create_sealed.ensures.count (c.close_gate.ensures.honest.0 honest))
+    let closed = c.close_gate.ensures.count honest in
+    let sealed = c.create_sealed.ensures.count (c.close_gate.ensures.honest.0 honest) in
+    record { successes = omega (arith, closed.successes, sealed.successes); calls = omega (arith, closed.calls, sealed.calls) }
 
 pub returns-clause-cause : goal.returns-clause-cause
 returns-clause-cause g c = record {
