@@ -167,22 +167,6 @@ module _ (voice : Voice) (from at : ℕ) (units text : List ℕ) (lines : ℕ) (
       counts = counts-more;
     }
 
-    -- of its line a part was written
-    pub told-cut : (cut unwritten : List ℕ) → line_said voice end rec ≡ cut ++ unwritten → 0 < length unwritten
-        → TellsFront voice from records (text ++ cut) before next
-    told-cut cut unwritten line some = record {
-      told = told.seen;
-      failed = rec;
-      untold = rest;
-      whole = told.whole ∙ ap (λ rs. told.seen ++ rs) (goes rec begins).whole;
-      written = cut;
-      unwritten = unwritten;
-      text_is = ap (λ us. us ++ cut) told.said;
-      line = ap (λ n. line_said voice n rec) end-more ∙ line;
-      some = some;
-      counts = counts-more;
-    }
-
   -- one that ends no transaction
   pub told-still : (rec : Rec) → BeginsWith (drop at units) rec → (size end : ℕ) → size ≡ size_of rec → end ≡ from + (at + size)
       → Silent voice end rec → ToldUpTo voice from (at + size) units text lines before after records
@@ -198,6 +182,18 @@ module _ (voice : Voice) (from at : ℕ) (units text : List ℕ) (lines : ℕ) (
         lines_are = omega (arith, more.lines_are);
         counts = more.counts;
       }
+
+  -- of the lines told a part was written
+  pub told-part : (written unwritten : List ℕ) → text ≡ written ++ unwritten → 0 < length unwritten → TellsFront voice from records written before after
+  told-part written unwritten parts some = record {
+    told = told.seen;
+    untold = told.unseen;
+    whole = told.whole;
+    unwritten = unwritten;
+    lines = sym told.said ∙ parts;
+    some = some;
+    counts = told.counts;
+  }
 
   -- no units are left
   pub told-all : length units ≤ at → TellsAll voice from records text lines before after

@@ -9,12 +9,13 @@ ghost use Rattle.log_record.specs.LogList.{AreUnitsOf};
 ghost use Rattle.end_lines.specs.Telling.{TellsAll, TellsFront, ended};
 
 use end_lines::{Tally, Voice, tell_record};
-use log_disk::{Sink, WriteFault};
+use log_disk::{OutputBlock, Sink, WriteFault};
 use log_record::{COMMIT, Header, OVER, Rec, SHORT};
 use lsn_space::Lsn;
 use segment_file::Batch;
 
-/// Counts the end records of the batch, whose first unit is at this LSN, and writes a line for each.
+/// Counts the end records of the batch, whose first unit is at this LSN, and writes a line for each. The lines go to the
+/// sink in blocks; where a write fails, more records may have been counted than have their line.
 pub fn tell<K: Sink>(
     batch: &Batch,
     from: Lsn,
@@ -32,6 +33,7 @@ pub fn tell<K: Sink>(
     ensures few { tally.new.done + tally.new.refused ≤ tally.old.done + tally.old.refused + length batch.now.units }
     ensures cause { HasCause (K.faults sink.old) (K.faults sink.new) result }
 {
+    let mut block = OutputBlock::new();
     let mut at = 0;
     let mut lines = 0;
     'records: while at < batch.count() {
@@ -41,8 +43,9 @@ pub fn tell<K: Sink>(
             continue;
         };
         tally.count(rec);
-        lines += tell_record(rec, Lsn::new(from.units() + at), voice, sink)?;
+        lines += tell_record(rec, Lsn::new(from.units() + at), voice, &mut block, sink)?;
     }
+    block.write_out(sink)?;
     Ok(lines)
 }
 

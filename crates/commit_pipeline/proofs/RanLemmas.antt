@@ -8,7 +8,7 @@ use Rattle.log_disk.specs.declared.sink.Sink.{Ghosts as SinkGhosts}
 use Rattle.log_disk.proofs.Counting.{Costs-more, Costs-then, CountsWhere-after}
 use Rattle.log_disk.proofs.Moments.{Leaves-trans, Leaves-weaken}
 use Rattle.log_record.specs.declared.rec.Rec.{Rec}
-use Rattle.log_record.specs.LogList.{units_of, size_of}
+use Rattle.log_record.specs.LogList.{units_of}
 use Rattle.log_record.specs.Spelling.{spelling, IsSpellable}
 use Rattle.log_table.specs.Seats.{view_of}
 use Rattle.log_table.specs.declared.view.Constants.{Constants}
@@ -21,11 +21,11 @@ use Rattle.stop_word.specs.declared.fault.DaemonFault.TheVariants.{DiskFault, Wr
 use Rattle.end_lines.specs.declared.tally.Tally.{Tally}
 use Rattle.end_lines.specs.declared.voice.Voice.{Voice}
 use Rattle.end_lines.specs.declared.voice.Voice.TheVariants.{Lines, Count}
-use Rattle.end_lines.specs.EndLines.{text_of, line_said}
+use Rattle.end_lines.specs.EndLines.{text_of}
 use Rattle.commit_pipeline.specs.Later.{HoldsFront, InFlight, HasReason, StopTells, extra, Ran, Later}
 use Rattle.end_lines.specs.Telling.{TellsFront, counted}
 use Rattle.commit_pipeline.specs.Turning.{IsSameDaemon, durable}
-use Rattle.end_lines.proofs.LineLemmas.{text_of-append, text_of-cons, counted-append}
+use Rattle.end_lines.proofs.LineLemmas.{text_of-append, counted-append}
 
 pub IsSameDaemon-trans : {D : Type 0} {K : Type 0} (g : Ghosts D) (a b c : Daemon D K)
     → IsSameDaemon g a b → IsSameDaemon g b c → IsSameDaemon g a c
@@ -78,39 +78,25 @@ spellable-append (x ∷ xs) ys first second = (first.0, spellable-append xs ys f
 TellsFront-behind : (voice : Voice) (at : ℕ) (before after : List Rec) (text more : List ℕ) (old mid new : Tally)
     → text ≡ text_of voice at before → mid ≡ counted old before → TellsFront voice (at + length (units_of before)) after more mid new
     → TellsFront voice at (before ++ after) (text ++ more) old new
-TellsFront-behind voice at before after text more old mid new told counts front =
-    let behind : List Rec = front.told ++ front.failed ∷ [] in
-    let place : (at + length (units_of (before ++ front.told))) + size_of front.failed
-    ≡ ((at + length (units_of before)) + length (units_of front.told)) + size_of front.failed =
-    omega (arith, ap length (flat_map-append spelling before front.told), length-append (units_of before) (units_of front.told)) in
-    record {
-      told = before ++ front.told;
-      failed = front.failed;
-      untold = front.untold;
-      whole = ap (λ rs. before ++ rs) front.whole ∙ sym (append_assoc before front.told (front.failed ∷ front.untold));
-      written = front.written;
-      unwritten = front.unwritten;
-      text_is = (λ i. told i ++ front.text_is i)
-          ∙ sym (append_assoc (text_of voice at before) (text_of voice (at + length (units_of before)) front.told) front.written)
-          ∙ ap (λ us. us ++ front.written) (sym (text_of-append voice at before front.told));
-      line = ap (λ n. line_said voice n front.failed) place ∙ front.line;
-      some = front.some;
-      counts = front.counts ∙ ap (λ t. counted t behind) counts ∙ sym (counted-append old before behind)
-          ∙ ap (counted old) (sym (append_assoc before front.told (front.failed ∷ [])));
-    }
+TellsFront-behind voice at before after text more old mid new told counts front = record {
+  told = before ++ front.told;
+  untold = front.untold;
+  whole = ap (λ rs. before ++ rs) front.whole ∙ sym (append_assoc before front.told front.untold);
+  unwritten = front.unwritten;
+  lines = text_of-append voice at before front.told ∙ ap (λ us. us ++ text_of voice (at + length (units_of before)) front.told) (sym told)
+      ∙ ap (λ us. text ++ us) front.lines ∙ sym (append_assoc text more front.unwritten);
+  some = front.some;
+  counts = front.counts ∙ ap (λ t. counted t front.told) counts ∙ sym (counted-append old before front.told);
+}
 
 -- what was written then is a front of the lines of all the records
 TellsFront-text : (voice : Voice) (at : ℕ) (records : List Rec) (text : List ℕ) (before after : Tally) → TellsFront voice at records text before after
     → (rest : List ℕ) × (text_of voice at records ≡ text ++ rest)
 TellsFront-text voice at records text before after front =
-    let lines : List ℕ = text_of voice at front.told in
-    let from : ℕ = at + length (units_of front.told) in
-    let later : List ℕ = text_of voice (from + size_of front.failed) front.untold in (
+    let later : List ℕ = text_of voice (at + length (units_of front.told)) front.untold in (
       front.unwritten ++ later,
-      ap (text_of voice at) front.whole ∙ text_of-append voice at front.told (front.failed ∷ front.untold)
-          ∙ ap (λ us. lines ++ us) (text_of-cons voice from front.failed front.untold ∙ ap (λ us. us ++ later) front.line
-          ∙ append_assoc front.written front.unwritten later)
-          ∙ sym (append_assoc lines front.written (front.unwritten ++ later)) ∙ ap (λ us. us ++ (front.unwritten ++ later)) (sym front.text_is),
+      ap (text_of voice at) front.whole ∙ text_of-append voice at front.told front.untold ∙ ap (λ us. us ++ later) front.lines
+          ∙ append_assoc text front.unwritten later,
     )
 
 -- a daemon that only counts has no line to fail at
@@ -118,7 +104,7 @@ pub TellsFront-speaks : (voice : Voice) (at : ℕ) (records : List Rec) (text : 
     → TellsFront voice at records text before after → voice ≡ Lines
 TellsFront-speaks Lines at records text before after front = refl
 TellsFront-speaks Count at records text before after front =
-    absurd (omega (arith, front.some, ap length front.line, length-append front.written front.unwritten))
+    absurd (omega (arith, front.some, ap length front.lines, length-append text front.unwritten))
 
 pub none≢some : (fault : DaemonFault) → None ≢ Some fault
 none≢some fault same = subst (λ o. IsNone o) same tt

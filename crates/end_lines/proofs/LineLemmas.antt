@@ -45,12 +45,6 @@ pub lines_in-append : (voice : Voice) (xs ys : List Rec) → lines_in voice (xs 
 lines_in-append Lines xs ys = omega (arith, done_in-append xs ys, refused_in-append xs ys)
 lines_in-append Count xs ys = refl
 
--- a record's line, and then those of the others
-pub text_of-cons : (voice : Voice) (at : ℕ) (rec : Rec) (records : List Rec) → text_of voice at (rec ∷ records)
-    ≡ line_said voice (at + size_of rec) rec ++ text_of voice (at + size_of rec) records
-text_of-cons Lines at rec records = refl
-text_of-cons Count at rec records = refl
-
 -- of one record
 pub text_of-one : (voice : Voice) (at : ℕ) (rec : Rec) → text_of voice at (rec ∷ []) ≡ line_said voice (at + size_of rec) rec
 text_of-one Lines at rec = append-nil (end_line (at + size_of rec) rec)

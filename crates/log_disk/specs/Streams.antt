@@ -13,3 +13,7 @@ AppendsPrefix old new bytes = (prefix rest : List ℕ) × (bytes ≡ prefix ++ r
 -- known bytes grow by a prefix of these, and not by all of them
 abbrev pub AppendsPart : Option (List ℕ) → Option (List ℕ) → List ℕ → Type 0
 AppendsPart old new bytes = (prefix rest : List ℕ) × (bytes ≡ prefix ++ rest) × Appends old new prefix × (0 < length rest)
+
+-- known bytes grow by these but for the last of them, which wait in a block
+abbrev pub AppendsBut : Option (List ℕ) → Option (List ℕ) → List ℕ → List ℕ → Type 0
+AppendsBut old new bytes waiting = (prefix : List ℕ) × (bytes ≡ prefix ++ waiting) × Appends old new prefix

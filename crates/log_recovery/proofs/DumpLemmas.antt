@@ -3,9 +3,8 @@ use Rattle.std.proofs.Common.{◌≡◌, ◌<◌, ◌≤◌, ℕ, ◌+◌, List,
 use Rattle.std.specs.List.{AllByRecursion}
 use Rattle.std.proofs.lemmas.List.{append-nil}
 use Rattle.std.proofs.lemmas.List.Elements.{All-from_recursion}
-use Rattle.std.proofs.KnownBytes.{Appends-nil, Appends-trans}
-use Rattle.std.specs.Io.KnownBytes.{Appends}
-use Rattle.log_disk.specs.Streams.{AppendsPart}
+use Rattle.log_disk.specs.Streams.{AppendsPart, AppendsBut}
+use Rattle.log_disk.proofs.Blocks.{AppendsBut-none, AppendsBut-more, AppendsBut-part, AppendsPart-first}
 use Rattle.log_record.specs.declared.rec.Rec.{Rec}
 use Rattle.log_record.specs.declared.rec.Rec.TheVariants.{Genesis, Update, Commit, Short, Over, Note}
 use Rattle.log_record.specs.LogList.{AreUnitsOf, units_of, end_of, size_of}
@@ -17,7 +16,6 @@ use Rattle.log_recovery.specs.Listing.{IsFront}
 use Rattle.log_recovery.specs.Text.{lsn_line}
 use Rattle.log_recovery.proofs.AnswerLemmas.{some_unit}
 use Rattle.log_recovery.proofs.ListingLemmas.{front-end, units_of-append}
-use Rattle.log_recovery.proofs.TextLemmas.{AppendsPart-behind}
 
 record_lines-append : (at : ℕ) (xs ys : List Rec) → record_lines at (xs ++ ys) ≡ record_lines at xs ++ record_lines (at + end_of xs) ys
 record_lines-append at [] ys = let same : at ≡ at + 0 = omega arith in ap (λ n. record_lines n ys) same
@@ -44,18 +42,18 @@ pub dumps-less : (rest after : List ℕ) (rec : Rec) → (length rest ≡ 0 → 
 dumps-less rest after rec some behind =
     let less = ap length behind ∙ length-drop (length (spelling rec)) rest in let units = some-units rec in omega (arith, some)
 
--- the lines of the records before this rest of the units are written
-pub record DumpsFront (units rest : List ℕ) (old new : Option (List ℕ)) : Type 0 where
+-- the lines of the records before this rest of the units are written, but for the bytes that wait
+pub record DumpsFront (units rest waiting : List ℕ) (old new : Option (List ℕ)) : Type 0 where
   pub done : List Rec
   pub more : List Rec
   pub list : AreUnitsOf units (done ++ more)
   pub left : rest ≡ units_of more
-  pub written : Appends old new (record_lines 0 done)
+  pub written : AppendsBut old new (record_lines 0 done) waiting
 
-pub dumps-none : (units : List ℕ) (records : List Rec) (old : Option (List ℕ)) → AreUnitsOf units records → DumpsFront units units old old
-dumps-none units records old list = record { done = []; more = records; list = list; left = list.units_are; written = Appends-nil old }
+pub dumps-none : (units : List ℕ) (records : List Rec) (old : Option (List ℕ)) → AreUnitsOf units records → DumpsFront units units [] old old
+dumps-none units records old list = record { done = []; more = records; list = list; left = list.units_are; written = AppendsBut-none old [] }
 
-module _ (units rest : List ℕ) (old mid : Option (List ℕ)) (before : DumpsFront units rest old mid) where
+module _ (units rest waiting : List ℕ) (old mid : Option (List ℕ)) (before : DumpsFront units rest waiting old mid) where
   each : AllByRecursion IsSpellable before.done × AllByRecursion IsSpellable before.more
   each = all-split IsSpellable before.done before.more before.list.spellable
 
@@ -104,15 +102,16 @@ module _ (units rest : List ℕ) (old mid : Option (List ℕ)) (before : DumpsFr
         ∙ ap (λ n. record_lines 0 before.done ++ (record_line n rec ++ [])) (sym (dumps-place start place))
         ∙ ap (λ l. record_lines 0 before.done ++ l) (append-nil (record_line start rec))
 
-    -- one more line is written
-    pub dumps-more : (new : Option (List ℕ)) (after : List ℕ) → after ≡ drop (length (spelling rec)) rest → Appends mid new (record_line start rec)
-        → DumpsFront units after old new
-    dumps-more new after dropped line = record {
+    -- one more line is put
+    pub dumps-more : (new : Option (List ℕ)) (after waiting' : List ℕ) → after ≡ drop (length (spelling rec)) rest
+        → AppendsBut mid new (waiting ++ record_line start rec) waiting' → DumpsFront units after waiting' old new
+    dumps-more new after waiting' dropped line = record {
       done = before.done ++ rec ∷ [];
       more = parts.1;
       list = subst (AreUnitsOf units) (ap (λ l. before.done ++ l) more-is ∙ sym (append_assoc before.done (rec ∷ []) parts.1)) before.list;
       left = dropped ∙ ap (drop (length (spelling rec))) begun.2 ∙ drop-front (spelling rec) begun.1 ∙ same.1;
-      written = subst (Appends old new) (sym lines-more) (Appends-trans old mid new _ _ before.written line);
+      written = subst (λ bytes. AppendsBut old new bytes waiting') (sym lines-more)
+          (AppendsBut-more old mid new _ waiting before.written (record_line start rec) waiting' line);
     }
       where
         drop-front : (xs ys : List ℕ) → drop (length xs) (xs ++ ys) ≡ ys
@@ -130,12 +129,12 @@ module _ (units rest : List ℕ) (old mid : Option (List ℕ)) (before : DumpsFr
         ∙ ap (λ l. l ++ record_lines (0 + end_of (before.done ++ rec ∷ [])) parts.1) lines-more)
         ∙ append_assoc (record_lines 0 before.done ++ record_line start rec) _ _
 
-    -- a front of one more line is written
-    pub dumps-cut : (new : Option (List ℕ)) (records : List Rec) → AreUnitsOf units records → AppendsPart mid new (record_line start rec)
+    -- of the lines with one more a part is written
+    pub dumps-cut : (new : Option (List ℕ)) (records : List Rec) → AreUnitsOf units records → AppendsPart mid new (waiting ++ record_line start rec)
         → AppendsPart old new (dump_text records)
     dumps-cut new records list cut =
         subst (λ l. AppendsPart old new (dump_text l)) (one-list_of units (before.done ++ before.more) records before.list list)
-        (AppendsPart-behind old mid new _ _ (record_line start rec) _ before.written cut whole-text)
+        (AppendsPart-first old new _ _ _ (AppendsBut-part old mid new _ waiting before.written (record_line start rec) cut) whole-text)
 
   -- the whole is written
   module _ (empty : rest ≡ []) (records : List Rec) (list : AreUnitsOf units records) where
@@ -147,13 +146,16 @@ module _ (units rest : List ℕ) (old mid : Option (List ℕ)) (before : DumpsFr
     done-is = sym (append-nil before.done) ∙ ap (λ l. before.done ++ l) (sym (none-left before.more refl))
         ∙ one-list_of units (before.done ++ before.more) records before.list list
 
-    pub dumps-all : (new : Option (List ℕ)) (lsn : ℕ) → lsn ≡ end_of records → Appends mid new (lsn_line lsn) → Appends old new (dump_text records)
-    dumps-all new lsn end line =
-        rw (← end) (Appends-trans old mid new _ _ (subst (λ l. Appends old mid (record_lines 0 l)) done-is before.written) line)
+    whole : (lsn : ℕ) → lsn ≡ end_of records → dump_text records ≡ record_lines 0 before.done ++ lsn_line lsn
+    whole lsn end = ap (λ l. record_lines 0 l ++ lsn_line (end_of records)) (sym done-is) ∙ ap (λ n. record_lines 0 before.done ++ lsn_line n) (sym end)
 
-    pub dumps-end_cut : (new : Option (List ℕ)) (lsn : ℕ) → lsn ≡ end_of records → AppendsPart mid new (lsn_line lsn) → AppendsPart old new (dump_text records)
+    -- the end is put
+    pub dumps-end : (new : Option (List ℕ)) (waiting' : List ℕ) (lsn : ℕ) → lsn ≡ end_of records → AppendsBut mid new (waiting ++ lsn_line lsn) waiting'
+        → AppendsBut old new (dump_text records) waiting'
+    dumps-end new waiting' lsn end line =
+        subst (λ bytes. AppendsBut old new bytes waiting') (sym (whole lsn end)) (AppendsBut-more old mid new _ waiting before.written (lsn_line lsn) waiting' line)
+
+    pub dumps-end_cut : (new : Option (List ℕ)) (lsn : ℕ) → lsn ≡ end_of records → AppendsPart mid new (waiting ++ lsn_line lsn)
+        → AppendsPart old new (dump_text records)
     dumps-end_cut new lsn end cut =
-        let text : dump_text records ≡ (record_lines 0 before.done ++ lsn_line lsn) ++ [] =
-        ap (λ l. record_lines 0 l ++ lsn_line (end_of records)) (sym done-is) ∙ ap (λ n. record_lines 0 before.done ++ lsn_line n) (sym end)
-        ∙ sym (append-nil (record_lines 0 before.done ++ lsn_line lsn)) in
-        AppendsPart-behind old mid new _ _ (lsn_line lsn) [] before.written cut text
+        subst (AppendsPart old new) (sym (whole lsn end)) (AppendsBut-part old mid new _ waiting before.written (lsn_line lsn) cut)

@@ -1,12 +1,13 @@
 -- Texts that are written line by line.
-use Rattle.std.proofs.Common.{◌≡◌, ◌≤◌, ◌<◌, Some, slice_get, slice_index_or, sym, ap, refl, ℕ, ◌+◌, zero, suc, List, [], ◌∷◌, ◌++◌, inl, inr, Option, length, arith, append_assoc, add-one, codes}
+use Rattle.std.proofs.Common.{◌≡◌, ◌≤◌, ◌<◌, Some, slice_get, slice_index_or, sym, ap, subst, refl, ℕ, ◌+◌, zero, suc, List, [], ◌∷◌, ◌++◌, inl, inr, Option, length, arith, append_assoc, add-one, codes}
 use Rattle.std.proofs.lemmas.List.{append-nil}
 use Rattle.std.proofs.lemmas.Option.{get_or_from_slice_get}
 use Rattle.std.proofs.lemmas.List.Concat.{flat_map-append}
 use Rattle.std.proofs.Math.Nat.{eq-or-lt_of_le}
 use Rattle.std.specs.Io.KnownBytes.{Appends}
 use Rattle.std.proofs.KnownBytes.{Appends-trans}
-use Rattle.log_disk.specs.Streams.{AppendsPrefix, AppendsPart}
+use Rattle.log_disk.specs.Streams.{AppendsPrefix, AppendsPart, AppendsBut}
+use Rattle.log_disk.proofs.Blocks.{AppendsBut-more, AppendsBut-part, AppendsPart-first, longer}
 use Rattle.lsn_space.specs.Number.{number_text}
 use Rattle.log_record.specs.declared.rec.Rec.{Rec}
 use Rattle.log_record.specs.LogList.{end_of}
@@ -29,10 +30,6 @@ account_lines-split balance i (suc n) few = elim (eq-or-lt_of_le few) [
   )
 ]
 
-longer : (xs more : List ℕ) → 0 < length xs → 0 < length (xs ++ more)
-longer [] more some = absurd (omega arith)
-longer (x ∷ xs) more some = omega arith
-
 -- a front of a text's first piece is a front of the text
 pub AppendsPrefix-first : (old new : Option (List ℕ)) (text piece more : List ℕ) → AppendsPrefix old new piece → text ≡ piece ++ more → AppendsPrefix old new text
 AppendsPrefix-first old new text piece more written whole =
@@ -45,10 +42,6 @@ AppendsPrefix-behind old middle new text done piece more before cut whole =
     (done ++ cut.0, cut.1 ++ more, rw (whole, cut.2) (simp append_assoc), Appends-trans old middle new done cut.0 before cut.3)
 
 -- likewise of a front that isn't all of the piece
-pub AppendsPart-first : (old new : Option (List ℕ)) (text piece more : List ℕ) → AppendsPart old new piece → text ≡ piece ++ more → AppendsPart old new text
-AppendsPart-first old new text piece more written whole =
-    (written.0, written.1 ++ more, rw (whole, written.2) (append_assoc written.0 written.1 more), written.3, longer written.1 more written.4)
-
 pub AppendsPart-behind : (old middle new : Option (List ℕ)) (text done piece more : List ℕ) → Appends old middle done → AppendsPart middle new piece
     → text ≡ (done ++ piece) ++ more → AppendsPart old new text
 AppendsPart-behind old middle new text done piece more before cut whole =
@@ -67,25 +60,27 @@ balance_in-row : (rows : List (ℕ × ℕ)) (account : ℕ) (row : ℕ × ℕ) �
 balance_in-row rows account row kept = ap (λ (r : ℕ × ℕ). r.0) (get_or_from_slice_get rows account row (0, 0) kept)
 
 module _ (old middle new : Option (List ℕ)) (start : List ℕ) (rows : List (ℕ × ℕ)) (account : ℕ) (row : ℕ × ℕ) (kept : slice_get rows account ≡ Some row)
-    (before : Appends old middle (start ++ account_lines (balance_in rows) account)) where
+    (waiting : List ℕ) (before : AppendsBut old middle (start ++ account_lines (balance_in rows) account) waiting) where
   line-added : start ++ account_lines (balance_in rows) (account + 1) ≡ (start ++ account_lines (balance_in rows) account) ++ account_line account row.0
   line-added =
       rw (account_lines-suc (balance_in rows) account, balance_in-row rows account row kept)
       (sym (append_assoc start (account_lines (balance_in rows) account) (account_line account row.0)))
 
-  -- one more line is written
-  pub Appends-line : Appends middle new (account_line account row.0) → Appends old new (start ++ account_lines (balance_in rows) (account + 1))
-  Appends-line line = rw line-added (Appends-trans old middle new _ _ before line)
+  -- one more line is put
+  pub AppendsBut-line : (waiting' : List ℕ) → AppendsBut middle new (waiting ++ account_line account row.0) waiting'
+      → AppendsBut old new (start ++ account_lines (balance_in rows) (account + 1)) waiting'
+  AppendsBut-line waiting' line =
+      subst (λ bytes. AppendsBut old new bytes waiting') (sym line-added) (AppendsBut-more old middle new _ waiting before (account_line account row.0) waiting' line)
 
-  -- a front of one more line is written
-  pub AppendsPart-line : account < length rows → AppendsPart middle new (account_line account row.0)
+  -- of the lines with one more a part is written
+  pub AppendsPart-line : account < length rows → AppendsPart middle new (waiting ++ account_line account row.0)
       → AppendsPart old new (start ++ account_lines (balance_in rows) (length rows))
   AppendsPart-line within cut =
       let split = account_lines-split (balance_in rows) (account + 1) (length rows) (omega arith) in
       let lines = account_lines (balance_in rows) (account + 1) in
       let whole : start ++ account_lines (balance_in rows) (length rows) ≡ ((start ++ account_lines (balance_in rows) account) ++ account_line account row.0) ++ split.0 =
       rw (split.1, ← append_assoc start lines split.0, line-added) refl in
-      AppendsPart-behind old middle new _ _ (account_line account row.0) split.0 before cut whole
+      AppendsPart-first old new _ _ split.0 (AppendsBut-part old middle new _ waiting before (account_line account row.0) cut) whole
 
 account_lines-same : (one other : ℕ → ℕ) (n : ℕ) → ((account : ℕ) → account < n → one account ≡ other account) → account_lines one n ≡ account_lines other n
 account_lines-same one other zero same = refl

@@ -3,7 +3,7 @@
 ghost use Rattle.std.specs.Prelude.{◌≡◌, ◌+◌, ◌≤◌, ◌++◌, List, length, drop, codes, OnOk, OnErr};
 ghost use Rattle.std.specs.Io.KnownBytes.{Appends};
 ghost use Rattle.log_disk.specs.Faults.{HasCause};
-ghost use Rattle.log_disk.specs.Streams.{AppendsPart};
+ghost use Rattle.log_disk.specs.Streams.{AppendsPart, AppendsBut};
 ghost use Rattle.log_record.specs.Spelling.{spelling, BeginsWith};
 ghost use Rattle.log_record.specs.declared.rec.Rec.{Rec};
 ghost use Rattle.lsn_space.specs.Number.{number_text};
@@ -13,7 +13,7 @@ ghost use Rattle.log_recovery.specs.Recovery.{HasRecords};
 use crate::list_result::Listed;
 use crate::texts::put_end;
 use arrayvec::ArrayVec;
-use log_disk::{Sink, WriteFault, put_all};
+use log_disk::{OutputBlock, Sink, WriteFault};
 use log_record::{Rec, read};
 use lsn_space::{Lsn, decimal};
 
@@ -30,14 +30,16 @@ pub fn put_dump<K: Sink>(listed: &Listed, sink: &mut K) -> Result<(), WriteFault
     ensures cause { HasCause (K.faults sink.old) (K.faults sink.new) result }
 {
     let end = listed.tail.next;
+    let mut block = OutputBlock::new();
     let mut rest = listed.units.as_slice();
     'records: while !rest.is_empty() {
         let start = start_of(rest, end);
         let (rec, behind) = first_of(rest);
-        put_record(start, &rec, sink)?;
+        put_record(start, &rec, &mut block, sink)?;
         rest = behind;
     }
-    put_end(end, sink)
+    put_end(end, &mut block, sink)?;
+    block.write_out(sink)
 }
 
 /// The record that a rest of a list's units begins with, and the rest behind it.
@@ -61,12 +63,17 @@ fn start_of(rest: &[u64], end: Lsn) -> Lsn
     Lsn::new(end - rest.len() as u32)
 }
 
-fn put_record<K: Sink>(start: Lsn, rec: &Rec, sink: &mut K) -> Result<(), WriteFault>
-    ensures all { OnOk result (Appends (K.held_bytes sink.old) (K.held_bytes sink.new) (record_line start rec.now)) }
-    ensures prefix { OnErr result (AppendsPart (K.held_bytes sink.old) (K.held_bytes sink.new) (record_line start rec.now)) }
+fn put_record<K: Sink>(
+    start: Lsn,
+    rec: &Rec,
+    block: &mut OutputBlock,
+    sink: &mut K,
+) -> Result<(), WriteFault>
+    ensures all { OnOk result (AppendsBut (K.held_bytes sink.old) (K.held_bytes sink.new) (block.old ++ record_line start rec.now) block.new) }
+    ensures prefix { OnErr result (AppendsPart (K.held_bytes sink.old) (K.held_bytes sink.new) (block.old ++ record_line start rec.now)) }
     ensures cause { HasCause (K.faults sink.old) (K.faults sink.new) result }
 {
-    put_all(sink, line_of(start, rec).as_slice())
+    block.put(sink, line_of(start, rec).as_slice())
 }
 
 /// The line of a record that starts here.

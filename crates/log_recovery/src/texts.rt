@@ -1,11 +1,11 @@
-ghost use Rattle.std.specs.Prelude.{◌≡◌, OnOk, OnErr};
+ghost use Rattle.std.specs.Prelude.{◌≡◌, ◌++◌, OnOk, OnErr};
 ghost use Rattle.std.specs.Io.KnownBytes.{Appends};
 ghost use Rattle.log_disk.specs.Faults.{HasCause};
-ghost use Rattle.log_disk.specs.Streams.{AppendsPart};
+ghost use Rattle.log_disk.specs.Streams.{AppendsPart, AppendsBut};
 ghost use Rattle.log_recovery.specs.Text.{lsn_line, account_line, rows_text};
 
 use arrayvec::ArrayVec;
-use log_disk::{Sink, WriteFault, put_all};
+use log_disk::{OutputBlock, Sink, WriteFault};
 use lsn_space::{Balances, Lsn, decimal};
 
 /// Room for a line of the accounts text.
@@ -37,20 +37,29 @@ fn balance_line(account: u32, balance: u32) -> Line
     line
 }
 
-pub(crate) fn put_end<K: Sink>(lsn: Lsn, sink: &mut K) -> Result<(), WriteFault>
-    ensures all { OnOk result (Appends (K.held_bytes sink.old) (K.held_bytes sink.new) (lsn_line lsn)) }
-    ensures prefix { OnErr result (AppendsPart (K.held_bytes sink.old) (K.held_bytes sink.new) (lsn_line lsn)) }
+pub(crate) fn put_end<K: Sink>(
+    lsn: Lsn,
+    block: &mut OutputBlock,
+    sink: &mut K,
+) -> Result<(), WriteFault>
+    ensures all { OnOk result (AppendsBut (K.held_bytes sink.old) (K.held_bytes sink.new) (block.old ++ lsn_line lsn) block.new) }
+    ensures prefix { OnErr result (AppendsPart (K.held_bytes sink.old) (K.held_bytes sink.new) (block.old ++ lsn_line lsn)) }
     ensures cause { HasCause (K.faults sink.old) (K.faults sink.new) result }
 {
-    put_all(sink, end_line(lsn).as_slice())
+    block.put(sink, end_line(lsn).as_slice())
 }
 
-fn put_balance<K: Sink>(account: u32, balance: u32, sink: &mut K) -> Result<(), WriteFault>
-    ensures all { OnOk result (Appends (K.held_bytes sink.old) (K.held_bytes sink.new) (account_line account balance)) }
-    ensures prefix { OnErr result (AppendsPart (K.held_bytes sink.old) (K.held_bytes sink.new) (account_line account balance)) }
+fn put_balance<K: Sink>(
+    account: u32,
+    balance: u32,
+    block: &mut OutputBlock,
+    sink: &mut K,
+) -> Result<(), WriteFault>
+    ensures all { OnOk result (AppendsBut (K.held_bytes sink.old) (K.held_bytes sink.new) (block.old ++ account_line account balance) block.new) }
+    ensures prefix { OnErr result (AppendsPart (K.held_bytes sink.old) (K.held_bytes sink.new) (block.old ++ account_line account balance)) }
     ensures cause { HasCause (K.faults sink.old) (K.faults sink.new) result }
 {
-    put_all(sink, balance_line(account, balance).as_slice())
+    block.put(sink, balance_line(account, balance).as_slice())
 }
 
 /// Writes the accounts text of a log that ends at this LSN, or a part of it at a fault.
@@ -59,10 +68,11 @@ pub fn put_accounts<K: Sink>(lsn: Lsn, accounts: &Balances, sink: &mut K) -> Res
     ensures prefix { OnErr result (AppendsPart (K.held_bytes sink.old) (K.held_bytes sink.new) (rows_text lsn accounts.now.rows)) }
     ensures cause { HasCause (K.faults sink.old) (K.faults sink.new) result }
 {
-    put_end(lsn, sink)?;
+    let mut block = OutputBlock::new();
+    put_end(lsn, &mut block, sink)?;
     for account in 0..accounts.count() {
         let (balance, _) = accounts.at(account);
-        put_balance(account, balance, sink)?;
+        put_balance(account, balance, &mut block, sink)?;
     }
-    Ok(())
+    block.write_out(sink)
 }

@@ -1,9 +1,10 @@
-use Rattle.std.proofs.Common.{arith, refl, sym, ap, ◌≡◌, ◌∙◌, ◌+◌, [], ◌++◌, length, drop, subst}
+use Rattle.std.proofs.Common.{arith, refl, sym, ap, ◌≡◌, ◌∙◌, ◌+◌, [], length, drop, subst}
 use Rattle.std.proofs.lemmas.Result.{err_from_is_err_and}
-use Rattle.std.proofs.KnownBytes.{Appends-nil, Appends-trans}
+use Rattle.log_disk.specs.Streams.{AppendsBut}
+use Rattle.log_disk.proofs.Blocks.{AppendsBut-none, AppendsBut-more, AppendsBut-part, AppendsBut-all, AppendsBut-cut}
 use Rattle.log_record.specs.Spelling.{spelling, BeginsWith}
 use Rattle.end_lines.specs.EndLines.{count_said}
-use Rattle.batch_lines.proofs.ToldLemmas.{size_of-some, window-within, ends-few, count_said-few, told-begins, told-none, told-more, told-still, told-cut, told-all}
+use Rattle.batch_lines.proofs.ToldLemmas.{size_of-some, window-within, ends-few, count_said-few, told-begins, told-none, told-more, told-still, told-part, told-all}
 use Rattle.batch_lines.proofs.HeadLemmas.{ended-silent, ended-same}
 use Rattle.batch_lines.proofs.telling.tell.Goals as goal
 
@@ -15,7 +16,8 @@ records-init g c = record {
   few = omega arith;
   told = (
     [],
-    Appends-nil (g.K.Sink.held_bytes c.args.sink.now),
+    subst (AppendsBut (g.K.Sink.held_bytes c.args.sink.now) (g.K.Sink.held_bytes c.args.sink.now) []) (sym c.new-block.ensures)
+        (AppendsBut-none (g.K.Sink.held_bytes c.args.sink.now) []),
     λ records spells. told-none c.args.voice c.args.from c.args.batch.now.units _ records spells,
   );
   no_fault = refl;
@@ -58,17 +60,19 @@ returns-in_err-lines-clause-front g c =
     let size : c.from.result ≡ length (spelling c.in-Some.rec) = omega (arith, c.from.ensures, seen.3 ∙ ap (λ r. length (spelling r)) (sym same)) in
     let failed = err_from_is_err_and c.from_residual.result c.from_residual.ensures.1 in
     let before = c.records.invariant.told in
-    let cut = c.in_err-lines.ensures.prefix in
     let end : c.new.result ≡ c.args.from + (c.records.at + c.from.result) =
     c.new.ensures ∙ ap (λ n. n + (c.records.at + c.from.result)) c.units.ensures in
+    let cut = AppendsBut-part _ _ _ before.0 _ before.1 _ c.in_err-lines.ensures.prefix in
     rw failed.1 (
-      before.0 ++ cut.0,
-      Appends-trans _ _ _ before.0 cut.0 before.1 cut.3,
+      cut.0,
+      cut.3,
       λ records spells.
-          told-cut c.args.voice c.args.from c.records.at c.args.batch.now.units _ _ _ _ records
+          let more = told-more c.args.voice c.args.from c.records.at c.args.batch.now.units _ _ _ _ records
           (before.2 records spells) spells.spellable c.in-Some.rec begins
           c.from.result c.new.result c.count-in-records.new.self size end
-          c.count-in-records.ensures.done c.count-in-records.ensures.refused cut.0 cut.1 cut.2 cut.4,
+          c.count-in-records.ensures.done c.count-in-records.ensures.refused _ refl in
+          told-part c.args.voice c.args.from (c.records.at + c.from.result) c.args.batch.now.units _ _ _ _ records more spells.spellable
+          cut.0 cut.1 cut.2 cut.4,
     )
 
 pub records-preserved : goal.records-preserved
@@ -100,7 +104,7 @@ records-preserved g c =
       );
       told = (
         _,
-        Appends-trans _ _ _ before.0 _ before.1 line.0,
+        AppendsBut-more _ _ _ before.0 _ before.1 _ _ line.0,
         λ records spells.
             told-more c.args.voice c.args.from c.records.at c.args.batch.now.units _ _ _ _ records
             (before.2 records spells) spells.spellable c.in-Some.rec begins
@@ -113,12 +117,24 @@ records-preserved g c =
 pub returns-clause-told : goal.returns-clause-told
 returns-clause-told g c = (
   c.records.invariant.told.0,
-  c.records.invariant.told.1,
+  AppendsBut-all _ _ _ _ _ c.records.invariant.told.1 c.in_ok-write_out.ensures.all,
   λ records spells.
       told-all c.args.voice c.args.from c.records.at c.args.batch.now.units _ _ _ _ records
       (c.records.invariant.told.2 records spells) spells.spellable
       (omega (arith, c.records-test.false, c.count.ensures)),
 )
+
+pub returns-in_err-write_out-clause-front : goal.returns-in_err-write_out-clause-front
+returns-in_err-write_out-clause-front g c =
+    let failed = err_from_is_err_and c.from_residual-in_err-write_out.result c.from_residual-in_err-write_out.ensures.1 in
+    let cut = AppendsBut-cut _ _ _ _ _ c.records.invariant.told.1 c.in_err-write_out.ensures.prefix in
+    rw failed.1 (
+      cut.0,
+      cut.3,
+      λ records spells.
+          told-part c.args.voice c.args.from c.records.at c.args.batch.now.units _ _ _ _ records
+          (c.records.invariant.told.2 records spells) spells.spellable cut.0 cut.1 cut.2 cut.4,
+    )
 
 pub overflow_add-at : goal.overflow_add-at
 overflow_add-at g c =
@@ -181,3 +197,6 @@ returns-in_err-lines-clause-few g c =
 
 pub returns-clause-few : goal.returns-clause-few
 returns-clause-few g c = omega (arith, c.records.invariant.few, c.records.invariant.within)
+
+pub returns-in_err-write_out-clause-few : goal.returns-in_err-write_out-clause-few
+returns-in_err-write_out-clause-few g c = omega (arith, c.records.invariant.few, c.records.invariant.within)

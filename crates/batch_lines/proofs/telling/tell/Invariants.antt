@@ -1,5 +1,5 @@
 use Rattle.std.proofs.Common.{◌≡◌, ◌≤◌, ◌+◌, ◌-◌, List, ℕ, length}
-use Rattle.std.specs.Io.KnownBytes.{Appends}
+use Rattle.log_disk.specs.Streams.{AppendsBut}
 use Rattle.log_record.specs.declared.rec.Rec.{Rec}
 use Rattle.log_record.specs.LogList.{AreUnitsOf}
 use Rattle.batch_lines.proofs.ToldLemmas.{ToldUpTo}
@@ -12,7 +12,7 @@ invariant-records g l = record {
   within : l.at ≤ length l.batch.units;
   lines_few : l.lines ≤ l.at;
   few : l.tally.done + l.tally.refused ≤ (l.fn.tally.done + l.fn.tally.refused) + l.at;
-  told : (text : List ℕ) × Appends (g.K.Sink.held_bytes l.fn.sink) (g.K.Sink.held_bytes l.sink) text
+  told : (text : List ℕ) × AppendsBut (g.K.Sink.held_bytes l.fn.sink) (g.K.Sink.held_bytes l.sink) text l.block
       × ((records : List Rec) → AreUnitsOf l.batch.units records → ToldUpTo l.fn.voice l.from l.at l.batch.units text l.lines l.fn.tally l.tally records);
 }
 

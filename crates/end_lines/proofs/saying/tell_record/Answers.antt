@@ -4,8 +4,8 @@ use Rattle.end_lines.proofs.saying.tell_record.Goals as goal
 pub returns-clause-all : goal.returns-clause-all
 returns-clause-all g c = search rules steps 900000
 
-pub returns-in_err-put_all-clause-prefix : goal.returns-in_err-put_all-clause-prefix
-returns-in_err-put_all-clause-prefix g c = search rules steps 900000
+pub returns-in_err-put-clause-prefix : goal.returns-in_err-put-clause-prefix
+returns-in_err-put-clause-prefix g c = search rules steps 900000
 
 pub returns-then-eq-clause-all : goal.returns-then-eq-clause-all
 returns-then-eq-clause-all g c = search rules steps 450000
@@ -25,11 +25,11 @@ returns-in_default-clause-prefix g c = search rules steps 200000
 pub returns-in_default-clause-cause : goal.returns-in_default-clause-cause
 returns-in_default-clause-cause g c = search rules steps 200000
 
-pub returns-in_err-put_all-clause-all : goal.returns-in_err-put_all-clause-all
-returns-in_err-put_all-clause-all g c = search rules steps 600000
+pub returns-in_err-put-clause-all : goal.returns-in_err-put-clause-all
+returns-in_err-put-clause-all g c = search rules steps 600000
 
-pub returns-in_err-put_all-clause-cause : goal.returns-in_err-put_all-clause-cause
-returns-in_err-put_all-clause-cause g c = search rules steps 900000
+pub returns-in_err-put-clause-cause : goal.returns-in_err-put-clause-cause
+returns-in_err-put-clause-cause g c = search rules steps 900000
 
 pub returns-clause-prefix : goal.returns-clause-prefix
 returns-clause-prefix g c = search rules steps 200000

@@ -1,0 +1,95 @@
+//! A text goes to its sink in blocks, and not in a write for each line. Whoever writes a text has a block of its own, and
+//! writes it out before it answers.
+ghost use Rattle.std.specs.Prelude.{◌≡◌, ◌≤◌, ◌+◌, ◌++◌, [], length, OnOk, OnErr};
+ghost use Rattle.std.specs.Io.KnownBytes.{Appends};
+ghost use Rattle.log_disk.specs.Faults.{HasCause};
+ghost use Rattle.log_disk.specs.Streams.{AppendsPart, AppendsBut};
+ghost use Rattle.log_disk.specs.declared.output_block.TheConstants.{BLOCK_BYTES};
+
+use crate::sink::{Sink, WriteFault, put_all};
+use std::marker::Model;
+
+/// How many bytes a block holds.
+pub const BLOCK_BYTES: usize = 4096;
+
+/// Bytes of a text that wait, at most `BLOCK_BYTES` of them, until they are written in one piece. They lie in the value
+/// itself, so no memory is asked for. Contracts see the bytes.
+#[derive(Drop)]
+pub struct OutputBlock {
+    bytes: [u8; BLOCK_BYTES],
+    len: usize,
+}
+
+impl Model for OutputBlock {
+    ghost use Rattle.std.specs.Prelude.{◌≤◌, ℕ, List, take};
+    ghost use Rattle.log_disk.specs.declared.output_block.TheConstants.{BLOCK_BYTES};
+
+    ghost Value = { List ℕ };
+
+    ghost view = { λ block. take block.len block.bytes };
+
+    ghost invariant = { λ block. block.len ≤ BLOCK_BYTES };
+}
+
+impl OutputBlock {
+    /// A block in which nothing waits.
+    pub fn new() -> OutputBlock
+        ensures { result ≡ [] }
+    {
+        OutputBlock {
+            bytes: [0; BLOCK_BYTES],
+            len: 0,
+        }
+    }
+
+    /// Puts a piece behind the bytes that wait. These are written out before, where the block has no room for the piece.
+    /// At a fault a part of all this was written, and nothing waits.
+    pub fn put<K: Sink>(&mut self, sink: &mut K, piece: &[u8]) -> Result<(), WriteFault>
+        requires { length piece.now ≤ BLOCK_BYTES }
+        ensures all { OnOk result (AppendsBut (K.held_bytes sink.old) (K.held_bytes sink.new) (self.old ++ piece.now) self.new) }
+        ensures prefix { OnErr result (AppendsPart (K.held_bytes sink.old) (K.held_bytes sink.new) (self.old ++ piece.now)) }
+        ensures waits { length self.old + length piece.now ≤ BLOCK_BYTES → sink.new ≡ sink.old }
+        ensures cause { HasCause (K.faults sink.old) (K.faults sink.new) result }
+    {
+        self.make_room(sink, piece.len())?;
+        self.push(piece);
+        Ok(())
+    }
+
+    /// Writes out what waits, unless so many bytes more have room.
+    fn make_room<K: Sink>(&mut self, sink: &mut K, count: usize) -> Result<(), WriteFault>
+        requires { count ≤ BLOCK_BYTES }
+        ensures all { OnOk result (AppendsBut (K.held_bytes sink.old) (K.held_bytes sink.new) self.old self.new) }
+        ensures room { OnOk result (length self.new + count ≤ BLOCK_BYTES) }
+        ensures prefix { OnErr result (AppendsPart (K.held_bytes sink.old) (K.held_bytes sink.new) self.old) }
+        ensures waits { length self.old + count ≤ BLOCK_BYTES → (sink.new ≡ sink.old) × (self.new ≡ self.old) }
+        ensures cause { HasCause (K.faults sink.old) (K.faults sink.new) result }
+    {
+        if count <= BLOCK_BYTES - self.len {
+            return Ok(());
+        }
+        self.write_out(sink)
+    }
+
+    /// Puts a piece that has room behind the bytes that wait.
+    fn push(&mut self, piece: &[u8])
+        requires { length self.old + length piece.now ≤ BLOCK_BYTES }
+        ensures { self.new ≡ self.old ++ piece.now }
+    {
+        let end = self.len + piece.len();
+        self.bytes[self.len..end].copy_from_slice(piece);
+        self.len = end;
+    }
+
+    /// Writes the bytes that wait in one piece, or a part of them at a fault. Then nothing waits.
+    pub fn write_out<K: Sink>(&mut self, sink: &mut K) -> Result<(), WriteFault>
+        ensures all { OnOk result (Appends (K.held_bytes sink.old) (K.held_bytes sink.new) self.old) }
+        ensures prefix { OnErr result (AppendsPart (K.held_bytes sink.old) (K.held_bytes sink.new) self.old) }
+        ensures empty { self.new ≡ [] }
+        ensures cause { HasCause (K.faults sink.old) (K.faults sink.new) result }
+    {
+        let written = put_all(sink, &self.bytes[..self.len]);
+        self.len = 0;
+        written
+    }
+}
