@@ -1,6 +1,6 @@
 //! An account is taken.
 ghost use Rattle.std.specs.Prelude.{◌≡◌, ◌<◌, IfOk, IfErr};
-ghost use Rattle.log_table.specs.May.{IsAtRest, HasBegunNothing};
+ghost use Rattle.log_table.specs.May.{IsAtRest, HasBegunNothing, Ascends};
 ghost use Rattle.log_table.specs.Seats.{IsOf, view_of};
 ghost use Rattle.early_locks.specs.Locks.{HasTaken, HoldsTaken, WasHeld};
 
@@ -24,12 +24,14 @@ pub struct Held {
     pub found: AccountWord,
 }
 
-/// Takes the account, where no worker holds it.
+/// Takes the account, where no worker holds it. A worker takes its accounts in ascending order, so it holds neither this one nor
+/// one above it.
 pub fn try_take(table: &LogTable, seat: &mut Seat, account: u32) -> Result<Taken, Held>
     requires seat { IsOf table.now seat.old }
     requires account { account < table.now.accounts }
     requires rests { IsAtRest (view_of seat.old) }
     requires begins { HasBegunNothing (view_of seat.old) }
+    requires ascends { Ascends account (view_of seat.old).books }
     ensures taken { IfOk result (HasTaken seat.old seat.new account) }
     ensures holds { IfOk result (λ taken. HoldsTaken taken (view_of seat.new).books) }
     ensures held { IfErr result (WasHeld seat.old seat.new account) }

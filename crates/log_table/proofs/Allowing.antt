@@ -139,7 +139,7 @@ module _ (key : Start) (slots seat : ℕ) (me : Me (Unit {0}) View) where
         (λ n _. account-looks key seat me.0 account n))
 
     pub exchange_account-allowed : (from to : AccountWord) (free held : ℕ) → free ≡ word_of from → held ≡ word_of to → FitsWord from → FitsWord to
-        → MayTake from to me.0
+        → MayTake account from to me.0
         → Allows (Ruled key) slots seat me place (λ n. either (eqb n free) held n) (λ n new. (new ≡ (after_account picked free n me.0, me.1)) × IsOwnWord picked n me.0.books)
     exchange_account-allowed from to free held free-is held-is from-fits to-fits may =
         subst (λ (p : ℕ × ℕ). Allows (Ruled key) slots seat me place (λ n. either (eqb n p.0) p.1 n)

@@ -120,7 +120,7 @@ module _ (key : Start) (me : ℕ) (v : View) where
         ap (λ a. mark_in (words.account a)) is ∙ (own.known.mark ∙ sym own.mark),
       )
 
-  pub account-takes : (accounts account : ℕ) → length key.accounts.rows ≡ accounts → account < accounts → (from to : AccountWord) → FitsWord from → FitsWord to → MayTake from to v
+  pub account-takes : (accounts account : ℕ) → length key.accounts.rows ≡ accounts → account < accounts → (from to : AccountWord) → FitsWord from → FitsWord to → MayTake account from to v
       → IsStep key me (Account account) (word_of from) (word_of to) v (took_account account (word_of from) v) None
   account-takes accounts account same below from to from-fits to-fits may = record {
     leads = λ words views log s at is.
@@ -137,7 +137,7 @@ module _ (key : Start) (me : ℕ) (v : View) where
         (only_note-uncommitted v.books.placed may.begins.only_note) s.accounts);
   }
 
-  pub account-step : (accounts account : ℕ) → length key.accounts.rows ≡ accounts → account < accounts → (from to : AccountWord) → FitsWord from → FitsWord to → MayTake from to v → (n : ℕ)
+  pub account-step : (accounts account : ℕ) → length key.accounts.rows ≡ accounts → account < accounts → (from to : AccountWord) → FitsWord from → FitsWord to → MayTake account from to v → (n : ℕ)
       → IsStep key me (Account account) n (either (eqb n (word_of from)) (word_of to) n) v (after_account account (word_of from) n v) None
   account-step accounts account same below from to from-fits to-fits may n = dite (ℕ_discrete n (word_of from))
       (λ is. subst (λ (b : Bool). IsStep key me (Account account) n (either b (word_of to) n) v

@@ -4,6 +4,7 @@ use Rattle.std.specs.List.{AllByRecursion, list_any}
 use lib.Dec.{eqb}
 use Rattle.lsn_space.specs.declared.lsn.TheConstants.{LAST}
 use Rattle.log_table.specs.declared.view.Entry.{Entry}
+use Rattle.log_table.specs.declared.view.Held.{Held}
 use Rattle.log_table.specs.declared.view.Call.TheVariants.{Idle, Filling}
 use Rattle.log_table.specs.declared.view.Role.TheVariants.{Flusher, Active}
 use Rattle.log_table.specs.declared.view.Seen.{Seen}
@@ -43,10 +44,15 @@ pub record HasBegunNothing (view : View) : Type 0 where
   pub some_job : 1 ≤ view.books.last.number
   pub only_note : AllByRecursion (λ (entry : Placed). IsNote entry.rec) view.books.placed
 
--- the account may be taken: its word is free, and is taken with the same values
-pub record MayTake (from to : AccountWord) (view : View) : Type 0 where
+-- each account that is held is below this one
+abbrev pub Ascends : ℕ → Books → Type 0
+Ascends account books = AllByRecursion (λ (held : Held). held.account < account) books.held
+
+-- the account may be taken: it is above all that the seat holds, and its word is free and is taken with the same values
+pub record MayTake (account : ℕ) (from to : AccountWord) (view : View) : Type 0 where
   pub rests : IsAtRest view
   pub begins : HasBegunNothing view
+  pub ascends : Ascends account view.books
   pub free : from.held ≡ false
   pub taken : to.held ≡ true
   pub balance : to.balance ≡ from.balance

@@ -1,6 +1,6 @@
 //! An account is taken, found held by another worker, and given back.
 ghost use Rattle.std.specs.Prelude.{◌≡◌, ◌<◌, ◌≤◌, ◌+◌, [], ◌∷◌};
-ghost use Rattle.log_table.specs.May.{IsAtRest, HasBegunNothing};
+ghost use Rattle.log_table.specs.May.{IsAtRest, HasBegunNothing, Ascends};
 ghost use Rattle.log_table.specs.Seats.{IsOf, view_of};
 
 use crate::found::is_at;
@@ -11,18 +11,36 @@ use std::process::Abort;
 use std::test::Fail;
 use test_rig::{job_of, table_of, values_of, worker};
 
-/// What this worker finds of account 0.
-fn finds(rt: &impl Abort, table: &LogTable, seat: &mut Seat, wanted: Result<(u32, u32), Held>)
+/// This worker finds account 0 held, both times by this word, and holds what it held.
+fn finds_held(rt: &impl Abort, table: &LogTable, seat: &mut Seat, word: AccountWord)
     requires seat { IsOf table.now seat.old }
     requires accounts { 0 < table.now.accounts }
     requires rests { IsAtRest (view_of seat.old) }
     requires begins { HasBegunNothing (view_of seat.old) }
+    requires ascends { Ascends 0 (view_of seat.old).books }
     ensures seat { IsOf table.now seat.new }
     ensures rests { IsAtRest (view_of seat.new) }
     ensures begins { HasBegunNothing (view_of seat.new) }
+    ensures ascends { Ascends 0 (view_of seat.new).books }
+{
+    let Err(held) = values_of(table, seat, 0) else {
+        panic!(rt; "the account was free");
+    };
+    let (loaded, found) = (word, word);
+    assert_eq!(rt; held, Held { loaded, found });
+}
+
+/// This worker finds account 0 free, with this balance and this last commit.
+fn finds_free(rt: &impl Abort, table: &LogTable, seat: &mut Seat, values: (u32, u32))
+    requires seat { IsOf table.now seat.old }
+    requires accounts { 0 < table.now.accounts }
+    requires rests { IsAtRest (view_of seat.old) }
+    requires begins { HasBegunNothing (view_of seat.old) }
+    requires ascends { Ascends 0 (view_of seat.old).books }
+    ensures seat { IsOf table.now seat.new }
 {
     let found = values_of(table, seat, 0);
-    assert_eq!(rt; found, wanted);
+    assert_eq!(rt; found, Ok(values));
 }
 
 #[test]
@@ -36,11 +54,10 @@ fn an_account_is_held_until_it_is_given_back(rt: HostRuntime) -> Result<(), Fail
         return Err(Fail::new("the account was held"));
     };
     assert_eq!(rt; (taken.account, taken.balance, taken.mark), (0, 100, 0));
-    let (loaded, found) = (AccountWord::taken(100, 0), AccountWord::taken(100, 0));
-    finds(&rt, &table, &mut two, Err(Held { loaded, found }));
+    finds_held(&rt, &table, &mut two, AccountWord::taken(100, 0));
     let (balance, mark) = (taken.balance, taken.mark);
     give(&table, &mut one, taken, balance, mark);
-    finds(&rt, &table, &mut two, Ok((100, 0)));
+    finds_free(&rt, &table, &mut two, (100, 0));
     is_at(&rt, "tail", table.load_tail(&mut two), 4);
     Ok(())
 }

@@ -1,13 +1,15 @@
 -- Accounts that are taken, one after another.
-use Rattle.std.proofs.Common.{◌≡◌, ℕ, ◌<◌, List, [], ◌∷◌, ◌++◌, length, get_or, map, All, sym, refl, ap, ◌∙◌, subst}
+use Rattle.std.proofs.Common.{◌≡◌, ℕ, ◌<◌, List, [], ◌∷◌, ◌++◌, length, get_or, map, take, All, sym, refl, ap, ◌∙◌, subst, arith}
+use Rattle.std.specs.List.{AllByRecursion}
 use Rattle.std.specs.List.Sorted.{IsStrictlyIncreasing}
-use Rattle.std.proofs.lemmas.List.{length-map, get_or-map, map-append}
-use Rattle.std.proofs.lemmas.List.Elements.{All-push}
+use Rattle.std.proofs.lemmas.List.{length-map, length-take, get_or-map, get_or-take, map-append}
+use Rattle.std.proofs.lemmas.List.Elements.{All-push, All-from_get_or, recursion_from_All}
 use Rattle.log_table.specs.declared.table.Seat.{Seat}
 use Rattle.log_table.specs.declared.view.Books.{Books}
 use Rattle.log_table.specs.declared.view.Entry.{Entry}
 use Rattle.log_table.specs.declared.view.Held.{Held}
 use Rattle.log_table.specs.Books.{taking}
+use Rattle.log_table.specs.May.{Ascends}
 use Rattle.log_table.specs.Seats.{view_of}
 use Rattle.ring_buffer.specs.Calls.{HasEntries}
 use Rattle.txn_parts.specs.declared.holding.Holding.{Holding}
@@ -15,6 +17,7 @@ use Rattle.early_locks.specs.Locks.{held_of}
 use Rattle.txn_making.specs.Holdings.{account_of, held_behind, holding_all, IsKnown, HoldsAll, TakesAll}
 use Rattle.txn_making.proofs.Held.{distinct}
 use Rattle.ring_buffer.proofs.TwoCalls.{HasEntries-trans}
+use Rattle.txn_jobs.proofs.Listing.{rising-below}
 
 -- what is known of each account is known of each holding
 pub all-known : (accounts : ℕ) (holdings : List Holding) (list : List ℕ) → map account_of holdings ≡ list
@@ -28,6 +31,27 @@ held-push : (holdings : List Holding) (holding : Holding) (held : List Held)
     → held_behind (holdings ++ holding ∷ []) held ≡ held_of holding.taken ∷ held_behind holdings held
 held-push [] holding held = refl
 held-push (first ∷ holdings) holding held = held-push holdings holding (held_of first.taken ∷ held)
+
+-- accounts below this one are held behind others below it
+below-behind : (account : ℕ) (holdings : List Holding) (held : List Held) → AllByRecursion (IsKnown account) holdings
+    → AllByRecursion (λ (held : Held). held.account < account) held
+    → AllByRecursion (λ (held : Held). held.account < account) (held_behind holdings held)
+below-behind account [] held taken before = before
+below-behind account (holding ∷ holdings) held taken before =
+    below-behind account holdings (held_of holding.taken ∷ held) taken.1 (taken.0, before)
+
+-- of accounts that ascend the next is above those that were taken
+pub next-ascends : (accounts : List ℕ) (k : ℕ) (holdings : List Holding) (first second : Seat) → TakesAll (take k accounts) holdings first second
+    → IsStrictlyIncreasing accounts → k < length accounts → Ascends (get_or accounts k 0) (view_of second).books
+next-ascends accounts k holdings first second before rising within =
+    subst (Ascends (get_or accounts k 0)) (sym before.entries.books_are)
+    (below-behind (get_or accounts k 0) holdings [] (recursion_from_All (IsKnown (get_or accounts k 0)) holdings
+    (all-known (get_or accounts k 0) holdings (take k accounts) before.accounts_are
+    (All-from_get_or (λ account. account < get_or accounts k 0) (take k accounts) 0 earlier))) tt)
+  where
+    earlier : (i : ℕ) → i < length (take k accounts) → get_or (take k accounts) i 0 < get_or accounts k 0
+    earlier i front = let size = length-take k accounts in let here = get_or-take k accounts i 0 (omega arith) in
+        let up = rising-below accounts rising i k (omega arith) within in omega arith
 
 module _ (accounts : List ℕ) (holdings : List Holding) (first second third : Seat) (before : TakesAll accounts holdings first second) where
   -- after a call that took no account they may all be given back

@@ -3,7 +3,7 @@ ghost use Rattle.std.specs.Prelude.{◌≡◌, ◌≤◌, ◌<◌, [], All, IfOk
 ghost use Rattle.std.specs.List.Sorted.{IsStrictlyIncreasing};
 ghost use Rattle.log_record.specs.declared.limits.TheConstants.{MOST_BALANCE};
 ghost use Rattle.log_table.specs.Books.{taking};
-ghost use Rattle.log_table.specs.May.{HasBegunNothing};
+ghost use Rattle.log_table.specs.May.{HasBegunNothing, Ascends};
 ghost use Rattle.log_table.specs.Seats.{IsOf, view_of};
 ghost use Rattle.ring_buffer.specs.Calls.{IsReady, HasEntries};
 ghost use Rattle.early_locks.specs.Locks.{held_of};
@@ -71,6 +71,7 @@ fn take_one<R: Wait, Q: Relief>(
     requires seat { IsOf table.now seat.old }
     requires ready { IsReady (view_of seat.old) }
     requires begins { HasBegunNothing (view_of seat.old) }
+    requires ascends { Ascends account (view_of seat.old).books }
     requires known { account < table.now.accounts }
     requires relief { Q.ready relief.old }
     ensures account { IfOk result (λ taken. taken.account ≡ account) }

@@ -1,7 +1,7 @@
 //! When the accounts of a transfer go back: early, or once its end is durable; and the log's end.
-ghost use Rattle.std.specs.Prelude.{◌≡◌, ◌<◌, ◌+◌, IfOk};
+ghost use Rattle.std.specs.Prelude.{◌≡◌, ◌<◌, ◌+◌, [], ℕ, IfOk};
 ghost use Rattle.log_table.specs.Hiring.{HasHired};
-ghost use Rattle.log_table.specs.May.{IsAtRest, HasBegunNothing};
+ghost use Rattle.log_table.specs.May.{IsAtRest, HasBegunNothing, Ascends};
 ghost use Rattle.log_table.specs.Seats.{IsOf, view_of};
 
 use crate::alone::{Given, has_ended, has_rows, run_two, work_alone};
@@ -24,6 +24,7 @@ fn looker(table: &LogTable, boss: &mut Seat) -> Seat
     ensures seat { IsOf table.now result }
     ensures rests { IsAtRest (view_of result) }
     ensures begins { HasBegunNothing (view_of result) }
+    ensures none_held { (view_of result).books.held ≡ [] }
 {
     let mut seat = worker(table, boss, 1, 9);
     table.take_job(&mut seat, 9, &job_of(30));
@@ -39,6 +40,7 @@ fn run_beside<R: Wait + Abort>(rt: &R, alloc: Global, given: Given) -> Result<Ra
     ensures seat { IfOk result (λ ran. IsOf ran.0 ran.1) }
     ensures rests { IfOk result (λ ran. IsAtRest (view_of ran.1)) }
     ensures begins { IfOk result (λ ran. HasBegunNothing (view_of ran.1)) }
+    ensures none_held { IfOk result (λ ran. (view_of ran.1).books.held ≡ []) }
 {
     let (script, end) = given;
     let (table, mut boss) = table_of(alloc, (100, 0), end)?;
@@ -51,15 +53,17 @@ fn run_beside<R: Wait + Abort>(rt: &R, alloc: Global, given: Given) -> Result<Ra
     Ok((table, looker, worked, rows))
 }
 
-/// Another worker finds the account free, with this balance and this last commit.
+/// Another worker finds the account free, with this balance and this last commit, and takes it.
 fn finds(rt: &impl Abort, table: &LogTable, looker: &mut Seat, account: u32, values: (u32, u32))
     requires account { account < table.now.accounts }
     requires seat { IsOf table.now looker.old }
     requires rests { IsAtRest (view_of looker.old) }
     requires begins { HasBegunNothing (view_of looker.old) }
+    requires ascends { Ascends account (view_of looker.old).books }
     ensures seat { IsOf table.now looker.new }
     ensures rests { IsAtRest (view_of looker.new) }
     ensures begins { HasBegunNothing (view_of looker.new) }
+    ensures ascends { (next : ℕ) → account < next → Ascends next (view_of looker.new).books }
 {
     let found = values_of(table, looker, account);
     assert_eq!(rt; found, Ok(values), "account {account}");

@@ -39,7 +39,7 @@ fn exchange_account_as<N: Number>(
 ) -> Result<(), AccountWord>
     requires seat { IsOf table.now seat.old }
     requires account { account < table.now.accounts }
-    requires next { MayTake from to (view_of seat.old) }
+    requires next { MayTake account from to (view_of seat.old) }
     requires named { N.number ≡ account }
     ensures ok { OnOk result (Becomes seat.old seat.new (took_account account (word_of from) (view_of seat.old))) }
     ensures err { IfErr result (λ found. (found ≢ from) × Becomes seat.old seat.new (saw_account account (word_of found) (view_of seat.old))) }
@@ -83,7 +83,7 @@ impl LogTable {
     }
 
     /// Takes the account, where its word is still the free one that is given; an Err holds the word
-    /// found.
+    /// found. The account has to be above all that the seat holds.
     pub fn exchange_account(
         &self,
         seat: &mut Seat,
@@ -93,7 +93,7 @@ impl LogTable {
     ) -> Result<(), AccountWord>
         requires seat { IsOf self.now seat.old }
         requires account { account < self.now.accounts }
-        requires next { MayTake from to (view_of seat.old) }
+        requires next { MayTake account from to (view_of seat.old) }
         ensures ok { OnOk result (Becomes seat.old seat.new (took_account account (word_of from) (view_of seat.old))) }
         ensures ok_event { OnOk result (IsStep (key_of self.now) (number_of seat.old) (Account account) (word_of from) (word_of to) (view_of seat.old) (took_account account (word_of from) (view_of seat.old)) None) }
         ensures err { IfErr result (λ found. (found ≢ from) × Becomes seat.old seat.new (saw_account account (word_of found) (view_of seat.old))) }

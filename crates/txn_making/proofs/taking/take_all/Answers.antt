@@ -4,11 +4,15 @@ use Rattle.log_table.specs.declared.view.Books.{Books}
 use Rattle.std.proofs.lemmas.List.{take_more}
 use Rattle.std.proofs.lemmas.List.Elements.{All-take}
 use Rattle.txn_making.proofs.Backing.{notes-uncommitted}
-use Rattle.txn_making.proofs.Gaining.{all-known, holds-all, takes-more}
+use Rattle.txn_making.proofs.Gaining.{all-known, next-ascends, holds-all, takes-more}
 use Rattle.txn_making.proofs.Held.{given-held}
 use Rattle.txn_jobs.proofs.Listing.{rising-take}
 use Rattle.txn_making.proofs.GivenLemmas.{given-same, given-trans}
 use Rattle.txn_making.proofs.taking.take_all.Goals as goal
+
+pub take_one-requires-clause-ascends : goal.take_one-requires-clause-ascends
+take_one-requires-clause-ascends g c =
+    next-ascends _ _ _ _ _ c.accounts.invariant.0 c.requires.rising c.accounts-test.true
 
 pub give_unchanged-requires-clause-holds : goal.give_unchanged-requires-clause-holds
 give_unchanged-requires-clause-holds g c = holds-all _ _ _ _ _ c.accounts.invariant.0 (rising-take _ _ c.requires.rising) c.in-Err.ensures.kept

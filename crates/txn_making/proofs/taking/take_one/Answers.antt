@@ -1,6 +1,11 @@
+use Rattle.std.proofs.Common.{subst, sym}
 use Rattle.std.proofs.lemmas.Result.{err_from_is_err_and}
+use Rattle.log_table.specs.May.{Ascends}
 use Rattle.txn_making.proofs.Trying.{stays, taken-fits, takes-one, passes-one}
 use Rattle.txn_making.proofs.taking.take_one.Goals as goal
+
+pub try_take-requires-clause-ascends : goal.try_take-requires-clause-ascends
+try_take-requires-clause-ascends g c = subst (Ascends c.args.account) (sym c.loop.invariant.0.books_are) c.requires.ascends
 
 pub returns-in-Ok-clause-fits : goal.returns-in-Ok-clause-fits
 returns-in-Ok-clause-fits g c = taken-fits _ _ _ _ c.in-Ok.ensures.taken
