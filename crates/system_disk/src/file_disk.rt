@@ -12,8 +12,9 @@ use std::os::unix::fs::FileExt;
 const LAST_STREAM: i32 = 2;
 
 /// A file of the system, read and written at offsets. It tells nothing of its bytes, so nothing is
-/// said of them here but what the system promises: a write that comes back short, or not at all, is a
-/// fault, and after `sync` the bytes and the length are on the disk.
+/// said of them here but what the system promises: a write of which the system takes a part alone is a
+/// fault, and after `sync` the bytes and the length are on the disk. From `attach` until it is dropped
+/// it has the file's lock, so no other one attaches the file.
 #[derive(Drop)]
 pub struct FileDisk<R: Files<File = File> + Drop> {
     rt: R,
@@ -112,7 +113,8 @@ impl<R: Files<File = File> + Drop> LogDisk for FileDisk<R> {
     }
 }
 
-/// Opens for reading and writing, with what the file holds left as it is.
+/// Opens for reading and writing, with what the file holds left as it is, and takes the file's lock,
+/// which goes back where the file is closed. Where another one has the lock there is no file.
 fn open_file<R: Files<File = File>>(rt: &R, name: &str, make: bool) -> Option<File> {
     let mut options = OpenOptions::new();
     options.read(true).write(true).create(make);
@@ -121,6 +123,8 @@ fn open_file<R: Files<File = File>>(rt: &R, name: &str, make: bool) -> Option<Fi
     if file.as_raw_fd() <= LAST_STREAM {
         return None;
     }
+    // It doesn't wait. Where the file system has no locks nothing would keep a second writer out: no file either.
+    file.try_lock().ok()?;
     // The entry of a new file stands in its folder, which has to be synced too.
     if make {
         File::open(rt, folder_of(name)).ok()?.sync_all().ok()?;
