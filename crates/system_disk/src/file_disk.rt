@@ -125,8 +125,10 @@ fn open_file<R: Files<File = File>>(rt: &R, name: &str, make: bool) -> Option<Fi
     }
     // It doesn't wait. Where the file system has no locks nothing would keep a second writer out: no file either.
     file.try_lock().ok()?;
-    // The entry of a new file stands in its folder, which has to be synced too.
+    // The entry of a new file stands in its folder, which has to be synced too; but first the file, empty as it is. The entry
+    // of one that isn't on the disk may lead, after a crash, to what a deleted file left in its place.
     if make {
+        file.sync_all().ok()?;
         File::open(rt, folder_of(name)).ok()?.sync_all().ok()?;
     }
     Some(file)
