@@ -2,9 +2,12 @@ ghost use Rattle.std.specs.Prelude.{◌≡◌, ◌≤◌, ◌++◌, ◌∷◌, �
 ghost use Rattle.log_disk.specs.Faults.{Rose};
 ghost use Rattle.system_disk.specs.Folders.{SLASH, folder_before};
 
+use crate::retrying::read_retrying;
 use log_disk::{Failed, LogDisk};
 use lsn_space::Word;
 use std::fs::{File, Files, OpenOptions};
+use std::io;
+use std::io::Read;
 use std::os::fd::AsRawFd;
 use std::os::unix::fs::FileExt;
 
@@ -152,13 +155,25 @@ fn len_of(file: &Option<File>) -> Option<u64> {
     }
 }
 
-// An interrupted read is a fault, as any other.
 fn read_from(file: &Option<File>, at: u64, buf: &mut [u8]) -> Option<usize>
     ensures { IfSome result (λ count. count ≤ length buf.new) }
 {
     match file {
-        Some(file) => file.read_at(buf, at).ok(),
+        Some(file) => read_retrying(&mut ReaderAt { file, at }, buf).ok(),
         None => None,
+    }
+}
+
+/// A file as a reader, each read of which is one at this offset.
+#[derive(Drop)]
+struct ReaderAt<'a> {
+    file: &'a File,
+    at: u64,
+}
+
+impl Read for ReaderAt<'_> {
+    fn read(&mut self, buf: &mut [u8]) -> io::Result<usize> {
+        self.file.read_at(buf, self.at)
     }
 }
 

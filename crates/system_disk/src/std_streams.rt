@@ -1,5 +1,6 @@
 ghost use Rattle.std.specs.Prelude.{◌≡◌};
 
+use crate::retrying::{read_retrying, write_retrying};
 use log_disk::{Failed, READ_ALLOWANCE, Sink, Source};
 use std::io::{Read, Write};
 
@@ -40,10 +41,9 @@ impl<R: Read + Drop> Source for StdSource<R> {
 
     ghost faults = { λ source. source.faults };
 
-    // An interrupted read is a fault like any other.
     fn read(&mut self, buf: &mut [u8]) -> Result<usize, Failed> {
         if self.read_allowance > 0 {
-            if let Ok(count) = self.reader.read(buf) {
+            if let Ok(count) = read_retrying(&mut self.reader, buf) {
                 if count > 0 {
                     self.read_allowance -= 1;
                 }
@@ -84,10 +84,9 @@ impl<W: Write + Drop> Sink for StdSink<W> {
 
     ghost faults = { λ sink. sink.faults };
 
-    // A write that takes nothing is a fault, or a caller would try it again without end; so is an
-    // interrupted one.
+    // A write that takes nothing is a fault, or a caller would try it again without end.
     fn write(&mut self, piece: &[u8]) -> Result<usize, Failed> {
-        match self.writer.write(piece) {
+        match write_retrying(&mut self.writer, piece) {
             Ok(count) if count > 0 => Ok(count),
             _ => {
                 self.faults = self.faults.saturating_add(1);
