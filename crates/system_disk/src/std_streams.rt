@@ -4,7 +4,8 @@ use crate::retrying::{read_retrying, write_retrying};
 use log_disk::{Failed, READ_ALLOWANCE, Sink, Source};
 use std::io::{Read, Write};
 
-/// A reader of the system, such as the standard input. It tells nothing of its bytes.
+/// A reader of the standard library as a source. It tells the bytes that the reader tells, of which the
+/// standard input has none.
 #[derive(Drop)]
 pub struct StdSource<R: Read + Drop> {
     reader: R,
@@ -33,9 +34,7 @@ impl<R: Read + Drop> StdSource<R> {
 }
 
 impl<R: Read + Drop> Source for StdSource<R> {
-    ghost use Rattle.std.specs.Prelude.{None};
-
-    ghost left = { λ _. None };
+    ghost left = { λ source. R.remaining source.reader };
 
     ghost read_allowance = { λ source. source.read_allowance };
 
@@ -55,7 +54,8 @@ impl<R: Read + Drop> Source for StdSource<R> {
     }
 }
 
-/// A writer of the system, such as the standard output. It tells nothing of its bytes.
+/// A writer of the standard library as a sink. It tells the bytes that the writer tells, of which the
+/// standard output has none.
 #[derive(Drop)]
 pub struct StdSink<W: Write + Drop> {
     writer: W,
@@ -78,9 +78,7 @@ impl<W: Write + Drop> StdSink<W> {
 }
 
 impl<W: Write + Drop> Sink for StdSink<W> {
-    ghost use Rattle.std.specs.Prelude.{None};
-
-    ghost held_bytes = { λ _. None };
+    ghost held_bytes = { λ sink. W.contents sink.writer };
 
     ghost faults = { λ sink. sink.faults };
 
