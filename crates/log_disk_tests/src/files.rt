@@ -60,13 +60,21 @@ fn writes_twice(rt: &impl Abort, disk: &mut Disk, name: &Word) {
     syncs(rt, disk, Ok(()));
 }
 
-/// What they left is read by another disk.
+/// Another disk has the file, so this one doesn't get it.
+fn is_kept_out(rt: &impl Abort, again: &mut Disk, name: &Word) {
+    attaches(rt, again, name, false, Err(Failed));
+    attaches(rt, again, name, true, Err(Failed));
+    has_length(rt, again, None);
+    counts(rt, again, "of the disk that is kept out", 3);
+}
+
+/// What was written is read by another disk, once the first one is gone.
 fn reads_back(rt: &impl Abort, again: &mut Disk, name: &Word) {
     attaches(rt, again, name, true, Ok(()));
     has_length(rt, again, Some(5));
     reads(rt, again, 1, b"bXYZ");
     reads(rt, again, 5, b"");
-    counts(rt, again, "of the other disk", 0);
+    counts(rt, again, "of the other disk", 3);
 }
 
 #[test]
@@ -79,8 +87,10 @@ fn keeps_a_real_file(rt: HostRuntime) -> Result<(), Fail> {
     refuses_without_a_file(&rt, &mut disk, &name);
     writes_twice(&rt, &mut disk, &name);
     let mut again = FileDisk::make(rt);
-    reads_back(&rt, &mut again, &name);
+    is_kept_out(&rt, &mut again, &name);
     counts(&rt, &disk, "of the first disk", 2);
+    drop(disk);
+    reads_back(&rt, &mut again, &name);
     assert!(rt; fs::remove_file(&rt, name.text()).is_ok());
     Ok(())
 }

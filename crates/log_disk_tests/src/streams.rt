@@ -3,6 +3,8 @@
 use crate::outcomes::{has_given, is_number};
 use log_disk::{Failed, Sink, Source, put_all};
 use memory_disk::{MemorySink, MemorySource};
+use std::io;
+use std::io::{Error, ErrorKind, Read, Write};
 use std::process::Abort;
 use std::test::Fail;
 use system_disk::{StdSink, StdSource};
@@ -87,4 +89,48 @@ fn counts_what_the_system_refuses(rt: HostRuntime) {
     is_number(&rt, "after the first write", sink.faults(), 0);
     moves(&rt, sink.write(b"c"), Err(Failed));
     is_number(&rt, "after the second write", sink.faults(), 1);
+}
+
+/// A stream that signals interrupt: so many calls are, and each other one moves a byte.
+#[derive(Drop)]
+struct Signalled {
+    interrupts: u32,
+}
+
+impl Signalled {
+    fn moves_a_byte(&mut self) -> io::Result<()> {
+        if self.interrupts == 0 {
+            return Ok(());
+        }
+        self.interrupts -= 1;
+        Err(Error::from(ErrorKind::Interrupted))
+    }
+}
+
+impl Read for Signalled {
+    fn read(&mut self, buf: &mut [u8]) -> io::Result<usize> {
+        self.moves_a_byte()?;
+        Ok(buf.len().min(1))
+    }
+}
+
+impl Write for Signalled {
+    fn write(&mut self, buf: &[u8]) -> io::Result<usize> {
+        self.moves_a_byte()?;
+        Ok(buf.len().min(1))
+    }
+
+    fn flush(&mut self) -> io::Result<()> {
+        Ok(())
+    }
+}
+
+#[test]
+fn makes_an_interrupted_call_again(rt: HostRuntime) {
+    let mut source = StdSource::make(Signalled { interrupts: 3 });
+    moves(&rt, source.read(&mut [0; 2]), Ok(1));
+    is_number(&rt, "of interrupted reads", source.faults(), 0);
+    let mut sink = StdSink::make(Signalled { interrupts: 3 });
+    moves(&rt, sink.write(b"ab"), Ok(1));
+    is_number(&rt, "of interrupted writes", sink.faults(), 0);
 }

@@ -2,9 +2,12 @@ ghost use Rattle.std.specs.Prelude.{◌≡◌, ◌≤◌, ◌++◌, ◌∷◌, �
 ghost use Rattle.log_disk.specs.Faults.{Rose};
 ghost use Rattle.system_disk.specs.Folders.{SLASH, folder_before};
 
+use crate::retrying::read_retrying;
 use log_disk::{Failed, LogDisk};
 use lsn_space::Word;
 use std::fs::{File, Files, OpenOptions};
+use std::io;
+use std::io::Read;
 use std::os::fd::AsRawFd;
 use std::os::unix::fs::FileExt;
 
@@ -12,8 +15,9 @@ use std::os::unix::fs::FileExt;
 const LAST_STREAM: i32 = 2;
 
 /// A file of the system, read and written at offsets. It tells nothing of its bytes, so nothing is
-/// said of them here but what the system promises: a write that comes back short, or not at all, is a
-/// fault, and after `sync` the bytes and the length are on the disk.
+/// said of them here but what the system promises: a write of which the system takes a part alone is a
+/// fault, and after `sync` the bytes and the length are on the disk. From `attach` until it is dropped
+/// it has the file's lock, so no other one attaches the file.
 #[derive(Drop)]
 pub struct FileDisk<R: Files<File = File> + Drop> {
     rt: R,
@@ -114,7 +118,8 @@ impl<R: Files<File = File> + Drop> LogDisk for FileDisk<R> {
     }
 }
 
-/// Opens for reading and writing, with what the file holds left as it is.
+/// Opens for reading and writing, with what the file holds left as it is, and takes the file's lock,
+/// which goes back where the file is closed. Where another one has the lock there is no file.
 fn open_file<R: Files<File = File>>(rt: &R, name: &str, make: bool) -> Option<File> {
     let mut options = OpenOptions::new();
     options.read(true).write(true).create(make);
@@ -123,8 +128,12 @@ fn open_file<R: Files<File = File>>(rt: &R, name: &str, make: bool) -> Option<Fi
     if file.as_raw_fd() <= LAST_STREAM {
         return None;
     }
-    // The entry of a new file stands in its folder, which has to be synced too.
+    // It doesn't wait. Where the file system has no locks nothing would keep a second writer out: no file either.
+    file.try_lock().ok()?;
+    // The entry of a new file stands in its folder, which has to be synced too; but first the file, empty as it is. The entry
+    // of one that isn't on the disk may lead, after a crash, to what a deleted file left in its place.
     if make {
+        file.sync_all().ok()?;
         File::open(rt, folder_of(name)).ok()?.sync_all().ok()?;
     }
     Some(file)
@@ -148,13 +157,25 @@ fn len_of(file: &Option<File>) -> Option<u64> {
     }
 }
 
-// An interrupted read is a fault, as any other.
 fn read_from(file: &Option<File>, at: u64, buf: &mut [u8]) -> Option<usize>
     ensures { IfSome result (λ count. count ≤ length buf.new) }
 {
     match file {
-        Some(file) => file.read_at(buf, at).ok(),
+        Some(file) => read_retrying(&mut ReaderAt { file, at }, buf).ok(),
         None => None,
+    }
+}
+
+/// A file as a reader, each read of which is one at this offset.
+#[derive(Drop)]
+struct ReaderAt<'a> {
+    file: &'a File,
+    at: u64,
+}
+
+impl Read for ReaderAt<'_> {
+    fn read(&mut self, buf: &mut [u8]) -> io::Result<usize> {
+        self.file.read_at(buf, self.at)
     }
 }
 

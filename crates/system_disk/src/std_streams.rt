@@ -1,9 +1,11 @@
 ghost use Rattle.std.specs.Prelude.{◌≡◌};
 
+use crate::retrying::{read_retrying, write_retrying};
 use log_disk::{Failed, READ_ALLOWANCE, Sink, Source};
 use std::io::{Read, Write};
 
-/// A reader of the system, such as the standard input. It tells nothing of its bytes.
+/// A reader of the standard library as a source. It tells the bytes that the reader tells, of which the
+/// standard input has none.
 #[derive(Drop)]
 pub struct StdSource<R: Read + Drop> {
     reader: R,
@@ -32,18 +34,15 @@ impl<R: Read + Drop> StdSource<R> {
 }
 
 impl<R: Read + Drop> Source for StdSource<R> {
-    ghost use Rattle.std.specs.Prelude.{None};
-
-    ghost left = { λ _. None };
+    ghost left = { λ source. R.remaining source.reader };
 
     ghost read_allowance = { λ source. source.read_allowance };
 
     ghost faults = { λ source. source.faults };
 
-    // An interrupted read is a fault like any other.
     fn read(&mut self, buf: &mut [u8]) -> Result<usize, Failed> {
         if self.read_allowance > 0 {
-            if let Ok(count) = self.reader.read(buf) {
+            if let Ok(count) = read_retrying(&mut self.reader, buf) {
                 if count > 0 {
                     self.read_allowance -= 1;
                 }
@@ -55,7 +54,8 @@ impl<R: Read + Drop> Source for StdSource<R> {
     }
 }
 
-/// A writer of the system, such as the standard output. It tells nothing of its bytes.
+/// A writer of the standard library as a sink. It tells the bytes that the writer tells, of which the
+/// standard output has none.
 #[derive(Drop)]
 pub struct StdSink<W: Write + Drop> {
     writer: W,
@@ -78,16 +78,13 @@ impl<W: Write + Drop> StdSink<W> {
 }
 
 impl<W: Write + Drop> Sink for StdSink<W> {
-    ghost use Rattle.std.specs.Prelude.{None};
-
-    ghost held_bytes = { λ _. None };
+    ghost held_bytes = { λ sink. W.contents sink.writer };
 
     ghost faults = { λ sink. sink.faults };
 
-    // A write that takes nothing is a fault, or a caller would try it again without end; so is an
-    // interrupted one.
+    // A write that takes nothing is a fault, or a caller would try it again without end.
     fn write(&mut self, piece: &[u8]) -> Result<usize, Failed> {
-        match self.writer.write(piece) {
+        match write_retrying(&mut self.writer, piece) {
             Ok(count) if count > 0 => Ok(count),
             _ => {
                 self.faults = self.faults.saturating_add(1);
