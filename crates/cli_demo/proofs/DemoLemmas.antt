@@ -303,4 +303,3 @@ module _ {D : Type 0} {K : Type 0} (g : Ghosts D) (h : SinkGhosts K) (n seed wor
     answers-demo = by-conclusion h ended (counted_text n ended) sink_mid sink_new (AnswersDemo g n seed workers entry disk_new) (λ _. inr ran)
         (λ said. absurd (never-fails said.0)) (λ said. ran-all said.0) (λ said. ran-all said.0)
         (λ tail total said. no-log_end tail total said.0.0 said.0.1)
-

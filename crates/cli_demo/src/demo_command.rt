@@ -26,11 +26,12 @@ use segment_file::{Batch, create};
 use std::alloc::Global;
 use std::sync::Wait;
 use std::thread::Threads;
+use std::time::Clock;
 use txn_script::GENERATED_ACCOUNTS;
 
 /// Makes a log of generated accounts, makes so many transfers over it that the seed generates, and then answers their summary. It
 /// waits for the workers.
-pub fn demo_command<R: Threads + Wait + Sync, D: LogDisk, K: Sink, G: Gate + Sync>(
+pub fn demo_command<R: Threads + Wait + Clock + Sync, D: LogDisk, K: Sink, G: Gate + Sync>(
     rt: &R,
     alloc: Global,
     log: &Word,
@@ -58,7 +59,7 @@ pub fn demo_command<R: Threads + Wait + Sync, D: LogDisk, K: Sink, G: Gate + Syn
 }
 
 /// Makes the transfers that are ready, which are counted and not told, and then answers the summary of so many.
-fn finish<R: Threads + Wait + Sync, D: LogDisk, K: Sink, G: Gate + Sync>(
+fn finish<R: Threads + Wait + Clock + Sync, D: LogDisk, K: Sink, G: Gate + Sync>(
     rt: &R,
     ready: ReadyRun,
     transfers: u32,

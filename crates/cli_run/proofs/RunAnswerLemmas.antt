@@ -226,4 +226,3 @@ module _ {K : Type 0} (h : SinkGhosts K) (ended : Ended) (text : List ℕ) (sink
 
   pub read-concluded : (detail : Detail) → Concludes h ended text sink sink_new detail → detail ≡ Read → ⊥
   read-concluded detail concludes is = subst (Concludes h ended text sink sink_new) is concludes
-

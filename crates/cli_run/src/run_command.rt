@@ -25,11 +25,18 @@ use segment_file::settle;
 use std::alloc::Global;
 use std::sync::Wait;
 use std::thread::Threads;
+use std::time::Clock;
 use txn_script::Script;
 
 /// Makes the transfers of a script over a log, tells each that is durable, and then answers the accounts. It waits for the
 /// workers.
-pub fn run_command<R: Threads + Wait + Sync, D: LogDisk, S: Source, K: Sink, G: Gate + Sync>(
+pub fn run_command<
+    R: Threads + Wait + Clock + Sync,
+    D: LogDisk,
+    S: Source,
+    K: Sink,
+    G: Gate + Sync,
+>(
     rt: &R,
     alloc: Global,
     log: &Word,
@@ -57,7 +64,7 @@ pub fn run_command<R: Threads + Wait + Sync, D: LogDisk, S: Source, K: Sink, G: 
 }
 
 /// Makes the transfers that are ready, tells each that is durable, and then answers the accounts.
-fn finish<R: Threads + Wait + Sync, D: LogDisk, K: Sink, G: Gate + Sync>(
+fn finish<R: Threads + Wait + Clock + Sync, D: LogDisk, K: Sink, G: Gate + Sync>(
     rt: &R,
     ready: ReadyRun,
     options: &RunOptions,

@@ -16,9 +16,10 @@ use log_disk::{Gate, LogDisk, Sink};
 use std::sync::Wait;
 use std::thread;
 use std::thread::Threads;
+use std::time::Clock;
 
 /// Turns until the log is drained, where nothing befell the daemon yet.
-fn drain<'a, R: Wait, D: LogDisk, K: Sink>(rt: &R, daemon: &mut Daemon<'a, D, K>)
+fn drain<'a, R: Wait + Clock, D: LogDisk, K: Sink>(rt: &R, daemon: &mut Daemon<'a, D, K>)
     requires ready { daemon.old.fault ≡ None → MayTurn D.LogDisk daemon.old }
     requires told { knows_all_enrolled (view_of daemon.old.flusher.seat).standing ≡ true }
     ensures ready { daemon.new.fault ≡ None → MayTurn D.LogDisk daemon.new }
@@ -31,7 +32,7 @@ fn drain<'a, R: Wait, D: LogDisk, K: Sink>(rt: &R, daemon: &mut Daemon<'a, D, K>
 }
 
 /// Starts all workers, and is the daemon until all of them have served.
-pub(crate) fn serve_all<'a, R: Threads + Wait + Sync, D: LogDisk, K: Sink, G: Gate + Sync>(
+pub(crate) fn serve_all<'a, R: Threads + Wait + Clock + Sync, D: LogDisk, K: Sink, G: Gate + Sync>(
     run: Run<'a, R, G>,
     workers: Vec<Worker>,
     started: Vec<Started>,

@@ -11,6 +11,7 @@ use std::snapshot::Snapshot;
 use std::sync::Wait;
 use std::sync::atomic::{AtomicBool, Ordering};
 use std::thread::{Promise, PromisedHandle, Scope, Threads};
+use std::time::Clock;
 use txn_runner::{Jobs, Relief, YieldRelief, work};
 
 /// What a worker's thread brings: the worker of this number, which served or is as it was hired.
@@ -83,7 +84,7 @@ fn finish<'a, R: Wait, G: Gate, Q: Relief>(
 }
 
 /// Starts a thread for the worker. Where none can be made, the worker is served here, with this relief.
-fn start<'a, R: Threads + Wait + Sync, G: Gate + Sync, E, Q: Relief>(
+fn start<'a, R: Threads + Wait + Clock + Sync, G: Gate + Sync, E, Q: Relief>(
     run: &Run<'a, R, G>,
     scope: &Scope<'a, E>,
     worker: Worker,
@@ -133,7 +134,7 @@ fn start<'a, R: Threads + Wait + Sync, G: Gate + Sync, E, Q: Relief>(
                 wait,
                 gate,
             };
-            serve(&run, worker, &mut YieldRelief::new())
+            serve(&run, worker, &mut YieldRelief::new(rt))
         },
     ) {
         Ok(child) => Started::Running(child),
@@ -146,7 +147,7 @@ fn start<'a, R: Threads + Wait + Sync, G: Gate + Sync, E, Q: Relief>(
 }
 
 /// Starts all workers, in the order of their numbers.
-pub(crate) fn start_all<'a, R: Threads + Wait + Sync, G: Gate + Sync, E, Q: Relief>(
+pub(crate) fn start_all<'a, R: Threads + Wait + Clock + Sync, G: Gate + Sync, E, Q: Relief>(
     run: &Run<'a, R, G>,
     scope: &Scope<'a, E>,
     workers: Vec<Worker>,

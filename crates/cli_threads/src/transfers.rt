@@ -29,6 +29,7 @@ use std::alloc::Global;
 use std::sync::Wait;
 use std::sync::atomic::AtomicBool;
 use std::thread::Threads;
+use std::time::Clock;
 use txn_runner::{Jobs, Worked};
 use txn_script::Script;
 
@@ -144,7 +145,7 @@ fn relief_of<'a, D: LogDisk, K: Sink>(
 
 /// Makes the transfers, by workers in threads, while this thread is the daemon. What it leaves is put into a place, and not
 /// answered beside the disk and the sink, so that contracts follow these two to the caller.
-fn serve_crew<'a, R: Threads + Wait + Sync, D: LogDisk, K: Sink, G: Gate + Sync>(
+fn serve_crew<'a, R: Threads + Wait + Clock + Sync, D: LogDisk, K: Sink, G: Gate + Sync>(
     run: Run<'a, R, G>,
     crew: Crew,
     tail: Tail,
@@ -195,7 +196,7 @@ fn serve_crew<'a, R: Threads + Wait + Sync, D: LogDisk, K: Sink, G: Gate + Sync>
 }
 
 /// Makes the transfers, by workers in threads, while this thread is the daemon.
-pub fn run_transfers<R: Threads + Wait + Sync, D: LogDisk, K: Sink, G: Gate + Sync>(
+pub fn run_transfers<R: Threads + Wait + Clock + Sync, D: LogDisk, K: Sink, G: Gate + Sync>(
     rt: &R,
     prepared: Prepared,
     disk: &mut D,

@@ -33,9 +33,10 @@ use lsn_space::Word;
 use std::alloc::Global;
 use std::sync::Wait;
 use std::thread::Threads;
+use std::time::Clock;
 
 /// All that the program does, on its words, the program's name first, on a disk, and on what it reads and writes.
-pub fn aether<R: Threads + Wait + Sync, D: LogDisk, S: Source, K: Sink, G: Gate + Sync>(
+pub fn aether<R: Threads + Wait + Clock + Sync, D: LogDisk, S: Source, K: Sink, G: Gate + Sync>(
     rt: &R,
     alloc: Global,
     words: &[Word],
@@ -131,7 +132,7 @@ pub fn aether<R: Threads + Wait + Sync, D: LogDisk, S: Source, K: Sink, G: Gate 
 }
 
 /// What the command answers that the words ask, or why they ask none.
-fn answer<R: Threads + Wait + Sync, D: LogDisk, S: Source, K: Sink, G: Gate + Sync>(
+fn answer<R: Threads + Wait + Clock + Sync, D: LogDisk, S: Source, K: Sink, G: Gate + Sync>(
     rt: &R,
     alloc: Global,
     words: &[Word],
@@ -149,7 +150,7 @@ fn answer<R: Threads + Wait + Sync, D: LogDisk, S: Source, K: Sink, G: Gate + Sy
 }
 
 /// Obeys a command that needs workers.
-fn obey<R: Threads + Wait + Sync, D: LogDisk, S: Source, K: Sink, G: Gate + Sync>(
+fn obey<R: Threads + Wait + Clock + Sync, D: LogDisk, S: Source, K: Sink, G: Gate + Sync>(
     rt: &R,
     alloc: Global,
     asked: &WithWorkers,

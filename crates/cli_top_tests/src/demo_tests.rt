@@ -8,6 +8,7 @@ use std::process::Abort;
 use std::sync::Wait;
 use std::test::Fail;
 use std::thread::Threads;
+use std::time::Clock;
 
 /// Room for the writes and syncs of 5000 transfers, also where each record is sent alone.
 const ROOM: usize = 1_500_000;
@@ -34,7 +35,7 @@ const SUMS: &[(&[&str], &[u8])] = &[
 ];
 
 /// A demo writes this sum; any read of the input would fail.
-fn shows<R: Threads + Wait + Sync + AllocGlobal + Abort>(
+fn shows<R: Threads + Wait + Clock + Sync + AllocGlobal + Abort>(
     rt: &R,
     words: &[&str],
     text: &[u8],
@@ -60,7 +61,7 @@ const RECORDS: &[u8] =
     b"\n126 genesis 63 1000000\n128 update 1 23 -1 0\n130 update 1 33 1 0\n132 commit 1 1\nlsn 133\n";
 
 /// The dump of this log ends with these lines.
-fn dumps_at_the_end<R: Threads + Wait + Sync + AllocGlobal + Abort>(
+fn dumps_at_the_end<R: Threads + Wait + Clock + Sync + AllocGlobal + Abort>(
     rt: &R,
     log: &[u8],
     lines: &[u8],
@@ -88,7 +89,7 @@ fn leaves_a_log(rt: HostRuntime) -> Result<(), Fail> {
 }
 
 /// A demo of three transfers over a disk of these bytes writes nothing, and ends so.
-fn shows_nothing<R: Threads + Wait + Sync + AllocGlobal + Abort>(
+fn shows_nothing<R: Threads + Wait + Clock + Sync + AllocGlobal + Abort>(
     rt: &R,
     held: &[u8],
     disk_failing: &[u64],

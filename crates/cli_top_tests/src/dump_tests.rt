@@ -9,6 +9,7 @@ use std::process::Abort;
 use std::sync::Wait;
 use std::test::Fail;
 use std::thread::Threads;
+use std::time::Clock;
 
 const DUMP: &[&str] = &["aether", "dump"];
 
@@ -17,7 +18,7 @@ const NOTED_TRANSFER: &[u8] =
     b"O\0\0\0\x07\x06\x02\0\x02\0\0\0\x01hi\0\0\0\0\0\0\x02\x02\0\0\0\0\0\x01\xff\xff\xff\xe2\0\0\0\0\x02\x02\0\x01\0\0\0\x01\0\0\0\x1e\0\0\0\0\x03\x01\0\x01\0\0\0\x01\0";
 
 /// `dump` of these bytes behind the genesis log's batch. Any use of the disk would fail.
-fn dumps<R: Threads + Wait + Sync + AllocGlobal + Abort>(
+fn dumps<R: Threads + Wait + Clock + Sync + AllocGlobal + Abort>(
     rt: &R,
     rest: &[u8],
     source_failing: &[u64],

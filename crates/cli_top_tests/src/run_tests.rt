@@ -11,6 +11,7 @@ use std::sync::Wait;
 use std::sync::atomic::{AtomicBool, AtomicU32, Ordering};
 use std::test::Fail;
 use std::thread::{Threads, yield_now};
+use std::time::Clock;
 
 const ALONE: &[&str] = &["aether", "run", "bank.log", "--workers", "1"];
 
@@ -22,7 +23,7 @@ const ALONE_WAITING: &[&str] = &["aether", "run", "bank.log", "--workers", "1", 
 const GREATEST_TRANSACTION: &[u8] = b"O\0\0\0\x01\x04\x01\0\x01\xff\xff\xff\xff\0";
 
 /// The run of the script over the log ends well, and writes this.
-fn runs<R: Threads + Wait + Sync + AllocGlobal + Abort>(
+fn runs<R: Threads + Wait + Clock + Sync + AllocGlobal + Abort>(
     rt: &R,
     words: &[&str],
     log: &[u8],
@@ -40,7 +41,7 @@ fn runs<R: Threads + Wait + Sync + AllocGlobal + Abort>(
 }
 
 /// This is read from the log that a run left.
-fn reads<R: Threads + Wait + Sync + AllocGlobal + Abort>(
+fn reads<R: Threads + Wait + Clock + Sync + AllocGlobal + Abort>(
     rt: &R,
     words: &[&str],
     log: &[u8],
@@ -54,7 +55,7 @@ fn reads<R: Threads + Wait + Sync + AllocGlobal + Abort>(
 }
 
 /// The run of the script over the genesis log writes this, and `recover` reads these accounts from what it leaves.
-fn recovers_ran<R: Threads + Wait + Sync + AllocGlobal + Abort>(
+fn recovers_ran<R: Threads + Wait + Clock + Sync + AllocGlobal + Abort>(
     rt: &R,
     words: &[&str],
     script: &[u8],
@@ -137,7 +138,10 @@ fn each_outcome_of_a_transfer(rt: HostRuntime) -> Result<(), Fail> {
 }
 
 /// Makes a log of these balances.
-fn made<R: Threads + Wait + Sync + AllocGlobal>(rt: &R, balances: &[u8]) -> Result<Answer, Fail> {
+fn made<R: Threads + Wait + Clock + Sync + AllocGlobal>(
+    rt: &R,
+    balances: &[u8],
+) -> Result<Answer, Fail> {
     let given = Given {
         input: balances,
         ..Given::words(NEW)
@@ -146,7 +150,7 @@ fn made<R: Threads + Wait + Sync + AllocGlobal>(rt: &R, balances: &[u8]) -> Resu
 }
 
 /// Runs the script over the disk that is there.
-fn run_on<R: Threads + Wait + Sync + AllocGlobal, G: Gate + Sync>(
+fn run_on<R: Threads + Wait + Clock + Sync + AllocGlobal, G: Gate + Sync>(
     rt: &R,
     given: &Given,
     answer: &mut Answer,
@@ -171,7 +175,7 @@ fn over_at_the_greatest_balance(rt: HostRuntime) -> Result<(), Fail> {
 }
 
 /// An empty script, over the genesis log's batch and these bytes behind it.
-fn closes_the_gate<R: Threads + Wait + Sync + AllocGlobal + Abort>(
+fn closes_the_gate<R: Threads + Wait + Clock + Sync + AllocGlobal + Abort>(
     rt: &R,
     words: &[&str],
     rest: &[u8],
@@ -214,7 +218,7 @@ fn noted<R: AllocGlobal>(rt: &R, length: u32) -> Result<Vec<u8>, Fail> {
 }
 
 /// The run of a transfer with a note of so many bytes, over the genesis log.
-fn runs_noted<R: Threads + Wait + Sync + AllocGlobal + Abort>(
+fn runs_noted<R: Threads + Wait + Clock + Sync + AllocGlobal + Abort>(
     rt: &R,
     length: u32,
     end: &End,
@@ -262,7 +266,7 @@ fn two_orders_of_two_transfers(rt: HostRuntime) -> Result<(), Fail> {
 }
 
 /// A run over the genesis log's batch and these bytes behind it writes nothing, leaves them as they are, and ends so.
-fn refuses<R: Threads + Wait + Sync + AllocGlobal + Abort>(
+fn refuses<R: Threads + Wait + Clock + Sync + AllocGlobal + Abort>(
     rt: &R,
     rest: &[u8],
     script: &[u8],
@@ -313,7 +317,7 @@ fn refuses_and_leaves_the_log(rt: HostRuntime) -> Result<(), Fail> {
 }
 
 /// A run over these bytes reads no script, and leaves them as they are.
-fn is_no_log<R: Threads + Wait + Sync + AllocGlobal + Abort>(
+fn is_no_log<R: Threads + Wait + Clock + Sync + AllocGlobal + Abort>(
     rt: &R,
     bytes: &[u8],
 ) -> Result<(), Fail> {
@@ -352,7 +356,7 @@ fn refuses_other_words_of_run(rt: HostRuntime) -> Result<(), Fail> {
 }
 
 /// The run of a transfer at a fault ends so, having written this.
-fn runs_into<R: Threads + Wait + Sync + AllocGlobal + Abort>(
+fn runs_into<R: Threads + Wait + Clock + Sync + AllocGlobal + Abort>(
     rt: &R,
     disk_failing: &[u64],
     sink_failing: &[u64],

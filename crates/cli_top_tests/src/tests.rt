@@ -11,6 +11,7 @@ use std::process::Abort;
 use std::sync::Wait;
 use std::test::Fail;
 use std::thread::Threads;
+use std::time::Clock;
 
 /// Two accounts, with balances 100 and 0.
 pub(crate) const GENESIS_LOG: &[u8] =
@@ -118,7 +119,7 @@ pub(crate) struct Answer {
 }
 
 /// Runs the program on a disk and a sink, with a hook that workers pass.
-pub(crate) fn answer_on<R: Threads + Wait + Sync + AllocGlobal, G: Gate + Sync>(
+pub(crate) fn answer_on<R: Threads + Wait + Clock + Sync + AllocGlobal, G: Gate + Sync>(
     rt: &R,
     given: &Given,
     disk: &mut MemoryDisk,
@@ -144,7 +145,7 @@ pub(crate) fn sink_of<R: AllocGlobal>(rt: &R, failing: &[u64]) -> Result<MemoryS
 }
 
 /// Runs the program on a disk and a sink of its own, with a hook that workers pass.
-pub(crate) fn answer_at<R: Threads + Wait + Sync + AllocGlobal, G: Gate + Sync>(
+pub(crate) fn answer_at<R: Threads + Wait + Clock + Sync + AllocGlobal, G: Gate + Sync>(
     rt: &R,
     given: &Given,
     gate: &G,
@@ -179,7 +180,7 @@ pub(crate) fn has_left(rt: &impl Abort, given: &Given, answer: &Answer, left: &[
 }
 
 /// The program ends so, and writes this.
-pub(crate) fn answers<R: Threads + Wait + Sync + AllocGlobal + Abort>(
+pub(crate) fn answers<R: Threads + Wait + Clock + Sync + AllocGlobal + Abort>(
     rt: &R,
     given: &Given,
     end: &End,
@@ -191,7 +192,7 @@ pub(crate) fn answers<R: Threads + Wait + Sync + AllocGlobal + Abort>(
 }
 
 /// The program ends so, writes this, and leaves this on the disk.
-pub(crate) fn leaves<R: Threads + Wait + Sync + AllocGlobal + Abort>(
+pub(crate) fn leaves<R: Threads + Wait + Clock + Sync + AllocGlobal + Abort>(
     rt: &R,
     given: &Given,
     end: &End,
@@ -215,7 +216,7 @@ pub(crate) fn log_of<R: AllocGlobal>(rt: &R, rest: &[u8]) -> Result<Vec<u8>, Fai
 const RECOVER: &[&str] = &["aether", "recover"];
 
 /// `recover` of these bytes behind the genesis log's batch.
-fn recovers<R: Threads + Wait + Sync + AllocGlobal + Abort>(
+fn recovers<R: Threads + Wait + Clock + Sync + AllocGlobal + Abort>(
     rt: &R,
     rest: &[u8],
     text: &[u8],
@@ -246,7 +247,7 @@ fn recovers_logs(rt: HostRuntime) -> Result<(), Fail> {
 }
 
 /// `recover` of these bytes behind the genesis log's batch writes nothing, and this line tells why.
-fn is_told<R: Threads + Wait + Sync + AllocGlobal + Abort>(
+fn is_told<R: Threads + Wait + Clock + Sync + AllocGlobal + Abort>(
     rt: &R,
     rest: &[u8],
     end: &End,
@@ -293,7 +294,7 @@ fn names_what_is_wrong_with_a_log(rt: HostRuntime) -> Result<(), Fail> {
 }
 
 /// These words over this input write nothing, and end so.
-fn writes_nothing<R: Threads + Wait + Sync + AllocGlobal + Abort>(
+fn writes_nothing<R: Threads + Wait + Clock + Sync + AllocGlobal + Abort>(
     rt: &R,
     words: &[&str],
     input: &[u8],
@@ -351,7 +352,7 @@ fn makes_a_log_once(rt: HostRuntime) -> Result<(), Fail> {
 }
 
 /// `recover` of the log that was left writes what `new` wrote.
-fn recovers_made<R: Threads + Wait + Sync + AllocGlobal + Abort>(
+fn recovers_made<R: Threads + Wait + Clock + Sync + AllocGlobal + Abort>(
     rt: &R,
     made: &Answer,
 ) -> Result<(), Fail> {
@@ -376,7 +377,7 @@ fn recovers_what_new_made(rt: HostRuntime) -> Result<(), Fail> {
 }
 
 /// `new` ends so, writes nothing, and leaves the disk as it was.
-fn makes_none<R: Threads + Wait + Sync + AllocGlobal + Abort>(
+fn makes_none<R: Threads + Wait + Clock + Sync + AllocGlobal + Abort>(
     rt: &R,
     held: &[u8],
     input: &[u8],
@@ -426,7 +427,7 @@ fn leaves_the_log_where_its_text_cannot_be_written(rt: HostRuntime) -> Result<()
 
 /// These words are none of the program's: it ends with status 2, and no call of the disk or the source is made, since each would
 /// fail.
-pub(crate) fn is_no_command<R: Threads + Wait + Sync + AllocGlobal + Abort>(
+pub(crate) fn is_no_command<R: Threads + Wait + Clock + Sync + AllocGlobal + Abort>(
     rt: &R,
     words: &[&str],
     held: &[u8],

@@ -10,16 +10,17 @@ ghost use Rattle.commit_pipeline.specs.Turning.{MayTurn, durable};
 use crate::daemon::Daemon;
 use daemon_turn::Turn;
 use flusher::Drained;
+use idle_backoff::IdleBackoff;
 use log_disk::{LogDisk, Sink};
 use lsn_space::Lsn;
 use std::sync::Wait;
-use std::thread::yield_now;
+use std::time::Clock;
 use stop_word::DaemonFault;
 
 impl<'a, D: LogDisk, K: Sink> Daemon<'a, D, K> {
     /// Makes turns until no worker is active and all that was released is on the disk, and answers the end of the log. It
     /// waits for the workers.
-    pub fn run_until_drained<R: Wait>(&mut self, rt: &R) -> Result<Lsn, DaemonFault>
+    pub fn run_until_drained<R: Wait + Clock>(&mut self, rt: &R) -> Result<Lsn, DaemonFault>
         requires ready { MayTurn D.LogDisk self.old }
         requires told { knows_all_enrolled (view_of self.old.flusher.seat).standing ≡ true }
         ensures drained { IfOk result (λ lsn. IsDrained (view_of self.new.flusher.seat) × (lsn ≡ durable self.new)) }
@@ -27,14 +28,13 @@ impl<'a, D: LogDisk, K: Sink> Daemon<'a, D, K> {
         ensures fault { IfErr result (λ fault. self.new.fault ≡ Some fault) }
         ensures later { Later D.LogDisk K.Sink self.old self.new }
     {
+        let backoff = IdleBackoff::new();
         for _ in rt.forever() {
-            if let Turn::Idle = self.turn()? {
-                // The words that it looks at are the workers' to write, and they may want the processor.
-                yield_now();
-            }
+            let turn = self.turn()?;
             if let Drained::At(lsn) = self.ask() {
                 return Ok(lsn);
             }
+            rest_behind(turn, &backoff, rt);
         }
         unreachable!()
     }
@@ -48,5 +48,14 @@ impl<'a, D: LogDisk, K: Sink> Daemon<'a, D, K> {
         ensures later { Later D.LogDisk K.Sink self.old self.new }
     {
         self.flusher.drained()
+    }
+}
+
+/// What comes between two turns. Behind one that sent something the next comes at once; where nothing comes, the daemon
+/// leaves the processor to the workers.
+fn rest_behind(turn: Turn, backoff: &IdleBackoff, clock: &impl Clock) {
+    match turn {
+        Turn::Sent { .. } => backoff.reset(),
+        Turn::Idle => backoff.idle(clock),
     }
 }

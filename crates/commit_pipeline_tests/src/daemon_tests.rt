@@ -20,6 +20,7 @@ use std::alloc::Global;
 use std::process::Abort;
 use std::sync::Wait;
 use std::test::Fail;
+use std::time::Clock;
 use test_rig::{table_of, worker};
 use txn_runner::Worked;
 
@@ -35,7 +36,7 @@ const ONE_TRANSFER_LOG: [u8; 90] = [
 ];
 
 /// A worker makes a transfer of 30 from account 0 to account 1, under number 1, and waits for nothing.
-fn transfer<R: Wait + Abort>(rt: &R, alloc: Global, table: &LogTable, seat: &mut Seat)
+fn transfer<R: Wait + Clock + Abort>(rt: &R, alloc: Global, table: &LogTable, seat: &mut Seat)
     requires unused { IsNew table.now seat.old }
     requires first { seat.old.worker < 1 }
     requires accounts { table.now.accounts ≡ 2 }
@@ -83,7 +84,7 @@ fn ask_and_turn(daemon: &mut Daemon<MemoryDisk, MemorySink>) -> Result<(Drained,
 }
 
 /// What a daemon answers while a worker that inserted a transfer is active, and once it has ended.
-fn report_worker<R: Wait + Abort>(
+fn report_worker<R: Wait + Clock + Abort>(
     rt: &R,
     alloc: Global,
     table: &LogTable,
@@ -104,7 +105,7 @@ fn report_worker<R: Wait + Abort>(
 }
 
 /// The same, of a daemon over this disk and this sink.
-fn report_one<R: Wait + Abort>(
+fn report_one<R: Wait + Clock + Abort>(
     rt: &R,
     alloc: Global,
     disk: &mut MemoryDisk,
@@ -143,7 +144,7 @@ fn one_transfer(rt: HostRuntime) -> Result<(), Fail> {
 }
 
 /// What a daemon that only counts answers once the worker has ended, before any turn and at the end, and what it counted.
-fn count_one<R: Wait + Abort>(
+fn count_one<R: Wait + Clock + Abort>(
     rt: &R,
     alloc: Global,
     disk: &mut MemoryDisk,
@@ -179,7 +180,7 @@ fn behind_until_sent(rt: HostRuntime) -> Result<(), Fail> {
 
 /// The stop word that a worker reads after one turn, and what the turn answers, where these calls of the disk and of the
 /// sink fail.
-fn faulty_turn<R: Wait + Abort>(
+fn faulty_turn<R: Wait + Clock + Abort>(
     rt: &R,
     alloc: Global,
     disk_failing: &[u64],
@@ -210,7 +211,7 @@ const FAULTS: &[(&[u64], &[u64], Option<DaemonFault>, u64)] = &[
 ];
 
 /// A turn answers with this fault, or that one transfer was sent; and a worker reads this stop word.
-fn tells<R: Wait + Abort>(
+fn tells<R: Wait + Clock + Abort>(
     rt: &R,
     alloc: Global,
     disk_failing: &[u64],

@@ -21,6 +21,7 @@ use std::process::Abort;
 use std::sync::Wait;
 use std::test::Fail;
 use std::thread::{Threads, join};
+use std::time::Clock;
 use system_disk::FileDisk;
 use test_rig::{insert_all, noted_job, table_of, worker};
 use txn_runner::Jobs;
@@ -44,7 +45,7 @@ const TRANSFERS_END: u32 = 4 + 5 * 2 * TRANSFERS;
 type Outcome = (Result<Lsn, DaemonFault>, Lsn, u32);
 
 /// Turns until the log is drained, or a fault comes.
-fn finish<R: Wait, D: LogDisk>(rt: &R, daemon: &mut Daemon<D, MemorySink>) -> Outcome
+fn finish<R: Wait + Clock, D: LogDisk>(rt: &R, daemon: &mut Daemon<D, MemorySink>) -> Outcome
     requires ready { MayTurn D.LogDisk daemon.old }
     requires told { knows_all_enrolled (view_of daemon.old.flusher.seat).standing ≡ true }
 {
@@ -92,7 +93,7 @@ fn insert_both<R: Threads + Wait + Sync>(
 }
 
 /// Turns to the end, beside two threads that insert notes; also how many were inserted.
-fn run_notes<R: Threads + Wait + Sync, D: LogDisk>(
+fn run_notes<R: Threads + Wait + Clock + Sync, D: LogDisk>(
     rt: &R,
     alloc: Global,
     disk: &mut D,
@@ -120,7 +121,13 @@ fn run_notes<R: Threads + Wait + Sync, D: LogDisk>(
 }
 
 /// A worker's whole life: the transfers of its stripe, and the end. Answers how many rows it has.
-fn transfer<R: Wait>(rt: &R, alloc: Global, table: &LogTable, mut seat: Seat, jobs: &Jobs) -> usize
+fn transfer<R: Wait + Clock>(
+    rt: &R,
+    alloc: Global,
+    table: &LogTable,
+    mut seat: Seat,
+    jobs: &Jobs,
+) -> usize
     requires unused { IsNew table.now seat }
     requires worker { seat.worker < jobs.now.workers }
     requires allowed { All (IsAllowedJob table.now.accounts) jobs.now.script }
@@ -134,7 +141,7 @@ fn transfer<R: Wait>(rt: &R, alloc: Global, table: &LogTable, mut seat: Seat, jo
 }
 
 /// Both workers make transfers, each in a thread.
-fn transfer_both<R: Threads + Wait + Sync>(
+fn transfer_both<R: Threads + Wait + Clock + Sync>(
     rt: &R,
     alloc: Global,
     table: &LogTable,
@@ -159,7 +166,7 @@ fn transfer_both<R: Threads + Wait + Sync>(
 }
 
 /// Turns to the end, beside two threads that make the transfers; also how many rows they have.
-fn run_transfers<R: Threads + Wait + Sync, D: LogDisk>(
+fn run_transfers<R: Threads + Wait + Clock + Sync, D: LogDisk>(
     rt: &R,
     alloc: Global,
     disk: &mut D,
@@ -228,7 +235,7 @@ fn a_thousand_transfers(rt: HostRuntime) -> Result<(), Fail> {
 }
 
 /// What a run came to where this call of the disk fails, and where the log ends that this crash left.
-fn crash_at<R: Threads + Wait + Sync>(
+fn crash_at<R: Threads + Wait + Clock + Sync>(
     rt: &R,
     alloc: Global,
     failing: u64,
@@ -277,7 +284,7 @@ fn attaches(rt: &impl Abort, disk: &mut FileDisk<HostRuntime>, name: &Word, make
 }
 
 /// Two threads insert notes while a daemon sends them to the file of this name, which is made.
-fn writes_notes<R: Threads + Wait + Sync + Abort>(
+fn writes_notes<R: Threads + Wait + Clock + Sync + Abort>(
     rt: &R,
     alloc: Global,
     mut disk: FileDisk<HostRuntime>,

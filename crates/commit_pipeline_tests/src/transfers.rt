@@ -10,11 +10,12 @@ use log_table::{LogTable, Seat};
 use run_rig::work_stripe;
 use std::alloc::Global;
 use std::sync::Wait;
+use std::time::Clock;
 use txn_runner::{Jobs, Worked, YieldRelief};
 
 /// A new worker makes the transfers of its stripe, and waits for nothing. Answers how its work ended, and how many rows it has,
 /// or `None` where memory did not suffice.
-pub(crate) fn make_transfers<R: Wait>(
+pub(crate) fn make_transfers<R: Wait + Clock>(
     rt: &R,
     alloc: Global,
     table: &LogTable,
@@ -27,7 +28,7 @@ pub(crate) fn make_transfers<R: Wait>(
     ensures seat { IsOf table.now seat.new }
     ensures may { MayLeave (view_of seat.new) }
 {
-    let mut relief = YieldRelief::new();
+    let mut relief = YieldRelief::new(rt);
     let came = work_stripe(rt, alloc, table, seat, jobs, &mut relief, false, &OpenGate);
     let Ok((worked, rows)) = came else {
         return None;

@@ -19,6 +19,9 @@ impl<'a, D: LogDisk, K: Sink> Relief for FlushingRelief<'a, D, K> {
 
     ghost later = { λ old new. Later D.LogDisk K.Sink old.daemon new.daemon };
 
+    fn begin(&mut self) {}
+
+    // It never sleeps: what it waits for may need a flush at any moment.
     fn rest(&mut self) {
         if self.daemon.fault().is_none() {
             let _ = self.daemon.turn();

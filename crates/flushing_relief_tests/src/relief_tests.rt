@@ -43,6 +43,8 @@ impl<'a, D: LogDisk, K: Sink> Relief for Looking<'a, D, K> {
 
     ghost later = { λ old new. ⊤ };
 
+    fn begin(&mut self) {}
+
     fn rest(&mut self) {
         let word = self.table.load_account(&mut self.seat, 0);
         self.held = self.held && word.held();

@@ -1,5 +1,6 @@
 //! What a worker does while it waits.
-use crossbeam_utils::Backoff;
+use idle_backoff::IdleBackoff;
+use std::time::Clock;
 
 /// What a worker does between two attempts.
 pub trait Relief {
@@ -8,6 +9,12 @@ pub trait Relief {
 
     /// What any number of rests leave; reflexive and transitive.
     ghost later: { Self → Self → Type 0 };
+
+    /// What is waited for from here on is not known to take long.
+    fn begin(&mut self)
+        requires ready { ready self.old }
+        ensures ready { ready self.new }
+        ensures later { later self.old self.new };
 
     /// Rests once, and returns.
     fn rest(&mut self)
@@ -20,21 +27,23 @@ pub trait Relief {
     ghost later_trans: { (p q r : Self) → later p q → later q r → later p r };
 }
 
-/// Spins for a moment, and after a few rests lets other threads run.
+/// Spins for a moment, then lets other threads run, and then sleeps.
 #[derive(Drop)]
-pub struct YieldRelief {
-    backoff: Backoff,
+pub struct YieldRelief<'a, C> {
+    clock: &'a C,
+    backoff: IdleBackoff,
 }
 
-impl YieldRelief {
-    pub fn new() -> YieldRelief {
+impl<'a, C> YieldRelief<'a, C> {
+    pub fn new(clock: &'a C) -> YieldRelief<'a, C> {
         YieldRelief {
-            backoff: Backoff::new(),
+            clock,
+            backoff: IdleBackoff::new(),
         }
     }
 }
 
-impl Relief for YieldRelief {
+impl<'a, C: Clock> Relief for YieldRelief<'a, C> {
     ghost use Rattle.std.specs.Prelude.{⊤};
 
     ghost ready = { λ relief. ⊤ };
@@ -42,8 +51,12 @@ impl Relief for YieldRelief {
     // Nothing is known of how long it paused.
     ghost later = { λ old new. ⊤ };
 
+    fn begin(&mut self) {
+        self.backoff.reset();
+    }
+
     fn rest(&mut self) {
-        self.backoff.snooze();
+        self.backoff.idle(self.clock);
     }
 
     ghost later_refl = { λ relief. tt };

@@ -69,6 +69,7 @@ fn take_transfer<R: Wait, Q: Relief, G: Gate>(
     ensures later { Q.later relief.old relief.new }
 {
     begin_job(table, seat, number, job, gate)?;
+    relief.begin();
     let accounts = accounts_of(job);
     take_all(rt, table, seat, accounts.as_slice(), relief, gate)
 }

@@ -30,6 +30,8 @@ impl<'a, R: Abort> Relief for NeverRests<'a, R> {
 
     ghost later = { λ old new. ⊤ };
 
+    fn begin(&mut self) {}
+
     fn rest(&mut self) {
         panic!(self.rt; "a worker alone has waited");
     }

@@ -112,6 +112,8 @@ impl<'a, R: Abort> Relief for Sending<'a, R> {
 
     ghost later = { λ old new. ⊤ };
 
+    fn begin(&mut self) {}
+
     fn rest(&mut self) {
         let table = self.table;
         let word = table.load_account(&mut self.looker, 0);

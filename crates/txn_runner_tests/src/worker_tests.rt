@@ -175,8 +175,8 @@ fn rest_twice<Q: Relief>(relief: &mut Q)
 }
 
 #[test]
-fn a_relief_rests() {
-    rest_twice(&mut YieldRelief::new());
+fn a_relief_rests(rt: HostRuntime) {
+    rest_twice(&mut YieldRelief::new(&rt));
 }
 
 #[test]

@@ -26,3 +26,6 @@ returns-clause-let_go g c = lets-go-taken _ _ _ _ c.requires.may.none_held c.beg
 pub returns-clause-cut : goal.returns-clause-cut
 returns-clause-cut g c = cut-taken _ _ _ _ c.requires.may.none_held c.begin_job.ensures.taken c.take_all.result _
     c.take_all.ensures.kept c.take_all.ensures.stopped
+
+pub returns-clause-later : goal.returns-clause-later
+returns-clause-later g c = g.met.Q.Relief.later_trans _ _ _ c.begin.ensures.later c.take_all.ensures.later
