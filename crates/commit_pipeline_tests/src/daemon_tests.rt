@@ -35,20 +35,26 @@ const ONE_TRANSFER_LOG: [u8; 90] = [
     3, 1, 0, 1, 0, 0, 0, 1, 0,
 ];
 
-/// A worker makes a transfer of 30 from account 0 to account 1, under number 1, and waits for nothing.
-fn transfer<R: Wait + Clock + Abort>(rt: &R, alloc: Global, table: &LogTable, seat: &mut Seat)
+/// A worker makes so many transfers of 30 from account 0 to account 1, from number 1 on, and waits for nothing.
+fn transfer<R: Wait + Clock + Abort>(
+    rt: &R,
+    alloc: Global,
+    table: &LogTable,
+    seat: &mut Seat,
+    times: u32,
+)
     requires unused { IsNew table.now seat.old }
     requires first { seat.old.worker < 1 }
     requires accounts { table.now.accounts ≡ 2 }
     ensures seat { IsOf table.now seat.new }
     ensures may { MayLeave (view_of seat.new) }
 {
-    let Some(jobs) = thirties(rt, alloc, 1, 1) else {
+    let Some(jobs) = thirties(rt, alloc, times, 1) else {
         panic!(rt; "no memory");
     };
     let made = make_transfers(rt, alloc, table, seat, &jobs);
     let is_made = matches!(made, Some((Worked::All, _)));
-    assert!(rt; is_made, "the transfer was not made");
+    assert!(rt; is_made, "the transfers were not made");
 }
 
 /// Whether the log has come to its end.
@@ -97,7 +103,7 @@ fn report_worker<R: Wait + Clock + Abort>(
     requires ready { MayTurn ⟦<MemoryDisk as LogDisk>⟧ daemon.old }
     requires told { knows_all_enrolled (view_of daemon.old.flusher.seat).standing ≡ true }
 {
-    transfer(rt, alloc, table, &mut seat);
+    transfer(rt, alloc, table, &mut seat, 1);
     let active = ask_and_turn(daemon)?;
     table.leave(&mut seat);
     let at_end = ask_and_turn(daemon)?;
@@ -157,7 +163,7 @@ fn count_one<R: Wait + Clock + Abort>(
     };
     let mut seat = worker(&table, &mut boss, 0, 1);
     let mut daemon = daemon_on(alloc, (100, 0), &table, boss, disk, sink, Voice::Count)?;
-    transfer(rt, alloc, &table, &mut seat);
+    transfer(rt, alloc, &table, &mut seat, 1);
     table.leave(&mut seat);
     let behind = ask(&mut daemon);
     let end = daemon.run_until_drained(rt).ok()?;
@@ -195,7 +201,7 @@ fn faulty_turn<R: Wait + Clock + Abort>(
     let Some(mut daemon) = daemon else {
         return Err(NoMemory);
     };
-    transfer(rt, alloc, &table, &mut seat);
+    transfer(rt, alloc, &table, &mut seat, 1);
     let answer = turn(&mut daemon);
     Ok((answer, table.load_stop(&mut seat)))
 }
@@ -233,6 +239,54 @@ fn tells<R: Wait + Clock + Abort>(
 fn faults_are_told_by_the_stop_word(rt: HostRuntime) -> Result<(), Fail> {
     for (disk_failing, sink_failing, fault, stop) in FAULTS {
         tells(&rt, rt.alloc(), disk_failing, sink_failing, *fault, *stop)?;
+    }
+    Ok(())
+}
+
+/// What the one turn answers that tells of three transfers, and what the daemon has counted then.
+fn three_in_a_turn<R: Wait + Abort>(
+    rt: &R,
+    alloc: Global,
+    sink: &mut MemorySink,
+) -> Option<(Result<Turn, DaemonFault>, [u32; 2])> {
+    let Ok((table, mut boss)) = table_of(alloc, (100, 0), 4) else {
+        return None;
+    };
+    let mut seat = worker(&table, &mut boss, 0, 1);
+    let mut disk = MemoryDisk::make(alloc, &[], 1000, &[]).ok()?;
+    let mut daemon = daemon_on(alloc, (100, 0), &table, boss, &mut disk, sink, Voice::Lines)?;
+    transfer(rt, alloc, &table, &mut seat, 3);
+    let answer = turn(&mut daemon);
+    Some((answer, [daemon.done(), daemon.refused()]))
+}
+
+/// A sink's room, the writes that fail; whether the turn is Ok, and what is held then.
+const TOGETHER: &[(usize, &[u64], bool, &[u8])] = &[
+    (100, &[2], true, b"done 1 9\ndone 2 14\ndone 3 19\n"),
+    (100, &[1], false, b""),
+    (12, &[], false, b"done 1 9\ndon"),
+];
+
+/// The turn is Ok or not, and has counted all three either way.
+fn has_counted_three(
+    rt: &impl Abort,
+    found: Option<(Result<Turn, DaemonFault>, [u32; 2])>,
+    fine: bool,
+) {
+    let to = Lsn::new(19);
+    let answer = match fine {
+        true => Ok(Turn::Sent { lines: 3, to }),
+        false => Err(DaemonFault::WriteFault),
+    };
+    assert_eq!(rt; found, Some((answer, [3, 0])));
+}
+
+#[test]
+fn lines_of_a_turn_are_one_write(rt: HostRuntime) -> Result<(), Fail> {
+    for (room, failing, fine, text) in TOGETHER {
+        let mut sink = MemorySink::make(rt.alloc(), *room, failing)?;
+        has_counted_three(&rt, three_in_a_turn(&rt, rt.alloc(), &mut sink), *fine);
+        has_bytes(&rt, "sink", sink.bytes(), text);
     }
     Ok(())
 }

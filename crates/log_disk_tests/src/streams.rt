@@ -1,7 +1,7 @@
 //! Sources and sinks, in memory and over the system.
 
 use crate::outcomes::{has_given, is_number};
-use log_disk::{Failed, Sink, Source, put_all};
+use log_disk::{Failed, OutputBlock, Sink, Source, put_all};
 use memory_disk::{MemorySink, MemorySource};
 use std::io;
 use std::io::{Error, ErrorKind, Read, Write};
@@ -33,6 +33,47 @@ fn holds_what_was_put_in(rt: HostRuntime) -> Result<(), Fail> {
         let mut sink = MemorySink::make(rt.alloc(), *room, failing)?;
         let is_whole = puts_two(&mut sink);
         is_held(&rt, *room, (is_whole, sink.bytes()), (*whole, held));
+    }
+    Ok(())
+}
+
+/// Whether so many pieces of a hundred bytes are put into a block, each of its own byte, and are all written.
+fn puts_pieces(sink: &mut MemorySink, pieces: u8) -> bool {
+    let mut block = OutputBlock::new();
+    for piece in 0..pieces {
+        if block.put(sink, &[piece; 100]).is_err() {
+            return false;
+        }
+    }
+    block.write_out(sink).is_ok()
+}
+
+/// These are the first of the pieces' bytes, so many.
+fn are_pieces(rt: &impl Abort, bytes: &[u8], want: usize) {
+    let in_order = bytes
+        .iter()
+        .enumerate()
+        .all(|(at, byte)| usize::from(*byte) == at / 100);
+    assert_eq!(rt; (in_order, bytes.len()), (true, want));
+}
+
+/// A sink's room, the writes that fail; whether a hundred pieces are written whole, and how many bytes are held then. A block
+/// has room for forty, so three writes are made, and the fourth may fail.
+const BLOCKS: &[(usize, &[u64], bool, usize)] = &[
+    (10000, &[4], true, 10000),
+    (10000, &[3], false, 8000),
+    (10000, &[2], false, 4000),
+    (10000, &[1], false, 0),
+    (4050, &[], false, 4050),
+    (9999, &[], false, 9999),
+];
+
+#[test]
+fn writes_pieces_in_blocks(rt: HostRuntime) -> Result<(), Fail> {
+    for (room, failing, whole, held) in BLOCKS {
+        let mut sink = MemorySink::make(rt.alloc(), *room, failing)?;
+        assert!(rt; puts_pieces(&mut sink, 100) == *whole, "room {room}");
+        are_pieces(&rt, sink.bytes(), *held);
     }
     Ok(())
 }

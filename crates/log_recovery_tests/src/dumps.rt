@@ -119,8 +119,6 @@ fn dumps_the_longest_note(rt: HostRuntime) -> Result<(), Fail> {
 
 const FRONTS: &[(usize, &[u64], &[u8])] = &[
     (300, &[1], b""),
-    (300, &[2], b"0 genesis 0 100\n"),
-    (300, &[3], b"0 genesis 0 100\n2 genesis 1 0\n"),
     (20, &[], b"0 genesis 0 100\n2 ge"),
     (35, &[], b"0 genesis 0 100\n2 genesis 1 0\nlsn 4"),
 ];
