@@ -1,7 +1,7 @@
 -- What words ask, from the subcommand that they name.
 use Rattle.std.proofs.Common.{◌≡◌, ◌⊎◌, inl, inr, ◌∙◌, ap, ap₂, sym, subst, refl, true, ℕ, List, codes, Option, Some, None, is_some, get_or, arith, Result, Ok, Err, IfErr, MatchResult}
 use Rattle.clap.specs.Words.{Row, subcommand_of}
-use Rattle.command_line.specs.CommandLine.{aether_command, AreKnown, AreOptions, AreTaken, HasNoDemo, HasNoOptions, IsCommandLine, IsDemo, IsRefusalOf, NamesBadNumbers, NamesSubcommand, log_in}
+use Rattle.command_line.specs.CommandLine.{aether_command, AreKnown, AreOptions, AreTaken, HasNoDemo, HasNoOptions, IsCommandLine, IsDemo, IsMismatchOf, IsRefusalOf, NamesBadNumbers, NamesSubcommand, log_in}
 use Rattle.command_line.specs.declared.command.Command.{Command}
 use Rattle.command_line.specs.declared.command.Command.TheVariants.{New, Run, Recover, Dump, Demo}
 use Rattle.command_line.specs.declared.command.Refused.{Refused}
@@ -127,6 +127,10 @@ module _ (words : List (List ℕ)) where
   known-taken (Recover, is) = is.0
   known-taken (Dump, is) = is.0
   known-taken (Demo log transfers seed options, is) = is.0
+
+  pub refuses-mismatch : (refused : Refused) → IsMismatchOf words refused → IsRefusalOf words refused
+  refuses-mismatch Usage unknown = λ taken. unknown (known-taken taken)
+  refuses-mismatch NoMemory any = tt
 
   -- `new` is answered with the name of its log
   pub answers-new : (result : Result Command Refused) (log : List ℕ) → IsCommandLine words (New log)

@@ -10,7 +10,9 @@ use Rattle.clap.specs.Kinds.{Kinds, or_else}
 use Rattle.clap.specs.Simple.{entered, rows_at, names_of, argument_words}
 use Rattle.clap.specs.Walk.{Names, Held, Text, finished, nothing_held, settled, stop_after, walk, walk_from}
 use Rattle.clap.specs.Words.{App, Row, Shape, is_simple, is_simple_and_free, subcommand_of, fault_of, built}
-use Rattle.command_line.specs.CommandLine.{aether_command, demo_command, new_command, run_command, AreKnown, IsSubcommand, NamesSubcommand}
+use Rattle.command_line.specs.CommandLine.{aether_command, demo_command, new_command, run_command, AreKnown, IsMismatchOf, IsSubcommand, NamesSubcommand}
+use Rattle.command_line.specs.declared.command.Refused.{Refused}
+use Rattle.command_line.specs.declared.command.Refused.TheVariants.{NoMemory, Usage}
 
 pub is_simple-aether : is_simple aether_command ≡ true
 unfolding aether_command new_command run_command demo_command
@@ -110,3 +112,8 @@ module _ {B : Type 0} (name_of : B → Text) (rows_of : B → List Row) where
   pub rows-none : (sub : Option B) → false ≡ is_some sub → is_some (option_map both sub) ≡ false
   rows-none None none = refl
   rows-none (Some b) none = cc
+
+-- want of memory is the only refusal of words that the command takes
+pub mismatch-memory : (words : List Text) (refused : Refused) → (AreKnown words → refused ≡ NoMemory) → IsMismatchOf words refused
+mismatch-memory words NoMemory memory = tt
+mismatch-memory words Usage memory = λ known. let never : Usage ≡ NoMemory = memory known in cc

@@ -9,6 +9,8 @@ use Rattle.command_line.specs.declared.parsing.TheConstants.{GREATEST_SEED}
 use Rattle.command_line.specs.declared.options.RunOptions.{RunOptions}
 use Rattle.command_line.specs.declared.command.Command.{Command}
 use Rattle.command_line.specs.declared.command.Command.TheVariants.{New, Run, Recover, Dump, Demo}
+use Rattle.command_line.specs.declared.command.Subcommand.{Subcommand}
+use Rattle.command_line.specs.declared.command.Subcommand.TheVariants as subcommand
 use Rattle.command_line.specs.declared.command.Refused.{Refused}
 use Rattle.command_line.specs.declared.command.Refused.TheVariants as refused
 
@@ -71,6 +73,14 @@ NamesSubcommand words name rows = subcommand_of aether_command words ≡ Some (n
 abbrev pub IsSubcommand : List ℕ → Type 0
 IsSubcommand name =
     (name ≡ codes "new") ⊎ (name ≡ codes "run") ⊎ (name ≡ codes "recover") ⊎ (name ≡ codes "dump") ⊎ (name ≡ codes "demo")
+
+-- the name of a subcommand
+abbrev pub name_of : Subcommand → List ℕ
+name_of subcommand.New = codes "new"
+name_of subcommand.Run = codes "run"
+name_of subcommand.Recover = codes "recover"
+name_of subcommand.Dump = codes "dump"
+name_of subcommand.Demo = codes "demo"
 
 -- the value of LOG, which stands first in its row
 abbrev pub log_in : List Row → List ℕ

@@ -30,6 +30,16 @@ pub enum Command {
     },
 }
 
+/// Which subcommand words name.
+#[derive(Clone, Copy, Debug, PartialEq, Eq)]
+pub(crate) enum Subcommand {
+    New,
+    Run,
+    Recover,
+    Dump,
+    Demo,
+}
+
 /// Why words ask nothing.
 #[derive(Clone, Copy, Debug, PartialEq, Eq)]
 pub enum Refused {

@@ -4,6 +4,7 @@
 mod command;
 mod definition;
 mod laws;
+mod matching;
 mod options;
 mod parsing;
 

@@ -1,14 +1,13 @@
-ghost use Rattle.std.specs.Prelude.{◌≡◌, ◌≢◌, ◌⊎◌, List, ℕ, [], IfErr, IfOk, MatchResult, map, true};
-ghost use Rattle.clap.specs.Words.{fault_of, found_of, rows_of, subcommand_of, subcommand_rows_of, takes};
-ghost use Rattle.command_line.specs.CommandLine.{aether_command, log_in, AreKnown, AreOptions, HasNoDemo, HasNoOptions, IsCommandLine, IsDemo, IsMismatchOf, IsRefusalOf, IsSubcommand, NamesBadNumbers, NamesSubcommand};
+ghost use Rattle.std.specs.Prelude.{◌≡◌, ◌⊎◌, List, ℕ, IfErr, MatchResult, true};
+ghost use Rattle.clap.specs.Words.{found_of, rows_of, subcommand_of, subcommand_rows_of, takes};
+ghost use Rattle.command_line.specs.CommandLine.{aether_command, log_in, AreKnown, name_of, AreOptions, HasNoDemo, HasNoOptions, IsCommandLine, IsDemo, IsRefusalOf, IsSubcommand, NamesBadNumbers, NamesSubcommand};
 ghost use Rattle.command_line.specs.declared.command.Command.TheVariants.{Demo, New, Run};
 ghost use Rattle.command_line.specs.declared.options.RunOptions.{RunOptions};
 
-use crate::command::{Command, Refused};
-use crate::definition::aether;
+use crate::command::{Command, Refused, Subcommand};
+use crate::matching::matches_of;
 use crate::options::{given_in, options_in};
 use clap::ArgMatches;
-use clap::error::ErrorKind;
 use lsn_space::{MOST_GENERATED, Word};
 use std::alloc::Global;
 
@@ -20,7 +19,20 @@ pub fn parse(alloc: Global, words: &[Word]) -> Result<Command, Refused>
     ensures exact { MatchResult result (IsCommandLine words.now) (IsRefusalOf words.now) }
     ensures taken { takes aether_command words.now ≡ true → IfErr result (λ e. (e ≡ Refused.NoMemory) ⊎ NamesBadNumbers words.now) }
 {
-    let matches = matches_of(alloc, words)?;
+    match matches_of(alloc, words) {
+        Ok(matches) => asked_by(alloc, &matches),
+        Err(refused) => Err(refused),
+    }
+}
+
+/// What words ask in which this was found.
+fn asked_by(alloc: Global, matches: &ArgMatches<'_>) -> Result<Command, Refused>
+    requires { (words : List (List ℕ)) × AreKnown words × (subcommand_rows_of matches.now ≡ subcommand_of aether_command words) }
+    ensures exact { (words : List (List ℕ)) → AreKnown words → subcommand_rows_of matches.now ≡ subcommand_of aether_command words
+        → MatchResult result (IsCommandLine words) (IsRefusalOf words) }
+    ensures taken { (words : List (List ℕ)) → AreKnown words → subcommand_rows_of matches.now ≡ subcommand_of aether_command words
+        → IfErr result (λ e. (e ≡ Refused.NoMemory) ⊎ NamesBadNumbers words) }
+{
     let Some((name, found)) = matches.subcommand() else {
         unreachable!()
     };
@@ -35,12 +47,26 @@ fn asked(alloc: Global, name: &str, found: &ArgMatches<'_>) -> Result<Command, R
     ensures taken { (words : List (List ℕ)) → AreKnown words → NamesSubcommand words name.now (rows_of (found_of found.now))
         → IfErr result (λ e. (e ≡ Refused.NoMemory) ⊎ NamesBadNumbers words) }
 {
+    match subcommand(name) {
+        Subcommand::New => new(alloc, found),
+        Subcommand::Run => run(alloc, found),
+        Subcommand::Recover => Ok(Command::Recover),
+        Subcommand::Dump => Ok(Command::Dump),
+        Subcommand::Demo => demo(alloc, found),
+    }
+}
+
+/// The subcommand of this name.
+fn subcommand(name: &str) -> Subcommand
+    requires { IsSubcommand name.now }
+    ensures { name.now ≡ name_of result }
+{
     match name {
-        "new" => new(alloc, found),
-        "run" => run(alloc, found),
-        "recover" => Ok(Command::Recover),
-        "dump" => Ok(Command::Dump),
-        "demo" => demo(alloc, found),
+        "new" => Subcommand::New,
+        "run" => Subcommand::Run,
+        "recover" => Subcommand::Recover,
+        "dump" => Subcommand::Dump,
+        "demo" => Subcommand::Demo,
         _ => unreachable!(),
     }
 }
@@ -96,23 +122,5 @@ fn log_of(alloc: Global, found: &ArgMatches<'_>) -> Result<Word, Refused>
     match Word::make(alloc, found.get_str("LOG").unwrap_or("")) {
         Ok(log) => Ok(log),
         Err(_) => Err(Refused::NoMemory),
-    }
-}
-
-/// What the command finds in the words.
-fn matches_of<'a>(alloc: Global, words: &'a [Word]) -> Result<ArgMatches<'a>, Refused>
-    ensures ok { IfOk result (λ m. subcommand_rows_of m ≡ subcommand_of aether_command words.entry.now) }
-    ensures exact { MatchResult result (λ _. AreKnown words.entry.now) (IsMismatchOf words.entry.now) }
-    ensures taken { takes aether_command words.entry.now ≡ true → IfErr result (λ e. e ≡ Refused.NoMemory) }
-{
-    let Ok(command) = aether(alloc) else {
-        return Err(Refused::NoMemory);
-    };
-    match command.try_get_matches_from(words) {
-        Ok(matches) => Ok(matches),
-        Err(error) => match error.kind() {
-            ErrorKind::OutOfMemory => Err(Refused::NoMemory),
-            _ => Err(Refused::Usage),
-        },
     }
 }

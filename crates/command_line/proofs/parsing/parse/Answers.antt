@@ -1,23 +1,18 @@
-use Rattle.std.proofs.Common.{◌≡◌, ◌∙◌, sym, ap, false, is_some}
-use Rattle.clap.specs.Words.{subcommand_of}
-use Rattle.command_line.specs.CommandLine.{aether_command}
-use Rattle.command_line.proofs.Facts.{rows-named, rows-none, named-one, named_some}
+use Rattle.std.proofs.Common.{inl}
+use Rattle.command_line.proofs.Asking.{refuses-mismatch}
 use Rattle.command_line.proofs.parsing.parse.Goals as goal
 
-pub unreachable-requires : goal.unreachable-requires
-unreachable-requires c =
-    let none : is_some (subcommand_of aether_command c.args.words.now) ≡ false =
-    ap is_some (sym c.in_ok-matches.ensures.ok) ∙ rows-none _ _ _ c.in_default.ensures.variant in
-    let some = named_some c.args.words.now c.in_ok-matches.ensures.exact in
-    cc
+pub asked_by-requires : goal.asked_by-requires
+asked_by-requires c = (c.args.words.now, c.in-Ok.ensures.exact, c.in-Ok.ensures.ok)
 
-pub asked-requires : goal.asked-requires
-asked-requires c = named-one c.args.words.now _ _ (sym c.in_ok-matches.ensures.ok ∙ rows-named _ _ _ _ _ c.in-Some.ensures.name c.in-Some.ensures.rows)
+pub returns-in-Ok-clause-exact : goal.returns-in-Ok-clause-exact
+returns-in-Ok-clause-exact c = c.asked_by.ensures.exact c.args.words.now c.in-Ok.ensures.exact c.in-Ok.ensures.ok
 
-pub returns-clause-exact : goal.returns-clause-exact
-returns-clause-exact c = c.asked.ensures.exact c.args.words.now c.in_ok-matches.ensures.exact
-    (sym c.in_ok-matches.ensures.ok ∙ rows-named _ _ _ _ _ c.in-Some.ensures.name c.in-Some.ensures.rows)
+pub returns-in-Ok-clause-taken : goal.returns-in-Ok-clause-taken
+returns-in-Ok-clause-taken c = λ takes. c.asked_by.ensures.taken c.args.words.now c.in-Ok.ensures.exact c.in-Ok.ensures.ok
 
-pub returns-clause-taken : goal.returns-clause-taken
-returns-clause-taken c = λ takes. c.asked.ensures.taken c.args.words.now c.in_ok-matches.ensures.exact
-    (sym c.in_ok-matches.ensures.ok ∙ rows-named _ _ _ _ _ c.in-Some.ensures.name c.in-Some.ensures.rows)
+pub returns-in-Err-clause-exact : goal.returns-in-Err-clause-exact
+returns-in-Err-clause-exact c = refuses-mismatch c.args.words.now _ c.in-Err.ensures.exact
+
+pub returns-in-Err-clause-taken : goal.returns-in-Err-clause-taken
+returns-in-Err-clause-taken c = λ takes. inl (c.in-Err.ensures.taken takes)

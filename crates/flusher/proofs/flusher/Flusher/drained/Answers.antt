@@ -45,3 +45,10 @@ returns-then-eq-clause-ready g c =
     let seat = Becomes-then _ _ _ _
     (saw_exposed c.load_exposed-exposed.result) c.load_crew-active.ensures.view c.load_exposed-exposed.ensures.view in
     MayFlush-step g.D.LogDisk c.args.self.now c.load_exposed-exposed.new.seat _ c.requires.ready seat refl refl refl refl (seen-newer _ _)
+
+pub returns-then-active-gt0-clause-asks : goal.returns-then-active-gt0-clause-asks
+returns-then-active-gt0-clause-asks g c = (omega arith, c.load_crew-active.ensures.view)
+
+pub returns-then-active-gt0-clause-ready : goal.returns-then-active-gt0-clause-ready
+returns-then-active-gt0-clause-ready g c =
+    MayFlush-step g.D.LogDisk c.args.self.now c.load_crew-active.new.seat _ c.requires.ready c.load_crew-active.ensures.view refl refl refl refl (λ x seen. seen)
