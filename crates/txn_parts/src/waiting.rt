@@ -1,5 +1,5 @@
 //! A worker waits: between two attempts it looks whether the log has stopped, and rests.
-ghost use Rattle.std.specs.Prelude.{◌≡◌, ◌≤◌, [], true, IfOk, IfErr, IfSome, IfNone, OnErr};
+ghost use Rattle.std.specs.Prelude.{◌≡◌, ◌≤◌, [], true, IfOk, IfErr, IfSome, IfNone, OnOk, OnErr};
 ghost use Rattle.log_table.specs.Seats.{IsOf, view_of};
 ghost use Rattle.ring_buffer.specs.Calls.{IsReady, HasEntries};
 ghost use Rattle.txn_parts.specs.Stops.{StopsFor, IsLogEnd};
@@ -11,12 +11,13 @@ use ring_buffer::Refused;
 use std::sync::Wait;
 use txn_jobs::Cause;
 
-/// What a worker does between two attempts. Err: the log has stopped.
+/// What a worker does between two attempts. Ok: the log had not stopped. Err: it has.
 pub fn pause<Q: Relief>(table: &LogTable, seat: &mut Seat, relief: &mut Q) -> Result<(), Cause>
     requires seat { IsOf table.now seat.old }
     requires ready { IsReady (view_of seat.old) }
     requires relief { Q.ready relief.old }
     ensures kept { HasEntries seat.old seat.new (view_of seat.old).entries (view_of seat.old).books }
+    ensures runs { OnOk result ((view_of seat.new).seen.stop ≡ 0) }
     ensures stopped { IfErr result (λ cause. StopsFor cause [] (view_of seat.new)) }
     ensures relief { Q.ready relief.new }
     ensures later { Q.later relief.old relief.new }
