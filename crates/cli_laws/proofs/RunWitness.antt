@@ -36,7 +36,7 @@ use Rattle.log_table.specs.Sound.{base_of}
 use Rattle.log_table.specs.Views.{flusher}
 use Rattle.log_table.proofs.Deltas.{more-delta, less-delta}
 use Rattle.commit_pipeline.specs.declared.daemon.Daemon.{Daemon}
-use Rattle.stop_word.specs.declared.fault.DaemonFault.TheVariants.{WriteFault}
+use Rattle.stop_word.specs.declared.fault.DaemonFault.TheVariants.{DiskFault, WriteFault}
 use Rattle.end_lines.specs.declared.voice.Voice.TheVariants.{Lines}
 use Rattle.commit_pipeline.specs.EndLines.{done_line, end_lines}
 use Rattle.commit_pipeline.specs.Later.{Ran, HoldsFront}

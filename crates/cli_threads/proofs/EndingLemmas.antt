@@ -1,5 +1,5 @@
 -- What is promised of transfers that have ended, in the words of what came of them.
-use Rattle.std.proofs.Common.{Bool, ◌≡◌, ◌≢◌, ◌↔◌, ◌<◌, ◌∙◌, ap, sym, subst, refl, ℕ, zero, suc, List, [], ◌∷◌, ◌++◌, length, map, get_or, None, Some, arith, ◌≤◌, inl, inr}
+use Rattle.std.proofs.Common.{Bool, ◌≡◌, ◌≢◌, ◌↔◌, ◌<◌, ◌∙◌, ap, sym, subst, refl, ℕ, zero, suc, List, [], ◌∷◌, ◌++◌, length, map, get_or, None, Some, arith, inl, inr}
 use Rattle.std.specs.List.{AllByRecursion}
 use Rattle.std.proofs.lemmas.List.{length-map}
 use Rattle.std.proofs.lemmas.List.Elements.{All-head, All-tail}

@@ -1,5 +1,5 @@
 -- What a run promises, from what is known once all seats are gathered.
-use Rattle.std.proofs.Common.{◌≢◌, ◌≡◌, inl, inr, ⊎_elim, ◌≤◌, ℕ, ◌+◌, false, List, [], ◌++◌, length, map, None, Some, refl, ap, ◌∙◌, sym, subst, arith, add-zero, append-nil, append_assoc, length-append}
+use Rattle.std.proofs.Common.{◌≡◌, inl, inr, ⊎_elim, ◌≤◌, ℕ, ◌+◌, false, List, [], ◌++◌, length, map, None, refl, ap, ◌∙◌, sym, subst, arith, add-zero, append-nil, append_assoc, length-append}
 use Rattle.std.specs.List.{AllByRecursion}
 use Rattle.std.proofs.lemmas.List.Elements.{All-from_recursion}
 use mathlib.Core.Option.{some}
@@ -37,7 +37,7 @@ use Rattle.log_table.specs.Sound.{base_of}
 use Rattle.flusher.specs.Flushing.{sent_of}
 use Rattle.commit_pipeline.specs.declared.daemon.Daemon.{Daemon}
 use Rattle.commit_pipeline.specs.EndLines.{text_of}
-use Rattle.stop_word.specs.declared.fault.DaemonFault.TheVariants.{DiskFault, WriteFault}
+use Rattle.stop_word.specs.declared.fault.DaemonFault.TheVariants.{WriteFault}
 use Rattle.end_lines.specs.declared.tally.Tally.{Tally}
 use Rattle.commit_pipeline.specs.Later.{Later, Ran, HasReason, StopTells}
 use Rattle.commit_pipeline.specs.Telling.{counted}

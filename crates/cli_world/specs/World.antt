@@ -1,6 +1,6 @@
 -- What a command works on, and what those do to it that need no workers. `g`, `h` and `i` are what the disk, the input and the output show; `old`
 -- and `new` are the three of them before and after. The fields are the clauses of the commands.
-use Rattle.std.specs.Prelude.{◌≡◌, ◌≤◌, ◌+◌, ◌↔◌, IfSome}
+use Rattle.std.specs.Prelude.{◌≡◌, ◌↔◌, IfSome}
 use Rattle.log_disk.specs.Costs.{Costs}
 use Rattle.log_disk.specs.Disk.{Leaves}
 use Rattle.log_disk.specs.Faults.{CountsWhere}

@@ -1,12 +1,14 @@
 -- What a turn of a daemon asks for, and what it leaves. `g` is what a disk shows and `h` what a sink shows; `old` and `new` are
 -- the daemon before and after.
-use Rattle.std.specs.Prelude.{◌≡◌, ℕ, ◌+◌, ◌≤◌, List, length, Some, None}
+use Rattle.std.specs.Prelude.{◌≡◌, ℕ, ◌+◌, ◌≤◌, List, length, Some, None, ⊤}
 use Rattle.std.specs.Io.KnownBytes.{Appends}
 use Rattle.log_disk.specs.declared.disk.LogDisk.{Ghosts}
 use Rattle.log_disk.specs.declared.sink.Sink.{Ghosts as SinkGhosts}
 use Rattle.log_disk.specs.Faults.{Rose}
 use Rattle.log_table.specs.Seats.{view_of}
 use Rattle.log_table.specs.Views.{sent_to}
+use Rattle.flusher.specs.declared.flusher.Drained.{Drained}
+use Rattle.flusher.specs.declared.flusher.Drained.TheVariants.{At, Active, Behind}
 use Rattle.flusher.specs.declared.flusher.Flusher.{Flusher}
 use Rattle.flusher.specs.Flushing.{MayFlush, IsSame, FindsNothing, Sends, Loses, sent_of}
 use Rattle.daemon_turn.specs.declared.one_turn.Turn.{Turn}
@@ -21,6 +23,12 @@ use Rattle.end_lines.specs.Telling.{TellsAll, TellsFront}
 -- where the next units go
 abbrev pub durable : {D : Type 0} → {K : Type 0} → Daemon D K → ℕ
 durable d = sent_to (view_of d.flusher.seat)
+
+-- the log has not come to its end: workers are active, or units are released beyond durable
+abbrev pub GoesOn : Drained → Type 0
+GoesOn (At lsn) = ⊥
+GoesOn (Active n) = ⊤
+GoesOn (Behind exposed durable) = ⊤
 
 -- a turn may be made: nothing has befallen the daemon, it has not stopped the log, and it has counted no more end records than units
 -- were sent

@@ -1,11 +1,11 @@
 //! Turns until the log has come to its end.
-ghost use Rattle.std.specs.Prelude.{◌≡◌, IfOk, IfErr, OnOk, true, Some};
+ghost use Rattle.std.specs.Prelude.{◌≡◌, IfOk, IfErr, OnOk, IfSome, IfNone, true, Some};
 ghost use Rattle.log_table.specs.Seats.{view_of};
 ghost use Rattle.log_table.specs.Sends.{IsDrained};
 ghost use Rattle.log_table.specs.Views.{knows_all_enrolled};
 ghost use Rattle.flusher.specs.Flushing.{Asks};
 ghost use Rattle.commit_pipeline.specs.Later.{Later};
-ghost use Rattle.commit_pipeline.specs.Turning.{MayTurn, durable};
+ghost use Rattle.commit_pipeline.specs.Turning.{GoesOn, MayTurn, durable};
 
 use crate::daemon::Daemon;
 use daemon_turn::Turn;
@@ -31,12 +31,28 @@ impl<'a, D: LogDisk, K: Sink> Daemon<'a, D, K> {
         let backoff = IdleBackoff::new();
         for _ in rt.forever() {
             let turn = self.turn()?;
-            if let Drained::At(lsn) = self.ask() {
+            if let Some(lsn) = self.end() {
                 return Ok(lsn);
             }
             rest_behind(turn, &backoff, rt);
         }
         unreachable!()
+    }
+
+    /// The end of the log, exactly where it has come to that.
+    fn end(&mut self) -> Option<Lsn>
+        requires ready { MayTurn D.LogDisk self.old }
+        requires told { knows_all_enrolled (view_of self.old.flusher.seat).standing ≡ true }
+        ensures at { IfSome result (λ lsn. Asks self.old.flusher self.new.flusher (Drained.At lsn)) }
+        ensures none { IfNone result ((drained : Drained) × GoesOn drained × Asks self.old.flusher self.new.flusher drained) }
+        ensures ready { MayTurn D.LogDisk self.new }
+        ensures later { Later D.LogDisk K.Sink self.old self.new }
+    {
+        match self.ask() {
+            Drained::At(lsn) => Some(lsn),
+            Drained::Active(_) => None,
+            Drained::Behind { .. } => None,
+        }
     }
 
     /// Whether the log has come to its end.

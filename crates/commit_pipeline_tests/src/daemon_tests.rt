@@ -244,7 +244,7 @@ fn faults_are_told_by_the_stop_word(rt: HostRuntime) -> Result<(), Fail> {
 }
 
 /// What the one turn answers that tells of three transfers, and what the daemon has counted then.
-fn three_in_a_turn<R: Wait + Abort>(
+fn three_in_a_turn<R: Wait + Clock + Abort>(
     rt: &R,
     alloc: Global,
     sink: &mut MemorySink,

@@ -1,5 +1,5 @@
 //! A transfer takes its accounts.
-ghost use Rattle.std.specs.Prelude.{◌≡◌, ◌≤◌, ◌<◌, [], All, IfOk, IfErr, OnErr, length};
+ghost use Rattle.std.specs.Prelude.{◌≡◌, ◌≤◌, ◌<◌, [], All, IfOk, IfErr, OnOk, OnErr, length};
 ghost use Rattle.std.specs.List.Sorted.{IsStrictlyIncreasing};
 ghost use Rattle.log_record.specs.declared.limits.TheConstants.{MOST_BALANCE};
 ghost use Rattle.log_table.specs.Books.{taking};
@@ -20,7 +20,8 @@ use std::sync::Wait;
 use txn_jobs::{Cause, MOST_PARTIES};
 use txn_parts::{Holding, Relief, pause};
 
-/// Takes the accounts, which ascend, one after another, each once no other worker holds it. After an Err none is held.
+/// Takes the accounts, which ascend, one after another, each once no other worker holds it. After an Err none is held. It is
+/// asked only where the log had not stopped when that was seen last, and so it leaves it.
 pub fn take_all<R: Wait, Q: Relief, G: Gate>(
     rt: &R,
     table: &LogTable,
@@ -32,6 +33,7 @@ pub fn take_all<R: Wait, Q: Relief, G: Gate>(
     requires seat { IsOf table.now seat.old }
     requires ready { IsReady (view_of seat.old) }
     requires begins { HasBegunNothing (view_of seat.old) }
+    requires runs { (view_of seat.old).seen.stop ≡ 0 }
     requires none_held { (view_of seat.old).books.held ≡ [] }
     requires rising { IsStrictlyIncreasing accounts.now }
     requires known { All (λ account. account < table.now.accounts) accounts.now }
@@ -40,6 +42,7 @@ pub fn take_all<R: Wait, Q: Relief, G: Gate>(
     ensures taken { IfOk result (λ holdings. TakesAll accounts.now holdings.items seat.old seat.new) }
     ensures kept { OnErr result (KeepsBooks seat.old seat.new) }
     ensures given { OnErr result (KeepsGiven (view_of seat.old) (view_of seat.new)) }
+    ensures runs { OnOk result ((view_of seat.new).seen.stop ≡ 0) }
     ensures stopped { IfErr result (λ cause. StopsFor cause [] (view_of seat.new)) }
     ensures relief { Q.ready relief.new }
     ensures later { Q.later relief.old relief.new }
@@ -72,12 +75,14 @@ fn take_one<R: Wait, Q: Relief>(
     requires ready { IsReady (view_of seat.old) }
     requires begins { HasBegunNothing (view_of seat.old) }
     requires ascends { Ascends account (view_of seat.old).books }
+    requires runs { (view_of seat.old).seen.stop ≡ 0 }
     requires known { account < table.now.accounts }
     requires relief { Q.ready relief.old }
     ensures account { IfOk result (λ taken. taken.account ≡ account) }
     ensures fits { IfOk result (λ taken. taken.balance ≤ MOST_BALANCE) }
     ensures taken { IfOk result (λ taken. HasEntries seat.old seat.new (view_of seat.old).entries (taking (held_of taken) (view_of seat.old).books)) }
     ensures kept { OnErr result (HasEntries seat.old seat.new (view_of seat.old).entries (view_of seat.old).books) }
+    ensures runs { OnOk result ((view_of seat.new).seen.stop ≡ 0) }
     ensures stopped { IfErr result (λ cause. StopsFor cause [] (view_of seat.new)) }
     ensures relief { Q.ready relief.new }
     ensures later { Q.later relief.old relief.new }

@@ -38,6 +38,7 @@ pub fn insert_transfer<R: Wait, Q: Relief, G: Gate>(
     requires job { HoldsJob table.now.accounts number job.now holdings.old.items (view_of seat.old).books }
     requires unchanged { All IsUnchanged holdings.old.items }
     requires begins { (view_of seat.old).books.placed ≡ [] }
+    requires runs { (view_of seat.old).seen.stop ≡ 0 }
     requires relief { Q.ready relief.old }
     ensures ended { IfOk result (λ ended. EndsTransfer number job.now ended holdings.new.items seat.old seat.new) }
     ensures added { OnErr result (HasAdded seat.old seat.new) }

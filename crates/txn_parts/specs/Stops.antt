@@ -1,5 +1,5 @@
 -- Why a worker gives up.
-use Rattle.std.specs.Prelude.{◌≡◌, ◌≢◌, ◌+◌, ◌<◌, List, [], ◌∷◌, Contains}
+use Rattle.std.specs.Prelude.{◌≡◌, ◌≢◌, ◌+◌, ◌<◌, List, [], ◌∷◌, Contains, ⊤}
 use Rattle.lsn_space.specs.declared.lsn.TheConstants.{LAST}
 use Rattle.log_record.specs.declared.rec.Rec.{Rec}
 use Rattle.log_record.specs.LogList.{size_of}
@@ -13,6 +13,11 @@ use Rattle.txn_jobs.specs.declared.cause.Cause.TheVariants.{Stop, LogEnd}
 abbrev pub IsLogEnd : Refused → Cause → Type 0
 IsLogEnd refused (Stop word) = ⊥
 IsLogEnd refused (LogEnd tail total) = refused ≡ refusal.LogEnd tail total
+
+-- there is no room in the ring, but in the log
+abbrev pub IsRingFull : Refused → Type 0
+IsRingFull (refusal.RingFull tail durable total) = ⊤
+IsRingFull (refusal.LogEnd tail total) = ⊥
 
 -- The log stopped; or the next of the records that are left doesn't fit in the log behind the tail that the seat saw last.
 abbrev pub StopsFor : Cause → List Rec → View → Type 0

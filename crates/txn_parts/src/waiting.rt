@@ -1,8 +1,8 @@
 //! A worker waits: between two attempts it looks whether the log has stopped, and rests.
-ghost use Rattle.std.specs.Prelude.{◌≡◌, ◌≤◌, [], true, IfOk, IfErr, IfSome, IfNone, OnErr};
+ghost use Rattle.std.specs.Prelude.{◌≡◌, ◌<◌, ◌≤◌, [], true, false, IfOk, IfErr, IfSome, IfNone, OnOk, OnErr};
 ghost use Rattle.log_table.specs.Seats.{IsOf, view_of};
 ghost use Rattle.ring_buffer.specs.Calls.{IsReady, HasEntries};
-ghost use Rattle.txn_parts.specs.Stops.{StopsFor, IsLogEnd};
+ghost use Rattle.txn_parts.specs.Stops.{StopsFor, IsLogEnd, IsRingFull};
 
 use crate::relief::Relief;
 use log_table::{LogTable, Seat};
@@ -11,12 +11,13 @@ use ring_buffer::Refused;
 use std::sync::Wait;
 use txn_jobs::Cause;
 
-/// What a worker does between two attempts. Err: the log has stopped.
+/// What a worker does between two attempts. Ok: the log had not stopped. Err: it has.
 pub fn pause<Q: Relief>(table: &LogTable, seat: &mut Seat, relief: &mut Q) -> Result<(), Cause>
     requires seat { IsOf table.now seat.old }
     requires ready { IsReady (view_of seat.old) }
     requires relief { Q.ready relief.old }
     ensures kept { HasEntries seat.old seat.new (view_of seat.old).entries (view_of seat.old).books }
+    ensures runs { OnOk result ((view_of seat.new).seen.stop ≡ 0) }
     ensures stopped { IfErr result (λ cause. StopsFor cause [] (view_of seat.new)) }
     ensures relief { Q.ready relief.new }
     ensures later { Q.later relief.old relief.new }
@@ -58,25 +59,34 @@ pub fn see_durable<R: Wait, Q: Relief>(
     unreachable!()
 }
 
-/// The durable LSN as the worker sees it now. None: the worker is to wait, and that is below the end.
+/// The durable LSN as the worker sees it now. None: exactly where the worker is to wait, and that is below the end.
 fn look_at_durable(table: &LogTable, seat: &mut Seat, end: Lsn, wait: bool) -> Option<Lsn>
     requires seat { IsOf table.now seat.old }
     requires ready { IsReady (view_of seat.old) }
     ensures kept { HasEntries seat.old seat.new (view_of seat.old).entries (view_of seat.old).books }
     ensures seen { IfSome result (λ seen. seen ≡ (view_of seat.new).seen.durable) }
     ensures waited { IfSome result (λ seen. wait ≡ true → end ≤ seen) }
-    ensures waits { IfNone result (wait ≡ true) }
+    ensures waits { IfNone result ((wait ≡ true) × ((view_of seat.new).seen.durable < end)) }
 {
     let seen = table.load_durable(seat);
-    if !wait || end <= seen {
+    if is_seen(end, seen, wait) {
         return Some(seen);
     }
     None
 }
 
-/// Whether there may be room once more is on the disk. Err: there is no use in another attempt.
+/// Whether the worker has seen what it is to see: exactly where it isn't to wait, or the end is durable.
+fn is_seen(end: Lsn, seen: Lsn, wait: bool) -> bool
+    ensures seen { result ≡ true → wait ≡ true → end ≤ seen }
+    ensures waits { result ≡ false → (wait ≡ true) × (seen < end) }
+{
+    !wait || end <= seen
+}
+
+/// Whether there may be room once more is on the disk: exactly where the ring is full. Err: there is no use in another attempt.
 pub fn may_come(refused: Refused) -> Result<(), Cause>
-    ensures { IfErr result (IsLogEnd refused) }
+    ensures comes { OnOk result (IsRingFull refused) }
+    ensures ends { IfErr result (IsLogEnd refused) }
 {
     match refused {
         Refused::LogEnd { tail, total } => Err(Cause::LogEnd { tail, total }),

@@ -1,5 +1,5 @@
 //! One transfer, from its first account to its last.
-ghost use Rattle.std.specs.Prelude.{◌≡◌, ◌≤◌, [], Bool, true, IfOk, IfErr, OnErr};
+ghost use Rattle.std.specs.Prelude.{◌≡◌, ◌≤◌, [], Bool, true, IfOk, IfErr, OnOk, OnErr};
 ghost use Rattle.log_table.specs.Books.{taking_job};
 ghost use Rattle.log_table.specs.May.{MayTakeJob};
 ghost use Rattle.log_table.specs.Seats.{IsOf, view_of};
@@ -63,6 +63,7 @@ fn take_transfer<R: Wait, Q: Relief, G: Gate>(
     requires may { MayTakeJob table.now.accounts number job.now (view_of seat.old) }
     requires relief { Q.ready relief.old }
     ensures taken { IfOk result (λ holdings. TakesTransfer table.now.accounts number job.now holdings.items seat.old seat.new) }
+    ensures runs { OnOk result ((view_of seat.new).seen.stop ≡ 0) }
     ensures let_go { OnErr result (LetsGo seat.old seat.new) }
     ensures cut { IfErr result (λ cause. (wait : Bool) → HasCut number job.now wait cause (view_of seat.old) (view_of seat.new)) }
     ensures relief { Q.ready relief.new }
@@ -86,6 +87,7 @@ fn begin_job<G: Gate>(
     requires ready { IsReady (view_of seat.old) }
     requires may { MayTakeJob table.now.accounts number job.now (view_of seat.old) }
     ensures taken { HasEntries seat.old seat.new (view_of seat.old).entries (taking_job (record { number = number; job = job.now }) (view_of seat.old).books) }
+    ensures runs { OnOk result ((view_of seat.new).seen.stop ≡ 0) }
     ensures cut { IfErr result (λ cause. (wait : Bool) → HasCut number job.now wait cause (view_of seat.old) (view_of seat.new)) }
 {
     let taken = take_as_job(table, seat, number, job);
@@ -99,6 +101,7 @@ fn take_as_job(table: &LogTable, seat: &mut Seat, number: u32, job: &Job) -> Res
     requires ready { IsReady (view_of seat.old) }
     requires may { MayTakeJob table.now.accounts number job.now (view_of seat.old) }
     ensures taken { HasEntries seat.old seat.new (view_of seat.old).entries (taking_job (record { number = number; job = job.now }) (view_of seat.old).books) }
+    ensures runs { OnOk result ((view_of seat.new).seen.stop ≡ 0) }
     ensures cut { IfErr result (λ cause. (wait : Bool) → HasCut number job.now wait cause (view_of seat.old) (view_of seat.new)) }
 {
     let word = table.take_job(seat, number, job);
@@ -120,6 +123,7 @@ fn make_transfer<R: Wait, Q: Relief, G: Gate>(
     requires seat { IsOf table.now seat.old }
     requires ready { IsReady (view_of seat.old) }
     requires may { MayMakeTransfer table.now.accounts number job.now holdings.items (view_of seat.old).books }
+    requires runs { (view_of seat.old).seen.stop ≡ 0 }
     requires relief { Q.ready relief.old }
     ensures let_go { LetsGo seat.old seat.new }
     ensures run { IfOk result (λ row. HasRunTaken number job.now wait row (view_of seat.old) (view_of seat.new)) }

@@ -2,7 +2,6 @@ use Rattle.std.proofs.Common.{◌≡◌, ◌∙◌, ap, sym, subst}
 use Rattle.log_table.specs.declared.view.Books.{Books}
 use Rattle.log_table.specs.declared.view.View.{View}
 use Rattle.log_table.specs.Seats.{view_of}
-use Rattle.log_table.specs.CrewViews.{retired}
 use Rattle.txn_runner.specs.Working.{taken_in}
 use Rattle.cli_threads.specs.Waiting.{HaveWaited, made_of}
 use Rattle.cli_threads.proofs.WaitedLemmas.{HaveWaited-worked}

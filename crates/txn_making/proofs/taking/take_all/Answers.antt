@@ -40,4 +40,5 @@ accounts-preserved g c =
           refl c.in-Ok.ensures.taken,
       c.in-Ok.ensures.relief,
       g.met.Q.Relief.later_trans _ _ _ c.accounts.invariant.2 c.in-Ok.ensures.later,
+      c.in-Ok.ensures.runs,
     )

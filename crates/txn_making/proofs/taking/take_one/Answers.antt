@@ -1,4 +1,4 @@
-use Rattle.std.proofs.Common.{subst, sym}
+use Rattle.std.proofs.Common.{◌∙◌, ap, subst, sym}
 use Rattle.std.proofs.lemmas.Result.{err_from_is_err_and}
 use Rattle.log_table.specs.May.{Ascends}
 use Rattle.txn_making.proofs.Trying.{stays, taken-fits, takes-one, passes-one}
@@ -13,11 +13,15 @@ returns-in-Ok-clause-fits g c = taken-fits _ _ _ _ c.in-Ok.ensures.taken
 pub returns-in-Ok-clause-taken : goal.returns-in-Ok-clause-taken
 returns-in-Ok-clause-taken g c = takes-one _ _ _ _ c.loop.invariant.0 _ c.in-Ok.ensures.taken
 
+pub returns-in-Ok-clause-runs : goal.returns-in-Ok-clause-runs
+returns-in-Ok-clause-runs g c = ap (λ m. m.0.seen.stop) c.in-Ok.ensures.taken.becomes.me ∙ c.loop.invariant.3
+
 pub loop-preserved : goal.loop-preserved
 loop-preserved g c = let i = c.loop.invariant in (
   stays _ _ _ _ _ (passes-one _ _ _ _ i.0 _ c.in_default.ensures.held) c.in_ok-pause.ensures.kept,
   c.in_ok-pause.ensures.relief,
   g.met.Q.Relief.later_trans _ _ _ i.2 c.in_ok-pause.ensures.later,
+  c.in_ok-pause.ensures.runs,
 )
 
 pub returns-in_err-pause-clause-kept : goal.returns-in_err-pause-clause-kept

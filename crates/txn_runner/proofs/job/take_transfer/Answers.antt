@@ -1,4 +1,4 @@
-use Rattle.std.proofs.Common.{◌<◌, All, sym, subst}
+use Rattle.std.proofs.Common.{rules, ◌<◌, All, sym, subst}
 use Rattle.std.proofs.lemmas.Result.{IfOk-weaker}
 use Rattle.txn_making.specs.Holdings.{TakesAll}
 use Rattle.txn_runner.specs.Stages.{TakesTransfer}
@@ -10,6 +10,9 @@ pub take_all-requires-clause-known : goal.take_all-requires-clause-known
 take_all-requires-clause-known g c = subst (All (λ account. account < c.args.table.now.accounts)) (sym c.as_slice.ensures.value)
     (accounts-known _ _ _ c.requires.may.allowed.job.legs.each c.accounts_of-accounts.ensures.only)
 
+pub take_all-requires-clause-runs : goal.take_all-requires-clause-runs
+take_all-requires-clause-runs g c = search rules steps 300000
+
 pub returns-clause-taken : goal.returns-clause-taken
 returns-clause-taken g c =
     let list = c.accounts_of-accounts.ensures in
@@ -18,6 +21,9 @@ returns-clause-taken g c =
     (λ holdings takes. takes-transfer _ _ _ _ _ _ _ _ _ c.as_slice.ensures.value list.rising list.only c.requires.may.allowed list.all
     c.begin_job.ensures.taken takes)
     c.take_all.ensures.taken
+
+pub returns-clause-runs : goal.returns-clause-runs
+returns-clause-runs g c = c.take_all.ensures.runs
 
 pub returns-clause-let_go : goal.returns-clause-let_go
 returns-clause-let_go g c = lets-go-taken _ _ _ _ c.requires.may.none_held c.begin_job.ensures.taken c.take_all.result _
