@@ -1,11 +1,13 @@
 //! A log of generated accounts, and generated transfers over it.
 ghost use Rattle.std.specs.Prelude.{◌≡◌, ◌≤◌, ◌+◌, ◌↔◌, OnOk, IfOk, IfErr, IsErrOf};
 ghost use Rattle.command_line.specs.Ranges.{AreInRange};
+ghost use Rattle.log_disk.specs.Attaching.{existing_or_made};
 ghost use Rattle.log_disk.specs.Faults.{CountsWhere};
 ghost use Rattle.log_record.specs.LogList.{units_of};
 ghost use Rattle.log_table.specs.Seats.{key_of};
 ghost use Rattle.segment_file.specs.File.{BeginsOpen};
 ghost use Rattle.lsn_space.specs.declared.numerals.TheConstants.{MOST_GENERATED};
+ghost use Rattle.cli_shared.specs.Attached.{EndsAttached, LeavesAttached};
 ghost use Rattle.cli_shared.specs.Creation.{TellsWhether};
 ghost use Rattle.cli_demo.specs.Demo.{AnswersDemo, IsBeforeDemo, IsOfDemo, IsPreparedDemo, IsReadyDemo, TellsSummary};
 ghost use Rattle.cli_demo.specs.Finished.{HasFinished};
@@ -48,6 +50,8 @@ pub fn demo_command<R: Threads + Wait + Clock + Sync, D: LogDisk, K: Sink, G: Ga
     ensures text { TellsSummary transfers seed (K.held_bytes out.old) (K.held_bytes out.new) result }
     ensures range { IsOfDemo result }
     ensures honest { D.honest disk.old ↔ D.honest disk.new }
+    ensures attached { D.honest disk.old
+        → LeavesAttached (existing_or_made log.now) (D.attached disk.old) (D.attached disk.new) result }
     ensures exists { D.honest disk.old → TellsWhether (BeginsOpen (D.reads disk.old)) result }
     ensures write { CountsWhere (result ≡ Detail.Write) (K.faults out.old) (K.faults out.new) }
     ensures disk { CountsWhere (result ≡ Detail.Disk) (D.faults disk.old) (D.faults disk.new) }
@@ -96,6 +100,8 @@ fn make_ready<R, D: LogDisk>(
     ensures exists { D.honest disk.old → IfErr result (TellsWhether (BeginsOpen (D.reads disk.old))) }
     ensures range { IfErr result IsBeforeDemo }
     ensures honest { D.honest disk.old ↔ D.honest disk.new }
+    ensures attached { D.honest disk.old
+        → EndsAttached (existing_or_made log.now) (D.attached disk.old) (D.attached disk.new) result }
     ensures disk { CountsWhere (IsErrOf result Detail.Disk) (D.faults disk.old) (D.faults disk.new) }
 {
     finds_none(disk, log)?;

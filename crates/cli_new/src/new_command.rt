@@ -1,10 +1,12 @@
 ghost use Rattle.std.specs.Prelude.{◌≡◌, ◌≤◌, ◌+◌, ◌↔◌, IfSome, IfOk, IfErr, OnOk, MatchResult, IsErrOf};
+ghost use Rattle.log_disk.specs.Attaching.{existing_or_made};
 ghost use Rattle.log_disk.specs.Costs.{Costs};
 ghost use Rattle.log_disk.specs.Disk.{Leaves};
 ghost use Rattle.log_disk.specs.Faults.{CountsWhere};
 ghost use Rattle.segment_file.specs.File.{BeginsOpen};
 ghost use Rattle.cli_new.specs.Answers.{AnswersNew, AreOpening, IsInputFault, IsMakingFault, IsOfNew};
 ghost use Rattle.cli_shared.specs.Answers.{StaysSilent};
+ghost use Rattle.cli_shared.specs.Attached.{EndsAttached, LeavesAttached};
 ghost use Rattle.cli_new.specs.Creation.{AllHoldNew, FollowsLog, MayBeLeft, PrecedesLog};
 ghost use Rattle.cli_shared.specs.Creation.{TellsWhether};
 
@@ -37,6 +39,8 @@ pub fn new_command<D: LogDisk, S: Source, K: Sink>(
     ensures exists { D.honest disk.old → TellsWhether (BeginsOpen (D.reads disk.old)) result }
     ensures count { D.honest disk.old → Costs D.LogDisk 7 11 disk.old disk.new }
     ensures honest { D.honest disk.old ↔ D.honest disk.new }
+    ensures attached { D.honest disk.old
+        → LeavesAttached (existing_or_made log.now) (D.attached disk.old) (D.attached disk.new) result }
     ensures read { CountsWhere (result ≡ Detail.Read) (S.faults script.old) (S.faults script.new) }
     ensures write { CountsWhere (result ≡ Detail.Write) (K.faults out.old) (K.faults out.new) }
     ensures disk { CountsWhere (result ≡ Detail.Disk) (D.faults disk.old) (D.faults disk.new) }
@@ -70,6 +74,8 @@ fn make_log<D: LogDisk, S: Source>(
         → MatchResult result (λ _. BeginsOpen (D.reads disk.old) → ⊥) (TellsWhether (BeginsOpen (D.reads disk.old))) }
     ensures count { D.honest disk.old → Costs D.LogDisk 7 11 disk.old disk.new }
     ensures honest { D.honest disk.old ↔ D.honest disk.new }
+    ensures attached { D.honest disk.old
+        → EndsAttached (existing_or_made log.now) (D.attached disk.old) (D.attached disk.new) result }
     ensures read { CountsWhere (IsErrOf result Detail.Read) (S.faults script.old) (S.faults script.new) }
     ensures disk { CountsWhere (IsErrOf result Detail.Disk) (D.faults disk.old) (D.faults disk.new) }
 {

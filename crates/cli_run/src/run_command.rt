@@ -1,11 +1,13 @@
 ghost use Rattle.std.specs.Prelude.{◌≡◌, ◌≤◌, ◌+◌, ◌↔◌, ℕ, List, All, length, IfOk, IfErr, IsErrOf};
 ghost use Rattle.command_line.specs.Ranges.{AreInRange};
+ghost use Rattle.log_disk.specs.Attaching.{existing};
 ghost use Rattle.log_disk.specs.Faults.{CountsWhere};
 ghost use Rattle.log_record.specs.declared.limits.TheConstants.{LAST_TXN};
 ghost use Rattle.log_record.specs.declared.rec.Rec.{Rec};
 ghost use Rattle.log_recovery.specs.Recovery.{Recovers};
 ghost use Rattle.log_table.specs.Seats.{key_of};
 ghost use Rattle.lock_core.specs.Transfers.{IsAllowedJob};
+ghost use Rattle.cli_shared.specs.Attached.{EndsAttached, LeavesAttached};
 ghost use Rattle.cli_run.specs.RunAnswers.{AnswersRun, IsOfRun, RunStaysSilent, outside};
 ghost use Rattle.cli_run.specs.RunReady.{IsReadyFor, IsPreparedFor, HasNoRun, IsBeforeRun};
 ghost use Rattle.cli_run.specs.RunFinished.{HasFinished};
@@ -53,6 +55,7 @@ pub fn run_command<
     ensures silent { RunStaysSilent (K.held_bytes out.old) (K.held_bytes out.new) result }
     ensures range { IsOfRun result }
     ensures honest { D.honest disk.old ↔ D.honest disk.new }
+    ensures attached { D.honest disk.old → LeavesAttached (existing log.now) (D.attached disk.old) (D.attached disk.new) result }
     ensures read { CountsWhere (result ≡ Detail.Read) (S.faults script.old) (S.faults script.new) }
     ensures write { CountsWhere (result ≡ Detail.Write) (K.faults out.old) (K.faults out.new) }
     ensures disk { CountsWhere (result ≡ Detail.Disk) (D.faults disk.old) (D.faults disk.new) }
@@ -98,6 +101,7 @@ fn make_ready<R, D: LogDisk, S: Source>(
         (HasNoRun D.LogDisk options.now.workers disk.old disk.new (S.left script.old) (S.left script.new)) }
     ensures range { IfErr result IsBeforeRun }
     ensures honest { D.honest disk.old ↔ D.honest disk.new }
+    ensures attached { D.honest disk.old → EndsAttached (existing log.now) (D.attached disk.old) (D.attached disk.new) result }
     ensures read { CountsWhere (IsErrOf result Detail.Read) (S.faults script.old) (S.faults script.new) }
     ensures disk { CountsWhere (IsErrOf result Detail.Disk) (D.faults disk.old) (D.faults disk.new) }
 {

@@ -1,3 +1,4 @@
+pub mod AttachedLemmas
 pub mod FindingLemmas
 pub mod GenesisLemmas
 pub mod OpeningLemmas

@@ -1,4 +1,5 @@
 pub mod Answers
+pub mod Attached
 pub mod Creation
 pub mod FaultText
 pub mod Opening

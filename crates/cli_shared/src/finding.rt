@@ -1,9 +1,11 @@
-ghost use Rattle.std.specs.Prelude.{◌≡◌, ◌≤◌, ◌+◌, ◌↔◌, ℕ, List, IfOk, IfErr, OnOk, IsErrOf, IsTrue};
+ghost use Rattle.std.specs.Prelude.{◌≡◌, ◌≤◌, ◌+◌, ◌↔◌, ℕ, List, IfOk, IfErr, OnOk, IsErrOf, IsTrue, MatchResult, Some};
+ghost use Rattle.log_disk.specs.Attaching.{MayAttach, existing_or_made};
 ghost use Rattle.log_disk.specs.Costs.{Costs};
 ghost use Rattle.log_disk.specs.Faults.{CountsWhere, HasCause};
 ghost use Rattle.log_disk.specs.Disk.{IsOnlyImage, Leaves};
 ghost use Rattle.segment_file.specs.File.{BeginsOpen};
 ghost use Rattle.segment_file.specs.Standing.{IsStableGate};
+ghost use Rattle.cli_shared.specs.Attached.{EndsAttached};
 ghost use Rattle.cli_shared.specs.Creation.{IsFindingFault, TellsWhether};
 
 use crate::report::Detail;
@@ -21,6 +23,8 @@ fn finds_log<D: LogDisk>(disk: &mut D, log: &Word) -> Result<bool, DiskFault>
     ensures moments { Leaves D.moment D.images_since (D.images disk.old) disk.old disk.new }
     ensures count { D.honest disk.old → Costs D.LogDisk 1 4 disk.old disk.new }
     ensures honest { D.honest disk.old ↔ D.honest disk.new }
+    ensures attached { D.honest disk.old → MatchResult result (λ _. D.attached disk.new ≡ Some (existing_or_made log.now))
+        (λ _. MayAttach (existing_or_made log.now) (D.attached disk.old) (D.attached disk.new)) }
     ensures cause { HasCause (D.faults disk.old) (D.faults disk.new) result }
 {
     disk.attach(log, true)?;
@@ -39,6 +43,8 @@ pub fn finds_none<D: LogDisk>(disk: &mut D, log: &Word) -> Result<(), Detail>
     ensures moments { Leaves D.moment D.images_since (D.images disk.old) disk.old disk.new }
     ensures count { D.honest disk.old → Costs D.LogDisk 1 4 disk.old disk.new }
     ensures honest { D.honest disk.old ↔ D.honest disk.new }
+    ensures attached { D.honest disk.old
+        → EndsAttached (existing_or_made log.now) (D.attached disk.old) (D.attached disk.new) result }
     ensures disk { CountsWhere (IsErrOf result Detail.Disk) (D.faults disk.old) (D.faults disk.new) }
 {
     match finds_log(disk, log) {

@@ -1,7 +1,9 @@
-ghost use Rattle.std.specs.Prelude.{◌≡◌, ◌≤◌, ◌+◌, ◌↔◌, List, ℕ, IfOk, IfErr, OnOk, IsErrOf};
+ghost use Rattle.std.specs.Prelude.{◌≡◌, ◌≤◌, ◌+◌, ◌↔◌, List, ℕ, IfOk, IfErr, OnOk, IsErrOf, MatchResult, Some};
+ghost use Rattle.log_disk.specs.Attaching.{MayAttach, existing};
 ghost use Rattle.log_disk.specs.Disk.{IsOnlyImage, Leaves};
 ghost use Rattle.log_disk.specs.Costs.{Costs};
 ghost use Rattle.log_disk.specs.Faults.{CountsWhere};
+ghost use Rattle.cli_shared.specs.Attached.{EndsAttached};
 ghost use Rattle.cli_shared.specs.Opening.{Opens, HasOpeningFault, MayHold, most_calls};
 
 use crate::report::{Detail, detail_of};
@@ -20,6 +22,7 @@ pub fn open_log<D: LogDisk>(alloc: Global, log: &Word, disk: &mut D) -> Result<R
     ensures moments { Leaves D.moment D.images_since (D.images disk.old) disk.old disk.new }
     ensures count { D.honest disk.old → Costs D.LogDisk 1 (most_calls D.LogDisk disk.old) disk.old disk.new }
     ensures honest { D.honest disk.old ↔ D.honest disk.new }
+    ensures attached { D.honest disk.old → EndsAttached (existing log.now) (D.attached disk.old) (D.attached disk.new) result }
     ensures disk { CountsWhere (IsErrOf result Detail.Disk) (D.faults disk.old) (D.faults disk.new) }
 {
     let bytes = match image_of(alloc, log, disk) {
@@ -42,6 +45,8 @@ fn image_of<D: LogDisk>(alloc: Global, log: &Word, disk: &mut D) -> Result<Vec<u
     ensures moments { Leaves D.moment D.images_since (D.images disk.old) disk.old disk.new }
     ensures count { D.honest disk.old → Costs D.LogDisk 1 (most_calls D.LogDisk disk.old) disk.old disk.new }
     ensures honest { D.honest disk.old ↔ D.honest disk.new }
+    ensures attached { D.honest disk.old → MatchResult result (λ _. D.attached disk.new ≡ Some (existing log.now))
+        (λ _. MayAttach (existing log.now) (D.attached disk.old) (D.attached disk.new)) }
     ensures faults { CountsWhere (IsErrOf result OpenFault.DiskFault) (D.faults disk.old) (D.faults disk.new) }
 {
     disk.attach(log, false)?;

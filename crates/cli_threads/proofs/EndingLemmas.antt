@@ -142,6 +142,11 @@ module _ {D : Type 0} {K : Type 0} (g : Ghosts D) (h : SinkGhosts K) (prepared :
   honest-ended = rw (← has.disk_old, ← has.disk_is) (same g h opened prepared.jobs has.shares (key_of prepared.table) has.first has.last
       has.view ended.closed.tail ended.closed.accounts.rows has.transferred).flusher.honest
 
+  -- and has the same file attached
+  pub attached-ended : g.attached disk_new ≡ g.attached disk
+  attached-ended = rw (← has.disk_old, ← has.disk_is) (same g h opened prepared.jobs has.shares (key_of prepared.table) has.first has.last
+      has.view ended.closed.tail ended.closed.accounts.rows has.transferred).flusher.attached
+
   module _ (fine : ended.fault ≡ None) where
     pub drained-ended : RunIsDrained g voice opened prepared.jobs list disk disk_new (h.held_bytes sink) (h.held_bytes sink_new)
         ended.closed.tail ended.closed.accounts.rows

@@ -54,11 +54,13 @@ module _ {D S K : Type 0} (g : Ghosts D) (h : SourceGhosts S) (i : SinkGhosts K)
     unchanged = λ honest precedes. refl;
     exists = λ honest. tt;
     count = λ honest. costs-none old.disk;
+    attached = λ honest. inl refl;
   }
   nothing-done old (Run log options) = record {
     answer = λ honest. record { silent = kept-text _; disk = record { images = Leaves-refl _ _ _ _; reads = refl; count = costs-looks old.disk } };
     silent = kept-text _;
     range = tt;
+    attached = λ honest. inl refl;
   }
   nothing-done old Recover = record { answer = nothing-said _; silent = kept-text _; range = tt; untouched = refl }
   nothing-done old Dump = record { answer = nothing-said _; silent = kept-text _; range = tt; untouched = refl }
@@ -68,6 +70,7 @@ module _ {D S K : Type 0} (g : Ghosts D) (h : SourceGhosts S) (i : SinkGhosts K)
     range = tt;
     exists = λ honest. tt;
     unread = refl;
+    attached = λ honest. inl refl;
   }
 
   no-faults : (old : World D S K) (detail : Detail) → (IsFault detail → ⊥) → TellsFaults g h i old old detail

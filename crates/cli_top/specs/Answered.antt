@@ -5,40 +5,44 @@ use Rattle.command_line.specs.CommandLine.{IsCommandLine, AreTaken}
 use Rattle.command_line.specs.declared.command.Command.{Command}
 use Rattle.command_line.specs.declared.command.Command.TheVariants.{New, Run, Recover, Dump, Demo}
 use Rattle.command_line.specs.declared.options.RunOptions.{RunOptions}
+use Rattle.log_disk.specs.Attaching.{existing, existing_or_made}
 use Rattle.log_disk.specs.declared.disk.LogDisk.{Ghosts}
 use Rattle.log_disk.specs.declared.source.Source.{Ghosts as SourceGhosts}
 use Rattle.log_disk.specs.declared.sink.Sink.{Ghosts as SinkGhosts}
 use Rattle.segment_file.specs.File.{BeginsOpen}
 use Rattle.cli_shared.specs.declared.report.Detail.{Detail}
 use Rattle.cli_shared.specs.declared.report.Detail.TheVariants.{NoMemory, Usage}
+use Rattle.cli_shared.specs.Attached.{LeavesAttached}
 use Rattle.cli_shared.specs.Creation.{TellsWhether}
 use Rattle.cli_run.specs.RunAnswers.{AnswersRun, IsOfRun, RunStaysSilent, outside}
 use Rattle.cli_demo.specs.Demo.{AnswersDemo, IsOfDemo, TellsSummary}
 use Rattle.cli_world.specs.World.{World, TellsFaults, DoesDump, DoesNew, DoesRecover}
 
-pub record DoesRun {D S K : Type 0} (g : Ghosts D) (h : SourceGhosts S) (i : SinkGhosts K) (options : RunOptions) (old new : World D S K)
-    (detail : Detail) : Type 0 where
+pub record DoesRun {D S K : Type 0} (g : Ghosts D) (h : SourceGhosts S) (i : SinkGhosts K) (log : List ℕ) (options : RunOptions)
+    (old new : World D S K) (detail : Detail) : Type 0 where
   pub answer : g.honest old.disk
       → AnswersRun g options.workers (outside old.disk (h.left old.script) (i.held_bytes old.out))
       (outside new.disk (h.left new.script) (i.held_bytes new.out)) detail
   pub silent : RunStaysSilent (i.held_bytes old.out) (i.held_bytes new.out) detail
   pub range : IsOfRun detail
+  pub attached : g.honest old.disk → LeavesAttached (existing log) (g.attached old.disk) (g.attached new.disk) detail
 
-pub record DoesDemo {D S K : Type 0} (g : Ghosts D) (i : SinkGhosts K) (n seed : ℕ) (options : RunOptions) (old new : World D S K)
-    (detail : Detail) : Type 0 where
+pub record DoesDemo {D S K : Type 0} (g : Ghosts D) (i : SinkGhosts K) (log : List ℕ) (n seed : ℕ) (options : RunOptions)
+    (old new : World D S K) (detail : Detail) : Type 0 where
   pub answer : g.honest old.disk → AnswersDemo g n seed options.workers old.disk new.disk detail
   pub text : TellsSummary n seed (i.held_bytes old.out) (i.held_bytes new.out) detail
   pub range : IsOfDemo detail
   pub exists : g.honest old.disk → TellsWhether (BeginsOpen (g.reads old.disk)) detail
   pub unread : new.script ≡ old.script
+  pub attached : g.honest old.disk → LeavesAttached (existing_or_made log) (g.attached old.disk) (g.attached new.disk) detail
 
 -- the command did what it promises
 abbrev pub Does : {D S K : Type 0} → Ghosts D → SourceGhosts S → SinkGhosts K → Command → World D S K → World D S K → Detail → Type 0
-Does g h i (New log) old new detail = DoesNew g h i old new detail
-Does g h i (Run log options) old new detail = DoesRun g h i options old new detail
+Does g h i (New log) old new detail = DoesNew g h i log old new detail
+Does g h i (Run log options) old new detail = DoesRun g h i log options old new detail
 Does g h i Recover old new detail = DoesRecover h i old new detail
 Does g h i Dump old new detail = DoesDump h i old new detail
-Does g h i (Demo log n seed options) old new detail = DoesDemo g i n seed options old new detail
+Does g h i (Demo log n seed options) old new detail = DoesDemo g i log n seed options old new detail
 
 -- the command did what it promises, and told of faults
 pub record Obeys {D S K : Type 0} (g : Ghosts D) (h : SourceGhosts S) (i : SinkGhosts K) (command : Command) (old new : World D S K)

@@ -2,6 +2,7 @@ ghost use Rattle.std.specs.Prelude.{◌≡◌, ◌≤◌, ◌+◌, ◌⊎◌, �
 ghost use Rattle.command_line.specs.CommandLine.{IsCommandLine, AreTaken};
 ghost use Rattle.command_line.specs.declared.command.Command.TheVariants.{New, Run, Recover, Dump, Demo};
 ghost use Rattle.command_line.specs.declared.options.RunOptions.{RunOptions};
+ghost use Rattle.log_disk.specs.Attaching.{existing, existing_or_made};
 ghost use Rattle.log_disk.specs.Costs.{Costs};
 ghost use Rattle.log_disk.specs.Disk.{Leaves};
 ghost use Rattle.log_disk.specs.Faults.{CountsWhere, Rose};
@@ -11,6 +12,7 @@ ghost use Rattle.log_recovery.specs.Recovery.{HoldsLawful, HoldsList};
 ghost use Rattle.segment_file.specs.File.{BeginsOpen};
 ghost use Rattle.txn_script.specs.Balances.{IsBalancesText};
 ghost use Rattle.cli_shared.specs.Answers.{status_of, StaysSilent};
+ghost use Rattle.cli_shared.specs.Attached.{LeavesAttached};
 ghost use Rattle.cli_reports.specs.Answers.{AnswersRecover, AnswersDump, IsOfDump, IsOfRecover};
 ghost use Rattle.cli_new.specs.Answers.{AnswersNew, IsOfNew};
 ghost use Rattle.cli_top.specs.Answered.{Answered, Obeys};
@@ -85,6 +87,8 @@ pub fn aether<R: Threads + Wait + Clock + Sync, D: LogDisk, S: Source, K: Sink, 
     ensures unchanged { AsksNew words.now → D.honest disk.old → PrecedesLog result.detail → D.reads disk.new ≡ D.reads disk.old }
     ensures exists { AsksNew words.now → D.honest disk.old → TellsWhether (BeginsOpen (D.reads disk.old)) result.detail }
     ensures count { (AsksRun words.now → ⊥) → (AsksDemo words.now → ⊥) → D.honest disk.old → Costs D.LogDisk 7 11 disk.old disk.new }
+    ensures attached_new { (log : List ℕ) → IsCommandLine words.now (New log) → D.honest disk.old
+        → LeavesAttached (existing_or_made log) (D.attached disk.old) (D.attached disk.new) result.detail }
     ensures complete { AsksNew words.now → D.honest disk.old → (BeginsOpen (D.reads disk.old) → ⊥)
         → IfSome (S.left script.old) (λ bytes. (balances : List ℕ) → IsBalancesText bytes balances
         → (Rose (S.faults script.old) (S.faults script.new) → ⊥) → (Rose (K.faults out.old) (K.faults out.new) → ⊥)
@@ -96,6 +100,8 @@ pub fn aether<R: Threads + Wait + Clock + Sync, D: LogDisk, S: Source, K: Sink, 
         → AnswersRun D.LogDisk options.workers (outside disk.old (S.left script.old) (K.held_bytes out.old))
         (outside disk.new (S.left script.new) (K.held_bytes out.new)) result.detail }
     ensures of_run { AsksRun words.now → IsOfRun result.detail }
+    ensures attached_run { (log : List ℕ) (options : RunOptions) → IsCommandLine words.now (Run log options) → D.honest disk.old
+        → LeavesAttached (existing log) (D.attached disk.old) (D.attached disk.new) result.detail }
     ensures quiet { AsksRun words.now → RunStaysSilent (K.held_bytes out.old) (K.held_bytes out.new) result.detail }
 
     ensures complete_run { AsksRun words.now → D.honest disk.old
@@ -111,6 +117,8 @@ pub fn aether<R: Threads + Wait + Clock + Sync, D: LogDisk, S: Source, K: Sink, 
         → TellsSummary n seed (K.held_bytes out.old) (K.held_bytes out.new) result.detail }
     ensures of_demo { AsksDemo words.now → IsOfDemo result.detail }
     ensures exists_demo { AsksDemo words.now → D.honest disk.old → TellsWhether (BeginsOpen (D.reads disk.old)) result.detail }
+    ensures attached_demo { (log : List ℕ) (n seed : ℕ) (options : RunOptions) → IsCommandLine words.now (Demo log n seed options)
+        → D.honest disk.old → LeavesAttached (existing_or_made log) (D.attached disk.old) (D.attached disk.new) result.detail }
     ensures unread_demo { AsksDemo words.now → script.new ≡ script.old }
     ensures complete_demo { AsksDemo words.now → D.honest disk.old → (BeginsOpen (D.reads disk.old) → ⊥)
         → (Rose (K.faults out.old) (K.faults out.new) → ⊥) → (Rose (D.faults disk.old) (D.faults disk.new) → ⊥)

@@ -16,7 +16,7 @@ use Rattle.cli_world.specs.World.{World, TellsFaults, DoesDump, DoesNew, DoesRec
 
 -- the command is one that needs no workers, and did what it promises
 abbrev pub DoesAlone : {D S K : Type 0} → Ghosts D → SourceGhosts S → SinkGhosts K → Command → World D S K → World D S K → Detail → Type 0
-DoesAlone g h i (New log) old new detail = DoesNew g h i old new detail
+DoesAlone g h i (New log) old new detail = DoesNew g h i log old new detail
 DoesAlone g h i (Run log options) old new detail = ⊥
 DoesAlone g h i Recover old new detail = DoesRecover h i old new detail
 DoesAlone g h i Dump old new detail = DoesDump h i old new detail

@@ -1,6 +1,7 @@
 -- What a command works on, and what those do to it that need no workers. `g`, `h` and `i` are what the disk, the input and the output show; `old`
 -- and `new` are the three of them before and after. The fields are the clauses of the commands.
-use Rattle.std.specs.Prelude.{◌≡◌, ◌↔◌, IfSome}
+use Rattle.std.specs.Prelude.{◌≡◌, ◌↔◌, ℕ, List, IfSome}
+use Rattle.log_disk.specs.Attaching.{existing_or_made}
 use Rattle.log_disk.specs.Costs.{Costs}
 use Rattle.log_disk.specs.Disk.{Leaves}
 use Rattle.log_disk.specs.Faults.{CountsWhere}
@@ -11,6 +12,7 @@ use Rattle.segment_file.specs.File.{BeginsOpen}
 use Rattle.cli_shared.specs.declared.report.Detail.{Detail}
 use Rattle.cli_shared.specs.declared.report.Detail.TheVariants.{Read, Write, Disk}
 use Rattle.cli_shared.specs.Answers.{StaysSilent}
+use Rattle.cli_shared.specs.Attached.{LeavesAttached}
 use Rattle.cli_shared.specs.Creation.{TellsWhether}
 use Rattle.cli_reports.specs.Answers.{AnswersRecover, AnswersDump, IsOfDump, IsOfRecover}
 use Rattle.cli_new.specs.Answers.{AnswersNew, IsOfNew}
@@ -32,7 +34,8 @@ pub record TellsFaults {D S K : Type 0} (g : Ghosts D) (h : SourceGhosts S) (i :
   pub disk : CountsWhere (detail ≡ Disk) (g.faults old.disk) (g.faults new.disk)
   pub honest : g.honest old.disk ↔ g.honest new.disk
 
-pub record DoesNew {D S K : Type 0} (g : Ghosts D) (h : SourceGhosts S) (i : SinkGhosts K) (old new : World D S K) (detail : Detail) : Type 0 where
+pub record DoesNew {D S K : Type 0} (g : Ghosts D) (h : SourceGhosts S) (i : SinkGhosts K) (log : List ℕ) (old new : World D S K)
+    (detail : Detail) : Type 0 where
   pub answer : IfSome (h.left old.script) (λ bytes.
       AnswersNew bytes (h.left new.script) (i.held_bytes old.out) (i.held_bytes new.out) detail)
   pub silent : StaysSilent (i.held_bytes old.out) (i.held_bytes new.out) detail
@@ -44,6 +47,7 @@ pub record DoesNew {D S K : Type 0} (g : Ghosts D) (h : SourceGhosts S) (i : Sin
   pub unchanged : g.honest old.disk → PrecedesLog detail → g.reads new.disk ≡ g.reads old.disk
   pub exists : g.honest old.disk → TellsWhether (BeginsOpen (g.reads old.disk)) detail
   pub count : g.honest old.disk → Costs g 7 11 old.disk new.disk
+  pub attached : g.honest old.disk → LeavesAttached (existing_or_made log) (g.attached old.disk) (g.attached new.disk) detail
 
 pub record DoesRecover {D S K : Type 0} (h : SourceGhosts S) (i : SinkGhosts K) (old new : World D S K) (detail : Detail) : Type 0 where
   pub answer : IfSome (h.left old.script) (λ bytes.

@@ -16,7 +16,7 @@ pub fn obey_new<D: LogDisk, S: Source, K: Sink>(
     script: &mut S,
     out: &mut K,
 ) -> Detail
-    ensures done { DoesNew D.LogDisk S.Source K.Sink (world disk.old script.old out.old) (world disk.new script.new out.new) result }
+    ensures done { DoesNew D.LogDisk S.Source K.Sink log.now (world disk.old script.old out.old) (world disk.new script.new out.new) result }
     ensures faults { TellsFaults D.LogDisk S.Source K.Sink (world disk.old script.old out.old) (world disk.new script.new out.new) result }
 {
     new_command(alloc, log, disk, script, out)

@@ -42,6 +42,7 @@ IsSameDaemon-trans g a b c first second = record {
     workers = second.flusher.workers ∙ first.flusher.workers;
     disk = second.flusher.disk ∙ first.flusher.disk;
     honest = (λ honest. second.flusher.honest.0 (first.flusher.honest.0 honest), λ honest. first.flusher.honest.1 (second.flusher.honest.1 honest));
+    attached = second.flusher.attached ∙ first.flusher.attached;
     later = omega (arith, first.flusher.later, second.flusher.later);
   };
   sink = second.sink ∙ first.sink;
@@ -262,6 +263,7 @@ Later-same g h a b (inl same) = subst (IsSameDaemon g a) (sym same) (record {
     workers = refl;
     disk = refl;
     honest = (λ honest. honest, λ honest. honest);
+    attached = refl;
     later = omega arith;
   };
   sink = refl;

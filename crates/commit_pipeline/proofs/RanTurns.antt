@@ -161,6 +161,7 @@ module _ {D : Type 0} {K : Type 0} (g : Ghosts D) (h : SinkGhosts K) (old new : 
         disk = ap (λ (f : Flusher D). f.disk.ghost_name) seat_alone;
         honest = subst (λ (f : Flusher D). g.honest old.flusher.disk.now ↔ g.honest f.disk.now) (sym seat_alone)
             (λ honest. honest, λ honest. honest);
+        attached = ap (λ (f : Flusher D). g.attached f.disk.now) seat_alone;
         later = omega (arith, ap (λ (f : Flusher D). g.moment f.disk.now) seat_alone);
       };
       sink = ap (λ (d : Daemon D K). d.sink.ghost_name) rest;

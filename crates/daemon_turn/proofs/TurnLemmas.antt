@@ -123,5 +123,6 @@ module _ {D : Type 0} (g : Ghosts D) (old mid new : Flusher D) (word : ℕ) (sam
         workers = ap (λ (v : View). v.standing) is ∙ same.workers;
         disk = ap (λ (f : Flusher D). f.disk.ghost_name) stops.rest ∙ same.disk;
         honest = subst (λ (f : Flusher D). g.honest old.disk.now ↔ g.honest f.disk.now) (sym stops.rest) same.honest;
+        attached = ap (λ (f : Flusher D). g.attached f.disk.now) stops.rest ∙ same.attached;
         later = omega (arith, same.later, ap (λ (f : Flusher D). g.moment f.disk.now) stops.rest);
       }

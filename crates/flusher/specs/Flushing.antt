@@ -45,13 +45,14 @@ pub record IsSameSeat (old new : Seat) : Type 0 where
   pub entries : (view_of new).entries ≡ (view_of old).entries
   pub books : (view_of new).books ≡ (view_of old).books
 
--- it is the same table and seat, with the same workers, and the same disk, whose time went on
+-- it is the same table and seat, with the same workers, and the same disk with the same file, whose time went on
 pub record IsSame {D : Type 0} (g : Ghosts D) (old new : Flusher D) : Type 0 where
   pub table : new.table ≡ old.table
   pub seat : IsSameSeat old.seat new.seat
   pub workers : (view_of new.seat).standing ≡ (view_of old.seat).standing
   pub disk : new.disk.ghost_name ≡ old.disk.ghost_name
   pub honest : g.honest old.disk.now ↔ g.honest new.disk.now
+  pub attached : g.attached new.disk.now ≡ g.attached old.disk.now
   pub later : g.moment old.disk.now ≤ g.moment new.disk.now
 
 -- each image holds the opening units, and then the units sent, which reach up to durable; it goes on at the tail

@@ -1,3 +1,4 @@
+pub mod Attaching
 pub mod Costs
 pub mod Disk
 pub mod Faults

@@ -1,4 +1,5 @@
-ghost use Rattle.std.specs.Prelude.{◌≡◌, ◌≤◌, ◌-◌, ◌↔◌, List, ℕ, length, min, take, drop, IfOk, OnOk};
+ghost use Rattle.std.specs.Prelude.{◌≡◌, ◌≤◌, ◌-◌, ◌↔◌, List, Option, ℕ, length, min, take, drop, IfOk, OnOk};
+ghost use Rattle.log_disk.specs.Attaching.{Attached, Attaches};
 ghost use Rattle.log_disk.specs.Faults.{HasCause, raised};
 ghost use Rattle.log_disk.specs.Disk.{put, IsTorn, MayBeTorn, IsOnlyImage, Elapses, Keeps, CountsOne};
 
@@ -25,6 +26,9 @@ pub trait LogDisk {
     /// What a crash at that moment or a later one might have left, within a call or between two.
     ghost images_since: { Self → ℕ → List ℕ → Type 0 };
 
+    /// The file of the last `attach` that succeeded.
+    ghost attached: { Self → Option Attached };
+
     /// How many writes and syncs have succeeded.
     ghost written_count: { Self → ℕ };
 
@@ -38,6 +42,8 @@ pub trait LogDisk {
     fn attach(&mut self, name: &Word, make: bool) -> Result<(), Failed>
         ensures keeps { Keeps honest reads images written_count self.old self.new }
         ensures honest { honest self.old ↔ honest self.new }
+        ensures attached { honest self.old
+            → Attaches (record { name = name.now; may_make = make }) (attached self.old) (attached self.new) result }
         ensures time { Elapses moment images images_since self.old self.new }
         ensures calls { honest self.old → calls self.new ≡ raised (calls self.old) }
         ensures cause { HasCause (faults self.old) (faults self.new) result };
@@ -47,6 +53,7 @@ pub trait LogDisk {
         ensures len { honest self.old → IfOk result (λ n. n ≡ length (reads self.old)) }
         ensures keeps { Keeps honest reads images written_count self.old self.new }
         ensures honest { honest self.old ↔ honest self.new }
+        ensures attached { attached self.new ≡ attached self.old }
         ensures time { Elapses moment images images_since self.old self.new }
         ensures calls { honest self.old → calls self.new ≡ raised (calls self.old) }
         ensures cause { HasCause (faults self.old) (faults self.new) result };
@@ -59,6 +66,7 @@ pub trait LogDisk {
         ensures bytes { honest self.old → IfOk result (λ n. take n buf.new ≡ take n (drop at (reads self.old))) }
         ensures keeps { Keeps honest reads images written_count self.old self.new }
         ensures honest { honest self.old ↔ honest self.new }
+        ensures attached { attached self.new ≡ attached self.old }
         ensures time { Elapses moment images images_since self.old self.new }
         ensures calls { honest self.old → calls self.new ≡ raised (calls self.old) }
         ensures cause { HasCause (faults self.old) (faults self.new) result };
@@ -72,6 +80,7 @@ pub trait LogDisk {
         ensures images { (c : List ℕ) → images self.new c → MayBeTorn at (length bytes.now) (images self.old) c }
         ensures count { honest self.old → CountsOne (written_count self.old) (written_count self.new) result }
         ensures honest { honest self.old ↔ honest self.new }
+        ensures attached { attached self.new ≡ attached self.old }
         ensures time { Elapses moment images images_since self.old self.new }
         ensures calls { honest self.old → calls self.new ≡ raised (calls self.old) }
         ensures cause { HasCause (faults self.old) (faults self.new) result };
@@ -83,6 +92,7 @@ pub trait LogDisk {
         ensures images { (c : List ℕ) → images self.new c → images self.old c }
         ensures count { honest self.old → CountsOne (written_count self.old) (written_count self.new) result }
         ensures honest { honest self.old ↔ honest self.new }
+        ensures attached { attached self.new ≡ attached self.old }
         ensures time { Elapses moment images images_since self.old self.new }
         ensures calls { honest self.old → calls self.new ≡ raised (calls self.old) }
         ensures cause { HasCause (faults self.old) (faults self.new) result };

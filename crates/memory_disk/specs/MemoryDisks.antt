@@ -1,17 +1,19 @@
 -- The disk in memory, as contracts see it, and the record that it keeps of its history.
-use Rattle.std.specs.Prelude.{◌≡◌, ◌≤◌, ◌<◌, ◌⊎◌, ℕ, ◌+◌, ◌*◌, ◌^◌, List, [], ◌∷◌, length, take, drop, Result, Contains}
+use Rattle.std.specs.Prelude.{◌≡◌, ◌≤◌, ◌<◌, ◌⊎◌, ℕ, ◌+◌, ◌*◌, ◌^◌, List, [], ◌∷◌, length, take, drop, Option, Result, Contains}
+use Rattle.log_disk.specs.Attaching.{Attached}
 use Rattle.log_disk.specs.Faults.{raised, CountsFault}
 use Rattle.memory_disk.specs.History.{Event, file_after, Images, ImagesSince}
 use Rattle.memory_disk.specs.History.Event.{Wrote, Synced}
-use Rattle.memory_disk.specs.declared.memory_disk.TheConstants.{RECORD}
+use Rattle.memory_disk.specs.declared.memory_disk.TheConstants.{LONGEST_NAME, RECORD}
 use Rattle.memory_disk.specs.declared.step.Step.{Step}
 use Rattle.memory_disk.specs.declared.step.Step.TheVariants.{Write, Sync}
 
--- the file at first, what was done to it, the room left, the numbers of the calls that fail, and the counts
+-- the file at first, what was done to it, the room left, which file is attached, the numbers of the calls that fail, and the counts
 pub record DiskState : Type 0 where
   pub start : List ℕ
   pub history : List Event
   pub room : ℕ
+  pub attached : Option Attached
   pub failing : List ℕ
   pub calls : ℕ
   pub written_count : ℕ
@@ -40,6 +42,10 @@ written_count_of d = d.written_count
 -- a call that takes so much of the room fails next: less is left, or its number is one of those that fail
 abbrev pub CallFails : DiskState → ℕ → Type 0
 CallFails d cost = (d.room < cost) ⊎ Contains d.failing (raised d.calls)
+
+-- to attach a file of this name fails next: the name is too long to be kept, or any call fails
+abbrev pub AttachFails : DiskState → List ℕ → Type 0
+AttachFails d name = (LONGEST_NAME < length name) ⊎ CallFails d 0
 
 -- a call is counted, and a fault where it failed
 pub record CountsCall {T E : Type 0} (old new : DiskState) (result : Result T E) : Type 0 where

@@ -1,4 +1,4 @@
-ghost use Rattle.std.specs.Prelude.{◌≡◌, ◌≤◌, ◌<◌, ◌+◌, ◌/◌, ◌%◌, [], take, length, vec_capacity};
+ghost use Rattle.std.specs.Prelude.{◌≡◌, ◌≤◌, ◌<◌, ◌+◌, ◌/◌, ◌%◌, [], take, length, vec_capacity, None};
 ghost use Rattle.log_disk.specs.Disk.{put, IsTorn, IsOnlyImage};
 ghost use Rattle.memory_disk.specs.History.{file_at_sync, Images, Lands};
 ghost use Rattle.memory_disk.specs.MemoryDisks.{file_of, ImagesOf, total_len, recorded};
@@ -29,8 +29,8 @@ impl Digits {
 }
 
 impl MemoryDisk {
-    /// What a crash leaves: one of the images, as a disk with nothing to lose. It goes on counting
-    /// calls, and has the room that was left.
+    /// What a crash leaves: one of the images, as a disk with nothing to lose, and no file attached. It goes
+    /// on counting calls, and has the room that was left.
     ///
     /// The digits of `pick` say of each write since the last sync, the oldest first, how many of its
     /// first bytes landed (from none to all), how many of these hold noise, and which byte that is.
@@ -42,6 +42,7 @@ impl MemoryDisk {
         ensures landed { Lands pick self.start self.history (file_of result) }
         ensures history { result.history ≡ [] }
         ensures room { result.room ≡ self.room }
+        ensures attached { result.attached ≡ None }
         ensures failing { result.failing ≡ self.failing }
         ensures calls { result.calls ≡ self.calls }
         ensures count { result.written_count ≡ self.written_count }
@@ -53,10 +54,13 @@ impl MemoryDisk {
             mut steps,
             mut log,
             room,
+            name,
+            may_make,
             failing,
             calls,
             written_count,
             faults,
+            ..
         } = self;
         replay(&mut start, &mut held, &steps, &log, pick);
         copy_over(&mut held, &start);
@@ -68,6 +72,9 @@ impl MemoryDisk {
             steps,
             log,
             room,
+            name,
+            may_make,
+            is_attached: false,
             failing,
             calls,
             written_count,

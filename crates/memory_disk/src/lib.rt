@@ -10,7 +10,7 @@ mod memory_source;
 mod numbers;
 mod step;
 
-pub use memory_disk::{MemoryDisk, RECORD};
+pub use memory_disk::{LONGEST_NAME, MemoryDisk, RECORD};
 pub use memory_sink::MemorySink;
 pub use memory_source::MemorySource;
 pub use numbers::fixed_numbers;

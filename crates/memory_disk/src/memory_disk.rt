@@ -1,8 +1,9 @@
-ghost use Rattle.std.specs.Prelude.{◌≡◌, ◌≤◌, ◌<◌, ◌+◌, ◌-◌, ◌/◌, ◌↔◌, ⊤, ℕ, List, [], ◌∷◌, min, take, drop, length, vec_capacity, if◌then◌else◌, is_ok, IsErr, IfOk, OnOk};
+ghost use Rattle.std.specs.Prelude.{◌≡◌, ◌≤◌, ◌<◌, ◌+◌, ◌-◌, ◌/◌, ◌↔◌, ⊤, ℕ, List, [], ◌∷◌, min, take, drop, length, vec_capacity, if◌then◌else◌, is_ok, IsErr, IfOk, OnOk, Some, None};
+ghost use Rattle.log_disk.specs.Attaching.{Attaches};
 ghost use Rattle.log_disk.specs.Disk.{put, IsTorn, MayBeTorn, IsOnlyImage, Elapses, Keeps, CountsOne};
 ghost use Rattle.log_disk.specs.Faults.{HasCause, raised};
 ghost use Rattle.memory_disk.specs.History.Event.{Wrote, Synced};
-ghost use Rattle.memory_disk.specs.MemoryDisks.{file_of, ImagesOf, ImagesSinceOf, moment_of, written_count_of, CallFails, CountsCall};
+ghost use Rattle.memory_disk.specs.MemoryDisks.{file_of, ImagesOf, ImagesSinceOf, moment_of, written_count_of, AttachFails, CallFails, CountsCall};
 
 use crate::contents::{copy_from, place};
 use crate::step::Step;
@@ -14,6 +15,9 @@ use std::marker::Model;
 /// What the record of a write or of a sync takes of the room, beside the bytes.
 pub const RECORD: usize = 16;
 
+/// How many bytes of a name are kept. To attach a file with a longer one is a fault, as on a disk whose names have an end.
+pub const LONGEST_NAME: usize = 255;
+
 /// A disk in memory, which keeps what was done to it, so that `crash` can leave one of its images: not each of
 /// them, but one for each number.
 #[derive(Drop)]
@@ -23,6 +27,9 @@ pub struct MemoryDisk {
     pub(crate) steps: Vec<Step>,
     pub(crate) log: Vec<u8>,
     pub(crate) room: usize,
+    pub(crate) name: Vec<u8>,
+    pub(crate) may_make: bool,
+    pub(crate) is_attached: bool,
     pub(crate) failing: Vec<u64>,
     pub(crate) calls: u64,
     pub(crate) written_count: u64,
@@ -30,9 +37,9 @@ pub struct MemoryDisk {
 }
 
 impl Model for MemoryDisk {
-    ghost use Rattle.std.specs.Prelude.{◌≤◌, ◌+◌, ◌*◌, [], length, vec_capacity};
+    ghost use Rattle.std.specs.Prelude.{◌≤◌, ◌+◌, ◌*◌, [], length, vec_capacity, if◌then◌else◌, Some, None};
     ghost use Rattle.memory_disk.specs.MemoryDisks.{DiskState, IsRecord, recorded};
-    ghost use Rattle.memory_disk.specs.declared.memory_disk.TheConstants.{RECORD};
+    ghost use Rattle.memory_disk.specs.declared.memory_disk.TheConstants.{LONGEST_NAME, RECORD};
 
     ghost Value = { DiskState };
 
@@ -40,6 +47,7 @@ impl Model for MemoryDisk {
       start = d.start.items;
       history = recorded d.steps.items d.log.items [];
       room = d.room;
+      attached = if d.is_attached then Some (record { name = d.name.items; may_make = d.may_make }) else None;
       failing = d.failing.items;
       calls = d.calls;
       written_count = d.written_count;
@@ -50,7 +58,8 @@ impl Model for MemoryDisk {
         × (length d.start.items + length d.log.items + d.room ≤ vec_capacity d.start)
         × (length d.start.items + length d.log.items + d.room ≤ vec_capacity d.held)
         × (length d.log.items + d.room ≤ vec_capacity d.log)
-        × (RECORD * length d.steps.items + d.room ≤ RECORD * vec_capacity d.steps) };
+        × (RECORD * length d.steps.items + d.room ≤ RECORD * vec_capacity d.steps)
+        × (LONGEST_NAME ≤ vec_capacity d.name) };
 }
 
 impl MemoryDisk {
@@ -67,6 +76,7 @@ impl MemoryDisk {
         ensures start { IfOk result (λ disk. disk.start ≡ bytes.now) }
         ensures history { IfOk result (λ disk. disk.history ≡ []) }
         ensures room { IfOk result (λ disk. disk.room ≡ room) }
+        ensures attached { IfOk result (λ disk. disk.attached ≡ None) }
         ensures failing { IfOk result (λ disk. disk.failing ≡ failing.now) }
         ensures calls { IfOk result (λ disk. disk.calls ≡ 0) }
         ensures written { IfOk result (λ disk. disk.written_count ≡ 0) }
@@ -81,6 +91,7 @@ impl MemoryDisk {
         held.extend_from_slice(bytes).unwrap();
         let steps = Vec::with_capacity(alloc, room / RECORD + 1).map_err(|_| NoMemory)?;
         let log = Vec::with_capacity(alloc, room).map_err(|_| NoMemory)?;
+        let name = Vec::with_capacity(alloc, LONGEST_NAME).map_err(|_| NoMemory)?;
         let failing = Vec::from_slice(alloc, failing).map_err(|_| NoMemory)?;
         Ok(MemoryDisk {
             start,
@@ -88,6 +99,9 @@ impl MemoryDisk {
             steps,
             log,
             room,
+            name,
+            may_make: false,
+            is_attached: false,
             failing,
             calls: 0,
             written_count: 0,
@@ -100,6 +114,16 @@ impl MemoryDisk {
         ensures { result.now ≡ file_of self.now }
     {
         self.held.as_slice()
+    }
+
+    /// Counts a call that fails.
+    fn count_fault(&mut self) -> Failed
+        ensures state { self.new ≡ record self.old { calls = raised self.old.calls; faults = raised self.old.faults } }
+        ensures later { self.old.faults ≤ self.new.faults }
+    {
+        self.calls = self.calls.saturating_add(1);
+        self.faults = self.faults.saturating_add(1);
+        Failed
     }
 
     /// Counts a call that takes so much of the room, and a fault where it fails.
@@ -134,6 +158,17 @@ impl MemoryDisk {
         self.steps.push_reserved(Step::Write { at, len });
         self.room -= RECORD + len;
         self.written_count += u64::from(succeeds);
+    }
+
+    /// Keeps which file is attached.
+    fn keep_name(&mut self, name: &[u8], make: bool)
+        requires { length name.now ≤ LONGEST_NAME }
+        ensures { self.new ≡ record self.old { attached = Some (record { name = name.now; may_make = make }) } }
+    {
+        self.name.clear();
+        self.name.extend_from_slice(name).unwrap();
+        self.may_make = make;
+        self.is_attached = true;
     }
 
     /// Keeps the first half of a write that fails, where there is room for its record.
@@ -181,6 +216,8 @@ impl LogDisk for MemoryDisk {
 
     ghost images = { ImagesOf };
 
+    ghost attached = { λ d. d.attached };
+
     ghost moment = { moment_of };
 
     ghost images_since = { ImagesSinceOf };
@@ -197,22 +234,30 @@ impl LogDisk for MemoryDisk {
 
     ghost only_now = { λ d. images-only d.start d.history };
 
-    fn attach(&mut self, _name: &Word, _make: bool) -> Result<(), Failed>
+    fn attach(&mut self, name: &Word, make: bool) -> Result<(), Failed>
         ensures keeps { Keeps (λ _. ⊤) file_of ImagesOf written_count_of self.old self.new }
+        ensures attached { Attaches (record { name = name.now; may_make = make }) self.old.attached self.new.attached result }
         ensures time { Elapses moment_of ImagesOf ImagesSinceOf self.old self.new }
         ensures cause { HasCause self.old.faults self.new.faults result }
 
-        // Beside the trait's: it fails exactly where it was told to.
-        ensures fails { IsErr result ↔ CallFails self.old 0 }
+        // Beside the trait's: it fails exactly where it was told to, or where the name is too long.
+        ensures fails { IsErr result ↔ AttachFails self.old name.now }
         ensures counts { CountsCall self.old self.new result }
         ensures room { self.new.room ≡ self.old.room }
     {
-        self.count_call(0)
+        let name = name.text().as_bytes();
+        if name.len() > LONGEST_NAME {
+            return Err(self.count_fault());
+        }
+        self.count_call(0)?;
+        self.keep_name(name, make);
+        Ok(())
     }
 
     fn len(&mut self) -> Result<u64, Failed>
         ensures len { IfOk result (λ n. n ≡ length (file_of self.old)) }
         ensures keeps { Keeps (λ _. ⊤) file_of ImagesOf written_count_of self.old self.new }
+        ensures attached { self.new.attached ≡ self.old.attached }
         ensures time { Elapses moment_of ImagesOf ImagesSinceOf self.old self.new }
         ensures cause { HasCause self.old.faults self.new.faults result }
 
@@ -230,6 +275,7 @@ impl LogDisk for MemoryDisk {
         ensures count { IfOk result (λ n. n ≡ min (length buf.old) (length (file_of self.old) - at)) }
         ensures bytes { IfOk result (λ n. take n buf.new ≡ take n (drop at (file_of self.old))) }
         ensures keeps { Keeps (λ _. ⊤) file_of ImagesOf written_count_of self.old self.new }
+        ensures attached { self.new.attached ≡ self.old.attached }
         ensures time { Elapses moment_of ImagesOf ImagesSinceOf self.old self.new }
         ensures cause { HasCause self.old.faults self.new.faults result }
 
@@ -249,6 +295,7 @@ impl LogDisk for MemoryDisk {
         ensures torn { IsTorn at (length bytes.now) (file_of self.old) (file_of self.new) }
         ensures images { (c : List ℕ) → ImagesOf self.new c → MayBeTorn at (length bytes.now) (ImagesOf self.old) c }
         ensures count { CountsOne self.old.written_count self.new.written_count result }
+        ensures attached { self.new.attached ≡ self.old.attached }
         ensures time { Elapses moment_of ImagesOf ImagesSinceOf self.old self.new }
         ensures cause { HasCause self.old.faults self.new.faults result }
 
@@ -284,6 +331,7 @@ impl LogDisk for MemoryDisk {
         ensures reads { file_of self.new ≡ file_of self.old }
         ensures images { (c : List ℕ) → ImagesOf self.new c → ImagesOf self.old c }
         ensures count { CountsOne self.old.written_count self.new.written_count result }
+        ensures attached { self.new.attached ≡ self.old.attached }
         ensures time { Elapses moment_of ImagesOf ImagesSinceOf self.old self.new }
         ensures cause { HasCause self.old.faults self.new.faults result }
 

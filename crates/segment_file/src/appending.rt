@@ -34,6 +34,7 @@ pub fn append<D: LogDisk>(disk: &mut D, tail: Tail, batch: &mut Batch) -> Result
     ensures count { D.honest disk.old → Costs D.LogDisk 4 4 disk.old disk.new }
     ensures later { D.moment disk.old ≤ D.moment disk.new }
     ensures honest { D.honest disk.old ↔ D.honest disk.new }
+    ensures attached { D.attached disk.new ≡ D.attached disk.old }
     ensures cause { HasCause (D.faults disk.old) (D.faults disk.new) result }
 {
     let after = tail.after(batch.count());
@@ -60,6 +61,7 @@ fn append_sealed<D: LogDisk>(disk: &mut D, tail: Tail, batch: &mut Batch) -> Res
     ensures count { D.honest disk.old → Costs D.LogDisk 4 4 disk.old disk.new }
     ensures later { D.moment disk.old ≤ D.moment disk.new }
     ensures honest { D.honest disk.old ↔ D.honest disk.new }
+    ensures attached { D.attached disk.new ≡ D.attached disk.old }
     ensures cause { HasCause (D.faults disk.old) (D.faults disk.new) result }
 {
     let count = batch.count();

@@ -31,6 +31,7 @@ pub fn create<D: LogDisk>(disk: &mut D, batch: &mut Batch) -> Result<Tail, DiskF
     ensures count { D.honest disk.old → Costs D.LogDisk 6 7 disk.old disk.new }
     ensures later { D.moment disk.old ≤ D.moment disk.new }
     ensures honest { D.honest disk.old ↔ D.honest disk.new }
+    ensures attached { D.attached disk.new ≡ D.attached disk.old }
     ensures cause { HasCause (D.faults disk.old) (D.faults disk.new) result }
 {
     let count = batch.count();
@@ -58,6 +59,7 @@ fn create_sealed<D: LogDisk>(disk: &mut D, batch: &mut Batch) -> Result<(), Disk
     ensures count { D.honest disk.old → Costs D.LogDisk 4 4 disk.old disk.new }
     ensures later { D.moment disk.old ≤ D.moment disk.new }
     ensures honest { D.honest disk.old ↔ D.honest disk.new }
+    ensures attached { D.attached disk.new ≡ D.attached disk.old }
     ensures cause { HasCause (D.faults disk.old) (D.faults disk.new) result }
 {
     let count = batch.count();

@@ -15,6 +15,7 @@ pub fn has_open_gate<D: LogDisk>(disk: &mut D) -> Result<bool, DiskFault>
     ensures time { Elapses D.moment D.images D.images_since disk.old disk.new }
     ensures calls { D.honest disk.old → D.calls disk.new ≤ D.calls disk.old + 2 }
     ensures honest { D.honest disk.old ↔ D.honest disk.new }
+    ensures attached { D.attached disk.new ≡ D.attached disk.old }
     ensures cause { HasCause (D.faults disk.old) (D.faults disk.new) result }
 {
     let len = disk.len()?;

@@ -25,6 +25,7 @@ pub fn write_synced<D: LogDisk>(disk: &mut D, at: u64, bytes: &[u8]) -> Result<(
     ensures torn { D.honest disk.old → IsTorn at (length bytes.now) (D.reads disk.old) (D.reads disk.new) }
     ensures moments { Leaves D.moment D.images_since (MayBeTorn at (length bytes.now) (D.images disk.old)) disk.old disk.new }
     ensures honest { D.honest disk.old ↔ D.honest disk.new }
+    ensures attached { D.attached disk.new ≡ D.attached disk.old }
     ensures count { D.honest disk.old → Costs D.LogDisk 2 2 disk.old disk.new }
     ensures cause { HasCause (D.faults disk.old) (D.faults disk.new) result }
 {
@@ -43,6 +44,7 @@ pub fn write_gated<D: LogDisk>(disk: &mut D, at: u64, body: &[u8]) -> Result<(),
     ensures moments { D.honest disk.old → Leaves D.moment D.images_since (Midway at body.now (D.reads disk.old) (D.images disk.old)) disk.old disk.new }
     ensures later { D.moment disk.old ≤ D.moment disk.new }
     ensures honest { D.honest disk.old ↔ D.honest disk.new }
+    ensures attached { D.attached disk.new ≡ D.attached disk.old }
     ensures count { D.honest disk.old → Costs D.LogDisk 4 4 disk.old disk.new }
     ensures cause { HasCause (D.faults disk.old) (D.faults disk.new) result }
 {

@@ -33,6 +33,7 @@ pub fn open_image<D: LogDisk>(alloc: Global, disk: &mut D) -> Result<Vec<u8>, Op
     ensures moments { Leaves D.moment D.images_since (D.images disk.old) disk.old disk.new }
     ensures count { D.honest disk.old → Costs D.LogDisk 1 (most_reads (length (D.reads disk.old)) + 2) disk.old disk.new }
     ensures honest { D.honest disk.old ↔ D.honest disk.new }
+    ensures attached { D.attached disk.new ≡ D.attached disk.old }
     ensures faults { CountsWhere (IsErrOf result OpenFault.DiskFault) (D.faults disk.old) (D.faults disk.new) }
 {
     let len = synced_len(disk)?;
@@ -48,6 +49,7 @@ fn synced_len<D: LogDisk>(disk: &mut D) -> Result<u64, Failed>
     ensures moments { Leaves D.moment D.images_since (D.images disk.old) disk.old disk.new }
     ensures count { D.honest disk.old → Costs D.LogDisk 1 2 disk.old disk.new }
     ensures honest { D.honest disk.old ↔ D.honest disk.new }
+    ensures attached { D.attached disk.new ≡ D.attached disk.old }
     ensures cause { HasCause (D.faults disk.old) (D.faults disk.new) result }
 {
     disk.sync()?;
@@ -62,6 +64,7 @@ fn read_up_to<D: LogDisk>(alloc: Global, disk: &mut D, len: u64) -> Result<Vec<u
     ensures calls { D.honest disk.old → len ≡ length (D.reads disk.old)
         → D.calls disk.new ≤ D.calls disk.old + most_reads (length (D.reads disk.old)) }
     ensures honest { D.honest disk.old ↔ D.honest disk.new }
+    ensures attached { D.attached disk.new ≡ D.attached disk.old }
     ensures faults { CountsWhere (IsErrOf result OpenFault.DiskFault) (D.faults disk.old) (D.faults disk.new) }
 {
     let mut bytes = Vec::new(alloc);

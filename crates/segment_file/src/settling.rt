@@ -34,6 +34,7 @@ pub fn settle<D: LogDisk>(disk: &mut D, at: u64, next: Lsn) -> Result<Tail, Disk
     ensures count { D.honest disk.old → Costs D.LogDisk 2 3 disk.old disk.new }
     ensures later { D.moment disk.old ≤ D.moment disk.new }
     ensures honest { D.honest disk.old ↔ D.honest disk.new }
+    ensures attached { D.attached disk.new ≡ D.attached disk.old }
     ensures cause { HasCause (D.faults disk.old) (D.faults disk.new) result }
 {
     close_gate(disk, at)?;
@@ -56,6 +57,7 @@ pub(crate) fn close_gate<D: LogDisk>(disk: &mut D, at: u64) -> Result<(), DiskFa
     ensures count { D.honest disk.old → Costs D.LogDisk 2 3 disk.old disk.new }
     ensures later { D.moment disk.old ≤ D.moment disk.new }
     ensures honest { D.honest disk.old ↔ D.honest disk.new }
+    ensures attached { D.attached disk.new ≡ D.attached disk.old }
     ensures cause { HasCause (D.faults disk.old) (D.faults disk.new) result }
 {
     if lacks_gate(disk, at)? {
@@ -72,6 +74,7 @@ fn lacks_gate<D: LogDisk>(disk: &mut D, at: u64) -> Result<bool, DiskFault>
     ensures time { Elapses D.moment D.images D.images_since disk.old disk.new }
     ensures calls { D.honest disk.old → D.calls disk.new ≤ D.calls disk.old + 1 }
     ensures honest { D.honest disk.old ↔ D.honest disk.new }
+    ensures attached { D.attached disk.new ≡ D.attached disk.old }
     ensures cause { HasCause (D.faults disk.old) (D.faults disk.new) result }
 {
     let mut two = [0; 2];

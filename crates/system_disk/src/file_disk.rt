@@ -54,13 +54,15 @@ impl<R: Files<File = File> + Drop> FileDisk<R> {
 }
 
 impl<R: Files<File = File> + Drop> LogDisk for FileDisk<R> {
-    ghost use Rattle.std.specs.Prelude.{⊤, []};
+    ghost use Rattle.std.specs.Prelude.{⊤, [], None};
 
     ghost honest = { λ _. ⊥ };
 
     ghost reads = { λ _. [] };
 
     ghost images = { λ _ _. ⊤ };
+
+    ghost attached = { λ _. None };
 
     ghost moment = { λ _. 0 };
 

@@ -1,5 +1,7 @@
+use Rattle.std.proofs.Common.{◌∙◌}
 use Rattle.log_disk.proofs.Counting.{CountsWhere-after}
-use Rattle.cli_threads.proofs.EndingLemmas.{disk-concluded, honest-ended, write-concluded}
+use Rattle.cli_shared.proofs.AttachedLemmas.{leaves-attached}
+use Rattle.cli_threads.proofs.EndingLemmas.{attached-ended, disk-concluded, honest-ended, write-concluded}
 use Rattle.cli_demo.proofs.DemoLemmas.{answers-demo, range-concluded, tells-concluded, text-concluded}
 use Rattle.cli_demo.proofs.demo_command.demo_command.Goals as goal
 
@@ -27,6 +29,10 @@ pub returns-in-Ok-clause-honest : goal.returns-in-Ok-clause-honest
 returns-in-Ok-clause-honest g c =
     let same = honest-ended g.D.LogDisk g.K.Sink _ _ _ _ _ _ _ _ c.finish.ensures.has in
     (λ honest. same.0 (c.in-Ok.ensures.honest.0 honest), λ honest. c.in-Ok.ensures.honest.1 (same.1 honest))
+
+pub returns-in-Ok-clause-attached : goal.returns-in-Ok-clause-attached
+returns-in-Ok-clause-attached g c = λ honest. leaves-attached _ _ _ c.finish.result
+    (attached-ended g.D.LogDisk g.K.Sink _ _ _ _ _ _ _ _ c.finish.ensures.has ∙ c.in-Ok.ensures.attached honest)
 
 pub returns-in-Ok-clause-write : goal.returns-in-Ok-clause-write
 returns-in-Ok-clause-write g c =

@@ -19,6 +19,7 @@ returns-in-Err g c =
       exists = made.exists;
       count = made.count;
       honest = made.honest;
+      attached = made.attached;
       read = record { counted = λ is. made.read.counted (ap Err is); fine = λ other. made.read.fine (λ is. other cc) };
       write = record { counted = λ is. absurd (told.write (subst TellsWrite (sym is) tt)); fine = λ other. refl };
       disk = record { counted = λ is. made.disk.counted (ap Err is); fine = λ other. made.disk.fine (λ is. other cc) };
@@ -56,6 +57,9 @@ returns-in-Ok-put_accounts-clause-count g c = c.in-Ok.ensures.count
 
 pub returns-in-Ok-put_accounts-clause-honest : goal.returns-in-Ok-put_accounts-clause-honest
 returns-in-Ok-put_accounts-clause-honest g c = c.in-Ok.ensures.honest
+
+pub returns-in-Ok-put_accounts-clause-attached : goal.returns-in-Ok-put_accounts-clause-attached
+returns-in-Ok-put_accounts-clause-attached g c = c.in-Ok.ensures.attached
 
 pub returns-in-Ok-put_accounts-clause-read : goal.returns-in-Ok-put_accounts-clause-read
 returns-in-Ok-put_accounts-clause-read g c = record {
@@ -107,6 +111,9 @@ returns-clause-count g c = c.in-Ok.ensures.count
 
 pub returns-clause-honest : goal.returns-clause-honest
 returns-clause-honest g c = c.in-Ok.ensures.honest
+
+pub returns-clause-attached : goal.returns-clause-attached
+returns-clause-attached g c = c.in-Ok.ensures.attached
 
 pub returns-clause-read : goal.returns-clause-read
 returns-clause-read g c = record {

@@ -1,6 +1,7 @@
 use Rattle.std.proofs.Common.{rules, ◌≡◌, inl}
 use Rattle.std.proofs.lemmas.Result.{err_from_is_err_and}
 use Rattle.log_record.specs.LogList.{units_of}
+use Rattle.cli_shared.proofs.AttachedLemmas.{leaves-attached}
 use Rattle.cli_run.proofs.ReadyLemmas.{Reads, answers-opening, answers-transfers, held-read, leaves-settled, count-settled, settles, asked-prepared, opened-prepared}
 use Rattle.cli_run.proofs.run_command.make_ready.Goals as goal
 
@@ -20,6 +21,16 @@ returns-in_err-transfers-clause-none g c = λ honest.
     rw (failed.1, same) (λ text. answers-transfers g.D.LogDisk c.args.disk.now c.open_log.new.disk _ said.opened
     (said.reads honest, said.moments, said.count honest) honest c.args.options.now.workers _ _ text c.in_err-transfers.field-0.0
     c.in_err-transfers.ensures.err)
+
+pub returns-in_err-transfers-clause-attached : goal.returns-in_err-transfers-clause-attached
+returns-in_err-transfers-clause-attached g c = λ honest.
+    let failed = err_from_is_err_and c.from_residual-in_err-transfers.result c.from_residual-in_err-transfers.ensures.1 in
+    rw failed.1 (leaves-attached _ _ _ failed.0 (c.in_ok-opened.ensures.attached honest))
+
+pub returns-in_err-prepared-clause-attached : goal.returns-in_err-prepared-clause-attached
+returns-in_err-prepared-clause-attached g c = λ honest.
+    let failed = err_from_is_err_and c.from_residual-in_err-prepared.result c.from_residual-in_err-prepared.ensures.1 in
+    rw failed.1 (leaves-attached _ _ _ failed.0 (c.in_ok-opened.ensures.attached honest))
 
 pub returns-in-Ok-clause-ready : goal.returns-in-Ok-clause-ready
 returns-in-Ok-clause-ready g c =

@@ -40,10 +40,12 @@ returns g c =
       unchanged = λ asked. (done (New asked.0) asked.1).unchanged;
       exists = λ asked. (done (New asked.0) asked.1).exists;
       count = count-of _ _ _ words old new detail came;
+      attached_new = λ log asked. (done (New log) asked).attached;
       complete = λ asked honest closed. new-complete _ _ _ _ _ _ _ _ detail (done (New asked.0) asked.1).answer
           ((done (New asked.0) asked.1).exists honest) faults.read.counted faults.write.counted faults.disk.counted closed;
       run = λ log options asked. (done (Run log options) asked).answer;
       of_run = λ asked. (done (Run asked.0 asked.1) asked.2).range;
+      attached_run = λ log options asked. (done (Run log options) asked).attached;
       quiet = λ asked. (done (Run asked.0 asked.1) asked.2).silent;
       complete_run = λ asked honest. run-complete g.D.LogDisk _ _ _ _ _ _ _ _ _ _ detail ((done (Run asked.0 asked.1) asked.2).answer honest)
           faults.read.counted faults.write.counted faults.disk.counted;
@@ -51,6 +53,7 @@ returns g c =
       summary = λ log n seed options asked. (done (Demo log n seed options) asked).text;
       of_demo = λ asked. (done (Demo asked.0 asked.1 asked.2 asked.3) asked.4).range;
       exists_demo = λ asked. (done (Demo asked.0 asked.1 asked.2 asked.3) asked.4).exists;
+      attached_demo = λ log n seed options asked. (done (Demo log n seed options) asked).attached;
       unread_demo = λ asked. (done (Demo asked.0 asked.1 asked.2 asked.3) asked.4).unread;
       complete_demo = λ asked honest. demo-complete _ _ _ detail (done (Demo asked.0 asked.1 asked.2 asked.3) asked.4).range
           ((done (Demo asked.0 asked.1 asked.2 asked.3) asked.4).exists honest) faults.write.counted faults.disk.counted;

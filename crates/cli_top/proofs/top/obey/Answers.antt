@@ -17,7 +17,7 @@ returns-in-Run g c =
         disk = called.disk;
         honest = called.honest;
       };
-      done = record { answer = called.answer; silent = called.silent; range = called.range };
+      done = record { answer = called.answer; silent = called.silent; range = called.range; attached = called.attached };
     })
 
 pub returns-in-Demo : goal.returns-in-Demo
@@ -32,5 +32,5 @@ returns-in-Demo g c =
         disk = called.disk;
         honest = called.honest;
       };
-      done = record { answer = called.answer; text = called.text; range = called.range; exists = called.exists; unread = refl };
+      done = record { answer = called.answer; text = called.text; range = called.range; exists = called.exists; unread = refl; attached = called.attached };
     })

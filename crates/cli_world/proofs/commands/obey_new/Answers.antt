@@ -14,6 +14,7 @@ returns g c =
         unchanged = called.unchanged;
         exists = called.exists;
         count = called.count;
+        attached = called.attached;
       };
       faults = record {
         read = called.read;

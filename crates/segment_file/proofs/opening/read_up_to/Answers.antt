@@ -16,6 +16,7 @@ reading-preserved g c =
     let counted = length-take-le c.in-Ok.count c.read_at.new.buf c.in-Ok.ensures.fits in
     record {
       honest = search rules;
+      attached = c.read_at.ensures.attached ∙ was.attached;
       keeps = search rules;
       moments = search rules;
       faults = search rules;

@@ -6,6 +6,7 @@ use Rattle.segment_file.proofs.opening.read_up_to.Given as goal
 abbrev pub invariant-reading : goal.invariant-reading
 invariant-reading g l = record {
   honest : g.D.LogDisk.honest l.fn.disk ↔ g.D.LogDisk.honest l.disk;
+  attached : g.D.LogDisk.attached l.disk ≡ g.D.LogDisk.attached l.fn.disk;
   keeps : Keeps g.D.LogDisk.honest g.D.LogDisk.reads g.D.LogDisk.images g.D.LogDisk.written_count l.fn.disk l.disk;
   moments : Leaves g.D.LogDisk.moment g.D.LogDisk.images_since (g.D.LogDisk.images l.fn.disk) l.fn.disk l.disk;
   faults : g.D.LogDisk.faults l.disk ≡ g.D.LogDisk.faults l.fn.disk;

@@ -126,6 +126,7 @@ returns-then-eq-clause-same g c = record {
   workers = ap (λ m. m.0.standing) c.load_exposed-to.ensures.view.me;
   disk = refl;
   honest = (λ honest. honest, λ honest. honest);
+  attached = refl;
   later = omega arith;
 }
 
@@ -138,6 +139,7 @@ returns-in_err-self-clause-same g c =
       workers = ap (λ m. m.0.standing) seat.me;
       disk = refl;
       honest = c.append.ensures.honest;
+      attached = c.append.ensures.attached;
       later = c.append.ensures.later;
     }
 
@@ -151,5 +153,6 @@ returns-clause-same g c =
       workers = ap (λ m. m.0.standing) seat.me;
       disk = refl;
       honest = c.append.ensures.honest;
+      attached = c.append.ensures.attached;
       later = c.append.ensures.later;
     }

@@ -7,7 +7,7 @@ use Rattle.memory_disk.proofs.memory_disk.MemoryDisk.keep_sync.Goals as goal
 pub invariant_of-self : goal.invariant_of-self
 invariant_of-self c =
     let was = c.self.invariant in
-    (IsRecord-sync _ _ _ _ _ _ _ was.0 c.push_reserved.ensures.items (search rules), search rules, search rules, search rules, search rules)
+    (IsRecord-sync _ _ _ _ _ _ _ was.0 c.push_reserved.ensures.items (search rules), search rules, search rules, search rules, search rules, search rules)
 
 pub returns : goal.returns
 returns c =

@@ -9,6 +9,9 @@ returns-in-Ok-clause-images c = images-sync c.args.self.now c.keep_sync.new.self
 pub returns-in-Err-clause-settled : goal.returns-in-Err-clause-settled
 returns-in-Err-clause-settled c = tt
 
+pub returns-in-Err-clause-attached : goal.returns-in-Err-clause-attached
+returns-in-Err-clause-attached c = ap (λ (d : DiskState). d.attached) c.in-Err.ensures.state
+
 pub returns-in-Err-clause-count : goal.returns-in-Err-clause-count
 returns-in-Err-clause-count c = ap (λ (d : DiskState). d.written_count) c.in-Err.ensures.state
 

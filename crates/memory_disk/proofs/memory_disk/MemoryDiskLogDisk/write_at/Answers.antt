@@ -16,6 +16,9 @@ returns-in-Err-clause-torn c = (rw c.in-Err.ensures.state at c.keep_half.ensures
 pub returns-in-Err-clause-images : goal.returns-in-Err-clause-images
 returns-in-Err-clause-images c = (rw c.in-Err.ensures.state at c.keep_half.ensures).images
 
+pub returns-in-Err-clause-attached : goal.returns-in-Err-clause-attached
+returns-in-Err-clause-attached c = ap (λ (d : DiskState). d.attached) c.keep_half.ensures.same ∙ ap (λ (d : DiskState). d.attached) c.in-Err.ensures.state
+
 pub returns-in-Err-clause-count : goal.returns-in-Err-clause-count
 returns-in-Err-clause-count c = ap (λ (d : DiskState). d.written_count) (rw c.in-Err.ensures.state at c.keep_half.ensures).same
 
