@@ -6,13 +6,14 @@ use native.Mathlib.Decide.{ℕ_discrete}
 use Rattle.log_record.specs.declared.rec.Rec.{Rec}
 use Rattle.log_record.specs.declared.rec.Placed.{Placed}
 use Rattle.log_record.specs.declared.rec.Rec.TheVariants.{Update}
+use Rattle.txn_tables.specs.declared.txn_table.TxnTable.{TxnTable}
+use Rattle.txn_tables.specs.Values.{value_at, PutsValue}
 use Rattle.lock_core.specs.declared.update_links.TheConstants.{ENDED}
-use Rattle.lock_core.specs.declared.txn_table.TxnTable.{TxnTable}
 use Rattle.lock_core.specs.declared.update_links.UpdateLink.{UpdateLink}
 use Rattle.lock_core.specs.declared.transactions.Transactions.{Transactions}
 use Rattle.lock_core.specs.Records.{txn_of, ends, changes_of}
 use Rattle.lock_core.specs.Transactions.{recs_of, own_records_of, updates_of, has_end, changes_in}
-use Rattle.lock_core.specs.Keeping.{value_at, PutsValue, no_link, link_at, HasChain, IsOpenAt, KeepsRecords, KeepsTransactions}
+use Rattle.lock_core.specs.Keeping.{no_link, link_at, HasChain, IsOpenAt, KeepsRecords, KeepsTransactions}
 use Rattle.lock_core.proofs.OneMore.{of_transaction-same, of_transaction-other}
 use Rattle.lock_core.proofs.ChainLemmas.{chain-append, chain-push}
 

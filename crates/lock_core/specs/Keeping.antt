@@ -1,13 +1,12 @@
 -- What a judge keeps of the history that it took.
-use Rattle.std.specs.Prelude.{◌≡◌, ◌≢◌, ◌==◌, ◌<◌, ℕ, ◌+◌, if◌then◌else◌, pos, true, false, List, [], ◌∷◌, length, slice_index_or, unwrap_or, nat_eq, IsTrue, ◌↔◌}
+use Rattle.std.specs.Prelude.{◌≡◌, ◌≢◌, ◌<◌, ℕ, ◌+◌, pos, true, false, List, [], ◌∷◌, length, slice_index_or, IsTrue, ◌↔◌}
 use Rattle.std.specs.List.{AllByRecursion}
-use Rattle.std.specs.HashMap.{get}
 use Rattle.log_record.specs.declared.rec.Rec.{Rec}
 use Rattle.log_record.specs.declared.rec.Rec.TheVariants.{Update}
 use Rattle.log_record.specs.declared.rec.Placed.{Placed}
+use Rattle.txn_tables.specs.Values.{value_at}
 use Rattle.lock_core.specs.declared.update_links.TheConstants.{ENDED}
 use Rattle.lock_core.specs.declared.update.Change.{Change}
-use Rattle.lock_core.specs.declared.txn_table.TxnTable.{TxnTable}
 use Rattle.lock_core.specs.declared.update_links.UpdateLink.{UpdateLink}
 use Rattle.lock_core.specs.declared.transactions.Transactions.{Transactions}
 use Rattle.lock_core.specs.declared.ledger.Ledger.{Ledger}
@@ -15,17 +14,9 @@ use Rattle.lock_core.specs.Transactions.{own_records_of, has_end, changes_in}
 use Rattle.lock_core.specs.Tests.{IsGenesis}
 use Rattle.lock_core.specs.Judging.{IsJudged}
 
--- the number of a transaction in the table, 0 where none was put
-abbrev pub value_at : TxnTable → ℕ → ℕ
-value_at table txn = unwrap_or (get nat_eq table.scattered txn) (slice_index_or table.dense.items txn 0)
-
 -- an Update of the transaction that says this change and ends here
 abbrev pub update_at : ℕ → ℕ → Change → Placed
 update_at end txn change = record { end = end; rec = Update txn change.account change.delta change.prev }
-
--- the table after a number was put for one transaction
-abbrev pub PutsValue : TxnTable → TxnTable → ℕ → ℕ → Type 0
-PutsValue old new txn value = (other : ℕ) → value_at new other ≡ (if txn == other then value else value_at old other)
 
 -- what stands where no Update stands
 abbrev pub no_link : UpdateLink

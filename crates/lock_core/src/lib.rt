@@ -11,7 +11,6 @@ mod plain;
 mod reason;
 mod settling;
 mod transactions;
-mod txn_table;
 mod update;
 mod update_links;
 

@@ -6,12 +6,12 @@ ghost use Rattle.lock_core.specs.Records.{txn_of, ends};
 ghost use Rattle.lock_core.specs.Transactions.{own_records_of, updates_of, has_end};
 ghost use Rattle.lock_core.specs.Keeping.{update_at, link_at, IsOpenAt, KeepsTransactions};
 
-use crate::txn_table::TxnTable;
 use crate::update::{Change, MOST_UPDATES};
 use crate::update_links::{ENDED, UpdateLink, UpdateLinks};
 use arrayvec::ArrayVec;
 use lsn_space::NoMemory;
 use std::alloc::Global;
+use txn_tables::TxnTable;
 
 /// What a judge keeps of transactions: of each the place of its newest Update, 0 where it has none, or `ENDED` where it has
 /// its end record.

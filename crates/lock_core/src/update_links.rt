@@ -1,4 +1,4 @@
-ghost use Rattle.std.specs.Prelude.{◌≡◌, ◌<◌, ◌≤◌, ◌++◌, ◌∷◌, [], List, length, IfOk};
+ghost use Rattle.std.specs.Prelude.{◌≡◌, ◌<◌, ◌≤◌, ◌++◌, ◌∷◌, [], List, length, IfOk, MatchOption};
 ghost use Rattle.log_record.specs.Spelling.{IsAccount};
 ghost use Rattle.lock_core.specs.declared.update.Change.{Change};
 ghost use Rattle.lock_core.specs.declared.update.TheConstants.{MOST_UPDATES};
@@ -117,6 +117,18 @@ impl UpdateLinks {
         self.links[place as usize].unpacked()
     }
 
+    /// The place of an Update that is appended. There is one as long as it isn't what stands for an ended transaction.
+    fn next_place(&self) -> Option<u32>
+        ensures { MatchOption result (ENDED ≤ length self.now) (λ place. (place ≡ length self.now) × (place < ENDED)) }
+    {
+        let place = self.links.len();
+        if place < ENDED as usize {
+            Some(place as u32)
+        } else {
+            None
+        }
+    }
+
     /// Appends an Update, and answers its place.
     pub fn push(&mut self, link: UpdateLink) -> Result<u32, NoMemory>
         requires account { IsAccount link.change.account }
@@ -125,12 +137,11 @@ impl UpdateLinks {
         ensures place { IfOk result (λ place. place ≡ length self.old) }
         ensures fits { IfOk result (λ place. place < ENDED) }
     {
-        let place = self.links.len();
-        if place >= ENDED as usize {
+        let Some(place) = self.next_place() else {
             return Err(NoMemory);
-        }
+        };
         match self.links.push(PackedLink::of(link)) {
-            Ok(()) => Ok(place as u32),
+            Ok(()) => Ok(place),
             Err(_) => Err(NoMemory),
         }
     }

@@ -1,0 +1,9 @@
+//! A number for each transaction, however its numbers were chosen.
+#![tactic(auto)]
+
+mod entries;
+mod part;
+mod scattered;
+mod txn_table;
+
+pub use txn_table::TxnTable;
