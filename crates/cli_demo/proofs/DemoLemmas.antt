@@ -5,8 +5,10 @@ use Rattle.std.proofs.lemmas.List.{length-replicate}
 use Rattle.std.proofs.lemmas.List.Elements.{All-replicate}
 use Rattle.std.specs.Io.KnownBytes.{Appends, Keeps}
 use Rattle.log_disk.proofs.Counting.{Costs-more, Costs-then}
+use Rattle.log_disk.proofs.Lengths.{GrowsAtMostTo-more, GrowsAtMostTo-same, GrowsAtMostTo-trans}
 use Rattle.log_disk.specs.Costs.{Costs}
 use Rattle.log_disk.specs.Disk.{Leaves}
+use Rattle.log_disk.specs.Lengths.{GrowsAtMostTo}
 use Rattle.log_disk.specs.Streams.{AppendsPrefix}
 use Rattle.log_disk.specs.declared.disk.LogDisk.{Ghosts}
 use Rattle.log_disk.specs.declared.sink.Sink.{Ghosts as SinkGhosts}
@@ -26,6 +28,7 @@ use Rattle.log_table.specs.declared.table.Start.{Start}
 use Rattle.log_table.specs.Opening.{HasAccounts}
 use Rattle.log_table.specs.Seats.{key_of}
 use Rattle.segment_file.specs.File.{HoldsUnits}
+use Rattle.segment_file.specs.Lengths.{most_end}
 use Rattle.segment_file.specs.Standing.{AllStand, HoldsNoneOr, IsShut}
 use Rattle.segment_file.specs.declared.scan_result.Tail.{Tail}
 use Rattle.stop_word.specs.declared.fault.DaemonFault.TheVariants.{WriteFault}
@@ -41,7 +44,7 @@ use Rattle.cli_ending.specs.declared.conclusion.Ended.{Ended}
 use Rattle.cli_threads.specs.declared.transfers.Prepared.{Prepared}
 use Rattle.cli_shared.specs.Creation.{IsFindingFault, TellsWhether, genesis_list}
 use Rattle.command_line.specs.declared.options.RunOptions.{RunOptions}
-use Rattle.cli_demo.specs.Demo.{AnswersDemo, IsOfDemo, IsPreparedDemo, IsReadyDemo, MayPrecede, OnlyMakes, RanAllGenerated, RanGenerated, TellsSummary}
+use Rattle.cli_demo.specs.Demo.{AnswersDemo, IsOfDemo, IsPreparedDemo, IsReadyDemo, MayPrecede, OnlyMakes, RanAllGenerated, RanGenerated, TellsSummary, generated_end}
 use Rattle.cli_ending.specs.Ending.{AreWhole, Concludes, IsFirstLogEnd, NothingStopped, counted_text}
 use Rattle.cli_threads.specs.Ending.{HasEnded}
 use Rattle.cli_demo.specs.Summary.{generated_opening, generated_rows, summary_text}
@@ -114,42 +117,46 @@ holds-generated units bytes same held = genesis-holds balances few-balances each
 -- ---- the log is made
 
 module _ {D : Type 0} (g : Ghosts D) (old mid new : D) (units : List ℕ) (made : units ≡ units_of generated_opening)
-    (found : Leaves g.moment g.images_since (g.images old) old mid) (one : Costs g 1 4 old mid) where
-  pub only-makes : Leaves g.moment g.images_since (HoldsNoneOr units) mid new → Costs g 6 7 mid new → OnlyMakes g old new
-  only-makes created writes = record {
+    (found : Leaves g.moment g.images_since (g.images old) old mid) (one : Costs g 1 4 old mid) (read : g.reads mid ≡ g.reads old) where
+  pub only-makes : Leaves g.moment g.images_since (HoldsNoneOr units) mid new → Costs g 6 7 mid new → GrowsAtMostTo g (13 + 8 * length units) mid new
+      → OnlyMakes g old new
+  only-makes created writes grows = record {
     images = Leaves-trans g.moment g.images_since (λ bytes. MayPrecede (g.images old) bytes ⊎ HoldsLawful bytes generated_opening) old mid new
         (Leaves-weaken g.moment g.images_since (g.images old) (λ bytes. MayPrecede (g.images old) bytes ⊎ HoldsLawful bytes generated_opening)
         old mid (λ bytes image. inl (inl image)) found)
         (Leaves-weaken g.moment g.images_since (HoldsNoneOr units) (λ bytes. MayPrecede (g.images old) bytes ⊎ HoldsLawful bytes generated_opening)
         mid new (λ bytes. ⊎_elim (λ none. inl (inr none)) (λ held. inr (holds-generated units bytes made held))) created);
     count = Costs-then g 1 6 4 7 old mid new one writes;
+    grows = GrowsAtMostTo-trans g (generated_end + 1) old mid new (GrowsAtMostTo-same g (generated_end + 1) old mid read)
+        (GrowsAtMostTo-more g (13 + 8 * length units) (generated_end + 1) mid new (omega (arith, ap length made)) grows);
   }
 
 pub only-finds : {D : Type 0} (g : Ghosts D) (old new : D) → Leaves g.moment g.images_since (g.images old) old new
-    → Costs g 1 4 old new → OnlyMakes g old new
-only-finds g old new found one = record {
+    → Costs g 1 4 old new → g.reads new ≡ g.reads old → OnlyMakes g old new
+only-finds g old new found one read = record {
   images = Leaves-weaken g.moment g.images_since (g.images old) (λ bytes. MayPrecede (g.images old) bytes ⊎ HoldsLawful bytes generated_opening)
       old new (λ bytes image. inl (inl image)) found;
   count = Costs-more g 1 7 4 11 old new (omega arith) (omega arith) one;
+  grows = GrowsAtMostTo-same g (generated_end + 1) old new read;
 }
 
 -- no log is made, since one was found, or the disk failed
-pub fault-found : {D : Type 0} (g : Ghosts D) (n seed workers : ℕ) (old new : D) (detail : Detail) → IsFindingFault detail → OnlyLooks g old new → Costs g 1 4 old new
-    → AnswersDemo g n seed workers old new detail
-fault-found g n seed workers old new Disk is looks few = inl (only-finds g old new looks.images few)
-fault-found g n seed workers old new Exists is looks few = looks
-fault-found g n seed workers old new Fine is looks few = absurd is
-fault-found g n seed workers old new NoMemory is looks few = absurd is
-fault-found g n seed workers old new Usage is looks few = absurd is
-fault-found g n seed workers old new (Script line) is looks few = absurd is
-fault-found g n seed workers old new Read is looks few = absurd is
-fault-found g n seed workers old new Write is looks few = absurd is
-fault-found g n seed workers old new NotALog is looks few = absurd is
-fault-found g n seed workers old new (BadBatch offset) is looks few = absurd is
-fault-found g n seed workers old new (BadRec lsn) is looks few = absurd is
-fault-found g n seed workers old new (Unlawful lsn why) is looks few = absurd is
-fault-found g n seed workers old new (LogEnd tail total) is looks few = absurd is
-fault-found g n seed workers old new (TxnEnd first count) is looks few = absurd is
+pub fault-found : {D : Type 0} (g : Ghosts D) (n seed : ℕ) (options : RunOptions) (old new : D) (detail : Detail) → IsFindingFault detail → OnlyLooks g old new → Costs g 1 4 old new
+    → AnswersDemo g n seed options old new detail
+fault-found g n seed options old new Disk is looks few = inl (only-finds g old new looks.images few looks.reads)
+fault-found g n seed options old new Exists is looks few = looks
+fault-found g n seed options old new Fine is looks few = absurd is
+fault-found g n seed options old new NoMemory is looks few = absurd is
+fault-found g n seed options old new Usage is looks few = absurd is
+fault-found g n seed options old new (Script line) is looks few = absurd is
+fault-found g n seed options old new Read is looks few = absurd is
+fault-found g n seed options old new Write is looks few = absurd is
+fault-found g n seed options old new NotALog is looks few = absurd is
+fault-found g n seed options old new (BadBatch offset) is looks few = absurd is
+fault-found g n seed options old new (BadRec lsn) is looks few = absurd is
+fault-found g n seed options old new (Unlawful lsn why) is looks few = absurd is
+fault-found g n seed options old new (LogEnd tail total) is looks few = absurd is
+fault-found g n seed options old new (TxnEnd first count) is looks few = absurd is
 
 module _ {D : Type 0} (g : Ghosts D) (n seed : ℕ) (options : RunOptions) (prepared : Prepared) (is : IsPreparedDemo n seed options prepared) (disk : D) (tail : Tail)
     (units : List ℕ) (made : units ≡ units_of generated_opening) where
@@ -186,9 +193,9 @@ Appends-keeps (Some xs) (Some ys) appended = appended ∙ append-nil xs
 later-opening : (records : List Rec) → later_of generated_opening records ≡ history_from (base_state_of (history generated_opening)).end [] records
 later-opening records = ap (λ end. history_from end [] records) (end-opening ∙ sym opening-end)
 
-module _ {D : Type 0} {K : Type 0} (g : Ghosts D) (h : SinkGhosts K) (n seed workers : ℕ) (few : n ≤ 100000) (ready : ReadyRun) {wait : Bool} (entry disk disk_new : D)
-    (sink sink_mid sink_new : K) (ended : Ended) (is : IsReadyDemo g n seed workers entry disk ready)
-    (has : HasEnded g h ready.prepared generated_opening Count wait disk disk_new sink sink_mid ended) where
+module _ {D : Type 0} {K : Type 0} (g : Ghosts D) (h : SinkGhosts K) (n seed : ℕ) (options : RunOptions) (few : n ≤ 100000) (ready : ReadyRun) {wait : Bool} (entry disk disk_new : D)
+    (sink sink_mid sink_new : K) (ended : Ended) (is : IsReadyDemo g n seed options entry disk ready)
+    (has : HasEnded g h ready.prepared generated_opening ready.tail Count wait disk disk_new sink sink_mid ended) where
   abbrev jobs : Jobs
   jobs = ready.prepared.jobs
 
@@ -271,7 +278,7 @@ module _ {D : Type 0} {K : Type 0} (g : Ghosts D) (h : SinkGhosts K) (n seed wor
     made : OnlyMakes g entry disk
     made = is.made honest
 
-    ran : RanGenerated g n seed workers entry disk_new
+    ran : RanGenerated g n seed options entry disk_new
     ran = record {
       jobs = jobs;
       generated = is.generated;
@@ -286,10 +293,17 @@ module _ {D : Type 0} {K : Type 0} (g : Ghosts D) (h : SinkGhosts K) (n seed wor
             count = Costs-more g _ _ _ _ entry disk_new (omega arith) (omega arith)
                 (Costs-then g 7 (4 * length left.run.front + 4) 11 (4 * length left.run.front + 4) entry disk disk_new made.count left.count);
           };
+      grows = λ image left_image.
+          let left = (keeps-ended g h ready.prepared generated_opening Count disk disk_new sink sink_mid ended has).left honest_mid image left_image in
+          let place : ℕ = most_end generated_end (end_of left.run.front) options.ring in
+          GrowsAtMostTo-trans g place entry disk disk_new
+          (GrowsAtMostTo-more g (generated_end + 1) place entry disk (omega arith) made.grows)
+          (GrowsAtMostTo-more g (most_end ready.tail.at (end_of left.run.front) (key_of ready.prepared.table).ring) place disk disk_new
+          (omega (arith, is.place, is.ring)) left.grows);
     }
 
     -- nothing stopped the transfers
-    ran-all : NothingStopped ended → RanAllGenerated g n seed workers entry disk_new
+    ran-all : NothingStopped ended → RanAllGenerated g n seed options entry disk_new
     unfolding ran
     ran-all nothing = record {
       ran = ran;
@@ -298,8 +312,8 @@ module _ {D : Type 0} {K : Type 0} (g : Ghosts D) (h : SinkGhosts K) (n seed wor
     }
 
     pub answers-demo : (detail : Detail) → Concludes h ended (counted_text n ended) sink_mid sink_new detail
-        → AnswersDemo g n seed workers entry disk_new detail
+        → AnswersDemo g n seed options entry disk_new detail
     unfolding ran
-    answers-demo = by-conclusion h ended (counted_text n ended) sink_mid sink_new (AnswersDemo g n seed workers entry disk_new) (λ _. inr ran)
+    answers-demo = by-conclusion h ended (counted_text n ended) sink_mid sink_new (AnswersDemo g n seed options entry disk_new) (λ _. inr ran)
         (λ said. absurd (never-fails said.0)) (λ said. ran-all said.0) (λ said. ran-all said.0)
         (λ tail total said. no-log_end tail total said.0.0 said.0.1)

@@ -46,7 +46,7 @@ pub fn demo_command<R: Threads + Wait + Clock + Sync, D: LogDisk, K: Sink, G: Ga
 ) -> Detail
     requires options { AreInRange options.now }
     requires few { transfers ≤ MOST_GENERATED }
-    ensures answer { D.honest disk.old → AnswersDemo D.LogDisk transfers seed options.now.workers disk.old disk.new result }
+    ensures answer { D.honest disk.old → AnswersDemo D.LogDisk transfers seed options.now disk.old disk.new result }
     ensures text { TellsSummary transfers seed (K.held_bytes out.old) (K.held_bytes out.new) result }
     ensures range { IsOfDemo result }
     ensures honest { D.honest disk.old ↔ D.honest disk.new }
@@ -74,7 +74,7 @@ fn finish<R: Threads + Wait + Clock + Sync, D: LogDisk, K: Sink, G: Gate + Sync>
 ) -> Detail
     requires prepared { IsPrepared ready.prepared }
     requires opened { IsOpened D.LogDisk disk.old ready.tail generated_opening ready.prepared.jobs.first (key_of ready.prepared.table) }
-    ensures { HasFinished D.LogDisk K.Sink ready.prepared transfers disk.old disk.new out.old out.new result }
+    ensures { HasFinished D.LogDisk K.Sink ready.prepared ready.tail transfers disk.old disk.new out.old out.new result }
 {
     let ReadyRun { prepared, tail } = ready;
     let plan = plan_of_demo(options);
@@ -94,9 +94,9 @@ fn make_ready<R, D: LogDisk>(
 ) -> Result<ReadyRun, Detail>
     requires options { AreInRange options.now }
     requires few { transfers ≤ MOST_GENERATED }
-    ensures ready { IfOk result (IsReadyDemo D.LogDisk transfers seed options.now.workers disk.old disk.new) }
+    ensures ready { IfOk result (IsReadyDemo D.LogDisk transfers seed options.now disk.old disk.new) }
     ensures closed { D.honest disk.old → OnOk result (BeginsOpen (D.reads disk.old) → ⊥) }
-    ensures none { D.honest disk.old → IfErr result (AnswersDemo D.LogDisk transfers seed options.now.workers disk.old disk.new) }
+    ensures none { D.honest disk.old → IfErr result (AnswersDemo D.LogDisk transfers seed options.now disk.old disk.new) }
     ensures exists { D.honest disk.old → IfErr result (TellsWhether (BeginsOpen (D.reads disk.old))) }
     ensures range { IfErr result IsBeforeDemo }
     ensures honest { D.honest disk.old ↔ D.honest disk.new }

@@ -16,8 +16,8 @@ use txn_runner::{Cause, Worked};
 #[derive(Drop)]
 pub struct Ended {
     pub fault: Option<DaemonFault>,
-    pub done: u32,
-    pub refused: u32,
+    pub done: u64,
+    pub refused: u64,
     pub ends: Vec<Worked>,
     pub closed: Closed,
 }

@@ -21,8 +21,8 @@ pub fn conclude_counted<K: Sink>(ended: &Ended, transfers: u32, out: &mut K) -> 
     }
     let counts = Counts {
         transfers: transfers as u64,
-        done: ended.done as u64,
-        refused: ended.refused as u64,
+        done: ended.done,
+        refused: ended.refused,
         lsn: ended.closed.lsn(),
     };
     match put_summary(counts, ended.closed.accounts(), out) {

@@ -1,5 +1,5 @@
 -- One transfer, from the opened log to the closed table: all that is known of such a run holds of it.
-use Rattle.std.proofs.Common.{◌≡◌, ◌⊎◌, inl, inr, ◌<◌, ◌≤◌, ℕ, zero, suc, pos, negsuc, true, List, [], ◌∷◌, ◌++◌, length, Some, None, slice_get, refl, ap, ◌∙◌, sym, subst, arith, append-nil, length-append, Contains}
+use Rattle.std.proofs.Common.{◌≡◌, ◌⊎◌, inl, inr, ◌+◌, ◌*◌, ◌<◌, ◌≤◌, ℕ, zero, suc, pos, negsuc, true, List, [], ◌∷◌, ◌++◌, length, Some, None, slice_get, refl, ap, ◌∙◌, sym, subst, arith, append-nil, length-append, Contains}
 use Rattle.std.specs.List.{AllByRecursion}
 use Rattle.std.proofs.lemmas.List.Elements.{All-contains, All-from_recursion}
 use mathlib.Core.Option.{some, some-injective, some-ne-none}
@@ -316,6 +316,16 @@ module _ (d : Daemon ℕ (List ℕ)) (of : IsOf d.flusher.table.now d.flusher.se
             (holds tail_new (opening ++ units_of transfer_records) bytes (stands-later opening stand bytes is));
       })
 
+  -- the batch of the transfer takes 45 bytes, for five units
+  tails : tail_new.at ≤ tail_old.at + 13 * 5
+  tails = omega (
+    arith,
+    length-append (batch (units_of genesis_log)) [],
+    length-append (batch (units_of genesis_log)) (OPEN ∷ batch (units_of transfer_records) ++ []),
+    length-append (batch (units_of transfer_records)) [],
+    length-batch (batch (units_of transfer_records)) (units_of transfer_records) [] (sym (append-nil (batch (units_of transfer_records)))),
+  )
+
   ran : Ran (plain_disk file_at) plain_sink old new
   ran = record {
     was_fine = refl;
@@ -330,6 +340,7 @@ module _ (d : Daemon ℕ (List ℕ)) (of : IsOf d.flusher.table.now d.flusher.se
         workers = refl;
         disk = refl;
         honest = (λ honest. honest, λ honest. honest);
+        attached = refl;
         later = omega arith;
       };
       sink = refl;
@@ -351,6 +362,12 @@ module _ (d : Daemon ℕ (List ℕ)) (of : IsOf d.flusher.table.now d.flusher.se
       sink = record { counted = λ failed. absurd (none≢some WriteFault failed); fine = λ written. refl };
     };
     count = λ honest. omega arith;
+    tail = tails;
+    grows = λ honest. omega (
+      arith,
+      length-append (written (units_of genesis_log ∷ units_of transfer_records ∷ [])) (CLOSED ∷ []),
+      tails,
+    );
   }
 
   pub payment-made : HasMadePayment

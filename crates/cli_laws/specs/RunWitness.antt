@@ -40,6 +40,7 @@ plain_disk file = record {
   images_since = λ now from bytes. (moment : ℕ) × (from ≤ moment) × (moment ≤ now) × (bytes ≡ file moment);
   written_count = λ moment. 4 * moment;
   calls = λ moment. 4 * moment;
+  attached = λ moment. None;
   faults = λ moment. 0;
 }
 

@@ -68,12 +68,14 @@ pub fn run_is_recovered()
 pub fn run_keeps_log<D: LogDisk, K: Sink>()
     ensures keeps { (opened : List Rec) (jobs : Jobs) (shares : List Share) (key : Start) (old new : Daemon D K) (view : View)
         (lsn : ℕ) (rows : List (ℕ × ℕ)) → HasTransferred D.LogDisk K.Sink opened jobs shares key old new view lsn rows
-        → RunKeepsLog D.LogDisk old.voice opened jobs (records_of view.entries) old.flusher.disk.now new.flusher.disk.now
+        → RunKeepsLog D.LogDisk old.voice opened jobs (records_of view.entries) old.flusher.tail.at key.ring
+        old.flusher.disk.now new.flusher.disk.now
         (K.held_bytes old.sink.now) (K.held_bytes new.sink.now) }
     ensures drained { (opened : List Rec) (jobs : Jobs) (shares : List Share) (key : Start) (old new : Daemon D K) (view : View)
         (lsn : ℕ) (rows : List (ℕ × ℕ)) → HasTransferred D.LogDisk K.Sink opened jobs shares key old new view lsn rows
         → new.fault ≡ None
-        → RunIsDrained D.LogDisk old.voice opened jobs (records_of view.entries) old.flusher.disk.now new.flusher.disk.now
+        → RunIsDrained D.LogDisk old.voice opened jobs (records_of view.entries) old.flusher.tail.at key.ring
+        old.flusher.disk.now new.flusher.disk.now
         (K.held_bytes old.sink.now) (K.held_bytes new.sink.now) lsn rows }
     ensures whole { (opened : List Rec) (jobs : Jobs) (shares : List Share) (key : Start) (old new : Daemon D K) (view : View)
         (lsn : ℕ) (rows : List (ℕ × ℕ)) → HasTransferred D.LogDisk K.Sink opened jobs shares key old new view lsn rows

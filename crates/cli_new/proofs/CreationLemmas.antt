@@ -1,20 +1,24 @@
 -- What `new` leaves on a disk, from what it read, found, and created.
-use Rattle.std.proofs.Common.{◌≡◌, inl, inr, ℕ, ◌*◌, ◌≤◌, ◌<◌, List, [], ◌∷◌, length, map, All, Option, Some, None, refl, ap, ◌∙◌, sym, subst, arith}
+use Rattle.std.proofs.Common.{◌≡◌, inl, inr, ℕ, ◌+◌, ◌*◌, ◌≤◌, ◌<◌, List, [], ◌∷◌, length, map, All, Option, Some, None, refl, ap, ◌∙◌, sym, subst, arith}
 use Rattle.std.proofs.lemmas.List.Elements.{All-map}
 use Rattle.log_disk.specs.Disk.{Leaves}
+use Rattle.log_disk.specs.Lengths.{GrowsAtMostTo}
+use Rattle.log_disk.specs.declared.disk.LogDisk.{Ghosts}
+use Rattle.log_disk.proofs.Lengths.{GrowsAtMostTo-more, GrowsAtMostTo-same, GrowsAtMostTo-trans}
 use Rattle.log_disk.proofs.Moments.{Leaves-trans, Leaves-weaken}
 use Rattle.log_record.specs.LogList.{units_of}
 use Rattle.log_record.specs.Spelling.{IsBalance}
 use Rattle.log_recovery.specs.Recovery.{HoldsLawful}
 use Rattle.lsn_space.specs.Accounts.{Accounts}
 use Rattle.segment_file.specs.File.{HoldsUnits}
+use Rattle.segment_file.specs.Lengths.{new_end}
 use Rattle.segment_file.specs.Standing.{HoldsNoneOr, AllStand}
 use Rattle.segment_file.specs.declared.scan_result.Tail.{Tail}
 use Rattle.segment_file.proofs.StandingLemmas.{holds}
 use Rattle.txn_script.specs.Balances.{IsBalancesText}
 use Rattle.cli_new.specs.Answers.{AreOpening}
 use Rattle.cli_shared.specs.Creation.{genesis_list}
-use Rattle.cli_new.specs.Creation.{AllHoldNew, IsInput, MayBeLeft}
+use Rattle.cli_new.specs.Creation.{AllHoldNew, GrowsByNew, IsInput, MayBeLeft}
 use Rattle.cli_shared.proofs.GenesisLemmas.{opening_rows, end_of-genesis, genesis-holds}
 
 firsts : (balances : List ℕ) → map (λ (row : ℕ × ℕ). row.0) (opening_rows balances) ≡ balances
@@ -69,3 +73,15 @@ module _ (left left_new : Option (List ℕ)) (accounts : Accounts) (opening : Ar
       leaves-made old mid new found created = Leaves-trans moment images_since (MayBeLeft left images) old mid new
           (Leaves-weaken moment images_since images (MayBeLeft left images) old mid (λ c image. inl image) found)
           (Leaves-weaken moment images_since (HoldsNoneOr units) (MayBeLeft left images) mid new (new-left images) created)
+
+    -- and the file, which a search for a log left as it was
+    pub grows-made : {D : Type 0} (g : Ghosts D) (old mid new : D) → g.reads mid ≡ g.reads old → GrowsAtMostTo g (13 + 8 * length units) mid new
+        → GrowsByNew g left old new
+    grows-made g old mid new same grows =
+        let place : ℕ = new_end (2 * length balances) + 1 in
+        inr (
+          balances,
+          input-read left left_new accounts opening,
+          GrowsAtMostTo-trans g place old mid new (GrowsAtMostTo-same g place old mid same)
+              (GrowsAtMostTo-more g (13 + 8 * length units) place mid new (omega (arith, length-made)) grows),
+        )

@@ -7,7 +7,7 @@ ghost use Rattle.segment_file.specs.File.{BeginsOpen};
 ghost use Rattle.cli_new.specs.Answers.{AnswersNew, AreOpening, IsInputFault, IsMakingFault, IsOfNew};
 ghost use Rattle.cli_shared.specs.Answers.{StaysSilent};
 ghost use Rattle.cli_shared.specs.Attached.{EndsAttached, LeavesAttached};
-ghost use Rattle.cli_new.specs.Creation.{AllHoldNew, FollowsLog, MayBeLeft, PrecedesLog};
+ghost use Rattle.cli_new.specs.Creation.{AllHoldNew, FollowsLog, GrowsByNew, MayBeLeft, PrecedesLog};
 ghost use Rattle.cli_shared.specs.Creation.{TellsWhether};
 
 use cli_shared::genesis::genesis;
@@ -38,6 +38,7 @@ pub fn new_command<D: LogDisk, S: Source, K: Sink>(
     ensures unchanged { D.honest disk.old → PrecedesLog result → D.reads disk.new ≡ D.reads disk.old }
     ensures exists { D.honest disk.old → TellsWhether (BeginsOpen (D.reads disk.old)) result }
     ensures count { D.honest disk.old → Costs D.LogDisk 7 11 disk.old disk.new }
+    ensures grows { D.honest disk.old → GrowsByNew D.LogDisk (S.left script.old) disk.old disk.new }
     ensures honest { D.honest disk.old ↔ D.honest disk.new }
     ensures attached { D.honest disk.old
         → LeavesAttached (existing_or_made log.now) (D.attached disk.old) (D.attached disk.new) result }
@@ -73,6 +74,7 @@ fn make_log<D: LogDisk, S: Source>(
     ensures exists { D.honest disk.old
         → MatchResult result (λ _. BeginsOpen (D.reads disk.old) → ⊥) (TellsWhether (BeginsOpen (D.reads disk.old))) }
     ensures count { D.honest disk.old → Costs D.LogDisk 7 11 disk.old disk.new }
+    ensures grows { D.honest disk.old → GrowsByNew D.LogDisk (S.left script.old) disk.old disk.new }
     ensures honest { D.honest disk.old ↔ D.honest disk.new }
     ensures attached { D.honest disk.old
         → EndsAttached (existing_or_made log.now) (D.attached disk.old) (D.attached disk.new) result }

@@ -3,8 +3,10 @@ use Rattle.std.proofs.Common.{◌≡◌, ◌≤◌, ◌⊎◌, ⊎_elim, inl, in
 use Rattle.std.specs.Io.KnownBytes.{Keeps}
 use Rattle.command_line.specs.declared.options.RunOptions.{RunOptions}
 use Rattle.log_disk.proofs.Counting.{Costs-more, Costs-then}
+use Rattle.log_disk.proofs.Lengths.{GrowsAtMostTo-same, GrowsAtMostTo-trans}
 use Rattle.log_disk.specs.Costs.{Costs}
 use Rattle.log_disk.specs.Disk.{Leaves}
+use Rattle.log_disk.specs.Lengths.{GrowsAtMostTo}
 use Rattle.log_disk.specs.declared.disk.LogDisk.{Ghosts}
 use Rattle.log_disk.proofs.Moments.{Leaves-trans, Leaves-weaken}
 use Rattle.log_record.specs.declared.limits.TheConstants.{LAST_TXN}
@@ -22,7 +24,7 @@ use Rattle.log_recovery.specs.declared.recovery.Recovered.{Recovered}
 use Rattle.log_table.specs.Seats.{key_of}
 use Rattle.segment_file.specs.declared.scan_result.Tail.{Tail}
 use Rattle.segment_file.specs.File.{HoldsUnits}
-use Rattle.segment_file.specs.Standing.{AllStand, IsShut}
+use Rattle.segment_file.specs.Standing.{AllStand, IsShut, StandsAt}
 use Rattle.lock_core.specs.declared.job.Job.{Job}
 use Rattle.cli_threads.specs.declared.transfers.Prepared.{Prepared}
 use Rattle.cli_shared.specs.Opening.{Opens, HasOpeningFault}
@@ -52,12 +54,13 @@ module _ {D : Type 0} (g : Ghosts D) (old mid : D) where
       images = Leaves-weaken g.moment g.images_since (g.images old) (λ bytes. g.images old bytes ⊎ HoldsAsRead g old bytes) old mid
           (λ bytes image. inl image) reads.1;
       count = Costs-more g 1 3 (most_calls g old) (most_calls g old + 3) old mid (omega arith) (omega arith) reads.2;
+      grows = inl reads.0;
     }
 
-    module _ (workers : ℕ) where
+    module _ (options : RunOptions) where
       -- the log was not opened
       pub answers-opening : (detail : Detail) → HasOpeningFault g old detail → g.honest old
-          → AnswersRun g workers (outside old left text) (outside mid left_new text) detail
+          → AnswersRun g options (outside old left text) (outside mid left_new text) detail
       answers-opening NotALog has honest = (only-reads, subst (λ bytes. IsFaultOf bytes fault.NotALog) (has.1 honest) has.2)
       answers-opening (BadBatch offset) has honest = (only-reads, subst (λ bytes. IsFaultOf bytes (fault.BadBatch offset)) (has.1 honest) has.2)
       answers-opening (BadRec lsn) has honest = (only-reads, subst (λ bytes. IsFaultOf bytes (fault.BadRec lsn)) (has.1 honest) has.2)
@@ -75,7 +78,7 @@ module _ {D : Type 0} (g : Ghosts D) (old mid : D) where
 
       -- the input is no script
       pub answers-script : (opened : List Rec) (detail : Detail) → HoldsLawful (g.reads old) opened
-          → HasNoScript (accounts_of opened) left left_new detail → AnswersRun g workers (outside old left text) (outside mid left_new text) detail
+          → HasNoScript (accounts_of opened) left left_new detail → AnswersRun g options (outside old left text) (outside mid left_new text) detail
       answers-script opened (Script line) held has = (only-reads, (opened, held, has))
       answers-script opened Read held has = only-reads
       answers-script opened NoMemory held has = only-reads
@@ -116,24 +119,33 @@ module _ {D : Type 0} (g : Ghosts D) (old mid : D) (opened : Recovered) (opens :
     pub count-settled : Costs g 3 (most_calls g old + 3) old new
     count-settled = Costs-then g 1 2 (most_calls g old) 3 old mid new reads.2 count
 
-    pub settles : g.honest old → (left left_new text : Option (List ℕ)) → OnlySettles g (outside old left text) (outside new left_new text)
-    settles honest left left_new text = record {
+    pub grows-settled : GrowsAtMostTo g (opened.tail.at + 1) mid new → GrowsAtMostTo g (opened.tail.at + 1) old new
+    grows-settled grows = GrowsAtMostTo-trans g (opened.tail.at + 1) old mid new (GrowsAtMostTo-same g (opened.tail.at + 1) old mid reads.0) grows
+
+    -- the file that a read gave goes on at the tail
+    pub stands-read : g.honest old → g.images mid (g.reads mid) → StandsAt opened.tail (units_of records) (g.reads old)
+    stands-read honest image = subst (StandsAt opened.tail (units_of records)) reads.0 (opens.stand honest (g.reads mid) image)
+
+    pub settles : g.honest old → g.images mid (g.reads mid) → GrowsAtMostTo g (opened.tail.at + 1) mid new → (left left_new text : Option (List ℕ))
+        → OnlySettles g (outside old left text) (outside new left_new text)
+    settles honest image grows left left_new text = record {
       silent = keeps-refl text;
       images = Leaves-weaken g.moment g.images_since (λ bytes. g.images old bytes ⊎ HoldsLawful bytes records)
           (λ bytes. g.images old bytes ⊎ HoldsAsRead g old bytes) old new
           (λ bytes. ⊎_elim (λ image. inl image) (λ held. inr (records, held-read honest, held))) leaves-settled;
       count = count-settled;
+      grows = inr (opened.tail, units_of records, stands-read honest image, grows-settled grows);
     }
 
   -- the input gives no transfers that have numbers
-  pub answers-transfers : Reads g old mid → g.honest old → (workers : ℕ) (left left_new text : Option (List ℕ)) (detail : Detail)
+  pub answers-transfers : Reads g old mid → g.honest old → (options : RunOptions) (left left_new text : Option (List ℕ)) (detail : Detail)
       → HasNoTransfers (length opened.accounts.rows) opened.next_txn left left_new detail
-      → AnswersRun g workers (outside old left text) (outside mid left_new text) detail
-  answers-transfers reads honest workers left left_new text detail (inl none) =
-      answers-script g old mid reads left left_new text workers records detail (held-read honest)
+      → AnswersRun g options (outside old left text) (outside mid left_new text) detail
+  answers-transfers reads honest options left left_new text detail (inl none) =
+      answers-script g old mid reads left left_new text options records detail (held-read honest)
       (subst (λ n. HasNoScript n left left_new detail) opens.recovers.accounts.count none)
-  answers-transfers reads honest workers left left_new text detail (inr end) =
-      subst (AnswersRun g workers (outside old left text) (outside mid left_new text)) (sym end.detail_is) (
+  answers-transfers reads honest options left left_new text detail (inr end) =
+      subst (AnswersRun g options (outside old left text) (outside mid left_new text)) (sym end.detail_is) (
         only-reads g old mid reads left left_new text,
         record {
           opened = records;

@@ -1,10 +1,13 @@
 -- What `run` answers, from what was ready, what is promised of the transfers, and what was concluded.
-use Rattle.std.proofs.Common.{Bool, ◌≡◌, ◌≤◌, ◌<◌, ◌+◌, ◌*◌, ◌⊎◌, ◌∙◌, inr, refl, ap, sym, subst, ℕ, List, [], ◌++◌, length, length-append, append_assoc, Option, None, arith}
+use Rattle.std.proofs.Common.{Bool, ◌≡◌, ◌<◌, ◌+◌, ◌*◌, ◌⊎◌, ◌∙◌, inr, refl, ap, sym, subst, ℕ, List, [], ◌++◌, length, length-append, append_assoc, Option, None, arith}
 use Rattle.std.proofs.KnownBytes.{Appends-trans}
 use Rattle.std.proofs.lemmas.List.{append-nil}
 use Rattle.std.specs.Io.KnownBytes.{Appends}
+use Rattle.command_line.specs.declared.options.RunOptions.{RunOptions}
 use Rattle.log_disk.proofs.Counting.{Costs-more, Costs-then}
+use Rattle.log_disk.proofs.Lengths.{GrowsAtMostTo-more, GrowsAtMostTo-trans}
 use Rattle.log_disk.specs.Disk.{Leaves}
+use Rattle.log_disk.specs.Lengths.{GrowsAtMostTo}
 use Rattle.log_disk.specs.Streams.{AppendsPrefix, AppendsPart}
 use Rattle.log_disk.proofs.Prefixes.{AppendsPart-prefix}
 use Rattle.log_disk.specs.declared.disk.LogDisk.{Ghosts}
@@ -16,6 +19,8 @@ use Rattle.lock_core.specs.Lawful.{genesis_of}
 use Rattle.lock_core.specs.Sums.{balance_of}
 use Rattle.log_recovery.specs.Text.{account_lines, accounts_text, lsn_line, rows_text}
 use Rattle.log_recovery.proofs.TextLemmas.{AppendsPart-behind, AppendsPrefix-first, AppendsPrefix-behind, lsn_line-some}
+use Rattle.log_table.specs.Seats.{key_of}
+use Rattle.segment_file.specs.Lengths.{most_end}
 use Rattle.txn_jobs.specs.declared.jobs.Jobs.{Jobs}
 use Rattle.commit_pipeline.specs.EndLines.{end_lines}
 use Rattle.end_lines.specs.declared.voice.Voice.TheVariants.{Lines}
@@ -40,9 +45,9 @@ accounts_text-some records =
     let lines = account_lines (balance_of (genesis_of h) h) (genesis_of h).accounts in
     omega (arith, length-append (lsn_line (end_of records)) lines, lsn_line-some (end_of records))
 
-module _ {D : Type 0} {K : Type 0} (g : Ghosts D) (h : SinkGhosts K) (workers : ℕ) (ready : ReadyRun) {wait : Bool} (entry disk disk_new : D)
-    (left left_new : Option (List ℕ)) (sink sink_mid sink_new : K) (ended : Ended) (is : IsReadyFor g workers entry disk left left_new ready)
-    (has : HasEnded g h ready.prepared is.opened Lines wait disk disk_new sink sink_mid ended) (honest : g.honest entry) (honest_mid : g.honest disk) where
+module _ {D : Type 0} {K : Type 0} (g : Ghosts D) (h : SinkGhosts K) (options : RunOptions) (ready : ReadyRun) {wait : Bool} (entry disk disk_new : D)
+    (left left_new : Option (List ℕ)) (sink sink_mid sink_new : K) (ended : Ended) (is : IsReadyFor g options entry disk left left_new ready)
+    (has : HasEnded g h ready.prepared is.opened ready.tail Lines wait disk disk_new sink sink_mid ended) (honest : g.honest entry) (honest_mid : g.honest disk) where
   abbrev opened : List Rec
   opened = is.opened
 
@@ -65,20 +70,35 @@ module _ {D : Type 0} {K : Type 0} (g : Ghosts D) (h : SinkGhosts K) (workers : 
   goes_on-ran : GoesOn opened jobs (opened ++ records)
   goes_on-ran = (keeps-ended g h ready.prepared opened Lines disk disk_new sink sink_mid ended has).goes_on
 
-  abbrev ran : ((image : List ℕ) → g.images disk_new image → HoldsTold g opened jobs records old new image) → Ran g workers old new
-  ran kept = record {
+  -- the file was settled first, and then grew as the transfers let it
+  grows-ran : (front : List Rec) → GrowsAtMostTo g (most_end ready.tail.at (end_of front) (key_of ready.prepared.table).ring) disk disk_new
+      → GrowsAtMostTo g (most_end ready.tail.at (end_of front) options.ring) entry disk_new
+  grows-ran front grows =
+      let place : ℕ = most_end ready.tail.at (end_of front) options.ring in
+      GrowsAtMostTo-trans g place entry disk disk_new
+      (GrowsAtMostTo-more g (ready.tail.at + 1) place entry disk (omega arith) (is.grows honest))
+      (GrowsAtMostTo-more g (most_end ready.tail.at (end_of front) (key_of ready.prepared.table).ring) place disk disk_new (omega (arith, is.ring)) grows)
+
+  abbrev ran : (kept : (image : List ℕ) → g.images disk_new image → HoldsTold g opened jobs records old new image)
+      → ((image : List ℕ) (left_image : g.images disk_new image)
+      → GrowsAtMostTo g (most_end ready.tail.at (end_of (kept image left_image).run.front) (key_of ready.prepared.table).ring) disk disk_new)
+      → Ran g options old new
+  ran kept grows = record {
     opened = opened;
     held = is.held honest;
+    tail = ready.tail;
+    stands = is.stands honest;
     jobs = jobs;
     asked = is.asked;
     list = records;
     goes_on = goes_on-ran;
     images = images-ran;
     kept = kept;
+    grows = λ image left_image. grows-ran (kept image left_image).run.front (grows image left_image);
   }
 
   -- where the daemon failed, it wrote a front of the lines of each image's list
-  abbrev ran-cut : sink_new ≡ sink_mid → Ran g workers old new
+  abbrev ran-cut : sink_new ≡ sink_mid → Ran g options old new
   ran-cut same = ran (λ image left_image.
       let kept = (keeps-ended g h ready.prepared opened Lines disk disk_new sink sink_mid ended has).left honest_mid image left_image in
       let count = is.count honest in
@@ -90,6 +110,8 @@ module _ {D : Type 0} {K : Type 0} (g : Ghosts D) (h : SinkGhosts K) (workers : 
         count = Costs-more g _ _ _ _ entry disk_new (omega arith) (omega arith)
             (Costs-then g 3 (4 * length kept.run.front + 4) (most_calls g entry + 3) (4 * length kept.run.front + 4) entry disk disk_new count kept.count);
       })
+      (λ image left_image.
+      ((keeps-ended g h ready.prepared opened Lines disk disk_new sink sink_mid ended has).left honest_mid image left_image).grows)
 
   -- the lines of a list are never all of its text
   lines-short : (texts texts_new : Option (List ℕ)) (list : List Rec) → AppendsPrefix texts texts_new (end_lines (end_of opened) list)
@@ -103,7 +125,7 @@ module _ {D : Type 0} {K : Type 0} (g : Ghosts D) (h : SinkGhosts K) (workers : 
   )
 
   -- and not all of its text
-  ran-failed : sink_new ≡ sink_mid → RanShort g workers old new
+  ran-failed : sink_new ≡ sink_mid → RanShort g options old new
   ran-failed same = record {
     ran = ran-cut same;
     short = λ image left_image.
@@ -113,11 +135,12 @@ module _ {D : Type 0} {K : Type 0} (g : Ghosts D) (h : SinkGhosts K) (workers : 
   }
 
   module _ (fine : ended.fault ≡ None) where
-    drained : RunIsDrained g Lines opened jobs records disk disk_new (h.held_bytes sink) (h.held_bytes sink_mid) ended.closed.tail ended.closed.accounts.rows
+    drained : RunIsDrained g Lines opened jobs records ready.tail.at (key_of ready.prepared.table).ring disk disk_new (h.held_bytes sink)
+        (h.held_bytes sink_mid) ended.closed.tail ended.closed.accounts.rows
     drained = drained-ended g h ready.prepared opened Lines disk disk_new sink sink_mid ended has fine
 
     -- else each image holds the whole list, of whose text a front was written
-    abbrev ran-drained : AppendsPrefix (h.held_bytes sink) (h.held_bytes sink_new) (run_text opened records) → Ran g workers old new
+    abbrev ran-drained : AppendsPrefix (h.held_bytes sink) (h.held_bytes sink_new) (run_text opened records) → Ran g options old new
     ran-drained told = ran (λ image left_image.
         let count = is.count honest in
         let writes = drained.count honest_mid in
@@ -133,8 +156,9 @@ module _ {D : Type 0} {K : Type 0} (g : Ghosts D) (h : SinkGhosts K) (workers : 
           count = Costs-more g _ _ _ _ entry disk_new (omega arith) (omega arith)
               (Costs-then g 3 (4 * length records) (most_calls g entry + 3) (4 * length records) entry disk disk_new count writes);
         })
+        (λ image left_image. drained.grows honest_mid)
 
-    abbrev out : (told : AppendsPrefix (h.held_bytes sink) (h.held_bytes sink_new) (run_text opened records)) → RanOut g workers old new
+    abbrev out : (told : AppendsPrefix (h.held_bytes sink) (h.held_bytes sink_new) (run_text opened records)) → RanOut g options old new
     out told = record { ran = ran-drained told; all = drained.images honest_mid }
 
     -- the accounts text is that of the whole list
@@ -152,7 +176,7 @@ module _ {D : Type 0} {K : Type 0} (g : Ghosts D) (h : SinkGhosts K) (workers : 
         (sym (append-nil (run_text opened records)))
 
     ran-short : AppendsPart (h.held_bytes sink_mid) (h.held_bytes sink_new) (rows_text ended.closed.tail ended.closed.accounts.rows)
-        → RanShort g workers old new
+        → RanShort g options old new
     ran-short text = record { ran = ran-drained (told-part text); short = λ image left_image. told-short text }
 
     told-whole : Appends (h.held_bytes sink_mid) (h.held_bytes sink_new) (rows_text ended.closed.tail ended.closed.accounts.rows)
@@ -163,8 +187,8 @@ module _ {D : Type 0} {K : Type 0} (g : Ghosts D) (h : SinkGhosts K) (workers : 
     told-lines : sink_new ≡ sink_mid → Appends (h.held_bytes sink) (h.held_bytes sink_new) (end_lines (end_of opened) records)
     told-lines same = subst (λ text. Appends (h.held_bytes sink) text (end_lines (end_of opened) records)) (sym (ap h.held_bytes same)) drained.text
 
-  pub answers-concluded : (detail : Detail) → Concludes h ended (closed_text ended) sink_mid sink_new detail → AnswersRun g workers old new detail
-  answers-concluded = by-conclusion h ended (closed_text ended) sink_mid sink_new (AnswersRun g workers old new) (λ said. inr (ran-failed said.1))
+  pub answers-concluded : (detail : Detail) → Concludes h ended (closed_text ended) sink_mid sink_new detail → AnswersRun g options old new detail
+  answers-concluded = by-conclusion h ended (closed_text ended) sink_mid sink_new (AnswersRun g options old new) (λ said. inr (ran-failed said.1))
       (λ said. ran-failed said.1) (λ said. ran-short said.0.0 said.1)
       (λ said. let text = told-whole said.0.0 said.1 in record {
         out = out said.0.0 (run_text opened records, [], sym (append-nil (run_text opened records)), text);

@@ -1,13 +1,18 @@
 -- What `run` answers. `g` is what a disk shows; `old` and `new` are what is outside before and after.
 use Rattle.std.specs.Prelude.{◌≡◌, ◌≤◌, ◌<◌, ◌⊎◌, ℕ, ◌+◌, ◌*◌, List, ◌++◌, length, Option}
 use Rattle.std.specs.Io.KnownBytes.{Keeps, Appends}
+use Rattle.command_line.specs.declared.options.RunOptions.{RunOptions}
 use Rattle.log_disk.specs.Costs.{Costs}
 use Rattle.log_disk.specs.Disk.{Leaves}
+use Rattle.log_disk.specs.Lengths.{GrowsAtMostTo}
 use Rattle.log_disk.specs.Streams.{AppendsPart, AppendsPrefix}
 use Rattle.log_disk.specs.declared.disk.LogDisk.{Ghosts}
 use Rattle.log_record.specs.declared.limits.TheConstants.{LAST_TXN}
 use Rattle.log_record.specs.declared.rec.Rec.{Rec}
-use Rattle.log_record.specs.LogList.{end_of}
+use Rattle.log_record.specs.LogList.{end_of, units_of}
+use Rattle.segment_file.specs.Lengths.{most_end}
+use Rattle.segment_file.specs.Standing.{StandsAt}
+use Rattle.segment_file.specs.declared.scan_result.Tail.{Tail}
 use Rattle.lock_core.specs.History.{history}
 use Rattle.lock_core.specs.Lawful.{genesis_of}
 use Rattle.lock_core.specs.Sums.{greatest_txn}
@@ -54,11 +59,17 @@ pub record OnlyReads {D : Type 0} (g : Ghosts D) (old new : Outside D) : Type 0 
 abbrev pub HoldsAsRead : {D : Type 0} → Ghosts D → D → List ℕ → Type 0
 HoldsAsRead g disk bytes = (opened : List Rec) × HoldsLawful (g.reads disk) opened × HoldsLawful bytes opened
 
+-- the file reads as before, or is no longer than before or than up to the gate at the tail of the log that a read gave
+abbrev pub GrowsByGate : {D : Type 0} → Ghosts D → D → D → Type 0
+GrowsByGate g old new = (g.reads new ≡ g.reads old)
+    ⊎ ((tail : Tail) × (units : List ℕ) × StandsAt tail units (g.reads old) × GrowsAtMostTo g (tail.at + 1) old new)
+
 -- no transfer was begun: nothing was written, and each image of a moment is one of before or holds the list that a read gave
 pub record OnlySettles {D : Type 0} (g : Ghosts D) (old new : Outside D) : Type 0 where
   pub silent : Keeps old.text new.text
   pub images : Leaves g.moment g.images_since (λ bytes. g.images old.disk bytes ⊎ HoldsAsRead g old.disk bytes) old.disk new.disk
   pub count : Costs g 3 (most_calls g old.disk + 3) old.disk new.disk
+  pub grows : GrowsByGate g old.disk new.disk
 
 -- the transfers of the whole input, under the numbers from the first on that the opened list leaves, dealt out to so many workers
 pub record AreAsked (workers : ℕ) (opened : List Rec) (left left_new : Option (List ℕ)) (jobs : Jobs) : Type 0 where
@@ -77,37 +88,43 @@ pub record HoldsTold {D : Type 0} (g : Ghosts D) (opened : List Rec) (jobs : Job
   pub count : Costs g (4 * length run.front + 7) (most_calls g old.disk + 4 * length run.front + 7) old.disk new.disk
 
 -- Transfers were begun. Each image of a moment is one of before, or holds the list that was opened and a front of one and the same list, which
--- goes on from it as the script says; so of two of the latter the one is a prefix of the other.
-pub record Ran {D : Type 0} (g : Ghosts D) (workers : ℕ) (old new : Outside D) : Type 0 where
+-- goes on from it as the script says; so of two of the latter the one is a prefix of the other. At the exit the file is no longer than before, or
+-- ends at most so far behind the tail of the list that was opened: 13 bytes for each unit of the front that an image holds, and one batch in flight,
+-- of 6 bytes and 8 for each unit of the ring.
+pub record Ran {D : Type 0} (g : Ghosts D) (options : RunOptions) (old new : Outside D) : Type 0 where
   pub opened : List Rec
   pub held : HoldsLawful (g.reads old.disk) opened
+  pub tail : Tail
+  pub stands : StandsAt tail (units_of opened) (g.reads old.disk)
   pub jobs : Jobs
-  pub asked : AreAsked workers opened old.left new.left jobs
+  pub asked : AreAsked options.workers opened old.left new.left jobs
   pub list : List Rec
   pub goes_on : GoesOn opened jobs (opened ++ list)
   pub images : Leaves g.moment g.images_since (λ bytes. g.images old.disk bytes ⊎ HoldsRun opened jobs list bytes) old.disk new.disk
   pub kept : (image : List ℕ) → g.images new.disk image → HoldsTold g opened jobs list old new image
+  pub grows : (image : List ℕ) (left : g.images new.disk image)
+      → GrowsAtMostTo g (most_end tail.at (end_of (kept image left).run.front) options.ring) old.disk new.disk
 
 -- and of the text of each image's list a part was written, and not all of it
-pub record RanShort {D : Type 0} (g : Ghosts D) (workers : ℕ) (old new : Outside D) : Type 0 where
-  pub ran : Ran g workers old new
+pub record RanShort {D : Type 0} (g : Ghosts D) (options : RunOptions) (old new : Outside D) : Type 0 where
+  pub ran : Ran g options old new
   pub short : (image : List ℕ) (left : g.images new.disk image)
       → AppendsPart old.text new.text (run_text ran.opened (ran.kept image left).run.front)
 
 -- the log was drained: each image holds the whole list
-pub record RanOut {D : Type 0} (g : Ghosts D) (workers : ℕ) (old new : Outside D) : Type 0 where
-  pub ran : Ran g workers old new
+pub record RanOut {D : Type 0} (g : Ghosts D) (options : RunOptions) (old new : Outside D) : Type 0 where
+  pub ran : Ran g options old new
   pub all : (image : List ℕ) → g.images new.disk image → HoldsLawful image (ran.opened ++ ran.list)
 
 -- each transfer ran whole, and all of the text was written
-pub record RanWhole {D : Type 0} (g : Ghosts D) (workers : ℕ) (old new : Outside D) : Type 0 where
-  pub out : RanOut g workers old new
+pub record RanWhole {D : Type 0} (g : Ghosts D) (options : RunOptions) (old new : Outside D) : Type 0 where
+  pub out : RanOut g options old new
   pub whole : RunsWhole out.ran.opened out.ran.jobs out.ran.list
   pub text : Appends old.text new.text (run_text out.ran.opened out.ran.list)
 
 -- a record did not fit in the log, and the lines of all end records were written
-pub record RanIntoEnd {D : Type 0} (g : Ghosts D) (workers tail total : ℕ) (old new : Outside D) : Type 0 where
-  pub out : RanOut g workers old new
+pub record RanIntoEnd {D : Type 0} (g : Ghosts D) (options : RunOptions) (tail total : ℕ) (old new : Outside D) : Type 0 where
+  pub out : RanOut g options old new
   pub stops : StopsAtLogEnd out.ran.opened out.ran.jobs out.ran.list tail total
   pub text : Appends old.text new.text (end_lines (end_of out.ran.opened) out.ran.list)
 
@@ -126,22 +143,22 @@ abbrev pub IsFirstOutside : {D : Type 0} → Ghosts D → ℕ → Outside D → 
 IsFirstOutside g line old new =
     (opened : List Rec) × HoldsLawful (g.reads old.disk) opened × HasNoScript (accounts_of opened) old.left new.left (Script line)
 
--- `run` with so many workers, for each detail
-abbrev pub AnswersRun : {D : Type 0} → Ghosts D → ℕ → Outside D → Outside D → Detail → Type 0
-AnswersRun g workers old new Fine = RanWhole g workers old new
-AnswersRun g workers old new (LogEnd tail total) = RanIntoEnd g workers tail total old new
-AnswersRun g workers old new Write = RanShort g workers old new
-AnswersRun g workers old new Disk = OnlySettles g old new ⊎ RanShort g workers old new
-AnswersRun g workers old new NoMemory = OnlyReads g old new
-AnswersRun g workers old new (TxnEnd first count) = OnlyReads g old new × RunsOutOfNumbers g first count old new
-AnswersRun g workers old new (Script line) = OnlyReads g old new × IsFirstOutside g line old new
-AnswersRun g workers old new Read = OnlyReads g old new
-AnswersRun g workers old new NotALog = OnlyReads g old new × IsFaultOf (g.reads old.disk) fault.NotALog
-AnswersRun g workers old new (BadBatch offset) = OnlyReads g old new × IsFaultOf (g.reads old.disk) (fault.BadBatch offset)
-AnswersRun g workers old new (BadRec lsn) = OnlyReads g old new × IsFaultOf (g.reads old.disk) (fault.BadRec lsn)
-AnswersRun g workers old new (Unlawful lsn why) = OnlyReads g old new × IsFaultOf (g.reads old.disk) (fault.Unlawful lsn why)
-AnswersRun g workers old new Usage = ⊥
-AnswersRun g workers old new Exists = ⊥
+-- `run` with these options, for each detail
+abbrev pub AnswersRun : {D : Type 0} → Ghosts D → RunOptions → Outside D → Outside D → Detail → Type 0
+AnswersRun g options old new Fine = RanWhole g options old new
+AnswersRun g options old new (LogEnd tail total) = RanIntoEnd g options tail total old new
+AnswersRun g options old new Write = RanShort g options old new
+AnswersRun g options old new Disk = OnlySettles g old new ⊎ RanShort g options old new
+AnswersRun g options old new NoMemory = OnlyReads g old new
+AnswersRun g options old new (TxnEnd first count) = OnlyReads g old new × RunsOutOfNumbers g first count old new
+AnswersRun g options old new (Script line) = OnlyReads g old new × IsFirstOutside g line old new
+AnswersRun g options old new Read = OnlyReads g old new
+AnswersRun g options old new NotALog = OnlyReads g old new × IsFaultOf (g.reads old.disk) fault.NotALog
+AnswersRun g options old new (BadBatch offset) = OnlyReads g old new × IsFaultOf (g.reads old.disk) (fault.BadBatch offset)
+AnswersRun g options old new (BadRec lsn) = OnlyReads g old new × IsFaultOf (g.reads old.disk) (fault.BadRec lsn)
+AnswersRun g options old new (Unlawful lsn why) = OnlyReads g old new × IsFaultOf (g.reads old.disk) (fault.Unlawful lsn why)
+AnswersRun g options old new Usage = ⊥
+AnswersRun g options old new Exists = ⊥
 
 -- where nothing is written, whatever the disk tells
 abbrev pub RunStaysSilent : Option (List ℕ) → Option (List ℕ) → Detail → Type 0

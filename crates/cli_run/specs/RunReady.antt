@@ -1,11 +1,14 @@
 -- What stands before the first transfer of a run, and why there may be none. `g` is what a disk shows; `old` and `new` are the disk before
 -- and after, `left` and `left_new` what the input has left.
-use Rattle.std.specs.Prelude.{◌≡◌, ◌≤◌, ◌⊎◌, ℕ, ◌+◌, List, Option}
+use Rattle.std.specs.Prelude.{◌≡◌, ◌⊎◌, ℕ, ◌+◌, List, Option}
 use Rattle.command_line.specs.declared.options.RunOptions.{RunOptions}
 use Rattle.log_disk.specs.Costs.{Costs}
 use Rattle.log_disk.specs.Disk.{Leaves}
+use Rattle.log_disk.specs.Lengths.{GrowsAtMostTo}
 use Rattle.log_disk.specs.declared.disk.LogDisk.{Ghosts}
 use Rattle.log_record.specs.declared.rec.Rec.{Rec}
+use Rattle.log_record.specs.LogList.{units_of}
+use Rattle.segment_file.specs.Standing.{StandsAt}
 use Rattle.log_recovery.specs.declared.recovery.Recovered.{Recovered}
 use Rattle.log_recovery.specs.Recovery.{HoldsLawful}
 use Rattle.log_table.specs.Seats.{key_of}
@@ -29,21 +32,25 @@ pub record IsPreparedFor (options : RunOptions) (opened : Recovered) (script : L
   pub workers_are : prepared.jobs.workers ≡ options.workers
   pub ready : IsPrepared prepared
 
--- The transfers that are asked are ready to be made over the log that was opened. Each image of a moment is one of before or holds its list.
-pub record IsReadyFor {D : Type 0} (g : Ghosts D) (workers : ℕ) (old new : D) (left left_new : Option (List ℕ)) (ready : ReadyRun)
+-- The transfers that are asked are ready to be made over the log that was opened. Each image of a moment is one of before or holds its list. The file
+-- that a read gave goes on at the tail, and grew by no more than the gate there.
+pub record IsReadyFor {D : Type 0} (g : Ghosts D) (options : RunOptions) (old new : D) (left left_new : Option (List ℕ)) (ready : ReadyRun)
     : Type 0 where
   pub opened : List Rec
   pub held : g.honest old → HoldsLawful (g.reads old) opened
   pub log : IsOpened g new ready.tail opened ready.prepared.jobs.first (key_of ready.prepared.table)
-  pub asked : AreAsked workers opened left left_new ready.prepared.jobs
+  pub asked : AreAsked options.workers opened left left_new ready.prepared.jobs
+  pub ring : (key_of ready.prepared.table).ring ≡ options.ring
   pub prepared : IsPrepared ready.prepared
   pub images : g.honest old → Leaves g.moment g.images_since (λ bytes. g.images old bytes ⊎ HoldsLawful bytes opened) old new
   pub count : g.honest old → Costs g 3 (most_calls g old + 3) old new
+  pub stands : g.honest old → StandsAt ready.tail (units_of opened) (g.reads old)
+  pub grows : g.honest old → GrowsAtMostTo g (ready.tail.at + 1) old new
 
 -- there is no run, which is answered so, whatever is known of the output
-abbrev pub HasNoRun : {D : Type 0} → Ghosts D → ℕ → D → D → Option (List ℕ) → Option (List ℕ) → Detail → Type 0
-HasNoRun g workers old new left left_new detail = (text : Option (List ℕ))
-    → AnswersRun g workers (outside old left text) (outside new left_new text) detail
+abbrev pub HasNoRun : {D : Type 0} → Ghosts D → RunOptions → D → D → Option (List ℕ) → Option (List ℕ) → Detail → Type 0
+HasNoRun g options old new left left_new detail = (text : Option (List ℕ))
+    → AnswersRun g options (outside old left text) (outside new left_new text) detail
 
 -- the answers that come before any transfer
 abbrev pub IsBeforeRun : Detail → Type 0

@@ -50,7 +50,7 @@ pub fn run_command<
 ) -> Detail
     requires { AreInRange options.now }
     ensures answer { D.honest disk.old
-        → AnswersRun D.LogDisk options.now.workers (outside disk.old (S.left script.old) (K.held_bytes out.old))
+        → AnswersRun D.LogDisk options.now (outside disk.old (S.left script.old) (K.held_bytes out.old))
         (outside disk.new (S.left script.new) (K.held_bytes out.new)) result }
     ensures silent { RunStaysSilent (K.held_bytes out.old) (K.held_bytes out.new) result }
     ensures range { IsOfRun result }
@@ -78,7 +78,7 @@ fn finish<R: Threads + Wait + Clock + Sync, D: LogDisk, K: Sink, G: Gate + Sync>
     requires prepared { IsPrepared ready.prepared }
     requires opened { (opened : List Rec) × IsOpened D.LogDisk disk.old ready.tail opened ready.prepared.jobs.first (key_of ready.prepared.table) }
     ensures { (opened : List Rec) → IsOpened D.LogDisk disk.old ready.tail opened ready.prepared.jobs.first (key_of ready.prepared.table)
-        → HasFinished D.LogDisk K.Sink ready.prepared opened options.now.wait disk.old disk.new out.old out.new result }
+        → HasFinished D.LogDisk K.Sink ready.prepared opened ready.tail options.now.wait disk.old disk.new out.old out.new result }
 {
     let ReadyRun { prepared, tail } = ready;
     let plan = plan_of_run(options);
@@ -96,9 +96,9 @@ fn make_ready<R, D: LogDisk, S: Source>(
     script: &mut S,
 ) -> Result<ReadyRun, Detail>
     requires { AreInRange options.now }
-    ensures ready { IfOk result (IsReadyFor D.LogDisk options.now.workers disk.old disk.new (S.left script.old) (S.left script.new)) }
+    ensures ready { IfOk result (IsReadyFor D.LogDisk options.now disk.old disk.new (S.left script.old) (S.left script.new)) }
     ensures none { D.honest disk.old → IfErr result
-        (HasNoRun D.LogDisk options.now.workers disk.old disk.new (S.left script.old) (S.left script.new)) }
+        (HasNoRun D.LogDisk options.now disk.old disk.new (S.left script.old) (S.left script.new)) }
     ensures range { IfErr result IsBeforeRun }
     ensures honest { D.honest disk.old ↔ D.honest disk.new }
     ensures attached { D.honest disk.old → EndsAttached (existing log.now) (D.attached disk.old) (D.attached disk.new) result }

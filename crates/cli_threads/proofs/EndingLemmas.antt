@@ -15,6 +15,7 @@ use Rattle.lock_core.specs.History.{history}
 use Rattle.lock_core.specs.Lawful.{base_state_of}
 use Rattle.lock_core.specs.Serial.{IsPartlySerialAfter, IsSerialAfter}
 use Rattle.lock_core.specs.Settling.{KeepsRows}
+use Rattle.segment_file.specs.declared.scan_result.Tail.{Tail}
 use Rattle.log_table.specs.Closing.{records_of}
 use Rattle.log_table.specs.Seats.{key_of}
 use Rattle.stop_word.specs.declared.fault.DaemonFault.{DaemonFault}
@@ -91,12 +92,14 @@ module _ {K : Type 0} (h : SinkGhosts K) (ended : Ended) (text : List ℕ) (old 
   by-conclusion Exists said = absurd said
 
 module _ {D : Type 0} {K : Type 0} (g : Ghosts D) (h : SinkGhosts K) (prepared : Prepared) (opened : List Rec) (voice : Voice)
-    {wait : Bool} (disk disk_new : D) (sink sink_new : K) (ended : Ended) (has : HasEnded g h prepared opened voice wait disk disk_new sink sink_new ended) where
+    {tail : Tail} {wait : Bool} (disk disk_new : D) (sink sink_new : K) (ended : Ended)
+    (has : HasEnded g h prepared opened tail voice wait disk disk_new sink sink_new ended) where
   abbrev pub list : List Rec
   list = records_of has.view.entries
 
-  pub keeps-ended : RunKeepsLog g voice opened prepared.jobs list disk disk_new (h.held_bytes sink) (h.held_bytes sink_new)
-  keeps-ended = rw (← has.speaks, ← has.disk_old, ← has.disk_is, ← has.sink_old, ← has.sink_is)
+  pub keeps-ended : RunKeepsLog g voice opened prepared.jobs list tail.at (key_of prepared.table).ring disk disk_new (h.held_bytes sink)
+      (h.held_bytes sink_new)
+  keeps-ended = rw (← has.speaks, ← has.tail_is, ← has.disk_old, ← has.disk_is, ← has.sink_old, ← has.sink_is)
       (keeps g h opened prepared.jobs has.shares (key_of prepared.table) has.first has.last has.view ended.closed.tail
       ended.closed.accounts.rows has.transferred)
 
@@ -148,9 +151,9 @@ module _ {D : Type 0} {K : Type 0} (g : Ghosts D) (h : SinkGhosts K) (prepared :
       has.view ended.closed.tail ended.closed.accounts.rows has.transferred).flusher.attached
 
   module _ (fine : ended.fault ≡ None) where
-    pub drained-ended : RunIsDrained g voice opened prepared.jobs list disk disk_new (h.held_bytes sink) (h.held_bytes sink_new)
-        ended.closed.tail ended.closed.accounts.rows
-    drained-ended = rw (← has.speaks, ← has.disk_old, ← has.disk_is, ← has.sink_old, ← has.sink_is)
+    pub drained-ended : RunIsDrained g voice opened prepared.jobs list tail.at (key_of prepared.table).ring disk disk_new (h.held_bytes sink)
+        (h.held_bytes sink_new) ended.closed.tail ended.closed.accounts.rows
+    drained-ended = rw (← has.speaks, ← has.tail_is, ← has.disk_old, ← has.disk_is, ← has.sink_old, ← has.sink_is)
         (drained g h opened prepared.jobs has.shares (key_of prepared.table) has.first has.last has.view ended.closed.tail
         ended.closed.accounts.rows has.transferred (has.fault ∙ fine))
 

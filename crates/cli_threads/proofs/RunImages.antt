@@ -3,8 +3,10 @@ use Rattle.std.proofs.Common.{◌≡◌, ◌⊎◌, inl, inr, ⊎_elim, ◌≤�
 use Rattle.std.specs.Io.KnownBytes.{Appends}
 use Rattle.std.proofs.KnownBytes.{Appends-nil}
 use Rattle.log_disk.proofs.Counting.{Costs-more, Costs-none}
+use Rattle.log_disk.proofs.Lengths.{GrowsAtMostTo-same}
 use Rattle.log_disk.specs.Costs.{Costs}
 use Rattle.log_disk.specs.Disk.{Leaves}
+use Rattle.log_disk.specs.Lengths.{GrowsAtMostTo}
 use Rattle.log_disk.proofs.Moments.{Leaves-refl, Leaves-weaken}
 use Rattle.log_disk.specs.Streams.{AppendsPrefix}
 use Rattle.log_disk.specs.declared.disk.LogDisk.{Ghosts}
@@ -12,6 +14,7 @@ use Rattle.log_disk.specs.declared.sink.Sink.{Ghosts as SinkGhosts}
 use Rattle.log_record.specs.declared.rec.Rec.{Rec}
 use Rattle.log_record.specs.LogList.{units_of, end_of}
 use Rattle.segment_file.specs.File.{HoldsUnits}
+use Rattle.segment_file.specs.Lengths.{most_end}
 use Rattle.segment_file.specs.Standing.{AllStand}
 use Rattle.segment_file.proofs.StandingLemmas.{holds}
 use Rattle.log_recovery.proofs.ListingLemmas.{units_of-append}
@@ -23,7 +26,7 @@ use Rattle.stop_word.specs.declared.fault.DaemonFault.{DaemonFault}
 use Rattle.stop_word.specs.declared.fault.DaemonFault.TheVariants.{DiskFault, WriteFault}
 use Rattle.end_lines.specs.declared.voice.Voice.{Voice}
 use Rattle.commit_pipeline.specs.EndLines.{text_of}
-use Rattle.commit_pipeline.specs.Later.{Ran, HoldsFront, InFlight, extra}
+use Rattle.commit_pipeline.specs.Later.{Ran, HoldsFront, InFlight, extra, place_of, ring_of}
 use Rattle.commit_pipeline.specs.Turning.{durable}
 use Rattle.commit_pipeline.proofs.RanLemmas.{none≢some, Ran-text}
 use Rattle.commit_pipeline.proofs.ToldLemmas.{text_of-none}
@@ -36,9 +39,10 @@ HoldsBoth opened records bytes = HoldsUnits bytes (units_of (opened ++ records))
 abbrev pub HoldsSome : List Rec → List Rec → List ℕ → Type 0
 HoldsSome opened list bytes = (front rest : List Rec) × (list ≡ front ++ rest) × HoldsBoth opened front bytes
 
--- What turns do with the records of a run: they sent the first of them, and may have written some more. Of the first, a front of the lines
--- was written.
-pub record RunSends {D : Type 0} (g : Ghosts D) (voice : Voice) (opened list : List Rec) (before after : D) (old new : Option (List ℕ)) : Type 0 where
+-- What turns do with the records of a run, from the tail at this place on and with a ring of this length: they sent the first of them, and may have
+-- written some more. Of the first, a front of the lines was written.
+pub record RunSends {D : Type 0} (g : Ghosts D) (voice : Voice) (opened list : List Rec) (at ring : ℕ) (before after : D) (old new : Option (List ℕ))
+    : Type 0 where
   pub more : List Rec
   pub cut : List Rec
   pub rest : List Rec
@@ -47,12 +51,15 @@ pub record RunSends {D : Type 0} (g : Ghosts D) (voice : Voice) (opened list : L
   pub now : g.honest before → (bytes : List ℕ) → g.images after bytes → HoldsBoth opened more bytes ⊎ HoldsBoth opened (more ++ cut) bytes
   pub text : AppendsPrefix old new (text_of voice (end_of opened) more)
   pub count : g.honest before → Costs g (4 * length more + 4) (4 * length more + 4) before after
+  pub grows : g.honest before → GrowsAtMostTo g (most_end at (end_of more) ring) before after
 
 -- and where nothing failed, all lines of the first
-pub record RunSent {D : Type 0} (g : Ghosts D) (voice : Voice) (opened more : List Rec) (before after : D) (old new : Option (List ℕ)) : Type 0 where
+pub record RunSent {D : Type 0} (g : Ghosts D) (voice : Voice) (opened more : List Rec) (at ring : ℕ) (before after : D) (old new : Option (List ℕ))
+    : Type 0 where
   pub now : g.honest before → (bytes : List ℕ) → g.images after bytes → HoldsBoth opened more bytes
   pub text : Appends old new (text_of voice (end_of opened) more)
   pub count : g.honest before → Costs g (4 * length more) (4 * length more) before after
+  pub grows : g.honest before → GrowsAtMostTo g (most_end at (end_of more) ring) before after
 
 -- units sent and read, behind the opened ones, as records
 both-units : (opened records : List Rec) (sent units : List ℕ) → sent ≡ [] → units ≡ units_of records
@@ -82,7 +89,7 @@ module _ {D : Type 0} {K : Type 0} (g : Ghosts D) (h : SinkGhosts K) (opened lis
   opening honest = subst (λ (units : List ℕ). AllStand old.flusher.tail units (g.images old.flusher.disk.now))
       (sym (ap (λ l. units_of opened ++ l) unsent ∙ append-nil (units_of opened))) (stand honest)
 
-  pub sends-still : RunSends g old.voice opened list old.flusher.disk.now old.flusher.disk.now (h.held_bytes old.sink.now) (h.held_bytes old.sink.now)
+  pub sends-still : RunSends g old.voice opened list (place_of old) (ring_of old) old.flusher.disk.now old.flusher.disk.now (h.held_bytes old.sink.now) (h.held_bytes old.sink.now)
   sends-still = record {
     more = [];
     cut = [];
@@ -92,13 +99,15 @@ module _ {D : Type 0} {K : Type 0} (g : Ghosts D) (h : SinkGhosts K) (opened lis
     now = λ honest bytes image. inl (standing honest bytes image);
     text = ([], text_of old.voice (end_of opened) [], refl, Appends-nil (h.held_bytes old.sink.now));
     count = λ honest. Costs-more g 0 _ 0 _ old.flusher.disk.now old.flusher.disk.now (omega arith) (omega arith) (Costs-none g old.flusher.disk.now);
+    grows = λ honest. GrowsAtMostTo-same g _ old.flusher.disk.now old.flusher.disk.now refl;
   }
 
-  pub sent-still : RunSent g old.voice opened [] old.flusher.disk.now old.flusher.disk.now (h.held_bytes old.sink.now) (h.held_bytes old.sink.now)
+  pub sent-still : RunSent g old.voice opened [] (place_of old) (ring_of old) old.flusher.disk.now old.flusher.disk.now (h.held_bytes old.sink.now) (h.held_bytes old.sink.now)
   sent-still = record {
     now = standing;
     text = subst (Appends (h.held_bytes old.sink.now) (h.held_bytes old.sink.now)) (text_of-none old.voice (end_of opened)) (Appends-nil (h.held_bytes old.sink.now));
     count = λ honest. Costs-more g 0 _ 0 _ old.flusher.disk.now old.flusher.disk.now (omega arith) (omega arith) (Costs-none g old.flusher.disk.now);
+    grows = λ honest. GrowsAtMostTo-same g _ old.flusher.disk.now old.flusher.disk.now refl;
   }
 
   module _ (ran : Ran g h old new) where
@@ -126,7 +135,7 @@ module _ {D : Type 0} {K : Type 0} (g : Ghosts D) (h : SinkGhosts K) (opened lis
         (ran.text, rest, ap (λ at. text_of old.voice at ran.more) (sym start) ∙ lines, ran.appended)
 
     pub sends-ran : (rest : List Rec) → list ≡ (ran.more ++ ran.cut) ++ rest
-        → RunSends g old.voice opened list old.flusher.disk.now new.flusher.disk.now (h.held_bytes old.sink.now) (h.held_bytes new.sink.now)
+        → RunSends g old.voice opened list (place_of old) (ring_of old) old.flusher.disk.now new.flusher.disk.now (h.held_bytes old.sink.now) (h.held_bytes new.sink.now)
     sends-ran rest splits = record {
       more = ran.more;
       cut = ran.cut;
@@ -145,10 +154,11 @@ module _ {D : Type 0} {K : Type 0} (g : Ghosts D) (h : SinkGhosts K) (opened lis
       text = text-front;
       count = λ honest. let most = extra-few new.fault in
           Costs-more g _ _ _ _ old.flusher.disk.now new.flusher.disk.now (omega (arith, most)) (omega (arith, most)) (ran.count honest);
+      grows = ran.grows;
     }
 
     pub sent-ran : new.fault ≡ None
-        → RunSent g old.voice opened ran.more old.flusher.disk.now new.flusher.disk.now (h.held_bytes old.sink.now) (h.held_bytes new.sink.now)
+        → RunSent g old.voice opened ran.more (place_of old) (ring_of old) old.flusher.disk.now new.flusher.disk.now (h.held_bytes old.sink.now) (h.held_bytes new.sink.now)
     sent-ran fine =
         let none : ran.cut ≡ [] = (subst (λ fault. InFlight fault (view_of new.flusher.seat) ran.cut) fine ran.in_flight).0 in
         let all = ran.all (λ is. none≢some WriteFault (sym fine ∙ is)) in
@@ -160,4 +170,5 @@ module _ {D : Type 0} {K : Type 0} (g : Ghosts D) (h : SinkGhosts K) (opened lis
           text = subst (Appends (h.held_bytes old.sink.now) (h.held_bytes new.sink.now))
               (all.0 ∙ ap (λ at. text_of old.voice at ran.more) start) ran.appended;
           count = λ honest. Costs-more g _ _ _ _ old.flusher.disk.now new.flusher.disk.now (omega (arith, extra_none)) (omega (arith, extra_none)) (ran.count honest);
+          grows = ran.grows;
         }

@@ -7,6 +7,7 @@ use lib.ListN.{get_elem?}
 use Rattle.lsn_space.proofs.TilingLemmas.{all-weaker}
 use Rattle.log_disk.proofs.Moments.{Leaves-weaken}
 use Rattle.log_disk.proofs.Counting.{Costs-more}
+use Rattle.log_disk.proofs.Lengths.{GrowsAtMostTo-more}
 use Rattle.log_disk.specs.declared.disk.LogDisk.{Ghosts}
 use Rattle.log_disk.specs.declared.sink.Sink.{Ghosts as SinkGhosts}
 use Rattle.log_record.specs.declared.rec.Rec.{Rec}
@@ -23,6 +24,7 @@ use Rattle.lock_core.proofs.SerialFronts.{partly-serial}
 use Rattle.lock_core.proofs.SerialTasks.{partly_serial-more}
 use Rattle.log_recovery.proofs.ListingLemmas.{units_of-append}
 use Rattle.log_recovery.proofs.TextLemmas.{AppendsPrefix-first}
+use Rattle.segment_file.specs.Lengths.{most_end}
 use Rattle.log_table.specs.declared.table.Start.{Start}
 use Rattle.log_table.specs.declared.view.Constants.{Constants}
 use Rattle.log_table.specs.declared.view.Given.{Given}
@@ -39,7 +41,7 @@ use Rattle.commit_pipeline.specs.declared.daemon.Daemon.{Daemon}
 use Rattle.commit_pipeline.specs.EndLines.{text_of}
 use Rattle.stop_word.specs.declared.fault.DaemonFault.TheVariants.{WriteFault}
 use Rattle.end_lines.specs.declared.tally.Tally.{Tally}
-use Rattle.commit_pipeline.specs.Later.{Later, Ran, HasReason, StopTells}
+use Rattle.commit_pipeline.specs.Later.{Later, Ran, HasReason, StopTells, place_of, ring_of}
 use Rattle.commit_pipeline.specs.Telling.{counted}
 use Rattle.commit_pipeline.specs.Turning.{IsSameDaemon, durable}
 use Rattle.commit_pipeline.proofs.RanLemmas.{Later-same, Later-reason, none≢some}
@@ -124,6 +126,9 @@ module _ {D : Type 0} {K : Type 0} (g : Ghosts D) (h : SinkGhosts K) (opened : L
       let start = ap (λ (c : Constants). c.start) known.fresh.constants in let none = ap length known.fresh.sent in
       omega (arith, start, none, known.log.start)
 
+  ring-is : ring_of old ≡ key.ring
+  ring-is = ap (λ (c : Constants). c.ring) known.fresh.constants
+
   start-view : view.constants.start ≡ end_of opened
   start-view = ap (λ (c : Constants). c.start) (known.constants ∙ kept known.later ∙ known.fresh.constants) ∙ known.log.start
     where
@@ -131,12 +136,12 @@ module _ {D : Type 0} {K : Type 0} (g : Ghosts D) (h : SinkGhosts K) (opened : L
       kept (inl is) = ap (λ (d : Daemon D K). (view_of d.flusher.seat).constants) is
       kept (inr ran) = ran.constants
 
-  pub sends : RunSends g old.voice opened list old.flusher.disk.now new.flusher.disk.now (h.held_bytes old.sink.now) (h.held_bytes new.sink.now)
+  pub sends : RunSends g old.voice opened list (place_of old) (ring_of old) old.flusher.disk.now new.flusher.disk.now (h.held_bytes old.sink.now) (h.held_bytes new.sink.now)
   sends = by_later known.later
     where
       by_later : Later g h old new
-          → RunSends g old.voice opened list old.flusher.disk.now new.flusher.disk.now (h.held_bytes old.sink.now) (h.held_bytes new.sink.now)
-      by_later (inl same) = subst (λ (d : Daemon D K). RunSends g old.voice opened list old.flusher.disk.now d.flusher.disk.now
+          → RunSends g old.voice opened list (place_of old) (ring_of old) old.flusher.disk.now new.flusher.disk.now (h.held_bytes old.sink.now) (h.held_bytes new.sink.now)
+      by_later (inl same) = subst (λ (d : Daemon D K). RunSends g old.voice opened list (place_of old) (ring_of old) old.flusher.disk.now d.flusher.disk.now
           (h.held_bytes old.sink.now) (h.held_bytes d.sink.now)) (sym same)
           (sends-still g h opened list old old known.log.stand known.fresh.sent start-old)
       by_later (inr ran) =
@@ -168,7 +173,8 @@ module _ {D : Type 0} {K : Type 0} (g : Ghosts D) (h : SinkGhosts K) (opened : L
         (in_turn front rest splits);
   }
 
-  pub keeps : RunKeepsLog g old.voice opened jobs list old.flusher.disk.now new.flusher.disk.now (h.held_bytes old.sink.now) (h.held_bytes new.sink.now)
+  pub keeps : RunKeepsLog g old.voice opened jobs list (place_of old) key.ring old.flusher.disk.now new.flusher.disk.now (h.held_bytes old.sink.now)
+      (h.held_bytes new.sink.now)
   keeps = record {
     goes_on = goes-on opened list jobs known.log.lawful known.log.some_accounts known.log.below spellable lawful_after serial
         (in_turn list [] (sym (append-nil list)));
@@ -178,15 +184,19 @@ module _ {D : Type 0} {K : Type 0} (g : Ghosts D) (h : SinkGhosts K) (opened : L
   }
     where
       left-first : g.honest old.flusher.disk.now → (bytes : List ℕ) → HoldsBoth opened sends.more bytes
-          → IsLeft g old.voice opened jobs list old.flusher.disk.now new.flusher.disk.now (h.held_bytes old.sink.now) (h.held_bytes new.sink.now) bytes
+          → IsLeft g old.voice opened jobs list (place_of old) key.ring old.flusher.disk.now new.flusher.disk.now (h.held_bytes old.sink.now)
+          (h.held_bytes new.sink.now) bytes
       left-first honest bytes held = record {
         run = image-run sends.more (sends.cut ++ sends.rest) (sends.splits ∙ append_assoc sends.more sends.cut sends.rest) bytes held;
         text = sends.text;
         count = sends.count honest;
+        grows = GrowsAtMostTo-more g (most_end (place_of old) (end_of sends.more) (ring_of old)) _ old.flusher.disk.now new.flusher.disk.now
+            (omega (arith, ring-is)) (sends.grows honest);
       }
 
       left-both : g.honest old.flusher.disk.now → (bytes : List ℕ) → HoldsBoth opened (sends.more ++ sends.cut) bytes
-          → IsLeft g old.voice opened jobs list old.flusher.disk.now new.flusher.disk.now (h.held_bytes old.sink.now) (h.held_bytes new.sink.now) bytes
+          → IsLeft g old.voice opened jobs list (place_of old) key.ring old.flusher.disk.now new.flusher.disk.now (h.held_bytes old.sink.now)
+          (h.held_bytes new.sink.now) bytes
       left-both honest bytes held = record {
         run = image-run (sends.more ++ sends.cut) sends.rest sends.splits bytes held;
         text = AppendsPrefix-first (h.held_bytes old.sink.now) (h.held_bytes new.sink.now) (text_of old.voice (end_of opened) (sends.more ++ sends.cut))
@@ -194,6 +204,10 @@ module _ {D : Type 0} {K : Type 0} (g : Ghosts D) (h : SinkGhosts K) (opened : L
             (text_of-append old.voice (end_of opened) sends.more sends.cut);
         count = let long = length-append sends.more sends.cut in
             Costs-more g _ _ _ _ old.flusher.disk.now new.flusher.disk.now (omega (arith, long)) (omega (arith, long)) (sends.count honest);
+        grows =
+            let ends = ap length (units_of-append sends.more sends.cut) ∙ length-append (units_of sends.more) (units_of sends.cut) in
+            GrowsAtMostTo-more g (most_end (place_of old) (end_of sends.more) (ring_of old)) _ old.flusher.disk.now new.flusher.disk.now
+            (omega (arith, ring-is, ends)) (sends.grows honest);
       }
 
   -- ---- what befell the daemon
@@ -219,17 +233,17 @@ module _ {D : Type 0} {K : Type 0} (g : Ghosts D) (h : SinkGhosts K) (opened : L
     list-more ran = list-is ran.more (all-split IsSpellable ran.more ran.cut ran.spellable).0
         (ap (λ (s : Sending). s.sent) known.sending ∙ sent-now g h opened list old new known.log.stand known.fresh.sent start-old ran)
 
-    sent-all : RunSent g old.voice opened list old.flusher.disk.now new.flusher.disk.now (h.held_bytes old.sink.now) (h.held_bytes new.sink.now)
+    sent-all : RunSent g old.voice opened list (place_of old) (ring_of old) old.flusher.disk.now new.flusher.disk.now (h.held_bytes old.sink.now) (h.held_bytes new.sink.now)
     sent-all = by_later known.later
       where
         by_later : Later g h old new
-            → RunSent g old.voice opened list old.flusher.disk.now new.flusher.disk.now (h.held_bytes old.sink.now) (h.held_bytes new.sink.now)
+            → RunSent g old.voice opened list (place_of old) (ring_of old) old.flusher.disk.now new.flusher.disk.now (h.held_bytes old.sink.now) (h.held_bytes new.sink.now)
         by_later (inl same) =
-            subst (λ (d : Daemon D K). RunSent g old.voice opened list old.flusher.disk.now d.flusher.disk.now (h.held_bytes old.sink.now) (h.held_bytes d.sink.now)) (sym same)
-            (subst (λ (records : List Rec). RunSent g old.voice opened records old.flusher.disk.now old.flusher.disk.now (h.held_bytes old.sink.now) (h.held_bytes old.sink.now))
+            subst (λ (d : Daemon D K). RunSent g old.voice opened list (place_of old) (ring_of old) old.flusher.disk.now d.flusher.disk.now (h.held_bytes old.sink.now) (h.held_bytes d.sink.now)) (sym same)
+            (subst (λ (records : List Rec). RunSent g old.voice opened records (place_of old) (ring_of old) old.flusher.disk.now old.flusher.disk.now (h.held_bytes old.sink.now) (h.held_bytes old.sink.now))
             (list-none same) (sent-still g h opened list old old known.log.stand known.fresh.sent start-old))
         by_later (inr ran) =
-            subst (λ (records : List Rec). RunSent g old.voice opened records old.flusher.disk.now new.flusher.disk.now (h.held_bytes old.sink.now) (h.held_bytes new.sink.now))
+            subst (λ (records : List Rec). RunSent g old.voice opened records (place_of old) (ring_of old) old.flusher.disk.now new.flusher.disk.now (h.held_bytes old.sink.now) (h.held_bytes new.sink.now))
             (list-more ran) (sent-ran g h opened list old new known.log.stand known.fresh.sent start-old ran fine)
 
     -- and the end record of each was counted
@@ -243,7 +257,8 @@ module _ {D : Type 0} {K : Type 0} (g : Ghosts D) (h : SinkGhosts K) (opened : L
         by_later (inl still) = ap (λ (d : Daemon D K). d.tally) still ∙ counted-none old.tally ∙ ap (counted old.tally) (list-none still)
         by_later (inr ran) = (ran.all (λ failed. none≢some WriteFault (sym fine ∙ failed))).1 ∙ ap (counted old.tally) (list-more ran)
 
-    pub drained : RunIsDrained g old.voice opened jobs list old.flusher.disk.now new.flusher.disk.now (h.held_bytes old.sink.now) (h.held_bytes new.sink.now) lsn rows
+    pub drained : RunIsDrained g old.voice opened jobs list (place_of old) key.ring old.flusher.disk.now new.flusher.disk.now (h.held_bytes old.sink.now)
+        (h.held_bytes new.sink.now) lsn rows
     drained = record {
       images = λ honest bytes image. record {
         list = record { each = spellable; holds = sent-all.now honest bytes image };
@@ -253,6 +268,8 @@ module _ {D : Type 0} {K : Type 0} (g : Ghosts D) (h : SinkGhosts K) (opened : L
       end = end;
       accounts = text-shown opened list jobs known.log.lawful known.log.some_accounts known.log.below spellable lawful_after serial lsn rows end ledger.accounts;
       count = sent-all.count;
+      grows = λ honest. GrowsAtMostTo-more g (most_end (place_of old) (end_of list) (ring_of old)) _ old.flusher.disk.now new.flusher.disk.now
+          (omega (arith, ring-is)) (sent-all.grows honest);
     }
       where
         end : lsn ≡ end_of (opened ++ list)

@@ -5,6 +5,7 @@ use lib.ListN.{get_elem?}
 use Rattle.log_disk.specs.declared.disk.LogDisk.{Ghosts}
 use Rattle.log_disk.specs.declared.sink.Sink.{Ghosts as SinkGhosts}
 use Rattle.log_record.specs.declared.rec.Rec.{Rec}
+use Rattle.segment_file.specs.declared.scan_result.Tail.{Tail}
 use Rattle.log_table.specs.declared.view.View.{View}
 use Rattle.log_table.specs.Seats.{key_of}
 use Rattle.commit_pipeline.specs.declared.daemon.Daemon.{Daemon}
@@ -15,9 +16,9 @@ use Rattle.cli_threads.specs.Shares.{Share}
 use Rattle.cli_threads.specs.Transferred.{HasTransferred}
 use Rattle.cli_threads.specs.Waiting.{HaveWaited, made_of}
 
--- Turns led from a daemon over the one disk and sink to one over the other, and the transfers ended so. Where workers wait, each transfer
--- that they made, but for one that was cut off, gave its accounts back once its end was durable.
-pub record HasEnded {D : Type 0} {K : Type 0} (g : Ghosts D) (h : SinkGhosts K) (prepared : Prepared) (opened : List Rec) (voice : Voice)
+-- Turns led from a daemon over the one disk and sink, which went on at this tail, to one over the other, and the transfers ended so. Where workers
+-- wait, each transfer that they made, but for one that was cut off, gave its accounts back once its end was durable.
+pub record HasEnded {D : Type 0} {K : Type 0} (g : Ghosts D) (h : SinkGhosts K) (prepared : Prepared) (opened : List Rec) (tail : Tail) (voice : Voice)
     (wait : Bool) (disk disk_new : D) (sink sink_new : K) (ended : Ended) : Type 0 where
   pub shares : List Share
   pub first : Daemon D K
@@ -32,6 +33,7 @@ pub record HasEnded {D : Type 0} {K : Type 0} (g : Ghosts D) (h : SinkGhosts K) 
   pub done_is : last.tally.done ≡ ended.done
   pub refused_is : last.tally.refused ≡ ended.refused
   pub speaks : first.voice ≡ voice
+  pub tail_is : first.flusher.tail ≡ tail
   pub disk_old : first.flusher.disk.now ≡ disk
   pub disk_is : last.flusher.disk.now ≡ disk_new
   pub sink_old : first.sink.now ≡ sink

@@ -1,9 +1,11 @@
 -- What a run leaves on the disk and writes. `opened` is the list that was opened, `jobs` are the transfers of the script under their numbers,
--- and `list` has the records that the run inserted. `g` is what a disk shows, and `old` and `new` are what is known of the output.
+-- and `list` has the records that the run inserted. `at` is the place of the tail from which it went on in the file, and `ring` the length of the
+-- ring. `g` is what a disk shows, and `old` and `new` are what is known of the output.
 use Rattle.std.specs.Prelude.{◌≡◌, ◌≢◌, ◌<◌, ℕ, ◌+◌, ◌*◌, true, List, [], ◌++◌, length, map, Option}
 use Rattle.std.specs.Io.KnownBytes.{Appends}
 use Rattle.log_disk.specs.Costs.{Costs}
 use Rattle.log_disk.specs.Disk.{Leaves}
+use Rattle.log_disk.specs.Lengths.{GrowsAtMostTo}
 use Rattle.log_disk.specs.Streams.{AppendsPrefix}
 use Rattle.log_disk.specs.declared.disk.LogDisk.{Ghosts}
 use Rattle.log_record.specs.declared.rec.Rec.{Rec}
@@ -21,6 +23,7 @@ use Rattle.end_lines.specs.declared.voice.Voice.{Voice}
 use Rattle.commit_pipeline.specs.EndLines.{text_of}
 use Rattle.txn_jobs.specs.declared.jobs.Jobs.{Jobs}
 use Rattle.txn_runner.specs.Stripes.{number_at}
+use Rattle.segment_file.specs.Lengths.{most_end}
 use Rattle.cli_threads.specs.RunStops.{EndsAs}
 
 -- the transfers of the script
@@ -46,29 +49,31 @@ pub record HoldsRun (opened : List Rec) (jobs : Jobs) (list : List Rec) (bytes :
   pub goes_on : GoesOn opened jobs (opened ++ front)
 
 -- The bytes are such, and what was written is a prefix of the lines of their end records: so each commit that was told is in them. At most 4
--- calls of the disk were made for each record, and 4 more in a flush that failed.
-pub record IsLeft {D : Type 0} (g : Ghosts D) (voice : Voice) (opened : List Rec) (jobs : Jobs) (list : List Rec) (before after : D)
+-- calls of the disk were made for each record, and 4 more in a flush that failed. The file grew by no more than these records take, and one batch.
+pub record IsLeft {D : Type 0} (g : Ghosts D) (voice : Voice) (opened : List Rec) (jobs : Jobs) (list : List Rec) (at ring : ℕ) (before after : D)
     (old new : Option (List ℕ)) (bytes : List ℕ) : Type 0 where
   pub run : HoldsRun opened jobs list bytes
   pub text : AppendsPrefix old new (text_of voice (end_of opened) run.front)
   pub count : Costs g (4 * length run.front + 4) (4 * length run.front + 4) before after
+  pub grows : GrowsAtMostTo g (most_end at (end_of run.front) ring) before after
 
 -- The list goes on from the opened one as the script says. At each moment an image holds the opened list and a front of it, so that of two
 -- such the one is a prefix of the other; and at the exit each image holds all that was told.
-pub record RunKeepsLog {D : Type 0} (g : Ghosts D) (voice : Voice) (opened : List Rec) (jobs : Jobs) (list : List Rec) (before after : D)
-    (old new : Option (List ℕ)) : Type 0 where
+pub record RunKeepsLog {D : Type 0} (g : Ghosts D) (voice : Voice) (opened : List Rec) (jobs : Jobs) (list : List Rec) (at ring : ℕ)
+    (before after : D) (old new : Option (List ℕ)) : Type 0 where
   pub goes_on : GoesOn opened jobs (opened ++ list)
   pub moments : g.honest before → Leaves g.moment g.images_since (HoldsRun opened jobs list) before after
-  pub left : g.honest before → (bytes : List ℕ) → g.images after bytes → IsLeft g voice opened jobs list before after old new bytes
+  pub left : g.honest before → (bytes : List ℕ) → g.images after bytes → IsLeft g voice opened jobs list at ring before after old new bytes
 
 -- The log was drained: each image holds the whole list, whose lines are written, and the rows of the closed table are its accounts.
-pub record RunIsDrained {D : Type 0} (g : Ghosts D) (voice : Voice) (opened : List Rec) (jobs : Jobs) (list : List Rec) (before after : D)
-    (old new : Option (List ℕ)) (lsn : ℕ) (rows : List (ℕ × ℕ)) : Type 0 where
+pub record RunIsDrained {D : Type 0} (g : Ghosts D) (voice : Voice) (opened : List Rec) (jobs : Jobs) (list : List Rec) (at ring : ℕ)
+    (before after : D) (old new : Option (List ℕ)) (lsn : ℕ) (rows : List (ℕ × ℕ)) : Type 0 where
   pub images : g.honest before → (bytes : List ℕ) → g.images after bytes → HoldsLawful bytes (opened ++ list)
   pub text : Appends old new (text_of voice (end_of opened) list)
   pub end : lsn ≡ end_of (opened ++ list)
   pub accounts : rows_text lsn rows ≡ accounts_text (opened ++ list)
   pub count : g.honest before → Costs g (4 * length list) (4 * length list) before after
+  pub grows : g.honest before → GrowsAtMostTo g (most_end at (end_of list) ring) before after
 
 -- each transfer of the script ran whole
 abbrev pub RunsWhole : List Rec → Jobs → List Rec → Type 0

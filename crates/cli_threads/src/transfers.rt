@@ -70,8 +70,8 @@ struct Outside<'a, D, K> {
 #[derive(Drop)]
 struct Served {
     fault: Option<DaemonFault>,
-    done: u32,
-    refused: u32,
+    done: u64,
+    refused: u64,
     boss: Seat,
     workers: Vec<Worker>,
     ends: Vec<Worked>,
@@ -209,7 +209,7 @@ pub fn run_transfers<R: Threads + Wait + Clock + Sync, D: LogDisk, K: Sink, G: G
     requires prepared { IsPrepared prepared }
     requires opened { (opened : List Rec) × IsOpened D.LogDisk disk.old tail opened prepared.jobs.first (key_of prepared.table) }
     ensures ended { (opened : List Rec) → IsOpened D.LogDisk disk.old tail opened prepared.jobs.first (key_of prepared.table)
-        → HasEnded D.LogDisk K.Sink prepared opened voice wait disk.old disk.new out.old out.new result }
+        → HasEnded D.LogDisk K.Sink prepared opened tail voice wait disk.old disk.new out.old out.new result }
 {
     let Prepared {
         table,

@@ -1,5 +1,5 @@
 -- What a call came to says, of each command, what it promises where the words ask it; and what is so whatever they ask.
-use Rattle.std.proofs.Common.{◌≡◌, ◌≤◌, ◌+◌, ◌⊎◌, inl, inr, ◌∙◌, refl, ap, sym, subst, ℕ, List, arith}
+use Rattle.std.proofs.Common.{◌≡◌, ◌⊎◌, inl, inr, ◌∙◌, refl, ap, sym, subst, ℕ, List, arith}
 use Rattle.std.specs.Io.KnownBytes.{Keeps}
 use Rattle.command_line.specs.CommandLine.{AreTaken, IsCommandLine}
 use Rattle.command_line.specs.declared.command.Command.{Command}
@@ -55,6 +55,7 @@ module _ {D S K : Type 0} (g : Ghosts D) (h : SourceGhosts S) (i : SinkGhosts K)
     exists = λ honest. tt;
     count = λ honest. costs-none old.disk;
     attached = λ honest. inl refl;
+    grows = λ honest. inl refl;
   }
   nothing-done old (Run log options) = record {
     answer = λ honest. record { silent = kept-text _; disk = record { images = Leaves-refl _ _ _ _; reads = refl; count = costs-looks old.disk } };

@@ -1,5 +1,6 @@
 -- Where nothing stands in its way, `run` succeeds, or comes to the end of the log.
 use Rattle.std.proofs.Common.{◌≡◌, ◌≤◌, refl, ap, sym, subst, ℕ, ◌+◌, List, length, Option, Some, None, IfSome, arith}
+use Rattle.command_line.specs.declared.options.RunOptions.{RunOptions}
 use Rattle.log_disk.specs.declared.disk.LogDisk.{Ghosts}
 use Rattle.log_record.specs.declared.limits.TheConstants.{LAST_TXN}
 use Rattle.log_record.specs.declared.rec.Rec.{Rec}
@@ -26,7 +27,7 @@ IsMemory (fault.Unlawful lsn why) = ⊥
 no-fault : (bytes : List ℕ) (records : List Rec) (found : RecoverFault) → HoldsLawful bytes records → IsFaultOf bytes found → IsMemory found
 no-fault bytes records found held is = subst IsMemory (sym (lawful-fault bytes records found held is)) tt
 
-module _ {D : Type 0} (g : Ghosts D) (workers : ℕ) (disk disk_new : D) (bytes : List ℕ) (left_new text text_new : Option (List ℕ))
+module _ {D : Type 0} (g : Ghosts D) (options : RunOptions) (disk disk_new : D) (bytes : List ℕ) (left_new text text_new : Option (List ℕ))
     (ReadFails WriteFails DiskFails : Type 0) (opened : List Rec) (held : HoldsLawful (g.reads disk) opened) (jobs : List Job)
     (script : IsScriptText (accounts_of opened) bytes jobs) (numbers : next_txn opened + length jobs ≤ LAST_TXN)
     (no_read : ReadFails → ⊥) (no_write : WriteFails → ⊥) (no_disk : DiskFails → ⊥) where
@@ -43,7 +44,7 @@ module _ {D : Type 0} (g : Ghosts D) (workers : ℕ) (disk disk_new : D) (bytes 
   script-of : (other : List Rec) → HoldsLawful (g.reads disk) other → IsScriptText (accounts_of other) bytes jobs
   script-of other also = subst (λ (records : List Rec). IsScriptText (accounts_of records) bytes jobs) (same-list other also) script
 
-  pub run-done : (detail : Detail) → AnswersRun g workers old new detail → (detail ≡ Read → ReadFails) → (detail ≡ Write → WriteFails)
+  pub run-done : (detail : Detail) → AnswersRun g options old new detail → (detail ≡ Read → ReadFails) → (detail ≡ Write → WriteFails)
       → (detail ≡ Disk → DiskFails) → IsRunDone detail
   run-done Fine answers reads writes disks = tt
   run-done NoMemory answers reads writes disks = tt
@@ -70,13 +71,13 @@ module _ {D : Type 0} (g : Ghosts D) (workers : ℕ) (disk disk_new : D) (bytes 
   run-done Usage answers reads writes disks = absurd answers
   run-done Exists answers reads writes disks = absurd answers
 
-pub run-complete : {D : Type 0} (g : Ghosts D) (workers : ℕ) (disk disk_new : D) (left left_new text text_new : Option (List ℕ))
-    (ReadFails WriteFails DiskFails : Type 0) (detail : Detail) → AnswersRun g workers (outside disk left text) (outside disk_new left_new text_new) detail
+pub run-complete : {D : Type 0} (g : Ghosts D) (options : RunOptions) (disk disk_new : D) (left left_new text text_new : Option (List ℕ))
+    (ReadFails WriteFails DiskFails : Type 0) (detail : Detail) → AnswersRun g options (outside disk left text) (outside disk_new left_new text_new) detail
     → (detail ≡ Read → ReadFails) → (detail ≡ Write → WriteFails) → (detail ≡ Disk → DiskFails)
     → IfSome left (λ bytes. (opened : List Rec) (jobs : List Job) → HoldsLawful (g.reads disk) opened → IsScriptText (accounts_of opened) bytes jobs
     → next_txn opened + length jobs ≤ LAST_TXN → (ReadFails → ⊥) → (WriteFails → ⊥) → (DiskFails → ⊥) → IsRunDone detail)
-run-complete g workers disk disk_new None left_new text text_new R W F detail answers reads writes disks = tt
-run-complete g workers disk disk_new (Some bytes) left_new text text_new R W F detail answers reads writes disks =
+run-complete g options disk disk_new None left_new text text_new R W F detail answers reads writes disks = tt
+run-complete g options disk disk_new (Some bytes) left_new text text_new R W F detail answers reads writes disks =
     λ opened jobs held script numbers no_read no_write no_disk.
-    run-done g workers disk disk_new bytes left_new text text_new R W F opened held jobs script numbers no_read no_write no_disk
+    run-done g options disk disk_new bytes left_new text text_new R W F opened held jobs script numbers no_read no_write no_disk
     detail answers reads writes disks

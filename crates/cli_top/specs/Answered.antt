@@ -21,7 +21,7 @@ use Rattle.cli_world.specs.World.{World, TellsFaults, DoesDump, DoesNew, DoesRec
 pub record DoesRun {D S K : Type 0} (g : Ghosts D) (h : SourceGhosts S) (i : SinkGhosts K) (log : List ℕ) (options : RunOptions)
     (old new : World D S K) (detail : Detail) : Type 0 where
   pub answer : g.honest old.disk
-      → AnswersRun g options.workers (outside old.disk (h.left old.script) (i.held_bytes old.out))
+      → AnswersRun g options (outside old.disk (h.left old.script) (i.held_bytes old.out))
       (outside new.disk (h.left new.script) (i.held_bytes new.out)) detail
   pub silent : RunStaysSilent (i.held_bytes old.out) (i.held_bytes new.out) detail
   pub range : IsOfRun detail
@@ -29,7 +29,7 @@ pub record DoesRun {D S K : Type 0} (g : Ghosts D) (h : SourceGhosts S) (i : Sin
 
 pub record DoesDemo {D S K : Type 0} (g : Ghosts D) (i : SinkGhosts K) (log : List ℕ) (n seed : ℕ) (options : RunOptions)
     (old new : World D S K) (detail : Detail) : Type 0 where
-  pub answer : g.honest old.disk → AnswersDemo g n seed options.workers old.disk new.disk detail
+  pub answer : g.honest old.disk → AnswersDemo g n seed options old.disk new.disk detail
   pub text : TellsSummary n seed (i.held_bytes old.out) (i.held_bytes new.out) detail
   pub range : IsOfDemo detail
   pub exists : g.honest old.disk → TellsWhether (BeginsOpen (g.reads old.disk)) detail

@@ -20,7 +20,7 @@ ghost use Rattle.cli_world.specs.Alone.{command_of};
 ghost use Rattle.cli_world.specs.World.{world};
 ghost use Rattle.cli_top.specs.Asks.{AsksNew, AsksRun, AsksDemo};
 ghost use Rattle.cli_demo.specs.Demo.{AnswersDemo, IsOfDemo, TellsSummary};
-ghost use Rattle.cli_new.specs.Creation.{AllHoldNew, FollowsLog, MayBeLeft, PrecedesLog};
+ghost use Rattle.cli_new.specs.Creation.{AllHoldNew, FollowsLog, GrowsByNew, MayBeLeft, PrecedesLog};
 ghost use Rattle.cli_shared.specs.Creation.{TellsWhether};
 ghost use Rattle.cli_run.specs.RunAnswers.{AnswersRun, IsOfRun, IsRunDone, RunStaysSilent, accounts_of, next_txn, outside};
 ghost use Rattle.lock_core.specs.declared.job.Job.{Job};
@@ -74,7 +74,7 @@ pub fn aether<R: Threads + Wait + Clock + Sync, D: LogDisk, S: Source, K: Sink, 
         → (Rose (S.faults script.old) (S.faults script.new) → ⊥) → (Rose (K.faults out.old) (K.faults out.new) → ⊥)
         → (result.detail ≡ Detail.Fine) ⊎ (result.detail ≡ Detail.NoMemory)) }
 
-    // `new`: the same, and what a crash may leave of the disk.
+    // `new`: the same, what a crash may leave of the disk, and how long its file gets.
     ensures new { AsksNew words.now → IfSome (S.left script.old) (λ bytes.
         AnswersNew bytes (S.left script.new) (K.held_bytes out.old) (K.held_bytes out.new) result.detail) }
     ensures of_new { AsksNew words.now → IsOfNew result.detail }
@@ -89,15 +89,16 @@ pub fn aether<R: Threads + Wait + Clock + Sync, D: LogDisk, S: Source, K: Sink, 
     ensures count { (AsksRun words.now → ⊥) → (AsksDemo words.now → ⊥) → D.honest disk.old → Costs D.LogDisk 7 11 disk.old disk.new }
     ensures attached_new { (log : List ℕ) → IsCommandLine words.now (New log) → D.honest disk.old
         → LeavesAttached (existing_or_made log) (D.attached disk.old) (D.attached disk.new) result.detail }
+    ensures grows { AsksNew words.now → D.honest disk.old → GrowsByNew D.LogDisk (S.left script.old) disk.old disk.new }
     ensures complete { AsksNew words.now → D.honest disk.old → (BeginsOpen (D.reads disk.old) → ⊥)
         → IfSome (S.left script.old) (λ bytes. (balances : List ℕ) → IsBalancesText bytes balances
         → (Rose (S.faults script.old) (S.faults script.new) → ⊥) → (Rose (K.faults out.old) (K.faults out.new) → ⊥)
         → (Rose (D.faults disk.old) (D.faults disk.new) → ⊥)
         → (result.detail ≡ Detail.Fine) ⊎ (result.detail ≡ Detail.NoMemory)) }
 
-    // `run`: what a crash may leave of the disk at each moment, what was written, and why it ended.
+    // `run`: what a crash may leave of the disk at each moment, how long its file gets, what was written, and why it ended.
     ensures run { (log : List ℕ) (options : RunOptions) → IsCommandLine words.now (Run log options) → D.honest disk.old
-        → AnswersRun D.LogDisk options.workers (outside disk.old (S.left script.old) (K.held_bytes out.old))
+        → AnswersRun D.LogDisk options (outside disk.old (S.left script.old) (K.held_bytes out.old))
         (outside disk.new (S.left script.new) (K.held_bytes out.new)) result.detail }
     ensures of_run { AsksRun words.now → IsOfRun result.detail }
     ensures attached_run { (log : List ℕ) (options : RunOptions) → IsCommandLine words.now (Run log options) → D.honest disk.old
@@ -110,9 +111,10 @@ pub fn aether<R: Threads + Wait + Clock + Sync, D: LogDisk, S: Source, K: Sink, 
         → (Rose (S.faults script.old) (S.faults script.new) → ⊥) → (Rose (K.faults out.old) (K.faults out.new) → ⊥)
         → (Rose (D.faults disk.old) (D.faults disk.new) → ⊥) → IsRunDone result.detail) }
 
-    // `demo`: what a crash may leave of the disk at each moment, and the summary, which is the same whatever the options. It reads nothing.
+    // `demo`: what a crash may leave of the disk at each moment, how long its file gets, and the summary, which is the same whatever the options.
+    // It reads nothing.
     ensures demo { (log : List ℕ) (n seed : ℕ) (options : RunOptions) → IsCommandLine words.now (Demo log n seed options)
-        → D.honest disk.old → AnswersDemo D.LogDisk n seed options.workers disk.old disk.new result.detail }
+        → D.honest disk.old → AnswersDemo D.LogDisk n seed options disk.old disk.new result.detail }
     ensures summary { (log : List ℕ) (n seed : ℕ) (options : RunOptions) → IsCommandLine words.now (Demo log n seed options)
         → TellsSummary n seed (K.held_bytes out.old) (K.held_bytes out.new) result.detail }
     ensures of_demo { AsksDemo words.now → IsOfDemo result.detail }

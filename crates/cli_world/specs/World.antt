@@ -16,7 +16,7 @@ use Rattle.cli_shared.specs.Attached.{LeavesAttached}
 use Rattle.cli_shared.specs.Creation.{TellsWhether}
 use Rattle.cli_reports.specs.Answers.{AnswersRecover, AnswersDump, IsOfDump, IsOfRecover}
 use Rattle.cli_new.specs.Answers.{AnswersNew, IsOfNew}
-use Rattle.cli_new.specs.Creation.{AllHoldNew, FollowsLog, MayBeLeft, PrecedesLog}
+use Rattle.cli_new.specs.Creation.{AllHoldNew, FollowsLog, GrowsByNew, MayBeLeft, PrecedesLog}
 
 -- what the program works on
 pub record World (D S K : Type 0) : Type 0 where
@@ -48,6 +48,7 @@ pub record DoesNew {D S K : Type 0} (g : Ghosts D) (h : SourceGhosts S) (i : Sin
   pub exists : g.honest old.disk → TellsWhether (BeginsOpen (g.reads old.disk)) detail
   pub count : g.honest old.disk → Costs g 7 11 old.disk new.disk
   pub attached : g.honest old.disk → LeavesAttached (existing_or_made log) (g.attached old.disk) (g.attached new.disk) detail
+  pub grows : g.honest old.disk → GrowsByNew g (h.left old.script) old.disk new.disk
 
 pub record DoesRecover {D S K : Type 0} (h : SourceGhosts S) (i : SinkGhosts K) (old new : World D S K) (detail : Detail) : Type 0 where
   pub answer : IfSome (h.left old.script) (λ bytes.

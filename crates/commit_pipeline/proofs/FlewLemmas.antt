@@ -1,17 +1,21 @@
 -- What a flush, or a step of the seat alone, does to a flusher, in the words of what turns leave.
-use Rattle.std.proofs.Common.{◌≡◌, ◌∙◌, sym, ap, refl, subst, inl, inr, ℕ, List, [], ◌++◌, length, append-nil, arith}
+use Rattle.std.proofs.Common.{◌≡◌, ◌≤◌, ◌+◌, ◌*◌, ◌∙◌, sym, ap, refl, subst, inl, inr, ℕ, List, [], ◌++◌, length, append-nil, arith}
 use Rattle.log_disk.proofs.Counting.{Costs-none}
+use Rattle.log_disk.proofs.Lengths.{GrowsAtMostTo-more, GrowsAtMostTo-same}
 use Rattle.log_disk.specs.Costs.{Costs}
 use Rattle.log_disk.specs.Disk.{Leaves}
+use Rattle.log_disk.specs.Lengths.{GrowsAtMostTo}
 use Rattle.log_disk.specs.declared.disk.LogDisk.{Ghosts}
 use Rattle.log_disk.proofs.Moments.{Leaves-refl, Leaves-weaken}
 use Rattle.log_record.specs.declared.rec.Rec.{Rec}
-use Rattle.log_record.specs.LogList.{units_of}
+use Rattle.log_record.specs.LogList.{units_of, end_of}
 use Rattle.log_table.specs.declared.view.View.{View}
 use Rattle.log_table.specs.Seats.{view_of}
 use Rattle.log_table.specs.Views.{has_stopped}
 use Rattle.segment_file.specs.File.{HoldsUnits}
+use Rattle.segment_file.specs.Lengths.{most_end}
 use Rattle.segment_file.specs.Standing.{AllStand, HoldsEither}
+use Rattle.segment_file.specs.declared.scan_result.Tail.{Tail}
 use Rattle.flusher.specs.declared.flusher.Flusher.{Flusher}
 use Rattle.flusher.specs.Flushing.{MayFlush, HoldsDurablePrefix, MayHoldBatchInFlight, Sends, Loses, sent_of}
 use Rattle.flusher.specs.Sending.{gathered, flushed}
@@ -19,7 +23,8 @@ use Rattle.flusher.proofs.Flushes.{StandsAt-holds}
 use Rattle.commit_pipeline.specs.Later.{HoldsFront}
 use Rattle.daemon_turn.specs.OneTurn.{Stops}
 
--- these records were sent, those cut are in flight, and at most so many calls were made
+-- these records were sent, those cut are in flight, at most so many calls were made, and the file grew by at most 13 bytes for each unit sent and
+-- one batch in flight
 pub record Flew {D : Type 0} (g : Ghosts D) (more cut : List Rec) (most : ℕ) (old new : Flusher D) : Type 0 where
   pub constants : (view_of new.seat).constants ≡ (view_of old.seat).constants
   pub sent : sent_of new ≡ sent_of old ++ units_of more
@@ -29,6 +34,9 @@ pub record Flew {D : Type 0} (g : Ghosts D) (more cut : List Rec) (most : ℕ) (
   pub prefix : cut ≡ [] → g.honest old.disk.now → (opening : List ℕ) → HoldsDurablePrefix g old opening → HoldsDurablePrefix g new opening
   pub torn : g.honest old.disk.now → (opening : List ℕ) → HoldsDurablePrefix g old opening → MayHoldBatchInFlight g new opening
   pub count : g.honest old.disk.now → Costs g most most old.disk.now new.disk.now
+  pub tail : new.tail.at ≤ old.tail.at + 13 * end_of more
+  pub grows : g.honest old.disk.now
+      → GrowsAtMostTo g (most_end old.tail.at (end_of more) (view_of old.seat).constants.ring) old.disk.now new.disk.now
 
 -- where the whole list stands, nothing is in flight
 torn-none : {D : Type 0} (g : Ghosts D) (f : Flusher D) (opening : List ℕ) → HoldsDurablePrefix g f opening → MayHoldBatchInFlight g f opening
@@ -53,6 +61,8 @@ Flew-step g old new rest constants sent read =
       prefix = λ none honest. prefix;
       torn = λ honest opening stand. torn-none g new opening (prefix opening stand);
       count = λ honest. subst (λ (f : Flusher _). Costs g 0 0 old.disk.now f.disk.now) (sym rest) (Costs-none g old.disk.now);
+      tail = omega (arith, ap (λ (f : Flusher _). f.tail.at) rest);
+      grows = λ honest. GrowsAtMostTo-same g _ old.disk.now new.disk.now (ap (λ (f : Flusher _). g.reads f.disk.now) rest);
     }
 
 -- the list before, or it with all the records: a front of them
@@ -89,6 +99,9 @@ Flew-sends g old new from to ready sends =
       prefix = λ none honest opening stand. sends.prefix honest opening stand;
       torn = λ honest opening stand. torn-none g new opening (sends.prefix honest opening stand);
       count = sends.writes.count;
+      tail = omega (arith, ap (λ (tail : Tail). tail.at) sends.tail, sends.some, sends.whole, ap length sends.spelled.units_are);
+      grows = λ honest. GrowsAtMostTo-more g (old.tail.at + 6 + 8 * length sends.units) _ old.disk.now new.disk.now
+          (omega (arith, sends.some, sends.whole, ap length sends.spelled.units_are)) (sends.writes.grows honest);
     }
 
 pub Flew-loses : {D : Type 0} (g : Ghosts D) (old new : Flusher D) → MayFlush g old → (loses : Loses g old new)
@@ -106,6 +119,9 @@ Flew-loses g old new ready loses =
       prefix = λ none. absurd (omega (arith, loses.some, ap length loses.spelled.units_are, ap (λ rs. length (units_of rs)) none));
       torn = loses.prefix;
       count = loses.writes.count;
+      tail = omega (arith, ap (λ (tail : Tail). tail.at) loses.tail);
+      grows = λ honest. GrowsAtMostTo-more g (old.tail.at + 6 + 8 * length loses.units) _ old.disk.now new.disk.now (omega (arith, loses.few))
+          (loses.writes.grows honest);
     }
 
 -- and then the stop word was stored
@@ -135,4 +151,7 @@ Flew-stop g more cut most word old mid new flew stops =
           → HoldsEither (opening ++ sent_of mid) (view_of mid.seat).sending.read c) (sym stops.rest)
           (flew.torn honest opening stand)));
       count = λ honest. subst (λ (f : Flusher _). Costs g most most old.disk.now f.disk.now) (sym stops.rest) (flew.count honest);
+      tail = omega (arith, flew.tail, ap (λ (f : Flusher _). f.tail.at) stops.rest);
+      grows = λ honest. subst (λ (f : Flusher _). GrowsAtMostTo g (most_end old.tail.at (end_of more) (view_of old.seat).constants.ring) old.disk.now f.disk.now)
+          (sym stops.rest) (flew.grows honest);
     }

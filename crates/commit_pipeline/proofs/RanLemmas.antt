@@ -6,14 +6,16 @@ use Rattle.std.specs.List.{AllByRecursion}
 use Rattle.log_disk.specs.declared.disk.LogDisk.{Ghosts}
 use Rattle.log_disk.specs.declared.sink.Sink.{Ghosts as SinkGhosts}
 use Rattle.log_disk.proofs.Counting.{Costs-more, Costs-then, CountsWhere-after}
+use Rattle.log_disk.proofs.Lengths.{GrowsAtMostTo-more, GrowsAtMostTo-trans}
 use Rattle.log_disk.proofs.Moments.{Leaves-trans, Leaves-weaken}
 use Rattle.log_record.specs.declared.rec.Rec.{Rec}
-use Rattle.log_record.specs.LogList.{units_of}
+use Rattle.log_record.specs.LogList.{units_of, end_of}
 use Rattle.log_record.specs.Spelling.{spelling, IsSpellable}
 use Rattle.log_table.specs.Seats.{view_of}
 use Rattle.log_table.specs.declared.view.Constants.{Constants}
 use Rattle.log_table.specs.declared.view.View.{View}
 use Rattle.segment_file.specs.File.{HoldsUnits}
+use Rattle.segment_file.specs.Lengths.{most_end}
 use Rattle.flusher.specs.Flushing.{sent_of}
 use Rattle.commit_pipeline.specs.declared.daemon.Daemon.{Daemon}
 use Rattle.stop_word.specs.declared.fault.DaemonFault.{DaemonFault}
@@ -22,7 +24,7 @@ use Rattle.end_lines.specs.declared.tally.Tally.{Tally}
 use Rattle.end_lines.specs.declared.voice.Voice.{Voice}
 use Rattle.end_lines.specs.declared.voice.Voice.TheVariants.{Lines, Count}
 use Rattle.end_lines.specs.EndLines.{text_of}
-use Rattle.commit_pipeline.specs.Later.{HoldsFront, InFlight, HasReason, StopTells, extra, Ran, Later}
+use Rattle.commit_pipeline.specs.Later.{HoldsFront, InFlight, HasReason, StopTells, extra, place_of, ring_of, Ran, Later}
 use Rattle.end_lines.specs.Telling.{TellsFront, counted}
 use Rattle.commit_pipeline.specs.Turning.{IsSameDaemon, durable}
 use Rattle.end_lines.proofs.LineLemmas.{text_of-append, counted-append}
@@ -142,6 +144,9 @@ module _ {D : Type 0} {K : Type 0} (g : Ghosts D) (h : SinkGhosts K) (a b c : Da
   moved : (opening : List ℕ) → (opening ++ sent_of a.flusher) ++ units_of first.more ≡ opening ++ sent_of b.flusher
   moved opening = append_assoc opening (sent_of a.flusher) (units_of first.more) ∙ ap (λ us. opening ++ us) (sym first.sent)
 
+  ends : end_of (first.more ++ second.more) ≡ end_of first.more + end_of second.more
+  ends = ap length (flat_map-append spelling first.more second.more) ∙ length-append (units_of first.more) (units_of second.more)
+
   records : (first.more ++ second.more) ++ second.cut ≡ first.more ++ (second.more ++ second.cut)
   records = append_assoc first.more second.more second.cut
 
@@ -225,6 +230,14 @@ module _ {D : Type 0} {K : Type 0} (g : Ghosts D) (h : SinkGhosts K) (a b c : Da
         (Costs-then g (4 * length first.more + extra b.fault) (4 * length second.more + extra c.fault)
         (4 * length first.more + extra b.fault) (4 * length second.more + extra c.fault)
         a.flusher.disk.now b.flusher.disk.now c.flusher.disk.now (first.count honest) (second.count (first.same.flusher.honest.0 honest)));
+    tail = omega (arith, first.tail, second.tail, ends);
+    grows = λ honest.
+        let same_ring : ring_of b ≡ ring_of a = ap (λ (k : Constants). k.ring) first.constants in
+        GrowsAtMostTo-trans g _ a.flusher.disk.now b.flusher.disk.now c.flusher.disk.now
+        (GrowsAtMostTo-more g (most_end (place_of a) (end_of first.more) (ring_of a)) _ a.flusher.disk.now b.flusher.disk.now
+        (omega (arith, ends)) (first.grows honest))
+        (GrowsAtMostTo-more g (most_end (place_of b) (end_of second.more) (ring_of b)) _ b.flusher.disk.now c.flusher.disk.now
+        (omega (arith, ends, first.tail, same_ring)) (second.grows (first.same.flusher.honest.0 honest)));
   }
 
 -- what turns wrote is a front of the lines of the records that they sent

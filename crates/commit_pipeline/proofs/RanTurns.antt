@@ -56,6 +56,8 @@ module _ {D : Type 0} {K : Type 0} (g : Ghosts D) (h : SinkGhosts K) (old new : 
     all = all;
     reason = reason;
     count = λ honest. Costs-more g most _ most _ old.flusher.disk.now new.flusher.disk.now count count (flew.count honest);
+    tail = flew.tail;
+    grows = flew.grows;
   }
 
   -- of no records nothing is told

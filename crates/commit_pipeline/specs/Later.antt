@@ -1,18 +1,20 @@
 -- What any number of turns leave, of which at most the last failed. The relation is reflexive and transitive.
-use Rattle.std.specs.Prelude.{◌≡◌, ◌≢◌, ◌⊎◌, ℕ, ◌+◌, ◌*◌, List, [], ◌++◌, length, Option, Some, None}
+use Rattle.std.specs.Prelude.{◌≡◌, ◌≢◌, ◌≤◌, ◌⊎◌, ℕ, ◌+◌, ◌*◌, List, [], ◌++◌, length, Option, Some, None}
 use Rattle.std.specs.List.{AllByRecursion}
 use Rattle.std.specs.Io.KnownBytes.{Appends}
 use Rattle.log_disk.specs.Costs.{Costs}
 use Rattle.log_disk.specs.Disk.{Leaves}
+use Rattle.log_disk.specs.Lengths.{GrowsAtMostTo}
 use Rattle.log_disk.specs.declared.disk.LogDisk.{Ghosts}
 use Rattle.log_disk.specs.declared.sink.Sink.{Ghosts as SinkGhosts}
 use Rattle.log_disk.specs.Faults.{CountsWhere}
 use Rattle.log_record.specs.declared.rec.Rec.{Rec}
-use Rattle.log_record.specs.LogList.{units_of}
+use Rattle.log_record.specs.LogList.{units_of, end_of}
 use Rattle.log_record.specs.Spelling.{IsSpellable}
 use Rattle.log_table.specs.declared.view.View.{View}
 use Rattle.log_table.specs.Seats.{view_of}
 use Rattle.segment_file.specs.File.{HoldsUnits}
+use Rattle.segment_file.specs.Lengths.{most_end}
 use Rattle.flusher.specs.Flushing.{HoldsDurablePrefix, MayHoldBatchInFlight, sent_of}
 use Rattle.commit_pipeline.specs.declared.daemon.Daemon.{Daemon}
 use Rattle.stop_word.specs.declared.fault.DaemonFault.{DaemonFault}
@@ -54,8 +56,16 @@ extra None = 0
 extra (Some DiskFault) = 4
 extra (Some WriteFault) = 0
 
+-- where the log goes on in its file, and the length of the ring from which its units come
+abbrev pub place_of : {D : Type 0} → {K : Type 0} → Daemon D K → ℕ
+place_of d = d.flusher.tail.at
+
+abbrev pub ring_of : {D : Type 0} → {K : Type 0} → Daemon D K → ℕ
+ring_of d = (view_of d.flusher.seat).constants.ring
+
 -- Turns of a daemon to which nothing had befallen. `more` are the records that they sent, `cut` those in flight at a fault of the
--- disk, and `text` is what was written. No call that failed was made again.
+-- disk, and `text` is what was written. No call that failed was made again. The tail moved, and the file grew, by at most 13 bytes for each
+-- unit sent, and the file by one batch in flight more.
 pub record Ran {D : Type 0} {K : Type 0} (g : Ghosts D) (h : SinkGhosts K) (old new : Daemon D K) : Type 0 where
   pub was_fine : old.fault ≡ None
   pub more : List Rec
@@ -81,6 +91,9 @@ pub record Ran {D : Type 0} {K : Type 0} (g : Ghosts D) (h : SinkGhosts K) (old 
   pub reason : HasReason g h old new
   pub count : g.honest old.flusher.disk.now
       → Costs g (4 * length more + extra new.fault) (4 * length more + extra new.fault) old.flusher.disk.now new.flusher.disk.now
+  pub tail : place_of new ≤ place_of old + 13 * end_of more
+  pub grows : g.honest old.flusher.disk.now
+      → GrowsAtMostTo g (most_end (place_of old) (end_of more) (ring_of old)) old.flusher.disk.now new.flusher.disk.now
 
 -- nothing happened, or turns did
 abbrev pub Later : {D : Type 0} → {K : Type 0} → Ghosts D → SinkGhosts K → Daemon D K → Daemon D K → Type 0

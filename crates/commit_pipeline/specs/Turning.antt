@@ -30,13 +30,17 @@ GoesOn (At lsn) = ⊥
 GoesOn (Active n) = ⊤
 GoesOn (Behind exposed durable) = ⊤
 
+-- it has counted no more end records than units were sent
+abbrev pub HasCounted : {D : Type 0} → {K : Type 0} → Daemon D K → Type 0
+HasCounted d = d.tally.done + d.tally.refused ≤ length (sent_of d.flusher)
+
 -- a turn may be made: nothing has befallen the daemon, it has not stopped the log, and it has counted no more end records than units
 -- were sent
 pub record MayTurn {D : Type 0} {K : Type 0} (g : Ghosts D) (d : Daemon D K) : Type 0 where
   pub flusher : MayFlush g d.flusher
   pub fine : d.fault ≡ None
   pub running : (view_of d.flusher.seat).sending.stop ≡ 0
-  pub counted : d.tally.done + d.tally.refused ≤ length (sent_of d.flusher)
+  pub counted : HasCounted d
 
 -- it is the same daemon, with the same disk and sink
 pub record IsSameDaemon {D : Type 0} {K : Type 0} (g : Ghosts D) (old new : Daemon D K) : Type 0 where

@@ -1,4 +1,5 @@
-ghost use Rattle.std.specs.Prelude.{◌≡◌, None};
+ghost use Rattle.std.specs.Prelude.{◌≡◌, ◌≤◌, ◌+◌, None};
+ghost use Rattle.commit_pipeline.specs.Turning.{HasCounted, durable};
 
 use end_lines::{Tally, Voice};
 use flusher::Flusher;
@@ -37,16 +38,19 @@ impl<'a, D, K> Daemon<'a, D, K> {
         }
     }
 
-    /// How many transactions are done, by the end records that were sent.
-    pub fn done(&self) -> u32
-        ensures { result ≡ self.now.tally.done }
+    /// How many transactions are done, by the end records that were sent. With those that were refused they are at most the end of what
+    /// was sent.
+    pub fn done(&self) -> u64
+        ensures done { result ≡ self.now.tally.done }
+        ensures within { HasCounted self.now → result + self.now.tally.refused ≤ durable self.now }
     {
         self.tally.done
     }
 
     /// How many were refused.
-    pub fn refused(&self) -> u32
-        ensures { result ≡ self.now.tally.refused }
+    pub fn refused(&self) -> u64
+        ensures refused { result ≡ self.now.tally.refused }
+        ensures within { HasCounted self.now → self.now.tally.done + result ≤ durable self.now }
     {
         self.tally.refused
     }

@@ -155,7 +155,7 @@ fn count_one<R: Wait + Clock + Abort>(
     alloc: Global,
     disk: &mut MemoryDisk,
     sink: &mut MemorySink,
-) -> Option<(Drained, Lsn, [u32; 2])>
+) -> Option<(Drained, Lsn, [u64; 2])>
     requires { IsOnlyImage [] (ImagesOf disk.old) }
 {
     let Ok((table, mut boss)) = table_of(alloc, (100, 0), 4) else {
@@ -248,7 +248,7 @@ fn three_in_a_turn<R: Wait + Clock + Abort>(
     rt: &R,
     alloc: Global,
     sink: &mut MemorySink,
-) -> Option<(Result<Turn, DaemonFault>, [u32; 2])> {
+) -> Option<(Result<Turn, DaemonFault>, [u64; 2])> {
     let Ok((table, mut boss)) = table_of(alloc, (100, 0), 4) else {
         return None;
     };
@@ -270,7 +270,7 @@ const TOGETHER: &[(usize, &[u64], bool, &[u8])] = &[
 /// The turn is Ok or not, and has counted all three either way.
 fn has_counted_three(
     rt: &impl Abort,
-    found: Option<(Result<Turn, DaemonFault>, [u32; 2])>,
+    found: Option<(Result<Turn, DaemonFault>, [u64; 2])>,
     fine: bool,
 ) {
     let to = Lsn::new(19);

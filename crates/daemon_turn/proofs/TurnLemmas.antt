@@ -12,7 +12,7 @@ use Rattle.end_lines.specs.declared.tally.Tally.{Tally}
 use Rattle.end_lines.specs.declared.voice.Voice.{Voice}
 use Rattle.end_lines.specs.Telling.{TellsAll, TellsFront}
 use Rattle.flusher.specs.declared.flusher.Flusher.{Flusher}
-use Rattle.flusher.specs.Flushing.{MayFlush, IsSame, FindsNothing, Sends, Loses}
+use Rattle.flusher.specs.Flushing.{MayFlush, IsSame, FindsNothing, Sends, Loses, sent_of}
 use Rattle.daemon_turn.specs.OneTurn.{MayGoOn, Stops, FindsAll, SendsAndTells, CannotSend, CannotTell}
 
 module _ {D : Type 0} {K : Type 0} (g : Ghosts D) (h : SinkGhosts K) (voice : Voice) (old : Flusher D) (sink : K) (tally : Tally) where
@@ -86,24 +86,40 @@ MayGoOn-found g old new tally at finds ready may =
       counted = omega (arith, ready.counted, ap (λ (v : View). length v.sending.sent) is);
     }
 
+-- records were sent, and no more end records counted than they have units
+pub counted-sent : {D : Type 0} (g : Ghosts D) (old new : Flusher D) (tally tally' : Tally) (from to : ℕ) → Sends g old new from to
+    → tally.done + tally.refused ≤ length (sent_of old) → tally'.done + tally'.refused ≤ (tally.done + tally.refused) + length new.batch.units
+    → tally'.done + tally'.refused ≤ length (sent_of new)
+counted-sent g old new tally tally' from to sends counted few =
+    let is = ap (λ m. m.0) sends.seat.me in
+    let sending = (view_of old.seat).sending in
+    omega (
+      arith,
+      counted,
+      few,
+      ap (λ b. length b.units) sends.batch,
+      ap (λ (v : View). length v.sending.sent) is,
+      length-append sending.sent (sending.read ++ sends.units),
+      length-append sending.read sends.units,
+    )
+
+-- what a flush lost was not sent
+pub sent-lost : {D : Type 0} (g : Ghosts D) (old lost : Flusher D) → Loses g old lost → length (sent_of lost) ≡ length (sent_of old)
+sent-lost g old lost loses = ap (λ (v : View). length v.sending.sent) (ap (λ m. m.0) loses.seat.me)
+
+-- the stop word adds nothing to what was sent
+pub sent-stop : {D : Type 0} (mid new : Flusher D) (word : ℕ) → Stops word mid new → length (sent_of new) ≡ length (sent_of mid)
+sent-stop mid new word stops = ap (λ (v : View). length v.sending.sent) (ap (λ m. m.0) stops.seat.me)
+
 -- or records were sent, and no more end records counted than they have units
 pub MayGoOn-sent : {D : Type 0} (g : Ghosts D) (old new : Flusher D) (tally tally' : Tally) (from to : ℕ) → Sends g old new from to → MayGoOn g old tally
     → MayFlush g new → tally'.done + tally'.refused ≤ (tally.done + tally.refused) + length new.batch.units → MayGoOn g new tally'
 MayGoOn-sent g old new tally tally' from to sends ready may few =
     let is = ap (λ m. m.0) sends.seat.me in
-    let sending = (view_of old.seat).sending in
     record {
       flusher = may;
       running = ap (λ (v : View). v.sending.stop) is ∙ ready.running;
-      counted = omega (
-        arith,
-        ready.counted,
-        few,
-        ap (λ b. length b.units) sends.batch,
-        ap (λ (v : View). length v.sending.sent) is,
-        length-append sending.sent (sending.read ++ sends.units),
-        length-append sending.read sends.units,
-      );
+      counted = counted-sent g old new tally tally' from to sends ready.counted few;
     }
 
 -- the stop word was stored: it is the same flusher

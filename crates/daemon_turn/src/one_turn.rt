@@ -1,6 +1,6 @@
 //! One flush, and then the lines of what it sent.
-ghost use Rattle.std.specs.Prelude.{IfOk, IfErr, OnOk};
-ghost use Rattle.flusher.specs.Flushing.{IsSame};
+ghost use Rattle.std.specs.Prelude.{◌≤◌, ◌+◌, length, IfOk, IfErr, OnOk};
+ghost use Rattle.flusher.specs.Flushing.{IsSame, sent_of};
 ghost use Rattle.daemon_turn.specs.OneTurn.{MayGoOn, Made, Failed};
 
 use batch_lines::tell;
@@ -32,6 +32,9 @@ pub fn make_turn<D: LogDisk, K: Sink>(
     ensures failed { IfErr result (Failed D.LogDisk K.Sink voice flusher.old flusher.new sink.old sink.new tally.old tally.new) }
     ensures ready { OnOk result (MayGoOn D.LogDisk flusher.new tally.new) }
     ensures same { IsSame D.LogDisk flusher.old flusher.new }
+
+    // Also where it fails no more end records were counted than units were sent.
+    ensures counted { tally.new.done + tally.new.refused ≤ length (sent_of flusher.new) }
 {
     let Ok(flushed) = flusher.flush() else {
         return Err(tell_fault(flusher.table, &mut flusher.seat, DaemonFault::DiskFault));

@@ -3,6 +3,7 @@ use Rattle.std.proofs.Common.{◌≡◌, ◌≤◌, ◌<◌, ◌+◌, ◌*◌, �
 use Rattle.std.specs.List.{AllByRecursion, Contains}
 use Rattle.std.proofs.lemmas.List.Elements.{Contains-append_left, Contains-append_right, Contains-push}
 use Rattle.log_disk.specs.Disk.{Leaves}
+use Rattle.log_disk.specs.Lengths.{GrowsAtMostTo}
 use Rattle.log_disk.specs.declared.disk.LogDisk.{Ghosts}
 use Rattle.log_disk.proofs.Moments.{Leaves-now}
 use Rattle.log_record.specs.declared.rec.Rec.{Rec}
@@ -54,6 +55,12 @@ pub Leaves-append : {D : Type 0} (g : Ghosts D) (old : Flusher D) (disk : D) (ba
 Leaves-append g old disk batch units same moments opening stand =
     subst (λ us. Leaves g.moment g.images_since (HoldsEither (opening ++ sent_of old) us) old.disk.now disk) same
     (moments (opening ++ sent_of old) stand)
+
+-- what it says of the file's length, said of the units that the batch was gathered from
+pub GrowsAtMostTo-append : {D : Type 0} (g : Ghosts D) (old : Flusher D) (disk : D) (batch units : List ℕ) → batch ≡ units
+    → GrowsAtMostTo g (old.tail.at + 6 + 8 * length batch) old.disk.now disk → GrowsAtMostTo g (old.tail.at + 6 + 8 * length units) old.disk.now disk
+GrowsAtMostTo-append g old disk batch units same grows =
+    subst (λ us. GrowsAtMostTo g (old.tail.at + 6 + 8 * length us) old.disk.now disk) same grows
 
 -- after an append the images hold what the view then says was sent
 pub HoldsDurablePrefix-append : {D : Type 0} (g : Ghosts D) (old : Flusher D) (tail : Tail) (disk : D) (batch units sent : List ℕ) → batch ≡ units

@@ -2,6 +2,7 @@
 use Rattle.std.specs.Prelude.{◌≡◌, ◌↔◌, ℕ, ◌+◌, ◌*◌, ◌^◌, ◌<◌, ◌≤◌, List, [], ◌++◌, length, Contains}
 use Rattle.log_disk.specs.Costs.{Costs}
 use Rattle.log_disk.specs.Disk.{IsOnlyImage, Leaves}
+use Rattle.log_disk.specs.Lengths.{GrowsAtMostTo}
 use Rattle.log_disk.specs.declared.disk.LogDisk.{Ghosts}
 use Rattle.log_record.specs.declared.rec.Rec.{Rec}
 use Rattle.log_table.specs.declared.table.Seat.{Seat}
@@ -64,11 +65,13 @@ abbrev pub MayHoldBatchInFlight : {D : Type 0} → Ghosts D → Flusher D → Li
 MayHoldBatchInFlight g f opening = (c : List ℕ) → g.images f.disk.now c
     → HoldsEither (opening ++ sent_of f) (view_of f.seat).sending.read c
 
--- at each moment an image holds what was sent before, or that and the whole batch; whatever the opening units were
+-- At each moment an image holds what was sent before, or that and the whole batch; whatever the opening units were. The file ends at most
+-- behind the batch and the next gate.
 pub record WritesWhole {D : Type 0} (g : Ghosts D) (units : List ℕ) (old new : Flusher D) : Type 0 where
   pub moments : g.honest old.disk.now → (opening : List ℕ) → HoldsDurablePrefix g old opening
       → Leaves g.moment g.images_since (HoldsEither (opening ++ sent_of old) units) old.disk.now new.disk.now
   pub count : g.honest old.disk.now → Costs g 4 4 old.disk.now new.disk.now
+  pub grows : g.honest old.disk.now → GrowsAtMostTo g (old.tail.at + 6 + 8 * length units) old.disk.now new.disk.now
 
 -- exposed, as loaded, is durable, and nothing else was done
 pub record FindsNothing {D : Type 0} (old new : Flusher D) (at : ℕ) : Type 0 where
@@ -92,12 +95,13 @@ pub record Sends {D : Type 0} (g : Ghosts D) (old new : Flusher D) (from to : �
   pub prefix : g.honest old.disk.now → (opening : List ℕ) → HoldsDurablePrefix g old opening → HoldsDurablePrefix g new opening
   pub settled : g.honest old.disk.now → IsOnlyImage (g.reads new.disk.now) (g.images new.disk.now)
 
--- the units up to exposed, as loaded, were read, which spell records, and the disk failed to take them; durable stands, and the seat
--- keeps what it read
+-- the units up to exposed, as loaded, were read, no more than the ring has, which spell records, and the disk failed to take them; durable
+-- stands, and the seat keeps what it read
 pub record Loses {D : Type 0} (g : Ghosts D) (old new : Flusher D) : Type 0 where
   pub to : ℕ
   pub units : List ℕ
   pub some : 0 < length units
+  pub few : length units ≤ (view_of old.seat).constants.ring
   pub whole : to ≡ sent_to (view_of old.seat) + length units
   pub records : List Rec
   pub spelled : AreUnitsOf units records

@@ -1,5 +1,5 @@
 -- Counts of faults. A count is 64 bits wide, and stands still at its last value.
-use Rattle.std.specs.Prelude.{◌≡◌, ◌≤◌, ℕ, ◌+◌, ◌-◌, ◌^◌, min, Result, OnOk, OnErr, MatchResult}
+use Rattle.std.specs.Prelude.{◌≡◌, ◌≤◌, ℕ, ◌+◌, ◌-◌, ◌^◌, min, Result, OnOk, OnErr}
 
 -- one more, or the last value of the counter
 abbrev pub raised : ℕ → ℕ
@@ -19,7 +19,3 @@ pub record HasCause {T E : Type 0} (before now : ℕ) (result : Result T E) : Ty
   pub later : before ≤ now
   pub fine : OnOk result (now ≡ before)
   pub failed : OnErr result (Rose before now)
-
--- one fault is counted where the call failed, and none elsewhere
-abbrev pub CountsFault : {T E : Type 0} → ℕ → ℕ → Result T E → Type 0
-CountsFault before now result = MatchResult result (λ _. now ≡ before) (λ _. now ≡ raised before)

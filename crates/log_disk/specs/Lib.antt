@@ -2,4 +2,5 @@ pub mod Attaching
 pub mod Costs
 pub mod Disk
 pub mod Faults
+pub mod Lengths
 pub mod Streams

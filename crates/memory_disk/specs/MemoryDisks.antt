@@ -1,7 +1,7 @@
 -- The disk in memory, as contracts see it, and the record that it keeps of its history.
-use Rattle.std.specs.Prelude.{◌≡◌, ◌≤◌, ◌<◌, ◌⊎◌, ℕ, ◌+◌, ◌*◌, ◌^◌, List, [], ◌∷◌, length, take, drop, Option, Result, Contains}
+use Rattle.std.specs.Prelude.{◌≡◌, ◌≤◌, ◌<◌, ◌⊎◌, ℕ, ◌+◌, ◌*◌, ◌^◌, List, [], ◌∷◌, length, take, drop, Option, Contains}
 use Rattle.log_disk.specs.Attaching.{Attached}
-use Rattle.log_disk.specs.Faults.{raised, CountsFault}
+use Rattle.log_disk.specs.Faults.{raised}
 use Rattle.memory_disk.specs.History.{Event, file_after, Images, ImagesSince}
 use Rattle.memory_disk.specs.History.Event.{Wrote, Synced}
 use Rattle.memory_disk.specs.declared.memory_disk.TheConstants.{LONGEST_NAME, RECORD}
@@ -47,11 +47,10 @@ CallFails d cost = (d.room < cost) ⊎ Contains d.failing (raised d.calls)
 abbrev pub AttachFails : DiskState → List ℕ → Type 0
 AttachFails d name = (LONGEST_NAME < length name) ⊎ CallFails d 0
 
--- a call is counted, and a fault where it failed
-pub record CountsCall {T E : Type 0} (old new : DiskState) (result : Result T E) : Type 0 where
+-- a call is counted
+pub record CountsCall (old new : DiskState) : Type 0 where
   pub failing : new.failing ≡ old.failing
   pub calls : new.calls ≡ raised old.calls
-  pub faults : CountsFault old.faults new.faults result
 
 -- how many of the joined bytes are the steps'
 abbrev pub total_len : List Step → ℕ

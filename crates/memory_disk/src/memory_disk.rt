@@ -242,7 +242,7 @@ impl LogDisk for MemoryDisk {
 
         // Beside the trait's: it fails exactly where it was told to, or where the name is too long.
         ensures fails { IsErr result ↔ AttachFails self.old name.now }
-        ensures counts { CountsCall self.old self.new result }
+        ensures counts { CountsCall self.old self.new }
         ensures room { self.new.room ≡ self.old.room }
     {
         let name = name.text().as_bytes();
@@ -263,7 +263,7 @@ impl LogDisk for MemoryDisk {
 
         // Beside the trait's: it fails exactly where it was told to.
         ensures fails { IsErr result ↔ CallFails self.old 0 }
-        ensures counts { CountsCall self.old self.new result }
+        ensures counts { CountsCall self.old self.new }
         ensures room { self.new.room ≡ self.old.room }
     {
         self.count_call(0)?;
@@ -281,7 +281,7 @@ impl LogDisk for MemoryDisk {
 
         // Beside the trait's: it fails exactly where it was told to.
         ensures fails { IsErr result ↔ CallFails self.old 0 }
-        ensures counts { CountsCall self.old self.new result }
+        ensures counts { CountsCall self.old self.new }
         ensures room { self.new.room ≡ self.old.room }
     {
         self.count_call(0)?;
@@ -301,7 +301,7 @@ impl LogDisk for MemoryDisk {
 
         // Beside the trait's: it fails exactly where it was told to, or where too little room is left.
         ensures fails { IsErr result ↔ CallFails self.old (RECORD + length bytes.now) }
-        ensures counts { CountsCall self.old self.new result }
+        ensures counts { CountsCall self.old self.new }
 
         // What the disk keeps of the write, and what that takes of the room.
         ensures start { self.new.start ≡ self.old.start }
@@ -337,7 +337,7 @@ impl LogDisk for MemoryDisk {
 
         // Beside the trait's: it fails exactly where it was told to, or where too little room is left.
         ensures fails { IsErr result ↔ CallFails self.old RECORD }
-        ensures counts { CountsCall self.old self.new result }
+        ensures counts { CountsCall self.old self.new }
 
         // What the disk keeps of the sync, and what that takes of the room.
         ensures start { self.new.start ≡ self.old.start }

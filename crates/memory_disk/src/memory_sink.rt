@@ -1,6 +1,6 @@
 ghost use Rattle.std.specs.Prelude.{◌≡◌, ◌<◌, ◌≤◌, ◌-◌, ◌↔◌, [], min, length, IsErr, IfOk, OnOk, Some};
 ghost use Rattle.std.specs.Io.KnownBytes.{WriteAppends};
-ghost use Rattle.log_disk.specs.Faults.{HasCause, raised, CountsFault};
+ghost use Rattle.log_disk.specs.Faults.{HasCause, raised};
 ghost use Rattle.memory_disk.specs.Memory.{WriteFails};
 
 use log_disk::{Failed, Sink};
@@ -77,7 +77,6 @@ impl Sink for MemorySink {
 
         // Beside the trait's: it fails exactly where it was told to, and takes as much as it can.
         ensures fails { IsErr result ↔ WriteFails self.old }
-        ensures faults { CountsFault self.old.faults self.new.faults result }
         ensures count { IfOk result (λ n. n ≡ min (length piece.now) (self.old.room - length self.old.held)) }
         ensures calls { self.new.calls ≡ raised self.old.calls }
         ensures room { self.new.room ≡ self.old.room }

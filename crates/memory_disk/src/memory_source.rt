@@ -1,7 +1,7 @@
 ghost use Rattle.std.specs.Prelude.{◌≡◌, ◌<◌, ◌≤◌, ◌+◌, ◌++◌, ◌↔◌, [], min, take, drop, length, IsErr, IfOk, OnOk, Some};
 ghost use Rattle.std.specs.Io.{ReadsAtMost};
 ghost use Rattle.std.specs.Io.KnownBytes.{ReadConsumes};
-ghost use Rattle.log_disk.specs.Faults.{HasCause, raised, CountsFault};
+ghost use Rattle.log_disk.specs.Faults.{HasCause, raised};
 ghost use Rattle.log_disk.specs.Streams.{SpendsAllowance};
 ghost use Rattle.memory_disk.specs.Memory.{ReadFails};
 
@@ -88,7 +88,6 @@ impl Source for MemorySource {
 
         // Beside the trait's: it fails exactly where it was told to, and gives as much as it may.
         ensures fails { IsErr result ↔ ReadFails self.old }
-        ensures faults { CountsFault self.old.faults self.new.faults result }
         ensures count { IfOk result (λ n. n ≡ min (min (length self.old.left) self.old.piece) (length buf.old)) }
         ensures calls { self.new.calls ≡ raised self.old.calls }
         ensures piece { self.new.piece ≡ self.old.piece }

@@ -1,5 +1,6 @@
 pub mod File
 pub mod Gates
+pub mod Lengths
 pub mod Opening
 pub mod Packing
 pub mod Scan

@@ -1,6 +1,7 @@
-use Rattle.std.proofs.Common.{rules, ◌≡◌, inl, arith}
+use Rattle.std.proofs.Common.{rules, ◌≡◌, ◌∙◌, inl, ap, ℕ, List, length, arith}
 use Rattle.std.proofs.lemmas.Result.{err_from_is_err_and}
 use Rattle.log_disk.proofs.Counting.{Costs-more}
+use Rattle.segment_file.specs.Lengths.{new_end}
 use Rattle.cli_demo.proofs.DemoLemmas.{fault-found, only-makes, opened-generated}
 use Rattle.cli_demo.proofs.demo_command.make_ready.Goals as goal
 
@@ -25,10 +26,13 @@ returns-in-Ok-create-clause-ready g c =
     record {
       log = opened-generated g.D.LogDisk _ _ _ c.in-Ok.prepared prepared c.create.new.disk c.in-Ok-create.tail c.in-Ok.batch.units c.in-Ok.ensures.batch
           (λ honest. created.created (created.honest.1 honest)) (λ honest. created.shut (created.honest.1 honest)) created.place created.next;
+      place = created.place ∙ ap (λ (units : List ℕ). new_end (length units)) c.in-Ok.ensures.batch;
+      ring = prepared.ring;
       generated = prepared.generated;
       prepared = prepared.ready;
       made = λ honest. only-makes g.D.LogDisk c.args.disk.now c.finds_none.new.disk c.create.new.disk c.in-Ok.batch.units c.in-Ok.ensures.batch
-          found.moments (found.count honest) (created.moments (found.honest.0 honest)) (created.count (found.honest.0 honest));
+          found.moments (found.count honest) (found.reads honest) (created.moments (found.honest.0 honest)) (created.count (found.honest.0 honest))
+          (created.length (found.honest.0 honest));
     }
 
 pub returns-in-Err-clause-none : goal.returns-in-Err-clause-none
@@ -36,4 +40,5 @@ returns-in-Err-clause-none g c = λ honest.
     let found = c.in_ok-finds_none.ensures in
     let failed = c.in-Err.ensures in
     inl (only-makes g.D.LogDisk c.args.disk.now c.finds_none.new.disk c.create.new.disk c.in-Ok.batch.units c.in-Ok.ensures.batch
-    found.moments (found.count honest) (failed.moments (found.honest.0 honest)) (failed.count (found.honest.0 honest)))
+    found.moments (found.count honest) (found.reads honest) (failed.moments (found.honest.0 honest)) (failed.count (found.honest.0 honest))
+    (failed.length (found.honest.0 honest)))

@@ -18,6 +18,7 @@ returns-in-Err g c =
       unchanged = made.unchanged;
       exists = made.exists;
       count = made.count;
+      grows = made.grows;
       honest = made.honest;
       attached = made.attached;
       read = record { counted = λ is. made.read.counted (ap Err is); fine = λ other. made.read.fine (λ is. other cc) };
@@ -54,6 +55,9 @@ returns-in-Ok-put_accounts-clause-exists g c = c.in-Ok.ensures.exists
 
 pub returns-in-Ok-put_accounts-clause-count : goal.returns-in-Ok-put_accounts-clause-count
 returns-in-Ok-put_accounts-clause-count g c = c.in-Ok.ensures.count
+
+pub returns-in-Ok-put_accounts-clause-grows : goal.returns-in-Ok-put_accounts-clause-grows
+returns-in-Ok-put_accounts-clause-grows g c = c.in-Ok.ensures.grows
 
 pub returns-in-Ok-put_accounts-clause-honest : goal.returns-in-Ok-put_accounts-clause-honest
 returns-in-Ok-put_accounts-clause-honest g c = c.in-Ok.ensures.honest
@@ -108,6 +112,9 @@ returns-clause-exists g c = c.in-Ok.ensures.exists
 
 pub returns-clause-count : goal.returns-clause-count
 returns-clause-count g c = c.in-Ok.ensures.count
+
+pub returns-clause-grows : goal.returns-clause-grows
+returns-clause-grows g c = c.in-Ok.ensures.grows
 
 pub returns-clause-honest : goal.returns-clause-honest
 returns-clause-honest g c = c.in-Ok.ensures.honest

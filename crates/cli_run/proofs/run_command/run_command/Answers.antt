@@ -1,4 +1,4 @@
-use Rattle.std.proofs.Common.{◌∙◌, Err, ap, refl}
+use Rattle.std.proofs.Common.{Err, ◌∙◌, ap, refl}
 use Rattle.log_disk.proofs.Counting.{CountsWhere-after}
 use Rattle.cli_shared.proofs.AttachedLemmas.{leaves-attached}
 use Rattle.cli_threads.proofs.EndingLemmas.{attached-ended, disk-concluded, honest-ended, write-concluded}

@@ -75,6 +75,7 @@ returns g c =
         done_is = turned.done_is;
         refused_is = turned.refused_is;
         speaks = turned.speaks;
+        tail_is = turned.tail_is;
         disk_old = turned.disk_old;
         disk_is = turned.disk_is ∙ search rules;
         sink_old = turned.sink_old;

@@ -41,6 +41,7 @@ returns g c =
       exists = λ asked. (done (New asked.0) asked.1).exists;
       count = count-of _ _ _ words old new detail came;
       attached_new = λ log asked. (done (New log) asked).attached;
+      grows = λ asked. (done (New asked.0) asked.1).grows;
       complete = λ asked honest closed. new-complete _ _ _ _ _ _ _ _ detail (done (New asked.0) asked.1).answer
           ((done (New asked.0) asked.1).exists honest) faults.read.counted faults.write.counted faults.disk.counted closed;
       run = λ log options asked. (done (Run log options) asked).answer;

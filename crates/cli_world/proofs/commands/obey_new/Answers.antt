@@ -15,6 +15,7 @@ returns g c =
         exists = called.exists;
         count = called.count;
         attached = called.attached;
+        grows = called.grows;
       };
       faults = record {
         read = called.read;

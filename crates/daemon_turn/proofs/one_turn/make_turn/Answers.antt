@@ -1,6 +1,6 @@
-use Rattle.std.proofs.Common.{refl, subst}
+use Rattle.std.proofs.Common.{refl, subst, arith}
 use Rattle.flusher.specs.Flushing.{Flushes}
-use Rattle.daemon_turn.proofs.TurnLemmas.{FindsAll-found, SendsAndTells-told, CannotSend-stop, CannotTell-stop, MayGoOn-found, MayGoOn-sent, IsSame-stop}
+use Rattle.daemon_turn.proofs.TurnLemmas.{FindsAll-found, SendsAndTells-told, CannotSend-stop, CannotTell-stop, MayGoOn-found, MayGoOn-sent, IsSame-stop, counted-sent, sent-lost, sent-stop}
 use Rattle.daemon_turn.proofs.one_turn.make_turn.Goals as goal
 
 pub returns-in_default-clause-failed : goal.returns-in_default-clause-failed
@@ -11,6 +11,14 @@ returns-in_default-clause-failed g c =
 pub returns-in_default-clause-same : goal.returns-in_default-clause-same
 returns-in_default-clause-same g c =
     IsSame-stop g.D.LogDisk c.args.flusher.now c.flush.new.self _ 1 c.flush.ensures.same record { seat = c.tell_fault.ensures.stops; rest = refl }
+
+pub returns-in_default-clause-counted : goal.returns-in_default-clause-counted
+returns-in_default-clause-counted g c = omega (
+  arith,
+  c.requires.ready.counted,
+  sent-lost g.D.LogDisk c.args.flusher.now c.flush.new.self c.in_default.ensures.lost,
+  sent-stop c.flush.new.self _ 1 (record { seat = c.tell_fault.ensures.stops; rest = refl }),
+)
 
 pub returns-in_default-flushed-clause-made : goal.returns-in_default-flushed-clause-made
 returns-in_default-flushed-clause-made g c =
@@ -24,6 +32,9 @@ returns-in_default-flushed-clause-ready g c =
 
 pub returns-in_default-flushed-clause-same : goal.returns-in_default-flushed-clause-same
 returns-in_default-flushed-clause-same g c = c.flush.ensures.same
+
+pub returns-in_default-flushed-clause-counted : goal.returns-in_default-flushed-clause-counted
+returns-in_default-flushed-clause-counted g c = (returns-in_default-flushed-clause-ready g c).counted
 
 pub returns-in-Ok-told-clause-made : goal.returns-in-Ok-told-clause-made
 returns-in-Ok-told-clause-made g c =
@@ -40,6 +51,16 @@ returns-in-Ok-told-clause-ready g c =
 
 pub returns-in-Ok-told-clause-same : goal.returns-in-Ok-told-clause-same
 returns-in-Ok-told-clause-same g c = c.flush.ensures.same
+
+pub returns-in-Ok-told-clause-counted : goal.returns-in-Ok-told-clause-counted
+returns-in-Ok-told-clause-counted g c = (returns-in-Ok-told-clause-ready g c).counted
+
+pub returns-in-Err-clause-counted : goal.returns-in-Err-clause-counted
+returns-in-Err-clause-counted g c =
+    let sends = subst (Flushes g.D.LogDisk c.args.flusher.now c.flush.new.self) c.in-To.is c.in-Ok.ensures.flushed in
+    let sent = counted-sent g.D.LogDisk c.args.flusher.now c.flush.new.self c.args.tally.now c.tell-told.new.tally c.in-To.from c.in-To.to sends
+    c.requires.ready.counted c.tell-told.ensures.few in
+    omega (arith, sent, sent-stop c.flush.new.self _ 2 (record { seat = c.tell_fault-in-Err.ensures.stops; rest = refl }))
 
 pub returns-in-Err-clause-failed : goal.returns-in-Err-clause-failed
 returns-in-Err-clause-failed g c =

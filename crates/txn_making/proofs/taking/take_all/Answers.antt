@@ -14,6 +14,9 @@ pub take_one-requires-clause-ascends : goal.take_one-requires-clause-ascends
 take_one-requires-clause-ascends g c =
     next-ascends _ _ _ _ _ c.accounts.invariant.0 c.requires.rising c.accounts-test.true
 
+pub take_one-requires-clause-known : goal.take_one-requires-clause-known
+take_one-requires-clause-known g c = c.requires.known c.accounts.account-index 0 c.accounts-test.true
+
 pub give_unchanged-requires-clause-holds : goal.give_unchanged-requires-clause-holds
 give_unchanged-requires-clause-holds g c = holds-all _ _ _ _ _ c.accounts.invariant.0 (rising-take _ _ c.requires.rising) c.in-Err.ensures.kept
 

@@ -16,6 +16,9 @@ returns-in-Ok-clause-ready g c =
     MayTurn-made g.D.LogDisk g.K.Sink c.args.self.now c.make_turn-made.new.flusher c.make_turn-made.new.sink c.make_turn-made.new.tally
     c.in-Ok.ensures.ready c.requires.ready.fine
 
+pub returns-in-Ok-clause-counted : goal.returns-in-Ok-clause-counted
+returns-in-Ok-clause-counted g c = c.make_turn-made.ensures.counted
+
 pub returns-in-Ok-clause-same : goal.returns-in-Ok-clause-same
 returns-in-Ok-clause-same g c =
     IsSameDaemon-made g.D.LogDisk g.K.Sink c.args.self.now c.make_turn-made.new.flusher c.make_turn-made.new.sink c.make_turn-made.new.tally
@@ -30,6 +33,9 @@ pub returns-in-Err-clause-failed : goal.returns-in-Err-clause-failed
 returns-in-Err-clause-failed g c =
     Fails-made g.D.LogDisk g.K.Sink c.args.self.now c.make_turn-made.new.flusher c.make_turn-made.new.sink c.make_turn-made.new.tally
     c.in-Err.fault c.in-Err.ensures.failed
+
+pub returns-in-Err-clause-counted : goal.returns-in-Err-clause-counted
+returns-in-Err-clause-counted g c = c.make_turn-made.ensures.counted
 
 pub returns-in-Err-clause-same : goal.returns-in-Err-clause-same
 returns-in-Err-clause-same g c =

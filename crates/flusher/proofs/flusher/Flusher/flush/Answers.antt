@@ -5,7 +5,7 @@ use Rattle.log_table.specs.declared.view.View.{View}
 use Rattle.log_table.specs.Seats.{view_of}
 use Rattle.log_table.specs.Views.{has_sent}
 use Rattle.flusher.specs.Sending.{read_units, gathered}
-use Rattle.flusher.proofs.Flushes.{Becomes-then, IsSameSeat-becomes, Leaves-append, Reads-gathered, sent_to-flushed, seen-flushed, HoldsDurablePrefix-append, MayHoldBatchInFlight-append, MayFlush-step, seen-newer, tail-appended, tail-place}
+use Rattle.flusher.proofs.Flushes.{Becomes-then, GrowsAtMostTo-append, IsSameSeat-becomes, Leaves-append, Reads-gathered, sent_to-flushed, seen-flushed, HoldsDurablePrefix-append, MayHoldBatchInFlight-append, MayFlush-step, seen-newer, tail-appended, tail-place}
 use Rattle.flusher.proofs.flusher.Flusher.flush.Goals as goal
 
 pub returns-in_err-self-clause-lost : goal.returns-in_err-self-clause-lost
@@ -23,6 +23,12 @@ returns-in_err-self-clause-lost g c =
       to = c.load_exposed-to.result;
       units = c.gather.ensures.units;
       some = omega (arith, c.gather.ensures.whole, below);
+      few = omega (
+        arith,
+        (c.load_exposed-to.ensures.flusher c.requires.ready.flusher).room,
+        c.gather.ensures.whole,
+        c.requires.ready.next,
+      );
       whole = c.gather.ensures.whole ∙ ap (λ n. n + length c.gather.ensures.units) c.requires.ready.next;
       records = read_up.records;
       spelled = read_up.spelled;
@@ -32,6 +38,7 @@ returns-in_err-self-clause-lost g c =
       writes = record {
         moments = λ honest. Leaves-append g.D.LogDisk c.args.self.now _ _ _ units (c.append.ensures.moments honest);
         count = c.append.ensures.count;
+        grows = λ honest. GrowsAtMostTo-append g.D.LogDisk c.args.self.now _ _ _ units (c.append.ensures.length honest);
       };
       prefix = λ honest. MayHoldBatchInFlight-append g.D.LogDisk g.met.D.LogDisk.counts_now g.met.D.LogDisk.only_now c.args.self.now _
           c.gather.ensures.units _ _
@@ -61,6 +68,7 @@ returns-clause-flushed g c =
       batch = c.append.ensures.batch ∙ c.gather.ensures.batch;
       tail = tail-appended _ _ _ _ units c.in_ok-self.ensures.place c.in_ok-self.ensures.next;
       writes = record {
+        grows = λ honest. GrowsAtMostTo-append g.D.LogDisk c.args.self.now _ _ _ units (c.append.ensures.length honest);
         moments = λ honest. Leaves-append g.D.LogDisk c.args.self.now _ _ _ units (c.append.ensures.moments honest);
         count = c.append.ensures.count;
       };

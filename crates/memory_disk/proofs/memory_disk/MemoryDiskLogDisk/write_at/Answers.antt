@@ -37,7 +37,6 @@ pub returns-in-Err-clause-counts : goal.returns-in-Err-clause-counts
 returns-in-Err-clause-counts c = record {
   failing = ap (λ (d : DiskState). d.failing) c.keep_half.ensures.same ∙ ap (λ (d : DiskState). d.failing) c.in-Err.ensures.state;
   calls = ap (λ (d : DiskState). d.calls) c.keep_half.ensures.same ∙ ap (λ (d : DiskState). d.calls) c.in-Err.ensures.state;
-  faults = ap (λ (d : DiskState). d.faults) c.keep_half.ensures.same ∙ ap (λ (d : DiskState). d.faults) c.in-Err.ensures.state;
 }
 
 pub returns-in-Err-clause-start : goal.returns-in-Err-clause-start
