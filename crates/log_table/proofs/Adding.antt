@@ -42,8 +42,9 @@ module _ (key : Start) (words : Words) (views : List View) (log : Log) (s : IsSo
     filled = s.filled;
     below = s.below;
     at_work = s.at_work;
-    owners = λ j. nobody-more views new (HasWorkingOwner log.parts log.unreleased) j
-        (let none = subst (HasWorkingOwner log.parts log.unreleased (length views)) (nobody-there views) (s.owners (length views)) in record {
+    in_turn = s.in_turn;
+    owners = λ j. nobody-more views new (HasWorkingOwner log.parts log.ahead) j
+        (let none = subst (HasWorkingOwner log.parts log.ahead (length views)) (nobody-there views) (s.owners (length views)) in record {
           owns = none.owns ∙ (λ i. parts_of (length views) Rattle.std.proofs.Common.true (sym entries i)
               ++ parts_of (length views) Rattle.std.proofs.Common.false (entries_in (sym call i)));
           owes = none.owes ∙ ap claims_in (sym call);

@@ -86,8 +86,8 @@ module _ (key : Start) (words : Words) (views : List View) (me : ℕ) (v : View)
   abbrev new : View
   new = record v { seen = counted v.seen; call = Filling (with_unit unit entry) }
 
-  mine : HasWorkingOwner log.parts log.unreleased me v
-  mine = seat_at (HasWorkingOwner log.parts log.unreleased) views me v at s.owners
+  mine : HasWorkingOwner log.parts log.ahead me v
+  mine = seat_at (HasWorkingOwner log.parts log.ahead) views me v at s.owners
 
   last : LastPart me log.parts (parts_of me true v.entries) entry
   last = last_part me log.parts (parts_of me true v.entries) entry
@@ -100,7 +100,7 @@ module _ (key : Start) (words : Words) (views : List View) (me : ℕ) (v : View)
   part = part_of me false (with_unit unit entry)
 
   abbrev after : Log
-  after = record { parts = last.before ++ part ∷ last.behind; flushed = log.flushed; released = log.released; unreleased = log.unreleased }
+  after = record { parts = last.before ++ part ∷ last.behind; flushed = log.flushed; exposed = log.exposed; ahead = log.ahead }
 
   laid : Laid key.start (last.before ++ old_part ∷ last.behind) words.tail
   laid = subst (λ l. Laid key.start l words.tail) last.split s.contiguous.parts
@@ -122,7 +122,7 @@ module _ (key : Start) (words : Words) (views : List View) (me : ℕ) (v : View)
       ]
 
   above_durable : words.durable ≤ entry.start
-  above_durable = omega (arith, above_exposed, tiles-le _ _ _ log.released s.contiguous.released)
+  above_durable = omega (arith, above_exposed, tiles-le _ _ _ log.exposed s.contiguous.to_exposed)
 
   stands-part : StandsInRing key.ring words.durable ring' part
   stands-part i below hi = let lt : i < length entry.units + 1 =
@@ -172,11 +172,11 @@ module _ (key : Start) (words : Words) (views : List View) (me : ℕ) (v : View)
         (let old = s.seen me v at in
         record { tail_seen = old.tail_seen; exposed_seen = old.exposed_seen; durable_seen = old.durable_seen; boundaries = old.boundaries });
     contiguous = record {
-      flushed = s.contiguous.flushed;
-      released = s.contiguous.released;
-      unreleased = s.contiguous.unreleased;
+      to_durable = s.contiguous.to_durable;
+      to_exposed = s.contiguous.to_exposed;
+      to_tail = s.contiguous.to_tail;
       parts = laid-same _ _ last.before last.behind old_part part refl refl laid;
-      remaining = all-weaker (CountsRemaining log.parts) (CountsRemaining after.parts) log.unreleased (λ q counts.
+      remaining = all-weaker (CountsRemaining log.parts) (CountsRemaining after.parts) log.ahead (λ q counts.
           let m = unreleased_in-mid q.base q.size last.before last.behind old_part part in
           let g : unreleased_in q.base q.size (last.before ++ old_part ∷ last.behind) ≡ unreleased_in q.base q.size log.parts =
           ap (unreleased_in q.base q.size) (sym last.split) in
@@ -202,7 +202,8 @@ module _ (key : Start) (words : Words) (views : List View) (me : ℕ) (v : View)
       ranges = s.below.ranges;
     };
     at_work = s.at_work;
-    owners = seats_move (HasWorkingOwner log.parts log.unreleased) (HasWorkingOwner after.parts after.unreleased) views me v new at s.owners
+    in_turn = s.in_turn;
+    owners = seats_move (HasWorkingOwner log.parts log.ahead) (HasWorkingOwner after.parts after.ahead) views me v new at s.owners
         record {
           owns = own-last me last.before last.behind (parts_of me true v.entries) false
               (with_unit unit entry) last.own_before last.none_behind;

@@ -53,24 +53,24 @@ module _ (key : Start) (words : Words) (views : List View) (me : ℕ) (v : View)
   below = omega (arith, all, sends.loaded_seen)
 
   -- what is sent now, and what is exposed behind it
-  cut : Cut (key.ring / 4) words.durable to words.exposed log.released
-  cut = cut-at (key.ring / 4) words.durable to words.exposed log.released s.contiguous.released
-      (boundary-sooner _ _ _ to log.released log.unreleased s.contiguous.released
-      (boundary-later _ _ _ to log.flushed (log.released ++ log.unreleased) s.contiguous.flushed boundary forward) below)
+  cut : Cut (key.ring / 4) words.durable to words.exposed log.exposed
+  cut = cut-at (key.ring / 4) words.durable to words.exposed log.exposed s.contiguous.to_exposed
+      (boundary-sooner _ _ _ to log.exposed log.ahead s.contiguous.to_exposed
+      (boundary-later _ _ _ to log.flushed (log.exposed ++ log.ahead) s.contiguous.to_durable boundary forward) below)
 
   abbrev after : Log
-  after = record { parts = log.parts; flushed = log.flushed ++ cut.before; released = cut.behind; unreleased = log.unreleased }
+  after = record { parts = log.parts; flushed = log.flushed ++ cut.before; exposed = cut.behind; ahead = log.ahead }
 
   same-ranges : ranges_of log ≡ ranges_of after
-  same-ranges = ap (λ l. log.flushed ++ (l ++ log.unreleased)) cut.split
-      ∙ (ap (λ l. log.flushed ++ l) (append_assoc cut.before cut.behind log.unreleased)
-      ∙ sym (append_assoc log.flushed cut.before (cut.behind ++ log.unreleased)))
+  same-ranges = ap (λ l. log.flushed ++ (l ++ log.ahead)) cut.split
+      ∙ (ap (λ l. log.flushed ++ l) (append_assoc cut.before cut.behind log.ahead)
+      ∙ sym (append_assoc log.flushed cut.before (cut.behind ++ log.ahead)))
 
   contiguous : HasContiguousReservations key.start key.ring words.tail words.exposed to after
   contiguous = record {
-    flushed = tiles-append _ _ _ _ log.flushed cut.before s.contiguous.flushed cut.first;
-    released = cut.second;
-    unreleased = s.contiguous.unreleased;
+    to_durable = tiles-append _ _ _ _ log.flushed cut.before s.contiguous.to_durable cut.first;
+    to_exposed = cut.second;
+    to_tail = s.contiguous.to_tail;
     parts = s.contiguous.parts;
     remaining = s.contiguous.remaining;
     aligned = subst (AllByRecursion (EndsWithPart key.start log.parts)) same-ranges s.contiguous.aligned;
@@ -132,8 +132,9 @@ module _ (key : Start) (words : Words) (views : List View) (me : ℕ) (v : View)
           (ap (λ l. log.flushed ++ l) cut.split ∙ sym (append_assoc log.flushed cut.before cut.behind)) s.below.ranges;
     };
     at_work = s.at_work;
-    owners = seats_set (HasWorkingOwner log.parts log.unreleased) views me v new at s.owners
-        (let mine = seat_at (HasWorkingOwner log.parts log.unreleased) views me v at s.owners in record { owns = mine.owns; owes = mine.owes });
+    in_turn = s.in_turn;
+    owners = seats_set (HasWorkingOwner log.parts log.ahead) views me v new at s.owners
+        (let mine = seat_at (HasWorkingOwner log.parts log.ahead) views me v at s.owners in record { owns = mine.owns; owes = mine.owes });
     constants = each_set (λ _ z. HasConstants key z) views me new s.constants (s.constants me v at);
     resting = each_set (λ _ z. RestsUnlessActive z) views me new s.resting (s.resting me v at);
     entries = each_set (λ _ z. OwnsIfWorker z) views me new s.entries (s.entries me v at);

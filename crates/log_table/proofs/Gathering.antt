@@ -1,5 +1,5 @@
 -- Once every worker was merged, the flusher's seat has the whole log, and all of it is released.
-use Rattle.std.proofs.Common.{◌≡◌, ◌≢◌, ℕ, zero, suc, ◌+◌, ◌/◌, ◌≤◌, ◌<◌, cond, lt-ltb, slice_index, map, Bool, true, false, true≢false, List, [], ◌∷◌, ◌++◌, get_or, sym, refl, ap, ◌∙◌, subst, append-nil, arith, length, length-append, eq-eqb, ne_eqb}
+use Rattle.std.proofs.Common.{◌≡◌, ◌≢◌, ⊎_elim, ℕ, zero, suc, ◌+◌, ◌/◌, ◌≤◌, ◌<◌, cond, lt-ltb, slice_index, map, Bool, true, false, true≢false, List, [], ◌∷◌, ◌++◌, get_or, sym, refl, ap, ◌∙◌, subst, append-nil, arith, length, length-append, eq-eqb, ne_eqb}
 use Rattle.std.specs.List.{AllByRecursion}
 use mathlib.Core.Logic.{dite}
 use mathlib.Core.Option.{some, some-injective, some-ne-none}
@@ -30,7 +30,7 @@ use Rattle.log_table.specs.Closing.{IsGathered, IsLedger, IsSettled, ReadsRows, 
 use Rattle.log_table.specs.Layout.{Account, index_of}
 use Rattle.log_table.proofs.Gathered.{gathered}
 use Rattle.atomic_table.proofs.Lists.{at_map}
-use Rattle.log_table.specs.Log.{Part, Range, Log, own, owed, is_owed_by, claim_of, part_of, parts_of, IsSpelled, ranges_of, Tiles, Laid, IsFull, IsFullIfReleased, IsOwed, AgreesFrom, IsRangeBoundary, IsEntryBoundary, SpellsRecord, records_in}
+use Rattle.log_table.specs.Log.{Part, Range, Log, own, owed, is_owed_by, claim_of, part_of, parts_of, IsSpelled, ranges_of, Tiles, Laid, IsFull, IsFullIfReleased, IsOwed, IsAtWork, IsUnreleased, AgreesFrom, IsRangeBoundary, IsEntryBoundary, SpellsRecord, records_in}
 use Rattle.log_table.specs.Sends.{IsDrained}
 use Rattle.log_table.specs.May.{MayClose}
 use Rattle.log_table.specs.Sound.{HasWorkingOwner, SendsInsertedUnits, IsSound, Ruled, base_of, history_in, books_of}
@@ -51,12 +51,14 @@ each_seat P (x ∷ xs) all none zero = all zero x refl
 each_seat P (x ∷ xs) all none (suc j) = each_seat (λ k. P (suc k)) xs (λ k z at. all (suc k) z at) (λ k. none (suc k)) j
 
 -- where nobody owes a range, none is there
-none-owed : (ranges : List Range) → AllByRecursion IsOwed ranges → ((j : ℕ) → owed j ranges ≡ []) → ranges ≡ []
-none-owed [] all none = refl
-none-owed (r ∷ rs) all none = let seat = all.0.seat in
-    let one : claim_of r ∷ owed seat rs ≡ [] =
-    sym (ap (λ b. cond b (claim_of r ∷ owed seat rs) (owed seat rs)) (ap (is_owed_by seat) all.0.duty ∙ eq-eqb seat seat refl))
-    ∙ none seat in absurd (cc)
+none-owed : (ranges : List Range) → AllByRecursion IsAtWork ranges → AllByRecursion IsUnreleased ranges → ((j : ℕ) → owed j ranges ≡ []) → ranges ≡ []
+none-owed [] all open' none = refl
+none-owed (r ∷ rs) all open' none = absurd (⊎_elim open'.0 owes all.0)
+  where
+    owes : IsOwed r → ⊥
+    owes is = let one : claim_of r ∷ owed is.seat rs ≡ [] =
+        sym (ap (λ b. cond b (claim_of r ∷ owed is.seat rs) (owed is.seat rs)) (ap (is_owed_by is.seat) is.duty ∙ eq-eqb is.seat is.seat refl))
+        ∙ none is.seat in absurd (cc)
 
 -- where no other seat has a part, all parts are the seat's
 own-all : (seat : ℕ) (parts : List Part) → ((j : ℕ) → j ≢ seat → own j parts ≡ []) → own seat parts ≡ parts
@@ -147,11 +149,11 @@ module _ (key : Start) (words : Words) (views : List View) (me : ℕ) (v : View)
   idle : (j : ℕ) → (get_or views j nobody).call ≡ Idle
   idle = each_seat (λ _ z. z.call ≡ Idle) views (λ j z there. s.resting j z there (rests z.standing.role (no-worker j z there))) (λ _. refl)
 
-  nothing-unreleased : log.unreleased ≡ []
-  nothing-unreleased = none-owed log.unreleased s.at_work (λ j. (s.owners j).owes ∙ ap claims_in (idle j))
+  nothing-ahead : log.ahead ≡ []
+  nothing-ahead = none-owed log.ahead s.at_work s.in_turn (λ j. (s.owners j).owes ∙ ap claims_in (idle j))
 
-  pub all_released : words.exposed ≡ words.tail
-  all_released = subst (λ l. Tiles (key.ring / 4) words.exposed l words.tail) nothing-unreleased s.contiguous.unreleased
+  pub all_exposed : words.exposed ≡ words.tail
+  all_exposed = subst (λ l. Tiles (key.ring / 4) words.exposed l words.tail) nothing-ahead s.contiguous.to_tail
 
   no-entries : (j : ℕ) → j ≢ me → own j log.parts ≡ []
   no-entries j differ = (s.owners j).owns ∙ (λ i. parts_of j true (none i) ++ parts_of j false (entries_in (idle j i)))
@@ -166,7 +168,7 @@ module _ (key : Start) (words : Words) (views : List View) (me : ℕ) (v : View)
 
   parts-are : log.parts ≡ parts_of me true v.entries
   parts-are = sym (own-all me log.parts no-entries)
-      ∙ ((seat_at (HasWorkingOwner log.parts log.unreleased) views me v at s.owners).owns
+      ∙ ((seat_at (HasWorkingOwner log.parts log.ahead) views me v at s.owners).owns
       ∙ (ap (λ c. parts_of me true v.entries ++ parts_of me false (entries_in c)) (s.resting me v at (ap is_active may.flusher)) ∙ append-nil _))
 
   start-is : v.constants.start ≡ key.start
@@ -196,12 +198,12 @@ module _ (key : Start) (words : Words) (views : List View) (me : ℕ) (v : View)
 
   first : IsFront (v.sending.sent ++ v.sending.read) (joined mine)
   first = front key.start words.tail mine (v.sending.sent ++ v.sending.read) laid full agrees
-      (omega (arith, length-append v.sending.sent v.sending.read, sends.sent_to, sends.read_to, sends.loaded_seen, all_released))
+      (omega (arith, length-append v.sending.sent v.sending.read, sends.sent_to, sends.read_to, sends.loaded_seen, all_exposed))
 
   all-sent : IsDrained v → joined mine ≡ v.sending.sent
   all-sent d =
       let end : key.start + length v.sending.sent ≡ words.tail =
-      omega (arith, start-is, d.all, s.looked me v at may.flusher d.quiet d.looked, all_released) in
+      omega (arith, start-is, d.all, s.looked me v at may.flusher d.quiet d.looked, all_exposed) in
       front-whole v.sending.sent (joined mine)
       (front key.start words.tail mine v.sending.sent laid full (all-mine (AgreesFrom key.start v.sending.sent) sends.sent_agrees)
       (omega (arith, end)))
@@ -308,7 +310,7 @@ closes key me v ws xs tail exposed final may tail-at exposed-at =
     let tail-is : words.tail ≡ tail = ap (λ l. get_or l TAIL 0) final.2 ∙ at-index ws TAIL tail tail-at in
     let exposed-is : words.exposed ≡ exposed = ap (λ l. get_or l EXPOSED 0) final.2 ∙ at-index ws EXPOSED exposed exposed-at in record {
       small = subst (λ n. n ≤ LAST) tail-is s.ordered.within_log;
-      released = sym exposed-is ∙ (all_released key words state.views me v log s at may ∙ tail-is);
+      released = sym exposed-is ∙ (all_exposed key words state.views me v log s at may ∙ tail-is);
       gathered = subst (λ n. IsGathered n v) tail-is (gathers key words state.views me v log s at may);
       settled = λ old rows same reads. settles key words state.views me v log s at may ws old rows (ap (words_in key) final.2) same reads;
     }

@@ -27,18 +27,18 @@ use Rattle.log_table.proofs.Viewing.{each_set}
 -- durable, exposed and the tail are boundaries of reservations
 module _ (start ring tail exposed durable : ℕ) (log : Log) (c : HasContiguousReservations start ring tail exposed durable log) where
   pub durable-boundary : IsRangeBoundary start (ranges_of log) durable
-  durable-boundary = boundary-append range_size _ _ log.flushed _ (boundary-end _ _ _ log.flushed c.flushed)
+  durable-boundary = boundary-append range_size _ _ log.flushed _ (boundary-end _ _ _ log.flushed c.to_durable)
 
   pub exposed-boundary : IsRangeBoundary start (ranges_of log) exposed
-  exposed-boundary = boundary-behind _ _ _ _ log.flushed _ c.flushed
-      (boundary-append range_size _ _ log.released _ (boundary-end _ _ _ log.released c.released))
+  exposed-boundary = boundary-behind _ _ _ _ log.flushed _ c.to_durable
+      (boundary-append range_size _ _ log.exposed _ (boundary-end _ _ _ log.exposed c.to_exposed))
 
   pub tail-boundary : IsRangeBoundary start (ranges_of log) tail
-  tail-boundary = boundary-behind _ _ _ _ log.flushed _ c.flushed
-      (boundary-behind _ _ _ _ log.released _ c.released (boundary-end _ _ _ log.unreleased c.unreleased))
+  tail-boundary = boundary-behind _ _ _ _ log.flushed _ c.to_durable
+      (boundary-behind _ _ _ _ log.exposed _ c.to_exposed (boundary-end _ _ _ log.ahead c.to_tail))
 
   all-tile : Tiles (ring / 4) start (ranges_of log) tail
-  all-tile = tiles-append _ _ _ _ log.flushed _ c.flushed (tiles-append _ _ _ _ log.released log.unreleased c.released c.unreleased)
+  all-tile = tiles-append _ _ _ _ log.flushed _ c.to_durable (tiles-append _ _ _ _ log.exposed log.ahead c.to_exposed c.to_tail)
 
   -- each boundary of reservations is one of the parts
   pub part-boundary : (at : ℕ) → IsRangeBoundary start (ranges_of log) at → IsTilingBoundary part_size start log.parts at
@@ -140,7 +140,7 @@ module _ (key : Start) (me : ℕ) (v : View) where
   tail-tells words views log s at = ((s.seen me v at).tail_seen, s.ordered.within_log)
 
   pub exposed-tells : Tells key me Exposed v (λ n. (v.seen.exposed ≤ n) × (n ≤ LAST) × IsExposedToFlusher v n)
-  exposed-tells words views log s at = let below = tiles-le _ _ _ log.unreleased s.contiguous.unreleased in (
+  exposed-tells words views log s at = let below = tiles-le _ _ _ log.ahead s.contiguous.to_tail in (
     (s.seen me v at).exposed_seen,
     omega (arith, below, s.ordered.within_log),
     λ f. let sends = s.sends me v at f in let same = s.constants me v at (ap is_spent f) in
@@ -154,7 +154,7 @@ module _ (key : Start) (me : ℕ) (v : View) where
   pub durable-tells : Tells key me Durable v (λ n. (v.seen.durable ≤ n) × (n ≤ LAST) × IsDurableToFlusher v n)
   durable-tells words views log s at = (
     (s.seen me v at).durable_seen,
-    omega (arith, tiles-le _ _ _ log.unreleased s.contiguous.unreleased, tiles-le _ _ _ log.released s.contiguous.released, s.ordered.within_log),
+    omega (arith, tiles-le _ _ _ log.ahead s.contiguous.to_tail, tiles-le _ _ _ log.exposed s.contiguous.to_exposed, s.ordered.within_log),
     λ f. let start : v.constants.start ≡ key.start = ap (λ (c : Constants). c.start) (s.constants me v at (ap is_spent f)) in
         sym (s.sends me v at f).sent_to ∙ ap (λ n. n + length v.sending.sent) (sym start),
   )

@@ -45,25 +45,25 @@ module _ (key : Start) (words : Words) (views : List View) (me other : ℕ) (v o
   idle' : o.call ≡ Idle
   idle' = s.resting other o there (ended-rests o.standing.role may.ended)
 
-  mine : HasWorkingOwner log.parts log.unreleased me v
-  mine = seat_at (HasWorkingOwner log.parts log.unreleased) views me v at s.owners
+  mine : HasWorkingOwner log.parts log.ahead me v
+  mine = seat_at (HasWorkingOwner log.parts log.ahead) views me v at s.owners
 
-  his : HasWorkingOwner log.parts log.unreleased other o
-  his = seat_at (HasWorkingOwner log.parts log.unreleased) views other o there s.owners
+  his : HasWorkingOwner log.parts log.ahead other o
+  his = seat_at (HasWorkingOwner log.parts log.ahead) views other o there s.owners
 
   abbrev parts : List Part
   parts = rename other me log.parts
 
   abbrev after : Log
-  after = record { parts = parts; flushed = log.flushed; released = log.released; unreleased = log.unreleased }
+  after = record { parts = parts; flushed = log.flushed; exposed = log.exposed; ahead = log.ahead }
 
   -- between the two changes of the views, a seat is the spent one or has its old parts
   abbrev Half : ℕ → View → Type 0
-  Half j z = ((j ≡ other) × HasWorkingOwner parts log.unreleased j z) ⊎ ((j ≢ other) × HasWorkingOwner log.parts log.unreleased j z)
+  Half j z = ((j ≡ other) × HasWorkingOwner parts log.ahead j z) ⊎ ((j ≢ other) × HasWorkingOwner log.parts log.ahead j z)
 
-  owners : Rattle.log_table.specs.Sound.EachSeat (HasWorkingOwner parts log.unreleased) (set (without views other) me new)
-  owners = seats_move Half (HasWorkingOwner parts log.unreleased) (without views other) me v new (at-without views me other v at apart)
-      (seats_move (HasWorkingOwner log.parts log.unreleased) Half views other o nobody there s.owners
+  owners : Rattle.log_table.specs.Sound.EachSeat (HasWorkingOwner parts log.ahead) (set (without views other) me new)
+  owners = seats_move Half (HasWorkingOwner parts log.ahead) (without views other) me v new (at-without views me other v at apart)
+      (seats_move (HasWorkingOwner log.parts log.ahead) Half views other o nobody there s.owners
       (inl (refl, record { owns = own-renamed-from other me log.parts apart; owes = his.owes ∙ ap claims_in idle' }))
       (λ j z differ h. inr (differ, h)))
       record {
@@ -73,8 +73,8 @@ module _ (key : Start) (words : Words) (views : List View) (me other : ℕ) (v o
             ∙ (sym (append-nil _) ∙ ap (λ c. parts_of me true new.entries ++ parts_of me false (entries_in c)) (sym idle));
         owes = mine.owes;
       }
-      (λ j z differ h. ⊎_elim (λ (g : (j ≡ other) × HasWorkingOwner parts log.unreleased j z). g.1)
-      (λ (g : (j ≢ other) × HasWorkingOwner log.parts log.unreleased j z). record {
+      (λ j z differ h. ⊎_elim (λ (g : (j ≡ other) × HasWorkingOwner parts log.ahead j z). g.1)
+      (λ (g : (j ≢ other) × HasWorkingOwner log.parts log.ahead j z). record {
         owns = own-renamed-else other me j log.parts g.0 differ
             ∙ g.1.owns;
         owes = g.1.owes;
@@ -116,11 +116,11 @@ module _ (key : Start) (words : Words) (views : List View) (me other : ℕ) (v o
           boundaries = all-append _ v.seen.lsns o.seen.lsns a.boundaries b.boundaries;
         });
     contiguous = record {
-      flushed = s.contiguous.flushed;
-      released = s.contiguous.released;
-      unreleased = s.contiguous.unreleased;
+      to_durable = s.contiguous.to_durable;
+      to_exposed = s.contiguous.to_exposed;
+      to_tail = s.contiguous.to_tail;
       parts = laid-renamed other me _ _ log.parts s.contiguous.parts;
-      remaining = all-weaker (CountsRemaining log.parts) (CountsRemaining parts) log.unreleased
+      remaining = all-weaker (CountsRemaining log.parts) (CountsRemaining parts) log.ahead
           (λ r counts. unreleased_in-renamed other me r.base r.size log.parts ∙ counts) s.contiguous.remaining;
       aligned = all-weaker (EndsWithPart key.start log.parts) (EndsWithPart key.start parts) (ranges_of log)
           (λ r. boundary-renamed other me key.start (r.base + r.size) log.parts) s.contiguous.aligned;
@@ -136,6 +136,7 @@ module _ (key : Start) (words : Words) (views : List View) (me other : ℕ) (v o
       ranges = s.below.ranges;
     };
     at_work = s.at_work;
+    in_turn = s.in_turn;
     owners = owners;
     constants = each-merged views me other new (λ _ z. HasConstants key z) s.constants (λ e. absurd (true≢false e)) (s.constants me v at);
     resting = each-merged views me other new (λ _ z. RestsUnlessActive z) s.resting (λ _. refl) (s.resting me v at);

@@ -12,7 +12,7 @@ use Rattle.log_table.specs.declared.view.Entry.{Entry}
 use Rattle.log_table.specs.declared.view.Role.{Role}
 use Rattle.log_table.specs.declared.view.Role.TheVariants.{Flusher, Fresh, Active, Ended, Note, Spent}
 use Rattle.log_table.specs.declared.view.View.{View}
-use Rattle.log_table.specs.Log.{Part, Duty, Shared, Owed, Released, Range, Claim, Log, ranges_of, own, owed, owes, is_owed_by, claim_of, part_of, parts_of, unreleased_in, inside, IsFull, SpellsRecord, records_in, StandsInRing, IsFullIfReleased, IsReleasedBelow, IsReleased, IsOwed, CountsRemaining, Tiles, Laid, AgreesFrom, EndsWithPart, IsRangeBoundary}
+use Rattle.log_table.specs.Log.{Part, Duty, Shared, Owed, Released, Range, Claim, Log, ranges_of, own, owed, owes, is_owed_by, claim_of, part_of, parts_of, unreleased_in, inside, IsFull, SpellsRecord, records_in, StandsInRing, IsFullIfReleased, IsReleasedBelow, IsReleased, IsAtWork, IsUnreleased, CountsRemaining, Tiles, Laid, AgreesFrom, EndsWithPart, IsRangeBoundary}
 use Rattle.log_table.specs.Sound.{HasSeenBoundaries, HasContiguousReservations, SendsIfFlusher, StoresStop, HasReadStop, LookedIfQuiet, HasWorkingOwner, HasConstants, RestsUnlessActive, OwnsIfWorker, HoldsIfActive, IsSound, base_of, books_of}
 use Rattle.lock_core.specs.History.{history_from}
 use Rattle.log_table.specs.Accounts.{KeepsAccounts}
@@ -49,8 +49,8 @@ module _ (key : Start) (words : Words) (views : List View) (me : ℕ) (v : View)
   abbrev new : View
   new = record v { seen = seen_exposed to v.seen; entries = v.entries ++ entry ∷ []; call = Idle }
 
-  mine : HasWorkingOwner log.parts log.unreleased me v
-  mine = seat_at (HasWorkingOwner log.parts log.unreleased) views me v at s.owners
+  mine : HasWorkingOwner log.parts log.ahead me v
+  mine = seat_at (HasWorkingOwner log.parts log.ahead) views me v at s.owners
 
   pub last : LastPart me log.parts (parts_of me true v.entries) entry
   last = last_part me log.parts (parts_of me true v.entries) entry
@@ -59,8 +59,8 @@ module _ (key : Start) (words : Words) (views : List View) (me : ℕ) (v : View)
   abbrev claim : Claim
   claim = record { base = entry.start; size = entry.size; remaining = entry.size }
 
-  pub found : Last (owes me) claim_of log.unreleased [] claim
-  found = picked-last (owes me) claim_of log.unreleased [] claim (mine.owes ∙ ap claims_in filling)
+  pub found : Last (owes me) claim_of log.ahead [] claim
+  found = picked-last (owes me) claim_of log.ahead [] claim (mine.owes ∙ ap claims_in filling)
 
   abbrev range : Range
   range = found.here
@@ -78,7 +78,7 @@ module _ (key : Start) (words : Words) (views : List View) (me : ℕ) (v : View)
   now = record { base = range.base; size = range.size; remaining = 0; duty = Released }
 
   abbrev pub after : Log
-  after = record { parts = last.before ++ part ∷ last.behind; flushed = log.flushed; released = log.released ++ now ∷ []; unreleased = rest }
+  after = record { parts = last.before ++ part ∷ last.behind; flushed = log.flushed; exposed = log.exposed ++ now ∷ []; ahead = rest }
 
   base-is : range.base ≡ entry.start
   base-is = ap (λ (c : Claim). c.base) found.is
@@ -89,18 +89,18 @@ module _ (key : Start) (words : Words) (views : List View) (me : ℕ) (v : View)
   duty-is : range.duty ≡ Owed me
   duty-is = duty-owed me range.duty found.passes
 
-  split : log.unreleased ≡ range ∷ rest
+  split : log.ahead ≡ range ∷ rest
   split = found.split ∙ ap (λ l. l ++ range ∷ rest)
       (tiles-first _ _ _ found.before rest range
-      (subst (λ l. Tiles (key.ring / 4) words.exposed l words.tail) found.split s.contiguous.unreleased) (base-is ∙ turn))
+      (subst (λ l. Tiles (key.ring / 4) words.exposed l words.tail) found.split s.contiguous.to_tail) (base-is ∙ turn))
 
   tiles : Tiles (key.ring / 4) words.exposed (range ∷ rest) words.tail
-  tiles = subst (λ l. Tiles (key.ring / 4) words.exposed l words.tail) split s.contiguous.unreleased
+  tiles = subst (λ l. Tiles (key.ring / 4) words.exposed l words.tail) split s.contiguous.to_tail
 
   end : words.exposed + range.size ≡ to
   end = omega (arith, turn, size-is)
 
-  behind-of : (P : Range → Type 0) → AllByRecursion P log.unreleased → AllByRecursion P rest
+  behind-of : (P : Range → Type 0) → AllByRecursion P log.ahead → AllByRecursion P rest
   behind-of P all = (subst (AllByRecursion P) split all).1
 
   pub laid : Laid key.start (last.before ++ old_part ∷ last.behind) words.tail
@@ -132,16 +132,16 @@ module _ (key : Start) (words : Words) (views : List View) (me : ℕ) (v : View)
   laid-after = laid-same _ _ last.before last.behind old_part part refl refl laid
 
   -- all ranges, before and after
-  were : ranges_of log ≡ (log.flushed ++ log.released) ++ range ∷ rest
-  were = ap (λ l. log.flushed ++ (log.released ++ l)) split ∙ sym (append_assoc log.flushed log.released (range ∷ rest))
+  were : ranges_of log ≡ (log.flushed ++ log.exposed) ++ range ∷ rest
+  were = ap (λ l. log.flushed ++ (log.exposed ++ l)) split ∙ sym (append_assoc log.flushed log.exposed (range ∷ rest))
 
-  are : (log.flushed ++ log.released) ++ now ∷ rest ≡ ranges_of after
-  are = append_assoc log.flushed log.released (now ∷ rest) ∙ ap (λ l. log.flushed ++ l) (sym (append_assoc log.released (now ∷ []) rest))
+  are : (log.flushed ++ log.exposed) ++ now ∷ rest ≡ ranges_of after
+  are = append_assoc log.flushed log.exposed (now ∷ rest) ∙ ap (λ l. log.flushed ++ l) (sym (append_assoc log.exposed (now ∷ []) rest))
 
   -- no boundary changes, only who has released what
   still : (x : ℕ) → IsRangeBoundary key.start (ranges_of log) x → IsRangeBoundary key.start (ranges_of after) x
   still x b = subst (λ l. IsRangeBoundary key.start l x) are
-      (boundary-mid range_size key.start x (log.flushed ++ log.released) rest range now refl (subst (λ l. IsRangeBoundary key.start l x) were b))
+      (boundary-mid range_size key.start x (log.flushed ++ log.exposed) rest range now refl (subst (λ l. IsRangeBoundary key.start l x) were b))
 
   stills : (lsns : List ℕ) → AllByRecursion (IsRangeBoundary key.start (ranges_of log)) lsns
       → AllByRecursion (IsRangeBoundary key.start (ranges_of after)) lsns
@@ -155,14 +155,14 @@ module _ (key : Start) (words : Words) (views : List View) (me : ℕ) (v : View)
   aligned =
       let old = subst (AllByRecursion (EndsWithPart key.start after.parts)) were
       (all-weaker (EndsWithPart key.start log.parts) (EndsWithPart key.start after.parts) (ranges_of log) ends s.contiguous.aligned) in
-      subst (AllByRecursion (EndsWithPart key.start after.parts)) are (all-mid (EndsWithPart key.start after.parts) (log.flushed ++ log.released)
-      rest range now (all-at (EndsWithPart key.start after.parts) (log.flushed ++ log.released) rest range old) old)
+      subst (AllByRecursion (EndsWithPart key.start after.parts)) are (all-mid (EndsWithPart key.start after.parts) (log.flushed ++ log.exposed)
+      rest range now (all-at (EndsWithPart key.start after.parts) (log.flushed ++ log.exposed) rest range old) old)
 
   contiguous : HasContiguousReservations key.start key.ring words.tail to words.durable after
   contiguous = record {
-    flushed = s.contiguous.flushed;
-    released = tiles-push _ _ _ _ log.released now s.contiguous.released tiles.0 tiles.1 tiles.2 end;
-    unreleased = subst (λ a. Tiles (key.ring / 4) a rest words.tail) end tiles.3;
+    to_durable = s.contiguous.to_durable;
+    to_exposed = tiles-push _ _ _ _ log.exposed now s.contiguous.to_exposed tiles.0 tiles.1 tiles.2 end;
+    to_tail = subst (λ a. Tiles (key.ring / 4) a rest words.tail) end tiles.3;
     parts = laid-after;
     remaining = tiles-within (CountsRemaining log.parts) (CountsRemaining after.parts) _ _ _ rest tiles.3
         (behind-of (CountsRemaining log.parts) s.contiguous.remaining)
@@ -171,7 +171,7 @@ module _ (key : Start) (words : Words) (views : List View) (me : ℕ) (v : View)
     aligned = aligned;
   }
 
-  fewer : (j : ℕ) → j ≢ me → owed j rest ≡ owed j log.unreleased
+  fewer : (j : ℕ) → j ≢ me → owed j rest ≡ owed j log.ahead
   fewer j differ = sym
       (ap (owed j) split ∙ ap (λ b. cond b (claim_of range ∷ owed j rest) (owed j rest))
       (ap (is_owed_by j) duty-is ∙ ne_eqb me j (λ e. differ (sym e))))
@@ -219,11 +219,12 @@ module _ (key : Start) (words : Words) (views : List View) (me : ℕ) (v : View)
           (λ q low here lt. dite (dec_lt q.entry.start words.exposed) (λ yes'. low yes') (λ no'. here (omega (arith, turn)) lt))
           (same-part (IsReleasedBelow words.exposed) (λ _ _. refl) s.below.below)
           (all-released _ _ entry.start entry.size after.parts laid-after none-left);
-      ranges = subst (AllByRecursion IsReleased) (append_assoc log.flushed log.released (now ∷ []))
-          (all-append IsReleased (log.flushed ++ log.released) (now ∷ []) s.below.ranges (refl, tt));
+      ranges = subst (AllByRecursion IsReleased) (append_assoc log.flushed log.exposed (now ∷ []))
+          (all-append IsReleased (log.flushed ++ log.exposed) (now ∷ []) s.below.ranges (refl, tt));
     };
-    at_work = behind-of IsOwed s.at_work;
-    owners = seats_move (HasWorkingOwner log.parts log.unreleased) (HasWorkingOwner after.parts after.unreleased) views me v new at s.owners
+    at_work = behind-of IsAtWork s.at_work;
+    in_turn = behind-of IsUnreleased s.in_turn;
+    owners = seats_move (HasWorkingOwner log.parts log.ahead) (HasWorkingOwner after.parts after.ahead) views me v new at s.owners
         record {
           owns = own-last me last.before last.behind (parts_of me true v.entries) true entry last.own_before last.none_behind
               ∙ (sym (parts_of-push me true v.entries entry) ∙ sym (append-nil _));

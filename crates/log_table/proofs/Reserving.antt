@@ -16,7 +16,7 @@ use Rattle.log_table.specs.declared.view.Entry.{Entry}
 use Rattle.log_table.specs.declared.view.View.{View}
 use Rattle.log_table.specs.Events.{reservation_of, stage_in, Leads, IsStep}
 use Rattle.log_table.specs.Layout.{Tail}
-use Rattle.log_table.specs.Log.{Part, Owed, Range, Log, ranges_of, part_of, parts_of, unreleased_in, SpellsRecord, records_in, StandsInRing, IsFullIfReleased, IsReleasedBelow, IsOwed, CountsRemaining, AgreesFrom, EndsWithPart, IsRangeBoundary, Laid}
+use Rattle.log_table.specs.Log.{Part, Owed, Range, Log, ranges_of, part_of, parts_of, unreleased_in, SpellsRecord, records_in, StandsInRing, IsFullIfReleased, IsReleasedBelow, Released, IsAtWork, IsUnreleased, CountsRemaining, AgreesFrom, EndsWithPart, IsRangeBoundary, Laid}
 use Rattle.log_table.specs.May.{MayReserve}
 use Rattle.log_table.specs.Sound.{HasSeenBoundaries, HasContiguousReservations, SendsIfFlusher, StoresStop, HasReadStop, LookedIfQuiet, HasWorkingOwner, HasConstants, RestsUnlessActive, OwnsIfWorker, HoldsIfActive, IsSound, base_of, history_in, books_of}
 use Rattle.log_table.specs.Roles.{is_active, is_spent}
@@ -80,7 +80,7 @@ module _ (key : Start) (words : Words) (views : List View) (me : ℕ) (v : View)
   new = reserved from to v
 
   abbrev after : Log
-  after = record { parts = log.parts ++ part ∷ []; flushed = log.flushed; released = log.released; unreleased = log.unreleased ++ range ∷ [] }
+  after = record { parts = log.parts ++ part ∷ []; flushed = log.flushed; exposed = log.exposed; ahead = log.ahead ++ range ∷ [] }
 
   has-units : 1 ≤ length (spelling next)
   has-units = spelling-some next
@@ -126,28 +126,28 @@ module _ (key : Start) (words : Words) (views : List View) (me : ℕ) (v : View)
       (λ i. (sym history-is i, sym (map-set books_of views me new) i))
       (enters (base_of key) words.account (history_in key log.parts) bs me v.books my-books to next may.enters s.accounts)
 
-  mine : HasWorkingOwner log.parts log.unreleased me v
-  mine = seat_at (HasWorkingOwner log.parts log.unreleased) views me v at s.owners
+  mine : HasWorkingOwner log.parts log.ahead me v
+  mine = seat_at (HasWorkingOwner log.parts log.ahead) views me v at s.owners
 
   none : unreleased_in from size log.parts ≡ 0
   none = unreleased_in-apart _ _ from size log.parts s.contiguous.parts (inl (le_refl _))
 
   ranges : ranges_of log ++ range ∷ [] ≡ ranges_of after
-  ranges = append_assoc log.flushed (log.released ++ log.unreleased) (range ∷ [])
-      ∙ ap (λ l. log.flushed ++ l) (append_assoc log.released log.unreleased (range ∷ []))
+  ranges = append_assoc log.flushed (log.exposed ++ log.ahead) (range ∷ [])
+      ∙ ap (λ l. log.flushed ++ l) (append_assoc log.exposed log.ahead (range ∷ []))
 
   laid : Laid key.start after.parts to
   laid = laid-append _ _ _ log.parts (part ∷ []) s.contiguous.parts (refl, positive, whole)
 
   contiguous : HasContiguousReservations key.start key.ring to words.exposed words.durable after
   contiguous = record {
-    flushed = s.contiguous.flushed;
-    released = s.contiguous.released;
-    unreleased = tiles-push _ _ _ _ log.unreleased range s.contiguous.unreleased refl positive quarter whole;
+    to_durable = s.contiguous.to_durable;
+    to_exposed = s.contiguous.to_exposed;
+    to_tail = tiles-push _ _ _ _ log.ahead range s.contiguous.to_tail refl positive quarter whole;
     parts = laid;
-    remaining = all-append (CountsRemaining after.parts) log.unreleased (range ∷ [])
+    remaining = all-append (CountsRemaining after.parts) log.ahead (range ∷ [])
         (tiles-within (CountsRemaining log.parts)
-        (CountsRemaining after.parts) _ _ _ log.unreleased s.contiguous.unreleased s.contiguous.remaining (λ q counts least lo hi.
+        (CountsRemaining after.parts) _ _ _ log.ahead s.contiguous.to_tail s.contiguous.remaining (λ q counts least lo hi.
         unreleased_in-append q.base q.size log.parts (part ∷ [])
         ∙ (ap (λ n. unreleased_in q.base q.size log.parts + n)
         (unreleased_in-apart from to q.base q.size (part ∷ []) (refl, positive, whole) (inr hi)) ∙ (add-zero _ ∙ counts)))) (
@@ -213,22 +213,23 @@ module _ (key : Start) (words : Words) (views : List View) (me : ℕ) (v : View)
     below = record {
       full = all-append IsFullIfReleased log.parts (part ∷ []) s.below.full ((λ e. absurd (true≢false (sym e))), tt);
       below = all-append (IsReleasedBelow words.exposed) log.parts (part ∷ []) s.below.below
-          ((λ low. absurd (omega (arith, tiles-le _ _ _ log.unreleased s.contiguous.unreleased))), tt);
+          ((λ low. absurd (omega (arith, tiles-le _ _ _ log.ahead s.contiguous.to_tail))), tt);
       ranges = s.below.ranges;
     };
-    at_work = all-append IsOwed log.unreleased (range ∷ []) s.at_work (record { seat = me; duty = refl }, tt);
-    owners = seats_move (HasWorkingOwner log.parts log.unreleased) (HasWorkingOwner after.parts after.unreleased) views me v new at s.owners
+    at_work = all-append IsAtWork log.ahead (range ∷ []) s.at_work (inr record { seat = me; duty = refl }, tt);
+    in_turn = all-append IsUnreleased log.ahead (range ∷ []) s.in_turn ((λ (done : Owed me ≡ Released). absurd (cc)), tt);
+    owners = seats_move (HasWorkingOwner log.parts log.ahead) (HasWorkingOwner after.parts after.ahead) views me v new at s.owners
         record {
           owns = own-push me log.parts false entry
               ∙ ap (λ l. l ++ part ∷ [])
               (mine.owns ∙ (ap (λ c. parts_of me true v.entries ++ parts_of me false (entries_in c)) may.rests.idle ∙ append-nil _));
-          owes = owed-push me log.unreleased range refl
+          owes = owed-push me log.ahead range refl
               ∙ ap (λ l. l ++ record { base = from; size = size; remaining = size } ∷ []) (mine.owes ∙ ap claims_in may.rests.idle);
         }
         (λ j z differ h. record {
           owns = own-push_others me j log.parts false entry differ
               ∙ h.owns;
-          owes = owed-push_others me j log.unreleased range refl differ ∙ h.owes;
+          owes = owed-push_others me j log.ahead range refl differ ∙ h.owes;
         });
     constants = each_set (λ _ z. HasConstants key z) views me new s.constants (s.constants me v at);
     resting = each_set (λ _ z. RestsUnlessActive z) views me new s.resting (λ off. absurd (true≢false (sym (ap is_active may.rests.active) ∙ off)));

@@ -95,8 +95,9 @@ module _ (key : Start) (words : Words) (stop crew : ℕ) (account : ℕ → ℕ)
     filled = s.filled;
     below = s.below;
     at_work = s.at_work;
-    owners = seats_set (HasWorkingOwner log.parts log.unreleased) views me v new at s.owners
-        (let mine = seat_at (HasWorkingOwner log.parts log.unreleased) views me v at s.owners in record {
+    in_turn = s.in_turn;
+    owners = seats_set (HasWorkingOwner log.parts log.ahead) views me v new at s.owners
+        (let mine = seat_at (HasWorkingOwner log.parts log.ahead) views me v at s.owners in record {
           owns = mine.owns ∙ (λ i. parts_of me true (sym entries i) ++ parts_of me false (entries_in (sym call i)));
           owes = mine.owes ∙ ap claims_in (sym call);
         });

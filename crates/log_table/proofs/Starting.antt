@@ -23,7 +23,7 @@ use Rattle.log_table.proofs.Gathered.{starts-free}
 
 -- nothing is reserved
 abbrev empty_log : Log
-empty_log = record { parts = []; flushed = []; released = []; unreleased = [] }
+empty_log = record { parts = []; flushed = []; exposed = []; ahead = [] }
 
 module _ (key : Start) (words : Words) (least : LEAST_RING ≤ key.ring) (most : key.ring ≤ GREATEST_RING) (small : key.start ≤ LAST)
     (tail : words.tail ≡ key.start) (exposed : words.exposed ≡ key.start) (durable : words.durable ≡ key.start) (stop : words.stop ≡ 0)
@@ -42,9 +42,9 @@ module _ (key : Start) (words : Words) (least : LEAST_RING ≤ key.ring) (most :
       boundaries = (refl, tt);
     };
     contiguous = record {
-      flushed = sym durable;
-      released = durable ∙ sym exposed;
-      unreleased = exposed
+      to_durable = sym durable;
+      to_exposed = durable ∙ sym exposed;
+      to_tail = exposed
           ∙ sym tail;
       parts = sym tail;
       remaining = tt;
@@ -53,6 +53,7 @@ module _ (key : Start) (words : Words) (least : LEAST_RING ≤ key.ring) (most :
     filled = record { spelled = tt; stands = tt };
     below = record { full = tt; below = tt; ranges = tt };
     at_work = tt;
+    in_turn = tt;
     owners = owners;
     constants = alone (λ _ z. HasConstants key z) (λ _. refl);
     resting = alone (λ _ z. RestsUnlessActive z) (λ _. refl);

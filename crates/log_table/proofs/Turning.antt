@@ -97,8 +97,8 @@ still-turn key words views me v entry log s at filling turn =
           (subst (AllByRecursion (IsReleasedBelow words.exposed)) last.split s.below.below) (omega arith))))
     ]
   where
-    mine : HasWorkingOwner log.parts log.unreleased me v
-    mine = seat_at (HasWorkingOwner log.parts log.unreleased) views me v at s.owners
+    mine : HasWorkingOwner log.parts log.ahead me v
+    mine = seat_at (HasWorkingOwner log.parts log.ahead) views me v at s.owners
 
     last : LastPart me log.parts (parts_of me true v.entries) entry
     last = last_part me log.parts (parts_of me true v.entries) entry

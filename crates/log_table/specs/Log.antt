@@ -1,6 +1,6 @@
 -- The reserved part of the log as lists that no word holds: its parts, each with its owner, and the reserved ranges.
 -- One seat's range is one part; a group's range will be as many parts as it has members.
-use Rattle.std.specs.Prelude.{◌≡◌, ◌==◌, ◌&&◌, ℕ, ◌+◌, ◌-◌, ◌%◌, ◌<◌, ◌≤◌, if◌then◌else◌, nat_le, nat_lt, Bool, true, false, List, [], ◌∷◌, ◌++◌, length, slice_index}
+use Rattle.std.specs.Prelude.{◌≡◌, ◌==◌, ◌&&◌, ◌⊎◌, ℕ, ◌+◌, ◌-◌, ◌%◌, ◌<◌, ◌≤◌, if◌then◌else◌, nat_le, nat_lt, Bool, true, false, List, [], ◌∷◌, ◌++◌, length, slice_index}
 use Rattle.lsn_space.specs.Tiling.{IsTilingBoundary}
 use Rattle.log_record.specs.declared.rec.Rec.{Rec}
 use Rattle.log_record.specs.Spelling.{spelling, IsSpellable}
@@ -31,16 +31,17 @@ pub record Claim : Type 0 where
   pub size : ℕ
   pub remaining : ℕ
 
--- all parts in order; the ranges below durable, from there to exposed, and from there to the tail
+-- All parts in order, and the ranges: those that are flushed, which end at durable, those that are exposed and not flushed, and those
+-- ahead of exposed, up to the tail
 pub record Log : Type 0 where
   pub parts : List Part
   pub flushed : List Range
-  pub released : List Range
-  pub unreleased : List Range
+  pub exposed : List Range
+  pub ahead : List Range
 
 -- all ranges in order
 abbrev pub ranges_of : Log → List Range
-ranges_of log = log.flushed ++ (log.released ++ log.unreleased)
+ranges_of log = log.flushed ++ (log.exposed ++ log.ahead)
 
 -- of those that pass the test, in order, what `tell` tells
 abbrev pub picked : {A : Type 0} {B : Type 0} → (A → Bool) → (A → B) → List A → List B
@@ -163,6 +164,13 @@ IsReleased range = range.duty ≡ Released
 pub record IsOwed (range : Range) : Type 0 where
   pub seat : ℕ
   pub duty : range.duty ≡ Owed seat
+
+-- where the range is not released, some seat has to release it
+abbrev pub IsAtWork : Range → Type 0
+IsAtWork range = IsReleased range ⊎ IsOwed range
+
+abbrev pub IsUnreleased : Range → Type 0
+IsUnreleased range = IsReleased range → ⊥
 
 -- what remains of the range is what its parts have that is not released
 abbrev pub CountsRemaining : List Part → Range → Type 0

@@ -19,7 +19,7 @@ use Rattle.lock_core.specs.Sums.{BaseState}
 use Rattle.log_table.specs.declared.view.Books.{Books}
 use Rattle.log_table.specs.Accounts.{KeepsAccounts}
 use Rattle.log_table.specs.Layout.{word_count}
-use Rattle.log_table.specs.Log.{Part, Range, Log, ranges_of, own, parts_of, owed, Tiles, Laid, SpellsRecord, records_in, StandsInRing, AgreesFrom, IsRangeBoundary, EndsWithPart, IsFullIfReleased, IsReleasedBelow, IsReleased, IsOwed, CountsRemaining}
+use Rattle.log_table.specs.Log.{Part, Range, Log, ranges_of, own, parts_of, owed, Tiles, Laid, SpellsRecord, records_in, StandsInRing, AgreesFrom, IsRangeBoundary, EndsWithPart, IsFullIfReleased, IsReleasedBelow, IsReleased, IsAtWork, IsUnreleased, CountsRemaining}
 use Rattle.log_table.specs.Roles.{is_active, is_worker, is_working, is_spent, may_own}
 use Rattle.log_table.specs.Views.{constants_of, nobody, entries_in, claims_in}
 use Rattle.log_table.specs.Words.{Words, words_in}
@@ -53,11 +53,11 @@ pub record HasSeenBoundaries (start tail exposed durable : ℕ) (ranges : List R
 -- The reservations follow one another from the start to the tail, and so do the parts, one or more in each reservation. Durable and
 -- exposed lie between two reservations, and durable is not above exposed.
 pub record HasContiguousReservations (start ring tail exposed durable : ℕ) (log : Log) : Type 0 where
-  pub flushed : Tiles (ring / 4) start log.flushed durable
-  pub released : Tiles (ring / 4) durable log.released exposed
-  pub unreleased : Tiles (ring / 4) exposed log.unreleased tail
+  pub to_durable : Tiles (ring / 4) start log.flushed durable
+  pub to_exposed : Tiles (ring / 4) durable log.exposed exposed
+  pub to_tail : Tiles (ring / 4) exposed log.ahead tail
   pub parts : Laid start log.parts tail
-  pub remaining : AllByRecursion (CountsRemaining log.parts) log.unreleased
+  pub remaining : AllByRecursion (CountsRemaining log.parts) log.ahead
   pub aligned : AllByRecursion (EndsWithPart start log.parts) (ranges_of log)
 
 -- each part is a record of which the first units are filled, and a filled unit at or above durable stands in the ring
@@ -69,7 +69,7 @@ pub record KeepsFilledUnits (size durable : ℕ) (ring : ℕ → ℕ) (parts : L
 pub record IsFilledBelowExposed (exposed : ℕ) (log : Log) : Type 0 where
   pub full : AllByRecursion IsFullIfReleased log.parts
   pub below : AllByRecursion (IsReleasedBelow exposed) log.parts
-  pub ranges : AllByRecursion IsReleased (log.flushed ++ log.released)
+  pub ranges : AllByRecursion IsReleased (log.flushed ++ log.exposed)
 
 -- The units sent are the log from the start to durable. Those read follow them, up to exposed at most as it was loaded last, which is a
 -- boundary of reservations.
@@ -101,9 +101,9 @@ abbrev pub LookedIfQuiet : ℕ → View → Type 0
 LookedIfQuiet exposed view = view.standing.role ≡ Flusher → view.sending.quiet ≡ true → view.sending.looked ≡ true → view.sending.exposed ≡ exposed
 
 -- the log has of the seat its entries, which are released, and what its call has reserved
-pub record HasWorkingOwner (parts : List Part) (unreleased : List Range) (seat : ℕ) (view : View) : Type 0 where
+pub record HasWorkingOwner (parts : List Part) (ahead : List Range) (seat : ℕ) (view : View) : Type 0 where
   pub owns : own seat parts ≡ parts_of seat true view.entries ++ parts_of seat false (entries_in view.call)
-  pub owes : owed seat unreleased ≡ claims_in view.call
+  pub owes : owed seat ahead ≡ claims_in view.call
 
 -- the view has the table's constants
 abbrev pub HasConstants : Start → View → Type 0
@@ -174,8 +174,9 @@ pub record IsSound (key : Start) (words : Words) (views : List View) (log : Log)
   pub contiguous : HasContiguousReservations key.start key.ring words.tail words.exposed words.durable log
   pub filled : KeepsFilledUnits key.ring words.durable words.ring log.parts
   pub below : IsFilledBelowExposed words.exposed log
-  pub at_work : AllByRecursion IsOwed log.unreleased
-  pub owners : EachSeat (HasWorkingOwner log.parts log.unreleased) views
+  pub at_work : AllByRecursion IsAtWork log.ahead
+  pub in_turn : AllByRecursion IsUnreleased log.ahead
+  pub owners : EachSeat (HasWorkingOwner log.parts log.ahead) views
   pub constants : EachView (λ _ view. HasConstants key view) views
   pub resting : EachView (λ _ view. RestsUnlessActive view) views
   pub entries : EachView (λ _ view. OwnsIfWorker view) views
