@@ -1,9 +1,9 @@
 -- Each kind of step is one that the base crate allows.
-use Rattle.std.proofs.Common.{◌≡◌, ◌≢◌, ℕ, ◌+◌, ◌-◌, ◌*◌, ◌%◌, ◌^◌, ◌≤◌, ◌<◌, eqb, None, Some, length, subst, sym, ap, ◌∙◌}
+use Rattle.std.proofs.Common.{◌≡◌, ◌≢◌, ℕ, ◌+◌, ◌-◌, ◌*◌, ◌%◌, ◌^◌, ◌≤◌, ◌<◌, eqb, length, subst, sym, ap, ◌∙◌}
 use prog.Atomic.{either}
 use Rattle.atomic_table.specs.Table.{Me, Allows}
 use Rattle.lsn_space.specs.declared.lsn.TheConstants.{LAST}
-use Rattle.ring_core.specs.declared.event.RingEvent.TheVariants.{Fill, Turn, Flushed}
+use Rattle.log_table.specs.Events.{fills, flushes, none, turns}
 use Rattle.log_table.specs.declared.layout.TheConstants.{STRIDE, TAIL, EXPOSED, DURABLE, STOP, CREW, RING}
 use Rattle.log_table.specs.declared.table.Start.{Start}
 use Rattle.log_table.specs.declared.view.Role.TheVariants.{Flusher, Fresh}
@@ -33,19 +33,19 @@ use Rattle.log_table.proofs.Owing.{FitsWord, job-step, account-looks, account-te
 module _ (key : Start) (slots seat : ℕ) (me : Me (Unit {0}) View) where
   pub load_tail-allowed : Allows (Ruled key) slots seat me TAIL (λ n. n)
       (λ n new. (new ≡ (saw_tail n me.0, me.1)) × ((me.0.seen.tail ≤ n) × (n ≤ LAST)))
-  load_tail-allowed = allowed-if_step key slots seat me Tail shared_tail (λ n. n) (λ n. saw_tail n me.0) (λ _. None)
+  load_tail-allowed = allowed-if_step key slots seat me Tail shared_tail (λ n. n) (λ n. saw_tail n me.0) (λ _. none)
       (λ n. (me.0.seen.tail ≤ n) × (n ≤ LAST)) (tail-tells key seat me.0) (λ n _. tail-looks key seat me.0 n)
 
   pub load_exposed-allowed : Allows (Ruled key) slots seat me EXPOSED (λ n. n)
       (λ n new. (new ≡ (saw_exposed n me.0, me.1)) × ((me.0.seen.exposed ≤ n) × (n ≤ LAST) × IsExposedToFlusher me.0 n))
   load_exposed-allowed =
-      allowed-if_step key slots seat me Exposed shared_exposed (λ n. n) (λ n. saw_exposed n me.0) (λ _. None)
+      allowed-if_step key slots seat me Exposed shared_exposed (λ n. n) (λ n. saw_exposed n me.0) (λ _. none)
       (λ n. (me.0.seen.exposed ≤ n) × (n ≤ LAST) × IsExposedToFlusher me.0 n) (exposed-tells key seat me.0) (λ n _. exposed-looks key seat me.0 n)
 
   pub load_durable-allowed : Allows (Ruled key) slots seat me DURABLE (λ n. n)
       (λ n new. (new ≡ (saw_durable n me.0, me.1)) × ((me.0.seen.durable ≤ n) × (n ≤ LAST) × IsDurableToFlusher me.0 n))
   load_durable-allowed =
-      allowed-if_step key slots seat me Durable shared_durable (λ n. n) (λ n. saw_durable n me.0) (λ _. None)
+      allowed-if_step key slots seat me Durable shared_durable (λ n. n) (λ n. saw_durable n me.0) (λ _. none)
       (λ n. (me.0.seen.durable ≤ n) × (n ≤ LAST) × IsDurableToFlusher me.0 n) (durable-tells key seat me.0) (λ n _. durable-looks key seat me.0 n)
 
   pub exchange_tail-allowed : (from to : ℕ) → MayReserve from to me.0
@@ -59,56 +59,56 @@ module _ (key : Start) (slots seat : ℕ) (me : Me (Unit {0}) View) where
   pub enroll-allowed : me.0.standing.role ≡ Fresh
       → Allows (Ruled key) slots seat me CREW (λ n. (n + 1) % 2 ^ 64) (λ n new. (new ≡ (enrolled me.0, me.1)) × Unit {0})
   enroll-allowed fresh =
-      allowed-if_step key slots seat me Crew shared_crew (λ n. (n + 1) % 2 ^ 64) (λ _. enrolled me.0) (λ _. None) (λ _. Unit {0})
+      allowed-if_step key slots seat me Crew shared_crew (λ n. (n + 1) % 2 ^ 64) (λ _. enrolled me.0) (λ _. none) (λ _. Unit {0})
       (λ _ _ _ _ _. tt) (λ n _. enroll-adds key seat me.0 fresh n)
 
   pub leave-allowed : MayLeave me.0
       → Allows (Ruled key) slots seat me CREW (λ n. (n + (2 ^ 64 - 1)) % 2 ^ 64) (λ n new. (new ≡ (retired me.0, me.1)) × Unit {0})
-  leave-allowed may = allowed-if_step key slots seat me Crew shared_crew (λ n. (n + (2 ^ 64 - 1)) % 2 ^ 64) (λ _. retired me.0) (λ _. None)
+  leave-allowed may = allowed-if_step key slots seat me Crew shared_crew (λ n. (n + (2 ^ 64 - 1)) % 2 ^ 64) (λ _. retired me.0) (λ _. none)
       (λ _. Unit {0}) (λ _ _ _ _ _. tt) (λ n _. leave-subtracts key seat me.0 may n)
 
   pub store_ring-allowed : (at ring unit : ℕ) → key.ring ≡ ring → at % ring < ring → MayFill at unit me.0
       → Allows (Ruled key) slots seat me (RING + at % ring) (λ _. unit) (λ _ new. (new ≡ (filled unit me.0, me.1)) × Unit {0})
   store_ring-allowed at ring unit same below may =
       allowed-if_step key slots seat me (Ring (at % ring)) (in_ring (at % ring) (subst (λ r. at % ring < r) (sym same) below)) (λ _. unit)
-      (λ _. filled unit me.0) (λ _. Some (Fill seat)) (λ _. Unit {0}) (λ _ _ _ _ _. tt) (λ n _. fill-step key seat me.0 at ring unit same may n)
+      (λ _. filled unit me.0) (λ _. fills seat) (λ _. Unit {0}) (λ _ _ _ _ _. tt) (λ n _. fill-step key seat me.0 at ring unit same may n)
 
   pub store_exposed-allowed : (to : ℕ) → MayRelease to me.0
       → Allows (Ruled key) slots seat me EXPOSED (λ _. to) (λ _ new. (new ≡ (released to me.0, me.1)) × Unit {0})
   store_exposed-allowed to may =
-      allowed-if_step key slots seat me Exposed shared_exposed (λ _. to) (λ _. released to me.0) (λ _. Some (Turn seat)) (λ _. Unit {0})
+      allowed-if_step key slots seat me Exposed shared_exposed (λ _. to) (λ _. released to me.0) (λ _. turns seat) (λ _. Unit {0})
       (λ _ _ _ _ _. tt) (λ n _. release-step key seat me.0 to may n)
 
   pub load_ring-allowed : (at ring : ℕ) → key.ring ≡ ring → at % ring < ring → MayRead at me.0
       → Allows (Ruled key) slots seat me (RING + at % ring) (λ n. n) (λ n new. (new ≡ (has_read n me.0, me.1)) × ReadsWholeEntries (has_read n me.0))
   load_ring-allowed at ring same below may =
       allowed-if_step key slots seat me (Ring (at % ring)) (in_ring (at % ring) (subst (λ r. at % ring < r) (sym same) below)) (λ n. n)
-      (λ n. has_read n me.0) (λ _. None) (λ n. ReadsWholeEntries (has_read n me.0)) (read-tells key seat me.0 at ring same may)
+      (λ n. has_read n me.0) (λ _. none) (λ n. ReadsWholeEntries (has_read n me.0)) (read-tells key seat me.0 at ring same may)
       (λ n _. read-step key seat me.0 at ring same may n)
 
   pub store_durable-allowed : (to : ℕ) → MaySend to me.0
       → Allows (Ruled key) slots seat me DURABLE (λ _. to) (λ _ new. (new ≡ (has_sent to me.0, me.1)) × Unit {0})
   store_durable-allowed to may =
-      allowed-if_step key slots seat me Durable shared_durable (λ _. to) (λ _. has_sent to me.0) (λ _. Some (Flushed to)) (λ _. Unit {0})
+      allowed-if_step key slots seat me Durable shared_durable (λ _. to) (λ _. has_sent to me.0) (λ _. flushes to) (λ _. Unit {0})
       (λ _ _ _ _ _. tt) (λ n _. send-step key seat me.0 to may n)
 
   pub store_stop-allowed : (word : ℕ) → MayStop word me.0
       → Allows (Ruled key) slots seat me STOP (λ _. word) (λ _ new. (new ≡ (has_stopped word me.0, me.1)) × Unit {0})
   store_stop-allowed word may =
-      allowed-if_step key slots seat me Stop shared_stop (λ _. word) (λ _. has_stopped word me.0) (λ _. None) (λ _. Unit {0})
+      allowed-if_step key slots seat me Stop shared_stop (λ _. word) (λ _. has_stopped word me.0) (λ _. none) (λ _. Unit {0})
       (λ _ _ _ _ _. tt) (λ n _. stop-step key seat me.0 word may n)
 
   pub tell_stop-allowed : Allows (Ruled key) slots seat me STOP (λ n. n)
       (λ n new. (new ≡ (me.0, me.1)) × (me.0.standing.role ≡ Flusher → HasReadStop me.0.sending.stop me.0))
-  tell_stop-allowed = allowed-if_step key slots seat me Stop shared_stop (λ n. n) (λ _. me.0) (λ _. None)
+  tell_stop-allowed = allowed-if_step key slots seat me Stop shared_stop (λ n. n) (λ _. me.0) (λ _. none)
       (λ _. me.0.standing.role ≡ Flusher → HasReadStop me.0.sending.stop me.0) (stop-tells key seat me.0) (λ n _. stop-stays key seat me.0 n)
 
   pub load_stop-allowed : Allows (Ruled key) slots seat me STOP (λ n. n) (λ n new. (new ≡ (saw_stop n me.0, me.1)) × (me.0.seen.stop ≢ 0 → n ≡ me.0.seen.stop))
-  load_stop-allowed = allowed-if_step key slots seat me Stop shared_stop (λ n. n) (λ n. saw_stop n me.0) (λ _. None)
+  load_stop-allowed = allowed-if_step key slots seat me Stop shared_stop (λ n. n) (λ n. saw_stop n me.0) (λ _. none)
       (λ n. me.0.seen.stop ≢ 0 → n ≡ me.0.seen.stop) (stop-keeps key seat me.0) (λ n _. stop-looks key seat me.0 n)
 
   pub load_crew-allowed : Allows (Ruled key) slots seat me CREW (λ n. n) (λ n new. (new ≡ (saw_crew n me.0, me.1)) × Unit {0})
-  load_crew-allowed = allowed-if_step key slots seat me Crew shared_crew (λ n. n) (λ n. saw_crew n me.0) (λ _. None) (λ _. Unit {0})
+  load_crew-allowed = allowed-if_step key slots seat me Crew shared_crew (λ n. n) (λ n. saw_crew n me.0) (λ _. none) (λ _. Unit {0})
       (λ _ _ _ _ _. tt) (λ n _. crew-looks key seat me.0 n)
 
   pub take_job-allowed : (accounts number picked : ℕ) (job picked_job : Job) → length key.accounts.rows ≡ accounts → picked ≡ number → picked_job ≡ job
@@ -117,7 +117,7 @@ module _ (key : Start) (slots seat : ℕ) (me : Me (Unit {0}) View) where
   take_job-allowed accounts number picked job picked_job same is is_job may =
       subst (λ (p : ℕ × Job). Allows (Ruled key) slots seat me STOP (λ n. n) (λ n new. (new ≡ (took_job p.0 p.1 n me.0, me.1)) × (me.0.seen.stop ≢ 0 → n ≡ me.0.seen.stop)))
       (λ i. (sym is i, sym is_job i))
-      (allowed-if_step key slots seat me Stop shared_stop (λ n. n) (λ n. took_job number job n me.0) (λ _. None)
+      (allowed-if_step key slots seat me Stop shared_stop (λ n. n) (λ n. took_job number job n me.0) (λ _. none)
       (λ n. me.0.seen.stop ≢ 0 → n ≡ me.0.seen.stop) (stop-keeps key seat me.0) (λ n _. job-step key seat me.0 accounts number job same may n))
 
   module _ (place ring accounts account picked : ℕ) (at : place ≡ RING + ring + STRIDE * account) (same : key.ring ≡ ring)
@@ -135,7 +135,7 @@ module _ (key : Start) (slots seat : ℕ) (me : Me (Unit {0}) View) where
     pub load_account-allowed : Allows (Ruled key) slots seat me place (λ n. n) (λ n new. (new ≡ (saw_account picked n me.0, me.1)) × IsOwnWord picked n me.0.books)
     load_account-allowed = at-account (λ n. n) (λ p n new. (new ≡ (saw_account p n me.0, me.1)) × IsOwnWord p n me.0.books)
         (allowed-if_step key slots seat me (Account account) fits-account (λ n. n)
-        (λ n. saw_account account n me.0) (λ _. None) (λ n. IsOwnWord account n me.0.books) (account-tells key seat me.0 account)
+        (λ n. saw_account account n me.0) (λ _. none) (λ n. IsOwnWord account n me.0.books) (account-tells key seat me.0 account)
         (λ n _. account-looks key seat me.0 account n))
 
     pub exchange_account-allowed : (from to : AccountWord) (free held : ℕ) → free ≡ word_of from → held ≡ word_of to → FitsWord from → FitsWord to
@@ -146,7 +146,7 @@ module _ (key : Start) (slots seat : ℕ) (me : Me (Unit {0}) View) where
         (λ n new. (new ≡ (after_account picked p.0 n me.0, me.1)) × IsOwnWord picked n me.0.books)) (λ i. (sym free-is i, sym held-is i))
         (at-account (λ n. either (eqb n (word_of from)) (word_of to) n) (λ p n new. (new ≡ (after_account p (word_of from) n me.0, me.1)) × IsOwnWord p n me.0.books)
         (allowed-if_step key slots seat me (Account account) fits-account
-        (λ n. either (eqb n (word_of from)) (word_of to) n) (λ n. after_account account (word_of from) n me.0) (λ _. None)
+        (λ n. either (eqb n (word_of from)) (word_of to) n) (λ n. after_account account (word_of from) n me.0) (λ _. none)
         (λ n. IsOwnWord account n me.0.books) (account-tells key seat me.0 account) (λ n _. account-step key seat me.0 accounts account counted below from to from-fits to-fits may n)))
 
     pub store_account-allowed : (word : AccountWord) (packed : ℕ) → packed ≡ word_of word → FitsWord word → MayGiveBack account word me.0
@@ -155,4 +155,4 @@ module _ (key : Start) (slots seat : ℕ) (me : Me (Unit {0}) View) where
         subst (λ w. Allows (Ruled key) slots seat me place (λ _. w) (λ _ new. (new ≡ (gave_account picked me.0, me.1)) × Unit {0})) (sym packed-is)
         (at-account (λ _. word_of word) (λ p _ new. (new ≡ (gave_account p me.0, me.1)) × Unit {0})
         (allowed-if_step key slots seat me (Account account) fits-account (λ _. word_of word)
-        (λ _. gave_account account me.0) (λ _. None) (λ _. Unit {0}) (λ _ _ _ _ _. tt) (λ n _. give-step key seat me.0 account word fits may n)))
+        (λ _. gave_account account me.0) (λ _. none) (λ _. Unit {0}) (λ _ _ _ _ _. tt) (λ n _. give-step key seat me.0 account word fits may n)))

@@ -1,5 +1,5 @@
 -- A worker is counted as active, and no more.
-use Rattle.std.proofs.Common.{◌≡◌, ◌≢◌, ◌⊎◌, inl, inr, ⊎_elim, ℕ, zero, suc, eqb, ◌||◌, ◌+◌, ◌-◌, ◌%◌, ◌^◌, ◌≤◌, ◌<◌, cond, Bool, true, false, true≢false, List, [], ◌∷◌, length, set, None, sym, refl, ap, ◌∙◌, subst, arith, mod-eq_of_lt, eqb-true, ne_eqb}
+use Rattle.std.proofs.Common.{◌≡◌, ◌≢◌, ◌⊎◌, inl, inr, ⊎_elim, ℕ, zero, suc, eqb, ◌||◌, ◌+◌, ◌-◌, ◌%◌, ◌^◌, ◌≤◌, ◌<◌, cond, Bool, true, false, true≢false, List, [], ◌∷◌, length, set, sym, refl, ap, ◌∙◌, subst, arith, mod-eq_of_lt, eqb-true, ne_eqb}
 use Rattle.std.proofs.Math.Nat.{add-mod_right}
 use Rattle.std.specs.Prelude.{count_by}
 use Rattle.std.specs.List.{IsDistinct, AllByRecursion, list_any}
@@ -12,7 +12,7 @@ use Rattle.log_table.specs.declared.view.Call.TheVariants.{Idle}
 use Rattle.log_table.specs.declared.view.Role.{Role}
 use Rattle.log_table.specs.declared.view.Role.TheVariants.{Flusher, Fresh, Active, Ended, Note, Spent}
 use Rattle.log_table.specs.declared.view.View.{View}
-use Rattle.log_table.specs.Events.{Leads, IsStep}
+use Rattle.log_table.specs.Events.{Leads, IsStep, none}
 use Rattle.log_table.specs.Layout.{Crew}
 use Rattle.log_table.specs.Log.{Log}
 use Rattle.log_table.specs.May.{MayLeave}
@@ -157,7 +157,7 @@ module _ (key : Start) (words : Words) (views : List View) (me : ℕ) (v : View)
         ));
   }
 
-  turns : Leads key words (record words { crew = crew }) views (set views me new) log None
+  turns : Leads key words (record words { crew = crew }) views (set views me new) log none
   turns = restands key words words.stop crew words.account views me v new log s at refl refl
       (let old = s.seen me v at in
       record { tail_seen = old.tail_seen; exposed_seen = old.exposed_seen; durable_seen = old.durable_seen; boundaries = old.boundaries })
@@ -170,7 +170,7 @@ module _ (key : Start) (words : Words) (views : List View) (me : ℕ) (v : View)
 
 pub enrolls : (key : Start) (words : Words) (views : List View) (me : ℕ) (v : View) (log : Log) → IsSound key words views log
     → get_elem? views me ≡ some v → v.standing.role ≡ Fresh
-    → Leads key words (record words { crew = words.crew + 1 }) views (set views me (enrolled v)) log None
+    → Leads key words (record words { crew = words.crew + 1 }) views (set views me (enrolled v)) log none
 enrolls key words views me v log s at fresh =
     turns key words views me v log s at Fresh Active fresh
     record { was_worker = refl; was_unspent = refl; worker = refl; owner = refl; begun = λ f. absurd (cc); works = λ off. absurd (true≢false off) }
@@ -183,7 +183,7 @@ enrolls key words views me v log s at fresh =
     by_test n false same is = inr is
 
 pub leaves : (key : Start) (words : Words) (views : List View) (me : ℕ) (v : View) (log : Log) → IsSound key words views log
-    → get_elem? views me ≡ some v → MayLeave v → Leads key words (record words { crew = words.crew - 1 }) views (set views me (retired v)) log None
+    → get_elem? views me ≡ some v → MayLeave v → Leads key words (record words { crew = words.crew - 1 }) views (set views me (retired v)) log none
 leaves key words views me v log s at may =
     turns key words views me v log s at Active Ended may.rests.active
     record { was_worker = refl; was_unspent = refl; worker = refl; owner = refl; begun = λ f. absurd (cc); works = λ _. refl }
@@ -192,30 +192,30 @@ leaves key words views me v log s at may =
     omega (arith, count-set is_active_view views me v (retired v) at, s.roles.count, was)) (λ _. (may.rests.idle, may.none_held))
 
 module _ (key : Start) (me : ℕ) (v : View) where
-  pub enroll-step : v.standing.role ≡ Fresh → (n : ℕ) → IsStep key me Crew n (n + 1) v (enrolled v) None
+  pub enroll-step : v.standing.role ≡ Fresh → (n : ℕ) → IsStep key me Crew n (n + 1) v (enrolled v) none
   enroll-step fresh n =
       record {
         leads = λ words views log s at is. subst
-            (λ x. Leads key words (record words { crew = x + 1 }) views (set views me (enrolled v)) log None) is
+            (λ x. Leads key words (record words { crew = x + 1 }) views (set views me (enrolled v)) log none) is
             (enrolls key words views me v log s at fresh);
       }
 
-  pub leave-step : MayLeave v → (n : ℕ) → IsStep key me Crew n (n - 1) v (retired v) None
+  pub leave-step : MayLeave v → (n : ℕ) → IsStep key me Crew n (n - 1) v (retired v) none
   leave-step may n = record {
     leads = λ words views log s at is. subst
-        (λ x. Leads key words (record words { crew = x - 1 }) views (set views me (retired v)) log None) is
+        (λ x. Leads key words (record words { crew = x - 1 }) views (set views me (retired v)) log none) is
         (leaves key words views me v log s at may);
   }
 
   -- the machine's sum and difference of words are those of numbers
-  pub enroll-adds : v.standing.role ≡ Fresh → (n : ℕ) → IsStep key me Crew n ((n + 1) % 2 ^ 64) v (enrolled v) None
+  pub enroll-adds : v.standing.role ≡ Fresh → (n : ℕ) → IsStep key me Crew n ((n + 1) % 2 ^ 64) v (enrolled v) none
   enroll-adds fresh n = record {
     leads = λ words views log s at is. let small = crew-small words.crew views s.roles in
-        subst (λ x. Leads key words (record words { crew = x }) views (set views me (enrolled v)) log None) (sym (mod-eq_of_lt (omega arith)))
+        subst (λ x. Leads key words (record words { crew = x }) views (set views me (enrolled v)) log none) (sym (mod-eq_of_lt (omega arith)))
         ((enroll-step fresh n).leads words views log s at is);
   }
 
-  pub leave-subtracts : MayLeave v → (n : ℕ) → IsStep key me Crew n ((n + (2 ^ 64 - 1)) % 2 ^ 64) v (retired v) None
+  pub leave-subtracts : MayLeave v → (n : ℕ) → IsStep key me Crew n ((n + (2 ^ 64 - 1)) % 2 ^ 64) v (retired v) none
   leave-subtracts may n = record {
     leads = λ words views log s at is.
         let was : cond {A = ℕ} (is_active v.standing.role) 1 0 ≡ 1 = ap (λ (r : Role). cond {A = ℕ} (is_active r) 1 0) may.rests.active in
@@ -223,7 +223,7 @@ module _ (key : Start) (me : ℕ) (v : View) where
         let small = crew-small words.crew views s.roles in
         let whole : (n + (2 ^ 64 - 1)) % 2 ^ 64 ≡ n - 1 = ap (λ (x : ℕ). x % 2 ^ 64) (wraps n some)
         ∙ (add-mod_right (n - 1) (2 ^ 64) ∙ mod-eq_of_lt (omega arith)) in
-        subst (λ x. Leads key words (record words { crew = x }) views (set views me (retired v)) log None) (sym whole)
+        subst (λ x. Leads key words (record words { crew = x }) views (set views me (retired v)) log none) (sym whole)
         ((leave-step may n).leads words views log s at is);
   }
     where

@@ -11,12 +11,11 @@ use Rattle.atomic_table.proofs.Lists.{one_turn}
 use Rattle.lsn_space.specs.Tiling.{IsTilingBoundary}
 use Rattle.ring_core.specs.State.{is_at, worked_on, in_hand, RingState}
 use Rattle.ring_core.specs.Machine.{HasUnfilled, filled_at, after_fill}
-use Rattle.ring_core.specs.declared.event.RingEvent.TheVariants.{Fill}
 use Rattle.log_table.specs.declared.table.Start.{Start}
 use Rattle.log_table.specs.declared.view.Call.TheVariants.{Idle, Filling}
 use Rattle.log_table.specs.declared.view.Entry.{Entry}
 use Rattle.log_table.specs.declared.view.View.{View}
-use Rattle.log_table.specs.Events.{reservation_of, stage_in, ring_of, Leads, IsStep}
+use Rattle.log_table.specs.Events.{reservation_of, stage_in, ring_of, Leads, IsStep, fills}
 use Rattle.log_table.specs.Layout.{Ring}
 use Rattle.log_table.specs.Log.{Part, Log, ranges_of, own, part_of, parts_of, unreleased_in, inside, SpellsRecord, records_in, StandsInRing, IsFullIfReleased, IsReleasedBelow, CountsRemaining, AgreesFrom, EndsWithPart, Laid}
 use Rattle.log_table.specs.May.{MayFill}
@@ -250,7 +249,7 @@ module _ (key : Start) (words : Words) (views : List View) (me : ℕ) (v : View)
   reservations = changed-part _ _ (filled_at entry.start) last.before last.behind old_part part (filled_at-others entry.start) laid more
       ∙ ap (λ (l : List Part). map (filled_at entry.start) (map reservation_of l)) (sym last.split)
 
-  pub ring-fills : Leads key words (record words { ring = ring' }) views (set views me new) log (Some (Fill me))
+  pub ring-fills : Leads key words (record words { ring = ring' }) views (set views me new) log (fills me)
   ring-fills = record {
     after = after;
     sound = sound;
@@ -271,13 +270,13 @@ module _ (key : Start) (words : Words) (views : List View) (me : ℕ) (v : View)
   }
 
 pub fill-step : (key : Start) (me : ℕ) (v : View) (at ring unit : ℕ) → key.ring ≡ ring → MayFill at unit v → (n : ℕ)
-    → IsStep key me (Ring (at % ring)) n unit v (filled unit v) (Some (Fill me))
+    → IsStep key me (Ring (at % ring)) n unit v (filled unit v) (fills me)
 fill-step key me v at ring unit same may n = record {
   leads = λ words views log s here is.
       let index : (may.entry.start + length may.entry.units) % key.ring ≡ at % ring = (λ i. sym may.next i % same i) in
       let call : Filling (with_unit unit may.entry) ≡ (filled unit v).call =
       ap (Rattle.log_table.specs.Views.call_with_unit unit) (sym may.filling) in
       subst (λ (x : ℕ × Rattle.log_table.specs.declared.view.Call.Call). Leads key words (record words { ring = put words.ring x.0 unit }) views
-      (set views me (record v { seen = counted v.seen; call = x.1 })) log (Some (Fill me)))
+      (set views me (record v { seen = counted v.seen; call = x.1 })) log (fills me))
       (λ i. (index i, call i)) (ring-fills key words views me v may.entry unit log s here may.filling may.unfilled may.unit_is);
 }

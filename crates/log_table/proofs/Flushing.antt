@@ -5,12 +5,11 @@ use mathlib.Core.Option.{some}
 use lib.ListN.{get_elem?}
 use Rattle.lsn_space.specs.Tiling.{IsTilingBoundary}
 use Rattle.ring_core.specs.State.{size_of}
-use Rattle.ring_core.specs.declared.event.RingEvent.TheVariants.{Flushed}
 use Rattle.log_table.specs.declared.table.Start.{Start}
 use Rattle.log_table.specs.declared.view.Constants.{Constants}
 use Rattle.log_table.specs.declared.view.Role.TheVariants.{Flusher}
 use Rattle.log_table.specs.declared.view.View.{View}
-use Rattle.log_table.specs.Events.{reservation_of, IsStep, Leads}
+use Rattle.log_table.specs.Events.{reservation_of, IsStep, Leads, flushes}
 use Rattle.log_table.specs.Layout.{Durable}
 use Rattle.log_table.specs.Log.{Part, Log, ranges_of, StandsInRing, AgreesFrom, EndsWithPart, IsReleased, IsRangeBoundary}
 use Rattle.log_table.specs.May.{MaySend}
@@ -150,7 +149,7 @@ module _ (key : Start) (words : Words) (views : List View) (me : ℕ) (v : View)
     accounts = accounts-stay key words.account log.parts views me v new at refl s.accounts;
   }
 
-  pub durable-flushes : Leads key words (record words { durable = to }) views (set views me new) log (Some (Flushed to))
+  pub durable-flushes : Leads key words (record words { durable = to }) views (set views me new) log (flushes to)
   durable-flushes = record {
     after = after;
     sound = sound;
@@ -172,7 +171,7 @@ module _ (key : Start) (words : Words) (views : List View) (me : ℕ) (v : View)
     );
   }
 
-pub send-step : (key : Start) (me : ℕ) (v : View) (to : ℕ) → MaySend to v → (n : ℕ) → IsStep key me Durable n to v (has_sent to v) (Some (Flushed to))
+pub send-step : (key : Start) (me : ℕ) (v : View) (to : ℕ) → MaySend to v → (n : ℕ) → IsStep key me Durable n to v (has_sent to v) (flushes to)
 send-step key me v to may n = record {
   leads = λ words views log s at is.
       let start : v.constants.start ≡ key.start = ap (λ (c : Constants). c.start) (s.constants me v at (ap is_spent may.flusher)) in

@@ -1,16 +1,15 @@
 -- A kind of step keeps the rule of the base crate where it leads from sound tables to sound ones.
-use Rattle.std.proofs.Common.{◌≡◌, ℕ, ◌<◌, List, length, get_or, set, sym, refl, ◌∙◌, subst, length-set, Option}
+use Rattle.std.proofs.Common.{◌≡◌, ℕ, ◌<◌, List, length, get_or, set, sym, refl, ◌∙◌, subst, length-set}
 use mathlib.Core.Option.{some}
 use lib.ListN.{get_elem?}
 use Rattle.atomic_table.specs.Table.{Me, keeps, Allows}
-use Rattle.ring_core.specs.declared.event.RingEvent.{RingEvent}
 use Rattle.log_table.specs.declared.table.Start.{Start}
 use Rattle.log_table.specs.declared.view.View.{View}
 use Rattle.log_table.specs.Layout.{Word, index_of}
 use Rattle.log_table.specs.Log.{Log}
 use Rattle.log_table.specs.Sound.{IsSound, Ruled}
 use Rattle.log_table.specs.Words.{Words, words_in, word_at}
-use Rattle.log_table.specs.Events.{IsStep}
+use Rattle.log_table.specs.Events.{IsStep, Event}
 use Rattle.log_table.proofs.Wording.{Fits, words_of-set, read-word}
 
 -- what the rule tells of the word, whenever the seat has this view
@@ -20,7 +19,7 @@ Tells key seat word view P = (words : Words) (views : List View) (log : Log) →
 
 module _ (key : Start) (slots seat : ℕ) (me : Me (Unit {0}) View) (word : Word) (fits : Fits key.ring (length key.accounts.rows) word) where
   -- a step that finds n, leaves `left n` in the word and `after n` as the seat's view
-  pub allowed-if_step : (left : ℕ → ℕ) (after : ℕ → View) (event : ℕ → Option RingEvent) (P : ℕ → Type 0)
+  pub allowed-if_step : (left : ℕ → ℕ) (after : ℕ → View) (event : ℕ → Event) (P : ℕ → Type 0)
       → Tells key seat word me.0 P
       → ((n : ℕ) → n < 18446744073709551616 → IsStep key seat word n (left n) me.0 (after n) (event n))
       → Allows (Ruled key) slots seat me (index_of key.ring word) left (λ n new. (new ≡ (after n, me.1)) × P n)

@@ -1,5 +1,5 @@
 -- Steps that change what their seat has seen, and nothing else: the loads, and an exchange that was lost.
-use Rattle.std.proofs.Common.{◌≡◌, ◌≢◌, inr, ⊎_elim, ℕ, ◌+◌, ◌/◌, ◌≤◌, true, List, length, set, None, sym, refl, ap, ◌∙◌, subst, le_refl, arith}
+use Rattle.std.proofs.Common.{◌≡◌, ◌≢◌, inr, ⊎_elim, ℕ, ◌+◌, ◌/◌, ◌≤◌, true, List, length, set, sym, refl, ap, ◌∙◌, subst, le_refl, arith}
 use mathlib.Core.Option.{some}
 use lib.ListN.{get_elem?}
 use Rattle.lsn_space.specs.Tiling.{IsTilingBoundary}
@@ -9,7 +9,7 @@ use Rattle.log_table.specs.declared.view.Constants.{Constants}
 use Rattle.log_table.specs.declared.view.Seen.{Seen}
 use Rattle.log_table.specs.declared.view.Sending.{Sending}
 use Rattle.log_table.specs.declared.view.View.{View}
-use Rattle.log_table.specs.Events.{Leads, IsStep}
+use Rattle.log_table.specs.Events.{Leads, IsStep, none}
 use Rattle.log_table.specs.Layout.{Tail, Exposed, Durable, Stop}
 use Rattle.log_table.specs.Log.{Log, ranges_of, IsRangeBoundary, Tiles}
 use Rattle.log_table.specs.Sends.{IsExposedToFlusher, IsDurableToFlusher}
@@ -54,7 +54,7 @@ pub looks : (key : Start) (words : Words) (stop : ℕ) (views : List View) (me :
     → EachView (λ _ z. HasReadStop stop z) (set views me (record v { seen = seen; sending = sending }))
     → ((j : ℕ) (z : View) → get_elem? views j ≡ some z → RestsIfQuiet v z → RestsIfQuiet (record v { seen = seen; sending = sending }) z)
     → LookedIfQuiet words.exposed (record v { seen = seen; sending = sending })
-    → Leads key words (record words { stop = stop }) views (set views me (record v { seen = seen; sending = sending })) log None
+    → Leads key words (record words { stop = stop }) views (set views me (record v { seen = seen; sending = sending })) log none
 looks key words stop views me v log seen sending s at sees sends stops read quiet looked =
     restands key words stop words.crew words.account views me v (record v { seen = seen; sending = sending }) log s at refl refl sees (s.constants me v at)
     (s.resting me v at) (s.entries me v at)
@@ -66,16 +66,16 @@ looks key words stop views me v log seen sending s at sees sends stops read quie
 pub sees-word : (key : Start) (words : Words) (views : List View) (me : ℕ) (v : View) (log : Log) (seen : Seen) → IsSound key words views log
     → get_elem? views me ≡ some v → HasSeenBoundaries key.start words.tail words.exposed words.durable (ranges_of log) seen
     → HasReadStop words.stop (record v { seen = seen })
-    → Leads key words words views (set views me (record v { seen = seen })) log None
+    → Leads key words words views (set views me (record v { seen = seen })) log none
 sees-word key words views me v log seen s at sees read = looks key words words.stop views me v log seen v.sending s at sees (s.sends me v at)
     (each_set (λ _ z. StoresStop words.stop z) views me (record v { seen = seen }) s.stops (s.stops me v at))
     (each_set (λ _ z. HasReadStop words.stop z) views me (record v { seen = seen }) s.read_stop read) (λ _ _ _ h. h) (s.looked me v at)
 
 module _ (key : Start) (me : ℕ) (v : View) where
-  pub tail-looks : (n : ℕ) → IsStep key me Tail n n v (saw_tail n v) None
+  pub tail-looks : (n : ℕ) → IsStep key me Tail n n v (saw_tail n v) none
   tail-looks n = record {
     leads = λ words views log s at is. let old = s.seen me v at in
-        subst (λ x. Leads key words (record words { tail = x }) views (set views me (saw_tail x v)) log None) is
+        subst (λ x. Leads key words (record words { tail = x }) views (set views me (saw_tail x v)) log none) is
         (sees-word key words views me v log (seen_tail words.tail v.seen) s at record {
           tail_seen = le_refl _;
           exposed_seen = old.exposed_seen;
@@ -84,11 +84,11 @@ module _ (key : Start) (me : ℕ) (v : View) where
         } (s.read_stop me v at));
   }
 
-  pub exposed-looks : (n : ℕ) → IsStep key me Exposed n n v (saw_exposed n v) None
+  pub exposed-looks : (n : ℕ) → IsStep key me Exposed n n v (saw_exposed n v) none
   exposed-looks n = record {
     leads = λ words views log s at is. let old = s.seen me v at in
         let boundary = exposed-boundary _ _ _ _ _ log s.contiguous in
-        subst (λ x. Leads key words (record words { exposed = x }) views (set views me (saw_exposed x v)) log None) is
+        subst (λ x. Leads key words (record words { exposed = x }) views (set views me (saw_exposed x v)) log none) is
         (looks key words words.stop views me v log (seen_exposed words.exposed v.seen)
         (record v.sending { exposed = words.exposed; looked = true }) s at record {
           tail_seen = old.tail_seen;
@@ -107,10 +107,10 @@ module _ (key : Start) (me : ℕ) (v : View) where
         (λ _ _ _. refl));
   }
 
-  pub durable-looks : (n : ℕ) → IsStep key me Durable n n v (saw_durable n v) None
+  pub durable-looks : (n : ℕ) → IsStep key me Durable n n v (saw_durable n v) none
   durable-looks n = record {
     leads = λ words views log s at is. let old = s.seen me v at in
-        subst (λ x. Leads key words (record words { durable = x }) views (set views me (saw_durable x v)) log None) is
+        subst (λ x. Leads key words (record words { durable = x }) views (set views me (saw_durable x v)) log none) is
         (sees-word key words views me v log (seen_durable words.durable v.seen) s at record {
           tail_seen = old.tail_seen;
           exposed_seen = old.exposed_seen;
@@ -119,10 +119,10 @@ module _ (key : Start) (me : ℕ) (v : View) where
         } (s.read_stop me v at));
   }
 
-  pub stop-looks : (n : ℕ) → IsStep key me Stop n n v (saw_stop n v) None
+  pub stop-looks : (n : ℕ) → IsStep key me Stop n n v (saw_stop n v) none
   stop-looks n = record {
     leads = λ words views log s at is. let old = s.seen me v at in
-        subst (λ x. Leads key words (record words { stop = x }) views (set views me (saw_stop x v)) log None) is
+        subst (λ x. Leads key words (record words { stop = x }) views (set views me (saw_stop x v)) log none) is
         (sees-word key words views me v log (record v.seen { steps = v.seen.steps + 1; stop = words.stop }) s at record {
           tail_seen = old.tail_seen;
           exposed_seen = old.exposed_seen;

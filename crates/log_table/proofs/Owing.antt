@@ -1,5 +1,5 @@
 -- The steps on an account's word, and the load of stop with which a seat takes a job.
-use Rattle.std.proofs.Common.{◌≡◌, inr, ℕ, ◌+◌, ◌≤◌, ◌<◌, cond, eqb, ◌||◌, ◌^◌, Bool, false, true≢false, List, [], ◌∷◌, length, map, set, None, Result, Ok, Err, OnOk, IfErr, sym, refl, ap, ◌∙◌, subst, eq-eqb, ne_eqb}
+use Rattle.std.proofs.Common.{◌≡◌, inr, ℕ, ◌+◌, ◌≤◌, ◌<◌, cond, eqb, ◌||◌, ◌^◌, Bool, false, true≢false, List, [], ◌∷◌, length, map, set, Result, Ok, Err, OnOk, IfErr, sym, refl, ap, ◌∙◌, subst, eq-eqb, ne_eqb}
 use Rattle.std.specs.List.{AllByRecursion}
 use Rattle.std.proofs.lemmas.List.{map-set}
 use mathlib.Core.Logic.{dite}
@@ -25,7 +25,7 @@ use Rattle.log_table.specs.declared.view.TakenJob.{TakenJob}
 use Rattle.log_table.specs.declared.view.View.{View}
 use Rattle.log_table.specs.Accounts.{MayBeTaken, KeepsAccounts}
 use Rattle.log_table.specs.Books.{IsNote, taking_job, taking, giving}
-use Rattle.log_table.specs.Events.{Leads, IsStep}
+use Rattle.log_table.specs.Events.{Leads, IsStep, none}
 use Rattle.log_table.specs.Layout.{Stop, Account}
 use Rattle.log_table.specs.Log.{Log, ranges_of}
 use Rattle.log_table.specs.May.{IsOwnWord, MayTakeJob, MayTake, MayGiveBack}
@@ -52,7 +52,7 @@ module _ (key : Start) (words : Words) (account : ℕ → ℕ) (views : List Vie
   new = record v { seen = seen; books = books }
 
   books-change : HoldsIfActive new → KeepsAccounts (base_of key) account (history_in key log.parts) (set (map books_of views) me books)
-      → Leads key words (record words { account = account }) views (set views me new) log None
+      → Leads key words (record words { account = account }) views (set views me new) log none
   books-change unheld accounts = restands key words words.stop words.crew account views me v new log s at refl refl sees (s.constants me v at)
       (s.resting me v at) (s.entries me v at) (crew-same words.crew views me v new s.roles at refl) (s.sends me v at)
       (each_set (λ _ z. StoresStop words.stop z) views me new s.stops (s.stops me v at))
@@ -90,10 +90,10 @@ FitsWord word = (word.balance < 2 ^ 31) × (word.mark < 2 ^ 32)
 
 module _ (key : Start) (me : ℕ) (v : View) where
   pub job-step : (accounts number : ℕ) (job : Job) → length key.accounts.rows ≡ accounts → MayTakeJob accounts number job v → (n : ℕ)
-      → IsStep key me Stop n n v (took_job number job n v) None
+      → IsStep key me Stop n n v (took_job number job n v) none
   job-step accounts number job same may n = record {
     leads = λ words views log s at is. let taken : TakenJob = record { number = number; job = job } in
-        subst (λ x. Leads key words (record words { stop = x }) views (set views me (took_job number job x v)) log None) is
+        subst (λ x. Leads key words (record words { stop = x }) views (set views me (took_job number job x v)) log none) is
         (books-change key words words.account views me v log (record v.seen { steps = v.seen.steps + 1; stop = words.stop }) (taking_job taken v.books) s at
         (sees-same key.start words.tail words.exposed words.durable log v.seen _ (s.seen me v at) refl refl refl refl) (inr refl)
         ((λ _. may.none_held), (λ off. absurd (true≢false (sym (ap may_own may.rests.active) ∙ off))))
@@ -101,10 +101,10 @@ module _ (key : Start) (me : ℕ) (v : View) where
         (subst (λ c. MayBeTaken c taken) (sym same) may.allowed) may.above may.none_held s.accounts));
   }
 
-  pub account-looks : (account n : ℕ) → IsStep key me (Account account) n n v (saw_account account n v) None
+  pub account-looks : (account n : ℕ) → IsStep key me (Account account) n n v (saw_account account n v) none
   account-looks account n = record {
     leads = λ words views log s at is.
-        subst (λ (f : ℕ → ℕ). Leads key words (record words { account = f }) views (set views me (saw_account account n v)) log None)
+        subst (λ (f : ℕ → ℕ). Leads key words (record words { account = f }) views (set views me (saw_account account n v)) log none)
         (λ i k. sym (Rattle.log_table.proofs.Reading.put-same words.account account n k is) i)
         (sees-word key words views me v log (seen_account account n v.seen) s at
         (sees-same key.start words.tail words.exposed words.durable log v.seen _ (s.seen me v at) refl refl refl refl) (s.read_stop me v at));
@@ -121,7 +121,7 @@ module _ (key : Start) (me : ℕ) (v : View) where
       )
 
   pub account-takes : (accounts account : ℕ) → length key.accounts.rows ≡ accounts → account < accounts → (from to : AccountWord) → FitsWord from → FitsWord to → MayTake account from to v
-      → IsStep key me (Account account) (word_of from) (word_of to) v (took_account account (word_of from) v) None
+      → IsStep key me (Account account) (word_of from) (word_of to) v (took_account account (word_of from) v) none
   account-takes accounts account same below from to from-fits to-fits may = record {
     leads = λ words views log s at is.
         let free : held_in (words.account account) ≡ false = ap held_in is ∙ (held_back from.held from.balance from.mark from-fits.0 from-fits.1 ∙ may.free) in
@@ -138,14 +138,14 @@ module _ (key : Start) (me : ℕ) (v : View) where
   }
 
   pub account-step : (accounts account : ℕ) → length key.accounts.rows ≡ accounts → account < accounts → (from to : AccountWord) → FitsWord from → FitsWord to → MayTake account from to v → (n : ℕ)
-      → IsStep key me (Account account) n (either (eqb n (word_of from)) (word_of to) n) v (after_account account (word_of from) n v) None
+      → IsStep key me (Account account) n (either (eqb n (word_of from)) (word_of to) n) v (after_account account (word_of from) n v) none
   account-step accounts account same below from to from-fits to-fits may n = dite (ℕ_discrete n (word_of from))
       (λ is. subst (λ (b : Bool). IsStep key me (Account account) n (either b (word_of to) n) v
-      (cond b (took_account account (word_of from) v) (saw_account account n v)) None) (sym (eq-eqb n (word_of from) is))
-      (subst (λ k. IsStep key me (Account account) k (word_of to) v (took_account account (word_of from) v) None) (sym is)
+      (cond b (took_account account (word_of from) v) (saw_account account n v)) none) (sym (eq-eqb n (word_of from) is))
+      (subst (λ k. IsStep key me (Account account) k (word_of to) v (took_account account (word_of from) v) none) (sym is)
       (account-takes accounts account same below from to from-fits to-fits may)))
       (λ differ. subst (λ (b : Bool). IsStep key me (Account account) n (either b (word_of to) n) v
-      (cond b (took_account account (word_of from) v) (saw_account account n v)) None) (sym (ne_eqb n (word_of from) differ)) (account-looks account n))
+      (cond b (took_account account (word_of from) v) (saw_account account n v)) none) (sym (ne_eqb n (word_of from) differ)) (account-looks account n))
 
   -- the tail as the seat saw it is at or below the end of the list
   sees-front : (words : Words) (views : List View) (log : Log) → IsSound key words views log → get_elem? views me ≡ some v
@@ -154,7 +154,7 @@ module _ (key : Start) (me : ℕ) (v : View) where
       (sym (history-end key.start key.start words.tail [] log.parts refl s.contiguous.parts s.filled.spelled)) (s.seen me v at).tail_seen
 
   pub give-step : (account : ℕ) (word : AccountWord) → FitsWord word → MayGiveBack account word v → (n : ℕ)
-      → IsStep key me (Account account) n (word_of word) v (gave_account account v) None
+      → IsStep key me (Account account) n (word_of word) v (gave_account account v) none
   give-step account word word-fits may n = record {
     leads = λ words views log s at is.
         books-change key words (put words.account account (word_of word)) views me v log (counted v.seen) (giving (given_as account v) v.books) s at

@@ -1,12 +1,12 @@
 -- The flusher's seat reads the next unit from the ring.
-use Rattle.std.proofs.Common.{◌≡◌, ℕ, ◌==◌, ◌+◌, ◌%◌, ◌<◌, cond, List, [], ◌∷◌, ◌++◌, length, set, None, sym, refl, ap, ◌∙◌, subst, arith, length-append, eqb-true, Bool, true, false}
+use Rattle.std.proofs.Common.{◌≡◌, ℕ, ◌==◌, ◌+◌, ◌%◌, ◌<◌, cond, List, [], ◌∷◌, ◌++◌, length, set, sym, refl, ap, ◌∙◌, subst, arith, length-append, eqb-true, Bool, true, false}
 use Rattle.std.specs.List.{AllByRecursion}
 use mathlib.Core.Option.{some}
 use lib.ListN.{get_elem?}
 use Rattle.log_table.specs.declared.table.Start.{Start}
 use Rattle.log_table.specs.declared.view.Constants.{Constants}
 use Rattle.log_table.specs.declared.view.View.{View}
-use Rattle.log_table.specs.Events.{IsStep, Leads}
+use Rattle.log_table.specs.Events.{IsStep, Leads, none}
 use Rattle.log_table.specs.Layout.{Ring}
 use Rattle.log_table.specs.Log.{Part, Log, AgreesFrom, StandsInRing, IsFull, IsFullIfReleased, IsReleasedBelow}
 use Rattle.log_table.specs.May.{MayRead}
@@ -72,7 +72,7 @@ module _ (key : Start) (words : Words) (views : List View) (me : ℕ) (v : View)
       (part-boundary _ _ _ _ _ log s.contiguous words.durable (durable-boundary _ _ _ _ _ log s.contiguous))
       (part-boundary _ _ _ _ _ log s.contiguous v.sending.exposed sends.boundary) (omega (arith, all, sent-is)) full s.filled.spelled sends-more.read_agrees)
 
-  pub ring-reads : Leads key words words views (set views me (has_read unit v)) log None
+  pub ring-reads : Leads key words words views (set views me (has_read unit v)) log none
   ring-reads = let old = s.seen me v at in
       looks key words words.stop views me v log (counted v.seen) (record v.sending { read = read }) s at record {
         tail_seen = old.tail_seen;
@@ -84,13 +84,13 @@ module _ (key : Start) (words : Words) (views : List View) (me : ℕ) (v : View)
       (λ _ _ _ h. h) (s.looked me v at)
 
 module _ (key : Start) (me : ℕ) (v : View) (lsn ring : ℕ) (same : key.ring ≡ ring) (may : MayRead lsn v) where
-  pub read-step : (n : ℕ) → IsStep key me (Ring (lsn % ring)) n n v (has_read n v) None
+  pub read-step : (n : ℕ) → IsStep key me (Ring (lsn % ring)) n n v (has_read n v) none
   read-step n = record {
     leads = λ words views log s at is.
         let found : words.ring (lsn % key.ring) ≡ n = ap (λ r. words.ring (lsn % r)) same ∙ is in
-        subst (λ (f : ℕ → ℕ). Leads key words (record words { ring = f }) views (set views me (has_read n v)) log None)
+        subst (λ (f : ℕ → ℕ). Leads key words (record words { ring = f }) views (set views me (has_read n v)) log none)
         (λ i k. sym (put-same words.ring (lsn % ring) n k is) i)
-        (subst (λ x. Leads key words words views (set views me (has_read x v)) log None) found (ring-reads key words views me v log s at lsn may));
+        (subst (λ x. Leads key words words views (set views me (has_read x v)) log none) found (ring-reads key words views me v log s at lsn may));
   }
 
   pub read-tells : Tells key me (Ring (lsn % ring)) v (λ n. ReadsWholeEntries (has_read n v))

@@ -8,13 +8,11 @@ use lib.ListN.{get_elem?}
 use prog.Atomic.{either}
 use Rattle.lsn_space.specs.Tiling.{IsTilingBoundary}
 use Rattle.lsn_space.specs.declared.lsn.TheConstants.{LAST}
-use Rattle.ring_core.specs.declared.event.RingEvent.{RingEvent}
-use Rattle.ring_core.specs.declared.event.RingEvent.TheVariants.{Reserve}
 use Rattle.log_table.specs.declared.table.Start.{Start}
 use Rattle.log_table.specs.declared.view.Constants.{Constants}
 use Rattle.log_table.specs.declared.view.Entry.{Entry}
 use Rattle.log_table.specs.declared.view.View.{View}
-use Rattle.log_table.specs.Events.{reservation_of, stage_in, Leads, IsStep}
+use Rattle.log_table.specs.Events.{reservation_of, stage_in, Leads, IsStep, Event, none, reserves}
 use Rattle.log_table.specs.Layout.{Tail}
 use Rattle.log_table.specs.Log.{Part, Owed, Range, Log, ranges_of, part_of, parts_of, unreleased_in, SpellsRecord, records_in, StandsInRing, IsFullIfReleased, IsReleasedBelow, Released, IsAtWork, IsUnreleased, CountsRemaining, AgreesFrom, EndsWithPart, IsRangeBoundary, Laid}
 use Rattle.log_table.specs.May.{MayReserve}
@@ -129,8 +127,8 @@ module _ (key : Start) (words : Words) (views : List View) (me : ℕ) (v : View)
   mine : HasWorkingOwner log.parts log.ahead me v
   mine = seat_at (HasWorkingOwner log.parts log.ahead) views me v at s.owners
 
-  none : unreleased_in from size log.parts ≡ 0
-  none = unreleased_in-apart _ _ from size log.parts s.contiguous.parts (inl (le_refl _))
+  nothing-there : unreleased_in from size log.parts ≡ 0
+  nothing-there = unreleased_in-apart _ _ from size log.parts s.contiguous.parts (inl (le_refl _))
 
   ranges : ranges_of log ++ range ∷ [] ≡ ranges_of after
   ranges = append_assoc log.flushed (log.exposed ++ log.ahead) (range ∷ [])
@@ -152,7 +150,7 @@ module _ (key : Start) (words : Words) (views : List View) (me : ℕ) (v : View)
         ∙ (ap (λ n. unreleased_in q.base q.size log.parts + n)
         (unreleased_in-apart from to q.base q.size (part ∷ []) (refl, positive, whole) (inr hi)) ∙ (add-zero _ ∙ counts)))) (
           unreleased_in-append from size log.parts (part ∷ [])
-              ∙ (let here = inside-here from size entry (le_refl _) (omega (arith, positive)) in omega (arith, here, none)),
+              ∙ (let here = inside-here from size entry (le_refl _) (omega (arith, positive)) in omega (arith, here, nothing-there)),
           tt,
         );
     aligned = subst (AllByRecursion (EndsWithPart key.start after.parts)) ranges
@@ -245,7 +243,7 @@ module _ (key : Start) (words : Words) (views : List View) (me : ℕ) (v : View)
     accounts = accounts;
   }
 
-  pub tail-reserves : Leads key words (record words { tail = to }) views (set views me new) log (Some (Reserve me size))
+  pub tail-reserves : Leads key words (record words { tail = to }) views (set views me new) log (reserves me size)
   tail-reserves = record {
     after = after;
     sound = sound;
@@ -270,21 +268,21 @@ module _ (key : Start) (words : Words) (views : List View) (me : ℕ) (v : View)
   }
 
 -- the event of an exchange that finds n
-abbrev pub exchange-event : ℕ → ℕ → ℕ → ℕ → Option RingEvent
-exchange-event me from to n = cond (n == from) (Some (Reserve me (to - from))) None
+abbrev pub exchange-event : ℕ → ℕ → ℕ → ℕ → Event
+exchange-event me from to n = cond (n == from) (reserves me (to - from)) none
 
 module _ (key : Start) (me : ℕ) (v : View) (from to : ℕ) (may : MayReserve from to v) where
-  pub reserves : IsStep key me Tail from to v (reserved from to v) (Some (Reserve me (to - from)))
-  reserves = record {
+  pub reserve-step : IsStep key me Tail from to v (reserved from to v) (reserves me (to - from))
+  reserve-step = record {
     leads = λ words views log s at is. subst
-        (λ n. Leads key words (record words { tail = to }) views (set views me (reserved n to v)) log (Some (Reserve me (to - n)))) is
+        (λ n. Leads key words (record words { tail = to }) views (set views me (reserved n to v)) log (reserves me (to - n))) is
         (tail-reserves key words views me v to log s at (subst (λ n. MayReserve n to v) (sym is) may));
   }
 
   pub exchange-step : (n : ℕ) → IsStep key me Tail n (either (eqb n from) to n) v (after_exchange from to n v) (exchange-event me from to n)
   exchange-step n = dite (ℕ_discrete n from)
       (λ same. subst (λ (b : Bool). IsStep key me Tail n (either b to n) v (cond b (reserved from to v) (saw_tail n v))
-      (cond b (Some (Reserve me (to - from))) None)) (sym (Rattle.std.proofs.Common.eq-eqb n from same))
-      (subst (λ k. IsStep key me Tail k to v (reserved from to v) (Some (Reserve me (to - from)))) (sym same) reserves))
+      (cond b (reserves me (to - from)) none)) (sym (Rattle.std.proofs.Common.eq-eqb n from same))
+      (subst (λ k. IsStep key me Tail k to v (reserved from to v) (reserves me (to - from))) (sym same) reserve-step))
       (λ differ. subst (λ (b : Bool). IsStep key me Tail n (either b to n) v (cond b (reserved from to v) (saw_tail n v))
-      (cond b (Some (Reserve me (to - from))) None)) (sym (Rattle.std.proofs.Common.ne_eqb n from differ)) (tail-looks key me v n))
+      (cond b (reserves me (to - from)) none)) (sym (Rattle.std.proofs.Common.ne_eqb n from differ)) (tail-looks key me v n))

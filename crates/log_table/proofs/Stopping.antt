@@ -9,7 +9,7 @@ use Rattle.log_table.specs.declared.table.Start.{Start}
 use Rattle.log_table.specs.declared.view.Role.{Role}
 use Rattle.log_table.specs.declared.view.Role.TheVariants.{Flusher, Fresh, Active, Ended, Note, Spent}
 use Rattle.log_table.specs.declared.view.View.{View}
-use Rattle.log_table.specs.Events.{IsStep, Leads}
+use Rattle.log_table.specs.Events.{IsStep, Leads, none}
 use Rattle.log_table.specs.Layout.{Stop, Crew}
 use Rattle.log_table.specs.Log.{Log}
 use Rattle.log_table.specs.May.{MayStop}
@@ -61,10 +61,10 @@ either-read stop mine his false mine-read his-read = his-read
 
 module _ (key : Start) (me : ℕ) (v : View) where
   -- a step that changes nothing
-  pub stop-stays : (n : ℕ) → IsStep key me Stop n n v v None
+  pub stop-stays : (n : ℕ) → IsStep key me Stop n n v v none
   stop-stays n = record {
     leads = λ words views log s at is.
-        subst (λ x. Leads key words (record words { stop = x }) views (set views me v) log None) is
+        subst (λ x. Leads key words (record words { stop = x }) views (set views me v) log none) is
         (sees-word key words views me v log v.seen s at (s.seen me v at) (s.read_stop me v at));
   }
 
@@ -72,7 +72,7 @@ module _ (key : Start) (me : ℕ) (v : View) where
   pub stop-tells : Tells key me Stop v (λ _. v.standing.role ≡ Flusher → HasReadStop v.sending.stop v)
   stop-tells words views log s at flusher = subst (λ n. HasReadStop n v) (sym (s.stops me v at flusher)) (s.read_stop me v at)
 
-  pub stop-step : (word : ℕ) → MayStop word v → (n : ℕ) → IsStep key me Stop n word v (has_stopped word v) None
+  pub stop-step : (word : ℕ) → MayStop word v → (n : ℕ) → IsStep key me Stop n word v (has_stopped word v) none
   stop-step word may n = record {
     leads = λ words views log s at is. let old = s.seen me v at in let running : words.stop ≡ 0 = sym (s.stops me v at may.flusher) ∙ may.running in
         looks key words word views me v log (counted v.seen) (record v.sending { stop = word }) s at record {
@@ -111,10 +111,10 @@ module _ (key : Start) (me : ℕ) (v : View) where
       by_role Note is = ap is_working is
       by_role Spent is = ap is_working is
 
-  pub crew-looks : (n : ℕ) → IsStep key me Crew n n v (saw_crew n v) None
+  pub crew-looks : (n : ℕ) → IsStep key me Crew n n v (saw_crew n v) none
   crew-looks n = record {
     leads = λ words views log s at is. let old = s.seen me v at in
-        subst (λ x. Leads key words (record words { crew = x }) views (set views me (saw_crew x v)) log None) is
+        subst (λ x. Leads key words (record words { crew = x }) views (set views me (saw_crew x v)) log none) is
         (looks key words words.stop views me v log (record v.seen { steps = v.seen.steps + 1; crew = words.crew })
         (record v.sending { quiet = words.crew == 0 && knows_all_enrolled v.standing; looked = false }) s at record {
           tail_seen = old.tail_seen;

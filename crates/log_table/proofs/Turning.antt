@@ -7,12 +7,11 @@ use native.Mathlib.Decide.{dec_le}
 use lib.ListN.{get_elem?}
 use Rattle.ring_core.specs.State.{in_hand, RingState}
 use Rattle.ring_core.specs.Machine.{IsNext, released_at, after_turn}
-use Rattle.ring_core.specs.declared.event.RingEvent.TheVariants.{Turn}
 use Rattle.log_table.specs.declared.table.Start.{Start}
 use Rattle.log_table.specs.declared.view.Call.TheVariants.{Idle, Filling}
 use Rattle.log_table.specs.declared.view.Entry.{Entry}
 use Rattle.log_table.specs.declared.view.View.{View}
-use Rattle.log_table.specs.Events.{reservation_of, ring_of, Leads, IsStep}
+use Rattle.log_table.specs.Events.{reservation_of, ring_of, Leads, IsStep, turns}
 use Rattle.log_table.specs.Layout.{Exposed}
 use Rattle.log_table.specs.Log.{Part, Log, part_of, parts_of, IsFull, IsReleasedBelow, Laid}
 use Rattle.log_table.specs.May.{MayRelease}
@@ -67,7 +66,7 @@ module _ (key : Start) (words : Words) (views : List View) (me : ℕ) (v : View)
   reservations = changed-part _ _ (released_at entry.start) place.before place.behind old_part part (released_at-others entry.start) laid-before more
       ∙ ap (λ (l : List Part). map (released_at entry.start) (map reservation_of l)) (sym place.split)
 
-  pub turn-releases : Leads key words (record words { exposed = to }) views (set views me new) log (Some (Turn me))
+  pub turn-releases : Leads key words (record words { exposed = to }) views (set views me new) log (turns me)
   turn-releases = record {
     after = log';
     sound = sound key words views me v entry log s at filling is_full turn;
@@ -105,11 +104,11 @@ still-turn key words views me v entry log s at filling turn =
         (mine.owns ∙ ap (λ c. parts_of me true v.entries ++ parts_of me false (entries_in c)) filling)
 
 pub release-step : (key : Start) (me : ℕ) (v : View) (end : ℕ) → MayRelease end v → (n : ℕ)
-    → IsStep key me Exposed n end v (released end v) (Some (Turn me))
+    → IsStep key me Exposed n end v (released end v) (turns me)
 release-step key me v _ may n = record {
   leads = λ words views log s here is.
       subst (λ (x : ℕ × List Entry). Leads key words (record words { exposed = x.0 }) views
-      (set views me (record v { seen = seen_exposed x.0 v.seen; entries = v.entries ++ x.1; call = Idle })) log (Some (Turn me)))
+      (set views me (record v { seen = seen_exposed x.0 v.seen; entries = v.entries ++ x.1; call = Idle })) log (turns me))
       (λ i. (sym may.end i, ap entries_in (sym may.filling) i))
       (turn-releases key words views me v may.entry log s here may.filling may.full
       (still-turn key words views me v may.entry log s here may.filling may.turn));

@@ -1,10 +1,12 @@
--- What a table shows of the ring machine, and which of its events a step is.
+-- What a table shows of the ring machine, and which of its events a step is. What speaks of steps uses these names, and not those of the
+-- machine itself.
 use Rattle.std.specs.Prelude.{◌≡◌, ℕ, ◌+◌, true, List, [], ◌∷◌, map, length, set, Option, Some, None}
 use mathlib.Core.Option.{some}
 use lib.ListN.{get_elem?}
 use Rattle.ring_core.specs.State.{Reservation, Stage, Idle, Works, Hand, RingState}
 use Rattle.ring_core.specs.Machine.{RingStep}
 use Rattle.ring_core.specs.declared.event.RingEvent.{RingEvent}
+use Rattle.ring_core.specs.declared.event.RingEvent.TheVariants.{Reserve, Fill, Turn, Flushed}
 use Rattle.log_table.specs.declared.table.Start.{Start}
 use Rattle.log_table.specs.declared.view.Call.{Call}
 use Rattle.log_table.specs.declared.view.Call.TheVariants.{Idle as AtRest, Filling}
@@ -40,20 +42,43 @@ ring_of key words views log = record {
   durable = words.durable;
 }
 
+-- what a step is to the machine: one of its events, or none
+abbrev pub Event : Type 0
+Event = Option RingEvent
+
+-- the seat reserves n units
+abbrev pub reserves : ℕ → ℕ → Event
+reserves seat n = Some (Reserve seat n)
+
+-- the seat fills the next unit of what it reserved
+abbrev pub fills : ℕ → Event
+fills seat = Some (Fill seat)
+
+-- the seat releases what it reserved, and exposes it
+abbrev pub turns : ℕ → Event
+turns seat = Some (Turn seat)
+
+-- all below is on the disk
+abbrev pub flushes : ℕ → Event
+flushes to = Some (Flushed to)
+
+abbrev pub none : Event
+none = None
+
 -- the machine takes the event, or where there is none it stays as it was
-abbrev pub Shows : Option RingEvent → RingState → RingState → Type 0
+abbrev pub Shows : Event → RingState → RingState → Type 0
 Shows None old new = new ≡ old
 Shows (Some event) old new = RingStep old event true new
 
 -- from a sound table to a sound one, by this event of the ring machine
-pub record Leads (key : Start) (words words' : Words) (views views' : List View) (log : Log) (event : Option RingEvent) : Type 0 where
+pub record Leads (key : Start) (words words' : Words) (views views' : List View) (log : Log) (event : Event) : Type 0 where
   pub after : Log
   pub sound : IsSound key words' views' after
   pub shows : Shows event (ring_of key words views log) (ring_of key words' views' after)
 
 -- Whatever sound table it is in which the word holds `found` and the seat has `view`: once the word holds `left` and the
 -- seat has `view'`, the table is sound, and the step is the event
-pub record IsStep (key : Start) (seat : ℕ) (word : Word) (found left : ℕ) (view view' : View) (event : Option RingEvent) : Type 0 where
+pub record IsStep (key : Start) (seat : ℕ) (word : Word) (found left : ℕ) (view view' : View) (event : Event) : Type 0 where
   pub leads : (words : Words) (views : List View) (log : Log) → IsSound key words views log → get_elem? views seat ≡ some view
       → word_at words word ≡ found
       → Leads key words (with_word words word left) views (set views seat view') log event

@@ -1,7 +1,7 @@
 //! The accounts: who holds them, and with which balance and last commit.
-ghost use Rattle.std.specs.Prelude.{◌≡◌, ◌≢◌, ◌<◌, OnOk, IfErr, None, ℕ};
+ghost use Rattle.std.specs.Prelude.{◌≡◌, ◌≢◌, ◌<◌, OnOk, IfErr, ℕ};
 ghost use Rattle.slot_word.specs.AccountWord.{word_of};
-ghost use Rattle.log_table.specs.Events.{IsStep};
+ghost use Rattle.log_table.specs.Events.{IsStep, none};
 ghost use Rattle.log_table.specs.Layout.{Account};
 ghost use Rattle.log_table.specs.May.{IsOwnWord, MayTake, MayGiveBack};
 ghost use Rattle.log_table.specs.Seats.{IsOf, Becomes, view_of, number_of, key_of};
@@ -77,7 +77,7 @@ impl LogTable {
         requires account { account < self.now.accounts }
         ensures view { Becomes seat.old seat.new (saw_account account (word_of result) (view_of seat.old)) }
         ensures own { IsOwnWord account (word_of result) (view_of seat.old).books }
-        ensures event { IsStep (key_of self.now) (number_of seat.old) (Account account) (word_of result) (word_of result) (view_of seat.old) (saw_account account (word_of result) (view_of seat.old)) None }
+        ensures event { IsStep (key_of self.now) (number_of seat.old) (Account account) (word_of result) (word_of result) (view_of seat.old) (saw_account account (word_of result) (view_of seat.old)) none }
     {
         load_account_as::<Brand>(self, seat, account)
     }
@@ -95,10 +95,10 @@ impl LogTable {
         requires account { account < self.now.accounts }
         requires next { MayTake account from to (view_of seat.old) }
         ensures ok { OnOk result (Becomes seat.old seat.new (took_account account (word_of from) (view_of seat.old))) }
-        ensures ok_event { OnOk result (IsStep (key_of self.now) (number_of seat.old) (Account account) (word_of from) (word_of to) (view_of seat.old) (took_account account (word_of from) (view_of seat.old)) None) }
+        ensures ok_event { OnOk result (IsStep (key_of self.now) (number_of seat.old) (Account account) (word_of from) (word_of to) (view_of seat.old) (took_account account (word_of from) (view_of seat.old)) none) }
         ensures err { IfErr result (λ found. (found ≢ from) × Becomes seat.old seat.new (saw_account account (word_of found) (view_of seat.old))) }
         ensures own { IfErr result (λ found. IsOwnWord account (word_of found) (view_of seat.old).books) }
-        ensures err_event { IfErr result (λ found. IsStep (key_of self.now) (number_of seat.old) (Account account) (word_of found) (word_of found) (view_of seat.old) (saw_account account (word_of found) (view_of seat.old)) None) }
+        ensures err_event { IfErr result (λ found. IsStep (key_of self.now) (number_of seat.old) (Account account) (word_of found) (word_of found) (view_of seat.old) (saw_account account (word_of found) (view_of seat.old)) none) }
     {
         exchange_account_as::<Brand>(self, seat, account, from, to)
     }
@@ -110,7 +110,7 @@ impl LogTable {
         requires account { account < self.now.accounts }
         requires next { MayGiveBack account word (view_of seat.old) }
         ensures view { Becomes seat.old seat.new (gave_account account (view_of seat.old)) }
-        ensures event { (found : ℕ) → IsStep (key_of self.now) (number_of seat.old) (Account account) found (word_of word) (view_of seat.old) (gave_account account (view_of seat.old)) None }
+        ensures event { (found : ℕ) → IsStep (key_of self.now) (number_of seat.old) (Account account) found (word_of word) (view_of seat.old) (gave_account account (view_of seat.old)) none }
     {
         store_account_as::<Brand>(self, seat, account, word);
     }

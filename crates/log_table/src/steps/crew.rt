@@ -1,7 +1,7 @@
 //! The crew: how many workers are active.
-ghost use Rattle.std.specs.Prelude.{◌≡◌, ◌+◌, ◌-◌, ◌%◌, ◌^◌, None, ℕ};
+ghost use Rattle.std.specs.Prelude.{◌≡◌, ◌+◌, ◌-◌, ◌%◌, ◌^◌, ℕ};
 ghost use Rattle.log_table.specs.declared.view.Role.TheVariants.{Fresh};
-ghost use Rattle.log_table.specs.Events.{IsStep};
+ghost use Rattle.log_table.specs.Events.{IsStep, none};
 ghost use Rattle.log_table.specs.Layout.{Crew};
 ghost use Rattle.log_table.specs.May.{MayLeave};
 ghost use Rattle.log_table.specs.Seats.{IsOf, Becomes, view_of, number_of, key_of};
@@ -18,7 +18,7 @@ impl LogTable {
         requires seat { IsOf self.now seat.old }
         requires fresh { (view_of seat.old).standing.role ≡ Fresh }
         ensures view { Becomes seat.old seat.new (enrolled (view_of seat.old)) }
-        ensures event { (found : ℕ) → IsStep (key_of self.now) (number_of seat.old) Crew found (found + 1) (view_of seat.old) (enrolled (view_of seat.old)) None }
+        ensures event { (found : ℕ) → IsStep (key_of self.now) (number_of seat.old) Crew found (found + 1) (view_of seat.old) (enrolled (view_of seat.old)) none }
     {
         self.table
             .shared
@@ -30,7 +30,7 @@ impl LogTable {
         requires seat { IsOf self.now seat.old }
         requires may { MayLeave (view_of seat.old) }
         ensures view { Becomes seat.old seat.new (retired (view_of seat.old)) }
-        ensures event { (found : ℕ) → IsStep (key_of self.now) (number_of seat.old) Crew found (found - 1) (view_of seat.old) (retired (view_of seat.old)) None }
+        ensures event { (found : ℕ) → IsStep (key_of self.now) (number_of seat.old) Crew found (found - 1) (view_of seat.old) (retired (view_of seat.old)) none }
     {
         self.table
             .shared
@@ -42,7 +42,7 @@ impl LogTable {
     pub fn load_crew(&self, seat: &mut Seat) -> u64
         requires { IsOf self.now seat.old }
         ensures view { Becomes seat.old seat.new (saw_crew result (view_of seat.old)) }
-        ensures event { IsStep (key_of self.now) (number_of seat.old) Crew result result (view_of seat.old) (saw_crew result (view_of seat.old)) None }
+        ensures event { IsStep (key_of self.now) (number_of seat.old) Crew result result (view_of seat.old) (saw_crew result (view_of seat.old)) none }
     {
         self.table.shared.load::<LoadCrew>(&mut seat.base, CREW)
     }

@@ -1,7 +1,6 @@
 //! Durable: everything below is on the disk.
-ghost use Rattle.std.specs.Prelude.{◌≡◌, ◌≤◌, None, Some, ℕ};
-ghost use Rattle.ring_core.specs.declared.event.RingEvent.TheVariants.{Flushed};
-ghost use Rattle.log_table.specs.Events.{IsStep};
+ghost use Rattle.std.specs.Prelude.{◌≡◌, ◌≤◌, ℕ};
+ghost use Rattle.log_table.specs.Events.{IsStep, flushes, none};
 ghost use Rattle.log_table.specs.Layout.{Durable};
 ghost use Rattle.log_table.specs.May.{MaySend};
 ghost use Rattle.log_table.specs.Seats.{IsOf, Becomes, view_of, number_of, key_of};
@@ -19,7 +18,7 @@ impl LogTable {
         ensures view { Becomes seat.old seat.new (saw_durable result (view_of seat.old)) }
         ensures grows { (view_of seat.old).seen.durable ≤ result }
         ensures flusher { IsDurableToFlusher (view_of seat.old) result }
-        ensures event { IsStep (key_of self.now) (number_of seat.old) Durable result result (view_of seat.old) (saw_durable result (view_of seat.old)) None }
+        ensures event { IsStep (key_of self.now) (number_of seat.old) Durable result result (view_of seat.old) (saw_durable result (view_of seat.old)) none }
     {
         Lsn::new(
             self.table
@@ -34,7 +33,7 @@ impl LogTable {
         requires seat { IsOf self.now seat.old }
         requires next { MaySend to (view_of seat.old) }
         ensures view { Becomes seat.old seat.new (has_sent to (view_of seat.old)) }
-        ensures event { (found : ℕ) → IsStep (key_of self.now) (number_of seat.old) Durable found to (view_of seat.old) (has_sent to (view_of seat.old)) (Some (Flushed to)) }
+        ensures event { (found : ℕ) → IsStep (key_of self.now) (number_of seat.old) Durable found to (view_of seat.old) (has_sent to (view_of seat.old)) (flushes to) }
     {
         self.table
             .shared

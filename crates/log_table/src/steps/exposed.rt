@@ -1,7 +1,6 @@
 //! Exposed: everything below is filled.
-ghost use Rattle.std.specs.Prelude.{◌≡◌, ◌≤◌, None, Some, ℕ};
-ghost use Rattle.ring_core.specs.declared.event.RingEvent.TheVariants.{Turn};
-ghost use Rattle.log_table.specs.Events.{IsStep};
+ghost use Rattle.std.specs.Prelude.{◌≡◌, ◌≤◌, ℕ};
+ghost use Rattle.log_table.specs.Events.{IsStep, turns, none};
 ghost use Rattle.log_table.specs.Layout.{Exposed};
 ghost use Rattle.log_table.specs.May.{MayRelease};
 ghost use Rattle.log_table.specs.Seats.{IsOf, Becomes, view_of, number_of, key_of};
@@ -19,7 +18,7 @@ impl LogTable {
         ensures view { Becomes seat.old seat.new (saw_exposed result (view_of seat.old)) }
         ensures grows { (view_of seat.old).seen.exposed ≤ result }
         ensures flusher { IsExposedToFlusher (view_of seat.old) result }
-        ensures event { IsStep (key_of self.now) (number_of seat.old) Exposed result result (view_of seat.old) (saw_exposed result (view_of seat.old)) None }
+        ensures event { IsStep (key_of self.now) (number_of seat.old) Exposed result result (view_of seat.old) (saw_exposed result (view_of seat.old)) none }
     {
         Lsn::new(
             self.table
@@ -33,7 +32,7 @@ impl LogTable {
         requires seat { IsOf self.now seat.old }
         requires next { MayRelease to (view_of seat.old) }
         ensures view { Becomes seat.old seat.new (released to (view_of seat.old)) }
-        ensures event { (found : ℕ) → IsStep (key_of self.now) (number_of seat.old) Exposed found to (view_of seat.old) (released to (view_of seat.old)) (Some (Turn (number_of seat.old))) }
+        ensures event { (found : ℕ) → IsStep (key_of self.now) (number_of seat.old) Exposed found to (view_of seat.old) (released to (view_of seat.old)) (turns (number_of seat.old)) }
     {
         self.table
             .shared

@@ -1,6 +1,6 @@
 //! A seat takes a job, and looks whether the log has stopped.
-ghost use Rattle.std.specs.Prelude.{◌≡◌, ◌≢◌, None};
-ghost use Rattle.log_table.specs.Events.{IsStep};
+ghost use Rattle.std.specs.Prelude.{◌≡◌, ◌≢◌};
+ghost use Rattle.log_table.specs.Events.{IsStep, none};
 ghost use Rattle.log_table.specs.Layout.{Stop};
 ghost use Rattle.log_table.specs.May.{MayTakeJob};
 ghost use Rattle.log_table.specs.Seats.{IsOf, Becomes, view_of, number_of, key_of};
@@ -31,7 +31,7 @@ impl LogTable {
         requires may { MayTakeJob self.now.accounts number job.now (view_of seat.old) }
         ensures view { Becomes seat.old seat.new (took_job number job.now result (view_of seat.old)) }
         ensures stays { (view_of seat.old).seen.stop ≢ 0 → result ≡ (view_of seat.old).seen.stop }
-        ensures event { IsStep (key_of self.now) (number_of seat.old) Stop result result (view_of seat.old) (took_job number job.now result (view_of seat.old)) None }
+        ensures event { IsStep (key_of self.now) (number_of seat.old) Stop result result (view_of seat.old) (took_job number job.now result (view_of seat.old)) none }
     {
         take_job_as::<Brand>(self, seat, number, job)
     }

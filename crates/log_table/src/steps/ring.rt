@@ -1,7 +1,6 @@
 //! The ring: the units that are reserved and not yet on the disk.
-ghost use Rattle.std.specs.Prelude.{◌≡◌, ◌%◌, None, Some, ℕ};
-ghost use Rattle.ring_core.specs.declared.event.RingEvent.TheVariants.{Fill};
-ghost use Rattle.log_table.specs.Events.{IsStep};
+ghost use Rattle.std.specs.Prelude.{◌≡◌, ◌%◌, ℕ};
+ghost use Rattle.log_table.specs.Events.{IsStep, fills, none};
 ghost use Rattle.log_table.specs.Layout.{Ring};
 ghost use Rattle.log_table.specs.May.{MayFill, MayRead};
 ghost use Rattle.log_table.specs.Seats.{IsOf, Becomes, view_of, number_of, key_of};
@@ -19,7 +18,7 @@ impl LogTable {
         requires seat { IsOf self.now seat.old }
         requires next { MayFill at unit (view_of seat.old) }
         ensures view { Becomes seat.old seat.new (filled unit (view_of seat.old)) }
-        ensures event { (found : ℕ) → IsStep (key_of self.now) (number_of seat.old) (Ring (at % self.now.ring)) found unit (view_of seat.old) (filled unit (view_of seat.old)) (Some (Fill (number_of seat.old))) }
+        ensures event { (found : ℕ) → IsStep (key_of self.now) (number_of seat.old) (Ring (at % self.now.ring)) found unit (view_of seat.old) (filled unit (view_of seat.old)) (fills (number_of seat.old)) }
     {
         let index = RING + place(at, self.ring);
         self.table
@@ -34,7 +33,7 @@ impl LogTable {
         requires next { MayRead at (view_of seat.old) }
         ensures view { Becomes seat.old seat.new (has_read result (view_of seat.old)) }
         ensures whole { ReadsWholeEntries (has_read result (view_of seat.old)) }
-        ensures event { IsStep (key_of self.now) (number_of seat.old) (Ring (at % self.now.ring)) result result (view_of seat.old) (has_read result (view_of seat.old)) None }
+        ensures event { IsStep (key_of self.now) (number_of seat.old) (Ring (at % self.now.ring)) result result (view_of seat.old) (has_read result (view_of seat.old)) none }
     {
         let index = RING + place(at, self.ring);
         self.table.shared.load::<LoadRing>(&mut seat.base, index)

@@ -1,6 +1,6 @@
 //! Stop: why the log stopped, 0 while it runs.
-ghost use Rattle.std.specs.Prelude.{◌≡◌, ◌≢◌, None, ℕ};
-ghost use Rattle.log_table.specs.Events.{IsStep};
+ghost use Rattle.std.specs.Prelude.{◌≡◌, ◌≢◌, ℕ};
+ghost use Rattle.log_table.specs.Events.{IsStep, none};
 ghost use Rattle.log_table.specs.Layout.{Stop};
 ghost use Rattle.log_table.specs.May.{MayStop};
 ghost use Rattle.log_table.specs.Seats.{IsOf, Becomes, view_of, number_of, key_of};
@@ -15,7 +15,7 @@ impl LogTable {
         requires { IsOf self.now seat.old }
         ensures view { Becomes seat.old seat.new (saw_stop result (view_of seat.old)) }
         ensures stays { (view_of seat.old).seen.stop ≢ 0 → result ≡ (view_of seat.old).seen.stop }
-        ensures event { IsStep (key_of self.now) (number_of seat.old) Stop result result (view_of seat.old) (saw_stop result (view_of seat.old)) None }
+        ensures event { IsStep (key_of self.now) (number_of seat.old) Stop result result (view_of seat.old) (saw_stop result (view_of seat.old)) none }
     {
         self.table.shared.load::<LoadStop>(&mut seat.base, STOP)
     }
@@ -25,7 +25,7 @@ impl LogTable {
         requires seat { IsOf self.now seat.old }
         requires may { MayStop word (view_of seat.old) }
         ensures view { Becomes seat.old seat.new (has_stopped word (view_of seat.old)) }
-        ensures event { (found : ℕ) → IsStep (key_of self.now) (number_of seat.old) Stop found word (view_of seat.old) (has_stopped word (view_of seat.old)) None }
+        ensures event { (found : ℕ) → IsStep (key_of self.now) (number_of seat.old) Stop found word (view_of seat.old) (has_stopped word (view_of seat.old)) none }
     {
         self.table
             .shared

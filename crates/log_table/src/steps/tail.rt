@@ -1,7 +1,6 @@
 //! The tail: the end of the last reservation.
-ghost use Rattle.std.specs.Prelude.{◌≡◌, ◌-◌, ◌≤◌, ◌<◌, OnOk, IfErr, None, Some};
-ghost use Rattle.ring_core.specs.declared.event.RingEvent.TheVariants.{Reserve};
-ghost use Rattle.log_table.specs.Events.{IsStep};
+ghost use Rattle.std.specs.Prelude.{◌≡◌, ◌-◌, ◌≤◌, ◌<◌, OnOk, IfErr};
+ghost use Rattle.log_table.specs.Events.{IsStep, reserves, none};
 ghost use Rattle.log_table.specs.Layout.{Tail};
 ghost use Rattle.log_table.specs.May.{MayReserve};
 ghost use Rattle.log_table.specs.Seats.{IsOf, Becomes, view_of, number_of, key_of};
@@ -17,7 +16,7 @@ impl LogTable {
         requires { IsOf self.now seat.old }
         ensures view { Becomes seat.old seat.new (saw_tail result (view_of seat.old)) }
         ensures grows { (view_of seat.old).seen.tail ≤ result }
-        ensures event { IsStep (key_of self.now) (number_of seat.old) Tail result result (view_of seat.old) (saw_tail result (view_of seat.old)) None }
+        ensures event { IsStep (key_of self.now) (number_of seat.old) Tail result result (view_of seat.old) (saw_tail result (view_of seat.old)) none }
     {
         Lsn::new(self.table.shared.load::<LoadTail>(&mut seat.base, TAIL) as u32)
     }
@@ -28,9 +27,9 @@ impl LogTable {
         requires seat { IsOf self.now seat.old }
         requires next { MayReserve from to (view_of seat.old) }
         ensures ok { OnOk result (Becomes seat.old seat.new (reserved from to (view_of seat.old))) }
-        ensures ok_event { OnOk result (IsStep (key_of self.now) (number_of seat.old) Tail from to (view_of seat.old) (reserved from to (view_of seat.old)) (Some (Reserve (number_of seat.old) (to - from)))) }
+        ensures ok_event { OnOk result (IsStep (key_of self.now) (number_of seat.old) Tail from to (view_of seat.old) (reserved from to (view_of seat.old)) (reserves (number_of seat.old) (to - from))) }
         ensures err { IfErr result (λ found. (from < found) × Becomes seat.old seat.new (saw_tail found (view_of seat.old))) }
-        ensures err_event { IfErr result (λ found. IsStep (key_of self.now) (number_of seat.old) Tail found found (view_of seat.old) (saw_tail found (view_of seat.old)) None) }
+        ensures err_event { IfErr result (λ found. IsStep (key_of self.now) (number_of seat.old) Tail found found (view_of seat.old) (saw_tail found (view_of seat.old)) none) }
     {
         let found = self.table.shared.compare_exchange::<ExchangeTail>(
             &mut seat.base,

@@ -3,7 +3,7 @@ use Rattle.log_table.specs.May.{MayReserve}
 use Rattle.log_table.specs.Seats.{view_of, number_of, key_of}
 use Rattle.log_table.proofs.Allowing.{exchange_tail-allowed}
 use Rattle.log_table.proofs.Looking.{tail-looks}
-use Rattle.log_table.proofs.Reserving.{reserves}
+use Rattle.log_table.proofs.Reserving.{reserve-step}
 use Rattle.log_table.proofs.table.LogTable.exchange_tail.Goals as goal
 
 pub compare_exchange-found-requires : goal.compare_exchange-found-requires
@@ -15,7 +15,7 @@ compare_exchange-found-requires c = (
 )
 
 pub returns-then-found-units-clause-ok_event : goal.returns-then-found-units-clause-ok_event
-returns-then-found-units-clause-ok_event c = reserves _ _ _ _ _ c.requires.next
+returns-then-found-units-clause-ok_event c = reserve-step _ _ _ _ _ c.requires.next
 
 pub returns-else-found-units-clause-err_event : goal.returns-else-found-units-clause-err_event
 returns-else-found-units-clause-err_event c = tail-looks _ _ _ _
