@@ -1,7 +1,7 @@
-//! The ring on one schedule of events.
+//! The ring on one schedule of events, and its half that belongs to bases alone.
 
 use lsn_space::Lsn;
-use ring_core::{RingEvent, RingRun};
+use ring_core::{RingEvent, RingLog, RingRun};
 use std::process::Abort;
 use std::test::Fail;
 
@@ -51,5 +51,45 @@ fn releases_in_order(rt: HostRuntime) -> Result<(), Fail> {
     }
     assert_eq!(rt; run.tail().units(), 9);
     assert_eq!(rt; run.durable().units(), 6);
+    Ok(())
+}
+
+/// Reserves so many units, which there is room for, and answers their base.
+fn reserved(log: &mut RingLog, n: u32) -> Result<Lsn, Fail> {
+    let base = log.tail();
+    if !log.has_room(n) {
+        return Err(Fail::new("no room"));
+    }
+    match log.reserve(n) {
+        Ok(()) => Ok(base),
+        Err(_) => Err(Fail::new("no memory")),
+    }
+}
+
+/// Raises exposed from `base`, where the reservation there is marked, and answers what is exposed then.
+fn raised(log: &mut RingLog, base: Lsn) -> u32 {
+    if log.is_marked(base) {
+        log.raise(base);
+    }
+    log.exposed().units()
+}
+
+#[test]
+fn a_log_by_its_bases(rt: HostRuntime) -> Result<(), Fail> {
+    let mut log = RingLog::make(rt.alloc(), Lsn::new(4), 1024);
+    let first = reserved(&mut log, 2)?;
+    let second = reserved(&mut log, 3)?;
+    assert!(rt; log.fill(second) && log.fill(second) && log.fill(second));
+    assert!(rt; !log.fill(second));
+    assert!(rt; !log.mark(first) && log.mark(second));
+    // The second is marked before the first, and exposed is not at it.
+    assert_eq!(rt; raised(&mut log, first), 4);
+    assert_eq!(rt; raised(&mut log, second), 4);
+    assert!(rt; log.fill(first) && log.fill(first) && log.mark(first));
+    assert_eq!(rt; raised(&mut log, first), 6);
+    assert_eq!(rt; raised(&mut log, second), 9);
+    assert!(rt; !log.has_room(257));
+    assert!(rt; !log.flush(Lsn::new(8)) && log.flush(Lsn::new(6)));
+    assert_eq!(rt; (log.tail().units(), log.durable().units()), (9, 6));
     Ok(())
 }

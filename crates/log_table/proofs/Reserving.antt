@@ -250,10 +250,12 @@ module _ (key : Start) (words : Words) (views : List View) (me : ℕ) (v : View)
     shows = (
       record {
         idle = stage_of-hands_of 0 me me views v (omega arith) at ∙ ap stage_in may.rests.idle;
-        positive = positive;
-        quarter = quarter;
-        within_log = subst (λ n. n ≤ LAST) (sym whole) may.within_log;
-        within_ring = omega (arith, whole, sound.ordered.within_ring);
+        room = record {
+          positive = positive;
+          quarter = quarter;
+          within_log = subst (λ n. n ≤ LAST) (sym whole) may.within_log;
+          within_ring = omega (arith, whole, sound.ordered.within_ring);
+        };
       },
       λ i. record {
         start = key.start;

@@ -6,8 +6,9 @@ use Rattle.lsn_space.specs.declared.lsn.TheConstants.{LAST}
 use Rattle.lsn_space.specs.Tiling.{IsTilingBoundary}
 use Rattle.ring_core.specs.declared.event.RingEvent.{RingEvent}
 use Rattle.ring_core.specs.declared.event.RingEvent.TheVariants.{Reserve, Fill, Turn, Flushed}
-use Rattle.ring_core.specs.State.{size_of, Reservation, Stage, Idle, Works, RingState, stage_of, in_hand}
-use Rattle.ring_core.specs.Machine.{MayReserve, MayFlush, IsEnabled, HasUnfilled, IsNext, state_after, RingStep, RunsRing}
+use Rattle.ring_core.specs.RingLog.{size_of, Reservation, RingLog, HasRoom, HasUnfilled, MayFlush}
+use Rattle.ring_core.specs.State.{Stage, Idle, Works, RingState, log_of, stage_of, in_hand}
+use Rattle.ring_core.specs.Machine.{MayReserve, IsEnabled, IsNext, state_after, RingStep, RunsRing}
 
 abbrev IsDecided : Type 0 → Type 0
 IsDecided A = A ⊎ (¬ A)
@@ -40,25 +41,28 @@ some_and-decided : (P : Reservation → Type 0) (o : Option Reservation) → ((r
 some_and-decided P None each = inr (λ is. is)
 some_and-decided P (Some r) each = each r
 
-reserve-decided : (s : RingState) (actor n : ℕ) → IsDecided (MayReserve s actor n)
-reserve-decided s actor n = decided-same
-    (λ all. record { idle = all.0; positive = all.1.0; quarter = all.1.1.0; within_log = all.1.1.1.0; within_ring = all.1.1.1.1 })
-    (λ may. (may.idle, (may.positive, (may.quarter, (may.within_log, may.within_ring)))))
-    (decided-both (idle-decided (stage_of actor s.hands))
-    (decided-both (le-decided 1 n) (decided-both (le-decided n (s.ring / 4))
-    (decided-both (le-decided (s.tail + n) LAST) (le-decided (s.tail + n) (s.durable + s.ring))))))
+pub room-decided : (l : RingLog) (n : ℕ) → IsDecided (HasRoom l n)
+room-decided l n = decided-same
+    (λ all. record { positive = all.0; quarter = all.1.0; within_log = all.1.1.0; within_ring = all.1.1.1 })
+    (λ room. (room.positive, (room.quarter, (room.within_log, room.within_ring))))
+    (decided-both (le-decided 1 n) (decided-both (le-decided n (l.ring / 4))
+    (decided-both (le-decided (l.tail + n) LAST) (le-decided (l.tail + n) (l.durable + l.ring)))))
 
-flush-decided : (s : RingState) (to : ℕ) → IsDecided (MayFlush s to)
-flush-decided s to = decided-same
+reserve-decided : (s : RingState) (actor n : ℕ) → IsDecided (MayReserve s actor n)
+reserve-decided s actor n = decided-same (λ all. record { idle = all.0; room = all.1 }) (λ may. (may.idle, may.room))
+    (decided-both (idle-decided (stage_of actor s.hands)) (room-decided (log_of s) n))
+
+pub flush-decided : (l : RingLog) (to : ℕ) → IsDecided (MayFlush l to)
+flush-decided l to = decided-same
     (λ all. record { forward = all.0; exposed = all.1.0; boundary = all.1.1 })
     (λ may. (may.forward, (may.exposed, may.boundary)))
-    (decided-both (le-decided s.durable to) (decided-both (le-decided to s.exposed) (boundary-decided s.start s.reservations to)))
+    (decided-both (le-decided l.durable to) (decided-both (le-decided to l.exposed) (boundary-decided l.start l.reservations to)))
 
 pub enabled-decided : (s : RingState) (event : RingEvent) → IsDecided (IsEnabled s event)
 enabled-decided s (Reserve actor n) = reserve-decided s actor n
 enabled-decided s (Fill actor) = some_and-decided HasUnfilled (in_hand s actor) (λ r. decided-same (λ le. omega (arith, le)) (λ lt. omega (arith, lt)) (le-decided (r.filled + 1) r.size))
 enabled-decided s (Turn actor) = some_and-decided (IsNext s.exposed) (in_hand s actor) (λ r. decided-both (eq-decided r.filled r.size) (eq-decided r.base s.exposed))
-enabled-decided s (Flushed to) = flush-decided s to
+enabled-decided s (Flushed to) = flush-decided (log_of s) to
 
 -- each event takes the machine somewhere
 pub step-exists : (old : RingState) (event : RingEvent) → (taken : Bool) × (new : RingState) × RingStep old event taken new

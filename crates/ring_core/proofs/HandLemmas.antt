@@ -1,9 +1,11 @@
 -- What the actors have under way, after one of them changes it.
-use Rattle.std.proofs.Common.{◌≡◌, ◌≢◌, ◌⊎◌, inl, inr, ⊎_elim, ℕ, ◌==◌, cond, Bool, true, false, List, [], ◌∷◌, refl, sym, ap, ◌∙◌, eq-eqb, eqb-true, ne_eqb}
+use Rattle.std.proofs.Common.{◌≡◌, ◌≢◌, ◌⊎◌, inl, inr, ⊎_elim, ℕ, ◌==◌, cond, Bool, true, false, List, [], ◌∷◌, Some, refl, sym, ap, ◌∙◌, eq-eqb, eqb-true, ne_eqb, subst}
+use Rattle.std.specs.List.{find}
 use mathlib.Core.Logic.{dite}
 use native.Mathlib.Decide.{ℕ_discrete}
-use Rattle.ring_core.specs.State.{Stage, Idle, Works, Hand, stage_of, with_stage}
+use Rattle.ring_core.specs.State.{Reservation, is_at, Stage, Idle, Works, Hand, stage_of, with_stage, worked_on}
 use Rattle.ring_core.specs.Laws.{HasOneOwner}
+use Rattle.ring_core.proofs.RangeLemmas.{found-base}
 
 pub stage_of-with_same : (actor : ℕ) (stage : Stage) (hands : List Hand) → stage_of actor (with_stage actor stage hands) ≡ stage
 stage_of-with_same actor stage [] = ap (λ b. cond b stage Idle) (eq-eqb actor actor refl)
@@ -37,3 +39,9 @@ one_owner-with_stage actor base stage hands has others to_other = record {
   works = stage_of-with_other actor has.owner stage hands (λ same. others (ap (λ n. stage_of n hands) (sym same) ∙ has.works)) ∙ has.works;
   alone = λ other works. ⊎_elim (λ now. absurd (to_other now.1)) (λ before. has.alone other before.1) (stage_of-with_cases actor other stage (Works base) hands works);
 }
+
+-- what is in hand is the reservation at the base that the actor works on
+pub worked_on-some : (stage : Stage) (rs : List Reservation) (r : Reservation) → worked_on stage rs ≡ Some r → (stage ≡ Works r.base) × (find (is_at r.base) rs ≡ Some r)
+worked_on-some Idle rs r is = absurd (cc)
+worked_on-some (Works base) rs r is =
+    let at : r.base ≡ base = found-base base rs r is in (ap Works (sym at), subst (λ n. find (is_at n) rs ≡ Some r) (sym at) is)

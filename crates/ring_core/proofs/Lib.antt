@@ -1,7 +1,11 @@
 pub mod Deciding
 pub mod HandLemmas
 pub mod Keeping
+pub mod LogKeeping
+pub mod LogLemmas
 pub mod LookupLemmas
+pub mod Owning
 pub mod RangeLemmas
+pub mod RowLemmas
 pub mod RunLemmas
 pub mod Runs

@@ -1,15 +1,13 @@
--- What is found at an index.
-use Rattle.std.proofs.Common.{◌≡◌, ◌≢◌, inl, inr, ⊎_elim, ℕ, ◌+◌, ◌<◌, ◌≤◌, nat_lt, ◌||◌, cond, not, true≢false, Bool, true, false, List, [], ◌∷◌, ◌++◌, length, get_or, set, map, Some, None, zero, suc, refl, sym, ap, ap₂, ◌∙◌, subst, arith, eq-eqb, eqb-true, ltb-false}
+-- What is found at an index, and where ranges end.
+use Rattle.std.proofs.Common.{◌≡◌, ◌≢◌, inl, inr, ⊎_elim, ℕ, ◌+◌, ◌≤◌, nat_lt, ◌||◌, cond, not, true≢false, Bool, true, false, List, [], ◌∷◌, length, set, map, Some, None, zero, suc, refl, sym, ap, ap₂, ◌∙◌, subst, arith, eq-eqb, eqb-true, ltb-false}
 use Rattle.std.specs.List.{AllByRecursion, find, position, position_or_len, slice_get, list_any}
 use Rattle.std.specs.Option.{option_and_then}
 use Rattle.std.proofs.lemmas.List.Folds.{find_at}
-use Rattle.std.proofs.lemmas.List.Quantifiers.{position-Some}
-use Rattle.std.proofs.lemmas.List.Recursion.{found_at}
 use Rattle.std.proofs.lemmas.Option.{slice_get_past}
 use Rattle.lsn_space.specs.Tiling.{IsTiling, IsTilingBoundary}
 use Rattle.lsn_space.proofs.TilingLemmas.{all-weaker, tiling-within}
-use Rattle.ring_core.specs.State.{base_of, size_of, Reservation, Stage, Idle, Hand, row_of, stage_of, with_stage}
-use Rattle.ring_core.specs.Rows.{is_of, is_end}
+use Rattle.ring_core.specs.RingLog.{base_of, size_of, Reservation}
+use Rattle.ring_core.specs.Rows.{is_end}
 use Rattle.ring_core.proofs.RangeLemmas.{IsAllowed}
 
 module _ {A : Type 0} where
@@ -57,32 +55,6 @@ map-at_base from to most f (q ∷ rs) zero r tiles sizes is others =
 map-at_base from to most f (q ∷ rs) (suc i) r tiles sizes is others =
     let within = slice_get-has _ rs i r is (tiling-within base_of size_of (from + q.size) rs to tiles.1) in
     ap₂ (λ y ys. y ∷ ys) (others q (λ at. omega (arith, at, within.0, tiles.0, sizes.0.0))) (map-at_base (from + q.size) to most f rs i r tiles.1 sizes.1 is others)
-
--- an actor with a row
-pub stage_of-at : (actor : ℕ) (hands : List Hand) (i : ℕ) (d : Hand) → position (is_of actor) hands ≡ Some i → stage_of actor hands ≡ (get_or hands i d).stage
-stage_of-at actor hands i d is = let at = position-Some (is_of actor) hands i d is in
-    found_at (stage_of actor) (is_of actor) (λ (h : Hand). h.stage) Idle refl (λ _ _. refl) hands i d at.0 at.2 at.1
-
-with_stage-index : (actor : ℕ) (stage : Stage) (hands : List Hand) (i : ℕ) (d : Hand) → i < length hands → is_of actor (get_or hands i d) ≡ true → ((k : ℕ) → k < i → is_of actor (get_or hands k d) ≡ false) → with_stage actor stage hands ≡ set hands i (row_of actor stage)
-with_stage-index actor stage [] i d within is before = absurd (omega (arith, within))
-with_stage-index actor stage (hand ∷ hands) zero d within is before = ap (λ b. cond b (row_of actor stage ∷ hands) (hand ∷ with_stage actor stage hands)) is
-with_stage-index actor stage (hand ∷ hands) (suc i) d within is before =
-    ap (λ b. cond b (row_of actor stage ∷ hands) (hand ∷ with_stage actor stage hands)) (before zero (omega arith))
-    ∙ ap (λ l. hand ∷ l) (with_stage-index actor stage hands i d (omega (arith, within)) is (λ k below. before (suc k) (omega (arith, below))))
-
-pub with_stage-at : (actor : ℕ) (stage : Stage) (hands : List Hand) (i : ℕ) → position (is_of actor) hands ≡ Some i → with_stage actor stage hands ≡ set hands i (row_of actor stage)
-with_stage-at actor stage hands i is = let at = position-Some (is_of actor) hands i (row_of actor stage) is in
-    with_stage-index actor stage hands i (row_of actor stage) at.0 at.1 at.2
-
--- an actor with no row
-pub stage_of-absent : (actor : ℕ) (hands : List Hand) → AllByRecursion (λ h. is_of actor h ≡ false) hands → stage_of actor hands ≡ Idle
-stage_of-absent actor [] all = refl
-stage_of-absent actor (hand ∷ hands) all = ap (λ b. cond b hand.stage (stage_of actor hands)) all.0 ∙ stage_of-absent actor hands all.1
-
-pub with_stage-absent : (actor : ℕ) (stage : Stage) (hands : List Hand) → AllByRecursion (λ h. is_of actor h ≡ false) hands → with_stage actor stage hands ≡ hands ++ row_of actor stage ∷ []
-with_stage-absent actor stage [] all = refl
-with_stage-absent actor stage (hand ∷ hands) all =
-    ap (λ b. cond b (row_of actor stage ∷ hands) (hand ∷ with_stage actor stage hands)) all.0 ∙ ap (λ l. hand ∷ l) (with_stage-absent actor stage hands all.1)
 
 -- a boundary is the start or an end
 pub boundary-end_from : (from to : ℕ) (rs : List Reservation) (place : ℕ) → IsTiling base_of size_of from rs to → list_any (is_end place) rs ≡ true → IsTilingBoundary size_of from rs place

@@ -1,11 +1,10 @@
 -- Changes of the one reservation at a base.
-use Rattle.std.proofs.Common.{◌≡◌, ◌≢◌, ◌⊎◌, inl, inr, ⊎_elim, ℕ, ◌+◌, ◌<◌, ◌≤◌, cond, true, List, map, Option, Some, None, refl, sym, ap, subst, arith, eq-eqb, eqb-true, ne_eqb}
+use Rattle.std.proofs.Common.{◌≡◌, ◌≢◌, ◌⊎◌, inl, inr, ⊎_elim, ℕ, ◌==◌, ◌+◌, ◌<◌, ◌≤◌, cond, true, List, map, Option, Some, None, refl, sym, ap, subst, arith, eq-eqb, eqb-true, ne_eqb}
 use Rattle.std.specs.List.{AllByRecursion, find}
 use Rattle.std.specs.Option.{IsSomeAnd, option_map}
 use Rattle.lsn_space.specs.Tiling.{IsTiling}
-use Rattle.lsn_space.proofs.TilingLemmas.{found-passes, found-has, all-both, all-map, tiling-apart}
-use Rattle.ring_core.specs.State.{base_of, size_of, Reservation, Stage, Idle, Works, is_at, worked_on}
-use Rattle.ring_core.specs.Machine.{filled_at, released_at}
+use Rattle.lsn_space.proofs.TilingLemmas.{found-passes, found-has, find-map, all-both, all-map, tiling-apart}
+use Rattle.ring_core.specs.RingLog.{base_of, size_of, Reservation, is_at, filled_at, released_at}
 
 -- q lies before r or behind it
 pub record IsBeside (r q : Reservation) : Type 0 where
@@ -49,8 +48,10 @@ pub some_and-some : (P : Reservation → Type 0) (o : Option Reservation) → Is
 some_and-some P None is = absurd is
 some_and-some P (Some r) is = (r, refl, is)
 
--- what is in hand is the reservation at the base that the actor works on
-pub worked_on-some : (stage : Stage) (rs : List Reservation) (r : Reservation) → worked_on stage rs ≡ Some r → (stage ≡ Works r.base) × (find (is_at r.base) rs ≡ Some r)
-worked_on-some Idle rs r is = absurd (cc)
-worked_on-some (Works base) rs r is =
-    let at : r.base ≡ base = eqb-true r.base base (found-passes (is_at base) rs r is) in (ap Works (sym at), subst (λ n. find (is_at n) rs ≡ Some r) (sym at) is)
+-- what is found at a base starts there
+pub found-base : (base : ℕ) (rs : List Reservation) (r : Reservation) → find (is_at base) rs ≡ Some r → r.base ≡ base
+found-base base rs r is = eqb-true r.base base (found-passes (is_at base) rs r is)
+
+-- what is found at a place, after a change of one reservation that leaves its base
+pub find-changed : (f : Reservation → Reservation) (place : ℕ) (rs : List Reservation) → ((q : Reservation) → (f q).base ≡ q.base) → find (is_at place) (map f rs) ≡ option_map f (find (is_at place) rs)
+find-changed f place rs bases = find-map (is_at place) f rs (λ q i. bases q i == place)

@@ -3,10 +3,12 @@ use Rattle.std.proofs.Common.{Bool, true, false, List, [], ◌∷◌, sym, subst
 use Rattle.ring_core.specs.declared.event.RingEvent.{RingEvent}
 use Rattle.ring_core.specs.declared.event.RingEvent.TheVariants.{Reserve, Fill, Turn, Flushed}
 use Rattle.ring_core.specs.State.{RingState, stage_of, in_hand}
-use Rattle.ring_core.specs.Machine.{IsEnabled, HasUnfilled, IsNext, state_after, after_fill, after_turn, RingStep, RunsRing}
+use Rattle.ring_core.specs.RingLog.{HasUnfilled}
+use Rattle.ring_core.specs.Machine.{IsEnabled, IsNext, state_after, after_fill, after_turn, RingStep, RunsRing}
 use Rattle.ring_core.specs.Laws.{IsSound}
-use Rattle.ring_core.proofs.RangeLemmas.{some_and-some, worked_on-some}
-use Rattle.ring_core.proofs.Keeping.{open-in_hand, reserve-sound, fill-sound, turn-sound, flush-sound}
+use Rattle.ring_core.proofs.HandLemmas.{worked_on-some}
+use Rattle.ring_core.proofs.RangeLemmas.{some_and-some}
+use Rattle.ring_core.proofs.Keeping.{reserve-sound, fill-sound, turn-sound, flush-sound}
 
 -- each event keeps the laws
 pub event-sound : (s : RingState) (event : RingEvent) → IsSound s → IsEnabled s event → IsSound (state_after s event)
@@ -15,7 +17,7 @@ event-sound s (Fill actor) sound may =
     let found = some_and-some HasUnfilled (in_hand s actor) may in
     let works = worked_on-some (stage_of actor s.hands) s.reservations found.0 found.1 in
     subst (λ o. IsSound (after_fill s o)) (sym found.1)
-    (fill-sound s found.0 sound works.1 found.2 (open-in_hand s actor found.0 sound works.0 works.1))
+    (fill-sound s found.0 sound works.1 found.2)
 event-sound s (Turn actor) sound may =
     let found = some_and-some (IsNext s.exposed) (in_hand s actor) may in
     let works = worked_on-some (stage_of actor s.hands) s.reservations found.0 found.1 in

@@ -1,10 +1,9 @@
 -- What holds of each state that the machine reaches.
-use Rattle.std.specs.Prelude.{◌≡◌, ◌↔◌, ℕ, ◌+◌, ◌/◌, ◌<◌, ◌≤◌, true, false, List}
-use Rattle.std.specs.List.{AllByRecursion}
+use Rattle.std.specs.Prelude.{◌≡◌, ℕ, ◌<◌, true, false, List}
+use Rattle.std.specs.List.{AllByRecursion, find}
 use Rattle.std.specs.Option.{IsSomeAnd}
-use Rattle.lsn_space.specs.declared.lsn.TheConstants.{LAST}
-use Rattle.lsn_space.specs.Tiling.{IsTiling}
-use Rattle.ring_core.specs.State.{Reservation, Hand, Idle, Works, RingState, stage_of, worked_on, base_of, size_of, IsRingBoundary}
+use Rattle.ring_core.specs.LogLaws.{IsSoundLog}
+use Rattle.ring_core.specs.State.{Reservation, Hand, Idle, Works, RingState, log_of, stage_of, is_at}
 
 -- one actor has the reservation at this base under way, and no other has
 pub record HasOneOwner (hands : List Hand) (base : ℕ) : Type 0 where
@@ -12,32 +11,22 @@ pub record HasOneOwner (hands : List Hand) (base : ℕ) : Type 0 where
   pub works : stage_of owner hands ≡ Works base
   pub alone : (other : ℕ) → stage_of other hands ≡ Works base → other ≡ owner
 
--- the reservations tile the log from the start to the tail; each has one owner until it is released, and none from then on
-pub record TilesByOwner (s : RingState) : Type 0 where
-  pub tiles : IsTiling base_of size_of s.start s.reservations s.tail
-  pub sizes : AllByRecursion (λ (r : Reservation). (1 ≤ r.size) × (r.size ≤ s.ring / 4)) s.reservations
-  pub owned : AllByRecursion (λ (r : Reservation). r.released ≡ false → HasOneOwner s.hands r.base) s.reservations
-  pub at_work : (actor base : ℕ) → stage_of actor s.hands ≡ Works base → IsSomeAnd (worked_on (Works base) s.reservations) (λ r. r.released ≡ false)
+-- a reservation is not released
+abbrev pub IsOpen : Reservation → Type 0
+IsOpen r = r.released ≡ false
 
--- every unit below exposed is filled
-abbrev pub NothingUnfilledExposed : RingState → Type 0
-NothingUnfilledExposed s = AllByRecursion (λ (r : Reservation). r.base < s.exposed → r.filled ≡ r.size) s.reservations
+-- each reservation has one owner until it is released, and none from then on
+pub record HasOwners (hands : List Hand) (reservations : List Reservation) : Type 0 where
+  pub owned : AllByRecursion (λ (r : Reservation). IsOpen r → HasOneOwner hands r.base) reservations
+  pub at_work : (actor base : ℕ) → stage_of actor hands ≡ Works base → IsSomeAnd (find (is_at base) reservations) IsOpen
 
 -- nobody has anything under way
 abbrev pub IsAtRest : RingState → Type 0
 IsAtRest s = (actor : ℕ) → stage_of actor s.hands ≡ Idle
 
--- each law by its name; `in_order` holds only because releases come in order
+-- the laws of the log, and those of the actors; `in_order` holds only because releases come in order
 pub record IsSound (s : RingState) : Type 0 where
-  pub tiles : TilesByOwner s
-  pub counted : AllByRecursion (λ (r : Reservation). r.filled ≤ r.size) s.reservations
-  pub full : AllByRecursion (λ (r : Reservation). r.released ≡ true → r.filled ≡ r.size) s.reservations
-  pub in_order : AllByRecursion (λ (r : Reservation). (r.released ≡ true) ↔ (r.base < s.exposed)) s.reservations
-  pub filled : NothingUnfilledExposed s
-  pub flushed : s.durable ≤ s.exposed
-  pub exposed : s.exposed ≤ s.tail
-  pub within_ring : s.tail ≤ s.durable + s.ring
-  pub within_log : s.tail ≤ LAST
-  pub durable_boundary : IsRingBoundary s s.durable
-  pub exposed_boundary : IsRingBoundary s s.exposed
+  pub log : IsSoundLog (log_of s)
+  pub owners : HasOwners s.hands s.reservations
+  pub in_order : AllByRecursion (λ (r : Reservation). r.released ≡ true → r.base < s.exposed) s.reservations
   pub at_rest : IsAtRest s → s.exposed ≡ s.tail

@@ -1,14 +1,8 @@
--- What the machine's state is made of. Places are LSNs, counted in units.
-use Rattle.std.specs.Prelude.{ℕ, ◌==◌, if◌then◌else◌, Bool, List, [], ◌∷◌, Option, None}
+-- What the machine's state is made of: the log by its bases, and what each actor has under way.
+use Rattle.std.specs.Prelude.{ℕ, ◌==◌, if◌then◌else◌, List, [], ◌∷◌, Option, None}
 use Rattle.std.specs.List.{find}
-use Rattle.lsn_space.specs.Tiling.{IsTilingBoundary}
-
--- a range of the log that was reserved, how many of its units are filled, and whether it is released
-pub record Reservation : Type 0 where
-  pub base : ℕ
-  pub size : ℕ
-  pub filled : ℕ
-  pub released : Bool
+use Rattle.ring_core.specs.RingLog.{RingLog, IsLogBoundary}
+pub use Rattle.ring_core.specs.RingLog.{Reservation, base_of, size_of, is_at}
 
 -- what an actor has under way: nothing, or the reservation at a base
 pub data Stage : Type 0 where
@@ -20,7 +14,7 @@ pub record Hand : Type 0 where
   pub actor : ℕ
   pub stage : Stage
 
--- the reservations in order, the actors that ever had something under way, and the three LSNs of the log
+-- the log, and the actors that ever had something under way
 pub record RingState : Type 0 where
   pub start : ℕ
   pub ring : ℕ
@@ -29,6 +23,29 @@ pub record RingState : Type 0 where
   pub tail : ℕ
   pub exposed : ℕ
   pub durable : ℕ
+
+-- what of the state belongs to bases
+abbrev pub log_of : RingState → RingLog
+log_of s = record {
+  start = s.start;
+  ring = s.ring;
+  reservations = s.reservations;
+  tail = s.tail;
+  exposed = s.exposed;
+  durable = s.durable;
+}
+
+-- this log, and actors that have this under way
+abbrev pub state : RingLog → List Hand → RingState
+state l hands = record {
+  start = l.start;
+  ring = l.ring;
+  reservations = l.reservations;
+  hands = hands;
+  tail = l.tail;
+  exposed = l.exposed;
+  durable = l.durable;
+}
 
 -- the actor with this under way
 abbrev pub row_of : ℕ → Stage → Hand
@@ -45,19 +62,9 @@ with_stage actor stage [] = row_of actor stage ∷ []
 with_stage actor stage (hand ∷ hands) =
     if hand.actor == actor then row_of actor stage ∷ hands else hand ∷ with_stage actor stage hands
 
-abbrev pub base_of : Reservation → ℕ
-base_of r = r.base
-
-abbrev pub size_of : Reservation → ℕ
-size_of r = r.size
-
 -- the log starts at this place, or a reservation ends there
 abbrev pub IsRingBoundary : RingState → ℕ → Type 0
-IsRingBoundary s place = IsTilingBoundary size_of s.start s.reservations place
-
--- the reservation starts at this base
-abbrev pub is_at : ℕ → Reservation → Bool
-is_at base r = r.base == base
+IsRingBoundary s place = IsLogBoundary (log_of s) place
 
 -- the reservation that a stage works on
 abbrev pub worked_on : Stage → List Reservation → Option Reservation

@@ -4,13 +4,14 @@ ghost use Rattle.std.specs.List.{position};
 ghost use Rattle.ring_core.specs.State.{Idle, Works, row_of, stage_of, with_stage};
 ghost use Rattle.ring_core.specs.Rows.{stage_at, is_of};
 
+use lsn_space::Lsn;
 use std::marker::Model;
 
 /// An actor, and the base of the reservation that it has under way, if any.
 #[derive(Drop)]
 pub struct Hand {
     actor: u32,
-    base: Option<u32>,
+    base: Option<Lsn>,
 }
 
 impl Model for Hand {
@@ -23,7 +24,7 @@ impl Model for Hand {
 }
 
 impl Hand {
-    pub fn new(actor: u32, base: Option<u32>) -> Hand
+    pub fn new(actor: u32, base: Option<Lsn>) -> Hand
         ensures { result ≡ row_of actor (stage_at base) }
     {
         Hand { actor, base }
@@ -31,7 +32,7 @@ impl Hand {
 }
 
 /// The base of the reservation that the actor has under way, if any.
-pub fn base_in_hand(hands: &[Hand], actor: u32) -> Option<u32>
+pub fn base_in_hand(hands: &[Hand], actor: u32) -> Option<Lsn>
     ensures { stage_at result ≡ stage_of actor hands.now }
 {
     let hand = &hands[index_of(hands, actor)?];
@@ -39,7 +40,7 @@ pub fn base_in_hand(hands: &[Hand], actor: u32) -> Option<u32>
 }
 
 /// Notes that the actor works on the reservation at `base`.
-pub fn take_up(hands: &mut Vec<Hand>, actor: u32, base: u32)
+pub fn take_up(hands: &mut Vec<Hand>, actor: u32, base: Lsn)
     requires { vec_len hands.old < vec_capacity hands.old }
     ensures { hands.new.items ≡ with_stage actor (Works base) hands.old.items }
 {
@@ -57,7 +58,7 @@ pub fn lay_down(hands: &mut [Hand], actor: u32)
 }
 
 /// Notes what the actor has under way, where it has a row, and answers whether it has one.
-fn put(hands: &mut [Hand], actor: u32, base: Option<u32>) -> bool
+fn put(hands: &mut [Hand], actor: u32, base: Option<Lsn>) -> bool
     ensures noted { OnTrue result (hands.new ≡ with_stage actor (stage_at base) hands.old) }
     ensures same { OnFalse result (hands.new ≡ hands.old) }
     ensures absent { OnFalse result (with_stage actor (stage_at base) hands.old ≡ hands.old ++ row_of actor (stage_at base) ∷ []) }

@@ -1,13 +1,16 @@
 //! The log buffer's ring as a pure machine. Its state, its events and its laws stand in `specs/`;
-//! `RingRun` replays one list of events, and `ring_laws` says what holds after every list.
+//! `RingLog` is the half of it that belongs to bases, `RingRun` replays one list of events, and
+//! `ring_laws` says what holds after every list.
 #![tactic(auto)]
 
 mod event;
 mod hand;
 mod laws;
 mod range;
+mod ring_log;
 mod run;
 
 pub use event::RingEvent;
 pub use laws::ring_laws;
+pub use ring_log::RingLog;
 pub use run::RingRun;

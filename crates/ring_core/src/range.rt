@@ -1,10 +1,10 @@
 ghost use Rattle.std.specs.Prelude.{◌≡◌, ◌+◌, ◌↔◌, IsTrue, true};
 ghost use Rattle.std.specs.Bool.{OnTrue, OnFalse};
 ghost use Rattle.std.specs.List.{position, list_any};
-ghost use Rattle.ring_core.specs.State.{is_at};
+ghost use Rattle.ring_core.specs.RingLog.{HasUnfilled, IsFull, fresh, end_of, is_at};
 ghost use Rattle.ring_core.specs.Rows.{is_end};
-ghost use Rattle.ring_core.specs.Machine.{HasUnfilled, IsNext, fresh};
 
+use lsn_space::Lsn;
 use std::marker::Model;
 
 /// A reserved range of the log.
@@ -17,7 +17,7 @@ pub struct Range {
 }
 
 impl Model for Range {
-    ghost use Rattle.ring_core.specs.State.{Reservation};
+    ghost use Rattle.ring_core.specs.RingLog.{Reservation};
 
     ghost Value = { Reservation };
 
@@ -45,16 +45,15 @@ impl Range {
 
     /// The first place after the range.
     pub fn end(&self) -> u64
-        ensures { result ≡ self.now.base + self.now.size }
+        ensures { result ≡ end_of self.now }
     {
         u64::from(self.base) + u64::from(self.size)
     }
 
-    /// Whether all units are filled, and everything before the range is exposed.
-    pub fn is_next(&self, exposed: u32) -> bool
-        ensures { IsTrue result ↔ IsNext exposed self.now }
+    pub fn is_released(&self) -> bool
+        ensures { result ≡ self.now.released }
     {
-        self.filled == self.size && self.base == exposed
+        self.released
     }
 
     /// Fills the next unit, where one is left, and answers whether one was.
@@ -70,18 +69,25 @@ impl Range {
         is_left
     }
 
-    pub fn release(&mut self)
-        ensures { self.new ≡ record self.old { released = true } }
+    /// Marks the range as released, where it is full, and answers whether it is.
+    pub fn mark(&mut self) -> bool
+        ensures full { IsTrue result ↔ IsFull self.old }
+        ensures marked { OnTrue result (self.new ≡ record self.old { released = true }) }
+        ensures none { OnFalse result (self.new ≡ self.old) }
     {
-        self.released = true;
+        let is_full = self.filled == self.size;
+        if is_full {
+            self.released = true;
+        }
+        is_full
     }
 }
 
 /// The index of the range that starts at `base`.
-pub fn index_at(ranges: &[Range], base: u32) -> Option<usize>
+pub fn index_at(ranges: &[Range], base: Lsn) -> Option<usize>
     ensures { result ≡ position (is_at base) ranges.now }
 {
-    ranges.iter().position(|range| range.base() == base)
+    ranges.iter().position(|range| range.base() == base.units())
 }
 
 /// Whether one of the ranges ends at `place`.

@@ -2,7 +2,8 @@ use Rattle.std.proofs.Common.{◌≡◌, Some, None, sym, ap, ◌∙◌}
 use Rattle.std.specs.List.{position}
 use Rattle.ring_core.specs.State.{Hand}
 use Rattle.ring_core.specs.Rows.{is_of}
-use Rattle.ring_core.proofs.LookupLemmas.{position-none, stage_of-absent, stage_of-at}
+use Rattle.ring_core.proofs.LookupLemmas.{position-none}
+use Rattle.ring_core.proofs.RowLemmas.{stage_of-absent, stage_of-at}
 use Rattle.ring_core.proofs.hand.base_in_hand.Goals as goal
 
 pub returns-in_err-hand : goal.returns-in_err-hand

@@ -1,7 +1,8 @@
 use Rattle.std.proofs.Common.{◌≡◌, slice_set, Some, None, sym, ap, ◌∙◌}
 use Rattle.std.specs.List.{position}
 use Rattle.ring_core.specs.Rows.{is_of}
-use Rattle.ring_core.proofs.LookupLemmas.{position-none, stage_of-absent, with_stage-absent, with_stage-at}
+use Rattle.ring_core.proofs.LookupLemmas.{position-none}
+use Rattle.ring_core.proofs.RowLemmas.{stage_of-absent, with_stage-absent, with_stage-at}
 use Rattle.ring_core.proofs.hand.put.Goals as goal
 
 pub returns-in-Some-clause-noted : goal.returns-in-Some-clause-noted

@@ -1,14 +1,15 @@
-use Rattle.std.proofs.Common.{subst}
+use Rattle.std.proofs.Common.{subst, ap, ◌∙◌}
 use Rattle.ring_core.specs.declared.event.RingEvent.TheVariants.{Fill}
 use Rattle.ring_core.specs.Laws.{IsSound}
 use Rattle.ring_core.specs.Run.{state_of}
+use Rattle.ring_core.specs.State.{stage_of}
 use Rattle.ring_core.proofs.RunLemmas.{fill-step}
 use Rattle.ring_core.proofs.Runs.{step-sound}
 use Rattle.ring_core.proofs.run.RingRun.fill.Goals as goal
 
 pub returns : goal.returns
-returns c = fill-step c.args.self.now (state_of c.self.inside) c.self.view_is c.self.invariant c.args.by c.in-Some.at
-    c.in-Some.ensures.found c.in-Some.ensures.within _ c.index_mut-range.ensures.value
+returns c = fill-step c.args.self.now (state_of c.self.inside) c.self.view_is c.args.by c.in-Some.base
+    (c.in-Some.ensures ∙ ap (stage_of c.args.by) c.deref.ensures.value)
     c.fill.result c.fill.new.self c.fill.ensures.left c.fill.ensures.filled c.fill.ensures.none
 
 pub invariant_of-self : goal.invariant_of-self

@@ -1,5 +1,5 @@
 use Rattle.std.proofs.Common.{rules}
 use Rattle.ring_core.proofs.run.RingRun.may_reserve.Goals as goal
 
-pub returns-then-end-from : goal.returns-then-end-from
-returns-then-end-from c = search rules steps 2500000
+pub returns-then-is_none : goal.returns-then-is_none
+returns-then-is_none c = search rules steps 500000

@@ -2,10 +2,10 @@ use Rattle.std.proofs.Common.{sym, ap, ◌∙◌, subst, eq-eqb}
 use Rattle.std.specs.List.{list_any}
 use Rattle.lsn_space.specs.Tiling.{IsTilingBoundary}
 use Rattle.lsn_space.proofs.TilingLemmas.{boundary-from}
-use Rattle.ring_core.specs.State.{size_of}
+use Rattle.ring_core.specs.RingLog.{size_of}
 use Rattle.ring_core.specs.Rows.{is_end}
 use Rattle.ring_core.proofs.LookupLemmas.{boundary-end_from, boundary-end_to}
-use Rattle.ring_core.proofs.run.RingRun.is_boundary.Goals as goal
+use Rattle.ring_core.proofs.ring_log.RingLog.is_boundary.Goals as goal
 
 pub returns-then-place-self : goal.returns-then-place-self
 returns-then-place-self c = rw (← c.self.view_is) (
@@ -15,7 +15,7 @@ returns-then-place-self c = rw (← c.self.view_is) (
 
 pub returns-else-place-self : goal.returns-else-place-self
 returns-else-place-self c =
-    let tiles = c.self.invariant.tiles.tiles in
+    let tiles = c.self.invariant.tiles in
     let any = c.ends_at.ensures ∙ ap (list_any (is_end c.args.place)) c.deref.ensures.value in
     rw (← c.self.view_is) (
       (λ ends. boundary-end_from _ _ _ _ tiles (sym any ∙ ends)),
