@@ -24,7 +24,7 @@ use Rattle.end_lines.specs.Telling.{TellsAll, TellsFront}
 abbrev pub durable : {D : Type 0} → {K : Type 0} → Daemon D K → ℕ
 durable d = sent_to (view_of d.flusher.seat)
 
--- the log has not come to its end: workers are active, or units are released beyond durable
+-- the log has not come to its end: workers are active, or units are exposed beyond durable
 abbrev pub GoesOn : Drained → Type 0
 GoesOn (At lsn) = ⊥
 GoesOn (Active n) = ⊤

@@ -18,7 +18,7 @@ use std::time::Clock;
 use stop_word::DaemonFault;
 
 impl<'a, D: LogDisk, K: Sink> Daemon<'a, D, K> {
-    /// Makes turns until no worker is active and all that was released is on the disk, and answers the end of the log. It
+    /// Makes turns until no worker is active and all that they released is on the disk, and answers the end of the log. It
     /// waits for the workers.
     pub fn run_until_drained<R: Wait + Clock>(&mut self, rt: &R) -> Result<Lsn, DaemonFault>
         requires ready { MayTurn D.LogDisk self.old }

@@ -14,7 +14,6 @@ use ring_buffer::Refused;
 use run_rig::flusher_on;
 use std::alloc::Global;
 use std::process::Abort;
-use std::sync::Wait;
 use std::test::Fail;
 use test_rig::{insert_all, insert_note, noted_job, table_of, worker};
 
@@ -37,13 +36,13 @@ fn has_flushed(rt: &impl Abort, did: Flushed, wanted: Flushed) {
 const ENDS: (u32, u32) = (4, 1028);
 
 /// A worker fills the ring with notes of two units, and then finds no room.
-fn fills<R: Wait + Abort>(rt: &R, table: &LogTable, seat: &mut Seat, job: &Job)
+fn fills<R: Abort>(rt: &R, table: &LogTable, seat: &mut Seat, job: &Job)
     requires worker { MayInsert table.now 1 seat.old }
     requires accounts { table.now.accounts ≡ 2 }
     requires job { IsNotedJob job.now }
     ensures worker { MayInsert table.now 514 seat.new }
 {
-    let (inserted, last) = insert_all(rt, table, seat, 1, 512, job);
+    let (inserted, last) = insert_all(table, seat, 1, 512, job);
     assert!(rt; inserted == 512, "{inserted} notes are in the ring");
     has_answered(rt, 512, Ok(last), Ok(Lsn::new(1026)));
     let full = Refused::RingFull {
@@ -51,7 +50,7 @@ fn fills<R: Wait + Abort>(rt: &R, table: &LogTable, seat: &mut Seat, job: &Job)
         durable: Lsn::new(ENDS.0),
         total: 2,
     };
-    let answer = insert_note(rt, table, seat, 513, job, &OpenGate);
+    let answer = insert_note(table, seat, 513, job, &OpenGate);
     has_answered(rt, 513, answer, Err(full));
 }
 
@@ -72,14 +71,14 @@ fn empties<R: Abort>(rt: &R, alloc: Global, table: &LogTable, boss: Seat) -> Res
 }
 
 /// The worker's next note starts where the flush ended, at the ring's fourth place.
-fn goes_on<R: Wait + Abort>(rt: &R, table: &LogTable, seat: &mut Seat, job: &Job)
+fn goes_on<R: Abort>(rt: &R, table: &LogTable, seat: &mut Seat, job: &Job)
     requires worker { MayInsert table.now 514 seat.old }
     requires accounts { table.now.accounts ≡ 2 }
     requires ring { table.now.ring ≡ 1024 }
     requires job { IsNotedJob job.now }
 {
     let to = Lsn::new(ENDS.1);
-    let answer = insert_note(rt, table, seat, 514, job, &OpenGate);
+    let answer = insert_note(table, seat, 514, job, &OpenGate);
     has_answered(rt, 514, answer, Ok(to));
     assert!(rt; place(to, table.ring()) == 4);
 }

@@ -56,25 +56,19 @@ fn finish<R: Wait + Clock, D: LogDisk>(rt: &R, daemon: &mut Daemon<D, MemorySink
 }
 
 /// A worker's whole life: so many notes, under numbers from this on, and the end.
-fn insert<R: Wait>(rt: &R, table: &LogTable, mut seat: Seat, first: u32, job: &Job) -> u32
+fn insert(table: &LogTable, mut seat: Seat, first: u32, job: &Job) -> u32
     requires worker { MayInsert table.now first seat }
     requires numbers { first < 1000 }
     requires accounts { table.now.accounts ≡ 2 }
     requires job { IsNotedJob job.now }
 {
-    let inserted = insert_all(rt, table, &mut seat, first, NOTES, job);
+    let inserted = insert_all(table, &mut seat, first, NOTES, job);
     table.leave(&mut seat);
     inserted.0
 }
 
 /// Both workers insert notes, each in a thread.
-fn insert_both<R: Threads + Wait + Sync>(
-    rt: &R,
-    table: &LogTable,
-    one: Seat,
-    two: Seat,
-    job: &Job,
-) -> u32
+fn insert_both<R: Threads>(rt: &R, table: &LogTable, one: Seat, two: Seat, job: &Job) -> u32
     requires one { MayInsert table.now 1 one }
     requires two { MayInsert table.now 501 two }
     requires accounts { table.now.accounts ≡ 2 }
@@ -84,10 +78,10 @@ fn insert_both<R: Threads + Wait + Sync>(
         rt,
         move ||
             requires { MayInsert table.now 1 one × (table.now.accounts ≡ 2) × IsNotedJob job.now }
-        { insert(rt, table, one, 1, job) },
+        { insert(table, one, 1, job) },
         move ||
             requires { MayInsert table.now 501 two × (table.now.accounts ≡ 2) × IsNotedJob job.now }
-        { insert(rt, table, two, 501, job) },
+        { insert(table, two, 501, job) },
     );
     first.saturating_add(second)
 }

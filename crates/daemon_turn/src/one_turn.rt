@@ -13,7 +13,7 @@ use stop_word::{DaemonFault, tell_fault};
 /// What a turn did.
 #[derive(Clone, Copy, Debug, PartialEq, Eq)]
 pub enum Turn {
-    /// Nothing was released beyond durable.
+    /// Nothing was exposed beyond durable.
     Idle,
     /// Units were sent up to this LSN, and then so many lines were written.
     Sent { lines: u32, to: Lsn },

@@ -9,7 +9,7 @@ use crate::flusher::{Drained, Flusher};
 use log_disk::LogDisk;
 
 impl<'a, D: LogDisk> Flusher<'a, D> {
-    /// Whether workers are active, and where none is, whether all that is released is on the disk. At is the end of the
+    /// Whether workers are active, and where none is, whether all that is exposed is on the disk. At is the end of the
     /// log: no worker was active when exposed was loaded, and none will be.
     pub fn drained(&mut self) -> Drained
         requires ready { MayFlush D.LogDisk self.old }

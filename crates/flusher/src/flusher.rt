@@ -2,7 +2,7 @@ use log_table::{LogTable, Seat};
 use lsn_space::Lsn;
 use segment_file::{Batch, Tail};
 
-/// What sends the released part of the log to the disk: the table, the disk, the table's first seat, room for a batch,
+/// What sends what is exposed of the log to the disk: the table, the disk, the table's first seat, room for a batch,
 /// and where the log goes on in its file.
 #[derive(Drop)]
 pub struct Flusher<'a, D> {
@@ -16,7 +16,7 @@ pub struct Flusher<'a, D> {
 /// What a flush did.
 #[derive(Clone, Copy, Debug, PartialEq, Eq)]
 pub enum Flushed {
-    /// Nothing is released beyond durable, which is this LSN.
+    /// Nothing is exposed beyond durable, which is this LSN.
     Nothing { at: Lsn },
     /// The units from the one LSN to the other are on the disk, and durable is the latter.
     To { from: Lsn, to: Lsn },
@@ -29,6 +29,6 @@ pub enum Drained {
     At(Lsn),
     /// So many workers are active.
     Active(u64),
-    /// No worker is active, and units are released beyond durable.
+    /// No worker is active, and units are exposed beyond durable.
     Behind { exposed: Lsn, durable: Lsn },
 }

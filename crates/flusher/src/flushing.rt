@@ -13,7 +13,7 @@ use lsn_space::Lsn;
 use segment_file::{Batch, DiskFault, append};
 
 impl<'a, D: LogDisk> Flusher<'a, D> {
-    /// Writes what is released beyond durable to the disk as one batch, and then raises durable to its end. After an
+    /// Writes what is exposed beyond durable to the disk as one batch, and then raises durable to its end. After an
     /// Err durable stands where it was, and no further flush may be made.
     pub fn flush(&mut self) -> Result<Flushed, DiskFault>
         requires ready { MayFlush D.LogDisk self.old }

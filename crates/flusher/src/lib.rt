@@ -1,4 +1,4 @@
-//! Takes what is released from the ring, writes it to the log file as one batch, and only then says that it is durable.
+//! Takes what is exposed from the ring, writes it to the log file as one batch, and only then says that it is durable.
 #![tactic(auto)]
 
 mod draining;

@@ -1,4 +1,4 @@
-//! The ring on one schedule of events, and its half that belongs to bases alone.
+//! The ring on two schedules of events, and its half that belongs to bases alone.
 
 use lsn_space::Lsn;
 use ring_core::{RingEvent, RingLog, RingRun};
@@ -25,33 +25,85 @@ fn is_applied(
     Ok(())
 }
 
+/// Each event of the schedule is taken or not, and so much is exposed then.
+fn are_applied(
+    rt: &impl Abort,
+    run: &mut RingRun,
+    schedule: &[(RingEvent, bool, u32)],
+) -> Result<(), Fail> {
+    for (event, taken, exposed) in schedule {
+        is_applied(rt, run, *event, *taken, *exposed)?;
+    }
+    Ok(())
+}
+
 #[test]
-fn releases_in_order(rt: HostRuntime) -> Result<(), Fail> {
+fn who_comes_first_exposes_who_was_ready(rt: HostRuntime) -> Result<(), Fail> {
     let Ok(mut run) = RingRun::make(rt.alloc(), Lsn::new(4), 1024) else {
         return Err(Fail::new("no memory"));
     };
-    // Each event, whether it is taken, and what is exposed then.
+    // The second is marked first, finds nothing marked at exposed, and goes on.
     let schedule = [
         (RingEvent::Reserve { by: 1, n: 2 }, true, 4),
         (RingEvent::Reserve { by: 2, n: 3 }, true, 4),
         (RingEvent::Fill { by: 2 }, true, 4),
         (RingEvent::Fill { by: 2 }, true, 4),
         (RingEvent::Fill { by: 2 }, true, 4),
-        (RingEvent::Turn { by: 2 }, false, 4),
+        (RingEvent::Mark { by: 2 }, true, 4),
+        (RingEvent::LookExposed { by: 2 }, true, 4),
+        (RingEvent::LookMark { by: 2 }, true, 4),
+        (RingEvent::Raise { by: 2 }, false, 4),
         (RingEvent::Fill { by: 1 }, true, 4),
         (RingEvent::Fill { by: 1 }, true, 4),
-        (RingEvent::Turn { by: 1 }, true, 6),
-        (RingEvent::Turn { by: 2 }, true, 9),
+        (RingEvent::Mark { by: 1 }, true, 4),
+        (RingEvent::LookExposed { by: 1 }, true, 4),
+        (RingEvent::LookMark { by: 1 }, true, 4),
+        (RingEvent::Raise { by: 1 }, true, 6),
+        (RingEvent::LookMark { by: 1 }, true, 6),
+        (RingEvent::Raise { by: 1 }, true, 9),
+        (RingEvent::LookMark { by: 1 }, true, 9),
+        (RingEvent::Raise { by: 1 }, false, 9),
         (RingEvent::Reserve { by: 1, n: 257 }, false, 9),
         (RingEvent::Flushed { to: Lsn::new(8) }, false, 9),
         (RingEvent::Flushed { to: Lsn::new(6) }, true, 9),
     ];
-    for (event, taken, exposed) in schedule {
-        is_applied(&rt, &mut run, event, taken, exposed)?;
-    }
+    are_applied(&rt, &mut run, &schedule)?;
     assert_eq!(rt; run.tail().units(), 9);
     assert_eq!(rt; run.durable().units(), 6);
     Ok(())
+}
+
+#[test]
+fn a_lost_raise_is_an_event(rt: HostRuntime) -> Result<(), Fail> {
+    let Ok(mut run) = RingRun::make(rt.alloc(), Lsn::new(4), 1024) else {
+        return Err(Fail::new("no memory"));
+    };
+    // The first is about to raise exposed when the second raises it past both.
+    let schedule = [
+        (RingEvent::Reserve { by: 1, n: 2 }, true, 4),
+        (RingEvent::Reserve { by: 2, n: 3 }, true, 4),
+        (RingEvent::Fill { by: 1 }, true, 4),
+        (RingEvent::Fill { by: 1 }, true, 4),
+        (RingEvent::Fill { by: 2 }, true, 4),
+        (RingEvent::Fill { by: 2 }, true, 4),
+        (RingEvent::Fill { by: 2 }, true, 4),
+        (RingEvent::Mark { by: 1 }, true, 4),
+        (RingEvent::LookExposed { by: 1 }, true, 4),
+        (RingEvent::LookMark { by: 1 }, true, 4),
+        (RingEvent::Mark { by: 2 }, true, 4),
+        (RingEvent::LookExposed { by: 2 }, true, 4),
+        (RingEvent::LookMark { by: 2 }, true, 4),
+        (RingEvent::Raise { by: 2 }, true, 6),
+        (RingEvent::LookMark { by: 2 }, true, 6),
+        (RingEvent::Raise { by: 2 }, true, 9),
+        (RingEvent::LookMark { by: 2 }, true, 9),
+        // Exposed has moved, so nothing is written, and the first looks on from there.
+        (RingEvent::Raise { by: 1 }, true, 9),
+        (RingEvent::LookMark { by: 1 }, true, 9),
+        (RingEvent::Raise { by: 1 }, false, 9),
+        (RingEvent::Mark { by: 1 }, false, 9),
+    ];
+    are_applied(&rt, &mut run, &schedule)
 }
 
 /// Reserves so many units, which there is room for, and answers their base.

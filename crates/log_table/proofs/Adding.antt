@@ -9,8 +9,10 @@ use Rattle.log_table.specs.Sound.{EachPair, HasSeenBoundaries, SendsIfFlusher, S
 use Rattle.log_table.specs.declared.view.Books.{Books}
 use Rattle.log_table.specs.Accounts.{KeepsAccounts}
 use Rattle.log_table.specs.Books.{no_books}
+use Rattle.log_table.specs.Marks.{HasTrueEnds}
 use Rattle.log_table.specs.Views.{nobody, entries_in, claims_in}
 use Rattle.log_table.specs.Words.{Words}
+use Rattle.log_table.proofs.Carrying.{carrier-push}
 use Rattle.log_table.proofs.Gathered.{adds-nobody}
 use Rattle.log_table.proofs.Viewing.{each_push}
 use Rattle.std.proofs.lemmas.List.{map-append}
@@ -42,7 +44,10 @@ module _ (key : Start) (words : Words) (views : List View) (log : Log) (s : IsSo
     filled = s.filled;
     below = s.below;
     at_work = s.at_work;
-    in_turn = s.in_turn;
+    marks = s.marks;
+    carried = λ first. carrier-push words.exposed views new (s.carried first);
+    ends = each_push (λ _ z. HasTrueEnds key.start words.exposed log z.call) (λ _ z. HasTrueEnds key.start words.exposed log z.call) views new
+        s.ends (subst (HasTrueEnds key.start words.exposed log) (sym call) tt) (λ _ _ _ p. p);
     owners = λ j. nobody-more views new (HasWorkingOwner log.parts log.ahead) j
         (let none = subst (HasWorkingOwner log.parts log.ahead (length views)) (nobody-there views) (s.owners (length views)) in record {
           owns = none.owns ∙ (λ i. parts_of (length views) Rattle.std.proofs.Common.true (sym entries i)

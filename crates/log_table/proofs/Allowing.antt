@@ -1,33 +1,36 @@
 -- Each kind of step is one that the base crate allows.
-use Rattle.std.proofs.Common.{◌≡◌, ◌≢◌, ℕ, ◌+◌, ◌-◌, ◌*◌, ◌%◌, ◌^◌, ◌≤◌, ◌<◌, eqb, length, subst, sym, ap, ◌∙◌}
+use Rattle.std.proofs.Common.{◌≡◌, ◌≢◌, ◌==◌, cond, ℕ, ◌+◌, ◌-◌, ◌*◌, ◌%◌, ◌^◌, ◌≤◌, ◌<◌, eqb, length, subst, sym, ap, ◌∙◌}
 use prog.Atomic.{either}
 use Rattle.atomic_table.specs.Table.{Me, Allows}
 use Rattle.lsn_space.specs.declared.lsn.TheConstants.{LAST}
-use Rattle.log_table.specs.Events.{fills, flushes, none, turns}
+use Rattle.log_table.specs.Events.{fills, flushes, look_event, looks_mark, marks, none, raises}
 use Rattle.log_table.specs.declared.layout.TheConstants.{STRIDE, TAIL, EXPOSED, DURABLE, STOP, CREW, RING}
 use Rattle.log_table.specs.declared.table.Start.{Start}
 use Rattle.log_table.specs.declared.view.Role.TheVariants.{Flusher, Fresh}
 use Rattle.log_table.specs.declared.view.View.{View}
-use Rattle.log_table.specs.Layout.{Tail, Exposed, Durable, Stop, Crew, Ring, Account}
-use Rattle.log_table.specs.May.{IsOwnWord, MayLeave, MayReserve, MayFill, MayRelease, MayRead, MaySend, MayStop, MayTakeJob, MayTake, MayGiveBack}
+use Rattle.log_table.specs.Layout.{Tail, Exposed, Durable, Stop, Crew, Ring, Mark, Account}
+use Rattle.log_table.specs.May.{IsOwnWord, MayLeave, MayReserve, MayFill, MayMark, MayLookMark, MayRaise, MayRead, MaySend, MayStop, MayTakeJob, MayTake, MayGiveBack}
 use Rattle.slot_word.specs.declared.account_word.AccountWord.{AccountWord}
 use Rattle.slot_word.specs.AccountWord.{word_of}
 use Rattle.lock_core.specs.declared.job.Job.{Job}
 use Rattle.log_table.specs.Sends.{IsExposedToFlusher, IsDurableToFlusher, ReadsWholeEntries}
 use Rattle.log_table.specs.Sound.{HasReadStop, Ruled}
-use Rattle.log_table.specs.Views.{saw_tail, saw_exposed, saw_durable, after_exchange, filled, released, has_read, has_sent, has_stopped, saw_stop, saw_crew}
+use Rattle.log_table.specs.Views.{saw_tail, saw_exposed, saw_durable, after_exchange, filled, has_read, has_sent, has_stopped, saw_stop, saw_crew}
+use Rattle.log_table.specs.MarkViews.{marked, saw_mark, after_raise}
 use Rattle.log_table.specs.AccountViews.{took_job, saw_account, after_account, gave_account}
 use Rattle.log_table.specs.CrewViews.{enrolled, retired}
 use Rattle.log_table.proofs.Crewing.{enroll-adds, leave-subtracts}
+use Rattle.log_table.proofs.Exposing.{exposed-looks, look-step, mark-tells}
 use Rattle.log_table.proofs.Filling.{fill-step}
 use Rattle.log_table.proofs.Lifting.{allowed-if_step}
-use Rattle.log_table.proofs.Looking.{tail-looks, exposed-looks, durable-looks, stop-looks, stop-keeps, tail-tells, exposed-tells, durable-tells}
+use Rattle.log_table.proofs.Looking.{tail-looks, durable-looks, stop-looks, stop-keeps, tail-tells, exposed-tells, durable-tells}
 use Rattle.log_table.proofs.Flushing.{send-step}
 use Rattle.log_table.proofs.Reading.{read-step, read-tells}
-use Rattle.log_table.proofs.Turning.{release-step}
+use Rattle.log_table.proofs.Marking.{mark-step}
+use Rattle.log_table.proofs.Raising.{raise-step, raise-tells}
 use Rattle.log_table.proofs.Stopping.{stop-stays, stop-tells, stop-step, crew-looks}
 use Rattle.log_table.proofs.Reserving.{exchange-step, exchange-event}
-use Rattle.log_table.proofs.Wording.{Fits, shared_tail, shared_exposed, shared_durable, shared_stop, shared_crew, in_ring, of_account}
+use Rattle.log_table.proofs.Wording.{Fits, shared_tail, shared_exposed, shared_durable, shared_stop, shared_crew, in_ring, in_marks, of_account}
 use Rattle.log_table.proofs.Owing.{FitsWord, job-step, account-looks, account-tells, account-step, give-step}
 
 module _ (key : Start) (slots seat : ℕ) (me : Me (Unit {0}) View) where
@@ -39,7 +42,7 @@ module _ (key : Start) (slots seat : ℕ) (me : Me (Unit {0}) View) where
   pub load_exposed-allowed : Allows (Ruled key) slots seat me EXPOSED (λ n. n)
       (λ n new. (new ≡ (saw_exposed n me.0, me.1)) × ((me.0.seen.exposed ≤ n) × (n ≤ LAST) × IsExposedToFlusher me.0 n))
   load_exposed-allowed =
-      allowed-if_step key slots seat me Exposed shared_exposed (λ n. n) (λ n. saw_exposed n me.0) (λ _. none)
+      allowed-if_step key slots seat me Exposed shared_exposed (λ n. n) (λ n. saw_exposed n me.0) (λ _. look_event seat me.0.call)
       (λ n. (me.0.seen.exposed ≤ n) × (n ≤ LAST) × IsExposedToFlusher me.0 n) (exposed-tells key seat me.0) (λ n _. exposed-looks key seat me.0 n)
 
   pub load_durable-allowed : Allows (Ruled key) slots seat me DURABLE (λ n. n)
@@ -73,11 +76,33 @@ module _ (key : Start) (slots seat : ℕ) (me : Me (Unit {0}) View) where
       allowed-if_step key slots seat me (Ring (at % ring)) (in_ring (at % ring) (subst (λ r. at % ring < r) (sym same) below)) (λ _. unit)
       (λ _. filled unit me.0) (λ _. fills seat) (λ _. Unit {0}) (λ _ _ _ _ _. tt) (λ n _. fill-step key seat me.0 at ring unit same may n)
 
-  pub store_exposed-allowed : (to : ℕ) → MayRelease to me.0
-      → Allows (Ruled key) slots seat me EXPOSED (λ _. to) (λ _ new. (new ≡ (released to me.0, me.1)) × Unit {0})
-  store_exposed-allowed to may =
-      allowed-if_step key slots seat me Exposed shared_exposed (λ _. to) (λ _. released to me.0) (λ _. turns seat) (λ _. Unit {0})
-      (λ _ _ _ _ _. tt) (λ n _. release-step key seat me.0 to may n)
+  pub exchange_exposed-allowed : (from to : ℕ) → MayRaise from to me.0
+      → Allows (Ruled key) slots seat me EXPOSED (λ n. either (eqb n from) to n)
+      (λ n new. (new ≡ (after_raise (cond (n == from) to n) me.0, me.1)) × ((from ≤ n) × (me.0.seen.exposed ≤ n) × (n ≤ LAST)))
+  exchange_exposed-allowed from to may =
+      allowed-if_step key slots seat me Exposed shared_exposed (λ n. either (eqb n from) to n) (λ n. after_raise (cond (n == from) to n) me.0)
+      (λ _. raises seat) (λ n. (from ≤ n) × (me.0.seen.exposed ≤ n) × (n ≤ LAST)) (raise-tells key seat me.0 from to may)
+      (λ n _. raise-step key seat me.0 from to may n)
+
+  module _ (place ring base : ℕ) (at : place ≡ RING + ring + base % ring) (same : key.ring ≡ ring) (below : base % ring < ring) where
+    fits-mark : Fits key.ring (length key.accounts.rows) (Mark (base % ring))
+    fits-mark = in_marks (base % ring) (subst (λ r. base % ring < r) (sym same) below)
+
+    at-mark : (left : ℕ → ℕ) (then : ℕ → Me (Unit {0}) View → Type 0)
+        → Allows (Ruled key) slots seat me (RING + key.ring + base % ring) left then → Allows (Ruled key) slots seat me place left then
+    at-mark left then = subst (λ n. Allows (Ruled key) slots seat me n left then) (ap (λ r. RING + r + base % ring) same ∙ sym at)
+
+    pub store_mark-allowed : (end : ℕ) → MayMark base end me.0
+        → Allows (Ruled key) slots seat me place (λ _. end) (λ _ new. (new ≡ (marked me.0, me.1)) × Unit {0})
+    store_mark-allowed end may = at-mark (λ _. end) (λ _ new. (new ≡ (marked me.0, me.1)) × Unit {0})
+        (allowed-if_step key slots seat me (Mark (base % ring)) fits-mark (λ _. end) (λ _. marked me.0) (λ _. marks seat) (λ _. Unit {0})
+        (λ _ _ _ _ _. tt) (λ n _. mark-step key seat me.0 base end ring same may n))
+
+    pub load_mark-allowed : MayLookMark base me.0
+        → Allows (Ruled key) slots seat me place (λ n. n) (λ n new. (new ≡ (saw_mark n me.0, me.1)) × (n ≤ LAST))
+    load_mark-allowed may = at-mark (λ n. n) (λ n new. (new ≡ (saw_mark n me.0, me.1)) × (n ≤ LAST))
+        (allowed-if_step key slots seat me (Mark (base % ring)) fits-mark (λ n. n) (λ n. saw_mark n me.0) (λ _. looks_mark seat) (λ n. n ≤ LAST)
+        (mark-tells key seat me.0 base ring same may) (λ n _. look-step key seat me.0 base ring same may n))
 
   pub load_ring-allowed : (at ring : ℕ) → key.ring ≡ ring → at % ring < ring → MayRead at me.0
       → Allows (Ruled key) slots seat me (RING + at % ring) (λ n. n) (λ n new. (new ≡ (has_read n me.0, me.1)) × ReadsWholeEntries (has_read n me.0))
@@ -120,17 +145,17 @@ module _ (key : Start) (slots seat : ℕ) (me : Me (Unit {0}) View) where
       (allowed-if_step key slots seat me Stop shared_stop (λ n. n) (λ n. took_job number job n me.0) (λ _. none)
       (λ n. me.0.seen.stop ≢ 0 → n ≡ me.0.seen.stop) (stop-keeps key seat me.0) (λ n _. job-step key seat me.0 accounts number job same may n))
 
-  module _ (place ring accounts account picked : ℕ) (at : place ≡ RING + ring + STRIDE * account) (same : key.ring ≡ ring)
+  module _ (place ring accounts account picked : ℕ) (at : place ≡ RING + ring + ring + STRIDE * account) (same : key.ring ≡ ring)
       (counted : length key.accounts.rows ≡ accounts) (below : account < accounts) (is : picked ≡ account) where
     fits-account : Fits key.ring (length key.accounts.rows) (Account account)
     fits-account = of_account account (subst (λ c. account < c) (sym counted) below)
 
     -- the word at that place, with the number as it was picked
     at-account : (left : ℕ → ℕ) (then : ℕ → ℕ → Me (Unit {0}) View → Type 0)
-        → Allows (Ruled key) slots seat me (RING + key.ring + STRIDE * account) left (then account)
+        → Allows (Ruled key) slots seat me (RING + key.ring + key.ring + STRIDE * account) left (then account)
         → Allows (Ruled key) slots seat me place left (then picked)
     at-account left then allows = subst (λ (p : ℕ × ℕ). Allows (Ruled key) slots seat me p.0 left (then p.1))
-        (λ i. ((ap (λ r. RING + r + STRIDE * account) same ∙ sym at) i, sym is i)) allows
+        (λ i. ((ap (λ r. RING + r + r + STRIDE * account) same ∙ sym at) i, sym is i)) allows
 
     pub load_account-allowed : Allows (Ruled key) slots seat me place (λ n. n) (λ n new. (new ≡ (saw_account picked n me.0, me.1)) × IsOwnWord picked n me.0.books)
     load_account-allowed = at-account (λ n. n) (λ p n new. (new ≡ (saw_account p n me.0, me.1)) × IsOwnWord p n me.0.books)

@@ -1,5 +1,5 @@
 -- The store of a unit into the ring: the machine's Fill.
-use Rattle.std.proofs.Common.{◌≡◌, ◌≢◌, ⊎_elim, ℕ, ◌+◌, ◌%◌, ◌<◌, ◌≤◌, cond, true, false, true≢false, List, [], ◌∷◌, ◌++◌, length, map, get_or, set, Some, sym, refl, ap, ◌∙◌, subst, arith, length-append, append-nil, append_assoc, slice_index, eq-eqb, ne_eqb}
+use Rattle.std.proofs.Common.{◌≡◌, ◌≢◌, ◌⊎◌, inl, inr, ⊎_elim, ℕ, ◌+◌, ◌/◌, ◌%◌, ◌<◌, ◌≤◌, cond, true, false, true≢false, List, [], ◌∷◌, ◌++◌, length, map, get_or, set, Some, sym, refl, ap, ◌∙◌, subst, arith, length-append, append-nil, append_assoc, slice_index, eq-eqb, ne_eqb}
 use Rattle.std.specs.List.{AllByRecursion, find}
 use Rattle.std.specs.Option.{IsSomeAnd}
 use Rattle.std.proofs.Math.Seq.{get_or-append_seam}
@@ -17,7 +17,8 @@ use Rattle.log_table.specs.declared.view.Entry.{Entry}
 use Rattle.log_table.specs.declared.view.View.{View}
 use Rattle.log_table.specs.Events.{reservation_of, stage_in, ring_of, Leads, IsStep, fills}
 use Rattle.log_table.specs.Layout.{Ring}
-use Rattle.log_table.specs.Log.{Part, Log, ranges_of, own, part_of, parts_of, unreleased_in, inside, SpellsRecord, records_in, StandsInRing, IsFullIfReleased, IsReleasedBelow, CountsRemaining, AgreesFrom, EndsWithPart, Laid}
+use Rattle.log_table.specs.Log.{Part, Range, Claim, Log, Tiles, ranges_of, own, owes, claim_of, part_of, parts_of, unreleased_in, inside, filled_inside, filled_in, is_released, SpellsRecord, records_in, StandsInRing, IsFullIfReleased, IsReleasedBelow, CountsRemaining, AgreesFrom, EndsWithPart, Laid}
+use Rattle.log_table.specs.Marks.{Carries, HasTrueEnds}
 use Rattle.log_table.specs.May.{MayFill}
 use Rattle.log_table.specs.Sound.{HasSeenBoundaries, SendsIfFlusher, StoresStop, HasReadStop, LookedIfQuiet, HasWorkingOwner, HasConstants, RestsUnlessActive, OwnsIfWorker, HoldsIfActive, IsSound, base_of, books_of}
 use Rattle.log_record.specs.Spelling.{spelling}
@@ -26,23 +27,25 @@ use Rattle.log_table.specs.Accounts.{KeepsAccounts}
 use Rattle.log_table.specs.Views.{entries_in, claims_in, with_unit, counted, filled}
 use Rattle.log_table.specs.Words.{Words, put}
 use Rattle.log_table.proofs.Boundaries.{part_size, boundary-mid}
+use Rattle.log_table.proofs.Carrying.{carrier-set, ends-move}
 use Rattle.log_table.proofs.Keeping.{accounts-stay, records-mid}
-use Rattle.log_table.proofs.Lists.{all-mid, all-at, all-both, all-weaker}
+use Rattle.log_table.proofs.Lists.{all-mid, all-at, all-both, all-weaker, Last, picked-last}
+use Rattle.log_table.proofs.Looking.{all-tile}
 use Rattle.log_table.proofs.Owning.{LastPart, last_part, own-last, own-others}
-use Rattle.log_table.proofs.Ranging.{tiles-le, laid-le, laid-mid, laid-same, laid-replaced, unreleased_in-mid}
+use Rattle.log_table.proofs.Ranging.{RangesApart, last-in_two, tiles-le, laid-le, laid-mid, laid-same, laid-replaced, unreleased_in-mid, filled-here, filled-none, filled_in-mid, filled_in-one}
 use Rattle.log_table.proofs.Roles.{crew-same, quiet-moves}
-use Rattle.log_table.proofs.Showing.{hands_of-set_same, stage_of-hands_of, find-part, changed-part, filled_at-others}
+use Rattle.log_table.proofs.Showing.{hands_of-set_same, stage_of-hands_of, find-range, changed-range, filled_at-others}
 use Rattle.log_table.proofs.Viewing.{each_moves, each_set, seats_move, seat_at}
 
 -- two LSNs apart by less than the ring have two words
-differ_in_ring : (x y size : ℕ) → x ≢ y → x < y + size → y < x + size → x % size ≢ y % size
+pub differ_in_ring : (x y size : ℕ) → x ≢ y → x < y + size → y < x + size → x % size ≢ y % size
 differ_in_ring x y size differ lo hi same =
     differ (elim (dec_le x y) [ yes le ↦ one_turn x y size le hi same | no gt ↦ sym (one_turn y x size (omega arith) lo (sym same)) ])
 
-put-here : (f : ℕ → ℕ) (at x : ℕ) → put f at x at ≡ x
+pub put-here : (f : ℕ → ℕ) (at x : ℕ) → put f at x at ≡ x
 put-here f at x = ap (λ b. cond b x (f at)) (eq-eqb at at refl)
 
-put-other : (f : ℕ → ℕ) (at x k : ℕ) → k ≢ at → put f at x k ≡ f k
+pub put-other : (f : ℕ → ℕ) (at x k : ℕ) → k ≢ at → put f at x k ≡ f k
 put-other f at x k differ = ap (λ b. cond b x (f k)) (ne_eqb k at differ)
 
 -- no more units are filled than were reserved
@@ -64,14 +67,38 @@ spells-more seat entry unit old unfilled unit-is = by_rest old.rest old.units
           units = append_assoc entry.units (unit ∷ []) rest ∙ (ap (λ u. entry.units ++ u ∷ rest) (sym same) ∙ is);
         }
 
--- the machine finds the reservation that the seat fills
-pub hand-at : (key : Start) (words : Words) (views : List View) (me : ℕ) (v : View) (entry : Entry) (log : Log) (before behind : List Part)
-    → get_elem? views me ≡ some v → v.call ≡ Filling entry
-    → log.parts ≡ before ++ part_of me false entry ∷ behind → Laid key.start (before ++ part_of me false entry ∷ behind) words.tail
-    → in_hand (ring_of key words views log) me ≡ Some (reservation_of (part_of me false entry))
-hand-at key words views me v entry log before behind at filling split laid =
-    ap (λ g. worked_on g (map reservation_of log.parts)) (stage_of-hands_of 0 me me views v (omega arith) at ∙ ap stage_in filling)
-    ∙ (ap (λ (l : List Part). find (is_at entry.start) (map reservation_of l)) split ∙ find-part _ _ before behind (part_of me false entry) laid)
+-- the range that the seat has to release, and what stands around it
+abbrev pub run_of : Entry → Claim
+run_of entry = record { base = entry.start; size = entry.size; remaining = entry.size }
+
+abbrev pub HeldRange : ℕ → List Range → Entry → Type 0
+HeldRange me ahead entry = Last (owes me) claim_of ahead [] (run_of entry)
+
+-- those before it, and those that are exposed
+abbrev pub range-front : (me : ℕ) (entry : Entry) (log : Log) → HeldRange me log.ahead entry → List Range
+range-front me entry log held = log.flushed ++ (log.exposed ++ held.before)
+
+module _ (key : Start) (words : Words) (views : List View) (me : ℕ) (v : View) (entry : Entry) (log : Log) (s : IsSound key words views log)
+    (at : get_elem? views me ≡ some v) (filling : v.call ≡ Filling entry) where
+  pub held-range : HeldRange me log.ahead entry
+  held-range = picked-last (owes me) claim_of log.ahead [] (run_of entry)
+      ((seat_at (HasWorkingOwner log.parts log.ahead) views me v at s.owners).owes ∙ ap claims_in filling)
+
+  pub all-ranges : ranges_of log ≡ range-front me entry log held-range ++ held-range.here ∷ held-range.behind
+  all-ranges = ap (λ l. log.flushed ++ (log.exposed ++ l)) held-range.split
+      ∙ last-in_two log.flushed log.exposed held-range.before (held-range.here ∷ held-range.behind)
+
+  pub tiles-held : Tiles (key.ring / 4) key.start (range-front me entry log held-range ++ held-range.here ∷ held-range.behind) words.tail
+  tiles-held = subst (λ l. Tiles (key.ring / 4) key.start l words.tail) all-ranges (all-tile _ _ _ _ _ log s.contiguous)
+
+  -- the machine finds the reservation that the seat works on
+  pub hand-is : in_hand (ring_of key words views log) me ≡ Some (reservation_of log.parts held-range.here)
+  hand-is = ap (λ g. worked_on g (map (reservation_of log.parts) (ranges_of log))) (stage_of-hands_of 0 me me views v (omega arith) at ∙ ap stage_in filling)
+      ∙ (ap (λ (p : ℕ × List Range). find (is_at p.0) (map (reservation_of log.parts) p.1)) (λ i. (sym base i, all-ranges i))
+      ∙ find-range log.parts _ _ _ (range-front me entry log held-range) held-range.behind held-range.here tiles-held)
+    where
+      base : held-range.here.base ≡ entry.start
+      base = ap (λ (c : Claim). c.base) held-range.is
 
 module _ (key : Start) (words : Words) (views : List View) (me : ℕ) (v : View) (entry : Entry) (unit : ℕ) (log : Log)
     (s : IsSound key words views log) (at : get_elem? views me ≡ some v) (filling : v.call ≡ Filling entry)
@@ -201,7 +228,10 @@ module _ (key : Start) (words : Words) (views : List View) (me : ℕ) (v : View)
       ranges = s.below.ranges;
     };
     at_work = s.at_work;
-    in_turn = s.in_turn;
+    marks = record { current = s.marks.current; true_marks = s.marks.true_marks; below_tail = s.marks.below_tail };
+    carried = λ first. carrier-set words.exposed views me v new at (λ c. absurd (subst (Carries words.exposed) filling c)) (s.carried first);
+    ends = each_moves (λ _ z. HasTrueEnds key.start words.exposed log z.call) (λ _ z. HasTrueEnds key.start words.exposed after z.call) views me new
+        s.ends tt (λ _ z _ _. ends-move key.start words.exposed log after z.call (λ _ b. b) (λ _ e. e));
     owners = seats_move (HasWorkingOwner log.parts log.ahead) (HasWorkingOwner after.parts after.ahead) views me v new at s.owners
         record {
           owns = own-last me last.before last.behind (parts_of me true v.entries) false
@@ -233,28 +263,59 @@ module _ (key : Start) (words : Words) (views : List View) (me : ℕ) (v : View)
   abbrev old_state : RingState
   old_state = ring_of key words views log
 
-  hand-is : in_hand old_state me ≡ Some (reservation_of old_part)
-  hand-is = hand-at key words views me v entry log last.before last.behind at filling last.split laid
+  abbrev held : HeldRange me log.ahead entry
+  held = held-range key words views me v entry log s at filling
 
-  more : reservation_of part ≡ filled_at entry.start (reservation_of old_part)
-  more i = record {
-    base = entry.start;
-    size = entry.size;
-    filled = (length-append entry.units (unit ∷ [])
-        ∙ sym (ap (λ b. cond b (length entry.units + 1) (length entry.units)) (eq-eqb entry.start entry.start refl))) i;
-    released = false;
-  }
+  base-is : held.here.base ≡ entry.start
+  base-is = ap (λ (c : Claim). c.base) held.is
 
-  reservations : map reservation_of after.parts ≡ map (filled_at entry.start) (map reservation_of log.parts)
-  reservations = changed-part _ _ (filled_at entry.start) last.before last.behind old_part part (filled_at-others entry.start) laid more
-      ∙ ap (λ (l : List Part). map (filled_at entry.start) (map reservation_of l)) (sym last.split)
+  size-is : held.here.size ≡ entry.size
+  size-is = ap (λ (c : Claim). c.size) held.is
+
+  counts : (base size : ℕ)
+      → filled_in base size after.parts + filled_inside base size entry ≡ filled_in base size log.parts + filled_inside base size (with_unit unit entry)
+  counts base size =
+      let m = filled_in-mid base size last.before last.behind old_part part in
+      let g : filled_in base size (last.before ++ old_part ∷ last.behind) ≡ filled_in base size log.parts =
+      ap (filled_in base size) (sym last.split) in omega (arith, m, g)
+
+  -- the run has one unit more, and what lies elsewhere as many as before
+  one-more : filled_in held.here.base held.here.size after.parts ≡ filled_in held.here.base held.here.size log.parts + 1
+  one-more =
+      let here = filled-here held.here.base held.here.size entry (omega (arith, base-is)) (omega (arith, base-is, size-is, unfilled)) in
+      let now = filled-here held.here.base held.here.size (with_unit unit entry) (omega (arith, base-is)) (omega (arith, base-is, size-is, unfilled)) in
+      omega (arith, counts held.here.base held.here.size, here, now, length-append entry.units (unit ∷ []))
+
+  elsewhere : (q : Range) → RangesApart q held.here → filled_in q.base q.size after.parts ≡ filled_in q.base q.size log.parts
+  elsewhere q apart =
+      let out : (entry.start < q.base) ⊎ (q.base + q.size ≤ entry.start) =
+      ⊎_elim (λ low. inr (omega (arith, low, base-is))) (λ high. inl (omega (arith, high, base-is, size-is, unfilled))) apart in
+      omega (arith, counts q.base q.size, filled-none q.base q.size entry out, filled-none q.base q.size (with_unit unit entry) out)
+
+  as-filled : filled_in held.here.base held.here.size log.parts ≡ length entry.units
+  as-filled = (λ i. filled_in (base-is i) (size-is i) (last.split i)) ∙ filled_in-one _ _ last.before last.behind old_part laid
+
+  reservations : map (reservation_of after.parts) (ranges_of after) ≡ map (filled_at held.here.base) (map (reservation_of log.parts) (ranges_of log))
+  reservations = ap (map (reservation_of after.parts)) (all-ranges key words views me v entry log s at filling)
+      ∙ (changed-range log.parts after.parts (filled_at held.here.base) held.here held.here (filled_at-others held.here.base) elsewhere
+      (λ i. record {
+        base = held.here.base;
+        size = held.here.size;
+        filled = (one-more ∙ sym (ap (λ b. cond b (filled_in held.here.base held.here.size log.parts + 1) (filled_in held.here.base held.here.size log.parts))
+            (eq-eqb held.here.base held.here.base refl))) i;
+        released = is_released held.here.duty;
+      }) _ _ _ (range-front me entry log held) held.behind (tiles-held key words views me v entry log s at filling)
+      ∙ ap (λ l. map (filled_at held.here.base) (map (reservation_of log.parts) l)) (sym (all-ranges key words views me v entry log s at filling)))
+
+  hand : in_hand old_state me ≡ Some (reservation_of log.parts held.here)
+  hand = hand-is key words views me v entry log s at filling
 
   pub ring-fills : Leads key words (record words { ring = ring' }) views (set views me new) log (fills me)
   ring-fills = record {
     after = after;
     sound = sound;
     shows = (
-      subst (λ o. IsSomeAnd o HasUnfilled) (sym hand-is) unfilled,
+      subst (λ o. IsSomeAnd o HasUnfilled) (sym hand) (omega (arith, as-filled, size-is, unfilled)),
       (λ i. record {
         start = key.start;
         ring = key.ring;
@@ -265,7 +326,7 @@ module _ (key : Start) (words : Words) (views : List View) (me : ℕ) (v : View)
         durable =
             words.durable;
       })
-          ∙ ap (after_fill old_state) (sym hand-is),
+          ∙ ap (after_fill old_state) (sym hand),
     );
   }
 

@@ -1,5 +1,5 @@
 -- The store of durable: the machine's Flushed.
-use Rattle.std.proofs.Common.{◌≡◌, ℕ, ◌+◌, ◌/◌, ◌≤◌, List, [], ◌∷◌, ◌++◌, length, map, set, Some, sym, refl, ap, ◌∙◌, subst, le_refl, arith, append_assoc, length-append}
+use Rattle.std.proofs.Common.{◌≡◌, inl, inr, ⊎_elim, ℕ, ◌+◌, ◌/◌, ◌≤◌, List, [], ◌∷◌, ◌++◌, length, map, set, sym, refl, ap, ◌∙◌, subst, le_refl, arith, append_assoc, length-append}
 use Rattle.std.specs.List.{AllByRecursion}
 use mathlib.Core.Option.{some}
 use lib.ListN.{get_elem?}
@@ -11,7 +11,8 @@ use Rattle.log_table.specs.declared.view.Role.TheVariants.{Flusher}
 use Rattle.log_table.specs.declared.view.View.{View}
 use Rattle.log_table.specs.Events.{reservation_of, IsStep, Leads, flushes}
 use Rattle.log_table.specs.Layout.{Durable}
-use Rattle.log_table.specs.Log.{Part, Log, ranges_of, StandsInRing, AgreesFrom, EndsWithPart, IsReleased, IsRangeBoundary}
+use Rattle.log_table.specs.Log.{Part, Range, Log, ranges_of, StandsInRing, AgreesFrom, EndsWithPart, IsReleased, IsRangeBoundary}
+use Rattle.log_table.specs.Marks.{HasTrueMark, HasTrueEnds}
 use Rattle.log_table.specs.May.{MaySend}
 use Rattle.log_table.specs.Sound.{HasSeenBoundaries, HasContiguousReservations, SendsInsertedUnits, SendsIfFlusher, StoresStop, HasReadStop, LookedIfQuiet, HasWorkingOwner, HasConstants, RestsUnlessActive, OwnsIfWorker, HoldsIfActive, IsSound}
 use Rattle.log_table.proofs.Keeping.{accounts-stay}
@@ -19,19 +20,19 @@ use Rattle.log_table.specs.Roles.{is_spent}
 use Rattle.log_table.specs.Views.{has_sent}
 use Rattle.log_table.specs.Words.{Words}
 use Rattle.log_table.proofs.Agreeing.{agrees-append}
-use Rattle.log_table.proofs.Boundaries.{Cut, part_size, boundary-later, boundary-sooner, cut-at}
+use Rattle.log_table.proofs.Boundaries.{Cut, boundary-later, boundary-sooner, cut-at}
+use Rattle.log_table.proofs.Carrying.{carrier-set, ends-move}
 use Rattle.log_table.proofs.Lists.{all-both, all-weaker}
-use Rattle.log_table.proofs.Looking.{part-boundary}
 use Rattle.log_table.proofs.Ranging.{tiles-append}
 use Rattle.log_table.proofs.Roles.{crew-same, quiet-moves, sole-flusher}
 use Rattle.log_table.proofs.Showing.{hands_of-set_same}
 use Rattle.log_table.proofs.Viewing.{each_moves, each_set, seats_set, seat_at}
 
--- the machine's boundaries are the parts'
-boundary-shown : (start at : ℕ) (parts : List Part) → IsTilingBoundary part_size start parts at → IsTilingBoundary size_of start (map reservation_of parts) at
-boundary-shown start at [] b = b
-boundary-shown start at (p ∷ ps) b = Rattle.std.proofs.Common.⊎_elim (λ here. Rattle.std.proofs.Common.inl here)
-    (λ later. Rattle.std.proofs.Common.inr (boundary-shown (start + p.entry.size) at ps later)) b
+-- the machine's boundaries are those of the ranges
+boundary-shown : (start at : ℕ) (parts : List Part) (ranges : List Range) → IsRangeBoundary start ranges at
+    → IsTilingBoundary size_of start (map (reservation_of parts) ranges) at
+boundary-shown start at parts [] b = b
+boundary-shown start at parts (r ∷ rs) b = ⊎_elim (λ here. inl here) (λ later. inr (boundary-shown (start + r.size) at parts rs later)) b
 
 module _ (key : Start) (words : Words) (views : List View) (me : ℕ) (v : View) (log : Log) (s : IsSound key words views log)
     (at : get_elem? views me ≡ some v) (flusher : v.standing.role ≡ Flusher) (to : ℕ) (read : to ≡ words.durable + length v.sending.read)
@@ -96,6 +97,9 @@ module _ (key : Start) (words : Words) (views : List View) (me : ℕ) (v : View)
         (λ p _ i _ lo hi. absurd (omega (arith, lo, hi))) sends.sent_agrees;
   }
 
+  kept : (z : View) → HasTrueEnds key.start words.exposed log z.call → HasTrueEnds key.start words.exposed after z.call
+  kept z = ends-move key.start words.exposed log after z.call (λ x. subst (λ l. IsRangeBoundary key.start l x) same-ranges) (λ _ e. e)
+
   sound : IsSound key (record words { durable = to }) (set views me new) after
   sound = record {
     ordered = record {
@@ -131,7 +135,14 @@ module _ (key : Start) (words : Words) (views : List View) (me : ℕ) (v : View)
           (ap (λ l. log.flushed ++ l) cut.split ∙ sym (append_assoc log.flushed cut.before cut.behind)) s.below.ranges;
     };
     at_work = s.at_work;
-    in_turn = s.in_turn;
+    marks = record {
+      current = s.marks.current;
+      true_marks = subst (AllByRecursion (HasTrueMark key.ring words.mark)) same-ranges s.marks.true_marks;
+      below_tail = s.marks.below_tail;
+    };
+    carried = λ first. carrier-set words.exposed views me v new at (λ c. c) (s.carried first);
+    ends = each_moves (λ _ z. HasTrueEnds key.start words.exposed log z.call) (λ _ z. HasTrueEnds key.start words.exposed after z.call) views me new
+        s.ends (kept v (s.ends me v at)) (λ _ z _ _. kept z);
     owners = seats_set (HasWorkingOwner log.parts log.ahead) views me v new at s.owners
         (let mine = seat_at (HasWorkingOwner log.parts log.ahead) views me v at s.owners in record { owns = mine.owns; owes = mine.owes });
     constants = each_set (λ _ z. HasConstants key z) views me new s.constants (s.constants me v at);
@@ -157,12 +168,12 @@ module _ (key : Start) (words : Words) (views : List View) (me : ℕ) (v : View)
       record {
         forward = forward;
         exposed = below;
-        boundary = boundary-shown key.start to log.parts (part-boundary _ _ _ _ _ log s.contiguous to boundary);
+        boundary = boundary-shown key.start to log.parts (ranges_of log) boundary;
       },
       λ i. record {
         start = key.start;
         ring = key.ring;
-        reservations = map reservation_of log.parts;
+        reservations = map (reservation_of log.parts) (sym same-ranges i);
         hands = hands_of-set_same 0 me views v new at refl i;
         tail = words.tail;
         exposed = words.exposed;

@@ -1,5 +1,5 @@
 -- Once every worker was merged, the flusher's seat has the whole log, and all of it is released.
-use Rattle.std.proofs.Common.{◌≡◌, ◌≢◌, ⊎_elim, ℕ, zero, suc, ◌+◌, ◌/◌, ◌≤◌, ◌<◌, cond, lt-ltb, slice_index, map, Bool, true, false, true≢false, List, [], ◌∷◌, ◌++◌, get_or, sym, refl, ap, ◌∙◌, subst, append-nil, arith, length, length-append, eq-eqb, ne_eqb}
+use Rattle.std.proofs.Common.{◌≡◌, ◌≢◌, ℕ, zero, suc, ◌+◌, ◌≤◌, ◌<◌, cond, lt-ltb, slice_index, map, Bool, true, false, true≢false, List, [], ◌∷◌, ◌++◌, get_or, sym, refl, ap, ◌∙◌, subst, append-nil, arith, length, length-append, eq-eqb, ne_eqb}
 use Rattle.std.specs.List.{AllByRecursion}
 use mathlib.Core.Logic.{dite}
 use mathlib.Core.Option.{some, some-injective, some-ne-none}
@@ -30,17 +30,18 @@ use Rattle.log_table.specs.Closing.{IsGathered, IsLedger, IsSettled, ReadsRows, 
 use Rattle.log_table.specs.Layout.{Account, index_of}
 use Rattle.log_table.proofs.Gathered.{gathered}
 use Rattle.atomic_table.proofs.Lists.{at_map}
-use Rattle.log_table.specs.Log.{Part, Range, Log, own, owed, is_owed_by, claim_of, part_of, parts_of, IsSpelled, ranges_of, Tiles, Laid, IsFull, IsFullIfReleased, IsOwed, IsAtWork, IsUnreleased, AgreesFrom, IsRangeBoundary, IsEntryBoundary, SpellsRecord, records_in}
+use Rattle.log_table.specs.Log.{Part, Log, own, part_of, parts_of, IsSpelled, ranges_of, Laid, IsFull, IsFullIfReleased, AgreesFrom, IsRangeBoundary, IsEntryBoundary, SpellsRecord, records_in}
 use Rattle.log_table.specs.Sends.{IsDrained}
 use Rattle.log_table.specs.May.{MayClose}
 use Rattle.log_table.specs.Sound.{HasWorkingOwner, SendsInsertedUnits, IsSound, Ruled, base_of, history_in, books_of}
 use Rattle.log_table.specs.Roles.{is_active, is_worker, is_spent, may_own}
-use Rattle.log_table.specs.Views.{nobody, entries_in, claims_in}
+use Rattle.log_table.specs.Views.{nobody, entries_in}
 use Rattle.log_table.specs.Words.{Words, words_in}
 use Rattle.log_table.proofs.Agreeing.{IsFront, agrees-append, whole-record, front, front-whole, joined, joined-entries, joined-length}
 use Rattle.log_table.proofs.Boundaries.{part_size, boundary-entries}
 use Rattle.log_table.proofs.Lists.{all-both, all-weaker}
 use Rattle.log_table.proofs.Looking.{part-boundary}
+use Rattle.log_table.proofs.Resting.{at_rest}
 use Rattle.log_table.proofs.Viewing.{seat_at}
 
 -- what holds of each view and of nobody's holds of each seat
@@ -49,16 +50,6 @@ each_seat : (P : ℕ → View → Type 0) (views : List View) → ((j : ℕ) (z 
 each_seat P [] all none j = none j
 each_seat P (x ∷ xs) all none zero = all zero x refl
 each_seat P (x ∷ xs) all none (suc j) = each_seat (λ k. P (suc k)) xs (λ k z at. all (suc k) z at) (λ k. none (suc k)) j
-
--- where nobody owes a range, none is there
-none-owed : (ranges : List Range) → AllByRecursion IsAtWork ranges → AllByRecursion IsUnreleased ranges → ((j : ℕ) → owed j ranges ≡ []) → ranges ≡ []
-none-owed [] all open' none = refl
-none-owed (r ∷ rs) all open' none = absurd (⊎_elim open'.0 owes all.0)
-  where
-    owes : IsOwed r → ⊥
-    owes is = let one : claim_of r ∷ owed is.seat rs ≡ [] =
-        sym (ap (λ b. cond b (claim_of r ∷ owed is.seat rs) (owed is.seat rs)) (ap (is_owed_by is.seat) is.duty ∙ eq-eqb is.seat is.seat refl))
-        ∙ none is.seat in absurd (cc)
 
 -- where no other seat has a part, all parts are the seat's
 own-all : (seat : ℕ) (parts : List Part) → ((j : ℕ) → j ≢ seat → own j parts ≡ []) → own seat parts ≡ parts
@@ -149,11 +140,8 @@ module _ (key : Start) (words : Words) (views : List View) (me : ℕ) (v : View)
   idle : (j : ℕ) → (get_or views j nobody).call ≡ Idle
   idle = each_seat (λ _ z. z.call ≡ Idle) views (λ j z there. s.resting j z there (rests z.standing.role (no-worker j z there))) (λ _. refl)
 
-  nothing-ahead : log.ahead ≡ []
-  nothing-ahead = none-owed log.ahead s.at_work s.in_turn (λ j. (s.owners j).owes ∙ ap claims_in (idle j))
-
   pub all_exposed : words.exposed ≡ words.tail
-  all_exposed = subst (λ l. Tiles (key.ring / 4) words.exposed l words.tail) nothing-ahead s.contiguous.to_tail
+  all_exposed = at_rest key words views log s idle
 
   no-entries : (j : ℕ) → j ≢ me → own j log.parts ≡ []
   no-entries j differ = (s.owners j).owns ∙ (λ i. parts_of j true (none i) ++ parts_of j false (entries_in (idle j i)))

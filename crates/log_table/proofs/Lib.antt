@@ -3,10 +3,12 @@ mod Agreeing
 mod Allowing
 pub mod Bookings
 mod Boundaries
+mod Carrying
 mod CrewMerging
 mod Crewing
 pub mod Deltas
 mod Entering
+mod Exposing
 mod Filling
 mod Flushing
 mod Gathered
@@ -18,6 +20,8 @@ mod Keeping
 mod Lifting
 mod Lists
 mod Looking
+mod MarkLooks
+mod Marking
 mod Merging
 pub mod Nexting
 mod Noting
@@ -25,11 +29,12 @@ mod Owing
 mod Owning
 mod PlanFronts
 pub mod Planning
+mod Raising
 mod Ranging
 mod Reading
-mod Releasing
 mod Renaming
 mod Reserving
+mod Resting
 mod Roles
 mod Rows
 mod Showing
@@ -37,6 +42,6 @@ mod Splitting
 mod Starting
 mod Stopping
 mod Taking
-mod Turning
+mod TrueMarks
 mod Viewing
 mod Wording

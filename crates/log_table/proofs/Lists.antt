@@ -92,3 +92,8 @@ module _ {A : Type 0} where
   pub all-at : (P : A → Type 0) (ls rs : List A) (x : A) → AllByRecursion P (ls ++ x ∷ rs) → P x
   all-at P [] rs x a = a.0
   all-at P (l ∷ ls) rs x a = all-at P ls rs x a.1
+
+  -- those behind
+  pub all-behind : (P : A → Type 0) (xs ys : List A) → AllByRecursion P (xs ++ ys) → AllByRecursion P ys
+  all-behind P [] ys a = a
+  all-behind P (x ∷ xs) ys a = all-behind P xs ys a.1

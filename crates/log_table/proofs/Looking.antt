@@ -1,5 +1,5 @@
 -- Steps that change what their seat has seen, and nothing else: the loads, and an exchange that was lost.
-use Rattle.std.proofs.Common.{◌≡◌, ◌≢◌, inr, ⊎_elim, ℕ, ◌+◌, ◌/◌, ◌≤◌, true, List, length, set, sym, refl, ap, ◌∙◌, subst, le_refl, arith}
+use Rattle.std.proofs.Common.{◌≡◌, ◌≢◌, inr, ⊎_elim, ℕ, ◌+◌, ◌/◌, ◌≤◌, List, length, set, sym, refl, ap, ◌∙◌, subst, le_refl, arith}
 use mathlib.Core.Option.{some}
 use lib.ListN.{get_elem?}
 use Rattle.lsn_space.specs.Tiling.{IsTilingBoundary}
@@ -15,7 +15,7 @@ use Rattle.log_table.specs.Log.{Log, ranges_of, IsRangeBoundary, Tiles}
 use Rattle.log_table.specs.Sends.{IsExposedToFlusher, IsDurableToFlusher}
 use Rattle.log_table.specs.Sound.{EachView, HasSeenBoundaries, HasContiguousReservations, SendsIfFlusher, StoresStop, HasReadStop, RestsIfQuiet, LookedIfQuiet, IsSound}
 use Rattle.log_table.specs.Roles.{is_spent}
-use Rattle.log_table.specs.Views.{seen_tail, seen_exposed, seen_durable, saw_tail, saw_exposed, saw_durable, saw_stop}
+use Rattle.log_table.specs.Views.{seen_tail, seen_durable, saw_tail, saw_durable, saw_stop}
 use Rattle.log_table.specs.Words.{Words}
 use Rattle.log_table.proofs.Keeping.{accounts-stay}
 use Rattle.log_table.proofs.Lifting.{Tells}
@@ -37,7 +37,7 @@ module _ (start ring tail exposed durable : ℕ) (log : Log) (c : HasContiguousR
   tail-boundary = boundary-behind _ _ _ _ log.flushed _ c.to_durable
       (boundary-behind _ _ _ _ log.exposed _ c.to_exposed (boundary-end _ _ _ log.ahead c.to_tail))
 
-  all-tile : Tiles (ring / 4) start (ranges_of log) tail
+  pub all-tile : Tiles (ring / 4) start (ranges_of log) tail
   all-tile = tiles-append _ _ _ _ log.flushed _ c.to_durable (tiles-append _ _ _ _ log.exposed log.ahead c.to_exposed c.to_tail)
 
   -- each boundary of reservations is one of the parts
@@ -82,29 +82,6 @@ module _ (key : Start) (me : ℕ) (v : View) where
           durable_seen = old.durable_seen;
           boundaries = (tail-boundary _ _ _ _ _ log s.contiguous, old.boundaries);
         } (s.read_stop me v at));
-  }
-
-  pub exposed-looks : (n : ℕ) → IsStep key me Exposed n n v (saw_exposed n v) none
-  exposed-looks n = record {
-    leads = λ words views log s at is. let old = s.seen me v at in
-        let boundary = exposed-boundary _ _ _ _ _ log s.contiguous in
-        subst (λ x. Leads key words (record words { exposed = x }) views (set views me (saw_exposed x v)) log none) is
-        (looks key words words.stop views me v log (seen_exposed words.exposed v.seen)
-        (record v.sending { exposed = words.exposed; looked = true }) s at record {
-          tail_seen = old.tail_seen;
-          exposed_seen = le_refl _;
-          durable_seen = old.durable_seen;
-          boundaries = (boundary, old.boundaries);
-        } (λ f. let sends = s.sends me v at f in record {
-          sent_to = sends.sent_to;
-          read_to = omega (arith, sends.read_to, sends.loaded_seen);
-          loaded_seen = le_refl _;
-          boundary = boundary;
-          sent_agrees = sends.sent_agrees;
-          read_agrees = sends.read_agrees;
-        }) (each_set (λ _ z. StoresStop words.stop z) views me (saw_exposed words.exposed v) s.stops (s.stops me v at))
-        (each_set (λ _ z. HasReadStop words.stop z) views me (saw_exposed words.exposed v) s.read_stop (s.read_stop me v at)) (λ _ _ _ h. h)
-        (λ _ _ _. refl));
   }
 
   pub durable-looks : (n : ℕ) → IsStep key me Durable n n v (saw_durable n v) none

@@ -14,12 +14,14 @@ use Rattle.log_table.specs.declared.table.Start.{Start}
 use Rattle.log_table.specs.declared.view.Call.TheVariants.{Idle}
 use Rattle.log_table.specs.declared.view.View.{View}
 use Rattle.log_table.specs.Log.{Part, Log, ranges_of, parts_of, SpellsRecord, StandsInRing, IsFullIfReleased, IsReleasedBelow, CountsRemaining, AgreesFrom, EndsWithPart}
+use Rattle.log_table.specs.Marks.{Carries, HasTrueEnds}
 use Rattle.log_table.specs.May.{MayMerge}
 use Rattle.log_table.specs.Sound.{HasSeenBoundaries, SendsIfFlusher, StoresStop, HasReadStop, LookedIfQuiet, HasWorkingOwner, HasConstants, RestsUnlessActive, OwnsIfWorker, HoldsIfActive, base_of, history_in, books_of, IsSound, Ruled, EachView, HasSoundRole, HasSoundRoles, HasSoundCrew, Knows, Lacks, is_active_view}
 use Rattle.log_table.specs.Roles.{is_active, has_ended, is_worker, is_spent}
 use Rattle.log_table.specs.Views.{nobody, entries_in, claims_in}
 use Rattle.log_table.specs.CrewViews.{takes_in}
 use Rattle.log_table.specs.Words.{Words, words_in}
+use Rattle.log_table.proofs.Carrying.{carrier-set, ends-move}
 use Rattle.log_table.proofs.CrewMerging.{ended-rests, without, at-without, each-merged, crew-merges}
 use Rattle.log_table.proofs.Lists.{all-append, all-weaker}
 use Rattle.log_table.proofs.Renaming.{rename, own-renamed, own-renamed-from, own-renamed-else, all-renamed, laid-renamed, unreleased_in-renamed, boundary-renamed, records-renamed}
@@ -136,7 +138,13 @@ module _ (key : Start) (words : Words) (views : List View) (me other : ℕ) (v o
       ranges = s.below.ranges;
     };
     at_work = s.at_work;
-    in_turn = s.in_turn;
+    marks = record { current = s.marks.current; true_marks = s.marks.true_marks; below_tail = s.marks.below_tail };
+    carried = λ first. carrier-set words.exposed (without views other) me v new (at-without views me other v at apart)
+        (λ c. absurd (subst (Carries words.exposed) idle c))
+        (carrier-set words.exposed views other o nobody there (λ c. absurd (subst (Carries words.exposed) idle' c)) (s.carried first));
+    ends = each-merged views me other new (λ _ z. HasTrueEnds key.start words.exposed after z.call)
+        (λ j z here. ends-move key.start words.exposed log after z.call (λ _ b. b) (λ _ e. e) (s.ends j z here)) tt
+        (ends-move key.start words.exposed log after v.call (λ _ b. b) (λ _ e. e) (s.ends me v at));
     owners = owners;
     constants = each-merged views me other new (λ _ z. HasConstants key z) s.constants (λ e. absurd (true≢false e)) (s.constants me v at);
     resting = each-merged views me other new (λ _ z. RestsUnlessActive z) s.resting (λ _. refl) (s.resting me v at);

@@ -1,7 +1,7 @@
 -- What the log has of a seat, where its last part changes or one is added.
-use Rattle.std.proofs.Common.{◌≡◌, ◌≢◌, ℕ, cond, Bool, false, List, [], ◌∷◌, ◌++◌, sym, refl, ap, ◌∙◌, eq-eqb, ne_eqb, eqb-true, append-nil}
+use Rattle.std.proofs.Common.{◌≡◌, ◌≢◌, ℕ, cond, Bool, true, false, true≢false, List, [], ◌∷◌, ◌++◌, sym, refl, ap, ◌∙◌, eq-eqb, ne_eqb, eqb-true, append-nil}
 use Rattle.log_table.specs.declared.view.Entry.{Entry}
-use Rattle.log_table.specs.Log.{Part, Owed, Range, Claim, own, owed, is_by, whole, owes, is_owed_by, claim_of, part_of, parts_of}
+use Rattle.log_table.specs.Log.{Part, Duty, Shared, Owed, Released, Range, Claim, own, owed, is_by, whole, owes, is_owed_by, claim_of, part_of, parts_of}
 use Rattle.log_table.proofs.Lists.{picked-append, picked-same, picked-last}
 
 -- the seat's last part, which is not released, and what stands around it
@@ -61,3 +61,13 @@ pub parts_of-push : (me : ℕ) (flag : Bool) (entries : List Entry) (entry : Ent
     → parts_of me flag (entries ++ entry ∷ []) ≡ parts_of me flag entries ++ part_of me flag entry ∷ []
 parts_of-push me flag [] entry = refl
 parts_of-push me flag (e ∷ es) entry = ap (λ l. part_of me flag e ∷ l) (parts_of-push me flag es entry)
+
+-- who owes a range has to release it
+pub duty-owed : (me : ℕ) (duty : Duty) → is_owed_by me duty ≡ true → duty ≡ Owed me
+duty-owed me (Shared slot) e = absurd (true≢false (sym e))
+duty-owed me (Owed other) e = ap Owed (eqb-true other me e)
+duty-owed me Released e = absurd (true≢false (sym e))
+
+-- and it is not released
+pub owed-unreleased : (me : ℕ) (duty : Duty) → duty ≡ Owed me → duty ≡ Released → ⊥
+owed-unreleased me duty owes is = let both : Owed me ≡ Released = sym owes ∙ is in cc

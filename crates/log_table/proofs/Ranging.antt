@@ -1,8 +1,8 @@
 -- Ranges and parts that follow one another: bounds, and what stays where one of them changes.
-use Rattle.std.proofs.Common.{◌≡◌, ◌⊎◌, inl, inr, ⊎_elim, ℕ, ◌+◌, ◌<◌, ◌≤◌, cond, Bool, true, false, List, [], ◌∷◌, ◌++◌, sym, refl, ap, ◌∙◌, subst, arith}
+use Rattle.std.proofs.Common.{◌≡◌, ◌⊎◌, inl, inr, ⊎_elim, ℕ, ◌+◌, ◌<◌, ◌≤◌, cond, Bool, true, false, List, [], ◌∷◌, ◌++◌, length, sym, refl, ap, ◌∙◌, subst, le_refl, arith, append_assoc}
 use Rattle.std.specs.List.{AllByRecursion}
 use Rattle.log_table.specs.declared.view.Entry.{Entry}
-use Rattle.log_table.specs.Log.{Part, Range, inside, unreleased_in, Tiles, Laid}
+use Rattle.log_table.specs.Log.{Part, Range, inside, unreleased_in, filled_inside, filled_in, Tiles, Laid}
 
 pub tiles-le : (most from to : ℕ) (ranges : List Range) → Tiles most from ranges to → from ≤ to
 tiles-le most from to [] t = omega arith
@@ -32,6 +32,39 @@ tiles-within P Q most from to (r ∷ rs) t all f = (
   f r all.0 t.1 (omega (arith, t.0)) (omega (arith, t.0, tiles-le most (from + r.size) to rs t.3)),
   tiles-within P Q most (from + r.size) to rs t.3 all.1 (λ q p least lo hi. f q p least (omega (arith, t.0, t.1, lo)) hi),
 )
+
+-- a range is exchanged for another of its base and size
+pub tiles-same : (most from to : ℕ) (ls rs : List Range) (r r' : Range) → r'.base ≡ r.base → r'.size ≡ r.size → Tiles most from (ls ++ r ∷ rs) to
+    → Tiles most from (ls ++ r' ∷ rs) to
+tiles-same most from to [] rs r r' base size t =
+    (base ∙ t.0, subst (λ z. 1 ≤ z) (sym size) t.1, subst (λ z. z ≤ most) (sym size) t.2, subst (λ z. Tiles most (from + z) rs to) (sym size) t.3)
+tiles-same most from to (q ∷ ls) rs r r' base size t = (t.0, t.1, t.2, tiles-same most (from + q.size) to ls rs r r' base size t.3)
+
+-- the two ranges have no unit in common
+abbrev pub RangesApart : Range → Range → Type 0
+RangesApart q r = (q.base + q.size ≤ r.base) ⊎ (r.base + r.size ≤ q.base)
+
+-- what holds of the one that changes, and of the others
+pub tiles-replaced : (P Q : Range → Type 0) (most from to : ℕ) (ls rs : List Range) (r r' : Range) → Tiles most from (ls ++ r ∷ rs) to
+    → AllByRecursion P (ls ++ r ∷ rs) → Q r'
+    → ((q : Range) → P q → 1 ≤ q.size → from ≤ q.base → q.base + q.size ≤ to → RangesApart q r → Q q)
+    → AllByRecursion Q (ls ++ r' ∷ rs)
+tiles-replaced P Q most from to [] rs r r' t all now others = (
+  now,
+  tiles-within P Q most (from + r.size) to rs t.3 all.1 (λ q p least lo hi. others q p least (omega (arith, t.1, lo)) hi (inr (omega (arith, t.0, lo)))),
+)
+tiles-replaced P Q most from to (l ∷ ls) rs r r' t all now others =
+    let h = tiles-mid most (from + l.size) to ls rs r t.3 in
+    let before = tiles-le most (from + l.size) r.base ls h.0 in
+    let behind = tiles-le most (r.base + r.size) to rs h.3 in (
+      others l all.0 t.1 (omega (arith, t.0)) (omega (arith, t.0, before, behind, h.1)) (inl (omega (arith, t.0, before))),
+      tiles-replaced P Q most (from + l.size) to ls rs r r' t.3 all.1 now
+          (λ q p least lo hi apart. others q p least (omega (arith, t.0, t.1, lo)) hi apart),
+    )
+
+-- three lists, of which the last is in two
+pub last-in_two : (fs es ls rs : List Range) → fs ++ (es ++ (ls ++ rs)) ≡ (fs ++ (es ++ ls)) ++ rs
+last-in_two fs es ls rs = ap (λ l. fs ++ l) (sym (append_assoc es ls rs)) ∙ sym (append_assoc fs (es ++ ls) rs)
 
 pub tiles-append : (most from mid to : ℕ) (xs ys : List Range) → Tiles most from xs mid → Tiles most mid ys to → Tiles most from (xs ++ ys) to
 tiles-append most from mid to [] ys t u = subst (λ z. Tiles most z ys to) (sym t) u
@@ -131,3 +164,38 @@ all-released from to base size (p ∷ ps) l none =
     by_flag true is here = is
     by_flag false is here = let counted : cond p.released 0 (inside base size p.entry) ≡ inside base size p.entry =
         ap (λ b. cond b 0 (inside base size p.entry)) is in absurd (omega (arith, l.1))
+
+-- the units that are filled are counted where the entry starts, and nowhere else
+pub filled-here : (base size : ℕ) (entry : Entry) → base ≤ entry.start → entry.start < base + size → filled_inside base size entry ≡ length entry.units
+filled-here base size entry lo hi = grind (arith)
+
+pub filled-none : (base size : ℕ) (entry : Entry) → (entry.start < base) ⊎ (base + size ≤ entry.start) → filled_inside base size entry ≡ 0
+filled-none base size entry h = grind (arith)
+
+pub filled_in-append : (base size : ℕ) (xs ys : List Part) → filled_in base size (xs ++ ys) ≡ filled_in base size xs + filled_in base size ys
+filled_in-append base size [] ys = omega arith
+filled_in-append base size (x ∷ xs) ys = omega (arith, filled_in-append base size xs ys)
+
+pub filled_in-mid : (base size : ℕ) (ls rs : List Part) (p p' : Part)
+    → filled_in base size (ls ++ p' ∷ rs) + filled_inside base size p.entry ≡ filled_in base size (ls ++ p ∷ rs) + filled_inside base size p'.entry
+filled_in-mid base size [] rs p p' = omega arith
+filled_in-mid base size (l ∷ ls) rs p p' = omega (arith, filled_in-mid base size ls rs p p')
+
+pub filled_in-apart : (from to base size : ℕ) (parts : List Part) → Laid from parts to → (to ≤ base) ⊎ (base + size ≤ from)
+    → filled_in base size parts ≡ 0
+filled_in-apart from to base size [] l h = refl
+filled_in-apart from to base size (p ∷ ps) l h =
+    let end = laid-le (from + p.entry.size) to ps l.2 in
+    let none : filled_inside base size p.entry ≡ 0 =
+    filled-none base size p.entry (⊎_elim (λ low. inl (omega (arith, l.0, l.1, end, low))) (λ high. inr (omega (arith, l.0, high))) h) in
+    omega (arith, none, filled_in-apart (from + p.entry.size) to base size ps l.2 (⊎_elim (λ low. inl low) (λ high. inr (omega (arith, high))) h))
+
+-- in the run of one part, its units alone are counted
+pub filled_in-one : (from to : ℕ) (ls rs : List Part) (p : Part) → Laid from (ls ++ p ∷ rs) to
+    → filled_in p.entry.start p.entry.size (ls ++ p ∷ rs) ≡ length p.entry.units
+filled_in-one from to ls rs p l =
+    let h = laid-mid from to ls rs p l in
+    let before = filled_in-apart from p.entry.start p.entry.start p.entry.size ls h.0 (inl (le_refl _)) in
+    let behind = filled_in-apart (p.entry.start + p.entry.size) to p.entry.start p.entry.size rs h.2 (inr (le_refl _)) in
+    let here = filled-here p.entry.start p.entry.size p.entry (le_refl _) (omega (arith, h.1)) in
+    omega (arith, filled_in-append p.entry.start p.entry.size ls (p ∷ rs), before, behind, here)

@@ -1,5 +1,5 @@
 -- The exchange of the tail: the machine's Reserve.
-use Rattle.std.proofs.Common.{◌≡◌, ◌≢◌, ◌⊎◌, inl, inr, ℕ, ◌==◌, ◌+◌, ◌-◌, ◌/◌, ◌<◌, ◌≤◌, cond, eqb, Bool, true, false, true≢false, List, [], ◌∷◌, ◌++◌, length, map, set, Option, Some, None, sym, refl, ap, ◌∙◌, subst, le_refl, arith, append-nil, append_assoc, add-zero}
+use Rattle.std.proofs.Common.{◌≡◌, ◌≢◌, ◌⊎◌, inl, inr, ⊎_elim, ℕ, ◌==◌, ◌&&◌, ◌+◌, ◌-◌, ◌/◌, ◌%◌, ◌<◌, ◌≤◌, nat_le, nat_lt, cond, eqb, Bool, true, false, true≢false, List, [], ◌∷◌, ◌++◌, length, map, set, Option, Some, None, sym, refl, ap, ◌∙◌, subst, le_refl, arith, append-nil, append_assoc, add-zero}
 use Rattle.std.specs.List.{AllByRecursion}
 use mathlib.Core.Logic.{dite}
 use mathlib.Core.Option.{some}
@@ -8,13 +8,15 @@ use lib.ListN.{get_elem?}
 use prog.Atomic.{either}
 use Rattle.lsn_space.specs.Tiling.{IsTilingBoundary}
 use Rattle.lsn_space.specs.declared.lsn.TheConstants.{LAST}
+use Rattle.ring_core.specs.RingLog.{fresh}
 use Rattle.log_table.specs.declared.table.Start.{Start}
 use Rattle.log_table.specs.declared.view.Constants.{Constants}
 use Rattle.log_table.specs.declared.view.Entry.{Entry}
 use Rattle.log_table.specs.declared.view.View.{View}
 use Rattle.log_table.specs.Events.{reservation_of, stage_in, Leads, IsStep, Event, none, reserves}
 use Rattle.log_table.specs.Layout.{Tail}
-use Rattle.log_table.specs.Log.{Part, Owed, Range, Log, ranges_of, part_of, parts_of, unreleased_in, SpellsRecord, records_in, StandsInRing, IsFullIfReleased, IsReleasedBelow, Released, IsAtWork, IsUnreleased, CountsRemaining, AgreesFrom, EndsWithPart, IsRangeBoundary, Laid}
+use Rattle.log_table.specs.Log.{Part, Owed, Range, Log, ranges_of, part_of, parts_of, unreleased_in, SpellsRecord, records_in, StandsInRing, IsFullIfReleased, IsReleasedBelow, Released, filled_in, IsAtWork, CountsRemaining, AgreesFrom, EndsWithPart, IsRangeBoundary, Laid}
+use Rattle.log_table.specs.Marks.{HasTrueMark, Carries, HasTrueEnds}
 use Rattle.log_table.specs.May.{MayReserve}
 use Rattle.log_table.specs.Sound.{HasSeenBoundaries, HasContiguousReservations, SendsIfFlusher, StoresStop, HasReadStop, LookedIfQuiet, HasWorkingOwner, HasConstants, RestsUnlessActive, OwnsIfWorker, HoldsIfActive, IsSound, base_of, history_in, books_of}
 use Rattle.log_table.specs.Roles.{is_active, is_spent}
@@ -30,21 +32,28 @@ use Rattle.lock_core.specs.History.{end_from, history_from}
 use Rattle.log_table.specs.declared.view.Books.{Books}
 use Rattle.log_table.specs.Accounts.{KeepsAccounts}
 use Rattle.log_table.specs.Books.{next_of}
+use Rattle.log_table.proofs.Carrying.{carrier-set, first-push, ends-push, ends-move}
 use Rattle.log_table.proofs.Entering.{enters, enters-spellable}
 use Rattle.log_table.proofs.Keeping.{records-push, history-push, history-end}
-use Rattle.std.proofs.lemmas.List.{map-set}
+use Rattle.std.proofs.lemmas.List.{map-set, map-append}
 use Rattle.atomic_table.proofs.Lists.{at_map}
 use Rattle.log_table.proofs.Lists.{all-append, all-weaker}
 use Rattle.log_table.proofs.Looking.{tail-boundary, tail-looks}
 use Rattle.log_table.proofs.Owning.{own-push, own-push_others, owed-push, owed-push_others}
-use Rattle.log_table.proofs.Ranging.{tiles-le, tiles-push, tiles-within, laid-append, inside-here, unreleased_in-append, unreleased_in-apart}
+use Rattle.log_table.proofs.Ranging.{tiles-le, tiles-push, tiles-within, laid-append, inside-here, unreleased_in-append, unreleased_in-apart, filled_in-append, filled_in-apart}
 use Rattle.log_table.proofs.Roles.{crew-same, quiet-moves}
-use Rattle.log_table.proofs.Showing.{hands_of-set, stage_of-hands_of}
+use Rattle.log_table.proofs.Showing.{hands_of-set, stage_of-hands_of, same-shown}
+use Rattle.log_table.proofs.TrueMarks.{ready-push}
 use Rattle.log_table.proofs.Viewing.{each_set, each_moves, seats_move, seat_at}
 
-shown-push : (parts : List Part) (p : Part) → map reservation_of (parts ++ p ∷ []) ≡ map reservation_of parts ++ reservation_of p ∷ []
-shown-push [] p = refl
-shown-push (q ∷ qs) p = ap (λ l. reservation_of q ∷ l) (shown-push qs p)
+-- a part with no unit filled is counted nowhere
+empty-push : (parts : List Part) (p : Part) (base size : ℕ) → p.entry.units ≡ [] → filled_in base size (parts ++ p ∷ []) ≡ filled_in base size parts
+empty-push parts p base size empty =
+    omega (arith, filled_in-append base size parts (p ∷ []), none (nat_le base p.entry.start && nat_lt p.entry.start (base + size)))
+  where
+    none : (b : Bool) → cond b (length p.entry.units) 0 ≡ 0
+    none true = ap length empty
+    none false = refl
 
 spelling-some : (r : Rec) → 1 ≤ length (spelling r)
 spelling-some (rec.Genesis account balance) = omega arith
@@ -215,7 +224,18 @@ module _ (key : Start) (words : Words) (views : List View) (me : ℕ) (v : View)
       ranges = s.below.ranges;
     };
     at_work = all-append IsAtWork log.ahead (range ∷ []) s.at_work (inr record { seat = me; duty = refl }, tt);
-    in_turn = all-append IsUnreleased log.ahead (range ∷ []) s.in_turn ((λ (done : Owed me ≡ Released). absurd (cc)), tt);
+    marks = record {
+      current = λ place lo hi. ⊎_elim (λ low. inl low)
+          (λ ready. inr (ready-push place (words.mark (place % key.ring)) log.ahead (range ∷ []) ready)) (s.marks.current place lo hi);
+      true_marks = subst (AllByRecursion (HasTrueMark key.ring words.mark)) ranges
+          (all-append (HasTrueMark key.ring words.mark) (ranges_of log) (range ∷ []) s.marks.true_marks
+          ((λ (done : Owed me ≡ Released). absurd (cc)), tt));
+      below_tail = λ index. omega (arith, s.marks.below_tail index, whole);
+    };
+    carried = λ first. carrier-set words.exposed views me v new at (λ c. absurd (subst (Carries words.exposed) may.rests.idle c))
+        (s.carried (first-push log.ahead range (λ (done : Owed me ≡ Released). cc) first));
+    ends = each_moves (λ _ z. HasTrueEnds key.start words.exposed log z.call) (λ _ z. HasTrueEnds key.start words.exposed after z.call) views me new
+        s.ends tt (λ _ z _ _. ends-move key.start words.exposed log after z.call still (λ end. ends-push log.ahead (range ∷ []) end));
     owners = seats_move (HasWorkingOwner log.parts log.ahead) (HasWorkingOwner after.parts after.ahead) views me v new at s.owners
         record {
           owns = own-push me log.parts false entry
@@ -243,6 +263,16 @@ module _ (key : Start) (words : Words) (views : List View) (me : ℕ) (v : View)
     accounts = accounts;
   }
 
+  -- the machine has one reservation more, with no unit filled
+  reservations : map (reservation_of after.parts) (ranges_of after) ≡ map (reservation_of log.parts) (ranges_of log) ++ fresh from size ∷ []
+  reservations = ap (map (reservation_of after.parts)) (sym ranges)
+      ∙ (map-append (reservation_of after.parts) (ranges_of log) (range ∷ [])
+      ∙ (λ i. same-shown log.parts after.parts (ranges_of log) (λ base n. empty-push log.parts part base n refl) i
+      ++ record { base = from; size = size; filled = unfilled i; released = false } ∷ []))
+    where
+      unfilled : filled_in from size after.parts ≡ 0
+      unfilled = empty-push log.parts part from size refl ∙ filled_in-apart _ _ from size log.parts s.contiguous.parts (inl (le_refl _))
+
   pub tail-reserves : Leads key words (record words { tail = to }) views (set views me new) log (reserves me size)
   tail-reserves = record {
     after = after;
@@ -260,7 +290,7 @@ module _ (key : Start) (words : Words) (views : List View) (me : ℕ) (v : View)
       λ i. record {
         start = key.start;
         ring = key.ring;
-        reservations = shown-push log.parts part i;
+        reservations = reservations i;
         hands = hands_of-set 0 me me views v new (omega arith) at i;
         tail = sym whole i;
         exposed = words.exposed;

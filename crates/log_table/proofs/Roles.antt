@@ -10,11 +10,13 @@ use Rattle.log_table.specs.declared.view.Standing.{Standing}
 use Rattle.log_table.specs.declared.view.View.{View}
 use Rattle.log_table.specs.Events.{reservation_of, stage_in, Leads, none}
 use Rattle.log_table.specs.Log.{Log, ranges_of, parts_of}
+use Rattle.log_table.specs.Marks.{IsFirstReleased, Carries, HasTrueEnds}
 use Rattle.log_table.specs.Sound.{EachView, EachPair, HasSeenBoundaries, SendsIfFlusher, StoresStop, HasReadStop, RestsIfQuiet, LookedIfQuiet, HasWorkingOwner, HasConstants, RestsUnlessActive, OwnsIfWorker, HoldsIfActive, base_of, history_in, books_of, HasSoundRole, HasSoundRoles, HasSoundCrew, IsSound, is_active_view}
 use Rattle.log_table.specs.Roles.{is_active, is_worker, is_working}
 use Rattle.log_table.specs.Views.{entries_in, claims_in}
 use Rattle.log_table.specs.Words.{Words}
 use Rattle.log_table.specs.Accounts.{KeepsAccounts}
+use Rattle.log_table.proofs.Carrying.{carrier-set}
 use Rattle.log_table.proofs.Showing.{hands_of-set_same}
 use Rattle.log_table.proofs.Viewing.{each_set, seats_set, seat_at, pairs_move, count-set}
 
@@ -77,9 +79,12 @@ pub sole-flusher : (crew : ℕ) (views : List View) (me : ℕ) (v : View) → Ha
     → v.standing.role ≡ Flusher → (j : ℕ) (z : View) → get_elem? views j ≡ some z → z.standing.role ≡ Flusher → j ≡ me
 sole-flusher crew views me v s at flusher j z there f = (s.each j z there).first f ∙ sym ((s.each me v at).first flusher)
 
--- the seat's view, the crew and the accounts change, but not what the seat owns or has under way
+-- the seat's view, the crew and the accounts change, but not what the seat owns or has reserved
 module _ (key : Start) (words : Words) (stop crew : ℕ) (account : ℕ → ℕ) (views : List View) (me : ℕ) (v new : View) (log : Log) (s : IsSound key words views log)
-    (at : get_elem? views me ≡ some v) (call : new.call ≡ v.call) (entries : new.entries ≡ v.entries)
+    (at : get_elem? views me ≡ some v) (runs : entries_in new.call ≡ entries_in v.call)
+    (claims : claims_in new.call ≡ claims_in v.call)
+    (carries : IsFirstReleased log.ahead → Carries words.exposed v.call → Carries words.exposed new.call)
+    (ends : HasTrueEnds key.start words.exposed log new.call) (entries : new.entries ≡ v.entries)
     (sees : HasSeenBoundaries key.start words.tail words.exposed words.durable (ranges_of log) new.seen) (constants : HasConstants key new)
     (rests : RestsUnlessActive new) (owns : OwnsIfWorker new) (roles : HasSoundCrew crew (set views me new))
     (sends : SendsIfFlusher key.start words.exposed words.durable log new) (stops : EachView (λ _ z. StoresStop stop z) (set views me new))
@@ -87,19 +92,21 @@ module _ (key : Start) (words : Words) (stop crew : ℕ) (account : ℕ → ℕ)
     (quiet : EachPair (λ _ y _ z. RestsIfQuiet y z) (set views me new)) (looked : LookedIfQuiet words.exposed new)
     (unheld : HoldsIfActive new)
     (accounts : KeepsAccounts (base_of key) account (history_in key log.parts) (map books_of (set views me new))) where
-  pub restands-sound : IsSound key (record words { stop = stop; crew = crew; account = account }) (set views me new) log
-  restands-sound = record {
+  pub recalls-sound : IsSound key (record words { stop = stop; crew = crew; account = account }) (set views me new) log
+  recalls-sound = record {
     ordered = s.ordered;
     seen = each_set (λ _ z. HasSeenBoundaries key.start words.tail words.exposed words.durable (ranges_of log) z.seen) views me new s.seen sees;
     contiguous = s.contiguous;
     filled = s.filled;
     below = s.below;
     at_work = s.at_work;
-    in_turn = s.in_turn;
+    marks = s.marks;
+    carried = λ first. carrier-set words.exposed views me v new at (carries first) (s.carried first);
+    ends = each_set (λ _ z. HasTrueEnds key.start words.exposed log z.call) views me new s.ends ends;
     owners = seats_set (HasWorkingOwner log.parts log.ahead) views me v new at s.owners
         (let mine = seat_at (HasWorkingOwner log.parts log.ahead) views me v at s.owners in record {
-          owns = mine.owns ∙ (λ i. parts_of me true (sym entries i) ++ parts_of me false (entries_in (sym call i)));
-          owes = mine.owes ∙ ap claims_in (sym call);
+          owns = mine.owns ∙ (λ i. parts_of me true (sym entries i) ++ parts_of me false (sym runs i));
+          owes = mine.owes ∙ sym claims;
         });
     constants = each_set (λ _ z. HasConstants key z) views me new s.constants constants;
     resting = each_set (λ _ z. RestsUnlessActive z) views me new s.resting rests;
@@ -114,13 +121,28 @@ module _ (key : Start) (words : Words) (stop crew : ℕ) (account : ℕ → ℕ)
     accounts = accounts;
   }
 
+-- nor what it has under way
+module _ (key : Start) (words : Words) (stop crew : ℕ) (account : ℕ → ℕ) (views : List View) (me : ℕ) (v new : View) (log : Log) (s : IsSound key words views log)
+    (at : get_elem? views me ≡ some v) (call : new.call ≡ v.call) (entries : new.entries ≡ v.entries)
+    (sees : HasSeenBoundaries key.start words.tail words.exposed words.durable (ranges_of log) new.seen) (constants : HasConstants key new)
+    (rests : RestsUnlessActive new) (owns : OwnsIfWorker new) (roles : HasSoundCrew crew (set views me new))
+    (sends : SendsIfFlusher key.start words.exposed words.durable log new) (stops : EachView (λ _ z. StoresStop stop z) (set views me new))
+    (read_stop : EachView (λ _ z. HasReadStop stop z) (set views me new))
+    (quiet : EachPair (λ _ y _ z. RestsIfQuiet y z) (set views me new)) (looked : LookedIfQuiet words.exposed new)
+    (unheld : HoldsIfActive new)
+    (accounts : KeepsAccounts (base_of key) account (history_in key log.parts) (map books_of (set views me new))) where
+  pub restands-sound : IsSound key (record words { stop = stop; crew = crew; account = account }) (set views me new) log
+  restands-sound = recalls-sound key words stop crew account views me v new log s at (ap entries_in call) (ap claims_in call)
+      (λ _. subst (Carries words.exposed) (sym call)) (subst (HasTrueEnds key.start words.exposed log) (sym call) (s.ends me v at)) entries
+      sees constants rests owns roles sends stops read_stop quiet looked unheld accounts
+
   pub restands : Leads key words (record words { stop = stop; crew = crew; account = account }) views (set views me new) log none
   restands = record {
     after = log;
     shows = λ i. record {
       start = key.start;
       ring = key.ring;
-      reservations = map reservation_of log.parts;
+      reservations = map (reservation_of log.parts) (ranges_of log);
       hands = hands_of-set_same 0 me views v new at (ap stage_in call) i;
       tail = words.tail;
       exposed = words.exposed;

@@ -14,16 +14,16 @@ pub puts-none : (key : Start) (words : List ℕ) → PutsAccounts key 0 words wo
 puts-none key words = record { count = refl; others = λ _ _. refl; each = λ account below. absurd (omega arith) }
 
 pub puts-more : (key : Start) (n word place : ℕ) (old new : List ℕ) → n < length key.accounts.rows → length old ≡ word_count key.ring (length key.accounts.rows)
-    → place ≡ RING + key.ring + STRIDE * n → word ≡ packed false (row key.accounts.rows n).0 (row key.accounts.rows n).1 → PutsAccounts key n old new
+    → place ≡ RING + key.ring + key.ring + STRIDE * n → word ≡ packed false (row key.accounts.rows n).0 (row key.accounts.rows n).1 → PutsAccounts key n old new
     → PutsAccounts key (n + 1) old (set new place word)
 puts-more key n word place old new below size at is puts = record {
   count = length-set new place word ∙ puts.count;
   others = λ other low. get_or-set_other new place other word 0 (λ e. omega arith) ∙ puts.others other low;
   each = λ account lt. dite (ℕ_discrete account n)
-      (λ same. ap (λ a. get_or (set new place word) (RING + key.ring + STRIDE * a) 0) same
+      (λ same. ap (λ a. get_or (set new place word) (RING + key.ring + key.ring + STRIDE * a) 0) same
       ∙ (ap (λ p. get_or (set new place word) p 0) (sym at) ∙ (get_or-set_same new place word 0 (let count = puts.count in omega arith)
       ∙ (is ∙ ap (λ a. packed false (row key.accounts.rows a).0 (row key.accounts.rows a).1) (sym same)))))
-      (λ differ. get_or-set_other new place (RING + key.ring + STRIDE * account) word 0 (λ e. omega arith) ∙ puts.each account (omega arith));
+      (λ differ. get_or-set_other new place (RING + key.ring + key.ring + STRIDE * account) word 0 (λ e. omega arith) ∙ puts.each account (omega arith));
 }
 
 pub reads-none : (ring : ℕ) (words : List ℕ) (rows : List (ℕ × ℕ)) → ReadsRows ring 0 words rows rows

@@ -1,14 +1,14 @@
--- What a table shows of the ring machine, where a seat's call or one part changes.
-use Rattle.std.proofs.Common.{◌≡◌, ℕ, zero, suc, ◌==◌, ◌+◌, ◌<◌, cond, true, false, List, [], ◌∷◌, ◌++◌, map, set, Some, sym, refl, ap, ◌∙◌, arith, eq-eqb, ne_eqb}
+-- What a table shows of the ring machine, where a seat's call or one range changes.
+use Rattle.std.proofs.Common.{◌≡◌, inl, inr, ⊎_elim, ℕ, zero, suc, ◌==◌, ◌+◌, ◌≤◌, cond, true, false, List, [], ◌∷◌, ◌++◌, map, set, Some, None, sym, refl, ap, ◌∙◌, arith, eq-eqb, ne_eqb}
 use Rattle.std.specs.List.{find}
 use mathlib.Core.Option.{some, some-injective, some-ne-none}
 use lib.ListN.{get_elem?}
 use Rattle.ring_core.specs.State.{Reservation, Hand, stage_of, with_stage, is_at}
 use Rattle.ring_core.specs.Machine.{filled_at, released_at}
 use Rattle.log_table.specs.declared.view.View.{View}
-use Rattle.log_table.specs.Log.{Part, Laid}
+use Rattle.log_table.specs.Log.{Part, Range, Tiles, filled_in, is_released}
 use Rattle.log_table.specs.Events.{reservation_of, stage_in, hands_of}
-use Rattle.log_table.proofs.Ranging.{laid-le, laid-mid}
+use Rattle.log_table.proofs.Ranging.{RangesApart, tiles-le, tiles-mid}
 
 -- a seat whose call shows the same changes nothing
 pub hands_of-set_same : (first me : ℕ) (views : List View) (v new : View) → get_elem? views me ≡ some v → stage_in new.call ≡ stage_in v.call
@@ -44,36 +44,60 @@ stage_of-hands_of first (suc me) actor (x ∷ xs) v is at =
     ap (λ b. cond b (stage_in x.call) (stage_of actor (hands_of (first + 1) xs))) (ne_eqb first actor (λ e. omega arith))
     ∙ stage_of-hands_of (first + 1) me actor xs v (omega arith) at
 
--- the reservation at a part's start is that part's
-pub find-part : (from to : ℕ) (ls rs : List Part) (p : Part) → Laid from (ls ++ p ∷ rs) to
-    → find (is_at p.entry.start) (map reservation_of (ls ++ p ∷ rs)) ≡ Some (reservation_of p)
-find-part from to [] rs p l =
-    ap (λ b. cond b (Some (reservation_of p)) (find (is_at p.entry.start) (map reservation_of rs))) (eq-eqb p.entry.start p.entry.start refl)
-find-part from to (q ∷ ls) rs p l = let h = laid-mid (from + q.entry.size) to ls rs p l.2 in
-    ap (λ b. cond b (Some (reservation_of q)) (find (is_at p.entry.start) (map reservation_of (ls ++ p ∷ rs))))
-    (ne_eqb q.entry.start p.entry.start (λ e. omega (arith, laid-le (from + q.entry.size) p.entry.start ls h.0, l.0, l.1)))
-    ∙ find-part (from + q.entry.size) to ls rs p l.2
+-- the reservation at a range's base is that range's
+pub find-range : (parts : List Part) (most from to : ℕ) (ls rs : List Range) (r : Range) → Tiles most from (ls ++ r ∷ rs) to
+    → find (is_at r.base) (map (reservation_of parts) (ls ++ r ∷ rs)) ≡ Some (reservation_of parts r)
+find-range parts most from to [] rs r t =
+    ap (λ b. cond b (Some (reservation_of parts r)) (find (is_at r.base) (map (reservation_of parts) rs))) (eq-eqb r.base r.base refl)
+find-range parts most from to (q ∷ ls) rs r t = let h = tiles-mid most (from + q.size) to ls rs r t.3 in
+    ap (λ b. cond b (Some (reservation_of parts q)) (find (is_at r.base) (map (reservation_of parts) (ls ++ r ∷ rs))))
+    (ne_eqb q.base r.base (λ e. omega (arith, tiles-le most (from + q.size) r.base ls h.0, t.0, t.1)))
+    ∙ find-range parts most (from + q.size) to ls rs r t.3
+
+-- no range begins where the last one ends
+pub find-no_range : (parts : List Part) (most from to : ℕ) (rs : List Range) → Tiles most from rs to
+    → find (is_at to) (map (reservation_of parts) rs) ≡ None
+find-no_range parts most from to [] t = refl
+find-no_range parts most from to (r ∷ rs) t =
+    ap (λ b. cond b (Some (reservation_of parts r)) (find (is_at to) (map (reservation_of parts) rs)))
+    (ne_eqb r.base to (λ e. omega (arith, tiles-le most (from + r.size) to rs t.3, t.0, t.1)))
+    ∙ find-no_range parts most (from + r.size) to rs t.3
 
 -- a change of the reservation at a base leaves those that start elsewhere
 abbrev pub LeavesOthers : ℕ → (Reservation → Reservation) → Type 0
 LeavesOthers base change = (r : Reservation) → (r.base == base) ≡ false → change r ≡ r
 
-changed-none : (from to base : ℕ) (change : Reservation → Reservation) (parts : List Part) → LeavesOthers base change → Laid from parts to
-    → base < from → map change (map reservation_of parts) ≡ map reservation_of parts
-changed-none from to base change [] leaves l below = refl
-changed-none from to base change (p ∷ ps) leaves l below =
-    λ i. leaves (reservation_of p) (ne_eqb p.entry.start base (λ e. omega (arith, l.0))) i ∷ changed-none
-    (from + p.entry.size) to base change ps leaves l.2 (omega (arith, l.1)) i
+-- parts change, but no units that are filled
+pub same-shown : (parts parts' : List Part) (ranges : List Range) → ((base size : ℕ) → filled_in base size parts' ≡ filled_in base size parts)
+    → map (reservation_of parts') ranges ≡ map (reservation_of parts) ranges
+same-shown parts parts' [] same = refl
+same-shown parts parts' (r ∷ rs) same =
+    λ i. record { base = r.base; size = r.size; filled = same r.base r.size i; released = is_released r.duty } ∷ same-shown parts parts' rs same i
 
-pub changed-part : (from to : ℕ) (change : Reservation → Reservation) (ls rs : List Part) (p p' : Part) → LeavesOthers p.entry.start change
-    → Laid from (ls ++ p ∷ rs) to → reservation_of p' ≡ change (reservation_of p)
-    → map reservation_of (ls ++ p' ∷ rs) ≡ map change (map reservation_of (ls ++ p ∷ rs))
-changed-part from to change [] rs p p' leaves l is =
-    λ i. is i ∷ sym (changed-none (from + p.entry.size) to p.entry.start change rs leaves l.2 (omega (arith, l.0, l.1))) i
-changed-part from to change (q ∷ ls) rs p p' leaves l is = let h = laid-mid (from + q.entry.size) to ls rs p l.2 in
-    λ i. sym (leaves (reservation_of q)
-    (ne_eqb q.entry.start p.entry.start (λ e. omega (arith, laid-le (from + q.entry.size) p.entry.start ls h.0, l.0, l.1)))) i ∷ changed-part
-    (from + q.entry.size) to change ls rs p p' leaves l.2 is i
+-- the units of one range alone change, and it is shown as the change of what it was
+module _ (parts parts' : List Part) (change : Reservation → Reservation) (r r' : Range) (leaves : LeavesOthers r.base change)
+    (others : (q : Range) → RangesApart q r → filled_in q.base q.size parts' ≡ filled_in q.base q.size parts)
+    (is : reservation_of parts' r' ≡ change (reservation_of parts r)) where
+  other-shown : (q : Range) → 1 ≤ q.size → 1 ≤ r.size → RangesApart q r → reservation_of parts' q ≡ change (reservation_of parts q)
+  other-shown q least positive apart =
+      (λ i. record { base = q.base; size = q.size; filled = others q apart i; released = is_released q.duty })
+      ∙ sym (leaves (reservation_of parts q)
+      (ne_eqb q.base r.base (λ e. ⊎_elim (λ before. omega (arith, before, e, least)) (λ behind. omega (arith, behind, e, positive)) apart)))
+
+  others-shown : (most from to : ℕ) (rs : List Range) → Tiles most from rs to → r.base + r.size ≤ from → 1 ≤ r.size
+      → map (reservation_of parts') rs ≡ map change (map (reservation_of parts) rs)
+  others-shown most from to [] t below positive = refl
+  others-shown most from to (q ∷ qs) t below positive =
+      λ i. other-shown q t.1 positive (inr (omega (arith, below, t.0))) i
+      ∷ others-shown most (from + q.size) to qs t.3 (omega (arith, below)) positive i
+
+  pub changed-range : (most from to : ℕ) (ls rs : List Range) → Tiles most from (ls ++ r ∷ rs) to
+      → map (reservation_of parts') (ls ++ r' ∷ rs) ≡ map change (map (reservation_of parts) (ls ++ r ∷ rs))
+  changed-range most from to [] rs t =
+      λ i. is i ∷ others-shown most (from + r.size) to rs t.3 (omega (arith, t.0)) t.1 i
+  changed-range most from to (q ∷ ls) rs t = let h = tiles-mid most (from + q.size) to ls rs r t.3 in
+      λ i. other-shown q t.1 h.1 (inl (omega (arith, t.0, tiles-le most (from + q.size) r.base ls h.0))) i
+      ∷ changed-range most (from + q.size) to ls rs t.3 i
 
 pub filled_at-others : (base : ℕ) → LeavesOthers base (filled_at base)
 filled_at-others base r differs =

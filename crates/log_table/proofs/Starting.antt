@@ -1,5 +1,5 @@
 -- A table starts at rest: nothing is reserved, and the log ends where it started.
-use Rattle.std.proofs.Common.{◌≡◌, ◌≢◌, inl, ℕ, zero, suc, ◌<◌, ◌≤◌, true≢false, List, [], ◌∷◌, length, get_or, replicate, set, sym, refl, ap, ◌∙◌, subst, arith, cond, Bool, false, lt-ltb, length-set, get_or-set_same, get_or-set_other}
+use Rattle.std.proofs.Common.{◌≡◌, ◌≢◌, inl, ℕ, zero, suc, ◌+◌, ◌%◌, ◌<◌, ◌≤◌, nat_lt, true, true≢false, List, [], ◌∷◌, length, get_or, replicate, set, sym, refl, ap, ◌∙◌, subst, arith, cond, Bool, false, lt-ltb, ltb-true, length-set, get_or-set_same, get_or-set_other}
 use Rattle.std.proofs.lemmas.List.{length-replicate, get_or-replicate}
 use mathlib.Core.Option.{some-injective, some-ne-none}
 use Rattle.atomic_table.specs.Table.{opening}
@@ -8,6 +8,7 @@ use Rattle.log_table.specs.declared.layout.TheConstants.{TAIL, EXPOSED, DURABLE,
 use Rattle.log_table.specs.declared.table.Start.{Start}
 use Rattle.log_table.specs.declared.view.View.{View}
 use Rattle.log_table.specs.Log.{Log}
+use Rattle.log_table.specs.Marks.{HasTrueEnds}
 use Rattle.log_table.specs.Sound.{EachView, HasSeenBoundaries, SendsIfFlusher, StoresStop, HasReadStop, RestsIfQuiet, LookedIfQuiet, HasWorkingOwner, HasConstants, RestsUnlessActive, OwnsIfWorker, HoldsIfActive, base_of, HasSoundRole, HasSoundRoles, IsSound, Ruled}
 use Rattle.log_table.specs.Views.{flusher, nobody}
 use Rattle.log_table.specs.Words.{Words, words_in}
@@ -17,7 +18,7 @@ use Rattle.log_record.specs.Spelling.{IsBalance}
 use Rattle.lock_core.specs.Settling.{row}
 use Rattle.log_table.specs.Accounts.{KeepsAccounts}
 use Rattle.log_table.specs.Books.{no_books}
-use Rattle.log_table.specs.Layout.{Account, index_of, word_count}
+use Rattle.log_table.specs.Layout.{Mark, Account, index_of, word_count}
 use Rattle.log_table.specs.Opening.{HasAccounts, PutsAccounts}
 use Rattle.log_table.proofs.Gathered.{starts-free}
 
@@ -27,7 +28,7 @@ empty_log = record { parts = []; flushed = []; exposed = []; ahead = [] }
 
 module _ (key : Start) (words : Words) (least : LEAST_RING ≤ key.ring) (most : key.ring ≤ GREATEST_RING) (small : key.start ≤ LAST)
     (tail : words.tail ≡ key.start) (exposed : words.exposed ≡ key.start) (durable : words.durable ≡ key.start) (stop : words.stop ≡ 0)
-    (crew : words.crew ≡ 0) (accounts : KeepsAccounts (base_of key) words.account [] (no_books ∷ [])) where
+    (crew : words.crew ≡ 0) (marks : (index : ℕ) → words.mark index ≡ 0) (accounts : KeepsAccounts (base_of key) words.account [] (no_books ∷ [])) where
   alone : (P : ℕ → View → Type 0) → P 0 (flusher key) → EachView P (flusher key ∷ [])
   alone P first zero v at = subst (P 0) (some-injective _ _ at) first
   alone P first (suc j) v at = absurd (some-ne-none v (sym at))
@@ -53,7 +54,13 @@ module _ (key : Start) (words : Words) (least : LEAST_RING ≤ key.ring) (most :
     filled = record { spelled = tt; stands = tt };
     below = record { full = tt; below = tt; ranges = tt };
     at_work = tt;
-    in_turn = tt;
+    marks = record {
+      current = λ place _ _. inl (omega (arith, marks (place % key.ring)));
+      true_marks = tt;
+      below_tail = λ index. omega (arith, marks index);
+    };
+    carried = λ first. absurd first;
+    ends = alone (λ _ z. HasTrueEnds key.start words.exposed empty_log z.call) tt;
     owners = owners;
     constants = alone (λ _ z. HasConstants key z) (λ _. refl);
     resting = alone (λ _ z. RestsUnlessActive z) (λ _. refl);
@@ -109,6 +116,7 @@ start-allowed key ws zeros least most small has zero-is puts = (
         (puts.others DURABLE (omega arith) ∙ get_or-set_same b DURABLE n 0 (omega (arith, length-b)))
         (zero-at STOP (λ e. omega arith) (λ e. omega arith) (λ e. omega arith) (omega arith))
         (zero-at CREW (λ e. omega arith) (λ e. omega arith) (λ e. omega arith) (omega arith))
+        no-mark
         (starts-free (base_of key) (words_in key ws).account has.few first),
   ),
 )
@@ -140,11 +148,19 @@ start-allowed key ws zeros least most small has zero-is puts = (
     length-c : length c ≡ word_count key.ring count
     length-c = length-set b DURABLE n ∙ length-b
 
-    zero-at : (at : ℕ) → at ≢ DURABLE → at ≢ EXPOSED → at ≢ TAIL → at < RING → get_or ws at 0 ≡ 0
+    zero-at : (at : ℕ) → at ≢ DURABLE → at ≢ EXPOSED → at ≢ TAIL → at < RING + key.ring + key.ring → get_or ws at 0 ≡ 0
     zero-at at durable exposed tail below = puts.others at below ∙ (get_or-set_other b DURABLE at n 0 durable
         ∙ (get_or-set_other a EXPOSED at n 0 exposed
         ∙ (get_or-set_other zeros TAIL at n 0 tail
         ∙ (ap (λ l. get_or l at 0) zero-is ∙ get_or-replicate (word_count key.ring count) at 0 0 (omega arith)))))
+
+    no-mark : (index : ℕ) → (words_in key ws).mark index ≡ 0
+    no-mark index = by_test (nat_lt index key.ring) refl
+      where
+        by_test : (b : Bool) → nat_lt index key.ring ≡ b → cond b (get_or ws (index_of key.ring (Mark index)) 0) 0 ≡ 0
+        by_test true is = let below = ltb-true index key.ring is in
+            zero-at (RING + key.ring + index) (λ e. omega arith) (λ e. omega arith) (λ e. omega arith) (omega arith)
+        by_test false is = refl
 
     first : (account : ℕ) → account < count → (held_in ((words_in key ws).account account) ≡ false)
         × (balance_in ((words_in key ws).account account) ≡ (base_of key).balance account)

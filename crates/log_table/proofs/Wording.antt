@@ -3,7 +3,7 @@ use Rattle.std.proofs.Common.{◌≡◌, ◌≢◌, ◌==◌, ℕ, ◌+◌, ◌-
 use mathlib.Core.Logic.{dite}
 use native.Mathlib.Decide.{ℕ_discrete}
 use Rattle.log_table.specs.declared.layout.TheConstants.{STRIDE, TAIL, EXPOSED, DURABLE, STOP, CREW, RING}
-use Rattle.log_table.specs.Layout.{Word, Tail, Exposed, Durable, Stop, Crew, Ring, Account, index_of, word_count}
+use Rattle.log_table.specs.Layout.{Word, Tail, Exposed, Durable, Stop, Crew, Ring, Mark, Account, index_of, word_count}
 use Rattle.log_table.specs.Words.{read, words_of, word_at, put, with_word}
 
 -- the word lies in a table whose ring has that many units, and which has so many accounts
@@ -14,15 +14,26 @@ pub data Fits (size accounts : ℕ) : Word → Type 0 where
   shared_stop : Fits size accounts Stop
   shared_crew : Fits size accounts Crew
   in_ring : (index : ℕ) → index < size → Fits size accounts (Ring index)
+  in_marks : (index : ℕ) → index < size → Fits size accounts (Mark index)
   of_account : (account : ℕ) → account < accounts → Fits size accounts (Account account)
 
 -- the word that lies at a place
+abbrev behind_ring : ℕ → ℕ → Word
+behind_ring size n = cond (nat_lt n size) (Mark n) (Account ((n - size) / STRIDE))
+
 abbrev behind_crew : ℕ → ℕ → Word
-behind_crew size n = cond (nat_lt (n - RING) size) (Ring (n - RING)) (Account ((n - RING - size) / STRIDE))
+behind_crew size n = cond (nat_lt (n - RING) size) (Ring (n - RING)) (behind_ring size (n - RING - size))
 
 abbrev word_of : ℕ → ℕ → Word
 word_of size n = cond (n == TAIL) Tail
     (cond (n == EXPOSED) Exposed (cond (n == DURABLE) Durable (cond (n == STOP) Stop (cond (n == CREW) Crew (behind_crew size n)))))
+
+lt_not : (n size : ℕ) → size ≤ n → nat_lt n size ≡ false
+lt_not n size least = by_test (nat_lt n size) refl
+  where
+    by_test : (b : Bool) → nat_lt n size ≡ b → b ≡ false
+    by_test true is = let less = ltb-true n size is in absurd (omega arith)
+    by_test false is = refl
 
 word_of-behind : (size n : ℕ) → RING ≤ n → word_of size n ≡ behind_crew size n
 word_of-behind size n least = λ i. cond (other TAIL (omega arith) i) Tail
@@ -40,22 +51,28 @@ module _ (size accounts : ℕ) where
   word_of-index Stop fits = refl
   word_of-index Crew fits = refl
   word_of-index (Ring index) (in_ring _ below) = word_of-behind size (RING + index) (omega arith)
-      ∙ (ap (λ b. cond b (Ring (RING + index - RING)) (Account ((RING + index - RING - size) / STRIDE))) (lt-ltb (RING + index - RING) size (omega arith)) ∙ ap Ring back)
+      ∙ (ap (λ b. cond b (Ring (RING + index - RING)) (behind_ring size (RING + index - RING - size))) (lt-ltb (RING + index - RING) size (omega arith)) ∙ ap Ring back)
     where
       back : RING + index - RING ≡ index
       back = omega arith
-  word_of-index (Account account) fits = word_of-behind size (RING + size + STRIDE * account) (omega arith)
-      ∙ (ap (λ b. cond b (Ring (RING + size + STRIDE * account - RING)) (Account ((RING + size + STRIDE * account - RING - size) / STRIDE)))
-      (lt_not (RING + size + STRIDE * account - RING) (omega arith)) ∙ ap Account back)
+  word_of-index (Mark index) (in_marks _ below) = word_of-behind size (RING + size + index) (omega arith)
+      ∙ (ap (λ b. cond b (Ring (RING + size + index - RING)) (behind_ring size (RING + size + index - RING - size)))
+      (lt_not (RING + size + index - RING) size (omega arith))
+      ∙ (ap (behind_ring size) back ∙ ap (λ b. cond b (Mark index) (Account ((index - size) / STRIDE))) (lt-ltb index size below)))
     where
-      lt_not : (n : ℕ) → size ≤ n → nat_lt n size ≡ false
-      lt_not n least = by_test (nat_lt n size) refl
-        where
-          by_test : (b : Bool) → nat_lt n size ≡ b → b ≡ false
-          by_test true is = let less = ltb-true n size is in absurd (omega arith)
-          by_test false is = refl
+      back : RING + size + index - RING - size ≡ index
+      back = omega arith
+  word_of-index (Account account) fits = word_of-behind size (RING + size + size + STRIDE * account) (omega arith)
+      ∙ (ap (λ b. cond b (Ring (RING + size + size + STRIDE * account - RING)) (behind_ring size (RING + size + size + STRIDE * account - RING - size)))
+      (lt_not (RING + size + size + STRIDE * account - RING) size (omega arith))
+      ∙ (ap (behind_ring size) behind
+      ∙ (ap (λ b. cond b (Mark (size + STRIDE * account)) (Account ((size + STRIDE * account - size) / STRIDE))) (lt_not (size + STRIDE * account) size (omega arith))
+      ∙ ap Account back)))
+    where
+      behind : RING + size + size + STRIDE * account - RING - size ≡ size + STRIDE * account
+      behind = omega arith
 
-      back : (RING + size + STRIDE * account - RING - size) / STRIDE ≡ account
+      back : (size + STRIDE * account - size) / STRIDE ≡ account
       back = omega arith
 
   -- no two words share a place
@@ -82,6 +99,14 @@ module _ (size accounts : ℕ) where
         by_test true is = read-other (Ring index) (in_ring index (ltb-true index size is)) differ
         by_test false is = refl
 
+    mark-other : (index : ℕ) → word ≢ Mark index
+        → cond (nat_lt index size) (read size after (Mark index)) 0 ≡ cond (nat_lt index size) (read size ws (Mark index)) 0
+    mark-other index differ = by_test (nat_lt index size) refl
+      where
+        by_test : (b : Bool) → nat_lt index size ≡ b → cond b (read size after (Mark index)) 0 ≡ cond b (read size ws (Mark index)) 0
+        by_test true is = read-other (Mark index) (in_marks index (ltb-true index size is)) differ
+        by_test false is = refl
+
     account-other : (account : ℕ) → word ≢ Account account
         → cond (nat_lt account accounts) (read size after (Account account)) 0 ≡ cond (nat_lt account accounts) (read size ws (Account account)) 0
     account-other account differ = by_test (nat_lt account accounts) refl
@@ -105,6 +130,7 @@ module _ (size accounts : ℕ) where
     stop = read-other ws Tail x fits Stop shared_stop (λ e. cc) i;
     crew = read-other ws Tail x fits Crew shared_crew (λ e. cc) i;
     ring = λ k. ring-other ws Tail x fits k (λ e. cc) i;
+    mark = λ k. mark-other ws Tail x fits k (λ e. cc) i;
     account = λ k. account-other ws Tail x fits k (λ e. cc) i;
   }
   words_of-set ws Exposed x fits len i = record {
@@ -114,6 +140,7 @@ module _ (size accounts : ℕ) where
     stop = read-other ws Exposed x fits Stop shared_stop (λ e. cc) i;
     crew = read-other ws Exposed x fits Crew shared_crew (λ e. cc) i;
     ring = λ k. ring-other ws Exposed x fits k (λ e. cc) i;
+    mark = λ k. mark-other ws Exposed x fits k (λ e. cc) i;
     account = λ k. account-other ws Exposed x fits k (λ e. cc) i;
   }
   words_of-set ws Durable x fits len i = record {
@@ -123,6 +150,7 @@ module _ (size accounts : ℕ) where
     stop = read-other ws Durable x fits Stop shared_stop (λ e. cc) i;
     crew = read-other ws Durable x fits Crew shared_crew (λ e. cc) i;
     ring = λ k. ring-other ws Durable x fits k (λ e. cc) i;
+    mark = λ k. mark-other ws Durable x fits k (λ e. cc) i;
     account = λ k. account-other ws Durable x fits k (λ e. cc) i;
   }
   words_of-set ws Stop x fits len i = record {
@@ -132,6 +160,7 @@ module _ (size accounts : ℕ) where
     stop = read-same ws Stop x fits (omega (arith, len)) i;
     crew = read-other ws Stop x fits Crew shared_crew (λ e. cc) i;
     ring = λ k. ring-other ws Stop x fits k (λ e. cc) i;
+    mark = λ k. mark-other ws Stop x fits k (λ e. cc) i;
     account = λ k. account-other ws Stop x fits k (λ e. cc) i;
   }
   words_of-set ws Crew x fits len i = record {
@@ -141,6 +170,7 @@ module _ (size accounts : ℕ) where
     stop = read-other ws Crew x fits Stop shared_stop (λ e. cc) i;
     crew = read-same ws Crew x fits (omega (arith, len)) i;
     ring = λ k. ring-other ws Crew x fits k (λ e. cc) i;
+    mark = λ k. mark-other ws Crew x fits k (λ e. cc) i;
     account = λ k. account-other ws Crew x fits k (λ e. cc) i;
   }
   words_of-set ws (Ring index) x (in_ring _ below) len i = record {
@@ -150,6 +180,7 @@ module _ (size accounts : ℕ) where
     stop = read-other ws (Ring index) x (in_ring index below) Stop shared_stop (λ e. cc) i;
     crew = read-other ws (Ring index) x (in_ring index below) Crew shared_crew (λ e. cc) i;
     ring = λ k. at k i;
+    mark = λ k. mark-other ws (Ring index) x (in_ring index below) k (λ e. cc) i;
     account = λ k. account-other ws (Ring index) x (in_ring index below) k (λ e. cc) i;
   }
     where
@@ -162,6 +193,26 @@ module _ (size accounts : ℕ) where
         where
           same_index : {k : ℕ} → Ring index ≡ Ring k → k ≡ index
           same_index e = cc
+  words_of-set ws (Mark index) x (in_marks _ below) len i = record {
+    tail = read-other ws (Mark index) x (in_marks index below) Tail shared_tail (λ e. cc) i;
+    exposed = read-other ws (Mark index) x (in_marks index below) Exposed shared_exposed (λ e. cc) i;
+    durable = read-other ws (Mark index) x (in_marks index below) Durable shared_durable (λ e. cc) i;
+    stop = read-other ws (Mark index) x (in_marks index below) Stop shared_stop (λ e. cc) i;
+    crew = read-other ws (Mark index) x (in_marks index below) Crew shared_crew (λ e. cc) i;
+    ring = λ k. ring-other ws (Mark index) x (in_marks index below) k (λ e. cc) i;
+    mark = λ k. at k i;
+    account = λ k. account-other ws (Mark index) x (in_marks index below) k (λ e. cc) i;
+  }
+    where
+      at : (k : ℕ) → cond (nat_lt k size) (read size (set ws (RING + size + index) x) (Mark k)) 0 ≡ put (words_of size accounts ws).mark index x k
+      at = region-put ws (Mark index) x (in_marks index below) (words_of size accounts ws).mark
+          (λ k. cond (nat_lt k size) (read size (set ws (RING + size + index) x) (Mark k)) 0) index
+          (ap (λ b. cond b (read size (set ws (RING + size + index) x) (Mark index)) 0) (lt-ltb index size below)
+          ∙ read-same ws (Mark index) x (in_marks index below) (omega (arith, len, below)))
+          (λ k differ. mark-other ws (Mark index) x (in_marks index below) k (λ e. differ (same_index e)))
+        where
+          same_index : {k : ℕ} → Mark index ≡ Mark k → k ≡ index
+          same_index e = cc
   words_of-set ws (Account account) x (of_account _ below) len i = record {
     tail = read-other ws (Account account) x (of_account account below) Tail shared_tail (λ e. cc) i;
     exposed = read-other ws (Account account) x (of_account account below) Exposed shared_exposed (λ e. cc) i;
@@ -169,6 +220,7 @@ module _ (size accounts : ℕ) where
     stop = read-other ws (Account account) x (of_account account below) Stop shared_stop (λ e. cc) i;
     crew = read-other ws (Account account) x (of_account account below) Crew shared_crew (λ e. cc) i;
     ring = λ k. ring-other ws (Account account) x (of_account account below) k (λ e. cc) i;
+    mark = λ k. mark-other ws (Account account) x (of_account account below) k (λ e. cc) i;
     account = λ k. at k i;
   }
     where
@@ -191,5 +243,6 @@ module _ (size accounts : ℕ) where
   read-word ws Stop fits = refl
   read-word ws Crew fits = refl
   read-word ws (Ring index) (in_ring _ below) = sym (ap (λ b. cond b (get_or ws (RING + index) 0) 0) (lt-ltb index size below))
+  read-word ws (Mark index) (in_marks _ below) = sym (ap (λ b. cond b (get_or ws (RING + size + index) 0) 0) (lt-ltb index size below))
   read-word ws (Account account) (of_account _ below) =
-      sym (ap (λ b. cond b (get_or ws (RING + size + STRIDE * account) 0) 0) (lt-ltb account accounts below))
+      sym (ap (λ b. cond b (get_or ws (RING + size + size + STRIDE * account) 0) 0) (lt-ltb account accounts below))

@@ -1,29 +1,35 @@
 -- What a table shows of the ring machine, and which of its events a step is. What speaks of steps uses these names, and not those of the
 -- machine itself.
-use Rattle.std.specs.Prelude.{◌≡◌, ℕ, ◌+◌, true, List, [], ◌∷◌, map, length, set, Option, Some, None}
+use Rattle.std.specs.Prelude.{◌≡◌, ℕ, ◌+◌, true, List, [], ◌∷◌, map, set, Option, Some, None}
 use mathlib.Core.Option.{some}
 use lib.ListN.{get_elem?}
-use Rattle.ring_core.specs.State.{Reservation, Stage, Idle, Works, Hand, RingState}
+use Rattle.ring_core.specs.declared.stage.Stage.{Stage}
+use Rattle.ring_core.specs.declared.stage.Stage.TheVariants.{Idle, Works, Marked, Holds, Raises}
+use Rattle.ring_core.specs.State.{Reservation, Hand, RingState}
 use Rattle.ring_core.specs.Machine.{RingStep}
 use Rattle.ring_core.specs.declared.event.RingEvent.{RingEvent}
-use Rattle.ring_core.specs.declared.event.RingEvent.TheVariants.{Reserve, Fill, Turn, Flushed}
+use Rattle.ring_core.specs.declared.event.RingEvent.TheVariants.{Reserve, Fill, Mark, LookExposed, LookMark, Raise, Flushed}
 use Rattle.log_table.specs.declared.table.Start.{Start}
 use Rattle.log_table.specs.declared.view.Call.{Call}
-use Rattle.log_table.specs.declared.view.Call.TheVariants.{Idle as AtRest, Filling}
+use Rattle.log_table.specs.declared.view.Call.TheVariants as call
 use Rattle.log_table.specs.declared.view.View.{View}
 use Rattle.log_table.specs.Layout.{Word}
-use Rattle.log_table.specs.Log.{Part, Log}
+use Rattle.log_table.specs.Log.{Part, Range, Log, ranges_of, filled_in, is_released}
 use Rattle.log_table.specs.Sound.{IsSound}
 use Rattle.log_table.specs.Words.{Words, word_at, with_word}
 
--- a part as the machine's reservation: its units are counted
-abbrev pub reservation_of : Part → Reservation
-reservation_of part = record { base = part.entry.start; size = part.entry.size; filled = length part.entry.units; released = part.released }
+-- a range as the machine's reservation: the units that its parts have filled are counted
+abbrev pub reservation_of : List Part → Range → Reservation
+reservation_of parts range =
+    record { base = range.base; size = range.size; filled = filled_in range.base range.size parts; released = is_released range.duty }
 
--- what a call has under way, as the machine says it
+-- what a call has in hand, as the machine says it
 abbrev pub stage_in : Call → Stage
-stage_in AtRest = Idle
-stage_in (Filling entry) = Works entry.start
+stage_in call.Idle = Idle
+stage_in (call.Filling entry) = Works entry.start
+stage_in call.Marked = Marked
+stage_in (call.Holding at) = Holds at
+stage_in (call.Raising from to) = Raises from
 
 -- the seats from this number on are the machine's actors
 abbrev pub hands_of : ℕ → List View → List Hand
@@ -35,7 +41,7 @@ abbrev pub ring_of : Start → Words → List View → Log → RingState
 ring_of key words views log = record {
   start = key.start;
   ring = key.ring;
-  reservations = map reservation_of log.parts;
+  reservations = map (reservation_of log.parts) (ranges_of log);
   hands = hands_of 0 views;
   tail = words.tail;
   exposed = words.exposed;
@@ -54,9 +60,21 @@ reserves seat n = Some (Reserve seat n)
 abbrev pub fills : ℕ → Event
 fills seat = Some (Fill seat)
 
--- the seat releases what it reserved, and exposes it
-abbrev pub turns : ℕ → Event
-turns seat = Some (Turn seat)
+-- the seat releases what it reserved, and marks it
+abbrev pub marks : ℕ → Event
+marks seat = Some (Mark seat)
+
+-- the seat looks at exposed, after a mark that it has just made
+abbrev pub looks_exposed : ℕ → Event
+looks_exposed seat = Some (LookExposed seat)
+
+-- the seat looks at the mark at the LSN in hand
+abbrev pub looks_mark : ℕ → Event
+looks_mark seat = Some (LookMark seat)
+
+-- the seat raises exposed from the LSN in hand, or finds that it has moved
+abbrev pub raises : ℕ → Event
+raises seat = Some (Raise seat)
 
 -- all below is on the disk
 abbrev pub flushes : ℕ → Event
@@ -64,6 +82,14 @@ flushes to = Some (Flushed to)
 
 abbrev pub none : Event
 none = None
+
+-- what a load of exposed is: an event after a mark just made, and none else
+abbrev pub look_event : ℕ → Call → Event
+look_event seat call.Idle = none
+look_event seat (call.Filling entry) = none
+look_event seat call.Marked = looks_exposed seat
+look_event seat (call.Holding at) = none
+look_event seat (call.Raising from to) = none
 
 -- the machine takes the event, or where there is none it stays as it was
 abbrev pub Shows : Event → RingState → RingState → Type 0

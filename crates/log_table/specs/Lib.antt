@@ -7,6 +7,8 @@ pub mod Events
 pub mod Hiring
 pub mod Layout
 pub mod Log
+pub mod MarkViews
+pub mod Marks
 pub mod May
 pub mod Opening
 pub mod Roles

@@ -91,6 +91,15 @@ abbrev pub unreleased_in : ℕ → ℕ → List Part → ℕ
 unreleased_in base size [] = 0
 unreleased_in base size (part ∷ parts) = (if part.released then 0 else inside base size part.entry) + unreleased_in base size parts
 
+-- the entry's units that are filled, where it starts in the `size` units from `base` on
+abbrev pub filled_inside : ℕ → ℕ → Entry → ℕ
+filled_inside base size entry = if nat_le base entry.start && nat_lt entry.start (base + size) then length entry.units else 0
+
+-- the units there that are filled
+abbrev pub filled_in : ℕ → ℕ → List Part → ℕ
+filled_in base size [] = 0
+filled_in base size (part ∷ parts) = filled_inside base size part.entry + filled_in base size parts
+
 -- the ranges follow one another from one LSN to another, each of 1 to `most` units
 abbrev pub Tiles : ℕ → ℕ → List Range → ℕ → Type 0
 Tiles most from [] to = from ≡ to
@@ -169,8 +178,10 @@ pub record IsOwed (range : Range) : Type 0 where
 abbrev pub IsAtWork : Range → Type 0
 IsAtWork range = IsReleased range ⊎ IsOwed range
 
-abbrev pub IsUnreleased : Range → Type 0
-IsUnreleased range = IsReleased range → ⊥
+abbrev pub is_released : Duty → Bool
+is_released (Shared slot) = false
+is_released (Owed seat) = false
+is_released Released = true
 
 -- what remains of the range is what its parts have that is not released
 abbrev pub CountsRemaining : List Part → Range → Type 0

@@ -5,7 +5,7 @@ use lib.Dec.{eqb}
 use Rattle.lsn_space.specs.declared.lsn.TheConstants.{LAST}
 use Rattle.log_table.specs.declared.view.Entry.{Entry}
 use Rattle.log_table.specs.declared.view.Held.{Held}
-use Rattle.log_table.specs.declared.view.Call.TheVariants.{Idle, Filling}
+use Rattle.log_table.specs.declared.view.Call.TheVariants.{Idle, Filling, Holding, Raising}
 use Rattle.log_table.specs.declared.view.Role.TheVariants.{Flusher, Active}
 use Rattle.log_table.specs.declared.view.Seen.{Seen}
 use Rattle.log_table.specs.declared.view.View.{View}
@@ -94,13 +94,21 @@ pub record MayFill (at unit : ℕ) (view : View) : Type 0 where
   pub unfilled : length entry.units < entry.size
   pub unit_is : unit ≡ slice_index (spelling entry.rec) (length entry.units)
 
--- exposed may be raised to the end of the seat's run, which is full and starts at exposed
-pub record MayRelease (to : ℕ) (view : View) : Type 0 where
+-- the run that the seat has reserved is full, begins at the one LSN and ends at the other
+pub record MayMark (base end : ℕ) (view : View) : Type 0 where
   pub entry : Entry
   pub filling : view.call ≡ Filling entry
   pub full : IsFull entry
-  pub turn : view.seen.exposed ≡ entry.start
-  pub end : to ≡ entry.start + entry.size
+  pub begins : base ≡ entry.start
+  pub ends : end ≡ entry.start + entry.size
+
+-- the seat has this LSN in hand, and may look at the mark there
+abbrev pub MayLookMark : ℕ → View → Type 0
+MayLookMark base view = view.call ≡ Holding base
+
+-- the seat found a mark there, and may raise exposed from the one LSN to the other
+abbrev pub MayRaise : ℕ → ℕ → View → Type 0
+MayRaise from to view = view.call ≡ Raising from to
 
 -- the unit at this LSN is the next to be read, and below exposed as the flusher's seat loaded it last
 pub record MayRead (at : ℕ) (view : View) : Type 0 where

@@ -19,7 +19,8 @@ use Rattle.lock_core.specs.Sums.{BaseState}
 use Rattle.log_table.specs.declared.view.Books.{Books}
 use Rattle.log_table.specs.Accounts.{KeepsAccounts}
 use Rattle.log_table.specs.Layout.{word_count}
-use Rattle.log_table.specs.Log.{Part, Range, Log, ranges_of, own, parts_of, owed, Tiles, Laid, SpellsRecord, records_in, StandsInRing, AgreesFrom, IsRangeBoundary, EndsWithPart, IsFullIfReleased, IsReleasedBelow, IsReleased, IsAtWork, IsUnreleased, CountsRemaining}
+use Rattle.log_table.specs.Log.{Part, Range, Log, ranges_of, own, parts_of, owed, Tiles, Laid, SpellsRecord, records_in, StandsInRing, AgreesFrom, IsRangeBoundary, EndsWithPart, IsFullIfReleased, IsReleasedBelow, IsReleased, IsAtWork, CountsRemaining}
+use Rattle.log_table.specs.Marks.{HasReleaseMarks, IsCarried, HasTrueEnds}
 use Rattle.log_table.specs.Roles.{is_active, is_worker, is_working, is_spent, may_own}
 use Rattle.log_table.specs.Views.{constants_of, nobody, entries_in, claims_in}
 use Rattle.log_table.specs.Words.{Words, words_in}
@@ -175,7 +176,9 @@ pub record IsSound (key : Start) (words : Words) (views : List View) (log : Log)
   pub filled : KeepsFilledUnits key.ring words.durable words.ring log.parts
   pub below : IsFilledBelowExposed words.exposed log
   pub at_work : AllByRecursion IsAtWork log.ahead
-  pub in_turn : AllByRecursion IsUnreleased log.ahead
+  pub marks : HasReleaseMarks key.ring words.tail words.exposed words.mark log
+  pub carried : IsCarried words.exposed log.ahead views
+  pub ends : EachView (λ _ view. HasTrueEnds key.start words.exposed log view.call) views
   pub owners : EachSeat (HasWorkingOwner log.parts log.ahead) views
   pub constants : EachView (λ _ view. HasConstants key view) views
   pub resting : EachView (λ _ view. RestsUnlessActive view) views

@@ -1,12 +1,12 @@
 -- The view of a new seat, and how each kind of step on the log's words changes the view of its seat. `AccountViews` has the steps on jobs
--- and accounts, and `CrewViews` those of a worker's life.
+-- and accounts, `CrewViews` those of a worker's life, and `MarkViews` those that release and expose.
 use Rattle.std.specs.Prelude.{◌==◌, ◌&&◌, ℕ, ◌+◌, ◌-◌, if◌then◌else◌, Bool, true, false, List, [], ◌∷◌, ◌++◌, length}
 use Rattle.std.specs.List.{list_all, list_any}
 use lib.Dec.{eqb}
 use Rattle.log_table.specs.declared.table.Start.{Start}
 use Rattle.log_table.specs.declared.view.Entry.{Entry}
 use Rattle.log_table.specs.declared.view.Call.{Call}
-use Rattle.log_table.specs.declared.view.Call.TheVariants.{Idle, Filling}
+use Rattle.log_table.specs.declared.view.Call.TheVariants.{Idle, Filling, Marked, Holding, Raising}
 use Rattle.log_table.specs.declared.view.Role.TheVariants.{Flusher, Spent}
 use Rattle.log_table.specs.declared.view.Constants.{Constants}
 use Rattle.log_table.specs.declared.view.Standing.{Standing}
@@ -33,6 +33,8 @@ seen_at lsn = record {
   durable_step = 0;
   stop = 0;
   crew = 0;
+  mark = 0;
+  mark_at = 0;
   account = 0;
   account_word = 0;
   lsns = lsn ∷ [];
@@ -72,11 +74,17 @@ nobody = record {
 abbrev pub entries_in : Call → List Entry
 entries_in Idle = []
 entries_in (Filling entry) = entry ∷ []
+entries_in Marked = []
+entries_in (Holding at) = []
+entries_in (Raising from to) = []
 
 -- the ranges that the call under way has to release
 abbrev pub claims_in : Call → List Claim
 claims_in Idle = []
 claims_in (Filling entry) = record { base = entry.start; size = entry.size; remaining = entry.size } ∷ []
+claims_in Marked = []
+claims_in (Holding at) = []
+claims_in (Raising from to) = []
 
 -- one step more
 abbrev pub counted : Seen → Seen
@@ -106,9 +114,21 @@ with_unit unit entry = record { start = entry.start; size = entry.size; units = 
 abbrev pub saw_tail : ℕ → View → View
 saw_tail n view = record view { seen = seen_tail n view.seen }
 
+-- the call after a load of exposed: who has just made a mark has exposed in hand
+abbrev pub after_look : ℕ → Call → Call
+after_look n Idle = Idle
+after_look n (Filling entry) = Filling entry
+after_look n Marked = Holding n
+after_look n (Holding at) = Holding at
+after_look n (Raising from to) = Raising from to
+
 -- after a load of exposed
 abbrev pub saw_exposed : ℕ → View → View
-saw_exposed n view = record view { seen = seen_exposed n view.seen; sending = record view.sending { exposed = n; looked = true } }
+saw_exposed n view = record view {
+  seen = seen_exposed n view.seen;
+  call = after_look n view.call;
+  sending = record view.sending { exposed = n; looked = true };
+}
 
 -- after a load of durable
 abbrev pub saw_durable : ℕ → View → View
@@ -167,11 +187,10 @@ after_exchange from to n view = if n == from then reserved from to view else saw
 abbrev pub call_with_unit : ℕ → Call → Call
 call_with_unit unit Idle = Idle
 call_with_unit unit (Filling entry) = Filling (with_unit unit entry)
+call_with_unit unit Marked = Marked
+call_with_unit unit (Holding at) = Holding at
+call_with_unit unit (Raising from to) = Raising from to
 
 -- after a store of a unit into the ring
 abbrev pub filled : ℕ → View → View
 filled unit view = record view { seen = counted view.seen; call = call_with_unit unit view.call }
-
--- after a store of exposed; the new value counts as seen
-abbrev pub released : ℕ → View → View
-released to view = record view { seen = seen_exposed to view.seen; entries = view.entries ++ entries_in view.call; call = Idle }

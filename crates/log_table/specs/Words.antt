@@ -1,9 +1,9 @@
 -- What the words hold.
 use Rattle.std.specs.Prelude.{◌==◌, ℕ, if◌then◌else◌, nat_lt, List, length, slice_index}
 use Rattle.log_table.specs.declared.table.Start.{Start}
-use Rattle.log_table.specs.Layout.{Word, Tail, Exposed, Durable, Stop, Crew, Ring, Account, index_of}
+use Rattle.log_table.specs.Layout.{Word, Tail, Exposed, Durable, Stop, Crew, Ring, Mark, Account, index_of}
 
--- the words by name; those of the ring as a function of their index, and those of the accounts of their number
+-- the words by name; those of the ring and the marks as functions of their index, and those of the accounts of their number
 pub record Words : Type 0 where
   pub tail : ℕ
   pub exposed : ℕ
@@ -11,6 +11,7 @@ pub record Words : Type 0 where
   pub stop : ℕ
   pub crew : ℕ
   pub ring : ℕ → ℕ
+  pub mark : ℕ → ℕ
   pub account : ℕ → ℕ
 
 -- the word of a list of words of a table whose ring has `size` units
@@ -26,6 +27,7 @@ words_of size accounts words = record {
   stop = read size words Stop;
   crew = read size words Crew;
   ring = λ index. if nat_lt index size then read size words (Ring index) else 0;
+  mark = λ index. if nat_lt index size then read size words (Mark index) else 0;
   account = λ account. if nat_lt account accounts then read size words (Account account) else 0;
 }
 
@@ -41,6 +43,7 @@ word_at words Durable = words.durable
 word_at words Stop = words.stop
 word_at words Crew = words.crew
 word_at words (Ring index) = words.ring index
+word_at words (Mark index) = words.mark index
 word_at words (Account account) = words.account account
 
 -- the function, but for its value at one place
@@ -55,4 +58,5 @@ with_word words Durable value = record words { durable = value }
 with_word words Stop value = record words { stop = value }
 with_word words Crew value = record words { crew = value }
 with_word words (Ring index) value = record words { ring = put words.ring index value }
+with_word words (Mark index) value = record words { mark = put words.mark index value }
 with_word words (Account account) value = record words { account = put words.account account value }

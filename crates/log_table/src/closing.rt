@@ -32,7 +32,7 @@ impl Closed {
         self.tail
     }
 
-    /// Where the released part of the log ends.
+    /// Everything below is released and exposed.
     pub fn exposed(&self) -> Lsn
         ensures { result ≡ self.now.exposed }
     {

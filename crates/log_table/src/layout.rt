@@ -1,10 +1,12 @@
 //! Where the words lie in the table. Words that many threads write stand far enough apart to lie on
 //! cache lines of their own. `proofs/Wording.antt` shows that no two words share a place.
 
-ghost use Rattle.std.specs.Prelude.{◌≡◌, ◌≤◌, ◌+◌, ◌*◌};
-ghost use Rattle.lsn_space.specs.declared.lsn.TheConstants.{GREATEST_RING};
+ghost use Rattle.std.specs.Prelude.{◌≡◌, ◌≤◌, ◌+◌, ◌*◌, ◌%◌};
+ghost use Rattle.lsn_space.specs.declared.lsn.TheConstants.{LEAST_RING, GREATEST_RING};
 ghost use Rattle.log_record.specs.declared.limits.TheConstants.{MOST_ACCOUNTS};
 ghost use Rattle.log_table.specs.declared.layout.TheConstants.{STRIDE, RING};
+
+use lsn_space::{Lsn, place};
 
 /// Words from one shared word to the next, two cache lines.
 const STRIDE: usize = 16;
@@ -19,7 +21,8 @@ pub(crate) const DURABLE: usize = 2 * STRIDE;
 pub(crate) const STOP: usize = 3 * STRIDE;
 /// The number of active workers.
 pub(crate) const CREW: usize = 4 * STRIDE;
-/// The first word of the ring, which is packed. The accounts' words stand behind it.
+/// The first word of the ring, which is packed. Behind it stand the release marks, packed too and as
+/// many as it has words, and behind these the accounts' words.
 pub(crate) const RING: usize = 5 * STRIDE;
 
 /// A law: the words that many threads write stand 16 words apart.
@@ -27,10 +30,18 @@ pub fn fixed_layout()
     ensures stride { STRIDE ≡ 16 }
 {}
 
+/// Where the release mark of the range that begins at an LSN lies.
+pub(crate) fn mark_place(ring: u32, at: Lsn) -> usize
+    requires { (LEAST_RING ≤ ring) × (ring ≤ GREATEST_RING) }
+    ensures { result ≡ RING + ring + at % ring }
+{
+    RING + ring as usize + place(at, ring)
+}
+
 /// Where the word of an account lies.
 pub(crate) fn account_place(ring: u32, account: u32) -> usize
     requires { (ring ≤ GREATEST_RING) × (account ≤ MOST_ACCOUNTS) }
-    ensures { result ≡ RING + ring + STRIDE * account }
+    ensures { result ≡ RING + ring + ring + STRIDE * account }
 {
-    RING + ring as usize + STRIDE * account as usize
+    RING + ring as usize + ring as usize + STRIDE * account as usize
 }

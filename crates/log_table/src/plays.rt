@@ -55,13 +55,33 @@ impl Play<(), View> for StoreRing {
     ghost then = { λ st old n new. (new ≡ (filled st.first old.0, old.1)) × Unit {0} };
 }
 
-pub(crate) struct StoreExposed;
+pub(crate) struct StoreMark;
 
-impl Play<(), View> for StoreExposed {
+impl Play<(), View> for StoreMark {
     ghost use Rattle.std.specs.Prelude.{◌≡◌};
-    ghost use Rattle.log_table.specs.Views.{released};
+    ghost use Rattle.log_table.specs.MarkViews.{marked};
 
-    ghost then = { λ st old n new. (new ≡ (released st.first old.0, old.1)) × Unit {0} };
+    ghost then = { λ st old n new. (new ≡ (marked old.0, old.1)) × Unit {0} };
+}
+
+pub(crate) struct LoadMark;
+
+impl Play<(), View> for LoadMark {
+    ghost use Rattle.std.specs.Prelude.{◌≡◌, ◌≤◌};
+    ghost use Rattle.lsn_space.specs.declared.lsn.TheConstants.{LAST};
+    ghost use Rattle.log_table.specs.MarkViews.{saw_mark};
+
+    ghost then = { λ st old n new. (new ≡ (saw_mark n old.0, old.1)) × (n ≤ LAST) };
+}
+
+pub(crate) struct ExchangeExposed;
+
+impl Play<(), View> for ExchangeExposed {
+    ghost use Rattle.std.specs.Prelude.{◌≡◌, ◌≤◌, ◌==◌, if◌then◌else◌};
+    ghost use Rattle.lsn_space.specs.declared.lsn.TheConstants.{LAST};
+    ghost use Rattle.log_table.specs.MarkViews.{after_raise};
+
+    ghost then = { λ st old n new. (new ≡ (after_raise (if n == st.first then st.second else n) old.0, old.1)) × ((st.first ≤ n) × (old.0.seen.exposed ≤ n) × (n ≤ LAST)) };
 }
 
 pub(crate) struct Enroll;

@@ -18,6 +18,12 @@ pub enum Call {
     Idle,
     /// A run is reserved, and being copied into the ring.
     Filling(Entry),
+    /// A run was marked as released, and exposed was not looked at since.
+    Marked,
+    /// Exposed as it was found or written last, where the mark there was not looked at since.
+    Holding(u64),
+    /// A mark was found at the one LSN, and exposed is to be raised from there to it.
+    Raising { from: u64, to: u64 },
 }
 
 pub enum Role {
@@ -50,8 +56,9 @@ pub struct Standing {
     pub merged: LinkedList<u64>,
 }
 
-/// The last value seen in each word, and of the LSNs at which of the seat's steps; of the accounts' words
-/// the last one, and whose it was; and every LSN that was seen, newest first.
+/// The last value seen in each word, and of the LSNs at which of the seat's steps; of the marks the last
+/// one, and at which LSN it was found; of the accounts' words the last one, and whose it was; and every
+/// LSN that was seen, newest first.
 pub struct Seen {
     pub steps: u64,
     pub tail: u64,
@@ -62,6 +69,8 @@ pub struct Seen {
     pub durable_step: u64,
     pub stop: u64,
     pub crew: u64,
+    pub mark: u64,
+    pub mark_at: u64,
     pub account: u64,
     pub account_word: u64,
     pub lsns: LinkedList<u64>,

@@ -22,3 +22,9 @@ pub(crate) fn is_at(rt: &impl Abort, what: &str, lsn: Lsn, wanted: u32) {
 pub(crate) fn is_number(rt: &impl Abort, what: &str, number: u64, wanted: u64) {
     assert_eq!(rt; number, wanted, "{what}");
 }
+
+/// These units were sent, and end here.
+pub(crate) fn has_sent(rt: &impl Abort, units: &[u64], to: Lsn, wanted: &[u64], end: u32) {
+    assert_eq!(rt; units, wanted);
+    is_at(rt, "sent", to, end);
+}

@@ -6,6 +6,10 @@ mod found;
 #[cfg(test)]
 mod inserting_tests;
 #[cfg(test)]
+mod meeting;
+#[cfg(test)]
+mod releasing_tests;
+#[cfg(test)]
 mod sending_tests;
 #[cfg(test)]
 mod steps_tests;

@@ -7,14 +7,13 @@ ghost use Rattle.log_table.specs.Seats.{IsOf, view_of};
 ghost use Rattle.log_table.specs.Views.{sent_to};
 ghost use Rattle.test_rig.specs.NotedJobs.{IsNotedJob, MayInsert};
 
-use crate::found::{has_answered, is_at, is_number};
+use crate::found::{has_answered, has_sent, is_at, is_number};
 use lock_core::Job;
 use log_table::{LogTable, Seat};
 use lsn_space::Lsn;
 use schedule_hook::OpenGate;
 use std::alloc::Global;
 use std::process::Abort;
-use std::sync::Wait;
 use std::test::Fail;
 use test_rig::{insert_note, noted_job, send_all, table_of, worker};
 
@@ -28,21 +27,8 @@ const FIRST: [u64; 3] = [
 /// The units of the second note, of eight letters under number 2.
 const SECOND: [u64; 2] = [0x0602_0008_0000_0002, 0x6a6b_6c6d_6e6f_7071];
 
-/// These units were sent, and the log goes on here.
-fn has_sent(rt: &impl Abort, units: &[u64], to: Lsn, wanted: &[u64], end: u32) {
-    assert_eq!(rt; units, wanted);
-    is_at(rt, "sent", to, end);
-}
-
 /// A worker inserts the note of this number, which starts here.
-fn inserts<R: Wait + Abort>(
-    rt: &R,
-    table: &LogTable,
-    seat: &mut Seat,
-    number: u32,
-    job: &Job,
-    at: u32,
-)
+fn inserts<R: Abort>(rt: &R, table: &LogTable, seat: &mut Seat, number: u32, job: &Job, at: u32)
     requires worker { MayInsert table.now number seat.old }
     requires next { IsTxn (number + 1) }
     requires accounts { table.now.accounts ≡ 2 }
@@ -50,7 +36,7 @@ fn inserts<R: Wait + Abort>(
     ensures worker { MayInsert table.now (number + 1) seat.new }
     ensures standing { (view_of seat.new).standing ≡ (view_of seat.old).standing }
 {
-    let answer = insert_note(rt, table, seat, number, job, &OpenGate);
+    let answer = insert_note(table, seat, number, job, &OpenGate);
     has_answered(rt, number, answer, Ok(Lsn::new(at)));
 }
 

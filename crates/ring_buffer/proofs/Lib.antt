@@ -1,1 +1,4 @@
+pub mod Exposing
+pub mod Inserted
+pub mod OneStep
 pub mod TwoCalls

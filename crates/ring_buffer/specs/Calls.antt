@@ -6,8 +6,9 @@ use Rattle.log_record.specs.declared.rec.Rec.{Rec}
 use Rattle.log_record.specs.Spelling.{spelling}
 use Rattle.log_table.specs.declared.view.Books.{Books}
 use Rattle.log_table.specs.declared.view.Call.{Call}
-use Rattle.log_table.specs.declared.view.Call.TheVariants.{Idle, Filling}
+use Rattle.log_table.specs.declared.view.Call.TheVariants.{Idle, Filling, Marked, Holding, Raising}
 use Rattle.log_table.specs.declared.view.Entry.{Entry}
+use Rattle.log_table.specs.declared.view.Seen.{Seen}
 use Rattle.log_table.specs.declared.view.View.{View}
 use Rattle.log_table.specs.Books.{next_of, placing, MayEnter}
 use Rattle.log_table.specs.Log.{IsFull}
@@ -98,6 +99,9 @@ entry_of start rec = record { start = start; size = length (spelling rec); units
 abbrev pub filled_with : List ℕ → Call → Call
 filled_with units Idle = Idle
 filled_with units (Filling entry) = Filling (record { start = entry.start; size = entry.size; units = units; rec = entry.rec })
+filled_with units Marked = Marked
+filled_with units (Holding at) = Holding at
+filled_with units (Raising from to) = Raising from to
 
 -- the range is filled with these units, step by step
 abbrev pub with_units : List ℕ → ℕ → View → View
@@ -110,6 +114,25 @@ pub record HasFilled (range : Range) (view : View) : Type 0 where
   pub start : entry.start ≡ range.start
   pub size : entry.size ≡ range.size
   pub full : IsFull entry
+
+-- the seat's last step saw exposed at this LSN, and it has that in hand
+pub record HasInHand (lsn : ℕ) (view : View) : Type 0 where
+  pub call : view.call ≡ Holding lsn
+  pub exposed : view.seen.exposed ≡ lsn
+  pub step : view.seen.exposed_step ≡ view.seen.steps
+
+-- Exposed was at this LSN as the seat saw it last, in its last step but one. Its last step looked for a mark there and found none above it:
+-- no released range begins there.
+pub record IsLastExposed (lsn : ℕ) (seen : Seen) : Type 0 where
+  pub exposed : seen.exposed ≡ lsn
+  pub just_before : seen.exposed_step + 1 ≡ seen.steps
+  pub looked : seen.mark_at ≡ lsn
+  pub unready : seen.mark ≤ lsn
+
+-- the seat has nothing left to expose
+pub record HasExposed (lsn : ℕ) (view : View) : Type 0 where
+  pub idle : view.call ≡ Idle
+  pub last : IsLastExposed lsn view.seen
 
 -- it is the same worker's seat, and it has seen no less
 pub record IsSameWorker (old new : Seat) : Type 0 where
@@ -124,6 +147,13 @@ pub record IsSameWorker (old new : Seat) : Type 0 where
   pub exposed : (view_of old).seen.exposed ≤ (view_of new).seen.exposed
   pub durable : (view_of old).seen.durable ≤ (view_of new).seen.durable
   pub steps : (view_of old).seen.steps ≤ (view_of new).seen.steps
+
+-- but for what it saw, and for its call, the seat is as it was; it saw nothing of the stop word
+pub record HasOnlySeen (old new : Seat) : Type 0 where
+  pub same : IsSameWorker old new
+  pub entries : (view_of new).entries ≡ (view_of old).entries
+  pub books : (view_of new).books ≡ (view_of old).books
+  pub stop : (view_of new).seen.stop ≡ (view_of old).seen.stop
 
 -- the seat has nothing under way, these entries and these books, which tell the accounts that it gave back
 pub record HasEntries (old new : Seat) (entries : List Entry) (books : Books) : Type 0 where

@@ -10,18 +10,16 @@ use crate::call::Range;
 use crate::filling::fill;
 use crate::placing::{look, try_place};
 use crate::refused::Refused;
-use crate::releasing::finish_in_turn;
+use crate::releasing::{expose, finish};
 use log_record::Units;
 use log_table::{LogTable, Seat};
 use lsn_space::Lsn;
 use schedule_hook::{Gate, Place};
-use std::sync::Wait;
 
 /// Inserts the next record of the seat's last job, which has these units, behind what other workers
-/// have reserved, and answers its LSN once it is released. It waits for those before it, and reserves
-/// again where another was faster.
-pub fn insert_alone<R: Wait, G: Gate>(
-    rt: &R,
+/// have reserved, and answers its LSN once it is released. It waits for nobody, and returns: where
+/// another was faster it reserves again, and what others have yet to release they expose.
+pub fn insert_alone<G: Gate>(
     table: &LogTable,
     seat: &mut Seat,
     units: &Units,
@@ -37,6 +35,7 @@ pub fn insert_alone<R: Wait, G: Gate>(
     ensures fits { IfOk result (λ at. at + length units.now ≤ LAST) }
     ensures kept { IfErr result (λ e. HasEntries seat.old seat.new (view_of seat.old).entries (view_of seat.old).books) }
     ensures refused { IfErr result (IsRefusedNow seat.old seat.new table.now.ring (length units.now)) }
+    ensures stop { (view_of seat.new).seen.stop ≡ (view_of seat.old).seen.stop }
 {
     let n = units.as_slice().len() as u32;
     let range = place_among(table, seat, n, gate)?;
@@ -44,7 +43,9 @@ pub fn insert_alone<R: Wait, G: Gate>(
     let at = range.start();
     let filled = fill(table, seat, range, units);
     gate.at(seat.worker(), Place::Filled);
-    finish_in_turn(rt, table, seat, filled);
+    finish(table, seat, filled);
+    gate.at(seat.worker(), Place::Marked);
+    expose(table, seat);
     gate.at(seat.worker(), Place::Exposed);
     Ok(at)
 }
@@ -64,6 +65,7 @@ fn place_among<G: Gate>(
     ensures same { OnOk result (IsSameWorker seat.old seat.new) }
     ensures kept { IfErr result (λ e. HasEntries seat.old seat.new (view_of seat.old).entries (view_of seat.old).books) }
     ensures refused { IfErr result (IsRefusedNow seat.old seat.new table.now.ring n) }
+    ensures stop { (view_of seat.new).seen.stop ≡ (view_of seat.old).seen.stop }
 {
     'places: loop {
         let seen = look(table, seat);

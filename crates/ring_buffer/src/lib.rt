@@ -1,5 +1,6 @@
 //! Inserts of one worker alone: it looks at the tail and at durable, reserves a range by one exchange
-//! of the tail, copies its units into the ring, and releases the range when all before it are released.
+//! of the tail, copies its units into the ring, marks the range as released, and raises exposed past all
+//! released ranges that it has come to. It waits for nobody.
 #![tactic(auto)]
 
 mod call;
@@ -14,4 +15,4 @@ pub use filling::fill;
 pub use inserting::insert_alone;
 pub use placing::{look, place_alone, try_place};
 pub use refused::Refused;
-pub use releasing::finish_in_turn;
+pub use releasing::{expose, finish};

@@ -1,24 +1,59 @@
-//! A range is released in turn.
-ghost use Rattle.std.specs.Prelude.{◌≡◌, ◌++◌};
-ghost use Rattle.log_table.specs.Seats.{IsOf, view_of};
-ghost use Rattle.log_table.specs.Views.{entries_in};
-ghost use Rattle.ring_buffer.specs.Calls.{HasFilled, HasEntries};
+//! A range is released, and exposed is raised past what is released.
+ghost use Rattle.std.specs.Prelude.{◌≡◌, ◌≤◌, ◌<◌, IfSome, IfNone};
+ghost use Rattle.log_table.specs.declared.view.Call.TheVariants.{Marked};
+ghost use Rattle.log_table.specs.MarkViews.{marked};
+ghost use Rattle.log_table.specs.Seats.{IsOf, Becomes, view_of};
+ghost use Rattle.ring_buffer.specs.Calls.{HasFilled, HasEntries, HasInHand, HasExposed, HasOnlySeen, IsLastExposed};
 
 use crate::call::Filled;
 use log_table::{LogTable, Seat};
-use std::sync::Wait;
+use lsn_space::Lsn;
 
-/// Waits until all before the range is released, and releases it.
-pub fn finish_in_turn<R: Wait>(rt: &R, table: &LogTable, seat: &mut Seat, filled: Filled)
+/// Marks the range as released, whether or not all before it is. It waits for nobody: whoever releases
+/// what stands before it takes it along.
+pub fn finish(table: &LogTable, seat: &mut Seat, filled: Filled)
     requires seat { IsOf table.now seat.old }
     requires filled { HasFilled filled.range (view_of seat.old) }
-    ensures entries { HasEntries seat.old seat.new ((view_of seat.old).entries ++ entries_in (view_of seat.old).call) (view_of seat.old).books }
+    ensures becomes { Becomes seat.old seat.new (marked (view_of seat.old)) }
 {
-    for _ in rt.forever() {
-        if table.load_exposed(seat) == filled.range.start() {
-            table.store_exposed(seat, filled.range.end());
-            return;
-        }
+    table.store_mark(seat, filled.range.start(), filled.range.end());
+}
+
+/// Raises exposed past each released range that it has come to, this worker's or another's, and answers
+/// where it saw exposed last; no released range began there. It returns: each exchange, made or lost,
+/// shows a greater LSN.
+pub fn expose(table: &LogTable, seat: &mut Seat) -> Lsn
+    requires seat { IsOf table.now seat.old }
+    requires marked { (view_of seat.old).call ≡ Marked }
+    ensures entries { HasEntries seat.old seat.new (view_of seat.old).entries (view_of seat.old).books }
+    ensures last { IsLastExposed result (view_of seat.new).seen }
+    ensures grows { (view_of seat.old).seen.exposed ≤ result }
+    ensures stop { (view_of seat.new).seen.stop ≡ (view_of seat.old).seen.stop }
+{
+    let mut at = table.load_exposed(seat);
+    'raises: loop {
+        let Some(found) = raise(table, seat, at) else {
+            return at;
+        };
+        at = found;
     }
-    unreachable!()
+}
+
+/// Raises exposed past the released range that begins at the LSN in hand, unless exposed has moved, and
+/// answers where it is then. None: no released range begins there, and nothing is left to expose.
+fn raise(table: &LogTable, seat: &mut Seat, at: Lsn) -> Option<Lsn>
+    requires seat { IsOf table.now seat.old }
+    requires hand { HasInHand at (view_of seat.old) }
+    ensures stays { HasOnlySeen seat.old seat.new }
+    ensures raised { IfSome result (λ found. (at < found) × HasInHand found (view_of seat.new)) }
+    ensures over { IfNone result (HasExposed at (view_of seat.new)) }
+{
+    let end = table.load_mark(seat, at);
+    if end <= at {
+        return None;
+    }
+    match table.exchange_exposed(seat, at, end) {
+        Ok(()) => Some(end),
+        Err(found) => Some(found),
+    }
 }

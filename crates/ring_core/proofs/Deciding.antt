@@ -1,14 +1,14 @@
 -- An event is enabled or not, so a run can always go on.
-use Rattle.std.proofs.Common.{◌≡◌, ◌⊎◌, inl, inr, ⊎_elim, ℕ, ◌+◌, ◌/◌, ◌≤◌, Bool, true, false, List, [], ◌∷◌, Option, Some, None, refl, sym, ◌∙◌, subst, arith}
+use Rattle.std.proofs.Common.{◌≡◌, ◌⊎◌, inl, inr, ⊎_elim, ℕ, ◌+◌, ◌/◌, ◌≤◌, Bool, true, false, true≢false, List, [], ◌∷◌, Option, Some, None, refl, sym, ◌∙◌, subst, arith}
 use Rattle.std.proofs.lemmas.Bool.Decides.{eqb_tells, leb_tells}
-use Rattle.std.specs.Option.{IsSomeAnd}
+use Rattle.std.specs.Option.{IsSome, IsSomeAnd}
 use Rattle.lsn_space.specs.declared.lsn.TheConstants.{LAST}
 use Rattle.lsn_space.specs.Tiling.{IsTilingBoundary}
 use Rattle.ring_core.specs.declared.event.RingEvent.{RingEvent}
-use Rattle.ring_core.specs.declared.event.RingEvent.TheVariants.{Reserve, Fill, Turn, Flushed}
-use Rattle.ring_core.specs.RingLog.{size_of, Reservation, RingLog, HasRoom, HasUnfilled, MayFlush}
-use Rattle.ring_core.specs.State.{Stage, Idle, Works, RingState, log_of, stage_of, in_hand}
-use Rattle.ring_core.specs.Machine.{MayReserve, IsEnabled, IsNext, state_after, RingStep, RunsRing}
+use Rattle.ring_core.specs.declared.event.RingEvent.TheVariants.{Reserve, Fill, Mark, LookExposed, LookMark, Raise, Flushed}
+use Rattle.ring_core.specs.RingLog.{size_of, Reservation, RingLog, HasRoom, HasUnfilled, IsFull, MayFlush}
+use Rattle.ring_core.specs.State.{Stage, Idle, Works, Marked, Holds, Raises, RingState, log_of, stage_of, looks_at, raises_from, in_hand}
+use Rattle.ring_core.specs.Machine.{MayReserve, IsEnabled, state_after, RingStep, RunsRing}
 
 abbrev IsDecided : Type 0 → Type 0
 IsDecided A = A ⊎ (¬ A)
@@ -32,6 +32,20 @@ le-decided m n = ⊎_elim (λ yes. inl yes.1) (λ above. inr (λ le. omega (arit
 idle-decided : (stage : Stage) → IsDecided (stage ≡ Idle)
 idle-decided Idle = inl refl
 idle-decided (Works base) = inr (λ is. cc)
+idle-decided Marked = inr (λ is. cc)
+idle-decided (Holds at) = inr (λ is. cc)
+idle-decided (Raises at) = inr (λ is. cc)
+
+mark-decided : (stage : Stage) → IsDecided (stage ≡ Marked)
+mark-decided Idle = inr (λ is. cc)
+mark-decided (Works base) = inr (λ is. cc)
+mark-decided Marked = inl refl
+mark-decided (Holds at) = inr (λ is. cc)
+mark-decided (Raises at) = inr (λ is. cc)
+
+some-decided : (o : Option ℕ) → IsDecided (IsSome o)
+some-decided None = inr (λ is. true≢false (sym is))
+some-decided (Some n) = inl refl
 
 boundary-decided : (from : ℕ) (rs : List Reservation) (to : ℕ) → IsDecided (IsTilingBoundary size_of from rs to)
 boundary-decided from [] to = eq-decided to from
@@ -61,7 +75,10 @@ flush-decided l to = decided-same
 pub enabled-decided : (s : RingState) (event : RingEvent) → IsDecided (IsEnabled s event)
 enabled-decided s (Reserve actor n) = reserve-decided s actor n
 enabled-decided s (Fill actor) = some_and-decided HasUnfilled (in_hand s actor) (λ r. decided-same (λ le. omega (arith, le)) (λ lt. omega (arith, lt)) (le-decided (r.filled + 1) r.size))
-enabled-decided s (Turn actor) = some_and-decided (IsNext s.exposed) (in_hand s actor) (λ r. decided-both (eq-decided r.filled r.size) (eq-decided r.base s.exposed))
+enabled-decided s (Mark actor) = some_and-decided IsFull (in_hand s actor) (λ r. eq-decided r.filled r.size)
+enabled-decided s (LookExposed actor) = mark-decided (stage_of actor s.hands)
+enabled-decided s (LookMark actor) = some-decided (looks_at (stage_of actor s.hands))
+enabled-decided s (Raise actor) = some-decided (raises_from (stage_of actor s.hands))
 enabled-decided s (Flushed to) = flush-decided (log_of s) to
 
 -- each event takes the machine somewhere

@@ -1,10 +1,11 @@
--- What the actors have under way, after one of them changes it.
-use Rattle.std.proofs.Common.{◌≡◌, ◌≢◌, ◌⊎◌, inl, inr, ⊎_elim, ℕ, ◌==◌, cond, Bool, true, false, List, [], ◌∷◌, Some, refl, sym, ap, ◌∙◌, eq-eqb, eqb-true, ne_eqb, subst}
+-- What the actors have in hand, after one of them changes it.
+use Rattle.std.proofs.Common.{◌≡◌, ◌≢◌, ◌⊎◌, inl, inr, ⊎_elim, ℕ, ◌==◌, cond, Bool, true, false, List, [], ◌∷◌, Some, None, ◌≤◌, arith, refl, sym, ap, ◌∙◌, eq-eqb, eqb-true, ne_eqb, subst}
 use Rattle.std.specs.List.{find}
 use mathlib.Core.Logic.{dite}
 use native.Mathlib.Decide.{ℕ_discrete}
-use Rattle.ring_core.specs.State.{Reservation, is_at, Stage, Idle, Works, Hand, stage_of, with_stage, worked_on}
-use Rattle.ring_core.specs.Laws.{HasOneOwner}
+use Rattle.ring_core.specs.RingLog.{Reservation, RingLog, is_at, is_marked, IsLogBoundary}
+use Rattle.ring_core.specs.State.{Stage, Idle, Works, Marked, Holds, Raises, Hand, stage_of, with_stage, base_in, looks_at, raises_from, worked_on}
+use Rattle.ring_core.specs.Laws.{HasOneOwner, IsTrueHand, IsOnTheWay, HasCarrier}
 use Rattle.ring_core.proofs.RangeLemmas.{found-base}
 
 pub stage_of-with_same : (actor : ℕ) (stage : Stage) (hands : List Hand) → stage_of actor (with_stage actor stage hands) ≡ stage
@@ -45,3 +46,61 @@ pub worked_on-some : (stage : Stage) (rs : List Reservation) (r : Reservation) �
 worked_on-some Idle rs r is = absurd (cc)
 worked_on-some (Works base) rs r is =
     let at : r.base ≡ base = found-base base rs r is in (ap Works (sym at), subst (λ n. find (is_at n) rs ≡ Some r) (sym at) is)
+worked_on-some Marked rs r is = absurd (cc)
+worked_on-some (Holds at) rs r is = absurd (cc)
+worked_on-some (Raises at) rs r is = absurd (cc)
+
+-- what an option of a stage tells of it
+pub base_in-some : (stage : Stage) (base : ℕ) → base_in stage ≡ Some base → stage ≡ Works base
+base_in-some Idle base is = absurd (cc)
+base_in-some (Works n) base is = let same : n ≡ base = cc in ap Works same
+base_in-some Marked base is = absurd (cc)
+base_in-some (Holds at) base is = absurd (cc)
+base_in-some (Raises at) base is = absurd (cc)
+
+pub base_in-none : (stage : Stage) (rs : List Reservation) → base_in stage ≡ None → worked_on stage rs ≡ None
+base_in-none Idle rs is = refl
+base_in-none (Works n) rs is = absurd (cc)
+base_in-none Marked rs is = refl
+base_in-none (Holds at) rs is = refl
+base_in-none (Raises at) rs is = refl
+
+pub looks_at-some : (stage : Stage) (place : ℕ) → looks_at stage ≡ Some place → stage ≡ Holds place
+looks_at-some Idle place is = absurd (cc)
+looks_at-some (Works n) place is = absurd (cc)
+looks_at-some Marked place is = absurd (cc)
+looks_at-some (Holds at) place is = let same : at ≡ place = cc in ap Holds same
+looks_at-some (Raises at) place is = absurd (cc)
+
+pub raises_from-some : (stage : Stage) (place : ℕ) → raises_from stage ≡ Some place → stage ≡ Raises place
+raises_from-some Idle place is = absurd (cc)
+raises_from-some (Works n) place is = absurd (cc)
+raises_from-some Marked place is = absurd (cc)
+raises_from-some (Holds at) place is = absurd (cc)
+raises_from-some (Raises at) place is = let same : at ≡ place = cc in ap Raises same
+
+-- the actor is a carrier itself
+pub carries-itself : (actor : ℕ) (stage : Stage) (hands : List Hand) (place : ℕ) → IsOnTheWay place stage → HasCarrier (with_stage actor stage hands) place
+carries-itself actor stage hands place is = record { actor = actor; on_the_way = subst (IsOnTheWay place) (sym (stage_of-with_same actor stage hands)) is }
+
+-- a carrier that turns stays one, if it is on the way after it as before
+pub carrier-stays : (actor : ℕ) (stage : Stage) (hands : List Hand) (place : ℕ) → (IsOnTheWay place (stage_of actor hands) → IsOnTheWay place stage) → HasCarrier hands place → HasCarrier (with_stage actor stage hands) place
+carrier-stays actor stage hands place stays c = dite (ℕ_discrete c.actor actor)
+    (λ same. carries-itself actor stage hands place (stays (subst (λ n. IsOnTheWay place (stage_of n hands)) same c.on_the_way)))
+    (λ differ. record { actor = c.actor; on_the_way = subst (IsOnTheWay place) (sym (stage_of-with_other actor c.actor stage hands differ)) c.on_the_way })
+
+-- what is true of a stage in one log is true of it in another that passed no less, and where no mark is gone
+pub true-still : (l l' : RingLog) → ((at : ℕ) → IsLogBoundary l at → IsLogBoundary l' at) → l.exposed ≤ l'.exposed → ((at : ℕ) → is_marked at l.reservations ≡ true → is_marked at l'.reservations ≡ true)
+    → (stage : Stage) → IsTrueHand l stage → IsTrueHand l' stage
+true-still l l' boundary forward marks Idle is = tt
+true-still l l' boundary forward marks (Works base) is = tt
+true-still l l' boundary forward marks Marked is = tt
+true-still l l' boundary forward marks (Holds at) is = record { boundary = boundary at is.boundary; exposed = omega (arith, is.exposed, forward) }
+true-still l l' boundary forward marks (Raises at) is = (record { boundary = boundary at is.0.boundary; exposed = omega (arith, is.0.exposed, forward) }, marks at is.1)
+
+-- and of all hands, where one actor turns to another stage
+pub hands-still : (l l' : RingLog) (actor : ℕ) (now : Stage) (hands : List Hand) → ((stage : Stage) → IsTrueHand l stage → IsTrueHand l' stage) → IsTrueHand l' now
+    → ((other : ℕ) → IsTrueHand l (stage_of other hands)) → (other : ℕ) → IsTrueHand l' (stage_of other (with_stage actor now hands))
+hands-still l l' actor now hands still mine old other = dite (ℕ_discrete other actor)
+    (λ same. subst (λ n. IsTrueHand l' (stage_of n (with_stage actor now hands))) (sym same) (subst (IsTrueHand l') (sym (stage_of-with_same actor now hands)) mine))
+    (λ differ. subst (IsTrueHand l') (sym (stage_of-with_other actor other now hands differ)) (still (stage_of other hands) (old other)))

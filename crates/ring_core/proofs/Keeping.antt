@@ -1,93 +1,151 @@
 -- Each event keeps the laws.
-use Rattle.std.proofs.Common.{◌≡◌, ⊎_elim, ℕ, ◌+◌, ◌<◌, ◌≤◌, cond, Bool, true, false, true≢false, List, Some, refl, sym, ap, ◌∙◌, subst, arith, eq-eqb}
-use Rattle.std.specs.List.{AllByRecursion, find}
-use Rattle.std.specs.Option.{IsSomeAnd, option_map}
+use Rattle.std.proofs.Common.{◌≡◌, ◌≢◌, ⊎_elim, ℕ, ◌≤◌, Bool, true, false, true≢false, List, Some, refl, sym, ◌∙◌, subst, arith, le_refl}
+use Rattle.std.specs.List.{find}
+use Rattle.std.specs.Option.{IsSomeAnd}
+use native.Mathlib.Decide.{dec_le}
 use Rattle.lsn_space.specs.declared.lsn.TheConstants.{LAST}
-use Rattle.lsn_space.proofs.TilingLemmas.{found-has, all-map, all-push, boundary-starts}
-use Rattle.ring_core.specs.RingLog.{Reservation, RingLog, base_of, size_of, is_at, end_at, is_marked, fresh, HasUnfilled, filled_at, filled, IsFull, released_at, marked, raised, reserved, MayFlush, flushed}
+use Rattle.lsn_space.proofs.TilingLemmas.{found-has, boundary-push, boundary-map, boundary-starts}
+use Rattle.ring_core.specs.RingLog.{Reservation, RingLog, base_of, size_of, is_at, is_marked, fresh, HasUnfilled, filled_at, filled, IsFull, released_at, marked, raised, reserved, MayFlush, flushed}
 use Rattle.ring_core.specs.LogLaws.{IsSoundLog}
-use Rattle.ring_core.specs.State.{Idle, Works, RingState, log_of, state, stage_of, with_stage, Hand}
-use Rattle.ring_core.specs.Machine.{MayReserve, IsNext, start_state, after_reserve, after_fill, after_turn}
-use Rattle.ring_core.specs.Laws.{HasOneOwner, IsOpen, HasOwners, IsAtRest, IsSound}
-use Rattle.ring_core.proofs.LogKeeping.{besides, found-end, found-marked, empty-sound, reserved-sound, filled-sound, marked-sound, raised-sound, flushed-sound}
-use Rattle.ring_core.proofs.Owning.{owners-reserved, owners-filled, owners-marked}
-use Rattle.ring_core.proofs.RangeLemmas.{found-base, find-changed, all-changed, released_at-same, released_at-other}
+use Rattle.ring_core.specs.State.{Stage, Idle, Works, Marked, Holds, Raises, Hand, RingState, log_of, state, stage_of, with_stage, after_look}
+use Rattle.ring_core.specs.Machine.{MayReserve, start_state, turned, after_reserve, after_fill, after_mark, after_look_exposed, after_look_mark, after_raise}
+use Rattle.ring_core.specs.Laws.{HasOneOwner, IsOpen, HasOwners, IsPassed, IsTrueHand, IsOnTheWay, HasCarrier, IsAtRest, IsSound}
+use Rattle.ring_core.proofs.HandLemmas.{carries-itself, carrier-stays, true-still, hands-still}
+use Rattle.ring_core.proofs.LogKeeping.{found-marked, marked-reserved, marked-filled, marked-still, empty-sound, reserved-sound, filled-sound, marked-sound, raised-sound, raised-forward, flushed-sound}
+use Rattle.ring_core.proofs.Owning.{owners-reserved, owners-filled, owners-marked, owners-turned}
+use Rattle.ring_core.proofs.RangeLemmas.{found-base}
 
-abbrev IsExposedIfReleased : ℕ → Reservation → Type 0
-IsExposedIfReleased exposed r = r.released ≡ true → r.base < exposed
+-- what is marked at exposed has somebody who is on the way to expose it
+abbrev IsCarried : RingLog → List Hand → Type 0
+IsCarried l hands = is_marked l.exposed l.reservations ≡ true → HasCarrier hands l.exposed
 
--- a reservation at exposed isn't released, so somebody has it under way
-exposed-at_rest : (l : RingLog) (hands : List Hand) → IsSoundLog l → HasOwners hands l.reservations → AllByRecursion (IsExposedIfReleased l.exposed) l.reservations → IsAtRest (state l hands) → l.exposed ≡ l.tail
-exposed-at_rest l hands sound owners in_order rest = ⊎_elim (λ same. same) (λ found. absurd (nobody found.0 found.1))
+abbrev AreTrue : RingLog → List Hand → Type 0
+AreTrue l hands = (actor : ℕ) → IsTrueHand l (stage_of actor hands)
+
+-- a reservation at exposed has its owner, or where it is marked a carrier
+exposed-at_rest : (l : RingLog) (hands : List Hand) → IsSoundLog l → HasOwners hands l.reservations → IsCarried l hands → IsAtRest (state l hands) → l.exposed ≡ l.tail
+exposed-at_rest l hands sound owners carried rest = ⊎_elim (λ same. same) (λ found. absurd (nobody found.0 found.1))
     (boundary-starts base_of size_of l.start l.reservations l.tail l.exposed sound.tiles sound.exposed_boundary)
   where
     nobody : (r : Reservation) → find (is_at l.exposed) l.reservations ≡ Some r → ⊥
-    nobody r is =
-        let at = found-base l.exposed l.reservations r is in
-        let order = found-has (IsExposedIfReleased l.exposed) (is_at l.exposed) l.reservations r is in_order in
-        let owned = found-has _ (is_at l.exposed) l.reservations r is owners.owned in
-        by_flag r.released refl at order owned
+    nobody r is = by_flag r.released refl (found-has _ (is_at l.exposed) l.reservations r is owners.owned)
       where
-        by_flag : (b : Bool) → r.released ≡ b → r.base ≡ l.exposed → IsExposedIfReleased l.exposed r → (IsOpen r → HasOneOwner hands r.base) → ⊥
-        by_flag true flag at order owned = let below = order flag in omega (arith, below, at)
-        by_flag false flag at order owned = let has = owned flag in let idle = rest has.owner in let works = has.works in absurd (cc)
+        by_flag : (b : Bool) → r.released ≡ b → (IsOpen r → HasOneOwner hands r.base) → ⊥
+        by_flag true flag owned = let c = carried (found-marked l.exposed l.reservations r is ∙ flag) in subst (IsOnTheWay l.exposed) (rest c.actor) c.on_the_way
+        by_flag false flag owned = let has = owned flag in let idle = rest has.owner in let works = has.works in absurd (cc)
 
-soundly : (l : RingLog) (hands : List Hand) → IsSoundLog l → HasOwners hands l.reservations → AllByRecursion (IsExposedIfReleased l.exposed) l.reservations → IsSound (state l hands)
-soundly l hands sound owners in_order = record {
+soundly : (l : RingLog) (hands : List Hand) → IsSoundLog l → HasOwners hands l.reservations → AreTrue l hands → IsCarried l hands → IsSound (state l hands)
+soundly l hands sound owners are_true carried = record {
   log = sound;
   owners = owners;
-  in_order = in_order;
-  at_rest = exposed-at_rest l hands sound owners in_order;
+  hands = are_true;
+  carried = carried;
+  at_rest = exposed-at_rest l hands sound owners carried;
 }
 
 pub reserve-sound : (s : RingState) (actor n : ℕ) → IsSound s → MayReserve s actor n → IsSound (after_reserve s actor n)
 reserve-sound s actor n sound may = soundly (reserved (log_of s) n) (with_stage actor (Works s.tail) s.hands)
     (reserved-sound (log_of s) n sound.log may.room)
     (owners-reserved (log_of s) s.hands actor n sound.log sound.owners may.idle)
-    (all-push (IsExposedIfReleased s.exposed) s.reservations (fresh s.tail n) sound.in_order (λ is. absurd (true≢false (sym is))))
+    (hands-still (log_of s) (reserved (log_of s) n) actor (Works s.tail) s.hands
+    (true-still (log_of s) (reserved (log_of s) n) (λ at b. boundary-push size_of s.start s.reservations (fresh s.tail n) at b) (le_refl _)
+    (λ at is. marked-reserved at s.tail n s.reservations ∙ is)) tt sound.hands)
+    (λ is. carrier-stays actor (Works s.tail) s.hands s.exposed (λ on_the_way. subst (IsOnTheWay s.exposed) may.idle on_the_way)
+    (sound.carried (sym (marked-reserved s.exposed s.tail n s.reservations) ∙ is)))
 
 -- a unit is filled of a reservation that has one left, by whomever
 pub fill-sound : (s : RingState) (r : Reservation) → IsSound s → find (is_at r.base) s.reservations ≡ Some r → HasUnfilled r → IsSound (after_fill s (Some r))
 fill-sound s r sound is unfilled = soundly (filled (log_of s) r.base) s.hands
     (filled-sound (log_of s) r.base sound.log (subst (λ o. IsSomeAnd o HasUnfilled) (sym is) unfilled))
     (owners-filled s.hands s.reservations r.base sound.owners)
-    (all-map (IsExposedIfReleased s.exposed) (filled_at r.base) s.reservations sound.in_order)
+    (λ actor. true-still (log_of s) (filled (log_of s) r.base) (λ at b. boundary-map size_of (filled_at r.base) s.start s.reservations at (λ q. refl) b) (le_refl _)
+    (λ at marks. marked-filled at r.base s.reservations ∙ marks) (stage_of actor s.hands) (sound.hands actor))
+    (λ marks. sound.carried (sym (marked-filled s.exposed r.base s.reservations) ∙ marks))
 
--- the log after a turn is the one in which the reservation is marked, and then exposed is raised over it
-pub turned-log : (l : RingLog) (r : Reservation) → find (is_at r.base) l.reservations ≡ Some r → r.base ≡ l.exposed → raised (marked l r.base) r.base ≡ record (marked l r.base) { exposed = r.base + r.size }
-turned-log l r is next = λ i. record (marked l r.base) { exposed = (ap (λ b. cond b (end_at r.base (marked l r.base).reservations) l.exposed) (eq-eqb l.exposed r.base (sym next)) ∙ ends) i }
+-- whoever has just made a mark is on the way to expose whatever is marked
+pub mark-sound : (s : RingState) (actor : ℕ) (r : Reservation) → IsSound s → stage_of actor s.hands ≡ Works r.base → find (is_at r.base) s.reservations ≡ Some r → IsFull r → IsSound (after_mark s actor (Some r))
+mark-sound s actor r sound works is full = soundly (marked (log_of s) r.base) (with_stage actor Marked s.hands)
+    (marked-sound (log_of s) r.base sound.log (subst (λ o. IsSomeAnd o IsFull) (sym is) full))
+    (owners-marked (log_of s) s.hands actor r.base r Marked sound.log sound.owners works is (λ b e. absurd (cc)))
+    (hands-still (log_of s) (marked (log_of s) r.base) actor Marked s.hands
+    (true-still (log_of s) (marked (log_of s) r.base) (λ at b. boundary-map size_of (released_at r.base) s.start s.reservations at (λ q. refl) b) (le_refl _)
+    (λ at marks. marked-still at r.base s.reservations marks)) tt sound.hands)
+    (λ _. carries-itself actor Marked s.hands s.exposed tt)
+
+-- an actor that works on nothing turns to another stage, and the log stays
+turned-sound : (s : RingState) (actor : ℕ) (now : Stage) → IsSound s → ((base : ℕ) → stage_of actor s.hands ≢ Works base) → ((base : ℕ) → now ≢ Works base) → IsTrueHand (log_of s) now
+    → IsCarried (log_of s) (with_stage actor now s.hands) → IsSound (turned s actor now)
+turned-sound s actor now sound before after mine carried = soundly (log_of s) (with_stage actor now s.hands)
+    sound.log
+    (owners-turned s.hands s.reservations actor now sound.owners before after)
+    (hands-still (log_of s) (log_of s) actor now s.hands (λ _ is. is) mine sound.hands)
+    carried
+
+-- exposed is where it is
+present : (l : RingLog) → IsSoundLog l → IsPassed l l.exposed
+present l sound = record { boundary = sound.exposed_boundary; exposed = le_refl _ }
+
+pub look_exposed-sound : (s : RingState) (actor : ℕ) → IsSound s → stage_of actor s.hands ≡ Marked → IsSound (after_look_exposed s actor)
+look_exposed-sound s actor sound marked = turned-sound s actor (Holds s.exposed) sound (λ base e. absurd (cc)) (λ base e. absurd (cc))
+    (present (log_of s) sound.log) (λ _. carries-itself actor (Holds s.exposed) s.hands s.exposed refl)
+
+-- where nothing is marked at the LSN in hand, that isn't exposed, or nothing is marked at exposed
+pub look_mark-sound : (s : RingState) (actor at : ℕ) → IsSound s → stage_of actor s.hands ≡ Holds at → IsSound (after_look_mark s actor (Some at))
+look_mark-sound s actor at sound holds = by_mark (is_marked at s.reservations) refl
   where
-    found : find (is_at r.base) (marked l r.base).reservations ≡ Some (released_at r.base r)
-    found = find-changed (released_at r.base) r.base l.reservations (λ q. refl) ∙ ap (option_map (released_at r.base)) is
+    passed : IsPassed (log_of s) at
+    passed = subst (IsTrueHand (log_of s)) holds (sound.hands actor)
 
-    ends : end_at r.base (marked l r.base).reservations ≡ r.base + r.size
-    ends = found-end r.base (marked l r.base).reservations (released_at r.base r) found
+    here : IsOnTheWay s.exposed (stage_of actor s.hands) → at ≡ s.exposed
+    here on_the_way = subst (IsOnTheWay s.exposed) holds on_the_way
 
-pub mark-is_marked : (l : RingLog) (base : ℕ) (r : Reservation) → find (is_at base) l.reservations ≡ Some r → is_marked base (marked l base).reservations ≡ true
-mark-is_marked l base r is = found-marked base (marked l base).reservations (released_at base r)
-    (find-changed (released_at base) base l.reservations (λ q. refl) ∙ ap (option_map (released_at base)) is)
-    ∙ ap (λ (q : Reservation). q.released) (released_at-same base r (found-base base l.reservations r is))
+    by_mark : (b : Bool) → is_marked at s.reservations ≡ b → IsSound (turned s actor (after_look at b))
+    by_mark true is = turned-sound s actor (Raises at) sound (λ base e. absurd (cc)) (λ base e. absurd (cc)) (passed, is)
+        (λ marks. carrier-stays actor (Raises at) s.hands s.exposed here (sound.carried marks))
+    by_mark false is = turned-sound s actor Idle sound (λ base e. absurd (cc)) (λ base e. absurd (cc)) tt
+        (λ marks. carrier-stays actor Idle s.hands s.exposed
+        (λ on_the_way. true≢false (sym (subst (λ n. is_marked n s.reservations ≡ true) (sym (here on_the_way)) marks) ∙ is)) (sound.carried marks))
 
-pub turn-sound : (s : RingState) (actor : ℕ) (r : Reservation) → IsSound s → stage_of actor s.hands ≡ Works r.base → find (is_at r.base) s.reservations ≡ Some r → IsNext s.exposed r → IsSound (after_turn s actor (Some r))
-turn-sound s actor r sound works is next = soundly (record (marked (log_of s) r.base) { exposed = r.base + r.size }) (with_stage actor Idle s.hands)
-    (subst IsSoundLog (turned-log (log_of s) r is next.1) (raised-sound (marked (log_of s) r.base) r.base
-    (marked-sound (log_of s) r.base sound.log (subst (λ o. IsSomeAnd o IsFull) (sym is) next.0))
-    (mark-is_marked (log_of s) r.base r is)))
-    (owners-marked (log_of s) s.hands actor r.base r Idle sound.log sound.owners works is (λ b e. absurd (cc)))
-    (all-changed (IsExposedIfReleased s.exposed) (IsExposedIfReleased (r.base + r.size)) (released_at r.base) s.reservations r
-    (besides (log_of s) r.base r sound.log is)
-    (λ _. let size = found-has _ (is_at r.base) s.reservations r is sound.log.sizes in omega (arith, size.0))
-    (λ q side order. subst (IsExposedIfReleased (r.base + r.size)) (sym (released_at-other r.base q side.differs))
-    (λ released. omega (arith, order released, next.1)))
-    sound.in_order)
+-- whether it raises exposed or finds that it has moved, the actor has the present one in hand
+pub raise-sound : (s : RingState) (actor at : ℕ) → IsSound s → stage_of actor s.hands ≡ Raises at → IsSound (after_raise s actor (Some at))
+raise-sound s actor at sound raises =
+    let known : IsTrueHand (log_of s) (Raises at) = subst (IsTrueHand (log_of s)) raises (sound.hands actor) in
+    let log = raised-sound (log_of s) at sound.log known.1 in
+    let now : Stage = Holds (raised (log_of s) at).exposed in
+    soundly (raised (log_of s) at) (with_stage actor now s.hands)
+    log
+    (owners-turned s.hands s.reservations actor now sound.owners (λ base e. absurd (cc)) (λ base e. absurd (cc)))
+    (hands-still (log_of s) (raised (log_of s) at) actor now s.hands
+    (true-still (log_of s) (raised (log_of s) at) (λ _ b. b) (raised-forward (log_of s) at sound.log known.1) (λ _ marks. marks))
+    (present (raised (log_of s) at) log) sound.hands)
+    (λ _. carries-itself actor now s.hands (raised (log_of s) at).exposed refl)
 
-pub flush-sound : (s : RingState) (to : ℕ) → IsSound s → MayFlush (log_of s) to → IsSound (record s { durable = to })
-flush-sound s to sound may = soundly (flushed (log_of s) to) s.hands (flushed-sound (log_of s) to sound.log may) sound.owners sound.in_order
+pub flush-sound : (s : RingState) (to : ℕ) → IsSound s → MayFlush (log_of s) to → IsSound (state (flushed (log_of s) to) s.hands)
+flush-sound s to sound may = soundly (flushed (log_of s) to) s.hands (flushed-sound (log_of s) to sound.log may) sound.owners
+    (λ actor. true-still (log_of s) (flushed (log_of s) to) (λ _ b. b) (le_refl _) (λ _ marks. marks) (stage_of actor s.hands) (sound.hands actor))
+    sound.carried
 
 pub start-sound : (start ring : ℕ) → start ≤ LAST → IsSound (start_state start ring)
 start-sound start ring within = record {
   log = empty-sound start ring within;
   owners = record { owned = tt; at_work = λ actor base works. absurd (cc) };
-  in_order = tt;
+  hands = λ actor. tt;
+  carried = λ marks. absurd (true≢false (sym marks));
   at_rest = λ rest. refl;
 }
+
+-- a look that finds nothing marked was at exposed itself: what is below is marked, and the end of all is exposed only where all is
+pub last-look : (s : RingState) (actor at : ℕ) → IsSound s → stage_of actor s.hands ≡ Holds at → is_marked at s.reservations ≡ false → at ≡ s.exposed
+last-look s actor at sound holds none =
+    let passed : IsPassed (log_of s) at = subst (IsTrueHand (log_of s)) holds (sound.hands actor) in
+    ⊎_elim (λ end. omega (arith, end, passed.exposed, sound.log.exposed)) (λ found. by_place found.0 found.1 passed.exposed)
+    (boundary-starts base_of size_of s.start s.reservations s.tail at sound.log.tiles passed.boundary)
+  where
+    by_place : (r : Reservation) → find (is_at at) s.reservations ≡ Some r → at ≤ s.exposed → at ≡ s.exposed
+    by_place r is le = elim (dec_le s.exposed at) [
+      | yes ge ↦ omega (arith, le, ge)
+      | no below ↦
+          let starts = found-base at s.reservations r is in
+          let past = found-has _ (is_at at) s.reservations r is sound.log.past (omega (arith, starts, below)) in
+          absurd (true≢false (sym past ∙ sym (found-marked at s.reservations r is) ∙ none))
+    ]

@@ -1,12 +1,12 @@
 -- Each change of the log keeps its laws, whoever makes it.
-use Rattle.std.proofs.Common.{◌≡◌, ◌≢◌, ◌⊎◌, ⊎_elim, ℕ, ◌==◌, ◌+◌, ◌/◌, ◌<◌, ◌≤◌, cond, Bool, true, false, true≢false, List, [], ◌∷◌, ◌++◌, map, Option, Some, None, refl, sym, ap, ◌∙◌, subst, arith, eq-eqb, eqb-true, ne_eqb}
+use Rattle.std.proofs.Common.{◌≡◌, ◌≢◌, ◌⊎◌, ⊎_elim, ℕ, ◌==◌, ◌+◌, ◌/◌, ◌<◌, ◌≤◌, cond, Bool, true, false, true≢false, List, [], ◌∷◌, ◌++◌, map, Option, Some, None, refl, sym, ap, ◌∙◌, subst, arith, le_refl, eq-eqb, eqb-true, ne_eqb}
 use Rattle.std.specs.List.{AllByRecursion, find}
-use Rattle.std.specs.Option.{IsSomeAnd, option_map_or}
+use Rattle.std.specs.Option.{IsSomeAnd, option_map, option_map_or}
 use Rattle.lsn_space.specs.declared.lsn.TheConstants.{LAST}
 use Rattle.lsn_space.proofs.TilingLemmas.{found-has, find-none, all-weaker, all-both, all-map, all-push, tiling-push, tiling-map, tiling-within, boundary-push, boundary-map, boundary-end}
 use Rattle.ring_core.specs.RingLog.{Reservation, RingLog, base_of, size_of, is_at, is_marked, end_at, empty_log, fresh, HasRoom, reserved, HasUnfilled, filled_at, filled, IsFull, released_at, marked, raised, MayFlush, flushed}
 use Rattle.ring_core.specs.LogLaws.{IsSoundLog}
-use Rattle.ring_core.proofs.RangeLemmas.{IsBeside, found-beside, found-base, all-changed, filled_at-same, filled_at-other, released_at-same, released_at-other, some_and-some}
+use Rattle.ring_core.proofs.RangeLemmas.{IsBeside, found-beside, found-base, find-changed, all-changed, filled_at-same, filled_at-other, released_at-same, released_at-other, some_and-some}
 
 abbrev IsFullIfMarked : Reservation → Type 0
 IsFullIfMarked r = r.released ≡ true → IsFull r
@@ -184,6 +184,18 @@ raised-sound l base sound is = by_test (l.exposed == base) refl
         (raises l base found.0 sound found.1 found.2 (eqb-true l.exposed base here))
     by_test false moved = sound
 
+-- exposed never falls
+pub raised-forward : (l : RingLog) (base : ℕ) → IsSoundLog l → is_marked base l.reservations ≡ true → l.exposed ≤ (raised l base).exposed
+raised-forward l base sound is = by_test (l.exposed == base) refl
+  where
+    by_test : (b : Bool) → (l.exposed == base) ≡ b → l.exposed ≤ cond b (end_at base l.reservations) l.exposed
+    by_test true here =
+        let found = marked-found base l.reservations is in
+        let ends = found-end base l.reservations found.0 found.1 in
+        let starts = found-base base l.reservations found.0 found.1 in
+        let same = eqb-true l.exposed base here in omega (arith, ends, starts, same)
+    by_test false moved = le_refl _
+
 pub flushed-sound : (l : RingLog) (to : ℕ) → IsSoundLog l → MayFlush l to → IsSoundLog (flushed l to)
 flushed-sound l to sound may = record {
   tiles = sound.tiles;
@@ -199,3 +211,37 @@ flushed-sound l to sound may = record {
   durable_boundary = may.boundary;
   exposed_boundary = sound.exposed_boundary;
 }
+
+-- a fresh reservation marks nothing
+pub marked-reserved : (place base n : ℕ) (rs : List Reservation) → is_marked place (rs ++ fresh base n ∷ []) ≡ is_marked place rs
+marked-reserved place base n [] = by_test (base == place)
+  where
+    by_test : (b : Bool) → option_map_or (λ (r : Reservation). r.released) (cond b (Some (fresh base n)) None) false ≡ false
+    by_test true = refl
+    by_test false = refl
+marked-reserved place base n (r ∷ rs) = by_test (r.base == place) (marked-reserved place base n rs)
+  where
+    by_test : (b : Bool) → is_marked place (rs ++ fresh base n ∷ []) ≡ is_marked place rs
+        → option_map_or (λ (q : Reservation). q.released) (cond b (Some r) (find (is_at place) (rs ++ fresh base n ∷ []))) false ≡ option_map_or (λ (q : Reservation). q.released) (cond b (Some r) (find (is_at place) rs)) false
+    by_test true rest = refl
+    by_test false rest = rest
+
+-- nor does a unit that is filled
+pub marked-filled : (place base : ℕ) (rs : List Reservation) → is_marked place (map (filled_at base) rs) ≡ is_marked place rs
+marked-filled place base rs = ap (λ o. option_map_or (λ (r : Reservation). r.released) o false) (find-changed (filled_at base) place rs (λ q. refl)) ∙ by_found (find (is_at place) rs)
+  where
+    by_found : (o : Option Reservation) → option_map_or (λ (r : Reservation). r.released) (option_map (filled_at base) o) false ≡ option_map_or (λ (r : Reservation). r.released) o false
+    by_found None = refl
+    by_found (Some r) = refl
+
+-- no mark is ever taken away
+pub marked-still : (place base : ℕ) (rs : List Reservation) → is_marked place rs ≡ true → is_marked place (map (released_at base) rs) ≡ true
+marked-still place base rs is =
+    let found = marked-found place rs is in
+    found-marked place (map (released_at base) rs) (released_at base found.0)
+    (find-changed (released_at base) place rs (λ q. refl) ∙ ap (option_map (released_at base)) found.1)
+    ∙ by_test (found.0.base == base) found.0.released found.2
+  where
+    by_test : (b released : Bool) → released ≡ true → cond b true released ≡ true
+    by_test true released closed = refl
+    by_test false released closed = closed

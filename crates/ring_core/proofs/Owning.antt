@@ -2,7 +2,7 @@
 use Rattle.std.proofs.Common.{◌≡◌, ◌≢◌, ⊎_elim, ℕ, true≢false, List, [], ◌∷◌, ◌++◌, map, Some, refl, sym, ap, ◌∙◌, subst, arith}
 use Rattle.std.specs.List.{find}
 use Rattle.std.specs.Option.{IsSomeAnd}
-use Rattle.lsn_space.proofs.TilingLemmas.{found-has, find-append, all-both, all-map, all-push}
+use Rattle.lsn_space.proofs.TilingLemmas.{found-has, find-append, all-weaker, all-both, all-map, all-push}
 use Rattle.ring_core.specs.RingLog.{Reservation, RingLog, is_at, fresh, filled_at, released_at}
 use Rattle.ring_core.specs.LogLaws.{IsSoundLog}
 use Rattle.ring_core.specs.State.{Stage, Idle, Works, Hand, stage_of, with_stage}
@@ -90,3 +90,11 @@ owners-marked l hands actor base r now sound owners works is elsewhere = record 
         let differs : at ≢ base = λ same. differ (alone.alone other (there ∙ ap Works (same ∙ sym at-base)) ∙ sym (alone.alone actor (works ∙ ap Works (sym at-base)))) in
         subst (λ o. IsSomeAnd o (λ q. IsOpen (released_at base q))) (sym found.1)
         (ap (λ (q : Reservation). q.released) (released_at-other base found.0 (λ same. differs (sym (found-base at l.reservations found.0 found.1) ∙ same))) ∙ found.2)
+
+-- an actor that works on nothing turns to something that isn't a reservation either
+pub owners-turned : (hands : List Hand) (rs : List Reservation) (actor : ℕ) (now : Stage) → HasOwners hands rs → ((base : ℕ) → stage_of actor hands ≢ Works base) → ((base : ℕ) → now ≢ Works base) → HasOwners (with_stage actor now hands) rs
+owners-turned hands rs actor now owners before after = record {
+  owned = all-weaker _ _ rs (λ r has open'. one_owner-with_stage actor r.base now hands (has open') (before r.base) (after r.base)) owners.owned;
+  at_work = λ other base works. ⊎_elim (λ turned. absurd (after base turned.1)) (λ still. owners.at_work other base still.1)
+      (stage_of-with_cases actor other now (Works base) hands works);
+}

@@ -1,25 +1,26 @@
 -- The steps of a run, by what it writes.
-use Rattle.std.proofs.Common.{◌≡◌, ◌≢◌, ◌↔◌, ℕ, ◌+◌, Bool, true, false, true≢false, IsTrue, List, Option, Some, None, refl, sym, ap, ◌∙◌, subst}
+use Rattle.std.proofs.Common.{◌≡◌, ◌≢◌, ◌↔◌, ℕ, Bool, true, false, true≢false, IsTrue, List, Option, Some, None, refl, sym, ap, ◌∙◌, subst}
 use Rattle.std.specs.Bool.{OnTrue, OnFalse}
 use Rattle.std.specs.List.{find}
-use Rattle.std.specs.Option.{IsSomeAnd}
-use Rattle.ring_core.specs.declared.event.RingEvent.TheVariants.{Reserve, Fill, Turn, Flushed}
-use Rattle.ring_core.specs.RingLog.{Reservation, RingLog, is_at, HasUnfilled, filled, IsFull, marked, raised, MayFlush, flushed, reserved}
-use Rattle.ring_core.specs.State.{Idle, Works, Hand, RingState, log_of, state, stage_of, with_stage, worked_on, in_hand}
-use Rattle.ring_core.specs.Machine.{MayReserve, IsNext, after_reserve, after_fill, after_turn, RingStep}
-use Rattle.ring_core.proofs.Keeping.{turned-log}
+use Rattle.std.specs.Option.{IsSome, IsSomeAnd, is_some}
+use Rattle.ring_core.specs.declared.event.RingEvent.TheVariants.{Reserve, Fill, Mark, LookExposed, LookMark, Raise, Flushed}
+use Rattle.ring_core.specs.RingLog.{Reservation, RingLog, is_at, is_marked, HasUnfilled, filled, IsFull, marked, raised, MayFlush, flushed, reserved}
+use Rattle.ring_core.specs.State.{Stage, Idle, Works, Marked, Holds, Raises, Hand, RingState, log_of, state, stage_of, with_stage, base_in, looks_at, raises_from, after_look, worked_on, in_hand}
+use Rattle.ring_core.specs.Machine.{MayReserve, after_reserve, after_fill, after_mark, after_look_mark, after_raise, RingStep}
+use Rattle.ring_core.specs.Laws.{IsTrueHand, IsSound}
+use Rattle.ring_core.proofs.HandLemmas.{base_in-some, base_in-none, raises_from-some}
 use Rattle.ring_core.proofs.RangeLemmas.{found-base, some_and-some}
 
 -- the actor works on the reservation at a base
-module _ (now s : RingState) (is : s ≡ now) (actor base : ℕ) (works : Works base ≡ stage_of actor s.hands) where
+module _ (now s : RingState) (is : s ≡ now) (actor base : ℕ) (works : base_in (stage_of actor s.hands) ≡ Some base) where
   in_hand-is : in_hand s actor ≡ find (is_at base) s.reservations
-  in_hand-is = ap (λ stage. worked_on stage s.reservations) (sym works)
+  in_hand-is = ap (λ stage. worked_on stage s.reservations) (base_in-some (stage_of actor s.hands) base works)
 
-  -- the one in hand starts at the base
-  at-base : (f : Reservation → RingState) (g : ℕ → RingState) → ((r : Reservation) → f r ≡ g r.base) → (P : Reservation → Type 0) → IsSomeAnd (find (is_at base) s.reservations) P
-      → (after : Option Reservation → RingState) → ((r : Reservation) → after (Some r) ≡ f r) → after (in_hand s actor) ≡ g base
-  at-base f g same P may after is_after = let found = some_and-some P (find (is_at base) s.reservations) may in
-      ap after (in_hand-is ∙ found.1) ∙ is_after found.0 ∙ same found.0 ∙ ap g (found-base base s.reservations found.0 found.1)
+  -- what is done to the one in hand is done at the base
+  done-at : (P : Reservation → Type 0) (after : Option Reservation → RingState) (done : ℕ → RingState) → ((r : Reservation) → after (Some r) ≡ done r.base)
+      → IsSomeAnd (find (is_at base) s.reservations) P → done base ≡ after (in_hand s actor)
+  done-at P after done same has = let found = some_and-some P (find (is_at base) s.reservations) has in
+      sym (ap after (in_hand-is ∙ found.1) ∙ same found.0 ∙ ap done (found-base base s.reservations found.0 found.1))
 
   pub fill-step : (taken : Bool) (l : RingLog) → IsTrue taken ↔ IsSomeAnd (find (is_at base) s.reservations) HasUnfilled → OnTrue taken (l ≡ filled (log_of s) base) → OnFalse taken (l ≡ log_of s)
       → RingStep now (Fill actor) taken (state l s.hands)
@@ -28,60 +29,75 @@ module _ (now s : RingState) (is : s ≡ now) (actor base : ℕ) (works : Works 
       by_answer : (taken : Bool) → IsTrue taken ↔ IsSomeAnd (find (is_at base) s.reservations) HasUnfilled → OnTrue taken (l ≡ filled (log_of s) base) → OnFalse taken (l ≡ log_of s) → RingStep s (Fill actor) taken (state l s.hands)
       by_answer true is_left more same = (
         subst (λ o. IsSomeAnd o HasUnfilled) (sym in_hand-is) (is_left.0 refl),
-        ap (λ z. state z s.hands) more
-            ∙ sym (at-base (λ r. state (filled (log_of s) r.base) s.hands) (λ b. state (filled (log_of s) b) s.hands) (λ r. refl) HasUnfilled (is_left.0 refl) (after_fill s) (λ r. refl)),
+        ap (λ z. state z s.hands) more ∙ done-at HasUnfilled (after_fill s) (λ b. state (filled (log_of s) b) s.hands) (λ r. refl) (is_left.0 refl),
       )
       by_answer false is_left more same = (
         (λ enabled. true≢false (sym (is_left.1 (subst (λ o. IsSomeAnd o HasUnfilled) in_hand-is enabled)))),
         ap (λ z. state z s.hands) same,
       )
 
-  pub turn-elsewhere : s.exposed ≢ base → RingStep now (Turn actor) false now
-  turn-elsewhere elsewhere = subst (λ z. RingStep z (Turn actor) false z) is (
-    (λ enabled.
-        let found = some_and-some (IsNext s.exposed) (in_hand s actor) enabled in
-        elsewhere (sym (sym (found-base base s.reservations found.0 (sym in_hand-is ∙ found.1)) ∙ found.2.1))),
-    refl,
-  )
-
-  pub turn-unfilled : ¬ IsSomeAnd (find (is_at base) s.reservations) IsFull → (l : RingLog) → l ≡ log_of s → RingStep now (Turn actor) false (state l s.hands)
-  turn-unfilled unfilled l same = subst (λ z. RingStep z (Turn actor) false (state l s.hands)) is (
-    (λ enabled.
-        let found = some_and-some (IsNext s.exposed) (in_hand s actor) enabled in
-        unfilled (subst (λ o. IsSomeAnd o IsFull) (sym (sym in_hand-is ∙ found.1)) found.2.0)),
+  pub mark-refused : ¬ IsSomeAnd (find (is_at base) s.reservations) IsFull → (l : RingLog) → l ≡ log_of s → RingStep now (Mark actor) false (state l s.hands)
+  mark-refused unfilled l same = subst (λ z. RingStep z (Mark actor) false (state l s.hands)) is (
+    (λ enabled. unfilled (subst (λ o. IsSomeAnd o IsFull) in_hand-is enabled)),
     ap (λ z. state z s.hands) same,
   )
 
-  pub turn-step : IsSomeAnd (find (is_at base) s.reservations) IsFull → s.exposed ≡ base → (l : RingLog) (hands : List Hand) → l ≡ raised (marked (log_of s) base) base → hands ≡ with_stage actor Idle s.hands
-      → RingStep now (Turn actor) true (state l hands)
-  turn-step full here l hands done laid_down = subst (λ z. RingStep z (Turn actor) true (state l hands)) is (
-    subst (λ o. IsSomeAnd o (IsNext s.exposed)) (sym (in_hand-is ∙ found.1)) (found.2, starts ∙ sym here),
-    (λ i. state ((done ∙ turned) i) (laid_down i)) ∙ ap (after_turn s actor) (sym (in_hand-is ∙ found.1)),
+  pub mark-step : IsSomeAnd (find (is_at base) s.reservations) IsFull → (l : RingLog) (hands : List Hand) → l ≡ marked (log_of s) base → hands ≡ with_stage actor Marked s.hands
+      → RingStep now (Mark actor) true (state l hands)
+  mark-step full l hands done turned = subst (λ z. RingStep z (Mark actor) true (state l hands)) is (
+    subst (λ o. IsSomeAnd o IsFull) (sym in_hand-is) full,
+    (λ i. state (done i) (turned i))
+        ∙ done-at IsFull (after_mark s actor) (λ b. state (marked (log_of s) b) (with_stage actor Marked s.hands)) (λ r. refl) full,
   )
-    where
-      found : (r : Reservation) × (find (is_at base) s.reservations ≡ Some r) × IsFull r
-      found = some_and-some IsFull (find (is_at base) s.reservations) full
-
-      starts : found.0.base ≡ base
-      starts = found-base base s.reservations found.0 found.1
-
-      turned : raised (marked (log_of s) base) base ≡ record (marked (log_of s) found.0.base) { exposed = found.0.base + found.0.size }
-      turned = ap (λ b. raised (marked (log_of s) b) b) (sym starts)
-          ∙ turned-log (log_of s) found.0 (subst (λ b. find (is_at b) s.reservations ≡ Some found.0) (sym starts) found.1) (starts ∙ sym here)
 
   pub works-not_idle : stage_of actor s.hands ≢ Idle
-  works-not_idle idle = let works_there = works in absurd (cc)
+  works-not_idle idle = let works_there = base_in-some (stage_of actor s.hands) base works in absurd (cc)
 
--- an actor with nothing under way fills nothing, and has no turn
-module _ (now s : RingState) (is : s ≡ now) (actor : ℕ) (idle : Idle ≡ stage_of actor s.hands) where
-  nothing-in_hand : in_hand now actor ≡ None
-  nothing-in_hand = subst (λ z. in_hand z actor ≡ None) is (ap (λ stage. worked_on stage s.reservations) (sym idle))
+-- an actor that works on nothing neither fills nor marks
+module _ (now : RingState) (actor : ℕ) (nothing : base_in (stage_of actor now.hands) ≡ None) where
+  none-in_hand : in_hand now actor ≡ None
+  none-in_hand = base_in-none (stage_of actor now.hands) now.reservations nothing
 
-  pub fill-idle : RingStep now (Fill actor) false now
-  fill-idle = ((λ enabled. subst (λ o. IsSomeAnd o HasUnfilled) nothing-in_hand enabled), refl)
+  pub fill-none : RingStep now (Fill actor) false now
+  fill-none = ((λ enabled. subst (λ o. IsSomeAnd o HasUnfilled) none-in_hand enabled), refl)
 
-  pub turn-idle : RingStep now (Turn actor) false now
-  turn-idle = ((λ enabled. subst (λ o. IsSomeAnd o (IsNext now.exposed)) nothing-in_hand enabled), refl)
+  pub mark-none : RingStep now (Mark actor) false now
+  mark-none = ((λ enabled. subst (λ o. IsSomeAnd o IsFull) none-in_hand enabled), refl)
+
+pub look_exposed-step : (now s : RingState) (is : s ≡ now) (actor at : ℕ) → stage_of actor s.hands ≡ Marked → at ≡ s.exposed → (hands : List Hand) → hands ≡ with_stage actor (Holds at) s.hands
+    → RingStep now (LookExposed actor) true (state (log_of s) hands)
+look_exposed-step now s is actor at mark here hands turned = subst (λ z. RingStep z (LookExposed actor) true (state (log_of s) hands)) is (
+  mark,
+  ap (state (log_of s)) turned ∙ ap (λ n. state (log_of s) (with_stage actor (Holds n) s.hands)) here,
+)
+
+is_some-none : {o : Option ℕ} → o ≡ None → ¬ IsSome o
+is_some-none none is = true≢false (sym is ∙ ap is_some none)
+
+pub look_mark-none : (now : RingState) (actor : ℕ) → looks_at (stage_of actor now.hands) ≡ None → RingStep now (LookMark actor) false now
+look_mark-none now actor nothing = (is_some-none nothing, refl)
+
+pub look_mark-step : (now s : RingState) (is : s ≡ now) (actor at : ℕ) → looks_at (stage_of actor s.hands) ≡ Some at → (stage : Stage) → stage ≡ after_look at (is_marked at s.reservations)
+    → (hands : List Hand) → hands ≡ with_stage actor stage s.hands → RingStep now (LookMark actor) true (state (log_of s) hands)
+look_mark-step now s is actor at looks stage after hands turned = subst (λ z. RingStep z (LookMark actor) true (state (log_of s) hands)) is (
+  ap is_some looks,
+  ap (state (log_of s)) turned ∙ ap (λ st. state (log_of s) (with_stage actor st s.hands)) after ∙ ap (after_look_mark s actor) (sym looks),
+)
+
+pub raise-none : (now : RingState) (actor : ℕ) → raises_from (stage_of actor now.hands) ≡ None → RingStep now (Raise actor) false now
+raise-none now actor nothing = (is_some-none nothing, refl)
+
+pub raise-step : (now s : RingState) (is : s ≡ now) (actor from at : ℕ) → raises_from (stage_of actor s.hands) ≡ Some from → (l : RingLog) → l ≡ raised (log_of s) from → at ≡ l.exposed
+    → (hands : List Hand) → hands ≡ with_stage actor (Holds at) s.hands → RingStep now (Raise actor) true (state l hands)
+raise-step now s is actor from at raises l done here hands turned = subst (λ z. RingStep z (Raise actor) true (state l hands)) is (
+  ap is_some raises,
+  (λ i. state (done i) ((turned ∙ ap (λ n. with_stage actor (Holds n) s.hands) (here ∙ ap (λ (z : RingLog). z.exposed) done)) i)) ∙ ap (after_raise s actor) (sym raises),
+)
+
+-- whoever is about to raise exposed has seen a mark there
+pub raise-marked : (s : RingState) (actor from : ℕ) → IsSound s → raises_from (stage_of actor s.hands) ≡ Some from → is_marked from s.reservations ≡ true
+raise-marked s actor from sound raises =
+    let known : IsTrueHand (log_of s) (Raises from) = subst (IsTrueHand (log_of s)) (raises_from-some (stage_of actor s.hands) from raises) (sound.hands actor) in known.1
 
 pub reserve-step : (now s : RingState) (is : s ≡ now) (actor n : ℕ) → MayReserve now actor n → (l : RingLog) (hands : List Hand) → l ≡ reserved (log_of s) n → hands ≡ with_stage actor (Works s.tail) s.hands → RingStep now (Reserve actor n) true (state l hands)
 reserve-step now s is actor n may l hands pushed taken_up = (

@@ -1,14 +1,9 @@
 -- What the rows of the program stand for, and when it takes memory.
-use Rattle.std.specs.Prelude.{ℕ, ◌==◌, ◌+◌, Bool, Option, Some, None}
-use Rattle.ring_core.specs.State.{Stage, Idle, Works, Hand, Reservation, RingState}
+use Rattle.std.specs.Prelude.{ℕ, ◌==◌, ◌+◌, Bool}
+use Rattle.ring_core.specs.State.{Hand, Reservation, RingState}
 use Rattle.ring_core.specs.Machine.{MayReserve}
 use Rattle.ring_core.specs.declared.event.RingEvent.{RingEvent}
-use Rattle.ring_core.specs.declared.event.RingEvent.TheVariants.{Reserve, Fill, Turn, Flushed}
-
--- an actor works on the base that is noted, or has nothing under way
-abbrev pub stage_at : Option ℕ → Stage
-stage_at None = Idle
-stage_at (Some base) = Works base
+use Rattle.ring_core.specs.declared.event.RingEvent.TheVariants.{Reserve, Fill, Mark, LookExposed, LookMark, Raise, Flushed}
 
 -- the row is this actor's
 abbrev pub is_of : ℕ → Hand → Bool
@@ -22,5 +17,8 @@ is_end place r = r.base + r.size == place
 abbrev pub MayNeedMemory : RingState → RingEvent → Type 0
 MayNeedMemory s (Reserve actor n) = MayReserve s actor n
 MayNeedMemory s (Fill actor) = ⊥
-MayNeedMemory s (Turn actor) = ⊥
+MayNeedMemory s (Mark actor) = ⊥
+MayNeedMemory s (LookExposed actor) = ⊥
+MayNeedMemory s (LookMark actor) = ⊥
+MayNeedMemory s (Raise actor) = ⊥
 MayNeedMemory s (Flushed to) = ⊥

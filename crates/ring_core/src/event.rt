@@ -7,8 +7,14 @@ pub enum RingEvent {
     Reserve { by: u32, n: u32 },
     /// Actor `by` fills the next unit of its reservation.
     Fill { by: u32 },
-    /// Actor `by` releases its reservation, which is the next in order, and exposes it.
-    Turn { by: u32 },
+    /// Actor `by` marks its reservation, which is full, as released.
+    Mark { by: u32 },
+    /// Actor `by`, which has just made a mark, looks at exposed.
+    LookExposed { by: u32 },
+    /// Actor `by` looks at the mark where the exposed is that it found or wrote last.
+    LookMark { by: u32 },
+    /// Actor `by`, which found a mark there, raises exposed past it, or finds that exposed has moved.
+    Raise { by: u32 },
     /// Everything below `to` has become durable.
     Flushed { to: Lsn },
 }

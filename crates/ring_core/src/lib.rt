@@ -9,8 +9,10 @@ mod laws;
 mod range;
 mod ring_log;
 mod run;
+mod stage;
 
 pub use event::RingEvent;
 pub use laws::ring_laws;
 pub use ring_log::RingLog;
 pub use run::RingRun;
+pub use stage::Stage;

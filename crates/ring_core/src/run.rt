@@ -1,11 +1,15 @@
 ghost use Rattle.std.specs.Prelude.{◌≡◌, ◌↔◌, IsTrue, Ok, IfOk, OnErr};
 ghost use Rattle.ring_core.specs.Machine.{MayReserve, RingStep, start_state};
 ghost use Rattle.ring_core.specs.Rows.{MayNeedMemory};
-ghost use Rattle.ring_core.specs.declared.event.RingEvent.TheVariants.{Reserve, Fill, Turn, Flushed};
+ghost use Rattle.ring_core.specs.declared.event.RingEvent.TheVariants.{Reserve, Fill, Mark, LookExposed, LookMark, Raise, Flushed};
 
 use crate::event::RingEvent;
-use crate::hand::{Hand, base_in_hand, lay_down, take_up};
+use crate::hand::{
+    Hand, base_worked_on, is_idle, is_mark, lsn_to_look_at, lsn_to_raise_from, stage_after_look,
+    stage_in_hand, take_up, turn_to,
+};
 use crate::ring_log::RingLog;
+use crate::stage::Stage;
 use lsn_space::{Lsn, NoMemory};
 use std::alloc::Global;
 use std::marker::Model;
@@ -51,12 +55,15 @@ impl RingRun {
         match event {
             RingEvent::Reserve { by, n } => self.reserve(by, n),
             RingEvent::Fill { by } => Ok(self.fill(by)),
-            RingEvent::Turn { by } => Ok(self.turn(by)),
+            RingEvent::Mark { by } => Ok(self.mark(by)),
+            RingEvent::LookExposed { by } => Ok(self.look_exposed(by)),
+            RingEvent::LookMark { by } => Ok(self.look_mark(by)),
+            RingEvent::Raise { by } => Ok(self.raise(by)),
             RingEvent::Flushed { to } => Ok(self.flush(to)),
         }
     }
 
-    /// Everything below is released.
+    /// Everything below is marked as released.
     pub fn exposed(&self) -> Lsn
         ensures { result ≡ self.now.exposed }
     {
@@ -80,26 +87,57 @@ impl RingRun {
     fn fill(&mut self, by: u32) -> bool
         ensures { RingStep self.old (Fill by) result self.new }
     {
-        let Some(base) = base_in_hand(&self.hands, by) else {
+        let Some(base) = base_worked_on(stage_in_hand(&self.hands, by)) else {
             return false;
         };
         self.log.fill(base)
     }
 
-    fn turn(&mut self, by: u32) -> bool
-        ensures { RingStep self.old (Turn by) result self.new }
+    fn mark(&mut self, by: u32) -> bool
+        ensures { RingStep self.old (Mark by) result self.new }
     {
-        let Some(base) = base_in_hand(&self.hands, by) else {
+        let Some(base) = base_worked_on(stage_in_hand(&self.hands, by)) else {
             return false;
         };
-        if self.log.exposed() != base {
-            return false;
-        }
         if !self.log.mark(base) {
             return false;
         }
-        self.log.raise(base);
-        lay_down(&mut self.hands, by);
+        turn_to(&mut self.hands, by, Stage::Marked);
+        true
+    }
+
+    fn look_exposed(&mut self, by: u32) -> bool
+        ensures { RingStep self.old (LookExposed by) result self.new }
+    {
+        if !is_mark(stage_in_hand(&self.hands, by)) {
+            return false;
+        }
+        let at = self.log.exposed();
+        turn_to(&mut self.hands, by, Stage::Holds { at });
+        true
+    }
+
+    fn look_mark(&mut self, by: u32) -> bool
+        ensures { RingStep self.old (LookMark by) result self.new }
+    {
+        let Some(at) = lsn_to_look_at(stage_in_hand(&self.hands, by)) else {
+            return false;
+        };
+        let stage = stage_after_look(at, self.log.is_marked(at));
+        turn_to(&mut self.hands, by, stage);
+        true
+    }
+
+    /// The actor takes up what exposed is then, whether it raised it or it had moved.
+    fn raise(&mut self, by: u32) -> bool
+        ensures { RingStep self.old (Raise by) result self.new }
+    {
+        let Some(from) = lsn_to_raise_from(stage_in_hand(&self.hands, by)) else {
+            return false;
+        };
+        self.log.raise(from);
+        let found = self.log.exposed();
+        turn_to(&mut self.hands, by, Stage::Holds { at: found });
         true
     }
 
@@ -122,7 +160,7 @@ impl RingRun {
     fn may_reserve(&self, by: u32, n: u32) -> bool
         ensures { IsTrue result ↔ MayReserve self.now by n }
     {
-        base_in_hand(&self.hands, by).is_none() && self.log.has_room(n)
+        is_idle(stage_in_hand(&self.hands, by)) && self.log.has_room(n)
     }
 
     fn flush(&mut self, to: Lsn) -> bool

@@ -17,9 +17,9 @@ pub enum Place {
     Published,
     /// Its range is copied into the ring.
     Filled,
-    /// It marked its range as filled.
+    /// It marked its range as released.
     Marked,
-    /// Its range is released.
+    /// It raised exposed past the released ranges that it had come to.
     Exposed,
     /// It gave back the last account of a job.
     JobEnded,

@@ -1,7 +1,8 @@
 -- The jobs of tests: one leg between two accounts, and a note; and when a worker may take one.
-use Rattle.std.specs.Prelude.{◌≡◌, ℕ, ◌<◌, Some, List, []}
+use Rattle.std.specs.Prelude.{◌≡◌, ℕ, ◌<◌, ◌≤◌, Some, List, [], length}
 use Rattle.std.specs.List.{AllByRecursion}
-use Rattle.log_record.specs.Spelling.{IsTxn, IsNoteText}
+use Rattle.log_record.specs.declared.rec.Rec.TheVariants.{Note}
+use Rattle.log_record.specs.Spelling.{spelling, IsTxn, IsNoteText}
 use Rattle.lock_core.specs.declared.job.Job.{Job}
 use Rattle.lock_core.specs.Transfers.{IsAllowedJob}
 use Rattle.log_table.specs.declared.table.LogTable.{LogTable}
@@ -17,6 +18,10 @@ pub record IsNotedJob (job : Job) : Type 0 where
   pub text : List ℕ
   pub note : job.note ≡ Some text
   pub note_text : IsNoteText text
+
+-- the units of the job's Note, under this number
+abbrev pub AreNoteUnits : ℕ → Job → List ℕ → Type 0
+AreNoteUnits number job units = (text : List ℕ) × (job.note ≡ Some text) × (1 ≤ length text) × (units ≡ spelling (Note number text))
 
 -- the number is one of a transaction, and the seat holds no account and took no job of that number or one above
 pub record IsFreeFor (number : ℕ) (view : View) : Type 0 where

@@ -1,17 +1,16 @@
 //! Jobs with notes, which a worker inserts.
-ghost use Rattle.std.specs.Prelude.{◌≡◌, ◌≤◌, ◌+◌, ℕ, List, length, IfSome, Some};
-ghost use Rattle.log_record.specs.declared.rec.Rec.{Rec};
-ghost use Rattle.log_record.specs.Spelling.{spelling, IsTxn};
-ghost use Rattle.log_table.specs.Seats.{view_of};
-ghost use Rattle.test_rig.specs.NotedJobs.{IsNotedJob, MayInsert};
+ghost use Rattle.std.specs.Prelude.{◌≡◌, ◌≤◌, ◌+◌, IfOk, IfSome};
+ghost use Rattle.log_record.specs.Spelling.{IsTxn};
+ghost use Rattle.log_table.specs.Seats.{IsOf, view_of};
+ghost use Rattle.ring_buffer.specs.Calls.{HasReserved};
+ghost use Rattle.test_rig.specs.NotedJobs.{AreNoteUnits, IsNotedJob, MayInsert};
 
 use lock_core::{Job, Legs, Remark};
 use log_record::{Rec, Text, Units, spell};
 use log_table::{LogTable, Seat};
 use lsn_space::Lsn;
-use ring_buffer::{Refused, insert_alone};
-use schedule_hook::{Gate, OpenGate};
-use std::sync::Wait;
+use ring_buffer::{Range, Refused, insert_alone, place_alone};
+use schedule_hook::{Gate, OpenGate, Place};
 
 /// A job of one leg between the two accounts, with this note.
 pub fn noted_job(note: &[u8]) -> Option<Job>
@@ -27,10 +26,10 @@ pub fn noted_job(note: &[u8]) -> Option<Job>
 }
 
 /// The units of the job's note.
-fn note_units(number: u32, job: &Job) -> Units
+pub fn note_units(number: u32, job: &Job) -> Units
     requires number { IsTxn number }
     requires job { IsNotedJob job.now }
-    ensures { (text : List ℕ) × (job.now.note ≡ Some text) × (1 ≤ length text) × (result ≡ spelling (Rec.Note number text)) }
+    ensures { AreNoteUnits number job.now result }
 {
     let Some(remark) = &job.note else {
         unreachable!()
@@ -41,9 +40,27 @@ fn note_units(number: u32, job: &Job) -> Units
     })
 }
 
+/// Takes the job, and reserves for its note, which has these units. None: another worker was faster.
+pub fn place_note(
+    table: &LogTable,
+    seat: &mut Seat,
+    number: u32,
+    job: &Job,
+    units: &Units,
+) -> Result<Option<Range>, Refused>
+    requires worker { MayInsert table.now number seat.old }
+    requires accounts { table.now.accounts ≡ 2 }
+    requires job { IsNotedJob job.now }
+    requires units { AreNoteUnits number job.now units.now }
+    ensures own { IsOf table.now seat.new }
+    ensures reserved { IfOk result (λ o. IfSome o (λ range. HasReserved range units.now (view_of seat.new))) }
+{
+    table.take_job(seat, number, job);
+    place_alone(table, seat, units.as_slice().len() as u32)
+}
+
 /// Takes the job, and inserts its note.
-pub fn insert_note<R: Wait, G: Gate>(
-    rt: &R,
+pub fn insert_note<G: Gate>(
     table: &LogTable,
     seat: &mut Seat,
     number: u32,
@@ -58,13 +75,13 @@ pub fn insert_note<R: Wait, G: Gate>(
     ensures standing { (view_of seat.new).standing ≡ (view_of seat.old).standing }
 {
     table.take_job(seat, number, job);
-    insert_alone(rt, table, seat, &note_units(number, job), gate)
+    gate.at(seat.worker(), Place::JobTaken);
+    insert_alone(table, seat, &note_units(number, job), gate)
 }
 
 /// Takes so many jobs with this note, from this number on, and inserts their notes; answers how many
 /// were inserted, and where the last of them starts.
-pub fn insert_all<R: Wait>(
-    rt: &R,
+pub fn insert_all(
     table: &LogTable,
     seat: &mut Seat,
     first: u32,
@@ -82,7 +99,7 @@ pub fn insert_all<R: Wait>(
     let mut done = 0;
     let mut last = Lsn::new(0);
     for i in 0..times {
-        if let Ok(at) = insert_note(rt, table, seat, first + i, job, &OpenGate) {
+        if let Ok(at) = insert_note(table, seat, first + i, job, &OpenGate) {
             done += 1;
             last = at;
         }

@@ -39,7 +39,7 @@ pub fn insert_record<R: Wait, Q: Relief, G: Gate>(
     spell_into(rec, &mut units);
     let count = units.as_slice().len() as u32;
     for _ in rt.forever() {
-        match insert_alone(rt, table, seat, &units, gate) {
+        match insert_alone(table, seat, &units, gate) {
             Ok(at) => return Ok(Lsn::new(at.units() + count)),
             Err(refused) => may_come(refused)?,
         }

@@ -1,6 +1,6 @@
 use Rattle.ring_core.specs.Machine.{start_state}
 use Rattle.ring_core.proofs.Deciding.{run-exists, run-unique}
-use Rattle.ring_core.proofs.Keeping.{start-sound}
+use Rattle.ring_core.proofs.Keeping.{start-sound, last-look}
 use Rattle.ring_core.proofs.Runs.{run-sound}
 use Rattle.ring_core.proofs.laws.ring_laws.Goals as goal
 
@@ -12,3 +12,6 @@ returns-clause-one_state c = λ old s t events. run-unique old events s t
 
 pub returns-clause-sound : goal.returns-clause-sound
 returns-clause-sound c = λ start ring events s within. run-sound (start_state start ring) events s (start-sound start ring within)
+
+pub returns-clause-last_look : goal.returns-clause-last_look
+returns-clause-last_look c = λ s actor at. last-look s actor at

@@ -1,6 +1,6 @@
-use Rattle.std.proofs.Common.{rules, ◌∙◌, arith, subst, sym, ap, refl}
+use Rattle.std.proofs.Common.{rules, arith, subst, sym}
 use Rattle.ring_core.specs.LogView.{log_in}
-use Rattle.ring_core.specs.RingLog.{RingLog, IsLogBoundary, MayFlush, flushed}
+use Rattle.ring_core.specs.RingLog.{RingLog, IsLogBoundary}
 use Rattle.ring_core.proofs.LogKeeping.{flushed-sound}
 use Rattle.ring_core.proofs.ring_log.RingLog.flush.Goals as goal
 

@@ -1,4 +1,4 @@
-use Rattle.log_table_tests.proofs.inserting_tests.work.Goals as goal
+use Rattle.log_table_tests.proofs.meeting.work.Goals as goal
 
 pub leave-requires-clause-seat : goal.leave-requires-clause-seat
 leave-requires-clause-seat g c = c.insert_note-at.ensures.worker.own

@@ -1,0 +1,266 @@
+-- What follows a mark: exposed is loaded, and the mark there, and exposed is found to have moved.
+use Rattle.std.proofs.Common.{◌≡◌, ◌≢◌, ◌⊎◌, ℕ, ◌==◌, ◌%◌, ◌<◌, ◌≤◌, nat_lt, cond, Bool, true, false, true≢false, lt-ltb, ltb-true, List, [], map, set, sym, refl, ap, ◌∙◌, subst, le_refl, arith, ne_eqb}
+use Rattle.std.specs.Prelude.{is_some}
+use mathlib.Core.Logic.{dite}
+use mathlib.Core.Option.{some}
+use native.Mathlib.Decide.{dec_lt}
+use lib.ListN.{get_elem?}
+use Rattle.lsn_space.specs.declared.lsn.TheConstants.{LAST}
+use Rattle.ring_core.specs.RingLog.{is_marked, end_at}
+use Rattle.ring_core.specs.declared.stage.Stage.{Stage}
+use Rattle.ring_core.specs.declared.stage.Stage.TheVariants.{Idle as Rests, Raises, Holds}
+use Rattle.ring_core.specs.State.{RingState, with_stage, stage_of, looks_at, raises_from}
+use Rattle.ring_core.specs.Machine.{after_look_mark, after_raise as machine-raise}
+use Rattle.log_table.specs.declared.table.Start.{Start}
+use Rattle.log_table.specs.declared.view.Call.{Call}
+use Rattle.log_table.specs.declared.view.Call.TheVariants.{Idle, Filling, Marked, Holding, Raising}
+use Rattle.log_table.specs.declared.view.Role.TheVariants.{Flusher}
+use Rattle.log_table.specs.declared.view.Seen.{Seen}
+use Rattle.log_table.specs.declared.view.Sending.{Sending}
+use Rattle.log_table.specs.declared.view.View.{View}
+use Rattle.log_table.specs.Events.{Event, reservation_of, stage_in, hands_of, ring_of, Leads, IsStep, look_event, looks_mark, raises, none}
+use Rattle.log_table.specs.Layout.{Exposed, Mark}
+use Rattle.log_table.specs.Log.{Log, ranges_of}
+use Rattle.log_table.specs.Marks.{IsFirstReleased, FirstEnds, Carries, IsPassed, HasTrueEnds}
+use Rattle.log_table.specs.MarkViews.{in_hand, next_raise, call_with_mark, seen_mark, saw_mark}
+use Rattle.log_table.specs.May.{MayLookMark, MayRaise}
+use Rattle.log_table.specs.Roles.{is_active}
+use Rattle.log_table.specs.Sound.{HasSeenBoundaries, HasContiguousReservations, StoresStop, HasReadStop, IsSound}
+use Rattle.log_table.specs.Views.{entries_in, claims_in, after_look, seen_exposed, saw_exposed}
+use Rattle.log_table.specs.Words.{Words}
+use Rattle.log_table.proofs.Keeping.{accounts-stay}
+use Rattle.log_table.proofs.Lifting.{Tells}
+use Rattle.log_table.proofs.Looking.{looks, exposed-boundary}
+use Rattle.log_table.proofs.MarkLooks.{marked-ready, look-tells, not_ready-at_exposed}
+use Rattle.log_table.proofs.Reading.{put-same}
+use Rattle.log_table.proofs.Roles.{crew-same, quiet-moves, recalls-sound}
+use Rattle.log_table.proofs.Showing.{hands_of-set, stage_of-hands_of}
+use Rattle.log_table.proofs.TrueMarks.{first-ends}
+use Rattle.log_table.proofs.Viewing.{each_set}
+
+-- the call has no run
+abbrev pub HasNoRun : Call → Type 0
+HasNoRun call = (entries_in call ≡ []) × (claims_in call ≡ [])
+
+-- a seat that has something under way, but no run, turns to another such call, or to none
+module _ (key : Start) (words : Words) (views : List View) (me : ℕ) (v : View) (log : Log) (s : IsSound key words views log)
+    (at : get_elem? views me ≡ some v) (busy : v.call ≡ Idle → ⊥) (no-run : HasNoRun v.call) where
+  active-only : is_active v.standing.role ≡ false → ⊥
+  active-only off = busy (s.resting me v at off)
+
+  not-flusher : v.standing.role ≡ Flusher → ⊥
+  not-flusher f = active-only (ap is_active f)
+
+  pub turns-sound : (seen : Seen) (call : Call) (sending : Sending) → HasNoRun call
+      → (IsFirstReleased log.ahead → Carries words.exposed v.call → Carries words.exposed call)
+      → HasTrueEnds key.start words.exposed log call
+      → HasSeenBoundaries key.start words.tail words.exposed words.durable (ranges_of log) seen → seen.stop ≡ v.seen.stop
+      → IsSound key words (set views me (record v { seen = seen; call = call; sending = sending })) log
+  turns-sound seen call sending runs carries ends sees read =
+      recalls-sound key words words.stop words.crew words.account views me v new log s at (runs.0 ∙ sym no-run.0) (runs.1 ∙ sym no-run.1) carries ends refl
+      sees (s.constants me v at) (λ off. absurd (active-only off)) (s.entries me v at) (crew-same words.crew views me v new s.roles at refl)
+      (λ f. absurd (not-flusher f)) (each_set (λ _ z. StoresStop words.stop z) views me new s.stops (λ f. absurd (not-flusher f)))
+      (each_set (λ _ z. HasReadStop words.stop z) views me new s.read_stop
+      (subst (λ n. (n ≡ 0) ⊎ (n ≡ words.stop)) (sym read) (s.read_stop me v at)))
+      (quiet-moves views me v new s.quiet at (λ _ _ _ _ f. absurd (not-flusher f)) (λ _ h. h)) (λ f. absurd (not-flusher f)) (s.unheld me v at)
+      (accounts-stay key words.account log.parts views me v new at refl s.accounts)
+    where
+      new : View
+      new = record v { seen = seen; call = call; sending = sending }
+
+module _ (key : Start) (words : Words) (views : List View) (me : ℕ) (v : View) (log : Log) (s : IsSound key words views log)
+    (at : get_elem? views me ≡ some v) where
+  -- exposed is seen, as it is
+  pub sees-exposed : HasSeenBoundaries key.start words.tail words.exposed words.durable (ranges_of log) (seen_exposed words.exposed v.seen)
+  sees-exposed = let old = s.seen me v at in record {
+    tail_seen = old.tail_seen;
+    exposed_seen = le_refl _;
+    durable_seen = old.durable_seen;
+    boundaries = (exposed-boundary _ _ _ _ _ log s.contiguous, old.boundaries);
+  }
+
+-- the machine's state, where one actor turns to a stage
+abbrev pub turned_to : RingState → ℕ → Stage → RingState
+turned_to old me stage = record old { hands = with_stage me stage old.hands }
+
+pub shows-turn : (key : Start) (words : Words) (views : List View) (me : ℕ) (v new : View) (log : Log) (stage : Stage) → get_elem? views me ≡ some v
+    → stage_in new.call ≡ stage → ring_of key words (set views me new) log ≡ turned_to (ring_of key words views log) me stage
+shows-turn key words views me v new log stage at is i = record {
+  start = key.start;
+  ring = key.ring;
+  reservations = map (reservation_of log.parts) (ranges_of log);
+  hands = (hands_of-set 0 me me views v new (omega arith) at ∙ ap (λ g. with_stage me g (hands_of 0 views)) is) i;
+  tail = words.tail;
+  exposed = words.exposed;
+  durable = words.durable;
+}
+
+-- exposed has passed itself
+passed-now : (key : Start) (words : Words) (log : Log) → HasContiguousReservations key.start key.ring words.tail words.exposed words.durable log
+    → IsPassed key.start words.exposed log words.exposed
+passed-now key words log c = record { boundary = exposed-boundary _ _ _ _ _ log c; passed = le_refl _ }
+
+module _ (key : Start) (me : ℕ) (v : View) where
+  -- a load of exposed, where the seat has made no mark just now
+  stays : (words : Words) (views : List View) (log : Log) → IsSound key words views log → get_elem? views me ≡ some v
+      → after_look words.exposed v.call ≡ v.call → look_event me v.call ≡ none
+      → Leads key words words views (set views me (saw_exposed words.exposed v)) log (look_event me v.call)
+  stays words views log s at kept quiet =
+      let boundary = exposed-boundary _ _ _ _ _ log s.contiguous in
+      let sending : Sending = record v.sending { exposed = words.exposed; looked = true } in
+      let new : View = record v { seen = seen_exposed words.exposed v.seen; sending = sending } in
+      subst (λ (p : Call × Event). Leads key words words views
+      (set views me (record v { seen = seen_exposed words.exposed v.seen; call = p.0; sending = record v.sending { exposed = words.exposed; looked = true } })) log p.1)
+      (λ i. (sym kept i, sym quiet i))
+      (looks key words words.stop views me v log (seen_exposed words.exposed v.seen) (record v.sending { exposed = words.exposed; looked = true }) s at
+      (sees-exposed key words views me v log s at) (λ f. let sends = s.sends me v at f in record {
+        sent_to = sends.sent_to;
+        read_to = omega (arith, sends.read_to, sends.loaded_seen);
+        loaded_seen = le_refl _;
+        boundary = boundary;
+        sent_agrees = sends.sent_agrees;
+        read_agrees = sends.read_agrees;
+      }) (each_set (λ _ z. StoresStop words.stop z) views me new s.stops (s.stops me v at))
+      (each_set (λ _ z. HasReadStop words.stop z) views me new s.read_stop (s.read_stop me v at)) (λ _ _ _ h. h)
+      (λ _ _ _. refl))
+
+  -- after a mark just made
+  takes : (words : Words) (views : List View) (log : Log) → IsSound key words views log → get_elem? views me ≡ some v → v.call ≡ Marked
+      → Leads key words words views (set views me (saw_exposed words.exposed v)) log (look_event me v.call)
+  takes words views log s at is = subst (λ (p : Call × Event). Leads key words words views
+      (set views me (record v { seen = seen_exposed words.exposed v.seen; call = p.0; sending = record v.sending { exposed = words.exposed; looked = true } })) log p.1)
+      (λ i. (sym (ap (after_look words.exposed) is) i, sym (ap (look_event me) is) i)) record {
+        after = log;
+        sound = turns-sound key words views me v log s at (λ idle. let gone : Marked ≡ Idle = sym is ∙ idle in cc) (ap entries_in is, ap claims_in is)
+            (seen_exposed words.exposed v.seen) (Holding words.exposed) (record v.sending { exposed = words.exposed; looked = true }) (refl, refl)
+            (λ _ _. refl) (passed-now key words log s.contiguous) (sees-exposed key words views me v log s at) refl;
+        shows = (
+          stage_of-hands_of 0 me me views v (omega arith) at ∙ ap stage_in is,
+          shows-turn key words views me v
+              (record v { seen = seen_exposed words.exposed v.seen; call = Holding words.exposed; sending = record v.sending { exposed = words.exposed; looked = true } })
+              log (Holds words.exposed) at refl,
+        );
+      }
+
+  pub exposed-looks : (n : ℕ) → IsStep key me Exposed n n v (saw_exposed n v) (look_event me v.call)
+  exposed-looks n = record {
+    leads = λ words views log s at is. subst
+        (λ x. Leads key words (record words { exposed = x }) views (set views me (saw_exposed x v)) log (look_event me v.call)) is
+        (by_call words views log s at v.call refl);
+  }
+    where
+      by_call : (words : Words) (views : List View) (log : Log) → IsSound key words views log → get_elem? views me ≡ some v → (call : Call)
+          → v.call ≡ call → Leads key words words views (set views me (saw_exposed words.exposed v)) log (look_event me v.call)
+      by_call words views log s at Idle is = stays words views log s at (ap (after_look words.exposed) is ∙ sym is) (ap (look_event me) is)
+      by_call words views log s at (Filling entry) is = stays words views log s at (ap (after_look words.exposed) is ∙ sym is) (ap (look_event me) is)
+      by_call words views log s at Marked is = takes words views log s at is
+      by_call words views log s at (Holding e) is = stays words views log s at (ap (after_look words.exposed) is ∙ sym is) (ap (look_event me) is)
+      by_call words views log s at (Raising from to) is = stays words views log s at (ap (after_look words.exposed) is ∙ sym is) (ap (look_event me) is)
+
+-- the mark at the LSN in hand is loaded
+module _ (key : Start) (words : Words) (views : List View) (me : ℕ) (v : View) (base : ℕ) (log : Log) (s : IsSound key words views log)
+    (at : get_elem? views me ≡ some v) (may : MayLookMark base v) where
+  abbrev found : ℕ
+  found = words.mark (base % key.ring)
+
+  abbrev seen : Seen
+  seen = seen_mark base found v.seen
+
+  abbrev old_state : RingState
+  old_state = ring_of key words views log
+
+  passed : IsPassed key.start words.exposed log base
+  passed = subst (HasTrueEnds key.start words.exposed log) may (s.ends me v at)
+
+  sees : HasSeenBoundaries key.start words.tail words.exposed words.durable (ranges_of log) seen
+  sees = let old = s.seen me v at in
+      record { tail_seen = old.tail_seen; exposed_seen = old.exposed_seen; durable_seen = old.durable_seen; boundaries = old.boundaries }
+
+  turns : (call : Call) → HasNoRun call → (IsFirstReleased log.ahead → base ≡ words.exposed → Carries words.exposed call)
+      → HasTrueEnds key.start words.exposed log call → IsSound key words (set views me (record v { seen = seen; call = call })) log
+  turns call runs carries ends =
+      turns-sound key words views me v log s at (λ idle. let gone : Holding base ≡ Idle = sym may ∙ idle in cc) (ap entries_in may, ap claims_in may)
+      seen call v.sending runs (λ first c. carries first (subst (Carries words.exposed) may c)) ends sees refl
+
+  sound : IsSound key words (set views me (record v { seen = seen; call = next_raise base found })) log
+  sound = by_test (nat_lt base found) refl
+    where
+      by_test : (b : Bool) → nat_lt base found ≡ b
+          → IsSound key words (set views me (record v { seen = seen; call = cond b (Raising base found) Idle })) log
+      by_test true high = turns (Raising base found) (refl, refl) (λ _ c. c) (
+        passed,
+        λ here. subst (FirstEnds log.ahead) (ap (λ n. words.mark (n % key.ring)) (sym here))
+            (first-ends words.exposed (words.mark (words.exposed % key.ring)) log.ahead
+            (marked-ready key words views log s (subst (λ n. n < words.mark (n % key.ring)) here (ltb-true base found high)))),
+      )
+      by_test false low = turns Idle (refl, refl) (λ first _. (not_ready-at_exposed key words views log s base passed below).1 first) tt
+        where
+          below : found ≤ base
+          below = dite (dec_lt base found) (λ lt. absurd (true≢false (sym (lt-ltb base found lt) ∙ low))) (λ ge. omega (arith, ge))
+
+  stage-is : stage_of me (hands_of 0 views) ≡ Holds base
+  stage-is = stage_of-hands_of 0 me me views v (omega arith) at ∙ ap stage_in may
+
+  next-stage : stage_in (next_raise base found) ≡ cond (is_marked base old_state.reservations) (Raises base) Rests
+  next-stage = by_test (nat_lt base found)
+      ∙ ap (λ b. cond b (Raises base) Rests) (sym (look-tells key words views log s base passed))
+    where
+      by_test : (b : Bool) → stage_in (cond b (Raising base found) Idle) ≡ cond b (Raises base) Rests
+      by_test true = refl
+      by_test false = refl
+
+  pub mark-looks : Leads key words words views (set views me (record v { seen = seen; call = next_raise base found })) log (looks_mark me)
+  mark-looks = record {
+    after = log;
+    sound = sound;
+    shows = (
+      ap (λ g. is_some (looks_at g)) stage-is,
+      shows-turn key words views me v (record v { seen = seen; call = next_raise base found }) log
+          (cond (is_marked base old_state.reservations) (Raises base) Rests) at next-stage
+          ∙ ap (after_look_mark old_state me) (sym (ap looks_at stage-is)),
+    );
+  }
+
+module _ (key : Start) (me : ℕ) (v : View) (base ring : ℕ) (same : key.ring ≡ ring) (may : MayLookMark base v) where
+  pub look-step : (n : ℕ) → IsStep key me (Mark (base % ring)) n n v (saw_mark n v) (looks_mark me)
+  look-step n = record {
+    leads = λ words views log s at is.
+        let found : words.mark (base % key.ring) ≡ n = ap (λ r. words.mark (base % r)) same ∙ is in
+        let call : next_raise base (words.mark (base % key.ring)) ≡ call_with_mark n v.call = ap (next_raise base) found ∙ sym (ap (call_with_mark n) may) in
+        subst (λ (f : ℕ → ℕ). Leads key words (record words { mark = f }) views (set views me (saw_mark n v)) log (looks_mark me))
+        (λ i k. sym (put-same words.mark (base % ring) n k is) i)
+        (subst (λ (p : ℕ × ℕ × Call). Leads key words words views (set views me (record v { seen = seen_mark p.0 p.1 v.seen; call = p.2 })) log (looks_mark me))
+        (λ i. (sym (ap in_hand may) i, found i, call i)) (mark-looks key words views me v base log s at may));
+  }
+
+  pub mark-tells : Tells key me (Mark (base % ring)) v (λ n. n ≤ LAST)
+  mark-tells words views log s at = omega (arith, s.marks.below_tail (base % ring), s.ordered.within_log)
+
+-- exposed has moved: the exchange is lost, and what was found is in hand
+module _ (key : Start) (words : Words) (views : List View) (me : ℕ) (v : View) (from to : ℕ) (log : Log) (s : IsSound key words views log)
+    (at : get_elem? views me ≡ some v) (may : MayRaise from to v) (differ : words.exposed ≢ from) where
+  abbrev new : View
+  new = record v { seen = seen_exposed words.exposed v.seen; call = Holding words.exposed }
+
+  abbrev was : RingState
+  was = ring_of key words views log
+
+  raises-from : stage_of me (hands_of 0 views) ≡ Raises from
+  raises-from = stage_of-hands_of 0 me me views v (omega arith) at ∙ ap stage_in may
+
+  moved : words.exposed ≡ cond (words.exposed == from) (end_at from was.reservations) words.exposed
+  moved = sym (ap (λ b. cond b (end_at from was.reservations) words.exposed) (ne_eqb words.exposed from differ))
+
+  pub raise-misses : Leads key words words views (set views me new) log (raises me)
+  raise-misses = record {
+    after = log;
+    sound = turns-sound key words views me v log s at (λ idle. let gone : Raising from to ≡ Idle = sym may ∙ idle in cc) (ap entries_in may, ap claims_in may)
+        (seen_exposed words.exposed v.seen) (Holding words.exposed) v.sending (refl, refl) (λ _ _. refl) (passed-now key words log s.contiguous)
+        (sees-exposed key words views me v log s at) refl;
+    shows = (
+      ap (λ g. is_some (raises_from g)) raises-from,
+      shows-turn key words views me v new log (Holds words.exposed) at refl
+          ∙ ((λ i. record was { exposed = moved i; hands = with_stage me (Holds (moved i)) was.hands })
+          ∙ ap (machine-raise was me) (sym (ap raises_from raises-from))),
+    );
+  }

@@ -1,0 +1,30 @@
+-- Where no seat has anything under way, nothing is left to release, and all of it is exposed.
+use Rattle.std.proofs.Common.{◌≡◌, ⊎_elim, ℕ, ◌/◌, cond, List, [], ◌∷◌, get_or, refl, sym, ap, ◌∙◌, subst, eq-eqb}
+use Rattle.std.specs.List.{AllByRecursion}
+use Rattle.log_table.specs.declared.table.Start.{Start}
+use Rattle.log_table.specs.declared.view.Call.TheVariants.{Idle}
+use Rattle.log_table.specs.declared.view.View.{View}
+use Rattle.log_table.specs.Log.{Range, Log, owed, is_owed_by, claim_of, IsReleased, IsOwed, IsAtWork, Tiles}
+use Rattle.log_table.specs.Marks.{IsFirstReleased, Carries, HasCarrier}
+use Rattle.log_table.specs.Sound.{IsSound}
+use Rattle.log_table.specs.Views.{nobody, claims_in}
+use Rattle.log_table.specs.Words.{Words}
+use Rattle.log_table.proofs.Viewing.{at_get}
+
+-- where the first range is not released, and nobody owes one, none is there
+none-ahead : (ranges : List Range) → AllByRecursion IsAtWork ranges → ((j : ℕ) → owed j ranges ≡ []) → (IsFirstReleased ranges → ⊥) → ranges ≡ []
+none-ahead [] work none first = refl
+none-ahead (r ∷ rs) work none first = absurd (⊎_elim (λ (is : IsReleased r). first is) owes work.0)
+  where
+    owes : IsOwed r → ⊥
+    owes is = let one : claim_of r ∷ owed is.seat rs ≡ [] =
+        sym (ap (λ b. cond b (claim_of r ∷ owed is.seat rs) (owed is.seat rs)) (ap (is_owed_by is.seat) is.duty ∙ eq-eqb is.seat is.seat refl))
+        ∙ none is.seat in absurd (cc)
+
+pub at_rest : (key : Start) (words : Words) (views : List View) (log : Log) → IsSound key words views log
+    → ((j : ℕ) → (get_or views j nobody).call ≡ Idle) → words.exposed ≡ words.tail
+at_rest key words views log s idle = subst (λ l. Tiles (key.ring / 4) words.exposed l words.tail)
+    (none-ahead log.ahead s.at_work (λ j. (s.owners j).owes ∙ ap claims_in (idle j)) (λ first. nobody-carries (s.carried first))) s.contiguous.to_tail
+  where
+    nobody-carries : HasCarrier words.exposed views → ⊥
+    nobody-carries c = subst (Carries words.exposed) (ap (λ (z : View). z.call) (sym (at_get views c.seat c.view c.there)) ∙ idle c.seat) c.carries

@@ -1,0 +1,18 @@
+use Rattle.std.proofs.Common.{arith, ◌%◌, ◌<◌, mod-lt}
+use Rattle.log_table.specs.Seats.{number_of, key_of}
+use Rattle.log_table.proofs.Allowing.{load_mark-allowed}
+use Rattle.log_table.proofs.Exposing.{look-step}
+use Rattle.log_table.proofs.table.LogTable.load_mark.Goals as goal
+
+pub load-requires : goal.load-requires
+load-requires c =
+    let wide = c.args.self.now.wide in
+    let below : c.args.base % c.args.self.now.ring < c.args.self.now.ring = mod-lt c.args.base (omega arith) in (
+      c.requires.seat.table_is,
+      omega (arith, c.args.self.now.sized, below, c.mark_place-index.ensures),
+      load_mark-allowed (key_of c.args.self.now) c.args.self.now.table.shared.table_id.slots (number_of c.args.seat.now) c.args.seat.now.base.me
+          c.mark_place-index.result c.args.self.now.ring c.args.base c.mark_place-index.ensures c.args.self.now.keyed below c.requires.next,
+    )
+
+pub returns-clause-event : goal.returns-clause-event
+returns-clause-event c = look-step _ _ _ _ _ c.args.self.now.keyed c.requires.next _

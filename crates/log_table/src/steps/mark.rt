@@ -1,0 +1,41 @@
+//! The release marks: where a released range ends, at the place of its base.
+ghost use Rattle.std.specs.Prelude.{◌≡◌, ◌%◌, ℕ};
+ghost use Rattle.log_table.specs.Events.{IsStep, marks, looks_mark};
+ghost use Rattle.log_table.specs.Layout.{Mark};
+ghost use Rattle.log_table.specs.MarkViews.{marked, saw_mark};
+ghost use Rattle.log_table.specs.May.{MayMark, MayLookMark};
+ghost use Rattle.log_table.specs.Seats.{IsOf, Becomes, view_of, number_of, key_of};
+
+use crate::layout::mark_place;
+use crate::plays::{LoadMark, StoreMark};
+use crate::table::{LogTable, Seat};
+use lsn_space::Lsn;
+
+impl LogTable {
+    /// Marks the seat's run, which is full, as released, whatever stands before it. Then the run is one
+    /// of the seat's entries.
+    pub fn store_mark(&self, seat: &mut Seat, base: Lsn, end: Lsn)
+        requires seat { IsOf self.now seat.old }
+        requires next { MayMark base end (view_of seat.old) }
+        ensures view { Becomes seat.old seat.new (marked (view_of seat.old)) }
+        ensures event { (found : ℕ) → IsStep (key_of self.now) (number_of seat.old) (Mark (base % self.now.ring)) found end (view_of seat.old) (marked (view_of seat.old)) (marks (number_of seat.old)) }
+    {
+        let index = mark_place(self.ring, base);
+        self.table
+            .shared
+            .store::<StoreMark>(&mut seat.base, index, end.units() as u64);
+    }
+
+    /// The mark at the LSN that the seat has in hand. One above it is the end of a range that begins
+    /// there and is to be exposed, unless exposed has moved; else nothing is ready there, and exposed has
+    /// not moved.
+    pub fn load_mark(&self, seat: &mut Seat, base: Lsn) -> Lsn
+        requires seat { IsOf self.now seat.old }
+        requires next { MayLookMark base (view_of seat.old) }
+        ensures view { Becomes seat.old seat.new (saw_mark result (view_of seat.old)) }
+        ensures event { IsStep (key_of self.now) (number_of seat.old) (Mark (base % self.now.ring)) result result (view_of seat.old) (saw_mark result (view_of seat.old)) (looks_mark (number_of seat.old)) }
+    {
+        let index = mark_place(self.ring, base);
+        Lsn::new(self.table.shared.load::<LoadMark>(&mut seat.base, index) as u32)
+    }
+}

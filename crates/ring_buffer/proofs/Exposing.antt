@@ -1,0 +1,143 @@
+-- What a seat has in hand while it raises exposed.
+use Rattle.std.proofs.Common.{arith, ◌≡◌, ◌∙◌, ℕ, ◌+◌, ◌<◌, ◌≤◌, nat_lt, cond, Bool, true, false, ap, sym, refl, subst, le_refl, lt-ltb, ltb-true}
+use Rattle.log_table.specs.declared.table.Seat.{Seat}
+use Rattle.log_table.specs.declared.view.Call.TheVariants.{Idle, Marked, Holding, Raising}
+use Rattle.log_table.specs.declared.view.View.{View}
+use Rattle.log_table.specs.MarkViews.{saw_mark, after_raise, next_raise, in_hand, call_with_mark, call_with_exposed}
+use Rattle.log_table.specs.Seats.{Becomes, view_of}
+use Rattle.log_table.specs.Views.{saw_exposed, after_look}
+use Rattle.ring_buffer.specs.Calls.{IsSameWorker, HasEntries, HasInHand, IsLastExposed, HasExposed, HasOnlySeen}
+use Rattle.ring_buffer.proofs.OneStep.{IsSameWorker-becomes}
+use Rattle.ring_buffer.proofs.TwoCalls.{IsSameWorker-trans}
+
+pub HasOnlySeen-trans : (first second third : Seat) → HasOnlySeen first second → HasOnlySeen second third → HasOnlySeen first third
+HasOnlySeen-trans first second third before after = record {
+  same = IsSameWorker-trans first second third before.same after.same;
+  entries = after.entries ∙ before.entries;
+  books = after.books ∙ before.books;
+  stop = after.stop ∙ before.stop;
+}
+
+-- the seat exposes since `first`: it has this LSN in hand, and had seen none above it
+pub record Exposes (first seat : Seat) (at : ℕ) : Type 0 where
+  pub stays : HasOnlySeen first seat
+  pub hand : HasInHand at (view_of seat)
+  pub grows : (view_of first).seen.exposed ≤ at
+
+-- once there is nothing left to expose
+pub HasEntries-exposed : (first seat : Seat) (at : ℕ) → HasOnlySeen first seat → HasExposed at (view_of seat)
+    → HasEntries first seat (view_of first).entries (view_of first).books
+HasEntries-exposed first seat at stays over =
+    record { same = stays.same; idle = over.idle; entries_are = stays.entries; books_are = stays.books }
+
+-- after the look at exposed
+module _ (first seat : Seat) (at : ℕ) (becomes : Becomes first seat (saw_exposed at (view_of first))) where
+  is : view_of seat ≡ saw_exposed at (view_of first)
+  is = ap (λ me. me.0) becomes.me
+
+  HasOnlySeen-looked : (view_of first).seen.exposed ≤ at → HasOnlySeen first seat
+  HasOnlySeen-looked grows = record {
+    same = IsSameWorker-becomes first seat (saw_exposed at (view_of first)) becomes record {
+      constants = refl;
+      standing = refl;
+      contended = refl;
+      tail = le_refl (view_of first).seen.tail;
+      exposed = grows;
+      durable = le_refl (view_of first).seen.durable;
+      steps = omega arith;
+    };
+    entries = ap (λ (v : View). v.entries) is;
+    books = ap (λ (v : View). v.books) is;
+    stop = ap (λ (v : View). v.seen.stop) is;
+  }
+
+  pub Exposes-looked : (view_of first).call ≡ Marked → (view_of first).seen.exposed ≤ at → Exposes first seat at
+  Exposes-looked marked grows = record {
+    stays = HasOnlySeen-looked grows;
+    hand = record {
+      call = ap (λ (v : View). v.call) is ∙ ap (after_look at) marked;
+      exposed = ap (λ (v : View). v.seen.exposed) is;
+      step = ap (λ (v : View). v.seen.exposed_step) is ∙ sym (ap (λ (v : View). v.seen.steps) is);
+    };
+    grows = grows;
+  }
+
+pub next_raise-above : (at mark : ℕ) → at < mark → next_raise at mark ≡ Raising at mark
+next_raise-above at mark above = ap (λ b. cond b (Raising at mark) Idle) (lt-ltb at mark above)
+
+next_raise-below : (at mark : ℕ) → mark ≤ at → next_raise at mark ≡ Idle
+next_raise-below at mark below = by_test (nat_lt at mark) refl
+  where
+    by_test : (b : Bool) → nat_lt at mark ≡ b → cond b (Raising at mark) Idle ≡ Idle
+    by_test true is = let less = ltb-true at mark is in absurd (omega arith)
+    by_test false is = refl
+
+-- the seat looked for a mark at the LSN in hand, and found this one
+module _ (seat after : Seat) (at mark : ℕ) (hand : HasInHand at (view_of seat)) (becomes : Becomes seat after (saw_mark mark (view_of seat))) where
+  looked-is : view_of after ≡ saw_mark mark (view_of seat)
+  looked-is = ap (λ me. me.0) becomes.me
+
+  call-looked : (view_of after).call ≡ next_raise at mark
+  call-looked = ap (λ (v : View). v.call) looked-is ∙ ap (call_with_mark mark) hand.call
+
+  pub HasOnlySeen-marked : HasOnlySeen seat after
+  HasOnlySeen-marked = record {
+    same = IsSameWorker-becomes seat after (saw_mark mark (view_of seat)) becomes record {
+      constants = refl;
+      standing = refl;
+      contended = refl;
+      tail = le_refl (view_of seat).seen.tail;
+      exposed = le_refl (view_of seat).seen.exposed;
+      durable = le_refl (view_of seat).seen.durable;
+      steps = omega arith;
+    };
+    entries = ap (λ (v : View). v.entries) looked-is;
+    books = ap (λ (v : View). v.books) looked-is;
+    stop = ap (λ (v : View). v.seen.stop) looked-is;
+  }
+
+  -- none above it
+  pub HasExposed-below : mark ≤ at → HasExposed at (view_of after)
+  HasExposed-below below = record {
+    idle = call-looked ∙ next_raise-below at mark below;
+    last = record {
+      exposed = ap (λ (v : View). v.seen.exposed) looked-is ∙ hand.exposed;
+      just_before = ap (λ (v : View). v.seen.exposed_step + 1) looked-is ∙ (ap (λ n. n + 1) hand.step ∙ sym (ap (λ (v : View). v.seen.steps) looked-is));
+      looked = ap (λ (v : View). v.seen.mark_at) looked-is ∙ ap in_hand hand.call;
+      unready = subst (λ (n : ℕ). n ≤ at) (sym (ap (λ (v : View). v.seen.mark) looked-is)) below;
+    };
+  }
+
+  -- one above it: exposed is to be raised
+  pub MayRaise-above : at < mark → (view_of after).call ≡ Raising at mark
+  MayRaise-above above = call-looked ∙ next_raise-above at mark above
+
+  -- and after the exchange of exposed, which is at `found` then
+  module _ (last : Seat) (found : ℕ) (greater : at < found) (raised : Becomes after last (after_raise found (view_of after))) where
+    raised-is : view_of last ≡ after_raise found (view_of after)
+    raised-is = ap (λ me. me.0) raised.me
+
+    pub HasOnlySeen-raised : HasOnlySeen seat last
+    HasOnlySeen-raised =
+        let was : (view_of after).seen.exposed ≡ at = ap (λ (v : View). v.seen.exposed) looked-is ∙ hand.exposed in
+        HasOnlySeen-trans seat after last HasOnlySeen-marked record {
+          same = IsSameWorker-becomes after last (after_raise found (view_of after)) raised record {
+            constants = refl;
+            standing = refl;
+            contended = refl;
+            tail = le_refl (view_of after).seen.tail;
+            exposed = omega (arith, was, greater);
+            durable = le_refl (view_of after).seen.durable;
+            steps = omega arith;
+          };
+          entries = ap (λ (v : View). v.entries) raised-is;
+          books = ap (λ (v : View). v.books) raised-is;
+          stop = ap (λ (v : View). v.seen.stop) raised-is;
+        }
+
+    pub HasInHand-raised : at < mark → HasInHand found (view_of last)
+    HasInHand-raised above = record {
+      call = ap (λ (v : View). v.call) raised-is ∙ ap (call_with_exposed found) (MayRaise-above above);
+      exposed = ap (λ (v : View). v.seen.exposed) raised-is;
+      step = ap (λ (v : View). v.seen.exposed_step) raised-is ∙ sym (ap (λ (v : View). v.seen.steps) raised-is);
+    }

@@ -1,0 +1,13 @@
+use Rattle.std.proofs.Common.{arith, ◌<◌}
+use Rattle.ring_buffer.proofs.Exposing.{MayRaise-above}
+use Rattle.ring_buffer.proofs.releasing.raise.Goals as goal
+
+pub exchange_exposed-requires-clause-next : goal.exchange_exposed-requires-clause-next
+exchange_exposed-requires-clause-next c = let above : c.args.at < c.load_mark-end.result = grind arith steps 150000 in
+    MayRaise-above c.args.seat.now c.load_mark-end.new.seat c.args.at c.load_mark-end.result c.requires.hand c.load_mark-end.ensures.view above
+
+pub returns-in-Ok-clause-over : goal.returns-in-Ok-clause-over
+returns-in-Ok-clause-over c = tt
+
+pub returns-in-Err-clause-over : goal.returns-in-Err-clause-over
+returns-in-Err-clause-over c = tt
