@@ -27,7 +27,7 @@ stage_of-with_other actor other stage (hand ∷ hands) differ = by_test (hand.ac
     by_test true is rest = ap (λ b. cond b stage (stage_of other hands)) (ne_eqb actor other (λ e. differ (sym e))) ∙ sym (ap (λ b. cond b hand.stage (stage_of other hands)) (not_other hand.actor is))
     by_test false is rest = ap (λ l. cond (hand.actor == other) hand.stage l) rest
 
--- what is under way afterwards is the actor's new stage, or was under way with another
+-- what is in hand afterwards is the actor's new stage, or was in another's hand
 pub stage_of-with_cases : (actor other : ℕ) (stage now : Stage) (hands : List Hand) → stage_of other (with_stage actor stage hands) ≡ now → ((other ≡ actor) × (stage ≡ now)) ⊎ ((other ≢ actor) × (stage_of other hands ≡ now))
 stage_of-with_cases actor other stage now hands is = dite (ℕ_discrete other actor)
     (λ same. inl (same, sym (stage_of-with_same actor stage hands) ∙ (ap (λ n. stage_of n (with_stage actor stage hands)) (sym same) ∙ is)))

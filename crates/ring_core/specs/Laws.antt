@@ -59,3 +59,7 @@ pub record IsSound (s : RingState) : Type 0 where
   pub hands : (actor : ℕ) → IsTrueHand (log_of s) (stage_of actor s.hands)
   pub carried : is_marked s.exposed s.reservations ≡ true → HasCarrier s.hands s.exposed
   pub at_rest : IsAtRest s → s.exposed ≡ s.tail
+
+-- whoever looks at the mark at the LSN in hand and finds none is at exposed itself: an older one is always marked
+abbrev pub LooksLastAtExposed : RingState → Type 0
+LooksLastAtExposed s = (actor at : ℕ) → stage_of actor s.hands ≡ Holds at → is_marked at s.reservations ≡ false → at ≡ s.exposed

@@ -50,6 +50,13 @@ impl RingLog {
         }
     }
 
+    /// The length of the ring.
+    pub fn ring(&self) -> u32
+        ensures { result ≡ self.now.ring }
+    {
+        self.ring
+    }
+
     /// Everything below is reserved.
     pub fn tail(&self) -> Lsn
         ensures { result ≡ self.now.tail }

@@ -14,4 +14,4 @@ pub returns-clause-sound : goal.returns-clause-sound
 returns-clause-sound c = λ start ring events s within. run-sound (start_state start ring) events s (start-sound start ring within)
 
 pub returns-clause-last_look : goal.returns-clause-last_look
-returns-clause-last_look c = λ s actor at. last-look s actor at
+returns-clause-last_look c = λ s sound actor at. last-look s actor at sound
