@@ -1,0 +1,107 @@
+-- What the program writes is a state that keeps the laws.
+use Rattle.std.proofs.Common.{◌≡◌, ◌↔◌, ℕ, Bool, true, false, true≢false, List, set, IsSomeAnd, Some, None, refl, sym, ap, ◌∙◌, subst}
+use Rattle.std.specs.Bool.{IsTrue, OnTrue, OnFalse}
+use Rattle.std.specs.List.{find}
+use Rattle.std.specs.Option.{is_some}
+use Rattle.ring_core.specs.RingLog.{RingLog, is_at, HasRoom, reserved, HasUnfilled, filled, IsFull, marked, raised, MayFlush, flushed}
+use Rattle.ring_core.specs.State.{base_in, raises_from}
+use Rattle.ring_core.specs.declared.event.RingEvent.TheVariants.{Reserve, Mark, Raise, Flushed}
+use Rattle.slot_core.specs.State.{Idle, Works, Marked, Holds, Raises, Granted, Placed, Places, Stores, Membership, Task, Joined, InRing, Hand, Group, SlotState, nothing, task_of, with_task, membership, ring_stage, reopening, group, empty_group, group_at}
+use Rattle.slot_core.specs.Laws.{IsSound}
+use Rattle.slot_core.specs.Machine.{Join, Ring, MayJoin, closed_total, told_outcome, HasUnfilledPiece, IsRingEnabled, at_stage, in_ring, gathered, stage_joined, group_joined, after_join, stage_filled, log_filled, granted_base, after_fill, after_mark, after_raise}
+use Rattle.slot_core.proofs.Keeping.{event-sound}
+use Rattle.slot_core.proofs.Ring.{fill-sound}
+use Rattle.slot_core.proofs.RunLemmas.{worked-at, place-keeps, fill-keeps, piece-base, grants, reopen-keeps}
+
+-- it writes over s, which stands for the state now
+module _ (now s : SlotState) (is : s ≡ now) (sound : IsSound s) (j : ℕ) where
+  -- of a state that is known now
+  back : (P : SlotState → Type 0) → P now → P s
+  back P h = subst P (sym is) h
+
+  written : (l l' : RingLog) (hs hs' : List Hand) (gs gs' : List Group) → l ≡ l' → hs ≡ hs' → gs ≡ gs' → IsSound (record { log = l'; hands = hs'; groups = gs' }) → IsSound (record { log = l; hands = hs; groups = gs })
+  written l l' hs hs' gs gs' a b d h = subst IsSound (λ i. record { log = (sym a) i; hands = (sym b) i; groups = (sym d) i }) h
+
+  -- one who has joined has its piece behind those who were there
+  abbrev piece-at : (k n : ℕ) → SlotState → Membership
+  piece-at k n z = record { slot = k; offset = gathered (group_at k z.groups).phase; size = n; stage = stage_joined (group_at k z.groups).phase }
+
+  pub join-is : (k n : ℕ) (m : Membership) (hs : List Hand) (g : Group) → m ≡ record { slot = k; offset = gathered (group_at k now.groups).phase; size = n; stage = stage_joined (group_at k now.groups).phase }
+      → hs ≡ with_task j (Joined m) s.hands → g ≡ group_joined j n (group_at k s.groups) → record s { hands = hs; groups = set s.groups k g } ≡ after_join s j k n (group_at k s.groups)
+  join-is k n m hs g piece hands group' = let whole = hands ∙ ap (λ x. with_task j (Joined x) s.hands) (piece ∙ ap (piece-at k n) (sym is)) in
+      λ i. record s { hands = whole i; groups = set s.groups k (group' i) }
+
+  pub join-written : (k n : ℕ) (m : Membership) (hs : List Hand) (g : Group) → MayJoin now j k n → m ≡ record { slot = k; offset = gathered (group_at k now.groups).phase; size = n; stage = stage_joined (group_at k now.groups).phase }
+      → hs ≡ with_task j (Joined m) s.hands → g ≡ group_joined j n (group_at k s.groups) → IsSound (record s { hands = hs; groups = set s.groups k g })
+  join-written k n m hs g may piece hands group' = subst IsSound (sym (join-is k n m hs g piece hands group')) (event-sound s (Join j k n) sound (back (λ z. MayJoin z j k n) may))
+
+  pub reserve-written : (n base : ℕ) (l : RingLog) (hs : List Hand) → IsRingEnabled now (Reserve j n) → base ≡ s.log.tail → l ≡ reserved s.log n → hs ≡ with_task j (InRing None (Works base)) s.hands → IsSound (record s { log = l; hands = hs })
+  reserve-written n base l hs may tail log hands = written l _ hs _ s.groups s.groups log (hands ∙ ap (λ b. with_task j (InRing None (Works b)) s.hands) tail) refl
+      (event-sound s (Ring (Reserve j n)) sound (back (λ z. IsRingEnabled z (Reserve j n)) may))
+
+  pub mark-written : (b : ℕ) (l : RingLog) (hs : List Hand) → base_in (ring_stage (task_of j now.hands)) ≡ Some b → IsSomeAnd (find (is_at b) s.log.reservations) IsFull → l ≡ marked s.log b
+      → hs ≡ with_task j (in_ring Marked (task_of j now.hands)) s.hands → IsSound (record s { log = l; hands = hs })
+  mark-written b l hs base full log hands = let here = back (λ z. base_in (ring_stage (task_of j z.hands)) ≡ Some b) base in
+      written l _ hs _ s.groups s.groups log (hands ∙ ap (λ (z : SlotState). with_task j (in_ring Marked (task_of j z.hands)) s.hands) (sym is)) refl
+      (subst (λ o. IsSound (after_mark s j (task_of j s.hands) o)) here (event-sound s (Ring (Mark j)) sound (subst (λ o. IsSomeAnd o IsFull) (sym (worked-at (ring_stage (task_of j s.hands)) b s.log.reservations here)) full)))
+
+  pub raise-written : (e to : ℕ) (l : RingLog) (hs : List Hand) → raises_from (ring_stage (task_of j now.hands)) ≡ Some e → l ≡ raised s.log e → to ≡ l.exposed
+      → hs ≡ with_task j (in_ring (Holds to) (task_of j now.hands)) s.hands → IsSound (record s { log = l; hands = hs })
+  raise-written e to l hs from log at hands = let here = back (λ z. raises_from (ring_stage (task_of j z.hands)) ≡ Some e) from in
+      written l _ hs _ s.groups s.groups log
+      (hands ∙ (λ i. with_task j (in_ring (Holds ((at ∙ ap (λ (z : RingLog). z.exposed) log) i)) (task_of j (sym is i).hands)) s.hands)) refl
+      (subst (λ o. IsSound (after_raise s j (task_of j s.hands) o)) here (event-sound s (Ring (Raise j)) sound (ap is_some here)))
+
+  pub flush-written : (to : ℕ) (taken : Bool) (l : RingLog) → IsTrue taken ↔ MayFlush s.log to → OnTrue taken (l ≡ flushed s.log to) → OnFalse taken (l ≡ s.log) → IsSound (record s { log = l })
+  flush-written to true l may done none = subst (λ z. IsSound (record s { log = z })) (sym done) (event-sound s (Ring (Flushed to)) sound (may.0 refl))
+  flush-written to false l may done none = subst (λ z. IsSound (record s { log = z })) (sym none) sound
+
+  pub fill-written : (b : ℕ) (taken : Bool) (l : RingLog) → base_in (ring_stage (task_of j now.hands)) ≡ Some b → IsTrue taken ↔ IsSomeAnd (find (is_at b) s.log.reservations) HasUnfilled
+      → OnTrue taken (l ≡ filled s.log b) → OnFalse taken (l ≡ s.log) → IsSound (record s { log = l })
+  fill-written b true l base may done none = let here = back (λ z. base_in (ring_stage (task_of j z.hands)) ≡ Some b) base in
+      subst (λ z. IsSound (record s { log = z })) (sym done) (by_task (task_of j s.hands) refl here (may.0 refl))
+    where
+      by_task : (z : Task) → task_of j s.hands ≡ z → base_in (ring_stage z) ≡ Some b → IsSomeAnd (find (is_at b) s.log.reservations) HasUnfilled → IsSound (record s { log = filled s.log b })
+      by_task (InRing q (Works x)) here base left = let same : x ≡ b = cc in fill-sound s j q b sound (here ∙ ap (λ n. InRing q (Works n)) same) left
+      by_task (InRing q Idle) here base left = absurd (cc)
+      by_task (InRing q Marked) here base left = absurd (cc)
+      by_task (InRing q (Holds e)) here base left = absurd (cc)
+      by_task (InRing q (Raises e)) here base left = absurd (cc)
+      by_task (Joined m) here base left = absurd (cc)
+  fill-written b false l base may done none = subst (λ z. IsSound (record s { log = z })) (sym none) sound
+
+  pub reopen-written : (k : ℕ) (hs : List Hand) (g : Group) → ring_stage (task_of j now.hands) ≡ Idle → reopening (task_of j now.hands) ≡ Some k → hs ≡ with_task j nothing s.hands → g ≡ empty_group
+      → IsSound (record s { hands = hs; groups = set s.groups k g })
+  reopen-written k hs g idle opens hands group' = written s.log s.log hs _ (set s.groups k g) _ refl hands (ap (set s.groups k) group')
+      (reopen-keeps s j k sound (back (λ z. ring_stage (task_of j z.hands) ≡ Idle) idle) (back (λ z. reopening (task_of j z.hands) ≡ Some k) opens))
+
+  pub grant-written : (m : Membership) (t base : ℕ) (l : RingLog) (hs : List Hand) (g : Group) → task_of j now.hands ≡ Joined m → m.stage ≡ Places → t ≡ closed_total (group_at m.slot now.groups).phase → HasRoom now.log t
+      → base ≡ s.log.tail → l ≡ reserved s.log t → hs ≡ with_task j (at_stage Stores m) s.hands → g ≡ group (group_at m.slot s.groups).members (Placed j t (Granted base))
+      → IsSound (record { log = l; hands = hs; groups = set s.groups m.slot g })
+  grant-written m t base l hs g at h total room tail log hands group' =
+      let member = ap membership (back (λ z. task_of j z.hands ≡ Joined m) at) in
+      written l _ hs _ (set s.groups m.slot g) _ log hands (ap (set s.groups m.slot) (group' ∙ ap (λ b. group (group_at m.slot s.groups).members (Placed j t (Granted b))) tail))
+      (subst IsSound (sym (grants s j m sound member t h (back (λ z. t ≡ closed_total (group_at m.slot z.groups).phase) total) (back (λ z. HasRoom z.log t) room))) (place-keeps s j m sound member h))
+
+  -- a member's piece, which has a unit left
+  module _ (m : Membership) (at : task_of j now.hands ≡ Joined m) (unfilled : HasUnfilledPiece m.size m.stage) where
+    at-s : task_of j s.hands ≡ Joined m
+    at-s = back (λ z. task_of j z.hands ≡ Joined m) at
+
+    has-base : (b : ℕ) × (granted_base (told_outcome (group_at m.slot s.groups).phase) ≡ Some b) × IsSomeAnd (find (is_at b) s.log.reservations) HasUnfilled
+    has-base = piece-base s j m sound (ap membership at-s) unfilled
+
+    pub never-ungranted : granted_base (told_outcome (group_at m.slot now.groups).phase) ≡ None → ⊥
+    never-ungranted none = let here = back (λ z. granted_base (told_outcome (group_at m.slot z.groups).phase) ≡ None) none in let two : Some has-base.0 ≡ None = sym has-base.1 ∙ here in cc
+
+    pub piece-is : (b : ℕ) (taken : Bool) (l : RingLog) (hs : List Hand) → granted_base (told_outcome (group_at m.slot now.groups).phase) ≡ Some b → IsTrue taken ↔ IsSomeAnd (find (is_at b) s.log.reservations) HasUnfilled
+        → OnTrue taken (l ≡ filled s.log b) → hs ≡ with_task j (at_stage (stage_filled m.stage) m) s.hands → record s { log = l; hands = hs } ≡ after_fill s j (Joined m)
+    piece-is b true l hs base may done hands = let here = back (λ z. granted_base (told_outcome (group_at m.slot z.groups).phase) ≡ Some b) base in
+        λ i. record s { log = (done ∙ ap (log_filled s.log) (sym here)) i; hands = hands i }
+    piece-is b false l hs base may done hands = let here = back (λ z. granted_base (told_outcome (group_at m.slot z.groups).phase) ≡ Some b) base in
+        let two : Some has-base.0 ≡ Some b = sym has-base.1 ∙ here in let same : has-base.0 ≡ b = cc in
+        absurd (true≢false (sym (may.1 (subst (λ n. IsSomeAnd (find (is_at n) s.log.reservations) HasUnfilled) same has-base.2))))
+
+    pub piece-written : (b : ℕ) (taken : Bool) (l : RingLog) (hs : List Hand) → granted_base (told_outcome (group_at m.slot now.groups).phase) ≡ Some b → IsTrue taken ↔ IsSomeAnd (find (is_at b) s.log.reservations) HasUnfilled
+        → OnTrue taken (l ≡ filled s.log b) → hs ≡ with_task j (at_stage (stage_filled m.stage) m) s.hands → IsSound (record s { log = l; hands = hs })
+    piece-written b taken l hs base may done hands = subst IsSound (sym (piece-is b taken l hs base may done hands)) (fill-keeps s j m sound (ap membership at-s) unfilled)

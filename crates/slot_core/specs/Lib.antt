@@ -1,0 +1,9 @@
+pub mod Groups
+pub mod Laws
+pub mod Machine
+pub mod Members
+pub mod Owners
+pub mod RingPart
+pub mod Rows
+pub mod Run
+pub mod State
