@@ -3,6 +3,7 @@ pub mod Laws
 pub mod Machine
 pub mod Members
 pub mod Owners
+pub mod Plain
 pub mod RingPart
 pub mod Rows
 pub mod Run

@@ -1,15 +1,12 @@
-ghost use Rattle.std.specs.Prelude.{◌≡◌, ◌≤◌, ◌+◌, ◌⊎◌, ℕ, List, [], ◌∷◌, Some, true, false};
-ghost use Rattle.std.specs.List.{AllByRecursion, find};
+ghost use Rattle.std.specs.Prelude.{◌≡◌, ◌≤◌, ℕ, List};
+ghost use Rattle.std.specs.List.{AllByRecursion};
 ghost use Rattle.lsn_space.specs.declared.lsn.TheConstants.{LAST};
-ghost use Rattle.ring_core.specs.RingLog.{Reservation, is_at};
 ghost use Rattle.ring_core.specs.State.{RingState, log_of};
 ghost use Rattle.ring_core.specs.Machine.{RunsRing};
-ghost use Rattle.slot_core.specs.State.{Group, GroupPhase, Granted, Told, Member, SlotState, task_of, group, empty_group, group_at};
-ghost use Rattle.slot_core.specs.Owners.{works_on, placed_at};
-ghost use Rattle.slot_core.specs.Members.{seats_of, step_in, step_of};
-ghost use Rattle.slot_core.specs.Groups.{LieApart};
+ghost use Rattle.slot_core.specs.State.{Group, SlotState, empty_group, group_at};
 ghost use Rattle.slot_core.specs.Machine.{GroupEvent, start_state, RunsGroups};
 ghost use Rattle.slot_core.specs.Laws.{IsSound, IsAtRest};
+ghost use Rattle.slot_core.specs.Plain.{HasOwners, WorksAlone, IsOfOneSlot, IsOfOneKind, LeadsFromZero, StepsAlone, HoldsPiece, HasPiecesApart, HasPiecesInRange, SumsRemaining};
 ghost use Rattle.slot_core.specs.RingPart.{with_groups, ring_events, IsNoJoin};
 
 /// The machine's laws: from any start, with any ring and any number of slots, every list of events leads to one state, and this
@@ -25,18 +22,22 @@ pub fn slot_laws()
 /// What soundness says of owners, in plain words. A reservation that isn't marked is worked on by an actor, or is the range of the
 /// group at a slot; by one, and not by both.
 pub fn owner_laws()
-    ensures owned { (s : SlotState) (base : ℕ) (r : Reservation) → IsSound s → find (is_at base) s.log.reservations ≡ Some r → r.released ≡ false → ((actor : ℕ) × (works_on base (task_of actor s.hands) ≡ true)) ⊎ ((slot : ℕ) × (placed_at base (group_at slot s.groups).phase ≡ true)) }
-    ensures one_actor { (s : SlotState) (base i j : ℕ) → IsSound s → works_on base (task_of i s.hands) ≡ true → works_on base (task_of j s.hands) ≡ true → i ≡ j }
-    ensures one_slot { (s : SlotState) (base i j : ℕ) → IsSound s → placed_at base (group_at i s.groups).phase ≡ true → placed_at base (group_at j s.groups).phase ≡ true → i ≡ j }
-    ensures not_both { (s : SlotState) (base actor slot : ℕ) → IsSound s → works_on base (task_of actor s.hands) ≡ true → placed_at base (group_at slot s.groups).phase ≡ true → ⊥ }
+    ensures owned { (s : SlotState) → IsSound s → HasOwners s }
+    ensures one_actor { (s : SlotState) → IsSound s → WorksAlone s }
+    ensures one_slot { (s : SlotState) → IsSound s → IsOfOneSlot s }
+    ensures not_both { (s : SlotState) → IsSound s → IsOfOneKind s }
 {}
 
-/// What soundness says of a group, in plain words. The actor that makes a slot's next step is the one whom the group names, and no
-/// other. Pieces of two members lie apart, and those of a group that is told lie within its range.
+/// What soundness says of a group, in plain words. Who joins at offset 0 leads, and no other. The actor that makes a slot's next step
+/// is the one whom the group names, and no other. A member's piece is the one that it has in hand; pieces of two members lie apart,
+/// and, where the group has a range, within it. What remains of a group that is told is the sum of the pieces that aren't released.
 pub fn group_laws()
-    ensures next_step { (s : SlotState) (actor slot : ℕ) → IsSound s → step_in slot (task_of actor s.hands) ≡ step_of actor (group_at slot s.groups).phase }
-    ensures apart { (from to i j a n b m : ℕ) (ms : List Member) → (i ≡ j → ⊥) → LieApart from ms to → seats_of i ms ≡ (a, n) ∷ [] → seats_of j ms ≡ (b, m) ∷ [] → (a + n ≤ b) ⊎ (b + m ≤ a) }
-    ensures in_range { (s : SlotState) (slot actor a n total base remaining : ℕ) (ms : List Member) → IsSound s → group_at slot s.groups ≡ group ms (Told total (Granted base) remaining) → seats_of actor ms ≡ (a, n) ∷ [] → (r : Reservation) × (find (is_at base) s.log.reservations ≡ Some r) × (base + a + n ≤ base + r.size) }
+    ensures leader { (s : SlotState) → IsSound s → LeadsFromZero s }
+    ensures next_step { (s : SlotState) → IsSound s → StepsAlone s }
+    ensures piece { (s : SlotState) → IsSound s → HoldsPiece s }
+    ensures apart { (s : SlotState) → IsSound s → HasPiecesApart s }
+    ensures in_range { (s : SlotState) → IsSound s → HasPiecesInRange s }
+    ensures remains { (s : SlotState) → IsSound s → SumsRemaining s }
 {}
 
 /// A law: the ring machine is this one without slots. Where nobody joins, both have the same log after the same events.

@@ -1,12 +1,21 @@
 use Rattle.std.proofs.Common.{sym}
-use Rattle.slot_core.proofs.Named.{pieces-apart, piece-in-range}
+use Rattle.slot_core.proofs.Named.{leads-first, members-apart, piece-in-range, members-remain}
 use Rattle.slot_core.proofs.laws.group_laws.Goals as goal
 
+pub returns-clause-leader : goal.returns-clause-leader
+returns-clause-leader c = leads-first
+
 pub returns-clause-next_step : goal.returns-clause-next_step
-returns-clause-next_step c = λ s actor slot sound. sym (sound.links actor slot).leads
+returns-clause-next_step c = λ s sound actor slot. sym (sound.links actor slot).leads
+
+pub returns-clause-piece : goal.returns-clause-piece
+returns-clause-piece c = λ s sound actor slot. (sound.links actor slot).joins
 
 pub returns-clause-apart : goal.returns-clause-apart
-returns-clause-apart c = pieces-apart
+returns-clause-apart c = members-apart
 
 pub returns-clause-in_range : goal.returns-clause-in_range
 returns-clause-in_range c = piece-in-range
+
+pub returns-clause-remains : goal.returns-clause-remains
+returns-clause-remains c = members-remain
