@@ -28,6 +28,7 @@ fn is_told(rt: &impl Abort, run: &mut SlotRun) -> Result<(), Fail> {
         ),
         (SlotEvent::Close { by: 2 }, false),
         (SlotEvent::Close { by: 1 }, true),
+        (SlotEvent::Close { by: 1 }, false),
         (
             SlotEvent::Join {
                 by: 3,
