@@ -1,5 +1,5 @@
 -- What follows a mark: exposed is loaded, and the mark there, and exposed is found to have moved.
-use Rattle.std.proofs.Common.{◌≡◌, ◌≢◌, ◌⊎◌, ℕ, ◌==◌, ◌%◌, ◌<◌, ◌≤◌, nat_lt, cond, Bool, true, false, true≢false, lt-ltb, ltb-true, List, [], map, set, sym, refl, ap, ◌∙◌, subst, le_refl, arith, ne_eqb}
+use Rattle.std.proofs.Common.{◌≡◌, ◌≢◌, ◌⊎◌, ℕ, ◌==◌, ◌%◌, ◌<◌, ◌≤◌, nat_lt, cond, Bool, true, false, true≢false, lt-ltb, ltb-true, List, [], set, None, sym, refl, ap, ◌∙◌, subst, le_refl, arith, ne_eqb}
 use Rattle.std.specs.Prelude.{is_some}
 use mathlib.Core.Logic.{dite}
 use mathlib.Core.Option.{some}
@@ -7,10 +7,9 @@ use native.Mathlib.Decide.{dec_lt}
 use lib.ListN.{get_elem?}
 use Rattle.lsn_space.specs.declared.lsn.TheConstants.{LAST}
 use Rattle.ring_core.specs.RingLog.{is_marked, end_at}
-use Rattle.ring_core.specs.declared.stage.Stage.{Stage}
-use Rattle.ring_core.specs.declared.stage.Stage.TheVariants.{Idle as Rests, Raises, Holds}
-use Rattle.ring_core.specs.State.{RingState, with_stage, stage_of, looks_at, raises_from}
-use Rattle.ring_core.specs.Machine.{after_look_mark, after_raise as machine-raise}
+use Rattle.ring_core.specs.State.{looks_at, raises_from, after_look as stage_after}
+use Rattle.slot_core.specs.State.{Marked as MarkedStage, Raises, Holds, Task, InRing, SlotState, with_task, task_of, ring_stage}
+use Rattle.slot_core.specs.Machine.{turned, in_ring, after_look_mark, after_raise as machine-raise}
 use Rattle.log_table.specs.declared.table.Start.{Start}
 use Rattle.log_table.specs.declared.view.Call.{Call}
 use Rattle.log_table.specs.declared.view.Call.TheVariants.{Idle, Filling, Marked, Holding, Raising}
@@ -18,7 +17,7 @@ use Rattle.log_table.specs.declared.view.Role.TheVariants.{Flusher}
 use Rattle.log_table.specs.declared.view.Seen.{Seen}
 use Rattle.log_table.specs.declared.view.Sending.{Sending}
 use Rattle.log_table.specs.declared.view.View.{View}
-use Rattle.log_table.specs.Events.{Event, reservation_of, stage_in, hands_of, ring_of, Leads, IsStep, look_event, looks_mark, raises, none}
+use Rattle.log_table.specs.Events.{Event, task_in, hands_of, slots_of, Leads, IsStep, look_event, looks_mark, raises, none}
 use Rattle.log_table.specs.Layout.{Exposed, Mark}
 use Rattle.log_table.specs.Log.{Log, ranges_of}
 use Rattle.log_table.specs.Marks.{IsFirstReleased, FirstEnds, Carries, IsPassed, HasTrueEnds}
@@ -34,7 +33,7 @@ use Rattle.log_table.proofs.Looking.{looks, exposed-boundary}
 use Rattle.log_table.proofs.MarkLooks.{marked-ready, look-tells, not_ready-at_exposed}
 use Rattle.log_table.proofs.Reading.{put-same}
 use Rattle.log_table.proofs.Roles.{crew-same, quiet-moves, recalls-sound}
-use Rattle.log_table.proofs.Showing.{hands_of-set, stage_of-hands_of}
+use Rattle.log_table.proofs.Showing.{hands_of-set, task_of-hands_of}
 use Rattle.log_table.proofs.TrueMarks.{first-ends}
 use Rattle.log_table.proofs.Viewing.{each_set}
 
@@ -79,20 +78,11 @@ module _ (key : Start) (words : Words) (views : List View) (me : ℕ) (v : View)
     boundaries = (exposed-boundary _ _ _ _ _ log s.contiguous, old.boundaries);
   }
 
--- the machine's state, where one actor turns to a stage
-abbrev pub turned_to : RingState → ℕ → Stage → RingState
-turned_to old me stage = record old { hands = with_stage me stage old.hands }
-
-pub shows-turn : (key : Start) (words : Words) (views : List View) (me : ℕ) (v new : View) (log : Log) (stage : Stage) → get_elem? views me ≡ some v
-    → stage_in new.call ≡ stage → ring_of key words (set views me new) log ≡ turned_to (ring_of key words views log) me stage
-shows-turn key words views me v new log stage at is i = record {
-  start = key.start;
-  ring = key.ring;
-  reservations = map (reservation_of log.parts) (ranges_of log);
-  hands = (hands_of-set 0 me me views v new (omega arith) at ∙ ap (λ g. with_stage me g (hands_of 0 views)) is) i;
-  tail = words.tail;
-  exposed = words.exposed;
-  durable = words.durable;
+-- in the machine's state one actor turns to another task
+pub shows-turn : (key : Start) (words : Words) (views : List View) (me : ℕ) (v new : View) (log : Log) (task : Task) → get_elem? views me ≡ some v
+    → task_in new.call ≡ task → slots_of key words (set views me new) log ≡ turned (slots_of key words views log) me task
+shows-turn key words views me v new log task at is i = record (slots_of key words views log) {
+  hands = (hands_of-set 0 me me views v new (omega arith) at ∙ ap (λ t. with_task me t (hands_of 0 views)) is) i;
 }
 
 -- exposed has passed itself
@@ -124,6 +114,10 @@ module _ (key : Start) (me : ℕ) (v : View) where
       (each_set (λ _ z. HasReadStop words.stop z) views me new s.read_stop (s.read_stop me v at)) (λ _ _ _ h. h)
       (λ _ _ _. refl))
 
+  -- to the machine the seat has just made a mark
+  marked-is : (views : List View) → get_elem? views me ≡ some v → v.call ≡ Marked → task_of me (hands_of 0 views) ≡ InRing None MarkedStage
+  marked-is views at is = task_of-hands_of 0 me me views v (omega arith) at ∙ ap task_in is
+
   -- after a mark just made
   takes : (words : Words) (views : List View) (log : Log) → IsSound key words views log → get_elem? views me ≡ some v → v.call ≡ Marked
       → Leads key words words views (set views me (saw_exposed words.exposed v)) log (look_event me v.call)
@@ -135,10 +129,11 @@ module _ (key : Start) (me : ℕ) (v : View) where
             (seen_exposed words.exposed v.seen) (Holding words.exposed) (record v.sending { exposed = words.exposed; looked = true }) (refl, refl)
             (λ _ _. refl) (passed-now key words log s.contiguous) (sees-exposed key words views me v log s at) refl;
         shows = (
-          stage_of-hands_of 0 me me views v (omega arith) at ∙ ap stage_in is,
+          ap ring_stage (marked-is views at is),
           shows-turn key words views me v
               (record v { seen = seen_exposed words.exposed v.seen; call = Holding words.exposed; sending = record v.sending { exposed = words.exposed; looked = true } })
-              log (Holds words.exposed) at refl,
+              log (InRing None (Holds words.exposed)) at refl
+              ∙ ap (λ task. turned (slots_of key words views log) me (in_ring (Holds words.exposed) task)) (sym (marked-is views at is)),
         );
       }
 
@@ -166,8 +161,8 @@ module _ (key : Start) (words : Words) (views : List View) (me : ℕ) (v : View)
   abbrev seen : Seen
   seen = seen_mark base found v.seen
 
-  abbrev old_state : RingState
-  old_state = ring_of key words views log
+  abbrev old_state : SlotState
+  old_state = slots_of key words views log
 
   passed : IsPassed key.start words.exposed log base
   passed = subst (HasTrueEnds key.start words.exposed log) may (s.ends me v at)
@@ -198,14 +193,14 @@ module _ (key : Start) (words : Words) (views : List View) (me : ℕ) (v : View)
           below : found ≤ base
           below = dite (dec_lt base found) (λ lt. absurd (true≢false (sym (lt-ltb base found lt) ∙ low))) (λ ge. omega (arith, ge))
 
-  stage-is : stage_of me (hands_of 0 views) ≡ Holds base
-  stage-is = stage_of-hands_of 0 me me views v (omega arith) at ∙ ap stage_in may
+  task-is : task_of me (hands_of 0 views) ≡ InRing None (Holds base)
+  task-is = task_of-hands_of 0 me me views v (omega arith) at ∙ ap task_in may
 
-  next-stage : stage_in (next_raise base found) ≡ cond (is_marked base old_state.reservations) (Raises base) Rests
-  next-stage = by_test (nat_lt base found)
-      ∙ ap (λ b. cond b (Raises base) Rests) (sym (look-tells key words views log s base passed))
+  next-task : task_in (next_raise base found) ≡ InRing None (stage_after base (is_marked base old_state.log.reservations))
+  next-task = by_test (nat_lt base found)
+      ∙ ap (λ b. InRing None (stage_after base b)) (sym (look-tells key words views log s base passed))
     where
-      by_test : (b : Bool) → stage_in (cond b (Raising base found) Idle) ≡ cond b (Raises base) Rests
+      by_test : (b : Bool) → task_in (cond b (Raising base found) Idle) ≡ InRing None (stage_after base b)
       by_test true = refl
       by_test false = refl
 
@@ -214,10 +209,10 @@ module _ (key : Start) (words : Words) (views : List View) (me : ℕ) (v : View)
     after = log;
     sound = sound;
     shows = (
-      ap (λ g. is_some (looks_at g)) stage-is,
+      ap (λ task. is_some (looks_at (ring_stage task))) task-is,
       shows-turn key words views me v (record v { seen = seen; call = next_raise base found }) log
-          (cond (is_marked base old_state.reservations) (Raises base) Rests) at next-stage
-          ∙ ap (after_look_mark old_state me) (sym (ap looks_at stage-is)),
+          (InRing None (stage_after base (is_marked base old_state.log.reservations))) at next-task
+          ∙ ap (λ task. after_look_mark old_state me task (looks_at (ring_stage task))) (sym task-is),
     );
   }
 
@@ -242,14 +237,14 @@ module _ (key : Start) (words : Words) (views : List View) (me : ℕ) (v : View)
   abbrev new : View
   new = record v { seen = seen_exposed words.exposed v.seen; call = Holding words.exposed }
 
-  abbrev was : RingState
-  was = ring_of key words views log
+  abbrev was : SlotState
+  was = slots_of key words views log
 
-  raises-from : stage_of me (hands_of 0 views) ≡ Raises from
-  raises-from = stage_of-hands_of 0 me me views v (omega arith) at ∙ ap stage_in may
+  raises-from : task_of me (hands_of 0 views) ≡ InRing None (Raises from)
+  raises-from = task_of-hands_of 0 me me views v (omega arith) at ∙ ap task_in may
 
-  moved : words.exposed ≡ cond (words.exposed == from) (end_at from was.reservations) words.exposed
-  moved = sym (ap (λ b. cond b (end_at from was.reservations) words.exposed) (ne_eqb words.exposed from differ))
+  moved : words.exposed ≡ cond (words.exposed == from) (end_at from was.log.reservations) words.exposed
+  moved = sym (ap (λ b. cond b (end_at from was.log.reservations) words.exposed) (ne_eqb words.exposed from differ))
 
   pub raise-misses : Leads key words words views (set views me new) log (raises me)
   raise-misses = record {
@@ -258,9 +253,9 @@ module _ (key : Start) (words : Words) (views : List View) (me : ℕ) (v : View)
         (seen_exposed words.exposed v.seen) (Holding words.exposed) v.sending (refl, refl) (λ _ _. refl) (passed-now key words log s.contiguous)
         (sees-exposed key words views me v log s at) refl;
     shows = (
-      ap (λ g. is_some (raises_from g)) raises-from,
-      shows-turn key words views me v new log (Holds words.exposed) at refl
-          ∙ ((λ i. record was { exposed = moved i; hands = with_stage me (Holds (moved i)) was.hands })
-          ∙ ap (machine-raise was me) (sym (ap raises_from raises-from))),
+      ap (λ task. is_some (raises_from (ring_stage task))) raises-from,
+      shows-turn key words views me v new log (InRing None (Holds words.exposed)) at refl
+          ∙ ((λ i. record was { log = record was.log { exposed = moved i }; hands = with_task me (InRing None (Holds (moved i))) was.hands })
+          ∙ ap (λ task. machine-raise was me task (raises_from (ring_stage task))) (sym raises-from)),
     );
   }

@@ -1,5 +1,5 @@
 -- The store of a unit into the ring: the machine's Fill.
-use Rattle.std.proofs.Common.{◌≡◌, ◌≢◌, ◌⊎◌, inl, inr, ⊎_elim, ℕ, ◌+◌, ◌/◌, ◌%◌, ◌<◌, ◌≤◌, cond, true, false, true≢false, List, [], ◌∷◌, ◌++◌, length, map, get_or, set, Some, sym, refl, ap, ◌∙◌, subst, arith, length-append, append-nil, append_assoc, slice_index, eq-eqb, ne_eqb}
+use Rattle.std.proofs.Common.{◌≡◌, ◌≢◌, ◌⊎◌, inl, inr, ⊎_elim, ℕ, ◌+◌, ◌/◌, ◌%◌, ◌<◌, ◌≤◌, cond, true, false, true≢false, List, [], ◌∷◌, ◌++◌, length, map, get_or, set, Some, None, sym, refl, ap, ◌∙◌, subst, arith, length-append, append-nil, append_assoc, slice_index, eq-eqb, ne_eqb}
 use Rattle.std.specs.List.{AllByRecursion, find}
 use Rattle.std.specs.Option.{IsSomeAnd}
 use Rattle.std.proofs.Math.Seq.{get_or-append_seam}
@@ -9,13 +9,14 @@ use native.Mathlib.Decide.{ℕ_discrete, dec_le}
 use lib.ListN.{get_elem?, get_or-append}
 use Rattle.atomic_table.proofs.Lists.{one_turn}
 use Rattle.lsn_space.specs.Tiling.{IsTilingBoundary}
-use Rattle.ring_core.specs.State.{is_at, worked_on, in_hand, RingState}
-use Rattle.ring_core.specs.Machine.{HasUnfilled, filled_at, after_fill}
+use Rattle.ring_core.specs.RingLog.{HasUnfilled, is_at, filled_at}
+use Rattle.slot_core.specs.State.{InRing, Works, SlotState, task_of}
+use Rattle.slot_core.specs.Machine.{MayFill as MayFillNow, after_fill}
 use Rattle.log_table.specs.declared.table.Start.{Start}
 use Rattle.log_table.specs.declared.view.Call.TheVariants.{Idle, Filling}
 use Rattle.log_table.specs.declared.view.Entry.{Entry}
 use Rattle.log_table.specs.declared.view.View.{View}
-use Rattle.log_table.specs.Events.{reservation_of, stage_in, ring_of, Leads, IsStep, fills}
+use Rattle.log_table.specs.Events.{reservation_of, task_in, hands_of, slots_of, Leads, IsStep, fills}
 use Rattle.log_table.specs.Layout.{Ring}
 use Rattle.log_table.specs.Log.{Part, Range, Claim, Log, Tiles, ranges_of, own, owes, claim_of, part_of, parts_of, unreleased_in, inside, filled_inside, filled_in, is_released, SpellsRecord, records_in, StandsInRing, IsFullIfReleased, IsReleasedBelow, CountsRemaining, AgreesFrom, EndsWithPart, Laid}
 use Rattle.log_table.specs.Marks.{Carries, HasTrueEnds}
@@ -34,7 +35,7 @@ use Rattle.log_table.proofs.Looking.{all-tile}
 use Rattle.log_table.proofs.Owning.{LastPart, last_part, own-last, own-others}
 use Rattle.log_table.proofs.Ranging.{RangesApart, last-in_two, tiles-le, laid-le, laid-mid, laid-same, laid-replaced, unreleased_in-mid, filled-here, filled-none, filled_in-mid, filled_in-one}
 use Rattle.log_table.proofs.Roles.{crew-same, quiet-moves}
-use Rattle.log_table.proofs.Showing.{hands_of-set_same, stage_of-hands_of, find-range, changed-range, filled_at-others}
+use Rattle.log_table.proofs.Showing.{hands_of-set_same, task_of-hands_of, find-range, changed-range, filled_at-others}
 use Rattle.log_table.proofs.Viewing.{each_moves, each_set, seats_move, seat_at}
 
 -- two LSNs apart by less than the ring have two words
@@ -91,14 +92,17 @@ module _ (key : Start) (words : Words) (views : List View) (me : ℕ) (v : View)
   pub tiles-held : Tiles (key.ring / 4) key.start (range-front me entry log held-range ++ held-range.here ∷ held-range.behind) words.tail
   tiles-held = subst (λ l. Tiles (key.ring / 4) key.start l words.tail) all-ranges (all-tile _ _ _ _ _ log s.contiguous)
 
-  -- the machine finds the reservation that the seat works on
-  pub hand-is : in_hand (ring_of key words views log) me ≡ Some (reservation_of log.parts held-range.here)
-  hand-is = ap (λ g. worked_on g (map (reservation_of log.parts) (ranges_of log))) (stage_of-hands_of 0 me me views v (omega arith) at ∙ ap stage_in filling)
-      ∙ (ap (λ (p : ℕ × List Range). find (is_at p.0) (map (reservation_of log.parts) p.1)) (λ i. (sym base i, all-ranges i))
-      ∙ find-range log.parts _ _ _ (range-front me entry log held-range) held-range.behind held-range.here tiles-held)
-    where
-      base : held-range.here.base ≡ entry.start
-      base = ap (λ (c : Claim). c.base) held-range.is
+  pub held-base : held-range.here.base ≡ entry.start
+  held-base = ap (λ (c : Claim). c.base) held-range.is
+
+  -- to the machine the seat works on what it reserved
+  pub works-is : task_of me (hands_of 0 views) ≡ InRing None (Works entry.start)
+  works-is = task_of-hands_of 0 me me views v (omega arith) at ∙ ap task_in filling
+
+  -- and the machine finds the reservation there
+  pub found-held : find (is_at entry.start) (map (reservation_of log.parts) (ranges_of log)) ≡ Some (reservation_of log.parts held-range.here)
+  found-held = ap (λ (p : ℕ × List Range). find (is_at p.0) (map (reservation_of log.parts) p.1)) (λ i. (sym held-base i, all-ranges i))
+      ∙ find-range log.parts _ _ _ (range-front me entry log held-range) held-range.behind held-range.here tiles-held
 
 module _ (key : Start) (words : Words) (views : List View) (me : ℕ) (v : View) (entry : Entry) (unit : ℕ) (log : Log)
     (s : IsSound key words views log) (at : get_elem? views me ≡ some v) (filling : v.call ≡ Filling entry)
@@ -260,14 +264,14 @@ module _ (key : Start) (words : Words) (views : List View) (me : ℕ) (v : View)
         (ap records_in last.split ∙ sym (records-mid last.before last.behind old_part part refl)) s.accounts);
   }
 
-  abbrev old_state : RingState
-  old_state = ring_of key words views log
+  abbrev old_state : SlotState
+  old_state = slots_of key words views log
 
   abbrev held : HeldRange me log.ahead entry
   held = held-range key words views me v entry log s at filling
 
   base-is : held.here.base ≡ entry.start
-  base-is = ap (λ (c : Claim). c.base) held.is
+  base-is = held-base key words views me v entry log s at filling
 
   size-is : held.here.size ≡ entry.size
   size-is = ap (λ (c : Claim). c.size) held.is
@@ -295,7 +299,7 @@ module _ (key : Start) (words : Words) (views : List View) (me : ℕ) (v : View)
   as-filled : filled_in held.here.base held.here.size log.parts ≡ length entry.units
   as-filled = (λ i. filled_in (base-is i) (size-is i) (last.split i)) ∙ filled_in-one _ _ last.before last.behind old_part laid
 
-  reservations : map (reservation_of after.parts) (ranges_of after) ≡ map (filled_at held.here.base) (map (reservation_of log.parts) (ranges_of log))
+  reservations : map (reservation_of after.parts) (ranges_of after) ≡ map (filled_at entry.start) (map (reservation_of log.parts) (ranges_of log))
   reservations = ap (map (reservation_of after.parts)) (all-ranges key words views me v entry log s at filling)
       ∙ (changed-range log.parts after.parts (filled_at held.here.base) held.here held.here (filled_at-others held.here.base) elsewhere
       (λ i. record {
@@ -305,28 +309,23 @@ module _ (key : Start) (words : Words) (views : List View) (me : ℕ) (v : View)
             (eq-eqb held.here.base held.here.base refl))) i;
         released = is_released held.here.duty;
       }) _ _ _ (range-front me entry log held) held.behind (tiles-held key words views me v entry log s at filling)
-      ∙ ap (λ l. map (filled_at held.here.base) (map (reservation_of log.parts) l)) (sym (all-ranges key words views me v entry log s at filling)))
+      ∙ (λ i. map (filled_at (base-is i)) (map (reservation_of log.parts) (sym (all-ranges key words views me v entry log s at filling) i))))
 
-  hand : in_hand old_state me ≡ Some (reservation_of log.parts held.here)
-  hand = hand-is key words views me v entry log s at filling
+  works : task_of me (hands_of 0 views) ≡ InRing None (Works entry.start)
+  works = works-is key words views me v entry log s at filling
 
   pub ring-fills : Leads key words (record words { ring = ring' }) views (set views me new) log (fills me)
   ring-fills = record {
     after = after;
     sound = sound;
     shows = (
-      subst (λ o. IsSomeAnd o HasUnfilled) (sym hand) (omega (arith, as-filled, size-is, unfilled)),
-      (λ i. record {
-        start = key.start;
-        ring = key.ring;
-        reservations = reservations i;
-        hands = hands_of-set_same 0 me views v new at (ap stage_in (sym filling)) i;
-        tail = words.tail;
-        exposed = words.exposed;
-        durable =
-            words.durable;
+      subst (MayFillNow old_state) (sym works)
+          (subst (λ o. IsSomeAnd o HasUnfilled) (sym (found-held key words views me v entry log s at filling)) (omega (arith, as-filled, size-is, unfilled))),
+      (λ i. record old_state {
+        log = record old_state.log { reservations = reservations i };
+        hands = hands_of-set_same 0 me views v new at (ap task_in (sym filling)) i;
       })
-          ∙ ap (after_fill old_state) (sym hand),
+          ∙ ap (after_fill old_state me) (sym works),
     );
   }
 

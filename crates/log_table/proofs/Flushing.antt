@@ -4,12 +4,13 @@ use Rattle.std.specs.List.{AllByRecursion}
 use mathlib.Core.Option.{some}
 use lib.ListN.{get_elem?}
 use Rattle.lsn_space.specs.Tiling.{IsTilingBoundary}
-use Rattle.ring_core.specs.State.{size_of}
+use Rattle.ring_core.specs.RingLog.{size_of}
+use Rattle.slot_core.specs.State.{SlotState}
 use Rattle.log_table.specs.declared.table.Start.{Start}
 use Rattle.log_table.specs.declared.view.Constants.{Constants}
 use Rattle.log_table.specs.declared.view.Role.TheVariants.{Flusher}
 use Rattle.log_table.specs.declared.view.View.{View}
-use Rattle.log_table.specs.Events.{reservation_of, IsStep, Leads, flushes}
+use Rattle.log_table.specs.Events.{reservation_of, slots_of, IsStep, Leads, flushes}
 use Rattle.log_table.specs.Layout.{Durable}
 use Rattle.log_table.specs.Log.{Part, Range, Log, ranges_of, StandsInRing, AgreesFrom, EndsWithPart, IsReleased, IsRangeBoundary}
 use Rattle.log_table.specs.Marks.{HasTrueMark, HasTrueEnds}
@@ -160,6 +161,9 @@ module _ (key : Start) (words : Words) (views : List View) (me : ℕ) (v : View)
     accounts = accounts-stay key words.account log.parts views me v new at refl s.accounts;
   }
 
+  abbrev old_state : SlotState
+  old_state = slots_of key words views log
+
   pub durable-flushes : Leads key words (record words { durable = to }) views (set views me new) log (flushes to)
   durable-flushes = record {
     after = after;
@@ -170,14 +174,9 @@ module _ (key : Start) (words : Words) (views : List View) (me : ℕ) (v : View)
         exposed = below;
         boundary = boundary-shown key.start to log.parts (ranges_of log) boundary;
       },
-      λ i. record {
-        start = key.start;
-        ring = key.ring;
-        reservations = map (reservation_of log.parts) (sym same-ranges i);
+      λ i. record old_state {
+        log = record old_state.log { reservations = map (reservation_of log.parts) (sym same-ranges i); durable = to };
         hands = hands_of-set_same 0 me views v new at refl i;
-        tail = words.tail;
-        exposed = words.exposed;
-        durable = to;
       },
     );
   }

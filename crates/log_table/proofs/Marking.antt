@@ -1,5 +1,5 @@
 -- The store of a mark: the machine's Mark. The seat's run is released, wherever exposed is.
-use Rattle.std.proofs.Common.{◌≡◌, ◌≢◌, inl, inr, ⊎_elim, ℕ, ◌+◌, ◌/◌, ◌%◌, ◌<◌, ◌≤◌, cond, true, false, true≢false, List, [], ◌∷◌, ◌++◌, map, set, Some, sym, refl, ap, ◌∙◌, subst, arith, append-nil, eq-eqb, ne_eqb}
+use Rattle.std.proofs.Common.{◌≡◌, ◌≢◌, inl, inr, ⊎_elim, ℕ, ◌+◌, ◌/◌, ◌%◌, ◌<◌, ◌≤◌, cond, true, false, true≢false, List, [], ◌∷◌, ◌++◌, map, set, None, sym, refl, ap, ◌∙◌, subst, arith, append-nil, eq-eqb, ne_eqb}
 use Rattle.std.specs.List.{AllByRecursion}
 use Rattle.std.specs.Option.{IsSomeAnd}
 use mathlib.Core.Logic.{dite}
@@ -7,16 +7,17 @@ use mathlib.Core.Option.{some}
 use native.Mathlib.Decide.{ℕ_discrete}
 use lib.ListN.{get_elem?}
 use Rattle.lsn_space.specs.Tiling.{IsTilingBoundary}
-use Rattle.ring_core.specs.RingLog.{IsFull as IsFilled}
-use Rattle.ring_core.specs.State.{in_hand, RingState}
-use Rattle.ring_core.specs.Machine.{released_at, after_mark}
+use Rattle.ring_core.specs.RingLog.{IsFull as IsFilled, released_at}
+use Rattle.ring_core.specs.State.{base_in, worked_on}
+use Rattle.slot_core.specs.State.{InRing, Works, SlotState, task_of, ring_stage}
+use Rattle.slot_core.specs.Machine.{after_mark}
 use Rattle.log_table.specs.declared.table.Start.{Start}
 use Rattle.log_table.specs.declared.view.Call.TheVariants.{Idle, Filling, Marked}
 use Rattle.log_table.specs.declared.view.Entry.{Entry}
 use Rattle.log_table.specs.declared.view.Role.{Role}
 use Rattle.log_table.specs.declared.view.Role.TheVariants.{Flusher, Fresh, Active, Ended, Note, Spent}
 use Rattle.log_table.specs.declared.view.View.{View}
-use Rattle.log_table.specs.Events.{reservation_of, ring_of, Leads, IsStep, marks}
+use Rattle.log_table.specs.Events.{reservation_of, hands_of, slots_of, Leads, IsStep, marks}
 use Rattle.log_table.specs.Layout.{Mark}
 use Rattle.log_table.specs.Log.{Part, Owed, Released, Range, Claim, Log, ranges_of, own, owed, owes, is_owed_by, claim_of, part_of, parts_of, unreleased_in, inside, filled_in, is_released, IsFull, SpellsRecord, records_in, StandsInRing, IsFullIfReleased, IsReleasedBelow, IsReleased, IsAtWork, CountsRemaining, Tiles, Laid, AgreesFrom, EndsWithPart, IsRangeBoundary}
 use Rattle.log_table.specs.Marks.{HasReleaseMarks, HasTrueMark, HasTrueEnds}
@@ -30,7 +31,7 @@ use Rattle.log_table.specs.Views.{entries_in, counted}
 use Rattle.log_table.specs.Words.{Words, put}
 use Rattle.log_table.proofs.Boundaries.{range_size, part_size, boundary-mid}
 use Rattle.log_table.proofs.Carrying.{carrier-here, ends-mid, ends-move}
-use Rattle.log_table.proofs.Filling.{HeldRange, range-front, held-range, all-ranges, tiles-held, hand-is, put-here, put-other}
+use Rattle.log_table.proofs.Filling.{HeldRange, range-front, held-range, all-ranges, tiles-held, works-is, found-held, put-here, put-other}
 use Rattle.log_table.proofs.Keeping.{accounts-stay, records-mid}
 use Rattle.log_table.proofs.Lists.{all-mid, all-at, all-weaker, picked-append, picked-same}
 use Rattle.log_table.proofs.Owning.{LastPart, last_part, own-last, own-others, parts_of-push, duty-owed, owed-unreleased}
@@ -287,11 +288,11 @@ module _ (key : Start) (words : Words) (views : List View) (me : ℕ) (v : View)
         boundaries = all-weaker (IsRangeBoundary key.start (ranges_of log)) (IsRangeBoundary key.start (ranges_of after)) z.seen.lsns still old.boundaries;
       }
 
-  abbrev old_state : RingState
-  old_state = ring_of key words views log
+  abbrev old_state : SlotState
+  old_state = slots_of key words views log
 
-  hand : in_hand old_state me ≡ Some (reservation_of log.parts range)
-  hand = hand-is key words views me v entry log s at filling
+  works : task_of me (hands_of 0 views) ≡ InRing None (Works entry.start)
+  works = works-is key words views me v entry log s at filling
 
   as-filled : filled_in range.base range.size log.parts ≡ entry.size
   as-filled = (λ i. filled_in (base-is i) (size-is i) (last.split i)) ∙ (filled_in-one _ _ last.before last.behind old_part laid ∙ is_full)
@@ -303,7 +304,7 @@ module _ (key : Start) (words : Words) (views : List View) (me : ℕ) (v : View)
       let g : filled_in base size (last.before ++ old_part ∷ last.behind) ≡ filled_in base size log.parts =
       ap (filled_in base size) (sym last.split) in omega (arith, m, g)
 
-  reservations : map (reservation_of after.parts) (ranges_of after) ≡ map (released_at range.base) (map (reservation_of log.parts) (ranges_of log))
+  reservations : map (reservation_of after.parts) (ranges_of after) ≡ map (released_at entry.start) (map (reservation_of log.parts) (ranges_of log))
   reservations = ap (map (reservation_of after.parts)) (sym are)
       ∙ (changed-range log.parts after.parts (released_at range.base) range now (released_at-others range.base) (λ q _. same-filled q.base q.size)
       (λ i. record {
@@ -312,24 +313,20 @@ module _ (key : Start) (words : Words) (views : List View) (me : ℕ) (v : View)
         filled = same-filled range.base range.size i;
         released = sym (ap (λ b. cond b true (is_released range.duty)) (eq-eqb range.base range.base refl)) i;
       }) _ _ _ front held.behind all-tiles
-      ∙ ap (λ l. map (released_at range.base) (map (reservation_of log.parts) l)) (sym were))
+      ∙ (λ i. map (released_at (base-is i)) (map (reservation_of log.parts) (sym were i))))
 
   pub mark-releases : Leads key words (record words { mark = mark' }) views (set views me new) log (marks me)
   mark-releases = record {
     after = after;
     sound = sound;
     shows = (
-      subst (λ o. IsSomeAnd o IsFilled) (sym hand) (as-filled ∙ sym size-is),
-      (λ i. record {
-        start = key.start;
-        ring = key.ring;
-        reservations = reservations i;
+      subst (λ task. IsSomeAnd (worked_on (ring_stage task) old_state.log.reservations) IsFilled) (sym works)
+          (subst (λ o. IsSomeAnd o IsFilled) (sym (found-held key words views me v entry log s at filling)) (as-filled ∙ sym size-is)),
+      (λ i. record old_state {
+        log = record old_state.log { reservations = reservations i };
         hands = hands_of-set 0 me me views v new (omega arith) at i;
-        tail = words.tail;
-        exposed = words.exposed;
-        durable = words.durable;
       })
-          ∙ ap (after_mark old_state me) (sym hand),
+          ∙ ap (λ task. after_mark old_state me task (base_in (ring_stage task))) (sym works),
     );
   }
 

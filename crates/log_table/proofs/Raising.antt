@@ -1,5 +1,5 @@
 -- Exposed is raised past the first range ahead: the machine's Raise, where the exchange is not lost.
-use Rattle.std.proofs.Common.{◌≡◌, ℕ, ◌==◌, ◌+◌, ◌/◌, ◌%◌, ◌<◌, ◌≤◌, cond, eqb, Bool, true, false, List, [], ◌∷◌, ◌++◌, map, set, sym, refl, ap, ◌∙◌, subst, le_refl, arith, append_assoc, eq-eqb, ne_eqb}
+use Rattle.std.proofs.Common.{◌≡◌, ℕ, ◌==◌, ◌+◌, ◌/◌, ◌%◌, ◌<◌, ◌≤◌, cond, eqb, Bool, true, false, List, [], ◌∷◌, ◌++◌, map, set, None, sym, refl, ap, ◌∙◌, subst, le_refl, arith, append_assoc, eq-eqb, ne_eqb}
 use Rattle.std.proofs.Math.Nat.{div-le_self}
 use Rattle.std.specs.Prelude.{is_some}
 use Rattle.std.specs.List.{AllByRecursion}
@@ -11,15 +11,15 @@ use lib.ListN.{get_elem?}
 use prog.Atomic.{either}
 use Rattle.lsn_space.specs.declared.lsn.TheConstants.{LAST}
 use Rattle.ring_core.specs.RingLog.{end_at, end_of}
-use Rattle.ring_core.specs.declared.stage.Stage.TheVariants.{Raises, Holds}
-use Rattle.ring_core.specs.State.{RingState, with_stage, stage_of, raises_from}
-use Rattle.ring_core.specs.Machine.{after_raise as machine-raise}
+use Rattle.ring_core.specs.State.{raises_from}
+use Rattle.slot_core.specs.State.{Raises, Holds, InRing, SlotState, with_task, task_of, ring_stage}
+use Rattle.slot_core.specs.Machine.{after_raise as machine-raise}
 use Rattle.log_table.specs.declared.table.Start.{Start}
 use Rattle.log_table.specs.declared.view.Call.{Call}
 use Rattle.log_table.specs.declared.view.Call.TheVariants.{Idle, Filling, Marked, Holding, Raising}
 use Rattle.log_table.specs.declared.view.Role.TheVariants.{Flusher}
 use Rattle.log_table.specs.declared.view.View.{View}
-use Rattle.log_table.specs.Events.{reservation_of, stage_in, hands_of, ring_of, Leads, IsStep, raises}
+use Rattle.log_table.specs.Events.{reservation_of, task_in, hands_of, slots_of, Leads, IsStep, raises}
 use Rattle.log_table.specs.Layout.{Exposed}
 use Rattle.log_table.specs.Log.{Part, Range, Log, ranges_of, owed, is_owed_by, claim_of, parts_of, unreleased_in, IsReleased, IsAtWork, IsReleasedBelow, CountsRemaining, EndsWithPart, IsRangeBoundary, Tiles}
 use Rattle.log_table.specs.Marks.{IsReady, IsCurrentMark, HasTrueMark, IsFirstReleased, FirstEnds, HasTrueEnds}
@@ -37,7 +37,7 @@ use Rattle.log_table.proofs.Looking.{exposed-boundary}
 use Rattle.log_table.proofs.MarkLooks.{StartsAt, found-at, ready-marked, marked-ready}
 use Rattle.log_table.proofs.Ranging.{tiles-le, tiles-push, all-released}
 use Rattle.log_table.proofs.Roles.{busy-not_quiet, crew-same, quiet-moves}
-use Rattle.log_table.proofs.Showing.{hands_of-set, stage_of-hands_of}
+use Rattle.log_table.proofs.Showing.{hands_of-set, task_of-hands_of}
 use Rattle.log_table.proofs.TrueMarks.{IsFirstReady, current-raise}
 use Rattle.log_table.proofs.Viewing.{each_moves, each_set, seats_move, seat_at}
 
@@ -206,17 +206,17 @@ module _ (key : Start) (words : Words) (views : List View) (me : ℕ) (v : View)
     accounts = accounts-stay key words.account log.parts views me v new at refl s.accounts;
   }
 
-  abbrev was : RingState
-  was = ring_of key words views log
+  abbrev was : SlotState
+  was = slots_of key words views log
 
-  stage-is : stage_of me (hands_of 0 views) ≡ Raises from
-  stage-is = stage_of-hands_of 0 me me views v (omega arith) at ∙ ap stage_in may
+  task-is : task_of me (hands_of 0 views) ≡ InRing None (Raises from)
+  task-is = task_of-hands_of 0 me me views v (omega arith) at ∙ ap task_in may
 
   -- the machine finds the range's end
-  raised-to : to ≡ cond (words.exposed == from) (end_at from was.reservations) words.exposed
+  raised-to : to ≡ cond (words.exposed == from) (end_at from was.log.reservations) words.exposed
   raised-to = first.ends
       ∙ (sym (ap (λ o. option_map_or end_of o from) (found-at key words views log s from here))
-      ∙ sym (ap (λ b. cond b (end_at from was.reservations) words.exposed) (eq-eqb words.exposed from same)))
+      ∙ sym (ap (λ b. cond b (end_at from was.log.reservations) words.exposed) (eq-eqb words.exposed from same)))
     where
       here : StartsAt from (ranges_of log)
       here = record {
@@ -232,17 +232,12 @@ module _ (key : Start) (words : Words) (views : List View) (me : ℕ) (v : View)
     after = after;
     sound = sound;
     shows = (
-      ap (λ g. is_some (raises_from g)) stage-is,
-      (λ i. record {
-        start = key.start;
-        ring = key.ring;
-        reservations = map (reservation_of log.parts) (sym same-ranges i);
-        hands = (hands_of-set 0 me me views v new (omega arith) at ∙ ap (λ n. with_stage me (Holds n) (hands_of 0 views)) raised-to) i;
-        tail = words.tail;
-        exposed = raised-to i;
-        durable = words.durable;
+      ap (λ task. is_some (raises_from (ring_stage task))) task-is,
+      (λ i. record was {
+        log = record was.log { reservations = map (reservation_of log.parts) (sym same-ranges i); exposed = raised-to i };
+        hands = (hands_of-set 0 me me views v new (omega arith) at ∙ ap (λ n. with_task me (InRing None (Holds n)) (hands_of 0 views)) raised-to) i;
       })
-          ∙ ap (machine-raise was me) (sym (ap raises_from stage-is)),
+          ∙ ap (λ task. machine-raise was me task (raises_from (ring_stage task))) (sym task-is),
     );
   }
 

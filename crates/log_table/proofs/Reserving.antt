@@ -13,7 +13,8 @@ use Rattle.log_table.specs.declared.table.Start.{Start}
 use Rattle.log_table.specs.declared.view.Constants.{Constants}
 use Rattle.log_table.specs.declared.view.Entry.{Entry}
 use Rattle.log_table.specs.declared.view.View.{View}
-use Rattle.log_table.specs.Events.{reservation_of, stage_in, Leads, IsStep, Event, none, reserves}
+use Rattle.slot_core.specs.State.{SlotState}
+use Rattle.log_table.specs.Events.{reservation_of, task_in, slots_of, Leads, IsStep, Event, none, reserves}
 use Rattle.log_table.specs.Layout.{Tail}
 use Rattle.log_table.specs.Log.{Part, Owed, Range, Log, ranges_of, part_of, parts_of, unreleased_in, SpellsRecord, records_in, StandsInRing, IsFullIfReleased, IsReleasedBelow, Released, filled_in, IsAtWork, CountsRemaining, AgreesFrom, EndsWithPart, IsRangeBoundary, Laid}
 use Rattle.log_table.specs.Marks.{HasTrueMark, Carries, HasTrueEnds}
@@ -42,7 +43,7 @@ use Rattle.log_table.proofs.Looking.{tail-boundary, tail-looks}
 use Rattle.log_table.proofs.Owning.{own-push, own-push_others, owed-push, owed-push_others}
 use Rattle.log_table.proofs.Ranging.{tiles-le, tiles-push, tiles-within, laid-append, inside-here, unreleased_in-append, unreleased_in-apart, filled_in-append, filled_in-apart}
 use Rattle.log_table.proofs.Roles.{crew-same, quiet-moves}
-use Rattle.log_table.proofs.Showing.{hands_of-set, stage_of-hands_of, same-shown}
+use Rattle.log_table.proofs.Showing.{hands_of-set, task_of-hands_of, same-shown}
 use Rattle.log_table.proofs.TrueMarks.{ready-push}
 use Rattle.log_table.proofs.Viewing.{each_set, each_moves, seats_move, seat_at}
 
@@ -273,28 +274,26 @@ module _ (key : Start) (words : Words) (views : List View) (me : ℕ) (v : View)
       unfilled : filled_in from size after.parts ≡ 0
       unfilled = empty-push log.parts part from size refl ∙ filled_in-apart _ _ from size log.parts s.contiguous.parts (inl (le_refl _))
 
+  abbrev old_state : SlotState
+  old_state = slots_of key words views log
+
   pub tail-reserves : Leads key words (record words { tail = to }) views (set views me new) log (reserves me size)
   tail-reserves = record {
     after = after;
     sound = sound;
     shows = (
-      record {
-        idle = stage_of-hands_of 0 me me views v (omega arith) at ∙ ap stage_in may.rests.idle;
-        room = record {
+      (
+        task_of-hands_of 0 me me views v (omega arith) at ∙ ap task_in may.rests.idle,
+        record {
           positive = positive;
           quarter = quarter;
           within_log = subst (λ n. n ≤ LAST) (sym whole) may.within_log;
           within_ring = omega (arith, whole, sound.ordered.within_ring);
-        };
-      },
-      λ i. record {
-        start = key.start;
-        ring = key.ring;
-        reservations = reservations i;
+        },
+      ),
+      λ i. record old_state {
+        log = record old_state.log { reservations = reservations i; tail = sym whole i };
         hands = hands_of-set 0 me me views v new (omega arith) at i;
-        tail = sym whole i;
-        exposed = words.exposed;
-        durable = words.durable;
       },
     );
   }

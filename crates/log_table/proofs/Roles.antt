@@ -8,7 +8,7 @@ use Rattle.log_table.specs.declared.view.Role.{Role}
 use Rattle.log_table.specs.declared.view.Role.TheVariants.{Flusher, Fresh, Active, Ended, Note, Spent}
 use Rattle.log_table.specs.declared.view.Standing.{Standing}
 use Rattle.log_table.specs.declared.view.View.{View}
-use Rattle.log_table.specs.Events.{reservation_of, stage_in, Leads, none}
+use Rattle.log_table.specs.Events.{task_in, slots_of, Leads, none}
 use Rattle.log_table.specs.Log.{Log, ranges_of, parts_of}
 use Rattle.log_table.specs.Marks.{IsFirstReleased, Carries, HasTrueEnds}
 use Rattle.log_table.specs.Sound.{EachView, EachPair, HasSeenBoundaries, SendsIfFlusher, StoresStop, HasReadStop, RestsIfQuiet, LookedIfQuiet, HasWorkingOwner, HasConstants, RestsUnlessActive, OwnsIfWorker, HoldsIfActive, base_of, history_in, books_of, HasSoundRole, HasSoundRoles, HasSoundCrew, IsSound, is_active_view}
@@ -139,14 +139,6 @@ module _ (key : Start) (words : Words) (stop crew : ℕ) (account : ℕ → ℕ)
   pub restands : Leads key words (record words { stop = stop; crew = crew; account = account }) views (set views me new) log none
   restands = record {
     after = log;
-    shows = λ i. record {
-      start = key.start;
-      ring = key.ring;
-      reservations = map (reservation_of log.parts) (ranges_of log);
-      hands = hands_of-set_same 0 me views v new at (ap stage_in call) i;
-      tail = words.tail;
-      exposed = words.exposed;
-      durable = words.durable;
-    };
+    shows = λ i. record (slots_of key words views log) { hands = hands_of-set_same 0 me views v new at (ap task_in call) i };
     sound = restands-sound;
   }

@@ -1,48 +1,48 @@
--- What a table shows of the ring machine, where a seat's call or one range changes.
+-- What a table shows of the machine, where a seat's call or one range changes.
 use Rattle.std.proofs.Common.{◌≡◌, inl, inr, ⊎_elim, ℕ, zero, suc, ◌==◌, ◌+◌, ◌≤◌, cond, true, false, List, [], ◌∷◌, ◌++◌, map, set, Some, None, sym, refl, ap, ◌∙◌, arith, eq-eqb, ne_eqb}
 use Rattle.std.specs.List.{find}
 use mathlib.Core.Option.{some, some-injective, some-ne-none}
 use lib.ListN.{get_elem?}
-use Rattle.ring_core.specs.State.{Reservation, Hand, stage_of, with_stage, is_at}
-use Rattle.ring_core.specs.Machine.{filled_at, released_at}
+use Rattle.ring_core.specs.RingLog.{Reservation, is_at, filled_at, released_at}
+use Rattle.slot_core.specs.State.{Hand, task_of, with_task}
 use Rattle.log_table.specs.declared.view.View.{View}
 use Rattle.log_table.specs.Log.{Part, Range, Tiles, filled_in, is_released}
-use Rattle.log_table.specs.Events.{reservation_of, stage_in, hands_of}
+use Rattle.log_table.specs.Events.{reservation_of, task_in, hands_of}
 use Rattle.log_table.proofs.Ranging.{RangesApart, tiles-le, tiles-mid}
 
 -- a seat whose call shows the same changes nothing
-pub hands_of-set_same : (first me : ℕ) (views : List View) (v new : View) → get_elem? views me ≡ some v → stage_in new.call ≡ stage_in v.call
+pub hands_of-set_same : (first me : ℕ) (views : List View) (v new : View) → get_elem? views me ≡ some v → task_in new.call ≡ task_in v.call
     → hands_of first (set views me new) ≡ hands_of first views
 hands_of-set_same first me [] v new at same = refl
 hands_of-set_same first zero (x ∷ xs) v new at same =
-    λ i. record { actor = first; stage = (same ∙ ap (λ (z : View). stage_in z.call) (sym (some-injective x v at))) i } ∷ hands_of (first + 1) xs
+    λ i. record { actor = first; task = (same ∙ ap (λ (z : View). task_in z.call) (sym (some-injective x v at))) i } ∷ hands_of (first + 1) xs
 hands_of-set_same first (suc me) (x ∷ xs) v new at same =
-    ap (λ l. record { actor = first; stage = stage_in x.call } ∷ l) (hands_of-set_same (first + 1) me xs v new at same)
+    ap (λ l. record { actor = first; task = task_in x.call } ∷ l) (hands_of-set_same (first + 1) me xs v new at same)
 
 -- a seat turns to another call
 pub hands_of-set : (first me actor : ℕ) (views : List View) (v new : View) → actor ≡ first + me → get_elem? views me ≡ some v
-    → hands_of first (set views me new) ≡ with_stage actor (stage_in new.call) (hands_of first views)
+    → hands_of first (set views me new) ≡ with_task actor (task_in new.call) (hands_of first views)
 hands_of-set first me actor [] v new is at = absurd (some-ne-none v (sym at))
 hands_of-set first zero actor (x ∷ xs) v new is at = let here : first ≡ actor = omega arith in
-    ap (λ n. record { actor = n; stage = stage_in new.call } ∷ hands_of (first + 1) xs) here
-    ∙ sym (ap (λ b. cond {A = List Hand} b (record { actor = actor; stage = stage_in new.call } ∷ hands_of (first + 1) xs)
-    (record { actor = first; stage = stage_in x.call } ∷ with_stage actor (stage_in new.call) (hands_of (first + 1) xs)))
+    ap (λ n. record { actor = n; task = task_in new.call } ∷ hands_of (first + 1) xs) here
+    ∙ sym (ap (λ b. cond {A = List Hand} b (record { actor = actor; task = task_in new.call } ∷ hands_of (first + 1) xs)
+    (record { actor = first; task = task_in x.call } ∷ with_task actor (task_in new.call) (hands_of (first + 1) xs)))
     (eq-eqb first actor here))
 hands_of-set first (suc me) actor (x ∷ xs) v new is at =
-    ap (λ l. record { actor = first; stage = stage_in x.call } ∷ l) (hands_of-set (first + 1) me actor xs v new (omega arith) at)
-    ∙ sym (ap (λ b. cond {A = List Hand} b (record { actor = actor; stage = stage_in new.call } ∷ hands_of (first + 1) xs)
-    (record { actor = first; stage = stage_in x.call } ∷ with_stage actor (stage_in new.call) (hands_of (first + 1) xs)))
+    ap (λ l. record { actor = first; task = task_in x.call } ∷ l) (hands_of-set (first + 1) me actor xs v new (omega arith) at)
+    ∙ sym (ap (λ b. cond {A = List Hand} b (record { actor = actor; task = task_in new.call } ∷ hands_of (first + 1) xs)
+    (record { actor = first; task = task_in x.call } ∷ with_task actor (task_in new.call) (hands_of (first + 1) xs)))
     (ne_eqb first actor (λ e. omega arith)))
 
-pub stage_of-hands_of : (first me actor : ℕ) (views : List View) (v : View) → actor ≡ first + me → get_elem? views me ≡ some v
-    → stage_of actor (hands_of first views) ≡ stage_in v.call
-stage_of-hands_of first me actor [] v is at = absurd (some-ne-none v (sym at))
-stage_of-hands_of first zero actor (x ∷ xs) v is at =
-    ap (λ b. cond b (stage_in x.call) (stage_of actor (hands_of (first + 1) xs))) (eq-eqb first actor (omega arith))
-    ∙ ap (λ (z : View). stage_in z.call) (some-injective x v at)
-stage_of-hands_of first (suc me) actor (x ∷ xs) v is at =
-    ap (λ b. cond b (stage_in x.call) (stage_of actor (hands_of (first + 1) xs))) (ne_eqb first actor (λ e. omega arith))
-    ∙ stage_of-hands_of (first + 1) me actor xs v (omega arith) at
+pub task_of-hands_of : (first me actor : ℕ) (views : List View) (v : View) → actor ≡ first + me → get_elem? views me ≡ some v
+    → task_of actor (hands_of first views) ≡ task_in v.call
+task_of-hands_of first me actor [] v is at = absurd (some-ne-none v (sym at))
+task_of-hands_of first zero actor (x ∷ xs) v is at =
+    ap (λ b. cond b (task_in x.call) (task_of actor (hands_of (first + 1) xs))) (eq-eqb first actor (omega arith))
+    ∙ ap (λ (z : View). task_in z.call) (some-injective x v at)
+task_of-hands_of first (suc me) actor (x ∷ xs) v is at =
+    ap (λ b. cond b (task_in x.call) (task_of actor (hands_of (first + 1) xs))) (ne_eqb first actor (λ e. omega arith))
+    ∙ task_of-hands_of (first + 1) me actor xs v (omega arith) at
 
 -- the reservation at a range's base is that range's
 pub find-range : (parts : List Part) (most from to : ℕ) (ls rs : List Range) (r : Range) → Tiles most from (ls ++ r ∷ rs) to

@@ -1,14 +1,12 @@
--- What a table shows of the ring machine, and which of its events a step is. What speaks of steps uses these names, and not those of the
--- machine itself.
-use Rattle.std.specs.Prelude.{◌≡◌, ℕ, ◌+◌, true, List, [], ◌∷◌, map, set, Option, Some, None}
+-- What a table shows of the machine with slots, and which of its events a step is. What speaks of steps uses these names, and not those of
+-- the machine itself. All events so far are the ring machine's.
+use Rattle.std.specs.Prelude.{◌≡◌, ℕ, ◌+◌, true, List, [], ◌∷◌, map, set, replicate, Option, Some, None}
 use mathlib.Core.Option.{some}
 use lib.ListN.{get_elem?}
-use Rattle.ring_core.specs.declared.stage.Stage.{Stage}
-use Rattle.ring_core.specs.declared.stage.Stage.TheVariants.{Idle, Works, Marked, Holds, Raises}
-use Rattle.ring_core.specs.State.{Reservation, Hand, RingState}
-use Rattle.ring_core.specs.Machine.{RingStep}
-use Rattle.ring_core.specs.declared.event.RingEvent.{RingEvent}
+use Rattle.ring_core.specs.RingLog.{Reservation, RingLog}
 use Rattle.ring_core.specs.declared.event.RingEvent.TheVariants.{Reserve, Fill, Mark, LookExposed, LookMark, Raise, Flushed}
+use Rattle.slot_core.specs.State.{Works, Marked, Holds, Raises, Task, InRing, Hand, SlotState, nothing, empty_group}
+use Rattle.slot_core.specs.Machine.{GroupEvent, Ring, GroupStep}
 use Rattle.log_table.specs.declared.table.Start.{Start}
 use Rattle.log_table.specs.declared.view.Call.{Call}
 use Rattle.log_table.specs.declared.view.Call.TheVariants as call
@@ -23,62 +21,66 @@ abbrev pub reservation_of : List Part → Range → Reservation
 reservation_of parts range =
     record { base = range.base; size = range.size; filled = filled_in range.base range.size parts; released = is_released range.duty }
 
--- what a call has in hand, as the machine says it
-abbrev pub stage_in : Call → Stage
-stage_in call.Idle = Idle
-stage_in (call.Filling entry) = Works entry.start
-stage_in call.Marked = Marked
-stage_in (call.Holding at) = Holds at
-stage_in (call.Raising from to) = Raises from
+-- what a call has in hand, as the machine says it: no call is a member's, and none has a slot to open
+abbrev pub task_in : Call → Task
+task_in call.Idle = nothing
+task_in (call.Filling entry) = InRing None (Works entry.start)
+task_in call.Marked = InRing None Marked
+task_in (call.Holding at) = InRing None (Holds at)
+task_in (call.Raising from to) = InRing None (Raises from)
 
 -- the seats from this number on are the machine's actors
 abbrev pub hands_of : ℕ → List View → List Hand
 hands_of seat [] = []
-hands_of seat (view ∷ views) = record { actor = seat; stage = stage_in view.call } ∷ hands_of (seat + 1) views
+hands_of seat (view ∷ views) = record { actor = seat; task = task_in view.call } ∷ hands_of (seat + 1) views
 
--- the state of the ring machine that a table shows
-abbrev pub ring_of : Start → Words → List View → Log → RingState
-ring_of key words views log = record {
+-- what of the machine's state belongs to bases
+abbrev pub ring_of : Start → Words → Log → RingLog
+ring_of key words log = record {
   start = key.start;
   ring = key.ring;
   reservations = map (reservation_of log.parts) (ranges_of log);
-  hands = hands_of 0 views;
   tail = words.tail;
   exposed = words.exposed;
   durable = words.durable;
 }
 
+-- The state of the machine that a table shows. No step makes a group yet, so the one at each slot is nobody's
+abbrev pub slots_of : Start → Words → List View → Log → SlotState
+slots_of key words views log =
+    record { log = ring_of key words log; hands = hands_of 0 views; groups = replicate key.slots empty_group }
+
 -- what a step is to the machine: one of its events, or none
 abbrev pub Event : Type 0
-Event = Option RingEvent
+Event = Option GroupEvent
 
 -- the seat reserves n units
 abbrev pub reserves : ℕ → ℕ → Event
-reserves seat n = Some (Reserve seat n)
+reserves seat n = Some (Ring (Reserve seat n))
 
 -- the seat fills the next unit of what it reserved
 abbrev pub fills : ℕ → Event
-fills seat = Some (Fill seat)
+fills seat = Some (Ring (Fill seat))
 
 -- the seat releases what it reserved, and marks it
 abbrev pub marks : ℕ → Event
-marks seat = Some (Mark seat)
+marks seat = Some (Ring (Mark seat))
 
 -- the seat looks at exposed, after a mark that it has just made
 abbrev pub looks_exposed : ℕ → Event
-looks_exposed seat = Some (LookExposed seat)
+looks_exposed seat = Some (Ring (LookExposed seat))
 
 -- the seat looks at the mark at the LSN in hand
 abbrev pub looks_mark : ℕ → Event
-looks_mark seat = Some (LookMark seat)
+looks_mark seat = Some (Ring (LookMark seat))
 
 -- the seat raises exposed from the LSN in hand, or finds that it has moved
 abbrev pub raises : ℕ → Event
-raises seat = Some (Raise seat)
+raises seat = Some (Ring (Raise seat))
 
 -- all below is on the disk
 abbrev pub flushes : ℕ → Event
-flushes to = Some (Flushed to)
+flushes to = Some (Ring (Flushed to))
 
 abbrev pub none : Event
 none = None
@@ -92,15 +94,15 @@ look_event seat (call.Holding at) = none
 look_event seat (call.Raising from to) = none
 
 -- the machine takes the event, or where there is none it stays as it was
-abbrev pub Shows : Event → RingState → RingState → Type 0
+abbrev pub Shows : Event → SlotState → SlotState → Type 0
 Shows None old new = new ≡ old
-Shows (Some event) old new = RingStep old event true new
+Shows (Some event) old new = GroupStep old event true new
 
--- from a sound table to a sound one, by this event of the ring machine
+-- from a sound table to a sound one, by this event of the machine
 pub record Leads (key : Start) (words words' : Words) (views views' : List View) (log : Log) (event : Event) : Type 0 where
   pub after : Log
   pub sound : IsSound key words' views' after
-  pub shows : Shows event (ring_of key words views log) (ring_of key words' views' after)
+  pub shows : Shows event (slots_of key words views log) (slots_of key words' views' after)
 
 -- Whatever sound table it is in which the word holds `found` and the seat has `view`: once the word holds `left` and the
 -- seat has `view'`, the table is sound, and the step is the event
