@@ -10,7 +10,7 @@ use Rattle.log_table.specs.declared.view.Books.{Books}
 use Rattle.log_table.specs.Accounts.{KeepsAccounts}
 use Rattle.log_table.specs.Books.{no_books}
 use Rattle.log_table.specs.Marks.{HasTrueEnds}
-use Rattle.log_table.specs.Views.{nobody, entries_in, claims_in}
+use Rattle.log_table.specs.Views.{nobody, entries_in, books_in, claims_in}
 use Rattle.log_table.specs.Words.{Words}
 use Rattle.log_table.proofs.Carrying.{carrier-push}
 use Rattle.log_table.proofs.Gathered.{adds-nobody}
@@ -44,14 +44,15 @@ module _ (key : Start) (words : Words) (views : List View) (log : Log) (s : IsSo
     filled = s.filled;
     below = s.below;
     at_work = s.at_work;
+    slots = s.slots;
     marks = s.marks;
     carried = λ first. carrier-push words.exposed views new (s.carried first);
     ends = each_push (λ _ z. HasTrueEnds key.start words.exposed log z.call) (λ _ z. HasTrueEnds key.start words.exposed log z.call) views new
         s.ends (subst (HasTrueEnds key.start words.exposed log) (sym call) tt) (λ _ _ _ p. p);
-    owners = λ j. nobody-more views new (HasWorkingOwner log.parts log.ahead) j
-        (let none = subst (HasWorkingOwner log.parts log.ahead (length views)) (nobody-there views) (s.owners (length views)) in record {
+    owners = λ j. nobody-more views new (HasWorkingOwner log.groups log.parts log.ahead) j
+        (let none = subst (HasWorkingOwner log.groups log.parts log.ahead (length views)) (nobody-there views) (s.owners (length views)) in record {
           owns = none.owns ∙ (λ i. parts_of (length views) Rattle.std.proofs.Common.true (sym entries i)
-              ++ parts_of (length views) Rattle.std.proofs.Common.false (entries_in (sym call i)));
+              ++ parts_of (length views) Rattle.std.proofs.Common.false (entries_in log.groups (sym call i)));
           owes = none.owes ∙ ap claims_in (sym call);
         }) (s.owners j);
     constants = each_push (λ _ z. HasConstants key z) (λ _ z. HasConstants key z) views new s.constants constants (λ _ _ _ p. p);
@@ -68,6 +69,7 @@ module _ (key : Start) (words : Words) (views : List View) (log : Log) (s : IsSo
         (λ f. absurd (not-flusher f)) (λ _ _ _ p. p);
     unheld = each_push (λ _ z. HoldsIfActive z) (λ _ z. HoldsIfActive z) views new s.unheld ((λ _. ap (λ (b : Books). b.held) books), (λ _. ap (λ (b : Books). b.jobs) books)) (λ _ _ _ p. p);
     accounts = subst (KeepsAccounts (base_of key) words.account (history_in key log.parts))
-        (sym (map-append books_of views (new ∷ []) ∙ ap (λ b. map books_of views ++ b ∷ []) books))
-        (adds-nobody (base_of key) words.account (history_in key log.parts) (map books_of views) s.accounts);
+        (sym (map-append (books_of log.groups) views (new ∷ [])
+        ∙ (λ i. map (books_of log.groups) views ++ books_in log.groups (call i) (books i) ∷ [])))
+        (adds-nobody (base_of key) words.account (history_in key log.parts) (map (books_of log.groups) views) s.accounts);
   }

@@ -166,7 +166,7 @@ module _ (key : Start) (words : Words) (views : List View) (me : ℕ) (v : View)
       (each_set (λ _ z. HasReadStop words.stop z) views me new s.read_stop (s.read_stop me v at))
       (quiet-moves views me v new s.quiet at (λ _ _ _ _ f. no-flusher f) (λ z h f q. next.works (sym (ap is_working was) ∙ h f q)))
       (λ f. no-flusher f) ((λ off. (rests off).1), (λ off. absurd (true≢false (sym next.owner ∙ off))))
-      (accounts-stay key words.account log.parts views me v new at refl s.accounts)
+      (accounts-stay key words.account log.parts log.groups views me v new at refl s.accounts)
 
 pub enrolls : (key : Start) (words : Words) (views : List View) (me : ℕ) (v : View) (log : Log) → IsSound key words views log
     → get_elem? views me ≡ some v → v.standing.role ≡ Fresh

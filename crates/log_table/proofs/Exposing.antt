@@ -11,6 +11,7 @@ use Rattle.ring_core.specs.State.{looks_at, raises_from, after_look as stage_aft
 use Rattle.slot_core.specs.State.{Marked as MarkedStage, Raises, Holds, Task, InRing, SlotState, with_task, task_of, ring_stage}
 use Rattle.slot_core.specs.Machine.{turned, in_ring, after_look_mark, after_raise as machine-raise}
 use Rattle.log_table.specs.declared.table.Start.{Start}
+use Rattle.log_table.specs.declared.view.Books.{Books}
 use Rattle.log_table.specs.declared.view.Call.{Call}
 use Rattle.log_table.specs.declared.view.Call.TheVariants.{Idle, Filling, Marked, Holding, Raising}
 use Rattle.log_table.specs.declared.view.Role.TheVariants.{Flusher}
@@ -18,6 +19,7 @@ use Rattle.log_table.specs.declared.view.Seen.{Seen}
 use Rattle.log_table.specs.declared.view.Sending.{Sending}
 use Rattle.log_table.specs.declared.view.View.{View}
 use Rattle.log_table.specs.Events.{Event, task_in, hands_of, slots_of, Leads, IsStep, look_event, looks_mark, raises, none}
+use Rattle.log_table.specs.Groups.{Group}
 use Rattle.log_table.specs.Layout.{Exposed, Mark}
 use Rattle.log_table.specs.Log.{Log, ranges_of}
 use Rattle.log_table.specs.Marks.{IsFirstReleased, FirstEnds, Carries, IsPassed, HasTrueEnds}
@@ -25,7 +27,7 @@ use Rattle.log_table.specs.MarkViews.{in_hand, next_raise, call_with_mark, seen_
 use Rattle.log_table.specs.May.{MayLookMark, MayRaise}
 use Rattle.log_table.specs.Roles.{is_active}
 use Rattle.log_table.specs.Sound.{HasSeenBoundaries, HasContiguousReservations, StoresStop, HasReadStop, IsSound}
-use Rattle.log_table.specs.Views.{entries_in, claims_in, after_look, seen_exposed, saw_exposed}
+use Rattle.log_table.specs.Views.{entries_in, books_in, claims_in, after_look, seen_exposed, saw_exposed}
 use Rattle.log_table.specs.Words.{Words}
 use Rattle.log_table.proofs.Keeping.{accounts-stay}
 use Rattle.log_table.proofs.Lifting.{Tells}
@@ -37,20 +39,20 @@ use Rattle.log_table.proofs.Showing.{hands_of-set, task_of-hands_of}
 use Rattle.log_table.proofs.TrueMarks.{first-ends}
 use Rattle.log_table.proofs.Viewing.{each_set}
 
--- the call has no run
-abbrev pub HasNoRun : Call → Type 0
-HasNoRun call = (entries_in call ≡ []) × (claims_in call ≡ [])
+-- the call has no run, nor has a group placed a record for it
+abbrev pub HasNoRun : (ℕ → Group) → Call → Type 0
+HasNoRun groups call = (entries_in groups call ≡ []) × (claims_in call ≡ []) × ((books : Books) → books_in groups call books ≡ books)
 
 -- a seat that has something under way, but no run, turns to another such call, or to none
 module _ (key : Start) (words : Words) (views : List View) (me : ℕ) (v : View) (log : Log) (s : IsSound key words views log)
-    (at : get_elem? views me ≡ some v) (busy : v.call ≡ Idle → ⊥) (no-run : HasNoRun v.call) where
+    (at : get_elem? views me ≡ some v) (busy : v.call ≡ Idle → ⊥) (no-run : HasNoRun log.groups v.call) where
   active-only : is_active v.standing.role ≡ false → ⊥
   active-only off = busy (s.resting me v at off)
 
   not-flusher : v.standing.role ≡ Flusher → ⊥
   not-flusher f = active-only (ap is_active f)
 
-  pub turns-sound : (seen : Seen) (call : Call) (sending : Sending) → HasNoRun call
+  pub turns-sound : (seen : Seen) (call : Call) (sending : Sending) → HasNoRun log.groups call
       → (IsFirstReleased log.ahead → Carries words.exposed v.call → Carries words.exposed call)
       → HasTrueEnds key.start words.exposed log call
       → HasSeenBoundaries key.start words.tail words.exposed words.durable (ranges_of log) seen → seen.stop ≡ v.seen.stop
@@ -62,7 +64,7 @@ module _ (key : Start) (words : Words) (views : List View) (me : ℕ) (v : View)
       (each_set (λ _ z. HasReadStop words.stop z) views me new s.read_stop
       (subst (λ n. (n ≡ 0) ⊎ (n ≡ words.stop)) (sym read) (s.read_stop me v at)))
       (quiet-moves views me v new s.quiet at (λ _ _ _ _ f. absurd (not-flusher f)) (λ _ h. h)) (λ f. absurd (not-flusher f)) (s.unheld me v at)
-      (accounts-stay key words.account log.parts views me v new at refl s.accounts)
+      (accounts-stay key words.account log.parts log.groups views me v new at (runs.2 v.books ∙ sym (no-run.2 v.books)) s.accounts)
     where
       new : View
       new = record v { seen = seen; call = call; sending = sending }
@@ -125,8 +127,9 @@ module _ (key : Start) (me : ℕ) (v : View) where
       (set views me (record v { seen = seen_exposed words.exposed v.seen; call = p.0; sending = record v.sending { exposed = words.exposed; looked = true } })) log p.1)
       (λ i. (sym (ap (after_look words.exposed) is) i, sym (ap (look_event me) is) i)) record {
         after = log;
-        sound = turns-sound key words views me v log s at (λ idle. let gone : Marked ≡ Idle = sym is ∙ idle in cc) (ap entries_in is, ap claims_in is)
-            (seen_exposed words.exposed v.seen) (Holding words.exposed) (record v.sending { exposed = words.exposed; looked = true }) (refl, refl)
+        sound = turns-sound key words views me v log s at (λ idle. let gone : Marked ≡ Idle = sym is ∙ idle in cc)
+            (subst (HasNoRun log.groups) (sym is) (refl, refl, λ _. refl))
+            (seen_exposed words.exposed v.seen) (Holding words.exposed) (record v.sending { exposed = words.exposed; looked = true }) (refl, refl, λ _. refl)
             (λ _ _. refl) (passed-now key words log s.contiguous) (sees-exposed key words views me v log s at) refl;
         shows = (
           ap ring_stage (marked-is views at is),
@@ -171,10 +174,11 @@ module _ (key : Start) (words : Words) (views : List View) (me : ℕ) (v : View)
   sees = let old = s.seen me v at in
       record { tail_seen = old.tail_seen; exposed_seen = old.exposed_seen; durable_seen = old.durable_seen; boundaries = old.boundaries }
 
-  turns : (call : Call) → HasNoRun call → (IsFirstReleased log.ahead → base ≡ words.exposed → Carries words.exposed call)
+  turns : (call : Call) → HasNoRun log.groups call → (IsFirstReleased log.ahead → base ≡ words.exposed → Carries words.exposed call)
       → HasTrueEnds key.start words.exposed log call → IsSound key words (set views me (record v { seen = seen; call = call })) log
   turns call runs carries ends =
-      turns-sound key words views me v log s at (λ idle. let gone : Holding base ≡ Idle = sym may ∙ idle in cc) (ap entries_in may, ap claims_in may)
+      turns-sound key words views me v log s at (λ idle. let gone : Holding base ≡ Idle = sym may ∙ idle in cc)
+      (subst (HasNoRun log.groups) (sym may) (refl, refl, λ _. refl))
       seen call v.sending runs (λ first c. carries first (subst (Carries words.exposed) may c)) ends sees refl
 
   sound : IsSound key words (set views me (record v { seen = seen; call = next_raise base found })) log
@@ -182,13 +186,13 @@ module _ (key : Start) (words : Words) (views : List View) (me : ℕ) (v : View)
     where
       by_test : (b : Bool) → nat_lt base found ≡ b
           → IsSound key words (set views me (record v { seen = seen; call = cond b (Raising base found) Idle })) log
-      by_test true high = turns (Raising base found) (refl, refl) (λ _ c. c) (
+      by_test true high = turns (Raising base found) (refl, refl, λ _. refl) (λ _ c. c) (
         passed,
         λ here. subst (FirstEnds log.ahead) (ap (λ n. words.mark (n % key.ring)) (sym here))
             (first-ends words.exposed (words.mark (words.exposed % key.ring)) log.ahead
             (marked-ready key words views log s (subst (λ n. n < words.mark (n % key.ring)) here (ltb-true base found high)))),
       )
-      by_test false low = turns Idle (refl, refl) (λ first _. (not_ready-at_exposed key words views log s base passed below).1 first) tt
+      by_test false low = turns Idle (refl, refl, λ _. refl) (λ first _. (not_ready-at_exposed key words views log s base passed below).1 first) tt
         where
           below : found ≤ base
           below = dite (dec_lt base found) (λ lt. absurd (true≢false (sym (lt-ltb base found lt) ∙ low))) (λ ge. omega (arith, ge))
@@ -249,8 +253,9 @@ module _ (key : Start) (words : Words) (views : List View) (me : ℕ) (v : View)
   pub raise-misses : Leads key words words views (set views me new) log (raises me)
   raise-misses = record {
     after = log;
-    sound = turns-sound key words views me v log s at (λ idle. let gone : Raising from to ≡ Idle = sym may ∙ idle in cc) (ap entries_in may, ap claims_in may)
-        (seen_exposed words.exposed v.seen) (Holding words.exposed) v.sending (refl, refl) (λ _ _. refl) (passed-now key words log s.contiguous)
+    sound = turns-sound key words views me v log s at (λ idle. let gone : Raising from to ≡ Idle = sym may ∙ idle in cc)
+        (subst (HasNoRun log.groups) (sym may) (refl, refl, λ _. refl))
+        (seen_exposed words.exposed v.seen) (Holding words.exposed) v.sending (refl, refl, λ _. refl) (λ _ _. refl) (passed-now key words log s.contiguous)
         (sees-exposed key words views me v log s at) refl;
     shows = (
       ap (λ task. is_some (raises_from (ring_stage task))) raises-from,

@@ -25,7 +25,7 @@ use Rattle.log_table.specs.Sound.{HasSeenBoundaries, SendsIfFlusher, StoresStop,
 use Rattle.log_record.specs.Spelling.{spelling}
 use Rattle.lock_core.specs.History.{history_from}
 use Rattle.log_table.specs.Accounts.{KeepsAccounts}
-use Rattle.log_table.specs.Views.{entries_in, claims_in, with_unit, counted, filled}
+use Rattle.log_table.specs.Views.{entries_in, books_in, claims_in, with_unit, counted, filled}
 use Rattle.log_table.specs.Words.{Words, put}
 use Rattle.log_table.proofs.Boundaries.{part_size, boundary-mid}
 use Rattle.log_table.proofs.Carrying.{carrier-set, ends-move}
@@ -83,7 +83,7 @@ module _ (key : Start) (words : Words) (views : List View) (me : ℕ) (v : View)
     (at : get_elem? views me ≡ some v) (filling : v.call ≡ Filling entry) where
   pub held-range : HeldRange me log.ahead entry
   held-range = picked-last (owes me) claim_of log.ahead [] (run_of entry)
-      ((seat_at (HasWorkingOwner log.parts log.ahead) views me v at s.owners).owes ∙ ap claims_in filling)
+      ((seat_at (HasWorkingOwner log.groups log.parts log.ahead) views me v at s.owners).owes ∙ ap claims_in filling)
 
   pub all-ranges : ranges_of log ≡ range-front me entry log held-range ++ held-range.here ∷ held-range.behind
   all-ranges = ap (λ l. log.flushed ++ (log.exposed ++ l)) held-range.split
@@ -116,12 +116,12 @@ module _ (key : Start) (words : Words) (views : List View) (me : ℕ) (v : View)
   abbrev new : View
   new = record v { seen = counted v.seen; call = Filling (with_unit unit entry) }
 
-  mine : HasWorkingOwner log.parts log.ahead me v
-  mine = seat_at (HasWorkingOwner log.parts log.ahead) views me v at s.owners
+  mine : HasWorkingOwner log.groups log.parts log.ahead me v
+  mine = seat_at (HasWorkingOwner log.groups log.parts log.ahead) views me v at s.owners
 
   last : LastPart me log.parts (parts_of me true v.entries) entry
   last = last_part me log.parts (parts_of me true v.entries) entry
-      (mine.owns ∙ ap (λ c. parts_of me true v.entries ++ parts_of me false (entries_in c)) filling)
+      (mine.owns ∙ ap (λ c. parts_of me true v.entries ++ parts_of me false (entries_in log.groups c)) filling)
 
   abbrev old_part : Part
   old_part = part_of me false entry
@@ -130,7 +130,13 @@ module _ (key : Start) (words : Words) (views : List View) (me : ℕ) (v : View)
   part = part_of me false (with_unit unit entry)
 
   abbrev after : Log
-  after = record { parts = last.before ++ part ∷ last.behind; flushed = log.flushed; exposed = log.exposed; ahead = log.ahead }
+  after = record {
+    parts = last.before ++ part ∷ last.behind;
+    flushed = log.flushed;
+    exposed = log.exposed;
+    ahead = log.ahead;
+    groups = log.groups;
+  }
 
   laid : Laid key.start (last.before ++ old_part ∷ last.behind) words.tail
   laid = subst (λ l. Laid key.start l words.tail) last.split s.contiguous.parts
@@ -232,11 +238,12 @@ module _ (key : Start) (words : Words) (views : List View) (me : ℕ) (v : View)
       ranges = s.below.ranges;
     };
     at_work = s.at_work;
+    slots = s.slots;
     marks = record { current = s.marks.current; true_marks = s.marks.true_marks; below_tail = s.marks.below_tail };
     carried = λ first. carrier-set words.exposed views me v new at (λ c. absurd (subst (Carries words.exposed) filling c)) (s.carried first);
     ends = each_moves (λ _ z. HasTrueEnds key.start words.exposed log z.call) (λ _ z. HasTrueEnds key.start words.exposed after z.call) views me new
         s.ends tt (λ _ z _ _. ends-move key.start words.exposed log after z.call (λ _ b. b) (λ _ e. e));
-    owners = seats_move (HasWorkingOwner log.parts log.ahead) (HasWorkingOwner after.parts after.ahead) views me v new at s.owners
+    owners = seats_move (HasWorkingOwner log.groups log.parts log.ahead) (HasWorkingOwner after.groups after.parts after.ahead) views me v new at s.owners
         record {
           owns = own-last me last.before last.behind (parts_of me true v.entries) false
               (with_unit unit entry) last.own_before last.none_behind;
@@ -259,8 +266,9 @@ module _ (key : Start) (words : Words) (views : List View) (me : ℕ) (v : View)
     quiet = quiet-moves views me v new s.quiet at (λ _ _ _ h. h) (λ _ h. h);
     looked = each_set (λ _ z. LookedIfQuiet words.exposed z) views me new s.looked (s.looked me v at);
     unheld = each_set (λ _ z. HoldsIfActive z) views me new s.unheld (s.unheld me v at);
-    accounts = accounts-stay key words.account after.parts views me v new at refl
-        (subst (λ records. KeepsAccounts (base_of key) words.account (history_from key.start [] records) (map books_of views))
+    accounts = accounts-stay key words.account after.parts log.groups views me v new at
+        (sym (ap (λ call. books_in log.groups call v.books) filling))
+        (subst (λ records. KeepsAccounts (base_of key) words.account (history_from key.start [] records) (map (books_of log.groups) views))
         (ap records_in last.split ∙ sym (records-mid last.before last.behind old_part part refl)) s.accounts);
   }
 

@@ -60,7 +60,7 @@ module _ (key : Start) (words : Words) (views : List View) (me : ℕ) (v : View)
       (boundary-later _ _ _ to log.flushed (log.exposed ++ log.ahead) s.contiguous.to_durable boundary forward) below)
 
   abbrev after : Log
-  after = record { parts = log.parts; flushed = log.flushed ++ cut.before; exposed = cut.behind; ahead = log.ahead }
+  after = record { parts = log.parts; flushed = log.flushed ++ cut.before; exposed = cut.behind; ahead = log.ahead; groups = log.groups }
 
   same-ranges : ranges_of log ≡ ranges_of after
   same-ranges = ap (λ l. log.flushed ++ (l ++ log.ahead)) cut.split
@@ -136,6 +136,7 @@ module _ (key : Start) (words : Words) (views : List View) (me : ℕ) (v : View)
           (ap (λ l. log.flushed ++ l) cut.split ∙ sym (append_assoc log.flushed cut.before cut.behind)) s.below.ranges;
     };
     at_work = s.at_work;
+    slots = s.slots;
     marks = record {
       current = s.marks.current;
       true_marks = subst (AllByRecursion (HasTrueMark key.ring words.mark)) same-ranges s.marks.true_marks;
@@ -144,8 +145,8 @@ module _ (key : Start) (words : Words) (views : List View) (me : ℕ) (v : View)
     carried = λ first. carrier-set words.exposed views me v new at (λ c. c) (s.carried first);
     ends = each_moves (λ _ z. HasTrueEnds key.start words.exposed log z.call) (λ _ z. HasTrueEnds key.start words.exposed after z.call) views me new
         s.ends (kept v (s.ends me v at)) (λ _ z _ _. kept z);
-    owners = seats_set (HasWorkingOwner log.parts log.ahead) views me v new at s.owners
-        (let mine = seat_at (HasWorkingOwner log.parts log.ahead) views me v at s.owners in record { owns = mine.owns; owes = mine.owes });
+    owners = seats_set (HasWorkingOwner log.groups log.parts log.ahead) views me v new at s.owners
+        (let mine = seat_at (HasWorkingOwner log.groups log.parts log.ahead) views me v at s.owners in record { owns = mine.owns; owes = mine.owes });
     constants = each_set (λ _ z. HasConstants key z) views me new s.constants (s.constants me v at);
     resting = each_set (λ _ z. RestsUnlessActive z) views me new s.resting (s.resting me v at);
     entries = each_set (λ _ z. OwnsIfWorker z) views me new s.entries (s.entries me v at);
@@ -158,7 +159,7 @@ module _ (key : Start) (words : Words) (views : List View) (me : ℕ) (v : View)
     quiet = quiet-moves views me v new s.quiet at (λ _ _ _ h. h) (λ _ h. h);
     looked = each_set (λ _ z. LookedIfQuiet words.exposed z) views me new s.looked (s.looked me v at);
     unheld = each_set (λ _ z. HoldsIfActive z) views me new s.unheld (s.unheld me v at);
-    accounts = accounts-stay key words.account log.parts views me v new at refl s.accounts;
+    accounts = accounts-stay key words.account log.parts log.groups views me v new at refl s.accounts;
   }
 
   abbrev old_state : SlotState

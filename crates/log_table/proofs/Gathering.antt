@@ -29,7 +29,6 @@ use Rattle.log_table.specs.Books.{task_of, times_held, times_taken}
 use Rattle.log_table.specs.Closing.{IsGathered, IsLedger, IsSettled, ReadsRows, records_of, history_of}
 use Rattle.log_table.specs.Layout.{Account, index_of}
 use Rattle.log_table.proofs.Gathered.{gathered}
-use Rattle.atomic_table.proofs.Lists.{at_map}
 use Rattle.log_table.specs.Log.{Part, Log, own, part_of, parts_of, IsSpelled, ranges_of, Laid, IsFull, IsFullIfReleased, AgreesFrom, IsRangeBoundary, IsEntryBoundary, SpellsRecord, records_in}
 use Rattle.log_table.specs.Sends.{IsDrained}
 use Rattle.log_table.specs.May.{MayClose}
@@ -39,6 +38,7 @@ use Rattle.log_table.specs.Views.{nobody, entries_in}
 use Rattle.log_table.specs.Words.{Words, words_in}
 use Rattle.log_table.proofs.Agreeing.{IsFront, agrees-append, whole-record, front, front-whole, joined, joined-entries, joined-length}
 use Rattle.log_table.proofs.Boundaries.{part_size, boundary-entries}
+use Rattle.log_table.proofs.Keeping.{books-at, held-books_in, jobs-books_in}
 use Rattle.log_table.proofs.Lists.{all-both, all-weaker}
 use Rattle.log_table.proofs.Looking.{part-boundary}
 use Rattle.log_table.proofs.Resting.{at_rest}
@@ -144,7 +144,7 @@ module _ (key : Start) (words : Words) (views : List View) (me : ℕ) (v : View)
   all_exposed = at_rest key words views log s idle
 
   no-entries : (j : ℕ) → j ≢ me → own j log.parts ≡ []
-  no-entries j differ = (s.owners j).owns ∙ (λ i. parts_of j true (none i) ++ parts_of j false (entries_in (idle j i)))
+  no-entries j differ = (s.owners j).owns ∙ (λ i. parts_of j true (none i) ++ parts_of j false (entries_in log.groups (idle j i)))
     where
       others : (i : ℕ) (z : View) → get_elem? views i ≡ some z → (i ≢ me → z.entries ≡ [])
       others i z there other =
@@ -156,8 +156,9 @@ module _ (key : Start) (words : Words) (views : List View) (me : ℕ) (v : View)
 
   parts-are : log.parts ≡ parts_of me true v.entries
   parts-are = sym (own-all me log.parts no-entries)
-      ∙ ((seat_at (HasWorkingOwner log.parts log.ahead) views me v at s.owners).owns
-      ∙ (ap (λ c. parts_of me true v.entries ++ parts_of me false (entries_in c)) (s.resting me v at (ap is_active may.flusher)) ∙ append-nil _))
+      ∙ ((seat_at (HasWorkingOwner log.groups log.parts log.ahead) views me v at s.owners).owns
+      ∙ (ap (λ c. parts_of me true v.entries ++ parts_of me false (entries_in log.groups c))
+      (s.resting me v at (ap is_active may.flusher)) ∙ append-nil _))
 
   start-is : v.constants.start ≡ key.start
   start-is = ap (λ (c : Constants). c.start) (s.constants me v at (ap is_spent may.flusher))
@@ -216,12 +217,13 @@ module _ (key : Start) (words : Words) (views : List View) (me : ℕ) (v : View)
   }
 
   abbrev bs : List Books
-  bs = map books_of views
+  bs = map (books_of log.groups) views
 
   -- all accounts are free
   none-held : (account : ℕ) → holders account bs ≡ 0
-  none-held account = summed-none (λ (b : Books). times_held account b.held) books_of views
-      (λ j z there. ap (times_held account) ((s.unheld j z there).0 (rests z.standing.role (no-worker j z there))))
+  none-held account = summed-none (λ (b : Books). times_held account b.held) (books_of log.groups) views
+      (λ j z there. ap (times_held account) (held-books_in log.groups z.call z.books
+      ∙ (s.unheld j z there).0 (rests z.standing.role (no-worker j z there))))
 
   free : (account : ℕ) → account < length key.accounts.rows → held_in (words.account account) ≡ false
   free account below = by_test (held_in (words.account account)) (sym (none-held account) ∙ s.accounts.holder.counts account below)
@@ -232,9 +234,14 @@ module _ (key : Start) (words : Words) (views : List View) (me : ℕ) (v : View)
 
   -- all jobs are the flusher's seat's
   all-jobs : (number : ℕ) → takers number bs ≡ times_taken number v.books.jobs
-  all-jobs number = summed-only (λ (b : Books). times_taken number b.jobs) books_of views me v at
-      (λ j z differ there. ap (times_taken number) ((s.unheld j z there).1 (owns-none z.standing.role (no-worker j z there)
+  all-jobs number = summed-only (λ (b : Books). times_taken number b.jobs) (books_of log.groups) views me v at
+      (λ j z differ there. ap (times_taken number) (jobs-books_in log.groups z.call z.books
+      ∙ (s.unheld j z there).1 (owns-none z.standing.role (no-worker j z there)
       (λ f. differ ((s.roles.each j z there).first f ∙ sym ((s.roles.each me v at).first may.flusher))))))
+      ∙ ap (times_taken number) (jobs-books_in log.groups v.call v.books)
+
+  mine-shown : get_elem? bs me ≡ some v.books
+  mine-shown = books-at log.groups views me v (s.resting me v at (ap is_active may.flusher)) at
 
   records-are : history_in key log.parts ≡ history_of (base_of key) v.entries
   records-are = ap (history_from key.start []) (ap records_in parts-are ∙ records-entries me v.entries)
@@ -246,7 +253,7 @@ module _ (key : Start) (words : Words) (views : List View) (me : ℕ) (v : View)
     ledger = λ distinct. let f = s.accounts.follows (no-job-twice distinct) in
         subst (λ h. IsLedger (base_of key) h (map task_of v.books.jobs) rows) records-are record {
           lawful = f.lawful;
-          serial = gathered (base_of key) words.account (history_in key log.parts) bs me v.books (at_map books_of views me v at) all-jobs f;
+          serial = gathered (base_of key) words.account (history_in key log.parts) bs me v.books mine-shown all-jobs f;
           accounts = record {
             count = reads.count ∙ same;
             range = λ account below. let up = up-to-date f account (omega (arith, reads.count, same)) in
@@ -257,7 +264,7 @@ module _ (key : Start) (words : Words) (views : List View) (me : ℕ) (v : View)
           };
         };
     given = λ distinct. subst (λ h. AllByRecursion (WentBack (base_of key) h) v.books.given) records-are
-        ((s.accounts.follows (no-job-twice distinct)).given me v.books (at_map books_of views me v at));
+        ((s.accounts.follows (no-job-twice distinct)).given me v.books mine-shown);
   }
     where
       no-job-twice : ((number : ℕ) → times_taken number v.books.jobs ≤ 1) → HasDistinctJobs bs

@@ -7,17 +7,48 @@ use Rattle.log_record.specs.declared.rec.Rec.{Rec}
 use Rattle.log_record.specs.declared.rec.Placed.{Placed}
 use Rattle.lock_core.specs.History.{end_from, entry_at, history_from}
 use Rattle.log_table.specs.declared.table.Start.{Start}
+use Rattle.log_table.specs.declared.view.Books.{Books}
+use Rattle.log_table.specs.declared.view.Call.{Call}
+use Rattle.log_table.specs.declared.view.Call.TheVariants.{Idle, Filling, Marked, Holding, Raising}
 use Rattle.log_table.specs.declared.view.View.{View}
 use Rattle.log_table.specs.Accounts.{KeepsAccounts}
+use Rattle.log_table.specs.Groups.{Group}
 use Rattle.log_table.specs.Log.{Part, Laid, SpellsRecord, records_in}
 use Rattle.log_table.specs.Sound.{base_of, history_in, books_of}
+use Rattle.log_table.specs.Views.{books_in}
+use Rattle.atomic_table.proofs.Lists.{at_map}
+use Rattle.std.proofs.lemmas.List.{map-set}
 use Rattle.log_table.proofs.Bookings.{map-set_same}
 
-pub accounts-stay : (key : Start) (words : ℕ → ℕ) (parts : List Part) (views : List View) (me : ℕ) (v new : View) → get_elem? views me ≡ some v
-    → new.books ≡ v.books → KeepsAccounts (base_of key) words (history_in key parts) (map books_of views)
-    → KeepsAccounts (base_of key) words (history_in key parts) (map books_of (set views me new))
-accounts-stay key words parts views me v new at same =
-    subst (KeepsAccounts (base_of key) words (history_in key parts)) (sym (map-set_same books_of views me v new at same))
+pub accounts-stay : (key : Start) (words : ℕ → ℕ) (parts : List Part) (groups : ℕ → Group) (views : List View) (me : ℕ) (v new : View)
+    → get_elem? views me ≡ some v → books_of groups new ≡ books_of groups v
+    → KeepsAccounts (base_of key) words (history_in key parts) (map (books_of groups) views)
+    → KeepsAccounts (base_of key) words (history_in key parts) (map (books_of groups) (set views me new))
+accounts-stay key words parts groups views me v new at same =
+    subst (KeepsAccounts (base_of key) words (history_in key parts)) (sym (map-set_same (books_of groups) views me v new at same))
+
+-- a group places a record, and changes neither what is held nor the jobs
+pub held-books_in : (groups : ℕ → Group) (call : Call) (books : Books) → (books_in groups call books).held ≡ books.held
+held-books_in groups Idle books = refl
+held-books_in groups (Filling entry) books = refl
+held-books_in groups Marked books = refl
+held-books_in groups (Holding at) books = refl
+held-books_in groups (Raising from to) books = refl
+
+pub jobs-books_in : (groups : ℕ → Group) (call : Call) (books : Books) → (books_in groups call books).jobs ≡ books.jobs
+jobs-books_in groups Idle books = refl
+jobs-books_in groups (Filling entry) books = refl
+jobs-books_in groups Marked books = refl
+jobs-books_in groups (Holding at) books = refl
+jobs-books_in groups (Raising from to) books = refl
+
+-- a seat that has nothing under way has its own books
+module _ (groups : ℕ → Group) (views : List View) (me : ℕ) (v : View) (idle : v.call ≡ Idle) where
+  pub books-at : get_elem? views me ≡ some v → get_elem? (map (books_of groups) views) me ≡ some v.books
+  books-at at = at_map (books_of groups) views me v at ∙ ap (λ call. some (books_in groups call v.books)) idle
+
+  pub books-set : map (books_of groups) (set views me v) ≡ set (map (books_of groups) views) me v.books
+  books-set = map-set (books_of groups) views me v ∙ ap (λ call. set (map (books_of groups) views) me (books_in groups call v.books)) idle
 
 -- the records of parts of which one changes, but not its record
 pub records-mid : (before behind : List Part) (old new : Part) → new.entry.rec ≡ old.entry.rec

@@ -60,7 +60,7 @@ looks key words stop views me v log seen sending s at sees sends stops read quie
     (s.resting me v at) (s.entries me v at)
     (crew-same words.crew views me v (record v { seen = seen; sending = sending }) s.roles at refl) sends stops read
     (quiet-moves views me v (record v { seen = seen; sending = sending }) s.quiet at quiet (λ _ h. h)) looked (s.unheld me v at)
-    (accounts-stay key words.account log.parts views me v (record v { seen = seen; sending = sending }) at refl s.accounts)
+    (accounts-stay key words.account log.parts log.groups views me v (record v { seen = seen; sending = sending }) at refl s.accounts)
 
 -- the seat sees a word
 pub sees-word : (key : Start) (words : Words) (views : List View) (me : ℕ) (v : View) (log : Log) (seen : Seen) → IsSound key words views log

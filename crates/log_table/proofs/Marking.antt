@@ -27,7 +27,7 @@ use Rattle.log_table.specs.Sound.{HasSeenBoundaries, HasContiguousReservations, 
 use Rattle.lock_core.specs.History.{history_from}
 use Rattle.log_table.specs.Accounts.{KeepsAccounts}
 use Rattle.log_table.specs.Roles.{is_active, may_own}
-use Rattle.log_table.specs.Views.{entries_in, counted}
+use Rattle.log_table.specs.Views.{run_in, entries_in, books_in, counted}
 use Rattle.log_table.specs.Words.{Words, put}
 use Rattle.log_table.proofs.Boundaries.{range_size, part_size, boundary-mid}
 use Rattle.log_table.proofs.Carrying.{carrier-here, ends-mid, ends-move}
@@ -57,12 +57,12 @@ module _ (key : Start) (words : Words) (views : List View) (me : ℕ) (v : View)
   abbrev mark' : ℕ → ℕ
   mark' = put words.mark (entry.start % key.ring) (entry.start + entry.size)
 
-  mine : HasWorkingOwner log.parts log.ahead me v
-  mine = seat_at (HasWorkingOwner log.parts log.ahead) views me v at s.owners
+  mine : HasWorkingOwner log.groups log.parts log.ahead me v
+  mine = seat_at (HasWorkingOwner log.groups log.parts log.ahead) views me v at s.owners
 
   last : LastPart me log.parts (parts_of me true v.entries) entry
   last = last_part me log.parts (parts_of me true v.entries) entry
-      (mine.owns ∙ ap (λ c. parts_of me true v.entries ++ parts_of me false (entries_in c)) filling)
+      (mine.owns ∙ ap (λ c. parts_of me true v.entries ++ parts_of me false (entries_in log.groups c)) filling)
 
   abbrev held : HeldRange me log.ahead entry
   held = held-range key words views me v entry log s at filling
@@ -88,6 +88,7 @@ module _ (key : Start) (words : Words) (views : List View) (me : ℕ) (v : View)
     flushed = log.flushed;
     exposed = log.exposed;
     ahead = held.before ++ now ∷ held.behind;
+    groups = log.groups;
   }
 
   base-is : range.base ≡ entry.start
@@ -243,13 +244,15 @@ module _ (key : Start) (words : Words) (views : List View) (me : ℕ) (v : View)
       below = same-part (IsReleasedBelow words.exposed) (λ _ _. refl) s.below.below;
       ranges = s.below.ranges;
     };
-    at_work = all-mid IsAtWork held.before held.behind range now (inl refl) (subst (AllByRecursion IsAtWork) held.split s.at_work);
+    at_work = all-mid (IsAtWork log.groups) held.before held.behind range now (inl refl)
+        (subst (AllByRecursion (IsAtWork log.groups)) held.split s.at_work);
+    slots = s.slots;
     marks = release-marks;
     carried = λ _. carrier-here words.exposed views me v new at tt;
     ends = each_moves (λ _ z. HasTrueEnds key.start words.exposed log z.call) (λ _ z. HasTrueEnds key.start words.exposed after z.call) views me new
         s.ends tt (λ _ z _ _. ends-move key.start words.exposed log after z.call still
         (λ to first. ends-mid held.before held.behind range now to unreleased (subst (λ l. Rattle.log_table.specs.Marks.FirstEnds l to) held.split first)));
-    owners = seats_move (HasWorkingOwner log.parts log.ahead) (HasWorkingOwner after.parts after.ahead) views me v new at s.owners
+    owners = seats_move (HasWorkingOwner log.groups log.parts log.ahead) (HasWorkingOwner after.groups after.parts after.ahead) views me v new at s.owners
         record {
           owns = own-last me last.before last.behind (parts_of me true v.entries) true entry last.own_before last.none_behind
               ∙ (sym (parts_of-push me true v.entries entry) ∙ sym (append-nil _));
@@ -271,8 +274,9 @@ module _ (key : Start) (words : Words) (views : List View) (me : ℕ) (v : View)
     quiet = quiet-moves views me v new s.quiet at (λ _ _ _ h. h) (λ _ h. h);
     looked = each_set (λ _ z. LookedIfQuiet words.exposed z) views me new s.looked (s.looked me v at);
     unheld = each_set (λ _ z. HoldsIfActive z) views me new s.unheld (s.unheld me v at);
-    accounts = accounts-stay key words.account after.parts views me v new at refl
-        (subst (λ records. KeepsAccounts (base_of key) words.account (history_from key.start [] records) (map books_of views))
+    accounts = accounts-stay key words.account after.parts log.groups views me v new at
+        (sym (ap (λ call. books_in log.groups call v.books) filling))
+        (subst (λ records. KeepsAccounts (base_of key) words.account (history_from key.start [] records) (map (books_of log.groups) views))
         (ap records_in last.split ∙ sym (records-mid last.before last.behind old_part part refl)) s.accounts);
   }
     where
@@ -337,6 +341,6 @@ mark-step key me v base end ring same may n = record {
       let index : may.entry.start % key.ring ≡ base % ring = (λ i. sym may.begins i % same i) in
       subst (λ (x : ℕ × ℕ × List Entry). Leads key words (record words { mark = put words.mark x.0 x.1 }) views
       (set views me (record v { seen = counted v.seen; entries = v.entries ++ x.2; call = Marked })) log (marks me))
-      (λ i. (index i, sym may.ends i, ap entries_in (sym may.filling) i))
+      (λ i. (index i, sym may.ends i, ap run_in (sym may.filling) i))
       (mark-releases key words views me v may.entry log s here may.filling may.full);
 }

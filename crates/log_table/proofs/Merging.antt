@@ -3,8 +3,7 @@ use Rattle.std.proofs.Common.{◌≡◌, ◌≢◌, ◌==◌, ◌⊎◌, inl, in
 use mathlib.Core.Option.{some}
 use lib.ListN.{get_elem?}
 use Rattle.atomic_table.specs.Table.{Joins}
-use Rattle.atomic_table.proofs.Lists.{at_set, at_map}
-use Rattle.std.proofs.lemmas.List.{map-set}
+use Rattle.atomic_table.proofs.Lists.{at_set}
 use Rattle.lock_core.specs.History.{history_from}
 use Rattle.log_table.specs.declared.view.Books.{Books}
 use Rattle.log_table.specs.Accounts.{KeepsAccounts}
@@ -23,6 +22,7 @@ use Rattle.log_table.specs.CrewViews.{takes_in}
 use Rattle.log_table.specs.Words.{Words, words_in}
 use Rattle.log_table.proofs.Carrying.{carrier-set, ends-move}
 use Rattle.log_table.proofs.CrewMerging.{ended-rests, without, at-without, each-merged, crew-merges}
+use Rattle.log_table.proofs.Keeping.{books-at, books-set}
 use Rattle.log_table.proofs.Lists.{all-append, all-weaker}
 use Rattle.log_table.proofs.Renaming.{rename, own-renamed, own-renamed-from, own-renamed-else, all-renamed, laid-renamed, unreleased_in-renamed, boundary-renamed, records-renamed}
 use Rattle.log_table.proofs.Roles.{quiet-moves}
@@ -47,36 +47,36 @@ module _ (key : Start) (words : Words) (views : List View) (me other : ℕ) (v o
   idle' : o.call ≡ Idle
   idle' = s.resting other o there (ended-rests o.standing.role may.ended)
 
-  mine : HasWorkingOwner log.parts log.ahead me v
-  mine = seat_at (HasWorkingOwner log.parts log.ahead) views me v at s.owners
+  mine : HasWorkingOwner log.groups log.parts log.ahead me v
+  mine = seat_at (HasWorkingOwner log.groups log.parts log.ahead) views me v at s.owners
 
-  his : HasWorkingOwner log.parts log.ahead other o
-  his = seat_at (HasWorkingOwner log.parts log.ahead) views other o there s.owners
+  his : HasWorkingOwner log.groups log.parts log.ahead other o
+  his = seat_at (HasWorkingOwner log.groups log.parts log.ahead) views other o there s.owners
 
   abbrev parts : List Part
   parts = rename other me log.parts
 
   abbrev after : Log
-  after = record { parts = parts; flushed = log.flushed; exposed = log.exposed; ahead = log.ahead }
+  after = record { parts = parts; flushed = log.flushed; exposed = log.exposed; ahead = log.ahead; groups = log.groups }
 
   -- between the two changes of the views, a seat is the spent one or has its old parts
   abbrev Half : ℕ → View → Type 0
-  Half j z = ((j ≡ other) × HasWorkingOwner parts log.ahead j z) ⊎ ((j ≢ other) × HasWorkingOwner log.parts log.ahead j z)
+  Half j z = ((j ≡ other) × HasWorkingOwner log.groups parts log.ahead j z) ⊎ ((j ≢ other) × HasWorkingOwner log.groups log.parts log.ahead j z)
 
-  owners : Rattle.log_table.specs.Sound.EachSeat (HasWorkingOwner parts log.ahead) (set (without views other) me new)
-  owners = seats_move Half (HasWorkingOwner parts log.ahead) (without views other) me v new (at-without views me other v at apart)
-      (seats_move (HasWorkingOwner log.parts log.ahead) Half views other o nobody there s.owners
+  owners : Rattle.log_table.specs.Sound.EachSeat (HasWorkingOwner log.groups parts log.ahead) (set (without views other) me new)
+  owners = seats_move Half (HasWorkingOwner log.groups parts log.ahead) (without views other) me v new (at-without views me other v at apart)
+      (seats_move (HasWorkingOwner log.groups log.parts log.ahead) Half views other o nobody there s.owners
       (inl (refl, record { owns = own-renamed-from other me log.parts apart; owes = his.owes ∙ ap claims_in idle' }))
       (λ j z differ h. inr (differ, h)))
       record {
         owns = own-renamed other me _ _ log.parts v.entries o.entries s.contiguous.parts apart
-            (mine.owns ∙ (ap (λ c. parts_of me true v.entries ++ parts_of me false (entries_in c)) idle ∙ append-nil _))
-            (his.owns ∙ (ap (λ c. parts_of other true o.entries ++ parts_of other false (entries_in c)) idle' ∙ append-nil _))
-            ∙ (sym (append-nil _) ∙ ap (λ c. parts_of me true new.entries ++ parts_of me false (entries_in c)) (sym idle));
+            (mine.owns ∙ (ap (λ c. parts_of me true v.entries ++ parts_of me false (entries_in log.groups c)) idle ∙ append-nil _))
+            (his.owns ∙ (ap (λ c. parts_of other true o.entries ++ parts_of other false (entries_in log.groups c)) idle' ∙ append-nil _))
+            ∙ (sym (append-nil _) ∙ ap (λ c. parts_of me true new.entries ++ parts_of me false (entries_in log.groups c)) (sym idle));
         owes = mine.owes;
       }
-      (λ j z differ h. ⊎_elim (λ (g : (j ≡ other) × HasWorkingOwner parts log.ahead j z). g.1)
-      (λ (g : (j ≢ other) × HasWorkingOwner log.parts log.ahead j z). record {
+      (λ j z differ h. ⊎_elim (λ (g : (j ≡ other) × HasWorkingOwner log.groups parts log.ahead j z). g.1)
+      (λ (g : (j ≢ other) × HasWorkingOwner log.groups log.parts log.ahead j z). record {
         owns = own-renamed-else other me j log.parts g.0 differ
             ∙ g.1.owns;
         owes = g.1.owes;
@@ -93,18 +93,18 @@ module _ (key : Start) (words : Words) (views : List View) (me other : ℕ) (v o
   }
 
   abbrev bs : List Books
-  bs = map books_of views
+  bs = map (books_of log.groups) views
 
-  books-merged : map books_of (set (without views other) me new) ≡ set (set bs me (merging v.books o.books)) other no_books
-  books-merged = ap (map books_of) (set-swap views other me nobody new apart)
-      ∙ (map-set books_of (set views me new) other nobody ∙ ap (λ l. set l other no_books) (map-set books_of views me new))
+  books-merged : map (books_of log.groups) (set (without views other) me new) ≡ set (set bs me (merging v.books o.books)) other no_books
+  books-merged = ap (map (books_of log.groups)) (set-swap views other me nobody new apart)
+      ∙ (books-set log.groups (set views me new) other nobody refl ∙ ap (λ l. set l other no_books) (books-set log.groups views me new idle))
 
-  accounts-merged : KeepsAccounts (base_of key) words.account (history_in key parts) (map books_of (set (without views other) me new))
+  accounts-merged : KeepsAccounts (base_of key) words.account (history_in key parts) (map (books_of log.groups) (set (without views other) me new))
   accounts-merged = subst (KeepsAccounts (base_of key) words.account (history_in key parts)) (sym books-merged)
       (subst (λ records. KeepsAccounts (base_of key) words.account (history_from key.start [] records) (set (set bs me (merging v.books o.books)) other no_books))
       (sym (records-renamed other me log.parts))
-      (joins (base_of key) words.account (history_in key log.parts) bs me other v.books o.books apart (at_map books_of views me v at)
-      (at_map books_of views other o there) ((s.unheld other o there).0 (ended-rests o.standing.role may.ended)) s.accounts))
+      (joins (base_of key) words.account (history_in key log.parts) bs me other v.books o.books apart (books-at log.groups views me v idle at)
+      (books-at log.groups views other o idle' there) ((s.unheld other o there).0 (ended-rests o.standing.role may.ended)) s.accounts))
 
   merges' : IsSound key words (set (without views other) me new) after
   merges' = record {
@@ -138,6 +138,7 @@ module _ (key : Start) (words : Words) (views : List View) (me other : ℕ) (v o
       ranges = s.below.ranges;
     };
     at_work = s.at_work;
+    slots = s.slots;
     marks = record { current = s.marks.current; true_marks = s.marks.true_marks; below_tail = s.marks.below_tail };
     carried = λ first. carrier-set words.exposed (without views other) me v new (at-without views me other v at apart)
         (λ c. absurd (subst (Carries words.exposed) idle c))

@@ -1,7 +1,6 @@
 -- The steps on an account's word, and the load of stop with which a seat takes a job.
 use Rattle.std.proofs.Common.{◌≡◌, inr, ℕ, ◌+◌, ◌≤◌, ◌<◌, cond, eqb, ◌||◌, ◌^◌, Bool, false, true≢false, List, [], ◌∷◌, length, map, set, Result, Ok, Err, OnOk, IfErr, sym, refl, ap, ◌∙◌, subst, eq-eqb, ne_eqb}
 use Rattle.std.specs.List.{AllByRecursion}
-use Rattle.std.proofs.lemmas.List.{map-set}
 use mathlib.Core.Logic.{dite}
 use mathlib.Core.Option.{some}
 use native.Mathlib.Decide.{ℕ_discrete}
@@ -20,10 +19,11 @@ use Rattle.lock_core.specs.Records.{commits}
 use Rattle.lock_core.specs.declared.job.Job.{Job}
 use Rattle.log_table.specs.declared.table.Start.{Start}
 use Rattle.log_table.specs.declared.view.Books.{Books}
+use Rattle.log_table.specs.declared.view.Call.TheVariants.{Idle}
 use Rattle.log_table.specs.declared.view.Seen.{Seen}
 use Rattle.log_table.specs.declared.view.TakenJob.{TakenJob}
 use Rattle.log_table.specs.declared.view.View.{View}
-use Rattle.log_table.specs.Accounts.{MayBeTaken, KeepsAccounts}
+use Rattle.log_table.specs.Accounts.{IsAsTaken, MayBeTaken, KeepsAccounts}
 use Rattle.log_table.specs.Books.{IsNote, taking_job, taking, giving}
 use Rattle.log_table.specs.Events.{Leads, IsStep, none}
 use Rattle.log_table.specs.Layout.{Stop, Account}
@@ -41,24 +41,24 @@ use Rattle.log_table.proofs.Roles.{crew-same, quiet-moves, restands}
 use Rattle.log_table.proofs.Viewing.{each_set}
 use Rattle.log_table.proofs.Taking.{takes-job, takes-account}
 use Rattle.log_table.proofs.Giving.{gives}
-use Rattle.log_table.proofs.Keeping.{history-end}
+use Rattle.log_table.proofs.Keeping.{books-at, books-set, held-books_in, history-end}
 
 -- the seat's books change, and the accounts' words with them
 module _ (key : Start) (words : Words) (account : ℕ → ℕ) (views : List View) (me : ℕ) (v : View) (log : Log) (seen : Seen) (books : Books)
-    (s : IsSound key words views log) (at : get_elem? views me ≡ some v)
+    (s : IsSound key words views log) (at : get_elem? views me ≡ some v) (idle : v.call ≡ Idle)
     (sees : HasSeenBoundaries key.start words.tail words.exposed words.durable (ranges_of log) seen)
     (read : HasReadStop words.stop (record v { seen = seen })) where
   abbrev new : View
   new = record v { seen = seen; books = books }
 
-  books-change : HoldsIfActive new → KeepsAccounts (base_of key) account (history_in key log.parts) (set (map books_of views) me books)
+  books-change : HoldsIfActive new → KeepsAccounts (base_of key) account (history_in key log.parts) (set (map (books_of log.groups) views) me books)
       → Leads key words (record words { account = account }) views (set views me new) log none
   books-change unheld accounts = restands key words words.stop words.crew account views me v new log s at refl refl sees (s.constants me v at)
       (s.resting me v at) (s.entries me v at) (crew-same words.crew views me v new s.roles at refl) (s.sends me v at)
       (each_set (λ _ z. StoresStop words.stop z) views me new s.stops (s.stops me v at))
       (each_set (λ _ z. HasReadStop words.stop z) views me new s.read_stop read)
       (quiet-moves views me v new s.quiet at (λ _ _ _ h. h) (λ _ h. h)) (s.looked me v at) unheld
-      (subst (KeepsAccounts (base_of key) account (history_in key log.parts)) (sym (map-set books_of views me new)) accounts)
+      (subst (KeepsAccounts (base_of key) account (history_in key log.parts)) (sym (books-set log.groups views me new idle)) accounts)
 
 -- one step more, and no LSN seen
 sees-same : (start tail exposed durable : ℕ) (log : Log) (old now : Seen) → HasSeenBoundaries start tail exposed durable (ranges_of log) old
@@ -95,9 +95,11 @@ module _ (key : Start) (me : ℕ) (v : View) where
     leads = λ words views log s at is. let taken : TakenJob = record { number = number; job = job } in
         subst (λ x. Leads key words (record words { stop = x }) views (set views me (took_job number job x v)) log none) is
         (books-change key words words.account views me v log (record v.seen { steps = v.seen.steps + 1; stop = words.stop }) (taking_job taken v.books) s at
+        may.rests.idle
         (sees-same key.start words.tail words.exposed words.durable log v.seen _ (s.seen me v at) refl refl refl refl) (inr refl)
         ((λ _. may.none_held), (λ off. absurd (true≢false (sym (ap may_own may.rests.active) ∙ off))))
-        (takes-job (base_of key) words.account (history_in key log.parts) (map books_of views) me v.books (at_map books_of views me v at) taken
+        (takes-job (base_of key) words.account (history_in key log.parts) (map (books_of log.groups) views) me v.books
+        (books-at log.groups views me v may.rests.idle at) taken
         (subst (λ c. MayBeTaken c taken) (sym same) may.allowed) may.above may.none_held s.accounts));
   }
 
@@ -113,7 +115,9 @@ module _ (key : Start) (me : ℕ) (v : View) where
   -- the word of an account that the seat holds is its own
   pub account-tells : (account : ℕ) → Tells key me (Account account) v (λ n. IsOwnWord account n v.books)
   account-tells account words views log s at has =
-      let own = found _ account v.books.held has (s.accounts.holder.taken me v.books (at_map books_of views me v at)) in
+      let own = found (IsAsTaken (base_of key).accounts words.account) account v.books.held has
+      (subst (AllByRecursion (IsAsTaken (base_of key).accounts words.account)) (held-books_in log.groups v.call v.books)
+      (s.accounts.holder.taken me (books_of log.groups v) (at_map (books_of log.groups) views me v at))) in
       let is = sym own.is in (
         ap (λ a. held_in (words.account a)) is ∙ own.known.taken,
         ap (λ a. balance_in (words.account a)) is ∙ (own.known.balance ∙ sym own.balance),
@@ -126,10 +130,11 @@ module _ (key : Start) (me : ℕ) (v : View) where
     leads = λ words views log s at is.
         let free : held_in (words.account account) ≡ false = ap held_in is ∙ (held_back from.held from.balance from.mark from-fits.0 from-fits.1 ∙ may.free) in
         books-change key words (put words.account account (word_of to)) views me v log (seen_account account (word_of from) v.seen)
-        (taking (held_as account (word_of from)) v.books) s at
+        (taking (held_as account (word_of from)) v.books) s at may.rests.idle
         (sees-same key.start words.tail words.exposed words.durable log v.seen _ (s.seen me v at) refl refl refl refl) (s.read_stop me v at)
         ((λ off. absurd (true≢false (sym (ap is_active may.rests.active) ∙ off))), (λ off. absurd (true≢false (sym (ap may_own may.rests.active) ∙ off))))
-        (takes-account (base_of key) words.account (history_in key log.parts) (map books_of views) me v.books (at_map books_of views me v at)
+        (takes-account (base_of key) words.account (history_in key log.parts) (map (books_of log.groups) views) me v.books
+        (books-at log.groups views me v may.rests.idle at)
         (held_as account (word_of from)) (word_of to) (subst (λ c. account < c) (sym same) below) free (ap balance_in is) (ap mark_in is)
         (held_back to.held to.balance to.mark to-fits.0 to-fits.1 ∙ may.taken)
         (balance_back to.held to.balance to.mark to-fits.0 to-fits.1 ∙ (may.balance ∙ sym (balance_back from.held from.balance from.mark from-fits.0 from-fits.1)))
@@ -158,9 +163,11 @@ module _ (key : Start) (me : ℕ) (v : View) where
   give-step account word word-fits may n = record {
     leads = λ words views log s at is.
         books-change key words (put words.account account (word_of word)) views me v log (counted v.seen) (giving (given_as account v) v.books) s at
+        may.rests.idle
         (sees-same key.start words.tail words.exposed words.durable log v.seen _ (s.seen me v at) refl refl refl refl) (s.read_stop me v at)
         ((λ off. absurd (true≢false (sym (ap is_active may.rests.active) ∙ off))), (λ off. absurd (true≢false (sym (ap may_own may.rests.active) ∙ off))))
-        (gives (base_of key) words.account (history_in key log.parts) (map books_of views) me v.books (at_map books_of views me v at) s.accounts.holder
+        (gives (base_of key) words.account (history_in key log.parts) (map (books_of log.groups) views) me v.books
+        (books-at log.groups views me v may.rests.idle at) s.accounts.holder
         (given_as account v) record { balance = refl; committed = refl; tail = sees-front words views log s at }
         (word_of word) (held_back word.held word.balance word.mark word-fits.0 word-fits.1 ∙ may.free) may.gives s.accounts);
   }

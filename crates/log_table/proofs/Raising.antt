@@ -26,7 +26,7 @@ use Rattle.log_table.specs.Marks.{IsReady, IsCurrentMark, HasTrueMark, IsFirstRe
 use Rattle.log_table.specs.MarkViews.{call_with_exposed, after_raise}
 use Rattle.log_table.specs.May.{MayRaise}
 use Rattle.log_table.specs.Sound.{HasSeenBoundaries, HasContiguousReservations, SendsIfFlusher, StoresStop, HasReadStop, LookedIfQuiet, HasWorkingOwner, HasConstants, RestsUnlessActive, OwnsIfWorker, HoldsIfActive, IsSound}
-use Rattle.log_table.specs.Views.{entries_in, claims_in, seen_exposed}
+use Rattle.log_table.specs.Views.{entries_in, books_in, claims_in, seen_exposed}
 use Rattle.log_table.specs.Words.{Words}
 use Rattle.log_table.proofs.Carrying.{carrier-here}
 use Rattle.log_table.proofs.Exposing.{raise-misses}
@@ -58,8 +58,8 @@ module _ (key : Start) (words : Words) (views : List View) (me : ℕ) (v : View)
   abbrev new : View
   new = record v { seen = seen_exposed to v.seen; call = Holding to }
 
-  mine : HasWorkingOwner log.parts log.ahead me v
-  mine = seat_at (HasWorkingOwner log.parts log.ahead) views me v at s.owners
+  mine : HasWorkingOwner log.groups log.parts log.ahead me v
+  mine = seat_at (HasWorkingOwner log.groups log.parts log.ahead) views me v at s.owners
 
   abbrev first : FirstRange log.ahead to
   first = first-range log.ahead to ((subst (HasTrueEnds key.start words.exposed log) may (s.ends me v at)).1 (sym same))
@@ -71,7 +71,7 @@ module _ (key : Start) (words : Words) (views : List View) (me : ℕ) (v : View)
   rest = first.behind
 
   abbrev after : Log
-  after = record { parts = log.parts; flushed = log.flushed; exposed = log.exposed ++ range ∷ []; ahead = rest }
+  after = record { parts = log.parts; flushed = log.flushed; exposed = log.exposed ++ range ∷ []; ahead = rest; groups = log.groups }
 
   tiles : Tiles (key.ring / 4) words.exposed (range ∷ rest) words.tail
   tiles = subst (λ l. Tiles (key.ring / 4) words.exposed l words.tail) first.split s.contiguous.to_tail
@@ -174,7 +174,8 @@ module _ (key : Start) (words : Words) (views : List View) (me : ℕ) (v : View)
       ranges = subst (AllByRecursion IsReleased) (append_assoc log.flushed log.exposed (range ∷ []))
           (all-append IsReleased (log.flushed ++ log.exposed) (range ∷ []) s.below.ranges (first.released, tt));
     };
-    at_work = behind-of IsAtWork s.at_work;
+    at_work = behind-of (IsAtWork log.groups) s.at_work;
+    slots = s.slots;
     marks = record {
       current = λ place lo hi. current-raise (key.ring / 4) key.ring words.exposed words.tail words.mark range rest tiles (div-le_self key.ring 4)
           (subst (λ l. (x : ℕ) → words.exposed ≤ x → x < words.exposed + key.ring → IsCurrentMark key.ring words.mark l x) first.split s.marks.current)
@@ -185,9 +186,9 @@ module _ (key : Start) (words : Words) (views : List View) (me : ℕ) (v : View)
     carried = λ _. carrier-here to views me v new at refl;
     ends = each_moves (λ _ z. HasTrueEnds key.start words.exposed log z.call) (λ _ z. HasTrueEnds key.start to after z.call) views me new s.ends
         (record { boundary = exposed-boundary _ _ _ _ _ after contiguous; passed = le_refl _ }) (λ _ z _ _. ends z.call);
-    owners = seats_move (HasWorkingOwner log.parts log.ahead) (HasWorkingOwner log.parts rest) views me v new at s.owners
+    owners = seats_move (HasWorkingOwner log.groups log.parts log.ahead) (HasWorkingOwner log.groups log.parts rest) views me v new at s.owners
         record {
-          owns = mine.owns ∙ ap (λ c. parts_of me true v.entries ++ parts_of me false (entries_in c)) may;
+          owns = mine.owns ∙ ap (λ c. parts_of me true v.entries ++ parts_of me false (entries_in log.groups c)) may;
           owes = fewer me ∙ (mine.owes ∙ ap claims_in may);
         }
         (λ j z _ h. record { owns = h.owns; owes = fewer j ∙ h.owes });
@@ -203,7 +204,8 @@ module _ (key : Start) (words : Words) (views : List View) (me : ℕ) (v : View)
     looked = each_moves (λ _ z. LookedIfQuiet words.exposed z) (λ _ z. LookedIfQuiet to z) views me new s.looked
         (λ f q _. absurd (not-quiet me v at f q)) (λ j z _ there _ f q _. absurd (not-quiet j z there f q));
     unheld = each_set (λ _ z. HoldsIfActive z) views me new s.unheld (s.unheld me v at);
-    accounts = accounts-stay key words.account log.parts views me v new at refl s.accounts;
+    accounts = accounts-stay key words.account log.parts log.groups views me v new at
+        (sym (ap (λ call. books_in log.groups call v.books) may)) s.accounts;
   }
 
   abbrev was : SlotState

@@ -35,9 +35,8 @@ use Rattle.log_table.specs.Accounts.{KeepsAccounts}
 use Rattle.log_table.specs.Books.{next_of}
 use Rattle.log_table.proofs.Carrying.{carrier-set, first-push, ends-push, ends-move}
 use Rattle.log_table.proofs.Entering.{enters, enters-spellable}
-use Rattle.log_table.proofs.Keeping.{records-push, history-push, history-end}
+use Rattle.log_table.proofs.Keeping.{books-at, records-push, history-push, history-end}
 use Rattle.std.proofs.lemmas.List.{map-set, map-append}
-use Rattle.atomic_table.proofs.Lists.{at_map}
 use Rattle.log_table.proofs.Lists.{all-append, all-weaker}
 use Rattle.log_table.proofs.Looking.{tail-boundary, tail-looks}
 use Rattle.log_table.proofs.Owning.{own-push, own-push_others, owed-push, owed-push_others}
@@ -88,7 +87,13 @@ module _ (key : Start) (words : Words) (views : List View) (me : ℕ) (v : View)
   new = reserved from to v
 
   abbrev after : Log
-  after = record { parts = log.parts ++ part ∷ []; flushed = log.flushed; exposed = log.exposed; ahead = log.ahead ++ range ∷ [] }
+  after = record {
+    parts = log.parts ++ part ∷ [];
+    flushed = log.flushed;
+    exposed = log.exposed;
+    ahead = log.ahead ++ range ∷ [];
+    groups = log.groups;
+  }
 
   has-units : 1 ≤ length (spelling next)
   has-units = spelling-some next
@@ -103,10 +108,10 @@ module _ (key : Start) (words : Words) (views : List View) (me : ℕ) (v : View)
   positive = let units = has-units in let is = units-are in omega arith
 
   abbrev bs : List Books
-  bs = map books_of views
+  bs = map (books_of log.groups) views
 
   my-books : get_elem? bs me ≡ some v.books
-  my-books = at_map books_of views me v at
+  my-books = books-at log.groups views me v may.rests.idle at
 
   spellable : IsSpellable next
   spellable = enters-spellable (base_of key) words.account bs me v.books s.accounts.holder my-books next may.enters
@@ -129,13 +134,13 @@ module _ (key : Start) (words : Words) (views : List View) (me : ℕ) (v : View)
       ends : end_from key.start (history_in key log.parts) + length (spelling next) ≡ to
       ends = let before = history-end key.start key.start from [] log.parts refl s.contiguous.parts s.filled.spelled in let size' = may.size in omega arith
 
-  accounts : KeepsAccounts (base_of key) words.account (history_in key after.parts) (map books_of (set views me new))
+  accounts : KeepsAccounts (base_of key) words.account (history_in key after.parts) (map (books_of log.groups) (set views me new))
   accounts = subst (λ (p : List Placed × List Books). KeepsAccounts (base_of key) words.account p.0 p.1)
-      (λ i. (sym history-is i, sym (map-set books_of views me new) i))
+      (λ i. (sym history-is i, sym (map-set (books_of log.groups) views me new) i))
       (enters (base_of key) words.account (history_in key log.parts) bs me v.books my-books to next may.enters s.accounts)
 
-  mine : HasWorkingOwner log.parts log.ahead me v
-  mine = seat_at (HasWorkingOwner log.parts log.ahead) views me v at s.owners
+  mine : HasWorkingOwner log.groups log.parts log.ahead me v
+  mine = seat_at (HasWorkingOwner log.groups log.parts log.ahead) views me v at s.owners
 
   nothing-there : unreleased_in from size log.parts ≡ 0
   nothing-there = unreleased_in-apart _ _ from size log.parts s.contiguous.parts (inl (le_refl _))
@@ -224,7 +229,8 @@ module _ (key : Start) (words : Words) (views : List View) (me : ℕ) (v : View)
           ((λ low. absurd (omega (arith, tiles-le _ _ _ log.ahead s.contiguous.to_tail))), tt);
       ranges = s.below.ranges;
     };
-    at_work = all-append IsAtWork log.ahead (range ∷ []) s.at_work (inr record { seat = me; duty = refl }, tt);
+    at_work = all-append (IsAtWork log.groups) log.ahead (range ∷ []) s.at_work (inr (inl record { seat = me; duty = refl }), tt);
+    slots = s.slots;
     marks = record {
       current = λ place lo hi. ⊎_elim (λ low. inl low)
           (λ ready. inr (ready-push place (words.mark (place % key.ring)) log.ahead (range ∷ []) ready)) (s.marks.current place lo hi);
@@ -237,11 +243,11 @@ module _ (key : Start) (words : Words) (views : List View) (me : ℕ) (v : View)
         (s.carried (first-push log.ahead range (λ (done : Owed me ≡ Released). cc) first));
     ends = each_moves (λ _ z. HasTrueEnds key.start words.exposed log z.call) (λ _ z. HasTrueEnds key.start words.exposed after z.call) views me new
         s.ends tt (λ _ z _ _. ends-move key.start words.exposed log after z.call still (λ end. ends-push log.ahead (range ∷ []) end));
-    owners = seats_move (HasWorkingOwner log.parts log.ahead) (HasWorkingOwner after.parts after.ahead) views me v new at s.owners
+    owners = seats_move (HasWorkingOwner log.groups log.parts log.ahead) (HasWorkingOwner after.groups after.parts after.ahead) views me v new at s.owners
         record {
           owns = own-push me log.parts false entry
               ∙ ap (λ l. l ++ part ∷ [])
-              (mine.owns ∙ (ap (λ c. parts_of me true v.entries ++ parts_of me false (entries_in c)) may.rests.idle ∙ append-nil _));
+              (mine.owns ∙ (ap (λ c. parts_of me true v.entries ++ parts_of me false (entries_in log.groups c)) may.rests.idle ∙ append-nil _));
           owes = owed-push me log.ahead range refl
               ∙ ap (λ l. l ++ record { base = from; size = size; remaining = size } ∷ []) (mine.owes ∙ ap claims_in may.rests.idle);
         }

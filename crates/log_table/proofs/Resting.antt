@@ -4,19 +4,22 @@ use Rattle.std.specs.List.{AllByRecursion}
 use Rattle.log_table.specs.declared.table.Start.{Start}
 use Rattle.log_table.specs.declared.view.Call.TheVariants.{Idle}
 use Rattle.log_table.specs.declared.view.View.{View}
-use Rattle.log_table.specs.Log.{Range, Log, owed, is_owed_by, claim_of, IsReleased, IsOwed, IsAtWork, Tiles}
+use Rattle.log_table.specs.Groups.{Group}
+use Rattle.log_table.specs.Log.{Range, Log, owed, is_owed_by, claim_of, IsReleased, IsOwedBySeat, IsSharedByMembers, IsAtWork, Tiles}
 use Rattle.log_table.specs.Marks.{IsFirstReleased, Carries, HasCarrier}
 use Rattle.log_table.specs.Sound.{IsSound}
 use Rattle.log_table.specs.Views.{nobody, claims_in}
 use Rattle.log_table.specs.Words.{Words}
 use Rattle.log_table.proofs.Viewing.{at_get}
 
--- where the first range is not released, and nobody owes one, none is there
-none-ahead : (ranges : List Range) → AllByRecursion IsAtWork ranges → ((j : ℕ) → owed j ranges ≡ []) → (IsFirstReleased ranges → ⊥) → ranges ≡ []
-none-ahead [] work none first = refl
-none-ahead (r ∷ rs) work none first = absurd (⊎_elim (λ (is : IsReleased r). first is) owes work.0)
+-- where the first range is not released, nobody owes one, and no slot has a member, none is there
+none-ahead : (groups : ℕ → Group) (ranges : List Range) → AllByRecursion (IsAtWork groups) ranges → ((j : ℕ) → owed j ranges ≡ [])
+    → ((slot : ℕ) → (groups slot).members ≡ []) → (IsFirstReleased ranges → ⊥) → ranges ≡ []
+none-ahead groups [] work none empty first = refl
+none-ahead groups (r ∷ rs) work none empty first =
+    absurd (⊎_elim (λ (is : IsReleased r). first is) (⊎_elim owes (λ (is : IsSharedByMembers groups r). is.members (empty is.slot))) work.0)
   where
-    owes : IsOwed r → ⊥
+    owes : IsOwedBySeat r → ⊥
     owes is = let one : claim_of r ∷ owed is.seat rs ≡ [] =
         sym (ap (λ b. cond b (claim_of r ∷ owed is.seat rs) (owed is.seat rs)) (ap (is_owed_by is.seat) is.duty ∙ eq-eqb is.seat is.seat refl))
         ∙ none is.seat in absurd (cc)
@@ -24,7 +27,8 @@ none-ahead (r ∷ rs) work none first = absurd (⊎_elim (λ (is : IsReleased r)
 pub at_rest : (key : Start) (words : Words) (views : List View) (log : Log) → IsSound key words views log
     → ((j : ℕ) → (get_or views j nobody).call ≡ Idle) → words.exposed ≡ words.tail
 at_rest key words views log s idle = subst (λ l. Tiles (key.ring / 4) words.exposed l words.tail)
-    (none-ahead log.ahead s.at_work (λ j. (s.owners j).owes ∙ ap claims_in (idle j)) (λ first. nobody-carries (s.carried first))) s.contiguous.to_tail
+    (none-ahead log.groups log.ahead s.at_work (λ j. (s.owners j).owes ∙ ap claims_in (idle j)) (λ slot. ap (λ (g : Group). g.members) (s.slots slot))
+    (λ first. nobody-carries (s.carried first))) s.contiguous.to_tail
   where
     nobody-carries : HasCarrier words.exposed views → ⊥
     nobody-carries c = subst (Carries words.exposed) (ap (λ (z : View). z.call) (sym (at_get views c.seat c.view c.there)) ∙ idle c.seat) c.carries

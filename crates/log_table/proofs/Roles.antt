@@ -81,7 +81,7 @@ sole-flusher crew views me v s at flusher j z there f = (s.each j z there).first
 
 -- the seat's view, the crew and the accounts change, but not what the seat owns or has reserved
 module _ (key : Start) (words : Words) (stop crew : ℕ) (account : ℕ → ℕ) (views : List View) (me : ℕ) (v new : View) (log : Log) (s : IsSound key words views log)
-    (at : get_elem? views me ≡ some v) (runs : entries_in new.call ≡ entries_in v.call)
+    (at : get_elem? views me ≡ some v) (runs : entries_in log.groups new.call ≡ entries_in log.groups v.call)
     (claims : claims_in new.call ≡ claims_in v.call)
     (carries : IsFirstReleased log.ahead → Carries words.exposed v.call → Carries words.exposed new.call)
     (ends : HasTrueEnds key.start words.exposed log new.call) (entries : new.entries ≡ v.entries)
@@ -91,7 +91,7 @@ module _ (key : Start) (words : Words) (stop crew : ℕ) (account : ℕ → ℕ)
     (read_stop : EachView (λ _ z. HasReadStop stop z) (set views me new))
     (quiet : EachPair (λ _ y _ z. RestsIfQuiet y z) (set views me new)) (looked : LookedIfQuiet words.exposed new)
     (unheld : HoldsIfActive new)
-    (accounts : KeepsAccounts (base_of key) account (history_in key log.parts) (map books_of (set views me new))) where
+    (accounts : KeepsAccounts (base_of key) account (history_in key log.parts) (map (books_of log.groups) (set views me new))) where
   pub recalls-sound : IsSound key (record words { stop = stop; crew = crew; account = account }) (set views me new) log
   recalls-sound = record {
     ordered = s.ordered;
@@ -100,11 +100,12 @@ module _ (key : Start) (words : Words) (stop crew : ℕ) (account : ℕ → ℕ)
     filled = s.filled;
     below = s.below;
     at_work = s.at_work;
+    slots = s.slots;
     marks = s.marks;
     carried = λ first. carrier-set words.exposed views me v new at (carries first) (s.carried first);
     ends = each_set (λ _ z. HasTrueEnds key.start words.exposed log z.call) views me new s.ends ends;
-    owners = seats_set (HasWorkingOwner log.parts log.ahead) views me v new at s.owners
-        (let mine = seat_at (HasWorkingOwner log.parts log.ahead) views me v at s.owners in record {
+    owners = seats_set (HasWorkingOwner log.groups log.parts log.ahead) views me v new at s.owners
+        (let mine = seat_at (HasWorkingOwner log.groups log.parts log.ahead) views me v at s.owners in record {
           owns = mine.owns ∙ (λ i. parts_of me true (sym entries i) ++ parts_of me false (sym runs i));
           owes = mine.owes ∙ sym claims;
         });
@@ -130,9 +131,9 @@ module _ (key : Start) (words : Words) (stop crew : ℕ) (account : ℕ → ℕ)
     (read_stop : EachView (λ _ z. HasReadStop stop z) (set views me new))
     (quiet : EachPair (λ _ y _ z. RestsIfQuiet y z) (set views me new)) (looked : LookedIfQuiet words.exposed new)
     (unheld : HoldsIfActive new)
-    (accounts : KeepsAccounts (base_of key) account (history_in key log.parts) (map books_of (set views me new))) where
+    (accounts : KeepsAccounts (base_of key) account (history_in key log.parts) (map (books_of log.groups) (set views me new))) where
   pub restands-sound : IsSound key (record words { stop = stop; crew = crew; account = account }) (set views me new) log
-  restands-sound = recalls-sound key words stop crew account views me v new log s at (ap entries_in call) (ap claims_in call)
+  restands-sound = recalls-sound key words stop crew account views me v new log s at (ap (entries_in log.groups) call) (ap claims_in call)
       (λ _. subst (Carries words.exposed) (sym call)) (subst (HasTrueEnds key.start words.exposed log) (sym call) (s.ends me v at)) entries
       sees constants rests owns roles sends stops read_stop quiet looked unheld accounts
 

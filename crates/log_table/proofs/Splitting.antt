@@ -83,7 +83,7 @@ module _ (key : Start) (words : Words) (views : List View) (me : ℕ) (v : View)
       (each_set (λ _ z. StoresStop words.stop z) views me boss s.stops (s.stops me v at))
       (each_set (λ _ z. HasReadStop words.stop z) views me boss s.read_stop (s.read_stop me v at))
       (quiet-moves views me v boss s.quiet at (λ _ _ _ _ _ q. absurd (true≢false (sym q))) (λ _ h. h)) (λ _ q. absurd (true≢false (sym q))) (s.unheld me v at)
-      (accounts-stay key words.account log.parts views me v boss at refl s.accounts)
+      (accounts-stay key words.account log.parts log.groups views me v boss at refl s.accounts)
 
   abbrev made : List View
   made = set views me boss

@@ -7,6 +7,7 @@ use Rattle.lsn_space.specs.declared.lsn.TheConstants.{LAST, LEAST_RING, GREATEST
 use Rattle.log_table.specs.declared.layout.TheConstants.{TAIL, EXPOSED, DURABLE, STOP, CREW, RING}
 use Rattle.log_table.specs.declared.table.Start.{Start}
 use Rattle.log_table.specs.declared.view.View.{View}
+use Rattle.log_table.specs.Groups.{empty_group}
 use Rattle.log_table.specs.Log.{Log}
 use Rattle.log_table.specs.Marks.{HasTrueEnds}
 use Rattle.log_table.specs.Sound.{EachView, HasSeenBoundaries, SendsIfFlusher, StoresStop, HasReadStop, RestsIfQuiet, LookedIfQuiet, HasWorkingOwner, HasConstants, RestsUnlessActive, OwnsIfWorker, HoldsIfActive, base_of, HasSoundRole, HasSoundRoles, IsSound, Ruled}
@@ -22,9 +23,9 @@ use Rattle.log_table.specs.Layout.{Mark, Account, index_of, word_count}
 use Rattle.log_table.specs.Opening.{HasAccounts, PutsAccounts}
 use Rattle.log_table.proofs.Gathered.{starts-free}
 
--- nothing is reserved
+-- nothing is reserved, and nobody has joined a group
 abbrev empty_log : Log
-empty_log = record { parts = []; flushed = []; exposed = []; ahead = [] }
+empty_log = record { parts = []; flushed = []; exposed = []; ahead = []; groups = λ _. empty_group }
 
 module _ (key : Start) (words : Words) (least : LEAST_RING ≤ key.ring) (most : key.ring ≤ GREATEST_RING) (small : key.start ≤ LAST)
     (tail : words.tail ≡ key.start) (exposed : words.exposed ≡ key.start) (durable : words.durable ≡ key.start) (stop : words.stop ≡ 0)
@@ -54,6 +55,7 @@ module _ (key : Start) (words : Words) (least : LEAST_RING ≤ key.ring) (most :
     filled = record { spelled = tt; stands = tt };
     below = record { full = tt; below = tt; ranges = tt };
     at_work = tt;
+    slots = λ _. refl;
     marks = record {
       current = λ place _ _. inl (omega (arith, marks (place % key.ring)));
       true_marks = tt;
@@ -94,7 +96,7 @@ module _ (key : Start) (words : Words) (least : LEAST_RING ≤ key.ring) (most :
     accounts = accounts;
   }
     where
-      owners : (j : ℕ) → HasWorkingOwner [] [] j (get_or (flusher key ∷ []) j nobody)
+      owners : (j : ℕ) → HasWorkingOwner empty_log.groups [] [] j (get_or (flusher key ∷ []) j nobody)
       owners zero = record { owns = refl; owes = refl }
       owners (suc j) = record { owns = refl; owes = refl }
 

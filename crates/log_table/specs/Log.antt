@@ -1,10 +1,12 @@
--- The reserved part of the log as lists that no word holds: its parts, each with its owner, and the reserved ranges.
+-- The reserved part of the log as lists that no word holds: its parts, each with its owner, and the reserved ranges; and the groups at the
+-- slots.
 -- One seat's range is one part; a group's range will be as many parts as it has members.
-use Rattle.std.specs.Prelude.{◌≡◌, ◌==◌, ◌&&◌, ◌⊎◌, ℕ, ◌+◌, ◌-◌, ◌%◌, ◌<◌, ◌≤◌, if◌then◌else◌, nat_le, nat_lt, Bool, true, false, List, [], ◌∷◌, ◌++◌, length, slice_index}
+use Rattle.std.specs.Prelude.{◌≡◌, ◌≢◌, ◌==◌, ◌&&◌, ◌⊎◌, ℕ, ◌+◌, ◌-◌, ◌%◌, ◌<◌, ◌≤◌, if◌then◌else◌, nat_le, nat_lt, Bool, true, false, List, [], ◌∷◌, ◌++◌, length, slice_index}
 use Rattle.lsn_space.specs.Tiling.{IsTilingBoundary}
 use Rattle.log_record.specs.declared.rec.Rec.{Rec}
 use Rattle.log_record.specs.Spelling.{spelling, IsSpellable}
 use Rattle.log_table.specs.declared.view.Entry.{Entry}
+use Rattle.log_table.specs.Groups.{Group}
 
 -- a run of units, the number of the seat that owns it, and whether that seat has released it
 pub record Part : Type 0 where
@@ -32,12 +34,13 @@ pub record Claim : Type 0 where
   pub remaining : ℕ
 
 -- All parts in order, and the ranges: those that are flushed, which end at durable, those that are exposed and not flushed, and those
--- ahead of exposed, up to the tail
+-- ahead of exposed, up to the tail; and the group at each slot
 pub record Log : Type 0 where
   pub parts : List Part
   pub flushed : List Range
   pub exposed : List Range
   pub ahead : List Range
+  pub groups : ℕ → Group
 
 -- all ranges in order
 abbrev pub ranges_of : Log → List Range
@@ -169,14 +172,24 @@ IsReleasedBelow exposed part = part.entry.start < exposed → part.released ≡ 
 abbrev pub IsReleased : Range → Type 0
 IsReleased range = range.duty ≡ Released
 
--- some seat has to release the range
-pub record IsOwed (range : Range) : Type 0 where
+-- one seat has to release the range
+pub record IsOwedBySeat (range : Range) : Type 0 where
   pub seat : ℕ
   pub duty : range.duty ≡ Owed seat
 
--- where the range is not released, some seat has to release it
-abbrev pub IsAtWork : Range → Type 0
-IsAtWork range = IsReleased range ⊎ IsOwed range
+-- the members at a slot have to release it, and there are some
+pub record IsSharedByMembers (groups : ℕ → Group) (range : Range) : Type 0 where
+  pub slot : ℕ
+  pub duty : range.duty ≡ Shared slot
+  pub members : (groups slot).members ≢ []
+
+-- the range is owed by a seat, or shared by a slot's members
+abbrev pub IsOwed : (ℕ → Group) → Range → Type 0
+IsOwed groups range = IsOwedBySeat range ⊎ IsSharedByMembers groups range
+
+-- where the range is not released, there is who has to release it
+abbrev pub IsAtWork : (ℕ → Group) → Range → Type 0
+IsAtWork groups range = IsReleased range ⊎ IsOwed groups range
 
 abbrev pub is_released : Duty → Bool
 is_released (Shared slot) = false

@@ -4,11 +4,11 @@ use Rattle.log_table.specs.declared.view.Call.{Call}
 use Rattle.log_table.specs.declared.view.Call.TheVariants.{Idle, Filling, Marked, Holding, Raising}
 use Rattle.log_table.specs.declared.view.Seen.{Seen}
 use Rattle.log_table.specs.declared.view.View.{View}
-use Rattle.log_table.specs.Views.{counted, entries_in, seen_exposed}
+use Rattle.log_table.specs.Views.{counted, run_in, seen_exposed}
 
 -- after a store of the mark of the seat's run, which is released by it
 abbrev pub marked : View → View
-marked view = record view { seen = counted view.seen; entries = view.entries ++ entries_in view.call; call = Marked }
+marked view = record view { seen = counted view.seen; entries = view.entries ++ run_in view.call; call = Marked }
 
 -- the LSN in hand, 0 where there is none
 abbrev pub in_hand : Call → ℕ

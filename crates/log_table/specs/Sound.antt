@@ -18,11 +18,12 @@ use Rattle.lock_core.specs.Settling.{row}
 use Rattle.lock_core.specs.Sums.{BaseState}
 use Rattle.log_table.specs.declared.view.Books.{Books}
 use Rattle.log_table.specs.Accounts.{KeepsAccounts}
+use Rattle.log_table.specs.Groups.{Group, IsVacant}
 use Rattle.log_table.specs.Layout.{word_count}
 use Rattle.log_table.specs.Log.{Part, Range, Log, ranges_of, own, parts_of, owed, Tiles, Laid, SpellsRecord, records_in, StandsInRing, AgreesFrom, IsRangeBoundary, EndsWithPart, IsFullIfReleased, IsReleasedBelow, IsReleased, IsAtWork, CountsRemaining}
 use Rattle.log_table.specs.Marks.{HasReleaseMarks, IsCarried, HasTrueEnds}
 use Rattle.log_table.specs.Roles.{is_active, is_worker, is_working, is_spent, may_own}
-use Rattle.log_table.specs.Views.{constants_of, nobody, entries_in, claims_in}
+use Rattle.log_table.specs.Views.{constants_of, nobody, entries_in, books_in, claims_in}
 use Rattle.log_table.specs.Words.{Words, words_in}
 
 -- each seat that was made, by its number, has a view for which this holds
@@ -102,8 +103,8 @@ abbrev pub LookedIfQuiet : ℕ → View → Type 0
 LookedIfQuiet exposed view = view.standing.role ≡ Flusher → view.sending.quiet ≡ true → view.sending.looked ≡ true → view.sending.exposed ≡ exposed
 
 -- the log has of the seat its entries, which are released, and what its call has reserved
-pub record HasWorkingOwner (parts : List Part) (ahead : List Range) (seat : ℕ) (view : View) : Type 0 where
-  pub owns : own seat parts ≡ parts_of seat true view.entries ++ parts_of seat false (entries_in view.call)
+pub record HasWorkingOwner (groups : ℕ → Group) (parts : List Part) (ahead : List Range) (seat : ℕ) (view : View) : Type 0 where
+  pub owns : own seat parts ≡ parts_of seat true view.entries ++ parts_of seat false (entries_in groups view.call)
   pub owes : owed seat ahead ≡ claims_in view.call
 
 -- the view has the table's constants
@@ -156,8 +157,9 @@ base_of key = record {
 abbrev pub history_in : Start → List Part → List Placed
 history_in key parts = history_from key.start [] (records_in parts)
 
-abbrev pub books_of : View → Books
-books_of view = view.books
+-- the seat's books, with what a group has placed for it
+abbrev pub books_of : (ℕ → Group) → View → Books
+books_of groups view = books_in groups view.call view.books
 
 abbrev pub is_active_view : View → Bool
 is_active_view view = is_active view.standing.role
@@ -175,11 +177,12 @@ pub record IsSound (key : Start) (words : Words) (views : List View) (log : Log)
   pub contiguous : HasContiguousReservations key.start key.ring words.tail words.exposed words.durable log
   pub filled : KeepsFilledUnits key.ring words.durable words.ring log.parts
   pub below : IsFilledBelowExposed words.exposed log
-  pub at_work : AllByRecursion IsAtWork log.ahead
+  pub at_work : AllByRecursion (IsAtWork log.groups) log.ahead
+  pub slots : (slot : ℕ) → IsVacant (log.groups slot)
   pub marks : HasReleaseMarks key.ring words.tail words.exposed words.mark log
   pub carried : IsCarried words.exposed log.ahead views
   pub ends : EachView (λ _ view. HasTrueEnds key.start words.exposed log view.call) views
-  pub owners : EachSeat (HasWorkingOwner log.parts log.ahead) views
+  pub owners : EachSeat (HasWorkingOwner log.groups log.parts log.ahead) views
   pub constants : EachView (λ _ view. HasConstants key view) views
   pub resting : EachView (λ _ view. RestsUnlessActive view) views
   pub entries : EachView (λ _ view. OwnsIfWorker view) views
@@ -190,7 +193,7 @@ pub record IsSound (key : Start) (words : Words) (views : List View) (log : Log)
   pub quiet : EachPair (λ _ view _ other. RestsIfQuiet view other) views
   pub looked : EachView (λ _ view. LookedIfQuiet words.exposed view) views
   pub unheld : EachView (λ _ view. HoldsIfActive view) views
-  pub accounts : KeepsAccounts (base_of key) words.account (history_in key log.parts) (map books_of views)
+  pub accounts : KeepsAccounts (base_of key) words.account (history_in key log.parts) (map (books_of log.groups) views)
 
 -- the table has its words, and some log goes with them and with the views
 abbrev pub Ruled : Start → State (Unit {0}) View → Type 0

@@ -12,9 +12,11 @@ use Rattle.log_table.specs.declared.view.Constants.{Constants}
 use Rattle.log_table.specs.declared.view.Standing.{Standing}
 use Rattle.log_table.specs.declared.view.Seen.{Seen}
 use Rattle.log_table.specs.declared.view.Sending.{Sending}
+use Rattle.log_table.specs.declared.view.Books.{Books}
 use Rattle.log_table.specs.declared.view.View.{View}
 use Rattle.log_record.specs.declared.rec.Rec.{Rec}
 use Rattle.log_table.specs.Books.{no_books, next_of, placing}
+use Rattle.log_table.specs.Groups.{Group}
 use Rattle.log_table.specs.Log.{Claim}
 
 -- what the table was made with, as each view keeps it
@@ -70,13 +72,30 @@ nobody = record {
   books = no_books;
 }
 
--- the entries that the call under way has reserved
-abbrev pub entries_in : Call → List Entry
-entries_in Idle = []
-entries_in (Filling entry) = entry ∷ []
-entries_in Marked = []
-entries_in (Holding at) = []
-entries_in (Raising from to) = []
+-- the run that the call under way fills
+abbrev pub run_in : Call → List Entry
+run_in Idle = []
+run_in (Filling entry) = entry ∷ []
+run_in Marked = []
+run_in (Holding at) = []
+run_in (Raising from to) = []
+
+-- The entries that the call under way has reserved. A seat that waits in a group will have its own by what the group at its slot has, since
+-- its view doesn't know yet where that begins.
+abbrev pub entries_in : (ℕ → Group) → Call → List Entry
+entries_in groups Idle = []
+entries_in groups (Filling entry) = entry ∷ []
+entries_in groups Marked = []
+entries_in groups (Holding at) = []
+entries_in groups (Raising from to) = []
+
+-- the books, with the record that such a group has placed for the call under way: none so far
+abbrev pub books_in : (ℕ → Group) → Call → Books → Books
+books_in groups Idle books = books
+books_in groups (Filling entry) books = books
+books_in groups Marked books = books
+books_in groups (Holding at) books = books
+books_in groups (Raising from to) books = books
 
 -- the ranges that the call under way has to release
 abbrev pub claims_in : Call → List Claim

@@ -6,7 +6,7 @@ use Rattle.log_table.specs.declared.view.Entry.{Entry}
 use Rattle.log_table.specs.declared.view.View.{View}
 use Rattle.log_table.specs.MarkViews.{marked}
 use Rattle.log_table.specs.Seats.{Becomes, view_of}
-use Rattle.log_table.specs.Views.{entries_in}
+use Rattle.log_table.specs.Views.{run_in}
 use Rattle.ring_buffer.specs.Calls.{HasReserved, HasFilled, IsSameWorker, HasEntries, filled_with, with_units}
 use Rattle.ring_buffer.specs.declared.call.Range.{Range}
 use Rattle.ring_buffer.proofs.OneStep.{IsSameWorker-becomes}
@@ -61,7 +61,7 @@ module _ (placed filled done last : Seat) (units : List ℕ) (steps : ℕ)
     pub entries-inserted : (entry : Entry) → filled_with units (view_of placed).call ≡ Filling entry → (view_of last).entries ≡ (view_of placed).entries ++ entry ∷ []
     entries-inserted entry filling =
         exposes.entries_are ∙ (ap (λ (v : View). v.entries) done-is
-        ∙ ((λ i. (filled-is i).entries ++ entries_in (filled-is i).call) ∙ ap (λ call. (view_of placed).entries ++ entries_in call) filling))
+        ∙ ((λ i. (filled-is i).entries ++ run_in (filled-is i).call) ∙ ap (λ call. (view_of placed).entries ++ run_in call) filling))
 
     pub books-inserted : (view_of last).books ≡ (view_of placed).books
     books-inserted = exposes.books_are ∙ (ap (λ (v : View). v.books) done-is ∙ ap (λ (v : View). v.books) filled-is)
