@@ -18,4 +18,6 @@ pub use reading::read;
 pub use rec::{BadRec, Placed, Rec};
 pub use text::{LONGEST_NOTE, Text};
 pub use units::{LONGEST_RECORD, Units};
-pub use writing::{spell, spell_into};
+pub use writing::{
+    spell, spell_commit, spell_into, spell_note, spell_over, spell_short, spell_update,
+};

@@ -37,6 +37,13 @@ impl Units {
         self.units.push(unit);
     }
 
+    /// Takes all units out.
+    pub fn clear(&mut self)
+        ensures { self.new ≡ [] }
+    {
+        self.units.clear();
+    }
+
     pub fn as_slice(&self) -> &[u64]
         ensures units { result.now ≡ self.now }
         ensures short { length self.now ≤ LONGEST_RECORD }

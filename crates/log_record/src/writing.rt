@@ -3,14 +3,13 @@
 ghost use Rattle.std.specs.Prelude.{◌≡◌, ◌*◌, ◌+◌, ◌^◌, ◌≤◌, ◌<◌, ◌∷◌, [], length};
 ghost use Rattle.std.specs.Int.{w32, cast_unsigned};
 ghost use Rattle.log_record.specs.Reading.{header_unit};
-ghost use Rattle.log_record.specs.Spelling.{header as first_unit, spelling, IsSpellable, IsNoteText};
-ghost use Rattle.log_record.specs.declared.rec.Rec.TheVariants.{Note};
+ghost use Rattle.log_record.specs.Spelling.{header as first_unit, spelling, IsSpellable, IsAccount, IsLeg, IsNoteText};
+ghost use Rattle.log_record.specs.declared.rec.Rec.TheVariants.{Update, Commit, Short, Over, Note};
 ghost use Rattle.log_record.specs.declared.units.TheConstants.{LONGEST_RECORD};
 
 use crate::header::{COMMIT, GENESIS, Header, NOTE, OVER, SHORT, UPDATE};
 use crate::note::{note_units, push_text};
 use crate::rec::Rec;
-use crate::text::Text;
 use crate::units::Units;
 use lsn_space::Lsn;
 
@@ -26,10 +25,9 @@ pub fn spell(rec: &Rec) -> Units
     units
 }
 
-/// The same, put into units that are empty: so they aren't copied.
+/// The same, put into units that the caller has, in place of what they hold: so they aren't copied.
 pub fn spell_into(rec: &Rec, units: &mut Units)
-    requires spellable { IsSpellable rec.now }
-    requires empty { units.old ≡ [] }
+    requires { IsSpellable rec.now }
     ensures units { units.new ≡ spelling rec.now }
     ensures some { 1 ≤ length units.new }
     ensures short { length units.new ≤ LONGEST_RECORD }
@@ -37,22 +35,61 @@ pub fn spell_into(rec: &Rec, units: &mut Units)
     match rec {
         Rec::Genesis { account, balance } => {
             let first = header(GENESIS, 2, *account, 0);
-            push_pair(units, first, *balance as u64);
+            put_pair(units, first, *balance as u64);
         }
         Rec::Update {
             txn,
             account,
             delta,
             prev,
-        } => {
-            let first = header(UPDATE, 2, *account, *txn);
-            push_pair(units, first, change(*delta, *prev));
-        }
-        Rec::Commit { txn, legs } => units.push(header(COMMIT, 1, *legs, *txn).unit()),
-        Rec::Short { txn, leg } => units.push(header(SHORT, 1, *leg, *txn).unit()),
-        Rec::Over { txn, leg } => units.push(header(OVER, 1, *leg, *txn).unit()),
-        Rec::Note { txn, text } => push_note(units, *txn, text),
+        } => spell_update(units, *txn, *account, *delta, *prev),
+        Rec::Commit { txn, legs } => spell_commit(units, *txn, *legs),
+        Rec::Short { txn, leg } => spell_short(units, *txn, *leg),
+        Rec::Over { txn, leg } => spell_over(units, *txn, *leg),
+        Rec::Note { txn, text } => spell_note(units, *txn, text.as_slice()),
     }
+}
+
+/// Spells an Update, of which no record is made, in place of what the units hold.
+pub fn spell_update(units: &mut Units, txn: u32, account: u32, delta: i32, prev: Lsn)
+    requires { IsAccount account }
+    ensures { units.new ≡ spelling (Update txn account delta prev) }
+{
+    put_pair(units, header(UPDATE, 2, account, txn), change(delta, prev));
+}
+
+/// So a Commit.
+pub fn spell_commit(units: &mut Units, txn: u32, legs: u32)
+    requires { IsLeg legs }
+    ensures { units.new ≡ spelling (Commit txn legs) }
+{
+    put_first(units, header(COMMIT, 1, legs, txn));
+}
+
+/// So a Short.
+pub fn spell_short(units: &mut Units, txn: u32, leg: u32)
+    requires { IsLeg leg }
+    ensures { units.new ≡ spelling (Short txn leg) }
+{
+    put_first(units, header(SHORT, 1, leg, txn));
+}
+
+/// So an Over.
+pub fn spell_over(units: &mut Units, txn: u32, leg: u32)
+    requires { IsLeg leg }
+    ensures { units.new ≡ spelling (Over txn leg) }
+{
+    put_first(units, header(OVER, 1, leg, txn));
+}
+
+/// So a Note with this text.
+pub fn spell_note(units: &mut Units, txn: u32, text: &[u8])
+    requires { IsNoteText text.now }
+    ensures { units.new ≡ spelling (Note txn text.now) }
+{
+    let count = 1 + note_units(text.len()) as u8;
+    put_first(units, header(NOTE, count, text.len() as u32, txn));
+    push_text(units, text);
 }
 
 fn header(kind: u8, units: u8, field: u32, txn: u32) -> Header
@@ -67,11 +104,18 @@ fn header(kind: u8, units: u8, field: u32, txn: u32) -> Header
     }
 }
 
-fn push_pair(units: &mut Units, header: Header, unit: u64)
-    requires { units.old ≡ [] }
+/// Puts the header in place of what the units hold.
+fn put_first(units: &mut Units, header: Header)
+    ensures { units.new ≡ header_unit header ∷ [] }
+{
+    units.clear();
+    units.push(header.unit());
+}
+
+fn put_pair(units: &mut Units, header: Header, unit: u64)
     ensures { units.new ≡ header_unit header ∷ unit ∷ [] }
 {
-    units.push(header.unit());
+    put_first(units, header);
     units.push(unit);
 }
 
@@ -80,15 +124,4 @@ fn change(delta: i32, prev: Lsn) -> u64
     ensures { result ≡ cast_unsigned w32 delta * 2 ^ 32 + prev }
 {
     ((delta.cast_unsigned() as u64) << 32) + prev.units() as u64
-}
-
-fn push_note(units: &mut Units, txn: u32, text: &Text)
-    requires empty { units.old ≡ [] }
-    requires text { IsNoteText text.now }
-    ensures { units.new ≡ spelling (Note txn text.now) }
-{
-    let bytes = text.as_slice();
-    let count = 1 + note_units(bytes.len()) as u8;
-    units.push(header(NOTE, count, bytes.len() as u32, txn).unit());
-    push_text(units, bytes);
 }
