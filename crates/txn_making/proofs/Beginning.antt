@@ -3,6 +3,7 @@ use Rattle.std.proofs.Common.{◌≡◌, ℕ, ◌+◌, ◌≤◌, false, List, [
 use Rattle.std.proofs.lemmas.List.Elements.{All-nil}
 use Rattle.log_record.specs.declared.rec.Rec.{Rec}
 use Rattle.log_record.specs.declared.rec.Rec.TheVariants.{Note}
+use Rattle.log_record.specs.Spelling.{spelling}
 use Rattle.lock_core.specs.Alone.{planned_from, planned_records, with_note}
 use Rattle.lock_core.specs.Records.{gain, loss}
 use Rattle.lock_core.specs.Sums.{moved}
@@ -12,11 +13,11 @@ use Rattle.log_table.specs.declared.table.Seat.{Seat}
 use Rattle.log_table.specs.declared.view.Books.{Books}
 use Rattle.log_table.specs.declared.view.Entry.{Entry}
 use Rattle.log_table.specs.declared.view.TakenJob.{TakenJob}
-use Rattle.log_table.specs.Books.{balance_taken, mark_taken, IsNote, IsNext, MayEnter}
+use Rattle.log_table.specs.Books.{balance_taken, mark_taken, next_of, IsNext, MayEnter}
 use Rattle.lock_core.specs.Transfers.{transfer_of, note_of}
 use Rattle.log_table.specs.Closing.{records_of}
 use Rattle.log_table.specs.Seats.{view_of}
-use Rattle.log_table.proofs.Nexting.{note-next}
+use Rattle.log_table.proofs.Nexting.{may-enter, note-next}
 use Rattle.ring_buffer.specs.Calls.{HasEntries, entry_of}
 use Rattle.txn_jobs.specs.declared.cause.Cause.{Cause}
 use Rattle.txn_parts.specs.declared.holding.Holding.{Holding}
@@ -24,32 +25,38 @@ use Rattle.txn_making.specs.Holdings.{IsUnchanged}
 use Rattle.txn_making.specs.Inserts.{Puts, placing_all, IsLeft, StopsFor, IsCutOff}
 use Rattle.txn_making.specs.Legs.{changes_by, HoldsJob, AddsRecords, StandsBefore, TouchesLeg}
 use Rattle.txn_making.proofs.Adding.{adds-none, left-behind, records-behind, cut-off}
+use Rattle.txn_making.proofs.Putting.{spells-next, puts-it, stops-it}
 
-module _ (number : ℕ) (job : Job) (text : List ℕ) (old : Seat) (rec : Rec) (is : rec ≡ Note number text)
+module _ (number : ℕ) (job : Job) (text : List ℕ) (old : Seat)
     (last : (view_of old).books.last ≡ record { number = number; job = job })
     (noted : job.note ≡ Some text) (none : (view_of old).books.placed ≡ []) (some : 1 ≤ length text) where
-  next : IsNext rec (view_of old).books
-  next = subst (λ r. IsNext r (view_of old).books) (ap (λ (taken : TakenJob). Note taken.number text) last ∙ sym is)
+  next : IsNext (Note number text) (view_of old).books
+  next = subst (λ r. IsNext r (view_of old).books) (ap (λ (taken : TakenJob). Note taken.number text) last)
       (note-next (view_of old).books text none (ap (λ (taken : TakenJob). taken.job.note) last ∙ noted) some)
 
-  pub enters-note : 1 ≤ number → MayEnter rec (view_of old).books
-  enters-note least = record {
-    some_job = subst (λ (taken : TakenJob). 1 ≤ taken.number) (sym last) least;
-    next = next;
-    accounts = inl (subst IsNote (sym is) tt);
-  }
+  pub enters-note : 1 ≤ number → MayEnter (next_of (view_of old).books) (view_of old).books
+  enters-note least = may-enter (Note number text) (view_of old).books (subst (λ (taken : TakenJob). 1 ≤ taken.number) (sym last) least)
+      next (inl tt)
+
+  pub spells-note : (units : List ℕ) → units ≡ spelling (Note number text) → units ≡ spelling (next_of (view_of old).books)
+  spells-note = spells-next (Note number text) old next
 
   pub cut-note : (cause : Cause) (new : Seat) → (view_of new).books ≡ (view_of old).books
-      → StopsFor cause (rec ∷ []) (view_of new) → IsCutOff cause (view_of new)
-  cut-note cause new = cut-off rec next.rest cause old new next.plan (ap (λ placed. has_commit (recs_of placed)) none)
+      → StopsFor cause (next_of (view_of old).books ∷ []) (view_of new) → IsCutOff cause (view_of new)
+  cut-note cause new same stops = cut-off (Note number text) next.rest cause old new next.plan
+      (ap (λ placed. has_commit (recs_of placed)) none) same (stops-it (Note number text) old next cause (view_of new) stops)
 
-  pub noted-by : (end : ℕ) (new : Seat) → Puts rec end old new → AddsRecords (with_note number (note_of job.note) []) old new
+  pub noted-by : (end : ℕ) (new : Seat) → Puts (next_of (view_of old).books) end old new
+      → AddsRecords (with_note number (note_of job.note) []) old new
   noted-by end new put = record {
-    added = entry_of put.start rec ∷ [];
-    adds = put.adds;
-    records_are = (λ i. is i ∷ []) ∙ sym (ap (λ note. with_note number (note_of note) []) noted ∙ long text some);
+    added = entry_of put-note.start (Note number text) ∷ [];
+    adds = put-note.adds;
+    records_are = sym (ap (λ note. with_note number (note_of note) []) noted ∙ long text some);
   }
     where
+      put-note : Puts (Note number text) end old new
+      put-note = puts-it (Note number text) old next end new put
+
       long : (bytes : List ℕ) → 1 ≤ length bytes → with_note number bytes [] ≡ Note number bytes ∷ []
       long [] some = absurd (omega arith)
       long (byte ∷ bytes) some = refl

@@ -1,8 +1,8 @@
 -- The end record of a transfer.
-use Rattle.std.proofs.Common.{◌≡◌, ◌||◌, ℕ, ◌+◌, ◌≤◌, cond, true, List, [], ◌∷◌, ◌++◌, length, get_or, All, refl, sym, ap, ◌∙◌, subst}
-use Rattle.log_record.specs.declared.rec.Rec.{Rec}
+use Rattle.std.proofs.Common.{◌≡◌, ◌||◌, ℕ, ◌+◌, ◌≤◌, cond, true, List, [], ◌∷◌, length, get_or, All, refl, sym, ap, ◌∙◌, subst}
 use Rattle.log_record.specs.declared.rec.Rec.TheVariants.{Commit}
 use Rattle.log_record.specs.LogList.{size_of}
+use Rattle.log_record.specs.Spelling.{spelling}
 use Rattle.lock_core.specs.Alone.{outcome_alone}
 use Rattle.lock_core.specs.History.{end_from}
 use Rattle.lock_core.specs.Records.{ends}
@@ -12,23 +12,25 @@ use Rattle.log_table.specs.declared.table.Seat.{Seat}
 use Rattle.log_table.specs.declared.view.Books.{Books}
 use Rattle.log_table.specs.declared.view.Entry.{Entry}
 use Rattle.log_table.specs.declared.view.TakenJob.{TakenJob}
-use Rattle.log_table.specs.Books.{balance_taken, MayEnter}
+use Rattle.log_table.specs.Books.{balance_taken, next_of, IsNext, MayEnter}
 use Rattle.lock_core.specs.Transfers.{transfer_of}
 use Rattle.log_table.specs.Seats.{view_of}
 use Rattle.ring_buffer.specs.Calls.{entry_of}
 use Rattle.txn_parts.specs.declared.release.Release.TheVariants.{Committed}
 use Rattle.txn_parts.specs.declared.holding.Holding.{Holding}
+use Rattle.txn_jobs.specs.declared.cause.Cause.{Cause}
 use Rattle.txn_jobs.specs.declared.rows.Answer.{Answer}
 use Rattle.txn_jobs.specs.declared.rows.Answer.TheVariants.{Done, Short, Over}
 use Rattle.txn_parts.specs.declared.ended.Ended.{Ended}
 use Rattle.txn_making.specs.Endings.{release_at, EndsTransfer}
 use Rattle.txn_making.specs.Holdings.{GoesBack}
-use Rattle.txn_making.specs.Inserts.{placing_all, Adds, Puts, IsLeft}
+use Rattle.txn_making.specs.Inserts.{placing_all, Adds, Puts, StopsFor, IsCutOff}
 use Rattle.txn_making.specs.Legs.{HoldsJob, HasChanged, ReachesEnd, last_record}
-use Rattle.txn_making.proofs.Adding.{adds-trans, left-behind}
+use Rattle.txn_making.proofs.Adding.{adds-trans, left-behind, cut-off}
 use Rattle.txn_making.proofs.Backing.{all-unchanged}
 use Rattle.txn_making.proofs.Making.{enters}
 use Rattle.txn_making.proofs.Passing.{holds-behind, holds-accounts}
+use Rattle.txn_making.proofs.Putting.{spells-next, puts-it, stops-it}
 
 ends-last : (number : ℕ) (job : Job) (answer : Answer) → ends (last_record number job answer) ≡ true
 ends-last number job Done = refl
@@ -55,42 +57,58 @@ all-back number job (Over leg) holdings books start reaches = all-unchanged
     (placing_all (entry_of start (last_record number job (Over leg)) ∷ []) books) reaches.uncommitted holdings
 
 -- the end record comes next
+next-last : (number : ℕ) (job : Job) (answer : Answer) (holdings : List Holding) (books : Books) → ReachesEnd answer number job holdings books
+    → IsNext (last_record number job answer) books
+next-last number job answer holdings books reaches = record { rest = []; plan = reaches.left }
+
 pub enters-last : (accounts number : ℕ) (job : Job) (answer : Answer) (holdings holdings' : List Holding) (old between : Seat)
-    (before : List Entry) (rec : Rec)
+    (before : List Entry)
     → Adds before old between → HoldsJob accounts number job holdings (view_of old).books
-    → ReachesEnd answer number job holdings' (view_of between).books
-    → rec ≡ last_record number job answer → MayEnter rec (view_of between).books
-enters-last accounts number job answer holdings holdings' old between before rec adds holds reaches is =
-    enters rec [] (view_of between).books (subst (λ (last : TakenJob). 1 ≤ last.number) (sym still.last) holds.allowed.number.0)
-    (holds-accounts accounts number job holdings (view_of between).books still)
-    (subst (λ r. IsLeft (r ∷ []) (view_of between).books) (sym is) reaches.left)
+    → ReachesEnd answer number job holdings' (view_of between).books → MayEnter (next_of (view_of between).books) (view_of between).books
+enters-last accounts number job answer holdings holdings' old between before adds holds reaches =
+    enters (last_record number job answer) [] (view_of between).books
+    (subst (λ (last : TakenJob). 1 ≤ last.number) (sym still.last) holds.allowed.number.0)
+    (holds-accounts accounts number job holdings (view_of between).books still) reaches.left
   where
     still : HoldsJob accounts number job holdings (view_of between).books
     still = holds-behind accounts number job holdings (view_of old).books (view_of between).books before adds.entries.books_are holds
 
+pub spells-last : (number : ℕ) (job : Job) (answer : Answer) (holdings : List Holding) (between : Seat)
+    → ReachesEnd answer number job holdings (view_of between).books → (units : List ℕ) → units ≡ spelling (last_record number job answer)
+    → units ≡ spelling (next_of (view_of between).books)
+spells-last number job answer holdings between reaches = spells-next (last_record number job answer) between
+    (next-last number job answer holdings (view_of between).books reaches)
+
+pub cut-last : (number : ℕ) (job : Job) (answer : Answer) (holdings : List Holding) (between : Seat)
+    → ReachesEnd answer number job holdings (view_of between).books → (cause : Cause) (new : Seat)
+    → (view_of new).books ≡ (view_of between).books → StopsFor cause (next_of (view_of between).books ∷ []) (view_of new)
+    → IsCutOff cause (view_of new)
+cut-last number job answer holdings between reaches cause new same stops =
+    cut-off (last_record number job answer) [] cause between new reaches.left reaches.uncommitted same
+    (stops-it (last_record number job answer) between (next-last number job answer holdings (view_of between).books reaches) cause (view_of new) stops)
+
 pub ends-transfer : (number : ℕ) (job : Job) (ended : Ended) (holdings : List Holding) (old between new : Seat)
-    (before : List Entry) (rec : Rec)
+    (before : List Entry)
     → Adds before old between → ReachesEnd ended.answer number job holdings (view_of between).books
-    → rec ≡ last_record number job ended.answer
-    → Puts rec ended.end between new → EndsTransfer number job ended holdings old new
-ends-transfer number job ended holdings old between new before rec adds reaches is put = record {
+    → Puts (next_of (view_of between).books) ended.end between new → EndsTransfer number job ended holdings old new
+ends-transfer number job ended holdings old between new before adds reaches put-next = record {
   before = before;
   start = put.start;
-  end_is = end;
-  adds = subst (λ r. Adds (before ++ entry_of put.start r ∷ []) old new) is
-      (adds-trans before (entry_of put.start rec ∷ []) old between new adds put.adds);
-  left = left-behind (entry_of put.start rec ∷ []) [] (view_of between).books (view_of new).books put.adds.entries.books_are
-      (subst (λ r. IsLeft (r ∷ []) (view_of between).books) (sym is) reaches.left);
+  end_is = put.ends;
+  adds = adds-trans before (entry_of put.start (last_record number job ended.answer) ∷ []) old between new adds put.adds;
+  left = left-behind (entry_of put.start (last_record number job ended.answer) ∷ []) [] (view_of between).books (view_of new).books placed
+      reaches.left;
   outcome = reaches.outcome ∙ ap (λ (b : Books). outcome_alone (transfer_of job) (balance_taken b.held)) adds.entries.books_are;
-  back = subst (λ (p : ℕ × Books). All (GoesBack (release_at p.0 ended.answer) p.1) holdings) (λ i. (sym end i, sym placed i))
+  back = subst (λ (p : ℕ × Books). All (GoesBack (release_at p.0 ended.answer) p.1) holdings) (λ i. (sym put.ends i, sym placed i))
       (all-back number job ended.answer holdings (view_of between).books put.start reaches);
-  is_last = ap (λ (b : Books). end_from 0 b.placed) placed ∙ sym end;
+  is_last = ap (λ (b : Books). end_from 0 b.placed) placed ∙ sym put.ends;
   has_ended = ap (λ (b : Books). has_end (recs_of b.placed)) placed
       ∙ (λ i. ends-last number job ended.answer i || has_end (recs_of (view_of between).books.placed));
 }
   where
-    end : ended.end ≡ put.start + size_of (last_record number job ended.answer)
-    end = put.ends ∙ ap (λ r. put.start + size_of r) is
+    put : Puts (last_record number job ended.answer) ended.end between new
+    put = puts-it (last_record number job ended.answer) between
+        (next-last number job ended.answer holdings (view_of between).books reaches) ended.end new put-next
 
     placed : (view_of new).books ≡ placing_all (entry_of put.start (last_record number job ended.answer) ∷ []) (view_of between).books
-    placed = put.adds.entries.books_are ∙ ap (λ r. placing_all (entry_of put.start r ∷ []) (view_of between).books) is
+    placed = put.adds.entries.books_are

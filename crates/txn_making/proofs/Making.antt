@@ -1,25 +1,27 @@
 -- The two Updates of a leg.
-use Rattle.std.proofs.Common.{◌≡◌, ℕ, ◌≤◌, pos, neg_ℤ, ℤ, List, [], ◌∷◌, Contains, inr, sym, ap, ◌∙◌, subst}
+use Rattle.std.proofs.Common.{◌≡◌, ℕ, ◌≤◌, pos, neg_ℤ, ℤ, List, [], ◌∷◌, Contains, inr, sym, refl, ap, ◌∙◌, subst}
 use Rattle.std.proofs.lemmas.List.Elements.{All-contains}
 use Rattle.log_record.specs.declared.rec.Rec.{Rec}
 use Rattle.log_record.specs.declared.rec.Rec.TheVariants.{Update}
-use Rattle.lock_core.specs.Transactions.{has_commit}
+use Rattle.log_record.specs.Spelling.{spelling}
 use Rattle.log_table.specs.declared.table.Seat.{Seat}
 use Rattle.log_table.specs.declared.view.Books.{Books}
-use Rattle.log_table.specs.Books.{mark_taken, HoldsAccounts, MayEnter}
+use Rattle.log_table.specs.Books.{mark_taken, next_of, HoldsAccounts, IsNext, MayEnter}
 use Rattle.log_table.specs.Seats.{view_of}
+use Rattle.log_table.proofs.Nexting.{may-enter}
 use Rattle.ring_buffer.specs.Calls.{entry_of}
 use Rattle.early_locks.specs.Locks.{HoldsTaken}
 use Rattle.txn_jobs.specs.declared.cause.Cause.{Cause}
 use Rattle.txn_parts.specs.declared.holding.Holding.{Holding}
-use Rattle.txn_making.specs.Inserts.{Puts, IsLeft, StopsFor, IsCutOff}
+use Rattle.txn_making.specs.Inserts.{placing_all, Puts, IsLeft, StopsFor, IsCutOff}
 use Rattle.txn_making.specs.Legs.{MayMakeLeg, AddsRecords, leg_records}
 use Rattle.txn_making.proofs.Adding.{adds-trans, left-behind, uncommitted-behind, cut-off}
+use Rattle.txn_making.proofs.Putting.{spells-next, puts-it, stops-it}
 
 -- with all accounts held the next record may be placed
 pub enters : (rec : Rec) (rest : List Rec) (books : Books) → 1 ≤ books.last.number → HoldsAccounts books
-    → IsLeft (rec ∷ rest) books → MayEnter rec books
-enters rec rest books some_job holds left = record { some_job = some_job; next = record { rest = rest; plan = left }; accounts = inr holds }
+    → IsLeft (rec ∷ rest) books → MayEnter (next_of books) books
+enters rec rest books some_job holds left = may-enter rec books some_job record { rest = rest; plan = left } (inr holds)
 
 module _ (accounts number : ℕ) (leg : ℕ × ℕ × ℕ) (holdings : List Holding) (old : Seat)
     (may : MayMakeLeg accounts number leg holdings (view_of old).books) where
@@ -32,50 +34,67 @@ module _ (accounts number : ℕ) (leg : ℕ × ℕ × ℕ) (holdings : List Hold
   abbrev more : Rec
   more = Update number leg.1 (pos leg.2) (mark_taken books.held leg.1)
 
-  -- an Update has the last Commit of its account as it was taken
-  marked : (rec : Rec) (delta : ℤ) (account : ℕ) (holding : Holding) → rec ≡ Update number holding.taken.account delta holding.taken.mark
-      → Contains holdings holding → holding.taken.account ≡ account → rec ≡ Update number account delta (mark_taken books.held account)
-  marked rec delta account holding is has same = is ∙ (λ i. Update number (same i) delta (mark i))
+  -- what is spelled is an Update with the last Commit of its account as it was taken
+  marked : (units : List ℕ) (delta : ℤ) (account : ℕ) (holding : Holding)
+      → units ≡ spelling (Update number holding.taken.account delta holding.taken.mark) → Contains holdings holding
+      → holding.taken.account ≡ account → units ≡ spelling (Update number account delta (mark_taken books.held account))
+  marked units delta account holding is has same = is ∙ (λ i. spelling (Update number (same i) delta (mark i)))
     where
       mark : holding.taken.mark ≡ mark_taken books.held account
       mark = sym (All-contains (λ (holding : Holding). HoldsTaken holding.taken books) holdings holding may.taken has).mark
           ∙ ap (mark_taken books.held) same
 
-  module _ (first : Rec) (payer : Holding) (debit : first ≡ Update number payer.taken.account (neg_ℤ (pos leg.2)) payer.taken.mark)
-      (payer-in : Contains holdings payer) (payer-is : payer.taken.account ≡ leg.0) where
-    first-is : first ≡ less
-    first-is = marked first (neg_ℤ (pos leg.2)) leg.0 payer debit payer-in payer-is
+  next-less : IsNext less books
+  next-less = record { rest = more ∷ may.rest; plan = may.left }
 
-    left-first : IsLeft (first ∷ more ∷ may.rest) books
-    left-first = subst (λ rec. IsLeft (rec ∷ more ∷ may.rest) books) (sym first-is) may.left
+  pub enters-first : MayEnter (next_of books) books
+  enters-first = enters less (more ∷ may.rest) books may.some_job may.holds may.left
 
-    pub enters-first : MayEnter first books
-    enters-first = enters first (more ∷ may.rest) books may.some_job may.holds left-first
+  pub spells-first : (units : List ℕ) (payer : Holding)
+      → units ≡ spelling (Update number payer.taken.account (neg_ℤ (pos leg.2)) payer.taken.mark) → Contains holdings payer
+      → payer.taken.account ≡ leg.0 → units ≡ spelling (next_of books)
+  spells-first units payer is has same = spells-next less old next-less units (marked units (neg_ℤ (pos leg.2)) leg.0 payer is has same)
 
-    pub cut-first : (cause : Cause) (new : Seat) → (view_of new).books ≡ books → StopsFor cause (first ∷ []) (view_of new)
-        → IsCutOff cause (view_of new)
-    cut-first cause new = cut-off first (more ∷ may.rest) cause old new left-first may.uncommitted
+  pub cut-first : (cause : Cause) (new : Seat) → (view_of new).books ≡ books → StopsFor cause (next_of books ∷ []) (view_of new)
+      → IsCutOff cause (view_of new)
+  cut-first cause new same stops = cut-off less (more ∷ may.rest) cause old new may.left may.uncommitted same
+      (stops-it less old next-less cause (view_of new) stops)
 
-    module _ (between : Seat) (end : ℕ) (put : Puts first end old between) (second : Rec) (payee : Holding)
-        (credit : second ≡ Update number payee.taken.account (pos leg.2) payee.taken.mark) (payee-in : Contains holdings payee)
-        (payee-is : payee.taken.account ≡ leg.1) where
-      second-is : second ≡ more
-      second-is = marked second (pos leg.2) leg.1 payee credit payee-in payee-is
+  module _ (between : Seat) (end : ℕ) (put : Puts (next_of books) end old between) where
+    put-less : Puts less end old between
+    put-less = puts-it less old next-less end between put
 
-      left-second : IsLeft (second ∷ may.rest) (view_of between).books
-      left-second = left-behind (entry_of put.start first ∷ []) (second ∷ may.rest) books (view_of between).books
-          put.adds.entries.books_are (subst (λ rec. IsLeft (first ∷ rec ∷ may.rest) books) (sym second-is) left-first)
+    placed : (view_of between).books ≡ placing_all (entry_of put-less.start less ∷ []) books
+    placed = put-less.adds.entries.books_are
 
-      pub cut-second : (cause : Cause) (new : Seat) → (view_of new).books ≡ (view_of between).books
-          → StopsFor cause (second ∷ []) (view_of new) → IsCutOff cause (view_of new)
-      cut-second cause new = cut-off second may.rest cause between new left-second
-          (uncommitted-behind (entry_of put.start first ∷ []) books (view_of between).books put.adds.entries.books_are
-          (ap (λ rec. has_commit (rec ∷ [])) first-is) may.uncommitted)
+    left-second : IsLeft (more ∷ may.rest) (view_of between).books
+    left-second = left-behind (entry_of put-less.start less ∷ []) (more ∷ may.rest) books (view_of between).books placed may.left
 
-      pub leg-made : (new : Seat) (end' : ℕ) → Puts second end' between new
-          → AddsRecords (leg_records number (mark_taken books.held) leg) old new
-      leg-made new end' put' = record {
-        added = entry_of put.start first ∷ entry_of put'.start second ∷ [];
-        adds = adds-trans (entry_of put.start first ∷ []) (entry_of put'.start second ∷ []) old between new put.adds put'.adds;
-        records_are = λ i. first-is i ∷ second-is i ∷ [];
-      }
+    next-more : IsNext more (view_of between).books
+    next-more = record { rest = may.rest; plan = left-second }
+
+    pub enters-second : MayEnter (next_of (view_of between).books) (view_of between).books
+    enters-second = enters more may.rest (view_of between).books (subst (λ (b : Books). 1 ≤ b.last.number) (sym placed) may.some_job)
+        (subst HoldsAccounts (sym placed) may.holds) left-second
+
+    pub spells-second : (units : List ℕ) (payee : Holding)
+        → units ≡ spelling (Update number payee.taken.account (pos leg.2) payee.taken.mark) → Contains holdings payee
+        → payee.taken.account ≡ leg.1 → units ≡ spelling (next_of (view_of between).books)
+    spells-second units payee is has same = spells-next more between next-more units (marked units (pos leg.2) leg.1 payee is has same)
+
+    pub cut-second : (cause : Cause) (new : Seat) → (view_of new).books ≡ (view_of between).books
+        → StopsFor cause (next_of (view_of between).books ∷ []) (view_of new) → IsCutOff cause (view_of new)
+    cut-second cause new same stops = cut-off more may.rest cause between new left-second
+        (uncommitted-behind (entry_of put-less.start less ∷ []) books (view_of between).books placed refl may.uncommitted) same
+        (stops-it more between next-more cause (view_of new) stops)
+
+    pub leg-made : (new : Seat) (end' : ℕ) → Puts (next_of (view_of between).books) end' between new
+        → AddsRecords (leg_records number (mark_taken books.held) leg) old new
+    leg-made new end' put' = record {
+      added = entry_of put-less.start less ∷ entry_of put-more.start more ∷ [];
+      adds = adds-trans (entry_of put-less.start less ∷ []) (entry_of put-more.start more ∷ []) old between new put-less.adds put-more.adds;
+      records_are = refl;
+    }
+      where
+        put-more : Puts more end' between new
+        put-more = puts-it more between next-more end' new put'

@@ -7,13 +7,14 @@ ghost use Rattle.txn_making.specs.Inserts.{HasAdded, IsCutOff};
 ghost use Rattle.txn_making.specs.Legs.{HoldsJob, StandsBefore, ReachesEnd, MayMakeLeg, AddsRecords, leg_records};
 ghost use Rattle.log_table.specs.Books.{mark_taken};
 
-use crate::inserting::insert_record;
+use crate::inserting::insert_units;
 use lock_core::Job;
+use log_record::Units;
 use log_table::{LogTable, Seat};
 use schedule_hook::Gate;
 use std::sync::Wait;
 use txn_jobs::{Answer, Cause};
-use txn_parts::{Holding, Relief, credit, debit, holding_of, move_amount, refusal};
+use txn_parts::{Holding, Relief, holding_of, move_amount, refusal, spell_credit, spell_debit};
 
 /// Makes the legs, each on the balances as those before it left them, up to the first that can't be made. Answers how the
 /// transfer ends.
@@ -24,6 +25,7 @@ pub fn make_legs<R: Wait, Q: Relief, G: Gate>(
     number: u32,
     job: &Job,
     holdings: &mut [Holding],
+    units: &mut Units,
     relief: &mut Q,
     gate: &G,
 ) -> Result<Answer, Cause>
@@ -45,7 +47,7 @@ pub fn make_legs<R: Wait, Q: Relief, G: Gate>(
         if let Some(answer) = refusal(holdings, leg, i as u32 + 1) {
             return Ok(answer);
         }
-        make_leg(rt, table, seat, number, leg, holdings, relief, gate)?;
+        make_leg(rt, table, seat, number, leg, holdings, units, relief, gate)?;
         move_amount(holdings, leg);
     }
     Ok(Answer::Done)
@@ -59,6 +61,7 @@ fn make_leg<R: Wait, Q: Relief, G: Gate>(
     number: u32,
     leg: (u32, u32, u32),
     holdings: &[Holding],
+    units: &mut Units,
     relief: &mut Q,
     gate: &G,
 ) -> Result<(), Cause>
@@ -73,9 +76,9 @@ fn make_leg<R: Wait, Q: Relief, G: Gate>(
     ensures later { Q.later relief.old relief.new }
 {
     let (payer, payee, amount) = leg;
-    let less = debit(number, holding_of(holdings, payer), amount);
-    insert_record(rt, table, seat, &less, relief, gate)?;
-    let more = credit(number, holding_of(holdings, payee), amount);
-    insert_record(rt, table, seat, &more, relief, gate)?;
+    spell_debit(units, number, holding_of(holdings, payer), amount);
+    insert_units(rt, table, seat, units, relief, gate)?;
+    spell_credit(units, number, holding_of(holdings, payee), amount);
+    insert_units(rt, table, seat, units, relief, gate)?;
     Ok(())
 }

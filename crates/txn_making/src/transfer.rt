@@ -1,6 +1,6 @@
 //! The records of a transfer, in order.
 ghost use Rattle.std.specs.Prelude.{◌≡◌, [], map, All, IfOk, IfErr, OnOk, OnErr};
-ghost use Rattle.log_record.specs.Spelling.{IsTxn};
+ghost use Rattle.log_record.specs.Spelling.{spelling, IsTxn, IsSpellable};
 ghost use Rattle.lock_core.specs.Alone.{with_note};
 ghost use Rattle.lock_core.specs.Transfers.{note_of};
 ghost use Rattle.log_table.specs.Seats.{IsOf, view_of};
@@ -10,16 +10,16 @@ ghost use Rattle.txn_making.specs.Inserts.{HasAdded, IsCutOff};
 ghost use Rattle.txn_making.specs.Legs.{HoldsJob, AddsRecords, last_record};
 ghost use Rattle.txn_making.specs.Endings.{EndsTransfer};
 
-use crate::inserting::insert_record;
+use crate::inserting::insert_units;
 use crate::legs::make_legs;
 use arrayvec::ArrayVec;
 use lock_core::Job;
-use log_record::Rec;
+use log_record::{Units, spell_commit, spell_over, spell_short};
 use log_table::{LogTable, Seat};
 use schedule_hook::Gate;
 use std::sync::Wait;
 use txn_jobs::{Answer, Cause, MOST_PARTIES};
-use txn_parts::{Ended, Holding, Relief, note};
+use txn_parts::{Ended, Holding, Relief, spell_job_note};
 
 /// Inserts the records of the transfer, whose accounts are held: its Note, if it has one, two Updates for each leg that is
 /// made, and its end record.
@@ -47,11 +47,12 @@ pub fn insert_transfer<R: Wait, Q: Relief, G: Gate>(
     ensures relief { Q.ready relief.new }
     ensures later { Q.later relief.old relief.new }
 {
-    insert_note(rt, table, seat, number, job, relief, gate)?;
+    let mut units = Units::new();
+    insert_note(rt, table, seat, number, job, &mut units, relief, gate)?;
     let list = holdings.as_mut_slice();
-    let answer = make_legs(rt, table, seat, number, job, list, relief, gate)?;
-    let last = end_record(number, job, answer);
-    let end = insert_record(rt, table, seat, &last, relief, gate)?;
+    let answer = make_legs(rt, table, seat, number, job, list, &mut units, relief, gate)?;
+    spell_end(&mut units, number, job, answer);
+    let end = insert_units(rt, table, seat, &units, relief, gate)?;
     Ok(Ended { answer, end })
 }
 
@@ -62,6 +63,7 @@ fn insert_note<R: Wait, Q: Relief, G: Gate>(
     seat: &mut Seat,
     number: u32,
     job: &Job,
+    units: &mut Units,
     relief: &mut Q,
     gate: &G,
 ) -> Result<(), Cause>
@@ -77,22 +79,21 @@ fn insert_note<R: Wait, Q: Relief, G: Gate>(
     ensures relief { Q.ready relief.new }
     ensures later { Q.later relief.old relief.new }
 {
-    let Some(rec) = note(number, job) else {
+    if !spell_job_note(units, number, job) {
         return Ok(());
-    };
-    insert_record(rt, table, seat, &rec, relief, gate)?;
+    }
+    insert_units(rt, table, seat, units, relief, gate)?;
     Ok(())
 }
 
-fn end_record(number: u32, job: &Job, answer: Answer) -> Rec
-    ensures { result ≡ last_record number job.now answer }
+/// Spells the end record of a transfer with this answer.
+fn spell_end(units: &mut Units, number: u32, job: &Job, answer: Answer)
+    requires { IsSpellable (last_record number job.now answer) }
+    ensures { units.new ≡ spelling (last_record number job.now answer) }
 {
     match answer {
-        Answer::Done => Rec::Commit {
-            txn: number,
-            legs: job.legs.as_slice().len() as u32,
-        },
-        Answer::Short(leg) => Rec::Short { txn: number, leg },
-        Answer::Over(leg) => Rec::Over { txn: number, leg },
+        Answer::Done => spell_commit(units, number, job.legs.as_slice().len() as u32),
+        Answer::Short(leg) => spell_short(units, number, leg),
+        Answer::Over(leg) => spell_over(units, number, leg),
     }
 }

@@ -2,12 +2,14 @@
 ghost use Rattle.std.specs.Prelude.{◌≡◌, ◌≤◌, pos, neg_ℤ, map, All, Contains, IfSome, IfNone};
 ghost use Rattle.std.specs.List.{AllZip};
 ghost use Rattle.log_record.specs.declared.limits.TheConstants.{MOST_BALANCE};
+ghost use Rattle.log_record.specs.Spelling.{spelling, IsAccount};
+ghost use Rattle.log_record.specs.declared.rec.Rec.TheVariants as Rec;
 ghost use Rattle.txn_jobs.specs.Accounts.{HasAccountsOf};
 ghost use Rattle.txn_parts.specs.Holdings.{account_of};
 ghost use Rattle.txn_parts.specs.Leg.{IsRefused, CanMake, CanBear, IsAfter};
 
 use crate::holding::Holding;
-use log_record::{MOST_BALANCE, Rec};
+use log_record::{MOST_BALANCE, Units, spell_update};
 use lsn_space::Lsn;
 use txn_jobs::Answer;
 
@@ -41,30 +43,25 @@ pub fn holding_of(holdings: &[Holding], account: u32) -> &Holding
     unreachable!()
 }
 
-/// The Update of an account that pays.
-pub fn debit(number: u32, holding: &Holding, amount: u32) -> Rec
-    requires { amount ≤ MOST_BALANCE }
-    ensures { result ≡ Rec.Update number holding.now.taken.account (neg_ℤ (pos amount)) holding.now.taken.mark }
+/// Spells the Update of an account that pays.
+pub fn spell_debit(units: &mut Units, number: u32, holding: &Holding, amount: u32)
+    requires account { IsAccount holding.now.taken.account }
+    requires amount { amount ≤ MOST_BALANCE }
+    ensures { units.new ≡ spelling (Rec.Update number holding.now.taken.account (neg_ℤ (pos amount)) holding.now.taken.mark) }
 {
-    Rec::Update {
-        txn: number,
-        account: holding.taken.account,
-        delta: -(amount as i32),
-        prev: Lsn::new(holding.taken.mark),
-    }
+    let delta = -(amount as i32);
+    let prev = Lsn::new(holding.taken.mark);
+    spell_update(units, number, holding.taken.account, delta, prev);
 }
 
-/// The Update of an account that receives.
-pub fn credit(number: u32, holding: &Holding, amount: u32) -> Rec
-    requires { amount ≤ MOST_BALANCE }
-    ensures { result ≡ Rec.Update number holding.now.taken.account (pos amount) holding.now.taken.mark }
+/// Spells the Update of an account that receives.
+pub fn spell_credit(units: &mut Units, number: u32, holding: &Holding, amount: u32)
+    requires account { IsAccount holding.now.taken.account }
+    requires amount { amount ≤ MOST_BALANCE }
+    ensures { units.new ≡ spelling (Rec.Update number holding.now.taken.account (pos amount) holding.now.taken.mark) }
 {
-    Rec::Update {
-        txn: number,
-        account: holding.taken.account,
-        delta: amount as i32,
-        prev: Lsn::new(holding.taken.mark),
-    }
+    let prev = Lsn::new(holding.taken.mark);
+    spell_update(units, number, holding.taken.account, amount as i32, prev);
 }
 
 /// Moves the leg's amount from the balance of its payer to that of its payee.

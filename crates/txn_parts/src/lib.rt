@@ -12,8 +12,8 @@ mod waiting;
 
 pub use ended::Ended;
 pub use holding::Holding;
-pub use leg::{credit, debit, holding_of, move_amount, refusal};
-pub use noting::note;
+pub use leg::{holding_of, move_amount, refusal, spell_credit, spell_debit};
+pub use noting::spell_job_note;
 pub use release::Release;
 pub use relief::{Relief, YieldRelief};
 pub use waiting::{may_come, pause, see_durable};

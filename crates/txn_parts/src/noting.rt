@@ -1,20 +1,18 @@
 //! The Note of a transfer.
-ghost use Rattle.std.specs.Prelude.{◌≡◌, None, IfSome, IfNone};
-ghost use Rattle.txn_parts.specs.Note.{IsNoteOf};
+ghost use Rattle.std.specs.Prelude.{◌≡◌, true, false, None};
+ghost use Rattle.txn_parts.specs.Note.{SpellsNote};
 
 use lock_core::Job;
-use log_record::{Rec, Text};
+use log_record::{Units, spell_note};
 
-/// The Note of this transfer, if it has one.
-pub fn note(number: u32, job: &Job) -> Option<Rec>
-    ensures noted { IfSome result (IsNoteOf number job.now) }
-    ensures none { IfNone result (job.now.note ≡ None) }
+/// Spells the Note of this transfer. False: it has none.
+pub fn spell_job_note(units: &mut Units, number: u32, job: &Job) -> bool
+    ensures noted { result ≡ true → SpellsNote number job.now units.new }
+    ensures none { result ≡ false → job.now.note ≡ None }
 {
     let Some(remark) = &job.note else {
-        return None;
+        return false;
     };
-    Some(Rec::Note {
-        txn: number,
-        text: Text::from_bytes(remark.as_slice()),
-    })
+    spell_note(units, number, remark.as_slice());
+    true
 }

@@ -8,7 +8,7 @@ use Rattle.txn_making.specs.Holdings.{taken_of}
 use Rattle.txn_making.specs.Legs.{HoldsJob, StandsBefore}
 use Rattle.txn_making.proofs.Adding.{adds-none, adds-trans}
 use Rattle.txn_making.proofs.Beginning.{stands-first}
-use Rattle.txn_making.proofs.Finishing.{enters-last, ends-transfer}
+use Rattle.txn_making.proofs.Finishing.{enters-last, spells-last, cut-last, ends-transfer}
 use Rattle.txn_making.proofs.Passing.{holds-behind}
 use Rattle.txn_making.proofs.transfer.insert_transfer.Goals as goal
 
@@ -37,12 +37,17 @@ returns-in_err-answer-clause-added g c =
     let legs = c.in_err-answer.ensures.added in
     rw failed.1 (noted.added ++ legs.0, adds-trans _ _ _ _ _ noted.adds legs.1)
 
-pub insert_record-requires-clause-next : goal.insert_record-requires-clause-next
-insert_record-requires-clause-next g c =
+pub spell_end-requires : goal.spell_end-requires
+spell_end-requires g c = c.in_ok-answer.ensures.ended.spellable
+
+pub insert_units-requires-clause-next : goal.insert_units-requires-clause-next
+insert_units-requires-clause-next g c =
     let noted = c.in_ok-insert_note.ensures.noted in
     let legs = c.in_ok-answer.ensures.added in
-    enters-last _ _ _ _ _ _ _ _ _ _ (adds-trans _ _ _ _ _ noted.adds legs.1) c.requires.job c.in_ok-answer.ensures.ended
-    c.end_record-last.ensures
+    enters-last _ _ _ _ _ _ _ _ _ (adds-trans _ _ _ _ _ noted.adds legs.1) c.requires.job c.in_ok-answer.ensures.ended
+
+pub insert_units-requires-clause-spelled : goal.insert_units-requires-clause-spelled
+insert_units-requires-clause-spelled g c = spells-last _ _ _ _ c.make_legs.new.seat c.in_ok-answer.ensures.ended _ c.spell_end.ensures
 
 pub returns-in_err-end-clause-added : goal.returns-in_err-end-clause-added
 returns-in_err-end-clause-added g c =
@@ -54,6 +59,13 @@ returns-in_err-end-clause-added g c =
       adds-trans _ _ _ _ _ (adds-trans _ _ _ _ _ noted.adds legs.1) (adds-none _ _ c.in_err-end.ensures.kept),
     )
 
+pub returns-in_err-end-clause-cut : goal.returns-in_err-end-clause-cut
+returns-in_err-end-clause-cut g c =
+    let failed = err_from_is_err_and c.from_residual-in_err-end.result c.from_residual-in_err-end.ensures.1 in
+    let err = c.in_err-end.ensures in
+    rw (failed.1, failed.2) (cut-last _ _ _ _ c.make_legs.new.seat c.in_ok-answer.ensures.ended _ c.insert_units.new.seat err.kept.books_are
+    err.stopped)
+
 pub returns-clause-ended : goal.returns-clause-ended
 returns-clause-ended g c =
     let noted = c.in_ok-insert_note.ensures.noted in
@@ -61,9 +73,8 @@ returns-clause-ended g c =
     let same = items-with_items c.args.holdings.now c.make_legs.new.holdings
     (c.make_legs.auto.holdings ∙ ap length c.as_mut_slice-list.ensures.value) in
     let ended : Ended = record { answer = c.in_ok-answer.answer; end = c.in_ok-end.end } in
-    subst (λ list. EndsTransfer c.args.number c.args.job.now ended list c.args.seat.now c.insert_record.new.seat) (sym same)
-    (ends-transfer _ _ ended _ _ _ _ _ _ (adds-trans _ _ _ _ _ noted.adds legs.1) c.in_ok-answer.ensures.ended
-    c.end_record-last.ensures c.in_ok-end.ensures.put)
+    subst (λ list. EndsTransfer c.args.number c.args.job.now ended list c.args.seat.now c.insert_units.new.seat) (sym same)
+    (ends-transfer _ _ ended _ _ _ _ _ (adds-trans _ _ _ _ _ noted.adds legs.1) c.in_ok-answer.ensures.ended c.in_ok-end.ensures.put)
 
 pub returns-in_err-answer-clause-taken : goal.returns-in_err-answer-clause-taken
 returns-in_err-answer-clause-taken g c =
