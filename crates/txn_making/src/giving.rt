@@ -19,32 +19,36 @@ use txn_parts::{Holding, Release};
 pub fn give_all(
     table: &LogTable,
     seat: &mut Seat,
-    holdings: ArrayVec<Holding, MOST_PARTIES>,
+    holdings: &mut ArrayVec<Holding, MOST_PARTIES>,
     release: Release,
     durable: bool,
 )
     requires seat { IsOf table.now seat.old }
     requires ready { IsReady (view_of seat.old) }
-    requires holds { HoldsAll holdings.items (view_of seat.old).books }
-    requires known { All (IsKnown table.now.accounts) holdings.items }
-    requires values { All (GoesBack release (view_of seat.old).books) holdings.items }
+    requires holds { HoldsAll holdings.old.items (view_of seat.old).books }
+    requires known { All (IsKnown table.now.accounts) holdings.old.items }
+    requires values { All (GoesBack release (view_of seat.old).books) holdings.old.items }
     requires durable { durable ≡ true → HasSeenDurable (view_of seat.old) }
-    ensures { Becomes seat.old seat.new (with_held [] holdings.items (view_of seat.old)) }
+    ensures { Becomes seat.old seat.new (with_held [] holdings.old.items (view_of seat.old)) }
 {
-    'holdings: for holding in holdings {
+    'holdings: for holding in holdings.drain(..) {
         let (balance, mark) = release.values(&holding);
         give_one(table, seat, holding.taken, balance, mark, durable);
     }
 }
 
 /// Gives the accounts back as they were taken. The transfer has no Commit.
-pub fn give_unchanged(table: &LogTable, seat: &mut Seat, holdings: ArrayVec<Holding, MOST_PARTIES>)
+pub fn give_unchanged(
+    table: &LogTable,
+    seat: &mut Seat,
+    holdings: &mut ArrayVec<Holding, MOST_PARTIES>,
+)
     requires seat { IsOf table.now seat.old }
     requires ready { IsReady (view_of seat.old) }
-    requires holds { HoldsAll holdings.items (view_of seat.old).books }
-    requires known { All (IsKnown table.now.accounts) holdings.items }
+    requires holds { HoldsAll holdings.old.items (view_of seat.old).books }
+    requires known { All (IsKnown table.now.accounts) holdings.old.items }
     requires uncommitted { has_commit (recs_of (view_of seat.old).books.placed) ≡ false }
-    ensures { Becomes seat.old seat.new (with_held [] holdings.items (view_of seat.old)) }
+    ensures { Becomes seat.old seat.new (with_held [] holdings.old.items (view_of seat.old)) }
 {
     give_all(table, seat, holdings, Release::Unchanged, false);
 }

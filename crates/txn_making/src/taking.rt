@@ -20,16 +20,17 @@ use std::sync::Wait;
 use txn_jobs::{Cause, MOST_PARTIES};
 use txn_parts::{Holding, Relief, pause};
 
-/// Takes the accounts, which ascend, one after another, each once no other worker holds it. After an Err none is held. It is
-/// asked only where the log had not stopped when that was seen last, and so it leaves it.
+/// Takes the accounts, which ascend, one after another, each once no other worker holds it, into a list that the caller has, in place
+/// of what that held. After an Err none is held. It is asked only where the log had not stopped when that was seen last, and so it leaves it.
 pub fn take_all<R: Wait, Q: Relief, G: Gate>(
     rt: &R,
     table: &LogTable,
     seat: &mut Seat,
     accounts: &[u32],
+    holdings: &mut ArrayVec<Holding, MOST_PARTIES>,
     relief: &mut Q,
     gate: &G,
-) -> Result<ArrayVec<Holding, MOST_PARTIES>, Cause>
+) -> Result<(), Cause>
     requires seat { IsOf table.now seat.old }
     requires ready { IsReady (view_of seat.old) }
     requires begins { HasBegunNothing (view_of seat.old) }
@@ -39,7 +40,7 @@ pub fn take_all<R: Wait, Q: Relief, G: Gate>(
     requires known { All (λ account. account < table.now.accounts) accounts.now }
     requires few { length accounts.now ≤ MOST_PARTIES }
     requires relief { Q.ready relief.old }
-    ensures taken { IfOk result (λ holdings. TakesAll accounts.now holdings.items seat.old seat.new) }
+    ensures taken { OnOk result (TakesAll accounts.now holdings.new.items seat.old seat.new) }
     ensures kept { OnErr result (KeepsBooks seat.old seat.new) }
     ensures given { OnErr result (KeepsGiven (view_of seat.old) (view_of seat.new)) }
     ensures runs { OnOk result ((view_of seat.new).seen.stop ≡ 0) }
@@ -47,7 +48,7 @@ pub fn take_all<R: Wait, Q: Relief, G: Gate>(
     ensures relief { Q.ready relief.new }
     ensures later { Q.later relief.old relief.new }
 {
-    let mut holdings = ArrayVec::new();
+    holdings.clear();
     'accounts: for account in accounts {
         match take_one(rt, table, seat, *account, relief) {
             Ok(taken) => {
@@ -61,7 +62,7 @@ pub fn take_all<R: Wait, Q: Relief, G: Gate>(
         }
         gate.at(seat.worker(), Place::Locked);
     }
-    Ok(holdings)
+    Ok(())
 }
 
 fn take_one<R: Wait, Q: Relief>(

@@ -30,6 +30,7 @@ pub fn insert_transfer<R: Wait, Q: Relief, G: Gate>(
     number: u32,
     job: &Job,
     holdings: &mut ArrayVec<Holding, MOST_PARTIES>,
+    units: &mut Units,
     relief: &mut Q,
     gate: &G,
 ) -> Result<Ended, Cause>
@@ -47,12 +48,11 @@ pub fn insert_transfer<R: Wait, Q: Relief, G: Gate>(
     ensures relief { Q.ready relief.new }
     ensures later { Q.later relief.old relief.new }
 {
-    let mut units = Units::new();
-    insert_note(rt, table, seat, number, job, &mut units, relief, gate)?;
+    insert_note(rt, table, seat, number, job, units, relief, gate)?;
     let list = holdings.as_mut_slice();
-    let answer = make_legs(rt, table, seat, number, job, list, &mut units, relief, gate)?;
-    spell_end(&mut units, number, job, answer);
-    let end = insert_units(rt, table, seat, &units, relief, gate)?;
+    let answer = make_legs(rt, table, seat, number, job, list, units, relief, gate)?;
+    spell_end(units, number, job, answer);
+    let end = insert_units(rt, table, seat, units, relief, gate)?;
     Ok(Ended { answer, end })
 }
 

@@ -11,6 +11,7 @@ ghost use Rattle.txn_runner.specs.Stages.{MayMakeTransfer, TakesTransfer, MayEnd
 
 use arrayvec::ArrayVec;
 use lock_core::Job;
+use log_record::Units;
 use log_table::{LogTable, Seat};
 use lsn_space::Lsn;
 use schedule_hook::{Gate, Place};
@@ -19,13 +20,15 @@ use txn_jobs::{Cause, MOST_PARTIES, Row, accounts_of, unless_stopped};
 use txn_making::{give_all, give_unchanged, insert_transfer, take_all};
 use txn_parts::{Ended, Holding, Relief, see_durable};
 
-/// Makes the transfer under this transaction number, and answers its row.
+/// Makes the transfer under this transaction number, and answers its row. The lists are lent: what they hold is lost.
 pub(crate) fn run_job<R: Wait, Q: Relief, G: Gate>(
     rt: &R,
     table: &LogTable,
     seat: &mut Seat,
     number: u32,
     job: &Job,
+    holdings: &mut ArrayVec<Holding, MOST_PARTIES>,
+    units: &mut Units,
     relief: &mut Q,
     wait: bool,
     gate: &G,
@@ -44,8 +47,10 @@ pub(crate) fn run_job<R: Wait, Q: Relief, G: Gate>(
     ensures relief { Q.ready relief.new }
     ensures later { Q.later relief.old relief.new }
 {
-    let holdings = take_transfer(rt, table, seat, number, job, relief, gate)?;
-    make_transfer(rt, table, seat, number, job, holdings, relief, wait, gate)
+    take_transfer(rt, table, seat, number, job, holdings, relief, gate)?;
+    make_transfer(
+        rt, table, seat, number, job, holdings, units, relief, wait, gate,
+    )
 }
 
 /// Takes the transfer, and then its accounts. After an Err none is held.
@@ -55,14 +60,15 @@ fn take_transfer<R: Wait, Q: Relief, G: Gate>(
     seat: &mut Seat,
     number: u32,
     job: &Job,
+    holdings: &mut ArrayVec<Holding, MOST_PARTIES>,
     relief: &mut Q,
     gate: &G,
-) -> Result<ArrayVec<Holding, MOST_PARTIES>, Cause>
+) -> Result<(), Cause>
     requires seat { IsOf table.now seat.old }
     requires ready { IsReady (view_of seat.old) }
     requires may { MayTakeJob table.now.accounts number job.now (view_of seat.old) }
     requires relief { Q.ready relief.old }
-    ensures taken { IfOk result (λ holdings. TakesTransfer table.now.accounts number job.now holdings.items seat.old seat.new) }
+    ensures taken { OnOk result (TakesTransfer table.now.accounts number job.now holdings.new.items seat.old seat.new) }
     ensures runs { OnOk result ((view_of seat.new).seen.stop ≡ 0) }
     ensures let_go { OnErr result (LetsGo seat.old seat.new) }
     ensures cut { IfErr result (λ cause. (wait : Bool) → HasCut number job.now wait cause (view_of seat.old) (view_of seat.new)) }
@@ -72,7 +78,7 @@ fn take_transfer<R: Wait, Q: Relief, G: Gate>(
     begin_job(table, seat, number, job, gate)?;
     relief.begin();
     let accounts = accounts_of(job);
-    take_all(rt, table, seat, accounts.as_slice(), relief, gate)
+    take_all(rt, table, seat, accounts.as_slice(), holdings, relief, gate)
 }
 
 /// Takes the transfer as the seat's job, and goes on unless the log has stopped.
@@ -115,14 +121,15 @@ fn make_transfer<R: Wait, Q: Relief, G: Gate>(
     seat: &mut Seat,
     number: u32,
     job: &Job,
-    mut holdings: ArrayVec<Holding, MOST_PARTIES>,
+    holdings: &mut ArrayVec<Holding, MOST_PARTIES>,
+    units: &mut Units,
     relief: &mut Q,
     wait: bool,
     gate: &G,
 ) -> Result<Row, Cause>
     requires seat { IsOf table.now seat.old }
     requires ready { IsReady (view_of seat.old) }
-    requires may { MayMakeTransfer table.now.accounts number job.now holdings.items (view_of seat.old).books }
+    requires may { MayMakeTransfer table.now.accounts number job.now holdings.old.items (view_of seat.old).books }
     requires runs { (view_of seat.old).seen.stop ≡ 0 }
     requires relief { Q.ready relief.old }
     ensures let_go { LetsGo seat.old seat.new }
@@ -131,8 +138,7 @@ fn make_transfer<R: Wait, Q: Relief, G: Gate>(
     ensures relief { Q.ready relief.new }
     ensures later { Q.later relief.old relief.new }
 {
-    let list = &mut holdings;
-    match insert_transfer(rt, table, seat, number, job, list, relief, gate) {
+    match insert_transfer(rt, table, seat, number, job, holdings, units, relief, gate) {
         Ok(ended) => end_transfer(rt, table, seat, number, ended, holdings, relief, wait, gate),
         Err(cause) => {
             give_unchanged(table, seat, holdings);
@@ -148,16 +154,16 @@ fn end_transfer<R: Wait, Q: Relief, G: Gate>(
     seat: &mut Seat,
     number: u32,
     ended: Ended,
-    holdings: ArrayVec<Holding, MOST_PARTIES>,
+    holdings: &mut ArrayVec<Holding, MOST_PARTIES>,
     relief: &mut Q,
     wait: bool,
     gate: &G,
 ) -> Result<Row, Cause>
     requires seat { IsOf table.now seat.old }
     requires ready { IsReady (view_of seat.old) }
-    requires may { MayEndTransfer table.now.accounts ended holdings.items (view_of seat.old).books }
+    requires may { MayEndTransfer table.now.accounts ended holdings.old.items (view_of seat.old).books }
     requires relief { Q.ready relief.old }
-    ensures gives { GivesAll holdings.items seat.old seat.new }
+    ensures gives { GivesAll holdings.old.items seat.old seat.new }
     ensures row { IfOk result (λ row. (row ≡ record { txn = number; answer = ended.answer; end = ended.end; seen = (view_of seat.new).seen.durable }) × (wait ≡ true → ended.end ≤ row.seen)) }
     ensures cut { IfErr result (λ cause. (wait ≡ true) × StopsFor cause [] (view_of seat.new)) }
     ensures relief { Q.ready relief.new }
@@ -179,15 +185,15 @@ fn give_behind<R: Wait, Q: Relief>(
     table: &LogTable,
     seat: &mut Seat,
     ended: &Ended,
-    holdings: ArrayVec<Holding, MOST_PARTIES>,
+    holdings: &mut ArrayVec<Holding, MOST_PARTIES>,
     relief: &mut Q,
     wait: bool,
 ) -> Result<Lsn, Cause>
     requires seat { IsOf table.now seat.old }
     requires ready { IsReady (view_of seat.old) }
-    requires may { MayEndTransfer table.now.accounts ended.now holdings.items (view_of seat.old).books }
+    requires may { MayEndTransfer table.now.accounts ended.now holdings.old.items (view_of seat.old).books }
     requires relief { Q.ready relief.old }
-    ensures gives { GivesAll holdings.items seat.old seat.new }
+    ensures gives { GivesAll holdings.old.items seat.old seat.new }
     ensures seen { IfOk result (λ seen. (seen ≡ (view_of seat.new).seen.durable) × (wait ≡ true → ended.now.end ≤ seen)) }
     ensures cut { IfErr result (λ cause. (wait ≡ true) × StopsFor cause [] (view_of seat.new)) }
     ensures relief { Q.ready relief.new }

@@ -7,7 +7,9 @@ ghost use Rattle.txn_making.specs.Holdings.{KeepsGiven};
 ghost use Rattle.txn_runner.specs.Working.{HasWorked, HasRoomForRows, KeepsEntries, TakesJobs, Works, taken_in, AddsRows};
 
 use crate::job::run_job;
+use arrayvec::ArrayVec;
 use lock_core::Job;
+use log_record::Units;
 use log_table::{LogTable, Seat};
 use schedule_hook::Gate;
 use std::sync::Wait;
@@ -48,10 +50,23 @@ pub fn work<R: Wait, Q: Relief, G: Gate>(
     ensures relief { Q.ready relief.new }
     ensures later { Q.later relief.old relief.new }
 {
-    // One place for all of them, so that none is copied.
+    // One place for all transfers, for the accounts of each, and for the units of each record, so that none is copied.
     let mut job = Job::new();
+    let mut holdings = ArrayVec::new();
+    let mut units = Units::new();
     'stripe: while let Some(number) = jobs.take_next(seat.worker(), rows, &mut job) {
-        let made = run_job(rt, table, seat, number, &job, relief, wait, gate);
+        let made = run_job(
+            rt,
+            table,
+            seat,
+            number,
+            &job,
+            &mut holdings,
+            &mut units,
+            relief,
+            wait,
+            gate,
+        );
         if let Some(worked) = rows.tell(made) {
             return worked;
         }

@@ -1,6 +1,7 @@
-use Rattle.std.proofs.Common.{◌∷◌, ◌++◌, [], ◌∙◌, sym, ap}
+use Rattle.std.proofs.Common.{rules, ◌∷◌, ◌++◌, [], ◌∙◌, sym, ap}
 use Rattle.std.proofs.lemmas.List.{append_assoc}
 use Rattle.std.proofs.lemmas.List.Elements.{All-rest}
+use Rattle.arrayvec.specs.Iter.{drain_items}
 use Rattle.log_table.specs.Seats.{view_of}
 use Rattle.txn_making.specs.Holdings.{IsKnown, GoesBack}
 use Rattle.txn_making.proofs.Held.{holds-first, gives-first, distinct-rest}
@@ -8,14 +9,16 @@ use Rattle.txn_making.proofs.giving.give_all.Goals as goal
 
 pub give_one-requires-clause-holds : goal.give_one-requires-clause-holds
 give_one-requires-clause-holds c = let i = c.holdings.invariant in
-    holds-first _ _ _ _ _ _ c.in-Some.ensures.steps i.distinct i.seat
+    holds-first _ _ _ _ _ _ c.in-Some.ensures.steps.0 i.distinct i.seat
 
 pub holdings-preserved : goal.holdings-preserved
 holdings-preserved c =
     let i = c.holdings.invariant in
-    let is = c.in-Some.ensures.steps in
+    let is = c.in-Some.ensures.steps.0 in
     record {
-      parts = append_assoc c.holdings.yielded (c.in-Some.holding ∷ []) c.next.new.self ∙ ap (λ l. c.holdings.yielded ++ l) (sym is) ∙ i.parts;
+      can_next = search rules;
+      is_finite = search rules;
+      parts = append_assoc c.holdings.yielded (c.in-Some.holding ∷ []) (drain_items c.next.new.self) ∙ ap (λ l. c.holdings.yielded ++ l) (sym is) ∙ i.parts;
       seat = gives-first _ _ _ _ _ _ is i.distinct i.seat _ c.give_one.ensures;
       distinct = distinct-rest _ _ _ _ _ _ is i.distinct i.seat;
       known = All-rest (IsKnown c.args.table.now.accounts) _ _ _ is i.known;

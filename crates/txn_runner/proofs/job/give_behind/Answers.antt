@@ -17,14 +17,14 @@ give_all-requires-clause-ready g c =
     IsReady-same _ _ c.requires.ready kept.same kept.idle
 
 pub give_all-requires-clause-holds : goal.give_all-requires-clause-holds
-give_all-requires-clause-holds g c = subst (HoldsAll c.args.holdings.items) (sym c.see_durable-seen.ensures.kept.books_are) c.requires.may.all
+give_all-requires-clause-holds g c = subst (HoldsAll c.args.holdings.now.items) (sym c.see_durable-seen.ensures.kept.books_are) c.requires.may.all
 
 pub give_all-requires-clause-known : goal.give_all-requires-clause-known
 give_all-requires-clause-known g c = c.requires.may.known
 
 pub give_all-requires-clause-values : goal.give_all-requires-clause-values
 give_all-requires-clause-values g c =
-    let paid = c.args.holdings.items in
+    let paid = c.args.holdings.now.items in
     subst (λ (books : Books). All (GoesBack c.release.result books) paid) (sym c.see_durable-seen.ensures.kept.books_are)
     (subst (λ release. All (GoesBack release (view_of c.args.seat.now).books) paid) (sym c.release.ensures) c.requires.may.values)
 
@@ -41,14 +41,14 @@ give_all-requires-clause-durable g c = λ on.
 pub returns-clause-gives : goal.returns-clause-gives
 returns-clause-gives g c =
     let kept = c.see_durable-seen.ensures.kept in
-    gives-then c.args.holdings.items c.args.seat.now c.see_durable-seen.new.seat c.give_all.new.seat kept
-    (gives-all c.args.holdings.items c.see_durable-seen.new.seat c.give_all.new.seat
+    gives-then c.args.holdings.now.items c.args.seat.now c.see_durable-seen.new.seat c.give_all.new.seat kept
+    (gives-all c.args.holdings.now.items c.see_durable-seen.new.seat c.give_all.new.seat
     (IsReady-same c.args.seat.now c.see_durable-seen.new.seat c.requires.ready kept.same kept.idle) c.give_all.ensures)
 
 pub returns-clause-seen : goal.returns-clause-seen
-returns-clause-seen g c = still-seen c.args.wait c.args.ended.now.end c.args.holdings.items c.see_durable-seen.new.seat c.give_all.new.seat c.give_all.ensures
+returns-clause-seen g c = still-seen c.args.wait c.args.ended.now.end c.args.holdings.now.items c.see_durable-seen.new.seat c.give_all.new.seat c.give_all.ensures
     c.see_durable-seen.result c.see_durable-seen.ensures.seen c.see_durable-seen.ensures.waited
 
 pub returns-clause-cut : goal.returns-clause-cut
-returns-clause-cut g c = still-stopped c.args.wait c.args.ended.now.end c.args.holdings.items c.see_durable-seen.new.seat c.give_all.new.seat c.give_all.ensures
+returns-clause-cut g c = still-stopped c.args.wait c.args.ended.now.end c.args.holdings.now.items c.see_durable-seen.new.seat c.give_all.new.seat c.give_all.ensures
     c.see_durable-seen.result c.see_durable-seen.ensures.waits c.see_durable-seen.ensures.stopped

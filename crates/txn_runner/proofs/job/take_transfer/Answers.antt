@@ -1,7 +1,5 @@
 use Rattle.std.proofs.Common.{rules, ◌<◌, All, sym, subst}
-use Rattle.std.proofs.lemmas.Result.{IfOk-weaker}
-use Rattle.txn_making.specs.Holdings.{TakesAll}
-use Rattle.txn_runner.specs.Stages.{TakesTransfer}
+use Rattle.std.proofs.lemmas.Result.{on_ok_weaker}
 use Rattle.txn_runner.proofs.Composing.{accounts-known}
 use Rattle.txn_runner.proofs.StageLemmas.{lets-go-taken, cut-taken, takes-transfer}
 use Rattle.txn_runner.proofs.job.take_transfer.Goals as goal
@@ -16,11 +14,8 @@ take_all-requires-clause-runs g c = search rules steps 300000
 pub returns-clause-taken : goal.returns-clause-taken
 returns-clause-taken g c =
     let list = c.accounts_of-accounts.ensures in
-    IfOk-weaker c.take_all.result (λ holdings. TakesAll c.as_slice.result.now holdings.items c.begin_job.new.seat c.take_all.new.seat)
-    (λ holdings. TakesTransfer c.args.table.now.accounts c.args.number c.args.job.now holdings.items c.args.seat.now c.take_all.new.seat)
-    (λ holdings takes. takes-transfer _ _ _ _ _ _ _ _ _ c.as_slice.ensures.value list.rising list.only c.requires.may.allowed list.all
-    c.begin_job.ensures.taken takes)
-    c.take_all.ensures.taken
+    on_ok_weaker c.take_all.result (λ takes. takes-transfer _ _ _ _ _ _ _ _ _ c.as_slice.ensures.value list.rising list.only
+    c.requires.may.allowed list.all c.begin_job.ensures.taken takes) c.take_all.ensures.taken
 
 pub returns-clause-runs : goal.returns-clause-runs
 returns-clause-runs g c = c.take_all.ensures.runs
