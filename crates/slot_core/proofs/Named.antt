@@ -5,7 +5,7 @@ use Rattle.ring_core.specs.RingLog.{Reservation, is_at}
 use Rattle.slot_core.specs.State.{Outcome, Granted, Refused, GroupPhase, Vacant, Gathering, Closed, Placed, Ready, Told, Emptied, Closes, Waits, Member, SlotState, task_of, group_at}
 use Rattle.slot_core.specs.Owners.{Owner, Nobody, Actor, Shared, is_actor, is_slot, is_owned, works_on, granted_at, placed_at, is_open}
 use Rattle.slot_core.specs.Members.{extent_of, seats_of}
-use Rattle.slot_core.specs.Groups.{units_of, sum_of, LieApart, IsTrueOutcome, IsGroup}
+use Rattle.slot_core.specs.Groups.{units_of, LieApart, IsTrueOutcome, IsGroup}
 use Rattle.slot_core.specs.Laws.{IsSound}
 use Rattle.slot_core.specs.Machine.{HasPlace, gathered, stage_joined}
 use Rattle.slot_core.specs.Plain.{HasOwners, WorksAlone, IsOfOneSlot, IsOfOneKind, LeadsFromZero, HasPiecesApart, HasPiecesInRange, SumsRemaining}

@@ -4,7 +4,6 @@ use Rattle.std.specs.List.{find}
 use mathlib.Core.Logic.{dite}
 use native.Mathlib.Decide.{ℕ_discrete}
 use Rattle.slot_core.proofs.Hands.{hands-move, groups-move, units-same, group-same}
-use Rattle.slot_core.proofs.Lists.{not-true}
 use Rattle.slot_core.proofs.LogLookups.{tail-absent}
 use Rattle.ring_core.specs.RingLog.{Reservation, RingLog, is_at, IsLogBoundary, is_marked, IsFull}
 use Rattle.slot_core.specs.State.{Idle, Works, Marked, Holds, Raises, Task, Joined, InRing, Hand, Group, SlotState, task_of, with_task, group_at}
@@ -104,10 +103,6 @@ task-move l l' (InRing (Some k) (Works b)) full bound marks le h = full b (eq-eq
 task-move l l' (InRing q Marked) full bound marks le h = tt
 task-move l l' (InRing q (Holds e)) full bound marks le h = record { boundary = bound e h.boundary; exposed = let at = h.exposed in omega (arith, at, le) }
 task-move l l' (InRing q (Raises e)) full bound marks le h = (record { boundary = bound e h.0.boundary; exposed = let at = h.0.exposed in omega (arith, at, le) }, marks e h.1)
-
--- a reservation that is owned is not marked
-pub open-owned : (s : SlotState) (b : ℕ) (r : Reservation) (sound : IsSound s) → find (is_at b) s.log.reservations ≡ Some r → is_owned (sound.owner b) ≡ true → r.released ≡ false
-open-owned s b r sound is own = not-true r.released (ap is_open (sym is) ∙ (sound.owned b ∙ own))
 
 -- who owns what an actor works on, and what a slot's group has
 pub own-of : (s : SlotState) (me b : ℕ) (old : Task) (sound : IsSound s) → task_of me s.hands ≡ old → works_on b old ≡ true → sound.owner b ≡ Actor me

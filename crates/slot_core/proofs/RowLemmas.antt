@@ -1,10 +1,9 @@
 -- The row of an actor, by its index.
-use Rattle.std.proofs.Common.{◌≡◌, ℕ, ◌+◌, ◌<◌, cond, true, false, List, [], ◌∷◌, ◌++◌, length, get_or, set, replicate, Some, zero, suc, refl, ap, ◌∙◌, arith}
+use Rattle.std.proofs.Common.{◌≡◌, ℕ, ◌+◌, ◌<◌, cond, true, false, List, [], ◌∷◌, ◌++◌, length, get_or, set, Some, zero, suc, refl, ap, ◌∙◌, arith}
 use Rattle.std.specs.List.{AllByRecursion, position, remove}
-use lib.ListN.{replicate-append-replicate}
 use Rattle.std.proofs.lemmas.List.Quantifiers.{position-Some}
 use Rattle.std.proofs.lemmas.List.Recursion.{found_at}
-use Rattle.slot_core.specs.State.{Task, nothing, Hand, Member, Group, row_of, task_of, with_task, empty_group, group_at, without}
+use Rattle.slot_core.specs.State.{Task, nothing, Hand, Member, Group, row_of, task_of, with_task, group_at, without}
 use Rattle.slot_core.specs.Rows.{is_row_of}
 use Rattle.slot_core.specs.Members.{is_of}
 
@@ -54,7 +53,3 @@ pub group-read : (groups : List Group) (k : ℕ) (d : Group) → k < length grou
 group-read [] k d within = absurd (omega (arith, within))
 group-read (g ∷ groups) zero d within = refl
 group-read (g ∷ groups) (suc k) d within = group-read groups k d (omega (arith, within))
-
--- one more group of nobody
-pub empty-push : (n : ℕ) → replicate n empty_group ++ empty_group ∷ [] ≡ replicate (n + 1) empty_group
-empty-push n = replicate-append-replicate n 1 empty_group

@@ -1,5 +1,5 @@
 -- What the program's steps rest on: what is known of a member, and of an actor that opens a slot.
-use Rattle.std.proofs.Common.{◌≡◌, ◌&&◌, ◌≢◌, ℕ, ◌+◌, ◌/◌, ◌<◌, nat_le, cond, Bool, true, false, List, [], ◌∷◌, length, IsSomeAnd, Some, None, refl, sym, ap, ◌∙◌, subst, arith, le_refl, leb-true, le-leb}
+use Rattle.std.proofs.Common.{◌≡◌, ◌&&◌, ℕ, ◌+◌, ◌/◌, ◌<◌, nat_le, cond, Bool, true, false, List, [], ◌∷◌, length, IsSomeAnd, Some, refl, sym, ap, ◌∙◌, subst, arith, le_refl, leb-true, le-leb}
 use Rattle.std.specs.List.{find}
 use Rattle.std.specs.Option.{is_some}
 use Rattle.lsn_space.specs.declared.lsn.TheConstants.{LAST}
@@ -33,10 +33,7 @@ module _ (s : SlotState) (j : ℕ) (m : Membership) (sound : IsSound s) (is : me
   seat : seats_of j (group_at m.slot s.groups).members ≡ (m.offset, m.size) ∷ []
   seat = (link-of s j m.slot (Joined m) (group_at m.slot s.groups) sound at refl).joins ∙ one {A = ℕ × ℕ} (m.offset, m.size) m.slot
 
-  -- so it has something in hand, and its slot is one of the machine's
-  pub member-busy : task_of j s.hands ≢ nothing
-  member-busy e = let never : Joined m ≡ nothing = sym at ∙ e in cc
-
+  -- so its slot is one of the machine's
   pub member-there : m.slot < length s.groups
   member-there = within-groups m.slot s.groups (λ none. let empty : [] ≡ (m.offset, m.size) ∷ [] = ap (λ (g : Group). seats_of j g.members) (sym none) ∙ seat in cc)
 
@@ -153,9 +150,6 @@ module _ (s : SlotState) (j k : ℕ) (sound : IsSound s) (idle : ring_stage (tas
 
   emptied : (l : ℕ) × ((group_at k s.groups).phase ≡ Emptied l)
   emptied = is-emptied j (group_at k s.groups).phase ((link-of s j k (InRing (Some k) Idle) (group_at k s.groups) sound task refl).leads ∙ one ToReopen k)
-
-  pub opener-busy : task_of j s.hands ≢ nothing
-  opener-busy e = let never : InRing (Some k) Idle ≡ nothing = sym task ∙ e in let no : Some k ≡ None = ap reopening never in cc
 
   pub opener-there : k < length s.groups
   opener-there = within-groups k s.groups (λ none. let p : Emptied emptied.0 ≡ Vacant = sym emptied.1 ∙ ap (λ (g : Group). g.phase) none in cc)

@@ -8,7 +8,7 @@ use Rattle.ring_core.specs.State.{base_in, raises_from}
 use Rattle.ring_core.specs.declared.event.RingEvent.TheVariants.{Reserve, Mark, Raise, Flushed}
 use Rattle.slot_core.specs.State.{Idle, Works, Marked, Holds, Raises, Granted, Placed, Places, Stores, Membership, Task, Joined, InRing, Hand, Group, SlotState, nothing, task_of, with_task, membership, ring_stage, reopening, group, empty_group, group_at}
 use Rattle.slot_core.specs.Laws.{IsSound}
-use Rattle.slot_core.specs.Machine.{Join, Ring, MayJoin, closed_total, told_outcome, HasUnfilledPiece, IsRingEnabled, at_stage, in_ring, gathered, stage_joined, group_joined, after_join, stage_filled, log_filled, granted_base, after_fill, after_mark, after_raise}
+use Rattle.slot_core.specs.Machine.{Join, Ring, MayJoin, closed_total, told_outcome, HasUnfilledPiece, IsRingEnabled, at_stage, in_ring, task_joined, group_joined, after_join, stage_filled, log_filled, granted_base, after_fill, after_mark, after_raise}
 use Rattle.slot_core.proofs.Keeping.{event-sound}
 use Rattle.slot_core.proofs.Ring.{fill-sound}
 use Rattle.slot_core.proofs.RunLemmas.{worked-at, place-keeps, fill-keeps, piece-base, grants, reopen-keeps}
@@ -22,18 +22,14 @@ module _ (now s : SlotState) (is : s ≡ now) (sound : IsSound s) (j : ℕ) wher
   written : (l l' : RingLog) (hs hs' : List Hand) (gs gs' : List Group) → l ≡ l' → hs ≡ hs' → gs ≡ gs' → IsSound (record { log = l'; hands = hs'; groups = gs' }) → IsSound (record { log = l; hands = hs; groups = gs })
   written l l' hs hs' gs gs' a b d h = subst IsSound (λ i. record { log = (sym a) i; hands = (sym b) i; groups = (sym d) i }) h
 
-  -- one who has joined has its piece behind those who were there
-  abbrev piece-at : (k n : ℕ) → SlotState → Membership
-  piece-at k n z = record { slot = k; offset = gathered (group_at k z.groups).phase; size = n; stage = stage_joined (group_at k z.groups).phase }
-
-  pub join-is : (k n : ℕ) (m : Membership) (hs : List Hand) (g : Group) → m ≡ record { slot = k; offset = gathered (group_at k now.groups).phase; size = n; stage = stage_joined (group_at k now.groups).phase }
-      → hs ≡ with_task j (Joined m) s.hands → g ≡ group_joined j n (group_at k s.groups) → record s { hands = hs; groups = set s.groups k g } ≡ after_join s j k n (group_at k s.groups)
-  join-is k n m hs g piece hands group' = let whole = hands ∙ ap (λ x. with_task j (Joined x) s.hands) (piece ∙ ap (piece-at k n) (sym is)) in
+  pub join-is : (k n : ℕ) (t : Task) (hs : List Hand) (g : Group) → t ≡ task_joined k n (group_at k now.groups).phase → hs ≡ with_task j t s.hands → g ≡ group_joined j n (group_at k s.groups)
+      → record s { hands = hs; groups = set s.groups k g } ≡ after_join s j k n (group_at k s.groups)
+  join-is k n t hs g piece hands group' = let whole = hands ∙ ap (λ x. with_task j x s.hands) (piece ∙ ap (λ (z : SlotState). task_joined k n (group_at k z.groups).phase) (sym is)) in
       λ i. record s { hands = whole i; groups = set s.groups k (group' i) }
 
-  pub join-written : (k n : ℕ) (m : Membership) (hs : List Hand) (g : Group) → MayJoin now j k n → m ≡ record { slot = k; offset = gathered (group_at k now.groups).phase; size = n; stage = stage_joined (group_at k now.groups).phase }
-      → hs ≡ with_task j (Joined m) s.hands → g ≡ group_joined j n (group_at k s.groups) → IsSound (record s { hands = hs; groups = set s.groups k g })
-  join-written k n m hs g may piece hands group' = subst IsSound (sym (join-is k n m hs g piece hands group')) (event-sound s (Join j k n) sound (back (λ z. MayJoin z j k n) may))
+  pub join-written : (k n : ℕ) (t : Task) (hs : List Hand) (g : Group) → MayJoin now j k n → t ≡ task_joined k n (group_at k now.groups).phase → hs ≡ with_task j t s.hands → g ≡ group_joined j n (group_at k s.groups)
+      → IsSound (record s { hands = hs; groups = set s.groups k g })
+  join-written k n t hs g may piece hands group' = subst IsSound (sym (join-is k n t hs g piece hands group')) (event-sound s (Join j k n) sound (back (λ z. MayJoin z j k n) may))
 
   pub reserve-written : (n base : ℕ) (l : RingLog) (hs : List Hand) → IsRingEnabled now (Reserve j n) → base ≡ s.log.tail → l ≡ reserved s.log n → hs ≡ with_task j (InRing None (Works base)) s.hands → IsSound (record s { log = l; hands = hs })
   reserve-written n base l hs may tail log hands = written l _ hs _ s.groups s.groups log (hands ∙ ap (λ b. with_task j (InRing None (Works b)) s.hands) tail) refl
@@ -45,12 +41,16 @@ module _ (now s : SlotState) (is : s ≡ now) (sound : IsSound s) (j : ℕ) wher
       written l _ hs _ s.groups s.groups log (hands ∙ ap (λ (z : SlotState). with_task j (in_ring Marked (task_of j z.hands)) s.hands) (sym is)) refl
       (subst (λ o. IsSound (after_mark s j (task_of j s.hands) o)) here (event-sound s (Ring (Mark j)) sound (subst (λ o. IsSomeAnd o IsFull) (sym (worked-at (ring_stage (task_of j s.hands)) b s.log.reservations here)) full)))
 
+  pub raise-is : (e to : ℕ) (l : RingLog) (hs : List Hand) → raises_from (ring_stage (task_of j now.hands)) ≡ Some e → l ≡ raised s.log e → to ≡ l.exposed
+      → hs ≡ with_task j (in_ring (Holds to) (task_of j now.hands)) s.hands → record s { log = l; hands = hs } ≡ after_raise s j (task_of j s.hands) (raises_from (ring_stage (task_of j s.hands)))
+  raise-is e to l hs from log at hands = let here = back (λ z. raises_from (ring_stage (task_of j z.hands)) ≡ Some e) from in
+      let whole = hands ∙ (λ i. with_task j (in_ring (Holds ((at ∙ ap (λ (z : RingLog). z.exposed) log) i)) (task_of j (sym is i).hands)) s.hands) in
+      (λ i. record s { log = log i; hands = whole i }) ∙ ap (after_raise s j (task_of j s.hands)) (sym here)
+
   pub raise-written : (e to : ℕ) (l : RingLog) (hs : List Hand) → raises_from (ring_stage (task_of j now.hands)) ≡ Some e → l ≡ raised s.log e → to ≡ l.exposed
       → hs ≡ with_task j (in_ring (Holds to) (task_of j now.hands)) s.hands → IsSound (record s { log = l; hands = hs })
   raise-written e to l hs from log at hands = let here = back (λ z. raises_from (ring_stage (task_of j z.hands)) ≡ Some e) from in
-      written l _ hs _ s.groups s.groups log
-      (hands ∙ (λ i. with_task j (in_ring (Holds ((at ∙ ap (λ (z : RingLog). z.exposed) log) i)) (task_of j (sym is i).hands)) s.hands)) refl
-      (subst (λ o. IsSound (after_raise s j (task_of j s.hands) o)) here (event-sound s (Ring (Raise j)) sound (ap is_some here)))
+      subst IsSound (sym (raise-is e to l hs from log at hands)) (event-sound s (Ring (Raise j)) sound (ap is_some here))
 
   pub flush-written : (to : ℕ) (taken : Bool) (l : RingLog) → IsTrue taken ↔ MayFlush s.log to → OnTrue taken (l ≡ flushed s.log to) → OnFalse taken (l ≡ s.log) → IsSound (record s { log = l })
   flush-written to true l may done none = subst (λ z. IsSound (record s { log = z })) (sym done) (event-sound s (Ring (Flushed to)) sound (may.0 refl))

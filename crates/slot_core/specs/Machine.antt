@@ -7,8 +7,8 @@ use Rattle.ring_core.specs.declared.event.RingEvent.{RingEvent}
 use Rattle.ring_core.specs.declared.event.RingEvent.TheVariants.{Reserve, Fill, Mark, LookExposed, LookMark, Raise, Flushed}
 use Rattle.slot_parts.specs.declared.task.TheConstants.{LONGEST_PIECE}
 pub use Rattle.slot_parts.specs.Tasks.{HasUnfilledPiece, HasDone, next_stage, stage_heard, stage_filled, at_stage, in_ring, task_emptying}
-pub use Rattle.slot_parts.specs.Phases.{HasPlace, gathered, stage_joined, phase_joined, closed_total, next_phase, told_outcome, granted_base, phase_released, task_released}
-use Rattle.slot_core.specs.State.{Idle, Works, Marked, Holds, Granted, Refused, Placed, MemberStage, Closes, Waits, Places, Stores, Tells, Membership, Task, Joined, InRing, Group, SlotState, nothing, joined, task_of, with_task, membership, ring_stage, reopening, member, group, empty_group, group_at, without}
+pub use Rattle.slot_parts.specs.Phases.{HasPlace, gathered, stage_joined, task_joined, phase_joined, closed_total, next_phase, told_outcome, granted_base, phase_released, task_released}
+use Rattle.slot_core.specs.State.{Idle, Works, Marked, Holds, Granted, Refused, Placed, MemberStage, Closes, Waits, Places, Stores, Tells, Membership, Task, Joined, InRing, Group, SlotState, nothing, task_of, with_task, membership, ring_stage, reopening, member, group, empty_group, group_at, without}
 
 -- one atomic action. A leader judges whether its group has room by this tail and this durable
 pub data GroupEvent : Type 0 where
@@ -99,7 +99,7 @@ group_joined actor n g = group (g.members ++ member actor (gathered g.phase) n �
 
 -- the actor has joined
 abbrev pub after_join : SlotState → ℕ → ℕ → ℕ → Group → SlotState
-after_join s actor slot n g = moved s actor slot (joined slot (gathered g.phase) n (stage_joined g.phase)) (group_joined actor n g)
+after_join s actor slot n g = moved s actor slot (task_joined slot n g.phase) (group_joined actor n g)
 
 -- the leader has closed its group, stored its outcome, or told it
 abbrev pub after_lead : SlotState → ℕ → Option Membership → SlotState

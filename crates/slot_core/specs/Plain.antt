@@ -1,5 +1,5 @@
 -- What soundness says of owners and of groups, in plain words.
-use Rattle.std.specs.Prelude.{◌≡◌, ◌≢◌, ◌↔◌, ◌⊎◌, ℕ, ◌+◌, ◌≤◌, true, false, List, [], ◌∷◌, Some}
+use Rattle.std.specs.Prelude.{◌≡◌, ◌≢◌, ◌↔◌, ◌⊎◌, ℕ, ◌+◌, ◌≤◌, true, false, [], ◌∷◌, Some}
 use Rattle.std.specs.List.{find}
 use Rattle.ring_core.specs.RingLog.{Reservation, is_at}
 use Rattle.slot_core.specs.State.{Outcome, Told, Closes, SlotState, task_of, group_at}

@@ -1,6 +1,6 @@
 -- How far a group is, and what becomes of it.
 use Rattle.std.specs.Prelude.{◌==◌, ℕ, ◌+◌, ◌-◌, ◌≤◌, if◌then◌else◌, Option, Some, None}
-use Rattle.slot_parts.specs.Tasks.{Outcome, Granted, Refused, GroupPhase, Vacant, Gathering, Closed, Placed, Ready, Told, Emptied, MemberStage, Closes, Waits, Task, nothing, task_emptying}
+use Rattle.slot_parts.specs.Tasks.{Outcome, Granted, Refused, GroupPhase, Vacant, Gathering, Closed, Placed, Ready, Told, Emptied, MemberStage, Closes, Waits, Task, nothing, joined, task_emptying}
 
 -- n more units have a place in the group: it gathers, and its total stays within a quarter of the ring
 abbrev pub HasPlace : ℕ → ℕ → GroupPhase → Type 0
@@ -27,6 +27,10 @@ gathered _ = 0
 abbrev pub stage_joined : GroupPhase → MemberStage
 stage_joined Vacant = Closes
 stage_joined _ = Waits
+
+-- what one has in hand then that joins with n units: its offset is the total before
+abbrev pub task_joined : ℕ → ℕ → GroupPhase → Task
+task_joined slot n phase = joined slot (gathered phase) n (stage_joined phase)
 
 -- the phase after an actor has joined with n units
 abbrev pub phase_joined : ℕ → ℕ → GroupPhase → GroupPhase

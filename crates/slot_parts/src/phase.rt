@@ -1,9 +1,9 @@
 ghost use Rattle.std.specs.Prelude.{◌≡◌, ◌+◌, ◌≤◌, ◌↔◌, IsTrue};
 ghost use Rattle.std.specs.Bool.{OnTrue};
 ghost use Rattle.lsn_space.specs.declared.lsn.TheConstants.{LAST};
-ghost use Rattle.slot_parts.specs.Phases.{HasPlace, HasRemaining, gathered, stage_joined, phase_joined, closed_total, next_phase, told_outcome, granted_base, phase_released, task_released};
+ghost use Rattle.slot_parts.specs.Phases.{HasPlace, HasRemaining, gathered, stage_joined, task_joined, phase_joined, closed_total, next_phase, told_outcome, granted_base, phase_released, task_released};
 
-use crate::task::{MemberStage, Task};
+use crate::task::{MemberStage, Membership, Task};
 use lsn_space::Lsn;
 
 /// What became of a group when its leader placed it.
@@ -91,6 +91,18 @@ impl GroupPhase {
             GroupPhase::Vacant => MemberStage::Closes,
             _ => MemberStage::Waits,
         }
+    }
+
+    /// What an actor has in hand that has joined at this slot with `n` units: its offset is the total before.
+    pub fn task_joined(&self, slot: u32, n: u32) -> Task
+        ensures { result ≡ task_joined slot n self.now }
+    {
+        Task::Joined(Membership {
+            slot,
+            offset: self.gathered(),
+            size: n,
+            stage: self.stage_joined(),
+        })
     }
 
     /// The phase after `actor` has joined with `n` units.

@@ -11,7 +11,7 @@ ghost use Rattle.slot_core.specs.Run.{MayPlaceNow};
 use crate::hand::{take_up, turn};
 use crate::run::SlotRun;
 use lsn_space::NoMemory;
-use slot_parts::{GroupPhase, LONGEST_PIECE, MemberStage, Membership, Outcome, Task};
+use slot_parts::{GroupPhase, LONGEST_PIECE, MemberStage, Membership, Outcome};
 
 impl SlotRun {
     pub(super) fn join(&mut self, by: u32, slot: u32, n: u32) -> Result<bool, NoMemory>
@@ -22,19 +22,11 @@ impl SlotRun {
         if !self.may_join(by, slot, n) {
             return Ok(false);
         }
-        let phase = self.phase(slot);
-        let offset = phase.gathered();
-        let stage = phase.stage_joined();
+        let task = self.phase(slot).task_joined(slot, n);
         self.hands.reserve(1).map_err(|_| NoMemory)?;
         let group = &mut self.groups[slot as usize];
         group.join(by, n)?;
-        let joined = Membership {
-            slot,
-            offset,
-            size: n,
-            stage,
-        };
-        take_up(&mut self.hands, by, Task::Joined(joined));
+        take_up(&mut self.hands, by, task);
         Ok(true)
     }
 
