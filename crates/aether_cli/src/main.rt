@@ -10,7 +10,7 @@ use log_disk::OpenGate;
 use std::fs::File;
 use std::io;
 use std::process::ExitCode;
-use system_disk::{FileDisk, StdSink, StdSource};
+use system_disk::{FileDisk, StdSink, StdSource, sharpen_sleeps};
 
 /// The root folder, opened thrice. Where standard streams are closed it takes their numbers, so that no file that is
 /// opened later gets one of them.
@@ -24,6 +24,7 @@ fn hold_streams(rt: &HostRuntime) -> [io::Result<File>; 3] {
 
 fn main(rt: HostRuntime) -> ExitCode {
     let _held = hold_streams(&rt);
+    sharpen_sleeps(&rt);
     let report = match words_of(&rt) {
         Ok(words) => {
             let mut script = StdSource::make(rt.stdin());

@@ -10,7 +10,7 @@ ghost use Rattle.commit_pipeline.specs.Turning.{GoesOn, MayTurn, durable};
 use crate::daemon::Daemon;
 use daemon_turn::Turn;
 use flusher::Drained;
-use idle_backoff::IdleBackoff;
+use idle_backoff::doze;
 use log_disk::{LogDisk, Sink};
 use lsn_space::Lsn;
 use std::sync::Wait;
@@ -28,13 +28,12 @@ impl<'a, D: LogDisk, K: Sink> Daemon<'a, D, K> {
         ensures fault { IfErr result (λ fault. self.new.fault ≡ Some fault) }
         ensures later { Later D.LogDisk K.Sink self.old self.new }
     {
-        let backoff = IdleBackoff::new();
         for _ in rt.forever() {
             let turn = self.turn()?;
             if let Some(lsn) = self.end() {
                 return Ok(lsn);
             }
-            rest_behind(turn, &backoff, rt);
+            rest_behind(turn, rt);
         }
         unreachable!()
     }
@@ -69,9 +68,9 @@ impl<'a, D: LogDisk, K: Sink> Daemon<'a, D, K> {
 
 /// What comes between two turns. Behind one that sent something the next comes at once; where nothing comes, the daemon
 /// leaves the processor to the workers.
-fn rest_behind(turn: Turn, backoff: &IdleBackoff, clock: &impl Clock) {
+fn rest_behind(turn: Turn, clock: &impl Clock) {
     match turn {
-        Turn::Sent { .. } => backoff.reset(),
-        Turn::Idle => backoff.idle(clock),
+        Turn::Sent { .. } => {}
+        Turn::Idle => doze(clock),
     }
 }

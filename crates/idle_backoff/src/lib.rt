@@ -1,4 +1,5 @@
-//! How a thread passes the time while it waits for another: it spins for a moment, then lets other threads run, and then sleeps.
+//! How a thread passes the time while it waits for another. Who waits for a flush spins for a moment, sleeps for nearly as long as the wait
+//! is expected to take, and is awake when it ends; who has nothing to do dozes.
 #![tactic(auto)]
 
 use crossbeam_utils::Backoff;
@@ -6,21 +7,33 @@ use std::cell::Cell;
 use std::thread::{sleep, yield_now};
 use std::time::{Clock, Duration};
 
-/// How long one rest asks to sleep, in microseconds. Linux adds some 50.
-const SLEEP_MICROS: u64 = 1;
+/// So many rests a wait begins with are spun: an account is mostly free again within a microsecond.
+const SPINS: u32 = 7;
 
-/// How often it lets other threads run where it expects its wait to end: for about as long as a sleep takes.
-const MOST_YIELDS: u32 = 128;
+/// By this rest of a wait its nap is over.
+const NAPPED: u32 = SPINS + 1;
 
-/// The rests of a thread that waits again and again. It expects a wait to take as many sleeps as the one before, and stays awake behind
-/// these for a while, so as not to sleep past the end.
+/// Up to this rest the nap ended as it should, shortly before the wait did.
+const IN_TIME: u32 = NAPPED + 16;
+
+/// Up to this rest a thread stays awake behind its nap, and lets others run.
+const AWAKE: u32 = NAPPED + 64;
+
+/// How long it then sleeps at a time, in microseconds.
+const LATE_SLEEP: u64 = 20;
+
+/// How long a doze is, in microseconds: as short as a sleep can be.
+const DOZE: u64 = 1;
+
+/// The rests of a thread that waits again and again. In each wait it takes one nap, which is to end shortly before the wait does: the
+/// next one is shorter where the wait was over by its end, and longer where the thread had to stay awake for long behind it.
 #[derive(Drop)]
 pub struct IdleBackoff {
     backoff: Backoff,
-    /// How many sleeps it expects this wait to take, how many it took, and how often others were let run behind those expected.
-    expected: Cell<u32>,
-    slept: Cell<u32>,
-    yielded: Cell<u32>,
+    /// How often it rested in this wait.
+    rests: Cell<u32>,
+    /// How long a nap is, in microseconds.
+    nap: Cell<u64>,
 }
 
 impl IdleBackoff {
@@ -28,37 +41,54 @@ impl IdleBackoff {
     pub fn new() -> IdleBackoff {
         IdleBackoff {
             backoff: Backoff::new(),
-            expected: Cell::new(0),
-            slept: Cell::new(0),
-            yielded: Cell::new(0),
+            rests: Cell::new(0),
+            nap: Cell::new(0),
         }
     }
 
     /// Rests once, and returns.
     pub fn idle(&self, clock: &impl Clock) {
-        let (slept, yielded) = (self.slept.get(), self.yielded.get());
-        if !self.backoff.is_completed() {
-            self.backoff.snooze();
-        } else if slept == self.expected.get() && yielded < MOST_YIELDS {
+        let rests = self.rests.get();
+        self.rests.set(rests.saturating_add(1));
+        if rests < SPINS {
+            self.backoff.spin();
+        } else if rests < NAPPED {
+            sleep_for(clock, self.nap.get());
+        } else if rests < AWAKE {
             yield_now();
-            self.yielded.set(yielded + 1);
         } else {
-            sleep(clock, Duration::from_micros(SLEEP_MICROS));
-            self.slept.set(slept.saturating_add(1));
+            sleep_for(clock, LATE_SLEEP);
         }
     }
 
     /// What was waited for has come, and the next wait begins.
     pub fn reset(&self) {
-        let slept = self.slept.get();
-        if slept > self.expected.get() {
-            self.expected.set(slept);
-        } else if self.yielded.get() == 0 {
-            // It had come by the end of a sleep, and so may have come before it.
-            self.expected.set(slept.saturating_sub(1));
-        }
-        self.slept.set(0);
-        self.yielded.set(0);
+        self.nap.set(next_nap(self.nap.get(), self.rests.get()));
+        self.rests.set(0);
         self.backoff.reset();
+    }
+}
+
+/// Sleeps for as short as the system does it.
+pub fn doze(clock: &impl Clock) {
+    sleep_for(clock, DOZE);
+}
+
+fn sleep_for(clock: &impl Clock, micros: u64) {
+    if micros > 0 {
+        sleep(clock, Duration::from_micros(micros));
+    }
+}
+
+/// How long a nap is to be behind a wait that took so many rests, one nap as long as this among them where there were more than spins.
+fn next_nap(nap: u64, rests: u32) -> u64 {
+    if rests < NAPPED {
+        nap
+    } else if rests == NAPPED {
+        nap.saturating_sub(nap / 64 + 1)
+    } else if rests <= IN_TIME {
+        nap
+    } else {
+        nap.saturating_add(1)
     }
 }

@@ -4,7 +4,9 @@
 
 mod file_disk;
 mod retrying;
+mod sleeps;
 mod std_streams;
 
 pub use file_disk::{FileDisk, folder_of};
+pub use sleeps::sharpen_sleeps;
 pub use std_streams::{StdSink, StdSource};
