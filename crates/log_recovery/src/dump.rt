@@ -10,15 +10,12 @@ ghost use Rattle.lsn_space.specs.Number.{number_text};
 ghost use Rattle.log_recovery.specs.Dump.{dump_text, rec_text, record_line, signed_text, update_text};
 ghost use Rattle.log_recovery.specs.Recovery.{HasRecords};
 
+use crate::line::Line;
 use crate::list_result::Listed;
 use crate::texts::put_end;
-use arrayvec::ArrayVec;
 use log_disk::{OutputBlock, Sink, WriteFault};
 use log_record::{Rec, read};
-use lsn_space::{Lsn, decimal};
-
-/// Room for a line of the dump: a note has up to 200 bytes.
-type Line = ArrayVec<u8, 256>;
+use lsn_space::Lsn;
 
 /// Writes the dump of a list, or a part of it at a fault.
 pub fn put_dump<K: Sink>(listed: &Listed, sink: &mut K) -> Result<(), WriteFault>
@@ -31,11 +28,12 @@ pub fn put_dump<K: Sink>(listed: &Listed, sink: &mut K) -> Result<(), WriteFault
 {
     let end = listed.tail.next;
     let mut block = OutputBlock::new();
+    let mut line = Line::new();
     let mut rest = listed.units.as_slice();
     'records: while !rest.is_empty() {
         let start = start_of(rest, end);
         let (rec, behind) = first_of(rest);
-        put_record(start, &rec, &mut block, sink)?;
+        put_record(start, &rec, &mut line, &mut block, sink)?;
         rest = behind;
     }
     put_end(end, &mut block, sink)?;
@@ -63,9 +61,11 @@ fn start_of(rest: &[u64], end: Lsn) -> Lsn
     Lsn::new(end - rest.len() as u32)
 }
 
+/// Puts the line of a record that starts here. The place for the line is lent, and whatever it holds is dropped.
 fn put_record<K: Sink>(
     start: Lsn,
     rec: &Rec,
+    line: &mut Line,
     block: &mut OutputBlock,
     sink: &mut K,
 ) -> Result<(), WriteFault>
@@ -73,98 +73,89 @@ fn put_record<K: Sink>(
     ensures prefix { OnErr result (AppendsPart (K.held_bytes sink.old) (K.held_bytes sink.new) (block.old ++ record_line start rec.now)) }
     ensures cause { HasCause (K.faults sink.old) (K.faults sink.new) result }
 {
-    block.put(sink, line_of(start, rec).as_slice())
+    make_line(start, rec, line);
+    block.put(sink, line.as_slice())
 }
 
 /// The line of a record that starts here.
 #[tactic(auto, unfolding(crate::specs::Dump::record_line))]
-fn line_of(start: Lsn, rec: &Rec) -> Line
-    ensures { result.items ≡ record_line start rec.now }
+fn make_line(start: Lsn, rec: &Rec, line: &mut Line)
+    ensures { line.new ≡ record_line start rec.now }
 {
-    let mut line = ArrayVec::new();
-    line.try_extend_from_slice(decimal(start.units() as u64).as_slice())
-        .unwrap();
-    line.push(b' ');
-    line.try_extend_from_slice(words_of(rec).as_slice())
-        .unwrap();
-    line.push(b'\n');
-    line
+    line.clear();
+    line.put_byte(b'\n');
+    put_words(rec, line);
+    line.put_byte(b' ');
+    line.put_number(start.units());
 }
 
-/// What the line says of the record itself.
-fn words_of(rec: &Rec) -> Line
-    ensures text { result.items ≡ rec_text rec.now }
-    ensures short { length result.items ≤ 230 }
+/// Puts what the line says of the record itself.
+fn put_words(rec: &Rec, line: &mut Line)
+    requires { length line.old ≤ 1 }
+    ensures text { line.new ≡ rec_text rec.now ++ line.old }
+    ensures short { length line.new ≤ 230 }
 {
     match rec {
-        Rec::Genesis { account, balance } => two_numbers(b"genesis ", *account, *balance),
+        Rec::Genesis { account, balance } => put_pair(b"genesis ", *account, *balance, line),
         Rec::Update {
             txn,
             account,
             delta,
             prev,
-        } => update_words(*txn, *account, *delta, *prev),
-        Rec::Commit { txn, legs } => two_numbers(b"commit ", *txn, *legs),
-        Rec::Short { txn, leg } => two_numbers(b"short ", *txn, *leg),
-        Rec::Over { txn, leg } => two_numbers(b"over ", *txn, *leg),
-        Rec::Note { txn, text } => note_words(*txn, text.as_slice()),
+        } => put_update(*txn, *account, *delta, *prev, line),
+        Rec::Commit { txn, legs } => put_pair(b"commit ", *txn, *legs, line),
+        Rec::Short { txn, leg } => put_pair(b"short ", *txn, *leg, line),
+        Rec::Over { txn, leg } => put_pair(b"over ", *txn, *leg, line),
+        Rec::Note { txn, text } => put_note(*txn, text.as_slice(), line),
     }
 }
 
-/// A word, with the space behind it, and two numbers.
-fn two_numbers(word: &[u8], first: u32, second: u32) -> Line
-    requires { length word.now ≤ 8 }
-    ensures text { result.items ≡ word.now ++ number_text first ++ codes " " ++ number_text second }
-    ensures short { length result.items ≤ 49 }
+/// Puts a word, with the space behind it, and two numbers.
+fn put_pair(word: &[u8], first: u32, second: u32, line: &mut Line)
+    requires word { length word.now ≤ 8 }
+    requires room { length line.old ≤ 100 }
+    ensures text { line.new ≡ word.now ++ number_text first ++ codes " " ++ number_text second ++ line.old }
+    ensures short { length line.new ≤ length line.old + 29 }
 {
-    let mut line = ArrayVec::new();
-    line.try_extend_from_slice(word).unwrap();
-    line.try_extend_from_slice(decimal(first as u64).as_slice())
-        .unwrap();
-    line.push(b' ');
-    line.try_extend_from_slice(decimal(second as u64).as_slice())
-        .unwrap();
-    line
+    line.put_number(second);
+    line.put_byte(b' ');
+    line.put_number(first);
+    line.put_piece(word);
 }
 
 #[tactic(auto, unfolding(crate::specs::Dump::update_text))]
-fn update_words(txn: u32, account: u32, delta: i32, prev: Lsn) -> Line
-    ensures text { result.items ≡ update_text txn account delta prev }
-    ensures short { length result.items ≤ 99 }
+fn put_update(txn: u32, account: u32, delta: i32, prev: Lsn, line: &mut Line)
+    requires { length line.old ≤ 1 }
+    ensures text { line.new ≡ update_text txn account delta prev ++ line.old }
+    ensures short { length line.new ≤ 99 }
 {
-    let mut line = two_numbers(b"update ", txn, account);
-    line.push(b' ');
-    line.try_extend_from_slice(signed(delta).as_slice())
-        .unwrap();
-    line.push(b' ');
-    line.try_extend_from_slice(decimal(prev.units() as u64).as_slice())
-        .unwrap();
-    line
+    line.put_number(prev.units());
+    line.put_byte(b' ');
+    put_signed(delta, line);
+    line.put_byte(b' ');
+    put_pair(b"update ", txn, account, line);
 }
 
-/// A number that may be below 0, as text.
-fn signed(n: i32) -> ArrayVec<u8, 24>
-    ensures { result.items ≡ signed_text n }
+/// Puts a number that may be below 0.
+fn put_signed(n: i32, line: &mut Line)
+    requires { length line.old ≤ 100 }
+    ensures text { line.new ≡ signed_text n ++ line.old }
+    ensures short { length line.new ≤ length line.old + 11 }
 {
-    let mut text = ArrayVec::new();
+    line.put_number(n.unsigned_abs());
     if n < 0 {
-        text.push(b'-');
+        line.put_byte(b'-');
     }
-    text.try_extend_from_slice(decimal(n.unsigned_abs() as u64).as_slice())
-        .unwrap();
-    text
 }
 
-fn note_words(txn: u32, text: &[u8]) -> Line
-    requires { length text.now ≤ 200 }
-    ensures text { result.items ≡ codes "note " ++ number_text txn ++ codes " " ++ text.now }
-    ensures short { length result.items ≤ 230 }
+fn put_note(txn: u32, text: &[u8], line: &mut Line)
+    requires note { length text.now ≤ 200 }
+    requires room { length line.old ≤ 1 }
+    ensures text { line.new ≡ (codes "note " ++ number_text txn ++ codes " " ++ text.now) ++ line.old }
+    ensures short { length line.new ≤ 230 }
 {
-    let mut line = ArrayVec::new();
-    line.try_extend_from_slice(b"note ").unwrap();
-    line.try_extend_from_slice(decimal(txn as u64).as_slice())
-        .unwrap();
-    line.push(b' ');
-    line.try_extend_from_slice(text).unwrap();
-    line
+    line.put_piece(text);
+    line.put_byte(b' ');
+    line.put_number(txn);
+    line.put_piece(b"note ");
 }

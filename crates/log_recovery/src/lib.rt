@@ -4,6 +4,7 @@
 
 mod dump;
 mod judging;
+mod line;
 mod list_result;
 mod listing;
 mod places;
