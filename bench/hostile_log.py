@@ -14,7 +14,8 @@ The kinds of numbers:
   random       anywhere in the range, each once
   far          one after another, from 2000000000 on
   colliding    in one place of the kit's HashMap, whose seed is no secret (bench/colliding.c finds them)
-  one part     in one part of `txn_tables`, in no order
+  deep         in groups of 16 that agree in all bits but their first four, in no order: in `txn_tables` the ways to such a group's
+               numbers part at the 15th node
 
 It prints the processor time of `recover` in milliseconds, the system's included, and its ratio to that of numbers at random. Programs, kinds and rounds
 are taken in turn, so that what else the machine does falls on all of them. The status is 1 where a log of chosen numbers costs more than
@@ -23,7 +24,7 @@ import argparse, os, random, resource, shutil, statistics, subprocess, sys, temp
 
 TOP = os.path.dirname(os.path.dirname(os.path.realpath(__file__)))
 MOST_RATIO = 3
-PARTS = 16384
+GROUP_BITS = 4
 LAST_NUMBER = 2**32 - 1
 MOST_UNITS = 1048576
 
@@ -43,16 +44,22 @@ def colliding(count, room):
     return [int(line) for line in found.stdout.split()] if found.returncode == 0 else None
 
 
+def deep(count, chance):
+    group = 1 << GROUP_BITS
+    last_bits = chance.sample(range(1, 1 << 32 - GROUP_BITS), count // group + 1)
+    numbers = [bits | first_bits << 32 - GROUP_BITS for bits in last_bits for first_bits in range(group)][:count]
+    chance.shuffle(numbers)
+    return numbers
+
+
 def kinds(count, room):
     chance = random.Random(1)
-    one_part = [5 + PARTS * k for k in range(1, LAST_NUMBER // PARTS)]
-    chance.shuffle(one_part)
     return {
         "dense": list(range(1, count + 1)),
         "random": chance.sample(range(1, LAST_NUMBER + 1), count),
         "far": [2000000000 + k for k in range(count)],
         "colliding": colliding(count, room),
-        "one part": one_part[:count] if count <= len(one_part) else None,
+        "deep": deep(count, chance),
     }
 
 

@@ -1,2 +1,2 @@
-pub mod PartLemmas
-pub mod RowLemmas
+pub mod NodeLemmas
+pub mod SearchLemmas

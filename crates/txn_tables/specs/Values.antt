@@ -1,7 +1,7 @@
 -- What a table says of transactions.
 use Rattle.std.specs.Prelude.{◌≡◌, ◌==◌, ℕ, if◌then◌else◌, slice_index_or, unwrap_or}
 use Rattle.txn_tables.specs.declared.txn_table.TxnTable.{TxnTable}
-use Rattle.txn_tables.specs.Parts.{scattered_value}
+use Rattle.txn_tables.specs.Searches.{scattered_value}
 
 -- the number of a transaction in the table, 0 where none was put
 abbrev pub value_at : TxnTable → ℕ → ℕ

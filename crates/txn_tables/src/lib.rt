@@ -1,8 +1,7 @@
 //! A number for each transaction, however its numbers were chosen.
 #![tactic(auto)]
 
-mod entries;
-mod part;
+mod node;
 mod scattered;
 mod txn_table;
 

@@ -20,7 +20,7 @@ pub struct TxnTable {
 }
 
 impl TxnTable {
-    ghost use Rattle.txn_tables.specs.Parts.{scattered_value};
+    ghost use Rattle.txn_tables.specs.Searches.{scattered_value};
     ghost use Rattle.txn_tables.specs.Values.{value_at, PutsValue};
 
     pub fn new(alloc: Global) -> TxnTable
