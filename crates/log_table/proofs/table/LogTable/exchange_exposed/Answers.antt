@@ -18,3 +18,15 @@ returns-then-found-units-clause-ok_event c = raise-won _ _ _ _ _ c.requires.next
 
 pub returns-else-found-units-clause-err_event : goal.returns-else-found-units-clause-err_event
 returns-else-found-units-clause-err_event c = raise-lost _ _ _ _ _ c.requires.next _ (search rules steps 100000)
+
+pub returns-then-found-units-clause-ok : goal.returns-then-found-units-clause-ok
+returns-then-found-units-clause-ok c = search rules steps 1000000
+
+pub returns-then-found-units-clause-ok_grows : goal.returns-then-found-units-clause-ok_grows
+returns-then-found-units-clause-ok_grows c = search rules steps 100000
+
+pub returns-else-found-units-clause-err : goal.returns-else-found-units-clause-err
+returns-else-found-units-clause-err c = search rules steps 1000000
+
+pub returns-else-found-units-clause-err_grows : goal.returns-else-found-units-clause-err_grows
+returns-else-found-units-clause-err_grows c = search rules steps 100000
