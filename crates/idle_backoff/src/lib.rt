@@ -22,8 +22,8 @@ const AWAKE: u32 = NAPPED + 64;
 /// How long it then sleeps at a time, in microseconds.
 const LATE_SLEEP: u64 = 20;
 
-/// How long a doze is, in microseconds: as short as a sleep can be.
-const DOZE: u64 = 1;
+/// How long a doze is, in microseconds: short beside a flush, and so long that other threads get on where processors are scarce.
+const DOZE: u64 = 10;
 
 /// The rests of a thread that waits again and again. In each wait it takes one nap, which is to end shortly before the wait does: the
 /// next one is shorter where the wait was over by its end, and longer where the thread had to stay awake for long behind it.
@@ -69,7 +69,7 @@ impl IdleBackoff {
     }
 }
 
-/// Sleeps for as short as the system does it.
+/// Sleeps for a moment.
 pub fn doze(clock: &impl Clock) {
     sleep_for(clock, DOZE);
 }
