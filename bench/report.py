@@ -1,0 +1,138 @@
+"""What bench/measure found, as a text: the machine, and a table of medians and quartiles."""
+import datetime, os, platform, statistics, subprocess
+from typing import Dict, List, NamedTuple
+
+BEGIN, END = "<!-- bench/measure writes from here -->", "<!-- to here -->"
+PROGRAM = "aether"
+PICTURE = "![Throughput over workers, speed relative to the rivals, recovery time over log size](results.svg)"
+
+
+class Quartiles(NamedTuple):
+    low: float
+    median: float
+    high: float
+
+
+class Result(NamedTuple):
+    """Of programs that do the same: how many transfers, or records, a second each made in each round. `amount` is how many the first
+    of them made in a run."""
+
+    work: str
+    storage: str
+    workers: int
+    amount: int
+    speeds: Dict[str, List[float]]
+
+    def rivals(self):
+        return [name for name in self.speeds if name != PROGRAM]
+
+    def ratios(self, rival):
+        """The program's speed by the rival's, of each round."""
+        return quartiles([ours / theirs for ours, theirs in zip(self.speeds[PROGRAM], self.speeds[rival])])
+
+
+def quartiles(values):
+    return Quartiles(*statistics.quantiles(values, n=4, method="inclusive"))
+
+
+# The machine.
+
+
+def first_line(words):
+    try:
+        return subprocess.run(words, capture_output=True, text=True).stdout.splitlines()[0]
+    except (OSError, IndexError):
+        return "unknown"
+
+
+def processor():
+    try:
+        with open("/proc/cpuinfo") as told:
+            return next(line.split(":")[1].strip() for line in told if line.startswith("model name"))
+    except (OSError, StopIteration):
+        return platform.machine()
+
+
+def file_system(folder):
+    """The kind of the file system that the folder lies on: of the mounts above it the lowest."""
+    with open("/proc/mounts") as told:
+        mounts = [line.split()[1:3] for line in told]
+    above = [(len(point), kind) for point, kind in mounts if (folder + "/").startswith(point.rstrip("/") + "/")]
+    return max(above)[1]
+
+
+def stores(programs):
+    sqlite = first_line(["sqlite3", "--version"]).split()[0] if programs.sqlite else "not installed"
+    return f"SQLite: {sqlite}; LMDB: {'installed' if programs.lmdb else 'not installed'}"
+
+
+def head(top, words, rounds, programs, folder):
+    """When, on what and by which command."""
+    now = datetime.datetime.now(datetime.timezone.utc)
+    commit = first_line(["git", "-C", top, "rev-parse", "--short", "HEAD"])
+    command = " ".join(["bench/measure"] + words)
+    return (
+        f"Measured on {now:%Y-%m-%d} at {now:%H:%M} UTC by `{command}` at commit {commit}, in {rounds} rounds: {processor()}, "
+        f"{os.cpu_count()} processors, {platform.system()} {platform.release()}, load {os.getloadavg()[0]:.1f} before it. "
+        f"The file lies on {file_system(os.path.realpath(folder))}. "
+        f"The plain programs are made by {first_line([programs.compiler, '--version'])}, -O2. {stores(programs)}."
+    )
+
+
+# The table.
+
+
+def rounded(number):
+    """Three digits that count."""
+    places = max(0, len(str(int(number))) - 3)
+    return f"{int(round(number, -places)):,}"
+
+
+def ratio(values):
+    return f"{values.median:.2f} ({values.low:.2f} to {values.high:.2f})"
+
+
+def speed(speeds):
+    return rounded(quartiles(speeds).median)
+
+
+WORK = {"demo": "`demo`", "wait": "`run --wait`"}
+
+
+def transfer_rows(results):
+    for result in results:
+        for rival in result.rivals():
+            ours, theirs = speed(result.speeds[PROGRAM]), speed(result.speeds[rival])
+            what = f"{WORK[result.work]} | {result.storage} | {result.workers}"
+            yield f"| {what} | {ours} | {rival} | {theirs} | {ratio(result.ratios(rival))} |"
+
+
+def milliseconds(result, name):
+    return f"{1000 * result.amount / quartiles(result.speeds[name]).median:.1f}"
+
+
+def recovery_rows(results):
+    for result in results:
+        for rival in result.rivals():
+            ours, theirs = milliseconds(result, PROGRAM), milliseconds(result, rival)
+            yield f"| {result.amount:,} | {ours} | {theirs} | {ratio(result.ratios(rival))} |"
+
+
+def text(head, results):
+    transfers = [result for result in results if result.work in WORK]
+    recoveries = [result for result in results if result.work == "recover"]
+    lines = [PICTURE, "", head, "", "Transfers a second, and the program's speed by the rival's:", ""]
+    lines += ["| work | where | workers | program | rival | rival's | ratio (quartiles) |", "|---|---|---|---|---|---|---|"]
+    lines += transfer_rows(transfers)
+    lines += ["", "Milliseconds of `recover`, and its speed by that of one plain pass:", ""]
+    lines += ["| records | program | one pass | ratio (quartiles) |", "|---|---|---|---|"]
+    lines += recovery_rows(recoveries)
+    return "\n".join(lines) + "\n"
+
+
+def placed(readme, text):
+    """The document with this text between its two marks."""
+    with open(readme, encoding="utf-8") as old:
+        front, _, rest = old.read().partition(BEGIN)
+    back = rest.partition(END)[2]
+    return f"{front}{BEGIN}\n{text}{END}{back}"
