@@ -130,9 +130,31 @@ def text(head, results):
     return "\n".join(lines) + "\n"
 
 
-def placed(readme, text):
+def between_marks(document, text):
     """The document with this text between its two marks."""
-    with open(readme, encoding="utf-8") as old:
-        front, _, rest = old.read().partition(BEGIN)
-    back = rest.partition(END)[2]
-    return f"{front}{BEGIN}\n{text}{END}{back}"
+    front, _, rest = document.partition(BEGIN)
+    return f"{front}{BEGIN}\n{text}{END}{rest.partition(END)[2]}"
+
+
+# Three figures for the project's README.
+
+
+QUESTION = "**How fast is it?**"
+
+
+def figures(results):
+    demo = results[0]
+    recovery = max((result for result in results if result.work == "recover"), key=lambda result: result.amount)
+    of_steps, of_mutex = demo.ratios("steps").median, demo.ratios("mutex").median
+    return (
+        f"With one worker in {demo.storage} `demo` has {of_steps:.2f} of the speed of an unproved program of the same steps. Beside one with a "
+        f"mutex it has {of_mutex:.2f}. `recover` reads {recovery.amount:,} records in {milliseconds(recovery, PROGRAM)} milliseconds "
+        "([how this is measured](bench/README.md))."
+    )
+
+
+def with_figures(document, results):
+    """The document with these figures, and the picture, in the paragraph that asks how fast it is."""
+    front, _, rest = document.partition(QUESTION)
+    picture = PICTURE.replace("results.svg", "bench/results.svg")
+    return f"{front}{QUESTION} {figures(results)}\n{picture}\n\n{rest.partition(chr(10) * 2)[2]}"
