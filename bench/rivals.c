@@ -203,7 +203,7 @@ static void flush_by_steps(Run *run) {
         bool is_idle = to == sent;
         sent = to;
         if (atomic_load(&crew.word) == 0 && atomic_load(&exposed.word) == sent) break;
-        if (is_idle) sleep_for(1000);
+        if (is_idle) sleep_for(10000);
     }
     run->end = sent;
 }
