@@ -62,8 +62,9 @@ def file_system(folder):
 
 
 def stores(programs):
-    sqlite = first_line(["sqlite3", "--version"]).split()[0] if programs.sqlite else "not installed"
-    return f"SQLite: {sqlite}; LMDB: {'installed' if programs.lmdb else 'not installed'}"
+    sqlite = first_line([programs.sqlite]) if programs.sqlite else "SQLite isn't installed"
+    lmdb = first_line([programs.lmdb]) if programs.lmdb else "LMDB isn't installed"
+    return f"{sqlite}; {lmdb}"
 
 
 def head(top, words, rounds, programs, folder):
@@ -73,7 +74,7 @@ def head(top, words, rounds, programs, folder):
     command = " ".join(["bench/measure"] + words)
     return (
         f"Measured on {now:%Y-%m-%d} at {now:%H:%M} UTC by `{command}` at commit {commit}, in {rounds} rounds: {processor()}, "
-        f"{os.cpu_count()} processors, {platform.system()} {platform.release()}, load {os.getloadavg()[0]:.1f} before it. "
+        f"{os.cpu_count()} processors, {platform.system()} {platform.release()}, load {os.getloadavg()[0]:.1f} in the minute before. "
         f"The file lies on {file_system(os.path.realpath(folder))}. "
         f"The plain programs are made by {first_line([programs.compiler, '--version'])}, -O2. {stores(programs)}."
     )

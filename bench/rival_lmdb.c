@@ -2,6 +2,7 @@
 // which is on the disk when its commit returns (no flag that says otherwise). One thread: LMDB has one writer at a time.
 //
 //     rival_lmdb FOLDER TRANSFERS SEED
+//     rival_lmdb                           which LMDB it is
 //
 // It prints the lines of the summary, with an end of the log of 0, since it has none.
 #include "transfers.h"
@@ -77,7 +78,7 @@ static int make_transfer(Store *store, uint32_t transfer, Leg leg) {
 }
 
 int main(int count, char **words) {
-    if (count != 4) return 2;
+    if (count != 4) return printf("%s\n", mdb_version(NULL, NULL, NULL)) < 0;
     uint32_t transfers = (uint32_t)atol(words[2]), done = 0, balances[ACCOUNTS];
     const Leg *legs = generated_legs(transfers, (uint32_t)atol(words[3]));
     Store store = {.next_entry = 1};

@@ -2,6 +2,7 @@
 // which is on the disk when its COMMIT returns (WAL, synchronous=FULL). One thread: SQLite has one writer at a time.
 //
 //     rival_sqlite DATABASE TRANSFERS SEED
+//     rival_sqlite                             which SQLite it is
 //
 // It prints the lines of the summary, with an end of the log of 0, since it has none.
 #include "transfers.h"
@@ -67,7 +68,7 @@ static int make_transfer(const Statements *use, int64_t transfer, Leg leg) {
 }
 
 int main(int count, char **words) {
-    if (count != 4) return 2;
+    if (count != 4) return printf("SQLite %s\n", sqlite3_libversion()) < 0;
     uint32_t transfers = (uint32_t)atol(words[2]), done = 0, balances[ACCOUNTS];
     const Leg *legs = generated_legs(transfers, (uint32_t)atol(words[3]));
     check(sqlite3_open(words[1], &database), SQLITE_OK);
