@@ -149,7 +149,7 @@ def recovery_panel(results, left, top, width):
     for name, side in (("aether", -12), ("one pass", 24)):
         places = [(panel.x_of(amount), panel.y_of(time)) for amount, time in times[name]]
         drawn += [curve(places, COLORS[name])] + [dot(x, y, COLORS[name]) for x, y in places]
-        drawn.append(text(places[-1][0] + 8, places[-1][1] + side, name, "middle", fill=COLORS[name]))
+        drawn.append(text(left + width - 6, places[-1][1] + side, name, "end", fill=COLORS[name]))
     return drawn + panel.frame("recover: milliseconds over records")
 
 
