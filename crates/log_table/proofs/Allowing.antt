@@ -85,7 +85,7 @@ module _ (key : Start) (slots seat : ℕ) (me : Me (Unit {0}) View) where
       (λ n _. raise-step key seat me.0 from to may n)
 
   module _ (place ring base : ℕ) (at : place ≡ RING + ring + base % ring) (same : key.ring ≡ ring) (below : base % ring < ring) where
-    fits-mark : Fits key.ring (length key.accounts.rows) (Mark (base % ring))
+    fits-mark : Fits key.ring key.slots (length key.accounts.rows) (Mark (base % ring))
     fits-mark = in_marks (base % ring) (subst (λ r. base % ring < r) (sym same) below)
 
     at-mark : (left : ℕ → ℕ) (then : ℕ → Me (Unit {0}) View → Type 0)
@@ -145,17 +145,21 @@ module _ (key : Start) (slots seat : ℕ) (me : Me (Unit {0}) View) where
       (allowed-if_step key slots seat me Stop shared_stop (λ n. n) (λ n. took_job number job n me.0) (λ _. none)
       (λ n. me.0.seen.stop ≢ 0 → n ≡ me.0.seen.stop) (stop-keeps key seat me.0) (λ n _. job-step key seat me.0 accounts number job same may n))
 
-  module _ (place ring accounts account picked : ℕ) (at : place ≡ RING + ring + ring + STRIDE * account) (same : key.ring ≡ ring)
+  module _ (place ring number accounts account picked : ℕ) (at : place ≡ RING + ring + ring + STRIDE * (number + number + account)) (same : key.ring ≡ ring)
+      (slotted : key.slots ≡ number)
       (counted : length key.accounts.rows ≡ accounts) (below : account < accounts) (is : picked ≡ account) where
-    fits-account : Fits key.ring (length key.accounts.rows) (Account account)
+    fits-account : Fits key.ring key.slots (length key.accounts.rows) (Account account)
     fits-account = of_account account (subst (λ c. account < c) (sym counted) below)
+
+    placed : RING + key.ring + key.ring + STRIDE * (key.slots + key.slots + account) ≡ place
+    placed = (λ i. RING + same i + same i + STRIDE * (slotted i + slotted i + account)) ∙ sym at
 
     -- the word at that place, with the number as it was picked
     at-account : (left : ℕ → ℕ) (then : ℕ → ℕ → Me (Unit {0}) View → Type 0)
-        → Allows (Ruled key) slots seat me (RING + key.ring + key.ring + STRIDE * account) left (then account)
+        → Allows (Ruled key) slots seat me (RING + key.ring + key.ring + STRIDE * (key.slots + key.slots + account)) left (then account)
         → Allows (Ruled key) slots seat me place left (then picked)
     at-account left then allows = subst (λ (p : ℕ × ℕ). Allows (Ruled key) slots seat me p.0 left (then p.1))
-        (λ i. ((ap (λ r. RING + r + r + STRIDE * account) same ∙ sym at) i, sym is i)) allows
+        (λ i. (placed i, sym is i)) allows
 
     pub load_account-allowed : Allows (Ruled key) slots seat me place (λ n. n) (λ n new. (new ≡ (saw_account picked n me.0, me.1)) × IsOwnWord picked n me.0.books)
     load_account-allowed = at-account (λ n. n) (λ p n new. (new ≡ (saw_account p n me.0, me.1)) × IsOwnWord p n me.0.books)

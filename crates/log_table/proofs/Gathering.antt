@@ -246,7 +246,7 @@ module _ (key : Start) (words : Words) (views : List View) (me : ℕ) (v : View)
   records-are : history_in key log.parts ≡ history_of (base_of key) v.entries
   records-are = ap (history_from key.start []) (ap records_in parts-are ∙ records-entries me v.entries)
 
-  pub settles : (ws : List ℕ) (old rows : List (ℕ × ℕ)) → words ≡ words_in key ws → length old ≡ length key.accounts.rows → ReadsRows key.ring (length old) ws old rows
+  pub settles : (ws : List ℕ) (old rows : List (ℕ × ℕ)) → words ≡ words_in key ws → length old ≡ length key.accounts.rows → ReadsRows key.ring key.slots (length old) ws old rows
       → IsSettled (base_of key) v rows
   settles ws old rows words-are same reads = record {
     count = reads.count ∙ same;
@@ -277,9 +277,9 @@ module _ (key : Start) (words : Words) (views : List View) (me : ℕ) (v : View)
           → IsRow (base_of key) (history_in key log.parts) account (row rows account)
       up-to-date f account below =
           let old' = f.free account below (free account below) in
-          let word-is : words.account account ≡ slice_index ws (index_of key.ring (Account account)) =
+          let word-is : words.account account ≡ slice_index ws (index_of key.ring key.slots (Account account)) =
           ap (λ (w : Words). w.account account) words-are
-          ∙ ap (λ t. cond t (slice_index ws (index_of key.ring (Account account))) 0) (lt-ltb account (length key.accounts.rows) below) in
+          ∙ ap (λ t. cond t (slice_index ws (index_of key.ring key.slots (Account account))) 0) (lt-ltb account (length key.accounts.rows) below) in
           let row-is = reads.each account (subst (λ n. account < n) (sym same) below) in
           record {
             balance = subst (IsBalanceOf (base_of key) (history_in key log.parts) account) (ap balance_in word-is ∙ sym (ap (λ (r : ℕ × ℕ). r.0) row-is)) old'.balance;
@@ -291,7 +291,7 @@ pub record IsClosed (key : Start) (ws : List ℕ) (tail exposed : ℕ) (v : View
   pub small : tail ≤ LAST
   pub released : exposed ≡ tail
   pub gathered : IsGathered tail v
-  pub settled : (old rows : List (ℕ × ℕ)) → length old ≡ length key.accounts.rows → ReadsRows key.ring (length old) ws old rows → IsSettled (base_of key) v rows
+  pub settled : (old rows : List (ℕ × ℕ)) → length old ≡ length key.accounts.rows → ReadsRows key.ring key.slots (length old) ws old rows → IsSettled (base_of key) v rows
 
 pub at-index : (l : List ℕ) (i a : ℕ) → get_elem? l i ≡ some a → get_or l i 0 ≡ a
 at-index [] i a e = absurd (some-ne-none a (sym e))

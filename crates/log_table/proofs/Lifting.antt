@@ -17,26 +17,26 @@ abbrev pub Tells : Start → ℕ → Word → View → (ℕ → Type 0) → Type
 Tells key seat word view P = (words : Words) (views : List View) (log : Log) → IsSound key words views log → get_elem? views seat ≡ some view
     → P (word_at words word)
 
-module _ (key : Start) (slots seat : ℕ) (me : Me (Unit {0}) View) (word : Word) (fits : Fits key.ring (length key.accounts.rows) word) where
+module _ (key : Start) (slots seat : ℕ) (me : Me (Unit {0}) View) (word : Word) (fits : Fits key.ring key.slots (length key.accounts.rows) word) where
   -- a step that finds n, leaves `left n` in the word and `after n` as the seat's view
   pub allowed-if_step : (left : ℕ → ℕ) (after : ℕ → View) (event : ℕ → Event) (P : ℕ → Type 0)
       → Tells key seat word me.0 P
       → ((n : ℕ) → n < 18446744073709551616 → IsStep key seat word n (left n) me.0 (after n) (event n))
-      → Allows (Ruled key) slots seat me (index_of key.ring word) left (λ n new. (new ≡ (after n, me.1)) × P n)
+      → Allows (Ruled key) slots seat me (index_of key.ring key.slots word) left (λ n new. (new ≡ (after n, me.1)) × P n)
   allowed-if_step left after event P tells step s ruled deep here small =
-      let n : ℕ = get_or s.words (index_of key.ring word) 0 in
-      let read : n ≡ word_at (words_in key s.words) word = read-word key.ring (length key.accounts.rows) s.words word fits in
+      let n : ℕ = get_or s.words (index_of key.ring key.slots word) 0 in
+      let read : n ≡ word_at (words_in key s.words) word = read-word key.ring key.slots (length key.accounts.rows) s.words word fits in
       let led = (step n small).leads (words_in key s.words) s.views ruled.1.0 ruled.1.1 here (sym read) in (
         after n,
         keeps,
         tt,
         (
-          length-set s.words (index_of key.ring word) (left n)
+          length-set s.words (index_of key.ring key.slots word) (left n)
               ∙ ruled.0,
           (
             led.after,
             subst (λ (w : Words). IsSound key w (set s.views seat (after n)) led.after)
-                (sym (words_of-set key.ring (length key.accounts.rows) s.words word (left n) fits ruled.0)) led.sound,
+                (sym (words_of-set key.ring key.slots (length key.accounts.rows) s.words word (left n) fits ruled.0)) led.sound,
           ),
         ),
         (refl, subst P (sym read) (tells (words_in key s.words) s.views ruled.1.0 ruled.1.1 here)),

@@ -27,7 +27,7 @@ none-ahead groups (r ∷ rs) work none empty first =
 pub at_rest : (key : Start) (words : Words) (views : List View) (log : Log) → IsSound key words views log
     → ((j : ℕ) → (get_or views j nobody).call ≡ Idle) → words.exposed ≡ words.tail
 at_rest key words views log s idle = subst (λ l. Tiles (key.ring / 4) words.exposed l words.tail)
-    (none-ahead log.groups log.ahead s.at_work (λ j. (s.owners j).owes ∙ ap claims_in (idle j)) (λ slot. ap (λ (g : Group). g.members) (s.slots slot))
+    (none-ahead log.groups log.ahead s.at_work (λ j. (s.owners j).owes ∙ ap claims_in (idle j)) (λ slot. ap (λ (g : Group). g.members) (s.slots slot).nobody)
     (λ first. nobody-carries (s.carried first))) s.contiguous.to_tail
   where
     nobody-carries : HasCarrier words.exposed views → ⊥

@@ -1,10 +1,10 @@
 -- A table starts at rest: nothing is reserved, and the log ends where it started.
-use Rattle.std.proofs.Common.{◌≡◌, ◌≢◌, inl, ℕ, zero, suc, ◌+◌, ◌%◌, ◌<◌, ◌≤◌, nat_lt, true, true≢false, List, [], ◌∷◌, length, get_or, replicate, set, sym, refl, ap, ◌∙◌, subst, arith, cond, Bool, false, lt-ltb, ltb-true, length-set, get_or-set_same, get_or-set_other}
+use Rattle.std.proofs.Common.{◌≡◌, ◌≢◌, inl, ℕ, zero, suc, ◌+◌, ◌*◌, ◌%◌, ◌<◌, ◌≤◌, nat_lt, true, true≢false, List, [], ◌∷◌, length, get_or, replicate, set, sym, refl, ap, ◌∙◌, subst, arith, cond, Bool, false, lt-ltb, ltb-true, length-set, get_or-set_same, get_or-set_other}
 use Rattle.std.proofs.lemmas.List.{length-replicate, get_or-replicate}
 use mathlib.Core.Option.{some-injective, some-ne-none}
 use Rattle.atomic_table.specs.Table.{opening}
 use Rattle.lsn_space.specs.declared.lsn.TheConstants.{LAST, LEAST_RING, GREATEST_RING}
-use Rattle.log_table.specs.declared.layout.TheConstants.{TAIL, EXPOSED, DURABLE, STOP, CREW, RING}
+use Rattle.log_table.specs.declared.layout.TheConstants.{STRIDE, TAIL, EXPOSED, DURABLE, STOP, CREW, RING}
 use Rattle.log_table.specs.declared.table.Start.{Start}
 use Rattle.log_table.specs.declared.view.View.{View}
 use Rattle.log_table.specs.Groups.{empty_group}
@@ -19,7 +19,7 @@ use Rattle.log_record.specs.Spelling.{IsBalance}
 use Rattle.lock_core.specs.Settling.{row}
 use Rattle.log_table.specs.Accounts.{KeepsAccounts}
 use Rattle.log_table.specs.Books.{no_books}
-use Rattle.log_table.specs.Layout.{Mark, Account, index_of, word_count}
+use Rattle.log_table.specs.Layout.{Mark, Slot, Account, index_of, word_count}
 use Rattle.log_table.specs.Opening.{HasAccounts, PutsAccounts}
 use Rattle.log_table.proofs.Gathered.{starts-free}
 
@@ -29,7 +29,8 @@ empty_log = record { parts = []; flushed = []; exposed = []; ahead = []; groups 
 
 module _ (key : Start) (words : Words) (least : LEAST_RING ≤ key.ring) (most : key.ring ≤ GREATEST_RING) (small : key.start ≤ LAST)
     (tail : words.tail ≡ key.start) (exposed : words.exposed ≡ key.start) (durable : words.durable ≡ key.start) (stop : words.stop ≡ 0)
-    (crew : words.crew ≡ 0) (marks : (index : ℕ) → words.mark index ≡ 0) (accounts : KeepsAccounts (base_of key) words.account [] (no_books ∷ [])) where
+    (crew : words.crew ≡ 0) (marks : (index : ℕ) → words.mark index ≡ 0) (vacant : (slot : ℕ) → words.slot slot ≡ 0)
+    (accounts : KeepsAccounts (base_of key) words.account [] (no_books ∷ [])) where
   alone : (P : ℕ → View → Type 0) → P 0 (flusher key) → EachView P (flusher key ∷ [])
   alone P first zero v at = subst (P 0) (some-injective _ _ at) first
   alone P first (suc j) v at = absurd (some-ne-none v (sym at))
@@ -55,7 +56,7 @@ module _ (key : Start) (words : Words) (least : LEAST_RING ≤ key.ring) (most :
     filled = record { spelled = tt; stands = tt };
     below = record { full = tt; below = tt; ranges = tt };
     at_work = tt;
-    slots = λ _. refl;
+    slots = λ slot. record { word_is = vacant slot; nobody = refl };
     marks = record {
       current = λ place _ _. inl (omega (arith, marks (place % key.ring)));
       true_marks = tt;
@@ -105,7 +106,7 @@ abbrev pub shared_words : List ℕ → ℕ → List ℕ
 shared_words zeros n = set (set (set zeros TAIL n) EXPOSED n) DURABLE n
 
 pub start-allowed : (key : Start) (ws zeros : List ℕ) → LEAST_RING ≤ key.ring → key.ring ≤ GREATEST_RING → key.start ≤ LAST → HasAccounts key
-    → zeros ≡ replicate (word_count key.ring (length key.accounts.rows)) 0 → PutsAccounts key (length key.accounts.rows) (shared_words zeros key.start) ws
+    → zeros ≡ replicate (word_count key.ring key.slots (length key.accounts.rows)) 0 → PutsAccounts key (length key.accounts.rows) (shared_words zeros key.start) ws
     → Ruled key (opening ws [] (flusher key))
 start-allowed key ws zeros least most small has zero-is puts = (
   puts.count ∙ length-c,
@@ -119,6 +120,7 @@ start-allowed key ws zeros least most small has zero-is puts = (
         (zero-at STOP (λ e. omega arith) (λ e. omega arith) (λ e. omega arith) (omega arith))
         (zero-at CREW (λ e. omega arith) (λ e. omega arith) (λ e. omega arith) (omega arith))
         no-mark
+        no-slot
         (starts-free (base_of key) (words_in key ws).account has.few first),
   ),
 )
@@ -138,30 +140,38 @@ start-allowed key ws zeros least most small has zero-is puts = (
     c : List ℕ
     c = set b DURABLE n
 
-    length-zeros : length zeros ≡ word_count key.ring count
-    length-zeros = ap length zero-is ∙ length-replicate (word_count key.ring count) 0
+    length-zeros : length zeros ≡ word_count key.ring key.slots count
+    length-zeros = ap length zero-is ∙ length-replicate (word_count key.ring key.slots count) 0
 
-    length-a : length a ≡ word_count key.ring count
+    length-a : length a ≡ word_count key.ring key.slots count
     length-a = length-set zeros TAIL n ∙ length-zeros
 
-    length-b : length b ≡ word_count key.ring count
+    length-b : length b ≡ word_count key.ring key.slots count
     length-b = length-set a EXPOSED n ∙ length-a
 
-    length-c : length c ≡ word_count key.ring count
+    length-c : length c ≡ word_count key.ring key.slots count
     length-c = length-set b DURABLE n ∙ length-b
 
-    zero-at : (at : ℕ) → at ≢ DURABLE → at ≢ EXPOSED → at ≢ TAIL → at < RING + key.ring + key.ring → get_or ws at 0 ≡ 0
+    zero-at : (at : ℕ) → at ≢ DURABLE → at ≢ EXPOSED → at ≢ TAIL → at < RING + key.ring + key.ring + STRIDE * (key.slots + key.slots) → get_or ws at 0 ≡ 0
     zero-at at durable exposed tail below = puts.others at below ∙ (get_or-set_other b DURABLE at n 0 durable
         ∙ (get_or-set_other a EXPOSED at n 0 exposed
         ∙ (get_or-set_other zeros TAIL at n 0 tail
-        ∙ (ap (λ l. get_or l at 0) zero-is ∙ get_or-replicate (word_count key.ring count) at 0 0 (omega arith)))))
+        ∙ (ap (λ l. get_or l at 0) zero-is ∙ get_or-replicate (word_count key.ring key.slots count) at 0 0 (omega arith)))))
 
     no-mark : (index : ℕ) → (words_in key ws).mark index ≡ 0
     no-mark index = by_test (nat_lt index key.ring) refl
       where
-        by_test : (b : Bool) → nat_lt index key.ring ≡ b → cond b (get_or ws (index_of key.ring (Mark index)) 0) 0 ≡ 0
+        by_test : (b : Bool) → nat_lt index key.ring ≡ b → cond b (get_or ws (index_of key.ring key.slots (Mark index)) 0) 0 ≡ 0
         by_test true is = let below = ltb-true index key.ring is in
             zero-at (RING + key.ring + index) (λ e. omega arith) (λ e. omega arith) (λ e. omega arith) (omega arith)
+        by_test false is = refl
+
+    no-slot : (slot : ℕ) → (words_in key ws).slot slot ≡ 0
+    no-slot slot = by_test (nat_lt slot key.slots) refl
+      where
+        by_test : (b : Bool) → nat_lt slot key.slots ≡ b → cond b (get_or ws (index_of key.ring key.slots (Slot slot)) 0) 0 ≡ 0
+        by_test true is = let below = ltb-true slot key.slots is in
+            zero-at (RING + key.ring + key.ring + STRIDE * slot) (λ e. omega arith) (λ e. omega arith) (λ e. omega arith) (omega arith)
         by_test false is = refl
 
     first : (account : ℕ) → account < count → (held_in ((words_in key ws).account account) ≡ false)
@@ -169,7 +179,7 @@ start-allowed key ws zeros least most small has zero-is puts = (
         × (mark_in ((words_in key ws).account account) ≡ (base_of key).last_commit account) × IsBalance ((base_of key).balance account)
     first account below = let range = has.balances account below in let mark = has.marks account below in
         let is : (words_in key ws).account account ≡ packed false (row key.accounts.rows account).0 (row key.accounts.rows account).1 =
-        ap (λ (t : Bool). cond t (get_or ws (index_of key.ring (Account account)) 0) 0) (lt-ltb account count below) ∙ puts.each account below in (
+        ap (λ (t : Bool). cond t (get_or ws (index_of key.ring key.slots (Account account)) 0) 0) (lt-ltb account count below) ∙ puts.each account below in (
           ap held_in is ∙ held_back false _ _ (omega arith) (omega arith),
           ap balance_in is ∙ balance_back false _ _ (omega arith) (omega arith),
           ap mark_in is ∙ mark_back false _ _ (omega arith) (omega arith),

@@ -55,8 +55,8 @@ pub record IsSettled (base : BaseState) (view : View) (rows : List (ℕ × ℕ))
   pub given : ((number : ℕ) → times_taken number view.books.jobs ≤ 1)
       → AllByRecursion (WentBack base (history_of base view.entries)) view.books.given
 
--- the rows of the first n accounts have the balances and the last commits of their words
-pub record ReadsRows (ring n : ℕ) (words : List ℕ) (old new : List (ℕ × ℕ)) : Type 0 where
+-- the rows of the first n accounts have the balances and the last commits of their words, in a table with such a ring and so many slots
+pub record ReadsRows (ring slots n : ℕ) (words : List ℕ) (old new : List (ℕ × ℕ)) : Type 0 where
   pub count : length new ≡ length old
   pub each : (account : ℕ) → account < n
-      → row new account ≡ (balance_in (slice_index words (index_of ring (Account account))), mark_in (slice_index words (index_of ring (Account account))))
+      → row new account ≡ (balance_in (slice_index words (index_of ring slots (Account account))), mark_in (slice_index words (index_of ring slots (Account account))))

@@ -18,6 +18,7 @@ pub record Group : Type 0 where
 abbrev pub empty_group : Group
 empty_group = record { members = [] }
 
--- nobody is at the slot
-abbrev pub IsVacant : Group → Type 0
-IsVacant group = group ≡ empty_group
+-- nobody is at the slot, and its word is 0
+pub record IsVacant (word : ℕ) (group : Group) : Type 0 where
+  pub word_is : word ≡ 0
+  pub nobody : group ≡ empty_group

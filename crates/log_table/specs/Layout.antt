@@ -2,7 +2,8 @@
 use Rattle.std.specs.Prelude.{ℕ, ◌+◌, ◌*◌}
 use Rattle.log_table.specs.declared.layout.TheConstants.{STRIDE, TAIL, EXPOSED, DURABLE, STOP, CREW, RING}
 
--- a word of the table; those of the ring and the release marks by their index, and those of the accounts by their number
+-- a word of the table; those of the ring and the release marks by their index, a slot's state and base by the slot, and those of the
+-- accounts by their number
 pub data Word : Type 0 where
   Tail : Word
   Exposed : Word
@@ -11,19 +12,23 @@ pub data Word : Type 0 where
   Crew : Word
   Ring : (index : ℕ) → Word
   Mark : (index : ℕ) → Word
+  Slot : (slot : ℕ) → Word
+  Base : (slot : ℕ) → Word
   Account : (account : ℕ) → Word
 
--- where the word lies, in a table whose ring has `size` units
-abbrev pub index_of : ℕ → Word → ℕ
-index_of size Tail = TAIL
-index_of size Exposed = EXPOSED
-index_of size Durable = DURABLE
-index_of size Stop = STOP
-index_of size Crew = CREW
-index_of size (Ring index) = RING + index
-index_of size (Mark index) = RING + size + index
-index_of size (Account account) = RING + size + size + STRIDE * account
+-- where the word lies, in a table whose ring has `size` units, and which has so many slots
+abbrev pub index_of : ℕ → ℕ → Word → ℕ
+index_of size slots Tail = TAIL
+index_of size slots Exposed = EXPOSED
+index_of size slots Durable = DURABLE
+index_of size slots Stop = STOP
+index_of size slots Crew = CREW
+index_of size slots (Ring index) = RING + index
+index_of size slots (Mark index) = RING + size + index
+index_of size slots (Slot slot) = RING + size + size + STRIDE * slot
+index_of size slots (Base slot) = RING + size + size + STRIDE * (slots + slot)
+index_of size slots (Account account) = RING + size + size + STRIDE * (slots + slots + account)
 
--- how many words a table with such a ring and so many accounts has
-abbrev pub word_count : ℕ → ℕ → ℕ
-word_count size accounts = RING + size + size + STRIDE * accounts
+-- how many words a table with such a ring, so many slots and so many accounts has
+abbrev pub word_count : ℕ → ℕ → ℕ → ℕ
+word_count size slots accounts = RING + size + size + STRIDE * (slots + slots + accounts)

@@ -1,9 +1,9 @@
 -- What a table starts with.
-use Rattle.std.specs.Prelude.{◌≡◌, ℕ, ◌+◌, ◌<◌, ◌≤◌, false, List, length, slice_index}
+use Rattle.std.specs.Prelude.{◌≡◌, ℕ, ◌+◌, ◌*◌, ◌<◌, ◌≤◌, false, List, length, slice_index}
 use Rattle.slot_word.specs.AccountWord.{packed}
 use Rattle.log_record.specs.declared.limits.TheConstants.{MOST_ACCOUNTS}
 use Rattle.lock_core.specs.Settling.{row, AreRowsInRange}
-use Rattle.log_table.specs.declared.layout.TheConstants.{RING}
+use Rattle.log_table.specs.declared.layout.TheConstants.{STRIDE, RING}
 use Rattle.log_table.specs.declared.table.Start.{Start}
 use Rattle.log_table.specs.Layout.{Account, index_of}
 
@@ -17,6 +17,6 @@ pub record HasAccounts (key : Start) : Type 0 where
 -- the words of the first n accounts are free with their balances and last commits, and the words before the accounts are as they were
 pub record PutsAccounts (key : Start) (n : ℕ) (old new : List ℕ) : Type 0 where
   pub count : length new ≡ length old
-  pub others : (place : ℕ) → place < RING + key.ring + key.ring → slice_index new place ≡ slice_index old place
+  pub others : (place : ℕ) → place < RING + key.ring + key.ring + STRIDE * (key.slots + key.slots) → slice_index new place ≡ slice_index old place
   pub each : (account : ℕ) → account < n
-      → slice_index new (index_of key.ring (Account account)) ≡ packed false (row key.accounts.rows account).0 (row key.accounts.rows account).1
+      → slice_index new (index_of key.ring key.slots (Account account)) ≡ packed false (row key.accounts.rows account).0 (row key.accounts.rows account).1

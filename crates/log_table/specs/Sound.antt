@@ -178,7 +178,7 @@ pub record IsSound (key : Start) (words : Words) (views : List View) (log : Log)
   pub filled : KeepsFilledUnits key.ring words.durable words.ring log.parts
   pub below : IsFilledBelowExposed words.exposed log
   pub at_work : AllByRecursion (IsAtWork log.groups) log.ahead
-  pub slots : (slot : ℕ) → IsVacant (log.groups slot)
+  pub slots : (slot : ℕ) → IsVacant (words.slot slot) (log.groups slot)
   pub marks : HasReleaseMarks key.ring words.tail words.exposed words.mark log
   pub carried : IsCarried words.exposed log.ahead views
   pub ends : EachView (λ _ view. HasTrueEnds key.start words.exposed log view.call) views
@@ -197,4 +197,4 @@ pub record IsSound (key : Start) (words : Words) (views : List View) (log : Log)
 
 -- the table has its words, and some log goes with them and with the views
 abbrev pub Ruled : Start → State (Unit {0}) View → Type 0
-Ruled key state = (length state.words ≡ word_count key.ring (length key.accounts.rows)) × ((log : Log) × IsSound key (words_in key state.words) state.views log)
+Ruled key state = (length state.words ≡ word_count key.ring key.slots (length key.accounts.rows)) × ((log : Log) × IsSound key (words_in key state.words) state.views log)

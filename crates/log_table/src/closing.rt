@@ -9,6 +9,7 @@ ghost use Rattle.log_table.specs.Seats.{IsOf, view_of, key_of};
 ghost use Rattle.log_table.specs.Sound.{base_of};
 ghost use Rattle.std.specs.Slots.{slots_len, slots_items, IsFull};
 ghost use Rattle.log_table.specs.Layout.{word_count};
+ghost use Rattle.log_table.specs.declared.layout.TheConstants.{MOST_SLOTS};
 
 use crate::layout::{EXPOSED, TAIL, account_place};
 use crate::table::{LogTable, Seat};
@@ -63,17 +64,19 @@ impl Closed {
     }
 }
 
-/// Reads the accounts from the words of a closed table whose ring has that length.
-fn read_rows(rows: &mut Balances, closed: &atomic_table::Closed<(), Global>, ring: u32)
+/// Reads the accounts from the words of a closed table whose ring has that length, and which has so many
+/// slots.
+fn read_rows(rows: &mut Balances, closed: &atomic_table::Closed<(), Global>, ring: u32, slots: u32)
     requires ring { ring ≤ GREATEST_RING }
+    requires slots { slots ≤ MOST_SLOTS }
     requires few { length rows.old.rows ≤ MOST_ACCOUNTS }
-    requires size { slots_len closed.now.words ≡ word_count ring (length rows.old.rows) }
+    requires size { slots_len closed.now.words ≡ word_count ring slots (length rows.old.rows) }
     requires full { IsFull closed.now.words }
     ensures room { rows.new.room ≡ rows.old.room }
-    ensures rows { ReadsRows ring (length rows.old.rows) (slots_items closed.now.words) rows.old.rows rows.new.rows }
+    ensures rows { ReadsRows ring slots (length rows.old.rows) (slots_items closed.now.words) rows.old.rows rows.new.rows }
 {
     for account in 0..rows.count() {
-        let word = AccountWord::unpack(closed.word(account_place(ring, account)));
+        let word = AccountWord::unpack(closed.word(account_place(ring, slots, account)));
         rows.set(account, word.balance(), word.mark());
     }
 }
@@ -92,13 +95,14 @@ impl LogTable {
         let LogTable {
             table,
             ring,
+            slots,
             accounts: _,
             mut rows,
         } = self;
         let closed = table.close_with(seat.base);
         let tail = closed.word(TAIL);
         let exposed = closed.word(EXPOSED);
-        read_rows(&mut rows, &closed, ring);
+        read_rows(&mut rows, &closed, ring, slots);
         closed.free();
         Closed {
             tail: Lsn::new(tail as u32),

@@ -4,9 +4,12 @@
 ghost use Rattle.std.specs.Prelude.{◌≡◌, ◌≤◌, ◌+◌, ◌*◌, ◌%◌};
 ghost use Rattle.lsn_space.specs.declared.lsn.TheConstants.{LEAST_RING, GREATEST_RING};
 ghost use Rattle.log_record.specs.declared.limits.TheConstants.{MOST_ACCOUNTS};
-ghost use Rattle.log_table.specs.declared.layout.TheConstants.{STRIDE, RING};
+ghost use Rattle.log_table.specs.declared.layout.TheConstants.{STRIDE, RING, MOST_SLOTS};
 
 use lsn_space::{Lsn, place};
+
+/// The most slots of a table.
+pub const MOST_SLOTS: u32 = 16;
 
 /// Words from one shared word to the next, two cache lines.
 const STRIDE: usize = 16;
@@ -22,7 +25,8 @@ pub(crate) const STOP: usize = 3 * STRIDE;
 /// The number of active workers.
 pub(crate) const CREW: usize = 4 * STRIDE;
 /// The first word of the ring, which is packed. Behind it stand the release marks, packed too and as
-/// many as it has words, and behind these the accounts' words.
+/// many as it has words, and behind these, 16 words apart, the slots' states, the slots' bases and the
+/// accounts' words.
 pub(crate) const RING: usize = 5 * STRIDE;
 
 /// A law: the words that many threads write stand 16 words apart.
@@ -38,10 +42,11 @@ pub(crate) fn mark_place(ring: u32, at: Lsn) -> usize
     RING + ring as usize + place(at, ring)
 }
 
-/// Where the word of an account lies.
-pub(crate) fn account_place(ring: u32, account: u32) -> usize
-    requires { (ring ≤ GREATEST_RING) × (account ≤ MOST_ACCOUNTS) }
-    ensures { result ≡ RING + ring + ring + STRIDE * account }
+/// Where the word of an account lies, in a table with so many slots.
+pub(crate) fn account_place(ring: u32, slots: u32, account: u32) -> usize
+    requires { (ring ≤ GREATEST_RING) × (slots ≤ MOST_SLOTS) × (account ≤ MOST_ACCOUNTS) }
+    ensures { result ≡ RING + ring + ring + STRIDE * (slots + slots + account) }
 {
-    RING + ring as usize + ring as usize + STRIDE * account as usize
+    let before = slots as usize + slots as usize;
+    RING + ring as usize + ring as usize + STRIDE * (before + account as usize)
 }

@@ -12,7 +12,7 @@ mod table;
 mod view;
 
 pub use closing::Closed;
-pub use layout::fixed_layout;
+pub use layout::{MOST_SLOTS, fixed_layout};
 pub use table::{LogTable, Seat, Start};
 pub use view::{
     Books, Call, Constants, Entry, Given, Held, Role, Seen, Sending, Standing, TakenJob, View,

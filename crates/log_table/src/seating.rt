@@ -2,6 +2,7 @@
 ghost use Rattle.std.specs.Prelude.{◌≡◌, ◌≤◌, ◌^◌, ℕ, length, IfOk, false};
 ghost use Rattle.lsn_space.specs.declared.lsn.TheConstants.{LEAST_RING, GREATEST_RING};
 ghost use Rattle.log_table.specs.Layout.{word_count};
+ghost use Rattle.log_table.specs.declared.layout.TheConstants.{MOST_SLOTS};
 ghost use Rattle.log_table.specs.May.{MaySplit, MayMerge};
 ghost use Rattle.log_table.specs.Opening.{HasAccounts, PutsAccounts};
 ghost use Rattle.log_table.specs.Seats.{IsOf, Becomes, view_of, key_of};
@@ -36,32 +37,35 @@ fn split_as<N: Number>(table: &LogTable, seat: &mut Seat, worker: u32) -> Seat
 /// Puts the accounts' words, each free with its balance and last commit.
 fn put_accounts(words: &mut Vec<u64>, start: &Start)
     requires ring { (LEAST_RING ≤ start.now.ring) × (start.now.ring ≤ GREATEST_RING) }
+    requires slots { start.now.slots ≤ MOST_SLOTS }
     requires accounts { HasAccounts start.now }
-    requires size { length words.old.items ≡ word_count start.now.ring (length start.now.accounts.rows) }
+    requires size { length words.old.items ≡ word_count start.now.ring start.now.slots (length start.now.accounts.rows) }
     ensures { PutsAccounts start.now (length start.now.accounts.rows) words.old.items words.new.items }
 {
     for account in 0..start.accounts.count() {
         let (balance, mark) = start.accounts.at(account);
-        words[account_place(start.ring, account)] = AccountWord::free(balance, mark).pack();
+        let word = AccountWord::free(balance, mark).pack();
+        words[account_place(start.ring, start.slots, account)] = word;
     }
 }
 
 impl LogTable {
-    /// A table at rest, and the flusher's seat. The ring's length is a power of two; there are no
-    /// slots yet.
+    /// A table at rest, and the flusher's seat. The ring's length is a power of two.
     pub fn make(alloc: Global, start: Start) -> Result<(LogTable, Seat), NoMemory>
         requires ring { (LEAST_RING ≤ start.ring) × (start.ring ≤ GREATEST_RING) }
         requires power { (n : ℕ) × (start.ring ≡ 2 ^ n) }
-        requires no_slots { start.slots ≡ 0 }
+        requires slots { start.slots ≤ MOST_SLOTS }
         requires accounts { HasAccounts start }
         ensures seat { IfOk result (λ made. IsOf made.0 made.1) }
         ensures view { IfOk result (λ made. view_of made.1 ≡ flusher start) }
         ensures ring { IfOk result (λ made. made.0.ring ≡ start.ring) }
+        ensures slots { IfOk result (λ made. made.0.slots ≡ start.slots) }
         ensures accounts { IfOk result (λ made. made.0.accounts ≡ length start.accounts.rows) }
         ensures key { IfOk result (λ made. key_of made.0 ≡ start) }
     {
         let accounts = start.accounts.count();
-        let Ok(mut words) = vec![in alloc; 0u64; account_place(start.ring, accounts)] else {
+        let Ok(mut words) = vec![in alloc; 0u64; account_place(start.ring, start.slots, accounts)]
+        else {
             return Err(NoMemory);
         };
         let lsn = start.start.units() as u64;
@@ -74,12 +78,14 @@ impl LogTable {
         };
         let Start {
             ring,
+            slots,
             accounts: rows,
             ..
         } = start;
         let table = LogTable {
             table,
             ring,
+            slots,
             accounts,
             rows,
         };

@@ -3,6 +3,7 @@ ghost use Rattle.std.specs.Prelude.{◌≡◌, ◌≤◌, length};
 ghost use Rattle.lsn_space.specs.declared.lsn.TheConstants.{LEAST_RING, GREATEST_RING};
 ghost use Rattle.log_record.specs.declared.limits.TheConstants.{MOST_ACCOUNTS};
 ghost use Rattle.log_table.specs.Layout.{word_count};
+ghost use Rattle.log_table.specs.declared.layout.TheConstants.{MOST_SLOTS};
 ghost use Rattle.log_table.specs.Views.{constants_of};
 
 use crate::view::View;
@@ -36,15 +37,18 @@ impl TableRule<(), View, Start> for Rule {
 pub struct LogTable {
     pub(crate) table: Table<(), View, Start, Rule, Global>,
     pub(crate) ring: u32,
+    pub(crate) slots: u32,
     pub(crate) accounts: u32,
     /// The accounts as they were at first. Their room takes those at the end.
     pub(crate) rows: Balances,
     ghost wide: { (LEAST_RING ≤ ring) × (ring ≤ GREATEST_RING) },
+    ghost few_slots: { slots ≤ MOST_SLOTS },
     ghost few: { accounts ≤ MOST_ACCOUNTS },
     ghost rowed: { length rows.rows ≡ accounts },
-    ghost sized: { table.shared.table_id.words ≡ word_count ring accounts },
+    ghost sized: { table.shared.table_id.words ≡ word_count ring slots accounts },
     ghost slotless: { table.shared.table_id.slots ≡ 0 },
     ghost keyed: { table.shared.key.ring ≡ ring },
+    ghost slotted: { table.shared.key.slots ≡ slots },
     ghost counted: { length table.shared.key.accounts.rows ≡ accounts },
 }
 
@@ -54,6 +58,13 @@ impl LogTable {
         ensures { result ≡ self.now.ring }
     {
         self.ring
+    }
+
+    /// The number of slots.
+    pub fn slots(&self) -> u32
+        ensures { result ≡ self.now.slots }
+    {
+        self.slots
     }
 
     /// The number of accounts.

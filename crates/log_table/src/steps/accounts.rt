@@ -21,7 +21,7 @@ fn load_account_as<N: Number>(table: &LogTable, seat: &mut Seat, account: u32) -
     ensures view { Becomes seat.old seat.new (saw_account account (word_of result) (view_of seat.old)) }
     ensures own { IsOwnWord account (word_of result) (view_of seat.old).books }
 {
-    let place = account_place(table.ring, account);
+    let place = account_place(table.ring, table.slots, account);
     AccountWord::unpack(
         table
             .table
@@ -45,7 +45,7 @@ fn exchange_account_as<N: Number>(
     ensures err { IfErr result (λ found. (found ≢ from) × Becomes seat.old seat.new (saw_account account (word_of found) (view_of seat.old))) }
     ensures own { IfErr result (λ found. IsOwnWord account (word_of found) (view_of seat.old).books) }
 {
-    let place = account_place(table.ring, account);
+    let place = account_place(table.ring, table.slots, account);
     let found = table
         .table
         .shared
@@ -64,7 +64,7 @@ fn store_account_as<N: Number>(table: &LogTable, seat: &mut Seat, account: u32, 
     requires named { N.number ≡ account }
     ensures view { Becomes seat.old seat.new (gave_account account (view_of seat.old)) }
 {
-    let place = account_place(table.ring, account);
+    let place = account_place(table.ring, table.slots, account);
     table
         .table
         .shared

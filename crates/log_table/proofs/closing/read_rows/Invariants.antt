@@ -6,5 +6,5 @@ use Rattle.log_table.proofs.closing.read_rows.Given as goal
 abbrev pub invariant-loop-account : goal.invariant-loop-account
 invariant-loop-account l = record {
   room : l.rows.room ≡ l.initial.rows.room;
-  rows : ReadsRows l.ring l.account (slots_items l.closed.words) l.initial.rows.rows l.rows.rows;
+  rows : ReadsRows l.ring l.slots l.account (slots_items l.closed.words) l.initial.rows.rows l.rows.rows;
 }

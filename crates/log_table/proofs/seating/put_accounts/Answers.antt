@@ -8,5 +8,5 @@ loop-account-preserved c =
     let rows = c.args.start.now.accounts.rows in
     let below : c.loop-account.account < length rows = omega arith in
     let row-is = slice_get-get_or rows c.loop-account.account (0, 0) below in
-    puts-more c.args.start.now c.loop-account.account c.pack.result c.account_place.result c.args.words.now.items c.loop-account.words.items
+    puts-more c.args.start.now c.loop-account.account c.pack-word.result c.account_place.result c.args.words.now.items c.loop-account.words.items
     below c.requires.size c.account_place.ensures (grind arith steps 400000) c.loop-account.invariant

@@ -9,7 +9,7 @@ compare_exchange-found-requires g c =
     let to-fits : FitsWord c.args.to = search rules in (
       c.requires.seat.table_is,
       omega (arith, c.args.table.now.sized, c.account_place-place.ensures, c.requires.account),
-      exchange_account-allowed _ _ _ _ _ _ _ _ _ c.account_place-place.ensures c.args.table.now.keyed c.args.table.now.counted c.requires.account
+      exchange_account-allowed _ _ _ _ _ _ _ _ _ _ c.account_place-place.ensures c.args.table.now.keyed c.args.table.now.slotted c.args.table.now.counted c.requires.account
           c.requires.named _ _ _ _ c.pack.ensures c.pack-2.ensures from-fits to-fits c.requires.next,
     )
 

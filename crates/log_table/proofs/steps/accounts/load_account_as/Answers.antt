@@ -6,5 +6,5 @@ pub load-requires : goal.load-requires
 load-requires g c = (
   c.requires.seat.table_is,
   omega (arith, c.args.table.now.sized, c.account_place-place.ensures, c.requires.account),
-  load_account-allowed _ _ _ _ _ _ _ _ _ c.account_place-place.ensures c.args.table.now.keyed c.args.table.now.counted c.requires.account c.requires.named,
+  load_account-allowed _ _ _ _ _ _ _ _ _ _ c.account_place-place.ensures c.args.table.now.keyed c.args.table.now.slotted c.args.table.now.counted c.requires.account c.requires.named,
 )

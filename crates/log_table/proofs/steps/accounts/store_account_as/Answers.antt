@@ -10,7 +10,7 @@ store-requires g c =
     let fits : FitsWord c.args.word = search rules in (
       c.requires.seat.table_is,
       omega (arith, c.args.table.now.sized, c.account_place-place.ensures, c.requires.account),
-      store_account-allowed _ _ _ _ _ _ _ _ _ c.account_place-place.ensures c.args.table.now.keyed c.args.table.now.counted c.requires.account
+      store_account-allowed _ _ _ _ _ _ _ _ _ _ c.account_place-place.ensures c.args.table.now.keyed c.args.table.now.slotted c.args.table.now.counted c.requires.account
           c.requires.named _ _ c.pack.ensures fits c.requires.next,
     )
 

@@ -1,4 +1,4 @@
-use Rattle.std.proofs.Common.{arith, length, ◌∙◌, sym, subst}
+use Rattle.std.proofs.Common.{arith, ℕ, length, ◌∙◌, sym, subst}
 use Rattle.std.specs.Slots.{slots_items}
 use Rattle.log_table.specs.Closing.{IsGathered, ReadsRows}
 use Rattle.log_table.specs.Seats.{view_of}
@@ -24,5 +24,6 @@ pub returns-clause-settled : goal.returns-clause-settled
 returns-clause-settled c = let is : IsClosed _ _ c.word-tail.result c.word-exposed.result (view_of c.args.seat) =
     closes _ _ _ _ _ _ _ c.close_with-closed.ensures.values.2 c.requires.may c.word-tail.ensures c.word-exposed.ensures in
     is.settled _ _ (c.args.self.rowed ∙ sym c.args.self.counted)
-    (subst (λ ring. ReadsRows ring (length c.args.self.rows.rows) (slots_items c.close_with-closed.result.words) c.args.self.rows.rows c.read_rows.new.rows.rows)
-    (sym c.args.self.keyed) c.read_rows.ensures.rows)
+    (subst (λ (p : ℕ × ℕ). ReadsRows p.0 p.1 (length c.args.self.rows.rows) (slots_items c.close_with-closed.result.words) c.args.self.rows.rows
+    c.read_rows.new.rows.rows)
+    (λ i. (sym c.args.self.keyed i, sym c.args.self.slotted i)) c.read_rows.ensures.rows)

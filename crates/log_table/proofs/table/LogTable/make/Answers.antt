@@ -9,7 +9,7 @@ pub of_words-requires : goal.of_words-requires
 of_words-requires c =
     let fits : c.units-lsn.result ≤ LAST = search rules in
     let is = c.units-lsn.ensures in
-    let size = c.account_place.ensures ∙ ap (λ n. RING + c.args.start.ring + c.args.start.ring + STRIDE * n) c.count-accounts.ensures in
+    let size = c.account_place.ensures ∙ ap (λ n. RING + c.args.start.ring + c.args.start.ring + STRIDE * (c.args.start.slots + c.args.start.slots + n)) c.count-accounts.ensures in
     start-allowed c.args.start c.as_slice.result.now c.in-Ok.words.items c.requires.ring.0 c.requires.ring.1 (subst (λ n. n ≤ LAST) is fits)
     c.requires.accounts (c.in-Ok.ensures.items_if_clones_equal (λ y e. e) ∙ ap (λ n. replicate n 0) size)
     (subst (λ (p : ℕ × List ℕ). PutsAccounts c.args.start (length c.args.start.accounts.rows) (shared_words c.in-Ok.words.items p.0) p.1)
