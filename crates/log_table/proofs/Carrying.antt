@@ -6,7 +6,7 @@ use native.Mathlib.Decide.{ℕ_discrete}
 use lib.ListN.{get_elem?}
 use Rattle.atomic_table.proofs.Lists.{set_here, set_else, at_longer}
 use Rattle.log_table.specs.declared.view.Call.{Call}
-use Rattle.log_table.specs.declared.view.Call.TheVariants.{Idle, Filling, Marked, Holding, Raising}
+use Rattle.log_table.specs.declared.view.Call.TheVariants.{Idle, Filling, Joined, Emptying, Marked, Holding, Raising, Reopening}
 use Rattle.log_table.specs.declared.view.View.{View}
 use Rattle.log_table.specs.Log.{Range, Log, ranges_of, IsRangeBoundary, IsReleased}
 use Rattle.log_table.specs.Marks.{IsFirstReleased, FirstEnds, Carries, HasCarrier, HasTrueEnds}
@@ -55,7 +55,10 @@ pub ends-move : (start exposed : ℕ) (log after : Log) (call : Call)
     → ((to : ℕ) → FirstEnds log.ahead to → FirstEnds after.ahead to) → HasTrueEnds start exposed log call → HasTrueEnds start exposed after call
 ends-move start exposed log after Idle still first e = tt
 ends-move start exposed log after (Filling entry) still first e = tt
-ends-move start exposed log after Marked still first e = tt
-ends-move start exposed log after (Holding at) still first e = record { boundary = still at e.boundary; passed = e.passed }
-ends-move start exposed log after (Raising from to) still first e =
+ends-move start exposed log after (Joined slot piece step) still first e = tt
+ends-move start exposed log after (Emptying slot base total) still first e = tt
+ends-move start exposed log after (Marked next) still first e = tt
+ends-move start exposed log after (Reopening slot) still first e = tt
+ends-move start exposed log after (Holding at next) still first e = record { boundary = still at e.boundary; passed = e.passed }
+ends-move start exposed log after (Raising from to next) still first e =
     (record { boundary = still from e.0.boundary; passed = e.0.passed }, (λ same. first to (e.1 same)))

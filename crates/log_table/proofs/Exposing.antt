@@ -1,5 +1,5 @@
 -- What follows a mark: exposed is loaded, and the mark there, and exposed is found to have moved.
-use Rattle.std.proofs.Common.{◌≡◌, ◌≢◌, ◌⊎◌, ℕ, ◌==◌, ◌%◌, ◌<◌, ◌≤◌, nat_lt, cond, Bool, true, false, true≢false, lt-ltb, ltb-true, List, [], set, None, sym, refl, ap, ◌∙◌, subst, le_refl, arith, ne_eqb}
+use Rattle.std.proofs.Common.{◌≡◌, ◌≢◌, ◌⊎◌, ℕ, ◌==◌, ◌%◌, ◌<◌, ◌≤◌, nat_lt, cond, Bool, true, false, true≢false, lt-ltb, ltb-true, List, [], set, sym, refl, ap, ◌∙◌, subst, le_refl, arith, ne_eqb}
 use Rattle.std.specs.Prelude.{is_some}
 use mathlib.Core.Logic.{dite}
 use mathlib.Core.Option.{some}
@@ -8,18 +8,22 @@ use lib.ListN.{get_elem?}
 use Rattle.lsn_space.specs.declared.lsn.TheConstants.{LAST}
 use Rattle.ring_core.specs.RingLog.{is_marked, end_at}
 use Rattle.ring_core.specs.State.{looks_at, raises_from, after_look as stage_after}
+use Rattle.ring_core.specs.declared.stage.Stage.TheVariants as stage
 use Rattle.slot_core.specs.State.{Marked as MarkedStage, Raises, Holds, Task, InRing, SlotState, with_task, task_of, ring_stage}
 use Rattle.slot_core.specs.Machine.{turned, in_ring, after_look_mark, after_raise as machine-raise}
 use Rattle.log_table.specs.declared.table.Start.{Start}
+use Rattle.log_table.specs.declared.group_view.After.{After}
+use Rattle.log_table.specs.declared.group_view.After.TheVariants.{Nothing, Reopens}
 use Rattle.log_table.specs.declared.view.Books.{Books}
 use Rattle.log_table.specs.declared.view.Call.{Call}
-use Rattle.log_table.specs.declared.view.Call.TheVariants.{Idle, Filling, Marked, Holding, Raising}
+use Rattle.log_table.specs.declared.view.Call.TheVariants.{Idle, Filling, Joined, Emptying, Marked, Holding, Raising, Reopening}
 use Rattle.log_table.specs.declared.view.Role.TheVariants.{Flusher}
 use Rattle.log_table.specs.declared.view.Seen.{Seen}
 use Rattle.log_table.specs.declared.view.Sending.{Sending}
 use Rattle.log_table.specs.declared.view.View.{View}
 use Rattle.log_table.specs.Events.{Event, task_in, hands_of, slots_of, Leads, IsStep, look_event, looks_mark, raises, none}
 use Rattle.log_table.specs.Groups.{Group}
+use Rattle.log_table.specs.GroupViews.{slot_after, call_after}
 use Rattle.log_table.specs.Layout.{Exposed, Mark}
 use Rattle.log_table.specs.Log.{Log, ranges_of}
 use Rattle.log_table.specs.Marks.{IsFirstReleased, FirstEnds, Carries, IsPassed, HasTrueEnds}
@@ -42,6 +46,19 @@ use Rattle.log_table.proofs.Viewing.{each_set}
 -- the call has no run, nor has a group placed a record for it
 abbrev pub HasNoRun : (ℕ → Group) → Call → Type 0
 HasNoRun groups call = (entries_in groups call ≡ []) × (claims_in call ≡ []) × ((books : Books) → books_in groups call books ≡ books)
+
+-- nor has the call once nothing more is to be exposed
+no-run-after : (groups : ℕ → Group) (after : After) → HasNoRun groups (call_after after)
+no-run-after groups Nothing = (refl, refl, λ _. refl)
+no-run-after groups (Reopens slot) = (refl, refl, λ _. refl)
+
+ends-after : (start exposed : ℕ) (log : Log) (after : After) → HasTrueEnds start exposed log (call_after after)
+ends-after start exposed log Nothing = tt
+ends-after start exposed log (Reopens slot) = tt
+
+task-after : (after : After) → task_in (call_after after) ≡ InRing (slot_after after) stage.Idle
+task-after Nothing = refl
+task-after (Reopens slot) = refl
 
 -- a seat that has something under way, but no run, turns to another such call, or to none
 module _ (key : Start) (words : Words) (views : List View) (me : ℕ) (v : View) (log : Log) (s : IsSound key words views log)
@@ -117,26 +134,27 @@ module _ (key : Start) (me : ℕ) (v : View) where
       (λ _ _ _. refl))
 
   -- to the machine the seat has just made a mark
-  marked-is : (views : List View) → get_elem? views me ≡ some v → v.call ≡ Marked → task_of me (hands_of 0 views) ≡ InRing None MarkedStage
-  marked-is views at is = task_of-hands_of 0 me me views v (omega arith) at ∙ ap task_in is
+  marked-is : (views : List View) (after : After) → get_elem? views me ≡ some v → v.call ≡ Marked after
+      → task_of me (hands_of 0 views) ≡ InRing (slot_after after) MarkedStage
+  marked-is views after at is = task_of-hands_of 0 me me views v (omega arith) at ∙ ap task_in is
 
   -- after a mark just made
-  takes : (words : Words) (views : List View) (log : Log) → IsSound key words views log → get_elem? views me ≡ some v → v.call ≡ Marked
+  takes : (words : Words) (views : List View) (log : Log) (after : After) → IsSound key words views log → get_elem? views me ≡ some v → v.call ≡ Marked after
       → Leads key words words views (set views me (saw_exposed words.exposed v)) log (look_event me v.call)
-  takes words views log s at is = subst (λ (p : Call × Event). Leads key words words views
+  takes words views log after s at is = subst (λ (p : Call × Event). Leads key words words views
       (set views me (record v { seen = seen_exposed words.exposed v.seen; call = p.0; sending = record v.sending { exposed = words.exposed; looked = true } })) log p.1)
       (λ i. (sym (ap (after_look words.exposed) is) i, sym (ap (look_event me) is) i)) record {
         after = log;
-        sound = turns-sound key words views me v log s at (λ idle. let gone : Marked ≡ Idle = sym is ∙ idle in cc)
+        sound = turns-sound key words views me v log s at (λ idle. let gone : Marked after ≡ Idle = sym is ∙ idle in cc)
             (subst (HasNoRun log.groups) (sym is) (refl, refl, λ _. refl))
-            (seen_exposed words.exposed v.seen) (Holding words.exposed) (record v.sending { exposed = words.exposed; looked = true }) (refl, refl, λ _. refl)
+            (seen_exposed words.exposed v.seen) (Holding words.exposed after) (record v.sending { exposed = words.exposed; looked = true }) (refl, refl, λ _. refl)
             (λ _ _. refl) (passed-now key words log s.contiguous) (sees-exposed key words views me v log s at) refl;
         shows = (
-          ap ring_stage (marked-is views at is),
+          ap ring_stage (marked-is views after at is),
           shows-turn key words views me v
-              (record v { seen = seen_exposed words.exposed v.seen; call = Holding words.exposed; sending = record v.sending { exposed = words.exposed; looked = true } })
-              log (InRing None (Holds words.exposed)) at refl
-              ∙ ap (λ task. turned (slots_of key words views log) me (in_ring (Holds words.exposed) task)) (sym (marked-is views at is)),
+              (record v { seen = seen_exposed words.exposed v.seen; call = Holding words.exposed after; sending = record v.sending { exposed = words.exposed; looked = true } })
+              log (InRing (slot_after after) (Holds words.exposed)) at refl
+              ∙ ap (λ task. turned (slots_of key words views log) me (in_ring (Holds words.exposed) task)) (sym (marked-is views after at is)),
         );
       }
 
@@ -151,9 +169,14 @@ module _ (key : Start) (me : ℕ) (v : View) where
           → v.call ≡ call → Leads key words words views (set views me (saw_exposed words.exposed v)) log (look_event me v.call)
       by_call words views log s at Idle is = stays words views log s at (ap (after_look words.exposed) is ∙ sym is) (ap (look_event me) is)
       by_call words views log s at (Filling entry) is = stays words views log s at (ap (after_look words.exposed) is ∙ sym is) (ap (look_event me) is)
-      by_call words views log s at Marked is = takes words views log s at is
-      by_call words views log s at (Holding e) is = stays words views log s at (ap (after_look words.exposed) is ∙ sym is) (ap (look_event me) is)
-      by_call words views log s at (Raising from to) is = stays words views log s at (ap (after_look words.exposed) is ∙ sym is) (ap (look_event me) is)
+      by_call words views log s at (Joined slot piece step) is =
+          stays words views log s at (ap (after_look words.exposed) is ∙ sym is) (ap (look_event me) is)
+      by_call words views log s at (Emptying slot base total) is =
+          stays words views log s at (ap (after_look words.exposed) is ∙ sym is) (ap (look_event me) is)
+      by_call words views log s at (Reopening slot) is = stays words views log s at (ap (after_look words.exposed) is ∙ sym is) (ap (look_event me) is)
+      by_call words views log s at (Marked after) is = takes words views log after s at is
+      by_call words views log s at (Holding e after) is = stays words views log s at (ap (after_look words.exposed) is ∙ sym is) (ap (look_event me) is)
+      by_call words views log s at (Raising from to after) is = stays words views log s at (ap (after_look words.exposed) is ∙ sym is) (ap (look_event me) is)
 
 -- the mark at the LSN in hand is loaded
 module _ (key : Start) (words : Words) (views : List View) (me : ℕ) (v : View) (base : ℕ) (log : Log) (s : IsSound key words views log)
@@ -168,7 +191,7 @@ module _ (key : Start) (words : Words) (views : List View) (me : ℕ) (v : View)
   old_state = slots_of key words views log
 
   passed : IsPassed key.start words.exposed log base
-  passed = subst (HasTrueEnds key.start words.exposed log) may (s.ends me v at)
+  passed = subst (HasTrueEnds key.start words.exposed log) may.holding (s.ends me v at)
 
   sees : HasSeenBoundaries key.start words.tail words.exposed words.durable (ranges_of log) seen
   sees = let old = s.seen me v at in
@@ -177,45 +200,46 @@ module _ (key : Start) (words : Words) (views : List View) (me : ℕ) (v : View)
   turns : (call : Call) → HasNoRun log.groups call → (IsFirstReleased log.ahead → base ≡ words.exposed → Carries words.exposed call)
       → HasTrueEnds key.start words.exposed log call → IsSound key words (set views me (record v { seen = seen; call = call })) log
   turns call runs carries ends =
-      turns-sound key words views me v log s at (λ idle. let gone : Holding base ≡ Idle = sym may ∙ idle in cc)
-      (subst (HasNoRun log.groups) (sym may) (refl, refl, λ _. refl))
-      seen call v.sending runs (λ first c. carries first (subst (Carries words.exposed) may c)) ends sees refl
+      turns-sound key words views me v log s at (λ idle. let gone : Holding base may.after ≡ Idle = sym may.holding ∙ idle in cc)
+      (subst (HasNoRun log.groups) (sym may.holding) (refl, refl, λ _. refl))
+      seen call v.sending runs (λ first c. carries first (subst (Carries words.exposed) may.holding c)) ends sees refl
 
-  sound : IsSound key words (set views me (record v { seen = seen; call = next_raise base found })) log
+  sound : IsSound key words (set views me (record v { seen = seen; call = next_raise base found may.after })) log
   sound = by_test (nat_lt base found) refl
     where
       by_test : (b : Bool) → nat_lt base found ≡ b
-          → IsSound key words (set views me (record v { seen = seen; call = cond b (Raising base found) Idle })) log
-      by_test true high = turns (Raising base found) (refl, refl, λ _. refl) (λ _ c. c) (
+          → IsSound key words (set views me (record v { seen = seen; call = cond b (Raising base found may.after) (call_after may.after) })) log
+      by_test true high = turns (Raising base found may.after) (refl, refl, λ _. refl) (λ _ c. c) (
         passed,
         λ here. subst (FirstEnds log.ahead) (ap (λ n. words.mark (n % key.ring)) (sym here))
             (first-ends words.exposed (words.mark (words.exposed % key.ring)) log.ahead
             (marked-ready key words views log s (subst (λ n. n < words.mark (n % key.ring)) here (ltb-true base found high)))),
       )
-      by_test false low = turns Idle (refl, refl, λ _. refl) (λ first _. (not_ready-at_exposed key words views log s base passed below).1 first) tt
+      by_test false low = turns (call_after may.after) (no-run-after log.groups may.after)
+          (λ first _. absurd ((not_ready-at_exposed key words views log s base passed below).1 first)) (ends-after key.start words.exposed log may.after)
         where
           below : found ≤ base
           below = dite (dec_lt base found) (λ lt. absurd (true≢false (sym (lt-ltb base found lt) ∙ low))) (λ ge. omega (arith, ge))
 
-  task-is : task_of me (hands_of 0 views) ≡ InRing None (Holds base)
-  task-is = task_of-hands_of 0 me me views v (omega arith) at ∙ ap task_in may
+  task-is : task_of me (hands_of 0 views) ≡ InRing (slot_after may.after) (Holds base)
+  task-is = task_of-hands_of 0 me me views v (omega arith) at ∙ ap task_in may.holding
 
-  next-task : task_in (next_raise base found) ≡ InRing None (stage_after base (is_marked base old_state.log.reservations))
+  next-task : task_in (next_raise base found may.after) ≡ InRing (slot_after may.after) (stage_after base (is_marked base old_state.log.reservations))
   next-task = by_test (nat_lt base found)
-      ∙ ap (λ b. InRing None (stage_after base b)) (sym (look-tells key words views log s base passed))
+      ∙ ap (λ b. InRing (slot_after may.after) (stage_after base b)) (sym (look-tells key words views log s base passed))
     where
-      by_test : (b : Bool) → task_in (cond b (Raising base found) Idle) ≡ InRing None (stage_after base b)
+      by_test : (b : Bool) → task_in (cond b (Raising base found may.after) (call_after may.after)) ≡ InRing (slot_after may.after) (stage_after base b)
       by_test true = refl
-      by_test false = refl
+      by_test false = task-after may.after
 
-  pub mark-looks : Leads key words words views (set views me (record v { seen = seen; call = next_raise base found })) log (looks_mark me)
+  pub mark-looks : Leads key words words views (set views me (record v { seen = seen; call = next_raise base found may.after })) log (looks_mark me)
   mark-looks = record {
     after = log;
     sound = sound;
     shows = (
       ap (λ task. is_some (looks_at (ring_stage task))) task-is,
-      shows-turn key words views me v (record v { seen = seen; call = next_raise base found }) log
-          (InRing None (stage_after base (is_marked base old_state.log.reservations))) at next-task
+      shows-turn key words views me v (record v { seen = seen; call = next_raise base found may.after }) log
+          (InRing (slot_after may.after) (stage_after base (is_marked base old_state.log.reservations))) at next-task
           ∙ ap (λ task. after_look_mark old_state me task (looks_at (ring_stage task))) (sym task-is),
     );
   }
@@ -225,11 +249,12 @@ module _ (key : Start) (me : ℕ) (v : View) (base ring : ℕ) (same : key.ring 
   look-step n = record {
     leads = λ words views log s at is.
         let found : words.mark (base % key.ring) ≡ n = ap (λ r. words.mark (base % r)) same ∙ is in
-        let call : next_raise base (words.mark (base % key.ring)) ≡ call_with_mark n v.call = ap (next_raise base) found ∙ sym (ap (call_with_mark n) may) in
+        let call : next_raise base (words.mark (base % key.ring)) may.after ≡ call_with_mark n v.call =
+        ap (λ m. next_raise base m may.after) found ∙ sym (ap (call_with_mark n) may.holding) in
         subst (λ (f : ℕ → ℕ). Leads key words (record words { mark = f }) views (set views me (saw_mark n v)) log (looks_mark me))
         (λ i k. sym (put-same words.mark (base % ring) n k is) i)
         (subst (λ (p : ℕ × ℕ × Call). Leads key words words views (set views me (record v { seen = seen_mark p.0 p.1 v.seen; call = p.2 })) log (looks_mark me))
-        (λ i. (sym (ap in_hand may) i, found i, call i)) (mark-looks key words views me v base log s at may));
+        (λ i. (sym (ap in_hand may.holding) i, found i, call i)) (mark-looks key words views me v base log s at may));
   }
 
   pub mark-tells : Tells key me (Mark (base % ring)) v (λ n. n ≤ LAST)
@@ -239,13 +264,13 @@ module _ (key : Start) (me : ℕ) (v : View) (base ring : ℕ) (same : key.ring 
 module _ (key : Start) (words : Words) (views : List View) (me : ℕ) (v : View) (from to : ℕ) (log : Log) (s : IsSound key words views log)
     (at : get_elem? views me ≡ some v) (may : MayRaise from to v) (differ : words.exposed ≢ from) where
   abbrev new : View
-  new = record v { seen = seen_exposed words.exposed v.seen; call = Holding words.exposed }
+  new = record v { seen = seen_exposed words.exposed v.seen; call = Holding words.exposed may.after }
 
   abbrev was : SlotState
   was = slots_of key words views log
 
-  raises-from : task_of me (hands_of 0 views) ≡ InRing None (Raises from)
-  raises-from = task_of-hands_of 0 me me views v (omega arith) at ∙ ap task_in may
+  raises-from : task_of me (hands_of 0 views) ≡ InRing (slot_after may.after) (Raises from)
+  raises-from = task_of-hands_of 0 me me views v (omega arith) at ∙ ap task_in may.raising
 
   moved : words.exposed ≡ cond (words.exposed == from) (end_at from was.log.reservations) words.exposed
   moved = sym (ap (λ b. cond b (end_at from was.log.reservations) words.exposed) (ne_eqb words.exposed from differ))
@@ -253,14 +278,14 @@ module _ (key : Start) (words : Words) (views : List View) (me : ℕ) (v : View)
   pub raise-misses : Leads key words words views (set views me new) log (raises me)
   raise-misses = record {
     after = log;
-    sound = turns-sound key words views me v log s at (λ idle. let gone : Raising from to ≡ Idle = sym may ∙ idle in cc)
-        (subst (HasNoRun log.groups) (sym may) (refl, refl, λ _. refl))
-        (seen_exposed words.exposed v.seen) (Holding words.exposed) v.sending (refl, refl, λ _. refl) (λ _ _. refl) (passed-now key words log s.contiguous)
+    sound = turns-sound key words views me v log s at (λ idle. let gone : Raising from to may.after ≡ Idle = sym may.raising ∙ idle in cc)
+        (subst (HasNoRun log.groups) (sym may.raising) (refl, refl, λ _. refl))
+        (seen_exposed words.exposed v.seen) (Holding words.exposed may.after) v.sending (refl, refl, λ _. refl) (λ _ _. refl) (passed-now key words log s.contiguous)
         (sees-exposed key words views me v log s at) refl;
     shows = (
       ap (λ task. is_some (raises_from (ring_stage task))) raises-from,
-      shows-turn key words views me v new log (InRing None (Holds words.exposed)) at refl
-          ∙ ((λ i. record was { log = record was.log { exposed = moved i }; hands = with_task me (InRing None (Holds (moved i))) was.hands })
+      shows-turn key words views me v new log (InRing (slot_after may.after) (Holds words.exposed)) at refl
+          ∙ ((λ i. record was { log = record was.log { exposed = moved i }; hands = with_task me (InRing (slot_after may.after) (Holds (moved i))) was.hands })
           ∙ ap (λ task. machine-raise was me task (raises_from (ring_stage task))) (sym raises-from)),
     );
   }

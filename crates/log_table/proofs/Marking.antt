@@ -12,6 +12,8 @@ use Rattle.ring_core.specs.State.{base_in, worked_on}
 use Rattle.slot_core.specs.State.{InRing, Works, SlotState, task_of, ring_stage}
 use Rattle.slot_core.specs.Machine.{after_mark}
 use Rattle.log_table.specs.declared.table.Start.{Start}
+use Rattle.log_table.specs.declared.group_view.After.{After}
+use Rattle.log_table.specs.declared.group_view.After.TheVariants.{Nothing}
 use Rattle.log_table.specs.declared.view.Call.TheVariants.{Idle, Filling, Marked}
 use Rattle.log_table.specs.declared.view.Entry.{Entry}
 use Rattle.log_table.specs.declared.view.Role.{Role}
@@ -21,6 +23,7 @@ use Rattle.log_table.specs.Events.{reservation_of, hands_of, slots_of, Leads, Is
 use Rattle.log_table.specs.Layout.{Mark}
 use Rattle.log_table.specs.Log.{Part, Owed, Released, Range, Claim, Log, ranges_of, own, owed, owes, is_owed_by, claim_of, part_of, parts_of, unreleased_in, inside, filled_in, is_released, IsFull, SpellsRecord, records_in, StandsInRing, IsFullIfReleased, IsReleasedBelow, IsReleased, IsAtWork, CountsRemaining, Tiles, Laid, AgreesFrom, EndsWithPart, IsRangeBoundary}
 use Rattle.log_table.specs.Marks.{HasReleaseMarks, HasTrueMark, HasTrueEnds}
+use Rattle.log_table.specs.GroupViews.{follow_up}
 use Rattle.log_table.specs.MarkViews.{marked}
 use Rattle.log_table.specs.May.{MayMark}
 use Rattle.log_table.specs.Sound.{HasSeenBoundaries, HasContiguousReservations, SendsIfFlusher, StoresStop, HasReadStop, LookedIfQuiet, HasWorkingOwner, HasConstants, RestsUnlessActive, OwnsIfWorker, HoldsIfActive, IsSound, base_of, books_of}
@@ -52,7 +55,7 @@ only-owners Spent off = refl
 module _ (key : Start) (words : Words) (views : List View) (me : ℕ) (v : View) (entry : Entry) (log : Log) (s : IsSound key words views log)
     (at : get_elem? views me ≡ some v) (filling : v.call ≡ Filling entry) (is_full : IsFull entry) where
   abbrev new : View
-  new = record v { seen = counted v.seen; entries = v.entries ++ entry ∷ []; call = Marked }
+  new = record v { seen = counted v.seen; entries = v.entries ++ entry ∷ []; call = Marked Nothing }
 
   abbrev mark' : ℕ → ℕ
   mark' = put words.mark (entry.start % key.ring) (entry.start + entry.size)
@@ -339,8 +342,8 @@ pub mark-step : (key : Start) (me : ℕ) (v : View) (base end ring : ℕ) → ke
 mark-step key me v base end ring same may n = record {
   leads = λ words views log s here is.
       let index : may.entry.start % key.ring ≡ base % ring = (λ i. sym may.begins i % same i) in
-      subst (λ (x : ℕ × ℕ × List Entry). Leads key words (record words { mark = put words.mark x.0 x.1 }) views
-      (set views me (record v { seen = counted v.seen; entries = v.entries ++ x.2; call = Marked })) log (marks me))
-      (λ i. (index i, sym may.ends i, ap run_in (sym may.filling) i))
+      subst (λ (x : ℕ × ℕ × List Entry × After). Leads key words (record words { mark = put words.mark x.0 x.1 }) views
+      (set views me (record v { seen = counted v.seen; entries = v.entries ++ x.2; call = Marked x.3 })) log (marks me))
+      (λ i. (index i, sym may.ends i, ap run_in (sym may.filling) i, ap follow_up (sym may.filling) i))
       (mark-releases key words views me v may.entry log s here may.filling may.full);
 }

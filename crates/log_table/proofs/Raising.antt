@@ -1,5 +1,5 @@
 -- Exposed is raised past the first range ahead: the machine's Raise, where the exchange is not lost.
-use Rattle.std.proofs.Common.{◌≡◌, ℕ, ◌==◌, ◌+◌, ◌/◌, ◌%◌, ◌<◌, ◌≤◌, cond, eqb, Bool, true, false, List, [], ◌∷◌, ◌++◌, map, set, None, sym, refl, ap, ◌∙◌, subst, le_refl, arith, append_assoc, eq-eqb, ne_eqb}
+use Rattle.std.proofs.Common.{◌≡◌, ℕ, ◌==◌, ◌+◌, ◌/◌, ◌%◌, ◌<◌, ◌≤◌, cond, eqb, Bool, true, false, List, [], ◌∷◌, ◌++◌, map, set, sym, refl, ap, ◌∙◌, subst, le_refl, arith, append_assoc, eq-eqb, ne_eqb}
 use Rattle.std.proofs.Math.Nat.{div-le_self}
 use Rattle.std.specs.Prelude.{is_some}
 use Rattle.std.specs.List.{AllByRecursion}
@@ -16,10 +16,11 @@ use Rattle.slot_core.specs.State.{Raises, Holds, InRing, SlotState, with_task, t
 use Rattle.slot_core.specs.Machine.{after_raise as machine-raise}
 use Rattle.log_table.specs.declared.table.Start.{Start}
 use Rattle.log_table.specs.declared.view.Call.{Call}
-use Rattle.log_table.specs.declared.view.Call.TheVariants.{Idle, Filling, Marked, Holding, Raising}
+use Rattle.log_table.specs.declared.view.Call.TheVariants.{Idle, Filling, Joined, Emptying, Marked, Holding, Raising, Reopening}
 use Rattle.log_table.specs.declared.view.Role.TheVariants.{Flusher}
 use Rattle.log_table.specs.declared.view.View.{View}
 use Rattle.log_table.specs.Events.{reservation_of, task_in, hands_of, slots_of, Leads, IsStep, raises}
+use Rattle.log_table.specs.GroupViews.{slot_after}
 use Rattle.log_table.specs.Layout.{Exposed}
 use Rattle.log_table.specs.Log.{Part, Range, Log, ranges_of, owed, is_owed_by, claim_of, parts_of, unreleased_in, IsReleased, IsAtWork, IsReleasedBelow, CountsRemaining, EndsWithPart, IsRangeBoundary, Tiles}
 use Rattle.log_table.specs.Marks.{IsReady, IsCurrentMark, HasTrueMark, IsFirstReleased, FirstEnds, HasTrueEnds}
@@ -56,13 +57,13 @@ first-range (r ∷ rs) to first = record { here = r; behind = rs; split = refl; 
 module _ (key : Start) (words : Words) (views : List View) (me : ℕ) (v : View) (from to : ℕ) (log : Log) (s : IsSound key words views log)
     (at : get_elem? views me ≡ some v) (may : MayRaise from to v) (same : words.exposed ≡ from) where
   abbrev new : View
-  new = record v { seen = seen_exposed to v.seen; call = Holding to }
+  new = record v { seen = seen_exposed to v.seen; call = Holding to may.after }
 
   mine : HasWorkingOwner log.groups log.parts log.ahead me v
   mine = seat_at (HasWorkingOwner log.groups log.parts log.ahead) views me v at s.owners
 
   abbrev first : FirstRange log.ahead to
-  first = first-range log.ahead to ((subst (HasTrueEnds key.start words.exposed log) may (s.ends me v at)).1 (sym same))
+  first = first-range log.ahead to ((subst (HasTrueEnds key.start words.exposed log) may.raising (s.ends me v at)).1 (sym same))
 
   abbrev range : Range
   range = first.here
@@ -133,15 +134,18 @@ module _ (key : Start) (words : Words) (views : List View) (me : ℕ) (v : View)
   ends : (call : Call) → HasTrueEnds key.start words.exposed log call → HasTrueEnds key.start to after call
   ends Idle e = tt
   ends (Filling entry) e = tt
-  ends Marked e = tt
-  ends (Holding e) old = record { boundary = still e old.boundary; passed = omega (arith, old.passed, higher) }
-  ends (Raising e end') old = (
+  ends (Joined slot piece step) e = tt
+  ends (Emptying slot base total) e = tt
+  ends (Marked next) e = tt
+  ends (Reopening slot) e = tt
+  ends (Holding e next) old = record { boundary = still e old.boundary; passed = omega (arith, old.passed, higher) }
+  ends (Raising e end' next) old = (
     record { boundary = still e old.0.boundary; passed = omega (arith, old.0.passed, higher) },
     λ here. absurd (omega (arith, here, old.0.passed, higher)),
   )
 
   busy : v.call ≡ Idle → ⊥
-  busy idle = let gone : Raising from to ≡ Idle = sym may ∙ idle in cc
+  busy idle = let gone : Raising from to may.after ≡ Idle = sym may.raising ∙ idle in cc
 
   not-quiet : (j : ℕ) (z : View) → get_elem? views j ≡ some z → z.standing.role ≡ Flusher → z.sending.quiet ≡ true → ⊥
   not-quiet = busy-not_quiet key words views me v log s at busy
@@ -188,8 +192,8 @@ module _ (key : Start) (words : Words) (views : List View) (me : ℕ) (v : View)
         (record { boundary = exposed-boundary _ _ _ _ _ after contiguous; passed = le_refl _ }) (λ _ z _ _. ends z.call);
     owners = seats_move (HasWorkingOwner log.groups log.parts log.ahead) (HasWorkingOwner log.groups log.parts rest) views me v new at s.owners
         record {
-          owns = mine.owns ∙ ap (λ c. parts_of me true v.entries ++ parts_of me false (entries_in log.groups c)) may;
-          owes = fewer me ∙ (mine.owes ∙ ap claims_in may);
+          owns = mine.owns ∙ ap (λ c. parts_of me true v.entries ++ parts_of me false (entries_in log.groups c)) may.raising;
+          owes = fewer me ∙ (mine.owes ∙ ap claims_in may.raising);
         }
         (λ j z _ h. record { owns = h.owns; owes = fewer j ∙ h.owes });
     constants = each_set (λ _ z. HasConstants key z) views me new s.constants (s.constants me v at);
@@ -205,14 +209,14 @@ module _ (key : Start) (words : Words) (views : List View) (me : ℕ) (v : View)
         (λ f q _. absurd (not-quiet me v at f q)) (λ j z _ there _ f q _. absurd (not-quiet j z there f q));
     unheld = each_set (λ _ z. HoldsIfActive z) views me new s.unheld (s.unheld me v at);
     accounts = accounts-stay key words.account log.parts log.groups views me v new at
-        (sym (ap (λ call. books_in log.groups call v.books) may)) s.accounts;
+        (sym (ap (λ call. books_in log.groups call v.books) may.raising)) s.accounts;
   }
 
   abbrev was : SlotState
   was = slots_of key words views log
 
-  task-is : task_of me (hands_of 0 views) ≡ InRing None (Raises from)
-  task-is = task_of-hands_of 0 me me views v (omega arith) at ∙ ap task_in may
+  task-is : task_of me (hands_of 0 views) ≡ InRing (slot_after may.after) (Raises from)
+  task-is = task_of-hands_of 0 me me views v (omega arith) at ∙ ap task_in may.raising
 
   -- the machine finds the range's end
   raised-to : to ≡ cond (words.exposed == from) (end_at from was.log.reservations) words.exposed
@@ -237,7 +241,7 @@ module _ (key : Start) (words : Words) (views : List View) (me : ℕ) (v : View)
       ap (λ task. is_some (raises_from (ring_stage task))) task-is,
       (λ i. record was {
         log = record was.log { reservations = map (reservation_of log.parts) (sym same-ranges i); exposed = raised-to i };
-        hands = (hands_of-set 0 me me views v new (omega arith) at ∙ ap (λ n. with_task me (InRing None (Holds n)) (hands_of 0 views)) raised-to) i;
+        hands = (hands_of-set 0 me me views v new (omega arith) at ∙ ap (λ n. with_task me (InRing (slot_after may.after) (Holds n)) (hands_of 0 views)) raised-to) i;
       })
           ∙ ap (λ task. machine-raise was me task (raises_from (ring_stage task))) (sym task-is),
     );
@@ -248,7 +252,7 @@ module _ (key : Start) (me : ℕ) (v : View) (from to : ℕ) (may : MayRaise fro
   raise-won = record {
     leads = λ words views log s at is. subst
         (λ c. Leads key words (record words { exposed = to }) views (set views me (record v { seen = seen_exposed to v.seen; call = c })) log (raises me))
-        (sym (ap (call_with_exposed to) may)) (raise-hits key words views me v from to log s at may is);
+        (sym (ap (call_with_exposed to) may.raising)) (raise-hits key words views me v from to log s at may is);
   }
 
   pub raise-lost : (n : ℕ) → (n ≡ from → ⊥) → IsStep key me Exposed n n v (after_raise n v) (raises me)
@@ -256,7 +260,7 @@ module _ (key : Start) (me : ℕ) (v : View) (from to : ℕ) (may : MayRaise fro
     leads = λ words views log s at is. subst
         (λ x. Leads key words (record words { exposed = x }) views (set views me (after_raise x v)) log (raises me)) is
         (subst (λ c. Leads key words words views (set views me (record v { seen = seen_exposed words.exposed v.seen; call = c })) log (raises me))
-        (sym (ap (call_with_exposed words.exposed) may))
+        (sym (ap (call_with_exposed words.exposed) may.raising))
         (raise-misses key words views me v from to log s at may (λ e. differ (sym is ∙ e))));
   }
 
@@ -270,7 +274,7 @@ module _ (key : Start) (me : ℕ) (v : View) (from to : ℕ) (may : MayRaise fro
   -- the word that is found is not below the LSN in hand, nor what was seen of exposed
   pub raise-tells : Tells key me Exposed v (λ n. (from ≤ n) × (v.seen.exposed ≤ n) × (n ≤ LAST))
   raise-tells words views log s at = (
-    (subst (HasTrueEnds key.start words.exposed log) may (s.ends me v at)).0.passed,
+    (subst (HasTrueEnds key.start words.exposed log) may.raising (s.ends me v at)).0.passed,
     (s.seen me v at).exposed_seen,
     omega (arith, tiles-le _ _ _ log.ahead s.contiguous.to_tail, s.ordered.within_log),
   )

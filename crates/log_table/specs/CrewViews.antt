@@ -64,7 +64,7 @@ abbrev pub merged_entries : List Entry → List Entry → List Entry
 merged_entries entries [] = entries
 merged_entries entries (other ∷ others) = inserted other (merged_entries entries others)
 
--- the greater of the LSNs, and every LSN that either saw; of the stop words the other's, unless it is 0; the rest is the seat's own
+-- the greater of the LSNs, and every LSN that either saw, and each refusal that either heard; of the stop words the other's, unless it is 0; the rest is the seat's own
 abbrev pub merged_seen : Seen → Seen → Seen
 merged_seen seen other =
     record seen {
@@ -73,6 +73,7 @@ merged_seen seen other =
       durable = max seen.durable other.durable;
       stop = if other.stop == 0 then seen.stop else other.stop;
       lsns = seen.lsns ++ other.lsns;
+      refusals = seen.refusals ++ other.refusals;
     }
 
 -- the standing of the flusher's seat after it took in a worker's or a note, which leaves its worker unmerged

@@ -5,12 +5,13 @@ use mathlib.Core.Option.{some}
 use lib.ListN.{get_elem?}
 use Rattle.ring_core.specs.RingLog.{Reservation, RingLog}
 use Rattle.ring_core.specs.declared.event.RingEvent.TheVariants.{Reserve, Fill, Mark, LookExposed, LookMark, Raise, Flushed}
-use Rattle.slot_core.specs.State.{Works, Marked, Holds, Raises, Task, InRing, Hand, SlotState, nothing, empty_group}
+use Rattle.slot_core.specs.State.{Idle, Works, Marked, Holds, Raises, Task, InRing, Hand, SlotState, nothing, joined, empty_group}
 use Rattle.slot_core.specs.Machine.{GroupEvent, Ring, GroupStep}
 use Rattle.log_table.specs.declared.table.Start.{Start}
 use Rattle.log_table.specs.declared.view.Call.{Call}
 use Rattle.log_table.specs.declared.view.Call.TheVariants as call
 use Rattle.log_table.specs.declared.view.View.{View}
+use Rattle.log_table.specs.GroupViews.{stage_of, slot_after}
 use Rattle.log_table.specs.Layout.{Word}
 use Rattle.log_table.specs.Log.{Part, Range, Log, ranges_of, filled_in, is_released}
 use Rattle.log_table.specs.Sound.{IsSound}
@@ -21,13 +22,16 @@ abbrev pub reservation_of : List Part → Range → Reservation
 reservation_of parts range =
     record { base = range.base; size = range.size; filled = filled_in range.base range.size parts; released = is_released range.duty }
 
--- what a call has in hand, as the machine says it: no call is a member's, and none has a slot to open
+-- what a call has in hand, as the machine says it
 abbrev pub task_in : Call → Task
 task_in call.Idle = nothing
 task_in (call.Filling entry) = InRing None (Works entry.start)
-task_in call.Marked = InRing None Marked
-task_in (call.Holding at) = InRing None (Holds at)
-task_in (call.Raising from to) = InRing None (Raises from)
+task_in (call.Joined slot piece step) = joined slot piece.offset piece.size (stage_of step)
+task_in (call.Emptying slot base total) = InRing (Some slot) (Works base)
+task_in (call.Marked after) = InRing (slot_after after) Marked
+task_in (call.Holding at after) = InRing (slot_after after) (Holds at)
+task_in (call.Raising from to after) = InRing (slot_after after) (Raises from)
+task_in (call.Reopening slot) = InRing (Some slot) Idle
 
 -- the seats from this number on are the machine's actors
 abbrev pub hands_of : ℕ → List View → List Hand
@@ -89,9 +93,12 @@ none = None
 abbrev pub look_event : ℕ → Call → Event
 look_event seat call.Idle = none
 look_event seat (call.Filling entry) = none
-look_event seat call.Marked = looks_exposed seat
-look_event seat (call.Holding at) = none
-look_event seat (call.Raising from to) = none
+look_event seat (call.Joined slot piece step) = none
+look_event seat (call.Emptying slot base total) = none
+look_event seat (call.Marked after) = looks_exposed seat
+look_event seat (call.Holding at after) = none
+look_event seat (call.Raising from to after) = none
+look_event seat (call.Reopening slot) = none
 
 -- the machine takes the event, or where there is none it stays as it was
 abbrev pub Shows : Event → SlotState → SlotState → Type 0

@@ -4,6 +4,7 @@ pub mod Books
 pub mod Closing
 pub mod CrewViews
 pub mod Events
+pub mod GroupViews
 pub mod Groups
 pub mod Hiring
 pub mod Layout

@@ -4,7 +4,7 @@ use Rattle.std.specs.List.{AllByRecursion}
 use mathlib.Core.Option.{some}
 use lib.ListN.{get_elem?}
 use Rattle.log_table.specs.declared.view.Call.{Call}
-use Rattle.log_table.specs.declared.view.Call.TheVariants.{Idle, Filling, Marked, Holding, Raising}
+use Rattle.log_table.specs.declared.view.Call.TheVariants.{Idle, Filling, Joined, Emptying, Marked, Holding, Raising, Reopening}
 use Rattle.log_table.specs.declared.view.View.{View}
 use Rattle.log_table.specs.Log.{Range, Log, ranges_of, IsRangeBoundary, IsReleased}
 
@@ -49,9 +49,12 @@ FirstEnds (range ∷ ranges) end = IsReleased range × (end ≡ range.base + ran
 abbrev pub Carries : ℕ → Call → Type 0
 Carries place Idle = ⊥
 Carries place (Filling entry) = ⊥
-Carries place Marked = Unit {0}
-Carries place (Holding at) = at ≡ place
-Carries place (Raising from to) = from ≡ place
+Carries place (Joined slot piece step) = ⊥
+Carries place (Emptying slot base total) = ⊥
+Carries place (Marked after) = Unit {0}
+Carries place (Holding at after) = at ≡ place
+Carries place (Raising from to after) = from ≡ place
+Carries place (Reopening slot) = ⊥
 
 -- some seat is
 pub record HasCarrier (place : ℕ) (views : List View) : Type 0 where
@@ -73,6 +76,9 @@ pub record IsPassed (start exposed : ℕ) (log : Log) (at : ℕ) : Type 0 where
 abbrev pub HasTrueEnds : ℕ → ℕ → Log → Call → Type 0
 HasTrueEnds start exposed log Idle = Unit {0}
 HasTrueEnds start exposed log (Filling entry) = Unit {0}
-HasTrueEnds start exposed log Marked = Unit {0}
-HasTrueEnds start exposed log (Holding at) = IsPassed start exposed log at
-HasTrueEnds start exposed log (Raising from to) = IsPassed start exposed log from × (from ≡ exposed → FirstEnds log.ahead to)
+HasTrueEnds start exposed log (Joined slot piece step) = Unit {0}
+HasTrueEnds start exposed log (Emptying slot base total) = Unit {0}
+HasTrueEnds start exposed log (Marked after) = Unit {0}
+HasTrueEnds start exposed log (Holding at after) = IsPassed start exposed log at
+HasTrueEnds start exposed log (Reopening slot) = Unit {0}
+HasTrueEnds start exposed log (Raising from to after) = IsPassed start exposed log from × (from ≡ exposed → FirstEnds log.ahead to)

@@ -6,6 +6,7 @@ use Rattle.lsn_space.specs.declared.lsn.TheConstants.{LAST}
 use Rattle.log_table.specs.declared.view.Entry.{Entry}
 use Rattle.log_table.specs.declared.view.Held.{Held}
 use Rattle.log_table.specs.declared.view.Call.TheVariants.{Idle, Filling, Holding, Raising}
+use Rattle.log_table.specs.declared.group_view.After.{After}
 use Rattle.log_table.specs.declared.view.Role.TheVariants.{Flusher, Active}
 use Rattle.log_table.specs.declared.view.Seen.{Seen}
 use Rattle.log_table.specs.declared.view.View.{View}
@@ -103,12 +104,14 @@ pub record MayMark (base end : ℕ) (view : View) : Type 0 where
   pub ends : end ≡ entry.start + entry.size
 
 -- the seat has this LSN in hand, and may look at the mark there
-abbrev pub MayLookMark : ℕ → View → Type 0
-MayLookMark base view = view.call ≡ Holding base
+pub record MayLookMark (base : ℕ) (view : View) : Type 0 where
+  pub after : After
+  pub holding : view.call ≡ Holding base after
 
 -- the seat found a mark there, and may raise exposed from the one LSN to the other
-abbrev pub MayRaise : ℕ → ℕ → View → Type 0
-MayRaise from to view = view.call ≡ Raising from to
+pub record MayRaise (from to : ℕ) (view : View) : Type 0 where
+  pub after : After
+  pub raising : view.call ≡ Raising from to after
 
 -- the unit at this LSN is the next to be read, and below exposed as the flusher's seat loaded it last
 pub record MayRead (at : ℕ) (view : View) : Type 0 where

@@ -6,7 +6,7 @@ use lib.Dec.{eqb}
 use Rattle.log_table.specs.declared.table.Start.{Start}
 use Rattle.log_table.specs.declared.view.Entry.{Entry}
 use Rattle.log_table.specs.declared.view.Call.{Call}
-use Rattle.log_table.specs.declared.view.Call.TheVariants.{Idle, Filling, Marked, Holding, Raising}
+use Rattle.log_table.specs.declared.view.Call.TheVariants.{Idle, Filling, Joined, Emptying, Marked, Holding, Raising, Reopening}
 use Rattle.log_table.specs.declared.view.Role.TheVariants.{Flusher, Spent}
 use Rattle.log_table.specs.declared.view.Constants.{Constants}
 use Rattle.log_table.specs.declared.view.Standing.{Standing}
@@ -17,6 +17,7 @@ use Rattle.log_table.specs.declared.view.View.{View}
 use Rattle.log_record.specs.declared.rec.Rec.{Rec}
 use Rattle.log_table.specs.Books.{no_books, next_of, placing}
 use Rattle.log_table.specs.Groups.{Group}
+use Rattle.log_table.specs.GroupViews.{heard_entry, step_with_unit}
 use Rattle.log_table.specs.Log.{Claim}
 
 -- what the table was made with, as each view keeps it
@@ -39,7 +40,11 @@ seen_at lsn = record {
   mark_at = 0;
   account = 0;
   account_word = 0;
+  slot = 0;
+  slot_word = 0;
+  base = 0;
   lsns = lsn ∷ [];
+  refusals = [];
 }
 
 -- nothing is sent or read
@@ -76,34 +81,46 @@ nobody = record {
 abbrev pub run_in : Call → List Entry
 run_in Idle = []
 run_in (Filling entry) = entry ∷ []
-run_in Marked = []
-run_in (Holding at) = []
-run_in (Raising from to) = []
+run_in (Joined slot piece step) = []
+run_in (Emptying slot base total) = []
+run_in (Marked after) = []
+run_in (Holding at after) = []
+run_in (Raising from to after) = []
+run_in (Reopening slot) = []
 
 -- The entries that the call under way has reserved. A seat that waits in a group will have its own by what the group at its slot has, since
--- its view doesn't know yet where that begins.
+-- its view doesn't know yet where that begins; so far it has none.
 abbrev pub entries_in : (ℕ → Group) → Call → List Entry
 entries_in groups Idle = []
 entries_in groups (Filling entry) = entry ∷ []
-entries_in groups Marked = []
-entries_in groups (Holding at) = []
-entries_in groups (Raising from to) = []
+entries_in groups (Joined slot piece step) = heard_entry piece step
+entries_in groups (Emptying slot base total) = []
+entries_in groups (Marked after) = []
+entries_in groups (Holding at after) = []
+entries_in groups (Raising from to after) = []
+entries_in groups (Reopening slot) = []
 
 -- the books, with the record that such a group has placed for the call under way: none so far
 abbrev pub books_in : (ℕ → Group) → Call → Books → Books
 books_in groups Idle books = books
 books_in groups (Filling entry) books = books
-books_in groups Marked books = books
-books_in groups (Holding at) books = books
-books_in groups (Raising from to) books = books
+books_in groups (Joined slot piece step) books = books
+books_in groups (Emptying slot base total) books = books
+books_in groups (Marked after) books = books
+books_in groups (Holding at after) books = books
+books_in groups (Raising from to after) books = books
+books_in groups (Reopening slot) books = books
 
--- the ranges that the call under way has to release
+-- the ranges that the call under way has to release; of a group's range nothing remains by then
 abbrev pub claims_in : Call → List Claim
 claims_in Idle = []
 claims_in (Filling entry) = record { base = entry.start; size = entry.size; remaining = entry.size } ∷ []
-claims_in Marked = []
-claims_in (Holding at) = []
-claims_in (Raising from to) = []
+claims_in (Joined slot piece step) = []
+claims_in (Emptying slot base total) = record { base = base; size = total; remaining = 0 } ∷ []
+claims_in (Marked after) = []
+claims_in (Holding at after) = []
+claims_in (Raising from to after) = []
+claims_in (Reopening slot) = []
 
 -- one step more
 abbrev pub counted : Seen → Seen
@@ -137,9 +154,12 @@ saw_tail n view = record view { seen = seen_tail n view.seen }
 abbrev pub after_look : ℕ → Call → Call
 after_look n Idle = Idle
 after_look n (Filling entry) = Filling entry
-after_look n Marked = Holding n
-after_look n (Holding at) = Holding at
-after_look n (Raising from to) = Raising from to
+after_look n (Joined slot piece step) = Joined slot piece step
+after_look n (Emptying slot base total) = Emptying slot base total
+after_look n (Marked after) = Holding n after
+after_look n (Holding at after) = Holding at after
+after_look n (Raising from to after) = Raising from to after
+after_look n (Reopening slot) = Reopening slot
 
 -- after a load of exposed
 abbrev pub saw_exposed : ℕ → View → View
@@ -206,9 +226,12 @@ after_exchange from to n view = if n == from then reserved from to view else saw
 abbrev pub call_with_unit : ℕ → Call → Call
 call_with_unit unit Idle = Idle
 call_with_unit unit (Filling entry) = Filling (with_unit unit entry)
-call_with_unit unit Marked = Marked
-call_with_unit unit (Holding at) = Holding at
-call_with_unit unit (Raising from to) = Raising from to
+call_with_unit unit (Joined slot piece step) = Joined slot piece (step_with_unit unit step)
+call_with_unit unit (Emptying slot base total) = Emptying slot base total
+call_with_unit unit (Marked after) = Marked after
+call_with_unit unit (Holding at after) = Holding at after
+call_with_unit unit (Raising from to after) = Raising from to after
+call_with_unit unit (Reopening slot) = Reopening slot
 
 -- after a store of a unit into the ring
 abbrev pub filled : ℕ → View → View

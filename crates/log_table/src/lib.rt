@@ -3,6 +3,7 @@
 #![tactic(auto)]
 
 mod closing;
+mod group_view;
 mod hiring;
 mod layout;
 mod plays;
@@ -12,6 +13,7 @@ mod table;
 mod view;
 
 pub use closing::Closed;
+pub use group_view::{After, HeardRefusal, MemberStep, Piece};
 pub use layout::{MOST_SLOTS, fixed_layout};
 pub use table::{LogTable, Seat, Start};
 pub use view::{

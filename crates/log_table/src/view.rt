@@ -1,5 +1,6 @@
 //! What a seat knows of the table and has done in it. These types stand in contracts alone: no value
 //! of them is ever made, so their numbers have no bound and their lists take no memory.
+use crate::group_view::{After, HeardRefusal, MemberStep, Piece};
 use lock_core::Job;
 use log_record::Rec;
 use std::collections::LinkedList;
@@ -18,12 +19,33 @@ pub enum Call {
     Idle,
     /// A run is reserved, and being copied into the ring.
     Filling(Entry),
-    /// A run was marked as released, and exposed was not looked at since.
-    Marked,
+    /// The seat has joined the group at a slot, and not released its piece.
+    Joined {
+        slot: u64,
+        piece: Piece,
+        step: MemberStep,
+    },
+    /// It was the last at the slot to release, and has to mark the group's range.
+    Emptying {
+        slot: u64,
+        base: u64,
+        total: u64,
+    },
+    /// A run or a group's range was marked as released, and exposed was not looked at since.
+    Marked(After),
     /// Exposed as it was found or written last, where the mark there was not looked at since.
-    Holding(u64),
+    Holding {
+        at: u64,
+        after: After,
+    },
     /// A mark was found at the one LSN, and exposed is to be raised from there to it.
-    Raising { from: u64, to: u64 },
+    Raising {
+        from: u64,
+        to: u64,
+        after: After,
+    },
+    /// Nothing is left to do but to open the slot again.
+    Reopening(u64),
 }
 
 pub enum Role {
@@ -57,8 +79,9 @@ pub struct Standing {
 }
 
 /// The last value seen in each word, and of the LSNs at which of the seat's steps; of the marks the last
-/// one, and at which LSN it was found; of the accounts' words the last one, and whose it was; and every
-/// LSN that was seen, newest first.
+/// one, and at which LSN it was found; of the accounts' words the last one, and whose it was; of the slots'
+/// states the last one, and whose it was; of their bases the last one; every LSN that was seen, newest
+/// first; and each refusal of a group that the seat heard as its member, newest first.
 pub struct Seen {
     pub steps: u64,
     pub tail: u64,
@@ -73,7 +96,11 @@ pub struct Seen {
     pub mark_at: u64,
     pub account: u64,
     pub account_word: u64,
+    pub slot: u64,
+    pub slot_word: u64,
+    pub base: u64,
     pub lsns: LinkedList<u64>,
+    pub refusals: LinkedList<HeardRefusal>,
 }
 
 /// The flusher's work: the units sent to the disk and those read behind them, exposed as it loaded it

@@ -1,5 +1,6 @@
 //! Releases out of turn: whoever comes to a released range exposes it, and a look that is old by a lap exposes nothing.
 ghost use Rattle.std.specs.Prelude.{◌≡◌, IfSome};
+ghost use Rattle.log_table.specs.declared.group_view.After.TheVariants.{Nothing};
 ghost use Rattle.log_table.specs.declared.view.Call.TheVariants.{Marked, Holding};
 ghost use Rattle.log_table.specs.Seats.{IsOf, view_of};
 ghost use Rattle.ring_buffer.specs.Calls.{HasReserved};
@@ -18,7 +19,7 @@ fn mark(table: &LogTable, seat: &mut Seat, range: Range, units: &Units)
     requires own { IsOf table.now seat.old }
     requires reserved { HasReserved range units.now (view_of seat.old) }
     ensures own { IsOf table.now seat.new }
-    ensures marked { (view_of seat.new).call ≡ Marked }
+    ensures marked { (view_of seat.new).call ≡ Marked Nothing }
 {
     let filled = fill(table, seat, range, units);
     finish(table, seat, filled);
@@ -76,9 +77,9 @@ fn a_range_behind_a_gap_is_exposed_with_it(rt: HostRuntime) -> Result<(), Fail> 
 /// answers the mark and the exposed found. None: there was no mark above, or exposed had not moved.
 fn raise_late(table: &LogTable, seat: &mut Seat, at: Lsn) -> Option<(Lsn, Lsn)>
     requires own { IsOf table.now seat.old }
-    requires hand { (view_of seat.old).call ≡ Holding at }
+    requires hand { (view_of seat.old).call ≡ Holding at Nothing }
     ensures own { IsOf table.now seat.new }
-    ensures hand { IfSome result (λ found. (view_of seat.new).call ≡ Holding found.1) }
+    ensures hand { IfSome result (λ found. (view_of seat.new).call ≡ Holding found.1 Nothing) }
 {
     let mark = table.load_mark(seat, at);
     if mark <= at {
@@ -99,7 +100,7 @@ fn finds_a_later_lap(
     at: Lsn,
 ) -> Result<(), Fail>
     requires own { IsOf table.now seat.old }
-    requires hand { (view_of seat.old).call ≡ Holding at }
+    requires hand { (view_of seat.old).call ≡ Holding at Nothing }
 {
     let Some((mark, exposed)) = raise_late(table, seat, at) else {
         return Err(Fail::new("exposed had not moved"));

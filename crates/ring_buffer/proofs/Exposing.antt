@@ -1,9 +1,11 @@
 -- What a seat has in hand while it raises exposed.
 use Rattle.std.proofs.Common.{arith, ◌≡◌, ◌∙◌, ℕ, ◌+◌, ◌<◌, ◌≤◌, nat_lt, cond, Bool, true, false, ap, sym, refl, subst, le_refl, lt-ltb, ltb-true}
 use Rattle.log_table.specs.declared.table.Seat.{Seat}
+use Rattle.log_table.specs.declared.group_view.After.TheVariants.{Nothing}
 use Rattle.log_table.specs.declared.view.Call.TheVariants.{Idle, Marked, Holding, Raising}
 use Rattle.log_table.specs.declared.view.View.{View}
 use Rattle.log_table.specs.MarkViews.{saw_mark, after_raise, next_raise, in_hand, call_with_mark, call_with_exposed}
+use Rattle.log_table.specs.May.{MayRaise}
 use Rattle.log_table.specs.Seats.{Becomes, view_of}
 use Rattle.log_table.specs.Views.{saw_exposed, after_look}
 use Rattle.ring_buffer.specs.Calls.{IsSameWorker, HasEntries, HasInHand, IsLastExposed, HasExposed, HasOnlySeen}
@@ -51,7 +53,7 @@ module _ (first seat : Seat) (at : ℕ) (becomes : Becomes first seat (saw_expos
     stop = ap (λ (v : View). v.seen.stop) is;
   }
 
-  pub Exposes-looked : (view_of first).call ≡ Marked → (view_of first).seen.exposed ≤ at → Exposes first seat at
+  pub Exposes-looked : (view_of first).call ≡ Marked Nothing → (view_of first).seen.exposed ≤ at → Exposes first seat at
   Exposes-looked marked grows = record {
     stays = HasOnlySeen-looked grows;
     hand = record {
@@ -62,13 +64,13 @@ module _ (first seat : Seat) (at : ℕ) (becomes : Becomes first seat (saw_expos
     grows = grows;
   }
 
-pub next_raise-above : (at mark : ℕ) → at < mark → next_raise at mark ≡ Raising at mark
-next_raise-above at mark above = ap (λ b. cond b (Raising at mark) Idle) (lt-ltb at mark above)
+pub next_raise-above : (at mark : ℕ) → at < mark → next_raise at mark Nothing ≡ Raising at mark Nothing
+next_raise-above at mark above = ap (λ b. cond b (Raising at mark Nothing) Idle) (lt-ltb at mark above)
 
-next_raise-below : (at mark : ℕ) → mark ≤ at → next_raise at mark ≡ Idle
+next_raise-below : (at mark : ℕ) → mark ≤ at → next_raise at mark Nothing ≡ Idle
 next_raise-below at mark below = by_test (nat_lt at mark) refl
   where
-    by_test : (b : Bool) → nat_lt at mark ≡ b → cond b (Raising at mark) Idle ≡ Idle
+    by_test : (b : Bool) → nat_lt at mark ≡ b → cond b (Raising at mark Nothing) Idle ≡ Idle
     by_test true is = let less = ltb-true at mark is in absurd (omega arith)
     by_test false is = refl
 
@@ -77,7 +79,7 @@ module _ (seat after : Seat) (at mark : ℕ) (hand : HasInHand at (view_of seat)
   looked-is : view_of after ≡ saw_mark mark (view_of seat)
   looked-is = ap (λ me. me.0) becomes.me
 
-  call-looked : (view_of after).call ≡ next_raise at mark
+  call-looked : (view_of after).call ≡ next_raise at mark Nothing
   call-looked = ap (λ (v : View). v.call) looked-is ∙ ap (call_with_mark mark) hand.call
 
   pub HasOnlySeen-marked : HasOnlySeen seat after
@@ -109,8 +111,11 @@ module _ (seat after : Seat) (at mark : ℕ) (hand : HasInHand at (view_of seat)
   }
 
   -- one above it: exposed is to be raised
-  pub MayRaise-above : at < mark → (view_of after).call ≡ Raising at mark
-  MayRaise-above above = call-looked ∙ next_raise-above at mark above
+  raises-above : at < mark → (view_of after).call ≡ Raising at mark Nothing
+  raises-above above = call-looked ∙ next_raise-above at mark above
+
+  pub MayRaise-above : at < mark → MayRaise at mark (view_of after)
+  MayRaise-above above = record { after = Nothing; raising = raises-above above }
 
   -- and after the exchange of exposed, which is at `found` then
   module _ (last : Seat) (found : ℕ) (greater : at < found) (raised : Becomes after last (after_raise found (view_of after))) where
@@ -137,7 +142,7 @@ module _ (seat after : Seat) (at mark : ℕ) (hand : HasInHand at (view_of seat)
 
     pub HasInHand-raised : at < mark → HasInHand found (view_of last)
     HasInHand-raised above = record {
-      call = ap (λ (v : View). v.call) raised-is ∙ ap (call_with_exposed found) (MayRaise-above above);
+      call = ap (λ (v : View). v.call) raised-is ∙ ap (call_with_exposed found) (raises-above above);
       exposed = ap (λ (v : View). v.seen.exposed) raised-is;
       step = ap (λ (v : View). v.seen.exposed_step) raised-is ∙ sym (ap (λ (v : View). v.seen.steps) raised-is);
     }

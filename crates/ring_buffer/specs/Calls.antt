@@ -5,8 +5,11 @@ use Rattle.log_table.specs.declared.table.Seat.{Seat}
 use Rattle.log_record.specs.declared.rec.Rec.{Rec}
 use Rattle.log_record.specs.Spelling.{spelling}
 use Rattle.log_table.specs.declared.view.Books.{Books}
+use Rattle.log_table.specs.declared.group_view.After.TheVariants.{Nothing}
+use Rattle.log_table.specs.declared.group_view.MemberStep.{MemberStep}
+use Rattle.log_table.specs.declared.group_view.MemberStep.TheVariants.{Closes, Waits, Hears, Places, Stores, Tells, Fills, Leaves}
 use Rattle.log_table.specs.declared.view.Call.{Call}
-use Rattle.log_table.specs.declared.view.Call.TheVariants.{Idle, Filling, Marked, Holding, Raising}
+use Rattle.log_table.specs.declared.view.Call.TheVariants.{Idle, Filling, Joined, Emptying, Marked, Holding, Raising, Reopening}
 use Rattle.log_table.specs.declared.view.Entry.{Entry}
 use Rattle.log_table.specs.declared.view.Seen.{Seen}
 use Rattle.log_table.specs.declared.view.View.{View}
@@ -95,13 +98,27 @@ pub record PlacesNext (old new : View) (n : ℕ) (range : Range) : Type 0 where
 abbrev pub entry_of : ℕ → Rec → Entry
 entry_of start rec = record { start = start; size = length (spelling rec); units = spelling rec; rec = rec }
 
+-- the step of a member with these units of its piece filled
+abbrev pub step_filled_with : List ℕ → MemberStep → MemberStep
+step_filled_with units Closes = Closes
+step_filled_with units Waits = Waits
+step_filled_with units (Hears refused total) = Hears refused total
+step_filled_with units (Places total closed) = Places total closed
+step_filled_with units (Stores total base) = Stores total base
+step_filled_with units (Tells total outcome) = Tells total outcome
+step_filled_with units (Fills base old) = Fills base units
+step_filled_with units (Leaves tail durable) = Leaves tail durable
+
 -- the call with these units filled
 abbrev pub filled_with : List ℕ → Call → Call
 filled_with units Idle = Idle
 filled_with units (Filling entry) = Filling (record { start = entry.start; size = entry.size; units = units; rec = entry.rec })
-filled_with units Marked = Marked
-filled_with units (Holding at) = Holding at
-filled_with units (Raising from to) = Raising from to
+filled_with units (Joined slot piece step) = Joined slot piece (step_filled_with units step)
+filled_with units (Emptying slot base total) = Emptying slot base total
+filled_with units (Marked after) = Marked after
+filled_with units (Holding at after) = Holding at after
+filled_with units (Raising from to after) = Raising from to after
+filled_with units (Reopening slot) = Reopening slot
 
 -- the range is filled with these units, step by step
 abbrev pub with_units : List ℕ → ℕ → View → View
@@ -117,7 +134,7 @@ pub record HasFilled (range : Range) (view : View) : Type 0 where
 
 -- the seat's last step saw exposed at this LSN, and it has that in hand
 pub record HasInHand (lsn : ℕ) (view : View) : Type 0 where
-  pub call : view.call ≡ Holding lsn
+  pub call : view.call ≡ Holding lsn Nothing
   pub exposed : view.seen.exposed ≡ lsn
   pub step : view.seen.exposed_step ≡ view.seen.steps
 

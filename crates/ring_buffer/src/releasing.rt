@@ -1,5 +1,6 @@
 //! A range is released, and exposed is raised past what is released.
 ghost use Rattle.std.specs.Prelude.{◌≡◌, ◌≤◌, ◌<◌, IfSome, IfNone};
+ghost use Rattle.log_table.specs.declared.group_view.After.TheVariants.{Nothing};
 ghost use Rattle.log_table.specs.declared.view.Call.TheVariants.{Marked};
 ghost use Rattle.log_table.specs.MarkViews.{marked};
 ghost use Rattle.log_table.specs.Seats.{IsOf, Becomes, view_of};
@@ -24,7 +25,7 @@ pub fn finish(table: &LogTable, seat: &mut Seat, filled: Filled)
 /// shows a greater LSN.
 pub fn expose(table: &LogTable, seat: &mut Seat) -> Lsn
     requires seat { IsOf table.now seat.old }
-    requires marked { (view_of seat.old).call ≡ Marked }
+    requires marked { (view_of seat.old).call ≡ Marked Nothing }
     ensures entries { HasEntries seat.old seat.new (view_of seat.old).entries (view_of seat.old).books }
     ensures last { IsLastExposed result (view_of seat.new).seen }
     ensures grows { (view_of seat.old).seen.exposed ≤ result }

@@ -1,4 +1,7 @@
-use Rattle.std.proofs.Common.{ap, sym, subst}
+use Rattle.std.proofs.Common.{ap, ◌∙◌, sym, subst}
+use Rattle.log_table.specs.GroupViews.{follow_up}
+use Rattle.log_table.specs.declared.view.Call.{Call}
+use Rattle.log_table.specs.declared.view.Call.TheVariants.{Marked}
 use Rattle.log_table.specs.Seats.{view_of}
 use Rattle.ring_buffer.specs.Calls.{HasFilled}
 use Rattle.ring_buffer.specs.declared.call.Range.{Range}
@@ -12,3 +15,5 @@ finish-requires-clause-filled c =
 
 pub returns-clause-marked : goal.returns-clause-marked
 returns-clause-marked c = ap (λ me. me.0.call) c.finish.ensures.becomes.me
+    ∙ ap (λ (call : Call). Marked (follow_up call))
+    (HasFilled-reserved c.args.range c.args.units.now _ c.args.seat.now c.fill-filled.new.seat c.requires.reserved c.fill-filled.ensures.becomes).call

@@ -1,7 +1,9 @@
 use Rattle.std.proofs.Common.{arith, ◌≡◌, ◌∙◌, ◌+◌, ◌++◌, ◌∷◌, [], ℕ, List, length, ap, sym, refl, subst}
 use Rattle.log_record.specs.Spelling.{spelling}
 use Rattle.log_table.specs.Books.{next_of, placing}
-use Rattle.log_table.specs.declared.view.Call.TheVariants.{Filling}
+use Rattle.log_table.specs.GroupViews.{follow_up}
+use Rattle.log_table.specs.declared.view.Call.{Call}
+use Rattle.log_table.specs.declared.view.Call.TheVariants.{Filling, Marked}
 use Rattle.log_table.specs.declared.view.Entry.{Entry}
 use Rattle.log_table.specs.Seats.{view_of}
 use Rattle.ring_buffer.specs.Calls.{HasFilled, filled_with, entry_of}
@@ -22,7 +24,11 @@ finish-requires-clause-filled g c =
     }
 
 pub expose-requires-clause-marked : goal.expose-requires-clause-marked
-expose-requires-clause-marked g c = ap (λ m. m.0.call) c.finish.ensures.becomes.me
+expose-requires-clause-marked g c =
+    let filling : (view_of c.fill-filled.new.seat).call ≡ filled_with c.args.units.now (view_of c.place_among.new.seat).call =
+    ap (λ m. m.0.call) c.fill-filled.ensures.becomes.me in
+    ap (λ m. m.0.call) c.finish.ensures.becomes.me
+    ∙ ap (λ (call : Call). Marked (follow_up call)) (filling ∙ ap (filled_with c.args.units.now) c.in_ok-range.ensures.placed.call)
 
 pub returns-clause-inserted : goal.returns-clause-inserted
 returns-clause-inserted g c =

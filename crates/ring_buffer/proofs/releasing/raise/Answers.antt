@@ -1,6 +1,10 @@
 use Rattle.std.proofs.Common.{arith, ◌<◌}
+use Rattle.log_table.specs.declared.group_view.After.TheVariants.{Nothing}
 use Rattle.ring_buffer.proofs.Exposing.{MayRaise-above}
 use Rattle.ring_buffer.proofs.releasing.raise.Goals as goal
+
+pub load_mark-end-requires-clause-next : goal.load_mark-end-requires-clause-next
+load_mark-end-requires-clause-next c = record { after = Nothing; holding = c.requires.hand.call }
 
 pub exchange_exposed-requires-clause-next : goal.exchange_exposed-requires-clause-next
 exchange_exposed-requires-clause-next c = let above : c.args.at < c.load_mark-end.result = grind arith steps 150000 in
