@@ -10,6 +10,7 @@ use Rattle.log_table.specs.declared.view.Books.{Books}
 use Rattle.log_table.specs.Accounts.{KeepsAccounts}
 use Rattle.log_table.specs.Books.{no_books}
 use Rattle.log_table.specs.Marks.{HasTrueEnds}
+use Rattle.log_table.specs.Slots.{pieces_at, phase_at, KnowsGroup}
 use Rattle.log_table.specs.Views.{nobody, entries_in, books_in, claims_in}
 use Rattle.log_table.specs.Words.{Words}
 use Rattle.log_table.proofs.Carrying.{carrier-push}
@@ -54,6 +55,9 @@ module _ (key : Start) (words : Words) (views : List View) (log : Log) (s : IsSo
           owns = none.owns ∙ (λ i. parts_of (length views) Rattle.std.proofs.Common.true (sym entries i)
               ++ parts_of (length views) Rattle.std.proofs.Common.false (entries_in log.groups (sym call i)));
           owes = none.owes ∙ ap claims_in (sym call);
+          joins = λ slot. none.joins slot ∙ ap (pieces_at slot) (sym call);
+          leads = λ slot. none.leads slot ∙ ap (phase_at (length views) slot) (sym call);
+          knows = subst (KnowsGroup log.groups) (sym call) tt;
         }) (s.owners j);
     constants = each_push (λ _ z. HasConstants key z) (λ _ z. HasConstants key z) views new s.constants constants (λ _ _ _ p. p);
     resting = each_push (λ _ z. RestsUnlessActive z) (λ _ z. RestsUnlessActive z) views new s.resting (λ _. call) (λ _ _ _ p. p);

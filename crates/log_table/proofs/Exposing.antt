@@ -1,5 +1,5 @@
 -- What follows a mark: exposed is loaded, and the mark there, and exposed is found to have moved.
-use Rattle.std.proofs.Common.{◌≡◌, ◌≢◌, ◌⊎◌, ℕ, ◌==◌, ◌%◌, ◌<◌, ◌≤◌, nat_lt, cond, Bool, true, false, true≢false, lt-ltb, ltb-true, List, [], set, sym, refl, ap, ◌∙◌, subst, le_refl, arith, ne_eqb}
+use Rattle.std.proofs.Common.{◌≡◌, ◌≢◌, ◌⊎◌, ℕ, ◌==◌, ◌%◌, ◌<◌, ◌≤◌, nat_lt, cond, Bool, true, false, true≢false, lt-ltb, ltb-true, List, set, sym, refl, ap, ◌∙◌, subst, le_refl, arith, ne_eqb}
 use Rattle.std.specs.Prelude.{is_some}
 use mathlib.Core.Logic.{dite}
 use mathlib.Core.Option.{some}
@@ -14,7 +14,6 @@ use Rattle.slot_core.specs.Machine.{turned, in_ring, after_look_mark, after_rais
 use Rattle.log_table.specs.declared.table.Start.{Start}
 use Rattle.log_table.specs.declared.group_view.After.{After}
 use Rattle.log_table.specs.declared.group_view.After.TheVariants.{Nothing, Reopens}
-use Rattle.log_table.specs.declared.view.Books.{Books}
 use Rattle.log_table.specs.declared.view.Call.{Call}
 use Rattle.log_table.specs.declared.view.Call.TheVariants.{Idle, Filling, Joined, Emptying, Marked, Holding, Raising, Reopening}
 use Rattle.log_table.specs.declared.view.Role.TheVariants.{Flusher}
@@ -31,26 +30,32 @@ use Rattle.log_table.specs.MarkViews.{in_hand, next_raise, call_with_mark, seen_
 use Rattle.log_table.specs.May.{MayLookMark, MayRaise}
 use Rattle.log_table.specs.Roles.{is_active}
 use Rattle.log_table.specs.Sound.{HasSeenBoundaries, HasContiguousReservations, StoresStop, HasReadStop, IsSound}
-use Rattle.log_table.specs.Views.{entries_in, books_in, claims_in, after_look, seen_exposed, saw_exposed}
+use Rattle.log_table.specs.Views.{after_look, seen_exposed, saw_exposed}
 use Rattle.log_table.specs.Words.{Words}
 use Rattle.log_table.proofs.Keeping.{accounts-stay}
 use Rattle.log_table.proofs.Lifting.{Tells}
 use Rattle.log_table.proofs.Looking.{looks, exposed-boundary}
 use Rattle.log_table.proofs.MarkLooks.{marked-ready, look-tells, not_ready-at_exposed}
 use Rattle.log_table.proofs.Reading.{put-same}
-use Rattle.log_table.proofs.Roles.{crew-same, quiet-moves, recalls-sound}
+use Rattle.log_table.proofs.Roles.{HasSame, crew-same, quiet-moves, recalls-sound}
 use Rattle.log_table.proofs.Showing.{hands_of-set, task_of-hands_of}
 use Rattle.log_table.proofs.TrueMarks.{first-ends}
 use Rattle.log_table.proofs.Viewing.{each_set}
 
--- the call has no run, nor has a group placed a record for it
-abbrev pub HasNoRun : (ℕ → Group) → Call → Type 0
-HasNoRun groups call = (entries_in groups call ≡ []) × (claims_in call ≡ []) × ((books : Books) → books_in groups call books ≡ books)
+-- the calls of exposing have nothing of the log, and what they have at the slots stays
+module _ (groups : ℕ → Group) (seat : ℕ) where
+  marked-holds : (at : ℕ) (after : After) → HasSame groups seat (Marked after) (Holding at after)
+  marked-holds at after = record { entries = refl; claims = refl; books = λ _. refl; pieces = λ _. refl; phases = λ _. refl; knows = λ known. known }
 
--- nor has the call once nothing more is to be exposed
-no-run-after : (groups : ℕ → Group) (after : After) → HasNoRun groups (call_after after)
-no-run-after groups Nothing = (refl, refl, λ _. refl)
-no-run-after groups (Reopens slot) = (refl, refl, λ _. refl)
+  holding-raises : (at to : ℕ) (after : After) → HasSame groups seat (Holding at after) (Raising at to after)
+  holding-raises at to after = record { entries = refl; claims = refl; books = λ _. refl; pieces = λ _. refl; phases = λ _. refl; knows = λ known. known }
+
+  holding-ends : (at : ℕ) (after : After) → HasSame groups seat (Holding at after) (call_after after)
+  holding-ends at Nothing = record { entries = refl; claims = refl; books = λ _. refl; pieces = λ _. refl; phases = λ _. refl; knows = λ known. known }
+  holding-ends at (Reopens slot) = record { entries = refl; claims = refl; books = λ _. refl; pieces = λ _. refl; phases = λ _. refl; knows = λ known. known }
+
+  raising-holds : (from to at : ℕ) (after : After) → HasSame groups seat (Raising from to after) (Holding at after)
+  raising-holds from to at after = record { entries = refl; claims = refl; books = λ _. refl; pieces = λ _. refl; phases = λ _. refl; knows = λ known. known }
 
 ends-after : (start exposed : ℕ) (log : Log) (after : After) → HasTrueEnds start exposed log (call_after after)
 ends-after start exposed log Nothing = tt
@@ -60,28 +65,28 @@ task-after : (after : After) → task_in (call_after after) ≡ InRing (slot_aft
 task-after Nothing = refl
 task-after (Reopens slot) = refl
 
--- a seat that has something under way, but no run, turns to another such call, or to none
+-- a seat that has something under way turns to another call that has of the log and at the slots what this one has
 module _ (key : Start) (words : Words) (views : List View) (me : ℕ) (v : View) (log : Log) (s : IsSound key words views log)
-    (at : get_elem? views me ≡ some v) (busy : v.call ≡ Idle → ⊥) (no-run : HasNoRun log.groups v.call) where
+    (at : get_elem? views me ≡ some v) (busy : v.call ≡ Idle → ⊥) where
   active-only : is_active v.standing.role ≡ false → ⊥
   active-only off = busy (s.resting me v at off)
 
   not-flusher : v.standing.role ≡ Flusher → ⊥
   not-flusher f = active-only (ap is_active f)
 
-  pub turns-sound : (seen : Seen) (call : Call) (sending : Sending) → HasNoRun log.groups call
+  pub turns-sound : (seen : Seen) (call : Call) (sending : Sending) → HasSame log.groups me v.call call
       → (IsFirstReleased log.ahead → Carries words.exposed v.call → Carries words.exposed call)
       → HasTrueEnds key.start words.exposed log call
       → HasSeenBoundaries key.start words.tail words.exposed words.durable (ranges_of log) seen → seen.stop ≡ v.seen.stop
       → IsSound key words (set views me (record v { seen = seen; call = call; sending = sending })) log
-  turns-sound seen call sending runs carries ends sees read =
-      recalls-sound key words words.stop words.crew words.account views me v new log s at (runs.0 ∙ sym no-run.0) (runs.1 ∙ sym no-run.1) carries ends refl
+  turns-sound seen call sending same carries ends sees read =
+      recalls-sound key words words.stop words.crew words.account views me v new log s at same carries ends refl
       sees (s.constants me v at) (λ off. absurd (active-only off)) (s.entries me v at) (crew-same words.crew views me v new s.roles at refl)
       (λ f. absurd (not-flusher f)) (each_set (λ _ z. StoresStop words.stop z) views me new s.stops (λ f. absurd (not-flusher f)))
       (each_set (λ _ z. HasReadStop words.stop z) views me new s.read_stop
       (subst (λ n. (n ≡ 0) ⊎ (n ≡ words.stop)) (sym read) (s.read_stop me v at)))
       (quiet-moves views me v new s.quiet at (λ _ _ _ _ f. absurd (not-flusher f)) (λ _ h. h)) (λ f. absurd (not-flusher f)) (s.unheld me v at)
-      (accounts-stay key words.account log.parts log.groups views me v new at (runs.2 v.books ∙ sym (no-run.2 v.books)) s.accounts)
+      (accounts-stay key words.account log.parts log.groups views me v new at (same.books v.books) s.accounts)
     where
       new : View
       new = record v { seen = seen; call = call; sending = sending }
@@ -146,8 +151,8 @@ module _ (key : Start) (me : ℕ) (v : View) where
       (λ i. (sym (ap (after_look words.exposed) is) i, sym (ap (look_event me) is) i)) record {
         after = log;
         sound = turns-sound key words views me v log s at (λ idle. let gone : Marked after ≡ Idle = sym is ∙ idle in cc)
-            (subst (HasNoRun log.groups) (sym is) (refl, refl, λ _. refl))
-            (seen_exposed words.exposed v.seen) (Holding words.exposed after) (record v.sending { exposed = words.exposed; looked = true }) (refl, refl, λ _. refl)
+            (seen_exposed words.exposed v.seen) (Holding words.exposed after) (record v.sending { exposed = words.exposed; looked = true })
+            (subst (λ call. HasSame log.groups me call (Holding words.exposed after)) (sym is) (marked-holds log.groups me words.exposed after))
             (λ _ _. refl) (passed-now key words log s.contiguous) (sees-exposed key words views me v log s at) refl;
         shows = (
           ap ring_stage (marked-is views after at is),
@@ -197,25 +202,24 @@ module _ (key : Start) (words : Words) (views : List View) (me : ℕ) (v : View)
   sees = let old = s.seen me v at in
       record { tail_seen = old.tail_seen; exposed_seen = old.exposed_seen; durable_seen = old.durable_seen; boundaries = old.boundaries }
 
-  turns : (call : Call) → HasNoRun log.groups call → (IsFirstReleased log.ahead → base ≡ words.exposed → Carries words.exposed call)
+  turns : (call : Call) → HasSame log.groups me (Holding base may.after) call → (IsFirstReleased log.ahead → base ≡ words.exposed → Carries words.exposed call)
       → HasTrueEnds key.start words.exposed log call → IsSound key words (set views me (record v { seen = seen; call = call })) log
-  turns call runs carries ends =
+  turns call same carries ends =
       turns-sound key words views me v log s at (λ idle. let gone : Holding base may.after ≡ Idle = sym may.holding ∙ idle in cc)
-      (subst (HasNoRun log.groups) (sym may.holding) (refl, refl, λ _. refl))
-      seen call v.sending runs (λ first c. carries first (subst (Carries words.exposed) may.holding c)) ends sees refl
+      seen call v.sending (subst (λ old. HasSame log.groups me old call) (sym may.holding) same) (λ first c. carries first (subst (Carries words.exposed) may.holding c)) ends sees refl
 
   sound : IsSound key words (set views me (record v { seen = seen; call = next_raise base found may.after })) log
   sound = by_test (nat_lt base found) refl
     where
       by_test : (b : Bool) → nat_lt base found ≡ b
           → IsSound key words (set views me (record v { seen = seen; call = cond b (Raising base found may.after) (call_after may.after) })) log
-      by_test true high = turns (Raising base found may.after) (refl, refl, λ _. refl) (λ _ c. c) (
+      by_test true high = turns (Raising base found may.after) (holding-raises log.groups me base found may.after) (λ _ c. c) (
         passed,
         λ here. subst (FirstEnds log.ahead) (ap (λ n. words.mark (n % key.ring)) (sym here))
             (first-ends words.exposed (words.mark (words.exposed % key.ring)) log.ahead
             (marked-ready key words views log s (subst (λ n. n < words.mark (n % key.ring)) here (ltb-true base found high)))),
       )
-      by_test false low = turns (call_after may.after) (no-run-after log.groups may.after)
+      by_test false low = turns (call_after may.after) (holding-ends log.groups me base may.after)
           (λ first _. absurd ((not_ready-at_exposed key words views log s base passed below).1 first)) (ends-after key.start words.exposed log may.after)
         where
           below : found ≤ base
@@ -279,8 +283,9 @@ module _ (key : Start) (words : Words) (views : List View) (me : ℕ) (v : View)
   raise-misses = record {
     after = log;
     sound = turns-sound key words views me v log s at (λ idle. let gone : Raising from to may.after ≡ Idle = sym may.raising ∙ idle in cc)
-        (subst (HasNoRun log.groups) (sym may.raising) (refl, refl, λ _. refl))
-        (seen_exposed words.exposed v.seen) (Holding words.exposed may.after) v.sending (refl, refl, λ _. refl) (λ _ _. refl) (passed-now key words log s.contiguous)
+        (seen_exposed words.exposed v.seen) (Holding words.exposed may.after) v.sending
+        (subst (λ call. HasSame log.groups me call (Holding words.exposed may.after)) (sym may.raising)
+        (raising-holds log.groups me from to words.exposed may.after)) (λ _ _. refl) (passed-now key words log s.contiguous)
         (sees-exposed key words views me v log s at) refl;
     shows = (
       ap (λ task. is_some (raises_from (ring_stage task))) raises-from,

@@ -25,6 +25,7 @@ use Rattle.log_table.specs.Sound.{HasSeenBoundaries, SendsIfFlusher, StoresStop,
 use Rattle.log_record.specs.Spelling.{spelling}
 use Rattle.lock_core.specs.History.{history_from}
 use Rattle.log_table.specs.Accounts.{KeepsAccounts}
+use Rattle.log_table.specs.Slots.{pieces_at, phase_at}
 use Rattle.log_table.specs.Views.{entries_in, books_in, claims_in, with_unit, counted, filled}
 use Rattle.log_table.specs.Words.{Words, put}
 use Rattle.log_table.proofs.Boundaries.{part_size, boundary-mid}
@@ -248,11 +249,17 @@ module _ (key : Start) (words : Words) (views : List View) (me : ℕ) (v : View)
           owns = own-last me last.before last.behind (parts_of me true v.entries) false
               (with_unit unit entry) last.own_before last.none_behind;
           owes = mine.owes ∙ ap claims_in filling;
+          joins = λ slot. mine.joins slot ∙ ap (pieces_at slot) filling;
+          leads = λ slot. mine.leads slot ∙ ap (phase_at me slot) filling;
+          knows = tt;
         }
         (λ j z differ h. record {
           owns = own-others me j last.before last.behind false false entry (with_unit unit entry) differ
               ∙ (ap (own j) (sym last.split) ∙ h.owns);
           owes = h.owes;
+          joins = h.joins;
+          leads = h.leads;
+          knows = h.knows;
         });
     constants = each_set (λ _ z. HasConstants key z) views me new s.constants (s.constants me v at);
     resting = each_set (λ _ z. RestsUnlessActive z) views me new s.resting (λ off. let gone : Filling entry ≡ Idle = sym filling

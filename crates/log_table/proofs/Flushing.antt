@@ -146,7 +146,13 @@ module _ (key : Start) (words : Words) (views : List View) (me : ℕ) (v : View)
     ends = each_moves (λ _ z. HasTrueEnds key.start words.exposed log z.call) (λ _ z. HasTrueEnds key.start words.exposed after z.call) views me new
         s.ends (kept v (s.ends me v at)) (λ _ z _ _. kept z);
     owners = seats_set (HasWorkingOwner log.groups log.parts log.ahead) views me v new at s.owners
-        (let mine = seat_at (HasWorkingOwner log.groups log.parts log.ahead) views me v at s.owners in record { owns = mine.owns; owes = mine.owes });
+        (let mine = seat_at (HasWorkingOwner log.groups log.parts log.ahead) views me v at s.owners in record {
+          owns = mine.owns;
+          owes = mine.owes;
+          joins = mine.joins;
+          leads = mine.leads;
+          knows = mine.knows;
+        });
     constants = each_set (λ _ z. HasConstants key z) views me new s.constants (s.constants me v at);
     resting = each_set (λ _ z. RestsUnlessActive z) views me new s.resting (s.resting me v at);
     entries = each_set (λ _ z. OwnsIfWorker z) views me new s.entries (s.entries me v at);

@@ -38,7 +38,8 @@ use Rattle.log_table.specs.Views.{nobody, entries_in}
 use Rattle.log_table.specs.Words.{Words, words_in}
 use Rattle.log_table.proofs.Agreeing.{IsFront, agrees-append, whole-record, front, front-whole, joined, joined-entries, joined-length}
 use Rattle.log_table.proofs.Boundaries.{part_size, boundary-entries}
-use Rattle.log_table.proofs.Keeping.{books-at, held-books_in, jobs-books_in}
+use Rattle.log_table.proofs.Keeping.{books-at}
+use Rattle.log_table.proofs.MemberBooks.{held-books_in, jobs-books_in}
 use Rattle.log_table.proofs.Lists.{all-both, all-weaker}
 use Rattle.log_table.proofs.Looking.{part-boundary}
 use Rattle.log_table.proofs.Resting.{at_rest}

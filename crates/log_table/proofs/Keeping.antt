@@ -7,9 +7,7 @@ use Rattle.log_record.specs.declared.rec.Rec.{Rec}
 use Rattle.log_record.specs.declared.rec.Placed.{Placed}
 use Rattle.lock_core.specs.History.{end_from, entry_at, history_from}
 use Rattle.log_table.specs.declared.table.Start.{Start}
-use Rattle.log_table.specs.declared.view.Books.{Books}
-use Rattle.log_table.specs.declared.view.Call.{Call}
-use Rattle.log_table.specs.declared.view.Call.TheVariants.{Idle, Filling, Joined, Emptying, Marked, Holding, Raising, Reopening}
+use Rattle.log_table.specs.declared.view.Call.TheVariants.{Idle}
 use Rattle.log_table.specs.declared.view.View.{View}
 use Rattle.log_table.specs.Accounts.{KeepsAccounts}
 use Rattle.log_table.specs.Groups.{Group}
@@ -26,27 +24,6 @@ pub accounts-stay : (key : Start) (words : ℕ → ℕ) (parts : List Part) (gro
     → KeepsAccounts (base_of key) words (history_in key parts) (map (books_of groups) (set views me new))
 accounts-stay key words parts groups views me v new at same =
     subst (KeepsAccounts (base_of key) words (history_in key parts)) (sym (map-set_same (books_of groups) views me v new at same))
-
--- a group places a record, and changes neither what is held nor the jobs
-pub held-books_in : (groups : ℕ → Group) (call : Call) (books : Books) → (books_in groups call books).held ≡ books.held
-held-books_in groups Idle books = refl
-held-books_in groups (Filling entry) books = refl
-held-books_in groups (Joined slot piece step) books = refl
-held-books_in groups (Emptying slot base total) books = refl
-held-books_in groups (Marked after) books = refl
-held-books_in groups (Holding at after) books = refl
-held-books_in groups (Raising from to after) books = refl
-held-books_in groups (Reopening slot) books = refl
-
-pub jobs-books_in : (groups : ℕ → Group) (call : Call) (books : Books) → (books_in groups call books).jobs ≡ books.jobs
-jobs-books_in groups Idle books = refl
-jobs-books_in groups (Filling entry) books = refl
-jobs-books_in groups (Joined slot piece step) books = refl
-jobs-books_in groups (Emptying slot base total) books = refl
-jobs-books_in groups (Marked after) books = refl
-jobs-books_in groups (Holding at after) books = refl
-jobs-books_in groups (Raising from to after) books = refl
-jobs-books_in groups (Reopening slot) books = refl
 
 -- a seat that has nothing under way has its own books
 module _ (groups : ℕ → Group) (views : List View) (me : ℕ) (v : View) (idle : v.call ≡ Idle) where

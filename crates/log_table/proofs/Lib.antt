@@ -22,6 +22,7 @@ mod Lists
 mod Looking
 mod MarkLooks
 mod Marking
+mod MemberBooks
 mod Merging
 pub mod Nexting
 mod Noting
@@ -37,6 +38,7 @@ mod Reserving
 mod Resting
 mod Roles
 mod Rows
+mod Sharing
 mod Showing
 mod Splitting
 mod Starting

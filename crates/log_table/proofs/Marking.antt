@@ -30,6 +30,7 @@ use Rattle.log_table.specs.Sound.{HasSeenBoundaries, HasContiguousReservations, 
 use Rattle.lock_core.specs.History.{history_from}
 use Rattle.log_table.specs.Accounts.{KeepsAccounts}
 use Rattle.log_table.specs.Roles.{is_active, may_own}
+use Rattle.log_table.specs.Slots.{pieces_at, is_shared_at, shared, phase_at}
 use Rattle.log_table.specs.Views.{run_in, entries_in, books_in, counted}
 use Rattle.log_table.specs.Words.{Words, put}
 use Rattle.log_table.proofs.Boundaries.{range_size, part_size, boundary-mid}
@@ -40,6 +41,7 @@ use Rattle.log_table.proofs.Lists.{all-mid, all-at, all-weaker, picked-append, p
 use Rattle.log_table.proofs.Owning.{LastPart, last_part, own-last, own-others, parts_of-push, duty-owed, owed-unreleased}
 use Rattle.log_table.proofs.Ranging.{last-in_two, tiles-le, tiles-mid, tiles-same, tiles-replaced, laid-same, unreleased_in-mid, inside-here, inside-none, filled_in-mid, filled_in-one}
 use Rattle.log_table.proofs.Roles.{crew-same, quiet-moves}
+use Rattle.log_table.proofs.Sharing.{shared-mid, slots-stay}
 use Rattle.log_table.proofs.Showing.{hands_of-set, changed-range, released_at-others}
 use Rattle.log_table.proofs.TrueMarks.{true-store, current-store}
 use Rattle.log_table.proofs.Viewing.{each_moves, each_set, seats_move, seat_at}
@@ -249,7 +251,8 @@ module _ (key : Start) (words : Words) (views : List View) (me : ℕ) (v : View)
     };
     at_work = all-mid (IsAtWork log.groups) held.before held.behind range now (inl refl)
         (subst (AllByRecursion (IsAtWork log.groups)) held.split s.at_work);
-    slots = s.slots;
+    slots = slots-stay (key.ring / 4) words.slot words.base log.ahead after.ahead log.groups (λ slot. shared-mid slot held.before held.behind range now
+        (ap (is_shared_at slot) duty-is) refl ∙ ap (shared slot) (sym held.split)) s.slots;
     marks = release-marks;
     carried = λ _. carrier-here words.exposed views me v new at tt;
     ends = each_moves (λ _ z. HasTrueEnds key.start words.exposed log z.call) (λ _ z. HasTrueEnds key.start words.exposed after z.call) views me new
@@ -260,11 +263,17 @@ module _ (key : Start) (words : Words) (views : List View) (me : ℕ) (v : View)
           owns = own-last me last.before last.behind (parts_of me true v.entries) true entry last.own_before last.none_behind
               ∙ (sym (parts_of-push me true v.entries entry) ∙ sym (append-nil _));
           owes = owes-none;
+          joins = λ slot. mine.joins slot ∙ ap (pieces_at slot) filling;
+          leads = λ slot. mine.leads slot ∙ ap (phase_at me slot) filling;
+          knows = tt;
         }
         (λ j z differ h. record {
           owns = own-others me j last.before last.behind false true entry entry differ
               ∙ (ap (own j) (sym last.split) ∙ h.owns);
           owes = owe-same j differ ∙ h.owes;
+          joins = h.joins;
+          leads = h.leads;
+          knows = h.knows;
         });
     constants = each_set (λ _ z. HasConstants key z) views me new s.constants (s.constants me v at);
     resting = each_set (λ _ z. RestsUnlessActive z) views me new s.resting (λ off. absurd (busy (s.resting me v at off)));

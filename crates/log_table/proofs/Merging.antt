@@ -17,6 +17,7 @@ use Rattle.log_table.specs.Marks.{Carries, HasTrueEnds}
 use Rattle.log_table.specs.May.{MayMerge}
 use Rattle.log_table.specs.Sound.{HasSeenBoundaries, SendsIfFlusher, StoresStop, HasReadStop, LookedIfQuiet, HasWorkingOwner, HasConstants, RestsUnlessActive, OwnsIfWorker, HoldsIfActive, base_of, history_in, books_of, IsSound, Ruled, EachView, HasSoundRole, HasSoundRoles, HasSoundCrew, Knows, Lacks, is_active_view}
 use Rattle.log_table.specs.Roles.{is_active, has_ended, is_worker, is_spent}
+use Rattle.log_table.specs.Slots.{pieces_at, phase_at}
 use Rattle.log_table.specs.Views.{nobody, entries_in, claims_in}
 use Rattle.log_table.specs.CrewViews.{takes_in}
 use Rattle.log_table.specs.Words.{Words, words_in}
@@ -66,7 +67,7 @@ module _ (key : Start) (words : Words) (views : List View) (me other : ℕ) (v o
   owners : Rattle.log_table.specs.Sound.EachSeat (HasWorkingOwner log.groups parts log.ahead) (set (without views other) me new)
   owners = seats_move Half (HasWorkingOwner log.groups parts log.ahead) (without views other) me v new (at-without views me other v at apart)
       (seats_move (HasWorkingOwner log.groups log.parts log.ahead) Half views other o nobody there s.owners
-      (inl (refl, record { owns = own-renamed-from other me log.parts apart; owes = his.owes ∙ ap claims_in idle' }))
+      (inl (refl, record { owns = own-renamed-from other me log.parts apart; owes = his.owes ∙ ap claims_in idle'; joins = λ slot. his.joins slot ∙ ap (pieces_at slot) idle'; leads = λ slot. his.leads slot ∙ ap (phase_at other slot) idle'; knows = tt }))
       (λ j z differ h. inr (differ, h)))
       record {
         owns = own-renamed other me _ _ log.parts v.entries o.entries s.contiguous.parts apart
@@ -74,12 +75,18 @@ module _ (key : Start) (words : Words) (views : List View) (me other : ℕ) (v o
             (his.owns ∙ (ap (λ c. parts_of other true o.entries ++ parts_of other false (entries_in log.groups c)) idle' ∙ append-nil _))
             ∙ (sym (append-nil _) ∙ ap (λ c. parts_of me true new.entries ++ parts_of me false (entries_in log.groups c)) (sym idle));
         owes = mine.owes;
+        joins = mine.joins;
+        leads = mine.leads;
+        knows = mine.knows;
       }
       (λ j z differ h. ⊎_elim (λ (g : (j ≡ other) × HasWorkingOwner log.groups parts log.ahead j z). g.1)
       (λ (g : (j ≢ other) × HasWorkingOwner log.groups log.parts log.ahead j z). record {
         owns = own-renamed-else other me j log.parts g.0 differ
             ∙ g.1.owns;
         owes = g.1.owes;
+        joins = g.1.joins;
+        leads = g.1.leads;
+        knows = g.1.knows;
       }) h)
 
   sends : (z : View) → SendsIfFlusher key.start words.exposed words.durable log z → SendsIfFlusher key.start words.exposed words.durable after z

@@ -41,7 +41,8 @@ use Rattle.log_table.proofs.Roles.{crew-same, quiet-moves, restands}
 use Rattle.log_table.proofs.Viewing.{each_set}
 use Rattle.log_table.proofs.Taking.{takes-job, takes-account}
 use Rattle.log_table.proofs.Giving.{gives}
-use Rattle.log_table.proofs.Keeping.{books-at, books-set, held-books_in, history-end}
+use Rattle.log_table.proofs.Keeping.{books-at, books-set, history-end}
+use Rattle.log_table.proofs.MemberBooks.{held-books_in}
 
 -- the seat's books change, and the accounts' words with them
 module _ (key : Start) (words : Words) (account : ℕ → ℕ) (views : List View) (me : ℕ) (v : View) (log : Log) (seen : Seen) (books : Books)

@@ -27,6 +27,7 @@ use Rattle.log_table.specs.Marks.{IsReady, IsCurrentMark, HasTrueMark, IsFirstRe
 use Rattle.log_table.specs.MarkViews.{call_with_exposed, after_raise}
 use Rattle.log_table.specs.May.{MayRaise}
 use Rattle.log_table.specs.Sound.{HasSeenBoundaries, HasContiguousReservations, SendsIfFlusher, StoresStop, HasReadStop, LookedIfQuiet, HasWorkingOwner, HasConstants, RestsUnlessActive, OwnsIfWorker, HoldsIfActive, IsSound}
+use Rattle.log_table.specs.Slots.{pieces_at, is_shared_at, phase_at}
 use Rattle.log_table.specs.Views.{entries_in, books_in, claims_in, seen_exposed}
 use Rattle.log_table.specs.Words.{Words}
 use Rattle.log_table.proofs.Carrying.{carrier-here}
@@ -38,6 +39,7 @@ use Rattle.log_table.proofs.Looking.{exposed-boundary}
 use Rattle.log_table.proofs.MarkLooks.{StartsAt, found-at, ready-marked, marked-ready}
 use Rattle.log_table.proofs.Ranging.{tiles-le, tiles-push, all-released}
 use Rattle.log_table.proofs.Roles.{busy-not_quiet, crew-same, quiet-moves}
+use Rattle.log_table.proofs.Sharing.{shared-rest, slots-stay}
 use Rattle.log_table.proofs.Showing.{hands_of-set, task_of-hands_of}
 use Rattle.log_table.proofs.TrueMarks.{IsFirstReady, current-raise}
 use Rattle.log_table.proofs.Viewing.{each_moves, each_set, seats_move, seat_at}
@@ -179,7 +181,8 @@ module _ (key : Start) (words : Words) (views : List View) (me : ℕ) (v : View)
           (all-append IsReleased (log.flushed ++ log.exposed) (range ∷ []) s.below.ranges (first.released, tt));
     };
     at_work = behind-of (IsAtWork log.groups) s.at_work;
-    slots = s.slots;
+    slots = slots-stay (key.ring / 4) words.slot words.base log.ahead rest log.groups
+        (λ slot. shared-rest slot log.ahead rest range first.split (ap (is_shared_at slot) first.released)) s.slots;
     marks = record {
       current = λ place lo hi. current-raise (key.ring / 4) key.ring words.exposed words.tail words.mark range rest tiles (div-le_self key.ring 4)
           (subst (λ l. (x : ℕ) → words.exposed ≤ x → x < words.exposed + key.ring → IsCurrentMark key.ring words.mark l x) first.split s.marks.current)
@@ -194,8 +197,11 @@ module _ (key : Start) (words : Words) (views : List View) (me : ℕ) (v : View)
         record {
           owns = mine.owns ∙ ap (λ c. parts_of me true v.entries ++ parts_of me false (entries_in log.groups c)) may.raising;
           owes = fewer me ∙ (mine.owes ∙ ap claims_in may.raising);
+          joins = λ slot. mine.joins slot ∙ ap (pieces_at slot) may.raising;
+          leads = λ slot. mine.leads slot ∙ ap (phase_at me slot) may.raising;
+          knows = tt;
         }
-        (λ j z _ h. record { owns = h.owns; owes = fewer j ∙ h.owes });
+        (λ j z _ h. record { owns = h.owns; owes = fewer j ∙ h.owes; joins = h.joins; leads = h.leads; knows = h.knows });
     constants = each_set (λ _ z. HasConstants key z) views me new s.constants (s.constants me v at);
     resting = each_set (λ _ z. RestsUnlessActive z) views me new s.resting (λ off. absurd (busy (s.resting me v at off)));
     entries = each_set (λ _ z. OwnsIfWorker z) views me new s.entries (s.entries me v at);

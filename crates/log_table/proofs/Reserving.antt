@@ -21,6 +21,7 @@ use Rattle.log_table.specs.Marks.{HasTrueMark, Carries, HasTrueEnds}
 use Rattle.log_table.specs.May.{MayReserve}
 use Rattle.log_table.specs.Sound.{HasSeenBoundaries, HasContiguousReservations, SendsIfFlusher, StoresStop, HasReadStop, LookedIfQuiet, HasWorkingOwner, HasConstants, RestsUnlessActive, OwnsIfWorker, HoldsIfActive, IsSound, base_of, history_in, books_of}
 use Rattle.log_table.specs.Roles.{is_active, is_spent}
+use Rattle.log_table.specs.Slots.{pieces_at, phase_at}
 use Rattle.log_table.specs.Views.{entries_in, claims_in, empty_entry, saw_tail, reserved, after_exchange}
 use Rattle.log_table.specs.Words.{Words}
 use Rattle.log_table.proofs.Boundaries.{range_size, part_size, boundary-append, laid-end}
@@ -42,6 +43,7 @@ use Rattle.log_table.proofs.Looking.{tail-boundary, tail-looks}
 use Rattle.log_table.proofs.Owning.{own-push, own-push_others, owed-push, owed-push_others}
 use Rattle.log_table.proofs.Ranging.{tiles-le, tiles-push, tiles-within, laid-append, inside-here, unreleased_in-append, unreleased_in-apart, filled_in-append, filled_in-apart}
 use Rattle.log_table.proofs.Roles.{crew-same, quiet-moves}
+use Rattle.log_table.proofs.Sharing.{shared-push, slots-stay}
 use Rattle.log_table.proofs.Showing.{hands_of-set, task_of-hands_of, same-shown}
 use Rattle.log_table.proofs.TrueMarks.{ready-push}
 use Rattle.log_table.proofs.Viewing.{each_set, each_moves, seats_move, seat_at}
@@ -230,7 +232,7 @@ module _ (key : Start) (words : Words) (views : List View) (me : ℕ) (v : View)
       ranges = s.below.ranges;
     };
     at_work = all-append (IsAtWork log.groups) log.ahead (range ∷ []) s.at_work (inr (inl record { seat = me; duty = refl }), tt);
-    slots = s.slots;
+    slots = slots-stay (key.ring / 4) words.slot words.base log.ahead after.ahead log.groups (λ slot. shared-push slot log.ahead range refl) s.slots;
     marks = record {
       current = λ place lo hi. ⊎_elim (λ low. inl low)
           (λ ready. inr (ready-push place (words.mark (place % key.ring)) log.ahead (range ∷ []) ready)) (s.marks.current place lo hi);
@@ -250,11 +252,17 @@ module _ (key : Start) (words : Words) (views : List View) (me : ℕ) (v : View)
               (mine.owns ∙ (ap (λ c. parts_of me true v.entries ++ parts_of me false (entries_in log.groups c)) may.rests.idle ∙ append-nil _));
           owes = owed-push me log.ahead range refl
               ∙ ap (λ l. l ++ record { base = from; size = size; remaining = size } ∷ []) (mine.owes ∙ ap claims_in may.rests.idle);
+          joins = λ slot. mine.joins slot ∙ ap (pieces_at slot) may.rests.idle;
+          leads = λ slot. mine.leads slot ∙ ap (phase_at me slot) may.rests.idle;
+          knows = tt;
         }
         (λ j z differ h. record {
           owns = own-push_others me j log.parts false entry differ
               ∙ h.owns;
           owes = owed-push_others me j log.ahead range refl differ ∙ h.owes;
+          joins = h.joins;
+          leads = h.leads;
+          knows = h.knows;
         });
     constants = each_set (λ _ z. HasConstants key z) views me new s.constants (s.constants me v at);
     resting = each_set (λ _ z. RestsUnlessActive z) views me new s.resting (λ off. absurd (true≢false (sym (ap is_active may.rests.active) ∙ off)));

@@ -7,9 +7,11 @@ use Rattle.log_table.specs.declared.view.View.{View}
 use Rattle.log_table.specs.Groups.{Group}
 use Rattle.log_table.specs.Log.{Range, Log, owed, is_owed_by, claim_of, IsReleased, IsOwedBySeat, IsSharedByMembers, IsAtWork, Tiles}
 use Rattle.log_table.specs.Marks.{IsFirstReleased, Carries, HasCarrier}
+use Rattle.log_table.specs.Slots.{pieces_at}
 use Rattle.log_table.specs.Sound.{IsSound}
 use Rattle.log_table.specs.Views.{nobody, claims_in}
 use Rattle.log_table.specs.Words.{Words}
+use Rattle.log_table.proofs.Sharing.{no-members}
 use Rattle.log_table.proofs.Viewing.{at_get}
 
 -- where the first range is not released, nobody owes one, and no slot has a member, none is there
@@ -27,7 +29,8 @@ none-ahead groups (r ∷ rs) work none empty first =
 pub at_rest : (key : Start) (words : Words) (views : List View) (log : Log) → IsSound key words views log
     → ((j : ℕ) → (get_or views j nobody).call ≡ Idle) → words.exposed ≡ words.tail
 at_rest key words views log s idle = subst (λ l. Tiles (key.ring / 4) words.exposed l words.tail)
-    (none-ahead log.groups log.ahead s.at_work (λ j. (s.owners j).owes ∙ ap claims_in (idle j)) (λ slot. ap (λ (g : Group). g.members) (s.slots slot).nobody)
+    (none-ahead log.groups log.ahead s.at_work (λ j. (s.owners j).owes ∙ ap claims_in (idle j)) (λ slot. no-members (log.groups slot).members
+    (λ j. (s.owners j).joins slot ∙ ap (pieces_at slot) (idle j)))
     (λ first. nobody-carries (s.carried first))) s.contiguous.to_tail
   where
     nobody-carries : HasCarrier words.exposed views → ⊥

@@ -3,17 +3,21 @@ use Rattle.std.proofs.Common.{◌≡◌, ℕ, ◌+◌, cond, Bool, true, false, 
 use mathlib.Core.Option.{some}
 use lib.ListN.{get_elem?}
 use Rattle.log_table.specs.declared.table.Start.{Start}
+use Rattle.log_table.specs.declared.view.Books.{Books}
+use Rattle.log_table.specs.declared.view.Call.{Call}
 use Rattle.log_table.specs.declared.view.Call.TheVariants.{Idle}
 use Rattle.log_table.specs.declared.view.Role.{Role}
 use Rattle.log_table.specs.declared.view.Role.TheVariants.{Flusher, Fresh, Active, Ended, Note, Spent}
 use Rattle.log_table.specs.declared.view.Standing.{Standing}
 use Rattle.log_table.specs.declared.view.View.{View}
 use Rattle.log_table.specs.Events.{task_in, slots_of, Leads, none}
+use Rattle.log_table.specs.Groups.{Group}
 use Rattle.log_table.specs.Log.{Log, ranges_of, parts_of}
 use Rattle.log_table.specs.Marks.{IsFirstReleased, Carries, HasTrueEnds}
 use Rattle.log_table.specs.Sound.{EachView, EachPair, HasSeenBoundaries, SendsIfFlusher, StoresStop, HasReadStop, RestsIfQuiet, LookedIfQuiet, HasWorkingOwner, HasConstants, RestsUnlessActive, OwnsIfWorker, HoldsIfActive, base_of, history_in, books_of, HasSoundRole, HasSoundRoles, HasSoundCrew, IsSound, is_active_view}
 use Rattle.log_table.specs.Roles.{is_active, is_worker, is_working}
-use Rattle.log_table.specs.Views.{entries_in, claims_in}
+use Rattle.log_table.specs.Slots.{pieces_at, phase_at, KnowsGroup}
+use Rattle.log_table.specs.Views.{entries_in, books_in, claims_in}
 use Rattle.log_table.specs.Words.{Words}
 use Rattle.log_table.specs.Accounts.{KeepsAccounts}
 use Rattle.log_table.proofs.Carrying.{carrier-set}
@@ -79,10 +83,22 @@ pub sole-flusher : (crew : ℕ) (views : List View) (me : ℕ) (v : View) → Ha
     → v.standing.role ≡ Flusher → (j : ℕ) (z : View) → get_elem? views j ≡ some z → z.standing.role ≡ Flusher → j ≡ me
 sole-flusher crew views me v s at flusher j z there f = (s.each j z there).first f ∙ sym ((s.each me v at).first flusher)
 
--- the seat's view, the crew and the accounts change, but not what the seat owns or has reserved
+-- the new call has of the log and at the slots what the old one has
+pub record HasSame (groups : ℕ → Group) (seat : ℕ) (old new : Call) : Type 0 where
+  pub entries : entries_in groups new ≡ entries_in groups old
+  pub claims : claims_in new ≡ claims_in old
+  pub books : (books : Books) → books_in groups new books ≡ books_in groups old books
+  pub pieces : (slot : ℕ) → pieces_at slot new ≡ pieces_at slot old
+  pub phases : (slot : ℕ) → phase_at seat slot new ≡ phase_at seat slot old
+  pub knows : KnowsGroup groups old → KnowsGroup groups new
+
+same-call : (groups : ℕ → Group) (seat : ℕ) (old new : Call) → new ≡ old → HasSame groups seat old new
+same-call groups seat old new is = subst (HasSame groups seat old) (sym is)
+    record { entries = refl; claims = refl; books = λ _. refl; pieces = λ _. refl; phases = λ _. refl; knows = λ known. known }
+
+-- the seat's view, the crew and the accounts change, but not what the seat owns or has reserved, nor what it has at the slots
 module _ (key : Start) (words : Words) (stop crew : ℕ) (account : ℕ → ℕ) (views : List View) (me : ℕ) (v new : View) (log : Log) (s : IsSound key words views log)
-    (at : get_elem? views me ≡ some v) (runs : entries_in log.groups new.call ≡ entries_in log.groups v.call)
-    (claims : claims_in new.call ≡ claims_in v.call)
+    (at : get_elem? views me ≡ some v) (same : HasSame log.groups me v.call new.call)
     (carries : IsFirstReleased log.ahead → Carries words.exposed v.call → Carries words.exposed new.call)
     (ends : HasTrueEnds key.start words.exposed log new.call) (entries : new.entries ≡ v.entries)
     (sees : HasSeenBoundaries key.start words.tail words.exposed words.durable (ranges_of log) new.seen) (constants : HasConstants key new)
@@ -106,8 +122,11 @@ module _ (key : Start) (words : Words) (stop crew : ℕ) (account : ℕ → ℕ)
     ends = each_set (λ _ z. HasTrueEnds key.start words.exposed log z.call) views me new s.ends ends;
     owners = seats_set (HasWorkingOwner log.groups log.parts log.ahead) views me v new at s.owners
         (let mine = seat_at (HasWorkingOwner log.groups log.parts log.ahead) views me v at s.owners in record {
-          owns = mine.owns ∙ (λ i. parts_of me true (sym entries i) ++ parts_of me false (sym runs i));
-          owes = mine.owes ∙ sym claims;
+          owns = mine.owns ∙ (λ i. parts_of me true (sym entries i) ++ parts_of me false (sym same.entries i));
+          owes = mine.owes ∙ sym same.claims;
+          joins = λ slot. mine.joins slot ∙ sym (same.pieces slot);
+          leads = λ slot. mine.leads slot ∙ sym (same.phases slot);
+          knows = same.knows mine.knows;
         });
     constants = each_set (λ _ z. HasConstants key z) views me new s.constants constants;
     resting = each_set (λ _ z. RestsUnlessActive z) views me new s.resting rests;
@@ -133,7 +152,7 @@ module _ (key : Start) (words : Words) (stop crew : ℕ) (account : ℕ → ℕ)
     (unheld : HoldsIfActive new)
     (accounts : KeepsAccounts (base_of key) account (history_in key log.parts) (map (books_of log.groups) (set views me new))) where
   pub restands-sound : IsSound key (record words { stop = stop; crew = crew; account = account }) (set views me new) log
-  restands-sound = recalls-sound key words stop crew account views me v new log s at (ap (entries_in log.groups) call) (ap claims_in call)
+  restands-sound = recalls-sound key words stop crew account views me v new log s at (same-call log.groups me v.call new.call call)
       (λ _. subst (Carries words.exposed) (sym call)) (subst (HasTrueEnds key.start words.exposed log) (sym call) (s.ends me v at)) entries
       sees constants rests owns roles sends stops read_stop quiet looked unheld accounts
 

@@ -56,7 +56,7 @@ module _ (key : Start) (words : Words) (least : LEAST_RING ≤ key.ring) (most :
     filled = record { spelled = tt; stands = tt };
     below = record { full = tt; below = tt; ranges = tt };
     at_work = tt;
-    slots = λ slot. record { word_is = vacant slot; nobody = refl };
+    slots = λ slot. record { range = refl; words = record { word_is = vacant slot; nobody = refl } };
     marks = record {
       current = λ place _ _. inl (omega (arith, marks (place % key.ring)));
       true_marks = tt;
@@ -98,8 +98,8 @@ module _ (key : Start) (words : Words) (least : LEAST_RING ≤ key.ring) (most :
   }
     where
       owners : (j : ℕ) → HasWorkingOwner empty_log.groups [] [] j (get_or (flusher key ∷ []) j nobody)
-      owners zero = record { owns = refl; owes = refl }
-      owners (suc j) = record { owns = refl; owes = refl }
+      owners zero = record { owns = refl; owes = refl; joins = λ _. refl; leads = λ _. refl; knows = tt }
+      owners (suc j) = record { owns = refl; owes = refl; joins = λ _. refl; leads = λ _. refl; knows = tt }
 
 -- the words of the table before the accounts' are put in
 abbrev pub shared_words : List ℕ → ℕ → List ℕ

@@ -1,16 +1,18 @@
 -- What a table shows of the machine with slots, and which of its events a step is. What speaks of steps uses these names, and not those of
 -- the machine itself. All events so far are the ring machine's.
-use Rattle.std.specs.Prelude.{◌≡◌, ℕ, ◌+◌, true, List, [], ◌∷◌, map, set, replicate, Option, Some, None}
+use Rattle.std.specs.Prelude.{◌≡◌, ℕ, ◌+◌, true, List, [], ◌∷◌, map, set, zero, suc, Option, Some, None}
 use mathlib.Core.Option.{some}
 use lib.ListN.{get_elem?}
 use Rattle.ring_core.specs.RingLog.{Reservation, RingLog}
 use Rattle.ring_core.specs.declared.event.RingEvent.TheVariants.{Reserve, Fill, Mark, LookExposed, LookMark, Raise, Flushed}
-use Rattle.slot_core.specs.State.{Idle, Works, Marked, Holds, Raises, Task, InRing, Hand, SlotState, nothing, joined, empty_group}
+use Rattle.slot_core.specs.State.{Idle, Works, Marked, Holds, Raises, Task, InRing, Hand, SlotState, nothing, joined, member, group}
+use Rattle.slot_core.specs.State as machine
 use Rattle.slot_core.specs.Machine.{GroupEvent, Ring, GroupStep}
 use Rattle.log_table.specs.declared.table.Start.{Start}
 use Rattle.log_table.specs.declared.view.Call.{Call}
 use Rattle.log_table.specs.declared.view.Call.TheVariants as call
 use Rattle.log_table.specs.declared.view.View.{View}
+use Rattle.log_table.specs.Groups.{Member, Group}
 use Rattle.log_table.specs.GroupViews.{stage_of, slot_after}
 use Rattle.log_table.specs.Layout.{Word}
 use Rattle.log_table.specs.Log.{Part, Range, Log, ranges_of, filled_in, is_released}
@@ -49,10 +51,22 @@ ring_of key words log = record {
   durable = words.durable;
 }
 
--- The state of the machine that a table shows. No step makes a group yet, so the one at each slot is nobody's
+-- a member and a group, as the machine says them
+abbrev pub member_shown : Member → machine.Member
+member_shown m = member m.seat m.piece.offset m.piece.size
+
+abbrev pub group_shown : Group → machine.Group
+group_shown g = group (map member_shown g.members) g.phase
+
+-- so many groups, from a slot on
+abbrev pub groups_from : ℕ → ℕ → (ℕ → Group) → List machine.Group
+groups_from slot zero groups = []
+groups_from slot (suc more) groups = group_shown (groups slot) ∷ groups_from (slot + 1) more groups
+
+-- the state of the machine that a table shows
 abbrev pub slots_of : Start → Words → List View → Log → SlotState
 slots_of key words views log =
-    record { log = ring_of key words log; hands = hands_of 0 views; groups = replicate key.slots empty_group }
+    record { log = ring_of key words log; hands = hands_of 0 views; groups = groups_from 0 key.slots log.groups }
 
 -- what a step is to the machine: one of its events, or none
 abbrev pub Event : Type 0

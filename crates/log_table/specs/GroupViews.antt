@@ -6,25 +6,68 @@ use Rattle.log_table.specs.declared.group_view.After.{After}
 use Rattle.log_table.specs.declared.group_view.After.TheVariants.{Nothing, Reopens}
 use Rattle.log_table.specs.declared.group_view.MemberStep.{MemberStep}
 use Rattle.log_table.specs.declared.group_view.MemberStep.TheVariants.{Closes, Waits, Hears, Places, Stores, Tells, Fills, Leaves}
-use Rattle.log_table.specs.declared.group_view.Piece.{Piece}
 use Rattle.log_table.specs.declared.view.Call.{Call}
 use Rattle.log_table.specs.declared.view.Call.TheVariants.{Idle, Filling, Joined, Emptying, Marked, Holding, Raising, Reopening}
+use Rattle.log_table.specs.declared.view.Books.{Books}
 use Rattle.log_table.specs.declared.view.Entry.{Entry}
+use Rattle.log_table.specs.Books.{placing}
+use Rattle.log_table.specs.Groups.{Outcome, Granted, Refused, GroupPhase, Vacant, Gathering, Closed, Placed, Ready, Told, Emptied, Piece}
 
 -- the piece in the group's range, which begins there, with these units filled
 abbrev pub placed_piece : ℕ → List ℕ → Piece → Entry
 placed_piece base units piece = record { start = base + piece.offset; size = piece.size; units = units; rec = piece.rec }
 
--- the entry of a member that has heard where the group's range begins
-abbrev pub heard_entry : Piece → MemberStep → List Entry
-heard_entry piece Closes = []
-heard_entry piece Waits = []
-heard_entry piece (Hears refused total) = []
-heard_entry piece (Places total closed) = []
-heard_entry piece (Stores total base) = []
-heard_entry piece (Tells total outcome) = []
-heard_entry piece (Fills base units) = placed_piece base units piece ∷ []
-heard_entry piece (Leaves tail durable) = []
+-- the piece's entry by what became of the group, with no unit filled
+abbrev pub granted_entry : Outcome → Piece → List Entry
+granted_entry (Granted base) piece = placed_piece base [] piece ∷ []
+granted_entry (Refused tail durable) piece = []
+
+-- the entry of a member that has not heard, by the phase of its group
+abbrev pub unheard_entry : GroupPhase → Piece → List Entry
+unheard_entry Vacant piece = []
+unheard_entry (Gathering leader total) piece = []
+unheard_entry (Closed leader total) piece = []
+unheard_entry (Placed leader total outcome) piece = granted_entry outcome piece
+unheard_entry (Ready leader total outcome) piece = granted_entry outcome piece
+unheard_entry (Told total outcome remaining) piece = granted_entry outcome piece
+unheard_entry (Emptied last) piece = []
+
+-- the entry of a member at this step
+abbrev pub member_entry : GroupPhase → Piece → MemberStep → List Entry
+member_entry phase piece Closes = unheard_entry phase piece
+member_entry phase piece Waits = unheard_entry phase piece
+member_entry phase piece (Hears refused total) = unheard_entry phase piece
+member_entry phase piece (Places total closed) = unheard_entry phase piece
+member_entry phase piece (Stores total base) = unheard_entry phase piece
+member_entry phase piece (Tells total outcome) = unheard_entry phase piece
+member_entry phase piece (Fills base units) = placed_piece base units piece ∷ []
+member_entry phase piece (Leaves tail durable) = []
+
+-- the books with the piece's record placed, by what became of the group
+abbrev pub granted_books : Outcome → Piece → Books → Books
+granted_books (Granted base) piece books = placing (base + piece.offset + piece.size) piece.rec books
+granted_books (Refused tail durable) piece books = books
+
+-- the books of a member that has not heard: its group may have placed its record
+abbrev pub unheard_books : GroupPhase → Piece → Books → Books
+unheard_books Vacant piece books = books
+unheard_books (Gathering leader total) piece books = books
+unheard_books (Closed leader total) piece books = books
+unheard_books (Placed leader total outcome) piece books = granted_books outcome piece books
+unheard_books (Ready leader total outcome) piece books = granted_books outcome piece books
+unheard_books (Told total outcome remaining) piece books = granted_books outcome piece books
+unheard_books (Emptied last) piece books = books
+
+-- the books of a member at this step; one that has heard has placed its record itself
+abbrev pub member_books : GroupPhase → Piece → MemberStep → Books → Books
+member_books phase piece Closes books = unheard_books phase piece books
+member_books phase piece Waits books = unheard_books phase piece books
+member_books phase piece (Hears refused total) books = unheard_books phase piece books
+member_books phase piece (Places total closed) books = unheard_books phase piece books
+member_books phase piece (Stores total base) books = unheard_books phase piece books
+member_books phase piece (Tells total outcome) books = unheard_books phase piece books
+member_books phase piece (Fills base units) books = books
+member_books phase piece (Leaves tail durable) books = books
 
 -- the step with one more unit of the piece filled
 abbrev pub step_with_unit : ℕ → MemberStep → MemberStep

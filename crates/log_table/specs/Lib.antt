@@ -16,6 +16,7 @@ pub mod Opening
 pub mod Roles
 pub mod Seats
 pub mod Sends
+pub mod Slots
 pub mod Sound
 pub mod Views
 pub mod Words

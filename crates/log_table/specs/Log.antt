@@ -14,7 +14,7 @@ pub record Part : Type 0 where
   pub entry : Entry
   pub released : Bool
 
--- who still has to release a range: the members of a slot's group (no step makes such a range yet), one seat, or nobody
+-- who still has to release a range: the members of a slot's group, one seat, or nobody
 pub data Duty : Type 0 where
   Shared : (slot : ℕ) → Duty
   Owed : (seat : ℕ) → Duty

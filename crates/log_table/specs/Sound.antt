@@ -18,10 +18,11 @@ use Rattle.lock_core.specs.Settling.{row}
 use Rattle.lock_core.specs.Sums.{BaseState}
 use Rattle.log_table.specs.declared.view.Books.{Books}
 use Rattle.log_table.specs.Accounts.{KeepsAccounts}
-use Rattle.log_table.specs.Groups.{Group, IsVacant}
+use Rattle.log_table.specs.Groups.{Group}
 use Rattle.log_table.specs.Layout.{word_count}
 use Rattle.log_table.specs.Log.{Part, Range, Log, ranges_of, own, parts_of, owed, Tiles, Laid, SpellsRecord, records_in, StandsInRing, AgreesFrom, IsRangeBoundary, EndsWithPart, IsFullIfReleased, IsReleasedBelow, IsReleased, IsAtWork, CountsRemaining}
 use Rattle.log_table.specs.Marks.{HasReleaseMarks, IsCarried, HasTrueEnds}
+use Rattle.log_table.specs.Slots.{own_pieces, pieces_at, led_phase, phase_at, KnowsGroup, IsSoundSlot}
 use Rattle.log_table.specs.Roles.{is_active, is_worker, is_working, is_spent, may_own}
 use Rattle.log_table.specs.Views.{constants_of, nobody, entries_in, books_in, claims_in}
 use Rattle.log_table.specs.Words.{Words, words_in}
@@ -102,10 +103,14 @@ RestsIfQuiet view other = view.standing.role ≡ Flusher → view.sending.quiet 
 abbrev pub LookedIfQuiet : ℕ → View → Type 0
 LookedIfQuiet exposed view = view.standing.role ≡ Flusher → view.sending.quiet ≡ true → view.sending.looked ≡ true → view.sending.exposed ≡ exposed
 
--- the log has of the seat its entries, which are released, and what its call has reserved
+-- The log has of the seat its entries, which are released, and what its call has reserved; and each slot has the seat as a member, and as
+-- the one who makes the slot's next step, where its call says so. What the call knows of its group is so.
 pub record HasWorkingOwner (groups : ℕ → Group) (parts : List Part) (ahead : List Range) (seat : ℕ) (view : View) : Type 0 where
   pub owns : own seat parts ≡ parts_of seat true view.entries ++ parts_of seat false (entries_in groups view.call)
   pub owes : owed seat ahead ≡ claims_in view.call
+  pub joins : (slot : ℕ) → own_pieces seat (groups slot).members ≡ pieces_at slot view.call
+  pub leads : (slot : ℕ) → led_phase seat (groups slot).phase ≡ phase_at seat slot view.call
+  pub knows : KnowsGroup groups view.call
 
 -- the view has the table's constants
 abbrev pub HasConstants : Start → View → Type 0
@@ -178,7 +183,7 @@ pub record IsSound (key : Start) (words : Words) (views : List View) (log : Log)
   pub filled : KeepsFilledUnits key.ring words.durable words.ring log.parts
   pub below : IsFilledBelowExposed words.exposed log
   pub at_work : AllByRecursion (IsAtWork log.groups) log.ahead
-  pub slots : (slot : ℕ) → IsVacant (words.slot slot) (log.groups slot)
+  pub slots : (slot : ℕ) → IsSoundSlot (key.ring / 4) (words.slot slot) (words.base slot) slot log.ahead (log.groups slot)
   pub marks : HasReleaseMarks key.ring words.tail words.exposed words.mark log
   pub carried : IsCarried words.exposed log.ahead views
   pub ends : EachView (λ _ view. HasTrueEnds key.start words.exposed log view.call) views

@@ -17,7 +17,7 @@ use Rattle.log_table.specs.declared.view.View.{View}
 use Rattle.log_record.specs.declared.rec.Rec.{Rec}
 use Rattle.log_table.specs.Books.{no_books, next_of, placing}
 use Rattle.log_table.specs.Groups.{Group}
-use Rattle.log_table.specs.GroupViews.{heard_entry, step_with_unit}
+use Rattle.log_table.specs.GroupViews.{member_entry, member_books, step_with_unit}
 use Rattle.log_table.specs.Log.{Claim}
 
 -- what the table was made with, as each view keeps it
@@ -88,23 +88,23 @@ run_in (Holding at after) = []
 run_in (Raising from to after) = []
 run_in (Reopening slot) = []
 
--- The entries that the call under way has reserved. A seat that waits in a group will have its own by what the group at its slot has, since
--- its view doesn't know yet where that begins; so far it has none.
+-- The entries that the call under way has reserved. A member of a group that has not heard has its own by the phase of its group, since its
+-- view doesn't know yet where that begins.
 abbrev pub entries_in : (ℕ → Group) → Call → List Entry
 entries_in groups Idle = []
 entries_in groups (Filling entry) = entry ∷ []
-entries_in groups (Joined slot piece step) = heard_entry piece step
+entries_in groups (Joined slot piece step) = member_entry (groups slot).phase piece step
 entries_in groups (Emptying slot base total) = []
 entries_in groups (Marked after) = []
 entries_in groups (Holding at after) = []
 entries_in groups (Raising from to after) = []
 entries_in groups (Reopening slot) = []
 
--- the books, with the record that such a group has placed for the call under way: none so far
+-- the books, with the record that such a group has placed for the call under way
 abbrev pub books_in : (ℕ → Group) → Call → Books → Books
 books_in groups Idle books = books
 books_in groups (Filling entry) books = books
-books_in groups (Joined slot piece step) books = books
+books_in groups (Joined slot piece step) books = member_books (groups slot).phase piece step books
 books_in groups (Emptying slot base total) books = books
 books_in groups (Marked after) books = books
 books_in groups (Holding at after) books = books
