@@ -40,6 +40,9 @@ mod Roles
 mod Rows
 mod Sharing
 mod Showing
+mod SlotAllowing
+mod SlotLooks
+mod SlotWords
 mod Splitting
 mod Starting
 mod Stopping

@@ -16,6 +16,7 @@ pub mod Opening
 pub mod Roles
 pub mod Seats
 pub mod Sends
+pub mod SlotViews
 pub mod Slots
 pub mod Sound
 pub mod Views

@@ -42,6 +42,14 @@ pub(crate) fn mark_place(ring: u32, at: Lsn) -> usize
     RING + ring as usize + place(at, ring)
 }
 
+/// Where the word of a slot's state lies.
+pub(crate) fn slot_place(ring: u32, slot: u32) -> usize
+    requires { (ring ≤ GREATEST_RING) × (slot ≤ MOST_SLOTS) }
+    ensures { result ≡ RING + ring + ring + STRIDE * slot }
+{
+    RING + ring as usize + ring as usize + STRIDE * slot as usize
+}
+
 /// Where the word of an account lies, in a table with so many slots.
 pub(crate) fn account_place(ring: u32, slots: u32, account: u32) -> usize
     requires { (ring ≤ GREATEST_RING) × (slots ≤ MOST_SLOTS) × (account ≤ MOST_ACCOUNTS) }

@@ -160,7 +160,7 @@ impl Play<(), View> for LoadCrew {
     ghost then = { λ st old n new. (new ≡ (saw_crew n old.0, old.1)) × Unit {0} };
 }
 
-/// The number of a worker, or of an account.
+/// The number of a worker, of a slot, or of an account.
 pub trait Number {
     ghost use Rattle.std.specs.Prelude.{ℕ};
 
@@ -198,6 +198,18 @@ impl<N: Task> Play<(), View> for TakeJob<N> {
     ghost use Rattle.log_table.specs.AccountViews.{took_job};
 
     ghost then = { λ st old n new. (new ≡ (took_job N.number N.job n old.0, old.1)) × (old.0.seen.stop ≢ 0 → n ≡ old.0.seen.stop) };
+}
+
+pub(crate) struct LoadSlot<N> {
+    slot: PhantomData<N>,
+}
+
+impl<N: Number> Play<(), View> for LoadSlot<N> {
+    ghost use Rattle.std.specs.Prelude.{◌≡◌};
+    ghost use Rattle.slot_word.specs.SlotWord.{IsSlotWord};
+    ghost use Rattle.log_table.specs.SlotViews.{saw_slot};
+
+    ghost then = { λ st old n new. (new ≡ (saw_slot N.number n old.0, old.1)) × IsSlotWord n };
 }
 
 pub(crate) struct LoadAccount<N> {

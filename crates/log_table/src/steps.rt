@@ -6,5 +6,6 @@ mod exposed;
 mod jobs;
 mod mark;
 mod ring;
+mod slots;
 mod stop;
 mod tail;

@@ -1,0 +1,32 @@
+-- Each kind of step on a slot is one that the base crate allows.
+use Rattle.std.proofs.Common.{◌≡◌, ℕ, ◌+◌, ◌*◌, ◌<◌, length, subst, sym, ap, ◌∙◌}
+use Rattle.atomic_table.specs.Table.{Me, Allows}
+use Rattle.slot_word.specs.SlotWord.{IsSlotWord}
+use Rattle.log_table.specs.Events.{none}
+use Rattle.log_table.specs.declared.layout.TheConstants.{STRIDE, RING}
+use Rattle.log_table.specs.declared.table.Start.{Start}
+use Rattle.log_table.specs.declared.view.View.{View}
+use Rattle.log_table.specs.Layout.{Slot}
+use Rattle.log_table.specs.SlotViews.{saw_slot}
+use Rattle.log_table.specs.Sound.{Ruled}
+use Rattle.log_table.proofs.Lifting.{allowed-if_step}
+use Rattle.log_table.proofs.SlotLooks.{slot-looks, slot-tells}
+use Rattle.log_table.proofs.Wording.{Fits, of_slot}
+
+module _ (key : Start) (slots seat : ℕ) (me : Me (Unit {0}) View) where
+  module _ (place ring number slot picked : ℕ) (at : place ≡ RING + ring + ring + STRIDE * slot) (same : key.ring ≡ ring)
+      (slotted : key.slots ≡ number) (below : slot < number) (is : picked ≡ slot) where
+    fits-slot : Fits key.ring key.slots (length key.accounts.rows) (Slot slot)
+    fits-slot = of_slot slot (subst (λ n. slot < n) (sym slotted) below)
+
+    -- the word at that place, with the number as it was picked
+    at-slot : (left : ℕ → ℕ) (then : ℕ → ℕ → Me (Unit {0}) View → Type 0)
+        → Allows (Ruled key) slots seat me (RING + key.ring + key.ring + STRIDE * slot) left (then slot)
+        → Allows (Ruled key) slots seat me place left (then picked)
+    at-slot left then allows = subst (λ (p : ℕ × ℕ). Allows (Ruled key) slots seat me p.0 left (then p.1))
+        (λ i. ((ap (λ r. RING + r + r + STRIDE * slot) same ∙ sym at) i, sym is i)) allows
+
+    pub load_slot-allowed : Allows (Ruled key) slots seat me place (λ n. n) (λ n new. (new ≡ (saw_slot picked n me.0, me.1)) × IsSlotWord n)
+    load_slot-allowed = at-slot (λ n. n) (λ p n new. (new ≡ (saw_slot p n me.0, me.1)) × IsSlotWord n)
+        (allowed-if_step key slots seat me (Slot slot) fits-slot (λ n. n) (λ n. saw_slot slot n me.0) (λ _. none) IsSlotWord
+        (slot-tells key seat me.0 slot) (λ n _. slot-looks key seat me.0 slot n))

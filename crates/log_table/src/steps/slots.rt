@@ -1,0 +1,40 @@
+//! The slots: workers that lost an exchange of the tail gather there, and one reserves for all.
+ghost use Rattle.std.specs.Prelude.{◌≡◌, ◌<◌};
+ghost use Rattle.slot_word.specs.SlotWord.{word_of};
+ghost use Rattle.log_table.specs.Events.{IsStep, none};
+ghost use Rattle.log_table.specs.Layout.{Slot};
+ghost use Rattle.log_table.specs.Seats.{IsOf, Becomes, view_of, number_of, key_of};
+ghost use Rattle.log_table.specs.SlotViews.{saw_slot};
+
+use crate::layout::slot_place;
+use crate::plays::{LoadSlot, Number};
+use crate::table::{LogTable, Seat};
+use slot_word::SlotWord;
+use std::marker::Brand;
+
+/// The slot's number, which a step can't see, comes by the type.
+fn load_slot_as<N: Number>(table: &LogTable, seat: &mut Seat, slot: u32) -> SlotWord
+    requires seat { IsOf table.now seat.old }
+    requires slot { slot < table.now.slots }
+    requires named { N.number ≡ slot }
+    ensures view { Becomes seat.old seat.new (saw_slot slot (word_of result) (view_of seat.old)) }
+{
+    let place = slot_place(table.ring, slot);
+    let word = table
+        .table
+        .shared
+        .load::<LoadSlot<N>>(&mut seat.base, place);
+    SlotWord::unpack(word)
+}
+
+impl LogTable {
+    /// The state of the slot. A member of the group there that waits sees by it whether its group is told.
+    pub fn load_slot(&self, seat: &mut Seat, slot: u32) -> SlotWord
+        requires seat { IsOf self.now seat.old }
+        requires slot { slot < self.now.slots }
+        ensures view { Becomes seat.old seat.new (saw_slot slot (word_of result) (view_of seat.old)) }
+        ensures event { IsStep (key_of self.now) (number_of seat.old) (Slot slot) (word_of result) (word_of result) (view_of seat.old) (saw_slot slot (word_of result) (view_of seat.old)) none }
+    {
+        load_slot_as::<Brand>(self, seat, slot)
+    }
+}
