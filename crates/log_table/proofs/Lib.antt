@@ -14,6 +14,7 @@ mod Flushing
 mod Gathered
 mod Gathering
 mod Giving
+mod Groups
 mod Growing
 pub mod Hired
 mod Keeping
@@ -41,8 +42,11 @@ mod Rows
 mod Sharing
 mod Showing
 mod SlotAllowing
+mod SlotJoining
 mod SlotLooks
+mod SlotShowing
 mod SlotWords
+mod Slotting
 mod Splitting
 mod Starting
 mod Stopping

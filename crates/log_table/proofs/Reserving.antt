@@ -57,7 +57,7 @@ empty-push parts p base size empty =
     none true = ap length empty
     none false = refl
 
-spelling-some : (r : Rec) → 1 ≤ length (spelling r)
+pub spelling-some : (r : Rec) → 1 ≤ length (spelling r)
 spelling-some (rec.Genesis account balance) = omega arith
 spelling-some (rec.Update txn account delta prev) = omega arith
 spelling-some (rec.Commit txn legs) = omega arith

@@ -1,15 +1,20 @@
 -- Each kind of step on a slot is one that the base crate allows.
-use Rattle.std.proofs.Common.{◌≡◌, ℕ, ◌+◌, ◌*◌, ◌<◌, length, subst, sym, ap, ◌∙◌}
+use Rattle.std.proofs.Common.{◌≡◌, ℕ, ◌+◌, ◌*◌, ◌<◌, eqb, length, refl, subst, sym, ap, ◌∙◌}
+use prog.Atomic.{either}
 use Rattle.atomic_table.specs.Table.{Me, Allows}
-use Rattle.slot_word.specs.SlotWord.{IsSlotWord}
+use Rattle.slot_word.specs.declared.slot_word.SlotWord.{SlotWord}
+use Rattle.slot_word.specs.SlotWord.{word_of, total_in, IsSlotWord}
+use Rattle.slot_word.proofs.SlotWordLemmas.{total_back}
 use Rattle.log_table.specs.Events.{none}
 use Rattle.log_table.specs.declared.layout.TheConstants.{STRIDE, RING}
 use Rattle.log_table.specs.declared.table.Start.{Start}
 use Rattle.log_table.specs.declared.view.View.{View}
 use Rattle.log_table.specs.Layout.{Slot}
-use Rattle.log_table.specs.SlotViews.{saw_slot}
+use Rattle.log_table.specs.May.{MayJoinSlot}
+use Rattle.log_table.specs.SlotViews.{own_slot_of, saw_slot, after_join}
 use Rattle.log_table.specs.Sound.{Ruled}
 use Rattle.log_table.proofs.Lifting.{allowed-if_step}
+use Rattle.log_table.proofs.SlotJoining.{join-event, join-step}
 use Rattle.log_table.proofs.SlotLooks.{slot-looks, slot-tells}
 use Rattle.log_table.proofs.Wording.{Fits, of_slot}
 
@@ -30,3 +35,22 @@ module _ (key : Start) (slots seat : ℕ) (me : Me (Unit {0}) View) where
     load_slot-allowed = at-slot (λ n. n) (λ p n new. (new ≡ (saw_slot p n me.0, me.1)) × IsSlotWord n)
         (allowed-if_step key slots seat me (Slot slot) fits-slot (λ n. n) (λ n. saw_slot slot n me.0) (λ _. none) IsSlotWord
         (slot-tells key seat me.0 slot) (λ n _. slot-looks key seat me.0 slot n))
+
+  -- the slot's number stands in the seat's call
+  module _ (place ring number slot : ℕ) (at : place ≡ RING + ring + ring + STRIDE * slot) (same : key.ring ≡ ring)
+      (slotted : key.slots ≡ number) (below : slot < number) where
+    pub join_slot-allowed : (from to : SlotWord) (free joined : ℕ) → free ≡ word_of from → joined ≡ word_of to → MayJoinSlot slot from to me.0
+        → Allows (Ruled key) slots seat me place (λ n. either (eqb n free) joined n)
+        (λ n new. (new ≡ (after_join (own_slot_of me.0) (total_in free) free n me.0, me.1)) × IsSlotWord n)
+    join_slot-allowed from to free joined free-is joined-is may =
+        subst (λ (p : ℕ × ℕ × ℕ × ℕ). Allows (Ruled key) slots seat me place (λ n. either (eqb n p.2) p.3 n)
+        (λ n new. (new ≡ (after_join p.0 p.1 p.2 n me.0, me.1)) × IsSlotWord n)) (λ i. (may.own_slot i, total-is i, sym free-is i, sym joined-is i))
+        (at-slot place ring number slot slot at same slotted below refl (λ n. either (eqb n (word_of from)) (word_of to) n)
+        (λ _ n new. (new ≡ (after_join slot from.total (word_of from) n me.0, me.1)) × IsSlotWord n)
+        (allowed-if_step key slots seat me (Slot slot) (fits-slot place ring number slot slot at same slotted below refl)
+        (λ n. either (eqb n (word_of from)) (word_of to) n) (λ n. after_join slot from.total (word_of from) n me.0)
+        (join-event key seat me.0 slot number from to slotted below may) IsSlotWord (slot-tells key seat me.0 slot)
+        (λ n _. join-step key seat me.0 slot number from to slotted below may n)))
+      where
+        total-is : from.total ≡ total_in free
+        total-is = sym (ap total_in free-is ∙ total_back from.phase from.total from.remaining from.total_fits from.remaining_fits)

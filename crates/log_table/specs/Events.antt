@@ -7,7 +7,7 @@ use Rattle.ring_core.specs.RingLog.{Reservation, RingLog}
 use Rattle.ring_core.specs.declared.event.RingEvent.TheVariants.{Reserve, Fill, Mark, LookExposed, LookMark, Raise, Flushed}
 use Rattle.slot_core.specs.State.{Idle, Works, Marked, Holds, Raises, Task, InRing, Hand, SlotState, nothing, joined, member, group}
 use Rattle.slot_core.specs.State as machine
-use Rattle.slot_core.specs.Machine.{GroupEvent, Ring, GroupStep}
+use Rattle.slot_core.specs.Machine.{GroupEvent, Join, Ring, GroupStep}
 use Rattle.log_table.specs.declared.table.Start.{Start}
 use Rattle.log_table.specs.declared.view.Call.{Call}
 use Rattle.log_table.specs.declared.view.Call.TheVariants as call
@@ -95,6 +95,10 @@ looks_mark seat = Some (Ring (LookMark seat))
 -- the seat raises exposed from the LSN in hand, or finds that it has moved
 abbrev pub raises : ℕ → Event
 raises seat = Some (Ring (Raise seat))
+
+-- the seat joins the group at a slot with n units
+abbrev pub joins : ℕ → ℕ → ℕ → Event
+joins seat slot n = Some (Join seat slot n)
 
 -- all below is on the disk
 abbrev pub flushes : ℕ → Event

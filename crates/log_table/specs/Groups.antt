@@ -1,5 +1,5 @@
--- The groups at the table's slots: workers that join one reserve by one exchange of the tail. No step joins one yet.
-use Rattle.std.specs.Prelude.{ℕ, List, []}
+-- The groups at the table's slots: workers that join one reserve by one exchange of the tail.
+use Rattle.std.specs.Prelude.{ℕ, ◌==◌, if◌then◌else◌, List, []}
 pub use Rattle.slot_parts.specs.declared.phase.Outcome.{Outcome}
 pub use Rattle.slot_parts.specs.declared.phase.Outcome.TheVariants.{Granted, Refused}
 pub use Rattle.slot_parts.specs.declared.phase.GroupPhase.{GroupPhase}
@@ -19,3 +19,7 @@ pub record Group : Type 0 where
 -- a group of nobody
 abbrev pub empty_group : Group
 empty_group = record { members = []; phase = Vacant }
+
+-- the groups, but for the one at a slot
+abbrev pub put_group : (ℕ → Group) → ℕ → Group → ℕ → Group
+put_group groups at group slot = if slot == at then group else groups slot

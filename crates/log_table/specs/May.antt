@@ -1,5 +1,5 @@
 -- When a step is the next one of the call that the view shows as under way.
-use Rattle.std.specs.Prelude.{◌≡◌, ◌≢◌, ℕ, ◌+◌, ◌<◌, ◌≤◌, true, false, [], length, slice_index}
+use Rattle.std.specs.Prelude.{◌≡◌, ◌≢◌, ℕ, ◌+◌, ◌/◌, ◌<◌, ◌≤◌, true, false, [], length, slice_index}
 use Rattle.std.specs.List.{AllByRecursion, list_any}
 use lib.Dec.{eqb}
 use Rattle.lsn_space.specs.declared.lsn.TheConstants.{LAST}
@@ -14,6 +14,8 @@ use Rattle.log_record.specs.declared.rec.Placed.{Placed}
 use Rattle.log_record.specs.Spelling.{spelling}
 use Rattle.lock_core.specs.declared.job.Job.{Job}
 use Rattle.slot_word.specs.declared.account_word.AccountWord.{AccountWord}
+use Rattle.slot_word.specs.declared.phase.Phase.TheVariants.{Gathering}
+use Rattle.slot_word.specs.declared.slot_word.SlotWord.{SlotWord}
 use Rattle.slot_word.specs.AccountWord.{word_of, held_in, balance_in, mark_in}
 use Rattle.log_table.specs.declared.view.TakenJob.{TakenJob}
 use Rattle.log_table.specs.declared.view.Books.{Books}
@@ -21,6 +23,7 @@ use Rattle.log_table.specs.Accounts.{MayBeTaken, MayGive}
 use Rattle.log_table.specs.Books.{times_held, balance_taken, mark_taken, next_of, IsNote, MayEnter}
 use Rattle.log_table.specs.Log.{IsFull}
 use Rattle.log_table.specs.Roles.{has_ended}
+use Rattle.log_table.specs.SlotViews.{own_slot_of}
 use Rattle.log_table.specs.Views.{read_to}
 
 -- the worker is enrolled and has no call under way
@@ -112,6 +115,18 @@ pub record MayLookMark (base : ℕ) (view : View) : Type 0 where
 pub record MayRaise (from to : ℕ) (view : View) : Type 0 where
   pub after : After
   pub raising : view.call ≡ Raising from to after
+
+-- The seat may join the group at the slot for the next record of its last job: the slot is its own, the group gathers and has room, and
+-- the one state becomes the other.
+pub record MayJoinSlot (slot : ℕ) (from to : SlotWord) (view : View) : Type 0 where
+  pub rests : IsAtRest view
+  pub enters : MayEnter (next_of view.books) view.books
+  pub own_slot : slot ≡ own_slot_of view
+  pub gathers : from.phase ≡ Gathering
+  pub phase : to.phase ≡ from.phase
+  pub total : to.total ≡ from.total + length (spelling (next_of view.books))
+  pub remaining : to.remaining ≡ from.remaining
+  pub room : from.total + length (spelling (next_of view.books)) ≤ view.constants.ring / 4
 
 -- the unit at this LSN is the next to be read, and below exposed as the flusher's seat loaded it last
 pub record MayRead (at : ℕ) (view : View) : Type 0 where

@@ -1,8 +1,11 @@
 -- How the steps on slots change the view of their seat.
-use Rattle.std.specs.Prelude.{◌==◌, ℕ, ◌+◌, ◌/◌, ◌^◌, if◌then◌else◌, nat_eq, nat_lt, Bool}
+use Rattle.std.specs.Prelude.{◌==◌, ℕ, ◌+◌, ◌/◌, ◌%◌, ◌^◌, if◌then◌else◌, nat_eq, nat_lt, Bool, length}
 use Rattle.slot_word.specs.SlotWord.{total_in}
+use Rattle.log_record.specs.Spelling.{spelling}
+use Rattle.log_table.specs.Books.{next_of}
 use Rattle.log_table.specs.declared.group_view.MemberStep.{MemberStep}
 use Rattle.log_table.specs.declared.group_view.MemberStep.TheVariants.{Closes, Waits, Hears, Places, Stores, Tells, Fills, Leaves}
+use Rattle.log_table.specs.declared.group_view.Piece.{Piece}
 use Rattle.log_table.specs.declared.view.Call.{Call}
 use Rattle.log_table.specs.declared.view.Call.TheVariants.{Idle, Filling, Joined, Emptying, Marked, Holding, Raising, Reopening}
 use Rattle.log_table.specs.declared.view.Seen.{Seen}
@@ -41,3 +44,30 @@ call_seeing slot word (Reopening other) = Reopening other
 -- after a load of the slot's state
 abbrev pub saw_slot : ℕ → ℕ → View → View
 saw_slot slot word view = record view { seen = seen_slot slot word view.seen; call = call_seeing slot word view.call }
+
+-- the slot at which the seat joins
+abbrev pub own_slot_of : View → ℕ
+own_slot_of view = view.standing.worker % view.constants.slots
+
+-- the piece of a seat that joins for the next record of its last job, where others have these units
+abbrev pub piece_joining : ℕ → View → Piece
+piece_joining offset view = record {
+  offset = offset;
+  size = length (spelling (next_of view.books));
+  rec = next_of view.books;
+  tail = view.seen.tail;
+  durable = view.seen.durable;
+}
+
+-- who joins first leads, all others wait
+abbrev pub step_joining : ℕ → MemberStep
+step_joining offset = if offset == 0 then Closes else Waits
+
+-- after an exchange of the slot's state by which the seat joined the group there, which had this total
+abbrev pub joined_slot : ℕ → ℕ → ℕ → View → View
+joined_slot slot total word view =
+    record view { seen = seen_slot slot word view.seen; call = Joined slot (piece_joining total view) (step_joining total) }
+
+-- after an exchange of the slot's state that found n
+abbrev pub after_join : ℕ → ℕ → ℕ → ℕ → View → View
+after_join slot total from n view = if n == from then joined_slot slot total from view else saw_slot slot n view

@@ -212,6 +212,16 @@ impl<N: Number> Play<(), View> for LoadSlot<N> {
     ghost then = { λ st old n new. (new ≡ (saw_slot N.number n old.0, old.1)) × IsSlotWord n };
 }
 
+pub(crate) struct JoinSlot;
+
+impl Play<(), View> for JoinSlot {
+    ghost use Rattle.std.specs.Prelude.{◌≡◌};
+    ghost use Rattle.slot_word.specs.SlotWord.{total_in, IsSlotWord};
+    ghost use Rattle.log_table.specs.SlotViews.{own_slot_of, after_join};
+
+    ghost then = { λ st old n new. (new ≡ (after_join (own_slot_of old.0) (total_in st.first) st.first n old.0, old.1)) × IsSlotWord n };
+}
+
 pub(crate) struct LoadAccount<N> {
     account: PhantomData<N>,
 }

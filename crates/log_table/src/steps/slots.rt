@@ -1,13 +1,16 @@
 //! The slots: workers that lost an exchange of the tail gather there, and one reserves for all.
-ghost use Rattle.std.specs.Prelude.{◌≡◌, ◌<◌};
+ghost use Rattle.std.specs.Prelude.{◌≡◌, ◌≢◌, ◌<◌, length, OnOk, IfErr};
+ghost use Rattle.log_record.specs.Spelling.{spelling};
 ghost use Rattle.slot_word.specs.SlotWord.{word_of};
-ghost use Rattle.log_table.specs.Events.{IsStep, none};
+ghost use Rattle.log_table.specs.Books.{next_of};
+ghost use Rattle.log_table.specs.Events.{IsStep, joins, none};
 ghost use Rattle.log_table.specs.Layout.{Slot};
+ghost use Rattle.log_table.specs.May.{MayJoinSlot};
 ghost use Rattle.log_table.specs.Seats.{IsOf, Becomes, view_of, number_of, key_of};
-ghost use Rattle.log_table.specs.SlotViews.{saw_slot};
+ghost use Rattle.log_table.specs.SlotViews.{saw_slot, joined_slot};
 
 use crate::layout::slot_place;
-use crate::plays::{LoadSlot, Number};
+use crate::plays::{JoinSlot, LoadSlot, Number};
 use crate::table::{LogTable, Seat};
 use slot_word::SlotWord;
 use std::marker::Brand;
@@ -36,5 +39,36 @@ impl LogTable {
         ensures event { IsStep (key_of self.now) (number_of seat.old) (Slot slot) (word_of result) (word_of result) (view_of seat.old) (saw_slot slot (word_of result) (view_of seat.old)) none }
     {
         load_slot_as::<Brand>(self, seat, slot)
+    }
+
+    /// Joins the group at the seat's slot for the next record of its last job, where the slot's state is still
+    /// the first one; an Err holds the state found. Who joins first leads the group.
+    pub fn join_slot(
+        &self,
+        seat: &mut Seat,
+        slot: u32,
+        from: SlotWord,
+        to: SlotWord,
+    ) -> Result<(), SlotWord>
+        requires seat { IsOf self.now seat.old }
+        requires slot { slot < self.now.slots }
+        requires next { MayJoinSlot slot from to (view_of seat.old) }
+        ensures ok { OnOk result (Becomes seat.old seat.new (joined_slot slot from.total (word_of from) (view_of seat.old))) }
+        ensures ok_event { OnOk result (IsStep (key_of self.now) (number_of seat.old) (Slot slot) (word_of from) (word_of to) (view_of seat.old) (joined_slot slot from.total (word_of from) (view_of seat.old)) (joins (number_of seat.old) slot (length (spelling (next_of (view_of seat.old).books))))) }
+        ensures err { IfErr result (λ found. (found ≢ from) × Becomes seat.old seat.new (saw_slot slot (word_of found) (view_of seat.old))) }
+        ensures err_event { IfErr result (λ found. IsStep (key_of self.now) (number_of seat.old) (Slot slot) (word_of found) (word_of found) (view_of seat.old) (saw_slot slot (word_of found) (view_of seat.old)) none) }
+    {
+        let place = slot_place(self.ring, slot);
+        let free = from.pack();
+        let joined = to.pack();
+        let found = self
+            .table
+            .shared
+            .compare_exchange::<JoinSlot>(&mut seat.base, place, free, joined);
+        if found == free {
+            Ok(())
+        } else {
+            Err(SlotWord::unpack(found))
+        }
     }
 }
