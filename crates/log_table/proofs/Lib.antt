@@ -42,7 +42,9 @@ mod Rows
 mod Sharing
 mod Showing
 mod SlotAllowing
+mod SlotClosing
 mod SlotJoining
+mod SlotLeading
 mod SlotLooks
 mod SlotShowing
 mod SlotWords

@@ -1,19 +1,21 @@
 -- Each kind of step on a slot is one that the base crate allows.
-use Rattle.std.proofs.Common.{◌≡◌, ℕ, ◌+◌, ◌*◌, ◌<◌, eqb, length, refl, subst, sym, ap, ◌∙◌}
+use Rattle.std.proofs.Common.{◌≡◌, ℕ, ◌+◌, ◌*◌, ◌/◌, ◌<◌, eqb, length, refl, subst, sym, ap, ◌∙◌}
 use prog.Atomic.{either}
 use Rattle.atomic_table.specs.Table.{Me, Allows}
+use Rattle.slot_word.specs.declared.phase.Phase.TheVariants as kind
 use Rattle.slot_word.specs.declared.slot_word.SlotWord.{SlotWord}
-use Rattle.slot_word.specs.SlotWord.{word_of, total_in, IsSlotWord}
+use Rattle.slot_word.specs.SlotWord.{packed, word_of, total_in, IsSlotWord}
 use Rattle.slot_word.proofs.SlotWordLemmas.{total_back}
-use Rattle.log_table.specs.Events.{none}
+use Rattle.log_table.specs.Events.{closes, none}
 use Rattle.log_table.specs.declared.layout.TheConstants.{STRIDE, RING}
 use Rattle.log_table.specs.declared.table.Start.{Start}
 use Rattle.log_table.specs.declared.view.View.{View}
 use Rattle.log_table.specs.Layout.{Slot}
-use Rattle.log_table.specs.May.{MayJoinSlot}
-use Rattle.log_table.specs.SlotViews.{own_slot_of, saw_slot, after_join}
+use Rattle.log_table.specs.May.{MayJoinSlot, MayCloseSlot}
+use Rattle.log_table.specs.SlotViews.{own_slot_of, saw_slot, after_join, closed_slot, IsGatheringWord}
 use Rattle.log_table.specs.Sound.{Ruled}
 use Rattle.log_table.proofs.Lifting.{allowed-if_step}
+use Rattle.log_table.proofs.SlotClosing.{close-step, close-tells}
 use Rattle.log_table.proofs.SlotJoining.{join-event, join-step}
 use Rattle.log_table.proofs.SlotLooks.{slot-looks, slot-tells}
 use Rattle.log_table.proofs.Wording.{Fits, of_slot}
@@ -54,3 +56,15 @@ module _ (key : Start) (slots seat : ℕ) (me : Me (Unit {0}) View) where
       where
         total-is : from.total ≡ total_in free
         total-is = sym (ap total_in free-is ∙ total_back from.phase from.total from.remaining from.total_fits from.remaining_fits)
+
+    pub close_slot-allowed : (value : ℕ) → value ≡ packed kind.Pending 0 0 → MayCloseSlot slot me.0
+        → Allows (Ruled key) slots seat me place (λ _. value)
+        (λ n new. (new ≡ (closed_slot n me.0, me.1)) × IsGatheringWord (me.0.constants.ring / 4) n)
+    close_slot-allowed value is may =
+        subst (λ w. Allows (Ruled key) slots seat me place (λ _. w)
+        (λ n new. (new ≡ (closed_slot n me.0, me.1)) × IsGatheringWord (me.0.constants.ring / 4) n)) (sym is)
+        (at-slot place ring number slot slot at same slotted below refl (λ _. packed kind.Pending 0 0)
+        (λ _ n new. (new ≡ (closed_slot n me.0, me.1)) × IsGatheringWord (me.0.constants.ring / 4) n)
+        (allowed-if_step key slots seat me (Slot slot) (fits-slot place ring number slot slot at same slotted below refl)
+        (λ _. packed kind.Pending 0 0) (λ n. closed_slot n me.0) (λ _. closes seat) (IsGatheringWord (me.0.constants.ring / 4))
+        (close-tells key seat me.0 slot number slotted below may) (λ n _. close-step key seat me.0 slot number slotted below may n)))

@@ -7,7 +7,7 @@ use Rattle.ring_core.specs.RingLog.{Reservation, RingLog}
 use Rattle.ring_core.specs.declared.event.RingEvent.TheVariants.{Reserve, Fill, Mark, LookExposed, LookMark, Raise, Flushed}
 use Rattle.slot_core.specs.State.{Idle, Works, Marked, Holds, Raises, Task, InRing, Hand, SlotState, nothing, joined, member, group}
 use Rattle.slot_core.specs.State as machine
-use Rattle.slot_core.specs.Machine.{GroupEvent, Join, Ring, GroupStep}
+use Rattle.slot_core.specs.Machine.{GroupEvent, Join, Close, Ring, GroupStep}
 use Rattle.log_table.specs.declared.table.Start.{Start}
 use Rattle.log_table.specs.declared.view.Call.{Call}
 use Rattle.log_table.specs.declared.view.Call.TheVariants as call
@@ -99,6 +99,10 @@ raises seat = Some (Ring (Raise seat))
 -- the seat joins the group at a slot with n units
 abbrev pub joins : ℕ → ℕ → ℕ → Event
 joins seat slot n = Some (Join seat slot n)
+
+-- the seat closes the group that it leads
+abbrev pub closes : ℕ → Event
+closes seat = Some (Close seat)
 
 -- all below is on the disk
 abbrev pub flushes : ℕ → Event

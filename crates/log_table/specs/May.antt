@@ -5,8 +5,10 @@ use lib.Dec.{eqb}
 use Rattle.lsn_space.specs.declared.lsn.TheConstants.{LAST}
 use Rattle.log_table.specs.declared.view.Entry.{Entry}
 use Rattle.log_table.specs.declared.view.Held.{Held}
-use Rattle.log_table.specs.declared.view.Call.TheVariants.{Idle, Filling, Holding, Raising}
+use Rattle.log_table.specs.declared.view.Call.TheVariants.{Idle, Filling, Joined, Holding, Raising}
 use Rattle.log_table.specs.declared.group_view.After.{After}
+use Rattle.log_table.specs.declared.group_view.MemberStep.TheVariants.{Closes}
+use Rattle.log_table.specs.declared.group_view.Piece.{Piece}
 use Rattle.log_table.specs.declared.view.Role.TheVariants.{Flusher, Active}
 use Rattle.log_table.specs.declared.view.Seen.{Seen}
 use Rattle.log_table.specs.declared.view.View.{View}
@@ -127,6 +129,11 @@ pub record MayJoinSlot (slot : ℕ) (from to : SlotWord) (view : View) : Type 0 
   pub total : to.total ≡ from.total + length (spelling (next_of view.books))
   pub remaining : to.remaining ≡ from.remaining
   pub room : from.total + length (spelling (next_of view.books)) ≤ view.constants.ring / 4
+
+-- the seat leads the group at the slot, and has not closed it
+pub record MayCloseSlot (slot : ℕ) (view : View) : Type 0 where
+  pub piece : Piece
+  pub closes : view.call ≡ Joined slot piece Closes
 
 -- the unit at this LSN is the next to be read, and below exposed as the flusher's seat loaded it last
 pub record MayRead (at : ℕ) (view : View) : Type 0 where

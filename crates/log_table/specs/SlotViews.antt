@@ -1,6 +1,7 @@
 -- How the steps on slots change the view of their seat.
-use Rattle.std.specs.Prelude.{◌==◌, ℕ, ◌+◌, ◌/◌, ◌%◌, ◌^◌, if◌then◌else◌, nat_eq, nat_lt, Bool, length}
-use Rattle.slot_word.specs.SlotWord.{total_in}
+use Rattle.std.specs.Prelude.{◌≡◌, ◌==◌, ℕ, ◌+◌, ◌/◌, ◌%◌, ◌^◌, ◌≤◌, if◌then◌else◌, nat_eq, nat_lt, Bool, length}
+use Rattle.slot_word.specs.declared.phase.Phase.TheVariants as kind
+use Rattle.slot_word.specs.SlotWord.{phase_in, total_in, IsSlotWord}
 use Rattle.log_record.specs.Spelling.{spelling}
 use Rattle.log_table.specs.Books.{next_of}
 use Rattle.log_table.specs.declared.group_view.MemberStep.{MemberStep}
@@ -71,3 +72,49 @@ joined_slot slot total word view =
 -- after an exchange of the slot's state that found n
 abbrev pub after_join : ℕ → ℕ → ℕ → ℕ → View → View
 after_join slot total from n view = if n == from then joined_slot slot total from view else saw_slot slot n view
+
+-- the slot at which the call is a member's, 0 where it is none's
+abbrev pub slot_in : Call → ℕ
+slot_in Idle = 0
+slot_in (Filling entry) = 0
+slot_in (Joined slot piece step) = slot
+slot_in (Emptying slot base total) = slot
+slot_in (Marked after) = 0
+slot_in (Holding at after) = 0
+slot_in (Raising from to after) = 0
+slot_in (Reopening slot) = slot
+
+-- the step of a leader that closes its group of this total at that one of its steps
+abbrev pub step_closed : ℕ → ℕ → MemberStep → MemberStep
+step_closed total closed Closes = Places total closed
+step_closed total closed Waits = Waits
+step_closed total closed (Hears refused told) = Hears refused told
+step_closed total closed (Places old at) = Places old at
+step_closed total closed (Stores old base) = Stores old base
+step_closed total closed (Tells old outcome) = Tells old outcome
+step_closed total closed (Fills base units) = Fills base units
+step_closed total closed (Leaves tail durable) = Leaves tail durable
+
+abbrev pub call_closed : ℕ → ℕ → Call → Call
+call_closed total closed Idle = Idle
+call_closed total closed (Filling entry) = Filling entry
+call_closed total closed (Joined slot piece step) = Joined slot piece (step_closed total closed step)
+call_closed total closed (Emptying slot base units) = Emptying slot base units
+call_closed total closed (Marked after) = Marked after
+call_closed total closed (Holding at after) = Holding at after
+call_closed total closed (Raising from to after) = Raising from to after
+call_closed total closed (Reopening slot) = Reopening slot
+
+-- after a swap of the slot's state that closed the group there, and found this word
+abbrev pub closed_slot : ℕ → View → View
+closed_slot word view = record view {
+  seen = seen_slot (slot_in view.call) word view.seen;
+  call = call_closed (total_in word) (view.seen.steps + 1) view.call;
+}
+
+-- the word is that of a group that gathers, and has a total of at most so many units
+pub record IsGatheringWord (most word : ℕ) : Type 0 where
+  pub slot_word : IsSlotWord word
+  pub gathers : phase_in word ≡ kind.Gathering
+  pub some_units : 1 ≤ total_in word
+  pub few : total_in word ≤ most

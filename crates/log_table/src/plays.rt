@@ -222,6 +222,15 @@ impl Play<(), View> for JoinSlot {
     ghost then = { λ st old n new. (new ≡ (after_join (own_slot_of old.0) (total_in st.first) st.first n old.0, old.1)) × IsSlotWord n };
 }
 
+pub(crate) struct CloseSlot;
+
+impl Play<(), View> for CloseSlot {
+    ghost use Rattle.std.specs.Prelude.{◌≡◌, ◌/◌};
+    ghost use Rattle.log_table.specs.SlotViews.{closed_slot, IsGatheringWord};
+
+    ghost then = { λ st old n new. (new ≡ (closed_slot n old.0, old.1)) × IsGatheringWord (old.0.constants.ring / 4) n };
+}
+
 pub(crate) struct LoadAccount<N> {
     account: PhantomData<N>,
 }

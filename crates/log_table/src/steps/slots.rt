@@ -1,16 +1,17 @@
 //! The slots: workers that lost an exchange of the tail gather there, and one reserves for all.
-ghost use Rattle.std.specs.Prelude.{◌≡◌, ◌≢◌, ◌<◌, length, OnOk, IfErr};
+ghost use Rattle.std.specs.Prelude.{◌≡◌, ◌≢◌, ◌<◌, ◌/◌, length, OnOk, IfErr};
 ghost use Rattle.log_record.specs.Spelling.{spelling};
-ghost use Rattle.slot_word.specs.SlotWord.{word_of};
+ghost use Rattle.slot_word.specs.declared.phase.Phase.TheVariants.{Pending};
+ghost use Rattle.slot_word.specs.SlotWord.{packed, word_of};
 ghost use Rattle.log_table.specs.Books.{next_of};
-ghost use Rattle.log_table.specs.Events.{IsStep, joins, none};
+ghost use Rattle.log_table.specs.Events.{IsStep, closes, joins, none};
 ghost use Rattle.log_table.specs.Layout.{Slot};
-ghost use Rattle.log_table.specs.May.{MayJoinSlot};
+ghost use Rattle.log_table.specs.May.{MayJoinSlot, MayCloseSlot};
 ghost use Rattle.log_table.specs.Seats.{IsOf, Becomes, view_of, number_of, key_of};
-ghost use Rattle.log_table.specs.SlotViews.{saw_slot, joined_slot};
+ghost use Rattle.log_table.specs.SlotViews.{saw_slot, joined_slot, closed_slot, IsGatheringWord};
 
 use crate::layout::slot_place;
-use crate::plays::{JoinSlot, LoadSlot, Number};
+use crate::plays::{CloseSlot, JoinSlot, LoadSlot, Number};
 use crate::table::{LogTable, Seat};
 use slot_word::SlotWord;
 use std::marker::Brand;
@@ -70,5 +71,24 @@ impl LogTable {
         } else {
             Err(SlotWord::unpack(found))
         }
+    }
+
+    /// Closes the group that the seat leads: nobody joins it any more. Answers the slot's state before, whose
+    /// total is the group's.
+    pub fn close_slot(&self, seat: &mut Seat, slot: u32) -> SlotWord
+        requires seat { IsOf self.now seat.old }
+        requires slot { slot < self.now.slots }
+        requires next { MayCloseSlot slot (view_of seat.old) }
+        ensures view { Becomes seat.old seat.new (closed_slot (word_of result) (view_of seat.old)) }
+        ensures gathers { IsGatheringWord ((view_of seat.old).constants.ring / 4) (word_of result) }
+        ensures event { IsStep (key_of self.now) (number_of seat.old) (Slot slot) (word_of result) (packed Pending 0 0) (view_of seat.old) (closed_slot (word_of result) (view_of seat.old)) (closes (number_of seat.old)) }
+    {
+        let place = slot_place(self.ring, slot);
+        let closed = SlotWord::pending().pack();
+        let word = self
+            .table
+            .shared
+            .swap::<CloseSlot>(&mut seat.base, place, closed);
+        SlotWord::unpack(word)
     }
 }
