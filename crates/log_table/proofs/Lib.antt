@@ -47,6 +47,8 @@ mod SlotJoining
 mod SlotLeading
 mod SlotLooks
 mod SlotShowing
+mod SlotStoring
+mod SlotTelling
 mod SlotWords
 mod Slotting
 mod Splitting

@@ -1,24 +1,26 @@
 -- Each kind of step on a slot is one that the base crate allows.
-use Rattle.std.proofs.Common.{◌≡◌, ℕ, ◌+◌, ◌*◌, ◌/◌, ◌<◌, eqb, length, refl, subst, sym, ap, ◌∙◌}
+use Rattle.std.proofs.Common.{◌≡◌, ⊎_elim, ℕ, ◌+◌, ◌*◌, ◌/◌, ◌<◌, eqb, length, refl, subst, sym, ap, ◌∙◌}
 use prog.Atomic.{either}
 use Rattle.atomic_table.specs.Table.{Me, Allows}
 use Rattle.slot_word.specs.declared.phase.Phase.TheVariants as kind
 use Rattle.slot_word.specs.declared.slot_word.SlotWord.{SlotWord}
 use Rattle.slot_word.specs.SlotWord.{packed, word_of, total_in, IsSlotWord}
 use Rattle.slot_word.proofs.SlotWordLemmas.{total_back}
-use Rattle.log_table.specs.Events.{closes, none}
+use Rattle.log_table.specs.Events.{closes, none, refuses, stores_base, tells}
 use Rattle.log_table.specs.declared.layout.TheConstants.{STRIDE, RING}
 use Rattle.log_table.specs.declared.table.Start.{Start}
 use Rattle.log_table.specs.declared.view.View.{View}
-use Rattle.log_table.specs.Layout.{Slot}
-use Rattle.log_table.specs.May.{MayJoinSlot, MayCloseSlot}
-use Rattle.log_table.specs.SlotViews.{own_slot_of, saw_slot, after_join, closed_slot, IsGatheringWord}
+use Rattle.log_table.specs.Layout.{Slot, Base}
+use Rattle.log_table.specs.May.{MayJoinSlot, MayCloseSlot, MayStoreBase, MayStoreGranted, MayStoreRefused, MayPublish}
+use Rattle.log_table.specs.SlotViews.{own_slot_of, saw_slot, after_join, closed_slot, stored_base, published, IsGatheringWord}
 use Rattle.log_table.specs.Sound.{Ruled}
 use Rattle.log_table.proofs.Lifting.{allowed-if_step}
 use Rattle.log_table.proofs.SlotClosing.{close-step, close-tells}
 use Rattle.log_table.proofs.SlotJoining.{join-event, join-step}
 use Rattle.log_table.proofs.SlotLooks.{slot-looks, slot-tells}
-use Rattle.log_table.proofs.Wording.{Fits, of_slot}
+use Rattle.log_table.proofs.SlotStoring.{granted-step, refused-step}
+use Rattle.log_table.proofs.SlotTelling.{publish-step}
+use Rattle.log_table.proofs.Wording.{Fits, of_slot, of_base}
 
 module _ (key : Start) (slots seat : ℕ) (me : Me (Unit {0}) View) where
   module _ (place ring number slot picked : ℕ) (at : place ≡ RING + ring + ring + STRIDE * slot) (same : key.ring ≡ ring)
@@ -68,3 +70,33 @@ module _ (key : Start) (slots seat : ℕ) (me : Me (Unit {0}) View) where
         (allowed-if_step key slots seat me (Slot slot) (fits-slot place ring number slot slot at same slotted below refl)
         (λ _. packed kind.Pending 0 0) (λ n. closed_slot n me.0) (λ _. closes seat) (IsGatheringWord (me.0.constants.ring / 4))
         (close-tells key seat me.0 slot number slotted below may) (λ n _. close-step key seat me.0 slot number slotted below may n)))
+
+    pub publish-allowed : (word : SlotWord) (value : ℕ) → value ≡ word_of word → MayPublish slot word me.0
+        → Allows (Ruled key) slots seat me place (λ _. value) (λ _ new. (new ≡ (published me.0, me.1)) × Unit {0})
+    publish-allowed word value is may =
+        subst (λ w. Allows (Ruled key) slots seat me place (λ _. w) (λ _ new. (new ≡ (published me.0, me.1)) × Unit {0})) (sym is)
+        (at-slot place ring number slot slot at same slotted below refl (λ _. word_of word)
+        (λ _ _ new. (new ≡ (published me.0, me.1)) × Unit {0})
+        (allowed-if_step key slots seat me (Slot slot) (fits-slot place ring number slot slot at same slotted below refl)
+        (λ _. word_of word) (λ _. published me.0) (λ _. tells seat) (λ _. Unit {0})
+        (λ _ _ _ _ _. tt) (λ n _. publish-step key seat me.0 slot number word slotted below may n)))
+
+  module _ (place ring number slot : ℕ) (at : place ≡ RING + ring + ring + STRIDE * (number + slot)) (same : key.ring ≡ ring)
+      (slotted : key.slots ≡ number) (below : slot < number) where
+    fits-base : Fits key.ring key.slots (length key.accounts.rows) (Base slot)
+    fits-base = of_base slot (subst (λ n. slot < n) (sym slotted) below)
+
+    placed : RING + key.ring + key.ring + STRIDE * (key.slots + slot) ≡ place
+    placed = (λ i. RING + same i + same i + STRIDE * (slotted i + slot)) ∙ sym at
+
+    pub store_base-allowed : (word : ℕ) → MayStoreBase slot word me.0
+        → Allows (Ruled key) slots seat me place (λ _. word) (λ _ new. (new ≡ (stored_base me.0, me.1)) × Unit {0})
+    store_base-allowed word may =
+        subst (λ n. Allows (Ruled key) slots seat me n (λ _. word) (λ _ new. (new ≡ (stored_base me.0, me.1)) × Unit {0})) placed
+        (⊎_elim
+        (λ (granted : MayStoreGranted slot word me.0). allowed-if_step key slots seat me (Base slot) fits-base (λ _. word)
+        (λ _. stored_base me.0) (λ _. stores_base seat) (λ _. Unit {0}) (λ _ _ _ _ _. tt)
+        (λ n _. granted-step key seat me.0 slot number word slotted below granted n))
+        (λ (refused : MayStoreRefused slot word me.0). allowed-if_step key slots seat me (Base slot) fits-base (λ _. word)
+        (λ _. stored_base me.0) (λ _. refuses seat me.0.seen.tail me.0.seen.durable) (λ _. Unit {0}) (λ _ _ _ _ _. tt)
+        (λ n _. refused-step key seat me.0 slot number word slotted below refused n)) may)

@@ -49,8 +49,6 @@ known-gathers seat (Emptied last) is = absurd (cc)
 closing-leads : (seat : ℕ) (piece : Piece) (total closed : ℕ)
     → Leading seat piece Closes (Places total closed) (Gathering seat total) (Closed seat total)
 closing-leads seat piece total closed = record {
-  next = refl;
-  stage = refl;
   entry = refl;
   books = λ _. refl;
   leads = here seat (Closed seat total ∷ []);
@@ -100,7 +98,7 @@ module _ (key : Start) (words : Words) (views : List View) (me : ℕ) (v : View)
       (Gathering me total) (Closed me total) gathers.is (closing-leads me may.piece total (v.seen.steps + 1)) (seen_slot slot (words.slot slot) v.seen)
       (put words.slot slot (packed kind.Pending 0 0)) words.base
       record { word_is = put-here words.slot slot (packed kind.Pending 0 0); joined = gathering.joined }
-      (λ q differ. (put-other words.slot slot (packed kind.Pending 0 0) q differ, refl)) sees refl (Close me) below (λ _. refl) (λ _. refl)
+      (λ q differ. (put-other words.slot slot (packed kind.Pending 0 0) q differ, refl)) sees refl (Close me) below refl refl (λ _. refl) (λ _. refl)
 
 module _ (key : Start) (me : ℕ) (v : View) (slot number : ℕ) (slotted : key.slots ≡ number) (below : slot < number) (may : MayCloseSlot slot v) where
   pub close-step : (n : ℕ) → IsStep key me (Slot slot) n (packed kind.Pending 0 0) v (closed_slot n v) (closes me)

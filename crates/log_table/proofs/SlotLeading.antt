@@ -1,5 +1,5 @@
 -- A leader makes its group's next step, and the group comes to its next phase.
-use Rattle.std.proofs.Common.{◌≡◌, ◌≢◌, ℕ, ◌/◌, ◌<◌, cond, Bool, true, false, List, [], ◌∷◌, set, Some, sym, refl, ap, ◌∙◌, subst}
+use Rattle.std.proofs.Common.{◌≡◌, ◌≢◌, ℕ, ◌/◌, ◌<◌, cond, Bool, true, false, List, [], ◌∷◌, set, sym, refl, ap, ◌∙◌, subst}
 use mathlib.Core.Option.{some}
 use lib.ListN.{get_elem?}
 use Rattle.slot_core.specs.State.{SlotState, membership, task_of}
@@ -12,7 +12,7 @@ use Rattle.log_table.specs.declared.view.Role.{Role}
 use Rattle.log_table.specs.declared.view.Role.TheVariants.{Flusher, Fresh, Active, Ended, Note, Spent}
 use Rattle.log_table.specs.declared.view.Seen.{Seen}
 use Rattle.log_table.specs.declared.view.View.{View}
-use Rattle.log_table.specs.Events.{slots_of, Leads}
+use Rattle.log_table.specs.Events.{One, slots_of, Leads}
 use Rattle.log_table.specs.Groups.{GroupPhase, Vacant, Gathering, Closed, Placed, Ready, Told, Emptied, Piece, Group, put_group}
 use Rattle.log_table.specs.GroupViews.{member_entry, member_books, stage_of}
 use Rattle.log_table.specs.Log.{Log, ranges_of}
@@ -63,8 +63,6 @@ known-whole (Emptied last) q is whole = is
 
 -- the two phases of a step that the leader makes, and its steps before and after
 pub record Leading (seat : ℕ) (piece : Piece) (step step' : MemberStep) (p p' : GroupPhase) : Type 0 where
-  pub next : p' ≡ next_phase p
-  pub stage : stage_of step' ≡ next_stage (stage_of step)
   pub entry : member_entry p' piece step' ≡ member_entry p piece step
   pub books : (books : Books) → member_books p' piece step' books ≡ member_books p piece step books
   pub leads : led_phase seat p' ≡ phase_led seat step'
@@ -114,7 +112,7 @@ module _ (key : Start) (words : Words) (views : List View) (me : ℕ) (v : View)
     others : (j : ℕ) → j ≢ me → Others (log.groups slot) g j
     others j differ = record { joins = refl; leads = l.others j differ ∙ sym (ap (led_phase j) was); keep = λ other st _ _. keep other st }
 
-    sound : IsSound key (record words { slot = states; base = bases }) (set views me next_view) after
+    pub sound : IsSound key (record words { slot = states; base = bases }) (set views me next_view) after
     sound = slot-sound key words views me v log s at active slot g states bases seen (Joined slot piece step') v.books
         (member-moves log.groups me slot piece step step' v.call call p' entry l.leads l.knows (mine.joins slot))
         (member-books_same log.groups me slot piece step step' v.call call p' entry l.leads l.knows (mine.joins slot) v.books
@@ -122,18 +120,18 @@ module _ (key : Start) (words : Words) (views : List View) (me : ℕ) (v : View)
         others (l.range ∙ sym (ap range_of was)) is else sees read
 
     -- and the event is that of this stage
-    pub leader-steps : (event : GroupEvent) → slot < key.slots
+    pub leader-steps : (event : GroupEvent) → slot < key.slots → p' ≡ next_phase p → stage_of step' ≡ next_stage (stage_of step)
         → ((state : SlotState) → IsEnabled state event ≡ IsMemberAt (stage_of step) (task_of me state.hands))
         → ((state : SlotState) → state_after state event ≡ after_lead state me (membership (task_of me state.hands)))
-        → Leads key words (record words { slot = states; base = bases }) views (set views me next_view) log (Some event)
-    leader-steps event below enabled leads = record {
+        → Leads key words (record words { slot = states; base = bases }) views (set views me next_view) log (One event)
+    leader-steps event below next stage enabled leads = record {
       after = after;
       sound = sound;
       shows = (
         subst (λ (E : Type 0). E) (sym (enabled (slots_of key words views log)))
             (subst (IsMemberAt (stage_of step))
-            (sym (task-is key words states bases views me v next_view log slot g at below piece step step' call refl l.stage refl (l.next ∙ sym (ap next_phase was)))) refl),
-        shows-lead key words states bases views me v next_view log slot g at below piece step step' call refl l.stage refl (l.next ∙ sym (ap next_phase was))
+            (sym (task-is key words states bases views me v next_view log slot g at below piece step step' call refl stage refl (next ∙ sym (ap next_phase was)))) refl),
+        shows-lead key words states bases views me v next_view log slot g at below piece step step' call refl stage refl (next ∙ sym (ap next_phase was))
             ∙ sym (leads (slots_of key words views log)),
       );
     }

@@ -1,13 +1,13 @@
 -- What a table shows of the machine with slots, and which of its events a step is. What speaks of steps uses these names, and not those of
 -- the machine itself. All events so far are the ring machine's.
-use Rattle.std.specs.Prelude.{◌≡◌, ℕ, ◌+◌, true, List, [], ◌∷◌, map, set, zero, suc, Option, Some, None}
+use Rattle.std.specs.Prelude.{◌≡◌, ℕ, ◌+◌, true, List, [], ◌∷◌, map, set, zero, suc, Some, None}
 use mathlib.Core.Option.{some}
 use lib.ListN.{get_elem?}
 use Rattle.ring_core.specs.RingLog.{Reservation, RingLog}
 use Rattle.ring_core.specs.declared.event.RingEvent.TheVariants.{Reserve, Fill, Mark, LookExposed, LookMark, Raise, Flushed}
 use Rattle.slot_core.specs.State.{Idle, Works, Marked, Holds, Raises, Task, InRing, Hand, SlotState, nothing, joined, member, group}
 use Rattle.slot_core.specs.State as machine
-use Rattle.slot_core.specs.Machine.{GroupEvent, Join, Close, Ring, GroupStep}
+use Rattle.slot_core.specs.Machine.{GroupEvent, Join, Close, Place, PutBase, Tell, Ring, GroupStep}
 use Rattle.log_table.specs.declared.table.Start.{Start}
 use Rattle.log_table.specs.declared.view.Call.{Call}
 use Rattle.log_table.specs.declared.view.Call.TheVariants as call
@@ -68,48 +68,62 @@ abbrev pub slots_of : Start → Words → List View → Log → SlotState
 slots_of key words views log =
     record { log = ring_of key words log; hands = hands_of 0 views; groups = groups_from 0 key.slots log.groups }
 
--- what a step is to the machine: one of its events, or none
-abbrev pub Event : Type 0
-Event = Option GroupEvent
+-- what a step is to the machine: one of its events, two that are one step of the table, or none
+pub data Event : Type 0 where
+  Nothing : Event
+  One : GroupEvent → Event
+  Two : GroupEvent → GroupEvent → Event
 
 -- the seat reserves n units
 abbrev pub reserves : ℕ → ℕ → Event
-reserves seat n = Some (Ring (Reserve seat n))
+reserves seat n = One (Ring (Reserve seat n))
 
 -- the seat fills the next unit of what it reserved
 abbrev pub fills : ℕ → Event
-fills seat = Some (Ring (Fill seat))
+fills seat = One (Ring (Fill seat))
 
 -- the seat releases what it reserved, and marks it
 abbrev pub marks : ℕ → Event
-marks seat = Some (Ring (Mark seat))
+marks seat = One (Ring (Mark seat))
 
 -- the seat looks at exposed, after a mark that it has just made
 abbrev pub looks_exposed : ℕ → Event
-looks_exposed seat = Some (Ring (LookExposed seat))
+looks_exposed seat = One (Ring (LookExposed seat))
 
 -- the seat looks at the mark at the LSN in hand
 abbrev pub looks_mark : ℕ → Event
-looks_mark seat = Some (Ring (LookMark seat))
+looks_mark seat = One (Ring (LookMark seat))
 
 -- the seat raises exposed from the LSN in hand, or finds that it has moved
 abbrev pub raises : ℕ → Event
-raises seat = Some (Ring (Raise seat))
+raises seat = One (Ring (Raise seat))
 
 -- the seat joins the group at a slot with n units
 abbrev pub joins : ℕ → ℕ → ℕ → Event
-joins seat slot n = Some (Join seat slot n)
+joins seat slot n = One (Join seat slot n)
 
 -- the seat closes the group that it leads
 abbrev pub closes : ℕ → Event
-closes seat = Some (Close seat)
+closes seat = One (Close seat)
+
+-- the seat stores where the range of its group begins
+abbrev pub stores_base : ℕ → Event
+stores_base seat = One (PutBase seat)
+
+-- the seat's group is refused by this tail and this durable, and the seat stores these
+abbrev pub refuses : ℕ → ℕ → ℕ → Event
+refuses seat tail durable = Two (Place seat tail durable) (PutBase seat)
+
+-- the seat tells the group that it leads what became of it
+abbrev pub tells : ℕ → Event
+tells seat = One (Tell seat)
 
 -- all below is on the disk
 abbrev pub flushes : ℕ → Event
-flushes to = Some (Ring (Flushed to))
+flushes to = One (Ring (Flushed to))
 
 abbrev pub none : Event
-none = None
+none = Nothing
 
 -- what a load of exposed is: an event after a mark just made, and none else
 abbrev pub look_event : ℕ → Call → Event
@@ -122,10 +136,17 @@ look_event seat (call.Holding at after) = none
 look_event seat (call.Raising from to after) = none
 look_event seat (call.Reopening slot) = none
 
+-- the machine takes the one event and then the other
+pub record TakesBoth (first second : GroupEvent) (old new : SlotState) : Type 0 where
+  pub mid : SlotState
+  pub before : GroupStep old first true mid
+  pub after : GroupStep mid second true new
+
 -- the machine takes the event, or where there is none it stays as it was
 abbrev pub Shows : Event → SlotState → SlotState → Type 0
-Shows None old new = new ≡ old
-Shows (Some event) old new = GroupStep old event true new
+Shows Nothing old new = new ≡ old
+Shows (One event) old new = GroupStep old event true new
+Shows (Two first second) old new = TakesBoth first second old new
 
 -- from a sound table to a sound one, by this event of the machine
 pub record Leads (key : Start) (words words' : Words) (views views' : List View) (log : Log) (event : Event) : Type 0 where

@@ -1,5 +1,5 @@
 -- When a step is the next one of the call that the view shows as under way.
-use Rattle.std.specs.Prelude.{◌≡◌, ◌≢◌, ℕ, ◌+◌, ◌/◌, ◌<◌, ◌≤◌, true, false, [], length, slice_index}
+use Rattle.std.specs.Prelude.{◌≡◌, ◌≢◌, ◌⊎◌, ℕ, ◌+◌, ◌*◌, ◌/◌, ◌^◌, ◌<◌, ◌≤◌, true, false, [], length, slice_index}
 use Rattle.std.specs.List.{AllByRecursion, list_any}
 use lib.Dec.{eqb}
 use Rattle.lsn_space.specs.declared.lsn.TheConstants.{LAST}
@@ -7,7 +7,7 @@ use Rattle.log_table.specs.declared.view.Entry.{Entry}
 use Rattle.log_table.specs.declared.view.Held.{Held}
 use Rattle.log_table.specs.declared.view.Call.TheVariants.{Idle, Filling, Joined, Holding, Raising}
 use Rattle.log_table.specs.declared.group_view.After.{After}
-use Rattle.log_table.specs.declared.group_view.MemberStep.TheVariants.{Closes}
+use Rattle.log_table.specs.declared.group_view.MemberStep.TheVariants.{Closes, Places, Stores, Tells}
 use Rattle.log_table.specs.declared.group_view.Piece.{Piece}
 use Rattle.log_table.specs.declared.view.Role.TheVariants.{Flusher, Active}
 use Rattle.log_table.specs.declared.view.Seen.{Seen}
@@ -19,11 +19,14 @@ use Rattle.slot_word.specs.declared.account_word.AccountWord.{AccountWord}
 use Rattle.slot_word.specs.declared.phase.Phase.TheVariants.{Gathering}
 use Rattle.slot_word.specs.declared.slot_word.SlotWord.{SlotWord}
 use Rattle.slot_word.specs.AccountWord.{word_of, held_in, balance_in, mark_in}
+use Rattle.slot_word.specs.SlotWord.{word_of as word_of_slot}
 use Rattle.log_table.specs.declared.view.TakenJob.{TakenJob}
 use Rattle.log_table.specs.declared.view.Books.{Books}
 use Rattle.log_table.specs.Accounts.{MayBeTaken, MayGive}
 use Rattle.log_table.specs.Books.{times_held, balance_taken, mark_taken, next_of, IsNote, MayEnter}
+use Rattle.log_table.specs.Groups.{Outcome}
 use Rattle.log_table.specs.Log.{IsFull}
+use Rattle.log_table.specs.Slots.{told_word}
 use Rattle.log_table.specs.Roles.{has_ended}
 use Rattle.log_table.specs.SlotViews.{own_slot_of}
 use Rattle.log_table.specs.Views.{read_to}
@@ -134,6 +137,35 @@ pub record MayJoinSlot (slot : ℕ) (from to : SlotWord) (view : View) : Type 0 
 pub record MayCloseSlot (slot : ℕ) (view : View) : Type 0 where
   pub piece : Piece
   pub closes : view.call ≡ Joined slot piece Closes
+
+-- the leader of the group at the slot has reserved its range, which begins there, and stores that
+pub record MayStoreGranted (slot word : ℕ) (view : View) : Type 0 where
+  pub piece : Piece
+  pub total : ℕ
+  pub stores : view.call ≡ Joined slot piece (Stores total word)
+
+-- The leader of the group at the slot has loaded tail and durable since it closed the group. By these the group has no room, and it stores
+-- the two.
+pub record MayStoreRefused (slot word : ℕ) (view : View) : Type 0 where
+  pub piece : Piece
+  pub total : ℕ
+  pub closed : ℕ
+  pub places : view.call ≡ Joined slot piece (Places total closed)
+  pub tail_loaded : closed < view.seen.tail_step
+  pub durable_loaded : closed < view.seen.durable_step
+  pub no_room : (LAST < view.seen.tail + total) ⊎ (view.seen.durable + view.constants.ring < view.seen.tail + total)
+  pub word_is : word ≡ view.seen.tail * 2 ^ 32 + view.seen.durable
+
+abbrev pub MayStoreBase : ℕ → ℕ → View → Type 0
+MayStoreBase slot word view = MayStoreGranted slot word view ⊎ MayStoreRefused slot word view
+
+-- the seat leads the group at the slot, has stored what became of it, and tells that by this state
+pub record MayPublish (slot : ℕ) (word : SlotWord) (view : View) : Type 0 where
+  pub piece : Piece
+  pub total : ℕ
+  pub outcome : Outcome
+  pub tells : view.call ≡ Joined slot piece (Tells total outcome)
+  pub word_is : word_of_slot word ≡ told_word outcome total total
 
 -- the unit at this LSN is the next to be read, and below exposed as the flusher's seat loaded it last
 pub record MayRead (at : ℕ) (view : View) : Type 0 where

@@ -11,6 +11,8 @@ use Rattle.log_table.specs.declared.view.Call.{Call}
 use Rattle.log_table.specs.declared.view.Call.TheVariants.{Idle, Filling, Joined, Emptying, Marked, Holding, Raising, Reopening}
 use Rattle.log_table.specs.declared.view.Seen.{Seen}
 use Rattle.log_table.specs.declared.view.View.{View}
+use Rattle.log_table.specs.Groups.{Granted, Refused}
+use Rattle.log_table.specs.Views.{counted}
 
 -- the slot's state was seen
 abbrev pub seen_slot : ℕ → ℕ → Seen → Seen
@@ -118,3 +120,53 @@ pub record IsGatheringWord (most word : ℕ) : Type 0 where
   pub gathers : phase_in word ≡ kind.Gathering
   pub some_units : 1 ≤ total_in word
   pub few : total_in word ≤ most
+
+-- the step of a leader that has stored the base of its group; one that has only closed the group refuses it by this tail and this durable
+abbrev pub step_stored : ℕ → ℕ → MemberStep → MemberStep
+step_stored tail durable Closes = Closes
+step_stored tail durable Waits = Waits
+step_stored tail durable (Hears refused total) = Hears refused total
+step_stored tail durable (Places total closed) = Tells total (Refused tail durable)
+step_stored tail durable (Stores total base) = Tells total (Granted base)
+step_stored tail durable (Tells total outcome) = Tells total outcome
+step_stored tail durable (Fills base units) = Fills base units
+step_stored tail durable (Leaves old seen) = Leaves old seen
+
+abbrev pub call_stored : ℕ → ℕ → Call → Call
+call_stored tail durable Idle = Idle
+call_stored tail durable (Filling entry) = Filling entry
+call_stored tail durable (Joined slot piece step) = Joined slot piece (step_stored tail durable step)
+call_stored tail durable (Emptying slot base total) = Emptying slot base total
+call_stored tail durable (Marked after) = Marked after
+call_stored tail durable (Holding at after) = Holding at after
+call_stored tail durable (Raising from to after) = Raising from to after
+call_stored tail durable (Reopening slot) = Reopening slot
+
+-- after a store of the slot's base
+abbrev pub stored_base : View → View
+stored_base view = record view { seen = counted view.seen; call = call_stored view.seen.tail view.seen.durable view.call }
+
+-- the step of a leader that has told its group
+abbrev pub step_published : MemberStep → MemberStep
+step_published Closes = Closes
+step_published Waits = Waits
+step_published (Hears refused total) = Hears refused total
+step_published (Places total closed) = Places total closed
+step_published (Stores total base) = Stores total base
+step_published (Tells total outcome) = Waits
+step_published (Fills base units) = Fills base units
+step_published (Leaves tail durable) = Leaves tail durable
+
+abbrev pub call_published : Call → Call
+call_published Idle = Idle
+call_published (Filling entry) = Filling entry
+call_published (Joined slot piece step) = Joined slot piece (step_published step)
+call_published (Emptying slot base total) = Emptying slot base total
+call_published (Marked after) = Marked after
+call_published (Holding at after) = Holding at after
+call_published (Raising from to after) = Raising from to after
+call_published (Reopening slot) = Reopening slot
+
+-- after a store of the slot's state that told the group
+abbrev pub published : View → View
+published view = record view { seen = counted view.seen; call = call_published view.call }

@@ -50,6 +50,14 @@ pub(crate) fn slot_place(ring: u32, slot: u32) -> usize
     RING + ring as usize + ring as usize + STRIDE * slot as usize
 }
 
+/// Where the word of a slot's base lies, in a table with so many slots.
+pub(crate) fn base_place(ring: u32, slots: u32, slot: u32) -> usize
+    requires { (ring ≤ GREATEST_RING) × (slots ≤ MOST_SLOTS) × (slot ≤ MOST_SLOTS) }
+    ensures { result ≡ RING + ring + ring + STRIDE * (slots + slot) }
+{
+    RING + ring as usize + ring as usize + STRIDE * (slots as usize + slot as usize)
+}
+
 /// Where the word of an account lies, in a table with so many slots.
 pub(crate) fn account_place(ring: u32, slots: u32, account: u32) -> usize
     requires { (ring ≤ GREATEST_RING) × (slots ≤ MOST_SLOTS) × (account ≤ MOST_ACCOUNTS) }

@@ -231,6 +231,24 @@ impl Play<(), View> for CloseSlot {
     ghost then = { λ st old n new. (new ≡ (closed_slot n old.0, old.1)) × IsGatheringWord (old.0.constants.ring / 4) n };
 }
 
+pub(crate) struct StoreBase;
+
+impl Play<(), View> for StoreBase {
+    ghost use Rattle.std.specs.Prelude.{◌≡◌};
+    ghost use Rattle.log_table.specs.SlotViews.{stored_base};
+
+    ghost then = { λ st old n new. (new ≡ (stored_base old.0, old.1)) × Unit {0} };
+}
+
+pub(crate) struct Publish;
+
+impl Play<(), View> for Publish {
+    ghost use Rattle.std.specs.Prelude.{◌≡◌};
+    ghost use Rattle.log_table.specs.SlotViews.{published};
+
+    ghost then = { λ st old n new. (new ≡ (published old.0, old.1)) × Unit {0} };
+}
+
 pub(crate) struct LoadAccount<N> {
     account: PhantomData<N>,
 }

@@ -1,17 +1,17 @@
 //! The slots: workers that lost an exchange of the tail gather there, and one reserves for all.
-ghost use Rattle.std.specs.Prelude.{◌≡◌, ◌≢◌, ◌<◌, ◌/◌, length, OnOk, IfErr};
+ghost use Rattle.std.specs.Prelude.{ℕ, ◌≡◌, ◌≢◌, ◌<◌, ◌/◌, length, OnOk, IfErr};
 ghost use Rattle.log_record.specs.Spelling.{spelling};
 ghost use Rattle.slot_word.specs.declared.phase.Phase.TheVariants.{Pending};
 ghost use Rattle.slot_word.specs.SlotWord.{packed, word_of};
 ghost use Rattle.log_table.specs.Books.{next_of};
-ghost use Rattle.log_table.specs.Events.{IsStep, closes, joins, none};
-ghost use Rattle.log_table.specs.Layout.{Slot};
-ghost use Rattle.log_table.specs.May.{MayJoinSlot, MayCloseSlot};
+ghost use Rattle.log_table.specs.Events.{IsStep, closes, joins, none, refuses, stores_base, tells};
+ghost use Rattle.log_table.specs.Layout.{Slot, Base};
+ghost use Rattle.log_table.specs.May.{MayJoinSlot, MayCloseSlot, MayStoreBase, MayStoreGranted, MayStoreRefused, MayPublish};
 ghost use Rattle.log_table.specs.Seats.{IsOf, Becomes, view_of, number_of, key_of};
-ghost use Rattle.log_table.specs.SlotViews.{saw_slot, joined_slot, closed_slot, IsGatheringWord};
+ghost use Rattle.log_table.specs.SlotViews.{saw_slot, joined_slot, closed_slot, stored_base, published, IsGatheringWord};
 
-use crate::layout::slot_place;
-use crate::plays::{CloseSlot, JoinSlot, LoadSlot, Number};
+use crate::layout::{base_place, slot_place};
+use crate::plays::{CloseSlot, JoinSlot, LoadSlot, Number, Publish, StoreBase};
 use crate::table::{LogTable, Seat};
 use slot_word::SlotWord;
 use std::marker::Brand;
@@ -90,5 +90,36 @@ impl LogTable {
             .shared
             .swap::<CloseSlot>(&mut seat.base, place, closed);
         SlotWord::unpack(word)
+    }
+
+    /// Stores where the range of the group begins that the seat leads. Where the group has no room by the tail and
+    /// the durable that the seat loaded since it closed it, it stores these two.
+    pub fn store_base(&self, seat: &mut Seat, slot: u32, word: u64)
+        requires seat { IsOf self.now seat.old }
+        requires slot { slot < self.now.slots }
+        requires next { MayStoreBase slot word (view_of seat.old) }
+        ensures view { Becomes seat.old seat.new (stored_base (view_of seat.old)) }
+        ensures granted { MayStoreGranted slot word (view_of seat.old) → (found : ℕ) → IsStep (key_of self.now) (number_of seat.old) (Base slot) found word (view_of seat.old) (stored_base (view_of seat.old)) (stores_base (number_of seat.old)) }
+        ensures refused { MayStoreRefused slot word (view_of seat.old) → (found : ℕ) → IsStep (key_of self.now) (number_of seat.old) (Base slot) found word (view_of seat.old) (stored_base (view_of seat.old)) (refuses (number_of seat.old) (view_of seat.old).seen.tail (view_of seat.old).seen.durable) }
+    {
+        let place = base_place(self.ring, self.slots, slot);
+        self.table
+            .shared
+            .store::<StoreBase>(&mut seat.base, place, word);
+    }
+
+    /// Tells the members of the group that the seat leads what became of it.
+    pub fn publish(&self, seat: &mut Seat, slot: u32, word: SlotWord)
+        requires seat { IsOf self.now seat.old }
+        requires slot { slot < self.now.slots }
+        requires next { MayPublish slot word (view_of seat.old) }
+        ensures view { Becomes seat.old seat.new (published (view_of seat.old)) }
+        ensures event { (found : ℕ) → IsStep (key_of self.now) (number_of seat.old) (Slot slot) found (word_of word) (view_of seat.old) (published (view_of seat.old)) (tells (number_of seat.old)) }
+    {
+        let place = slot_place(self.ring, slot);
+        let told = word.pack();
+        self.table
+            .shared
+            .store::<Publish>(&mut seat.base, place, told);
     }
 }
