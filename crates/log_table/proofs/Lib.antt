@@ -46,6 +46,7 @@ mod SlotClosing
 mod SlotJoining
 mod SlotLeading
 mod SlotLooks
+mod SlotReopening
 mod SlotShowing
 mod SlotStoring
 mod SlotTelling

@@ -6,18 +6,19 @@ use Rattle.slot_word.specs.declared.phase.Phase.TheVariants as kind
 use Rattle.slot_word.specs.declared.slot_word.SlotWord.{SlotWord}
 use Rattle.slot_word.specs.SlotWord.{packed, word_of, total_in, IsSlotWord}
 use Rattle.slot_word.proofs.SlotWordLemmas.{total_back}
-use Rattle.log_table.specs.Events.{closes, none, refuses, stores_base, tells}
+use Rattle.log_table.specs.Events.{closes, none, refuses, reopens, stores_base, tells}
 use Rattle.log_table.specs.declared.layout.TheConstants.{STRIDE, RING}
 use Rattle.log_table.specs.declared.table.Start.{Start}
 use Rattle.log_table.specs.declared.view.View.{View}
 use Rattle.log_table.specs.Layout.{Slot, Base}
-use Rattle.log_table.specs.May.{MayJoinSlot, MayCloseSlot, MayStoreBase, MayStoreGranted, MayStoreRefused, MayPublish}
-use Rattle.log_table.specs.SlotViews.{own_slot_of, saw_slot, after_join, closed_slot, stored_base, published, IsGatheringWord}
+use Rattle.log_table.specs.May.{MayJoinSlot, MayCloseSlot, MayStoreBase, MayStoreGranted, MayStoreRefused, MayPublish, MayReopen}
+use Rattle.log_table.specs.SlotViews.{own_slot_of, saw_slot, after_join, closed_slot, stored_base, published, reopened, IsGatheringWord}
 use Rattle.log_table.specs.Sound.{Ruled}
 use Rattle.log_table.proofs.Lifting.{allowed-if_step}
 use Rattle.log_table.proofs.SlotClosing.{close-step, close-tells}
 use Rattle.log_table.proofs.SlotJoining.{join-event, join-step}
 use Rattle.log_table.proofs.SlotLooks.{slot-looks, slot-tells}
+use Rattle.log_table.proofs.SlotReopening.{reopen-step}
 use Rattle.log_table.proofs.SlotStoring.{granted-step, refused-step}
 use Rattle.log_table.proofs.SlotTelling.{publish-step}
 use Rattle.log_table.proofs.Wording.{Fits, of_slot, of_base}
@@ -70,6 +71,13 @@ module _ (key : Start) (slots seat : ℕ) (me : Me (Unit {0}) View) where
         (allowed-if_step key slots seat me (Slot slot) (fits-slot place ring number slot slot at same slotted below refl)
         (λ _. packed kind.Pending 0 0) (λ n. closed_slot n me.0) (λ _. closes seat) (IsGatheringWord (me.0.constants.ring / 4))
         (close-tells key seat me.0 slot number slotted below may) (λ n _. close-step key seat me.0 slot number slotted below may n)))
+
+    pub reopen-allowed : MayReopen slot me.0 → Allows (Ruled key) slots seat me place (λ _. 0) (λ _ new. (new ≡ (reopened me.0, me.1)) × Unit {0})
+    reopen-allowed may = at-slot place ring number slot slot at same slotted below refl (λ _. 0)
+        (λ _ _ new. (new ≡ (reopened me.0, me.1)) × Unit {0})
+        (allowed-if_step key slots seat me (Slot slot) (fits-slot place ring number slot slot at same slotted below refl)
+        (λ _. 0) (λ _. reopened me.0) (λ _. reopens seat) (λ _. Unit {0})
+        (λ _ _ _ _ _. tt) (λ n _. reopen-step key seat me.0 slot number slotted below may n))
 
     pub publish-allowed : (word : SlotWord) (value : ℕ) → value ≡ word_of word → MayPublish slot word me.0
         → Allows (Ruled key) slots seat me place (λ _. value) (λ _ new. (new ≡ (published me.0, me.1)) × Unit {0})

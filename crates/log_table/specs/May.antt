@@ -5,7 +5,7 @@ use lib.Dec.{eqb}
 use Rattle.lsn_space.specs.declared.lsn.TheConstants.{LAST}
 use Rattle.log_table.specs.declared.view.Entry.{Entry}
 use Rattle.log_table.specs.declared.view.Held.{Held}
-use Rattle.log_table.specs.declared.view.Call.TheVariants.{Idle, Filling, Joined, Holding, Raising}
+use Rattle.log_table.specs.declared.view.Call.TheVariants.{Idle, Filling, Joined, Holding, Raising, Reopening}
 use Rattle.log_table.specs.declared.group_view.After.{After}
 use Rattle.log_table.specs.declared.group_view.MemberStep.TheVariants.{Closes, Places, Stores, Tells}
 use Rattle.log_table.specs.declared.group_view.Piece.{Piece}
@@ -166,6 +166,10 @@ pub record MayPublish (slot : ℕ) (word : SlotWord) (view : View) : Type 0 wher
   pub outcome : Outcome
   pub tells : view.call ≡ Joined slot piece (Tells total outcome)
   pub word_is : word_of_slot word ≡ told_word outcome total total
+
+-- the seat has nothing left to do but to open the slot again
+abbrev pub MayReopen : ℕ → View → Type 0
+MayReopen slot view = view.call ≡ Reopening slot
 
 -- the unit at this LSN is the next to be read, and below exposed as the flusher's seat loaded it last
 pub record MayRead (at : ℕ) (view : View) : Type 0 where

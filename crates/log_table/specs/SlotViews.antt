@@ -170,3 +170,7 @@ call_published (Reopening slot) = Reopening slot
 -- after a store of the slot's state that told the group
 abbrev pub published : View → View
 published view = record view { seen = counted view.seen; call = call_published view.call }
+
+-- after a store of the slot's state that opened the slot again
+abbrev pub reopened : View → View
+reopened view = record view { seen = counted view.seen; call = Idle }

@@ -249,6 +249,15 @@ impl Play<(), View> for Publish {
     ghost then = { λ st old n new. (new ≡ (published old.0, old.1)) × Unit {0} };
 }
 
+pub(crate) struct Reopen;
+
+impl Play<(), View> for Reopen {
+    ghost use Rattle.std.specs.Prelude.{◌≡◌};
+    ghost use Rattle.log_table.specs.SlotViews.{reopened};
+
+    ghost then = { λ st old n new. (new ≡ (reopened old.0, old.1)) × Unit {0} };
+}
+
 pub(crate) struct LoadAccount<N> {
     account: PhantomData<N>,
 }

@@ -4,14 +4,14 @@ ghost use Rattle.log_record.specs.Spelling.{spelling};
 ghost use Rattle.slot_word.specs.declared.phase.Phase.TheVariants.{Pending};
 ghost use Rattle.slot_word.specs.SlotWord.{packed, word_of};
 ghost use Rattle.log_table.specs.Books.{next_of};
-ghost use Rattle.log_table.specs.Events.{IsStep, closes, joins, none, refuses, stores_base, tells};
+ghost use Rattle.log_table.specs.Events.{IsStep, closes, joins, none, refuses, reopens, stores_base, tells};
 ghost use Rattle.log_table.specs.Layout.{Slot, Base};
-ghost use Rattle.log_table.specs.May.{MayJoinSlot, MayCloseSlot, MayStoreBase, MayStoreGranted, MayStoreRefused, MayPublish};
+ghost use Rattle.log_table.specs.May.{MayJoinSlot, MayCloseSlot, MayStoreBase, MayStoreGranted, MayStoreRefused, MayPublish, MayReopen};
 ghost use Rattle.log_table.specs.Seats.{IsOf, Becomes, view_of, number_of, key_of};
-ghost use Rattle.log_table.specs.SlotViews.{saw_slot, joined_slot, closed_slot, stored_base, published, IsGatheringWord};
+ghost use Rattle.log_table.specs.SlotViews.{saw_slot, joined_slot, closed_slot, stored_base, published, reopened, IsGatheringWord};
 
 use crate::layout::{base_place, slot_place};
-use crate::plays::{CloseSlot, JoinSlot, LoadSlot, Number, Publish, StoreBase};
+use crate::plays::{CloseSlot, JoinSlot, LoadSlot, Number, Publish, Reopen, StoreBase};
 use crate::table::{LogTable, Seat};
 use slot_word::SlotWord;
 use std::marker::Brand;
@@ -121,5 +121,17 @@ impl LogTable {
         self.table
             .shared
             .store::<Publish>(&mut seat.base, place, told);
+    }
+
+    /// Opens the slot again, whose group has released all. A slot where nobody is has the state 0.
+    pub fn reopen(&self, seat: &mut Seat, slot: u32)
+        requires seat { IsOf self.now seat.old }
+        requires slot { slot < self.now.slots }
+        requires next { MayReopen slot (view_of seat.old) }
+        ensures view { Becomes seat.old seat.new (reopened (view_of seat.old)) }
+        ensures event { (found : ℕ) → IsStep (key_of self.now) (number_of seat.old) (Slot slot) found 0 (view_of seat.old) (reopened (view_of seat.old)) (reopens (number_of seat.old)) }
+    {
+        let place = slot_place(self.ring, slot);
+        self.table.shared.store::<Reopen>(&mut seat.base, place, 0);
     }
 }

@@ -1,0 +1,19 @@
+use Rattle.std.proofs.Common.{arith, refl}
+use Rattle.log_table.specs.Seats.{number_of, key_of}
+use Rattle.log_table.proofs.SlotAllowing.{reopen-allowed}
+use Rattle.log_table.proofs.SlotReopening.{reopen-step}
+use Rattle.log_table.proofs.table.LogTable.reopen.Goals as goal
+
+pub store-requires : goal.store-requires
+store-requires c = (
+  c.requires.seat.table_is,
+  omega (arith, c.args.self.now.sized, c.slot_place-place.ensures, c.requires.slot),
+  reopen-allowed (key_of c.args.self.now) _ (number_of c.args.seat.now) c.args.seat.now.base.me _ _ _ _ c.slot_place-place.ensures
+      c.args.self.now.keyed c.args.self.now.slotted c.requires.slot c.requires.next,
+)
+
+pub returns-clause-view : goal.returns-clause-view
+returns-clause-view c = let step = c.store.ensures in record { table_is = step.0; number = step.1; me = step.2.0; worker = refl }
+
+pub returns-clause-event : goal.returns-clause-event
+returns-clause-event c = reopen-step _ _ _ _ _ c.args.self.now.slotted c.requires.slot c.requires.next
