@@ -1,7 +1,8 @@
 -- What the members of a group had seen as they joined it, what they have to place, and how great the group's total can be.
-use Rattle.std.specs.Prelude.{◌≡◌, ℕ, ◌+◌, ◌*◌, ◌≤◌, ◌<◌, Bool, true, false, List, length}
+use Rattle.std.specs.Prelude.{◌≡◌, ◌⊎◌, ℕ, ◌+◌, ◌*◌, ◌≤◌, ◌<◌, Bool, true, false, List, length}
 use Rattle.std.specs.List.{AllByRecursion}
 use Rattle.log_record.specs.Spelling.{spelling}
+use Rattle.lsn_space.specs.declared.lsn.TheConstants.{LAST}
 use Rattle.log_table.specs.declared.group_view.HeardRefusal.{HeardRefusal}
 use Rattle.log_table.specs.declared.group_view.MemberStep.{MemberStep}
 use Rattle.log_table.specs.declared.group_view.MemberStep.TheVariants.{Closes, Waits, Hears, Places, Stores, Tells, Fills, Leaves}
@@ -39,25 +40,35 @@ abbrev pub IsTrueOutcome : ℕ → ℕ → ℕ → List Range → Outcome → Ty
 IsTrueOutcome start tail durable ranges (Granted base) = Unit {0}
 IsTrueOutcome start tail durable ranges (Refused seen_tail seen_durable) = WasSeen start tail durable ranges seen_tail seen_durable
 
--- what became of the group is so, and goes with what its members had seen
-pub record HasOutcome (start tail durable : ℕ) (ranges : List Range) (members : List Member) (outcome : Outcome) : Type 0 where
+-- a group of this total has no room by this tail and this durable: it would end behind the log, or more than a ring above durable
+abbrev pub LacksRoom : ℕ → ℕ → ℕ → ℕ → Type 0
+LacksRoom ring total tail durable = (LAST < tail + total) ⊎ (durable + ring < tail + total)
+
+-- a group that was refused has no room
+abbrev pub LacksRoomIfRefused : ℕ → ℕ → Outcome → Type 0
+LacksRoomIfRefused ring total (Granted base) = Unit {0}
+LacksRoomIfRefused ring total (Refused tail durable) = LacksRoom ring total tail durable
+
+-- what became of the group of this total is so, and goes with what its members had seen
+pub record HasOutcome (start ring tail durable : ℕ) (ranges : List Range) (members : List Member) (total : ℕ) (outcome : Outcome) : Type 0 where
   pub members_seen : AllByRecursion (HadSeenUnder outcome) members
   pub is_true : IsTrueOutcome start tail durable ranges outcome
+  pub no_room : LacksRoomIfRefused ring total outcome
 
 -- so, by the phase of the group
-abbrev pub HasPhaseOutcome : ℕ → ℕ → ℕ → List Range → List Member → GroupPhase → Type 0
-HasPhaseOutcome start tail durable ranges members Vacant = Unit {0}
-HasPhaseOutcome start tail durable ranges members (Gathering leader total) = Unit {0}
-HasPhaseOutcome start tail durable ranges members (Closed leader total) = Unit {0}
-HasPhaseOutcome start tail durable ranges members (Placed leader total outcome) = HasOutcome start tail durable ranges members outcome
-HasPhaseOutcome start tail durable ranges members (Ready leader total outcome) = HasOutcome start tail durable ranges members outcome
-HasPhaseOutcome start tail durable ranges members (Told total outcome remaining) = HasOutcome start tail durable ranges members outcome
-HasPhaseOutcome start tail durable ranges members (Emptied last) = Unit {0}
+abbrev pub HasPhaseOutcome : ℕ → ℕ → ℕ → ℕ → List Range → List Member → GroupPhase → Type 0
+HasPhaseOutcome start ring tail durable ranges members Vacant = Unit {0}
+HasPhaseOutcome start ring tail durable ranges members (Gathering leader total) = Unit {0}
+HasPhaseOutcome start ring tail durable ranges members (Closed leader total) = Unit {0}
+HasPhaseOutcome start ring tail durable ranges members (Placed leader total outcome) = HasOutcome start ring tail durable ranges members total outcome
+HasPhaseOutcome start ring tail durable ranges members (Ready leader total outcome) = HasOutcome start ring tail durable ranges members total outcome
+HasPhaseOutcome start ring tail durable ranges members (Told total outcome remaining) = HasOutcome start ring tail durable ranges members total outcome
+HasPhaseOutcome start ring tail durable ranges members (Emptied last) = Unit {0}
 
 -- what the members of a group had seen is not above the words, nor above what became of the group
-pub record HasSeenInGroup (start tail durable : ℕ) (ranges : List Range) (group : Group) : Type 0 where
+pub record HasSeenInGroup (start ring tail durable : ℕ) (ranges : List Range) (group : Group) : Type 0 where
   pub members_seen : AllByRecursion (HadSeenUpTo tail durable) group.members
-  pub outcome : HasPhaseOutcome start tail durable ranges group.members group.phase
+  pub outcome : HasPhaseOutcome start ring tail durable ranges group.members group.phase
 
 -- what a leader has loaded since that one of its steps is not below what the members had seen
 pub record LoadedSince (closed : ℕ) (seen : Seen) (members : List Member) : Type 0 where
