@@ -5,17 +5,18 @@ use Rattle.log_table.specs.declared.view.Call.TheVariants.{Idle}
 use Rattle.log_table.specs.declared.view.Role.TheVariants.{Flusher}
 use Rattle.log_table.specs.declared.view.View.{View}
 use Rattle.log_table.specs.Log.{Log, ranges_of, parts_of}
-use Rattle.log_table.specs.Sound.{EachPair, HasSeenBoundaries, SendsIfFlusher, StoresStop, HasReadStop, RestsIfQuiet, LookedIfQuiet, HasWorkingOwner, HasConstants, RestsUnlessActive, OwnsIfWorker, HoldsIfActive, HasSoundCrew, IsSound, base_of, history_in, books_of}
+use Rattle.log_table.specs.Sound.{EachView, EachPair, HasSeenBoundaries, SendsIfFlusher, StoresStop, HasReadStop, RestsIfQuiet, LookedIfQuiet, HasWorkingOwner, HasConstants, RestsUnlessActive, OwnsIfWorker, HoldsIfActive, HasSoundCrew, IsSound, base_of, history_in, books_of}
 use Rattle.log_table.specs.declared.view.Books.{Books}
 use Rattle.log_table.specs.Accounts.{KeepsAccounts}
 use Rattle.log_table.specs.Books.{no_books}
 use Rattle.log_table.specs.Marks.{HasTrueEnds}
+use Rattle.log_table.specs.Members.{LoadsForGroup, AwaitsPlace, HasTotalOfWorkers, HeardOfWorkers, HasSeenLast}
 use Rattle.log_table.specs.Slots.{pieces_at, phase_at, KnowsGroup}
 use Rattle.log_table.specs.Views.{nobody, entries_in, books_in, claims_in}
 use Rattle.log_table.specs.Words.{Words}
 use Rattle.log_table.proofs.Carrying.{carrier-push}
 use Rattle.log_table.proofs.Gathered.{adds-nobody}
-use Rattle.log_table.proofs.Viewing.{each_push}
+use Rattle.log_table.proofs.Viewing.{each_push, pairs_push}
 use Rattle.std.proofs.lemmas.List.{map-append}
 
 -- a seat that was not made counts as nobody's, before and after one like it is made
@@ -35,7 +36,7 @@ module _ (key : Start) (words : Words) (views : List View) (log : Log) (s : IsSo
     (sees : HasSeenBoundaries key.start words.tail words.exposed words.durable (ranges_of log) new.seen)
     (read : HasReadStop words.stop new) (constants : HasConstants key new)
     (roles : HasSoundCrew words.crew (views ++ new ∷ [])) (quiet : EachPair (λ _ y _ z. RestsIfQuiet y z) (views ++ new ∷ []))
-    (books : new.books ≡ no_books) where
+    (books : new.books ≡ no_books) (hears : EachView (λ _ z. HeardOfWorkers z new) views) (last : HasSeenLast new) where
   pub adds : IsSound key words (views ++ new ∷ []) log
   adds = record {
     ordered = s.ordered;
@@ -76,4 +77,14 @@ module _ (key : Start) (words : Words) (views : List View) (log : Log) (s : IsSo
         (sym (map-append (books_of log.groups) views (new ∷ [])
         ∙ (λ i. map (books_of log.groups) views ++ books_in log.groups (call i) (books i) ∷ [])))
         (adds-nobody (base_of key) words.account (history_in key log.parts) (map (books_of log.groups) views) s.accounts);
+    in_group = s.in_group;
+    loads = each_push (λ _ z. LoadsForGroup log.groups z.seen z.call) (λ _ z. LoadsForGroup log.groups z.seen z.call) views new s.loads
+        (subst (LoadsForGroup log.groups new.seen) (sym call) tt) (λ _ _ _ p. p);
+    awaits = each_push (λ _ z. AwaitsPlace z.call z.books) (λ _ z. AwaitsPlace z.call z.books) views new s.awaits
+        (subst (λ c. AwaitsPlace c new.books) (sym call) tt) (λ _ _ _ p. p);
+    totals = each_push (λ _ z. (slot : ℕ) → HasTotalOfWorkers (log.groups slot) z) (λ _ z. (slot : ℕ) → HasTotalOfWorkers (log.groups slot) z) views new
+        s.totals (λ _ f. absurd (not-flusher f)) (λ _ _ _ p. p);
+    heard = pairs_push (λ _ y _ z. HeardOfWorkers y z) views new s.heard (λ f. absurd (not-flusher f))
+        (λ j z there. ((λ f. absurd (not-flusher f)), hears j z there));
+    lasts = each_push (λ _ z. HasSeenLast z) (λ _ z. HasSeenLast z) views new s.lasts last (λ _ _ _ p. p);
   }

@@ -9,7 +9,7 @@ use Rattle.log_table.specs.declared.view.Role.TheVariants.{Flusher, Fresh, Activ
 use Rattle.log_table.specs.declared.view.View.{View}
 use Rattle.log_table.specs.May.{MayMerge}
 use Rattle.log_table.specs.Sound.{EachView, HasSoundRole, HasSoundRoles, HasSoundCrew, Knows, Lacks, is_active_view, HasSeenBoundaries, SendsIfFlusher, StoresStop, LookedIfQuiet, HasWorkingOwner, HasConstants, RestsUnlessActive, OwnsIfWorker, IsSound, Ruled}
-use Rattle.log_table.specs.Roles.{has_ended, is_active, is_worker}
+use Rattle.log_table.specs.Roles.{has_ended, is_active, is_worker, is_spent}
 use Rattle.log_table.specs.Views.{nobody}
 use Rattle.log_table.specs.CrewViews.{takes_in}
 use Rattle.log_table.proofs.Roles.{unbound}
@@ -25,6 +25,14 @@ ended-rests Active e = absurd (true≢false (sym e))
 ended-rests Ended e = refl
 ended-rests Note e = refl
 ended-rests Spent e = refl
+
+pub ended-unspent : (role : Role) → has_ended role ≡ true → is_spent role ≡ false
+ended-unspent Flusher e = refl
+ended-unspent Fresh e = refl
+ended-unspent Active e = refl
+ended-unspent Ended e = refl
+ended-unspent Note e = refl
+ended-unspent Spent e = absurd (true≢false (sym e))
 
 or-cases : (a b : Bool) → (a || b) ≡ true → (a ≡ true) ⊎ (b ≡ true)
 or-cases true b e = inl refl
@@ -111,7 +119,7 @@ module _ (crew : ℕ) (views : List View) (me other : ℕ) (v o : View) (roles :
       by_role false note knows = before knows
 
   -- the flusher's seat is the first
-  not-flusher : {A : Type 0} (j : ℕ) (z : View) → j ≢ me → get_elem? (without views other) j ≡ some z → z.standing.role ≡ Flusher → A
+  pub not-flusher : {A : Type 0} (j : ℕ) (z : View) → j ≢ me → get_elem? (without views other) j ≡ some z → z.standing.role ≡ Flusher → A
   not-flusher j z differ here f = absurd (differ (each_set (λ seat y. y.standing.role ≡ Flusher → seat ≡ 0) views other nobody (λ i y h. (roles.each i y h).first)
       (λ e. absurd (cc)) j z here f ∙ sym ((roles.each me v at).first may.flusher)))
 

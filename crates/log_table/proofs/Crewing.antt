@@ -22,6 +22,8 @@ use Rattle.log_table.specs.Views.{counted}
 use Rattle.log_table.specs.CrewViews.{enrolled, retired}
 use Rattle.log_table.specs.Words.{Words}
 use Rattle.log_table.proofs.Keeping.{accounts-stay}
+use Rattle.log_table.proofs.Lists.{all-among}
+use Rattle.log_table.proofs.Members.{KeepsSeen, steps-on, loads-stay, heard-moves}
 use Rattle.log_table.proofs.Roles.{quiet-moves, restands}
 use Rattle.log_table.proofs.Viewing.{each_set, pairs_move, count-set}
 
@@ -61,14 +63,6 @@ distinct-numbers (v ∷ vs) apart =
     )
     by_role false is rest = rest
 
-member-below : (most : ℕ) (numbers : List ℕ) → AllByRecursion (λ n. n < most) numbers → (n : ℕ) → list_any (eqb n) numbers ≡ true → n < most
-member-below most [] all n is = absurd (true≢false (sym is))
-member-below most (m ∷ ms) all n is = by_test (eqb n m) refl is (member-below most ms all.1 n)
-  where
-    by_test : (b : Bool) → eqb n m ≡ b → (b || list_any (eqb n) ms) ≡ true → (list_any (eqb n) ms ≡ true → n < most) → n < most
-    by_test true same is rest = subst (λ k. k < most) (sym (eqb-true n m same)) all.0
-    by_test false same is rest = rest is
-
 active-le-numbers : (views : List View) → count_by is_active_view views ≤ length (worker_numbers views)
 active-le-numbers [] = omega arith
 active-le-numbers (v ∷ vs) = by_role v.standing.role (sum_by-cons (λ (x : View). cond (is_active_view x) 1 0) v vs) (active-le-numbers vs)
@@ -86,7 +80,8 @@ active-le-numbers (v ∷ vs) = by_role v.standing.role (sum_by-cons (λ (x : Vie
 pub crew-small : (crew : ℕ) (views : List View) → HasSoundCrew crew views → crew ≤ 4294967296
 crew-small crew views s =
     let distinct = distinct-numbers views (λ i j v z at there is too same. (s.pairs i v at j z there).apart is too same) in
-    let small = member-below 4294967296 (worker_numbers views) (all-numbers (λ n. n < 4294967296) views (λ j v at is. (s.each j v at).small is)) in
+    let below = all-numbers (λ n. n < 4294967296) views (λ j v at is. (s.each j v at).small is) in
+    let small : (n : ℕ) → list_any (eqb n) (worker_numbers views) ≡ true → n < 4294967296 = λ n. all-among (λ k. k < 4294967296) n (worker_numbers views) below in
     let few : length (worker_numbers views) ≤ 4294967296 = length-le_from_distinct_below (worker_numbers views) 4294967296 distinct small in
     omega (arith, s.count, active-le-numbers views)
 
@@ -167,6 +162,16 @@ module _ (key : Start) (words : Words) (views : List View) (me : ℕ) (v : View)
       (quiet-moves views me v new s.quiet at (λ _ _ _ _ f. no-flusher f) (λ z h f q. next.works (sym (ap is_working was) ∙ h f q)))
       (λ f. no-flusher f) ((λ off. (rests off).1), (λ off. absurd (true≢false (sym next.owner ∙ off))))
       (accounts-stay key words.account log.parts log.groups views me v new at refl s.accounts)
+      record {
+        loads = loads-stay key words views me v log s at (counted v.seen) keeps;
+        awaits = s.awaits me v at;
+        totals = λ slot f. no-flusher f;
+        heard = heard-moves views me v new s.heard at (λ z h f. no-flusher f) (λ z h. h);
+        last = λ _. keeps.last (s.lasts me v at (ap is_spent was ∙ next.was_unspent));
+      }
+    where
+      keeps : KeepsSeen log.groups v.seen (counted v.seen)
+      keeps = steps-on log.groups v.seen (counted v.seen) refl refl refl refl refl refl refl
 
 pub enrolls : (key : Start) (words : Words) (views : List View) (me : ℕ) (v : View) (log : Log) → IsSound key words views log
     → get_elem? views me ≡ some v → v.standing.role ≡ Fresh

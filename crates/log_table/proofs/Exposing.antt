@@ -17,6 +17,7 @@ use Rattle.log_table.specs.declared.group_view.After.TheVariants.{Nothing, Reope
 use Rattle.log_table.specs.declared.view.Call.{Call}
 use Rattle.log_table.specs.declared.view.Call.TheVariants.{Idle, Filling, Joined, Emptying, Marked, Holding, Raising, Reopening}
 use Rattle.log_table.specs.declared.view.Role.TheVariants.{Flusher}
+use Rattle.log_table.specs.declared.view.Books.{Books}
 use Rattle.log_table.specs.declared.view.Seen.{Seen}
 use Rattle.log_table.specs.declared.view.Sending.{Sending}
 use Rattle.log_table.specs.declared.view.View.{View}
@@ -28,6 +29,7 @@ use Rattle.log_table.specs.Log.{Log, ranges_of}
 use Rattle.log_table.specs.Marks.{IsFirstReleased, FirstEnds, Carries, IsPassed, HasTrueEnds}
 use Rattle.log_table.specs.MarkViews.{in_hand, next_raise, call_with_mark, seen_mark, saw_mark}
 use Rattle.log_table.specs.May.{MayLookMark, MayRaise}
+use Rattle.log_table.specs.Members.{LoadsForGroup, AwaitsPlace}
 use Rattle.log_table.specs.Roles.{is_active}
 use Rattle.log_table.specs.Sound.{HasSeenBoundaries, HasContiguousReservations, StoresStop, HasReadStop, IsSound}
 use Rattle.log_table.specs.Views.{after_look, seen_exposed, saw_exposed}
@@ -36,6 +38,7 @@ use Rattle.log_table.proofs.Keeping.{accounts-stay}
 use Rattle.log_table.proofs.Lifting.{Tells}
 use Rattle.log_table.proofs.Looking.{looks, exposed-boundary}
 use Rattle.log_table.proofs.MarkLooks.{marked-ready, look-tells, not_ready-at_exposed}
+use Rattle.log_table.proofs.Members.{KeepsSeen, steps-on, exposed-on, keeps-view}
 use Rattle.log_table.proofs.Reading.{put-same}
 use Rattle.log_table.proofs.Roles.{HasSame, crew-same, quiet-moves, recalls-sound}
 use Rattle.log_table.proofs.Showing.{hands_of-set, task_of-hands_of}
@@ -61,6 +64,14 @@ ends-after : (start exposed : ℕ) (log : Log) (after : After) → HasTrueEnds s
 ends-after start exposed log Nothing = tt
 ends-after start exposed log (Reopens slot) = tt
 
+loads-after : (groups : ℕ → Group) (seen : Seen) (after : After) → LoadsForGroup groups seen (call_after after)
+loads-after groups seen Nothing = tt
+loads-after groups seen (Reopens slot) = tt
+
+awaits-after : (books : Books) (after : After) → AwaitsPlace (call_after after) books
+awaits-after books Nothing = tt
+awaits-after books (Reopens slot) = tt
+
 task-after : (after : After) → task_in (call_after after) ≡ InRing (slot_after after) stage.Idle
 task-after Nothing = refl
 task-after (Reopens slot) = refl
@@ -78,8 +89,9 @@ module _ (key : Start) (words : Words) (views : List View) (me : ℕ) (v : View)
       → (IsFirstReleased log.ahead → Carries words.exposed v.call → Carries words.exposed call)
       → HasTrueEnds key.start words.exposed log call
       → HasSeenBoundaries key.start words.tail words.exposed words.durable (ranges_of log) seen → seen.stop ≡ v.seen.stop
+      → LoadsForGroup log.groups seen call → AwaitsPlace call v.books → KeepsSeen log.groups v.seen seen
       → IsSound key words (set views me (record v { seen = seen; call = call; sending = sending })) log
-  turns-sound seen call sending same carries ends sees read =
+  turns-sound seen call sending same carries ends sees read loads awaits keeps =
       recalls-sound key words words.stop words.crew words.account views me v new log s at same carries ends refl
       sees (s.constants me v at) (λ off. absurd (active-only off)) (s.entries me v at) (crew-same words.crew views me v new s.roles at refl)
       (λ f. absurd (not-flusher f)) (each_set (λ _ z. StoresStop words.stop z) views me new s.stops (λ f. absurd (not-flusher f)))
@@ -87,6 +99,7 @@ module _ (key : Start) (words : Words) (views : List View) (me : ℕ) (v : View)
       (subst (λ n. (n ≡ 0) ⊎ (n ≡ words.stop)) (sym read) (s.read_stop me v at)))
       (quiet-moves views me v new s.quiet at (λ _ _ _ _ f. absurd (not-flusher f)) (λ _ h. h)) (λ f. absurd (not-flusher f)) (s.unheld me v at)
       (accounts-stay key words.account log.parts log.groups views me v new at (same.books v.books) s.accounts)
+      (keeps-view key words views me v log s at new refl keeps loads awaits)
     where
       new : View
       new = record v { seen = seen; call = call; sending = sending }
@@ -136,7 +149,7 @@ module _ (key : Start) (me : ℕ) (v : View) where
         read_agrees = sends.read_agrees;
       }) (each_set (λ _ z. StoresStop words.stop z) views me new s.stops (s.stops me v at))
       (each_set (λ _ z. HasReadStop words.stop z) views me new s.read_stop (s.read_stop me v at)) (λ _ _ _ h. h)
-      (λ _ _ _. refl))
+      (λ _ _ _. refl) (exposed-on log.groups words.exposed v.seen))
 
   -- to the machine the seat has just made a mark
   marked-is : (views : List View) (after : After) → get_elem? views me ≡ some v → v.call ≡ Marked after
@@ -153,7 +166,8 @@ module _ (key : Start) (me : ℕ) (v : View) where
         sound = turns-sound key words views me v log s at (λ idle. let gone : Marked after ≡ Idle = sym is ∙ idle in cc)
             (seen_exposed words.exposed v.seen) (Holding words.exposed after) (record v.sending { exposed = words.exposed; looked = true })
             (subst (λ call. HasSame log.groups me call (Holding words.exposed after)) (sym is) (marked-holds log.groups me words.exposed after))
-            (λ _ _. refl) (passed-now key words log s.contiguous) (sees-exposed key words views me v log s at) refl;
+            (λ _ _. refl) (passed-now key words log s.contiguous) (sees-exposed key words views me v log s at) refl
+            tt tt (exposed-on log.groups words.exposed v.seen);
         shows = (
           ap ring_stage (marked-is views after at is),
           shows-turn key words views me v
@@ -203,10 +217,11 @@ module _ (key : Start) (words : Words) (views : List View) (me : ℕ) (v : View)
       record { tail_seen = old.tail_seen; exposed_seen = old.exposed_seen; durable_seen = old.durable_seen; boundaries = old.boundaries }
 
   turns : (call : Call) → HasSame log.groups me (Holding base may.after) call → (IsFirstReleased log.ahead → base ≡ words.exposed → Carries words.exposed call)
-      → HasTrueEnds key.start words.exposed log call → IsSound key words (set views me (record v { seen = seen; call = call })) log
-  turns call same carries ends =
+      → HasTrueEnds key.start words.exposed log call → LoadsForGroup log.groups seen call → AwaitsPlace call v.books → IsSound key words (set views me (record v { seen = seen; call = call })) log
+  turns call same carries ends loads awaits =
       turns-sound key words views me v log s at (λ idle. let gone : Holding base may.after ≡ Idle = sym may.holding ∙ idle in cc)
       seen call v.sending (subst (λ old. HasSame log.groups me old call) (sym may.holding) same) (λ first c. carries first (subst (Carries words.exposed) may.holding c)) ends sees refl
+      loads awaits (steps-on log.groups v.seen seen refl refl refl refl refl refl refl)
 
   sound : IsSound key words (set views me (record v { seen = seen; call = next_raise base found may.after })) log
   sound = by_test (nat_lt base found) refl
@@ -218,9 +233,10 @@ module _ (key : Start) (words : Words) (views : List View) (me : ℕ) (v : View)
         λ here. subst (FirstEnds log.ahead) (ap (λ n. words.mark (n % key.ring)) (sym here))
             (first-ends words.exposed (words.mark (words.exposed % key.ring)) log.ahead
             (marked-ready key words views log s (subst (λ n. n < words.mark (n % key.ring)) here (ltb-true base found high)))),
-      )
+      ) tt tt
       by_test false low = turns (call_after may.after) (holding-ends log.groups me base may.after)
           (λ first _. absurd ((not_ready-at_exposed key words views log s base passed below).1 first)) (ends-after key.start words.exposed log may.after)
+          (loads-after log.groups seen may.after) (awaits-after v.books may.after)
         where
           below : found ≤ base
           below = dite (dec_lt base found) (λ lt. absurd (true≢false (sym (lt-ltb base found lt) ∙ low))) (λ ge. omega (arith, ge))
@@ -286,7 +302,7 @@ module _ (key : Start) (words : Words) (views : List View) (me : ℕ) (v : View)
         (seen_exposed words.exposed v.seen) (Holding words.exposed may.after) v.sending
         (subst (λ call. HasSame log.groups me call (Holding words.exposed may.after)) (sym may.raising)
         (raising-holds log.groups me from to words.exposed may.after)) (λ _ _. refl) (passed-now key words log s.contiguous)
-        (sees-exposed key words views me v log s at) refl;
+        (sees-exposed key words views me v log s at) refl tt tt (exposed-on log.groups words.exposed v.seen);
     shows = (
       ap (λ task. is_some (raises_from (ring_stage task))) raises-from,
       shows-turn key words views me v new log (InRing (slot_after may.after) (Holds words.exposed)) at refl

@@ -21,6 +21,7 @@ use Rattle.log_table.specs.Layout.{Ring}
 use Rattle.log_table.specs.Log.{Part, Range, Claim, Log, Tiles, ranges_of, own, owes, claim_of, part_of, parts_of, unreleased_in, inside, filled_inside, filled_in, is_released, SpellsRecord, records_in, StandsInRing, IsFullIfReleased, IsReleasedBelow, CountsRemaining, AgreesFrom, EndsWithPart, Laid}
 use Rattle.log_table.specs.Marks.{Carries, HasTrueEnds}
 use Rattle.log_table.specs.May.{MayFill}
+use Rattle.log_table.specs.Members.{LoadsForGroup, AwaitsPlace, HasTotalOfWorkers, HasSeenLast}
 use Rattle.log_table.specs.Sound.{HasSeenBoundaries, SendsIfFlusher, StoresStop, HasReadStop, LookedIfQuiet, HasWorkingOwner, HasConstants, RestsUnlessActive, OwnsIfWorker, HoldsIfActive, IsSound, base_of, books_of}
 use Rattle.log_record.specs.Spelling.{spelling}
 use Rattle.lock_core.specs.History.{history_from}
@@ -33,6 +34,7 @@ use Rattle.log_table.proofs.Carrying.{carrier-set, ends-move}
 use Rattle.log_table.proofs.Keeping.{accounts-stay, records-mid}
 use Rattle.log_table.proofs.Lists.{all-mid, all-at, all-both, all-weaker, Last, picked-last}
 use Rattle.log_table.proofs.Looking.{all-tile}
+use Rattle.log_table.proofs.Members.{KeepsView, steps-on, keeps-view}
 use Rattle.log_table.proofs.Owning.{LastPart, last_part, own-last, own-others}
 use Rattle.log_table.proofs.Ranging.{RangesApart, last-in_two, tiles-le, laid-le, laid-mid, laid-same, laid-replaced, unreleased_in-mid, filled-here, filled-none, filled_in-mid, filled_in-one}
 use Rattle.log_table.proofs.Roles.{crew-same, quiet-moves}
@@ -202,6 +204,9 @@ module _ (key : Start) (words : Words) (views : List View) (me : ℕ) (v : View)
     read_agrees = agrees words.durable z.sending.read (omega (arith, o.read_to, o.loaded_seen)) o.read_agrees;
   }
 
+  kept : KeepsView log.groups views me new
+  kept = keeps-view key words views me v log s at new refl (steps-on log.groups v.seen (counted v.seen) refl refl refl refl refl refl refl) tt tt
+
   sound : IsSound key (record words { ring = ring' }) (set views me new) after
   sound = record {
     ordered = s.ordered;
@@ -277,6 +282,12 @@ module _ (key : Start) (words : Words) (views : List View) (me : ℕ) (v : View)
         (sym (ap (λ call. books_in log.groups call v.books) filling))
         (subst (λ records. KeepsAccounts (base_of key) words.account (history_from key.start [] records) (map (books_of log.groups) views))
         (ap records_in last.split ∙ sym (records-mid last.before last.behind old_part part refl)) s.accounts);
+    in_group = s.in_group;
+    loads = each_set (λ _ z. LoadsForGroup log.groups z.seen z.call) views me new s.loads kept.loads;
+    awaits = each_set (λ _ z. AwaitsPlace z.call z.books) views me new s.awaits kept.awaits;
+    totals = each_set (λ _ z. (slot : ℕ) → HasTotalOfWorkers (log.groups slot) z) views me new s.totals kept.totals;
+    heard = kept.heard;
+    lasts = each_set (λ _ z. HasSeenLast z) views me new s.lasts kept.last;
   }
 
   abbrev old_state : SlotState

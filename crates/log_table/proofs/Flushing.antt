@@ -15,15 +15,17 @@ use Rattle.log_table.specs.Layout.{Durable}
 use Rattle.log_table.specs.Log.{Part, Range, Log, ranges_of, StandsInRing, AgreesFrom, EndsWithPart, IsReleased, IsRangeBoundary}
 use Rattle.log_table.specs.Marks.{HasTrueMark, HasTrueEnds}
 use Rattle.log_table.specs.May.{MaySend}
+use Rattle.log_table.specs.Members.{HasSeenInGroup, LoadsForGroup, AwaitsPlace, HasTotalOfWorkers, HasSeenLast}
 use Rattle.log_table.specs.Sound.{HasSeenBoundaries, HasContiguousReservations, SendsInsertedUnits, SendsIfFlusher, StoresStop, HasReadStop, LookedIfQuiet, HasWorkingOwner, HasConstants, RestsUnlessActive, OwnsIfWorker, HoldsIfActive, IsSound}
 use Rattle.log_table.proofs.Keeping.{accounts-stay}
 use Rattle.log_table.specs.Roles.{is_spent}
-use Rattle.log_table.specs.Views.{has_sent}
+use Rattle.log_table.specs.Views.{seen_durable, has_sent}
 use Rattle.log_table.specs.Words.{Words}
 use Rattle.log_table.proofs.Agreeing.{agrees-append}
 use Rattle.log_table.proofs.Boundaries.{Cut, boundary-later, boundary-sooner, cut-at}
 use Rattle.log_table.proofs.Carrying.{carrier-set, ends-move}
 use Rattle.log_table.proofs.Lists.{all-both, all-weaker}
+use Rattle.log_table.proofs.Members.{KeepsView, durable-on, loads-stay, group-grows, keeps-view}
 use Rattle.log_table.proofs.Ranging.{tiles-append}
 use Rattle.log_table.proofs.Roles.{crew-same, quiet-moves, sole-flusher}
 use Rattle.log_table.proofs.Showing.{hands_of-set_same}
@@ -101,6 +103,14 @@ module _ (key : Start) (words : Words) (views : List View) (me : ℕ) (v : View)
   kept : (z : View) → HasTrueEnds key.start words.exposed log z.call → HasTrueEnds key.start words.exposed after z.call
   kept z = ends-move key.start words.exposed log after z.call (λ x. subst (λ l. IsRangeBoundary key.start l x) same-ranges) (λ _ e. e)
 
+  in-groups : (slot : ℕ) → HasSeenInGroup key.start key.ring words.tail to (ranges_of after) (log.groups slot)
+  in-groups slot = group-grows key.start key.ring words.tail words.tail words.durable to (ranges_of log) (ranges_of after) (le_refl _) forward
+      (λ x. subst (λ l. IsRangeBoundary key.start l x) same-ranges) (log.groups slot) (s.in_group slot)
+
+  view-kept : KeepsView log.groups views me new
+  view-kept = let keeps = durable-on key.start key.ring words.tail to (ranges_of after) log.groups v.seen in-groups in
+      keeps-view key words views me v log s at new refl keeps (loads-stay key words views me v log s at (seen_durable to v.seen) keeps) (s.awaits me v at)
+
   sound : IsSound key (record words { durable = to }) (set views me new) after
   sound = record {
     ordered = record {
@@ -166,6 +176,12 @@ module _ (key : Start) (words : Words) (views : List View) (me : ℕ) (v : View)
     looked = each_set (λ _ z. LookedIfQuiet words.exposed z) views me new s.looked (s.looked me v at);
     unheld = each_set (λ _ z. HoldsIfActive z) views me new s.unheld (s.unheld me v at);
     accounts = accounts-stay key words.account log.parts log.groups views me v new at refl s.accounts;
+    in_group = in-groups;
+    loads = each_set (λ _ z. LoadsForGroup log.groups z.seen z.call) views me new s.loads view-kept.loads;
+    awaits = each_set (λ _ z. AwaitsPlace z.call z.books) views me new s.awaits view-kept.awaits;
+    totals = each_set (λ _ z. (slot : ℕ) → HasTotalOfWorkers (log.groups slot) z) views me new s.totals view-kept.totals;
+    heard = view-kept.heard;
+    lasts = each_set (λ _ z. HasSeenLast z) views me new s.lasts view-kept.last;
   }
 
   abbrev old_state : SlotState

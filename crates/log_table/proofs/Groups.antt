@@ -1,5 +1,5 @@
 -- One group changes: what the others are, what its members see of it, and what the machine is shown.
-use Rattle.std.proofs.Common.{◌≡◌, ◌≢◌, ⊎_elim, inl, inr, ℕ, zero, suc, ◌+◌, ◌<◌, cond, Bool, true, false, List, [], ◌∷◌, map, set, sym, refl, ap, ◌∙◌, subst, arith, eq-eqb, ne_eqb}
+use Rattle.std.proofs.Common.{◌≡◌, ◌≢◌, ⊎_elim, inl, inr, ℕ, zero, suc, ◌+◌, ◌<◌, ◌==◌, cond, Bool, true, false, List, [], ◌∷◌, map, set, sym, refl, ap, ◌∙◌, subst, arith, eq-eqb, eqb-true, ne_eqb}
 use Rattle.std.specs.List.{AllByRecursion}
 use mathlib.Core.Logic.{dite}
 use mathlib.Core.Option.{some, some-injective}
@@ -15,7 +15,7 @@ use Rattle.log_table.specs.Events.{group_shown, groups_from}
 use Rattle.log_table.specs.Groups.{Outcome, GroupPhase, Vacant, Gathering, Closed, Placed, Ready, Told, Emptied, Piece, Member, Group, put_group}
 use Rattle.log_table.specs.GroupViews.{unheard_entry, unheard_books, member_entry, member_books}
 use Rattle.log_table.specs.Log.{Range, Shared, claim_of, IsSharedByMembers, IsAtWork}
-use Rattle.log_table.specs.Slots.{own_pieces, pieces_at, led_phase, phase_led, phase_at, KnowsPhase, KnowsGroup, is_shared_at, shares, shared, range_of, sum_of, HasRemaining, IsAtPhase}
+use Rattle.log_table.specs.Slots.{own_pieces, pieces_at, is_led_by, known_phase, led_phase, phase_led, phase_at, KnowsPhase, KnowsGroup, is_shared_at, shares, shared, range_of, sum_of, HasRemaining, IsAtPhase}
 use Rattle.log_table.specs.Views.{entries_in, books_in}
 use Rattle.log_table.proofs.Lists.{all-both}
 
@@ -29,6 +29,14 @@ group-at groups slot other g same = ap (λ b. cond b g (groups other)) (eq-eqb o
 
 pub group-other : (groups : ℕ → Group) (slot other : ℕ) (g : Group) → other ≢ slot → put_group groups slot g other ≡ groups other
 group-other groups slot other g differ = ap (λ b. cond b g (groups other)) (ne_eqb other slot differ)
+
+-- what holds of the one and of all others
+pub put-keeps : (P : Group → Type 0) (groups : ℕ → Group) (slot other : ℕ) (g : Group) → (other ≡ slot → P g) → P (groups other) → P (put_group groups slot g other)
+put-keeps P groups slot other g here there = by_test (other == slot) refl
+  where
+    by_test : (b : Bool) → (other == slot) ≡ b → P (cond b g (groups other))
+    by_test true is = here (eqb-true other slot is)
+    by_test false is = there
 
 -- ---- members of a group whose phase changes
 
@@ -82,6 +90,33 @@ untold-placed leader units o total outcome remaining is = cc
 
 pub untold-ready : (leader units : ℕ) (o : Outcome) → IsUntold (Ready leader units o)
 untold-ready leader units o total outcome remaining is = cc
+
+-- what the seat knows of the phase that it leads is so
+pub known-led : (seat : ℕ) (p q : GroupPhase) → led_phase seat p ≡ q ∷ [] → known_phase p ≡ q
+known-led seat p q is = by_test (is_led_by seat p) is
+  where
+    by_test : (b : Bool) → cond b (known_phase p ∷ []) [] ≡ q ∷ [] → known_phase p ≡ q
+    by_test true is = cc
+    by_test false is = absurd (cc)
+
+-- but for a group that gathers, it knows all of it
+abbrev pub IsWhole : GroupPhase → Type 0
+IsWhole Vacant = Unit {0}
+IsWhole (Gathering leader total) = ⊥
+IsWhole (Closed leader total) = Unit {0}
+IsWhole (Placed leader total outcome) = Unit {0}
+IsWhole (Ready leader total outcome) = Unit {0}
+IsWhole (Told total outcome remaining) = Unit {0}
+IsWhole (Emptied last) = Unit {0}
+
+pub known-whole : (p q : GroupPhase) → known_phase p ≡ q → IsWhole q → p ≡ q
+known-whole Vacant q is whole = is
+known-whole (Gathering leader total) q is whole = absurd (subst IsWhole (sym is) whole)
+known-whole (Closed leader total) q is whole = is
+known-whole (Placed leader total outcome) q is whole = is
+known-whole (Ready leader total outcome) q is whole = is
+known-whole (Told total outcome remaining) q is whole = is
+known-whole (Emptied last) q is whole = is
 
 -- what another seat sees of the change
 pub record Others (old g : Group) (seat : ℕ) : Type 0 where

@@ -15,6 +15,7 @@ mod Gathered
 mod Gathering
 mod Giving
 mod Groups
+mod GroupTotals
 mod Growing
 pub mod Hired
 mod Keeping
@@ -24,6 +25,7 @@ mod Looking
 mod MarkLooks
 mod Marking
 mod MemberBooks
+mod Members
 mod Merging
 pub mod Nexting
 mod Noting

@@ -1,6 +1,6 @@
 -- Lists of which one element changes, or some are picked.
-use Rattle.std.proofs.Common.{◌≡◌, cond, Bool, true, false, List, [], ◌∷◌, ◌++◌, sym, refl, ap, ◌∙◌}
-use Rattle.std.specs.List.{AllByRecursion}
+use Rattle.std.proofs.Common.{◌≡◌, ℕ, eqb, ◌||◌, cond, Bool, true, false, true≢false, List, [], ◌∷◌, ◌++◌, sym, refl, ap, ◌∙◌, subst, eqb-true, eq-eqb}
+use Rattle.std.specs.List.{AllByRecursion, list_any}
 use Rattle.log_table.specs.Log.{picked}
 
 module _ {A : Type 0} {B : Type 0} (test : A → Bool) (tell : A → B) where
@@ -97,3 +97,24 @@ module _ {A : Type 0} where
   pub all-behind : (P : A → Type 0) (xs ys : List A) → AllByRecursion P (xs ++ ys) → AllByRecursion P ys
   all-behind P [] ys a = a
   all-behind P (x ∷ xs) ys a = all-behind P xs ys a.1
+
+-- ---- numbers in a list
+
+pub or-right : (a b : Bool) → b ≡ true → (a || b) ≡ true
+or-right true b e = refl
+or-right false b e = e
+
+pub among-first : (n : ℕ) (list : List ℕ) → list_any (eqb n) (n ∷ list) ≡ true
+among-first n list = ap (λ b. b || list_any (eqb n) list) (eq-eqb n n refl)
+
+pub among-more : (n x : ℕ) (list : List ℕ) → list_any (eqb n) list ≡ true → list_any (eqb n) (x ∷ list) ≡ true
+among-more n x list is = or-right (eqb n x) (list_any (eqb n) list) is
+
+-- what holds of all numbers holds of one among them
+pub all-among : (P : ℕ → Type 0) (n : ℕ) (list : List ℕ) → AllByRecursion P list → list_any (eqb n) list ≡ true → P n
+all-among P n [] all is = absurd (true≢false (sym is))
+all-among P n (x ∷ xs) all is = by_test (eqb n x) refl is (all-among P n xs all.1)
+  where
+    by_test : (b : Bool) → eqb n x ≡ b → (b || list_any (eqb n) xs) ≡ true → (list_any (eqb n) xs ≡ true → P n) → P n
+    by_test true same is later = subst P (sym (eqb-true n x same)) all.0
+    by_test false same is later = later is

@@ -19,6 +19,7 @@ use Rattle.log_table.specs.Views.{seen_tail, seen_durable, saw_tail, saw_durable
 use Rattle.log_table.specs.Words.{Words}
 use Rattle.log_table.proofs.Keeping.{accounts-stay}
 use Rattle.log_table.proofs.Lifting.{Tells}
+use Rattle.log_table.proofs.Members.{KeepsSeen, steps-on, tail-on, durable-on, loads-stay, keeps-view}
 use Rattle.log_table.proofs.Roles.{crew-same, quiet-moves, restands}
 use Rattle.log_table.proofs.Boundaries.{range_size, part_size, boundary-start, boundary-aligned, boundary-append, boundary-end, boundary-behind}
 use Rattle.log_table.proofs.Ranging.{tiles-le, tiles-append}
@@ -54,22 +55,25 @@ pub looks : (key : Start) (words : Words) (stop : ℕ) (views : List View) (me :
     → EachView (λ _ z. HasReadStop stop z) (set views me (record v { seen = seen; sending = sending }))
     → ((j : ℕ) (z : View) → get_elem? views j ≡ some z → RestsIfQuiet v z → RestsIfQuiet (record v { seen = seen; sending = sending }) z)
     → LookedIfQuiet words.exposed (record v { seen = seen; sending = sending })
+    → KeepsSeen log.groups v.seen seen
     → Leads key words (record words { stop = stop }) views (set views me (record v { seen = seen; sending = sending })) log none
-looks key words stop views me v log seen sending s at sees sends stops read quiet looked =
+looks key words stop views me v log seen sending s at sees sends stops read quiet looked keeps =
     restands key words stop words.crew words.account views me v (record v { seen = seen; sending = sending }) log s at refl refl sees (s.constants me v at)
     (s.resting me v at) (s.entries me v at)
     (crew-same words.crew views me v (record v { seen = seen; sending = sending }) s.roles at refl) sends stops read
     (quiet-moves views me v (record v { seen = seen; sending = sending }) s.quiet at quiet (λ _ h. h)) looked (s.unheld me v at)
     (accounts-stay key words.account log.parts log.groups views me v (record v { seen = seen; sending = sending }) at refl s.accounts)
+    (keeps-view key words views me v log s at (record v { seen = seen; sending = sending }) refl keeps (loads-stay key words views me v log s at seen keeps)
+    (s.awaits me v at))
 
 -- the seat sees a word
 pub sees-word : (key : Start) (words : Words) (views : List View) (me : ℕ) (v : View) (log : Log) (seen : Seen) → IsSound key words views log
     → get_elem? views me ≡ some v → HasSeenBoundaries key.start words.tail words.exposed words.durable (ranges_of log) seen
-    → HasReadStop words.stop (record v { seen = seen })
+    → HasReadStop words.stop (record v { seen = seen }) → KeepsSeen log.groups v.seen seen
     → Leads key words words views (set views me (record v { seen = seen })) log none
-sees-word key words views me v log seen s at sees read = looks key words words.stop views me v log seen v.sending s at sees (s.sends me v at)
+sees-word key words views me v log seen s at sees read keeps = looks key words words.stop views me v log seen v.sending s at sees (s.sends me v at)
     (each_set (λ _ z. StoresStop words.stop z) views me (record v { seen = seen }) s.stops (s.stops me v at))
-    (each_set (λ _ z. HasReadStop words.stop z) views me (record v { seen = seen }) s.read_stop read) (λ _ _ _ h. h) (s.looked me v at)
+    (each_set (λ _ z. HasReadStop words.stop z) views me (record v { seen = seen }) s.read_stop read) (λ _ _ _ h. h) (s.looked me v at) keeps
 
 module _ (key : Start) (me : ℕ) (v : View) where
   pub tail-looks : (n : ℕ) → IsStep key me Tail n n v (saw_tail n v) none
@@ -81,7 +85,7 @@ module _ (key : Start) (me : ℕ) (v : View) where
           exposed_seen = old.exposed_seen;
           durable_seen = old.durable_seen;
           boundaries = (tail-boundary _ _ _ _ _ log s.contiguous, old.boundaries);
-        } (s.read_stop me v at));
+        } (s.read_stop me v at) (tail-on key.start key.ring words.tail words.durable (ranges_of log) log.groups v.seen s.in_group));
   }
 
   pub durable-looks : (n : ℕ) → IsStep key me Durable n n v (saw_durable n v) none
@@ -93,7 +97,7 @@ module _ (key : Start) (me : ℕ) (v : View) where
           exposed_seen = old.exposed_seen;
           durable_seen = le_refl _;
           boundaries = (durable-boundary _ _ _ _ _ log s.contiguous, old.boundaries);
-        } (s.read_stop me v at));
+        } (s.read_stop me v at) (durable-on key.start key.ring words.tail words.durable (ranges_of log) log.groups v.seen s.in_group));
   }
 
   pub stop-looks : (n : ℕ) → IsStep key me Stop n n v (saw_stop n v) none
@@ -105,7 +109,7 @@ module _ (key : Start) (me : ℕ) (v : View) where
           exposed_seen = old.exposed_seen;
           durable_seen = old.durable_seen;
           boundaries = old.boundaries;
-        } (inr refl));
+        } (inr refl) (steps-on log.groups v.seen _ refl refl refl refl refl refl refl));
   }
 
   -- a stop word that was read stays

@@ -1,5 +1,5 @@
 -- The store of a mark: the machine's Mark. The seat's run is released, wherever exposed is.
-use Rattle.std.proofs.Common.{◌≡◌, ◌≢◌, inl, inr, ⊎_elim, ℕ, ◌+◌, ◌/◌, ◌%◌, ◌<◌, ◌≤◌, cond, true, false, true≢false, List, [], ◌∷◌, ◌++◌, map, set, None, sym, refl, ap, ◌∙◌, subst, arith, append-nil, eq-eqb, ne_eqb}
+use Rattle.std.proofs.Common.{◌≡◌, ◌≢◌, inl, inr, ⊎_elim, ℕ, ◌+◌, ◌/◌, ◌%◌, ◌<◌, ◌≤◌, cond, true, false, true≢false, List, [], ◌∷◌, ◌++◌, map, set, None, sym, refl, ap, ◌∙◌, subst, le_refl, arith, append-nil, eq-eqb, ne_eqb}
 use Rattle.std.specs.List.{AllByRecursion}
 use Rattle.std.specs.Option.{IsSomeAnd}
 use mathlib.Core.Logic.{dite}
@@ -26,6 +26,7 @@ use Rattle.log_table.specs.Marks.{HasReleaseMarks, HasTrueMark, HasTrueEnds}
 use Rattle.log_table.specs.GroupViews.{follow_up}
 use Rattle.log_table.specs.MarkViews.{marked}
 use Rattle.log_table.specs.May.{MayMark}
+use Rattle.log_table.specs.Members.{LoadsForGroup, AwaitsPlace, HasTotalOfWorkers, HasSeenLast}
 use Rattle.log_table.specs.Sound.{HasSeenBoundaries, HasContiguousReservations, SendsIfFlusher, StoresStop, HasReadStop, LookedIfQuiet, HasWorkingOwner, HasConstants, RestsUnlessActive, OwnsIfWorker, HoldsIfActive, IsSound, base_of, books_of}
 use Rattle.lock_core.specs.History.{history_from}
 use Rattle.log_table.specs.Accounts.{KeepsAccounts}
@@ -38,6 +39,7 @@ use Rattle.log_table.proofs.Carrying.{carrier-here, ends-mid, ends-move}
 use Rattle.log_table.proofs.Filling.{HeldRange, range-front, held-range, all-ranges, tiles-held, works-is, found-held, put-here, put-other}
 use Rattle.log_table.proofs.Keeping.{accounts-stay, records-mid}
 use Rattle.log_table.proofs.Lists.{all-mid, all-at, all-weaker, picked-append, picked-same}
+use Rattle.log_table.proofs.Members.{KeepsView, steps-on, group-grows, keeps-view}
 use Rattle.log_table.proofs.Owning.{LastPart, last_part, own-last, own-others, parts_of-push, duty-owed, owed-unreleased}
 use Rattle.log_table.proofs.Ranging.{last-in_two, tiles-le, tiles-mid, tiles-same, tiles-replaced, laid-same, unreleased_in-mid, inside-here, inside-none, filled_in-mid, filled_in-one}
 use Rattle.log_table.proofs.Roles.{crew-same, quiet-moves}
@@ -227,6 +229,9 @@ module _ (key : Start) (words : Words) (views : List View) (me : ℕ) (v : View)
         (s.marks.below_tail index));
   }
 
+  kept : KeepsView log.groups views me new
+  kept = keeps-view key words views me v log s at new refl (steps-on log.groups v.seen (counted v.seen) refl refl refl refl refl refl refl) tt tt
+
   sound : IsSound key (record words { mark = mark' }) (set views me new) after
   sound = record {
     ordered = s.ordered;
@@ -290,6 +295,12 @@ module _ (key : Start) (words : Words) (views : List View) (me : ℕ) (v : View)
         (sym (ap (λ call. books_in log.groups call v.books) filling))
         (subst (λ records. KeepsAccounts (base_of key) words.account (history_from key.start [] records) (map (books_of log.groups) views))
         (ap records_in last.split ∙ sym (records-mid last.before last.behind old_part part refl)) s.accounts);
+    in_group = λ slot. group-grows key.start key.ring words.tail words.tail words.durable words.durable (ranges_of log) (ranges_of after) (le_refl _) (le_refl _) still (log.groups slot) (s.in_group slot);
+    loads = each_set (λ _ z. LoadsForGroup log.groups z.seen z.call) views me new s.loads kept.loads;
+    awaits = each_set (λ _ z. AwaitsPlace z.call z.books) views me new s.awaits kept.awaits;
+    totals = each_set (λ _ z. (slot : ℕ) → HasTotalOfWorkers (log.groups slot) z) views me new s.totals kept.totals;
+    heard = kept.heard;
+    lasts = each_set (λ _ z. HasSeenLast z) views me new s.lasts kept.last;
   }
     where
       busy : v.call ≡ Idle → ⊥

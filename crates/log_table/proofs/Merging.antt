@@ -1,5 +1,5 @@
 -- The flusher's seat takes in the seat of a worker that has ended, or a note.
-use Rattle.std.proofs.Common.{◌≡◌, ◌≢◌, ◌==◌, ◌⊎◌, inl, inr, ⊎_elim, ℕ, zero, suc, ◌+◌, true, false, true≢false, List, [], ◌∷◌, ◌++◌, map, set, sym, refl, ap, ◌∙◌, subst, arith, append-nil}
+use Rattle.std.proofs.Common.{◌≡◌, ◌≢◌, ◌==◌, ◌⊎◌, inl, inr, ⊎_elim, ℕ, zero, suc, ◌+◌, true, false, true≢false, List, [], ◌∷◌, ◌++◌, length, map, set, sym, refl, ap, ◌∙◌, subst, arith, append-nil}
 use mathlib.Core.Option.{some}
 use lib.ListN.{get_elem?}
 use Rattle.atomic_table.specs.Table.{Joins}
@@ -15,20 +15,22 @@ use Rattle.log_table.specs.declared.view.View.{View}
 use Rattle.log_table.specs.Log.{Part, Log, ranges_of, parts_of, SpellsRecord, StandsInRing, IsFullIfReleased, IsReleasedBelow, CountsRemaining, AgreesFrom, EndsWithPart}
 use Rattle.log_table.specs.Marks.{Carries, HasTrueEnds}
 use Rattle.log_table.specs.May.{MayMerge}
-use Rattle.log_table.specs.Sound.{HasSeenBoundaries, SendsIfFlusher, StoresStop, HasReadStop, LookedIfQuiet, HasWorkingOwner, HasConstants, RestsUnlessActive, OwnsIfWorker, HoldsIfActive, base_of, history_in, books_of, IsSound, Ruled, EachView, HasSoundRole, HasSoundRoles, HasSoundCrew, Knows, Lacks, is_active_view}
+use Rattle.log_table.specs.Members.{LoadsForGroup, AwaitsPlace, HasTotalOfWorkers, IsRefusalOf, HeardOfWorkers, SawLast, HasSeenLast}
+use Rattle.log_table.specs.Sound.{HasSeenBoundaries, SendsIfFlusher, StoresStop, HasReadStop, LookedIfQuiet, HasWorkingOwner, HasConstants, RestsUnlessActive, OwnsIfWorker, HoldsIfActive, base_of, history_in, books_of, IsSound, Ruled, EachView, EachPair, HasSoundRole, HasSoundRoles, HasSoundCrew, Knows, Lacks, is_active_view}
 use Rattle.log_table.specs.Roles.{is_active, has_ended, is_worker, is_spent}
 use Rattle.log_table.specs.Slots.{pieces_at, phase_at}
 use Rattle.log_table.specs.Views.{nobody, entries_in, claims_in}
 use Rattle.log_table.specs.CrewViews.{takes_in}
 use Rattle.log_table.specs.Words.{Words, words_in}
 use Rattle.log_table.proofs.Carrying.{carrier-set, ends-move}
-use Rattle.log_table.proofs.CrewMerging.{ended-rests, without, at-without, each-merged, crew-merges}
+use Rattle.log_table.proofs.CrewMerging.{ended-rests, ended-unspent, not-flusher, without, at-without, each-merged, crew-merges}
 use Rattle.log_table.proofs.Keeping.{books-at, books-set}
 use Rattle.log_table.proofs.Lists.{all-append, all-weaker}
+use Rattle.log_table.proofs.Members.{among-max, heard-moves}
 use Rattle.log_table.proofs.Renaming.{rename, own-renamed, own-renamed-from, own-renamed-else, all-renamed, laid-renamed, unreleased_in-renamed, boundary-renamed, records-renamed}
 use Rattle.log_table.proofs.Roles.{quiet-moves}
 use Rattle.log_table.proofs.Stopping.{either-read}
-use Rattle.log_table.proofs.Viewing.{seats_move, seat_at}
+use Rattle.log_table.proofs.Viewing.{seats_move, seat_at, pairs_move}
 
 set-swap : (views : List View) (a b : ℕ) (x y : View) → a ≢ b → set (set views a x) b y ≡ set (set views b y) a x
 set-swap [] a b x y differ = refl
@@ -113,6 +115,24 @@ module _ (key : Start) (words : Words) (views : List View) (me other : ℕ) (v o
       (joins (base_of key) words.account (history_in key log.parts) bs me other v.books o.books apart (books-at log.groups views me v idle at)
       (books-at log.groups views other o idle' there) ((s.unheld other o there).0 (ended-rests o.standing.role may.ended)) s.accounts))
 
+  -- what both heard
+  heard-merged : EachPair (λ _ y _ z. HeardOfWorkers y z) (set (without views other) me new)
+  heard-merged = pairs_move (λ _ y _ z. HeardOfWorkers y z) (without views other) me v new (at-without views me other v at apart)
+      (heard-moves views other o nobody s.heard there (λ _ _ f. absurd (cc)) (λ _ _ _. tt))
+      (λ f. all-append (IsRefusalOf (length v.standing.made)) v.seen.refusals o.seen.refusals (s.heard me v at me v at f) (s.heard me v at other o there f))
+      (λ j z differ here. (
+        heard-moves views other o nobody s.heard there (λ _ _ f. absurd (cc)) (λ _ _ _. tt) me v (at-without views me other v at apart) j z here,
+        λ f. not-flusher words.crew views me other v o s.roles at there apart may j z differ here f,
+      ))
+
+  saw-merged : SawLast v.seen → SawLast o.seen → SawLast new.seen
+  saw-merged first second = record {
+    tail_among = among-max v.seen.tail o.seen.tail v.seen.lsns o.seen.lsns first.tail_among second.tail_among;
+    durable_among = among-max v.seen.durable o.seen.durable v.seen.lsns o.seen.lsns first.durable_among second.durable_among;
+    tail_made = first.tail_made;
+    durable_made = first.durable_made;
+  }
+
   merges' : IsSound key words (set (without views other) me new) after
   merges' = record {
     ordered = s.ordered;
@@ -170,6 +190,14 @@ module _ (key : Start) (words : Words) (views : List View) (me other : ℕ) (v o
     unheld = each-merged views me other new (λ _ z. HoldsIfActive z) s.unheld ((λ _. refl), (λ _. refl))
         ((s.unheld me v at).0, (λ off. absurd (true≢false (sym (ap Rattle.log_table.specs.Roles.may_own may.flusher) ∙ off))));
     accounts = accounts-merged;
+    in_group = s.in_group;
+    loads = each-merged views me other new (λ _ z. LoadsForGroup log.groups z.seen z.call) s.loads tt
+        (subst (LoadsForGroup log.groups new.seen) (sym idle) tt);
+    awaits = each-merged views me other new (λ _ z. AwaitsPlace z.call z.books) s.awaits tt (subst (λ c. AwaitsPlace c new.books) (sym idle) tt);
+    totals = each-merged views me other new (λ _ z. (slot : ℕ) → HasTotalOfWorkers (log.groups slot) z) s.totals (λ _ f. absurd (cc)) (s.totals me v at);
+    heard = heard-merged;
+    lasts = each-merged views me other new (λ _ z. HasSeenLast z) s.lasts (λ e. absurd (true≢false e))
+        (λ unspent. saw-merged (s.lasts me v at unspent) (s.lasts other o there (ended-unspent o.standing.role may.ended)));
   }
 
   pub merges : IsSound key words (set (set views me new) other nobody) after

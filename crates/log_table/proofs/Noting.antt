@@ -52,6 +52,7 @@ module _ (key : Start) (words : Words) (views : List View) (me : ℕ) (v : View)
   pub notes : IsSound key words (views ++ note ∷ []) log
   notes = adds key words views log s note refl refl (λ f. absurd (cc)) (s.seen me v at) (s.read_stop me v at) (λ _. s.constants me v at unspent) crew-notes
       (pairs_push (λ _ y _ z. RestsIfQuiet y z) views note s.quiet (λ f. absurd (cc)) (λ j z there. ((λ f. absurd (cc)), (λ _ _. refl)))) refl
+      (λ j z there. s.heard j z there me v at) (λ _. s.lasts me v at unspent)
 
 pub note-allowed : (key : Start) (seat : ℕ) (v : View) → is_spent v.standing.role ≡ false → Splits {S = Unit {0}} (Ruled key) seat v v (noted v)
 note-allowed key seat v unspent s ruled at = (

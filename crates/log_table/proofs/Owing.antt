@@ -29,6 +29,7 @@ use Rattle.log_table.specs.Events.{Leads, IsStep, none}
 use Rattle.log_table.specs.Layout.{Stop, Account}
 use Rattle.log_table.specs.Log.{Log, ranges_of}
 use Rattle.log_table.specs.May.{IsOwnWord, MayTakeJob, MayTake, MayGiveBack}
+use Rattle.log_table.specs.Members.{AwaitsPlace}
 use Rattle.log_table.specs.Sound.{HasSeenBoundaries, StoresStop, HasReadStop, HoldsIfActive, IsSound, base_of, history_in, books_of}
 use Rattle.log_table.specs.Roles.{is_active, may_own}
 use Rattle.log_table.specs.AccountViews.{took_job, seen_account, saw_account, held_as, took_account, after_account, given_as, gave_account}
@@ -37,6 +38,7 @@ use Rattle.log_table.specs.Words.{Words, put}
 use Rattle.log_table.proofs.Bookings.{found}
 use Rattle.log_table.proofs.Lifting.{Tells}
 use Rattle.log_table.proofs.Looking.{sees-word}
+use Rattle.log_table.proofs.Members.{KeepsSeen, steps-on, loads-stay, keeps-view}
 use Rattle.log_table.proofs.Roles.{crew-same, quiet-moves, restands}
 use Rattle.log_table.proofs.Viewing.{each_set}
 use Rattle.log_table.proofs.Taking.{takes-job, takes-account}
@@ -48,7 +50,7 @@ use Rattle.log_table.proofs.MemberBooks.{held-books_in}
 module _ (key : Start) (words : Words) (account : ℕ → ℕ) (views : List View) (me : ℕ) (v : View) (log : Log) (seen : Seen) (books : Books)
     (s : IsSound key words views log) (at : get_elem? views me ≡ some v) (idle : v.call ≡ Idle)
     (sees : HasSeenBoundaries key.start words.tail words.exposed words.durable (ranges_of log) seen)
-    (read : HasReadStop words.stop (record v { seen = seen })) where
+    (read : HasReadStop words.stop (record v { seen = seen })) (keeps : KeepsSeen log.groups v.seen seen) where
   abbrev new : View
   new = record v { seen = seen; books = books }
 
@@ -60,6 +62,8 @@ module _ (key : Start) (words : Words) (account : ℕ → ℕ) (views : List Vie
       (each_set (λ _ z. HasReadStop words.stop z) views me new s.read_stop read)
       (quiet-moves views me v new s.quiet at (λ _ _ _ h. h) (λ _ h. h)) (s.looked me v at) unheld
       (subst (KeepsAccounts (base_of key) account (history_in key log.parts)) (sym (books-set log.groups views me new idle)) accounts)
+      (keeps-view key words views me v log s at new refl keeps (loads-stay key words views me v log s at seen keeps)
+      (subst (λ call. AwaitsPlace call books) (sym idle) tt))
 
 -- one step more, and no LSN seen
 sees-same : (start tail exposed durable : ℕ) (log : Log) (old now : Seen) → HasSeenBoundaries start tail exposed durable (ranges_of log) old
@@ -98,6 +102,7 @@ module _ (key : Start) (me : ℕ) (v : View) where
         (books-change key words words.account views me v log (record v.seen { steps = v.seen.steps + 1; stop = words.stop }) (taking_job taken v.books) s at
         may.rests.idle
         (sees-same key.start words.tail words.exposed words.durable log v.seen _ (s.seen me v at) refl refl refl refl) (inr refl)
+        (steps-on log.groups v.seen _ refl refl refl refl refl refl refl)
         ((λ _. may.none_held), (λ off. absurd (true≢false (sym (ap may_own may.rests.active) ∙ off))))
         (takes-job (base_of key) words.account (history_in key log.parts) (map (books_of log.groups) views) me v.books
         (books-at log.groups views me v may.rests.idle at) taken
@@ -110,7 +115,8 @@ module _ (key : Start) (me : ℕ) (v : View) where
         subst (λ (f : ℕ → ℕ). Leads key words (record words { account = f }) views (set views me (saw_account account n v)) log none)
         (λ i k. sym (Rattle.log_table.proofs.Reading.put-same words.account account n k is) i)
         (sees-word key words views me v log (seen_account account n v.seen) s at
-        (sees-same key.start words.tail words.exposed words.durable log v.seen _ (s.seen me v at) refl refl refl refl) (s.read_stop me v at));
+        (sees-same key.start words.tail words.exposed words.durable log v.seen _ (s.seen me v at) refl refl refl refl) (s.read_stop me v at)
+        (steps-on log.groups v.seen _ refl refl refl refl refl refl refl));
   }
 
   -- the word of an account that the seat holds is its own
@@ -133,6 +139,7 @@ module _ (key : Start) (me : ℕ) (v : View) where
         books-change key words (put words.account account (word_of to)) views me v log (seen_account account (word_of from) v.seen)
         (taking (held_as account (word_of from)) v.books) s at may.rests.idle
         (sees-same key.start words.tail words.exposed words.durable log v.seen _ (s.seen me v at) refl refl refl refl) (s.read_stop me v at)
+        (steps-on log.groups v.seen _ refl refl refl refl refl refl refl)
         ((λ off. absurd (true≢false (sym (ap is_active may.rests.active) ∙ off))), (λ off. absurd (true≢false (sym (ap may_own may.rests.active) ∙ off))))
         (takes-account (base_of key) words.account (history_in key log.parts) (map (books_of log.groups) views) me v.books
         (books-at log.groups views me v may.rests.idle at)
@@ -166,6 +173,7 @@ module _ (key : Start) (me : ℕ) (v : View) where
         books-change key words (put words.account account (word_of word)) views me v log (counted v.seen) (giving (given_as account v) v.books) s at
         may.rests.idle
         (sees-same key.start words.tail words.exposed words.durable log v.seen _ (s.seen me v at) refl refl refl refl) (s.read_stop me v at)
+        (steps-on log.groups v.seen _ refl refl refl refl refl refl refl)
         ((λ off. absurd (true≢false (sym (ap is_active may.rests.active) ∙ off))), (λ off. absurd (true≢false (sym (ap may_own may.rests.active) ∙ off))))
         (gives (base_of key) words.account (history_in key log.parts) (map (books_of log.groups) views) me v.books
         (books-at log.groups views me v may.rests.idle at) s.accounts.holder

@@ -26,6 +26,7 @@ use Rattle.log_table.specs.Log.{Part, Range, Log, ranges_of, owed, is_owed_by, c
 use Rattle.log_table.specs.Marks.{IsReady, IsCurrentMark, HasTrueMark, IsFirstReleased, FirstEnds, HasTrueEnds}
 use Rattle.log_table.specs.MarkViews.{call_with_exposed, after_raise}
 use Rattle.log_table.specs.May.{MayRaise}
+use Rattle.log_table.specs.Members.{LoadsForGroup, AwaitsPlace, HasTotalOfWorkers, HasSeenLast}
 use Rattle.log_table.specs.Sound.{HasSeenBoundaries, HasContiguousReservations, SendsIfFlusher, StoresStop, HasReadStop, LookedIfQuiet, HasWorkingOwner, HasConstants, RestsUnlessActive, OwnsIfWorker, HoldsIfActive, IsSound}
 use Rattle.log_table.specs.Slots.{pieces_at, is_shared_at, phase_at}
 use Rattle.log_table.specs.Views.{entries_in, books_in, claims_in, seen_exposed}
@@ -36,6 +37,7 @@ use Rattle.log_table.proofs.Keeping.{accounts-stay}
 use Rattle.log_table.proofs.Lifting.{Tells}
 use Rattle.log_table.proofs.Lists.{all-append, all-both, all-weaker}
 use Rattle.log_table.proofs.Looking.{exposed-boundary}
+use Rattle.log_table.proofs.Members.{KeepsView, exposed-on, group-grows, keeps-view}
 use Rattle.log_table.proofs.MarkLooks.{StartsAt, found-at, ready-marked, marked-ready}
 use Rattle.log_table.proofs.Ranging.{tiles-le, tiles-push, all-released}
 use Rattle.log_table.proofs.Roles.{busy-not_quiet, crew-same, quiet-moves}
@@ -152,6 +154,9 @@ module _ (key : Start) (words : Words) (views : List View) (me : ℕ) (v : View)
   not-quiet : (j : ℕ) (z : View) → get_elem? views j ≡ some z → z.standing.role ≡ Flusher → z.sending.quiet ≡ true → ⊥
   not-quiet = busy-not_quiet key words views me v log s at busy
 
+  kept : KeepsView log.groups views me new
+  kept = keeps-view key words views me v log s at new refl (exposed-on log.groups to v.seen) tt tt
+
   sound : IsSound key (record words { exposed = to }) (set views me new) after
   sound = record {
     ordered = s.ordered;
@@ -216,6 +221,12 @@ module _ (key : Start) (words : Words) (views : List View) (me : ℕ) (v : View)
     unheld = each_set (λ _ z. HoldsIfActive z) views me new s.unheld (s.unheld me v at);
     accounts = accounts-stay key words.account log.parts log.groups views me v new at
         (sym (ap (λ call. books_in log.groups call v.books) may.raising)) s.accounts;
+    in_group = λ slot. group-grows key.start key.ring words.tail words.tail words.durable words.durable (ranges_of log) (ranges_of after) (le_refl _) (le_refl _) still (log.groups slot) (s.in_group slot);
+    loads = each_set (λ _ z. LoadsForGroup log.groups z.seen z.call) views me new s.loads kept.loads;
+    awaits = each_set (λ _ z. AwaitsPlace z.call z.books) views me new s.awaits kept.awaits;
+    totals = each_set (λ _ z. (slot : ℕ) → HasTotalOfWorkers (log.groups slot) z) views me new s.totals kept.totals;
+    heard = kept.heard;
+    lasts = each_set (λ _ z. HasSeenLast z) views me new s.lasts kept.last;
   }
 
   abbrev was : SlotState

@@ -19,6 +19,7 @@ use Rattle.log_table.proofs.Agreeing.{agrees-push, entries-from}
 use Rattle.log_table.proofs.Lifting.{Tells}
 use Rattle.log_table.proofs.Lists.{all-both}
 use Rattle.log_table.proofs.Looking.{looks, durable-boundary, part-boundary}
+use Rattle.log_table.proofs.Members.{steps-on}
 use Rattle.log_table.proofs.Viewing.{each_set}
 
 -- what stands at a place, put there again, changes nothing
@@ -81,7 +82,7 @@ module _ (key : Start) (words : Words) (views : List View) (me : ℕ) (v : View)
         boundaries = old.boundaries;
       } (λ _. sends-more) (each_set (λ _ z. StoresStop words.stop z) views me (has_read unit v) s.stops (s.stops me v at))
       (each_set (λ _ z. HasReadStop words.stop z) views me (has_read unit v) s.read_stop (s.read_stop me v at))
-      (λ _ _ _ h. h) (s.looked me v at)
+      (λ _ _ _ h. h) (s.looked me v at) (steps-on log.groups v.seen _ refl refl refl refl refl refl refl)
 
 module _ (key : Start) (me : ℕ) (v : View) (lsn ring : ℕ) (same : key.ring ≡ ring) (may : MayRead lsn v) where
   pub read-step : (n : ℕ) → IsStep key me (Ring (lsn % ring)) n n v (has_read n v) none

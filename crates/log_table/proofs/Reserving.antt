@@ -19,6 +19,7 @@ use Rattle.log_table.specs.Layout.{Tail}
 use Rattle.log_table.specs.Log.{Part, Owed, Range, Log, ranges_of, part_of, parts_of, unreleased_in, SpellsRecord, records_in, StandsInRing, IsFullIfReleased, IsReleasedBelow, Released, filled_in, IsAtWork, CountsRemaining, AgreesFrom, EndsWithPart, IsRangeBoundary, Laid}
 use Rattle.log_table.specs.Marks.{HasTrueMark, Carries, HasTrueEnds}
 use Rattle.log_table.specs.May.{MayReserve}
+use Rattle.log_table.specs.Members.{HasSeenInGroup, LoadsForGroup, AwaitsPlace, HasTotalOfWorkers, HasSeenLast}
 use Rattle.log_table.specs.Sound.{HasSeenBoundaries, HasContiguousReservations, SendsIfFlusher, StoresStop, HasReadStop, LookedIfQuiet, HasWorkingOwner, HasConstants, RestsUnlessActive, OwnsIfWorker, HoldsIfActive, IsSound, base_of, history_in, books_of}
 use Rattle.log_table.specs.Roles.{is_active, is_spent}
 use Rattle.log_table.specs.Slots.{pieces_at, phase_at}
@@ -40,6 +41,7 @@ use Rattle.log_table.proofs.Keeping.{books-at, records-push, history-push, histo
 use Rattle.std.proofs.lemmas.List.{map-set, map-append}
 use Rattle.log_table.proofs.Lists.{all-append, all-weaker}
 use Rattle.log_table.proofs.Looking.{tail-boundary, tail-looks}
+use Rattle.log_table.proofs.Members.{KeepsView, tail-on, group-grows, keeps-view}
 use Rattle.log_table.proofs.Owning.{own-push, own-push_others, owed-push, owed-push_others}
 use Rattle.log_table.proofs.Ranging.{tiles-le, tiles-push, tiles-within, laid-append, inside-here, unreleased_in-append, unreleased_in-apart, filled_in-append, filled_in-apart}
 use Rattle.log_table.proofs.Roles.{crew-same, quiet-moves}
@@ -196,6 +198,13 @@ module _ (key : Start) (words : Words) (views : List View) (me : ℕ) (v : View)
         ((λ i below _ _. absurd (omega arith)), tt);
   }
 
+  in-groups : (slot : ℕ) → HasSeenInGroup key.start key.ring to words.durable (ranges_of after) (log.groups slot)
+  in-groups slot = group-grows key.start key.ring from to words.durable words.durable (ranges_of log) (ranges_of after)
+      (let more = whole in omega arith) (le_refl _) still (log.groups slot) (s.in_group slot)
+
+  kept : KeepsView log.groups views me new
+  kept = keeps-view key words views me v log s at new refl (tail-on key.start key.ring to words.durable (ranges_of after) log.groups v.seen in-groups) tt tt
+
   sound : IsSound key (record words { tail = to }) (set views me new) after
   sound = record {
     ordered = record {
@@ -276,6 +285,12 @@ module _ (key : Start) (words : Words) (views : List View) (me : ℕ) (v : View)
     looked = each_set (λ _ z. LookedIfQuiet words.exposed z) views me new s.looked (s.looked me v at);
     unheld = each_set (λ _ z. HoldsIfActive z) views me new s.unheld (s.unheld me v at);
     accounts = accounts;
+    in_group = in-groups;
+    loads = each_set (λ _ z. LoadsForGroup log.groups z.seen z.call) views me new s.loads kept.loads;
+    awaits = each_set (λ _ z. AwaitsPlace z.call z.books) views me new s.awaits kept.awaits;
+    totals = each_set (λ _ z. (slot : ℕ) → HasTotalOfWorkers (log.groups slot) z) views me new s.totals kept.totals;
+    heard = kept.heard;
+    lasts = each_set (λ _ z. HasSeenLast z) views me new s.lasts kept.last;
   }
 
   -- the machine has one reservation more, with no unit filled

@@ -14,6 +14,7 @@ use Rattle.log_table.specs.Events.{task_in, slots_of, Leads, none}
 use Rattle.log_table.specs.Groups.{Group}
 use Rattle.log_table.specs.Log.{Log, ranges_of, parts_of}
 use Rattle.log_table.specs.Marks.{IsFirstReleased, Carries, HasTrueEnds}
+use Rattle.log_table.specs.Members.{LoadsForGroup, AwaitsPlace, HasTotalOfWorkers, HasSeenLast}
 use Rattle.log_table.specs.Sound.{EachView, EachPair, HasSeenBoundaries, SendsIfFlusher, StoresStop, HasReadStop, RestsIfQuiet, LookedIfQuiet, HasWorkingOwner, HasConstants, RestsUnlessActive, OwnsIfWorker, HoldsIfActive, base_of, history_in, books_of, HasSoundRole, HasSoundRoles, HasSoundCrew, IsSound, is_active_view}
 use Rattle.log_table.specs.Roles.{is_active, is_worker, is_working}
 use Rattle.log_table.specs.Slots.{pieces_at, phase_at, KnowsGroup}
@@ -21,6 +22,7 @@ use Rattle.log_table.specs.Views.{entries_in, books_in, claims_in}
 use Rattle.log_table.specs.Words.{Words}
 use Rattle.log_table.specs.Accounts.{KeepsAccounts}
 use Rattle.log_table.proofs.Carrying.{carrier-set}
+use Rattle.log_table.proofs.Members.{KeepsView}
 use Rattle.log_table.proofs.Showing.{hands_of-set_same}
 use Rattle.log_table.proofs.Viewing.{each_set, seats_set, seat_at, pairs_move, count-set}
 
@@ -107,7 +109,8 @@ module _ (key : Start) (words : Words) (stop crew : ℕ) (account : ℕ → ℕ)
     (read_stop : EachView (λ _ z. HasReadStop stop z) (set views me new))
     (quiet : EachPair (λ _ y _ z. RestsIfQuiet y z) (set views me new)) (looked : LookedIfQuiet words.exposed new)
     (unheld : HoldsIfActive new)
-    (accounts : KeepsAccounts (base_of key) account (history_in key log.parts) (map (books_of log.groups) (set views me new))) where
+    (accounts : KeepsAccounts (base_of key) account (history_in key log.parts) (map (books_of log.groups) (set views me new)))
+    (kept : KeepsView log.groups views me new) where
   pub recalls-sound : IsSound key (record words { stop = stop; crew = crew; account = account }) (set views me new) log
   recalls-sound = record {
     ordered = s.ordered;
@@ -139,6 +142,12 @@ module _ (key : Start) (words : Words) (stop crew : ℕ) (account : ℕ → ℕ)
     looked = each_set (λ _ z. LookedIfQuiet words.exposed z) views me new s.looked looked;
     unheld = each_set (λ _ z. HoldsIfActive z) views me new s.unheld unheld;
     accounts = accounts;
+    in_group = s.in_group;
+    loads = each_set (λ _ z. LoadsForGroup log.groups z.seen z.call) views me new s.loads kept.loads;
+    awaits = each_set (λ _ z. AwaitsPlace z.call z.books) views me new s.awaits kept.awaits;
+    totals = each_set (λ _ z. (slot : ℕ) → HasTotalOfWorkers (log.groups slot) z) views me new s.totals kept.totals;
+    heard = kept.heard;
+    lasts = each_set (λ _ z. HasSeenLast z) views me new s.lasts kept.last;
   }
 
 -- nor what it has under way
@@ -150,11 +159,12 @@ module _ (key : Start) (words : Words) (stop crew : ℕ) (account : ℕ → ℕ)
     (read_stop : EachView (λ _ z. HasReadStop stop z) (set views me new))
     (quiet : EachPair (λ _ y _ z. RestsIfQuiet y z) (set views me new)) (looked : LookedIfQuiet words.exposed new)
     (unheld : HoldsIfActive new)
-    (accounts : KeepsAccounts (base_of key) account (history_in key log.parts) (map (books_of log.groups) (set views me new))) where
+    (accounts : KeepsAccounts (base_of key) account (history_in key log.parts) (map (books_of log.groups) (set views me new)))
+    (kept : KeepsView log.groups views me new) where
   pub restands-sound : IsSound key (record words { stop = stop; crew = crew; account = account }) (set views me new) log
   restands-sound = recalls-sound key words stop crew account views me v new log s at (same-call log.groups me v.call new.call call)
       (λ _. subst (Carries words.exposed) (sym call)) (subst (HasTrueEnds key.start words.exposed log) (sym call) (s.ends me v at)) entries
-      sees constants rests owns roles sends stops read_stop quiet looked unheld accounts
+      sees constants rests owns roles sends stops read_stop quiet looked unheld accounts kept
 
   pub restands : Leads key words (record words { stop = stop; crew = crew; account = account }) views (set views me new) log none
   restands = record {

@@ -18,6 +18,7 @@ use Rattle.log_table.specs.Groups.{GroupPhase, Vacant, Gathering, Closed, Placed
 use Rattle.log_table.specs.Layout.{Slot}
 use Rattle.log_table.specs.Log.{Log, ranges_of}
 use Rattle.log_table.specs.May.{MayCloseSlot}
+use Rattle.log_table.specs.Members.{LoadedSince, AwaitsPlace}
 use Rattle.log_table.specs.Roles.{is_spent}
 use Rattle.log_table.specs.Slots.{known_phase, IsGathering}
 use Rattle.log_table.specs.SlotViews.{seen_slot, slot_in, call_closed, closed_slot, IsGatheringWord}
@@ -26,6 +27,8 @@ use Rattle.log_table.specs.Words.{Words, put}
 use Rattle.log_table.proofs.Filling.{put-here, put-other}
 use Rattle.log_table.proofs.Groups.{untold-gathering}
 use Rattle.log_table.proofs.Lifting.{Tells}
+use Rattle.log_table.proofs.GroupTotals.{gathered-total}
+use Rattle.log_table.proofs.Members.{KeepsMembers, steps-on, members-stay}
 use Rattle.log_table.proofs.SlotLeading.{Leading, active, led, at-phase, leader-steps}
 use Rattle.log_table.proofs.SlotLooks.{small}
 use Rattle.log_table.proofs.SlotWords.{phase-is_slot}
@@ -92,13 +95,28 @@ module _ (key : Start) (words : Words) (views : List View) (me : ℕ) (v : View)
   sees = let old = s.seen me v at in
       record { tail_seen = old.tail_seen; exposed_seen = old.exposed_seen; durable_seen = old.durable_seen; boundaries = old.boundaries }
 
+  -- nothing counts as loaded since
+  loads : LoadedSince (v.seen.steps + 1) (seen_slot slot (words.slot slot) v.seen) (log.groups slot).members
+  loads = let last = s.lasts me v at (ap is_spent (active key words views me v slot may.piece Closes log s at may.closes)) in record {
+    tail_loaded = λ since. absurd (omega (arith, since, last.tail_made));
+    durable_loaded = λ since. absurd (omega (arith, since, last.durable_made));
+  }
+
+  keeps : KeepsMembers key words views v log slot (record { members = (log.groups slot).members; phase = Closed me total })
+      (seen_slot slot (words.slot slot) v.seen) (Joined slot may.piece (Places total (v.seen.steps + 1))) v.books
+  keeps = members-stay key words views me v log s at (active key words views me v slot may.piece Closes log s at may.closes) slot may.piece
+      (Places total (v.seen.steps + 1)) (Closed me total) (seen_slot slot (words.slot slot) v.seen) v.books
+      (steps-on log.groups v.seen (seen_slot slot (words.slot slot) v.seen) refl refl refl refl refl refl refl) tt loads
+      (subst (λ call. AwaitsPlace call v.books) may.closes (s.awaits me v at))
+      (λ j z there flusher. gathered-total key words views log s slot me total gathers.is gathering.joined j z there flusher)
+
   pub slot-closes : slot < key.slots → Leads key words (record words { slot = put words.slot slot (packed kind.Pending 0 0) }) views
       (set views me (record v { seen = seen_slot slot (words.slot slot) v.seen; call = Joined slot may.piece (Places total (v.seen.steps + 1)) })) log (closes me)
   slot-closes below = leader-steps key words views me v slot may.piece Closes log s at may.closes (Places total (v.seen.steps + 1))
       (Gathering me total) (Closed me total) gathers.is (closing-leads me may.piece total (v.seen.steps + 1)) (seen_slot slot (words.slot slot) v.seen)
       (put words.slot slot (packed kind.Pending 0 0)) words.base
       record { word_is = put-here words.slot slot (packed kind.Pending 0 0); joined = gathering.joined }
-      (λ q differ. (put-other words.slot slot (packed kind.Pending 0 0) q differ, refl)) sees refl (Close me) below refl refl (λ _. refl) (λ _. refl)
+      (λ q differ. (put-other words.slot slot (packed kind.Pending 0 0) q differ, refl)) sees refl keeps (Close me) below refl refl (λ _. refl) (λ _. refl)
 
 module _ (key : Start) (me : ℕ) (v : View) (slot number : ℕ) (slotted : key.slots ≡ number) (below : slot < number) (may : MayCloseSlot slot v) where
   pub close-step : (n : ℕ) → IsStep key me (Slot slot) n (packed kind.Pending 0 0) v (closed_slot n v) (closes me)

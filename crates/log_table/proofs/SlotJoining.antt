@@ -20,15 +20,17 @@ use Rattle.log_table.specs.declared.table.Start.{Start}
 use Rattle.log_table.specs.declared.view.Books.{Books}
 use Rattle.log_table.specs.declared.view.Call.TheVariants.{Joined}
 use Rattle.log_table.specs.declared.view.Constants.{Constants}
+use Rattle.log_table.specs.declared.view.Seen.{Seen}
 use Rattle.log_table.specs.declared.view.View.{View}
 use Rattle.log_table.specs.Books.{next_of}
 use Rattle.log_table.specs.Events.{Event, task_in, member_shown, group_shown, slots_of, Leads, IsStep, joins, none}
 use Rattle.log_table.specs.Groups.{Outcome, Granted, Refused, GroupPhase, Vacant, Gathering, Closed, Placed, Ready, Told, Emptied, Piece, Member, Group, put_group}
 use Rattle.log_table.specs.GroupViews.{stage_of, member_entry, member_books}
 use Rattle.log_table.specs.Layout.{Slot}
-use Rattle.log_table.specs.Log.{Log, ranges_of}
+use Rattle.log_table.specs.Log.{Range, Log, ranges_of}
 use Rattle.log_table.specs.Marks.{Carries}
 use Rattle.log_table.specs.May.{MayJoinSlot}
+use Rattle.log_table.specs.Members.{HadSeenUpTo, HasPhaseOutcome, LoadsAtStep, IsForNextRecord, AwaitsAtStep, HasTotalAtPhase}
 use Rattle.log_table.specs.Roles.{is_spent}
 use Rattle.log_table.specs.Slots.{is_member, piece_of, own_pieces, pieces_at, led_phase, phase_led, phase_at, range_of, PiecesTile, KnowsPhase, told_word, IsAtPhase}
 use Rattle.log_table.specs.SlotViews.{seen_slot, piece_joining, step_joining, saw_slot, joined_slot, after_join}
@@ -39,7 +41,8 @@ use Rattle.log_table.proofs.Entering.{enters-spellable}
 use Rattle.log_table.proofs.Filling.{put-here, put-other}
 use Rattle.log_table.proofs.Groups.{SameUnheard, IsUntold, Others, keeps, knows-untold, untold-vacant, untold-gathering, group-here}
 use Rattle.log_table.proofs.Keeping.{books-at}
-use Rattle.log_table.proofs.Lists.{picked-append}
+use Rattle.log_table.proofs.Lists.{all-append, picked-append}
+use Rattle.log_table.proofs.Members.{KeepsMembers, steps-on}
 use Rattle.log_table.proofs.Reserving.{spelling-some}
 use Rattle.log_table.proofs.Showing.{task_of-hands_of}
 use Rattle.log_table.proofs.SlotLooks.{small, slot-looks}
@@ -73,6 +76,9 @@ pub record Joins (most base total n seat : ℕ) (members : List Member) (member 
   pub others : (j : ℕ) → j ≢ seat → led_phase j (phase_joined seat n p) ≡ led_phase j p
   pub entry : (piece : Piece) → member_entry (phase_joined seat n p) piece (step_joining total) ≡ []
   pub books : (piece : Piece) (books : Books) → member_books (phase_joined seat n p) piece (step_joining total) books ≡ books
+  pub outcome : (start ring tail durable : ℕ) (ranges : List Range) → HasPhaseOutcome start ring tail durable ranges (members ++ member ∷ []) (phase_joined seat n p)
+  pub totals : (workers : ℕ) → HasTotalAtPhase workers (members ++ member ∷ []) (phase_joined seat n p)
+  pub unclosed : (leader units : ℕ) → p ≡ Closed leader units → ⊥
 
 module _ (most word base n seat : ℕ) (members : List Member) (member : Member) (small : most < 2 ^ 31) (some_units : 1 ≤ n) (size : member.piece.size ≡ n) where
   first-joins : members ≡ [] → n ≤ most → member.piece.offset ≡ 0 → Joins most base 0 n seat members member Vacant
@@ -96,6 +102,9 @@ module _ (most word base n seat : ℕ) (members : List Member) (member : Member)
     others = λ j differ. elsewhere seat j (Gathering seat 0 ∷ []) differ;
     entry = λ _. refl;
     books = λ _ _. refl;
+    outcome = λ _ _ _ _ _. tt;
+    totals = λ _. tt;
+    unclosed = λ _ _ is. let no : Vacant ≡ Closed _ _ = is in cc;
   }
     where
       none-before : 0 + n ≡ n
@@ -119,6 +128,9 @@ module _ (most word base n seat : ℕ) (members : List Member) (member : Member)
     others = λ j differ. refl;
     entry = λ piece. ap (λ b. member_entry (Gathering leader (total + n)) piece (cond b Closes Waits)) later;
     books = λ piece books. ap (λ b. member_books (Gathering leader (total + n)) piece (cond b Closes Waits) books) later;
+    outcome = λ _ _ _ _ _. tt;
+    totals = λ _. tt;
+    unclosed = λ _ _ is. let no : Gathering leader total ≡ Closed _ _ = is in cc;
   }
     where
       later : (total == 0) ≡ false
@@ -147,6 +159,15 @@ module _ (most word base n seat : ℕ) (members : List Member) (member : Member)
       let word_is = is.word_is in absurd (told-high outcome old remaining total (sym word_is ∙ found) fits)
   joins-by_word total (Emptied last) is found fits room offset =
       let word_is = is.word_is in absurd (told-high is.outcome is.total 0 total (sym word_is ∙ found) fits)
+
+-- who joins leads or waits
+joining-loads : (first : Bool) (seen : Seen) (members : List Member) → LoadsAtStep (cond first Closes Waits) seen members
+joining-loads true seen members = tt
+joining-loads false seen members = tt
+
+joining-awaits : (first : Bool) (piece : Piece) (books : Books) → IsForNextRecord piece books → AwaitsAtStep (cond first Closes Waits) piece books
+joining-awaits true piece books is = is
+joining-awaits false piece books is = is
 
 module _ (key : Start) (words : Words) (views : List View) (me : ℕ) (v : View) (slot : ℕ) (from to : SlotWord) (log : Log) (s : IsSound key words views log)
     (at : get_elem? views me ≡ some v) (may : MayJoinSlot slot from to v) (found : words.slot slot ≡ word_of from) where
@@ -240,11 +261,27 @@ module _ (key : Start) (words : Words) (views : List View) (me : ℕ) (v : View)
   sees = let old = s.seen me v at in
       record { tail_seen = old.tail_seen; exposed_seen = old.exposed_seen; durable_seen = old.durable_seen; boundaries = old.boundaries }
 
+  kept : KeepsMembers key words views v log slot g (seen_slot slot (word_of from) v.seen) (Joined slot piece step) v.books
+  kept = record {
+    in_group = record {
+      members_seen = all-append (HadSeenUpTo words.tail words.durable) members (member ∷ []) (s.in_group slot).members_seen
+          (record { tail_seen = (s.seen me v at).tail_seen; durable_seen = (s.seen me v at).durable_seen }, tt);
+      outcome = j.outcome key.start key.ring words.tail words.durable (ranges_of log);
+    };
+    loads = joining-loads (total == 0) (seen_slot slot (word_of from) v.seen) (put_group log.groups slot g slot).members;
+    awaits = joining-awaits (total == 0) piece v.books record { rec_is = refl; size_is = refl; enters = may.enters };
+    totals = λ _ z _ _. j.totals (length z.standing.made);
+    heard = λ q z there. s.heard q z there me v at;
+    last = (steps-on log.groups v.seen (seen_slot slot (word_of from) v.seen) refl refl refl refl refl refl refl).last
+        (s.lasts me v at (ap is_spent may.rests.active));
+    others = λ seat units is _ _ _. absurd (j.unclosed seat units is);
+  }
+
   sound : IsSound key (record words { slot = states }) (set views me new) after
   sound = slot-sound key words views me v log s at may.rests.active slot g states words.base (seen_slot slot (word_of from) v.seen)
       (Joined slot piece step) v.books moves own-books others j.range
       (subst (λ w. IsAtPhase (key.ring / 4) w (words.base slot) g.members g.phase) (sym (put-here words.slot slot (word_of to) ∙ to-is)) j.is)
-      (λ q differ. (put-other words.slot slot (word_of to) q differ, refl)) sees refl
+      (λ q differ. (put-other words.slot slot (word_of to) q differ, refl)) sees refl kept
 
   abbrev old_state : SlotState
   old_state = slots_of key words views log

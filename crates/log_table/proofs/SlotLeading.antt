@@ -21,6 +21,8 @@ use Rattle.log_table.specs.Slots.{is_led_by, known_phase, led_phase, phase_led, 
 use Rattle.log_table.specs.Sound.{HasSeenBoundaries, HasWorkingOwner, IsSound}
 use Rattle.log_table.specs.Words.{Words}
 use Rattle.log_table.proofs.Groups.{Keeps, Others, SameUnheard, IsUntold, keeps, knows-untold}
+pub use Rattle.log_table.proofs.Groups.{known-led, IsWhole, known-whole}
+use Rattle.log_table.proofs.Members.{KeepsMembers}
 use Rattle.log_table.proofs.SlotShowing.{task-is, shows-lead}
 use Rattle.log_table.proofs.Slotting.{here, member-moves, member-books_same, slot-sound}
 use Rattle.log_table.proofs.Viewing.{seat_at}
@@ -33,33 +35,6 @@ active-if Active on = refl
 active-if Ended on = absurd (on refl)
 active-if Note on = absurd (on refl)
 active-if Spent on = absurd (on refl)
-
--- what the seat knows of the phase that it leads is so
-pub known-led : (seat : ℕ) (p q : GroupPhase) → led_phase seat p ≡ q ∷ [] → known_phase p ≡ q
-known-led seat p q is = by_test (is_led_by seat p) is
-  where
-    by_test : (b : Bool) → cond b (known_phase p ∷ []) [] ≡ q ∷ [] → known_phase p ≡ q
-    by_test true is = cc
-    by_test false is = absurd (cc)
-
--- but for a group that gathers, it knows all of it
-abbrev pub IsWhole : GroupPhase → Type 0
-IsWhole Vacant = Unit {0}
-IsWhole (Gathering leader total) = ⊥
-IsWhole (Closed leader total) = Unit {0}
-IsWhole (Placed leader total outcome) = Unit {0}
-IsWhole (Ready leader total outcome) = Unit {0}
-IsWhole (Told total outcome remaining) = Unit {0}
-IsWhole (Emptied last) = Unit {0}
-
-pub known-whole : (p q : GroupPhase) → known_phase p ≡ q → IsWhole q → p ≡ q
-known-whole Vacant q is whole = is
-known-whole (Gathering leader total) q is whole = absurd (subst IsWhole (sym is) whole)
-known-whole (Closed leader total) q is whole = is
-known-whole (Placed leader total outcome) q is whole = is
-known-whole (Ready leader total outcome) q is whole = is
-known-whole (Told total outcome remaining) q is whole = is
-known-whole (Emptied last) q is whole = is
 
 -- the two phases of a step that the leader makes, and its steps before and after
 pub record Leading (seat : ℕ) (piece : Piece) (step step' : MemberStep) (p p' : GroupPhase) : Type 0 where
@@ -93,7 +68,8 @@ module _ (key : Start) (words : Words) (views : List View) (me : ℕ) (v : View)
   module _ (step' : MemberStep) (p p' : GroupPhase) (was : (log.groups slot).phase ≡ p) (l : Leading me piece step step' p p') (seen : Seen)
       (states bases : ℕ → ℕ) (is : IsAtPhase (key.ring / 4) (states slot) (bases slot) (log.groups slot).members p')
       (else : (q : ℕ) → q ≢ slot → (states q ≡ words.slot q) × (bases q ≡ words.base q))
-      (sees : HasSeenBoundaries key.start words.tail words.exposed words.durable (ranges_of log) seen) (read : seen.stop ≡ v.seen.stop) where
+      (sees : HasSeenBoundaries key.start words.tail words.exposed words.durable (ranges_of log) seen) (read : seen.stop ≡ v.seen.stop)
+      (kept : KeepsMembers key words views v log slot (record { members = (log.groups slot).members; phase = p' }) seen (Joined slot piece step') v.books) where
     abbrev pub next_view : View
     next_view = record v { seen = seen; call = Joined slot piece step' }
 
@@ -117,7 +93,7 @@ module _ (key : Start) (words : Words) (views : List View) (me : ℕ) (v : View)
         (member-moves log.groups me slot piece step step' v.call call p' entry l.leads l.knows (mine.joins slot))
         (member-books_same log.groups me slot piece step step' v.call call p' entry l.leads l.knows (mine.joins slot) v.books
         (λ books. l.books books ∙ sym (ap (λ q. member_books q piece step books) was)))
-        others (l.range ∙ sym (ap range_of was)) is else sees read
+        others (l.range ∙ sym (ap range_of was)) is else sees read kept
 
     -- and the event is that of this stage
     pub leader-steps : (event : GroupEvent) → slot < key.slots → p' ≡ next_phase p → stage_of step' ≡ next_stage (stage_of step)

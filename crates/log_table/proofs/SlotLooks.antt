@@ -17,12 +17,14 @@ use Rattle.log_table.specs.GroupViews.{stage_of}
 use Rattle.log_table.specs.Layout.{Slot}
 use Rattle.log_table.specs.Log.{Log}
 use Rattle.log_table.specs.Marks.{Carries, HasTrueEnds}
+use Rattle.log_table.specs.Members.{LoadsForGroup, AwaitsPlace}
 use Rattle.log_table.specs.Slots.{own_pieces, pieces_at, IsToldAs}
 use Rattle.log_table.specs.SlotViews.{tells_refusal, step_seeing, call_seeing, saw_slot}
 use Rattle.log_table.specs.Sound.{StoresStop, HasReadStop, HasWorkingOwner, IsSound}
 use Rattle.log_table.specs.Words.{Words}
 use Rattle.log_table.proofs.Keeping.{accounts-stay}
 use Rattle.log_table.proofs.Lifting.{Tells as RuleTells}
+use Rattle.log_table.proofs.Members.{KeepsSeen, steps-on, loads-stay, keeps-view}
 use Rattle.log_table.proofs.Reading.{put-same}
 use Rattle.log_table.proofs.Roles.{HasSame, crew-same, quiet-moves, recalls-sound}
 use Rattle.log_table.proofs.Showing.{hands_of-set_same}
@@ -50,6 +52,38 @@ ends-seeing start exposed slot word log (Marked after) ends = ends
 ends-seeing start exposed slot word log (Holding at after) ends = ends
 ends-seeing start exposed slot word log (Raising from to after) ends = ends
 ends-seeing start exposed slot word log (Reopening other) ends = ends
+
+-- what a member that waits has it has when it sees its group told
+step-seeing_keeps : (P : MemberStep → Type 0) (word : ℕ) → ((refused : Bool) (total : ℕ) → P Waits → P (Hears refused total)) → (step : MemberStep) → P step
+    → P (step_seeing word step)
+step-seeing_keeps P word told Closes has = has
+step-seeing_keeps P word told Waits has = by_test (nat_lt word (2 ^ 63))
+  where
+    by_test : (b : Bool) → P (cond b Waits (Hears (tells_refusal word) (total_in word)))
+    by_test true = has
+    by_test false = told (tells_refusal word) (total_in word) has
+step-seeing_keeps P word told (Hears refused total) has = has
+step-seeing_keeps P word told (Places total closed) has = has
+step-seeing_keeps P word told (Stores total base) has = has
+step-seeing_keeps P word told (Tells total outcome) has = has
+step-seeing_keeps P word told (Fills base units) has = has
+step-seeing_keeps P word told (Leaves tail durable) has = has
+
+call-seeing_keeps : (P : Call → Type 0) (slot word : ℕ)
+    → ((other : ℕ) (piece : Piece) (refused : Bool) (total : ℕ) → P (Joined other piece Waits) → P (Joined other piece (Hears refused total)))
+    → (call : Call) → P call → P (call_seeing slot word call)
+call-seeing_keeps P slot word told Idle has = has
+call-seeing_keeps P slot word told (Filling entry) has = has
+call-seeing_keeps P slot word told (Joined other piece step) has = by_slot (other == slot)
+  where
+    by_slot : (b : Bool) → P (Joined other piece (cond b (step_seeing word step) step))
+    by_slot true = step-seeing_keeps (λ st. P (Joined other piece st)) word (told other piece) step has
+    by_slot false = has
+call-seeing_keeps P slot word told (Emptying other base total) has = has
+call-seeing_keeps P slot word told (Marked after) has = has
+call-seeing_keeps P slot word told (Holding at after) has = has
+call-seeing_keeps P slot word told (Raising from to after) has = has
+call-seeing_keeps P slot word told (Reopening other) has = has
 
 -- to the machine a member that saw its group told still waits
 stage-seeing : (word : ℕ) (step : MemberStep) → stage_of (step_seeing word step) ≡ stage_of step
@@ -142,6 +176,9 @@ module _ (key : Start) (words : Words) (views : List View) (me : ℕ) (v : View)
       (seen-told (key.ring / 4) (words.slot other) (words.base other) (log.groups other).members (log.groups other).phase small (s.slots other).words
       (member-there other piece Waits call) (subst (λ w. nat_lt w (2 ^ 63) ≡ false) (sym holds) high)))
 
+  keeps : KeepsSeen log.groups v.seen new.seen
+  keeps = steps-on log.groups v.seen new.seen refl refl refl refl refl refl refl
+
   pub slot-seen : Leads key words words views (set views me new) log none
   slot-seen = record {
     after = log;
@@ -154,7 +191,10 @@ module _ (key : Start) (words : Words) (views : List View) (me : ℕ) (v : View)
         (each_set (λ _ z. StoresStop words.stop z) views me new s.stops (s.stops me v at))
         (each_set (λ _ z. HasReadStop words.stop z) views me new s.read_stop (s.read_stop me v at))
         (quiet-moves views me v new s.quiet at (λ _ _ _ h. h) (λ _ h. h)) (s.looked me v at) (s.unheld me v at)
-        (accounts-stay key words.account log.parts log.groups views me v new at (same.books v.books) s.accounts);
+        (accounts-stay key words.account log.parts log.groups views me v new at (same.books v.books) s.accounts)
+        (keeps-view key words views me v log s at new refl keeps
+        (call-seeing_keeps (LoadsForGroup log.groups new.seen) slot word (λ _ _ _ _ loads. loads) v.call (loads-stay key words views me v log s at new.seen keeps))
+        (call-seeing_keeps (λ call. AwaitsPlace call v.books) slot word (λ _ _ _ _ awaits. awaits) v.call (s.awaits me v at)));
     shows = λ i. record (slots_of key words views log) { hands = hands_of-set_same 0 me views v new at (task-seeing slot word v.call) i };
   }
 

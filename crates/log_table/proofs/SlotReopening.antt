@@ -14,6 +14,7 @@ use Rattle.log_table.specs.Layout.{Slot}
 use Rattle.log_table.specs.Log.{Log, ranges_of}
 use Rattle.log_table.specs.Marks.{Carries}
 use Rattle.log_table.specs.May.{MayReopen}
+use Rattle.log_table.specs.Roles.{is_spent}
 use Rattle.log_table.specs.Slots.{own_pieces, pieces_at, led_phase, phase_at, range_of, IsAtPhase, IsEmptied}
 use Rattle.log_table.specs.SlotViews.{reopened}
 use Rattle.log_table.specs.Sound.{HasSeenBoundaries, HasWorkingOwner, IsSound}
@@ -21,6 +22,7 @@ use Rattle.log_table.specs.Views.{entries_in, books_in, claims_in, counted}
 use Rattle.log_table.specs.Words.{Words, put}
 use Rattle.log_table.proofs.Filling.{put-here, put-other}
 use Rattle.log_table.proofs.Groups.{Others}
+use Rattle.log_table.proofs.Members.{steps-on}
 use Rattle.log_table.proofs.Showing.{task_of-hands_of}
 use Rattle.log_table.proofs.SlotLeading.{active-if, known-led, known-whole}
 use Rattle.log_table.proofs.SlotShowing.{shows-moved}
@@ -77,7 +79,15 @@ module _ (key : Start) (words : Words) (views : List View) (me : ℕ) (v : View)
   sound : IsSound key (record words { slot = states }) (set views me new) after
   sound = slot-sound key words views me v log s at active slot empty_group states words.base (counted v.seen) Idle v.books moves
       (sym (ap (λ call. books_in log.groups call v.books) may)) others (sym (ap range_of was))
-      record { word_is = put-here words.slot slot 0; nobody = refl } (λ q differ. (put-other words.slot slot 0 q differ, refl)) sees refl
+      record { word_is = put-here words.slot slot 0; nobody = refl } (λ q differ. (put-other words.slot slot 0 q differ, refl)) sees refl record {
+        in_group = record { members_seen = tt; outcome = tt };
+        loads = tt;
+        awaits = tt;
+        totals = λ _ _ _ _. tt;
+        heard = λ j z there. s.heard j z there me v at;
+        last = (steps-on log.groups v.seen (counted v.seen) refl refl refl refl refl refl refl).last (s.lasts me v at (ap is_spent active));
+        others = λ _ _ _ _ _ _. record { tail_loaded = λ _. tt; durable_loaded = λ _. tt };
+      }
 
   task-is : task_of me (hands_of 0 views) ≡ InRing (Some slot) StageIdle
   task-is = task_of-hands_of 0 me me views v (omega arith) at ∙ ap task_in may

@@ -16,12 +16,14 @@ use Rattle.log_table.specs.declared.table.Start.{Start}
 use Rattle.log_table.specs.declared.view.Call.{Call}
 use Rattle.log_table.specs.declared.view.Call.TheVariants.{Joined}
 use Rattle.log_table.specs.declared.view.Constants.{Constants}
+use Rattle.log_table.specs.declared.view.Role.TheVariants.{Active}
 use Rattle.log_table.specs.declared.view.View.{View}
 use Rattle.log_table.specs.Events.{task_in, group_shown, slots_of, Leads, IsStep, stores_base, refuses}
 use Rattle.log_table.specs.Groups.{Outcome, Granted, Refused, Piece, Member, Group, Closed, Placed, Ready, put_group}
 use Rattle.log_table.specs.Layout.{Base}
-use Rattle.log_table.specs.Log.{Log, ranges_of}
+use Rattle.log_table.specs.Log.{Log, ranges_of, IsRangeBoundary}
 use Rattle.log_table.specs.May.{MayStoreGranted, MayStoreRefused}
+use Rattle.log_table.specs.Members.{HadSeenUpTo, LacksRoom, HasOutcome, HasPhaseOutcome, LoadedSince, LoadsForGroup, AwaitsPlace}
 use Rattle.log_table.specs.Roles.{is_spent}
 use Rattle.log_table.specs.Slots.{PiecesTile, LiesWithin, sum_of, IsPlaced, IsClosed, IsReadyToTell}
 use Rattle.log_table.specs.SlotViews.{call_stored, stored_base}
@@ -30,6 +32,8 @@ use Rattle.log_table.specs.Views.{counted}
 use Rattle.log_table.specs.Words.{Words, put}
 use Rattle.log_table.proofs.Filling.{put-here, put-other}
 use Rattle.log_table.proofs.Groups.{untold-placed, untold-closed}
+use Rattle.log_table.proofs.Lists.{all-both, all-among}
+use Rattle.log_table.proofs.Members.{KeepsMembers, steps-on, members-stay, totals-stay}
 use Rattle.log_table.proofs.Ranging.{tiles-le}
 use Rattle.log_table.proofs.SlotLeading.{Leading, active, led-whole, at-phase, sound, leader-steps}
 use Rattle.log_table.proofs.SlotShowing.{group-shown, shows-moved, length-groups_from}
@@ -105,6 +109,19 @@ module _ (key : Start) (words : Words) (views : List View) (me : ℕ) (v : View)
     placed = at-phase key words views me v slot may.piece (Stores may.total word) log s at may.stores (Placed me may.total (Granted word))
         (led-whole key words views me v slot may.piece (Stores may.total word) log s at may.stores (Placed me may.total (Granted word)) refl tt)
 
+    was-placed : (log.groups slot).phase ≡ Placed me may.total (Granted word)
+    was-placed = led-whole key words views me v slot may.piece (Stores may.total word) log s at may.stores (Placed me may.total (Granted word)) refl tt
+
+    keeps : KeepsMembers key words views v log slot (record { members = (log.groups slot).members; phase = Ready me may.total (Granted word) })
+        (counted v.seen) (Joined slot may.piece (Tells may.total (Granted word))) v.books
+    keeps = members-stay key words views me v log s at (active key words views me v slot may.piece (Stores may.total word) log s at may.stores) slot may.piece
+        (Tells may.total (Granted word)) (Ready me may.total (Granted word)) (counted v.seen) v.books
+        (steps-on log.groups v.seen (counted v.seen) refl refl refl refl refl refl refl)
+        (subst (HasPhaseOutcome key.start key.ring words.tail words.durable (ranges_of log) (log.groups slot).members) was-placed (s.in_group slot).outcome) tt
+        (subst (λ call. AwaitsPlace call v.books) may.stores (s.awaits me v at))
+        (totals-stay key words views me v log s at (active key words views me v slot may.piece (Stores may.total word) log s at may.stores) slot
+        (Placed me may.total (Granted word)) (Ready me may.total (Granted word)) was-placed (λ _ is. is))
+
     pub base-stored : slot < key.slots → Leads key words (record words { base = put words.base slot word }) views
         (set views me (record v { seen = counted v.seen; call = Joined slot may.piece (Tells may.total (Granted word)) })) log (stores_base me)
     base-stored below = leader-steps key words views me v slot may.piece (Stores may.total word) log s at may.stores (Tells may.total (Granted word))
@@ -112,7 +129,7 @@ module _ (key : Start) (words : Words) (views : List View) (me : ℕ) (v : View)
         (led-whole key words views me v slot may.piece (Stores may.total word) log s at may.stores (Placed me may.total (Granted word)) refl tt)
         (granted-leads me may.piece may.total word) (counted v.seen) words.slot (put words.base slot word)
         record { word_is = placed.word_is; remains = placed.remains; base_is = record { is = put-here words.base slot word; fits = tt } }
-        (λ q differ. (refl, put-other words.base slot word q differ)) sees refl (PutBase me) below refl refl (λ _. refl) (λ _. refl)
+        (λ q differ. (refl, put-other words.base slot word q differ)) sees refl keeps (PutBase me) below refl refl (λ _. refl) (λ _. refl)
 
   module _ (may : MayStoreRefused slot word v) where
     abbrev tail : ℕ
@@ -179,9 +196,34 @@ module _ (key : Start) (words : Words) (views : List View) (me : ℕ) (v : View)
     task-is : task_of me old_state.hands ≡ joined slot may.piece.offset may.piece.size stage.Places
     task-is = task_of-hands_of 0 me me views v (omega arith) at ∙ ap task_in may.places
 
+    role : v.standing.role ≡ Active
+    role = active key words views me v slot may.piece (Places may.total may.closed) log s at may.places
+
     ring : v.constants.ring ≡ key.ring
-    ring = ap (λ (c : Constants). c.ring)
-        (s.constants me v at (ap is_spent (active key words views me v slot may.piece (Places may.total may.closed) log s at may.places)))
+    ring = ap (λ (c : Constants). c.ring) (s.constants me v at (ap is_spent role))
+
+    -- the leader loaded both since it closed the group, so no member had seen more; and it saw them at boundaries of reservations
+    refusal-outcome : HasOutcome key.start key.ring words.tail words.durable (ranges_of log) (log.groups slot).members may.total outcome
+    refusal-outcome =
+        let loaded : LoadedSince may.closed v.seen (log.groups slot).members = subst (LoadsForGroup log.groups v.seen) may.places (s.loads me v at) in
+        let old = s.seen me v at in let last = s.lasts me v at (ap is_spent role) in record {
+          members_seen = all-both (λ (m : Member). m.piece.tail ≤ tail) (λ (m : Member). m.piece.durable ≤ durable) (HadSeenUpTo tail durable)
+              (log.groups slot).members (λ _ a b. record { tail_seen = a; durable_seen = b })
+              (loaded.tail_loaded may.tail_loaded) (loaded.durable_loaded may.durable_loaded);
+          is_true = record {
+            tail_boundary = all-among (IsRangeBoundary key.start (ranges_of log)) tail v.seen.lsns old.boundaries last.tail_among;
+            durable_boundary = all-among (IsRangeBoundary key.start (ranges_of log)) durable v.seen.lsns old.boundaries last.durable_among;
+            tail_reached = old.tail_seen;
+            durable_reached = old.durable_seen;
+          };
+          no_room = subst (λ r. LacksRoom r may.total tail durable) ring may.no_room;
+        }
+
+    refusal-kept : KeepsMembers key words views v log slot g (counted v.seen) (Joined slot may.piece (Tells may.total outcome)) v.books
+    refusal-kept = members-stay key words views me v log s at role slot may.piece (Tells may.total outcome) (Ready me may.total outcome) (counted v.seen) v.books
+        (steps-on log.groups v.seen (counted v.seen) refl refl refl refl refl refl refl) refusal-outcome tt
+        (subst (λ call. AwaitsPlace call v.books) may.places (s.awaits me v at))
+        (totals-stay key words views me v log s at role slot (Closed me may.total) (Ready me may.total outcome) was (λ _ is. is))
 
     module _ (below : slot < key.slots) where
       shown : group_at slot old_state.groups ≡ group_shown (log.groups slot)
@@ -230,7 +272,7 @@ module _ (key : Start) (words : Words) (views : List View) (me : ℕ) (v : View)
         after = record { parts = log.parts; flushed = log.flushed; exposed = log.exposed; ahead = log.ahead; groups = put_group log.groups slot g };
         sound = sound key words views me v slot may.piece (Places may.total may.closed) log s at may.places (Tells may.total outcome)
             (Closed me may.total) (Ready me may.total outcome) was (refused-leads me may.piece may.total may.closed tail durable) (counted v.seen)
-            words.slot (put words.base slot word) ready (λ q differ. (refl, put-other words.base slot word q differ)) sees refl;
+            words.slot (put words.base slot word) ready (λ q differ. (refl, put-other words.base slot word q differ)) sees refl refusal-kept;
         shows = record {
           mid = mid_state;
           before = (

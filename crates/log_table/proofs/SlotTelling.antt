@@ -15,6 +15,7 @@ use Rattle.log_table.specs.Groups.{Outcome, Piece, Ready, Told}
 use Rattle.log_table.specs.Layout.{Slot}
 use Rattle.log_table.specs.Log.{Log, ranges_of}
 use Rattle.log_table.specs.May.{MayPublish}
+use Rattle.log_table.specs.Members.{HasPhaseOutcome, AwaitsPlace}
 use Rattle.log_table.specs.Slots.{IsReadyToTell}
 use Rattle.log_table.specs.SlotViews.{call_published, published}
 use Rattle.log_table.specs.Sound.{HasSeenBoundaries, IsSound}
@@ -22,7 +23,8 @@ use Rattle.log_table.specs.Views.{counted}
 use Rattle.log_table.specs.Words.{Words, put}
 use Rattle.log_table.proofs.Filling.{put-here, put-other}
 use Rattle.log_table.proofs.Groups.{untold-ready}
-use Rattle.log_table.proofs.SlotLeading.{Leading, led-whole, at-phase, leader-steps}
+use Rattle.log_table.proofs.Members.{KeepsMembers, steps-on, members-stay, totals-stay}
+use Rattle.log_table.proofs.SlotLeading.{Leading, active, led-whole, at-phase, leader-steps}
 use Rattle.log_table.proofs.Slotting.{elsewhere}
 
 telling-leads : (seat : ℕ) (piece : Piece) (total : ℕ) (outcome : Outcome)
@@ -48,6 +50,18 @@ module _ (key : Start) (words : Words) (views : List View) (me : ℕ) (v : View)
   sees = let old = s.seen me v at in
       record { tail_seen = old.tail_seen; exposed_seen = old.exposed_seen; durable_seen = old.durable_seen; boundaries = old.boundaries }
 
+  was : (log.groups slot).phase ≡ Ready me may.total may.outcome
+  was = led-whole key words views me v slot may.piece (Tells may.total may.outcome) log s at may.tells (Ready me may.total may.outcome) refl tt
+
+  keeps : KeepsMembers key words views v log slot (record { members = (log.groups slot).members; phase = Told may.total may.outcome may.total })
+      (counted v.seen) (Joined slot may.piece Waits) v.books
+  keeps = let role = active key words views me v slot may.piece (Tells may.total may.outcome) log s at may.tells in
+      members-stay key words views me v log s at role slot may.piece Waits (Told may.total may.outcome may.total) (counted v.seen) v.books
+      (steps-on log.groups v.seen (counted v.seen) refl refl refl refl refl refl refl)
+      (subst (HasPhaseOutcome key.start key.ring words.tail words.durable (ranges_of log) (log.groups slot).members) was (s.in_group slot).outcome) tt
+      (subst (λ call. AwaitsPlace call v.books) may.tells (s.awaits me v at))
+      (totals-stay key words views me v log s at role slot (Ready me may.total may.outcome) (Told may.total may.outcome may.total) was (λ _ is. is))
+
   pub slot-tells-group : slot < key.slots → Leads key words (record words { slot = put words.slot slot (word_of word) }) views
       (set views me (record v { seen = counted v.seen; call = Joined slot may.piece Waits })) log (tells me)
   slot-tells-group below = leader-steps key words views me v slot may.piece (Tells may.total may.outcome) log s at may.tells Waits
@@ -55,7 +69,7 @@ module _ (key : Start) (words : Words) (views : List View) (me : ℕ) (v : View)
       (led-whole key words views me v slot may.piece (Tells may.total may.outcome) log s at may.tells (Ready me may.total may.outcome) refl tt)
       (telling-leads me may.piece may.total may.outcome) (counted v.seen) (put words.slot slot (word_of word)) words.base
       record { word_is = put-here words.slot slot (word_of word) ∙ may.word_is; remains = ready.remains; base_is = ready.base_is }
-      (λ q differ. (put-other words.slot slot (word_of word) q differ, refl)) sees refl (Tell me) below refl refl (λ _. refl) (λ _. refl)
+      (λ q differ. (put-other words.slot slot (word_of word) q differ, refl)) sees refl keeps (Tell me) below refl refl (λ _. refl) (λ _. refl)
 
 module _ (key : Start) (me : ℕ) (v : View) (slot number : ℕ) (word : SlotWord) (slotted : key.slots ≡ number) (below : slot < number)
     (may : MayPublish slot word v) where

@@ -17,15 +17,17 @@ use Rattle.log_table.specs.Groups.{GroupPhase, Piece, Group, put_group}
 use Rattle.log_table.specs.GroupViews.{member_entry, member_books}
 use Rattle.log_table.specs.Log.{Log, ranges_of, parts_of}
 use Rattle.log_table.specs.Marks.{Carries, HasTrueEnds}
+use Rattle.log_table.specs.Members.{HasSeenInGroup, LoadsForGroup, AwaitsPlace, HasTotalOfWorkers, HeardOfWorkers, HasSeenLast}
 use Rattle.log_table.specs.Roles.{is_active, may_own}
 use Rattle.log_table.specs.Slots.{own_pieces, pieces_at, led_phase, phase_led, phase_at, KnowsPhase, KnowsGroup, range_of, IsAtPhase, IsSoundSlot}
 use Rattle.log_table.specs.Sound.{EachSeat, HasSeenBoundaries, SendsIfFlusher, StoresStop, HasReadStop, LookedIfQuiet, HasWorkingOwner, HasConstants, RestsUnlessActive, OwnsIfWorker, HoldsIfActive, base_of, history_in, books_of, IsSound}
 use Rattle.log_table.specs.Views.{entries_in, books_in, claims_in}
 use Rattle.log_table.specs.Words.{Words}
 use Rattle.log_table.proofs.Carrying.{carrier-set, ends-move}
-use Rattle.log_table.proofs.Groups.{Others, HasAsBefore, as-before, group-here, group-at, group-other, members-some, work-stays, told-same}
+use Rattle.log_table.proofs.Groups.{Others, HasAsBefore, as-before, group-here, group-at, group-other, put-keeps, members-some, work-stays, told-same}
+use Rattle.log_table.proofs.Members.{KeepsMembers, loads-put}
 use Rattle.log_table.proofs.Roles.{crew-same, quiet-moves}
-use Rattle.log_table.proofs.Viewing.{each_moves, each_set, seats_move, seat_at}
+use Rattle.log_table.proofs.Viewing.{each_moves, each_set, seats_move, seat_at, pairs_move}
 
 -- what the seat makes of its view
 pub record Mine (groups : ℕ → Group) (seat slot : ℕ) (g : Group) (old new : Call) : Type 0 where
@@ -70,7 +72,8 @@ module _ (key : Start) (words : Words) (views : List View) (me : ℕ) (v : View)
       (others : (j : ℕ) → j ≢ me → Others (log.groups slot) g j) (range : range_of g.phase ≡ range_of (log.groups slot).phase)
       (is : IsAtPhase (key.ring / 4) (states slot) (bases slot) g.members g.phase)
       (else : (q : ℕ) → q ≢ slot → (states q ≡ words.slot q) × (bases q ≡ words.base q))
-      (sees : HasSeenBoundaries key.start words.tail words.exposed words.durable (ranges_of log) seen) (read : seen.stop ≡ v.seen.stop) where
+      (sees : HasSeenBoundaries key.start words.tail words.exposed words.durable (ranges_of log) seen) (read : seen.stop ≡ v.seen.stop)
+      (kept : KeepsMembers key words views v log slot g seen call books) where
     -- the views of others have what they had
     others-same : (j : ℕ) (z : View) → j ≢ me → HasWorkingOwner log.groups log.parts log.ahead j z → HasAsBefore log.groups groups z.call
     others-same j z differ h = as-before log.groups slot g j (others j differ) z.call h.joins h.leads
@@ -151,6 +154,18 @@ module _ (key : Start) (words : Words) (views : List View) (me : ℕ) (v : View)
       unheld = each_set (λ _ z. HoldsIfActive z) views me new s.unheld
           ((λ off. absurd (on-duty off)), (λ off. absurd (true≢false (sym (ap may_own active) ∙ off))));
       accounts = subst (KeepsAccounts (base_of key) words.account (history_in key log.parts)) (sym books-same) s.accounts;
+      in_group = λ q. put-keeps (HasSeenInGroup key.start key.ring words.tail words.durable (ranges_of log)) log.groups slot q g (λ _. kept.in_group)
+          (s.in_group q);
+      loads = each_moves (λ _ z. LoadsForGroup log.groups z.seen z.call) (λ _ z. LoadsForGroup groups z.seen z.call) views me new s.loads kept.loads
+          (λ j z differ there. loads-put log.groups slot g j z.seen z.call (λ total closed is. kept.others j total is z.seen closed)
+          ((seat_at (HasWorkingOwner log.groups log.parts log.ahead) views j z there s.owners).leads slot));
+      awaits = each_set (λ _ z. AwaitsPlace z.call z.books) views me new s.awaits kept.awaits;
+      totals = each_moves (λ _ z. (q : ℕ) → HasTotalOfWorkers (log.groups q) z) (λ _ z. (q : ℕ) → HasTotalOfWorkers (groups q) z) views me new s.totals
+          (λ _ f. absurd (not-flusher f))
+          (λ j z differ there old q. put-keeps (λ (x : Group). HasTotalOfWorkers x z) log.groups slot q g (λ _. kept.totals j z there) (old q));
+      heard = pairs_move (λ _ y _ z. HeardOfWorkers y z) views me v new at s.heard (λ f. absurd (not-flusher f))
+          (λ j z differ there. ((λ f. absurd (not-flusher f)), kept.heard j z there));
+      lasts = each_set (λ _ z. HasSeenLast z) views me new s.lasts (λ _. kept.last);
     }
 
 -- the seat is at its slot, and at no other

@@ -1,10 +1,11 @@
 -- The flusher's seat makes a worker.
-use Rattle.std.proofs.Common.{◌≡◌, ◌≢◌, ⊎_elim, ℕ, eqb, ◌||◌, ◌+◌, ◌<◌, cond, Bool, true, false, true≢false, List, [], ◌∷◌, ◌++◌, set, sym, refl, ap, ◌∙◌, subst, arith, eq-eqb}
+use Rattle.std.proofs.Common.{◌≡◌, ◌≢◌, ⊎_elim, ℕ, eqb, ◌||◌, ◌+◌, ◌<◌, cond, Bool, true, false, true≢false, List, [], ◌∷◌, ◌++◌, length, set, sym, refl, ap, ◌∙◌, subst, le_refl, arith, eq-eqb}
 use Rattle.std.specs.List.{list_any}
 use Rattle.std.proofs.lemmas.List.Sums.{sum_by_push}
 use mathlib.Core.Option.{some}
 use lib.ListN.{get_elem?}
 use Rattle.atomic_table.specs.Table.{Splits}
+use Rattle.atomic_table.proofs.Lists.{set_here}
 use Rattle.log_table.specs.declared.table.Start.{Start}
 use Rattle.log_table.specs.declared.view.Role.TheVariants.{Flusher}
 use Rattle.log_table.specs.declared.view.View.{View}
@@ -16,12 +17,10 @@ use Rattle.log_table.specs.CrewViews.{hires, hired}
 use Rattle.log_table.specs.Words.{Words, words_in}
 use Rattle.log_table.proofs.Adding.{adds}
 use Rattle.log_table.proofs.Keeping.{accounts-stay}
+use Rattle.log_table.proofs.Lists.{or-right}
+use Rattle.log_table.proofs.Members.{totals-more, refusals-more, heard-moves}
 use Rattle.log_table.proofs.Roles.{quiet-moves, restands-sound}
-use Rattle.log_table.proofs.Viewing.{each_set, each_push, pairs_move, pairs_push, count-set}
-
-pub or-right : (a b : Bool) → b ≡ true → (a || b) ≡ true
-or-right true b e = refl
-or-right false b e = e
+use Rattle.log_table.proofs.Viewing.{at_below, each_set, each_push, pairs_move, pairs_push, count-set}
 
 lacks-all : (n : ℕ) (known made : List ℕ) → ((q : ℕ) → Knows q known → Knows q made) → Lacks n made → Lacks n known
 lacks-all n known made sub lacks = by_test (list_any (eqb n) known) refl
@@ -84,6 +83,13 @@ module _ (key : Start) (words : Words) (views : List View) (me : ℕ) (v : View)
       (each_set (λ _ z. HasReadStop words.stop z) views me boss s.read_stop (s.read_stop me v at))
       (quiet-moves views me v boss s.quiet at (λ _ _ _ _ _ q. absurd (true≢false (sym q))) (λ _ h. h)) (λ _ q. absurd (true≢false (sym q))) (s.unheld me v at)
       (accounts-stay key words.account log.parts log.groups views me v boss at refl s.accounts)
+      record {
+        loads = s.loads me v at;
+        awaits = s.awaits me v at;
+        totals = λ slot f. totals-more (length v.standing.made) (log.groups slot).members (log.groups slot).phase (s.totals me v at slot f);
+        heard = heard-moves views me v boss s.heard at (λ z h f. refusals-more (length v.standing.made) z.seen.refusals (h f)) (λ z h. h);
+        last = s.lasts me v at;
+      }
 
   abbrev made : List View
   made = set views me boss
@@ -165,6 +171,13 @@ module _ (key : Start) (words : Words) (views : List View) (me : ℕ) (v : View)
       record { tail_seen = old.tail_seen; exposed_seen = old.exposed_seen; durable_seen = old.durable_seen; boundaries = old.boundaries })
       (s.read_stop me v at) (λ _. s.constants me v at (ap is_spent may.flusher)) crew-splits (pairs_push (λ _ y _ z. RestsIfQuiet y z) made worker hired-sound.quiet
       (λ f. absurd (cc)) (λ j z there. ((λ f. absurd (cc)), (λ f q. absurd (boss-busy j z there f q))))) refl
+      (λ j z there. hired-sound.heard j z there me boss (set_here views me boss (at_below views me v at)))
+      (λ _. let old = s.lasts me v at (ap is_spent may.flusher) in record {
+        tail_among = old.tail_among;
+        durable_among = old.durable_among;
+        tail_made = le_refl _;
+        durable_made = le_refl _;
+      })
 
 pub split-allowed : (key : Start) (seat : ℕ) (v : View) (n : ℕ) → MaySplit n v → n < 4294967296
     → Splits {S = Unit {0}} (Ruled key) seat v (hires n v) (hired n v)

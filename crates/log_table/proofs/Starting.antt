@@ -1,5 +1,5 @@
 -- A table starts at rest: nothing is reserved, and the log ends where it started.
-use Rattle.std.proofs.Common.{◌≡◌, ◌≢◌, inl, ℕ, zero, suc, ◌+◌, ◌*◌, ◌%◌, ◌<◌, ◌≤◌, nat_lt, true, true≢false, List, [], ◌∷◌, length, get_or, replicate, set, sym, refl, ap, ◌∙◌, subst, arith, cond, Bool, false, lt-ltb, ltb-true, length-set, get_or-set_same, get_or-set_other}
+use Rattle.std.proofs.Common.{◌≡◌, ◌≢◌, inl, ℕ, zero, suc, ◌+◌, ◌*◌, ◌%◌, ◌<◌, ◌≤◌, nat_lt, true, true≢false, List, [], ◌∷◌, length, get_or, replicate, set, sym, refl, ap, ◌∙◌, subst, le_refl, arith, cond, Bool, false, lt-ltb, ltb-true, length-set, get_or-set_same, get_or-set_other}
 use Rattle.std.proofs.lemmas.List.{length-replicate, get_or-replicate}
 use mathlib.Core.Option.{some-injective, some-ne-none}
 use Rattle.atomic_table.specs.Table.{opening}
@@ -10,6 +10,7 @@ use Rattle.log_table.specs.declared.view.View.{View}
 use Rattle.log_table.specs.Groups.{empty_group}
 use Rattle.log_table.specs.Log.{Log}
 use Rattle.log_table.specs.Marks.{HasTrueEnds}
+use Rattle.log_table.specs.Members.{LoadsForGroup, AwaitsPlace, HasTotalOfWorkers, HeardOfWorkers, HasSeenLast}
 use Rattle.log_table.specs.Sound.{EachView, HasSeenBoundaries, SendsIfFlusher, StoresStop, HasReadStop, RestsIfQuiet, LookedIfQuiet, HasWorkingOwner, HasConstants, RestsUnlessActive, OwnsIfWorker, HoldsIfActive, base_of, HasSoundRole, HasSoundRoles, IsSound, Ruled}
 use Rattle.log_table.specs.Views.{flusher, nobody}
 use Rattle.log_table.specs.Words.{Words, words_in}
@@ -22,6 +23,7 @@ use Rattle.log_table.specs.Books.{no_books}
 use Rattle.log_table.specs.Layout.{Mark, Slot, Account, index_of, word_count}
 use Rattle.log_table.specs.Opening.{HasAccounts, PutsAccounts}
 use Rattle.log_table.proofs.Gathered.{starts-free}
+use Rattle.log_table.proofs.Lists.{among-first}
 
 -- nothing is reserved, and nobody has joined a group
 abbrev empty_log : Log
@@ -95,6 +97,17 @@ module _ (key : Start) (words : Words) (least : LEAST_RING ≤ key.ring) (most :
     looked = alone (λ _ z. LookedIfQuiet words.exposed z) (λ _ e. absurd (true≢false (sym e)));
     unheld = alone (λ _ z. HoldsIfActive z) ((λ _. refl), (λ off. absurd (true≢false off)));
     accounts = accounts;
+    in_group = λ _. record { members_seen = tt; outcome = tt };
+    loads = alone (λ _ z. LoadsForGroup empty_log.groups z.seen z.call) tt;
+    awaits = alone (λ _ z. AwaitsPlace z.call z.books) tt;
+    totals = alone (λ _ z. (slot : ℕ) → HasTotalOfWorkers (empty_log.groups slot) z) (λ _ _. tt);
+    heard = alone _ (alone (λ _ z. HeardOfWorkers (flusher key) z) (λ _. tt));
+    lasts = alone (λ _ z. HasSeenLast z) (λ _. record {
+      tail_among = among-first key.start [];
+      durable_among = among-first key.start [];
+      tail_made = le_refl _;
+      durable_made = le_refl _;
+    });
   }
     where
       owners : (j : ℕ) → HasWorkingOwner empty_log.groups [] [] j (get_or (flusher key ∷ []) j nobody)

@@ -19,6 +19,7 @@ use Rattle.log_table.specs.Views.{counted, knows_all_enrolled, has_stopped, saw_
 use Rattle.log_table.specs.Words.{Words}
 use Rattle.log_table.proofs.Lifting.{Tells}
 use Rattle.log_table.proofs.Looking.{looks, sees-word}
+use Rattle.log_table.proofs.Members.{seen-still, steps-on}
 use Rattle.log_table.proofs.Roles.{sole-flusher}
 use Rattle.log_table.proofs.Viewing.{each_moves, each_set}
 
@@ -65,7 +66,7 @@ module _ (key : Start) (me : ℕ) (v : View) where
   stop-stays n = record {
     leads = λ words views log s at is.
         subst (λ x. Leads key words (record words { stop = x }) views (set views me v) log none) is
-        (sees-word key words views me v log v.seen s at (s.seen me v at) (s.read_stop me v at));
+        (sees-word key words views me v log v.seen s at (s.seen me v at) (s.read_stop me v at) (seen-still log.groups v.seen));
   }
 
   -- what the flusher's seat has read is what it stored
@@ -85,7 +86,7 @@ module _ (key : Start) (me : ℕ) (v : View) where
         (λ j z differ there _ f. absurd (differ (sole-flusher words.crew views me v s.roles at may.flusher j z there f))))
         (each_moves (λ _ z. HasReadStop words.stop z) (λ _ z. HasReadStop word z) views me (has_stopped word v) s.read_stop
         (not-read words.stop word v running (s.read_stop me v at)) (λ _ z _ _. not-read words.stop word z running))
-        (λ _ _ _ h. h) (s.looked me v at);
+        (λ _ _ _ h. h) (s.looked me v at) (steps-on log.groups v.seen _ refl refl refl refl refl refl refl);
   }
 
   -- where no worker is active and all that were made were enrolled, none is at work
@@ -125,5 +126,5 @@ module _ (key : Start) (me : ℕ) (v : View) where
         (each_set (λ _ z. HasReadStop words.stop z) views me (saw_crew words.crew v) s.read_stop (s.read_stop me v at))
         (λ j z there _ f q. let both = both-true (words.crew == 0) (knows_all_enrolled v.standing) q in
         rests words views log s at f (eqb-true words.crew 0 both.0) both.1 j z there)
-        (λ _ _ l. absurd (true≢false (sym l))));
+        (λ _ _ l. absurd (true≢false (sym l))) (steps-on log.groups v.seen _ refl refl refl refl refl refl refl));
   }

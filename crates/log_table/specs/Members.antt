@@ -1,6 +1,7 @@
 -- What the members of a group had seen as they joined it, what they have to place, and how great the group's total can be.
-use Rattle.std.specs.Prelude.{◌≡◌, ◌⊎◌, ℕ, ◌+◌, ◌*◌, ◌≤◌, ◌<◌, Bool, true, false, List, length}
-use Rattle.std.specs.List.{AllByRecursion}
+use Rattle.std.specs.Prelude.{◌≡◌, ◌⊎◌, ℕ, ◌+◌, ◌*◌, ◌≤◌, ◌<◌, true, false, List, length}
+use Rattle.std.specs.List.{AllByRecursion, list_any}
+use lib.Dec.{eqb}
 use Rattle.log_record.specs.Spelling.{spelling}
 use Rattle.lsn_space.specs.declared.lsn.TheConstants.{LAST}
 use Rattle.log_table.specs.declared.group_view.HeardRefusal.{HeardRefusal}
@@ -16,6 +17,7 @@ use Rattle.log_table.specs.declared.view.View.{View}
 use Rattle.log_table.specs.Books.{next_of, MayEnter}
 use Rattle.log_table.specs.Groups.{Outcome, Granted, Refused, GroupPhase, Vacant, Gathering, Closed, Placed, Ready, Told, Emptied, Member, Group}
 use Rattle.log_table.specs.Log.{Range, IsRangeBoundary}
+use Rattle.log_table.specs.Roles.{is_spent}
 
 -- ---- what members had seen
 
@@ -95,6 +97,17 @@ LoadsForGroup groups seen (Marked after) = Unit {0}
 LoadsForGroup groups seen (Holding at after) = Unit {0}
 LoadsForGroup groups seen (Raising from to after) = Unit {0}
 LoadsForGroup groups seen (Reopening slot) = Unit {0}
+
+-- Tail and durable, as the seat saw them last, are among the LSNs that it saw, and it saw neither of them at a step that it has not made. So
+-- nothing counts as loaded since a step that the seat makes now.
+pub record SawLast (seen : Seen) : Type 0 where
+  pub tail_among : list_any (eqb seen.tail) seen.lsns ≡ true
+  pub durable_among : list_any (eqb seen.durable) seen.lsns ≡ true
+  pub tail_made : seen.tail_step ≤ seen.steps
+  pub durable_made : seen.durable_step ≤ seen.steps
+
+abbrev pub HasSeenLast : View → Type 0
+HasSeenLast view = is_spent view.standing.role ≡ false → SawLast view.seen
 
 -- ---- what a member has to place
 

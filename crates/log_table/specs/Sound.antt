@@ -22,6 +22,7 @@ use Rattle.log_table.specs.Groups.{Group}
 use Rattle.log_table.specs.Layout.{word_count}
 use Rattle.log_table.specs.Log.{Part, Range, Log, ranges_of, own, parts_of, owed, Tiles, Laid, SpellsRecord, records_in, StandsInRing, AgreesFrom, IsRangeBoundary, EndsWithPart, IsFullIfReleased, IsReleasedBelow, IsReleased, IsAtWork, CountsRemaining}
 use Rattle.log_table.specs.Marks.{HasReleaseMarks, IsCarried, HasTrueEnds}
+use Rattle.log_table.specs.Members.{HasSeenInGroup, LoadsForGroup, AwaitsPlace, HasTotalOfWorkers, HeardOfWorkers, HasSeenLast}
 use Rattle.log_table.specs.Slots.{own_pieces, pieces_at, led_phase, phase_at, KnowsGroup, IsSoundSlot}
 use Rattle.log_table.specs.Roles.{is_active, is_worker, is_working, is_spent, may_own}
 use Rattle.log_table.specs.Views.{constants_of, nobody, entries_in, books_in, claims_in}
@@ -199,6 +200,12 @@ pub record IsSound (key : Start) (words : Words) (views : List View) (log : Log)
   pub looked : EachView (λ _ view. LookedIfQuiet words.exposed view) views
   pub unheld : EachView (λ _ view. HoldsIfActive view) views
   pub accounts : KeepsAccounts (base_of key) words.account (history_in key log.parts) (map (books_of log.groups) views)
+  pub in_group : (slot : ℕ) → HasSeenInGroup key.start key.ring words.tail words.durable (ranges_of log) (log.groups slot)
+  pub loads : EachView (λ _ view. LoadsForGroup log.groups view.seen view.call) views
+  pub awaits : EachView (λ _ view. AwaitsPlace view.call view.books) views
+  pub totals : EachView (λ _ view. (slot : ℕ) → HasTotalOfWorkers (log.groups slot) view) views
+  pub heard : EachPair (λ _ view _ other. HeardOfWorkers view other) views
+  pub lasts : EachView (λ _ view. HasSeenLast view) views
 
 -- the table has its words, and some log goes with them and with the views
 abbrev pub Ruled : Start → State (Unit {0}) View → Type 0
