@@ -81,7 +81,8 @@ pub crew-small : (crew : ℕ) (views : List View) → HasSoundCrew crew views �
 crew-small crew views s =
     let distinct = distinct-numbers views (λ i j v z at there is too same. (s.pairs i v at j z there).apart is too same) in
     let below = all-numbers (λ n. n < 4294967296) views (λ j v at is. (s.each j v at).small is) in
-    let small : (n : ℕ) → list_any (eqb n) (worker_numbers views) ≡ true → n < 4294967296 = λ n. all-among (λ k. k < 4294967296) n (worker_numbers views) below in
+    let small : (n : ℕ) → list_any (eqb n) (worker_numbers views) ≡ true → n < 4294967296 =
+    λ n. all-among (λ k. k < 4294967296) n (worker_numbers views) below in
     let few : length (worker_numbers views) ≤ 4294967296 = length-le_from_distinct_below (worker_numbers views) 4294967296 distinct small in
     omega (arith, s.count, active-le-numbers views)
 

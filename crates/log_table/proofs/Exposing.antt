@@ -217,7 +217,8 @@ module _ (key : Start) (words : Words) (views : List View) (me : ℕ) (v : View)
       record { tail_seen = old.tail_seen; exposed_seen = old.exposed_seen; durable_seen = old.durable_seen; boundaries = old.boundaries }
 
   turns : (call : Call) → HasSame log.groups me (Holding base may.after) call → (IsFirstReleased log.ahead → base ≡ words.exposed → Carries words.exposed call)
-      → HasTrueEnds key.start words.exposed log call → LoadsForGroup log.groups seen call → AwaitsPlace call v.books → IsSound key words (set views me (record v { seen = seen; call = call })) log
+      → HasTrueEnds key.start words.exposed log call → LoadsForGroup log.groups seen call → AwaitsPlace call v.books
+      → IsSound key words (set views me (record v { seen = seen; call = call })) log
   turns call same carries ends loads awaits =
       turns-sound key words views me v log s at (λ idle. let gone : Holding base may.after ≡ Idle = sym may.holding ∙ idle in cc)
       seen call v.sending (subst (λ old. HasSame log.groups me old call) (sym may.holding) same) (λ first c. carries first (subst (Carries words.exposed) may.holding c)) ends sees refl

@@ -26,7 +26,7 @@ use Rattle.lock_core.specs.Sums.{BaseState, IsBalanceOf, last_commit_of, total}
 use Rattle.log_table.specs.declared.view.Books.{Books}
 use Rattle.log_table.specs.Accounts.{summed, holders, takers, HasDistinctJobs, WentBack, AccountsFollowList}
 use Rattle.log_table.specs.Books.{task_of, times_held, times_taken}
-use Rattle.log_table.specs.Closing.{IsGathered, IsLedger, IsSettled, ReadsRows, records_of, history_of}
+use Rattle.log_table.specs.Closing.{HasHeardOfWorkers, IsGathered, IsLedger, IsSettled, ReadsRows, records_of, history_of}
 use Rattle.log_table.specs.Layout.{Account, index_of}
 use Rattle.log_table.proofs.Gathered.{gathered}
 use Rattle.log_table.specs.Log.{Part, Log, own, part_of, parts_of, IsSpelled, ranges_of, Laid, IsFull, IsFullIfReleased, AgreesFrom, IsRangeBoundary, IsEntryBoundary, SpellsRecord, records_in}
@@ -293,6 +293,7 @@ pub record IsClosed (key : Start) (ws : List ℕ) (tail exposed : ℕ) (v : View
   pub released : exposed ≡ tail
   pub gathered : IsGathered tail v
   pub settled : (old rows : List (ℕ × ℕ)) → length old ≡ length key.accounts.rows → ReadsRows key.ring key.slots (length old) ws old rows → IsSettled (base_of key) v rows
+  pub heard : HasHeardOfWorkers v
 
 pub at-index : (l : List ℕ) (i a : ℕ) → get_elem? l i ≡ some a → get_or l i 0 ≡ a
 at-index [] i a e = absurd (some-ne-none a (sym e))
@@ -309,4 +310,5 @@ closes key me v ws xs tail exposed final may tail-at exposed-at =
       released = sym exposed-is ∙ (all_exposed key words state.views me v log s at may ∙ tail-is);
       gathered = subst (λ n. IsGathered n v) tail-is (gathers key words state.views me v log s at may);
       settled = λ old rows same reads. settles key words state.views me v log s at may ws old rows (ap (words_in key) final.2) same reads;
+      heard = s.heard me v at me v at may.flusher;
     }

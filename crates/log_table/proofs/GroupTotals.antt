@@ -4,7 +4,6 @@ use Rattle.std.specs.List.{AllByRecursion, list_any}
 use mathlib.Core.Option.{some}
 use lib.ListN.{get_elem?}
 use Rattle.atomic_table.proofs.Lists.{at_map}
-use Rattle.log_record.specs.Spelling.{spelling}
 use Rattle.log_record.proofs.BoundLemmas.{length-spelling}
 use Rattle.log_table.specs.declared.group_view.MemberStep.{MemberStep}
 use Rattle.log_table.specs.declared.group_view.MemberStep.TheVariants.{Closes, Waits, Hears, Places, Stores, Tells, Fills, Leaves}
@@ -14,13 +13,13 @@ use Rattle.log_table.specs.declared.view.Call.{Call}
 use Rattle.log_table.specs.declared.view.Call.TheVariants.{Idle, Filling, Joined, Emptying, Marked, Holding, Raising, Reopening}
 use Rattle.log_table.specs.declared.view.Role.TheVariants.{Flusher, Active}
 use Rattle.log_table.specs.declared.view.View.{View}
-use Rattle.log_table.specs.Groups.{GroupPhase, Gathering, Piece, Member, Group}
+use Rattle.log_table.specs.Groups.{GroupPhase, Gathering, Piece, Member}
 use Rattle.log_table.specs.GroupViews.{member_books}
 use Rattle.log_table.specs.Log.{Log}
 use Rattle.log_table.specs.Members.{IsForNextRecord, AwaitsAtStep, AwaitsPlace, IsTotalOf, IsTotalOfEach}
 use Rattle.log_table.specs.Roles.{is_worker}
 use Rattle.log_table.specs.Slots.{own_pieces, pieces_at, KnowsPhase, KnowsGroup, sum_of, HasJoined}
-use Rattle.log_table.specs.Sound.{HasWorkingOwner, Knows, IsSound, base_of, books_of}
+use Rattle.log_table.specs.Sound.{Knows, IsSound, base_of, books_of}
 use Rattle.log_table.specs.Views.{nobody, books_in}
 use Rattle.log_table.specs.Words.{Words}
 use Rattle.log_table.proofs.Entering.{enters-spellable}

@@ -295,7 +295,8 @@ module _ (key : Start) (words : Words) (views : List View) (me : ℕ) (v : View)
         (sym (ap (λ call. books_in log.groups call v.books) filling))
         (subst (λ records. KeepsAccounts (base_of key) words.account (history_from key.start [] records) (map (books_of log.groups) views))
         (ap records_in last.split ∙ sym (records-mid last.before last.behind old_part part refl)) s.accounts);
-    in_group = λ slot. group-grows key.start key.ring words.tail words.tail words.durable words.durable (ranges_of log) (ranges_of after) (le_refl _) (le_refl _) still (log.groups slot) (s.in_group slot);
+    in_group = λ slot. group-grows key.start key.ring words.tail words.tail words.durable words.durable (ranges_of log) (ranges_of after)
+        (le_refl _) (le_refl _) still (log.groups slot) (s.in_group slot);
     loads = each_set (λ _ z. LoadsForGroup log.groups z.seen z.call) views me new s.loads kept.loads;
     awaits = each_set (λ _ z. AwaitsPlace z.call z.books) views me new s.awaits kept.awaits;
     totals = each_set (λ _ z. (slot : ℕ) → HasTotalOfWorkers (log.groups slot) z) views me new s.totals kept.totals;

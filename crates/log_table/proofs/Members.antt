@@ -1,5 +1,5 @@
 -- What the rule says of what members had seen, have to place and may bring, where a view, a word or a group changes.
-use Rattle.std.proofs.Common.{◌≡◌, ◌≢◌, ◌⊎◌, ℕ, ◌==◌, ◌+◌, ◌*◌, ◌/◌, ◌≤◌, ◌<◌, ◌||◌, eqb, max, cond, suc, true, false, List, [], ◌∷◌, ◌++◌, length, set, sym, refl, ap, ◌∙◌, subst, arith, eq-eqb}
+use Rattle.std.proofs.Common.{◌≡◌, ℕ, ◌+◌, ◌≤◌, ◌||◌, eqb, max, cond, suc, true, List, [], ◌++◌, length, set, sym, refl, ap, ◌∙◌, subst, arith, eq-eqb}
 use Rattle.std.specs.List.{AllByRecursion, list_any}
 use Rattle.std.proofs.lemmas.List.Folds.{list_any-append}
 use mathlib.Core.Logic.{dite}
@@ -19,10 +19,10 @@ use Rattle.log_table.specs.declared.view.Standing.{Standing}
 use Rattle.log_table.specs.declared.view.View.{View}
 use Rattle.log_table.specs.Groups.{Outcome, Granted, Refused, GroupPhase, Vacant, Gathering, Closed, Placed, Ready, Told, Emptied, Piece, Member, Group, put_group}
 use Rattle.log_table.specs.Log.{Range, Log, ranges_of, IsRangeBoundary}
-use Rattle.log_table.specs.Members.{HadSeenUpTo, WasSeen, IsTrueOutcome, HasOutcome, HasPhaseOutcome, HasSeenInGroup, LoadedSince, LoadsAtStep, LoadsForGroup, SawLast, HasSeenLast, AwaitsAtStep, AwaitsPlace, IsTotalOf, IsTotalOfEach, HasTotalAtPhase, HasTotalOfWorkers, IsRefusalOf, HeardOfWorkers}
+use Rattle.log_table.specs.Members.{HadSeenUpTo, HasOutcome, HasPhaseOutcome, HasSeenInGroup, LoadedSince, LoadsAtStep, LoadsForGroup, SawLast, HasSeenLast, AwaitsAtStep, AwaitsPlace, IsTotalOf, IsTotalOfEach, HasTotalAtPhase, HasTotalOfWorkers, IsRefusalOf, HeardOfWorkers}
 use Rattle.log_table.specs.Roles.{is_spent}
 use Rattle.log_table.specs.Slots.{led_phase, phase_led, phase_at}
-use Rattle.log_table.specs.Sound.{EachView, EachPair, HasWorkingOwner, IsSound}
+use Rattle.log_table.specs.Sound.{EachView, EachPair, IsSound}
 use Rattle.log_table.specs.Views.{seen_tail, seen_durable, seen_exposed}
 use Rattle.log_table.specs.Words.{Words}
 use Rattle.log_table.proofs.Groups.{group-here, put-keeps, known-led, known-whole}
@@ -183,9 +183,12 @@ module _ (start ring tail tail' durable durable' : ℕ) (ranges ranges' : List R
   phase-grows members Vacant o = tt
   phase-grows members (Gathering leader total) o = tt
   phase-grows members (Closed leader total) o = tt
-  phase-grows members (Placed leader total outcome) o = outcome-grows start ring tail tail' durable durable' ranges ranges' members total outcome more later still o
-  phase-grows members (Ready leader total outcome) o = outcome-grows start ring tail tail' durable durable' ranges ranges' members total outcome more later still o
-  phase-grows members (Told total outcome remaining) o = outcome-grows start ring tail tail' durable durable' ranges ranges' members total outcome more later still o
+  phase-grows members (Placed leader total outcome) o =
+      outcome-grows start ring tail tail' durable durable' ranges ranges' members total outcome more later still o
+  phase-grows members (Ready leader total outcome) o =
+      outcome-grows start ring tail tail' durable durable' ranges ranges' members total outcome more later still o
+  phase-grows members (Told total outcome remaining) o =
+      outcome-grows start ring tail tail' durable durable' ranges ranges' members total outcome more later still o
   phase-grows members (Emptied last) o = tt
 
   pub group-grows : (g : Group) → HasSeenInGroup start ring tail durable ranges g → HasSeenInGroup start ring tail' durable' ranges' g
@@ -202,7 +205,8 @@ total-more workers total members = all-weaker (λ (member : Member). IsTotalOf w
     (λ (member : Member). IsTotalOf (suc workers) member.piece.size total) members (λ member is. omega (arith, is))
 
 -- one worker more was made
-pub totals-more : (workers : ℕ) (members : List Member) (phase : GroupPhase) → HasTotalAtPhase workers members phase → HasTotalAtPhase (suc workers) members phase
+pub totals-more : (workers : ℕ) (members : List Member) (phase : GroupPhase) → HasTotalAtPhase workers members phase
+    → HasTotalAtPhase (suc workers) members phase
 totals-more workers members Vacant is = tt
 totals-more workers members (Gathering leader total) is = tt
 totals-more workers members (Closed leader total) is = total-more workers total members is
@@ -211,7 +215,8 @@ totals-more workers members (Ready leader total outcome) is = total-more workers
 totals-more workers members (Told total outcome remaining) is = total-more workers total members is
 totals-more workers members (Emptied last) is = tt
 
-pub refusals-more : (workers : ℕ) (refusals : List HeardRefusal) → AllByRecursion (IsRefusalOf workers) refusals → AllByRecursion (IsRefusalOf (suc workers)) refusals
+pub refusals-more : (workers : ℕ) (refusals : List HeardRefusal) → AllByRecursion (IsRefusalOf workers) refusals
+    → AllByRecursion (IsRefusalOf (suc workers)) refusals
 refusals-more workers refusals = all-weaker (IsRefusalOf workers) (IsRefusalOf (suc workers)) refusals (λ refusal is. omega (arith, is))
 
 -- ---- refusals that seats heard

@@ -76,7 +76,8 @@ pub record Joins (most base total n seat : ℕ) (members : List Member) (member 
   pub others : (j : ℕ) → j ≢ seat → led_phase j (phase_joined seat n p) ≡ led_phase j p
   pub entry : (piece : Piece) → member_entry (phase_joined seat n p) piece (step_joining total) ≡ []
   pub books : (piece : Piece) (books : Books) → member_books (phase_joined seat n p) piece (step_joining total) books ≡ books
-  pub outcome : (start ring tail durable : ℕ) (ranges : List Range) → HasPhaseOutcome start ring tail durable ranges (members ++ member ∷ []) (phase_joined seat n p)
+  pub outcome : (start ring tail durable : ℕ) (ranges : List Range)
+      → HasPhaseOutcome start ring tail durable ranges (members ++ member ∷ []) (phase_joined seat n p)
   pub totals : (workers : ℕ) → HasTotalAtPhase workers (members ++ member ∷ []) (phase_joined seat n p)
   pub unclosed : (leader units : ℕ) → p ≡ Closed leader units → ⊥
 

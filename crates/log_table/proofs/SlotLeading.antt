@@ -1,5 +1,5 @@
 -- A leader makes its group's next step, and the group comes to its next phase.
-use Rattle.std.proofs.Common.{◌≡◌, ◌≢◌, ℕ, ◌/◌, ◌<◌, cond, Bool, true, false, List, [], ◌∷◌, set, sym, refl, ap, ◌∙◌, subst}
+use Rattle.std.proofs.Common.{◌≡◌, ◌≢◌, ℕ, ◌/◌, ◌<◌, false, List, [], ◌∷◌, set, sym, refl, ap, ◌∙◌, subst}
 use mathlib.Core.Option.{some}
 use lib.ListN.{get_elem?}
 use Rattle.slot_core.specs.State.{SlotState, membership, task_of}
@@ -13,11 +13,11 @@ use Rattle.log_table.specs.declared.view.Role.TheVariants.{Flusher, Fresh, Activ
 use Rattle.log_table.specs.declared.view.Seen.{Seen}
 use Rattle.log_table.specs.declared.view.View.{View}
 use Rattle.log_table.specs.Events.{One, slots_of, Leads}
-use Rattle.log_table.specs.Groups.{GroupPhase, Vacant, Gathering, Closed, Placed, Ready, Told, Emptied, Piece, Group, put_group}
+use Rattle.log_table.specs.Groups.{GroupPhase, Piece, Group, put_group}
 use Rattle.log_table.specs.GroupViews.{member_entry, member_books, stage_of}
 use Rattle.log_table.specs.Log.{Log, ranges_of}
 use Rattle.log_table.specs.Roles.{is_active}
-use Rattle.log_table.specs.Slots.{is_led_by, known_phase, led_phase, phase_led, phase_at, KnowsPhase, range_of, IsAtPhase}
+use Rattle.log_table.specs.Slots.{known_phase, led_phase, phase_led, phase_at, KnowsPhase, range_of, IsAtPhase}
 use Rattle.log_table.specs.Sound.{HasSeenBoundaries, HasWorkingOwner, IsSound}
 use Rattle.log_table.specs.Words.{Words}
 use Rattle.log_table.proofs.Groups.{Keeps, Others, SameUnheard, IsUntold, keeps, knows-untold}

@@ -193,7 +193,8 @@ module _ (key : Start) (words : Words) (views : List View) (me : ℕ) (v : View)
         (quiet-moves views me v new s.quiet at (λ _ _ _ h. h) (λ _ h. h)) (s.looked me v at) (s.unheld me v at)
         (accounts-stay key words.account log.parts log.groups views me v new at (same.books v.books) s.accounts)
         (keeps-view key words views me v log s at new refl keeps
-        (call-seeing_keeps (LoadsForGroup log.groups new.seen) slot word (λ _ _ _ _ loads. loads) v.call (loads-stay key words views me v log s at new.seen keeps))
+        (call-seeing_keeps (LoadsForGroup log.groups new.seen) slot word (λ _ _ _ _ loads. loads) v.call
+        (loads-stay key words views me v log s at new.seen keeps))
         (call-seeing_keeps (λ call. AwaitsPlace call v.books) slot word (λ _ _ _ _ awaits. awaits) v.call (s.awaits me v at)));
     shows = λ i. record (slots_of key words views log) { hands = hands_of-set_same 0 me views v new at (task-seeing slot word v.call) i };
   }

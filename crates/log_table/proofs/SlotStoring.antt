@@ -220,8 +220,8 @@ module _ (key : Start) (words : Words) (views : List View) (me : ℕ) (v : View)
         }
 
     refusal-kept : KeepsMembers key words views v log slot g (counted v.seen) (Joined slot may.piece (Tells may.total outcome)) v.books
-    refusal-kept = members-stay key words views me v log s at role slot may.piece (Tells may.total outcome) (Ready me may.total outcome) (counted v.seen) v.books
-        (steps-on log.groups v.seen (counted v.seen) refl refl refl refl refl refl refl) refusal-outcome tt
+    refusal-kept = members-stay key words views me v log s at role slot may.piece (Tells may.total outcome) (Ready me may.total outcome)
+        (counted v.seen) v.books (steps-on log.groups v.seen (counted v.seen) refl refl refl refl refl refl refl) refusal-outcome tt
         (subst (λ call. AwaitsPlace call v.books) may.places (s.awaits me v at))
         (totals-stay key words views me v log s at role slot (Closed me may.total) (Ready me may.total outcome) was (λ _ is. is))
 

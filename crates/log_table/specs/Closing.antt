@@ -17,6 +17,7 @@ use Rattle.lock_core.specs.Sums.{BaseState}
 use Rattle.log_table.specs.Accounts.{WentBack}
 use Rattle.log_table.specs.Books.{task_of, times_taken}
 use Rattle.log_table.specs.Layout.{Account, index_of}
+use Rattle.log_table.specs.Members.{IsRefusalOf}
 
 -- The entries are the whole log from the start to this LSN, without gap or overlap, and each is filled. Each LSN that a seat saw lies
 -- between two of them. What was sent to the disk, and then what was read for it, are the log's first units, and all of it where the
@@ -54,6 +55,11 @@ pub record IsSettled (base : BaseState) (view : View) (rows : List (ℕ × ℕ))
       → IsLedger base (history_of base view.entries) (map task_of view.books.jobs) rows
   pub given : ((number : ℕ) → times_taken number view.books.jobs ≤ 1)
       → AllByRecursion (WentBack base (history_of base view.entries)) view.books.given
+
+-- Of each group's refusal that a gathered seat heard, the total is at most the units of the seat's own record and 26 for each further
+-- worker that was made; so where one worker was made, it is no more than these units.
+abbrev pub HasHeardOfWorkers : View → Type 0
+HasHeardOfWorkers view = AllByRecursion (IsRefusalOf (length view.standing.made)) view.seen.refusals
 
 -- the rows of the first n accounts have the balances and the last commits of their words, in a table with such a ring and so many slots
 pub record ReadsRows (ring slots n : ℕ) (words : List ℕ) (old new : List (ℕ × ℕ)) : Type 0 where

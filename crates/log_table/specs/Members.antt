@@ -98,8 +98,8 @@ LoadsForGroup groups seen (Holding at after) = Unit {0}
 LoadsForGroup groups seen (Raising from to after) = Unit {0}
 LoadsForGroup groups seen (Reopening slot) = Unit {0}
 
--- Tail and durable, as the seat saw them last, are among the LSNs that it saw, and it saw neither of them at a step that it has not made. So
--- nothing counts as loaded since a step that the seat makes now.
+-- Tail and durable, as the seat saw them last, are among the LSNs that it saw, and it saw neither of them at a step that it has not made.
+-- So nothing counts as loaded since a step that the seat makes now.
 pub record SawLast (seen : Seen) : Type 0 where
   pub tail_among : list_any (eqb seen.tail) seen.lsns ≡ true
   pub durable_among : list_any (eqb seen.durable) seen.lsns ≡ true

@@ -3,7 +3,7 @@ ghost use Rattle.std.specs.Prelude.{◌≡◌, ◌<◌, ◌≤◌, length};
 ghost use Rattle.lsn_space.specs.declared.lsn.TheConstants.{GREATEST_RING};
 ghost use Rattle.log_record.specs.declared.limits.TheConstants.{MOST_ACCOUNTS};
 ghost use Rattle.lock_core.specs.Settling.{row};
-ghost use Rattle.log_table.specs.Closing.{IsGathered, IsSettled, ReadsRows};
+ghost use Rattle.log_table.specs.Closing.{HasHeardOfWorkers, IsGathered, IsSettled, ReadsRows};
 ghost use Rattle.log_table.specs.May.{MayClose};
 ghost use Rattle.log_table.specs.Seats.{IsOf, view_of, key_of};
 ghost use Rattle.log_table.specs.Sound.{base_of};
@@ -84,13 +84,15 @@ fn read_rows(rows: &mut Balances, closed: &atomic_table::Closed<(), Global>, rin
 impl LogTable {
     /// Ends the table: the entries gathered in the flusher's seat are the whole log, and all of it is
     /// released. Where no job number stands twice, the log is lawful, the jobs are run whole or cut
-    /// short, and the accounts are the log's.
+    /// short, and the accounts are the log's. A group that was refused had no greater total than the workers
+    /// that were made can bring.
     pub fn close(self, seat: Seat) -> Closed
         requires seat { IsOf self seat }
         requires may { MayClose (view_of seat) }
         ensures gathered { IsGathered result.tail (view_of seat) }
         ensures released { result.exposed ≡ result.tail }
         ensures settled { IsSettled (base_of (key_of self)) (view_of seat) result.accounts.rows }
+        ensures heard { HasHeardOfWorkers (view_of seat) }
     {
         let LogTable {
             table,

@@ -27,3 +27,7 @@ returns-clause-settled c = let is : IsClosed _ _ c.word-tail.result c.word-expos
     (subst (λ (p : ℕ × ℕ). ReadsRows p.0 p.1 (length c.args.self.rows.rows) (slots_items c.close_with-closed.result.words) c.args.self.rows.rows
     c.read_rows.new.rows.rows)
     (λ i. (sym c.args.self.keyed i, sym c.args.self.slotted i)) c.read_rows.ensures.rows)
+
+pub returns-clause-heard : goal.returns-clause-heard
+returns-clause-heard c = let is : IsClosed _ _ c.word-tail.result c.word-exposed.result (view_of c.args.seat) =
+    closes _ _ _ _ _ _ _ c.close_with-closed.ensures.values.2 c.requires.may c.word-tail.ensures c.word-exposed.ensures in is.heard
