@@ -1,27 +1,29 @@
 -- Each kind of step is one that the base crate allows.
-use Rattle.std.proofs.Common.{◌≡◌, ◌≢◌, ◌==◌, cond, ℕ, ◌+◌, ◌-◌, ◌*◌, ◌%◌, ◌^◌, ◌≤◌, ◌<◌, eqb, length, subst, sym, ap, ◌∙◌}
+use Rattle.std.proofs.Common.{◌≡◌, ◌≢◌, ⊎_elim, ◌==◌, cond, ℕ, ◌+◌, ◌-◌, ◌*◌, ◌%◌, ◌^◌, ◌≤◌, ◌<◌, eqb, length, subst, sym, ap, ◌∙◌}
 use prog.Atomic.{either}
 use Rattle.atomic_table.specs.Table.{Me, Allows}
 use Rattle.lsn_space.specs.declared.lsn.TheConstants.{LAST}
-use Rattle.log_table.specs.Events.{fills, flushes, look_event, looks_mark, marks, none, raises}
+use Rattle.log_table.specs.Events.{fills, flushes, look_event, looks_mark, marks, none, raises, reserves, places, Event, IsStep}
 use Rattle.log_table.specs.declared.layout.TheConstants.{STRIDE, TAIL, EXPOSED, DURABLE, STOP, CREW, RING}
 use Rattle.log_table.specs.declared.table.Start.{Start}
 use Rattle.log_table.specs.declared.view.Role.TheVariants.{Flusher, Fresh}
 use Rattle.log_table.specs.declared.view.View.{View}
 use Rattle.log_table.specs.Layout.{Tail, Exposed, Durable, Stop, Crew, Ring, Mark, Account}
-use Rattle.log_table.specs.May.{IsOwnWord, MayLeave, MayReserve, MayFill, MayMark, MayLookMark, MayRaise, MayRead, MaySend, MayStop, MayTakeJob, MayTake, MayGiveBack}
+use Rattle.log_table.specs.May.{IsOwnWord, MayLeave, MayReserve, MayPlaceGroup, MayExchangeTail, MayFill, MayMark, MayLookMark, MayRaise, MayRead, MaySend, MayStop, MayTakeJob, MayTake, MayGiveBack}
 use Rattle.slot_word.specs.declared.account_word.AccountWord.{AccountWord}
 use Rattle.slot_word.specs.AccountWord.{word_of}
 use Rattle.lock_core.specs.declared.job.Job.{Job}
 use Rattle.log_table.specs.Sends.{IsExposedToFlusher, IsDurableToFlusher, ReadsWholeEntries}
 use Rattle.log_table.specs.Sound.{HasReadStop, Ruled}
-use Rattle.log_table.specs.Views.{saw_tail, saw_exposed, saw_durable, after_exchange, filled, has_read, has_sent, has_stopped, saw_stop, saw_crew}
+use Rattle.log_table.specs.Views.{saw_tail, saw_exposed, saw_durable, filled, has_read, has_sent, has_stopped, saw_stop, saw_crew}
+use Rattle.log_table.specs.SlotViews.{after_exchange}
 use Rattle.log_table.specs.MarkViews.{marked, saw_mark, after_raise}
 use Rattle.log_table.specs.AccountViews.{took_job, saw_account, after_account, gave_account}
 use Rattle.log_table.specs.CrewViews.{enrolled, retired}
 use Rattle.log_table.proofs.Crewing.{enroll-adds, leave-subtracts}
 use Rattle.log_table.proofs.Exposing.{exposed-looks, look-step, mark-tells}
 use Rattle.log_table.proofs.Filling.{fill-step}
+use Rattle.log_table.proofs.LeaderPlacing.{place-exchange}
 use Rattle.log_table.proofs.Lifting.{allowed-if_step}
 use Rattle.log_table.proofs.Looking.{tail-looks, durable-looks, stop-looks, stop-keeps, tail-tells, exposed-tells, durable-tells}
 use Rattle.log_table.proofs.Flushing.{send-step}
@@ -29,7 +31,7 @@ use Rattle.log_table.proofs.Reading.{read-step, read-tells}
 use Rattle.log_table.proofs.Marking.{mark-step}
 use Rattle.log_table.proofs.Raising.{raise-step, raise-tells}
 use Rattle.log_table.proofs.Stopping.{stop-stays, stop-tells, stop-step, crew-looks}
-use Rattle.log_table.proofs.Reserving.{exchange-step, exchange-event}
+use Rattle.log_table.proofs.Reserving.{reserve-exchange}
 use Rattle.log_table.proofs.Wording.{Fits, shared_tail, shared_exposed, shared_durable, shared_stop, shared_crew, in_ring, in_marks, of_account}
 use Rattle.log_table.proofs.Owing.{FitsWord, job-step, account-looks, account-tells, account-step, give-step}
 
@@ -51,13 +53,19 @@ module _ (key : Start) (slots seat : ℕ) (me : Me (Unit {0}) View) where
       allowed-if_step key slots seat me Durable shared_durable (λ n. n) (λ n. saw_durable n me.0) (λ _. none)
       (λ n. (me.0.seen.durable ≤ n) × (n ≤ LAST) × IsDurableToFlusher me.0 n) (durable-tells key seat me.0) (λ n _. durable-looks key seat me.0 n)
 
-  pub exchange_tail-allowed : (from to : ℕ) → MayReserve from to me.0
+  pub exchange_tail-allowed : (from to : ℕ) → MayExchangeTail from to me.0
       → Allows (Ruled key) slots seat me TAIL (λ n. either (eqb n from) to n)
       (λ n new. (new ≡ (after_exchange from to n me.0, me.1)) × ((me.0.seen.tail ≤ n) × (n ≤ LAST)))
-  exchange_tail-allowed from to may =
-      allowed-if_step key slots seat me Tail shared_tail (λ n. either (eqb n from) to n) (λ n. after_exchange from to n me.0)
-      (exchange-event seat from to) (λ n. (me.0.seen.tail ≤ n) × (n ≤ LAST)) (tail-tells key seat me.0)
-      (λ n _. exchange-step key seat me.0 from to may n)
+  exchange_tail-allowed from to may = ⊎_elim
+      (λ (alone : MayReserve from to me.0). by (λ n. cond (n == from) (reserves seat (to - from)) none) (reserve-exchange key seat me.0 from to alone))
+      (λ (group : MayPlaceGroup from to me.0).
+      by (λ n. cond (n == from) (places seat from me.0.seen.durable) none) (place-exchange key seat me.0 from to group)) may
+    where
+      by : (event : ℕ → Event) → ((n : ℕ) → IsStep key seat Tail n (either (eqb n from) to n) me.0 (after_exchange from to n me.0) (event n))
+          → Allows (Ruled key) slots seat me TAIL (λ n. either (eqb n from) to n)
+          (λ n new. (new ≡ (after_exchange from to n me.0, me.1)) × ((me.0.seen.tail ≤ n) × (n ≤ LAST)))
+      by event step = allowed-if_step key slots seat me Tail shared_tail (λ n. either (eqb n from) to n) (λ n. after_exchange from to n me.0)
+          event (λ n. (me.0.seen.tail ≤ n) × (n ≤ LAST)) (tail-tells key seat me.0) (λ n _. step n)
 
   pub enroll-allowed : me.0.standing.role ≡ Fresh
       → Allows (Ruled key) slots seat me CREW (λ n. (n + 1) % 2 ^ 64) (λ n new. (new ≡ (enrolled me.0, me.1)) × Unit {0})

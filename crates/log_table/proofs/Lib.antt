@@ -14,11 +14,14 @@ mod Flushing
 mod Gathered
 mod Gathering
 mod Giving
+mod GroupEntering
+mod GroupPlacing
 mod Groups
 mod GroupTotals
 mod Growing
 pub mod Hired
 mod Keeping
+mod LeaderPlacing
 mod Lifting
 mod Lists
 mod Looking
@@ -57,6 +60,7 @@ mod Slotting
 mod Splitting
 mod Starting
 mod Stopping
+mod TailMoving
 mod Taking
 mod TrueMarks
 mod Viewing

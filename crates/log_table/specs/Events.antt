@@ -106,6 +106,10 @@ joins seat slot n = One (Join seat slot n)
 abbrev pub closes : ℕ → Event
 closes seat = One (Close seat)
 
+-- the seat reserves the range of the group that it leads, by this tail and this durable
+abbrev pub places : ℕ → ℕ → ℕ → Event
+places seat tail durable = One (Place seat tail durable)
+
 -- the seat stores where the range of its group begins
 abbrev pub stores_base : ℕ → Event
 stores_base seat = One (PutBase seat)

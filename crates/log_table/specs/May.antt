@@ -95,6 +95,26 @@ pub record MayReserve (from to : ℕ) (view : View) : Type 0 where
   pub within_log : to ≤ LAST
   pub within_ring : to ≤ view.seen.durable + view.constants.ring
 
+-- The leader of a group has loaded tail and durable since it closed the group. The tail may be exchanged for the units of the group: by what
+-- was loaded there is room.
+pub record MayPlaceGroup (from to : ℕ) (view : View) : Type 0 where
+  pub slot : ℕ
+  pub piece : Piece
+  pub total : ℕ
+  pub closed : ℕ
+  pub there : slot < view.constants.slots
+  pub places : view.call ≡ Joined slot piece (Places total closed)
+  pub tail_loaded : closed < view.seen.tail_step
+  pub durable_loaded : closed < view.seen.durable_step
+  pub tail : view.seen.tail ≡ from
+  pub size : to ≡ from + total
+  pub within_log : to ≤ LAST
+  pub within_ring : to ≤ view.seen.durable + view.constants.ring
+
+-- the tail may be exchanged, for the seat's next record or for the group that the seat leads
+abbrev pub MayExchangeTail : ℕ → ℕ → View → Type 0
+MayExchangeTail from to view = MayReserve from to view ⊎ MayPlaceGroup from to view
+
 -- the unit at this LSN is the next to be filled, and this is the record's
 pub record MayFill (at unit : ℕ) (view : View) : Type 0 where
   pub entry : Entry

@@ -12,7 +12,7 @@ use Rattle.log_table.specs.declared.view.Call.TheVariants.{Idle, Filling, Joined
 use Rattle.log_table.specs.declared.view.Seen.{Seen}
 use Rattle.log_table.specs.declared.view.View.{View}
 use Rattle.log_table.specs.Groups.{Granted, Refused}
-use Rattle.log_table.specs.Views.{counted}
+use Rattle.log_table.specs.Views.{counted, saw_tail, seen_tail, reserved}
 
 -- the slot's state was seen
 abbrev pub seen_slot : ℕ → ℕ → Seen → Seen
@@ -120,6 +120,46 @@ pub record IsGatheringWord (most word : ℕ) : Type 0 where
   pub gathers : phase_in word ≡ kind.Gathering
   pub some_units : 1 ≤ total_in word
   pub few : total_in word ≤ most
+
+-- the step of a leader that has reserved the range of its group, which begins there
+abbrev pub step_reserved : ℕ → MemberStep → MemberStep
+step_reserved base Closes = Closes
+step_reserved base Waits = Waits
+step_reserved base (Hears refused total) = Hears refused total
+step_reserved base (Places total closed) = Stores total base
+step_reserved base (Stores total old) = Stores total old
+step_reserved base (Tells total outcome) = Tells total outcome
+step_reserved base (Fills old units) = Fills old units
+step_reserved base (Leaves tail durable) = Leaves tail durable
+
+abbrev pub call_reserved : ℕ → Call → Call
+call_reserved base Idle = Idle
+call_reserved base (Filling entry) = Filling entry
+call_reserved base (Joined slot piece step) = Joined slot piece (step_reserved base step)
+call_reserved base (Emptying slot old total) = Emptying slot old total
+call_reserved base (Marked after) = Marked after
+call_reserved base (Holding at after) = Holding at after
+call_reserved base (Raising from to after) = Raising from to after
+call_reserved base (Reopening slot) = Reopening slot
+
+-- after an exchange of the tail that a leader made for its group; the new tail counts as seen
+abbrev pub reserved_group : ℕ → ℕ → View → View
+reserved_group from to view = record view { seen = seen_tail to view.seen; call = call_reserved from view.call }
+
+-- after an exchange of the tail that was made: by a member for its group, else for the seat's next record
+abbrev pub exchanged : ℕ → ℕ → View → Call → View
+exchanged from to view Idle = reserved from to view
+exchanged from to view (Filling entry) = reserved from to view
+exchanged from to view (Joined slot piece step) = reserved_group from to view
+exchanged from to view (Emptying slot base total) = reserved from to view
+exchanged from to view (Marked after) = reserved from to view
+exchanged from to view (Holding at after) = reserved from to view
+exchanged from to view (Raising old end after) = reserved from to view
+exchanged from to view (Reopening slot) = reserved from to view
+
+-- after an exchange of the tail that found n
+abbrev pub after_exchange : ℕ → ℕ → ℕ → View → View
+after_exchange from to n view = if n == from then exchanged from to view view.call else saw_tail n view
 
 -- the step of a leader that has stored the base of its group; one that has only closed the group refuses it by this tail and this durable
 abbrev pub step_stored : ℕ → ℕ → MemberStep → MemberStep

@@ -1,6 +1,6 @@
 -- The view of a new seat, and how each kind of step on the log's words changes the view of its seat. `AccountViews` has the steps on jobs
 -- and accounts, `CrewViews` those of a worker's life, and `MarkViews` those that release and expose.
-use Rattle.std.specs.Prelude.{◌==◌, ◌&&◌, ℕ, ◌+◌, ◌-◌, if◌then◌else◌, Bool, true, false, List, [], ◌∷◌, ◌++◌, length}
+use Rattle.std.specs.Prelude.{◌==◌, ◌&&◌, ℕ, ◌+◌, ◌-◌, Bool, true, false, List, [], ◌∷◌, ◌++◌, length}
 use Rattle.std.specs.List.{list_all, list_any}
 use lib.Dec.{eqb}
 use Rattle.log_table.specs.declared.table.Start.{Start}
@@ -217,10 +217,6 @@ reserved from to view = record view {
   call = Filling (empty_entry from (to - from) (next_of view.books));
   books = placing to (next_of view.books) view.books;
 }
-
--- after an exchange of the tail that found n
-abbrev pub after_exchange : ℕ → ℕ → ℕ → View → View
-after_exchange from to n view = if n == from then reserved from to view else saw_tail n view
 
 -- the call with one more unit filled
 abbrev pub call_with_unit : ℕ → Call → Call

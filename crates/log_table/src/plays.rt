@@ -41,7 +41,7 @@ pub(crate) struct ExchangeTail;
 impl Play<(), View> for ExchangeTail {
     ghost use Rattle.std.specs.Prelude.{◌≡◌, ◌≤◌};
     ghost use Rattle.lsn_space.specs.declared.lsn.TheConstants.{LAST};
-    ghost use Rattle.log_table.specs.Views.{after_exchange};
+    ghost use Rattle.log_table.specs.SlotViews.{after_exchange};
 
     ghost then = { λ st old n new. (new ≡ (after_exchange st.first st.second n old.0, old.1)) × ((old.0.seen.tail ≤ n) × (n ≤ LAST)) };
 }

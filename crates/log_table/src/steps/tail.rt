@@ -1,9 +1,10 @@
 //! The tail: the end of the last reservation.
 ghost use Rattle.std.specs.Prelude.{◌≡◌, ◌-◌, ◌≤◌, ◌<◌, OnOk, IfErr};
-ghost use Rattle.log_table.specs.Events.{IsStep, reserves, none};
+ghost use Rattle.log_table.specs.Events.{IsStep, places, reserves, none};
 ghost use Rattle.log_table.specs.Layout.{Tail};
-ghost use Rattle.log_table.specs.May.{MayReserve};
+ghost use Rattle.log_table.specs.May.{MayReserve, MayPlaceGroup, MayExchangeTail};
 ghost use Rattle.log_table.specs.Seats.{IsOf, Becomes, view_of, number_of, key_of};
+ghost use Rattle.log_table.specs.SlotViews.{reserved_group};
 ghost use Rattle.log_table.specs.Views.{saw_tail, reserved};
 
 use crate::layout::TAIL;
@@ -21,13 +22,15 @@ impl LogTable {
         Lsn::new(self.table.shared.load::<LoadTail>(&mut seat.base, TAIL) as u32)
     }
 
-    /// Reserves the units from one LSN to another for the next record of the seat's last job, where the
-    /// tail is still at the first; an Err holds the tail found.
+    /// Reserves the units from one LSN to another where the tail is still at the first: for the next record of
+    /// the seat's last job, or for the group that the seat leads. An Err holds the tail found.
     pub fn exchange_tail(&self, seat: &mut Seat, from: Lsn, to: Lsn) -> Result<(), Lsn>
         requires seat { IsOf self.now seat.old }
-        requires next { MayReserve from to (view_of seat.old) }
-        ensures ok { OnOk result (Becomes seat.old seat.new (reserved from to (view_of seat.old))) }
-        ensures ok_event { OnOk result (IsStep (key_of self.now) (number_of seat.old) Tail from to (view_of seat.old) (reserved from to (view_of seat.old)) (reserves (number_of seat.old) (to - from))) }
+        requires next { MayExchangeTail from to (view_of seat.old) }
+        ensures ok { MayReserve from to (view_of seat.old) → OnOk result (Becomes seat.old seat.new (reserved from to (view_of seat.old))) }
+        ensures ok_event { MayReserve from to (view_of seat.old) → OnOk result (IsStep (key_of self.now) (number_of seat.old) Tail from to (view_of seat.old) (reserved from to (view_of seat.old)) (reserves (number_of seat.old) (to - from))) }
+        ensures group { MayPlaceGroup from to (view_of seat.old) → OnOk result (Becomes seat.old seat.new (reserved_group from to (view_of seat.old))) }
+        ensures group_event { MayPlaceGroup from to (view_of seat.old) → OnOk result (IsStep (key_of self.now) (number_of seat.old) Tail from to (view_of seat.old) (reserved_group from to (view_of seat.old)) (places (number_of seat.old) from (view_of seat.old).seen.durable)) }
         ensures err { IfErr result (λ found. (from < found) × Becomes seat.old seat.new (saw_tail found (view_of seat.old))) }
         ensures err_event { IfErr result (λ found. IsStep (key_of self.now) (number_of seat.old) Tail found found (view_of seat.old) (saw_tail found (view_of seat.old)) none) }
     {
