@@ -22,8 +22,8 @@ use Rattle.log_table.specs.AccountViews.{took_job, saw_account, after_account, g
 use Rattle.log_table.specs.CrewViews.{enrolled, retired}
 use Rattle.log_table.proofs.Crewing.{enroll-adds, leave-subtracts}
 use Rattle.log_table.proofs.Exposing.{exposed-looks, look-step, mark-tells}
-use Rattle.log_table.proofs.Filling.{fill-step}
 use Rattle.log_table.proofs.LeaderPlacing.{place-exchange}
+use Rattle.log_table.proofs.PieceFilling.{fill-step}
 use Rattle.log_table.proofs.Lifting.{allowed-if_step}
 use Rattle.log_table.proofs.Looking.{tail-looks, durable-looks, stop-looks, stop-keeps, tail-tells, exposed-tells, durable-tells}
 use Rattle.log_table.proofs.Flushing.{send-step}
@@ -78,11 +78,11 @@ module _ (key : Start) (slots seat : ℕ) (me : Me (Unit {0}) View) where
   leave-allowed may = allowed-if_step key slots seat me Crew shared_crew (λ n. (n + (2 ^ 64 - 1)) % 2 ^ 64) (λ _. retired me.0) (λ _. none)
       (λ _. Unit {0}) (λ _ _ _ _ _. tt) (λ n _. leave-subtracts key seat me.0 may n)
 
-  pub store_ring-allowed : (at ring unit : ℕ) → key.ring ≡ ring → at % ring < ring → MayFill at unit me.0
+  pub store_ring-allowed : (at ring number unit : ℕ) → key.ring ≡ ring → key.slots ≡ number → at % ring < ring → MayFill number at unit me.0
       → Allows (Ruled key) slots seat me (RING + at % ring) (λ _. unit) (λ _ new. (new ≡ (filled unit me.0, me.1)) × Unit {0})
-  store_ring-allowed at ring unit same below may =
+  store_ring-allowed at ring number unit same slotted below may =
       allowed-if_step key slots seat me (Ring (at % ring)) (in_ring (at % ring) (subst (λ r. at % ring < r) (sym same) below)) (λ _. unit)
-      (λ _. filled unit me.0) (λ _. fills seat) (λ _. Unit {0}) (λ _ _ _ _ _. tt) (λ n _. fill-step key seat me.0 at ring unit same may n)
+      (λ _. filled unit me.0) (λ _. fills seat) (λ _. Unit {0}) (λ _ _ _ _ _. tt) (λ n _. fill-step key seat me.0 at ring number unit same slotted may n)
 
   pub exchange_exposed-allowed : (from to : ℕ) → MayRaise from to me.0
       → Allows (Ruled key) slots seat me EXPOSED (λ n. either (eqb n from) to n)

@@ -1,5 +1,5 @@
 -- The store of a unit into the ring: the machine's Fill.
-use Rattle.std.proofs.Common.{◌≡◌, ◌≢◌, ◌⊎◌, inl, inr, ⊎_elim, ℕ, ◌+◌, ◌/◌, ◌%◌, ◌<◌, ◌≤◌, cond, true, false, true≢false, List, [], ◌∷◌, ◌++◌, length, map, get_or, set, Some, None, sym, refl, ap, ◌∙◌, subst, arith, length-append, append-nil, append_assoc, slice_index, eq-eqb, ne_eqb}
+use Rattle.std.proofs.Common.{◌≡◌, ◌≢◌, ◌⊎◌, inl, inr, ⊎_elim, ℕ, ◌+◌, ◌/◌, ◌%◌, ◌<◌, ◌≤◌, cond, Bool, true, false, true≢false, List, [], ◌∷◌, ◌++◌, length, map, get_or, set, Some, None, sym, refl, ap, ◌∙◌, subst, arith, length-append, append-nil, append_assoc, slice_index, eq-eqb, ne_eqb}
 use Rattle.std.specs.List.{AllByRecursion, find}
 use Rattle.std.specs.Option.{IsSomeAnd}
 use Rattle.std.proofs.Math.Seq.{get_or-append_seam}
@@ -13,20 +13,24 @@ use Rattle.ring_core.specs.RingLog.{HasUnfilled, is_at, filled_at}
 use Rattle.slot_core.specs.State.{InRing, Works, SlotState, task_of}
 use Rattle.slot_core.specs.Machine.{MayFill as MayFillNow, after_fill}
 use Rattle.log_table.specs.declared.table.Start.{Start}
+use Rattle.log_table.specs.declared.view.Books.{Books}
+use Rattle.log_table.specs.declared.view.Call.{Call}
 use Rattle.log_table.specs.declared.view.Call.TheVariants.{Idle, Filling}
 use Rattle.log_table.specs.declared.view.Entry.{Entry}
+use Rattle.log_table.specs.declared.view.Seen.{Seen}
 use Rattle.log_table.specs.declared.view.View.{View}
 use Rattle.log_table.specs.Events.{reservation_of, task_in, hands_of, slots_of, Leads, IsStep, fills}
 use Rattle.log_table.specs.Layout.{Ring}
 use Rattle.log_table.specs.Log.{Part, Range, Claim, Log, Tiles, ranges_of, own, owes, claim_of, part_of, parts_of, unreleased_in, inside, filled_inside, filled_in, is_released, SpellsRecord, records_in, StandsInRing, IsFullIfReleased, IsReleasedBelow, CountsRemaining, AgreesFrom, EndsWithPart, Laid}
 use Rattle.log_table.specs.Marks.{Carries, HasTrueEnds}
-use Rattle.log_table.specs.May.{MayFill}
+use Rattle.log_table.specs.May.{MayFillRun}
 use Rattle.log_table.specs.Members.{LoadsForGroup, AwaitsPlace, HasTotalOfWorkers, HasSeenLast}
 use Rattle.log_table.specs.Sound.{HasSeenBoundaries, SendsIfFlusher, StoresStop, HasReadStop, LookedIfQuiet, HasWorkingOwner, HasConstants, RestsUnlessActive, OwnsIfWorker, HoldsIfActive, IsSound, base_of, books_of}
 use Rattle.log_record.specs.Spelling.{spelling}
 use Rattle.lock_core.specs.History.{history_from}
 use Rattle.log_table.specs.Accounts.{KeepsAccounts}
-use Rattle.log_table.specs.Slots.{pieces_at, phase_at}
+use Rattle.log_table.specs.Groups.{Group}
+use Rattle.log_table.specs.Slots.{pieces_at, phase_at, KnowsGroup}
 use Rattle.log_table.specs.Views.{entries_in, books_in, claims_in, with_unit, counted, filled}
 use Rattle.log_table.specs.Words.{Words, put}
 use Rattle.log_table.proofs.Boundaries.{part_size, boundary-mid}
@@ -71,6 +75,12 @@ spells-more seat entry unit old unfilled unit-is = by_rest old.rest old.units
           units = append_assoc entry.units (unit ∷ []) rest ∙ (ap (λ u. entry.units ++ u ∷ rest) (sym same) ∙ is);
         }
 
+-- a range ahead stands in the whole list behind those before it, and those that are exposed
+pub ranges-split : (log : Log) (before behind : List Range) (r : Range) → log.ahead ≡ before ++ r ∷ behind
+    → ranges_of log ≡ (log.flushed ++ (log.exposed ++ before)) ++ r ∷ behind
+ranges-split log before behind r is =
+    ap (λ l. log.flushed ++ (log.exposed ++ l)) is ∙ last-in_two log.flushed log.exposed before (r ∷ behind)
+
 -- the range that the seat has to release, and what stands around it
 abbrev pub run_of : Entry → Claim
 run_of entry = record { base = entry.start; size = entry.size; remaining = entry.size }
@@ -89,8 +99,7 @@ module _ (key : Start) (words : Words) (views : List View) (me : ℕ) (v : View)
       ((seat_at (HasWorkingOwner log.groups log.parts log.ahead) views me v at s.owners).owes ∙ ap claims_in filling)
 
   pub all-ranges : ranges_of log ≡ range-front me entry log held-range ++ held-range.here ∷ held-range.behind
-  all-ranges = ap (λ l. log.flushed ++ (log.exposed ++ l)) held-range.split
-      ∙ last-in_two log.flushed log.exposed held-range.before (held-range.here ∷ held-range.behind)
+  all-ranges = ranges-split log held-range.before held-range.behind held-range.here held-range.split
 
   pub tiles-held : Tiles (key.ring / 4) key.start (range-front me entry log held-range ++ held-range.here ∷ held-range.behind) words.tail
   tiles-held = subst (λ l. Tiles (key.ring / 4) key.start l words.tail) all-ranges (all-tile _ _ _ _ _ log s.contiguous)
@@ -107,8 +116,23 @@ module _ (key : Start) (words : Words) (views : List View) (me : ℕ) (v : View)
   found-held = ap (λ (p : ℕ × List Range). find (is_at p.0) (map (reservation_of log.parts) p.1)) (λ i. (sym held-base i, all-ranges i))
       ∙ find-range log.parts _ _ _ (range-front me entry log held-range) held-range.behind held-range.here tiles-held
 
+-- the one call has reserved the entry, and the other has it with one more unit filled, and all else that the one has
+pub record FillsEntry (groups : ℕ → Group) (seat : ℕ) (entry : Entry) (unit : ℕ) (old new : Call) : Type 0 where
+  pub entries : entries_in groups old ≡ entry ∷ []
+  pub filled : entries_in groups new ≡ with_unit unit entry ∷ []
+  pub claims : claims_in new ≡ claims_in old
+  pub books : (books : Books) → books_in groups new books ≡ books_in groups old books
+  pub pieces : (slot : ℕ) → pieces_at slot new ≡ pieces_at slot old
+  pub phases : (slot : ℕ) → phase_at seat slot new ≡ phase_at seat slot old
+  pub knows : KnowsGroup groups old → KnowsGroup groups new
+  pub busy : old ≡ Idle → ⊥
+  pub carries : (place : ℕ) → Carries place old → Carries place new
+  pub ends : (start exposed : ℕ) (log : Log) → HasTrueEnds start exposed log new
+  pub loads : (seen : Seen) → LoadsForGroup groups seen new
+  pub awaits : (books : Books) → AwaitsPlace new books
+
 module _ (key : Start) (words : Words) (views : List View) (me : ℕ) (v : View) (entry : Entry) (unit : ℕ) (log : Log)
-    (s : IsSound key words views log) (at : get_elem? views me ≡ some v) (filling : v.call ≡ Filling entry)
+    (s : IsSound key words views log) (at : get_elem? views me ≡ some v) (call : Call) (fill : FillsEntry log.groups me entry unit v.call call)
     (unfilled : length entry.units < entry.size) (unit-is : unit ≡ slice_index (spelling entry.rec) (length entry.units)) where
   abbrev next : ℕ
   next = (entry.start + length entry.units) % key.ring
@@ -117,14 +141,14 @@ module _ (key : Start) (words : Words) (views : List View) (me : ℕ) (v : View)
   ring' = put words.ring next unit
 
   abbrev new : View
-  new = record v { seen = counted v.seen; call = Filling (with_unit unit entry) }
+  new = record v { seen = counted v.seen; call = call }
 
   mine : HasWorkingOwner log.groups log.parts log.ahead me v
   mine = seat_at (HasWorkingOwner log.groups log.parts log.ahead) views me v at s.owners
 
-  last : LastPart me log.parts (parts_of me true v.entries) entry
+  pub last : LastPart me log.parts (parts_of me true v.entries) entry
   last = last_part me log.parts (parts_of me true v.entries) entry
-      (mine.owns ∙ ap (λ c. parts_of me true v.entries ++ parts_of me false (entries_in log.groups c)) filling)
+      (mine.owns ∙ ap (λ entries. parts_of me true v.entries ++ parts_of me false entries) fill.entries)
 
   abbrev old_part : Part
   old_part = part_of me false entry
@@ -132,7 +156,7 @@ module _ (key : Start) (words : Words) (views : List View) (me : ℕ) (v : View)
   abbrev part : Part
   part = part_of me false (with_unit unit entry)
 
-  abbrev after : Log
+  abbrev pub after : Log
   after = record {
     parts = last.before ++ part ∷ last.behind;
     flushed = log.flushed;
@@ -205,9 +229,10 @@ module _ (key : Start) (words : Words) (views : List View) (me : ℕ) (v : View)
   }
 
   kept : KeepsView log.groups views me new
-  kept = keeps-view key words views me v log s at new refl (steps-on log.groups v.seen (counted v.seen) refl refl refl refl refl refl refl) tt tt
+  kept = keeps-view key words views me v log s at new refl (steps-on log.groups v.seen (counted v.seen) refl refl refl refl refl refl refl)
+      (fill.loads (counted v.seen)) (fill.awaits v.books)
 
-  sound : IsSound key (record words { ring = ring' }) (set views me new) after
+  pub sound : IsSound key (record words { ring = ring' }) (set views me new) after
   sound = record {
     ordered = s.ordered;
     seen = each_set (λ _ z. HasSeenBoundaries key.start words.tail words.exposed words.durable (ranges_of log) z.seen) views me new s.seen
@@ -246,17 +271,18 @@ module _ (key : Start) (words : Words) (views : List View) (me : ℕ) (v : View)
     at_work = s.at_work;
     slots = s.slots;
     marks = record { current = s.marks.current; true_marks = s.marks.true_marks; below_tail = s.marks.below_tail };
-    carried = λ first. carrier-set words.exposed views me v new at (λ c. absurd (subst (Carries words.exposed) filling c)) (s.carried first);
+    carried = λ first. carrier-set words.exposed views me v new at (fill.carries words.exposed) (s.carried first);
     ends = each_moves (λ _ z. HasTrueEnds key.start words.exposed log z.call) (λ _ z. HasTrueEnds key.start words.exposed after z.call) views me new
-        s.ends tt (λ _ z _ _. ends-move key.start words.exposed log after z.call (λ _ b. b) (λ _ e. e));
+        s.ends (fill.ends key.start words.exposed after) (λ _ z _ _. ends-move key.start words.exposed log after z.call (λ _ b. b) (λ _ e. e));
     owners = seats_move (HasWorkingOwner log.groups log.parts log.ahead) (HasWorkingOwner after.groups after.parts after.ahead) views me v new at s.owners
         record {
           owns = own-last me last.before last.behind (parts_of me true v.entries) false
-              (with_unit unit entry) last.own_before last.none_behind;
-          owes = mine.owes ∙ ap claims_in filling;
-          joins = λ slot. mine.joins slot ∙ ap (pieces_at slot) filling;
-          leads = λ slot. mine.leads slot ∙ ap (phase_at me slot) filling;
-          knows = tt;
+              (with_unit unit entry) last.own_before last.none_behind
+              ∙ ap (λ entries. parts_of me true v.entries ++ parts_of me false entries) (sym fill.filled);
+          owes = mine.owes ∙ sym fill.claims;
+          joins = λ slot. mine.joins slot ∙ sym (fill.pieces slot);
+          leads = λ slot. mine.leads slot ∙ sym (fill.phases slot);
+          knows = fill.knows mine.knows;
         }
         (λ j z differ h. record {
           owns = own-others me j last.before last.behind false false entry (with_unit unit entry) differ
@@ -267,8 +293,7 @@ module _ (key : Start) (words : Words) (views : List View) (me : ℕ) (v : View)
           knows = h.knows;
         });
     constants = each_set (λ _ z. HasConstants key z) views me new s.constants (s.constants me v at);
-    resting = each_set (λ _ z. RestsUnlessActive z) views me new s.resting (λ off. let gone : Filling entry ≡ Idle = sym filling
-        ∙ s.resting me v at off in absurd (cc));
+    resting = each_set (λ _ z. RestsUnlessActive z) views me new s.resting (λ off. absurd (fill.busy (s.resting me v at off)));
     entries = each_set (λ _ z. OwnsIfWorker z) views me new s.entries (s.entries me v at);
     roles = crew-same words.crew views me v new s.roles at refl;
     sends = each_moves (λ _ z. SendsIfFlusher key.start words.exposed words.durable log z)
@@ -279,7 +304,7 @@ module _ (key : Start) (words : Words) (views : List View) (me : ℕ) (v : View)
     looked = each_set (λ _ z. LookedIfQuiet words.exposed z) views me new s.looked (s.looked me v at);
     unheld = each_set (λ _ z. HoldsIfActive z) views me new s.unheld (s.unheld me v at);
     accounts = accounts-stay key words.account after.parts log.groups views me v new at
-        (sym (ap (λ call. books_in log.groups call v.books) filling))
+        (fill.books v.books)
         (subst (λ records. KeepsAccounts (base_of key) words.account (history_from key.start [] records) (map (books_of log.groups) views))
         (ap records_in last.split ∙ sym (records-mid last.before last.behind old_part part refl)) s.accounts);
     in_group = s.in_group;
@@ -290,18 +315,6 @@ module _ (key : Start) (words : Words) (views : List View) (me : ℕ) (v : View)
     lasts = each_set (λ _ z. HasSeenLast z) views me new s.lasts kept.last;
   }
 
-  abbrev old_state : SlotState
-  old_state = slots_of key words views log
-
-  abbrev held : HeldRange me log.ahead entry
-  held = held-range key words views me v entry log s at filling
-
-  base-is : held.here.base ≡ entry.start
-  base-is = held-base key words views me v entry log s at filling
-
-  size-is : held.here.size ≡ entry.size
-  size-is = ap (λ (c : Claim). c.size) held.is
-
   counts : (base size : ℕ)
       → filled_in base size after.parts + filled_inside base size entry ≡ filled_in base size log.parts + filled_inside base size (with_unit unit entry)
   counts base size =
@@ -309,55 +322,111 @@ module _ (key : Start) (words : Words) (views : List View) (me : ℕ) (v : View)
       let g : filled_in base size (last.before ++ old_part ∷ last.behind) ≡ filled_in base size log.parts =
       ap (filled_in base size) (sym last.split) in omega (arith, m, g)
 
-  -- the run has one unit more, and what lies elsewhere as many as before
-  one-more : filled_in held.here.base held.here.size after.parts ≡ filled_in held.here.base held.here.size log.parts + 1
-  one-more =
-      let here = filled-here held.here.base held.here.size entry (omega (arith, base-is)) (omega (arith, base-is, size-is, unfilled)) in
-      let now = filled-here held.here.base held.here.size (with_unit unit entry) (omega (arith, base-is)) (omega (arith, base-is, size-is, unfilled)) in
-      omega (arith, counts held.here.base held.here.size, here, now, length-append entry.units (unit ∷ []))
+  pub as-filled : filled_in entry.start entry.size log.parts ≡ length entry.units
+  as-filled = ap (filled_in entry.start entry.size) last.split ∙ filled_in-one _ _ last.before last.behind old_part laid
 
-  elsewhere : (q : Range) → RangesApart q held.here → filled_in q.base q.size after.parts ≡ filled_in q.base q.size log.parts
-  elsewhere q apart =
-      let out : (entry.start < q.base) ⊎ (q.base + q.size ≤ entry.start) =
-      ⊎_elim (λ low. inr (omega (arith, low, base-is))) (λ high. inl (omega (arith, high, base-is, size-is, unfilled))) apart in
-      omega (arith, counts q.base q.size, filled-none q.base q.size entry out, filled-none q.base q.size (with_unit unit entry) out)
+  -- the range in which the entry lies
+  module _ {test : Range → Bool} {claim : Claim} (held : Last test claim_of log.ahead [] claim) (low : claim.base ≤ entry.start)
+      (high : entry.start < claim.base + claim.size) where
+    base-is : held.here.base ≡ claim.base
+    base-is = ap (λ (c : Claim). c.base) held.is
 
-  as-filled : filled_in held.here.base held.here.size log.parts ≡ length entry.units
-  as-filled = (λ i. filled_in (base-is i) (size-is i) (last.split i)) ∙ filled_in-one _ _ last.before last.behind old_part laid
+    size-is : held.here.size ≡ claim.size
+    size-is = ap (λ (c : Claim). c.size) held.is
 
-  reservations : map (reservation_of after.parts) (ranges_of after) ≡ map (filled_at entry.start) (map (reservation_of log.parts) (ranges_of log))
-  reservations = ap (map (reservation_of after.parts)) (all-ranges key words views me v entry log s at filling)
-      ∙ (changed-range log.parts after.parts (filled_at held.here.base) held.here held.here (filled_at-others held.here.base) elsewhere
-      (λ i. record {
-        base = held.here.base;
-        size = held.here.size;
-        filled = (one-more ∙ sym (ap (λ b. cond b (filled_in held.here.base held.here.size log.parts + 1) (filled_in held.here.base held.here.size log.parts))
-            (eq-eqb held.here.base held.here.base refl))) i;
-        released = is_released held.here.duty;
-      }) _ _ _ (range-front me entry log held) held.behind (tiles-held key words views me v entry log s at filling)
-      ∙ (λ i. map (filled_at (base-is i)) (map (reservation_of log.parts) (sym (all-ranges key words views me v entry log s at filling) i))))
+    split : ranges_of log ≡ (log.flushed ++ (log.exposed ++ held.before)) ++ held.here ∷ held.behind
+    split = ranges-split log held.before held.behind held.here held.split
+
+    -- the range has one unit more, and what lies elsewhere as many as before
+    one-more : filled_in held.here.base held.here.size after.parts ≡ filled_in held.here.base held.here.size log.parts + 1
+    one-more =
+        let here = filled-here held.here.base held.here.size entry (omega (arith, base-is, low)) (omega (arith, base-is, size-is, high)) in
+        let now = filled-here held.here.base held.here.size (with_unit unit entry) (omega (arith, base-is, low)) (omega (arith, base-is, size-is, high)) in
+        omega (arith, counts held.here.base held.here.size, here, now, length-append entry.units (unit ∷ []))
+
+    elsewhere : (q : Range) → RangesApart q held.here → filled_in q.base q.size after.parts ≡ filled_in q.base q.size log.parts
+    elsewhere q apart =
+        let out : (entry.start < q.base) ⊎ (q.base + q.size ≤ entry.start) =
+        ⊎_elim (λ before. inr (omega (arith, before, base-is, low))) (λ behind. inl (omega (arith, behind, base-is, size-is, high))) apart in
+        omega (arith, counts q.base q.size, filled-none q.base q.size entry out, filled-none q.base q.size (with_unit unit entry) out)
+
+    pub reservations : map (reservation_of after.parts) (ranges_of after) ≡ map (filled_at claim.base) (map (reservation_of log.parts) (ranges_of log))
+    reservations = ap (map (reservation_of after.parts)) split
+        ∙ (changed-range log.parts after.parts (filled_at held.here.base) held.here held.here (filled_at-others held.here.base) elsewhere
+        (λ i. record {
+          base = held.here.base;
+          size = held.here.size;
+          filled = (one-more ∙ sym (ap (λ b. cond b (filled_in held.here.base held.here.size log.parts + 1) (filled_in held.here.base held.here.size log.parts))
+              (eq-eqb held.here.base held.here.base refl))) i;
+          released = is_released held.here.duty;
+        }) _ _ _ (log.flushed ++ (log.exposed ++ held.before)) held.behind
+        (subst (λ l. Tiles (key.ring / 4) key.start l words.tail) split (all-tile _ _ _ _ _ log s.contiguous))
+        ∙ (λ i. map (filled_at (base-is i)) (map (reservation_of log.parts) (sym split i))))
+
+-- a run that the seat alone has reserved
+run-fills : (groups : ℕ → Group) (seat : ℕ) (entry : Entry) (unit : ℕ) (old : Call) → old ≡ Filling entry
+    → FillsEntry groups seat entry unit old (Filling (with_unit unit entry))
+run-fills groups seat entry unit old is = subst (λ call. FillsEntry groups seat entry unit call (Filling (with_unit unit entry))) (sym is) record {
+  entries = refl;
+  filled = refl;
+  claims = refl;
+  books = λ _. refl;
+  pieces = λ _. refl;
+  phases = λ _. refl;
+  knows = λ _. tt;
+  busy = λ gone. cc;
+  carries = λ _ carries. carries;
+  ends = λ _ _ _. tt;
+  loads = λ _. tt;
+  awaits = λ _. tt;
+}
+
+module _ (key : Start) (words : Words) (views : List View) (me : ℕ) (v : View) (entry : Entry) (unit : ℕ) (log : Log)
+    (s : IsSound key words views log) (at : get_elem? views me ≡ some v) (filling : v.call ≡ Filling entry)
+    (unfilled : length entry.units < entry.size) (unit-is : unit ≡ slice_index (spelling entry.rec) (length entry.units)) where
+  abbrev old_state : SlotState
+  old_state = slots_of key words views log
+
+  abbrev run : Call
+  run = Filling (with_unit unit entry)
+
+  abbrev fill : FillsEntry log.groups me entry unit v.call run
+  fill = run-fills log.groups me entry unit v.call filling
+
+  abbrev held : HeldRange me log.ahead entry
+  held = held-range key words views me v entry log s at filling
+
+  as-many : filled_in held.here.base held.here.size log.parts ≡ length entry.units
+  as-many = (λ i. filled_in (ap (λ (c : Claim). c.base) held.is i) (ap (λ (c : Claim). c.size) held.is i) log.parts)
+      ∙ as-filled key words views me v entry unit log s at run fill unfilled unit-is
+
+  shown : map (reservation_of (after key words views me v entry unit log s at run fill unfilled unit-is).parts) (ranges_of log)
+      ≡ map (filled_at entry.start) (map (reservation_of log.parts) (ranges_of log))
+  shown = reservations key words views me v entry unit log s at run fill unfilled unit-is held (omega arith) (omega (arith, unfilled))
 
   works : task_of me (hands_of 0 views) ≡ InRing None (Works entry.start)
   works = works-is key words views me v entry log s at filling
 
-  pub ring-fills : Leads key words (record words { ring = ring' }) views (set views me new) log (fills me)
+  pub ring-fills : Leads key words (record words { ring = put words.ring ((entry.start + length entry.units) % key.ring) unit }) views
+      (set views me (record v { seen = counted v.seen; call = run })) log (fills me)
   ring-fills = record {
-    after = after;
-    sound = sound;
+    after = after key words views me v entry unit log s at run fill unfilled unit-is;
+    sound = sound key words views me v entry unit log s at run fill unfilled unit-is;
     shows = (
       subst (MayFillNow old_state) (sym works)
-          (subst (λ o. IsSomeAnd o HasUnfilled) (sym (found-held key words views me v entry log s at filling)) (omega (arith, as-filled, size-is, unfilled))),
+          (subst (λ o. IsSomeAnd o HasUnfilled) (sym (found-held key words views me v entry log s at filling))
+          (omega (arith, as-many, ap (λ (c : Claim). c.size) held.is, unfilled))),
       (λ i. record old_state {
-        log = record old_state.log { reservations = reservations i };
-        hands = hands_of-set_same 0 me views v new at (ap task_in (sym filling)) i;
+        log = record old_state.log { reservations = shown i };
+        hands = hands_of-set_same 0 me views v (record v { seen = counted v.seen; call = run }) at (ap task_in (sym filling)) i;
       })
           ∙ ap (after_fill old_state me) (sym works),
     );
   }
 
-pub fill-step : (key : Start) (me : ℕ) (v : View) (at ring unit : ℕ) → key.ring ≡ ring → MayFill at unit v → (n : ℕ)
+pub run-step : (key : Start) (me : ℕ) (v : View) (at ring unit : ℕ) → key.ring ≡ ring → MayFillRun at unit v → (n : ℕ)
     → IsStep key me (Ring (at % ring)) n unit v (filled unit v) (fills me)
-fill-step key me v at ring unit same may n = record {
+run-step key me v at ring unit same may n = record {
   leads = λ words views log s here is.
       let index : (may.entry.start + length may.entry.units) % key.ring ≡ at % ring = (λ i. sym may.next i % same i) in
       let call : Filling (with_unit unit may.entry) ≡ (filled unit v).call =

@@ -34,6 +34,7 @@ pub mod Nexting
 mod Noting
 mod Owing
 mod Owning
+mod PieceFilling
 mod PlanFronts
 pub mod Planning
 mod Raising
@@ -62,6 +63,7 @@ mod Starting
 mod Stopping
 mod TailMoving
 mod Taking
+mod ToldMembers
 mod TrueMarks
 mod Viewing
 mod Wording

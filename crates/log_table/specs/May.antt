@@ -1,5 +1,5 @@
 -- When a step is the next one of the call that the view shows as under way.
-use Rattle.std.specs.Prelude.{◌≡◌, ◌≢◌, ◌⊎◌, ℕ, ◌+◌, ◌*◌, ◌/◌, ◌^◌, ◌<◌, ◌≤◌, true, false, [], length, slice_index}
+use Rattle.std.specs.Prelude.{◌≡◌, ◌≢◌, ◌⊎◌, ℕ, ◌+◌, ◌*◌, ◌/◌, ◌^◌, ◌<◌, ◌≤◌, true, false, List, [], length, slice_index}
 use Rattle.std.specs.List.{AllByRecursion, list_any}
 use lib.Dec.{eqb}
 use Rattle.lsn_space.specs.declared.lsn.TheConstants.{LAST}
@@ -7,7 +7,7 @@ use Rattle.log_table.specs.declared.view.Entry.{Entry}
 use Rattle.log_table.specs.declared.view.Held.{Held}
 use Rattle.log_table.specs.declared.view.Call.TheVariants.{Idle, Filling, Joined, Holding, Raising, Reopening}
 use Rattle.log_table.specs.declared.group_view.After.{After}
-use Rattle.log_table.specs.declared.group_view.MemberStep.TheVariants.{Closes, Places, Stores, Tells}
+use Rattle.log_table.specs.declared.group_view.MemberStep.TheVariants.{Closes, Places, Stores, Tells, Fills}
 use Rattle.log_table.specs.declared.group_view.Piece.{Piece}
 use Rattle.log_table.specs.declared.view.Role.TheVariants.{Flusher, Active}
 use Rattle.log_table.specs.declared.view.Seen.{Seen}
@@ -115,13 +115,28 @@ pub record MayPlaceGroup (from to : ℕ) (view : View) : Type 0 where
 abbrev pub MayExchangeTail : ℕ → ℕ → View → Type 0
 MayExchangeTail from to view = MayReserve from to view ⊎ MayPlaceGroup from to view
 
--- the unit at this LSN is the next to be filled, and this is the record's
-pub record MayFill (at unit : ℕ) (view : View) : Type 0 where
+-- the unit at this LSN is the next to be filled of the run that the seat has reserved, and this is the record's
+pub record MayFillRun (at unit : ℕ) (view : View) : Type 0 where
   pub entry : Entry
   pub filling : view.call ≡ Filling entry
   pub next : at ≡ entry.start + length entry.units
   pub unfilled : length entry.units < entry.size
   pub unit_is : unit ≡ slice_index (spelling entry.rec) (length entry.units)
+
+-- so of the member's piece, which begins as far behind the base of its group as its offset says; the group is at one of so many slots
+pub record MayFillPiece (slots at unit : ℕ) (view : View) : Type 0 where
+  pub slot : ℕ
+  pub slot_below : slot < slots
+  pub piece : Piece
+  pub base : ℕ
+  pub units : List ℕ
+  pub filling : view.call ≡ Joined slot piece (Fills base units)
+  pub next : at ≡ base + piece.offset + length units
+  pub unfilled : length units < piece.size
+  pub unit_is : unit ≡ slice_index (spelling piece.rec) (length units)
+
+abbrev pub MayFill : ℕ → ℕ → ℕ → View → Type 0
+MayFill slots at unit view = MayFillRun at unit view ⊎ MayFillPiece slots at unit view
 
 -- the run that the seat has reserved is full, begins at the one LSN and ends at the other
 pub record MayMark (base end : ℕ) (view : View) : Type 0 where

@@ -13,10 +13,11 @@ use crate::table::{LogTable, Seat};
 use lsn_space::{Lsn, place};
 
 impl LogTable {
-    /// Copies the next unit of the seat's record into the ring.
+    /// Copies the next unit of the seat's record into the ring, to the run that it has reserved alone, or to its
+    /// piece of its group's range.
     pub fn store_ring(&self, seat: &mut Seat, at: Lsn, unit: u64)
         requires seat { IsOf self.now seat.old }
-        requires next { MayFill at unit (view_of seat.old) }
+        requires next { MayFill self.now.slots at unit (view_of seat.old) }
         ensures view { Becomes seat.old seat.new (filled unit (view_of seat.old)) }
         ensures event { (found : ℕ) → IsStep (key_of self.now) (number_of seat.old) (Ring (at % self.now.ring)) found unit (view_of seat.old) (filled unit (view_of seat.old)) (fills (number_of seat.old)) }
     {

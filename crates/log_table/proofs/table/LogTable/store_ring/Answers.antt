@@ -5,7 +5,7 @@ use Rattle.log_table.specs.Seats.{number_of, key_of}
 use Rattle.log_table.specs.Sound.{Ruled}
 use Rattle.log_table.specs.Views.{filled}
 use Rattle.log_table.proofs.Allowing.{store_ring-allowed}
-use Rattle.log_table.proofs.Filling.{fill-step}
+use Rattle.log_table.proofs.PieceFilling.{fill-step}
 use Rattle.log_table.proofs.table.LogTable.store_ring.Goals as goal
 
 pub store-requires : goal.store-requires
@@ -18,12 +18,13 @@ store-requires c =
           (number_of c.args.seat.now) c.args.seat.now.base.me (RING + index) (λ _. c.args.unit)
           (λ _ new. (new ≡ (filled c.args.unit c.args.seat.now.base.me.0, c.args.seat.now.base.me.1)) × Unit {0})) (sym c.place-index.ensures)
           (store_ring-allowed (key_of c.args.self.now) c.args.self.now.table.shared.table_id.slots
-          (number_of c.args.seat.now) c.args.seat.now.base.me c.args.at c.args.self.now.ring c.args.unit c.args.self.now.keyed below
+          (number_of c.args.seat.now) c.args.seat.now.base.me c.args.at c.args.self.now.ring c.args.self.now.slots c.args.unit c.args.self.now.keyed
+          c.args.self.now.slotted below
           c.requires.next),
     )
 
 pub returns-clause-event : goal.returns-clause-event
-returns-clause-event c = fill-step _ _ _ _ _ _ c.args.self.now.keyed c.requires.next
+returns-clause-event c = fill-step _ _ _ _ _ _ _ c.args.self.now.keyed c.args.self.now.slotted c.requires.next
 
 pub returns-clause-view : goal.returns-clause-view
 returns-clause-view c = let step = c.store.ensures in record { table_is = step.0; number = step.1; me = step.2.0; worker = refl }
