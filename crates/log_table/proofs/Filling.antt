@@ -350,13 +350,15 @@ module _ (key : Start) (words : Words) (views : List View) (me : ℕ) (v : View)
         ⊎_elim (λ before. inr (omega (arith, before, base-is, low))) (λ behind. inl (omega (arith, behind, base-is, size-is, high))) apart in
         omega (arith, counts q.base q.size, filled-none q.base q.size entry out, filled-none q.base q.size (with_unit unit entry) out)
 
-    pub reservations : map (reservation_of after.parts) (ranges_of after) ≡ map (filled_at claim.base) (map (reservation_of log.parts) (ranges_of log))
+    pub reservations : map (reservation_of after.parts) (ranges_of after)
+        ≡ map (filled_at claim.base) (map (reservation_of log.parts) (ranges_of log))
     reservations = ap (map (reservation_of after.parts)) split
         ∙ (changed-range log.parts after.parts (filled_at held.here.base) held.here held.here (filled_at-others held.here.base) elsewhere
         (λ i. record {
           base = held.here.base;
           size = held.here.size;
-          filled = (one-more ∙ sym (ap (λ b. cond b (filled_in held.here.base held.here.size log.parts + 1) (filled_in held.here.base held.here.size log.parts))
+          filled = (one-more
+              ∙ sym (ap (λ b. cond b (filled_in held.here.base held.here.size log.parts + 1) (filled_in held.here.base held.here.size log.parts))
               (eq-eqb held.here.base held.here.base refl))) i;
           released = is_released held.here.duty;
         }) _ _ _ (log.flushed ++ (log.exposed ++ held.before)) held.behind
@@ -366,20 +368,21 @@ module _ (key : Start) (words : Words) (views : List View) (me : ℕ) (v : View)
 -- a run that the seat alone has reserved
 run-fills : (groups : ℕ → Group) (seat : ℕ) (entry : Entry) (unit : ℕ) (old : Call) → old ≡ Filling entry
     → FillsEntry groups seat entry unit old (Filling (with_unit unit entry))
-run-fills groups seat entry unit old is = subst (λ call. FillsEntry groups seat entry unit call (Filling (with_unit unit entry))) (sym is) record {
-  entries = refl;
-  filled = refl;
-  claims = refl;
-  books = λ _. refl;
-  pieces = λ _. refl;
-  phases = λ _. refl;
-  knows = λ _. tt;
-  busy = λ gone. cc;
-  carries = λ _ carries. carries;
-  ends = λ _ _ _. tt;
-  loads = λ _. tt;
-  awaits = λ _. tt;
-}
+run-fills groups seat entry unit old is =
+    subst (λ call. FillsEntry groups seat entry unit call (Filling (with_unit unit entry))) (sym is) record {
+      entries = refl;
+      filled = refl;
+      claims = refl;
+      books = λ _. refl;
+      pieces = λ _. refl;
+      phases = λ _. refl;
+      knows = λ _. tt;
+      busy = λ gone. cc;
+      carries = λ _ carries. carries;
+      ends = λ _ _ _. tt;
+      loads = λ _. tt;
+      awaits = λ _. tt;
+    }
 
 module _ (key : Start) (words : Words) (views : List View) (me : ℕ) (v : View) (entry : Entry) (unit : ℕ) (log : Log)
     (s : IsSound key words views log) (at : get_elem? views me ≡ some v) (filling : v.call ≡ Filling entry)

@@ -49,6 +49,7 @@ mod Sharing
 mod Showing
 mod SlotAllowing
 mod SlotClosing
+mod SlotHearing
 mod SlotJoining
 mod SlotLeading
 mod SlotLooks

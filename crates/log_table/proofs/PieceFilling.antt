@@ -34,8 +34,8 @@ piece-fills : (groups : ℕ → Group) (seat slot : ℕ) (piece : Piece) (base :
     → old ≡ Joined slot piece (Fills base units)
     → FillsEntry groups seat (placed_piece base units piece) unit old (Joined slot piece (Fills base (units ++ unit ∷ [])))
 piece-fills groups seat slot piece base units unit old is =
-    subst (λ call. FillsEntry groups seat (placed_piece base units piece) unit call (Joined slot piece (Fills base (units ++ unit ∷ [])))) (sym is)
-    record {
+    subst (λ call. FillsEntry groups seat (placed_piece base units piece) unit call (Joined slot piece (Fills base (units ++ unit ∷ []))))
+    (sym is) record {
       entries = refl;
       filled = refl;
       claims = refl;
@@ -73,8 +73,8 @@ module _ (key : Start) (words : Words) (views : List View) (me : ℕ) (v : View)
   known = subst (KnowsGroup log.groups) filling (seat_at (HasWorkingOwner log.groups log.parts log.ahead) views me v at s.owners).knows
 
   in-range : piece.offset < known.total
-  in-range = let within = lies-within key words views me v slot piece (Fills base units) log s at filling known.total (Granted base) known.remaining known.told in
-      omega (arith, within.0, within.1)
+  in-range = let within = lies-within key words views me v slot piece (Fills base units) log s at filling known.total (Granted base)
+      known.remaining known.told in omega (arith, within.0, within.1)
 
   shown : map (reservation_of (after key words views me v entry unit log s at call fill unfilled unit-is).parts) (ranges_of log)
       ≡ map (filled_at base) (map (reservation_of log.parts) (ranges_of log))
@@ -96,8 +96,8 @@ module _ (key : Start) (words : Words) (views : List View) (me : ℕ) (v : View)
   hands-are = hands_of-set 0 me me views v new (omega arith) at
       ∙ ap (λ count. with_task me (filling_on count) (hands_of 0 views)) (length-append units (unit ∷ []))
 
-  pub piece-filled : Leads key words (record words { ring = put words.ring ((base + piece.offset + length units) % key.ring) unit }) views (set views me new)
-      log (fills me)
+  pub piece-filled : Leads key words (record words { ring = put words.ring ((base + piece.offset + length units) % key.ring) unit }) views
+      (set views me new) log (fills me)
   piece-filled = record {
     after = after key words views me v entry unit log s at call fill unfilled unit-is;
     sound = sound key words views me v entry unit log s at call fill unfilled unit-is;
@@ -117,7 +117,8 @@ module _ (key : Start) (me : ℕ) (v : View) (at ring number unit : ℕ) (same :
   piece-step may n = record {
     leads = λ words views log s there is.
         let index : (may.base + may.piece.offset + length may.units) % key.ring ≡ at % ring = (λ i. sym may.next i % same i) in
-        let call : Joined may.slot may.piece (Fills may.base (may.units ++ unit ∷ [])) ≡ (filled unit v).call = ap (call_with_unit unit) (sym may.filling) in
+        let call : Joined may.slot may.piece (Fills may.base (may.units ++ unit ∷ [])) ≡ (filled unit v).call =
+        ap (call_with_unit unit) (sym may.filling) in
         subst (λ (x : ℕ × Call). Leads key words (record words { ring = put words.ring x.0 unit }) views
         (set views me (record v { seen = counted v.seen; call = x.1 })) log (fills me)) (λ i. (index i, call i))
         (piece-filled key words views me v may.slot may.piece may.base may.units unit log s there may.filling may.unfilled may.unit_is

@@ -6,16 +6,17 @@ use Rattle.slot_word.specs.declared.phase.Phase.TheVariants as kind
 use Rattle.slot_word.specs.declared.slot_word.SlotWord.{SlotWord}
 use Rattle.slot_word.specs.SlotWord.{packed, word_of, total_in, IsSlotWord}
 use Rattle.slot_word.proofs.SlotWordLemmas.{total_back}
-use Rattle.log_table.specs.Events.{closes, none, refuses, reopens, stores_base, tells}
+use Rattle.log_table.specs.Events.{closes, hears, none, refuses, reopens, stores_base, tells}
 use Rattle.log_table.specs.declared.layout.TheConstants.{STRIDE, RING}
 use Rattle.log_table.specs.declared.table.Start.{Start}
 use Rattle.log_table.specs.declared.view.View.{View}
 use Rattle.log_table.specs.Layout.{Slot, Base}
-use Rattle.log_table.specs.May.{MayJoinSlot, MayCloseSlot, MayStoreBase, MayStoreGranted, MayStoreRefused, MayPublish, MayReopen}
-use Rattle.log_table.specs.SlotViews.{own_slot_of, saw_slot, after_join, closed_slot, stored_base, published, reopened, IsGatheringWord}
+use Rattle.log_table.specs.May.{MayJoinSlot, MayCloseSlot, MayStoreBase, MayStoreGranted, MayStoreRefused, MayPublish, MayLoadBase, MayReopen}
+use Rattle.log_table.specs.SlotViews.{own_slot_of, saw_slot, after_join, closed_slot, stored_base, published, heard_base, reopened, IsGatheringWord, TellsMember}
 use Rattle.log_table.specs.Sound.{Ruled}
 use Rattle.log_table.proofs.Lifting.{allowed-if_step}
 use Rattle.log_table.proofs.SlotClosing.{close-step, close-tells}
+use Rattle.log_table.proofs.SlotHearing.{hear-step, hear-tells}
 use Rattle.log_table.proofs.SlotJoining.{join-event, join-step}
 use Rattle.log_table.proofs.SlotLooks.{slot-looks, slot-tells}
 use Rattle.log_table.proofs.SlotReopening.{reopen-step}
@@ -108,3 +109,10 @@ module _ (key : Start) (slots seat : ℕ) (me : Me (Unit {0}) View) where
         (λ (refused : MayStoreRefused slot word me.0). allowed-if_step key slots seat me (Base slot) fits-base (λ _. word)
         (λ _. stored_base me.0) (λ _. refuses seat me.0.seen.tail me.0.seen.durable) (λ _. Unit {0}) (λ _ _ _ _ _. tt)
         (λ n _. refused-step key seat me.0 slot number word slotted below refused n)) may)
+
+    pub load_base-allowed : MayLoadBase slot me.0
+        → Allows (Ruled key) slots seat me place (λ n. n) (λ n new. (new ≡ (heard_base n me.0, me.1)) × TellsMember n me.0)
+    load_base-allowed may =
+        subst (λ at. Allows (Ruled key) slots seat me at (λ n. n) (λ n new. (new ≡ (heard_base n me.0, me.1)) × TellsMember n me.0)) placed
+        (allowed-if_step key slots seat me (Base slot) fits-base (λ n. n) (λ n. heard_base n me.0) (λ _. hears seat) (λ n. TellsMember n me.0)
+        (hear-tells key seat me.0 slot number slotted below may) (λ n _. hear-step key seat me.0 slot number slotted below may n))

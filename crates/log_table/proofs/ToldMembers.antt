@@ -34,7 +34,8 @@ ends-at_boundary most start tail log before behind r tiles is =
     let split : ranges_of log ≡ front ++ r ∷ behind = ranges-split log before behind r is in
     let mid = tiles-mid most start tail front behind r (subst (λ l. Tiles most start l tail) split tiles) in (
       subst (λ l. IsRangeBoundary start l (r.base + r.size)) (sym split)
-          (boundary-behind most start r.base (r.base + r.size) front (r ∷ behind) mid.0 (inr (boundary-start range_size (r.base + r.size) behind))),
+          (boundary-behind most start r.base (r.base + r.size) front (r ∷ behind) mid.0
+          (inr (boundary-start range_size (r.base + r.size) behind))),
       tiles-le most (r.base + r.size) tail behind mid.3,
     )
 
@@ -49,8 +50,8 @@ module _ (key : Start) (words : Words) (views : List View) (me : ℕ) (v : View)
     told-at = at-phase key words views me v slot piece step log s at call (Told total outcome remaining) told
 
     pub lies-within : (1 ≤ piece.size) × (piece.offset + piece.size ≤ total)
-    lies-within = piece-has me (log.groups slot).members piece (LiesWithin total) (λ p. (1 ≤ p.size) × (p.offset + p.size ≤ total)) own-piece
-        told-at.remains.each (λ _ within. within)
+    lies-within = piece-has me (log.groups slot).members piece (LiesWithin total) (λ p. (1 ≤ p.size) × (p.offset + p.size ≤ total))
+        own-piece told-at.remains.each (λ _ within. within)
 
   -- the range that a group has
   module _ (total base remaining : ℕ) (told : (log.groups slot).phase ≡ Told total (Granted base) remaining) where

@@ -7,7 +7,7 @@ use Rattle.ring_core.specs.RingLog.{Reservation, RingLog}
 use Rattle.ring_core.specs.declared.event.RingEvent.TheVariants.{Reserve, Fill, Mark, LookExposed, LookMark, Raise, Flushed}
 use Rattle.slot_core.specs.State.{Idle, Works, Marked, Holds, Raises, Task, InRing, Hand, SlotState, nothing, joined, member, group}
 use Rattle.slot_core.specs.State as machine
-use Rattle.slot_core.specs.Machine.{GroupEvent, Join, Close, Place, PutBase, Tell, Reopen, Ring, GroupStep}
+use Rattle.slot_core.specs.Machine.{GroupEvent, Join, Close, Place, PutBase, Tell, Hear, Reopen, Ring, GroupStep}
 use Rattle.log_table.specs.declared.table.Start.{Start}
 use Rattle.log_table.specs.declared.view.Call.{Call}
 use Rattle.log_table.specs.declared.view.Call.TheVariants as call
@@ -121,6 +121,10 @@ refuses seat tail durable = Two (Place seat tail durable) (PutBase seat)
 -- the seat tells the group that it leads what became of it
 abbrev pub tells : ℕ → Event
 tells seat = One (Tell seat)
+
+-- the seat hears what became of its group
+abbrev pub hears : ℕ → Event
+hears seat = One (Hear seat)
 
 -- the seat opens its slot again
 abbrev pub reopens : ℕ → Event

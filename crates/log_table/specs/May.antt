@@ -1,5 +1,5 @@
 -- When a step is the next one of the call that the view shows as under way.
-use Rattle.std.specs.Prelude.{◌≡◌, ◌≢◌, ◌⊎◌, ℕ, ◌+◌, ◌*◌, ◌/◌, ◌^◌, ◌<◌, ◌≤◌, true, false, List, [], length, slice_index}
+use Rattle.std.specs.Prelude.{◌≡◌, ◌≢◌, ◌⊎◌, ℕ, ◌+◌, ◌*◌, ◌/◌, ◌^◌, ◌<◌, ◌≤◌, Bool, true, false, List, [], length, slice_index}
 use Rattle.std.specs.List.{AllByRecursion, list_any}
 use lib.Dec.{eqb}
 use Rattle.lsn_space.specs.declared.lsn.TheConstants.{LAST}
@@ -7,7 +7,7 @@ use Rattle.log_table.specs.declared.view.Entry.{Entry}
 use Rattle.log_table.specs.declared.view.Held.{Held}
 use Rattle.log_table.specs.declared.view.Call.TheVariants.{Idle, Filling, Joined, Holding, Raising, Reopening}
 use Rattle.log_table.specs.declared.group_view.After.{After}
-use Rattle.log_table.specs.declared.group_view.MemberStep.TheVariants.{Closes, Places, Stores, Tells, Fills}
+use Rattle.log_table.specs.declared.group_view.MemberStep.TheVariants.{Closes, Hears, Places, Stores, Tells, Fills}
 use Rattle.log_table.specs.declared.group_view.Piece.{Piece}
 use Rattle.log_table.specs.declared.view.Role.TheVariants.{Flusher, Active}
 use Rattle.log_table.specs.declared.view.Seen.{Seen}
@@ -201,6 +201,13 @@ pub record MayPublish (slot : ℕ) (word : SlotWord) (view : View) : Type 0 wher
   pub outcome : Outcome
   pub tells : view.call ≡ Joined slot piece (Tells total outcome)
   pub word_is : word_of_slot word ≡ told_word outcome total total
+
+-- the seat saw that its group at the slot is told, refused or not, and of this total
+pub record MayLoadBase (slot : ℕ) (view : View) : Type 0 where
+  pub piece : Piece
+  pub refused : Bool
+  pub total : ℕ
+  pub hears : view.call ≡ Joined slot piece (Hears refused total)
 
 -- the seat has nothing left to do but to open the slot again
 abbrev pub MayReopen : ℕ → View → Type 0

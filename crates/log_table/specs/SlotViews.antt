@@ -1,9 +1,10 @@
 -- How the steps on slots change the view of their seat.
-use Rattle.std.specs.Prelude.{◌≡◌, ◌==◌, ℕ, ◌+◌, ◌/◌, ◌%◌, ◌^◌, ◌≤◌, if◌then◌else◌, nat_eq, nat_lt, Bool, length}
+use Rattle.std.specs.Prelude.{◌≡◌, ◌==◌, ℕ, ◌+◌, ◌/◌, ◌%◌, ◌^◌, ◌≤◌, if◌then◌else◌, nat_eq, nat_lt, Bool, true, false, [], ◌∷◌, length}
 use Rattle.slot_word.specs.declared.phase.Phase.TheVariants as kind
 use Rattle.slot_word.specs.SlotWord.{phase_in, total_in, IsSlotWord}
 use Rattle.log_record.specs.Spelling.{spelling}
-use Rattle.log_table.specs.Books.{next_of}
+use Rattle.lsn_space.specs.declared.lsn.TheConstants.{LAST}
+use Rattle.log_table.specs.Books.{next_of, placing}
 use Rattle.log_table.specs.declared.group_view.MemberStep.{MemberStep}
 use Rattle.log_table.specs.declared.group_view.MemberStep.TheVariants.{Closes, Waits, Hears, Places, Stores, Tells, Fills, Leaves}
 use Rattle.log_table.specs.declared.group_view.Piece.{Piece}
@@ -12,6 +13,7 @@ use Rattle.log_table.specs.declared.view.Call.TheVariants.{Idle, Filling, Joined
 use Rattle.log_table.specs.declared.view.Seen.{Seen}
 use Rattle.log_table.specs.declared.view.View.{View}
 use Rattle.log_table.specs.Groups.{Granted, Refused}
+use Rattle.log_table.specs.Members.{LacksRoom}
 use Rattle.log_table.specs.Views.{counted, saw_tail, seen_tail, reserved}
 
 -- the slot's state was seen
@@ -214,3 +216,84 @@ published view = record view { seen = counted view.seen; call = call_published v
 -- after a store of the slot's state that opened the slot again
 abbrev pub reopened : View → View
 reopened view = record view { seen = counted view.seen; call = Idle }
+
+-- it was heard where the range of the group of this total begins: the tail behind the range counts as seen
+abbrev pub seen_granted : ℕ → ℕ → Seen → Seen
+seen_granted base total seen =
+    record seen { steps = seen.steps + 1; tail = base + total; tail_step = seen.steps + 1; base = base; lsns = (base + total) ∷ seen.lsns }
+
+-- it was heard, for a piece of this size, by which tail and which durable the group of this total was refused: both count as seen
+abbrev pub seen_refused : ℕ → ℕ → ℕ → Seen → Seen
+seen_refused word size total seen = record seen {
+  steps = seen.steps + 1;
+  tail = word / 2 ^ 32;
+  tail_step = seen.steps + 1;
+  durable = word % 2 ^ 32;
+  durable_step = seen.steps + 1;
+  base = word;
+  lsns = (word / 2 ^ 32) ∷ (word % 2 ^ 32) ∷ seen.lsns;
+  refusals = record { size = size; total = total } ∷ seen.refusals;
+}
+
+-- after a load of the slot's base by a member of a group that has its range; the member's record has its place
+abbrev pub heard_granted : ℕ → ℕ → Piece → ℕ → View → View
+heard_granted slot base piece total view = record view {
+  seen = seen_granted base total view.seen;
+  call = Joined slot piece (Fills base []);
+  books = placing (base + piece.offset + piece.size) piece.rec view.books;
+}
+
+-- after a load of the slot's base by a member of a group that was refused
+abbrev pub heard_refused : ℕ → ℕ → Piece → ℕ → View → View
+heard_refused slot word piece total view =
+    record view { seen = seen_refused word piece.size total view.seen; call = Joined slot piece (Leaves (word / 2 ^ 32) (word % 2 ^ 32)) }
+
+-- after a load of the slot's base by a member at this step; one that has not seen its group told learns nothing
+abbrev pub heard_at : ℕ → ℕ → Piece → MemberStep → View → View
+heard_at slot word piece Closes view = view
+heard_at slot word piece Waits view = view
+heard_at slot word piece (Hears refused total) view =
+    if refused then heard_refused slot word piece total view else heard_granted slot word piece total view
+heard_at slot word piece (Places total closed) view = view
+heard_at slot word piece (Stores total base) view = view
+heard_at slot word piece (Tells total outcome) view = view
+heard_at slot word piece (Fills base units) view = view
+heard_at slot word piece (Leaves tail durable) view = view
+
+abbrev pub heard_by : ℕ → Call → View → View
+heard_by word Idle view = view
+heard_by word (Filling entry) view = view
+heard_by word (Joined slot piece step) view = heard_at slot word piece step view
+heard_by word (Emptying slot base total) view = view
+heard_by word (Marked after) view = view
+heard_by word (Holding at after) view = view
+heard_by word (Raising from to after) view = view
+heard_by word (Reopening slot) view = view
+
+-- after a load of the slot's base
+abbrev pub heard_base : ℕ → View → View
+heard_base word view = heard_by word view.call view
+
+-- The group's range begins there: it is in the log and holds the piece, and is not below the tail as the member had seen it when it joined.
+-- The group has a total of at most so many units.
+pub record IsHeardBase (most total : ℕ) (piece : Piece) (base : ℕ) : Type 0 where
+  pub within : piece.offset + piece.size ≤ total
+  pub few : total ≤ most
+  pub in_log : base + total ≤ LAST
+  pub tail_seen : piece.tail ≤ base
+
+-- The word has the tail and the durable by which the group was refused, whose total the piece is a part of: they are not below those that
+-- the member had seen when it joined, and by them the group has no room.
+pub record IsHeardRefusal (ring total : ℕ) (piece : Piece) (word : ℕ) : Type 0 where
+  pub within : piece.offset + piece.size ≤ total
+  pub few : total ≤ ring / 4
+  pub tail_seen : piece.tail ≤ word / 2 ^ 32
+  pub durable_seen : piece.durable ≤ word % 2 ^ 32
+  pub no_room : LacksRoom ring total (word / 2 ^ 32) (word % 2 ^ 32)
+
+-- what the slot's base tells a member that saw its group told
+pub record TellsMember (word : ℕ) (view : View) : Type 0 where
+  pub base : (slot : ℕ) (piece : Piece) (total : ℕ) → view.call ≡ Joined slot piece (Hears false total)
+      → IsHeardBase (view.constants.ring / 4) total piece word
+  pub refusal : (slot : ℕ) (piece : Piece) (total : ℕ) → view.call ≡ Joined slot piece (Hears true total)
+      → IsHeardRefusal view.constants.ring total piece word

@@ -249,6 +249,15 @@ impl Play<(), View> for Publish {
     ghost then = { λ st old n new. (new ≡ (published old.0, old.1)) × Unit {0} };
 }
 
+pub(crate) struct LoadBase;
+
+impl Play<(), View> for LoadBase {
+    ghost use Rattle.std.specs.Prelude.{◌≡◌};
+    ghost use Rattle.log_table.specs.SlotViews.{heard_base, TellsMember};
+
+    ghost then = { λ st old n new. (new ≡ (heard_base n old.0, old.1)) × TellsMember n old.0 };
+}
+
 pub(crate) struct Reopen;
 
 impl Play<(), View> for Reopen {

@@ -4,14 +4,14 @@ ghost use Rattle.log_record.specs.Spelling.{spelling};
 ghost use Rattle.slot_word.specs.declared.phase.Phase.TheVariants.{Pending};
 ghost use Rattle.slot_word.specs.SlotWord.{packed, word_of};
 ghost use Rattle.log_table.specs.Books.{next_of};
-ghost use Rattle.log_table.specs.Events.{IsStep, closes, joins, none, refuses, reopens, stores_base, tells};
+ghost use Rattle.log_table.specs.Events.{IsStep, closes, hears, joins, none, refuses, reopens, stores_base, tells};
 ghost use Rattle.log_table.specs.Layout.{Slot, Base};
-ghost use Rattle.log_table.specs.May.{MayJoinSlot, MayCloseSlot, MayStoreBase, MayStoreGranted, MayStoreRefused, MayPublish, MayReopen};
+ghost use Rattle.log_table.specs.May.{MayJoinSlot, MayCloseSlot, MayStoreBase, MayStoreGranted, MayStoreRefused, MayPublish, MayLoadBase, MayReopen};
 ghost use Rattle.log_table.specs.Seats.{IsOf, Becomes, view_of, number_of, key_of};
-ghost use Rattle.log_table.specs.SlotViews.{saw_slot, joined_slot, closed_slot, stored_base, published, reopened, IsGatheringWord};
+ghost use Rattle.log_table.specs.SlotViews.{saw_slot, joined_slot, closed_slot, stored_base, published, heard_base, reopened, IsGatheringWord, TellsMember};
 
 use crate::layout::{base_place, slot_place};
-use crate::plays::{CloseSlot, JoinSlot, LoadSlot, Number, Publish, Reopen, StoreBase};
+use crate::plays::{CloseSlot, JoinSlot, LoadBase, LoadSlot, Number, Publish, Reopen, StoreBase};
 use crate::table::{LogTable, Seat};
 use slot_word::SlotWord;
 use std::marker::Brand;
@@ -121,6 +121,20 @@ impl LogTable {
         self.table
             .shared
             .store::<Publish>(&mut seat.base, place, told);
+    }
+
+    /// What became of the seat's group, which the seat saw to be told: where the group's range begins, or the tail
+    /// and the durable by which it was refused, in the high and the low half.
+    pub fn load_base(&self, seat: &mut Seat, slot: u32) -> u64
+        requires seat { IsOf self.now seat.old }
+        requires slot { slot < self.now.slots }
+        requires next { MayLoadBase slot (view_of seat.old) }
+        ensures view { Becomes seat.old seat.new (heard_base result (view_of seat.old)) }
+        ensures tells { TellsMember result (view_of seat.old) }
+        ensures event { IsStep (key_of self.now) (number_of seat.old) (Base slot) result result (view_of seat.old) (heard_base result (view_of seat.old)) (hears (number_of seat.old)) }
+    {
+        let place = base_place(self.ring, self.slots, slot);
+        self.table.shared.load::<LoadBase>(&mut seat.base, place)
     }
 
     /// Opens the slot again, whose group has released all. A slot where nobody is has the state 0.
