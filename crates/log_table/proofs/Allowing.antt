@@ -28,7 +28,7 @@ use Rattle.log_table.proofs.Lifting.{allowed-if_step}
 use Rattle.log_table.proofs.Looking.{tail-looks, durable-looks, stop-looks, stop-keeps, tail-tells, exposed-tells, durable-tells}
 use Rattle.log_table.proofs.Flushing.{send-step}
 use Rattle.log_table.proofs.Reading.{read-step, read-tells}
-use Rattle.log_table.proofs.Marking.{mark-step}
+use Rattle.log_table.proofs.GroupMarking.{mark-step}
 use Rattle.log_table.proofs.Raising.{raise-step, raise-tells}
 use Rattle.log_table.proofs.Stopping.{stop-stays, stop-tells, stop-step, crew-looks}
 use Rattle.log_table.proofs.Reserving.{reserve-exchange}

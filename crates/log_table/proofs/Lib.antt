@@ -15,6 +15,8 @@ mod Gathered
 mod Gathering
 mod Giving
 mod GroupEntering
+mod GroupLeaving
+mod GroupMarking
 mod GroupPlacing
 mod Groups
 mod GroupTotals
@@ -40,6 +42,7 @@ pub mod Planning
 mod Raising
 mod Ranging
 mod Reading
+mod RefusedReleasing
 mod Renaming
 mod Reserving
 mod Resting
@@ -53,6 +56,8 @@ mod SlotHearing
 mod SlotJoining
 mod SlotLeading
 mod SlotLooks
+mod SlotReleased
+mod SlotReleasing
 mod SlotReopening
 mod SlotShowing
 mod SlotStoring

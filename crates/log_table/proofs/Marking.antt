@@ -25,7 +25,7 @@ use Rattle.log_table.specs.Log.{Part, Owed, Released, Range, Claim, Log, ranges_
 use Rattle.log_table.specs.Marks.{HasReleaseMarks, HasTrueMark, HasTrueEnds}
 use Rattle.log_table.specs.GroupViews.{follow_up}
 use Rattle.log_table.specs.MarkViews.{marked}
-use Rattle.log_table.specs.May.{MayMark}
+use Rattle.log_table.specs.May.{MayMarkRun}
 use Rattle.log_table.specs.Members.{LoadsForGroup, AwaitsPlace, HasTotalOfWorkers, HasSeenLast}
 use Rattle.log_table.specs.Sound.{HasSeenBoundaries, HasContiguousReservations, SendsIfFlusher, StoresStop, HasReadStop, LookedIfQuiet, HasWorkingOwner, HasConstants, RestsUnlessActive, OwnsIfWorker, HoldsIfActive, IsSound, base_of, books_of}
 use Rattle.lock_core.specs.History.{history_from}
@@ -358,9 +358,9 @@ module _ (key : Start) (words : Words) (views : List View) (me : ℕ) (v : View)
     );
   }
 
-pub mark-step : (key : Start) (me : ℕ) (v : View) (base end ring : ℕ) → key.ring ≡ ring → MayMark base end v → (n : ℕ)
+pub run_mark-step : (key : Start) (me : ℕ) (v : View) (base end ring : ℕ) → key.ring ≡ ring → MayMarkRun base end v → (n : ℕ)
     → IsStep key me (Mark (base % ring)) n end v (marked v) (marks me)
-mark-step key me v base end ring same may n = record {
+run_mark-step key me v base end ring same may n = record {
   leads = λ words views log s here is.
       let index : may.entry.start % key.ring ≡ base % ring = (λ i. sym may.begins i % same i) in
       subst (λ (x : ℕ × ℕ × List Entry × After). Leads key words (record words { mark = put words.mark x.0 x.1 }) views

@@ -27,11 +27,11 @@ use Rattle.log_table.proofs.Wording.{Fits, of_slot, of_base}
 module _ (key : Start) (slots seat : ℕ) (me : Me (Unit {0}) View) where
   module _ (place ring number slot picked : ℕ) (at : place ≡ RING + ring + ring + STRIDE * slot) (same : key.ring ≡ ring)
       (slotted : key.slots ≡ number) (below : slot < number) (is : picked ≡ slot) where
-    fits-slot : Fits key.ring key.slots (length key.accounts.rows) (Slot slot)
+    pub fits-slot : Fits key.ring key.slots (length key.accounts.rows) (Slot slot)
     fits-slot = of_slot slot (subst (λ n. slot < n) (sym slotted) below)
 
     -- the word at that place, with the number as it was picked
-    at-slot : (left : ℕ → ℕ) (then : ℕ → ℕ → Me (Unit {0}) View → Type 0)
+    pub at-slot : (left : ℕ → ℕ) (then : ℕ → ℕ → Me (Unit {0}) View → Type 0)
         → Allows (Ruled key) slots seat me (RING + key.ring + key.ring + STRIDE * slot) left (then slot)
         → Allows (Ruled key) slots seat me place left (then picked)
     at-slot left then allows = subst (λ (p : ℕ × ℕ). Allows (Ruled key) slots seat me p.0 left (then p.1))

@@ -71,7 +71,7 @@ above : (word : ℕ) → nat_lt word (2 ^ 63) ≡ false → 2 ^ 63 ≤ word
 above word off = dite (dec_lt word (2 ^ 63)) (λ less. absurd (true≢false (sym (lt-ltb word (2 ^ 63) less) ∙ off)))
     (λ least. omega (arith, least))
 
-told-total : (outcome : Outcome) (total remaining : ℕ) → total < 2 ^ 31 → remaining < 2 ^ 31 → total_in (told_word outcome total remaining) ≡ total
+pub told-total : (outcome : Outcome) (total remaining : ℕ) → total < 2 ^ 31 → remaining < 2 ^ 31 → total_in (told_word outcome total remaining) ≡ total
 told-total (Granted base) total remaining fits fits' = total_back kind.Published total remaining fits fits'
 told-total (Refused tail durable) total remaining fits fits' = total_back kind.Refused total remaining fits fits'
 

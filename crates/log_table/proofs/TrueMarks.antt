@@ -20,7 +20,7 @@ ready-push at end [] more ready = absurd ready
 ready-push at end (r ∷ rs) more ready = ⊎_elim (λ here. inl here) (λ later. inr (ready-push at end rs more later)) ready
 
 -- one that is not released is exchanged for another
-ready-mid : (at end : ℕ) (ls rs : List Range) (r r' : Range) → (IsReleased r → ⊥) → IsReadyIn at end (ls ++ r ∷ rs) → IsReadyIn at end (ls ++ r' ∷ rs)
+pub ready-mid : (at end : ℕ) (ls rs : List Range) (r r' : Range) → (IsReleased r → ⊥) → IsReadyIn at end (ls ++ r ∷ rs) → IsReadyIn at end (ls ++ r' ∷ rs)
 ready-mid at end [] rs r r' unreleased ready = ⊎_elim (λ (here : IsReady at end r). absurd (unreleased here.released)) (λ later. inr later) ready
 ready-mid at end (l ∷ ls) rs r r' unreleased ready = ⊎_elim (λ here. inl here) (λ later. inr (ready-mid at end ls rs r r' unreleased later)) ready
 

@@ -7,7 +7,7 @@ use Rattle.ring_core.specs.RingLog.{Reservation, RingLog}
 use Rattle.ring_core.specs.declared.event.RingEvent.TheVariants.{Reserve, Fill, Mark, LookExposed, LookMark, Raise, Flushed}
 use Rattle.slot_core.specs.State.{Idle, Works, Marked, Holds, Raises, Task, InRing, Hand, SlotState, nothing, joined, member, group}
 use Rattle.slot_core.specs.State as machine
-use Rattle.slot_core.specs.Machine.{GroupEvent, Join, Close, Place, PutBase, Tell, Hear, Reopen, Ring, GroupStep}
+use Rattle.slot_core.specs.Machine.{GroupEvent, Join, Close, Place, PutBase, Tell, Hear, Reopen, Ring, GroupStep, Release}
 use Rattle.log_table.specs.declared.table.Start.{Start}
 use Rattle.log_table.specs.declared.view.Call.{Call}
 use Rattle.log_table.specs.declared.view.Call.TheVariants as call
@@ -125,6 +125,10 @@ tells seat = One (Tell seat)
 -- the seat hears what became of its group
 abbrev pub hears : ℕ → Event
 hears seat = One (Hear seat)
+
+-- the seat releases its piece of the group
+abbrev pub releases : ℕ → Event
+releases seat = One (Release seat)
 
 -- the seat opens its slot again
 abbrev pub reopens : ℕ → Event

@@ -5,9 +5,9 @@ use lib.Dec.{eqb}
 use Rattle.lsn_space.specs.declared.lsn.TheConstants.{LAST}
 use Rattle.log_table.specs.declared.view.Entry.{Entry}
 use Rattle.log_table.specs.declared.view.Held.{Held}
-use Rattle.log_table.specs.declared.view.Call.TheVariants.{Idle, Filling, Joined, Holding, Raising, Reopening}
+use Rattle.log_table.specs.declared.view.Call.TheVariants.{Idle, Filling, Joined, Emptying, Holding, Raising, Reopening}
 use Rattle.log_table.specs.declared.group_view.After.{After}
-use Rattle.log_table.specs.declared.group_view.MemberStep.TheVariants.{Closes, Hears, Places, Stores, Tells, Fills}
+use Rattle.log_table.specs.declared.group_view.MemberStep.TheVariants.{Closes, Hears, Places, Stores, Tells, Fills, Leaves}
 use Rattle.log_table.specs.declared.group_view.Piece.{Piece}
 use Rattle.log_table.specs.declared.view.Role.TheVariants.{Flusher, Active}
 use Rattle.log_table.specs.declared.view.Seen.{Seen}
@@ -139,12 +139,22 @@ abbrev pub MayFill : ℕ → ℕ → ℕ → View → Type 0
 MayFill slots at unit view = MayFillRun at unit view ⊎ MayFillPiece slots at unit view
 
 -- the run that the seat has reserved is full, begins at the one LSN and ends at the other
-pub record MayMark (base end : ℕ) (view : View) : Type 0 where
+pub record MayMarkRun (base end : ℕ) (view : View) : Type 0 where
   pub entry : Entry
   pub filling : view.call ≡ Filling entry
   pub full : IsFull entry
   pub begins : base ≡ entry.start
   pub ends : end ≡ entry.start + entry.size
+
+-- the seat was the last of a group to release, whose range begins at the one LSN and ends at the other
+pub record MayMarkGroup (base end : ℕ) (view : View) : Type 0 where
+  pub slot : ℕ
+  pub total : ℕ
+  pub emptying : view.call ≡ Emptying slot base total
+  pub ends : end ≡ base + total
+
+abbrev pub MayMark : ℕ → ℕ → View → Type 0
+MayMark base end view = MayMarkRun base end view ⊎ MayMarkGroup base end view
 
 -- the seat has this LSN in hand, and may look at the mark there
 pub record MayLookMark (base : ℕ) (view : View) : Type 0 where
@@ -208,6 +218,26 @@ pub record MayLoadBase (slot : ℕ) (view : View) : Type 0 where
   pub refused : Bool
   pub total : ℕ
   pub hears : view.call ≡ Joined slot piece (Hears refused total)
+
+-- the seat has filled its piece of the group at the slot, which is n units, and releases it
+pub record MayReleaseFilled (slot n : ℕ) (view : View) : Type 0 where
+  pub piece : Piece
+  pub base : ℕ
+  pub units : List ℕ
+  pub fills : view.call ≡ Joined slot piece (Fills base units)
+  pub full : length units ≡ piece.size
+  pub size : n ≡ piece.size
+
+-- the group at the slot was refused, and the seat releases its piece of n units
+pub record MayReleaseRefused (slot n : ℕ) (view : View) : Type 0 where
+  pub piece : Piece
+  pub tail : ℕ
+  pub durable : ℕ
+  pub leaves : view.call ≡ Joined slot piece (Leaves tail durable)
+  pub size : n ≡ piece.size
+
+abbrev pub MayReleaseSlot : ℕ → ℕ → View → Type 0
+MayReleaseSlot slot n view = MayReleaseFilled slot n view ⊎ MayReleaseRefused slot n view
 
 -- the seat has nothing left to do but to open the slot again
 abbrev pub MayReopen : ℕ → View → Type 0

@@ -1,20 +1,22 @@
 -- How the steps on slots change the view of their seat.
-use Rattle.std.specs.Prelude.{◌≡◌, ◌==◌, ℕ, ◌+◌, ◌/◌, ◌%◌, ◌^◌, ◌≤◌, if◌then◌else◌, nat_eq, nat_lt, Bool, true, false, [], ◌∷◌, length}
-use Rattle.slot_word.specs.declared.phase.Phase.TheVariants as kind
-use Rattle.slot_word.specs.SlotWord.{phase_in, total_in, IsSlotWord}
-use Rattle.log_record.specs.Spelling.{spelling}
+use Rattle.std.specs.Prelude.{◌≡◌, ◌==◌, ℕ, ◌+◌, ◌/◌, ◌%◌, ◌^◌, ◌≤◌, if◌then◌else◌, nat_eq, nat_lt, Bool, true, false, [], ◌∷◌, length, List, ◌++◌}
 use Rattle.lsn_space.specs.declared.lsn.TheConstants.{LAST}
+use Rattle.slot_word.specs.declared.phase.Phase.TheVariants as kind
+use Rattle.slot_word.specs.SlotWord.{phase_in, total_in, remaining_in, IsSlotWord}
+use Rattle.log_record.specs.Spelling.{spelling}
 use Rattle.log_table.specs.Books.{next_of, placing}
 use Rattle.log_table.specs.declared.group_view.MemberStep.{MemberStep}
 use Rattle.log_table.specs.declared.group_view.MemberStep.TheVariants.{Closes, Waits, Hears, Places, Stores, Tells, Fills, Leaves}
 use Rattle.log_table.specs.declared.group_view.Piece.{Piece}
 use Rattle.log_table.specs.declared.view.Call.{Call}
 use Rattle.log_table.specs.declared.view.Call.TheVariants.{Idle, Filling, Joined, Emptying, Marked, Holding, Raising, Reopening}
+use Rattle.log_table.specs.declared.view.Entry.{Entry}
 use Rattle.log_table.specs.declared.view.Seen.{Seen}
 use Rattle.log_table.specs.declared.view.View.{View}
 use Rattle.log_table.specs.Groups.{Granted, Refused}
 use Rattle.log_table.specs.Members.{LacksRoom}
 use Rattle.log_table.specs.Views.{counted, saw_tail, seen_tail, reserved}
+use Rattle.log_table.specs.GroupViews.{placed_piece}
 
 -- the slot's state was seen
 abbrev pub seen_slot : ℕ → ℕ → Seen → Seen
@@ -212,6 +214,87 @@ call_published (Reopening slot) = Reopening slot
 -- after a store of the slot's state that told the group
 abbrev pub published : View → View
 published view = record view { seen = counted view.seen; call = call_published view.call }
+
+-- what the last to release has to do: it marks the group's range, or opens the slot again where the group was refused
+abbrev pub call_emptying : ℕ → ℕ → MemberStep → Call
+call_emptying slot total Closes = Idle
+call_emptying slot total Waits = Idle
+call_emptying slot total (Hears refused known) = Idle
+call_emptying slot total (Places known closed) = Idle
+call_emptying slot total (Stores known base) = Idle
+call_emptying slot total (Tells known outcome) = Idle
+call_emptying slot total (Fills base units) = Emptying slot base total
+call_emptying slot total (Leaves tail durable) = Reopening slot
+
+-- the call after a release that found this word: the last of the members finds that no more remained than its piece
+abbrev pub call_released : ℕ → Call → Call
+call_released word Idle = Idle
+call_released word (Filling entry) = Filling entry
+call_released word (Joined slot piece step) = if remaining_in word == piece.size then call_emptying slot (total_in word) step else Idle
+call_released word (Emptying slot base total) = Emptying slot base total
+call_released word (Marked after) = Marked after
+call_released word (Holding at after) = Holding at after
+call_released word (Raising from to after) = Raising from to after
+call_released word (Reopening slot) = Reopening slot
+
+-- the piece of a member that has heard where it lies in the log
+abbrev pub piece_heard : Piece → MemberStep → List Entry
+piece_heard piece Closes = []
+piece_heard piece Waits = []
+piece_heard piece (Hears refused total) = []
+piece_heard piece (Places total closed) = []
+piece_heard piece (Stores total base) = []
+piece_heard piece (Tells total outcome) = []
+piece_heard piece (Fills base units) = placed_piece base units piece ∷ []
+piece_heard piece (Leaves tail durable) = []
+
+abbrev pub piece_in : Call → List Entry
+piece_in Idle = []
+piece_in (Filling entry) = []
+piece_in (Joined slot piece step) = piece_heard piece step
+piece_in (Emptying slot base total) = []
+piece_in (Marked after) = []
+piece_in (Holding at after) = []
+piece_in (Raising from to after) = []
+piece_in (Reopening slot) = []
+
+-- After a subtraction from the slot's state by which the member released its piece, and which found this word. A piece that lies in the
+-- log is one of the seat's entries then.
+abbrev pub released_piece : ℕ → View → View
+released_piece word view = record view {
+  seen = seen_slot (slot_in view.call) word view.seen;
+  entries = view.entries ++ piece_in view.call;
+  call = call_released word view.call;
+}
+
+-- the word is that of a group which is told as a member at this step has heard; the range that it heard of lies in the log
+abbrev pub IsAsHeard : MemberStep → ℕ → Type 0
+IsAsHeard Closes word = Unit {0}
+IsAsHeard Waits word = Unit {0}
+IsAsHeard (Hears refused total) word = Unit {0}
+IsAsHeard (Places total closed) word = Unit {0}
+IsAsHeard (Stores total base) word = Unit {0}
+IsAsHeard (Tells total outcome) word = Unit {0}
+IsAsHeard (Fills base units) word = (phase_in word ≡ kind.Published) × (base + total_in word ≤ LAST)
+IsAsHeard (Leaves tail durable) word = phase_in word ≡ kind.Refused
+
+abbrev pub IsAsHeardIn : Call → ℕ → Type 0
+IsAsHeardIn Idle word = Unit {0}
+IsAsHeardIn (Filling entry) word = Unit {0}
+IsAsHeardIn (Joined slot piece step) word = IsAsHeard step word
+IsAsHeardIn (Emptying slot base total) word = Unit {0}
+IsAsHeardIn (Marked after) word = Unit {0}
+IsAsHeardIn (Holding at after) word = Unit {0}
+IsAsHeardIn (Raising from to after) word = Unit {0}
+IsAsHeardIn (Reopening slot) word = Unit {0}
+
+-- what a release of n units finds: the group is told as the member has heard, these units remain, and the total is at most so many
+pub record HasToRelease (most n : ℕ) (call : Call) (word : ℕ) : Type 0 where
+  pub slot_word : IsSlotWord word
+  pub heard : IsAsHeardIn call word
+  pub remain : n ≤ remaining_in word
+  pub within : remaining_in word ≤ total_in word
+  pub few : total_in word ≤ most
 
 -- after a store of the slot's state that opened the slot again
 abbrev pub reopened : View → View

@@ -258,6 +258,15 @@ impl Play<(), View> for LoadBase {
     ghost then = { λ st old n new. (new ≡ (heard_base n old.0, old.1)) × TellsMember n old.0 };
 }
 
+pub(crate) struct ReleaseSlot;
+
+impl Play<(), View> for ReleaseSlot {
+    ghost use Rattle.std.specs.Prelude.{◌≡◌, ◌/◌};
+    ghost use Rattle.log_table.specs.SlotViews.{released_piece, HasToRelease};
+
+    ghost then = { λ st old n new. (new ≡ (released_piece n old.0, old.1)) × HasToRelease (old.0.constants.ring / 4) st.first old.0.call n };
+}
+
 pub(crate) struct Reopen;
 
 impl Play<(), View> for Reopen {

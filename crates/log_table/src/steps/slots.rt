@@ -1,17 +1,19 @@
 //! The slots: workers that lost an exchange of the tail gather there, and one reserves for all.
-ghost use Rattle.std.specs.Prelude.{ℕ, ◌≡◌, ◌≢◌, ◌<◌, ◌/◌, length, OnOk, IfErr};
+ghost use Rattle.std.specs.Prelude.{ℕ, ◌≡◌, ◌≢◌, ◌<◌, ◌-◌, ◌/◌, length, OnOk, IfErr};
 ghost use Rattle.log_record.specs.Spelling.{spelling};
 ghost use Rattle.slot_word.specs.declared.phase.Phase.TheVariants.{Pending};
 ghost use Rattle.slot_word.specs.SlotWord.{packed, word_of};
 ghost use Rattle.log_table.specs.Books.{next_of};
-ghost use Rattle.log_table.specs.Events.{IsStep, closes, hears, joins, none, refuses, reopens, stores_base, tells};
+ghost use Rattle.log_table.specs.Events.{IsStep, closes, hears, joins, none, refuses, reopens, stores_base, tells, releases};
 ghost use Rattle.log_table.specs.Layout.{Slot, Base};
-ghost use Rattle.log_table.specs.May.{MayJoinSlot, MayCloseSlot, MayStoreBase, MayStoreGranted, MayStoreRefused, MayPublish, MayLoadBase, MayReopen};
+ghost use Rattle.log_table.specs.May.{MayJoinSlot, MayCloseSlot, MayStoreBase, MayStoreGranted, MayStoreRefused, MayPublish, MayLoadBase, MayReopen, MayReleaseSlot};
 ghost use Rattle.log_table.specs.Seats.{IsOf, Becomes, view_of, number_of, key_of};
-ghost use Rattle.log_table.specs.SlotViews.{saw_slot, joined_slot, closed_slot, stored_base, published, heard_base, reopened, IsGatheringWord, TellsMember};
+ghost use Rattle.log_table.specs.SlotViews.{saw_slot, joined_slot, closed_slot, stored_base, published, heard_base, reopened, IsGatheringWord, TellsMember, released_piece, HasToRelease};
 
 use crate::layout::{base_place, slot_place};
-use crate::plays::{CloseSlot, JoinSlot, LoadBase, LoadSlot, Number, Publish, Reopen, StoreBase};
+use crate::plays::{
+    CloseSlot, JoinSlot, LoadBase, LoadSlot, Number, Publish, ReleaseSlot, Reopen, StoreBase,
+};
 use crate::table::{LogTable, Seat};
 use slot_word::SlotWord;
 use std::marker::Brand;
@@ -135,6 +137,26 @@ impl LogTable {
     {
         let place = base_place(self.ring, self.slots, slot);
         self.table.shared.load::<LoadBase>(&mut seat.base, place)
+    }
+
+    /// Releases the seat's piece of the group at the slot, which is `n` units: it is filled, or the group was
+    /// refused. Answers the slot's state before. The last member, which finds that no more remained, has the
+    /// group's range to mark, or of a refused group the slot to open.
+    pub fn release_slot(&self, seat: &mut Seat, slot: u32, n: u32) -> SlotWord
+        requires seat { IsOf self.now seat.old }
+        requires slot { slot < self.now.slots }
+        requires next { MayReleaseSlot slot n (view_of seat.old) }
+        ensures view { Becomes seat.old seat.new (released_piece (word_of result) (view_of seat.old)) }
+        ensures told { HasToRelease ((view_of seat.old).constants.ring / 4) n (view_of seat.old).call (word_of result) }
+        ensures event { IsStep (key_of self.now) (number_of seat.old) (Slot slot) (word_of result) (word_of result - n) (view_of seat.old) (released_piece (word_of result) (view_of seat.old)) (releases (number_of seat.old)) }
+    {
+        let place = slot_place(self.ring, slot);
+        let piece = n as u64;
+        let word = self
+            .table
+            .shared
+            .fetch_sub::<ReleaseSlot>(&mut seat.base, place, piece);
+        SlotWord::unpack(word)
     }
 
     /// Opens the slot again, whose group has released all. A slot where nobody is has the state 0.

@@ -2,7 +2,7 @@ use Rattle.std.proofs.Common.{arith, ℕ, ◌%◌, ◌<◌, mod-lt, refl, sym, s
 use Rattle.log_table.specs.May.{MayMark}
 use Rattle.log_table.specs.Seats.{view_of, number_of, key_of}
 use Rattle.log_table.proofs.Allowing.{store_mark-allowed}
-use Rattle.log_table.proofs.Marking.{mark-step}
+use Rattle.log_table.proofs.GroupMarking.{mark-step}
 use Rattle.log_table.proofs.table.LogTable.store_mark.Goals as goal
 
 pub store-requires : goal.store-requires

@@ -1,0 +1,42 @@
+use Rattle.std.proofs.Common.{rules, arith, ◌≡◌, ◌^◌, ◌<◌, ◌/◌, ◌∙◌, refl, sym, ap, subst}
+use Rattle.slot_word.specs.SlotWord.{packed, word_of}
+use Rattle.slot_word.proofs.SlotWordLemmas.{word_back}
+use Rattle.log_table.specs.Seats.{view_of, number_of, key_of}
+use Rattle.log_table.specs.SlotViews.{released_piece, HasToRelease}
+use Rattle.log_table.proofs.SlotReleased.{release_slot-allowed, release-step, less-minus}
+use Rattle.log_table.proofs.table.LogTable.release_slot.Goals as goal
+
+pub fetch_sub-word-requires : goal.fetch_sub-word-requires
+fetch_sub-word-requires c = (
+  c.requires.seat.table_is,
+  omega (arith, c.args.self.now.sized, c.slot_place-place.ensures, c.requires.slot),
+  release_slot-allowed (key_of c.args.self.now) _ (number_of c.args.seat.now) c.args.seat.now.base.me _ _ _ _ _ c.slot_place-place.ensures
+      c.args.self.now.keyed c.args.self.now.slotted c.requires.slot c.requires.next,
+)
+
+pub unpack-requires : goal.unpack-requires
+unpack-requires c = c.fetch_sub-word.ensures.2.1.slot_word
+
+pub returns-clause-view : goal.returns-clause-view
+returns-clause-view c =
+    let step = c.fetch_sub-word.ensures in
+    let small : c.fetch_sub-word.result < 2 ^ 64 = search rules in
+    let is : c.fetch_sub-word.result ≡ word_of c.unpack.result =
+    sym (word_back c.fetch_sub-word.result small)
+    ∙ (λ i. packed (sym c.unpack.ensures.phase i) (sym c.unpack.ensures.total i) (sym c.unpack.ensures.remaining i)) in record {
+      table_is = step.0;
+      number = step.1;
+      me = step.2.0 ∙ ap (λ word. (released_piece word (view_of c.args.seat.now), c.args.seat.now.base.me.1)) is;
+      worker = refl;
+    }
+
+pub returns-clause-told : goal.returns-clause-told
+returns-clause-told c =
+    let small : c.fetch_sub-word.result < 2 ^ 64 = search rules in
+    let is : c.fetch_sub-word.result ≡ word_of c.unpack.result =
+    sym (word_back c.fetch_sub-word.result small)
+    ∙ (λ i. packed (sym c.unpack.ensures.phase i) (sym c.unpack.ensures.total i) (sym c.unpack.ensures.remaining i)) in
+    subst (HasToRelease ((view_of c.args.seat.now).constants.ring / 4) c.args.n (view_of c.args.seat.now).call) is c.fetch_sub-word.ensures.2.1
+
+pub returns-clause-event : goal.returns-clause-event
+returns-clause-event c = release-step _ _ _ _ _ _ c.args.self.now.slotted c.requires.slot c.requires.next _ _ (less-minus _ _)
