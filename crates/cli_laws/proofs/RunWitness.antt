@@ -243,7 +243,9 @@ workers = record { count = refl; taken = refl; each = has-share }
 
 -- ---- the turns
 
-module _ (d : Daemon ℕ (List ℕ)) (of : IsOf d.flusher.table.now d.flusher.seat) (ring : d.flusher.table.now.ring ≡ 1024) where
+module _ (d : Daemon ℕ (List ℕ)) (of : IsOf d.flusher.table.now d.flusher.seat) (ring : d.flusher.table.now.ring ≡ 1024)
+    (slots : d.flusher.table.now.slots ≡ 0)
+  where
   -- the seat with this view
   abbrev seat_with : (v : View) → v.standing.worker ≡ 0 → Seat
   seat_with v is = record { base = record d.flusher.seat.base { me = (v, []) }; worker = 0; named = sym is }
@@ -269,7 +271,7 @@ module _ (d : Daemon ℕ (List ℕ)) (of : IsOf d.flusher.table.now d.flusher.se
   may-turn : MayTurn (plain_disk file_at) new
   may-turn = record {
     flusher = record {
-      seat = record { table_is = of.table_is; no_slots = refl; ring = sym ring };
+      seat = record { table_is = of.table_is; no_slots = refl; ring = sym ring; slots = sym slots };
       flusher = refl;
       unread = refl;
       seen = (0, omega arith, refl);

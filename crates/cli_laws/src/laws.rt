@@ -108,11 +108,11 @@ pub fn told_commits_are_held<D: LogDisk>()
     ensures met { HasToldPayment }
 {}
 
-/// A witness that the premises of the law on runs can be met, all at once: with any daemon whose seat is its table's there
-/// is a run of one transfer, and one that finds no room for it at the end of the log.
+/// A witness that the premises of the law on runs can be met, all at once: with any daemon whose seat is its table's, which has no
+/// slots, there is a run of one transfer, and one that finds no room for it at the end of the log.
 pub fn one_payment_is_made()
     ensures made { (d : Daemon ℕ (List ℕ)) → IsOf d.flusher.table.now d.flusher.seat → d.flusher.table.now.ring ≡ 1024
-        → HasMadePayment }
+        → d.flusher.table.now.slots ≡ 0 → HasMadePayment }
     ensures log_end { Daemon ℕ (List ℕ) → HasHitLogEnd }
 {}
 

@@ -28,6 +28,7 @@ module _ (old new : Seat) (left : Becomes old new (retired (view_of old))) where
     table_is = left.table_is ∙ of.table_is;
     no_slots = ap (λ me. me.1) left.me ∙ of.no_slots;
     ring = ap (λ (view : View). view.constants.ring) view-left ∙ of.ring;
+    slots = ap (λ (view : View). view.constants.slots) view-left ∙ of.slots;
   }
 
 module _ (jobs : Jobs) (number : ℕ) where

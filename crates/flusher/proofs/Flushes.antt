@@ -129,6 +129,7 @@ MayFlush-step g f seat view ready becomes constants standing sent read seen =
         table_is = becomes.table_is ∙ ready.seat.table_is;
         no_slots = ap (λ m. m.1) becomes.me ∙ ready.seat.no_slots;
         ring = ap (λ k. k.ring) constants_are ∙ ready.seat.ring;
+        slots = ap (λ k. k.slots) constants_are ∙ ready.seat.slots;
       };
       flusher = ap (λ v. v.standing.role) view_is ∙ ap (λ s. s.role) standing ∙ ready.flusher;
       unread = ap (λ v. v.sending.read) view_is ∙ read ∙ ready.unread;

@@ -22,6 +22,7 @@ pub record IsOf (table : LogTable) (seat : Seat) : Type 0 where
   pub table_is : seat.base.table_id ≡ table.table.shared.table_id
   pub no_slots : seat.base.me.1 ≡ []
   pub ring : (view_of seat).constants.ring ≡ table.ring
+  pub slots : (view_of seat).constants.slots ≡ table.slots
 
 -- the seat is the same one, with this view
 pub record Becomes (old new : Seat) (view : View) : Type 0 where

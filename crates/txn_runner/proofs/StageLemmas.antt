@@ -54,6 +54,7 @@ IsOf-same table first second of same = record {
   table_is = same.table_is ∙ of.table_is;
   no_slots = same.slots ∙ of.no_slots;
   ring = ap (λ (constants : Constants). constants.ring) same.constants ∙ of.ring;
+  slots = ap (λ (constants : Constants). constants.slots) same.constants ∙ of.slots;
 }
 
 pub IsReady-same : (first second : Seat) → IsReady (view_of first) → IsSameWorker first second → (view_of second).call ≡ Idle

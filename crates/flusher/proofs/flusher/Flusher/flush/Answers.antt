@@ -91,6 +91,7 @@ returns-clause-ready g c =
         table_is = seat.table_is ∙ c.requires.ready.seat.table_is;
         no_slots = ap (λ m. m.1) seat.me ∙ c.requires.ready.seat.no_slots;
         ring = ap (λ m. m.0.constants.ring) seat.me ∙ c.requires.ready.seat.ring;
+        slots = ap (λ m. m.0.constants.slots) seat.me ∙ c.requires.ready.seat.slots;
       };
       flusher = ap (λ m. m.0.standing.role) seat.me ∙ c.requires.ready.flusher;
       unread = ap (λ m. m.0.sending.read) seat.me;
