@@ -1,14 +1,15 @@
 -- What a seat has in hand while it raises exposed.
 use Rattle.std.proofs.Common.{arith, ◌≡◌, ◌∙◌, ℕ, ◌+◌, ◌<◌, ◌≤◌, nat_lt, cond, Bool, true, false, ap, sym, refl, subst, le_refl, lt-ltb, ltb-true}
 use Rattle.log_table.specs.declared.table.Seat.{Seat}
-use Rattle.log_table.specs.declared.group_view.After.TheVariants.{Nothing}
-use Rattle.log_table.specs.declared.view.Call.TheVariants.{Idle, Marked, Holding, Raising}
+use Rattle.log_table.specs.declared.group_view.After.{After}
+use Rattle.log_table.specs.declared.view.Call.TheVariants.{Marked, Holding, Raising}
 use Rattle.log_table.specs.declared.view.View.{View}
+use Rattle.log_table.specs.GroupViews.{call_after, follow_up}
 use Rattle.log_table.specs.MarkViews.{saw_mark, after_raise, next_raise, in_hand, call_with_mark, call_with_exposed}
 use Rattle.log_table.specs.May.{MayRaise}
 use Rattle.log_table.specs.Seats.{Becomes, view_of}
 use Rattle.log_table.specs.Views.{saw_exposed, after_look}
-use Rattle.ring_buffer.specs.Calls.{IsSameWorker, HasEntries, HasInHand, IsLastExposed, HasExposed, HasOnlySeen}
+use Rattle.ring_buffer.specs.Calls.{HasMarked, HasInHand, HasExposed, HasOnlySeen}
 use Rattle.ring_buffer.proofs.OneStep.{IsSameWorker-becomes}
 use Rattle.ring_buffer.proofs.TwoCalls.{IsSameWorker-trans}
 
@@ -24,13 +25,12 @@ HasOnlySeen-trans first second third before after = record {
 pub record Exposes (first seat : Seat) (at : ℕ) : Type 0 where
   pub stays : HasOnlySeen first seat
   pub hand : HasInHand at (view_of seat)
+  pub after : follow_up (view_of seat).call ≡ follow_up (view_of first).call
   pub grows : (view_of first).seen.exposed ≤ at
 
--- once there is nothing left to expose
-pub HasEntries-exposed : (first seat : Seat) (at : ℕ) → HasOnlySeen first seat → HasExposed at (view_of seat)
-    → HasEntries first seat (view_of first).entries (view_of first).books
-HasEntries-exposed first seat at stays over =
-    record { same = stays.same; idle = over.idle; entries_are = stays.entries; books_are = stays.books }
+-- a call that is a mark's
+pub HasMarked-call : (view : View) (after : After) → view.call ≡ Marked after → HasMarked view
+HasMarked-call view after is = is ∙ sym (ap (λ call. Marked (follow_up call)) is)
 
 -- after the look at exposed
 module _ (first seat : Seat) (at : ℕ) (becomes : Becomes first seat (saw_exposed at (view_of first))) where
@@ -53,24 +53,28 @@ module _ (first seat : Seat) (at : ℕ) (becomes : Becomes first seat (saw_expos
     stop = ap (λ (v : View). v.seen.stop) is;
   }
 
-  pub Exposes-looked : (view_of first).call ≡ Marked Nothing → (view_of first).seen.exposed ≤ at → Exposes first seat at
+  call-looked : HasMarked (view_of first) → (view_of seat).call ≡ Holding at (follow_up (view_of first).call)
+  call-looked marked = ap (λ (v : View). v.call) is ∙ ap (after_look at) marked
+
+  pub Exposes-looked : HasMarked (view_of first) → (view_of first).seen.exposed ≤ at → Exposes first seat at
   Exposes-looked marked grows = record {
     stays = HasOnlySeen-looked grows;
     hand = record {
-      call = ap (λ (v : View). v.call) is ∙ ap (after_look at) marked;
+      call = call-looked marked ∙ sym (ap (λ call. Holding at (follow_up call)) (call-looked marked));
       exposed = ap (λ (v : View). v.seen.exposed) is;
       step = ap (λ (v : View). v.seen.exposed_step) is ∙ sym (ap (λ (v : View). v.seen.steps) is);
     };
+    after = ap follow_up (call-looked marked);
     grows = grows;
   }
 
-pub next_raise-above : (at mark : ℕ) → at < mark → next_raise at mark Nothing ≡ Raising at mark Nothing
-next_raise-above at mark above = ap (λ b. cond b (Raising at mark Nothing) Idle) (lt-ltb at mark above)
+pub next_raise-above : (at mark : ℕ) (after : After) → at < mark → next_raise at mark after ≡ Raising at mark after
+next_raise-above at mark after above = ap (λ b. cond b (Raising at mark after) (call_after after)) (lt-ltb at mark above)
 
-next_raise-below : (at mark : ℕ) → mark ≤ at → next_raise at mark Nothing ≡ Idle
-next_raise-below at mark below = by_test (nat_lt at mark) refl
+next_raise-below : (at mark : ℕ) (after : After) → mark ≤ at → next_raise at mark after ≡ call_after after
+next_raise-below at mark after below = by_test (nat_lt at mark) refl
   where
-    by_test : (b : Bool) → nat_lt at mark ≡ b → cond b (Raising at mark Nothing) Idle ≡ Idle
+    by_test : (b : Bool) → nat_lt at mark ≡ b → cond b (Raising at mark after) (call_after after) ≡ call_after after
     by_test true is = let less = ltb-true at mark is in absurd (omega arith)
     by_test false is = refl
 
@@ -79,8 +83,11 @@ module _ (seat after : Seat) (at mark : ℕ) (hand : HasInHand at (view_of seat)
   looked-is : view_of after ≡ saw_mark mark (view_of seat)
   looked-is = ap (λ me. me.0) becomes.me
 
-  call-looked : (view_of after).call ≡ next_raise at mark Nothing
-  call-looked = ap (λ (v : View). v.call) looked-is ∙ ap (call_with_mark mark) hand.call
+  abbrev rest : After
+  rest = follow_up (view_of seat).call
+
+  call-marked : (view_of after).call ≡ next_raise at mark rest
+  call-marked = ap (λ (v : View). v.call) looked-is ∙ ap (call_with_mark mark) hand.call
 
   pub HasOnlySeen-marked : HasOnlySeen seat after
   HasOnlySeen-marked = record {
@@ -99,9 +106,9 @@ module _ (seat after : Seat) (at mark : ℕ) (hand : HasInHand at (view_of seat)
   }
 
   -- none above it
-  pub HasExposed-below : mark ≤ at → HasExposed at (view_of after)
+  pub HasExposed-below : mark ≤ at → HasExposed at (view_of seat) (view_of after)
   HasExposed-below below = record {
-    idle = call-looked ∙ next_raise-below at mark below;
+    call = call-marked ∙ next_raise-below at mark rest below;
     last = record {
       exposed = ap (λ (v : View). v.seen.exposed) looked-is ∙ hand.exposed;
       just_before = ap (λ (v : View). v.seen.exposed_step + 1) looked-is ∙ (ap (λ n. n + 1) hand.step ∙ sym (ap (λ (v : View). v.seen.steps) looked-is));
@@ -111,11 +118,11 @@ module _ (seat after : Seat) (at mark : ℕ) (hand : HasInHand at (view_of seat)
   }
 
   -- one above it: exposed is to be raised
-  raises-above : at < mark → (view_of after).call ≡ Raising at mark Nothing
-  raises-above above = call-looked ∙ next_raise-above at mark above
+  raises-above : at < mark → (view_of after).call ≡ Raising at mark rest
+  raises-above above = call-marked ∙ next_raise-above at mark rest above
 
   pub MayRaise-above : at < mark → MayRaise at mark (view_of after)
-  MayRaise-above above = record { after = Nothing; raising = raises-above above }
+  MayRaise-above above = record { after = rest; raising = raises-above above }
 
   -- and after the exchange of exposed, which is at `found` then
   module _ (last : Seat) (found : ℕ) (greater : at < found) (raised : Becomes after last (after_raise found (view_of after))) where
@@ -140,9 +147,12 @@ module _ (seat after : Seat) (at mark : ℕ) (hand : HasInHand at (view_of seat)
           stop = ap (λ (v : View). v.seen.stop) raised-is;
         }
 
+    call-raised : at < mark → (view_of last).call ≡ Holding found rest
+    call-raised above = ap (λ (v : View). v.call) raised-is ∙ ap (call_with_exposed found) (raises-above above)
+
     pub HasInHand-raised : at < mark → HasInHand found (view_of last)
     HasInHand-raised above = record {
-      call = ap (λ (v : View). v.call) raised-is ∙ ap (call_with_exposed found) (raises-above above);
+      call = call-raised above ∙ sym (ap (λ call. Holding found (follow_up call)) (call-raised above));
       exposed = ap (λ (v : View). v.seen.exposed) raised-is;
       step = ap (λ (v : View). v.seen.exposed_step) raised-is ∙ sym (ap (λ (v : View). v.seen.steps) raised-is);
     }

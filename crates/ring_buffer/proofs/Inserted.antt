@@ -1,13 +1,15 @@
 -- What a seat has once it has filled a range, and then marked it and exposed.
 use Rattle.std.proofs.Common.{arith, ◌≡◌, ◌∙◌, ℕ, ◌≤◌, List, [], ◌∷◌, ◌++◌, length, ap, sym, refl, le_refl}
 use Rattle.log_table.specs.declared.table.Seat.{Seat}
-use Rattle.log_table.specs.declared.view.Call.TheVariants.{Filling}
+use Rattle.log_table.specs.declared.group_view.After.TheVariants.{Nothing}
+use Rattle.log_table.specs.declared.view.Call.TheVariants.{Idle, Filling, Marked}
 use Rattle.log_table.specs.declared.view.Entry.{Entry}
 use Rattle.log_table.specs.declared.view.View.{View}
+use Rattle.log_table.specs.GroupViews.{call_after, follow_up}
 use Rattle.log_table.specs.MarkViews.{marked}
 use Rattle.log_table.specs.Seats.{Becomes, view_of}
 use Rattle.log_table.specs.Views.{run_in}
-use Rattle.ring_buffer.specs.Calls.{HasReserved, HasFilled, IsSameWorker, HasEntries, filled_with, with_units}
+use Rattle.ring_buffer.specs.Calls.{HasReserved, HasFilled, IsSameWorker, HasOnlySeen, HasExposed, filled_with, with_units}
 use Rattle.ring_buffer.specs.declared.call.Range.{Range}
 use Rattle.ring_buffer.proofs.OneStep.{IsSameWorker-becomes}
 use Rattle.ring_buffer.proofs.TwoCalls.{IsSameWorker-trans}
@@ -26,7 +28,7 @@ HasFilled-reserved range units steps placed filled reserved fills = record {
 module _ (placed filled done last : Seat) (units : List ℕ) (steps : ℕ)
     (fills : Becomes placed filled (with_units units steps (view_of placed)))
     (marks : Becomes filled done (marked (view_of filled)))
-    (exposes : HasEntries done last (view_of done).entries (view_of done).books)
+    (at : ℕ) (stays : HasOnlySeen done last) (over : HasExposed at (view_of done) (view_of last))
   where
     filled-is : view_of filled ≡ with_units units steps (view_of placed)
     filled-is = ap (λ me. me.0) fills.me
@@ -56,15 +58,22 @@ module _ (placed filled done last : Seat) (units : List ℕ) (steps : ℕ)
           durable = le_refl (view_of filled).seen.durable;
           steps = omega arith;
         })
-        exposes.same)
+        stays.same)
 
     pub entries-inserted : (entry : Entry) → filled_with units (view_of placed).call ≡ Filling entry → (view_of last).entries ≡ (view_of placed).entries ++ entry ∷ []
     entries-inserted entry filling =
-        exposes.entries_are ∙ (ap (λ (v : View). v.entries) done-is
+        stays.entries ∙ (ap (λ (v : View). v.entries) done-is
         ∙ ((λ i. (filled-is i).entries ++ run_in (filled-is i).call) ∙ ap (λ call. (view_of placed).entries ++ run_in call) filling))
 
-    pub books-inserted : (view_of last).books ≡ (view_of placed).books
-    books-inserted = exposes.books_are ∙ (ap (λ (v : View). v.books) done-is ∙ ap (λ (v : View). v.books) filled-is)
+    pub call-inserted : (entry : Entry) → filled_with units (view_of placed).call ≡ Filling entry → (view_of done).call ≡ Marked Nothing
+    call-inserted entry filling =
+        ap (λ (v : View). v.call) done-is ∙ ap (λ call. Marked (follow_up call)) ((λ i. (filled-is i).call) ∙ filling)
 
-    pub stop-inserted : (view_of last).seen.stop ≡ (view_of done).seen.stop → (view_of last).seen.stop ≡ (view_of placed).seen.stop
-    stop-inserted stays = stays ∙ (ap (λ (v : View). v.seen.stop) done-is ∙ ap (λ (v : View). v.seen.stop) filled-is)
+    pub idle-inserted : (entry : Entry) → filled_with units (view_of placed).call ≡ Filling entry → (view_of last).call ≡ Idle
+    idle-inserted entry filling = over.call ∙ ap (λ call. call_after (follow_up call)) (call-inserted entry filling)
+
+    pub books-inserted : (view_of last).books ≡ (view_of placed).books
+    books-inserted = stays.books ∙ (ap (λ (v : View). v.books) done-is ∙ ap (λ (v : View). v.books) filled-is)
+
+    pub stop-inserted : (view_of last).seen.stop ≡ (view_of placed).seen.stop
+    stop-inserted = stays.stop ∙ (ap (λ (v : View). v.seen.stop) done-is ∙ ap (λ (v : View). v.seen.stop) filled-is)

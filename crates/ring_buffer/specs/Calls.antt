@@ -5,7 +5,6 @@ use Rattle.log_table.specs.declared.table.Seat.{Seat}
 use Rattle.log_record.specs.declared.rec.Rec.{Rec}
 use Rattle.log_record.specs.Spelling.{spelling}
 use Rattle.log_table.specs.declared.view.Books.{Books}
-use Rattle.log_table.specs.declared.group_view.After.TheVariants.{Nothing}
 use Rattle.log_table.specs.declared.group_view.MemberStep.{MemberStep}
 use Rattle.log_table.specs.declared.group_view.MemberStep.TheVariants.{Closes, Waits, Hears, Places, Stores, Tells, Fills, Leaves}
 use Rattle.log_table.specs.declared.view.Call.{Call}
@@ -14,6 +13,7 @@ use Rattle.log_table.specs.declared.view.Entry.{Entry}
 use Rattle.log_table.specs.declared.view.Seen.{Seen}
 use Rattle.log_table.specs.declared.view.View.{View}
 use Rattle.log_table.specs.Books.{next_of, placing, MayEnter}
+use Rattle.log_table.specs.GroupViews.{call_after, follow_up}
 use Rattle.log_table.specs.Log.{IsFull}
 use Rattle.log_table.specs.May.{IsAtRest, HasLooked}
 use Rattle.log_table.specs.Seats.{Becomes, view_of}
@@ -132,9 +132,13 @@ pub record HasFilled (range : Range) (view : View) : Type 0 where
   pub size : entry.size ≡ range.size
   pub full : IsFull entry
 
+-- the seat has marked a range, and not looked at exposed since
+abbrev pub HasMarked : View → Type 0
+HasMarked view = view.call ≡ Marked (follow_up view.call)
+
 -- the seat's last step saw exposed at this LSN, and it has that in hand
 pub record HasInHand (lsn : ℕ) (view : View) : Type 0 where
-  pub call : view.call ≡ Holding lsn Nothing
+  pub call : view.call ≡ Holding lsn (follow_up view.call)
   pub exposed : view.seen.exposed ≡ lsn
   pub step : view.seen.exposed_step ≡ view.seen.steps
 
@@ -145,11 +149,6 @@ pub record IsLastExposed (lsn : ℕ) (seen : Seen) : Type 0 where
   pub just_before : seen.exposed_step + 1 ≡ seen.steps
   pub looked : seen.mark_at ≡ lsn
   pub unready : seen.mark ≤ lsn
-
--- the seat has nothing left to expose
-pub record HasExposed (lsn : ℕ) (view : View) : Type 0 where
-  pub idle : view.call ≡ Idle
-  pub last : IsLastExposed lsn view.seen
 
 -- it is the same worker's seat, and it has seen no less
 pub record IsSameWorker (old new : Seat) : Type 0 where
@@ -171,6 +170,12 @@ pub record HasOnlySeen (old new : Seat) : Type 0 where
   pub entries : (view_of new).entries ≡ (view_of old).entries
   pub books : (view_of new).books ≡ (view_of old).books
   pub stop : (view_of new).seen.stop ≡ (view_of old).seen.stop
+
+-- The seat has nothing left to expose, which it did since its view was `old`. It has nothing under way, or where the range was a group's it
+-- is about to open the slot again.
+pub record HasExposed (lsn : ℕ) (old new : View) : Type 0 where
+  pub call : new.call ≡ call_after (follow_up old.call)
+  pub last : IsLastExposed lsn new.seen
 
 -- the seat has nothing under way, these entries and these books, which tell the accounts that it gave back
 pub record HasEntries (old new : Seat) (entries : List Entry) (books : Books) : Type 0 where

@@ -1,10 +1,9 @@
 //! A range is released, and exposed is raised past what is released.
 ghost use Rattle.std.specs.Prelude.{◌≡◌, ◌≤◌, ◌<◌, IfSome, IfNone};
-ghost use Rattle.log_table.specs.declared.group_view.After.TheVariants.{Nothing};
-ghost use Rattle.log_table.specs.declared.view.Call.TheVariants.{Marked};
+ghost use Rattle.log_table.specs.GroupViews.{follow_up};
 ghost use Rattle.log_table.specs.MarkViews.{marked};
 ghost use Rattle.log_table.specs.Seats.{IsOf, Becomes, view_of};
-ghost use Rattle.ring_buffer.specs.Calls.{HasFilled, HasEntries, HasInHand, HasExposed, HasOnlySeen, IsLastExposed};
+ghost use Rattle.ring_buffer.specs.Calls.{HasFilled, HasMarked, HasInHand, HasExposed, HasOnlySeen};
 
 use crate::call::Filled;
 use log_table::{LogTable, Seat};
@@ -21,15 +20,14 @@ pub fn finish(table: &LogTable, seat: &mut Seat, filled: Filled)
 }
 
 /// Raises exposed past each released range that it has come to, this worker's or another's, and answers
-/// where it saw exposed last; no released range began there. It returns: each exchange, made or lost,
-/// shows a greater LSN.
+/// where it saw exposed last; no released range began there. Who marked a group's range has the slot still
+/// to open again. It returns: each exchange, made or lost, shows a greater LSN.
 pub fn expose(table: &LogTable, seat: &mut Seat) -> Lsn
     requires seat { IsOf table.now seat.old }
-    requires marked { (view_of seat.old).call ≡ Marked Nothing }
-    ensures entries { HasEntries seat.old seat.new (view_of seat.old).entries (view_of seat.old).books }
-    ensures last { IsLastExposed result (view_of seat.new).seen }
+    requires marked { HasMarked (view_of seat.old) }
+    ensures stays { HasOnlySeen seat.old seat.new }
+    ensures over { HasExposed result (view_of seat.old) (view_of seat.new) }
     ensures grows { (view_of seat.old).seen.exposed ≤ result }
-    ensures stop { (view_of seat.new).seen.stop ≡ (view_of seat.old).seen.stop }
 {
     let mut at = table.load_exposed(seat);
     'raises: loop {
@@ -46,8 +44,9 @@ fn raise(table: &LogTable, seat: &mut Seat, at: Lsn) -> Option<Lsn>
     requires seat { IsOf table.now seat.old }
     requires hand { HasInHand at (view_of seat.old) }
     ensures stays { HasOnlySeen seat.old seat.new }
+    ensures after { follow_up (view_of seat.new).call ≡ follow_up (view_of seat.old).call }
     ensures raised { IfSome result (λ found. (at < found) × HasInHand found (view_of seat.new)) }
-    ensures over { IfNone result (HasExposed at (view_of seat.new)) }
+    ensures over { IfNone result (HasExposed at (view_of seat.old) (view_of seat.new)) }
 {
     let end = table.load_mark(seat, at);
     if end <= at {

@@ -2,13 +2,15 @@ use Rattle.std.proofs.Common.{arith, ◌≡◌, ◌∙◌, ◌+◌, ◌++◌, �
 use Rattle.log_record.specs.Spelling.{spelling}
 use Rattle.log_table.specs.Books.{next_of, placing}
 use Rattle.log_table.specs.GroupViews.{follow_up}
+use Rattle.log_table.specs.declared.group_view.After.TheVariants.{Nothing}
 use Rattle.log_table.specs.declared.view.Call.{Call}
 use Rattle.log_table.specs.declared.view.Call.TheVariants.{Filling, Marked}
 use Rattle.log_table.specs.declared.view.Entry.{Entry}
 use Rattle.log_table.specs.Seats.{view_of}
 use Rattle.ring_buffer.specs.Calls.{HasFilled, filled_with, entry_of}
 use Rattle.ring_buffer.specs.declared.call.Range.{Range}
-use Rattle.ring_buffer.proofs.Inserted.{same-inserted, entries-inserted, books-inserted, stop-inserted}
+use Rattle.ring_buffer.proofs.Exposing.{HasMarked-call}
+use Rattle.ring_buffer.proofs.Inserted.{same-inserted, entries-inserted, idle-inserted, books-inserted, stop-inserted}
 use Rattle.ring_buffer.proofs.TwoCalls.{IsSameWorker-trans}
 use Rattle.ring_buffer.proofs.inserting.insert_alone.Goals as goal
 
@@ -27,8 +29,8 @@ pub expose-requires-clause-marked : goal.expose-requires-clause-marked
 expose-requires-clause-marked g c =
     let filling : (view_of c.fill-filled.new.seat).call ≡ filled_with c.args.units.now (view_of c.place_among.new.seat).call =
     ap (λ m. m.0.call) c.fill-filled.ensures.becomes.me in
-    ap (λ m. m.0.call) c.finish.ensures.becomes.me
-    ∙ ap (λ (call : Call). Marked (follow_up call)) (filling ∙ ap (filled_with c.args.units.now) c.in_ok-range.ensures.placed.call)
+    HasMarked-call (view_of c.finish.new.seat) Nothing (ap (λ m. m.0.call) c.finish.ensures.becomes.me
+    ∙ ap (λ (call : Call). Marked (follow_up call)) (filling ∙ ap (filled_with c.args.units.now) c.in_ok-range.ensures.placed.call))
 
 pub returns-clause-inserted : goal.returns-clause-inserted
 returns-clause-inserted g c =
@@ -45,13 +47,14 @@ returns-clause-inserted g c =
     record {
       same = IsSameWorker-trans c.args.seat.now c.place_among.new.seat c.expose.new.seat c.in_ok-range.ensures.same
           (same-inserted c.place_among.new.seat c.fill-filled.new.seat c.finish.new.seat c.expose.new.seat c.args.units.now steps
-          c.fill-filled.ensures.becomes c.finish.ensures.becomes c.expose.ensures.entries (omega arith));
-      idle = c.expose.ensures.entries.idle;
+          c.fill-filled.ensures.becomes c.finish.ensures.becomes c.expose.result c.expose.ensures.stays c.expose.ensures.over (omega arith));
+      idle = idle-inserted c.place_among.new.seat c.fill-filled.new.seat c.finish.new.seat c.expose.new.seat c.args.units.now steps
+          c.fill-filled.ensures.becomes c.finish.ensures.becomes c.expose.result c.expose.ensures.stays c.expose.ensures.over entry call;
       entries_are = entries-inserted c.place_among.new.seat c.fill-filled.new.seat c.finish.new.seat c.expose.new.seat c.args.units.now steps
-          c.fill-filled.ensures.becomes c.finish.ensures.becomes c.expose.ensures.entries entry call
+          c.fill-filled.ensures.becomes c.finish.ensures.becomes c.expose.result c.expose.ensures.stays c.expose.ensures.over entry call
           ∙ ap (λ (entries : List Entry). entries ++ entry ∷ []) placed.entries;
       books_are = books-inserted c.place_among.new.seat c.fill-filled.new.seat c.finish.new.seat c.expose.new.seat c.args.units.now steps
-          c.fill-filled.ensures.becomes c.finish.ensures.becomes c.expose.ensures.entries
+          c.fill-filled.ensures.becomes c.finish.ensures.becomes c.expose.result c.expose.ensures.stays c.expose.ensures.over
           ∙ (placed.books ∙ (λ i. placing (start i + ap length c.as_slice.ensures.units i) rec old.books));
     }
 
@@ -62,12 +65,12 @@ pub returns-clause-seen : goal.returns-clause-seen
 returns-clause-seen g c =
     let steps : ℕ = (view_of c.place_among.new.seat).seen.steps + c.in_ok-range.range.size in
     let same = same-inserted c.place_among.new.seat c.fill-filled.new.seat c.finish.new.seat c.expose.new.seat c.args.units.now steps
-    c.fill-filled.ensures.becomes c.finish.ensures.becomes c.expose.ensures.entries (omega arith) in
+    c.fill-filled.ensures.becomes c.finish.ensures.becomes c.expose.result c.expose.ensures.stays c.expose.ensures.over (omega arith) in
     omega (arith, c.in_ok-range.ensures.placed.seen, same.grows, c.start-at.ensures, ap length c.as_slice.ensures.units)
 
 pub returns-clause-stop : goal.returns-clause-stop
 returns-clause-stop g c =
     let steps : ℕ = (view_of c.place_among.new.seat).seen.steps + c.in_ok-range.range.size in
     stop-inserted c.place_among.new.seat c.fill-filled.new.seat c.finish.new.seat c.expose.new.seat c.args.units.now steps
-    c.fill-filled.ensures.becomes c.finish.ensures.becomes c.expose.ensures.entries c.expose.ensures.stop
+    c.fill-filled.ensures.becomes c.finish.ensures.becomes c.expose.result c.expose.ensures.stays c.expose.ensures.over
     ∙ c.place_among.ensures.stop

@@ -1,4 +1,4 @@
-use Rattle.ring_buffer.proofs.Exposing.{Exposes-looked, HasEntries-exposed}
+use Rattle.ring_buffer.proofs.Exposing.{Exposes-looked}
 use Rattle.ring_buffer.proofs.releasing.expose.Goals as goal
 
 pub raises-init : goal.raises-init

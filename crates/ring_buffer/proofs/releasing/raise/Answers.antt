@@ -1,10 +1,11 @@
 use Rattle.std.proofs.Common.{arith, ◌<◌}
-use Rattle.log_table.specs.declared.group_view.After.TheVariants.{Nothing}
+use Rattle.log_table.specs.GroupViews.{follow_up}
+use Rattle.log_table.specs.Seats.{view_of}
 use Rattle.ring_buffer.proofs.Exposing.{MayRaise-above}
 use Rattle.ring_buffer.proofs.releasing.raise.Goals as goal
 
 pub load_mark-end-requires-clause-next : goal.load_mark-end-requires-clause-next
-load_mark-end-requires-clause-next c = record { after = Nothing; holding = c.requires.hand.call }
+load_mark-end-requires-clause-next c = record { after = follow_up (view_of c.args.seat.now).call; holding = c.requires.hand.call }
 
 pub exchange_exposed-requires-clause-next : goal.exchange_exposed-requires-clause-next
 exchange_exposed-requires-clause-next c = let above : c.args.at < c.load_mark-end.result = grind arith steps 150000 in
