@@ -13,6 +13,6 @@ mod releasing;
 pub use call::{Filled, Look, Range};
 pub use filling::fill;
 pub use inserting::insert_alone;
-pub use placing::{look, place_alone, try_place};
+pub use placing::{end_of, look, place_alone, try_place};
 pub use refused::Refused;
 pub use releasing::{expose, finish};

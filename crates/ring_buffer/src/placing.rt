@@ -24,8 +24,8 @@ pub fn look(table: &LogTable, seat: &mut Seat) -> Look
     Look { tail, durable }
 }
 
-/// The end of `n` units behind the tail, or why there is no room for them.
-fn end_of(look: &Look, ring: u32, n: u32) -> Result<Lsn, Refused>
+/// The end of `n` units behind the tail that was looked at, or why there is no room for them.
+pub fn end_of(look: &Look, ring: u32, n: u32) -> Result<Lsn, Refused>
     requires ring { ring ≤ GREATEST_RING }
     ensures end { IfOk result (λ to. (to ≡ look.now.tail + n) × HasRoom ring look.now.tail look.now.durable n) }
     ensures refused { IfErr result (Refuses ring look.now.tail look.now.durable n) }
