@@ -1,4 +1,4 @@
-use Rattle.std.proofs.Common.{arith, ◌≡◌, ◌∙◌, ℕ, List, take, length, get_or, ap, sym, length-take-le}
+use Rattle.std.proofs.Common.{arith, inl, ◌≡◌, ◌∙◌, ℕ, List, take, length, get_or, ap, sym, length-take-le}
 use Rattle.std.proofs.lemmas.Grind.{common_steps}
 use Rattle.log_record.specs.Spelling.{spelling}
 use Rattle.log_table.specs.declared.view.Entry.{Entry}
@@ -13,7 +13,7 @@ store_ring-requires-clause-next c =
     let list : List ℕ = c.as_slice-list.result.now in
     let len : length (take c.loop-i.i list) ≡ c.loop-i.i = length-take-le c.loop-i.i list (omega arith) in
     let whole : length list ≡ length c.args.units.now = ap length c.as_slice-list.ensures.units in
-    let entry : Entry = record { start = c.args.range.start; size = c.args.range.size; units = take c.loop-i.i list; rec = range.rec } in record {
+    let entry : Entry = record { start = c.args.range.start; size = c.args.range.size; units = take c.loop-i.i list; rec = range.rec } in inl record {
       entry = entry;
       filling = ap (λ m. m.0.call) invariant.me ∙ ap (filled_with (take c.loop-i.i list)) range.call;
       next = omega (arith, len, c.new-at.ensures, c.units.ensures, c.start.ensures);

@@ -1,8 +1,8 @@
-use Rattle.std.proofs.Common.{arith, ◌∙◌, sym}
+use Rattle.std.proofs.Common.{arith, inl, ◌∙◌, sym}
 use Rattle.ring_buffer.proofs.releasing.finish.Goals as goal
 
 pub store_mark-requires-clause-next : goal.store_mark-requires-clause-next
-store_mark-requires-clause-next c = let filled = c.requires.filled in record {
+store_mark-requires-clause-next c = let filled = c.requires.filled in inl record {
   entry = filled.entry;
   filling = filled.call;
   full = filled.full;
