@@ -9,4 +9,4 @@ mod tables;
 pub use accounts::values_of;
 pub use notes::{insert_all, insert_note, note_units, noted_job, place_note};
 pub use sending::send_all;
-pub use tables::{job_of, table_of, worker};
+pub use tables::{job_of, table_of, table_with_slots, worker};

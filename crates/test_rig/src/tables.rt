@@ -3,6 +3,7 @@ ghost use Rattle.std.specs.Prelude.{◌≡◌, ◌≤◌, ◌+◌, [], ◌∷◌
 ghost use Rattle.log_record.specs.declared.limits.TheConstants.{MOST_BALANCE};
 ghost use Rattle.log_record.specs.Spelling.{IsTxn};
 ghost use Rattle.lock_core.specs.Transfers.{IsAllowedJob};
+ghost use Rattle.log_table.specs.declared.layout.TheConstants.{MOST_SLOTS};
 ghost use Rattle.log_table.specs.Hiring.{HasHired};
 ghost use Rattle.log_table.specs.Seats.{view_of, key_of};
 ghost use Rattle.test_rig.specs.NotedJobs.{IsNew, MayInsert};
@@ -13,11 +14,30 @@ use lsn_space::{Balances, Lsn, NoMemory};
 use std::alloc::Global;
 
 /// A table of two accounts with these balances, over a log that ends here, and the flusher's seat. The
-/// ring has 1024 units.
+/// ring has 1024 units, and there are no slots.
 pub fn table_of(alloc: Global, balances: (u32, u32), end: u32) -> Result<(LogTable, Seat), NoMemory>
     requires balances { (balances.0 ≤ MOST_BALANCE) × (balances.1 ≤ MOST_BALANCE) }
     ensures boss { IfOk result (λ made. HasHired made.0 0 made.1) }
     ensures ring { IfOk result (λ made. made.0.ring ≡ 1024) }
+    ensures accounts { IfOk result (λ made. made.0.accounts ≡ 2) }
+    ensures start { IfOk result (λ made. (key_of made.0).start ≡ end) }
+    ensures rows { IfOk result (λ made. (key_of made.0).accounts.rows ≡ (balances.0, 0) ∷ (balances.1, 0) ∷ []) }
+{
+    table_with_slots(alloc, balances, end, 0)
+}
+
+/// Such a table with so many slots.
+pub fn table_with_slots(
+    alloc: Global,
+    balances: (u32, u32),
+    end: u32,
+    slots: u32,
+) -> Result<(LogTable, Seat), NoMemory>
+    requires balances { (balances.0 ≤ MOST_BALANCE) × (balances.1 ≤ MOST_BALANCE) }
+    requires slots { slots ≤ MOST_SLOTS }
+    ensures boss { IfOk result (λ made. HasHired made.0 0 made.1) }
+    ensures ring { IfOk result (λ made. made.0.ring ≡ 1024) }
+    ensures slots { IfOk result (λ made. made.0.slots ≡ slots) }
     ensures accounts { IfOk result (λ made. made.0.accounts ≡ 2) }
     ensures start { IfOk result (λ made. (key_of made.0).start ≡ end) }
     ensures rows { IfOk result (λ made. (key_of made.0).accounts.rows ≡ (balances.0, 0) ∷ (balances.1, 0) ∷ []) }
@@ -30,7 +50,7 @@ pub fn table_of(alloc: Global, balances: (u32, u32), end: u32) -> Result<(LogTab
         Start {
             start: Lsn::new(end),
             ring: 1024,
-            slots: 0,
+            slots,
             accounts,
         },
     )
