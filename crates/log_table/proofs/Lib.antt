@@ -4,6 +4,7 @@ mod Allowing
 pub mod Bookings
 mod Boundaries
 mod Carrying
+pub mod Contending
 mod CrewMerging
 mod Crewing
 pub mod Deltas

@@ -1,5 +1,5 @@
 -- Steps that change what their seat has seen, and nothing else: the loads, and an exchange that was lost.
-use Rattle.std.proofs.Common.{◌≡◌, ◌≢◌, inr, ⊎_elim, ℕ, ◌+◌, ◌/◌, ◌≤◌, List, length, set, sym, refl, ap, ◌∙◌, subst, le_refl, arith}
+use Rattle.std.proofs.Common.{◌≡◌, ◌≢◌, inr, ⊎_elim, ℕ, ◌+◌, ◌/◌, ◌≤◌, Bool, List, length, set, sym, refl, ap, ◌∙◌, subst, le_refl, arith}
 use mathlib.Core.Option.{some}
 use lib.ListN.{get_elem?}
 use Rattle.lsn_space.specs.Tiling.{IsTilingBoundary}
@@ -46,7 +46,25 @@ module _ (start ring tail exposed durable : ℕ) (log : Log) (c : HasContiguousR
   part-boundary at b = boundary-aligned _ start start tail at log.parts (ranges_of log) all-tile c.aligned
       (boundary-start part_size start log.parts) b
 
--- the seat sees a word, or its part in the sending changes
+-- the seat sees a word, or its part in the sending changes, or whether it is contended
+module _ (key : Start) (words : Words) (stop : ℕ) (views : List View) (me : ℕ) (v : View) (log : Log) (seen : Seen) (contended : Bool) (sending : Sending)
+    (s : IsSound key words views log) (at : get_elem? views me ≡ some v) where
+  abbrev new : View
+  new = record v { seen = seen; contended = contended; sending = sending }
+
+  pub changes : HasSeenBoundaries key.start words.tail words.exposed words.durable (ranges_of log) seen
+      → SendsIfFlusher key.start words.exposed words.durable log new → EachView (λ _ z. StoresStop stop z) (set views me new)
+      → EachView (λ _ z. HasReadStop stop z) (set views me new)
+      → ((j : ℕ) (z : View) → get_elem? views j ≡ some z → RestsIfQuiet v z → RestsIfQuiet new z)
+      → LookedIfQuiet words.exposed new → KeepsSeen log.groups v.seen seen
+      → Leads key words (record words { stop = stop }) views (set views me new) log none
+  changes sees sends stops read quiet looked keeps =
+      restands key words stop words.crew words.account views me v new log s at refl refl sees (s.constants me v at) (s.resting me v at) (s.entries me v at)
+      (crew-same words.crew views me v new s.roles at refl) sends stops read (quiet-moves views me v new s.quiet at quiet (λ _ h. h)) looked
+      (s.unheld me v at) (accounts-stay key words.account log.parts log.groups views me v new at refl s.accounts)
+      (keeps-view key words views me v log s at new refl keeps (loads-stay key words views me v log s at seen keeps) (s.awaits me v at))
+
+-- it is as contended as before
 pub looks : (key : Start) (words : Words) (stop : ℕ) (views : List View) (me : ℕ) (v : View) (log : Log) (seen : Seen) (sending : Sending)
     → IsSound key words views log → get_elem? views me ≡ some v
     → HasSeenBoundaries key.start words.tail words.exposed words.durable (ranges_of log) seen
@@ -57,36 +75,37 @@ pub looks : (key : Start) (words : Words) (stop : ℕ) (views : List View) (me :
     → LookedIfQuiet words.exposed (record v { seen = seen; sending = sending })
     → KeepsSeen log.groups v.seen seen
     → Leads key words (record words { stop = stop }) views (set views me (record v { seen = seen; sending = sending })) log none
-looks key words stop views me v log seen sending s at sees sends stops read quiet looked keeps =
-    restands key words stop words.crew words.account views me v (record v { seen = seen; sending = sending }) log s at refl refl sees (s.constants me v at)
-    (s.resting me v at) (s.entries me v at)
-    (crew-same words.crew views me v (record v { seen = seen; sending = sending }) s.roles at refl) sends stops read
-    (quiet-moves views me v (record v { seen = seen; sending = sending }) s.quiet at quiet (λ _ h. h)) looked (s.unheld me v at)
-    (accounts-stay key words.account log.parts log.groups views me v (record v { seen = seen; sending = sending }) at refl s.accounts)
-    (keeps-view key words views me v log s at (record v { seen = seen; sending = sending }) refl keeps (loads-stay key words views me v log s at seen keeps)
-    (s.awaits me v at))
+looks key words stop views me v log seen sending = changes key words stop views me v log seen v.contended sending
 
 -- the seat sees a word
-pub sees-word : (key : Start) (words : Words) (views : List View) (me : ℕ) (v : View) (log : Log) (seen : Seen) → IsSound key words views log
-    → get_elem? views me ≡ some v → HasSeenBoundaries key.start words.tail words.exposed words.durable (ranges_of log) seen
-    → HasReadStop words.stop (record v { seen = seen }) → KeepsSeen log.groups v.seen seen
-    → Leads key words words views (set views me (record v { seen = seen })) log none
-sees-word key words views me v log seen s at sees read keeps = looks key words words.stop views me v log seen v.sending s at sees (s.sends me v at)
-    (each_set (λ _ z. StoresStop words.stop z) views me (record v { seen = seen }) s.stops (s.stops me v at))
-    (each_set (λ _ z. HasReadStop words.stop z) views me (record v { seen = seen }) s.read_stop read) (λ _ _ _ h. h) (s.looked me v at) keeps
+module _ (key : Start) (words : Words) (views : List View) (me : ℕ) (v : View) (log : Log) (seen : Seen) (s : IsSound key words views log)
+    (at : get_elem? views me ≡ some v) (sees : HasSeenBoundaries key.start words.tail words.exposed words.durable (ranges_of log) seen)
+    (read : HasReadStop words.stop (record v { seen = seen })) (keeps : KeepsSeen log.groups v.seen seen) where
+  pub sees-word_as : (contended : Bool) → Leads key words words views (set views me (record v { seen = seen; contended = contended })) log none
+  sees-word_as contended = let new : View = record v { seen = seen; contended = contended } in
+      changes key words words.stop views me v log seen contended v.sending s at sees (s.sends me v at)
+      (each_set (λ _ z. StoresStop words.stop z) views me new s.stops (s.stops me v at))
+      (each_set (λ _ z. HasReadStop words.stop z) views me new s.read_stop read) (λ _ _ _ h. h) (s.looked me v at) keeps
+
+  pub sees-word : Leads key words words views (set views me (record v { seen = seen })) log none
+  sees-word = sees-word_as v.contended
 
 module _ (key : Start) (me : ℕ) (v : View) where
-  pub tail-looks : (n : ℕ) → IsStep key me Tail n n v (saw_tail n v) none
-  tail-looks n = record {
+  -- the tail is seen, by a load or by an exchange that was lost
+  pub tail-looks_as : (contended : Bool) (n : ℕ) → IsStep key me Tail n n v (record v { seen = seen_tail n v.seen; contended = contended }) none
+  tail-looks_as contended n = record {
     leads = λ words views log s at is. let old = s.seen me v at in
-        subst (λ x. Leads key words (record words { tail = x }) views (set views me (saw_tail x v)) log none) is
-        (sees-word key words views me v log (seen_tail words.tail v.seen) s at record {
+        subst (λ x. Leads key words (record words { tail = x }) views (set views me (record v { seen = seen_tail x v.seen; contended = contended })) log none) is
+        (sees-word_as key words views me v log (seen_tail words.tail v.seen) s at record {
           tail_seen = le_refl _;
           exposed_seen = old.exposed_seen;
           durable_seen = old.durable_seen;
           boundaries = (tail-boundary _ _ _ _ _ log s.contiguous, old.boundaries);
-        } (s.read_stop me v at) (tail-on key.start key.ring words.tail words.durable (ranges_of log) log.groups v.seen s.in_group));
+        } (s.read_stop me v at) (tail-on key.start key.ring words.tail words.durable (ranges_of log) log.groups v.seen s.in_group) contended);
   }
+
+  pub tail-looks : (n : ℕ) → IsStep key me Tail n n v (saw_tail n v) none
+  tail-looks n = tail-looks_as v.contended n
 
   pub durable-looks : (n : ℕ) → IsStep key me Durable n n v (saw_durable n v) none
   durable-looks n = record {

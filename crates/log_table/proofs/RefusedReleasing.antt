@@ -80,7 +80,7 @@ module _ (key : Start) (words : Words) (views : List View) (me : ℕ) (v : View)
         record { tail_seen = old.tail_seen; exposed_seen = old.exposed_seen; durable_seen = old.durable_seen; boundaries = old.boundaries }
 
     sound : IsSound key (record words { slot = states }) (set views me new) after
-    sound = slot-sound key words views me v log s at on-duty slot g states words.base (seen_slot slot (words.slot slot) v.seen) call v.books moves
+    sound = slot-sound key words views me v log s at on-duty slot g states words.base (seen_slot slot (words.slot slot) v.seen) call v.books v.contended moves
         (l.books (put_group log.groups slot g) v.books ∙ sym (ap (λ c. books_in log.groups c v.books) leaves)) others
         (no_range ∙ sym (ap range_of m.told))
         (subst (λ w. IsAtPhase (key.ring / 4) w (words.base slot) (m.before ++ m.behind) phase) (sym (put-here words.slot slot word ∙ word-is)) l.is)

@@ -156,7 +156,7 @@ module _ (key : Start) (words : Words) (views : List View) (me : ℕ) (v : View)
       sound = subst (λ (groups : ℕ → Group). IsSound key words (set views me new) (record log { groups = groups }))
           (λ i q. group-same log.groups slot q i)
           (slot-sound key words views me v log s at works slot g words.slot words.base seen (Joined slot piece step) books
-          moves own-books (λ j _. others j) refl (s.slots slot).words (λ _ _. (refl, refl)) sees read kept)
+          v.contended moves own-books (λ j _. others j) refl (s.slots slot).words (λ _ _. (refl, refl)) sees read kept)
 
       abbrev old_state : SlotState
       old_state = slots_of key words views log

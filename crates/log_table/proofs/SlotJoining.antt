@@ -33,7 +33,7 @@ use Rattle.log_table.specs.May.{MayJoinSlot}
 use Rattle.log_table.specs.Members.{HadSeenUpTo, HasPhaseOutcome, LoadsAtStep, IsForNextRecord, AwaitsAtStep, HasTotalAtPhase}
 use Rattle.log_table.specs.Roles.{is_spent}
 use Rattle.log_table.specs.Slots.{is_member, piece_of, own_pieces, pieces_at, led_phase, phase_led, phase_at, range_of, PiecesTile, KnowsPhase, told_word, IsAtPhase}
-use Rattle.log_table.specs.SlotViews.{seen_slot, piece_joining, step_joining, saw_slot, joined_slot, after_join}
+use Rattle.log_table.specs.SlotViews.{seen_slot, piece_joining, step_joining, joined_slot, lost_join, after_join}
 use Rattle.log_table.specs.Sound.{HasSeenBoundaries, HasWorkingOwner, IsSound, base_of, books_of}
 use Rattle.log_table.specs.Views.{entries_in, books_in, claims_in}
 use Rattle.log_table.specs.Words.{Words, put}
@@ -45,7 +45,7 @@ use Rattle.log_table.proofs.Lists.{all-append, picked-append}
 use Rattle.log_table.proofs.Members.{KeepsMembers, steps-on}
 use Rattle.log_table.proofs.Reserving.{spelling-some}
 use Rattle.log_table.proofs.Showing.{task_of-hands_of}
-use Rattle.log_table.proofs.SlotLooks.{small, slot-looks}
+use Rattle.log_table.proofs.SlotLooks.{small, slot-looks_as}
 use Rattle.log_table.proofs.SlotShowing.{group-shown, shows-moved, length-groups_from}
 use Rattle.log_table.proofs.Slotting.{Mine, here, elsewhere, slot-sound}
 use Rattle.log_table.proofs.Viewing.{seat_at}
@@ -194,7 +194,7 @@ module _ (key : Start) (words : Words) (views : List View) (me : ℕ) (v : View)
   g = record { members = members ++ member ∷ []; phase = phase_joined me n (log.groups slot).phase }
 
   abbrev new : View
-  new = record v { seen = seen_slot slot (word_of from) v.seen; call = Joined slot piece step }
+  new = record v { seen = seen_slot slot (word_of from) v.seen; call = Joined slot piece step; contended = false }
 
   abbrev states : ℕ → ℕ
   states = put words.slot slot (word_of to)
@@ -280,7 +280,7 @@ module _ (key : Start) (words : Words) (views : List View) (me : ℕ) (v : View)
 
   sound : IsSound key (record words { slot = states }) (set views me new) after
   sound = slot-sound key words views me v log s at may.rests.active slot g states words.base (seen_slot slot (word_of from) v.seen)
-      (Joined slot piece step) v.books moves own-books others j.range
+      (Joined slot piece step) v.books false moves own-books others j.range
       (subst (λ w. IsAtPhase (key.ring / 4) w (words.base slot) g.members g.phase) (sym (put-here words.slot slot (word_of to) ∙ to-is)) j.is)
       (λ q differ. (put-other words.slot slot (word_of to) q differ, refl)) sees refl kept
 
@@ -326,10 +326,10 @@ module _ (key : Start) (me : ℕ) (v : View) (slot number : ℕ) (from to : Slot
   pub join-step : (found : ℕ) → IsStep key me (Slot slot) found (either (eqb found (word_of from)) (word_of to) found) v (after_join slot from.total (word_of from) found v) (join-event found)
   join-step found = dite (ℕ_discrete found (word_of from))
       (λ is. subst (λ (b : Bool). IsStep key me (Slot slot) found (either b (word_of to) found) v
-      (cond b (joined_slot slot from.total (word_of from) v) (saw_slot slot found v)) (cond b (joins me slot (length (spelling (next_of v.books)))) none))
+      (cond b (joined_slot slot from.total (word_of from) v) (lost_join slot found v)) (cond b (joins me slot (length (spelling (next_of v.books)))) none))
       (sym (eq-eqb found (word_of from) is))
       (subst (λ w. IsStep key me (Slot slot) w (word_of to) v (joined_slot slot from.total (word_of from) v) (joins me slot (length (spelling (next_of v.books)))))
       (sym is) join-won))
       (λ differ. subst (λ (b : Bool). IsStep key me (Slot slot) found (either b (word_of to) found) v
-      (cond b (joined_slot slot from.total (word_of from) v) (saw_slot slot found v)) (cond b (joins me slot (length (spelling (next_of v.books)))) none))
-      (sym (ne_eqb found (word_of from) differ)) (slot-looks key me v slot found))
+      (cond b (joined_slot slot from.total (word_of from) v) (lost_join slot found v)) (cond b (joins me slot (length (spelling (next_of v.books)))) none))
+      (sym (ne_eqb found (word_of from) differ)) (slot-looks_as key me v slot false found))

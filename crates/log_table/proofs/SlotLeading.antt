@@ -89,7 +89,7 @@ module _ (key : Start) (words : Words) (views : List View) (me : ℕ) (v : View)
     others j differ = record { joins = refl; leads = l.others j differ ∙ sym (ap (led_phase j) was); keep = λ other st _ _. keep other st }
 
     pub sound : IsSound key (record words { slot = states; base = bases }) (set views me next_view) after
-    sound = slot-sound key words views me v log s at active slot g states bases seen (Joined slot piece step') v.books
+    sound = slot-sound key words views me v log s at active slot g states bases seen (Joined slot piece step') v.books v.contended
         (member-moves log.groups me slot piece step step' v.call call p' entry l.leads l.knows (mine.joins slot))
         (member-books_same log.groups me slot piece step step' v.call call p' entry l.leads l.knows (mine.joins slot) v.books
         (λ books. l.books books ∙ sym (ap (λ q. member_books q piece step books) was)))

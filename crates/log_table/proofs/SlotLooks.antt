@@ -19,7 +19,7 @@ use Rattle.log_table.specs.Log.{Log}
 use Rattle.log_table.specs.Marks.{Carries, HasTrueEnds}
 use Rattle.log_table.specs.Members.{LoadsForGroup, AwaitsPlace}
 use Rattle.log_table.specs.Slots.{own_pieces, pieces_at, IsToldAs}
-use Rattle.log_table.specs.SlotViews.{tells_refusal, step_seeing, call_seeing, saw_slot}
+use Rattle.log_table.specs.SlotViews.{seen_slot, tells_refusal, step_seeing, call_seeing, contended_seeing, saw_slot}
 use Rattle.log_table.specs.Sound.{StoresStop, HasReadStop, HasWorkingOwner, IsSound}
 use Rattle.log_table.specs.Words.{Words}
 use Rattle.log_table.proofs.Keeping.{accounts-stay}
@@ -156,9 +156,6 @@ module _ (groups : ℕ → Group) (seat slot word : ℕ) where
 
 module _ (key : Start) (words : Words) (views : List View) (me : ℕ) (v : View) (slot word : ℕ) (log : Log) (s : IsSound key words views log)
     (at : get_elem? views me ≡ some v) (is : words.slot slot ≡ word) where
-  abbrev new : View
-  new = saw_slot slot word v
-
   pub small : key.ring / 4 < 2 ^ 31
   small = let quarter = div-le_self key.ring 4 in let greatest = s.ordered.greatest_ring in omega arith
 
@@ -176,35 +173,46 @@ module _ (key : Start) (words : Words) (views : List View) (me : ℕ) (v : View)
       (seen-told (key.ring / 4) (words.slot other) (words.base other) (log.groups other).members (log.groups other).phase small (s.slots other).words
       (member-there other piece Waits call) (subst (λ w. nat_lt w (2 ^ 63) ≡ false) (sym holds) high)))
 
-  keeps : KeepsSeen log.groups v.seen new.seen
-  keeps = steps-on log.groups v.seen new.seen refl refl refl refl refl refl refl
+  -- whether the seat is contended is nothing to the rule
+  module _ (contended : Bool) where
+    abbrev new : View
+    new = record v { seen = seen_slot slot word v.seen; call = call_seeing slot word v.call; contended = contended }
 
-  pub slot-seen : Leads key words words views (set views me new) log none
-  slot-seen = record {
-    after = log;
-    sound = recalls-sound key words words.stop words.crew words.account views me v new log s at same
-        (λ _. carries-seeing words.exposed slot word v.call) (ends-seeing key.start words.exposed slot word log v.call (s.ends me v at)) refl
-        (let old = s.seen me v at in
-        record { tail_seen = old.tail_seen; exposed_seen = old.exposed_seen; durable_seen = old.durable_seen; boundaries = old.boundaries })
-        (s.constants me v at) (λ off. ap (call_seeing slot word) (s.resting me v at off)) (s.entries me v at)
-        (crew-same words.crew views me v new s.roles at refl) (s.sends me v at)
-        (each_set (λ _ z. StoresStop words.stop z) views me new s.stops (s.stops me v at))
-        (each_set (λ _ z. HasReadStop words.stop z) views me new s.read_stop (s.read_stop me v at))
-        (quiet-moves views me v new s.quiet at (λ _ _ _ h. h) (λ _ h. h)) (s.looked me v at) (s.unheld me v at)
-        (accounts-stay key words.account log.parts log.groups views me v new at (same.books v.books) s.accounts)
-        (keeps-view key words views me v log s at new refl keeps
-        (call-seeing_keeps (LoadsForGroup log.groups new.seen) slot word (λ _ _ _ _ loads. loads) v.call
-        (loads-stay key words views me v log s at new.seen keeps))
-        (call-seeing_keeps (λ call. AwaitsPlace call v.books) slot word (λ _ _ _ _ awaits. awaits) v.call (s.awaits me v at)));
-    shows = λ i. record (slots_of key words views log) { hands = hands_of-set_same 0 me views v new at (task-seeing slot word v.call) i };
-  }
+    keeps : KeepsSeen log.groups v.seen new.seen
+    keeps = steps-on log.groups v.seen new.seen refl refl refl refl refl refl refl
+
+    pub slot-seen : Leads key words words views (set views me new) log none
+    slot-seen = record {
+      after = log;
+      sound = recalls-sound key words words.stop words.crew words.account views me v new log s at same
+          (λ _. carries-seeing words.exposed slot word v.call) (ends-seeing key.start words.exposed slot word log v.call (s.ends me v at)) refl
+          (let old = s.seen me v at in
+          record { tail_seen = old.tail_seen; exposed_seen = old.exposed_seen; durable_seen = old.durable_seen; boundaries = old.boundaries })
+          (s.constants me v at) (λ off. ap (call_seeing slot word) (s.resting me v at off)) (s.entries me v at)
+          (crew-same words.crew views me v new s.roles at refl) (s.sends me v at)
+          (each_set (λ _ z. StoresStop words.stop z) views me new s.stops (s.stops me v at))
+          (each_set (λ _ z. HasReadStop words.stop z) views me new s.read_stop (s.read_stop me v at))
+          (quiet-moves views me v new s.quiet at (λ _ _ _ h. h) (λ _ h. h)) (s.looked me v at) (s.unheld me v at)
+          (accounts-stay key words.account log.parts log.groups views me v new at (same.books v.books) s.accounts)
+          (keeps-view key words views me v log s at new refl keeps
+          (call-seeing_keeps (LoadsForGroup log.groups new.seen) slot word (λ _ _ _ _ loads. loads) v.call
+          (loads-stay key words views me v log s at new.seen keeps))
+          (call-seeing_keeps (λ call. AwaitsPlace call v.books) slot word (λ _ _ _ _ awaits. awaits) v.call (s.awaits me v at)));
+      shows = λ i. record (slots_of key words views log) { hands = hands_of-set_same 0 me views v new at (task-seeing slot word v.call) i };
+    }
 
 module _ (key : Start) (me : ℕ) (v : View) (slot : ℕ) where
-  pub slot-looks : (n : ℕ) → IsStep key me (Slot slot) n n v (saw_slot slot n v) none
-  slot-looks n = record {
-    leads = λ words views log s at is. subst (λ (f : ℕ → ℕ). Leads key words (record words { slot = f }) views (set views me (saw_slot slot n v)) log none)
-        (λ i k. sym (put-same words.slot slot n k is) i) (slot-seen key words views me v slot n log s at is);
+  -- the state is seen, by a load or by an exchange that was lost
+  pub slot-looks_as : (contended : Bool) (n : ℕ)
+      → IsStep key me (Slot slot) n n v (record v { seen = seen_slot slot n v.seen; call = call_seeing slot n v.call; contended = contended }) none
+  slot-looks_as contended n = record {
+    leads = λ words views log s at is. subst (λ (f : ℕ → ℕ). Leads key words (record words { slot = f }) views
+        (set views me (record v { seen = seen_slot slot n v.seen; call = call_seeing slot n v.call; contended = contended })) log none)
+        (λ i k. sym (put-same words.slot slot n k is) i) (slot-seen key words views me v slot n log s at is contended);
   }
+
+  pub slot-looks : (n : ℕ) → IsStep key me (Slot slot) n n v (saw_slot slot n v) none
+  slot-looks n = slot-looks_as (contended_seeing slot n v) n
 
   pub slot-tells : RuleTells key me (Slot slot) v IsSlotWord
   slot-tells words views log s at = phase-is_slot (key.ring / 4) (words.slot slot) (words.base slot) (log.groups slot).members (log.groups slot).phase

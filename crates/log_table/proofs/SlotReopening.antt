@@ -77,7 +77,7 @@ module _ (key : Start) (words : Words) (views : List View) (me : ℕ) (v : View)
       record { tail_seen = old.tail_seen; exposed_seen = old.exposed_seen; durable_seen = old.durable_seen; boundaries = old.boundaries }
 
   sound : IsSound key (record words { slot = states }) (set views me new) after
-  sound = slot-sound key words views me v log s at active slot empty_group states words.base (counted v.seen) Idle v.books moves
+  sound = slot-sound key words views me v log s at active slot empty_group states words.base (counted v.seen) Idle v.books v.contended moves
       (sym (ap (λ call. books_in log.groups call v.books) may)) others (sym (ap range_of was))
       record { word_is = put-here words.slot slot 0; nobody = refl } (λ q differ. (put-other words.slot slot 0 q differ, refl)) sees refl record {
         in_group = record { members_seen = tt; outcome = tt };

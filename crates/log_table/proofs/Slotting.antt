@@ -1,5 +1,5 @@
 -- A step that changes a slot's words and the group there, and neither parts nor ranges.
-use Rattle.std.proofs.Common.{◌≡◌, ◌≢◌, ◌⊎◌, ℕ, ◌==◌, ◌/◌, cond, true, false, true≢false, List, [], ◌++◌, map, set, sym, refl, ap, ◌∙◌, subst, eq-eqb, ne_eqb}
+use Rattle.std.proofs.Common.{◌≡◌, ◌≢◌, ◌⊎◌, ℕ, ◌==◌, ◌/◌, cond, Bool, true, false, true≢false, List, [], ◌++◌, map, set, sym, refl, ap, ◌∙◌, subst, eq-eqb, ne_eqb}
 use mathlib.Core.Logic.{dite}
 use mathlib.Core.Option.{some}
 use native.Mathlib.Decide.{ℕ_discrete}
@@ -42,9 +42,9 @@ pub record Mine (groups : ℕ → Group) (seat slot : ℕ) (g : Group) (old new 
 
 module _ (key : Start) (words : Words) (views : List View) (me : ℕ) (v : View) (log : Log) (s : IsSound key words views log)
     (at : get_elem? views me ≡ some v) (active : v.standing.role ≡ Active) (slot : ℕ) (g : Group) (states bases : ℕ → ℕ)
-    (seen : Seen) (call : Call) (books : Books) where
+    (seen : Seen) (call : Call) (books : Books) (contended : Bool) where
   abbrev new : View
-  new = record v { seen = seen; call = call; books = books }
+  new = record v { seen = seen; call = call; books = books; contended = contended }
 
   abbrev groups : ℕ → Group
   groups = put_group log.groups slot g

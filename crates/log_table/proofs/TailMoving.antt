@@ -23,14 +23,14 @@ use Rattle.log_table.specs.Marks.{HasTrueMark, Carries, HasTrueEnds}
 use Rattle.log_table.specs.Members.{HasSeenInGroup, LoadsForGroup, AwaitsPlace, HasTotalOfWorkers, HasSeenLast}
 use Rattle.log_table.specs.Roles.{is_active, may_own}
 use Rattle.log_table.specs.Slots.{IsSoundSlot}
-use Rattle.log_table.specs.SlotViews.{exchanged, after_exchange}
+use Rattle.log_table.specs.SlotViews.{exchanged, contended_losing, lost_exchange, after_exchange}
 use Rattle.log_table.specs.Sound.{EachView, EachSeat, HasSeenBoundaries, HasContiguousReservations, SendsIfFlusher, StoresStop, HasReadStop, LookedIfQuiet, HasWorkingOwner, HasConstants, RestsUnlessActive, OwnsIfWorker, HoldsIfActive, IsSound, base_of, history_in, books_of}
-use Rattle.log_table.specs.Views.{seen_tail, saw_tail}
+use Rattle.log_table.specs.Views.{seen_tail}
 use Rattle.log_table.specs.Words.{Words}
 use Rattle.log_table.proofs.Boundaries.{range_size, part_size, boundary-append, laid-end}
 use Rattle.log_table.proofs.Carrying.{carrier-set, first-push, ends-push, ends-move}
 use Rattle.log_table.proofs.Lists.{all-append, all-weaker}
-use Rattle.log_table.proofs.Looking.{tail-boundary, tail-looks}
+use Rattle.log_table.proofs.Looking.{tail-boundary, tail-looks_as}
 use Rattle.log_table.proofs.Members.{heard-same, tail-on}
 use Rattle.log_table.proofs.Ranging.{tiles-le, tiles-push, tiles-within, laid-append, unreleased_in-append, unreleased_in-apart, filled_in-append, filled_in-apart}
 use Rattle.log_table.proofs.Roles.{crew-same, quiet-moves}
@@ -267,14 +267,14 @@ pub exchange-by : (key : Start) (me : ℕ) (v : View) (from to : ℕ) (new : Vie
     → IsStep key me Tail from to v new event → (n : ℕ)
     → IsStep key me Tail n (either (eqb n from) to n) v (after_exchange from to n v) (cond (n == from) event none)
 exchange-by key me v from to new event is made n = dite (ℕ_discrete n from)
-    (λ same. subst (λ (b : Bool). IsStep key me Tail n (either b to n) v (cond b (exchanged from to v v.call) (saw_tail n v))
+    (λ same. subst (λ (b : Bool). IsStep key me Tail n (either b to n) v (cond b (exchanged from to v v.call) (lost_exchange n v))
     (cond b event none))
     (sym (eq-eqb n from same))
     (subst (λ (p : ℕ × View). IsStep key me Tail p.0 to v p.1 event) (λ i. (sym same i, sym is i)) made))
-    (λ differ. subst (λ (b : Bool). IsStep key me Tail n (either b to n) v (cond b (exchanged from to v v.call) (saw_tail n v))
+    (λ differ. subst (λ (b : Bool). IsStep key me Tail n (either b to n) v (cond b (exchanged from to v v.call) (lost_exchange n v))
     (cond b event none))
-    (sym (ne_eqb n from differ)) (tail-looks key me v n))
+    (sym (ne_eqb n from differ)) (tail-looks_as key me v (contended_losing v v.call) n))
 
 -- one that is made leaves this view
 pub exchange-made : (from to n : ℕ) (v new : View) → n ≡ from → exchanged from to v v.call ≡ new → after_exchange from to n v ≡ new
-exchange-made from to n v new same is = ap (λ b. cond b (exchanged from to v v.call) (saw_tail n v)) (eq-eqb n from same) ∙ is
+exchange-made from to n v new same is = ap (λ b. cond b (exchanged from to v v.call) (lost_exchange n v)) (eq-eqb n from same) ∙ is

@@ -1,5 +1,5 @@
 -- How the steps on slots change the view of their seat.
-use Rattle.std.specs.Prelude.{◌≡◌, ◌==◌, ℕ, ◌+◌, ◌/◌, ◌%◌, ◌^◌, ◌≤◌, if◌then◌else◌, nat_eq, nat_lt, Bool, true, false, [], ◌∷◌, length, List, ◌++◌}
+use Rattle.std.specs.Prelude.{◌≡◌, ◌==◌, ℕ, ◌+◌, ◌/◌, ◌%◌, ◌^◌, ◌≤◌, ◌&&◌, if◌then◌else◌, nat_eq, nat_le, nat_lt, Bool, true, false, [], ◌∷◌, length, List, ◌++◌}
 use Rattle.lsn_space.specs.declared.lsn.TheConstants.{LAST}
 use Rattle.slot_word.specs.declared.phase.Phase.TheVariants as kind
 use Rattle.slot_word.specs.SlotWord.{phase_in, total_in, remaining_in, IsSlotWord}
@@ -15,7 +15,7 @@ use Rattle.log_table.specs.declared.view.Seen.{Seen}
 use Rattle.log_table.specs.declared.view.View.{View}
 use Rattle.log_table.specs.Groups.{Granted, Refused}
 use Rattle.log_table.specs.Members.{LacksRoom}
-use Rattle.log_table.specs.Views.{counted, saw_tail, seen_tail, reserved}
+use Rattle.log_table.specs.Views.{counted, seen_tail, reserved, contended_alone}
 use Rattle.log_table.specs.GroupViews.{placed_piece}
 
 -- the slot's state was seen
@@ -48,13 +48,25 @@ call_seeing slot word (Holding at after) = Holding at after
 call_seeing slot word (Raising from to after) = Raising from to after
 call_seeing slot word (Reopening other) = Reopening other
 
--- after a load of the slot's state
-abbrev pub saw_slot : ℕ → ℕ → View → View
-saw_slot slot word view = record view { seen = seen_slot slot word view.seen; call = call_seeing slot word view.call }
-
 -- the slot at which the seat joins
 abbrev pub own_slot_of : View → ℕ
 own_slot_of view = view.standing.worker % view.constants.slots
+
+-- whether the seat could join by this state: the group gathers, and has room for the seat's next record
+abbrev pub is_joinable : ℕ → View → Bool
+is_joinable word view = nat_eq (word / 2 ^ 62) 0 && nat_le (total_in word + length (spelling (next_of view.books))) (view.constants.ring / 4)
+
+-- whether a seat is contended that saw this state of the slot: no more so where the slot is its own and it couldn't join there
+abbrev pub contended_seeing : ℕ → ℕ → View → Bool
+contended_seeing slot word view = view.contended && (if slot == own_slot_of view then is_joinable word view else true)
+
+-- after a load of the slot's state
+abbrev pub saw_slot : ℕ → ℕ → View → View
+saw_slot slot word view = record view {
+  seen = seen_slot slot word view.seen;
+  call = call_seeing slot word view.call;
+  contended = contended_seeing slot word view;
+}
 
 -- the piece of a seat that joins for the next record of its last job, where others have these units
 abbrev pub piece_joining : ℕ → View → Piece
@@ -70,14 +82,19 @@ piece_joining offset view = record {
 abbrev pub step_joining : ℕ → MemberStep
 step_joining offset = if offset == 0 then Closes else Waits
 
--- after an exchange of the slot's state by which the seat joined the group there, which had this total
+-- after an exchange of the slot's state by which the seat joined the group there, which had this total; it is contended no more
 abbrev pub joined_slot : ℕ → ℕ → ℕ → View → View
 joined_slot slot total word view =
-    record view { seen = seen_slot slot word view.seen; call = Joined slot (piece_joining total view) (step_joining total) }
+    record view { seen = seen_slot slot word view.seen; call = Joined slot (piece_joining total view) (step_joining total); contended = false }
+
+-- after an exchange of the slot's state that was lost, and found this word; the seat is contended no more
+abbrev pub lost_join : ℕ → ℕ → View → View
+lost_join slot word view =
+    record view { seen = seen_slot slot word view.seen; call = call_seeing slot word view.call; contended = false }
 
 -- after an exchange of the slot's state that found n
 abbrev pub after_join : ℕ → ℕ → ℕ → ℕ → View → View
-after_join slot total from n view = if n == from then joined_slot slot total from view else saw_slot slot n view
+after_join slot total from n view = if n == from then joined_slot slot total from view else lost_join slot n view
 
 -- the slot at which the call is a member's, 0 where it is none's
 abbrev pub slot_in : Call → ℕ
@@ -161,9 +178,24 @@ exchanged from to view (Holding at after) = reserved from to view
 exchanged from to view (Raising old end after) = reserved from to view
 exchanged from to view (Reopening slot) = reserved from to view
 
+-- whether a seat with this call is contended that lost an exchange of the tail: a leader stays as it was, all others made it alone
+abbrev pub contended_losing : View → Call → Bool
+contended_losing view Idle = contended_alone view
+contended_losing view (Filling entry) = contended_alone view
+contended_losing view (Joined slot piece step) = view.contended
+contended_losing view (Emptying slot base total) = contended_alone view
+contended_losing view (Marked after) = contended_alone view
+contended_losing view (Holding at after) = contended_alone view
+contended_losing view (Raising from to after) = contended_alone view
+contended_losing view (Reopening slot) = contended_alone view
+
+-- after an exchange of the tail that was lost, and found n
+abbrev pub lost_exchange : ℕ → View → View
+lost_exchange n view = record view { seen = seen_tail n view.seen; contended = contended_losing view view.call }
+
 -- after an exchange of the tail that found n
 abbrev pub after_exchange : ℕ → ℕ → ℕ → View → View
-after_exchange from to n view = if n == from then exchanged from to view view.call else saw_tail n view
+after_exchange from to n view = if n == from then exchanged from to view view.call else lost_exchange n view
 
 -- the step of a leader that has stored the base of its group; one that has only closed the group refuses it by this tail and this durable
 abbrev pub step_stored : ℕ → ℕ → MemberStep → MemberStep

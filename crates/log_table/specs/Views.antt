@@ -1,6 +1,6 @@
 -- The view of a new seat, and how each kind of step on the log's words changes the view of its seat. `AccountViews` has the steps on jobs
 -- and accounts, `CrewViews` those of a worker's life, and `MarkViews` those that release and expose.
-use Rattle.std.specs.Prelude.{◌==◌, ◌&&◌, ℕ, ◌+◌, ◌-◌, Bool, true, false, List, [], ◌∷◌, ◌++◌, length}
+use Rattle.std.specs.Prelude.{◌==◌, ◌&&◌, ℕ, ◌+◌, ◌-◌, if◌then◌else◌, nat_lt, Bool, true, false, List, [], ◌∷◌, ◌++◌, length}
 use Rattle.std.specs.List.{list_all, list_any}
 use lib.Dec.{eqb}
 use Rattle.log_table.specs.declared.table.Start.{Start}
@@ -217,6 +217,14 @@ reserved from to view = record view {
   call = Filling (empty_entry from (to - from) (next_of view.books));
   books = placing to (next_of view.books) view.books;
 }
+
+-- whether a seat is contended that lost an exchange of the tail made alone: in a table with slots it is, without slots it stays as it was
+abbrev pub contended_alone : View → Bool
+contended_alone view = if nat_lt 0 view.constants.slots then true else view.contended
+
+-- after an exchange of the tail made alone that was lost, and found n
+abbrev pub lost_alone : ℕ → View → View
+lost_alone n view = record view { seen = seen_tail n view.seen; contended = contended_alone view }
 
 -- the call with one more unit filled
 abbrev pub call_with_unit : ℕ → Call → Call

@@ -158,8 +158,8 @@ pub struct View {
     /// The runs that the seat reserved, filled and released, in order.
     pub entries: LinkedList<Entry>,
     pub call: Call,
-    /// Whether the seat lost an exchange of the tail to another, so that it would join a group instead;
-    /// no step sets it yet.
+    /// Whether the seat, in a table with slots, has lost an exchange of the tail that it made alone, and has
+    /// neither joined a group at its slot since nor seen that it can't.
     pub contended: bool,
     pub sending: Sending,
     pub books: Books,

@@ -8,7 +8,7 @@ ghost use Rattle.log_table.specs.Events.{IsStep, closes, hears, joins, none, ref
 ghost use Rattle.log_table.specs.Layout.{Slot, Base};
 ghost use Rattle.log_table.specs.May.{MayJoinSlot, MayCloseSlot, MayStoreBase, MayStoreGranted, MayStoreRefused, MayPublish, MayLoadBase, MayReopen, MayReleaseSlot};
 ghost use Rattle.log_table.specs.Seats.{IsOf, Becomes, view_of, number_of, key_of};
-ghost use Rattle.log_table.specs.SlotViews.{saw_slot, joined_slot, closed_slot, stored_base, published, heard_base, reopened, IsGatheringWord, TellsMember, released_piece, HasToRelease};
+ghost use Rattle.log_table.specs.SlotViews.{saw_slot, joined_slot, lost_join, closed_slot, stored_base, published, heard_base, reopened, IsGatheringWord, TellsMember, released_piece, HasToRelease};
 
 use crate::layout::{base_place, slot_place};
 use crate::plays::{
@@ -34,7 +34,8 @@ fn load_slot_as<N: Number>(table: &LogTable, seat: &mut Seat, slot: u32) -> Slot
 }
 
 impl LogTable {
-    /// The state of the slot. A member of the group there that waits sees by it whether its group is told.
+    /// The state of the slot. A member of the group there that waits sees by it whether its group is told. A
+    /// contended seat stays so, unless the slot is its own and it couldn't join there.
     pub fn load_slot(&self, seat: &mut Seat, slot: u32) -> SlotWord
         requires seat { IsOf self.now seat.old }
         requires slot { slot < self.now.slots }
@@ -45,7 +46,8 @@ impl LogTable {
     }
 
     /// Joins the group at the seat's slot for the next record of its last job, where the slot's state is still
-    /// the first one; an Err holds the state found. Who joins first leads the group.
+    /// the first one; an Err holds the state found. Who joins first leads the group. Afterwards the seat isn't
+    /// contended.
     pub fn join_slot(
         &self,
         seat: &mut Seat,
@@ -58,8 +60,8 @@ impl LogTable {
         requires next { MayJoinSlot slot from to (view_of seat.old) }
         ensures ok { OnOk result (Becomes seat.old seat.new (joined_slot slot from.total (word_of from) (view_of seat.old))) }
         ensures ok_event { OnOk result (IsStep (key_of self.now) (number_of seat.old) (Slot slot) (word_of from) (word_of to) (view_of seat.old) (joined_slot slot from.total (word_of from) (view_of seat.old)) (joins (number_of seat.old) slot (length (spelling (next_of (view_of seat.old).books))))) }
-        ensures err { IfErr result (λ found. (found ≢ from) × Becomes seat.old seat.new (saw_slot slot (word_of found) (view_of seat.old))) }
-        ensures err_event { IfErr result (λ found. IsStep (key_of self.now) (number_of seat.old) (Slot slot) (word_of found) (word_of found) (view_of seat.old) (saw_slot slot (word_of found) (view_of seat.old)) none) }
+        ensures err { IfErr result (λ found. (found ≢ from) × Becomes seat.old seat.new (lost_join slot (word_of found) (view_of seat.old))) }
+        ensures err_event { IfErr result (λ found. IsStep (key_of self.now) (number_of seat.old) (Slot slot) (word_of found) (word_of found) (view_of seat.old) (lost_join slot (word_of found) (view_of seat.old)) none) }
     {
         let place = slot_place(self.ring, slot);
         let free = from.pack();

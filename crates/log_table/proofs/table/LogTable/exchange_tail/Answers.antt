@@ -3,7 +3,7 @@ use Rattle.log_table.specs.May.{MayExchangeTail}
 use Rattle.log_table.specs.Seats.{view_of, number_of, key_of}
 use Rattle.log_table.proofs.Allowing.{exchange_tail-allowed}
 use Rattle.log_table.proofs.LeaderPlacing.{place-step}
-use Rattle.log_table.proofs.Looking.{tail-looks}
+use Rattle.log_table.proofs.Looking.{tail-looks_as}
 use Rattle.log_table.proofs.Reserving.{reserve-step}
 use Rattle.log_table.proofs.table.LogTable.exchange_tail.Goals as goal
 
@@ -22,4 +22,7 @@ pub returns-then-found-units-clause-group_event : goal.returns-then-found-units-
 returns-then-found-units-clause-group_event c = place-step _ _ _ _ _
 
 pub returns-else-found-units-clause-err_event : goal.returns-else-found-units-clause-err_event
-returns-else-found-units-clause-err_event c = tail-looks _ _ _ _
+returns-else-found-units-clause-err_event c = λ _. tail-looks_as _ _ _ _ _
+
+pub returns-else-found-units-clause-group_err_event : goal.returns-else-found-units-clause-group_err_event
+returns-else-found-units-clause-group_err_event c = λ _. tail-looks_as _ _ _ _ _

@@ -2,7 +2,7 @@ use Rattle.std.proofs.Common.{arith}
 use Rattle.log_table.specs.Seats.{number_of, key_of}
 use Rattle.log_table.proofs.SlotAllowing.{join_slot-allowed}
 use Rattle.log_table.proofs.SlotJoining.{join-won}
-use Rattle.log_table.proofs.SlotLooks.{slot-looks}
+use Rattle.log_table.proofs.SlotLooks.{slot-looks_as}
 use Rattle.log_table.proofs.table.LogTable.join_slot.Goals as goal
 
 pub compare_exchange-found-requires : goal.compare_exchange-found-requires
@@ -18,4 +18,4 @@ pub returns-then-found-free-clause-ok_event : goal.returns-then-found-free-claus
 returns-then-found-free-clause-ok_event c = join-won _ _ _ _ _ _ _ c.args.self.now.slotted c.requires.slot c.requires.next
 
 pub returns-else-found-free-clause-err_event : goal.returns-else-found-free-clause-err_event
-returns-else-found-free-clause-err_event c = slot-looks _ _ _ _ _
+returns-else-found-free-clause-err_event c = slot-looks_as _ _ _ _ _ _
