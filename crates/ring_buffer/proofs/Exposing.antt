@@ -19,6 +19,7 @@ HasOnlySeen-trans first second third before after = record {
   entries = after.entries ∙ before.entries;
   books = after.books ∙ before.books;
   stop = after.stop ∙ before.stop;
+  contended = after.contended ∙ before.contended;
 }
 
 -- the seat exposes since `first`: it has this LSN in hand, and had seen none above it
@@ -42,7 +43,6 @@ module _ (first seat : Seat) (at : ℕ) (becomes : Becomes first seat (saw_expos
     same = IsSameWorker-becomes first seat (saw_exposed at (view_of first)) becomes record {
       constants = refl;
       standing = refl;
-      contended = refl;
       tail = le_refl (view_of first).seen.tail;
       exposed = grows;
       durable = le_refl (view_of first).seen.durable;
@@ -51,6 +51,7 @@ module _ (first seat : Seat) (at : ℕ) (becomes : Becomes first seat (saw_expos
     entries = ap (λ (v : View). v.entries) is;
     books = ap (λ (v : View). v.books) is;
     stop = ap (λ (v : View). v.seen.stop) is;
+    contended = ap (λ (v : View). v.contended) is;
   }
 
   call-looked : HasMarked (view_of first) → (view_of seat).call ≡ Holding at (follow_up (view_of first).call)
@@ -94,7 +95,6 @@ module _ (seat after : Seat) (at mark : ℕ) (hand : HasInHand at (view_of seat)
     same = IsSameWorker-becomes seat after (saw_mark mark (view_of seat)) becomes record {
       constants = refl;
       standing = refl;
-      contended = refl;
       tail = le_refl (view_of seat).seen.tail;
       exposed = le_refl (view_of seat).seen.exposed;
       durable = le_refl (view_of seat).seen.durable;
@@ -103,6 +103,7 @@ module _ (seat after : Seat) (at mark : ℕ) (hand : HasInHand at (view_of seat)
     entries = ap (λ (v : View). v.entries) looked-is;
     books = ap (λ (v : View). v.books) looked-is;
     stop = ap (λ (v : View). v.seen.stop) looked-is;
+    contended = ap (λ (v : View). v.contended) looked-is;
   }
 
   -- none above it
@@ -136,7 +137,6 @@ module _ (seat after : Seat) (at mark : ℕ) (hand : HasInHand at (view_of seat)
           same = IsSameWorker-becomes after last (after_raise found (view_of after)) raised record {
             constants = refl;
             standing = refl;
-            contended = refl;
             tail = le_refl (view_of after).seen.tail;
             exposed = omega (arith, was, greater);
             durable = le_refl (view_of after).seen.durable;
@@ -145,6 +145,7 @@ module _ (seat after : Seat) (at mark : ℕ) (hand : HasInHand at (view_of seat)
           entries = ap (λ (v : View). v.entries) raised-is;
           books = ap (λ (v : View). v.books) raised-is;
           stop = ap (λ (v : View). v.seen.stop) raised-is;
+          contended = ap (λ (v : View). v.contended) raised-is;
         }
 
     call-raised : at < mark → (view_of last).call ≡ Holding found rest

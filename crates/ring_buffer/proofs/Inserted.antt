@@ -42,7 +42,6 @@ module _ (placed filled done last : Seat) (units : List ℕ) (steps : ℕ)
         (IsSameWorker-becomes placed filled (with_units units steps (view_of placed)) fills record {
           constants = refl;
           standing = refl;
-          contended = refl;
           tail = le_refl (view_of placed).seen.tail;
           exposed = le_refl (view_of placed).seen.exposed;
           durable = le_refl (view_of placed).seen.durable;
@@ -52,7 +51,6 @@ module _ (placed filled done last : Seat) (units : List ℕ) (steps : ℕ)
         (IsSameWorker-becomes filled done (marked (view_of filled)) marks record {
           constants = refl;
           standing = refl;
-          contended = refl;
           tail = le_refl (view_of filled).seen.tail;
           exposed = le_refl (view_of filled).seen.exposed;
           durable = le_refl (view_of filled).seen.durable;
@@ -77,3 +75,6 @@ module _ (placed filled done last : Seat) (units : List ℕ) (steps : ℕ)
 
     pub stop-inserted : (view_of last).seen.stop ≡ (view_of placed).seen.stop
     stop-inserted = stays.stop ∙ (ap (λ (v : View). v.seen.stop) done-is ∙ ap (λ (v : View). v.seen.stop) filled-is)
+
+    pub contended-inserted : (view_of last).contended ≡ (view_of placed).contended
+    contended-inserted = stays.contended ∙ (ap (λ (v : View). v.contended) done-is ∙ ap (λ (v : View). v.contended) filled-is)

@@ -9,7 +9,6 @@ use Rattle.ring_buffer.specs.Calls.{IsSameWorker}
 pub record KeepsWorker (old new : View) : Type 0 where
   pub constants : new.constants ≡ old.constants
   pub standing : new.standing ≡ old.standing
-  pub contended : new.contended ≡ old.contended
   pub tail : old.seen.tail ≤ new.seen.tail
   pub exposed : old.seen.exposed ≤ new.seen.exposed
   pub durable : old.seen.durable ≤ new.seen.durable
@@ -24,7 +23,6 @@ IsSameWorker-becomes old new view becomes keeps =
       worker = becomes.worker;
       constants = ap (λ (v : View). v.constants) is ∙ keeps.constants;
       standing = ap (λ (v : View). v.standing) is ∙ keeps.standing;
-      contended = ap (λ (v : View). v.contended) is ∙ keeps.contended;
       grows = subst (λ (v : View). (view_of old).seen.tail ≤ v.seen.tail) (sym is) keeps.tail;
       exposed = subst (λ (v : View). (view_of old).seen.exposed ≤ v.seen.exposed) (sym is) keeps.exposed;
       durable = subst (λ (v : View). (view_of old).seen.durable ≤ v.seen.durable) (sym is) keeps.durable;

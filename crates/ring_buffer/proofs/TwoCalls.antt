@@ -13,7 +13,6 @@ IsSameWorker-trans first second third before after = record {
   worker = after.worker ∙ before.worker;
   constants = after.constants ∙ before.constants;
   standing = after.standing ∙ before.standing;
-  contended = after.contended ∙ before.contended;
   grows = omega (arith, before.grows, after.grows);
   exposed = omega (arith, before.exposed, after.exposed);
   durable = omega (arith, before.durable, after.durable);
@@ -27,6 +26,7 @@ pub HasEntries-trans : (first second third : Seat) (entries entries' : List Entr
 HasEntries-trans first second third entries entries' books books' before after = record {
   same = IsSameWorker-trans first second third before.same after.same;
   idle = after.idle;
+  contended = after.contended ∙ before.contended;
   entries_are = after.entries_are;
   books_are = after.books_are;
 }

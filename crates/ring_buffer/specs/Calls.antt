@@ -17,7 +17,7 @@ use Rattle.log_table.specs.GroupViews.{call_after, follow_up}
 use Rattle.log_table.specs.Log.{IsFull}
 use Rattle.log_table.specs.May.{IsAtRest, HasLooked}
 use Rattle.log_table.specs.Seats.{Becomes, view_of}
-use Rattle.log_table.specs.Views.{empty_entry, saw_tail, saw_durable, reserved}
+use Rattle.log_table.specs.Views.{empty_entry, saw_tail, saw_durable, reserved, lost_alone}
 use Rattle.ring_buffer.specs.declared.call.Look.{Look}
 use Rattle.ring_buffer.specs.declared.call.Range.{Range}
 use Rattle.ring_buffer.specs.declared.refused.Refused.{Refused}
@@ -56,14 +56,14 @@ pub record HasPlaced (old new : Seat) (ring n : ℕ) (range : Range) : Type 0 wh
   pub grows : (view_of old).seen.tail ≤ range.start
   pub becomes : Becomes old new (reserved range.start (range.start + n) (looked range.start durable (view_of old)))
 
--- the seat looked and saw room, but another had reserved before it did
+-- the seat looked and saw room, but another had reserved before it did; in a table with slots it is contended then
 pub record HasLost (old new : Seat) (ring n : ℕ) : Type 0 where
   pub tail : ℕ
   pub durable : ℕ
   pub room : HasRoom ring tail durable n
   pub found : ℕ
   pub greater : tail < found
-  pub becomes : Becomes old new (saw_tail found (looked tail durable (view_of old)))
+  pub becomes : Becomes old new (lost_alone found (looked tail durable (view_of old)))
 
 -- the seat looked, and by what it saw there is no room
 pub record HasRefused (old new : Seat) (ring n : ℕ) (refused : Refused) : Type 0 where
@@ -85,7 +85,7 @@ pub record HasReserved (range : Range) (units : List ℕ) (view : View) : Type 0
   pub units_are : units ≡ spelling rec
 
 -- The range is reserved for the next record of the seat's last job, behind what the seat had seen, and none of it is filled. No account
--- went back: the books are those of before with this record placed.
+-- went back: the books are those of before with this record placed. The seat is as contended as before.
 pub record PlacesNext (old new : View) (n : ℕ) (range : Range) : Type 0 where
   pub size : range.size ≡ n
   pub behind : old.seen.tail ≤ range.start
@@ -93,6 +93,7 @@ pub record PlacesNext (old new : View) (n : ℕ) (range : Range) : Type 0 where
   pub call : new.call ≡ Filling (empty_entry range.start n (next_of old.books))
   pub entries : new.entries ≡ old.entries
   pub books : new.books ≡ placing (range.start + n) (next_of old.books) old.books
+  pub contended : new.contended ≡ old.contended
 
 -- the entry of the record whole
 abbrev pub entry_of : ℕ → Rec → Entry
@@ -158,7 +159,6 @@ pub record IsSameWorker (old new : Seat) : Type 0 where
   pub worker : new.worker ≡ old.worker
   pub constants : (view_of new).constants ≡ (view_of old).constants
   pub standing : (view_of new).standing ≡ (view_of old).standing
-  pub contended : (view_of new).contended ≡ (view_of old).contended
   pub grows : (view_of old).seen.tail ≤ (view_of new).seen.tail
   pub exposed : (view_of old).seen.exposed ≤ (view_of new).seen.exposed
   pub durable : (view_of old).seen.durable ≤ (view_of new).seen.durable
@@ -170,6 +170,7 @@ pub record HasOnlySeen (old new : Seat) : Type 0 where
   pub entries : (view_of new).entries ≡ (view_of old).entries
   pub books : (view_of new).books ≡ (view_of old).books
   pub stop : (view_of new).seen.stop ≡ (view_of old).seen.stop
+  pub contended : (view_of new).contended ≡ (view_of old).contended
 
 -- The seat has nothing left to expose, which it did since its view was `old`. It has nothing under way, or where the range was a group's it
 -- is about to open the slot again.
@@ -177,10 +178,12 @@ pub record HasExposed (lsn : ℕ) (old new : View) : Type 0 where
   pub call : new.call ≡ call_after (follow_up old.call)
   pub last : IsLastExposed lsn new.seen
 
--- the seat has nothing under way, these entries and these books, which tell the accounts that it gave back
+-- The seat has nothing under way, these entries and these books, which tell the accounts that it gave back. It is as contended as before; between
+-- the two moments it may have been contended.
 pub record HasEntries (old new : Seat) (entries : List Entry) (books : Books) : Type 0 where
   pub same : IsSameWorker old new
   pub idle : (view_of new).call ≡ Idle
+  pub contended : (view_of new).contended ≡ (view_of old).contended
   pub entries_are : (view_of new).entries ≡ entries
   pub books_are : (view_of new).books ≡ books
 

@@ -18,7 +18,8 @@ use schedule_hook::{Gate, Place};
 
 /// Inserts the next record of the seat's last job, which has these units, behind what other workers
 /// have reserved, and answers its LSN once it is released. It waits for nobody, and returns: where
-/// another was faster it reserves again, and what others have yet to release they expose.
+/// another was faster it reserves again, and what others have yet to release they expose. It is for a
+/// table without slots: with them the seat would be contended, and couldn't reserve alone again.
 pub fn insert_alone<G: Gate>(
     table: &LogTable,
     seat: &mut Seat,
@@ -26,6 +27,7 @@ pub fn insert_alone<G: Gate>(
     gate: &G,
 ) -> Result<Lsn, Refused>
     requires seat { IsOf table.now seat.old }
+    requires no_slots { table.now.slots ≡ 0 }
     requires ready { IsReady (view_of seat.old) }
     requires next { MayPlace (length units.now) (view_of seat.old).books }
     requires units { units.now ≡ spelling (next_of (view_of seat.old).books) }
@@ -59,6 +61,7 @@ fn place_among<G: Gate>(
     gate: &G,
 ) -> Result<Range, Refused>
     requires seat { IsOf table.now seat.old }
+    requires no_slots { table.now.slots ≡ 0 }
     requires ready { IsReady (view_of seat.old) }
     requires next { MayPlace n (view_of seat.old).books }
     ensures placed { IfOk result (PlacesNext (view_of seat.old) (view_of seat.new) n) }

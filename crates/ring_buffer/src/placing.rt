@@ -2,7 +2,7 @@
 ghost use Rattle.std.specs.Prelude.{◌≡◌, ℕ, ◌+◌, ◌<◌, ◌≤◌, Contains, OnOk, IfOk, IfErr, IfSome, IfNone};
 ghost use Rattle.lsn_space.specs.declared.lsn.TheConstants.{GREATEST_RING};
 ghost use Rattle.log_table.specs.Seats.{IsOf, Becomes, view_of};
-ghost use Rattle.log_table.specs.Views.{saw_tail, reserved};
+ghost use Rattle.log_table.specs.Views.{lost_alone, reserved};
 ghost use Rattle.ring_buffer.specs.Calls.{IsReady, MayPlace, IsLastLook, HasRoom, Refuses, HasPlaced, HasLost, HasRefused, looked};
 
 use crate::call::{Look, Range};
@@ -47,7 +47,7 @@ pub fn end_of(look: &Look, ring: u32, n: u32) -> Result<Lsn, Refused>
 }
 
 /// Reserves the `n` units of the next record of the seat's last job by what was looked at. None:
-/// another worker has reserved meanwhile.
+/// another worker has reserved meanwhile, and in a table with slots the seat is contended now.
 pub fn try_place(
     table: &LogTable,
     seat: &mut Seat,
@@ -60,7 +60,7 @@ pub fn try_place(
     requires next { MayPlace n (view_of seat.old).books }
     ensures room { OnOk result (HasRoom table.now.ring look.tail look.durable n) }
     ensures placed { IfOk result (λ o. IfSome o (λ range. (range.start ≡ look.tail) × (range.size ≡ n) × Becomes seat.old seat.new (reserved look.tail (look.tail + n) (view_of seat.old)))) }
-    ensures lost { IfOk result (λ o. IfNone o ((found : ℕ) × (look.tail < found) × Becomes seat.old seat.new (saw_tail found (view_of seat.old)))) }
+    ensures lost { IfOk result (λ o. IfNone o ((found : ℕ) × (look.tail < found) × Becomes seat.old seat.new (lost_alone found (view_of seat.old)))) }
     ensures refused { IfErr result (λ e. (seat.new ≡ seat.old) × Refuses table.now.ring look.tail look.durable n e) }
 {
     let to = end_of(&look, table.ring(), n)?;
@@ -71,7 +71,7 @@ pub fn try_place(
 }
 
 /// Looks, and reserves the `n` units of the next record of the seat's last job where there is room.
-/// None: another worker has reserved meanwhile.
+/// None: another worker has reserved meanwhile, and in a table with slots the seat is contended now.
 pub fn place_alone(table: &LogTable, seat: &mut Seat, n: u32) -> Result<Option<Range>, Refused>
     requires seat { IsOf table.now seat.old }
     requires ready { IsReady (view_of seat.old) }

@@ -10,7 +10,7 @@ use Rattle.log_table.specs.Seats.{view_of}
 use Rattle.ring_buffer.specs.Calls.{HasFilled, filled_with, entry_of}
 use Rattle.ring_buffer.specs.declared.call.Range.{Range}
 use Rattle.ring_buffer.proofs.Exposing.{HasMarked-call}
-use Rattle.ring_buffer.proofs.Inserted.{same-inserted, entries-inserted, idle-inserted, books-inserted, stop-inserted}
+use Rattle.ring_buffer.proofs.Inserted.{same-inserted, entries-inserted, idle-inserted, books-inserted, stop-inserted, contended-inserted}
 use Rattle.ring_buffer.proofs.TwoCalls.{IsSameWorker-trans}
 use Rattle.ring_buffer.proofs.inserting.insert_alone.Goals as goal
 
@@ -50,6 +50,8 @@ returns-clause-inserted g c =
           c.fill-filled.ensures.becomes c.finish.ensures.becomes c.expose.result c.expose.ensures.stays c.expose.ensures.over (omega arith));
       idle = idle-inserted c.place_among.new.seat c.fill-filled.new.seat c.finish.new.seat c.expose.new.seat c.args.units.now steps
           c.fill-filled.ensures.becomes c.finish.ensures.becomes c.expose.result c.expose.ensures.stays c.expose.ensures.over entry call;
+      contended = contended-inserted c.place_among.new.seat c.fill-filled.new.seat c.finish.new.seat c.expose.new.seat c.args.units.now steps
+          c.fill-filled.ensures.becomes c.finish.ensures.becomes c.expose.result c.expose.ensures.stays c.expose.ensures.over ∙ placed.contended;
       entries_are = entries-inserted c.place_among.new.seat c.fill-filled.new.seat c.finish.new.seat c.expose.new.seat c.args.units.now steps
           c.fill-filled.ensures.becomes c.finish.ensures.becomes c.expose.result c.expose.ensures.stays c.expose.ensures.over entry call
           ∙ ap (λ (entries : List Entry). entries ++ entry ∷ []) placed.entries;
