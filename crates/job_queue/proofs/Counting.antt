@@ -1,0 +1,133 @@
+-- Numbers in order, how often a list has one, and sums over views.
+use Rattle.std.proofs.Common.{◌≡◌, ◌≢◌, ◌<◌, ◌≤◌, ◌+◌, ℕ, zero, suc, List, [], ◌∷◌, ◌++◌, length, set, sym, refl, ap, ◌∙◌, subst, ⊎_elim, arith, length-append}
+use Rattle.std.specs.List.{AllByRecursion}
+use mathlib.Core.Option.{some, some-injective, some-ne-none}
+use lib.ListN.{get_elem?}
+use Rattle.crossbeam_queue.proofs.Lists.{at_set, at_snoc}
+use Rattle.lock_core.proofs.ListLemmas.{all-append}
+use Rattle.job_queue.specs.Takings.{same, once_below, times, Rises}
+use Rattle.job_queue.specs.Rule.{counted, summed, Everywhere}
+
+counted-more : (k n : ℕ) → counted k n ++ (k + n) ∷ [] ≡ counted k (suc n)
+counted-more k zero = let e : k + 0 ≡ k = omega arith in ap (λ (x : ℕ). x ∷ []) e
+counted-more k (suc n) = let e : k + suc n ≡ suc k + n = omega arith in
+    ap (λ (l : List ℕ). k ∷ l) (ap (λ (x : ℕ). counted (suc k) n ++ x ∷ []) e ∙ counted-more (suc k) n)
+
+longer : (items : List ℕ) (x : ℕ) → suc (length items) ≡ length (items ++ x ∷ [])
+longer items x = omega (arith, length-append items (x ∷ []))
+
+-- the number that comes next is put behind the others
+pub counted-push : (next : ℕ) (items : List ℕ) (x : ℕ) → items ≡ counted next (length items) → next + length items ≡ x
+    → items ++ x ∷ [] ≡ counted next (length (items ++ x ∷ []))
+counted-push next items x are number = (ap (λ l. l ++ x ∷ []) are ∙ ap (λ y. counted next (length items) ++ y ∷ []) (sym number))
+    ∙ (counted-more next (length items) ∙ ap (counted next) (longer items x))
+
+-- and the first of them is the least
+pub counted-first : (x next : ℕ) (items : List ℕ) → x ∷ items ≡ counted next (length (x ∷ items))
+    → (x ≡ next) × (items ≡ counted (suc next) (length items))
+counted-first x next items e = (ap head e, ap tail e)
+  where
+    head : List ℕ → ℕ
+    head [] = x
+    head (y ∷ ys) = y
+
+    tail : List ℕ → List ℕ
+    tail [] = []
+    tail (y ∷ ys) = ys
+
+pub once-more : (x n : ℕ) → once_below x (suc n) ≡ once_below x n + same x n
+once-more zero zero = refl
+once-more (suc x) zero = refl
+once-more zero (suc n) = refl
+once-more (suc x) (suc n) = once-more x n
+
+pub once-most : (x n : ℕ) → once_below x n ≤ 1
+once-most x zero = omega arith
+once-most zero (suc n) = omega arith
+once-most (suc x) (suc n) = once-most x n
+
+-- a number that is there is below
+pub once-some : (x n : ℕ) → 1 ≤ once_below x n → x < n
+once-some x zero some' = absurd (omega (arith, some'))
+once-some zero (suc n) some' = omega arith
+once-some (suc x) (suc n) some' = omega (arith, once-some x n some')
+
+pub same-refl : (x : ℕ) → same x x ≡ 1
+same-refl zero = refl
+same-refl (suc x) = same-refl x
+
+pub times-append : (x : ℕ) (xs ys : List ℕ) → times x (xs ++ ys) ≡ times x xs + times x ys
+times-append x [] ys = omega arith
+times-append x (y ∷ xs) ys = omega (arith, times-append x xs ys)
+
+pub times-push : (x : ℕ) (xs : List ℕ) (y : ℕ) → times x (xs ++ y ∷ []) ≡ times x xs + same x y
+times-push x xs y = omega (arith, times-append x xs (y ∷ []))
+
+pub rises-push : (xs : List ℕ) (x : ℕ) → Rises xs → AllByRecursion (λ y. y < x) xs → Rises (xs ++ x ∷ [])
+rises-push [] x rises all = (tt, tt)
+rises-push (y ∷ ys) x rises all = (all-append (λ z. y < z) ys (x ∷ []) rises.0 (all.0, tt), rises-push ys x rises.1 all.1)
+
+module _ {A : Type 0} where
+  pub there-is : (list : List A) (i : ℕ) (x : A) → get_elem? list i ≡ some x → i < length list
+  there-is [] i x at = absurd (some-ne-none x (sym at))
+  there-is (y ∷ ys) zero x at = omega arith
+  there-is (y ∷ ys) (suc i) x at = omega (arith, there-is ys i x at)
+
+  pub everywhere-one : (P : A → Type 0) (only : A) → P only → Everywhere P (only ∷ [])
+  everywhere-one P only mine zero x at = subst P (some-injective only x at) mine
+  everywhere-one P only mine (suc i) x at = absurd (some-ne-none x (sym at))
+
+  pub everywhere-set : (P Q : A → Type 0) (list : List A) (me : ℕ) (new : A) → Everywhere P list → Q new → ((x : A) → P x → Q x)
+      → Everywhere Q (set list me new)
+  everywhere-set P Q list me new all mine f j x there = ⊎_elim (λ (t : (j ≡ me) × (new ≡ x)). subst Q t.1 mine)
+      (λ (t : (j ≢ me) × (get_elem? list j ≡ some x)). f x (all j x t.1)) (at_set list me j new x there)
+
+  pub everywhere-snoc : (P : A → Type 0) (list : List A) (new : A) → Everywhere P list → P new → Everywhere P (list ++ new ∷ [])
+  everywhere-snoc P list new all mine j x there =
+      ⊎_elim (λ before. all j x before) (λ (is : new ≡ x). subst P is mine) (at_snoc list new x j there)
+
+  pub summed-set : (amount : A → ℕ) (list : List A) (i : ℕ) (old new : A) → get_elem? list i ≡ some old
+      → summed amount (set list i new) + amount old ≡ summed amount list + amount new
+  summed-set amount [] i old new there = absurd (some-ne-none old (sym there))
+  summed-set amount (x ∷ xs) zero old new there = let is : amount x ≡ amount old = ap amount (some-injective x old there) in omega arith
+  summed-set amount (x ∷ xs) (suc i) old new there = omega (arith, summed-set amount xs i old new there)
+
+  pub summed-snoc : (amount : A → ℕ) (list : List A) (new : A) → summed amount (list ++ new ∷ []) ≡ summed amount list + amount new
+  summed-snoc amount [] new = omega arith
+  summed-snoc amount (x ∷ xs) new = omega (arith, summed-snoc amount xs new)
+
+  pub summed-one : (amount : A → ℕ) (list : List A) (i : ℕ) (x : A) → get_elem? list i ≡ some x → amount x ≤ summed amount list
+  summed-one amount [] i x there = absurd (some-ne-none x (sym there))
+  summed-one amount (y ∷ ys) zero x there = let is : amount y ≡ amount x = ap amount (some-injective y x there) in omega arith
+  summed-one amount (y ∷ ys) (suc i) x there = omega (arith, summed-one amount ys i x there)
+
+  pub summed-two : (amount : A → ℕ) (list : List A) (i j : ℕ) (x y : A) → get_elem? list i ≡ some x → get_elem? list j ≡ some y → j ≢ i
+      → amount x + amount y ≤ summed amount list
+  summed-two amount [] i j x y here there differ = absurd (some-ne-none x (sym here))
+  summed-two amount (z ∷ zs) zero zero x y here there differ = absurd (differ refl)
+  summed-two amount (z ∷ zs) zero (suc j) x y here there differ =
+      let mine : amount z ≡ amount x = ap amount (some-injective z x here) in omega (arith, summed-one amount zs j y there)
+  summed-two amount (z ∷ zs) (suc i) zero x y here there differ =
+      let mine : amount z ≡ amount y = ap amount (some-injective z y there) in omega (arith, summed-one amount zs i x here)
+  summed-two amount (z ∷ zs) (suc i) (suc j) x y here there differ =
+      omega (arith, summed-two amount zs i j x y here there (λ e. differ (ap suc e)))
+
+  -- where the others weigh nothing, and so amount to nothing, the sum is the one's
+  summed-none : (weight amount : A → ℕ) (list : List A) → ((i : ℕ) (x : A) → get_elem? list i ≡ some x → weight x ≡ 0 → amount x ≡ 0)
+      → summed weight list ≡ 0 → summed amount list ≡ 0
+  summed-none weight amount [] f none = refl
+  summed-none weight amount (x ∷ xs) f none = let mine = f 0 x refl (omega (arith, none)) in
+      let rest = summed-none weight amount xs (λ i y. f (suc i) y) (omega (arith, none)) in omega (arith, mine, rest)
+
+  pub summed-alone : (weight amount : A → ℕ) (list : List A) (i : ℕ) (x : A) → get_elem? list i ≡ some x → weight x ≡ 1
+      → summed weight list ≡ 1 → ((j : ℕ) (y : A) → get_elem? list j ≡ some y → weight y ≡ 0 → amount y ≡ 0) → summed amount list ≡ amount x
+  summed-alone weight amount [] i x there one all f = absurd (some-ne-none x (sym there))
+  summed-alone weight amount (y ∷ ys) zero x there one all f =
+      let is : weight y ≡ weight x = ap weight (some-injective y x there) in
+      let also : amount y ≡ amount x = ap amount (some-injective y x there) in
+      let rest = summed-none weight amount ys (λ j z. f (suc j) z) (omega (arith, one, all)) in omega (arith, rest)
+  summed-alone weight amount (y ∷ ys) (suc i) x there one all f =
+      let less = summed-one weight ys i x there in
+      let mine = f 0 y refl (omega (arith, one, all, less)) in
+      let rest = summed-alone weight amount ys i x there one (omega (arith, one, all, less)) (λ j z. f (suc j) z) in
+      omega (arith, mine, rest)

@@ -1,0 +1,46 @@
+//! The queue is filled by its first pass, before there is another.
+ghost use Rattle.std.specs.Prelude.{◌≡◌, ◌<◌, ◌≤◌, ◌^◌, true, IfOk};
+ghost use Rattle.crossbeam_queue.specs.Passes.{view, IsPassOf};
+ghost use Rattle.job_queue.specs.Takings.{fresh};
+
+use crate::takings::{OneByOne, PutsMark, PutsPlace, Takings};
+use crossbeam_queue::{Pass, RuledArrayQueue};
+use lsn_space::NoMemory;
+use std::alloc::Global;
+use std::sync::Wait;
+
+/// A queue of places and marks.
+pub type Line = RuledArrayQueue<u64, Takings, OneByOne>;
+
+/// The places from 0 up to `count`, and behind them so many marks, in a queue with room for them all.
+pub(crate) fn filled<R: Wait>(
+    rt: &R,
+    alloc: Global,
+    count: u64,
+    workers: u32,
+) -> Result<(Line, Pass<u64, Takings>), NoMemory>
+    requires few { count < 2 ^ 40 }
+    requires shared { 1 ≤ workers }
+    ensures pass { IfOk result (λ made. IsPassOf made.0 made.1) }
+    ensures first { IfOk result (λ made. made.1.id ≡ 0) }
+    ensures put { IfOk result (λ made. view made.1 ≡ fresh true count workers 0 workers) }
+{
+    let marks = u64::from(workers);
+    let Ok((line, mut pass)) = Line::ruled(alloc, (count + marks) as usize) else {
+        return Err(NoMemory);
+    };
+    'places: for place in 0..count {
+        if line.push_as::<PutsPlace, R>(rt, &mut pass, place).is_err() {
+            unreachable!();
+        }
+    }
+    'marks: for mark in 0..marks {
+        if line
+            .push_as::<PutsMark, R>(rt, &mut pass, count + mark)
+            .is_err()
+        {
+            unreachable!();
+        }
+    }
+    Ok((line, pass))
+}
