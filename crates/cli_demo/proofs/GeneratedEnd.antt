@@ -21,7 +21,7 @@ use Rattle.txn_script.specs.Generator.{number_after, leg_from, job_from, generat
 use Rattle.lock_core.specs.Transfers.{transfer_of}
 use Rattle.txn_script.proofs.OrderLemmas.{room-generated}
 use Rattle.txn_jobs.specs.declared.jobs.Jobs.{Jobs}
-use Rattle.txn_runner.specs.Stripes.{number_at, place_of, job_at}
+use Rattle.txn_runner.specs.Places.{number_at, place_of, job_at}
 use Rattle.cli_threads.specs.RunStops.{HasNextOf, StopsAtLogEnd}
 
 -- ---- one transfer has 5 units at most, whatever its outcome
@@ -103,20 +103,19 @@ boundary-most records lsn is =
     omega (arith, longer, found.3)
 
 module _ (n seed : ℕ) (few : n ≤ 100000) (jobs : Jobs) (script : jobs.script ≡ generated_jobs n seed) where
-  next-most : (records : List Rec) (worker k tail total : ℕ) → place_of jobs worker k < length jobs.script → HasNextOf records jobs worker k tail total
-      → total ≤ 5
-  next-most records worker k tail total inside next =
-      let found = generated-at n seed (place_of jobs worker k) (record { legs = []; note = None }) (omega (arith, inside, ap length script)) in
-      let job : job_at jobs worker k ≡ job_from found.0 =
-      ap (λ s. get_or s (place_of jobs worker k) (record { legs = []; note = None })) script ∙ found.1 in
-      let plan = next.plan ∙ ap (λ j. outcome_records (number_at jobs worker k) (transfer_of j) (outcome_alone (transfer_of j) next.balances)) job in
-      let weighed = records-most (history records) (number_at jobs worker k) (next.next ∷ next.rest) _ plan in
-      omega (arith, weighed, outcome-most (number_at jobs worker k) found.0 (outcome_alone (transfer_of (job_from found.0)) next.balances), next.size)
+  next-most : (records : List Rec) (place tail total : ℕ) → place < length jobs.script → HasNextOf records jobs place tail total → total ≤ 5
+  next-most records place tail total inside next =
+      let found = generated-at n seed place (record { legs = []; note = None }) (omega (arith, inside, ap length script)) in
+      let job : job_at jobs place ≡ job_from found.0 =
+      ap (λ s. get_or s place (record { legs = []; note = None })) script ∙ found.1 in
+      let plan = next.plan ∙ ap (λ j. outcome_records (number_at jobs place) (transfer_of j) (outcome_alone (transfer_of j) next.balances)) job in
+      let weighed = records-most (history records) (number_at jobs place) (next.next ∷ next.rest) _ plan in
+      omega (arith, weighed, outcome-most (number_at jobs place) found.0 (outcome_alone (transfer_of (job_from found.0)) next.balances), next.size)
 
   pub never-log_end : (opened list : List Rec) (tail total : ℕ) → end_of opened ≤ 128 → end_of list ≤ 5 * n
       → StopsAtLogEnd opened jobs list tail total → ⊥
   never-log_end opened list tail total first most stops =
-      let small = next-most (opened ++ list) stops.worker stops.stripe.cut tail total stops.stripe.inside stops.no_room.next in
+      let small = next-most (opened ++ list) (place_of jobs stops.worker stops.stripe.cut) tail total stops.stripe.inside stops.no_room.next in
       let within = boundary-most (opened ++ list) tail stops.no_room.boundary in
       let longer = ap length (units_of-append opened list) ∙ length-append (units_of opened) (units_of list) in
       let past = stops.no_room.too_long in

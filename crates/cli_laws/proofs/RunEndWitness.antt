@@ -39,7 +39,7 @@ use Rattle.txn_jobs.specs.declared.cause.Cause.TheVariants.{LogEnd}
 use Rattle.txn_jobs.specs.declared.cause.Worked.TheVariants.{Cut}
 use Rattle.txn_jobs.specs.declared.jobs.Jobs.{Jobs}
 use Rattle.cli_laws.specs.RunWitness.{payment, plain_disk, HasHitLogEnd}
-use Rattle.cli_threads.specs.Shares.{Share, IsGivenUncommitted, HasShare}
+use Rattle.cli_threads.specs.Shares.{Share, IsGivenUncommitted, HasShare, IsStripeOf}
 use Rattle.cli_threads.specs.Transferred.{IsOpened}
 use Rattle.cli_laws.proofs.RunWitness.{genesis-counted, genesis-spellable, genesis-lawful, shut-at}
 
@@ -203,7 +203,7 @@ module _ (n : ℕ) (full : 4 + 2 * n ≤ LAST) (near : LAST < 4 + 2 * n + 2) whe
   jobs = record { script = payment ∷ []; first = 2; workers = 1; some = omega arith; shared = omega arith; numbered = omega arith }
 
   abbrev cut : Share
-  cut = record { taken = 1; worked = Cut (LogEnd (4 + 2 * n) 2) }
+  cut = record { taken = 0 ∷ []; worked = Cut (LogEnd (4 + 2 * n) 2) }
 
   abbrev view_old : View
   view_old = record (flusher key) { sending = record (flusher key).sending { quiet = true; looked = true } }
@@ -266,13 +266,14 @@ module _ (n : ℕ) (full : 4 + 2 * n ≤ LAST) (near : LAST < 4 + 2 * n + 2) whe
     balance_is = refl;
   }
 
-  has-share : (worker : ℕ) (share : Share) → get_elem? (cut ∷ []) worker ≡ some share → HasShare jobs worker share view
-  has-share zero share at = subst (λ (s : Share). HasShare jobs 0 s view) (some-injective cut share at) (record {
-    stripe = λ j below. omega arith;
+  has-share : (worker : ℕ) (share : Share) → get_elem? (cut ∷ []) worker ≡ some share → HasShare jobs share view
+  has-share zero share at = subst (λ (s : Share). HasShare jobs s view) (some-injective cut share at) (record {
+    places = (omega arith, tt);
     came_to = (
+      [],
       0,
       refl,
-      λ j from below. absurd (omega arith),
+      tt,
       record {
         balances = λ account. (row key.accounts.rows account).0;
         marks = λ account. 0;
@@ -286,9 +287,13 @@ module _ (n : ℕ) (full : 4 + 2 * n ≤ LAST) (near : LAST < 4 + 2 * n + 2) whe
         alone = λ one. tt;
       },
     );
-    in_turn = λ i j before after less has. absurd (omega (arith, has.1));
+    in_turn = λ i j before after less one other has. absurd (omega (arith, has.1));
   })
   has-share (suc worker) share at = absurd (some-ne-none share (sym at))
+
+  is-stripe : (worker : ℕ) (share : Share) → get_elem? (cut ∷ []) worker ≡ some share → IsStripeOf jobs worker share
+  is-stripe zero share at = subst (IsStripeOf jobs 0) (some-injective cut share at) (record { places = refl; all = tt })
+  is-stripe (suc worker) share at = absurd (some-ne-none share (sym at))
 
   module _ (d : Daemon ℕ (List ℕ)) where
     abbrev daemon : Daemon ℕ (List ℕ)
@@ -323,7 +328,7 @@ module _ (n : ℕ) (full : 4 + 2 * n ≤ LAST) (near : LAST < 4 + 2 * n + 2) whe
         sending = refl;
         constants = refl;
         drained = λ fine. record { quiet = refl; looked = refl; all = omega arith };
-        workers = record { count = refl; taken = refl; each = has-share };
+        workers = record { count = refl; taken = refl; each = has-share; stripes = is-stripe };
         gathered = gathered;
         settled = settled;
       };

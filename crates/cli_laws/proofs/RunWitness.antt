@@ -45,7 +45,7 @@ use Rattle.commit_pipeline.proofs.RanLemmas.{none≢some}
 use Rattle.txn_jobs.specs.declared.cause.Worked.TheVariants.{All}
 use Rattle.txn_jobs.specs.declared.jobs.Jobs.{Jobs}
 use Rattle.cli_laws.specs.RunWitness.{payment, file_at, plain_disk, plain_sink, HasMadePayment}
-use Rattle.cli_threads.specs.Shares.{Share, HasShare, HasGathered}
+use Rattle.cli_threads.specs.Shares.{Share, HasShare, IsStripeOf, HasGathered}
 use Rattle.cli_threads.specs.Transferred.{IsOpened}
 use Rattle.cli_threads.proofs.RunLedger.{base-opened}
 
@@ -55,7 +55,7 @@ abbrev pub jobs : Jobs
 jobs = record { script = payment ∷ []; first = 1; workers = 1; some = omega arith; shared = omega arith; numbered = omega arith }
 
 abbrev shares : List Share
-shares = record { taken = 1; worked = All } ∷ []
+shares = record { taken = 0 ∷ []; worked = All } ∷ []
 
 abbrev key : Start
 key = record { start = 4; ring = 1024; slots = 0; accounts = record { rows = (100, 0) ∷ (0, 0) ∷ []; room = 2 } }
@@ -222,24 +222,29 @@ of-first entry = All-contains IsFirst view.entries entry (All-from_recursion IsF
     IsFirst : Entry → Type 0
     IsFirst other = txn_of other.rec ≡ 1
 
-has-share : (worker : ℕ) (share : Share) → get_elem? shares worker ≡ some share → HasShare jobs worker share view
-has-share zero share at = subst (λ (s : Share). HasShare jobs 0 s view) (some-injective (record { taken = 1; worked = All }) share at) (record {
-  stripe = λ j below. omega arith;
+has-share : (worker : ℕ) (share : Share) → get_elem? shares worker ≡ some share → HasShare jobs share view
+has-share zero share at = subst (λ (s : Share). HasShare jobs s view) (some-injective (record { taken = 0 ∷ []; worked = All }) share at) (record {
+  places = (omega arith, tt);
   came_to = (
-    omega arith,
-    λ j from below. record {
+    record {
       end = entry 8 1 (Commit 1 1);
       contains = (2, omega arith, refl);
       number_is = omega arith;
       is_end = refl;
     },
+    tt,
   );
-  in_turn = λ i j before after less has has' is is'. absurd (omega (arith, less, is', of-first after has'));
+  in_turn = λ i j before after less one other has has' is is'. absurd (omega (arith, less, is', of-first after has'));
 })
 has-share (suc worker) share at = absurd (some-ne-none share (sym at))
 
+is-stripe : (worker : ℕ) (share : Share) → get_elem? shares worker ≡ some share → IsStripeOf jobs worker share
+is-stripe zero share at = subst (IsStripeOf jobs 0) (some-injective (record { taken = 0 ∷ []; worked = All }) share at)
+    (record { places = refl; all = omega arith })
+is-stripe (suc worker) share at = absurd (some-ne-none share (sym at))
+
 workers : HasGathered jobs shares view
-workers = record { count = refl; taken = refl; each = has-share }
+workers = record { count = refl; taken = refl; each = has-share; stripes = is-stripe }
 
 -- ---- the turns
 

@@ -14,7 +14,7 @@ use Rattle.lock_core.proofs.Witnessing.{transfer-lawful, transfer-serial}
 use Rattle.log_recovery.specs.Text.{accounts_text}
 use Rattle.segment_file.proofs.StandingLemmas.{holds}
 use Rattle.commit_pipeline.specs.EndLines.{done_line}
-use Rattle.txn_runner.specs.Stripes.{number_at}
+use Rattle.txn_runner.specs.Places.{number_at, place_of}
 use Rattle.cli_threads.specs.Run.{ComeInTurn, HoldsRun}
 use Rattle.cli_laws.specs.RunWitness.{file_at}
 use Rattle.cli_laws.specs.Told.{HasToldPayment}
@@ -31,10 +31,10 @@ serial = serial-partly (base_state_of (history genesis_log)) (tasks_of jobs) tra
 
 -- no transfer but the first has a record
 in_turn : ComeInTurn jobs (history (genesis_log ++ transfer_records))
-in_turn worker i j small less recorded = absurd (recorded (history-own genesis_log transfer_records (number_at jobs worker j) (omega (arith, less))
-    ∙ ap recs_of (history-others (number_at jobs worker j) (end_of genesis_log) [] transfer_records (other, (other, (other, tt))) refl)))
+in_turn worker i j small less recorded = absurd (recorded (history-own genesis_log transfer_records (number_at jobs (place_of jobs worker j)) (omega (arith, less))
+    ∙ ap recs_of (history-others (number_at jobs (place_of jobs worker j)) (end_of genesis_log) [] transfer_records (other, (other, (other, tt))) refl)))
   where
-    other : 1 ≢ number_at jobs worker j
+    other : 1 ≢ number_at jobs (place_of jobs worker j)
     other same = absurd (omega (arith, same, less))
 
 run : HoldsRun genesis_log jobs transfer_records (file_at 1)

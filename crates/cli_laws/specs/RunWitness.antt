@@ -78,4 +78,4 @@ pub record HasHitLogEnd : Type 0 where
   pub known : HasTransferred (plain_disk (λ moment. file)) plain_sink opened jobs shares key old new view lsn rows
   pub script : jobs.script ≡ payment ∷ []
   pub fine : new.fault ≡ None
-  pub share : get_elem? shares 0 ≡ some (record { taken = 1; worked = Cut (LogEnd lsn 2) })
+  pub share : get_elem? shares 0 ≡ some (record { taken = 0 ∷ []; worked = Cut (LogEnd lsn 2) })

@@ -1,3 +1,4 @@
+pub mod CameAlong
 pub mod EndingLemmas
 pub mod GatheredShares
 pub mod MergedEntries
@@ -12,5 +13,6 @@ pub mod RunRecords
 pub mod RunStripes
 pub mod RunTurns
 pub mod ServedLemmas
+pub mod StripePlaces
 pub mod TransferredLemmas
 pub mod WaitedLemmas

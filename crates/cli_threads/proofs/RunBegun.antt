@@ -16,7 +16,7 @@ use Rattle.segment_file.specs.declared.scan_result.Tail.{Tail}
 use Rattle.txn_jobs.specs.declared.jobs.Jobs.{Jobs}
 use Rattle.cli_threads.specs.Run.{HoldsRun, GoesOn, transfers_of}
 use Rattle.cli_threads.specs.Transferred.{IsOpened}
-use Rattle.txn_runner.specs.Stripes.{number_at}
+use Rattle.txn_runner.specs.Places.{number_at, place_of}
 use Rattle.cli_threads.proofs.RunHistory.{history-own}
 use Rattle.cli_threads.proofs.RunLedger.{goes-on}
 
@@ -33,7 +33,7 @@ module _ {D : Type 0} (g : Ghosts D) (disk : D) (tail : Tail) (opened : List Rec
   nothing-goes_on = goes-on opened [] jobs is.lawful is.some_accounts is.below
       (subst (AllByRecursion IsSpellable) (sym (append-nil opened)) is.spellable) tt
       (record { each = partly-none _ jobs.first (transfers_of jobs); others = λ txn apart. refl })
-      (λ worker i j small less recorded. absurd (recorded (history-own opened [] (number_at jobs worker j) (omega (arith, is.below)))))
+      (λ worker i j small less recorded. absurd (recorded (history-own opened [] (number_at jobs (place_of jobs worker j)) (omega (arith, is.below)))))
 
   holds-nothing : (bytes : List ℕ) → HoldsLawful bytes opened → HoldsRun opened jobs records bytes
   holds-nothing bytes held = record {

@@ -32,13 +32,14 @@ use Rattle.txn_jobs.specs.declared.cause.Cause.TheVariants.{Stop, LogEnd}
 use Rattle.txn_jobs.specs.declared.cause.Worked.{Worked}
 use Rattle.txn_jobs.specs.declared.cause.Worked.TheVariants.{All, Cut}
 use Rattle.txn_jobs.specs.declared.jobs.Jobs.{Jobs}
-use Rattle.txn_runner.specs.Stripes.{number_at, job_at, IsStripeEnd}
+use Rattle.txn_runner.specs.Places.{number_at, job_at, place_of, stripe_places, IsStripeEnd, HasStripe, HasAllIfDone}
 use Rattle.txn_runner.specs.Working.{HasEnd, own_records}
 use Rattle.cli_threads.specs.RunStops.{FoundNoRoom, WasCutForRoom, IsOfScript, IsWholeStripe, IsCutStripe, HadBalance, HadBalances, HasNextOf, StopsAtLogEnd}
-use Rattle.cli_threads.specs.Shares.{Share, all_taken, IsGivenUncommitted, AreGivenUncommitted, EndsLogAt, CameTo, HasShare, HasGathered}
+use Rattle.cli_threads.specs.Shares.{Share, all_taken, IsGivenUncommitted, AreGivenUncommitted, EndsLogAt, HasGathered}
+use Rattle.cli_threads.proofs.CameAlong.{CameAlong, came-along}
 use Rattle.cli_threads.proofs.RunHistory.{later_of, history-own}
 use Rattle.cli_threads.proofs.RunRecords.{tiling-end, boundary-front}
-use Rattle.cli_threads.proofs.RunStripes.{placed, tasks_of, each-numbered, share-at, share-inside, not_taken}
+use Rattle.cli_threads.proofs.RunStripes.{placed, tasks_of, each-numbered, share-at, share-inside, not_taken, stripe-of}
 
 -- the record of an entry is among the records
 pub contains-record : (entries : List Entry) (entry : Entry) → Contains entries entry → Contains (records_of entries) entry.rec
@@ -66,6 +67,12 @@ module _ (opened : List Rec) (jobs : Jobs) (view : View) (below : greatest_txn (
   stripe-all worker n k end inside = dite (dec_lt k n) (λ less. less)
       (λ past. let far : jobs.workers * n ≤ jobs.workers * k = mul-le-mul_left jobs.workers (omega arith) in absurd (omega arith))
 
+  -- how a worker came along its stripe
+  along : (shares : List Share) → HasGathered jobs shares view → (worker : ℕ) (share : Share) → get_elem? shares worker ≡ some share
+      → CameAlong jobs worker (length share.taken) share.worked view
+  along shares gathered worker share at =
+      came-along jobs worker share view (gathered.stripes worker share at) (gathered.each worker share at).came_to
+
   -- where all workers came to the ends of their stripes, each transfer ended
   pub all-ended : (shares : List Share) → HasGathered jobs shares view → 1 ≤ jobs.workers → AllByRecursion (λ (share : Share). share.worked ≡ All) shares
       → AllByRecursion (λ (task : Task). has_end (own_records_of task.number later) ≡ true) (tasks_of jobs)
@@ -74,7 +81,8 @@ module _ (opened : List Rec) (jobs : Jobs) (view : View) (below : greatest_txn (
       let here = placed jobs place some_workers in
       let found = share-at shares here.worker (let count = gathered.count in let small = here.at_work in omega arith) in
       subst (λ (p : ℕ). has_end (own_records_of (jobs.first + p) later) ≡ true) (sym here.is)
-      (has_end-later (number_at jobs here.worker here.k) (ended here.worker here.k found.0 (gathered.each here.worker found.0 found.1) (worked-all shares here.worker found.0 all found.1)
+      (has_end-later (number_at jobs (place_of jobs here.worker here.k)) (ended here.worker here.k found.0
+      (along shares gathered here.worker found.0 found.1) (worked-all shares here.worker found.0 all found.1)
       (subst (λ (p : ℕ). p < length jobs.script) here.is inside))))
     where
       worked-all : (shares : List Share) (i : ℕ) (share : Share) → AllByRecursion (λ (share : Share). share.worked ≡ All) shares → get_elem? shares i ≡ some share
@@ -83,29 +91,32 @@ module _ (opened : List Rec) (jobs : Jobs) (view : View) (below : greatest_txn (
       worked-all (first ∷ shares) zero share all at = subst (λ (share : Share). share.worked ≡ All) (some-injective first share at) all.0
       worked-all (first ∷ shares) (suc i) share all at = worked-all shares i share all.1 at
 
-      ended : (worker k : ℕ) (share : Share) → HasShare jobs worker share view → share.worked ≡ All → IsOfScript jobs worker k → HasEnd (number_at jobs worker k) view.entries
+      ended : (worker k : ℕ) (share : Share) → CameAlong jobs worker (length share.taken) share.worked view → share.worked ≡ All
+          → IsOfScript jobs worker k → HasEnd (number_at jobs (place_of jobs worker k)) view.entries
       ended worker k share has is inside =
-          let came : CameTo jobs worker share.taken All view = subst (λ (w : Worked). CameTo jobs worker share.taken w view) is has.came_to in
-          came.1 k (omega arith) (stripe-all worker share.taken k came.0 inside)
+          let came = subst (λ (w : Worked). CameAlong jobs worker (length share.taken) w view) is has in
+          came.1 k (stripe-all worker (length share.taken) k came.0 inside)
 
   -- ---- stripes
 
   -- where the worker ended its stripe
-  whole-stripe : (worker : ℕ) (share : Share) → HasShare jobs worker share view → share.worked ≡ All → IsWholeStripe jobs worker (history (opened ++ list))
+  whole-stripe : (worker : ℕ) (share : Share) → CameAlong jobs worker (length share.taken) share.worked view → share.worked ≡ All
+      → IsWholeStripe jobs worker (history (opened ++ list))
   whole-stripe worker share has is k inside =
-      let came : CameTo jobs worker share.taken All view = subst (λ (w : Worked). CameTo jobs worker share.taken w view) is has.came_to in
-      ap has_end (own-later (number_at jobs worker k) (omega arith))
-      ∙ has_end-later (number_at jobs worker k) (came.1 k (omega arith) (stripe-all worker share.taken k came.0 inside))
+      let came = subst (λ (w : Worked). CameAlong jobs worker (length share.taken) w view) is has in
+      ap has_end (own-later (number_at jobs (place_of jobs worker k)) (omega arith))
+      ∙ has_end-later (number_at jobs (place_of jobs worker k)) (came.1 k (stripe-all worker (length share.taken) k came.0 inside))
 
   -- the transfers that were taken are all that have records
   abbrev IsTakenAlone : List Share → Type 0
-  IsTakenAlone shares = HasNoOthers (map task_of (all_taken jobs 0 shares)) later
+  IsTakenAlone shares = HasNoOthers (map task_of (all_taken jobs shares)) later
 
   none-behind : (shares : List Share) → HasGathered jobs shares view → IsTakenAlone shares → (worker k : ℕ) (share : Share)
-      → get_elem? shares worker ≡ some share → share.taken ≤ k → own_records_of (number_at jobs worker k) (history (opened ++ list)) ≡ []
+      → get_elem? shares worker ≡ some share → length share.taken ≤ k
+      → own_records_of (number_at jobs (place_of jobs worker k)) (history (opened ++ list)) ≡ []
   none-behind shares gathered others worker k share at behind =
-      own-later (number_at jobs worker k) (omega arith)
-      ∙ ap recs_of (others (number_at jobs worker k) (not_taken jobs shares gathered.count worker k share at behind))
+      own-later (number_at jobs (place_of jobs worker k)) (omega arith)
+      ∙ ap recs_of (others (number_at jobs (place_of jobs worker k)) (not_taken jobs shares gathered.count gathered.stripes worker k share at behind))
 
   -- each account that was given back uncommitted had its balance in a front of the list
   abbrev HadThem : Type 0
@@ -119,15 +130,15 @@ module _ (opened : List Rec) (jobs : Jobs) (view : View) (below : greatest_txn (
       (All-from_recursion _ view.books.given had) is.contains is.uncommitted)
 
   -- what comes next of the transfer that was cut off
-  next-of : HadThem → (worker j tail total : ℕ) → EndsLogAt jobs worker j tail total view → HasNextOf (opened ++ list) jobs worker j tail total
-  next-of had worker j tail total ends =
-      let n : ℕ = number_at jobs worker j in
-      let transfer = transfer_of (job_at jobs worker j) in
+  next-of : HadThem → (place tail total : ℕ) → EndsLogAt jobs place tail total view → HasNextOf (opened ++ list) jobs place tail total
+  next-of had place tail total ends =
+      let n : ℕ = number_at jobs place in
+      let transfer = transfer_of (job_at jobs place) in
       let plan : in_order (own_records_of n later) (ends.next ∷ ends.rest) ≡ own_records n view.entries ++ ends.next ∷ ends.rest =
       own_records_of-own n (end_of opened) [] list (ends.next ∷ ends.rest) in
       record {
         balances = ends.balances;
-        each = all-weaker (AreGivenUncommitted n tail ends.balances view.books.given) (HadBalances (opened ++ list) tail ends.balances) (job_at jobs worker j).legs
+        each = all-weaker (AreGivenUncommitted n tail ends.balances view.books.given) (HadBalances (opened ++ list) tail ends.balances) (job_at jobs place).legs
             (λ leg both. (had-it had n tail (ends.balances leg.0) leg.0 both.0, had-it had n tail (ends.balances leg.1) leg.1 both.1)) ends.gave;
         next = without_prev ends.next;
         rest = all_without_prev ends.rest;
@@ -165,10 +176,10 @@ module _ (opened : List Rec) (jobs : Jobs) (view : View) (below : greatest_txn (
       let high = tiled-below view.constants.start lsn tail view.entries whole.tiles all (omega (arith, front.3, start, front_size)) in
       omega (arith, front.3, start, end, high, whole_size, front_size, list_size)
 
-  -- what the worker's j-th transfer, which was cut off, found
-  no-room : HadThem → (lsn : ℕ) → IsGathered lsn view → view.constants.start ≡ end_of opened → (worker j tail total : ℕ)
-      → EndsLogAt jobs worker j tail total view → FoundNoRoom (opened ++ list) jobs worker j tail total
-  no-room had lsn whole start worker j tail total ends =
+  -- what the transfer at this place, which was cut off, found
+  no-room : HadThem → (lsn : ℕ) → IsGathered lsn view → view.constants.start ≡ end_of opened → (place tail total : ℕ)
+      → EndsLogAt jobs place tail total view → FoundNoRoom (opened ++ list) jobs place tail total
+  no-room had lsn whole start place tail total ends =
       let front = tail-front lsn tail whole start ends.seen in
       let end = tiling-end view.constants.start lsn view.entries whole.full whole.spelled whole.tiles in
       record {
@@ -176,25 +187,29 @@ module _ (opened : List Rec) (jobs : Jobs) (view : View) (below : greatest_txn (
         boundary = front_is_boundary (opened ++ list) tail
             (opened ++ front.0, front.1, ap (λ l. opened ++ l) front.2 ∙ sym (append_assoc opened front.0 front.1), front.3);
         alone = λ one. alone lsn tail whole start end front (ends.alone one);
-        next = next-of had worker j tail total ends;
+        next = next-of had place tail total ends;
       }
 
   cut-stripe : (shares : List Share) → HasGathered jobs shares view → IsTakenAlone shares → HadThem → (lsn : ℕ) → IsGathered lsn view
       → view.constants.start ≡ end_of opened → (worker tail total : ℕ) (share : Share) → get_elem? shares worker ≡ some share
       → share.worked ≡ Cut (LogEnd tail total)
-      → (stripe : IsCutStripe jobs worker (history (opened ++ list))) × FoundNoRoom (opened ++ list) jobs worker stripe.cut tail total
+      → (stripe : IsCutStripe jobs worker (history (opened ++ list)))
+      × FoundNoRoom (opened ++ list) jobs (place_of jobs worker stripe.cut) tail total
   cut-stripe shares gathered others had lsn whole start worker tail total share at is =
-      let has = gathered.each worker share at in
-      let came : CameTo jobs worker share.taken (Cut (LogEnd tail total)) view = subst (λ (w : Worked). CameTo jobs worker share.taken w view) is has.came_to in
+      let came = subst (λ (w : Worked). CameAlong jobs worker (length share.taken) w view) is (along shares gathered worker share at) in
+      let stripe = stripe-of jobs shares gathered.count gathered.stripes worker share at (gathered.each worker share at).places in
       let j : ℕ = came.0 in
-      let found = no-room had lsn whole start worker j tail total came.3 in
+      let place : ℕ = place_of jobs worker j in
+      let found = no-room had lsn whole start place tail total came.3 in
       let next = found.next in
-      let n : ℕ = number_at jobs worker j in (
+      let n : ℕ = number_at jobs place in (
         record {
           cut = j;
-          inside = has.stripe j (let count = came.1 in omega arith);
-          before = λ k less. ap has_end (own-later (number_at jobs worker k) (omega arith)) ∙ has_end-later (number_at jobs worker k) (came.2 k (omega arith) less);
-          unended = unended-next n (transfer_of (job_at jobs worker j)) (outcome_alone (transfer_of (job_at jobs worker j)) next.balances) (own_records_of n (history (opened ++ list))) next.rest next.next next.plan;
+          inside = stripe j (let count = came.1 in omega arith);
+          before = λ k less. ap has_end (own-later (number_at jobs (place_of jobs worker k)) (omega arith))
+              ∙ has_end-later (number_at jobs (place_of jobs worker k)) (came.2 k less);
+          unended = unended-next n (transfer_of (job_at jobs place)) (outcome_alone (transfer_of (job_at jobs place)) next.balances)
+              (own_records_of n (history (opened ++ list))) next.rest next.next next.plan;
           after = λ k more. none-behind shares gathered others worker k share at (let count = came.1 in omega arith);
         },
         found,
@@ -204,8 +219,7 @@ module _ (opened : List Rec) (jobs : Jobs) (view : View) (below : greatest_txn (
   pub no-stop : (shares : List Share) → HasGathered jobs shares view → view.sending.stop ≡ 0 → (worker word : ℕ) (share : Share)
       → get_elem? shares worker ≡ some share → share.worked ≡ Cut (Stop word) → ⊥
   no-stop shares gathered no_stop worker word share at is =
-      let came : CameTo jobs worker share.taken (Cut (Stop word)) view =
-      subst (λ (w : Worked). CameTo jobs worker share.taken w view) is (gathered.each worker share at).came_to in
+      let came = subst (λ (w : Worked). CameAlong jobs worker (length share.taken) w view) is (along shares gathered worker share at) in
       came.3.0 (sym came.3.1 ∙ no_stop)
 
   each-stripe : (shares : List Share) → HasGathered jobs shares view → IsTakenAlone shares → HadThem → (lsn : ℕ) → IsGathered lsn view
@@ -213,7 +227,7 @@ module _ (opened : List Rec) (jobs : Jobs) (view : View) (below : greatest_txn (
       → get_elem? shares worker ≡ some share → (worked : Worked) → share.worked ≡ worked
       → IsWholeStripe jobs worker (history (opened ++ list)) ⊎ WasCutForRoom (opened ++ list) jobs worker
   each-stripe shares gathered others had lsn whole start no_stop worker share at All is =
-      inl (whole-stripe worker share (gathered.each worker share at) is)
+      inl (whole-stripe worker share (along shares gathered worker share at) is)
   each-stripe shares gathered others had lsn whole start no_stop worker share at (Cut (Stop word)) is =
       absurd (no-stop shares gathered no_stop worker word share at is)
   each-stripe shares gathered others had lsn whole start no_stop worker share at (Cut (LogEnd tail total)) is =

@@ -71,7 +71,7 @@ module _ {D : Type 0} {K : Type 0} (g : Ghosts D) (h : SinkGhosts K) (opened : L
   base = base_state_of (history opened)
 
   abbrev taken : List Task
-  taken = map task_of (all_taken jobs 0 shares)
+  taken = map task_of (all_taken jobs shares)
 
   -- ---- the list
 
@@ -86,7 +86,7 @@ module _ {D : Type 0} {K : Type 0} (g : Ghosts D) (h : SinkGhosts K) (opened : L
 
   once : (number : ℕ) → times_taken number view.books.jobs ≤ 1
   once number = subst (λ jobs. times_taken number jobs ≤ 1) (sym known.workers.taken)
-      (taken-once jobs 0 shares number (let count = known.workers.count in omega arith))
+      (taken-once jobs shares known.workers.count known.workers.stripes number)
 
   ledger : IsLedger base (later_of opened list) taken rows
   ledger =
@@ -105,8 +105,9 @@ module _ {D : Type 0} {K : Type 0} (g : Ghosts D) (h : SinkGhosts K) (opened : L
 
   pub serial : IsPartlySerialAfter base (tasks_of jobs) (later_of opened list)
   serial = partly_serial-more base taken (tasks_of jobs) (later_of opened list)
-      (taken-numbered jobs shares known.workers.count (λ i share at. (known.workers.each i share at).stripe))
-      (each-numbered _ jobs.first jobs.script (λ place inside. taken-or_not jobs shares known.workers.count place inside jobs.shared))
+      (taken-numbered jobs shares known.workers.count known.workers.stripes (λ i share at. (known.workers.each i share at).places))
+      (each-numbered _ jobs.first jobs.script
+      (λ place inside. taken-or_not jobs shares known.workers.count known.workers.stripes place inside jobs.shared))
       ledger.serial
 
   lawful_after : IsLawfulAfter base (later_of opened list)
@@ -285,14 +286,14 @@ module _ {D : Type 0} {K : Type 0} (g : Ghosts D) (h : SinkGhosts K) (opened : L
     had = all-weaker (WentBack base (later_of opened list)) _ view.books.given (had-balance opened list known.log.lawful lawful_after
         (apart opened list jobs known.log.lawful known.log.some_accounts known.log.below spellable lawful_after serial)) went-back
 
-    pub stops-at-end : (worker count tail total : ℕ) → get_elem? shares worker ≡ some (record { taken = count; worked = Cut (LogEnd tail total) })
+    pub stops-at-end : (worker : ℕ) (taken : List ℕ) (tail total : ℕ) → get_elem? shares worker ≡ some (record { taken = taken; worked = Cut (LogEnd tail total) })
         → StopsAtLogEnd opened jobs list tail total
-    stops-at-end worker count tail total at = stops opened jobs view known.log.below shares known.workers ledger.serial.others had lsn known.gathered start-view
-        stop-none worker tail total (record { taken = count; worked = Cut (LogEnd tail total) }) at refl
+    stops-at-end worker taken tail total at = stops opened jobs view known.log.below shares known.workers ledger.serial.others had lsn known.gathered start-view
+        stop-none worker tail total (record { taken = taken; worked = Cut (LogEnd tail total) }) at refl
 
-    pub never-stops : (worker count word : ℕ) → get_elem? shares worker ≡ some (record { taken = count; worked = Cut (Stop word) }) → ⊥
-    never-stops worker count word at =
-        no-stop opened jobs view known.log.below shares known.workers stop-none worker word (record { taken = count; worked = Cut (Stop word) }) at refl
+    pub never-stops : (worker : ℕ) (taken : List ℕ) (word : ℕ) → get_elem? shares worker ≡ some (record { taken = taken; worked = Cut (Stop word) }) → ⊥
+    never-stops worker taken word at =
+        no-stop opened jobs view known.log.below shares known.workers stop-none worker word (record { taken = taken; worked = Cut (Stop word) }) at refl
 
   pub whole_after : AllByRecursion (λ (share : Share). share.worked ≡ All) shares → IsSerialAfter base (tasks_of jobs) (later_of opened list)
   whole_after all = partly-serial base (tasks_of jobs) (later_of opened list)

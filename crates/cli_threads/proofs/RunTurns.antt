@@ -24,15 +24,18 @@ use Rattle.txn_jobs.specs.declared.cause.Worked.{Worked}
 use Rattle.txn_jobs.specs.declared.cause.Worked.TheVariants.{All, Cut}
 use Rattle.txn_jobs.specs.declared.jobs.Jobs.{Jobs}
 use Rattle.txn_runner.specs.Running.{LieInOrder}
-use Rattle.txn_runner.specs.Stripes.{number_at}
+use Rattle.txn_runner.specs.Places.{number_at, place_of, stripe_places}
 use Rattle.txn_runner.specs.Working.{HasEnd}
 use Rattle.txn_runner.proofs.EntryLemmas.{LieInOrder-starts}
 use Rattle.cli_threads.specs.Run.{ComeInTurn}
-use Rattle.cli_threads.specs.Shares.{Share, all_taken, CameTo, HasGathered}
+use Rattle.cli_threads.specs.Shares.{Share, all_taken, HasGathered}
+use Rattle.cli_threads.proofs.CameAlong.{CameAlong, came-along}
 use Rattle.cli_threads.proofs.GatheredShares.{sized}
 use Rattle.cli_threads.proofs.RunEnds.{contains-record}
 use Rattle.cli_threads.proofs.RunHistory.{later_of, later-append, history-own, history-others}
 use Rattle.cli_threads.proofs.RunStripes.{share-at, not_taken}
+use Rattle.cli_threads.proofs.StripePlaces.{stripe-contains}
+use Rattle.txn_jobs.proofs.StripeSteps.{place_of-rises}
 
 -- entries that tile a part of the log lie in order
 tiling-in_order : (from to : ℕ) (entries : List Entry) → IsTiling (λ (entry : Entry). entry.start) (λ (entry : Entry). entry.size) from entries to
@@ -90,46 +93,52 @@ one-of n (entry ∷ entries) = dite (ℕ_discrete (txn_of entry.rec) n)
     (one-of n entries))
 
 module _ (opened : List Rec) (jobs : Jobs) (view : View) (below : greatest_txn (history opened) < jobs.first) (shares : List Share)
-    (gathered : HasGathered jobs shares view) (others : HasNoOthers (map task_of (all_taken jobs 0 shares)) (later_of opened (records_of view.entries)))
+    (gathered : HasGathered jobs shares view) (others : HasNoOthers (map task_of (all_taken jobs shares)) (later_of opened (records_of view.entries)))
     (lsn : ℕ) (whole : IsGathered lsn view) where
   -- of a transfer that was taken each before it in the stripe has its end record
-  ended-before : (worker i j : ℕ) (share : Share) → get_elem? shares worker ≡ some share → i < j → j < share.taken
-      → HasEnd (number_at jobs worker i) view.entries
-  ended-before worker i j share at less taken = by_case share.worked (gathered.each worker share at).came_to
+  ended-before : (worker i j : ℕ) (share : Share) → get_elem? shares worker ≡ some share → i < j → j < length share.taken
+      → HasEnd (number_at jobs (place_of jobs worker i)) view.entries
+  ended-before worker i j share at less taken = by_case share.worked
+      (came-along jobs worker share view (gathered.stripes worker share at) (gathered.each worker share at).came_to)
     where
-      by_case : (worked : Worked) → CameTo jobs worker share.taken worked view → HasEnd (number_at jobs worker i) view.entries
-      by_case All came = came.1 i (omega arith) (omega (arith, less, taken))
-      by_case (Cut cause) came = came.2 i (omega arith) (omega (arith, less, taken, came.1))
+      by_case : (worked : Worked) → CameAlong jobs worker (length share.taken) worked view → HasEnd (number_at jobs (place_of jobs worker i)) view.entries
+      by_case All came = came.1 i (omega (arith, less, taken))
+      by_case (Cut cause) came = came.2 i (omega (arith, less, taken, came.1))
 
   module _ (front rest : List Rec) (splits : records_of view.entries ≡ front ++ rest) where
     abbrev parts : AreFirst view.entries front
     parts = are-first view.entries front rest splits
 
-    number-high : (worker j : ℕ) → greatest_txn (history opened) < number_at jobs worker j
+    number-high : (worker j : ℕ) → greatest_txn (history opened) < number_at jobs (place_of jobs worker j)
     number-high worker j = omega (arith, below)
 
     -- a transfer with a record in the front was taken
     was-taken : (worker j : ℕ) (share : Share) → get_elem? shares worker ≡ some share
-        → own_records_of (number_at jobs worker j) (history (opened ++ front)) ≢ [] → j < share.taken
-    was-taken worker j share at recorded = dite (dec_lt j share.taken) (λ less. less)
+        → own_records_of (number_at jobs (place_of jobs worker j)) (history (opened ++ front)) ≢ [] → j < length share.taken
+    was-taken worker j share at recorded = dite (dec_lt j (length share.taken)) (λ less. less)
         (λ behind. absurd (recorded (history-own opened front n (number-high worker j)
         ∙ ap recs_of (of_transaction-older n (later-append opened front rest).0 (later_of opened front)
         (ap (of_transaction n) (sym (later-append opened front rest).1) ∙ ap (λ records. of_transaction n (later_of opened records)) (sym splits)
-        ∙ others n (not_taken jobs shares gathered.count worker j share at (omega (arith, behind))))))))
+        ∙ others n (not_taken jobs shares gathered.count gathered.stripes worker j share at (omega (arith, behind))))))))
       where
         n : ℕ
-        n = number_at jobs worker j
+        n = number_at jobs (place_of jobs worker j)
+
+    is-taken : (worker j : ℕ) (share : Share) → get_elem? shares worker ≡ some share → j < length share.taken
+        → Contains share.taken (place_of jobs worker j)
+    is-taken worker j share at less = subst (λ l. Contains l (place_of jobs worker j)) (sym (gathered.stripes worker share at).places)
+        (stripe-contains jobs worker (length share.taken) j less)
 
     -- and has an entry there
-    has-entry : (worker j : ℕ) → own_records_of (number_at jobs worker j) (history (opened ++ front)) ≢ []
-        → (entry : Entry) × Contains parts.first entry × (txn_of entry.rec ≡ number_at jobs worker j)
+    has-entry : (worker j : ℕ) → own_records_of (number_at jobs (place_of jobs worker j)) (history (opened ++ front)) ≢ []
+        → (entry : Entry) × Contains parts.first entry × (txn_of entry.rec ≡ number_at jobs (place_of jobs worker j))
     has-entry worker j recorded = ⊎_elim (λ found. found)
         (λ none. absurd (recorded (history-own opened front n (number-high worker j)
         ∙ ap recs_of (history-others n (end_of opened) [] front (subst (AllByRecursion (λ (rec : Rec). txn_of rec ≢ n)) parts.records none) refl))))
         (one-of n parts.first)
       where
         n : ℕ
-        n = number_at jobs worker j
+        n = number_at jobs (place_of jobs worker j)
 
     -- an entry that does not lie behind one of the front is in it
     in-front : (entry other : Entry) → Contains view.entries entry → Contains parts.first other → entry.start + entry.size ≤ other.start
@@ -153,9 +162,12 @@ module _ (opened : List Rec) (jobs : Jobs) (view : View) (below : greatest_txn (
         let found = share-at shares worker (omega (arith, small, gathered.count)) in
         let ended = ended-before worker i j found.0 found.1 less (was-taken worker j found.0 found.1 recorded) in
         let entry = has-entry worker j recorded in
-        let before = (gathered.each worker found.0 found.1).in_turn i j ended.end entry.0 less ended.contains
+        let taken = was-taken worker j found.0 found.1 recorded in
+        let before = (gathered.each worker found.0 found.1).in_turn (place_of jobs worker i) (place_of jobs worker j) ended.end entry.0
+        (place_of-rises jobs worker i j less) (is-taken worker i found.0 found.1 (omega (arith, less, taken)))
+        (is-taken worker j found.0 found.1 taken) ended.contains
         (subst (λ l. Contains l entry.0) (sym parts.whole) (Contains-append_left parts.first parts.others entry.0 entry.1)) ended.number_is entry.2 in
-        ap has_end (history-own opened front (number_at jobs worker i) (number-high worker i))
-        ∙ has_end-own (number_at jobs worker i) (end_of opened) front ended.end.rec
+        ap has_end (history-own opened front (number_at jobs (place_of jobs worker i)) (number-high worker i))
+        ∙ has_end-own (number_at jobs (place_of jobs worker i)) (end_of opened) front ended.end.rec
         (subst (λ records. Contains records ended.end.rec) parts.records (contains-record parts.first ended.end
         (in-front ended.end entry.0 ended.contains entry.1 before))) ended.number_is ended.is_end

@@ -1,5 +1,5 @@
 -- What a worker did stands once it has ended.
-use Rattle.std.proofs.Common.{◌≡◌, ℕ, Bool, true, ◌++◌, [], append-nil, sym, ap, subst, ◌∙◌}
+use Rattle.std.proofs.Common.{◌≡◌, ℕ, Bool, true, List, [], sym, ap, subst, ◌∙◌}
 use Rattle.log_table.specs.declared.table.Seat.{Seat}
 use Rattle.log_table.specs.declared.table.LogTable.{LogTable}
 use Rattle.log_table.specs.declared.view.Role.TheVariants.{Ended}
@@ -11,8 +11,9 @@ use Rattle.txn_jobs.specs.declared.cause.Cause.TheVariants.{Stop, LogEnd}
 use Rattle.txn_jobs.specs.declared.cause.Worked.{Worked}
 use Rattle.txn_jobs.specs.declared.cause.Worked.TheVariants.{All, Cut}
 use Rattle.txn_jobs.specs.declared.jobs.Jobs.{Jobs}
-use Rattle.txn_runner.specs.Stripes.{stripe_jobs}
+use Rattle.txn_runner.specs.Places.{jobs_taken}
 use Rattle.txn_runner.specs.Working.{HasWorked, IsCutBy, TakesJobs, Works}
+use Rattle.txn_runner.proofs.ProgressLemmas.{jobs-from_none}
 use Rattle.txn_runner.proofs.WorkLemmas.{Works-may_wait}
 
 -- a seat that left is of the table that it was of
@@ -31,21 +32,22 @@ module _ (old new : Seat) (left : Becomes old new (retired (view_of old))) where
     slots = ap (λ (view : View). view.constants.slots) view-left ∙ of.slots;
   }
 
-module _ (jobs : Jobs) (number : ℕ) where
-  HasWorked-retired : (k : ℕ) (view : View) → HasWorked jobs number k view → HasWorked jobs number k (retired view)
-  HasWorked-retired k view has = record {
-    stripe = has.stripe;
+module _ (jobs : Jobs) where
+  HasWorked-retired : (taken : List ℕ) (view : View) → HasWorked jobs taken view → HasWorked jobs taken (retired view)
+  HasWorked-retired taken view has = record {
+    places = has.places;
+    rising = has.rising;
     earlier = has.earlier;
-    taken = has.taken;
+    jobs_are = has.jobs_are;
     numbers = has.numbers;
     own = has.own;
     below = has.below;
     in_turn = has.in_turn;
   }
 
-  IsCutBy-retired : (j : ℕ) (cause : Cause) (view : View) → IsCutBy jobs number j true cause view → IsCutBy jobs number j true cause (retired view)
-  IsCutBy-retired j (Stop word) view is = is
-  IsCutBy-retired j (LogEnd tail total) view is = record {
+  IsCutBy-retired : (place : ℕ) (cause : Cause) (view : View) → IsCutBy jobs place true cause view → IsCutBy jobs place true cause (retired view)
+  IsCutBy-retired place (Stop word) view is = is
+  IsCutBy-retired place (LogEnd tail total) view is = record {
     balances = is.balances;
     marks = is.marks;
     before = is.before;
@@ -66,29 +68,23 @@ module _ (jobs : Jobs) (number : ℕ) where
     seen = is.seen;
   }
 
-  Works-retired : (k n : ℕ) (worked : Worked) (view : View) → Works jobs number k n true worked view → Works jobs number k n true worked (retired view)
-  Works-retired k n All view works = works
-  Works-retired k n (Cut cause) view works = (works.0, works.1, works.2, works.3, IsCutBy-retired works.0 cause view works.4)
-
-  -- a seat that had no job has just those that it took
-  jobs-from_none : (k n : ℕ) (old new : View) → TakesJobs jobs number k n old new → k ≡ 0 → old.books.jobs ≡ []
-      → new.books.jobs ≡ stripe_jobs jobs number n
-  jobs-from_none k n old new takes none no_jobs =
-      let no_earlier : takes.earlier ≡ [] = sym (ap (λ x. stripe_jobs jobs number x ++ takes.earlier) none) ∙ (sym takes.before ∙ no_jobs) in
-      takes.after ∙ (ap (λ l. stripe_jobs jobs number n ++ l) no_earlier ∙ append-nil _)
+  Works-retired : (before after : List ℕ) (worked : Worked) (view : View) → Works jobs before after true worked view
+      → Works jobs before after true worked (retired view)
+  Works-retired before after All view works = works
+  Works-retired before after (Cut cause) view works = (works.0, works.1, works.2, works.3, IsCutBy-retired works.1 cause view works.4)
 
   -- what is said of a worker that has ended, but for its seat
-  pub record HasDone (taken : ℕ) (worked : Worked) (view : View) : Type 0 where
-    pub jobs_are : view.books.jobs ≡ stripe_jobs jobs number taken
-    pub has : HasWorked jobs number taken view
-    pub works : Works jobs number 0 taken true worked view
+  pub record HasDone (taken : List ℕ) (worked : Worked) (view : View) : Type 0 where
+    pub jobs_are : view.books.jobs ≡ jobs_taken jobs taken
+    pub has : HasWorked jobs taken view
+    pub works : Works jobs [] taken true worked view
 
   -- a worker that took no transfer before did its work, and left
-  pub HasDone-left : (before taken : ℕ) (wait : Bool) (worked : Worked) (old new : View) → before ≡ 0 → old.books.jobs ≡ [] → HasWorked jobs number taken new
-      → TakesJobs jobs number before taken old new → Works jobs number before taken wait worked new → HasDone taken worked (retired new)
+  pub HasDone-left : (before taken : List ℕ) (wait : Bool) (worked : Worked) (old new : View) → before ≡ [] → old.books.jobs ≡ [] → HasWorked jobs taken new
+      → TakesJobs jobs before taken old new → Works jobs before taken wait worked new → HasDone taken worked (retired new)
   HasDone-left before taken wait worked old new none no_jobs has takes works = record {
-    jobs_are = jobs-from_none before taken old new takes none no_jobs;
+    jobs_are = jobs-from_none jobs before taken old new none no_jobs takes;
     has = HasWorked-retired taken new has;
-    works = Works-retired 0 taken worked new (Works-may_wait jobs number 0 taken wait worked new
-        (subst (λ k. Works jobs number k taken wait worked new) none works));
+    works = Works-retired [] taken worked new (Works-may_wait jobs [] taken wait worked new
+        (subst (λ l. Works jobs l taken wait worked new) none works));
   }

@@ -142,7 +142,7 @@ module _ {D : Type 0} {K : Type 0} (g : Ghosts D) (h : SinkGhosts K) (tail : Tai
       → AllByRecursion (HasReadStop (view_of served'.boss).sending.stop) (map view_in served'.workers.items)
       → (view : View) → view ≡ takes_all (view_of served'.boss) (map view_in served'.workers.items)
       → (lsn : ℕ) (rows : List (ℕ × ℕ)) → IsGathered lsn view → IsSettled (base_of key) view rows
-      → HasTransferred g h opened jobs (map share_of served'.workers.items) key turned.first turned.last view lsn rows
+      → HasTransferred g h opened jobs (map (share_of jobs) served'.workers.items) key turned.first turned.last view lsn rows
   HasTransferred-gathered key table jobs wait knows opened log done count stops view is lsn rows gathered settled =
       let others = map view_in served'.workers.items in
       let taken = HasTaken-turned key jobs.workers knows in
@@ -158,7 +158,7 @@ module _ {D : Type 0} {K : Type 0} (g : Ghosts D) (h : SinkGhosts K) (tail : Tai
         sending = sending ∙ ap (λ (s : Seat). (view_of s).sending) (sym turned.seat_is);
         constants = constants ∙ ap (λ (s : Seat). (view_of s).constants) (sym turned.seat_is);
         drained = λ fine. IsDrained-same view (view_of served'.boss) sending constants (turned.drained (sym turned.fault_is ∙ fine));
-        workers = subst (HasGathered jobs (map share_of served'.workers.items)) (sym is) shares;
+        workers = subst (HasGathered jobs (map (share_of jobs) served'.workers.items)) (sym is) shares;
         gathered = gathered;
         settled = settled;
       }
@@ -177,6 +177,6 @@ MayClose-all table jobs wait key workers done view taken =
     }
 
 -- the shares are those of what the works came to
-pub ends-of_shares : (workers : List Worker) → map (λ (share : Share). share.worked) (map share_of workers) ≡ map worked_of workers
-ends-of_shares [] = refl
-ends-of_shares (worker ∷ workers) = ap (λ l. worked_of worker ∷ l) (ends-of_shares workers)
+pub ends-of_shares : (jobs : Jobs) (workers : List Worker) → map (λ (share : Share). share.worked) (map (share_of jobs) workers) ≡ map worked_of workers
+ends-of_shares jobs [] = refl
+ends-of_shares jobs (worker ∷ workers) = ap (λ l. worked_of worker ∷ l) (ends-of_shares jobs workers)

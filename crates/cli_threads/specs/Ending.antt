@@ -27,7 +27,7 @@ pub record HasEnded {D : Type 0} {K : Type 0} (g : Ghosts D) (h : SinkGhosts K) 
   pub transferred : HasTransferred g h opened prepared.jobs shares (key_of prepared.table) first last view ended.closed.tail ended.closed.accounts.rows
   pub ends : map (λ (share : Share). share.worked) shares ≡ ended.ends.items
   pub waited : wait ≡ true → (worker : ℕ) (share : Share) → get_elem? shares worker ≡ some share
-      → HaveWaited prepared.jobs worker (made_of share.taken share.worked) view.entries view.books.given
+      → HaveWaited prepared.jobs (made_of share.taken share.worked) view.entries view.books.given
   pub fault : last.fault ≡ ended.fault
   pub none_counted : (first.tally.done ≡ 0) × (first.tally.refused ≡ 0)
   pub done_is : last.tally.done ≡ ended.done

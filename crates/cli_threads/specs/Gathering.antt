@@ -8,7 +8,8 @@ use Rattle.log_table.specs.Seats.{IsOf, view_of}
 use Rattle.log_table.specs.CrewViews.{takes_in}
 use Rattle.txn_jobs.specs.declared.cause.Worked.{Worked}
 use Rattle.txn_jobs.specs.declared.cause.Worked.TheVariants.{All}
-use Rattle.txn_runner.specs.Working.{taken_in}
+use Rattle.txn_jobs.specs.declared.jobs.Jobs.{Jobs}
+use Rattle.txn_runner.specs.Working.{places_taken}
 use Rattle.cli_workers.specs.declared.workers.Worker.{Worker}
 use Rattle.cli_threads.specs.Shares.{Share}
 
@@ -25,8 +26,8 @@ view_in worker = view_of worker.seat
 abbrev pub worked_of : Worker → Worked
 worked_of worker = unwrap_or worker.worked All
 
-abbrev pub share_of : Worker → Share
-share_of worker = record { taken = taken_in worker.rows; worked = worked_of worker }
+abbrev pub share_of : Jobs → Worker → Share
+share_of jobs worker = record { taken = places_taken jobs worker.seat.worker worker.rows; worked = worked_of worker }
 
 -- the view after all of these were taken in
 abbrev pub takes_all : View → List View → View

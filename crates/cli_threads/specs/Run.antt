@@ -22,7 +22,7 @@ use Rattle.lock_core.specs.Transfers.{transfer_of}
 use Rattle.end_lines.specs.declared.voice.Voice.{Voice}
 use Rattle.commit_pipeline.specs.EndLines.{text_of}
 use Rattle.txn_jobs.specs.declared.jobs.Jobs.{Jobs}
-use Rattle.txn_runner.specs.Stripes.{number_at}
+use Rattle.txn_runner.specs.Places.{place_of, number_at}
 use Rattle.segment_file.specs.Lengths.{most_end}
 use Rattle.cli_threads.specs.RunStops.{EndsAs}
 
@@ -32,7 +32,8 @@ transfers_of jobs = map transfer_of jobs.script
 
 -- The transfers of each worker come one behind another: where one has a record, each before it in the worker's stripe has its end record.
 abbrev pub ComeInTurn : Jobs → List Placed → Type 0
-ComeInTurn jobs h = (worker i j : ℕ) → worker < jobs.workers → i < j → own_records_of (number_at jobs worker j) h ≢ [] → EndsAs jobs worker i h true
+ComeInTurn jobs h = (worker i j : ℕ) → worker < jobs.workers → i < j → own_records_of (number_at jobs (place_of jobs worker j)) h ≢ []
+    → EndsAs jobs (place_of jobs worker i) h true
 
 -- the list goes on from the opened one as the script says: each transfer ran whole, or was cut short, each worker's in turn
 pub record GoesOn (opened : List Rec) (jobs : Jobs) (records : List Rec) : Type 0 where

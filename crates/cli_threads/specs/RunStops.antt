@@ -12,27 +12,27 @@ use Rattle.lock_core.specs.Sums.{IsBalanceOf}
 use Rattle.lock_core.specs.Transactions.{own_records_of, has_end, all_without_prev, in_order}
 use Rattle.lock_core.specs.Transfers.{transfer_of}
 use Rattle.txn_jobs.specs.declared.jobs.Jobs.{Jobs}
-use Rattle.txn_runner.specs.Stripes.{place_of, number_at, job_at}
+use Rattle.txn_runner.specs.Places.{place_of, number_at, job_at}
 
 -- the script has a k-th transfer of the worker
 abbrev pub IsOfScript : Jobs → ℕ → ℕ → Type 0
 IsOfScript jobs worker k = place_of jobs worker k < length jobs.script
 
--- whether the worker's k-th transfer has an end record
-abbrev pub EndsAs : Jobs → ℕ → ℕ → List Placed → Bool → Type 0
-EndsAs jobs worker k h is = has_end (own_records_of (number_at jobs worker k) h) ≡ is
+-- whether the transfer at this place has an end record
+abbrev pub EndsAs : Jobs → ℕ → List Placed → Bool → Type 0
+EndsAs jobs place h is = has_end (own_records_of (number_at jobs place) h) ≡ is
 
 -- each transfer of the worker has its end record
 abbrev pub IsWholeStripe : Jobs → ℕ → List Placed → Type 0
-IsWholeStripe jobs worker h = (k : ℕ) → IsOfScript jobs worker k → EndsAs jobs worker k h true
+IsWholeStripe jobs worker h = (k : ℕ) → IsOfScript jobs worker k → EndsAs jobs (place_of jobs worker k) h true
 
 -- one of them is the first without an end record, and none after it has any record
 pub record IsCutStripe (jobs : Jobs) (worker : ℕ) (h : List Placed) : Type 0 where
   pub cut : ℕ
   pub inside : IsOfScript jobs worker cut
-  pub before : (k : ℕ) → k < cut → EndsAs jobs worker k h true
-  pub unended : EndsAs jobs worker cut h false
-  pub after : (k : ℕ) → cut < k → own_records_of (number_at jobs worker k) h ≡ []
+  pub before : (k : ℕ) → k < cut → EndsAs jobs (place_of jobs worker k) h true
+  pub unended : EndsAs jobs (place_of jobs worker cut) h false
+  pub after : (k : ℕ) → cut < k → own_records_of (number_at jobs (place_of jobs worker k)) h ≡ []
 
 -- in a front of the list which ends at or above this tail the account has this balance
 pub record HadBalance (records : List Rec) (tail account balance : ℕ) : Type 0 where
@@ -46,31 +46,31 @@ pub record HadBalance (records : List Rec) (tail account balance : ℕ) : Type 0
 abbrev pub HadBalances : List Rec → ℕ → (ℕ → ℕ) → ℕ × ℕ × ℕ → Type 0
 HadBalances records tail balances leg = HadBalance records tail leg.0 (balances leg.0) × HadBalance records tail leg.1 (balances leg.1)
 
--- Each account of the worker's k-th transfer has its balance in a front of the list that ends at or above this tail. By the outcome of that
+-- Each account of the transfer at this place has its balance in a front of the list that ends at or above this tail. By the outcome of that
 -- transfer run alone on these balances its next record, behind those that the list has of it, has so many units.
-pub record HasNextOf (records : List Rec) (jobs : Jobs) (worker k tail total : ℕ) : Type 0 where
+pub record HasNextOf (records : List Rec) (jobs : Jobs) (place tail total : ℕ) : Type 0 where
   pub balances : ℕ → ℕ
-  pub each : AllByRecursion (HadBalances records tail balances) (job_at jobs worker k).legs
+  pub each : AllByRecursion (HadBalances records tail balances) (job_at jobs place).legs
   pub next : Rec
   pub rest : List Rec
-  pub plan : in_order (all_without_prev (own_records_of (number_at jobs worker k) (history records))) (next ∷ rest)
-      ≡ outcome_records (number_at jobs worker k) (transfer_of (job_at jobs worker k)) (outcome_alone (transfer_of (job_at jobs worker k)) balances)
+  pub plan : in_order (all_without_prev (own_records_of (number_at jobs place) (history records))) (next ∷ rest)
+      ≡ outcome_records (number_at jobs place) (transfer_of (job_at jobs place)) (outcome_alone (transfer_of (job_at jobs place)) balances)
   pub size : total ≡ size_of next
 
--- The next record of the worker's k-th transfer, of so many units, did not fit between this tail, a boundary of the list, and the last LSN.
+-- The next record of the transfer at this place, of so many units, did not fit between this tail, a boundary of the list, and the last LSN.
 -- With one worker that tail is the end of the list.
-pub record FoundNoRoom (records : List Rec) (jobs : Jobs) (worker k tail total : ℕ) : Type 0 where
+pub record FoundNoRoom (records : List Rec) (jobs : Jobs) (place tail total : ℕ) : Type 0 where
   pub too_long : LAST < tail + total
   pub boundary : IsBoundary records tail
   pub alone : jobs.workers ≡ 1 → tail ≡ end_of records
-  pub next : HasNextOf records jobs worker k tail total
+  pub next : HasNextOf records jobs place tail total
 
 -- the worker's stripe was cut in a transfer that found no room
 pub record WasCutForRoom (records : List Rec) (jobs : Jobs) (worker : ℕ) : Type 0 where
   pub stripe : IsCutStripe jobs worker (history records)
   pub tail : ℕ
   pub total : ℕ
-  pub no_room : FoundNoRoom records jobs worker stripe.cut tail total
+  pub no_room : FoundNoRoom records jobs (place_of jobs worker stripe.cut) tail total
 
 -- A worker's transfer was cut off since it found no room for so many units behind this tail. Each stripe is whole, or was cut for the same reason.
 pub record StopsAtLogEnd (opened : List Rec) (jobs : Jobs) (list : List Rec) (tail total : ℕ) : Type 0 where
@@ -79,4 +79,4 @@ pub record StopsAtLogEnd (opened : List Rec) (jobs : Jobs) (list : List Rec) (ta
   pub worker : ℕ
   pub is_worker : worker < jobs.workers
   pub stripe : IsCutStripe jobs worker (history (opened ++ list))
-  pub no_room : FoundNoRoom (opened ++ list) jobs worker stripe.cut tail total
+  pub no_room : FoundNoRoom (opened ++ list) jobs (place_of jobs worker stripe.cut) tail total

@@ -1,12 +1,12 @@
 -- Workers of a run, once they were started and after their work. Each has a number, from 0 on.
-use Rattle.std.specs.Prelude.{◌≡◌, ℕ, Bool, true, List, MatchOption, IsSomeAnd}
+use Rattle.std.specs.Prelude.{◌≡◌, ℕ, Bool, true, List, [], MatchOption, IsSomeAnd}
 use Rattle.log_table.specs.declared.table.LogTable.{LogTable}
 use Rattle.log_table.specs.declared.view.Role.TheVariants.{Ended}
 use Rattle.log_table.specs.Seats.{IsOf, view_of}
 use Rattle.txn_jobs.specs.declared.cause.Worked.{Worked}
 use Rattle.txn_jobs.specs.declared.jobs.Jobs.{Jobs}
-use Rattle.txn_runner.specs.Stripes.{stripe_jobs}
-use Rattle.txn_runner.specs.Working.{HasWorked, Works, taken_in}
+use Rattle.txn_runner.specs.Places.{jobs_taken, HasAllIfDone}
+use Rattle.txn_runner.specs.Working.{HasWorked, Works, taken_in, places_taken}
 use Rattle.cli_workers.specs.declared.workers.Worker.{Worker}
 use Rattle.cli_workers.specs.Workers.{IsHired, Numbered}
 use Rattle.cli_threads.specs.declared.serving.Started.{Started}
@@ -17,10 +17,11 @@ use Rattle.cli_threads.specs.Waiting.{HaveWaited, made_of}
 pub record HasServed (table : LogTable) (jobs : Jobs) (wait : Bool) (worker : Worker) (worked : Worked) : Type 0 where
   pub seat : IsOf table worker.seat
   pub ended : (view_of worker.seat).standing.role ≡ Ended
-  pub jobs_are : (view_of worker.seat).books.jobs ≡ stripe_jobs jobs worker.seat.worker (taken_in worker.rows)
-  pub has : HasWorked jobs worker.seat.worker (taken_in worker.rows) (view_of worker.seat)
-  pub works : Works jobs worker.seat.worker 0 (taken_in worker.rows) true worked (view_of worker.seat)
-  pub waited : wait ≡ true → HaveWaited jobs worker.seat.worker (made_of (taken_in worker.rows) worked) (view_of worker.seat).entries
+  pub jobs_are : (view_of worker.seat).books.jobs ≡ jobs_taken jobs (places_taken jobs worker.seat.worker worker.rows)
+  pub has : HasWorked jobs (places_taken jobs worker.seat.worker worker.rows) (view_of worker.seat)
+  pub works : Works jobs [] (places_taken jobs worker.seat.worker worker.rows) true worked (view_of worker.seat)
+  pub all : HasAllIfDone jobs worker.seat.worker (taken_in worker.rows) worked
+  pub waited : wait ≡ true → HaveWaited jobs (made_of (places_taken jobs worker.seat.worker worker.rows) worked) (view_of worker.seat).entries
       (view_of worker.seat).books.given
 
 -- it did its work

@@ -2,7 +2,7 @@
 use Rattle.std.proofs.Common.{ℕ, zero, suc, ◌+◌, ◌/◌, ◌≤◌, length, arith}
 use Rattle.std.proofs.lemmas.Nat.{le-div}
 use Rattle.txn_jobs.specs.declared.jobs.Jobs.{Jobs}
-use Rattle.txn_runner.specs.Stripes.{HasStripe}
+use Rattle.txn_runner.specs.Places.{HasStripe}
 
 -- a worker has at most so many transfers
 pub stripe-most : (jobs : Jobs) (worker k : ℕ) → HasStripe jobs worker k → k ≤ length jobs.script / jobs.workers + 1

@@ -1,7 +1,7 @@
 //! Workers of a run, and how each is made.
 ghost use Rattle.std.specs.Prelude.{◌≡◌, ◌+◌, ◌<◌, ◌≤◌, [], ℕ, IfOk, OnOk, vec_len};
 ghost use Rattle.log_table.specs.Hiring.{HasHired};
-ghost use Rattle.txn_runner.specs.Stripes.{HasStripe};
+ghost use Rattle.txn_runner.specs.Places.{HasStripe};
 ghost use Rattle.txn_runner.specs.Working.{HasRoomForRows, rows_in, taken_in};
 ghost use Rattle.cli_workers.specs.Workers.{AreUnused, IsUnused};
 

@@ -3,8 +3,8 @@ ghost use Rattle.std.specs.Prelude.{◌≡◌, ◌≤◌, ◌<◌, [], All, IfOk
 ghost use Rattle.log_table.specs.Seats.{IsOf, view_of};
 ghost use Rattle.ring_buffer.specs.Calls.{IsReady, IsSameWorker};
 ghost use Rattle.lock_core.specs.Transfers.{IsAllowedJob};
-ghost use Rattle.txn_runner.specs.Stripes.{HasStripe, stripe_jobs};
-ghost use Rattle.txn_runner.specs.Working.{Works, taken_in};
+ghost use Rattle.txn_runner.specs.Places.{AreOfScript, HasAllIfDone, jobs_taken};
+ghost use Rattle.txn_runner.specs.Working.{Works, places_taken, taken_in};
 ghost use Rattle.test_rig.specs.NotedJobs.{IsNew};
 
 use log_table::{LogTable, Seat};
@@ -66,9 +66,10 @@ pub fn work_stripe<R: Wait, Q: Relief, G: Gate>(
     ensures ready { IsReady (view_of seat.new) }
     ensures none_held { (view_of seat.new).books.held ≡ [] }
     ensures standing { (view_of seat.new).standing ≡ (view_of seat.old).standing }
-    ensures jobs { IfOk result (λ came. (view_of seat.new).books.jobs ≡ stripe_jobs jobs.now seat.old.worker (taken_in came.1)) }
-    ensures stripe { IfOk result (λ came. HasStripe jobs.now seat.old.worker (taken_in came.1)) }
-    ensures works { IfOk result (λ came. Works jobs.now seat.old.worker 0 (taken_in came.1) wait came.0 (view_of seat.new)) }
+    ensures jobs { IfOk result (λ came. (view_of seat.new).books.jobs ≡ jobs_taken jobs.now (places_taken jobs.now seat.old.worker came.1)) }
+    ensures places { IfOk result (λ came. AreOfScript jobs.now (places_taken jobs.now seat.old.worker came.1)) }
+    ensures works { IfOk result (λ came. Works jobs.now [] (places_taken jobs.now seat.old.worker came.1) wait came.0 (view_of seat.new)) }
+    ensures all { IfOk result (λ came. HasAllIfDone jobs.now seat.old.worker (taken_in came.1) came.0) }
     ensures relief { Q.ready relief.new }
 {
     let mut rows = Rows::make(alloc, jobs.count() as u32)?;

@@ -1,3 +1,4 @@
 pub mod Accounts
+pub mod Places
 pub mod Rows
 pub mod Stripes

@@ -1,7 +1,8 @@
 //! A worker's stripe of the transfers.
 ghost use Rattle.std.specs.Prelude.{◌≡◌, ◌<◌, ◌+◌, length, IfSome, IfNone};
+ghost use Rattle.txn_jobs.specs.Places.{number_at, job_at};
 ghost use Rattle.txn_jobs.specs.Rows.{rows_in, room_of, taken_in, HasRoomForRows};
-ghost use Rattle.txn_jobs.specs.Stripes.{place_of, number_at, job_at, HasStripe, IsStripeEnd};
+ghost use Rattle.txn_jobs.specs.Stripes.{place_of, HasStripe, IsStripeEnd};
 
 use crate::jobs::Jobs;
 use crate::rows::Rows;
@@ -15,8 +16,8 @@ impl Jobs {
         requires stripe { HasStripe self.now worker (taken_in rows.old) }
         requires room { HasRoomForRows self.now worker rows.old }
         ensures within { IfSome result (λ number. place_of self.now worker (taken_in rows.old) < length self.now.script) }
-        ensures number { IfSome result (λ number. number ≡ number_at self.now worker (taken_in rows.old)) }
-        ensures job { IfSome result (λ number. job.new ≡ job_at self.now worker (taken_in rows.old)) }
+        ensures number { IfSome result (λ number. number ≡ number_at self.now (place_of self.now worker (taken_in rows.old))) }
+        ensures job { IfSome result (λ number. job.new ≡ job_at self.now (place_of self.now worker (taken_in rows.old))) }
         ensures counted { IfSome result (λ number. rows.new ≡ record rows.old { taken = taken_in rows.old + 1 }) }
         ensures room { IfSome result (λ number. length (rows_in rows.new) < room_of rows.new) }
         ensures end { IfNone result (IsStripeEnd self.now worker (taken_in rows.old)) }
@@ -34,8 +35,8 @@ impl Jobs {
         requires worker { worker < self.now.workers }
         requires stripe { HasStripe self.now worker k }
         ensures within { IfSome result (λ number. place_of self.now worker k < length self.now.script) }
-        ensures number { IfSome result (λ number. number ≡ number_at self.now worker k) }
-        ensures job { IfSome result (λ number. job.new ≡ job_at self.now worker k) }
+        ensures number { IfSome result (λ number. number ≡ number_at self.now (place_of self.now worker k)) }
+        ensures job { IfSome result (λ number. job.new ≡ job_at self.now (place_of self.now worker k)) }
         ensures end { IfNone result (IsStripeEnd self.now worker k) }
     {
         let place = self.place(worker, k);

@@ -1,8 +1,8 @@
 pub mod Composing
 pub mod EntryLemmas
+pub mod PlaceLemmas
 pub mod PlanLemmas
 pub mod ProgressLemmas
 pub mod RowLemmas
 pub mod StageLemmas
-pub mod StripeLemmas
 pub mod WorkLemmas

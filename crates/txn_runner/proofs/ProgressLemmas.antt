@@ -1,5 +1,5 @@
--- A worker's progress along its stripe. `first` and `before` are its seat's view and its rows at the start, `old` and `mid` those before
--- one transfer, `new` and `after` those behind it.
+-- A worker's progress, from the places `start` that it took before. `first` and `rows_first` are its seat's view and its rows then, `old` and
+-- `rows_old` those before one transfer, `new` and `rows_new` those behind it.
 use Rattle.std.proofs.Common.{◌≡◌, ◌∙◌, ℕ, ◌+◌, ◌≤◌, Bool, Option, None, Some, Result, Ok, Err, IfNone, IfSome, IfOk, IfErr, List, [], ◌∷◌, ◌++◌, length, refl, sym, ap, subst, arith, length-append, append-nil, append_assoc}
 use Rattle.log_record.specs.declared.rec.Rec.{Rec}
 use Rattle.lock_core.specs.declared.job.Job.{Job}
@@ -14,43 +14,42 @@ use Rattle.txn_jobs.specs.declared.rows.Rows.{Rows}
 use Rattle.txn_jobs.specs.Rows.{IsTold}
 use Rattle.txn_making.specs.Holdings.{KeepsGiven}
 use Rattle.txn_runner.specs.Running.{HasInserted, HasRun, HasCut}
-use Rattle.txn_runner.specs.Stripes.{number_at, job_at}
-use Rattle.txn_runner.specs.Working.{rows_in, room_of, taken_in, HasWorked, HasRoomForRows, KeepsEntries, TakesJobs, HaveEnded, Works, AddsRows}
+use Rattle.txn_runner.specs.Places.{number_at, job_at, jobs_taken}
+use Rattle.txn_runner.specs.Working.{rows_in, room_of, HasWorked, KeepsEntries, TakesJobs, HaveEnded, Works, AddsRows}
 use Rattle.txn_runner.proofs.RowLemmas.{AddsRows-push, AddsRows-cut}
 use Rattle.txn_making.proofs.GivenLemmas.{given-same, given-trans}
-use Rattle.txn_runner.proofs.WorkLemmas.{IsNextJob, at-stripe, HasWorked-next, TakesJobs-next, HaveEnded-next, HaveEnded-still, IsCutBy-next}
+use Rattle.txn_runner.proofs.PlaceLemmas.{jobs_taken-push}
+use Rattle.txn_runner.proofs.WorkLemmas.{IsNextJob, at-place, HasWorked-next, HaveEnded-next, HaveEnded-still, IsCutBy-next}
 
--- so far each transfer taken has its end record and its row
-pub record Progress (jobs : Jobs) (worker : ℕ) (wait : Bool) (before rows : Rows) (first view : View) : Type 0 where
-  pub worked : HasWorked jobs worker (taken_in rows) view
-  pub room : HasRoomForRows jobs worker rows
+-- it took the transfers at the places `taken`, those of before first; each of the others has its end record and its row
+pub record Progress (jobs : Jobs) (start taken : List ℕ) (wait : Bool) (rows_first rows : Rows) (first view : View) : Type 0 where
+  pub worked : HasWorked jobs taken view
   pub kept : KeepsEntries first view
   pub given : KeepsGiven first view
-  pub takes : TakesJobs jobs worker (taken_in before) (taken_in rows) first view
-  pub ended : HaveEnded jobs worker (taken_in before) (taken_in rows) view
-  pub adds : AddsRows jobs worker wait All before rows first view
+  pub takes : TakesJobs jobs start taken first view
+  pub works : Works jobs start taken wait All view
+  pub adds : AddsRows jobs start taken wait All rows_first rows first view
 
 -- before the first transfer
-pub Progress-first : (jobs : Jobs) (worker : ℕ) (wait : Bool) (rows : Rows) (view : View) → HasWorked jobs worker (taken_in rows) view
-    → HasRoomForRows jobs worker rows → Progress jobs worker wait rows rows view view
-Progress-first jobs worker wait rows view worked room = record {
+pub Progress-first : (jobs : Jobs) (start : List ℕ) (wait : Bool) (rows : Rows) (view : View) → HasWorked jobs start view
+    → Progress jobs start start wait rows rows view view
+Progress-first jobs start wait rows view worked = record {
   worked = worked;
-  room = room;
   kept = record { added = []; entries = sym (append-nil view.entries) };
   given = given-same view view refl;
-  takes = record { earlier = worked.earlier; before = worked.taken; after = worked.taken };
-  ended = λ j low high. absurd (omega (arith, low, high));
-  adds = record { added = []; rows = sym (append-nil (rows_in rows)); room = refl; tell = tt; each = omega arith };
+  takes = record { taken = []; places = sym (append-nil start); jobs_are = refl };
+  works = ([], sym (append-nil start), tt);
+  adds = record { taken = []; places = sym (append-nil start); added = []; rows = sym (append-nil (rows_in rows)); room = refl; tell = refl; each = refl };
 }
 
 -- the transfer taken last was cut off
-pub record Stopped (jobs : Jobs) (worker : ℕ) (wait : Bool) (before rows : Rows) (first view : View) (ended : Worked) : Type 0 where
-  pub worked : HasWorked jobs worker (taken_in rows) view
+pub record Stopped (jobs : Jobs) (start taken : List ℕ) (wait : Bool) (rows_first rows : Rows) (first view : View) (ended : Worked) : Type 0 where
+  pub worked : HasWorked jobs taken view
   pub kept : KeepsEntries first view
   pub given : KeepsGiven first view
-  pub takes : TakesJobs jobs worker (taken_in before) (taken_in rows) first view
-  pub works : Works jobs worker (taken_in before) (taken_in rows) wait ended view
-  pub adds : AddsRows jobs worker wait ended before rows first view
+  pub takes : TakesJobs jobs start taken first view
+  pub works : Works jobs start taken wait ended view
+  pub adds : AddsRows jobs start taken wait ended rows_first rows first view
 
 -- the seat has seen no smaller LSNs
 pub record SawNoLess (old new : View) : Type 0 where
@@ -69,68 +68,94 @@ inserted-in : (number : ℕ) (job : Job) (wait : Bool) (cause : Cause) (old new 
 inserted-in number job wait (Stop word) old new cut = (cut.0, cut.1)
 inserted-in number job wait (LogEnd tail total) old new cut = (cut.0 ∷ cut.1, cut.2)
 
-module _ (jobs : Jobs) (worker : ℕ) (wait : Bool) (before mid after : Rows) (first old new : View)
-    (progress : Progress jobs worker wait before mid first old) (number : ℕ) (job : Job) (next : IsNextJob jobs worker (taken_in mid) number job)
-    (since : SawNoLess first old) (later : SawNoLess old new) (given : KeepsGiven old new) (room : room_of after ≡ room_of mid) (taken : taken_in after ≡ taken_in mid + 1) where
+-- one place more
+longer : (start mid made : List ℕ) (last : ℕ) → mid ≡ start ++ made → mid ++ last ∷ [] ≡ start ++ (made ++ last ∷ [])
+longer start mid made last is = ap (λ l. l ++ last ∷ []) is ∙ append_assoc start made (last ∷ [])
+
+TakesJobs-next : (jobs : Jobs) (start mid : List ℕ) (last : ℕ) (rest : List Rec) (first old new : View) → TakesJobs jobs start mid first old
+    → HasInserted (number_at jobs last) (job_at jobs last) rest old new → TakesJobs jobs start (mid ++ last ∷ []) first new
+TakesJobs-next jobs start mid last rest first old new takes inserted = record {
+  taken = takes.taken ++ last ∷ [];
+  places = longer start mid takes.taken last takes.places;
+  jobs_are = inserted.jobs ∙ ap (λ l. record { number = number_at jobs last; job = job_at jobs last } ∷ l) takes.jobs_are
+      ∙ sym (ap (λ l. l ++ first.books.jobs) (jobs_taken-push jobs takes.taken last));
+}
+
+module _ (jobs : Jobs) (start mid : List ℕ) (last : ℕ) (wait : Bool) (rows_first rows_old rows_new : Rows) (first old new : View)
+    (progress : Progress jobs start mid wait rows_first rows_old first old) (number : ℕ) (job : Job) (next : IsNextJob jobs mid last number job)
+    (since : SawNoLess first old) (later : SawNoLess old new) (given : KeepsGiven old new) (room : room_of rows_new ≡ room_of rows_old) where
   -- one transfer more was run, and its row put
-  pub Progress-next : (row : Row) → HasRun number job wait row old new → rows_in after ≡ rows_in mid ++ row ∷ []
-      → Progress jobs worker wait before after first new
+  pub Progress-next : (row : Row) → HasRun number job wait row old new → rows_in rows_new ≡ rows_in rows_old ++ row ∷ []
+      → Progress jobs start (mid ++ last ∷ []) wait rows_first rows_new first new
   Progress-next row has_run rows = record {
-    worked = subst (λ k. HasWorked jobs worker k new) (sym taken)
-        (HasWorked-next jobs worker (taken_in mid) [] old new run.inserted progress.worked next.within);
-    room = λ k stripe. omega (arith, progress.room k stripe, ap length rows, length-append (rows_in mid) (row ∷ []), room, taken);
+    worked = HasWorked-next jobs mid last next.above [] old new run.inserted progress.worked next.within;
     kept = still-kept _ _ [] first old new progress.kept run.inserted;
     given = given-trans first old new progress.given given;
-    takes = subst (λ k. TakesJobs jobs worker (taken_in before) k first new) (sym taken)
-        (TakesJobs-next jobs worker (taken_in mid) [] old new run.inserted (taken_in before) first progress.takes);
-    ended = subst (λ k. HaveEnded jobs worker (taken_in before) k new) (sym taken)
-        (HaveEnded-next jobs worker (taken_in before) (taken_in mid) wait row old new run progress.ended);
-    adds = AddsRows-push jobs worker wait before mid after first old new progress.adds room taken row run progress.worked.below
+    takes = TakesJobs-next jobs start mid last [] first old new progress.takes run.inserted;
+    works = (
+      progress.works.0 ++ last ∷ [],
+      longer start mid progress.works.0 last progress.works.1,
+      HaveEnded-next jobs mid last next.above wait row old new run progress.works.0 progress.works.2,
+    );
+    adds = AddsRows-push jobs start mid last wait rows_first rows_old rows_new first old new progress.adds room row run progress.worked.below
         since.tail since.durable later.durable given rows;
   }
     where
-      run : HasRun (number_at jobs worker (taken_in mid)) (job_at jobs worker (taken_in mid)) wait row old new
-      run = at-stripe jobs worker (taken_in mid) number job next (λ n j. HasRun n j wait row old new) has_run
+      run : HasRun (number_at jobs last) (job_at jobs last) wait row old new
+      run = at-place jobs mid last number job next (λ n j. HasRun n j wait row old new) has_run
 
   -- one transfer more was taken, and cut off
-  pub Progress-cut : (cause : Cause) → HasCut number job wait cause old new → rows_in after ≡ rows_in mid
-      → Stopped jobs worker wait before after first new (Cut cause)
+  pub Progress-cut : (cause : Cause) → HasCut number job wait cause old new → rows_in rows_new ≡ rows_in rows_old
+      → Stopped jobs start (mid ++ last ∷ []) wait rows_first rows_new first new (Cut cause)
   Progress-cut cause has_cut rows = record {
-    worked = subst (λ k. HasWorked jobs worker k new) (sym taken)
-        (HasWorked-next jobs worker (taken_in mid) (inserted.0) old new inserted.1 progress.worked next.within);
+    worked = HasWorked-next jobs mid last next.above (inserted.0) old new inserted.1 progress.worked next.within;
     kept = still-kept _ _ (inserted.0) first old new progress.kept inserted.1;
     given = given-trans first old new progress.given given;
-    takes = subst (λ k. TakesJobs jobs worker (taken_in before) k first new) (sym taken)
-        (TakesJobs-next jobs worker (taken_in mid) (inserted.0) old new inserted.1 (taken_in before) first progress.takes);
+    takes = TakesJobs-next jobs start mid last (inserted.0) first old new progress.takes inserted.1;
     works = (
-      taken_in mid,
-      omega (arith, progress.adds.each),
-      taken,
-      HaveEnded-still jobs worker (taken_in mid) (inserted.0) old new inserted.1 (taken_in before) (taken_in mid) progress.ended,
-      IsCutBy-next jobs worker (taken_in mid) wait cause old new progress.worked cut,
+      progress.works.0,
+      last,
+      longer start mid progress.works.0 last progress.works.1,
+      HaveEnded-still jobs mid last next.above (inserted.0) old new inserted.1 progress.works.0 progress.works.2,
+      IsCutBy-next jobs mid last next.above wait cause old new progress.worked cut,
     );
-    adds = AddsRows-cut jobs worker wait before mid after first old new progress.adds room taken cause
+    adds = AddsRows-cut jobs start mid last wait rows_first rows_old rows_new first old new progress.adds room cause
         record { added = inserted.1.added; entries = inserted.1.entries; durable = later.durable; given = given } rows;
   }
     where
-      cut : HasCut (number_at jobs worker (taken_in mid)) (job_at jobs worker (taken_in mid)) wait cause old new
-      cut = at-stripe jobs worker (taken_in mid) number job next (λ n j. HasCut n j wait cause old new) has_cut
+      cut : HasCut (number_at jobs last) (job_at jobs last) wait cause old new
+      cut = at-place jobs mid last number job next (λ n j. HasCut n j wait cause old new) has_cut
 
-      inserted : (rest : List Rec) × HasInserted (number_at jobs worker (taken_in mid)) (job_at jobs worker (taken_in mid)) rest old new
-      inserted = inserted-in (number_at jobs worker (taken_in mid)) (job_at jobs worker (taken_in mid)) wait cause old new cut
+      inserted : (rest : List Rec) × HasInserted (number_at jobs last) (job_at jobs last) rest old new
+      inserted = inserted-in (number_at jobs last) (job_at jobs last) wait cause old new cut
 
   -- as it was told: its row was put, or why it was cut off is how the worker ends
-  pub Progress-told : (made : Result Row Cause) (told : Option Worked) → IsTold made told (rows_in mid) (rows_in after)
-      → IfOk made (λ row. HasRun number job wait row old new) → IfNone told (Progress jobs worker wait before after first new)
+  pub Progress-told : (made : Result Row Cause) (told : Option Worked) → IsTold made told (rows_in rows_old) (rows_in rows_new)
+      → IfOk made (λ row. HasRun number job wait row old new)
+      → IfNone told (Progress jobs start (mid ++ last ∷ []) wait rows_first rows_new first new)
   Progress-told (Ok row) None put run = Progress-next row run put
   Progress-told (Ok row) (Some ended) put run = tt
   Progress-told (Err cause) None put run = absurd put
   Progress-told (Err cause) (Some ended) put run = tt
 
-  pub Stopped-told : (made : Result Row Cause) (told : Option Worked) → IsTold made told (rows_in mid) (rows_in after)
-      → IfErr made (λ cause. HasCut number job wait cause old new) → IfSome told (Stopped jobs worker wait before after first new)
+  pub Stopped-told : (made : Result Row Cause) (told : Option Worked) → IsTold made told (rows_in rows_old) (rows_in rows_new)
+      → IfErr made (λ cause. HasCut number job wait cause old new)
+      → IfSome told (Stopped jobs start (mid ++ last ∷ []) wait rows_first rows_new first new)
   Stopped-told (Ok row) None put cut = tt
   Stopped-told (Ok row) (Some ended) put cut = absurd put
   Stopped-told (Err cause) None put cut = tt
-  Stopped-told (Err cause) (Some ended) put cut = subst (Stopped jobs worker wait before after first new) (sym put.0)
+  Stopped-told (Err cause) (Some ended) put cut = subst (Stopped jobs start (mid ++ last ∷ []) wait rows_first rows_new first new) (sym put.0)
       (Progress-cut cause cut put.1)
+
+-- a seat that had no job has just those that it took
+pub jobs-from_none : (jobs : Jobs) (before taken : List ℕ) (old new : View) → before ≡ [] → old.books.jobs ≡ [] → TakesJobs jobs before taken old new
+    → new.books.jobs ≡ jobs_taken jobs taken
+jobs-from_none jobs before taken old new none no_jobs takes = takes.jobs_are ∙ (ap (λ l. jobs_taken jobs takes.taken ++ l) no_jobs
+    ∙ (append-nil _ ∙ ap (jobs_taken jobs) (sym (takes.places ∙ ap (λ l. l ++ takes.taken) none))))
+
+-- there is room for the rows of the transfers that are left, as a row was put or none
+pub told-longer : (made : Result Row Cause) (told : Option Worked) (old new : List Row) → IsTold made told old new → length new ≤ length old + 1
+told-longer (Ok row) None old new put = omega (arith, ap length put, length-append old (row ∷ []))
+told-longer (Ok row) (Some ended) old new put = absurd put
+told-longer (Err cause) None old new put = absurd put
+told-longer (Err cause) (Some ended) old new put = omega (arith, ap length put.1)

@@ -1,8 +1,7 @@
--- A worker's next transfer, behind those that it worked before. `old` and `new` are its seat's view before and after that transfer.
-use Rattle.std.proofs.Common.{◌≡◌, ◌≢◌, ◌⊎◌, inl, inr, ◌∙◌, ℕ, ◌+◌, ◌<◌, ◌≤◌, List, [], ◌∷◌, ◌++◌, length, All, Contains, sym, ap, subst, arith, refl, Bool, true, false, true≢false}
-use Rattle.std.proofs.lemmas.List.Elements.{All-contains, All-from_recursion, recursion_from_All, Contains-append_cases, Contains-append_left, Contains-append_right, Contains-push}
+-- A worker's next transfer, behind those that it took before, at the places `taken`. `old` and `new` are its seat's view before and after that transfer.
+use Rattle.std.proofs.Common.{◌≡◌, ◌≢◌, ◌⊎◌, inl, inr, ⊎_elim, ◌∙◌, ℕ, ◌+◌, ◌<◌, ◌≤◌, List, [], ◌∷◌, ◌++◌, length, All, Contains, sym, ap, subst, arith, refl, Bool, true, false, true≢false}
+use Rattle.std.proofs.lemmas.List.Elements.{All-contains, All-from_recursion, recursion_from_All, Contains-append_cases, Contains-append_left, Contains-append_right, Contains-push, Contains-push_cases}
 use Rattle.std.specs.List.{AllByRecursion}
-use borrow.Author.Count.{below_more}
 use Rattle.lsn_space.proofs.TilingLemmas.{all-weaker}
 use Rattle.log_record.specs.declared.rec.Rec.{Rec}
 use Rattle.lock_core.specs.Records.{txn_of, ends}
@@ -24,28 +23,31 @@ use Rattle.txn_jobs.specs.declared.cause.Worked.TheVariants as worked
 use Rattle.txn_jobs.specs.declared.jobs.Jobs.{Jobs}
 use Rattle.txn_jobs.specs.declared.rows.Row.{Row}
 use Rattle.txn_runner.specs.Running.{outcome_of, LieInOrder, IsUncommittedAt, HasInserted, HasRun, HasCut}
-use Rattle.txn_runner.specs.Stripes.{place_of, number_at, job_at, taken_at, stripe_jobs, IsOfStripe}
+use Rattle.txn_runner.specs.Places.{place_of, number_at, job_at, taken_at, jobs_taken, stripe_places, IsOneOf, Rises, AreOfScript}
 use Rattle.txn_runner.specs.Working.{LieInTurn, HasWorked, TakesJobs, HasEnd, HaveEnded, own_records, IsCutBy, Works}
 use Rattle.txn_runner.proofs.EntryLemmas.{all-records, own_records-append, own_records-none, own_records-all, LieInOrder-append, LieInOrder-starts, LieInOrder-ends}
 use Rattle.txn_runner.proofs.PlanLemmas.{IsRecordOf, planned_records-own, planned_records-front, end_record-own, end_record-ends}
-use Rattle.txn_jobs.proofs.StripeSteps.{HasStripe-more}
-use Rattle.txn_runner.proofs.StripeLemmas.{number_at-rises, stripe_jobs-more, stripe_jobs-below, taken_at-allowed}
+use Rattle.txn_jobs.proofs.StripeSteps.{Rises-push, stripe_places-below}
+use Rattle.txn_runner.proofs.PlaceLemmas.{jobs_taken-push, jobs_taken-below, taken_at-allowed}
 
--- this is the worker's k-th transfer, under its number
-pub record IsNextJob (jobs : Jobs) (worker k number : ℕ) (job : Job) : Type 0 where
-  pub within : place_of jobs worker k < length jobs.script
-  pub number_is : number ≡ number_at jobs worker k
-  pub job_is : job ≡ job_at jobs worker k
+-- this is the transfer at the place, under its number, and the place is above those before
+pub record IsNextJob (jobs : Jobs) (taken : List ℕ) (place number : ℕ) (job : Job) : Type 0 where
+  pub within : place < length jobs.script
+  pub above : AllByRecursion (λ before. before < place) taken
+  pub number_is : number ≡ number_at jobs place
+  pub job_is : job ≡ job_at jobs place
 
--- it was taken so, by this number of the worker
-pub IsNextJob-taken : (jobs : Jobs) (worker k number : ℕ) (job : Job) (by : ℕ) → by ≡ worker
-    → place_of jobs by k < length jobs.script → number ≡ number_at jobs by k → job ≡ job_at jobs by k → IsNextJob jobs worker k number job
+-- so is the next of the worker's stripe, which was taken by this number of the worker
+pub IsNextJob-taken : (jobs : Jobs) (worker k number : ℕ) (job : Job) (by : ℕ) → by ≡ worker → place_of jobs by k < length jobs.script
+    → number ≡ number_at jobs (place_of jobs by k) → job ≡ job_at jobs (place_of jobs by k)
+    → IsNextJob jobs (stripe_places jobs worker k) (place_of jobs worker k) number job
 IsNextJob-taken jobs worker k number job by by-is within number-is job-is =
-    subst (λ worker. IsNextJob jobs worker k number job) by-is record { within = within; number_is = number-is; job_is = job-is }
+    subst (λ worker. IsNextJob jobs (stripe_places jobs worker k) (place_of jobs worker k) number job) by-is
+    record { within = within; above = stripe_places-below jobs by k k (omega arith); number_is = number-is; job_is = job-is }
 
--- the record of an entry is of a transaction before the worker's first, or of one of its first k
-abbrev pub IsOwnEntry : Jobs → ℕ → ℕ → Entry → Type 0
-IsOwnEntry jobs worker k entry = (txn_of entry.rec < jobs.first) ⊎ IsOfStripe jobs worker k (txn_of entry.rec)
+-- the record of an entry is of a transaction before the script's first, or of one at these places
+abbrev pub IsOwnEntry : Jobs → List ℕ → Entry → Type 0
+IsOwnEntry jobs taken entry = (txn_of entry.rec < jobs.first) ⊎ IsOneOf jobs taken (txn_of entry.rec)
 
 -- an end record stays, whatever is added
 HasEnd-append : (number : ℕ) (entries added : List Entry) → HasEnd number entries → HasEnd number (entries ++ added)
@@ -56,46 +58,49 @@ HasEnd-append number entries added ended = record {
   is_end = ended.is_end;
 }
 
-module _ (jobs : Jobs) (worker k number : ℕ) (job : Job) (next : IsNextJob jobs worker k number job) where
-  -- what is said of the transfer, said of the k-th of the stripe
-  pub at-stripe : (P : ℕ → Job → Type 0) → P number job → P (number_at jobs worker k) (job_at jobs worker k)
-  at-stripe P said = subst (λ n. P n (job_at jobs worker k)) next.number_is (subst (P number) next.job_is said)
+module _ (jobs : Jobs) (taken : List ℕ) (place number : ℕ) (job : Job) (next : IsNextJob jobs taken place number job) where
+  -- what is said of the transfer, said of the one at the place
+  pub at-place : (P : ℕ → Job → Type 0) → P number job → P (number_at jobs place) (job_at jobs place)
+  at-place P said = subst (λ n. P n (job_at jobs place)) next.number_is (subst (P number) next.job_is said)
 
   -- the worker may take the transfer
   pub MayTakeJob-next : (accounts : ℕ) (view : View) → IsReady view → view.books.held ≡ [] → All (IsAllowedJob accounts) jobs.script
-      → HasWorked jobs worker k view → MayTakeJob accounts number job view
+      → HasWorked jobs taken view → MayTakeJob accounts number job view
   MayTakeJob-next accounts view ready none_held allowed worked = record {
     rests = ready.rests;
     none_held = none_held;
     allowed = subst (λ n. MayBeTaken accounts (record { number = n; job = job })) (sym next.number_is)
-        (subst (λ j. MayBeTaken accounts (record { number = number_at jobs worker k; job = j })) (sym next.job_is)
-        (taken_at-allowed jobs worker accounts k allowed next.within));
+        (subst (λ j. MayBeTaken accounts (record { number = number_at jobs place; job = j })) (sym next.job_is)
+        (taken_at-allowed jobs accounts place allowed next.within));
     above = subst (λ n. AllByRecursion (λ (taken : TakenJob). taken.number < n) view.books.jobs) (sym next.number_is)
-        (subst (AllByRecursion (IsBelow (number_at jobs worker k))) (sym worked.taken) (all-append (IsBelow (number_at jobs worker k))
-        (stripe_jobs jobs worker k) worked.earlier (stripe_jobs-below jobs worker k k (omega arith))
-        (all-weaker (IsBelow jobs.first) (IsBelow (number_at jobs worker k)) worked.earlier (λ taken below. omega (arith, below)) worked.numbers)));
+        (subst (AllByRecursion (IsBelow (number_at jobs place))) (sym worked.jobs_are) (all-append (IsBelow (number_at jobs place))
+        (jobs_taken jobs taken) worked.earlier (jobs_taken-below jobs taken place next.above)
+        (all-weaker (IsBelow jobs.first) (IsBelow (number_at jobs place)) worked.earlier (λ taken below. omega (arith, below)) worked.numbers)));
   }
     where
       IsBelow : ℕ → TakenJob → Type 0
       IsBelow n taken = taken.number < n
 
--- what was inserted for the transfer, behind what was there before
-module _ (jobs : Jobs) (worker k : ℕ) (rest : List Rec) (old new : View)
-    (inserted : HasInserted (number_at jobs worker k) (job_at jobs worker k) rest old new) where
-  added-own : AllByRecursion (λ (entry : Entry). txn_of entry.rec ≡ number_at jobs worker k) inserted.added
-  added-own = all-records (IsRecordOf (number_at jobs worker k)) inserted.added
-      (all-split (IsRecordOf (number_at jobs worker k)) (records_of inserted.added) rest
-      (subst (AllByRecursion (IsRecordOf (number_at jobs worker k))) (sym inserted.plan)
-      (planned_records-own (number_at jobs worker k) (transfer_of (job_at jobs worker k)) inserted.marks inserted.balances))).0
+-- a place that is taken is below the next
+below-next : (taken : List ℕ) (place before : ℕ) → AllByRecursion (λ before. before < place) taken → Contains taken before → before < place
+below-next taken place before above = All-contains (λ before. before < place) taken before (All-from_recursion (λ before. before < place) taken above)
 
-  taken-next : (i : ℕ) (earlier : List TakenJob) → i ≡ k → old.books.jobs ≡ stripe_jobs jobs worker i ++ earlier
-      → new.books.jobs ≡ stripe_jobs jobs worker (k + 1) ++ earlier
-  taken-next i earlier same taken = inserted.jobs ∙ ap (λ l. taken_at jobs worker k ∷ l) (taken ∙ ap (λ n. stripe_jobs jobs worker n ++ earlier) same)
-      ∙ sym (ap (λ l. l ++ earlier) (stripe_jobs-more jobs worker k))
+-- what was inserted for the transfer at a place above those before, behind what was there
+module _ (jobs : Jobs) (taken : List ℕ) (place : ℕ) (above : AllByRecursion (λ before. before < place) taken) (rest : List Rec) (old new : View)
+    (inserted : HasInserted (number_at jobs place) (job_at jobs place) rest old new) where
+  added-own : AllByRecursion (λ (entry : Entry). txn_of entry.rec ≡ number_at jobs place) inserted.added
+  added-own = all-records (IsRecordOf (number_at jobs place)) inserted.added
+      (all-split (IsRecordOf (number_at jobs place)) (records_of inserted.added) rest
+      (subst (AllByRecursion (IsRecordOf (number_at jobs place))) (sym inserted.plan)
+      (planned_records-own (number_at jobs place) (transfer_of (job_at jobs place)) inserted.marks inserted.balances))).0
 
-  -- it lies behind what was there, and that is of transfers before it in the stripe
-  in_turn-next : HasWorked jobs worker k old → LieInTurn jobs worker (old.entries ++ inserted.added)
-  in_turn-next worked i j before after less has has' is is' = by_place (Contains-append_cases old.entries inserted.added before has)
+  taken-next : (places : List ℕ) (earlier : List TakenJob) → old.books.jobs ≡ jobs_taken jobs places ++ earlier
+      → new.books.jobs ≡ jobs_taken jobs (places ++ place ∷ []) ++ earlier
+  taken-next places earlier is = inserted.jobs ∙ ap (λ l. taken_at jobs place ∷ l) is ∙ sym (ap (λ l. l ++ earlier) (jobs_taken-push jobs places place))
+
+  -- it lies behind what was there, and that is of transfers at places below
+  in_turn-next : HasWorked jobs taken old → LieInTurn jobs (taken ++ place ∷ []) (old.entries ++ inserted.added)
+  in_turn-next worked i j before after less one other has has' is is' = by_place (Contains-append_cases old.entries inserted.added before has)
       (Contains-append_cases old.entries inserted.added after has')
     where
       ends : Contains old.entries before → before.start + before.size ≤ old.seen.tail
@@ -106,82 +111,82 @@ module _ (jobs : Jobs) (worker k : ℕ) (rest : List Rec) (old new : View)
       starts = All-contains (λ (entry : Entry). old.seen.tail ≤ entry.start) inserted.added after
           (All-from_recursion _ inserted.added (LieInOrder-starts old.seen.tail new.seen.tail inserted.added inserted.within))
 
-      kth : (entry : Entry) → Contains inserted.added entry → txn_of entry.rec ≡ number_at jobs worker k
-      kth entry = All-contains (λ (entry : Entry). txn_of entry.rec ≡ number_at jobs worker k) inserted.added entry
+      last : (entry : Entry) → Contains inserted.added entry → txn_of entry.rec ≡ number_at jobs place
+      last entry = All-contains (λ (entry : Entry). txn_of entry.rec ≡ number_at jobs place) inserted.added entry
           (All-from_recursion _ inserted.added added-own)
 
-      earlier : txn_of before.rec ≡ number_at jobs worker k → IsOwnEntry jobs worker k after → ⊥
-      earlier own (inl low) = absurd (omega (arith, low, is'))
-      earlier own (inr of) = absurd (omega (arith, number_at-rises jobs worker of.0 k of.1, number_at-rises jobs worker i j less, of.2, own, is, is'))
+      -- an entry of before is at a place below
+      lower : (entry : Entry) (k : ℕ) → Contains old.entries entry → txn_of entry.rec ≡ number_at jobs k → k < place
+      lower entry k there number = ⊎_elim (λ low. absurd (omega (arith, low, number)))
+          (λ of. omega (arith, below-next taken place of.0 above of.1, of.2, number))
+          (All-contains (IsOwnEntry jobs taken) old.entries entry (All-from_recursion _ old.entries worked.own) there)
+
+      -- and so at one of those before
+      earlier : (k : ℕ) → k < place → Contains (taken ++ place ∷ []) k → Contains taken k
+      earlier k low there = ⊎_elim (λ is. is) (λ same. absurd (omega (arith, low, same))) (Contains-push_cases taken place k there)
 
       by_place : Contains old.entries before ⊎ Contains inserted.added before → Contains old.entries after ⊎ Contains inserted.added after
           → before.start + before.size ≤ after.start
-      by_place (inl first) (inl second) = worked.in_turn i j before after less first second is is'
+      by_place (inl first) (inl second) =
+          worked.in_turn i j before after less (earlier i (lower before i first is) one) (earlier j (lower after j second is') other) first second is is'
       by_place (inl first) (inr second) = omega (arith, ends first, starts second)
-      by_place (inr first) (inl second) = absurd (earlier (kth before first)
-          (All-contains (IsOwnEntry jobs worker k) old.entries after (All-from_recursion _ old.entries worked.own) second))
-      by_place (inr first) (inr second) =
-          absurd (omega (arith, number_at-rises jobs worker i j less, kth before first, kth after second, is, is'))
+      by_place (inr first) (inl second) = absurd (omega (arith, lower after j second is', last before first, is, less))
+      by_place (inr first) (inr second) = absurd (omega (arith, less, last before first, last after second, is, is'))
 
-  pub HasWorked-next : HasWorked jobs worker k old → place_of jobs worker k < length jobs.script → HasWorked jobs worker (k + 1) new
+  pub HasWorked-next : HasWorked jobs taken old → place < length jobs.script → HasWorked jobs (taken ++ place ∷ []) new
   HasWorked-next worked within = record {
-    stripe = HasStripe-more jobs worker k worked.stripe within;
+    places = all-append (λ place. place < length jobs.script) taken (place ∷ []) worked.places (within, tt);
+    rising = Rises-push taken place worked.rising above;
     earlier = worked.earlier;
-    taken = taken-next k worked.earlier refl worked.taken;
+    jobs_are = taken-next taken worked.earlier worked.jobs_are;
     numbers = worked.numbers;
-    own = subst (AllByRecursion (IsOwnEntry jobs worker (k + 1))) (sym inserted.entries)
-        (all-append (IsOwnEntry jobs worker (k + 1)) old.entries inserted.added
-        (all-weaker (IsOwnEntry jobs worker k) (IsOwnEntry jobs worker (k + 1)) old.entries still worked.own)
-        (all-weaker (λ (entry : Entry). txn_of entry.rec ≡ number_at jobs worker k) (IsOwnEntry jobs worker (k + 1)) inserted.added
-        (λ entry is. inr (k, omega arith, is)) added-own));
+    own = subst (AllByRecursion (IsOwnEntry jobs (taken ++ place ∷ []))) (sym inserted.entries)
+        (all-append (IsOwnEntry jobs (taken ++ place ∷ [])) old.entries inserted.added
+        (all-weaker (IsOwnEntry jobs taken) (IsOwnEntry jobs (taken ++ place ∷ [])) old.entries still worked.own)
+        (all-weaker (λ (entry : Entry). txn_of entry.rec ≡ number_at jobs place) (IsOwnEntry jobs (taken ++ place ∷ [])) inserted.added
+        (λ entry is. inr (place, Contains-push taken place, is)) added-own));
     below = subst (LieInOrder 0 new.seen.tail) (sym inserted.entries)
         (LieInOrder-append 0 old.seen.tail new.seen.tail old.entries inserted.added worked.below inserted.within);
-    in_turn = subst (LieInTurn jobs worker) (sym inserted.entries) (in_turn-next worked);
+    in_turn = subst (LieInTurn jobs (taken ++ place ∷ [])) (sym inserted.entries) (in_turn-next worked);
   }
     where
-      still : (entry : Entry) → IsOwnEntry jobs worker k entry → IsOwnEntry jobs worker (k + 1) entry
+      still : (entry : Entry) → IsOwnEntry jobs taken entry → IsOwnEntry jobs (taken ++ place ∷ []) entry
       still entry (inl earlier) = inl earlier
-      still entry (inr own) = inr (own.0, omega (arith, own.1), own.2)
+      still entry (inr own) = inr (own.0, Contains-append_left taken (place ∷ []) own.0 own.1, own.2)
 
-  pub TakesJobs-next : (from : ℕ) (first : View) → TakesJobs jobs worker from k first old → TakesJobs jobs worker from (k + 1) first new
-  TakesJobs-next from first takes = record {
-    earlier = takes.earlier;
-    before = takes.before;
-    after = taken-next k takes.earlier refl takes.after;
-  }
-
-  pub HaveEnded-still : (from to : ℕ) → HaveEnded jobs worker from to old → HaveEnded jobs worker from to new
-  HaveEnded-still from to ended j low high = subst (HasEnd (number_at jobs worker j)) (sym inserted.entries)
-      (HasEnd-append (number_at jobs worker j) old.entries inserted.added (ended j low high))
+  pub HaveEnded-still : (places : List ℕ) → HaveEnded jobs places old → HaveEnded jobs places new
+  HaveEnded-still places ended = all-weaker (λ place. HasEnd (number_at jobs place) old.entries) (λ place. HasEnd (number_at jobs place) new.entries) places
+      (λ place ended. subst (HasEnd (number_at jobs place)) (sym inserted.entries)
+      (HasEnd-append (number_at jobs place) old.entries inserted.added ended)) ended
 
   -- the records before are of other numbers
-  before-other : HasWorked jobs worker k old → AllByRecursion (λ (entry : Entry). txn_of entry.rec ≢ number_at jobs worker k) old.entries
-  before-other worked = all-weaker (IsOwnEntry jobs worker k) (λ (entry : Entry). txn_of entry.rec ≢ number_at jobs worker k) old.entries other worked.own
+  before-other : HasWorked jobs taken old → AllByRecursion (λ (entry : Entry). txn_of entry.rec ≢ number_at jobs place) old.entries
+  before-other worked = all-weaker (IsOwnEntry jobs taken) (λ (entry : Entry). txn_of entry.rec ≢ number_at jobs place) old.entries other worked.own
     where
-      other : (entry : Entry) → IsOwnEntry jobs worker k entry → txn_of entry.rec ≢ number_at jobs worker k
+      other : (entry : Entry) → IsOwnEntry jobs taken entry → txn_of entry.rec ≢ number_at jobs place
       other entry (inl earlier) is = absurd (omega (arith, earlier, is))
-      other entry (inr own) is = absurd (omega (arith, number_at-rises jobs worker own.0 k own.1, own.2, is))
+      other entry (inr own) is = absurd (omega (arith, below-next taken place own.0 above own.1, own.2, is))
 
   -- all records of its number are those inserted for it
-  own_records-next : HasWorked jobs worker k old → own_records (number_at jobs worker k) new.entries ≡ records_of inserted.added
-  own_records-next worked = ap (own_records (number_at jobs worker k)) inserted.entries
-      ∙ own_records-append (number_at jobs worker k) old.entries inserted.added
-      ∙ (λ i. own_records-none (number_at jobs worker k) old.entries (before-other worked) i
-      ++ own_records-all (number_at jobs worker k) inserted.added added-own i)
+  own_records-next : HasWorked jobs taken old → own_records (number_at jobs place) new.entries ≡ records_of inserted.added
+  own_records-next worked = ap (own_records (number_at jobs place)) inserted.entries
+      ∙ own_records-append (number_at jobs place) old.entries inserted.added
+      ∙ (λ i. own_records-none (number_at jobs place) old.entries (before-other worked) i
+      ++ own_records-all (number_at jobs place) inserted.added added-own i)
 
   -- where a record of it is left, its end record isn't there
-  unended-next : HasWorked jobs worker k old → rest ≢ [] → HasEnd (number_at jobs worker k) new.entries → ⊥
+  unended-next : HasWorked jobs taken old → rest ≢ [] → HasEnd (number_at jobs place) new.entries → ⊥
   unended-next worked some ended = All-contains IsNoEnd (old.entries ++ inserted.added) ended.end
       (All-from_recursion IsNoEnd (old.entries ++ inserted.added) (all-append IsNoEnd old.entries inserted.added
-      (all-weaker (λ (entry : Entry). txn_of entry.rec ≢ number_at jobs worker k) IsNoEnd old.entries (λ entry other is on. other is) (before-other worked))
+      (all-weaker (λ (entry : Entry). txn_of entry.rec ≢ number_at jobs place) IsNoEnd old.entries (λ entry other is on. other is) (before-other worked))
       (all-weaker (λ (entry : Entry). ends entry.rec ≡ false) IsNoEnd inserted.added (λ entry off is on. true≢false (sym on ∙ off))
       (all-records (λ rec. ends rec ≡ false) inserted.added
-      (planned_records-front (number_at jobs worker k) (transfer_of (job_at jobs worker k)) inserted.marks inserted.balances
+      (planned_records-front (number_at jobs place) (transfer_of (job_at jobs place)) inserted.marks inserted.balances
       (records_of inserted.added) rest inserted.plan some)))))
       (subst (λ l. Contains l ended.end) inserted.entries ended.contains) ended.number_is ended.is_end
     where
       IsNoEnd : Entry → Type 0
-      IsNoEnd entry = txn_of entry.rec ≡ number_at jobs worker k → ends entry.rec ≡ true → ⊥
+      IsNoEnd entry = txn_of entry.rec ≡ number_at jobs place → ends entry.rec ≡ true → ⊥
 
 -- the transfer was run to its end
 HasEnd-run : (number : ℕ) (job : Job) (wait : Bool) (row : Row) (old new : View) → HasRun number job wait row old new → HasEnd number new.entries
@@ -193,25 +198,24 @@ HasEnd-run number job wait row old new run = record {
   is_end = ap ends run.rec ∙ end_record-ends number (transfer_of job) (outcome_of row.answer);
 }
 
-pub HaveEnded-next : (jobs : Jobs) (worker from k : ℕ) (wait : Bool) (row : Row) (old new : View)
-    → HasRun (number_at jobs worker k) (job_at jobs worker k) wait row old new → HaveEnded jobs worker from k old
-    → HaveEnded jobs worker from (k + 1) new
-HaveEnded-next jobs worker from k wait row old new run ended j low high =
-    below_more (λ i. from ≤ i → HasEnd (number_at jobs worker i) new.entries) k
-    (λ i less from_on. HaveEnded-still jobs worker k [] old new run.inserted from k ended i from_on less)
-    (λ from_on. HasEnd-run (number_at jobs worker k) (job_at jobs worker k) wait row old new run) j high low
+pub HaveEnded-next : (jobs : Jobs) (taken : List ℕ) (place : ℕ) (above : AllByRecursion (λ before. before < place) taken) (wait : Bool) (row : Row) (old new : View)
+    → HasRun (number_at jobs place) (job_at jobs place) wait row old new → (places : List ℕ) → HaveEnded jobs places old
+    → HaveEnded jobs (places ++ place ∷ []) new
+HaveEnded-next jobs taken place above wait row old new run places ended = all-append (λ place. HasEnd (number_at jobs place) new.entries) places (place ∷ [])
+    (HaveEnded-still jobs taken place above [] old new run.inserted places ended)
+    (HasEnd-run (number_at jobs place) (job_at jobs place) wait row old new run, tt)
 
 -- the transfer was cut off
-pub IsCutBy-next : (jobs : Jobs) (worker k : ℕ) (wait : Bool) (cause : Cause) (old new : View) → HasWorked jobs worker k old
-    → HasCut (number_at jobs worker k) (job_at jobs worker k) wait cause old new → IsCutBy jobs worker k wait cause new
-IsCutBy-next jobs worker k wait (Stop word) old new worked cut = (waits cut.0 cut.1 cut.2, cut.3, cut.4)
+pub IsCutBy-next : (jobs : Jobs) (taken : List ℕ) (place : ℕ) → AllByRecursion (λ before. before < place) taken → (wait : Bool) (cause : Cause)
+    (old new : View) → HasWorked jobs taken old → HasCut (number_at jobs place) (job_at jobs place) wait cause old new → IsCutBy jobs place wait cause new
+IsCutBy-next jobs taken place above wait (Stop word) old new worked cut = (waits cut.0 cut.1 cut.2, cut.3, cut.4)
   where
-    waits : (rest : List Rec) → HasInserted (number_at jobs worker k) (job_at jobs worker k) rest old new → (rest ≡ [] → wait ≡ true)
-        → HasEnd (number_at jobs worker k) new.entries → wait ≡ true
+    waits : (rest : List Rec) → HasInserted (number_at jobs place) (job_at jobs place) rest old new → (rest ≡ [] → wait ≡ true)
+        → HasEnd (number_at jobs place) new.entries → wait ≡ true
     waits [] inserted none ended = none refl
     waits (rec ∷ rest) inserted none ended =
-        absurd (unended-next jobs worker k (rec ∷ rest) old new inserted worked (λ none. absurd (omega (arith, ap length none))) ended)
-IsCutBy-next jobs worker k wait (LogEnd tail total) old new worked cut = record {
+        absurd (unended-next jobs taken place above (rec ∷ rest) old new inserted worked (λ none. absurd (omega (arith, ap length none))) ended)
+IsCutBy-next jobs taken place above wait (LogEnd tail total) old new worked cut = record {
   balances = cut.2.balances;
   marks = cut.2.marks;
   before = old.books.given;
@@ -219,7 +223,7 @@ IsCutBy-next jobs worker k wait (LogEnd tail total) old new worked cut = record 
   uncommitted = recursion_from_All (IsUncommittedAt tail) cut.3.back cut.4;
   next = cut.0;
   rest = cut.1;
-  plan = ap (λ l. l ++ cut.0 ∷ cut.1) (own_records-next jobs worker k (cut.0 ∷ cut.1) old new cut.2 worked) ∙ cut.2.plan;
+  plan = ap (λ l. l ++ cut.0 ∷ cut.1) (own_records-next jobs taken place above (cut.0 ∷ cut.1) old new cut.2 worked) ∙ cut.2.plan;
   size = cut.5;
   too_long = cut.6;
   tail_is = cut.7;
@@ -227,25 +231,26 @@ IsCutBy-next jobs worker k wait (LogEnd tail total) old new worked cut = record 
 }
 
 -- a cut is a cut of a worker that may wait
-IsCutBy-may_wait : (jobs : Jobs) (worker j : ℕ) (wait : Bool) (cause : Cause) (view : View) → IsCutBy jobs worker j wait cause view
-    → IsCutBy jobs worker j true cause view
-IsCutBy-may_wait jobs worker j wait (Stop word) view cut = (λ ended. refl, cut.1, cut.2)
-IsCutBy-may_wait jobs worker j wait (LogEnd tail total) view cut = cut
+IsCutBy-may_wait : (jobs : Jobs) (place : ℕ) (wait : Bool) (cause : Cause) (view : View) → IsCutBy jobs place wait cause view
+    → IsCutBy jobs place true cause view
+IsCutBy-may_wait jobs place wait (Stop word) view cut = (λ ended. refl, cut.1, cut.2)
+IsCutBy-may_wait jobs place wait (LogEnd tail total) view cut = cut
 
-pub Works-may_wait : (jobs : Jobs) (worker k n : ℕ) (wait : Bool) (worked : Worked) (view : View) → Works jobs worker k n wait worked view
-    → Works jobs worker k n true worked view
-Works-may_wait jobs worker k n wait worked.All view works = works
-Works-may_wait jobs worker k n wait (worked.Cut cause) view works =
-    (works.0, works.1, works.2, works.3, IsCutBy-may_wait jobs worker works.0 wait cause view works.4)
+pub Works-may_wait : (jobs : Jobs) (before after : List ℕ) (wait : Bool) (worked : Worked) (view : View) → Works jobs before after wait worked view
+    → Works jobs before after true worked view
+Works-may_wait jobs before after wait worked.All view works = works
+Works-may_wait jobs before after wait (worked.Cut cause) view works =
+    (works.0, works.1, works.2, works.3, IsCutBy-may_wait jobs works.1 wait cause view works.4)
 
 -- a worker that has done nothing yet
-pub HasWorked-none : (jobs : Jobs) (worker : ℕ) (view : View) → view.entries ≡ [] → view.books.jobs ≡ [] → HasWorked jobs worker 0 view
-HasWorked-none jobs worker view no_entries no_jobs = record {
-  stripe = λ j less. absurd (omega arith);
+pub HasWorked-none : (jobs : Jobs) (view : View) → view.entries ≡ [] → view.books.jobs ≡ [] → HasWorked jobs [] view
+HasWorked-none jobs view no_entries no_jobs = record {
+  places = tt;
+  rising = tt;
   earlier = [];
-  taken = no_jobs;
+  jobs_are = no_jobs;
   numbers = tt;
-  own = subst (AllByRecursion (IsOwnEntry jobs worker 0)) (sym no_entries) tt;
+  own = subst (AllByRecursion (IsOwnEntry jobs [])) (sym no_entries) tt;
   below = subst (LieInOrder 0 view.seen.tail) (sym no_entries) (omega arith);
-  in_turn = subst (LieInTurn jobs worker) (sym no_entries) (λ i j before after less has. absurd (omega (arith, has.1)));
+  in_turn = subst (LieInTurn jobs []) (sym no_entries) (λ i j before after less one. absurd (omega (arith, one.1)));
 }

@@ -1,4 +1,4 @@
+pub mod Places
 pub mod Running
 pub mod Stages
-pub mod Stripes
 pub mod Working

@@ -4,7 +4,8 @@ ghost use Rattle.lock_core.specs.Transfers.{IsAllowedJob};
 ghost use Rattle.log_table.specs.Seats.{IsOf, view_of};
 ghost use Rattle.ring_buffer.specs.Calls.{IsReady, IsSameWorker};
 ghost use Rattle.txn_making.specs.Holdings.{KeepsGiven};
-ghost use Rattle.txn_runner.specs.Working.{HasWorked, HasRoomForRows, KeepsEntries, TakesJobs, Works, taken_in, AddsRows};
+ghost use Rattle.txn_runner.specs.Places.{HasAllIfDone};
+ghost use Rattle.txn_runner.specs.Working.{HasWorked, HasRoomForRows, KeepsEntries, TakesJobs, Works, taken_in, places_taken, AddsRows};
 
 use crate::job::run_job;
 use arrayvec::ArrayVec;
@@ -34,19 +35,20 @@ pub fn work<R: Wait, Q: Relief, G: Gate>(
     requires none_held { (view_of seat.old).books.held ≡ [] }
     requires worker { seat.old.worker < jobs.now.workers }
     requires allowed { All (IsAllowedJob table.now.accounts) jobs.now.script }
-    requires worked { HasWorked jobs.now seat.old.worker (taken_in rows.old) (view_of seat.old) }
+    requires worked { HasWorked jobs.now (places_taken jobs.now seat.old.worker rows.old) (view_of seat.old) }
     requires room { HasRoomForRows jobs.now seat.old.worker rows.old }
     requires relief { Q.ready relief.old }
     ensures seat { IsOf table.now seat.new }
     ensures ready { IsReady (view_of seat.new) }
     ensures none_held { (view_of seat.new).books.held ≡ [] }
     ensures same { IsSameWorker seat.old seat.new }
-    ensures worked { HasWorked jobs.now seat.old.worker (taken_in rows.new) (view_of seat.new) }
+    ensures worked { HasWorked jobs.now (places_taken jobs.now seat.old.worker rows.new) (view_of seat.new) }
     ensures kept { KeepsEntries (view_of seat.old) (view_of seat.new) }
     ensures given { KeepsGiven (view_of seat.old) (view_of seat.new) }
-    ensures jobs { TakesJobs jobs.now seat.old.worker (taken_in rows.old) (taken_in rows.new) (view_of seat.old) (view_of seat.new) }
-    ensures works { Works jobs.now seat.old.worker (taken_in rows.old) (taken_in rows.new) wait result (view_of seat.new) }
-    ensures rows { AddsRows jobs.now seat.old.worker wait result rows.old rows.new (view_of seat.old) (view_of seat.new) }
+    ensures jobs { TakesJobs jobs.now (places_taken jobs.now seat.old.worker rows.old) (places_taken jobs.now seat.old.worker rows.new) (view_of seat.old) (view_of seat.new) }
+    ensures works { Works jobs.now (places_taken jobs.now seat.old.worker rows.old) (places_taken jobs.now seat.old.worker rows.new) wait result (view_of seat.new) }
+    ensures all { HasAllIfDone jobs.now seat.old.worker (taken_in rows.new) result }
+    ensures rows { AddsRows jobs.now (places_taken jobs.now seat.old.worker rows.old) (places_taken jobs.now seat.old.worker rows.new) wait result rows.old rows.new (view_of seat.old) (view_of seat.new) }
     ensures relief { Q.ready relief.new }
     ensures later { Q.later relief.old relief.new }
 {

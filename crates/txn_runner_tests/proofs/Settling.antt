@@ -1,5 +1,5 @@
 -- One worker, and one transfer.
-use Rattle.std.proofs.Common.{◌≡◌, ℕ, zero, suc, ◌==◌, ◌+◌, ◌≤◌, Bool, true, false, if◌then◌else◌, None, List, [], ◌∷◌, ◌++◌, map, length, get_or, refl, sym, ap, subst, ◌∙◌, arith}
+use Rattle.std.proofs.Common.{◌≡◌, ℕ, zero, suc, ◌==◌, ◌+◌, ◌≤◌, Bool, true, false, if◌then◌else◌, None, List, [], ◌∷◌, ◌++◌, map, length, get_or, refl, sym, ap, subst, ◌∙◌, arith, length-append}
 use Rattle.lock_core.specs.declared.job.Job.{Job}
 use Rattle.log_table.specs.declared.view.TakenJob.{TakenJob}
 use Rattle.log_table.specs.declared.view.View.{View}
@@ -18,7 +18,8 @@ use Rattle.txn_runner_tests.specs.Settled.{SettlesOne}
 use Rattle.txn_jobs.specs.declared.cause.Worked.{Worked}
 use Rattle.txn_jobs.specs.declared.cause.Worked.TheVariants.{All, Cut}
 use Rattle.txn_jobs.specs.declared.jobs.Jobs.{Jobs}
-use Rattle.txn_runner.specs.Stripes.{place_of, number_at, job_at, stripe_jobs, HasStripe}
+use Rattle.txn_jobs.proofs.StripeSteps.{HasStripe-of}
+use Rattle.txn_runner.specs.Places.{place_of, number_at, job_at, jobs_taken, stripe_places, AreOfScript, HasAllIfDone}
 use Rattle.txn_runner.specs.Working.{Works}
 
 -- the stripe of the only worker of one job is that job
@@ -29,22 +30,23 @@ module _ (jobs : Jobs) (job : Job) (script : jobs.script ≡ job ∷ []) (first 
   place : place_of jobs 0 0 ≡ 0
   place = omega arith
 
-  number-is : number_at jobs 0 0 ≡ 1
+  number-is : number_at jobs (place_of jobs 0 0) ≡ 1
   number-is = omega (arith, first, place)
 
-  job-is : job_at jobs 0 0 ≡ job
+  job-is : job_at jobs (place_of jobs 0 0) ≡ job
   job-is = ap (λ (n : ℕ). get_or jobs.script n (record { legs = []; note = None })) place
       ∙ ap (λ (l : List Job). get_or l 0 (record { legs = []; note = None })) script
 
-  taken : stripe_jobs jobs 0 1 ≡ record { number = 1; job = job } ∷ []
+  taken : jobs_taken jobs (stripe_places jobs 0 1) ≡ record { number = 1; job = job } ∷ []
   taken i = record { number = number-is i; job = job-is i } ∷ []
 
-  pub one-job : (k : ℕ) (worked : Worked) (view : View) → HasStripe jobs 0 k → Works jobs 0 0 k false worked view
-      → stripe_jobs jobs 0 k ≡ record { number = 1; job = job } ∷ []
-  one-job zero All view stripe works = absurd (omega (arith, one, works.1))
-  one-job zero (Cut cause) view stripe works = absurd (omega (arith, works.2))
-  one-job (suc zero) worked view stripe works = taken
-  one-job (suc (suc k)) worked view stripe works = absurd (let second = stripe 1 (omega arith) in omega (arith, one, second, workers, place))
+  pub one-job : (k : ℕ) (worked : Worked) (view : View) → AreOfScript jobs (stripe_places jobs 0 k) → HasAllIfDone jobs 0 k worked
+      → Works jobs [] (stripe_places jobs 0 k) false worked view → jobs_taken jobs (stripe_places jobs 0 k) ≡ record { number = 1; job = job } ∷ []
+  one-job zero All view places all works = absurd (omega (arith, one, all))
+  one-job zero (Cut cause) view places all works = absurd (omega (arith, ap length works.2, length-append works.0 (works.1 ∷ [])))
+  one-job (suc zero) worked view places all works = taken
+  one-job (suc (suc k)) worked view places all works =
+      absurd (let second = HasStripe-of jobs 0 (suc (suc k)) places 1 (omega arith) in omega (arith, one, second, workers, place))
 
 few : (b : Bool) → (if b then 1 else 0) + 0 ≤ 1
 few true = omega arith

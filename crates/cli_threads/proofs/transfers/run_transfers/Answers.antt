@@ -58,18 +58,17 @@ returns g c =
     let all = takes_all (view_of c.in-Some.served.boss) (map view_in workers.items) in
     record {
       ended = λ opened log. record {
-        shares = map share_of workers.items;
+        shares = map (share_of jobs) workers.items;
         first = turned.first;
         last = turned.last;
         view = view_of c.gather-ends.new.boss;
         transferred = HasTransferred-gathered g.D.LogDisk g.K.Sink _ _ _ _ _ _ _ _ turned (key_of table) table jobs c.args.wait
             c.requires.prepared.crew.boss.knows opened log served.done count gathered.stops (view_of c.gather-ends.new.boss) gathered.view
             c.close.result.tail c.close.result.accounts.rows c.close.ensures.gathered c.close.ensures.settled;
-        ends = ends-of_shares workers.items ∙ sym gathered.ends;
-        waited = λ waits. subst (λ (v : View). (worker : ℕ) (share : Share) → get_elem? (map share_of workers.items) worker ≡ some share
-            → HaveWaited jobs worker (made_of share.taken share.worked) v.entries v.books.given) (sym gathered.view)
-            (λ worker share at. subst (λ n. HaveWaited jobs n (made_of share.taken share.worked) all.entries all.books.given) (zero-add worker)
-            (HaveWaited-all table jobs c.args.wait 0 workers.items served.done (view_of c.in-Some.served.boss) waits worker share at));
+        ends = ends-of_shares jobs workers.items ∙ sym gathered.ends;
+        waited = λ waits. subst (λ (v : View). (worker : ℕ) (share : Share) → get_elem? (map (share_of jobs) workers.items) worker ≡ some share
+            → HaveWaited jobs (made_of share.taken share.worked) v.entries v.books.given) (sym gathered.view)
+            (HaveWaited-all table jobs c.args.wait 0 workers.items served.done (view_of c.in-Some.served.boss) waits);
         fault = turned.fault_is;
         none_counted = turned.none_counted;
         done_is = turned.done_is;
