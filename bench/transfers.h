@@ -1,4 +1,4 @@
-// What all rivals share: the generated transfers and the summary, as docs/FORMAT.md ("The summary") and
+// What all rivals share: the generated transfers and the summary, as docs/MANUAL.md ("The summary") and
 // crates/txn_script/specs/Generator.antt say them.
 #include <inttypes.h>
 #include <stdint.h>
