@@ -10,11 +10,10 @@ ghost use Rattle.lock_core.specs.AnyOrder.{HasRoomFor, IsDoneIn};
 ghost use Rattle.lock_core.specs.History.{history_from};
 ghost use Rattle.lock_core.specs.Serial.{numbered, IsSerialAfter};
 ghost use Rattle.lock_core.specs.Sums.{BaseState, balance_of, sum_below};
-ghost use Rattle.txn_script.specs.Generator.{number_after, job_from, generated_balance, generated_jobs, generated_transfers, OpensGenerated};
+ghost use Rattle.txn_script.specs.Generator.{number_after, leg_from, generated_balance, generated_jobs, generated_transfers, OpensGenerated};
 ghost use Rattle.txn_script.specs.Script.{IsAllowedJob};
 
 use crate::script::Script;
-use lock_core::Job;
 use lsn_space::NoMemory;
 use std::alloc::Global;
 
@@ -32,7 +31,7 @@ pub fn make(alloc: Global, n: u32, seed: u32) -> Result<Script, NoMemory>
     let mut x = seed;
     'jobs: for _ in 0..n {
         x = following(x);
-        script.push(job_of(x))?;
+        script.push_leg(leg_of(x))?;
     }
     Ok(script)
 }
@@ -44,15 +43,15 @@ fn following(x: u32) -> u32
     ((75 * x as u64 + 74) % 65537) as u32
 }
 
-/// The transfer that this number makes.
-fn job_of(x: u32) -> Job
-    ensures { result ≡ job_from x }
+/// The leg of the transfer that this number makes.
+fn leg_of(x: u32) -> (u32, u32, u32)
+    ensures { result ≡ leg_from x }
 {
     let payer = x % GENERATED_ACCOUNTS;
     let payee = (payer + 1 + x / GENERATED_ACCOUNTS % (GENERATED_ACCOUNTS - 1))
         % GENERATED_ACCOUNTS;
     let amount = 1 + x / 4096 % 9;
-    Job::of_leg((payer, payee, amount))
+    (payer, payee, amount)
 }
 
 /// A law: generated transfers are as many as were asked for, and a log of `GENERATED_ACCOUNTS` accounts allows each.

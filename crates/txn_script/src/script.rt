@@ -1,4 +1,4 @@
-ghost use Rattle.std.specs.Prelude.{◌≡◌, ◌<◌, ◌≤◌, ◌^◌, ◌++◌, ◌∷◌, [], ℕ, List, Some, length, slice_get, IfOk, IfErr, OnErr};
+ghost use Rattle.std.specs.Prelude.{◌≡◌, ◌<◌, ◌≤◌, ◌^◌, ◌++◌, ◌∷◌, [], ℕ, List, Some, None, length, slice_get, IfOk, IfErr, OnErr};
 ghost use Rattle.txn_script.specs.Script.{IsScriptText, IsFirstBadLine, IsScriptFault};
 ghost use Rattle.lock_core.specs.declared.job.Job.{Job};
 
@@ -50,11 +50,19 @@ impl Script {
         ensures kept { OnErr result (self.new ≡ self.old) }
     {
         if let Some(leg) = job.single() {
-            return put(&mut self.stored, Stored::Single(leg));
+            return self.push_leg(leg);
         }
         let at = self.long.len();
         put(&mut self.long, job)?;
         put(&mut self.stored, Stored::Long(at))
+    }
+
+    /// Adds the transfer of one leg and no note behind the others, so that no `Job` is made of it.
+    pub fn push_leg(&mut self, leg: (u32, u32, u32)) -> Result<(), NoMemory>
+        ensures added { IfOk result (λ _. self.new ≡ self.old ++ record { legs = leg ∷ []; note = None } ∷ []) }
+        ensures kept { OnErr result (self.new ≡ self.old) }
+    {
+        put(&mut self.stored, Stored::Single(leg))
     }
 
     /// The number of transfers.

@@ -3,7 +3,7 @@ use Rattle.txn_script.proofs.GeneratorLemmas.{generated-next}
 use Rattle.txn_script.proofs.generator.make.Goals as goal
 
 pub jobs-preserved : goal.jobs-preserved
-jobs-preserved c = rw (c.in_ok-push.ensures.added, c.job_of.ensures, c.following-x.ensures)
+jobs-preserved c = rw (c.in_ok-push_leg.ensures.added, c.leg_of.ensures, c.following-x.ensures)
     (generated-next c.jobs.script _ c.args.n c.jobs.counter c.jobs.x (omega arith) c.jobs.invariant)
 
 pub jobs-init : goal.jobs-init
