@@ -22,6 +22,7 @@ pub fn send_all(
     requires from { sent_to (view_of boss.old) ≡ from }
     ensures boss { IfOk result (λ sent. IsOf table.now boss.new) }
     ensures standing { IfOk result (λ sent. (view_of boss.new).standing ≡ (view_of boss.old).standing) }
+    ensures entries { IfOk result (λ sent. (view_of boss.new).entries ≡ (view_of boss.old).entries) }
     ensures rests { IfOk result (λ sent. (view_of boss.new).sending.read ≡ []) }
     ensures to { IfOk result (λ sent. sent_to (view_of boss.new) ≡ sent.1) }
 {
