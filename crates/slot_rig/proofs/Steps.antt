@@ -1,0 +1,67 @@
+-- A worker stays the one that it is, and a member of its group, by a step that changes its view alone.
+use Rattle.std.proofs.Common.{◌≡◌, ◌∙◌, ℕ, ap}
+use Rattle.log_table.specs.declared.group_view.MemberStep.{MemberStep}
+use Rattle.log_table.specs.declared.table.LogTable.{LogTable}
+use Rattle.log_table.specs.declared.table.Seat.{Seat}
+use Rattle.log_table.specs.declared.view.Call.{Call}
+use Rattle.log_table.specs.declared.view.Call.TheVariants.{Joined}
+use Rattle.log_table.specs.declared.view.Constants.{Constants}
+use Rattle.log_table.specs.declared.view.Standing.{Standing}
+use Rattle.log_table.specs.declared.view.View.{View}
+use Rattle.log_table.specs.Seats.{Becomes, view_of}
+use Rattle.slot_rig.specs.Shares.{IsWorker, IsMember, HasReleased, HasLeft}
+use Rattle.slot_rig.specs.declared.share.Share.{Share}
+
+-- constants, standing and the accounts held are as before
+pub record KeepsWorker (old new : View) : Type 0 where
+  pub constants : new.constants ≡ old.constants
+  pub standing : new.standing ≡ old.standing
+  pub held : new.books.held ≡ old.books.held
+
+module _ (table : LogTable) (old new : Seat) (view : View) (becomes : Becomes old new view) (keeps : KeepsWorker (view_of old) view) where
+  is : view_of new ≡ view
+  is = ap (λ me. me.0) becomes.me
+
+  pub worker-stays : (number : ℕ) → IsWorker table number old → IsWorker table number new
+  worker-stays number worker = record {
+    own = record {
+      table_is = becomes.table_is ∙ worker.own.table_is;
+      no_slots = ap (λ me. me.1) becomes.me ∙ worker.own.no_slots;
+      ring = ap (λ (v : View). v.constants.ring) is ∙ (ap (λ (c : Constants). c.ring) keeps.constants ∙ worker.own.ring);
+    };
+    slots = ap (λ (v : View). v.constants.slots) is ∙ (ap (λ (c : Constants). c.slots) keeps.constants ∙ worker.slots);
+    active = ap (λ (v : View). v.standing.role) is ∙ (ap (λ (s : Standing). s.role) keeps.standing ∙ worker.active);
+    numbered = ap (λ (v : View). v.standing.worker) is ∙ (ap (λ (s : Standing). s.worker) keeps.standing ∙ worker.numbered);
+    none_held = ap (λ (v : View). v.books.held) is ∙ (keeps.held ∙ worker.none_held);
+  }
+
+  pub member-stays : (share : Share) (step step' : MemberStep) → view.entries ≡ (view_of old).entries → (member : IsMember table share step old)
+      → view.call ≡ Joined share.slot member.piece step' → IsMember table share step' new
+  member-stays share step step' entries member call = record {
+    worker = worker-stays share.worker member.worker;
+    slot = member.slot;
+    piece = member.piece;
+    own_piece = member.own_piece;
+    call = ap (λ (v : View). v.call) is ∙ call;
+    no_entry = ap (λ (v : View). v.entries) is ∙ (entries ∙ member.no_entry);
+  }
+
+  pub released-stays : (share : Share) (base : ℕ) (call call' : Call) → view.entries ≡ (view_of old).entries
+      → (released : HasReleased table share base call old) → view.call ≡ call' → HasReleased table share base call' new
+  released-stays share base call call' entries released is_call = record {
+    worker = worker-stays share.worker released.worker;
+    slot = released.slot;
+    piece = released.piece;
+    own_piece = released.own_piece;
+    call_is = ap (λ (v : View). v.call) is ∙ is_call;
+    entry = ap (λ (v : View). v.entries) is ∙ (entries ∙ released.entry);
+  }
+
+  pub left-stays : (share : Share) (call call' : Call) → view.entries ≡ (view_of old).entries → HasLeft table share call old → view.call ≡ call'
+      → HasLeft table share call' new
+  left-stays share call call' entries left is_call = record {
+    worker = worker-stays share.worker left.worker;
+    slot = left.slot;
+    call_is = ap (λ (v : View). v.call) is ∙ is_call;
+    no_entry = ap (λ (v : View). v.entries) is ∙ (entries ∙ left.no_entry);
+  }
