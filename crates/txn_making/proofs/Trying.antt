@@ -21,6 +21,7 @@ pub stays : (first second third : Seat) (entries : List Entry) (books : Books) �
 stays first second third entries books before after = record {
   same = IsSameWorker-trans first second third before.same after.same;
   idle = after.idle;
+  contended = after.contended ∙ before.contended;
   entries_are = after.entries_are ∙ before.entries_are;
   books_are = after.books_are ∙ before.books_are;
 }
@@ -38,13 +39,13 @@ changes old new seen books idle becomes tail exposed durable steps = record {
     worker = becomes.worker;
     constants = ap (λ m. m.0.constants) becomes.me;
     standing = ap (λ m. m.0.standing) becomes.me;
-    contended = ap (λ m. m.0.contended) becomes.me;
     grows = omega (arith, tail, ap (λ m. m.0.seen.tail) becomes.me);
     exposed = omega (arith, exposed, ap (λ m. m.0.seen.exposed) becomes.me);
     durable = omega (arith, durable, ap (λ m. m.0.seen.durable) becomes.me);
     steps = omega (arith, steps, ap (λ m. m.0.seen.steps) becomes.me);
   };
   idle = ap (λ m. m.0.call) becomes.me ∙ idle;
+  contended = ap (λ m. m.0.contended) becomes.me;
   entries_are = ap (λ m. m.0.entries) becomes.me;
   books_are = ap (λ m. m.0.books) becomes.me;
 }
@@ -63,6 +64,7 @@ module _ (first second third : Seat) (account : ℕ) (before : HasEntries first 
       let step = changes second third _ _ before.idle has.becomes (omega arith) (omega arith) (omega arith) (omega arith) in record {
         same = IsSameWorker-trans first second third before.same step.same;
         idle = step.idle;
+        contended = step.contended ∙ before.contended;
         entries_are = step.entries_are ∙ before.entries_are;
         books_are = has.books ∙ (λ i. taking (record { account = sym has.account_is i; balance = taken.balance; mark = taken.mark }) (before.books_are i));
       }

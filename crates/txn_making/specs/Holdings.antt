@@ -75,9 +75,10 @@ pub record KeepsGiven (old new : View) : Type 0 where
   pub back : List Given
   pub given_are : new.books.given ≡ back ++ old.books.given
 
--- the seat has nothing under way, and the entries and books that it had, but for accounts that it may have given back
+-- the seat has nothing under way, is as contended as before, and has the entries and books that it had, but for accounts that it may have given back
 pub record KeepsBooks (old new : Seat) : Type 0 where
   pub same : IsSameWorker old new
   pub idle : (view_of new).call ≡ Idle
+  pub contended : (view_of new).contended ≡ (view_of old).contended
   pub entries : (view_of new).entries ≡ (view_of old).entries
   pub books : (view_of new).books ≡ record (view_of old).books { given = (view_of new).books.given }

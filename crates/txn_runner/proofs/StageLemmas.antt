@@ -41,14 +41,13 @@ IsSameWorker-refl seat = record {
   worker = refl;
   constants = refl;
   standing = refl;
-  contended = refl;
   grows = omega arith;
   exposed = omega arith;
   durable = omega arith;
   steps = omega arith;
 }
 
--- the same worker's seat is the table's still, and ready where nothing is under way
+-- the same worker's seat is the table's still, and ready where nothing is under way and it is as contended as before
 pub IsOf-same : (table : LogTable) (first second : Seat) → IsOf table first → IsSameWorker first second → IsOf table second
 IsOf-same table first second of same = record {
   table_is = same.table_is ∙ of.table_is;
@@ -58,10 +57,10 @@ IsOf-same table first second of same = record {
 }
 
 pub IsReady-same : (first second : Seat) → IsReady (view_of first) → IsSameWorker first second → (view_of second).call ≡ Idle
-    → IsReady (view_of second)
-IsReady-same first second ready same idle = record {
+    → (view_of second).contended ≡ (view_of first).contended → IsReady (view_of second)
+IsReady-same first second ready same idle contended = record {
   rests = record { active = ap (λ standing. standing.role) same.standing ∙ ready.rests.active; idle = idle };
-  alone = same.contended ∙ ready.alone;
+  alone = contended ∙ ready.alone;
 }
 
 -- steps that change the books alone, beside what was seen of the stop word
@@ -75,7 +74,6 @@ same-worker first second steps stop books more becomes = record {
   worker = becomes.worker;
   constants = ap (λ m. m.0.constants) becomes.me;
   standing = ap (λ m. m.0.standing) becomes.me;
-  contended = ap (λ m. m.0.contended) becomes.me;
   grows = omega (arith, ap (λ m. m.0.seen.tail) becomes.me);
   exposed = omega (arith, ap (λ m. m.0.seen.exposed) becomes.me);
   durable = omega (arith, ap (λ m. m.0.seen.durable) becomes.me);
@@ -91,6 +89,7 @@ module _ (number : ℕ) (job : Job) (first second : Seat) where
   takes-job word ready becomes = record {
     same = same-worker first second _ word _ (omega arith) becomes;
     idle = ap (λ m. m.0.call) becomes.me ∙ ready.rests.idle;
+    contended = ap (λ m. m.0.contended) becomes.me;
     entries_are = ap (λ m. m.0.entries) becomes.me;
     books_are = ap (λ m. m.0.books) becomes.me;
   }
@@ -123,6 +122,7 @@ module _ (number : ℕ) (job : Job) (first second : Seat) where
     lets-go-first = record {
       same = taken.same;
       idle = taken.idle;
+      contended = taken.contended;
       none_held = ap (λ (books : Books). books.held) taken.books_are ∙ none_held;
       given = given-same (view_of first) (view_of second) (ap (λ (books : Books). books.given) taken.books_are);
     }
@@ -139,6 +139,7 @@ module _ (number : ℕ) (job : Job) (first second : Seat) where
           both (Err cause) kept given = record {
             same = IsSameWorker-trans first second third taken.same kept.same;
             idle = kept.idle;
+            contended = kept.contended ∙ taken.contended;
             none_held = ap (λ (books : Books). books.held) (kept.books) ∙ lets-go-first.none_held;
             given = given-trans (view_of first) (view_of second) (view_of third) lets-go-first.given given;
           }
@@ -163,6 +164,7 @@ pub takes-transfer : (accounts number : ℕ) (job : Job) (list slice : List ℕ)
 takes-transfer accounts number job list slice holdings first second third same rising only allowed all taken takes = record {
   same = IsSameWorker-trans first second third taken.same takes.entries.same;
   idle = takes.entries.idle;
+  contended = takes.entries.contended ∙ taken.contended;
   taken = record {
     entries = takes.entries.entries_are ∙ taken.entries_are;
     grows = omega (arith, taken.same.grows, takes.entries.same.grows);
@@ -199,6 +201,7 @@ pub gives-all : (back : List Holding) (first second : Seat) → IsReady (view_of
 gives-all back first second ready becomes = record {
   same = same-worker first second _ _ _ (omega arith) becomes;
   idle = ap (λ m. m.0.call) becomes.me ∙ ready.rests.idle;
+  contended = ap (λ m. m.0.contended) becomes.me;
   entries = ap (λ m. m.0.entries) becomes.me;
   from = view_of first;
   from_books = refl;
@@ -213,6 +216,7 @@ pub gives-then : (back : List Holding) (first second third : Seat) → HasEntrie
 gives-then back first second third kept gives = record {
   same = IsSameWorker-trans first second third kept.same gives.same;
   idle = gives.idle;
+  contended = gives.contended ∙ kept.contended;
   entries = gives.entries ∙ kept.entries_are;
   from = gives.from;
   from_books = gives.from_books ∙ kept.books_are;
@@ -245,6 +249,7 @@ module _ (accounts number : ℕ) (job : Job) (wait : Bool) (holdings paid : List
   lets-go added adds = record {
     same = IsSameWorker-trans second third fourth adds.entries.same gives.same;
     idle = gives.idle;
+    contended = gives.contended ∙ adds.entries.contended;
     none_held = ap (λ (books : Books). books.held) gives.books;
     given = record {
       back = given_behind gives.from paid [];
@@ -302,6 +307,7 @@ module _ (accounts number : ℕ) (job : Job) (holdings : List Holding) (first se
   lets-go-made made = record {
     same = IsSameWorker-trans first second third takes.same made.same;
     idle = made.idle;
+    contended = made.contended ∙ takes.contended;
     none_held = made.none_held;
     given = given-trans (view_of first) (view_of second) (view_of third)
         (given-same (view_of first) (view_of second) takes.taken.given) made.given;

@@ -35,10 +35,11 @@ pub record MayMakeTransfer (accounts number : ℕ) (job : Job) (holdings : List 
   pub unchanged : All IsUnchanged holdings
   pub none : books.placed ≡ []
 
--- the seat took the job and its accounts, and has nothing under way
+-- the seat took the job and its accounts, has nothing under way, and is as contended as before
 pub record TakesTransfer (accounts number : ℕ) (job : Job) (holdings : List Holding) (old new : Seat) : Type 0 where
   pub same : IsSameWorker old new
   pub idle : (view_of new).call ≡ Idle
+  pub contended : (view_of new).contended ≡ (view_of old).contended
   pub taken : HasTakenJob number job (view_of old) (view_of new)
   pub may : MayMakeTransfer accounts number job holdings (view_of new).books
 
@@ -51,10 +52,11 @@ pub record MayEndTransfer (accounts : ℕ) (ended : Ended) (holdings : List Hold
   pub values : All (GoesBack (release_at ended.end ended.answer) books) holdings
 
 -- The seat gave these accounts back, with the books that it had and the tail and the durable LSN that it has seen last. It has nothing
--- under way, holds none, and has the entries and the other books that it had.
+-- under way, holds none, has the entries and the other books that it had, and is as contended as before.
 pub record GivesAll (holdings : List Holding) (old new : Seat) : Type 0 where
   pub same : IsSameWorker old new
   pub idle : (view_of new).call ≡ Idle
+  pub contended : (view_of new).contended ≡ (view_of old).contended
   pub entries : (view_of new).entries ≡ (view_of old).entries
   pub from : View
   pub from_books : from.books ≡ (view_of old).books
@@ -63,10 +65,12 @@ pub record GivesAll (holdings : List Holding) (old new : Seat) : Type 0 where
   pub books : (view_of new).books
       ≡ record (view_of old).books { held = []; given = given_behind from holdings (view_of old).books.given }
 
--- the seat has nothing under way, holds no account, and what it gave back before stands behind what it gave back since
+-- The seat has nothing under way, is as contended as before, holds no account, and what it gave back before stands behind what it gave
+-- back since.
 pub record LetsGo (old new : Seat) : Type 0 where
   pub same : IsSameWorker old new
   pub idle : (view_of new).call ≡ Idle
+  pub contended : (view_of new).contended ≡ (view_of old).contended
   pub none_held : (view_of new).books.held ≡ []
   pub given : KeepsGiven (view_of old) (view_of new)
 

@@ -14,7 +14,7 @@ give_all-requires-clause-seat g c = IsOf-same _ _ _ c.requires.seat c.see_durabl
 pub give_all-requires-clause-ready : goal.give_all-requires-clause-ready
 give_all-requires-clause-ready g c =
     let kept = c.see_durable-seen.ensures.kept in
-    IsReady-same _ _ c.requires.ready kept.same kept.idle
+    IsReady-same _ _ c.requires.ready kept.same kept.idle kept.contended
 
 pub give_all-requires-clause-holds : goal.give_all-requires-clause-holds
 give_all-requires-clause-holds g c = subst (HoldsAll c.args.holdings.now.items) (sym c.see_durable-seen.ensures.kept.books_are) c.requires.may.all
@@ -43,7 +43,7 @@ returns-clause-gives g c =
     let kept = c.see_durable-seen.ensures.kept in
     gives-then c.args.holdings.now.items c.args.seat.now c.see_durable-seen.new.seat c.give_all.new.seat kept
     (gives-all c.args.holdings.now.items c.see_durable-seen.new.seat c.give_all.new.seat
-    (IsReady-same c.args.seat.now c.see_durable-seen.new.seat c.requires.ready kept.same kept.idle) c.give_all.ensures)
+    (IsReady-same c.args.seat.now c.see_durable-seen.new.seat c.requires.ready kept.same kept.idle kept.contended) c.give_all.ensures)
 
 pub returns-clause-seen : goal.returns-clause-seen
 returns-clause-seen g c = still-seen c.args.wait c.args.ended.now.end c.args.holdings.now.items c.see_durable-seen.new.seat c.give_all.new.seat c.give_all.ensures

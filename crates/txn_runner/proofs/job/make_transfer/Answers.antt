@@ -11,7 +11,7 @@ end_transfer-requires-clause-seat g c = IsOf-same _ _ _ c.requires.seat c.in-Ok.
 pub end_transfer-requires-clause-ready : goal.end_transfer-requires-clause-ready
 end_transfer-requires-clause-ready g c =
     let added = c.in-Ok.ensures.ended.adds.entries in
-    IsReady-same _ _ c.requires.ready added.same added.idle
+    IsReady-same _ _ c.requires.ready added.same added.idle added.contended
 
 pub end_transfer-requires-clause-may : goal.end_transfer-requires-clause-may
 end_transfer-requires-clause-may g c = may-end _ _ _ _ _ _ _ c.requires.may c.in-Ok.ensures.taken _ c.in-Ok.ensures.ended
@@ -22,7 +22,7 @@ give_unchanged-requires-clause-seat g c = IsOf-same _ _ _ c.requires.seat c.in-E
 pub give_unchanged-requires-clause-ready : goal.give_unchanged-requires-clause-ready
 give_unchanged-requires-clause-ready g c =
     let added = c.in-Err.ensures.added.1.entries in
-    IsReady-same _ _ c.requires.ready added.same added.idle
+    IsReady-same _ _ c.requires.ready added.same added.idle added.contended
 
 pub give_unchanged-requires-clause-holds : goal.give_unchanged-requires-clause-holds
 give_unchanged-requires-clause-holds g c = holds-made _ _ _ _ _ _ _ c.requires.may c.in-Err.ensures.taken _ c.in-Err.ensures.added.1
@@ -47,12 +47,14 @@ returns-in-Ok-clause-cut g c = stop-made _ _ _ _ _ _ _ _ _ c.requires.may c.in-O
 
 pub returns-in-Err-clause-let_go : goal.returns-in-Err-clause-let_go
 returns-in-Err-clause-let_go g c = lets-go _ _ _ c.args.wait _ _ _ _ _ c.requires.may c.in-Err.ensures.taken
-    (gives-all _ _ _ (IsReady-same _ _ c.requires.ready c.in-Err.ensures.added.1.entries.same c.in-Err.ensures.added.1.entries.idle)
+    (gives-all _ _ _ (IsReady-same _ _ c.requires.ready c.in-Err.ensures.added.1.entries.same c.in-Err.ensures.added.1.entries.idle
+    c.in-Err.ensures.added.1.entries.contended)
     c.give_unchanged.ensures) _ c.in-Err.ensures.added.1
 
 pub returns-in-Err-clause-cut : goal.returns-in-Err-clause-cut
 returns-in-Err-clause-cut g c = cut-made _ _ _ _ _ _ _ _ _ c.requires.may c.in-Err.ensures.taken
-    (gives-all _ _ _ (IsReady-same _ _ c.requires.ready c.in-Err.ensures.added.1.entries.same c.in-Err.ensures.added.1.entries.idle)
+    (gives-all _ _ _ (IsReady-same _ _ c.requires.ready c.in-Err.ensures.added.1.entries.same c.in-Err.ensures.added.1.entries.idle
+    c.in-Err.ensures.added.1.entries.contended)
     c.give_unchanged.ensures) _ c.in-Err.ensures.added c.in-Err.ensures.cut
     (still-stops _ _ _ _ _ _ c.give_unchanged.ensures c.in-Err.ensures.cut.stops)
 

@@ -10,7 +10,7 @@ returns-in_err-take_transfer-clause-seat g c = IsOf-same _ _ _ c.requires.seat c
 pub returns-in_err-take_transfer-clause-ready : goal.returns-in_err-take_transfer-clause-ready
 returns-in_err-take_transfer-clause-ready g c =
     let gone = c.in_err-take_transfer.ensures.let_go in
-    IsReady-same _ _ c.requires.ready gone.same gone.idle
+    IsReady-same _ _ c.requires.ready gone.same gone.idle gone.contended
 
 pub returns-in_err-take_transfer-clause-cut : goal.returns-in_err-take_transfer-clause-cut
 returns-in_err-take_transfer-clause-cut g c =
@@ -23,7 +23,7 @@ make_transfer-requires-clause-seat g c = IsOf-same _ _ _ c.requires.seat c.in_ok
 pub make_transfer-requires-clause-ready : goal.make_transfer-requires-clause-ready
 make_transfer-requires-clause-ready g c =
     let takes = c.in_ok-take_transfer.ensures.taken in
-    IsReady-same _ _ c.requires.ready takes.same takes.idle
+    IsReady-same _ _ c.requires.ready takes.same takes.idle takes.contended
 
 pub make_transfer-requires-clause-may : goal.make_transfer-requires-clause-may
 make_transfer-requires-clause-may g c = c.in_ok-take_transfer.ensures.taken.may
@@ -37,7 +37,7 @@ pub returns-clause-seat : goal.returns-clause-seat
 returns-clause-seat g c = IsOf-same c.args.table.now c.args.seat.now c.make_transfer.new.seat c.requires.seat (gone g c).same
 
 pub returns-clause-ready : goal.returns-clause-ready
-returns-clause-ready g c = IsReady-same c.args.seat.now c.make_transfer.new.seat c.requires.ready (gone g c).same (gone g c).idle
+returns-clause-ready g c = IsReady-same c.args.seat.now c.make_transfer.new.seat c.requires.ready (gone g c).same (gone g c).idle (gone g c).contended
 
 pub returns-clause-same : goal.returns-clause-same
 returns-clause-same g c = (gone g c).same
