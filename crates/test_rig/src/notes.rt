@@ -67,6 +67,7 @@ pub fn insert_note<G: Gate>(
     job: &Job,
     gate: &G,
 ) -> Result<Lsn, Refused>
+    requires no_slots { table.now.slots ≡ 0 }
     requires worker { MayInsert table.now number seat.old }
     requires next { IsTxn (number + 1) }
     requires accounts { table.now.accounts ≡ 2 }
@@ -88,6 +89,7 @@ pub fn insert_all(
     times: u32,
     job: &Job,
 ) -> (u32, Lsn)
+    requires no_slots { table.now.slots ≡ 0 }
     requires worker { MayInsert table.now first seat.old }
     requires few { (first ≤ 1000) × (times ≤ 1000) }
     requires accounts { table.now.accounts ≡ 2 }

@@ -19,6 +19,7 @@ pub fn table_of(alloc: Global, balances: (u32, u32), end: u32) -> Result<(LogTab
     requires balances { (balances.0 ≤ MOST_BALANCE) × (balances.1 ≤ MOST_BALANCE) }
     ensures boss { IfOk result (λ made. HasHired made.0 0 made.1) }
     ensures ring { IfOk result (λ made. made.0.ring ≡ 1024) }
+    ensures slots { IfOk result (λ made. made.0.slots ≡ 0) }
     ensures accounts { IfOk result (λ made. made.0.accounts ≡ 2) }
     ensures start { IfOk result (λ made. (key_of made.0).start ≡ end) }
     ensures rows { IfOk result (λ made. (key_of made.0).accounts.rows ≡ (balances.0, 0) ∷ (balances.1, 0) ∷ []) }

@@ -26,6 +26,7 @@ pub fn insert_units<R: Wait, Q: Relief, G: Gate>(
     gate: &G,
 ) -> Result<Lsn, Cause>
     requires seat { IsOf table.now seat.old }
+    requires no_slots { table.now.slots ≡ 0 }
     requires ready { IsReady (view_of seat.old) }
     requires next { MayEnter (next_of (view_of seat.old).books) (view_of seat.old).books }
     requires spelled { units.now ≡ spelling (next_of (view_of seat.old).books) }
