@@ -43,6 +43,7 @@ use Rattle.cli_threads.specs.declared.transfers.ReadyRun.{ReadyRun}
 use Rattle.cli_ending.specs.declared.conclusion.Ended.{Ended}
 use Rattle.cli_threads.specs.declared.transfers.Prepared.{Prepared}
 use Rattle.cli_shared.specs.Creation.{IsFindingFault, TellsWhether, genesis_list}
+use Rattle.command_line.specs.Ranges.{AreInRange}
 use Rattle.command_line.specs.declared.options.RunOptions.{RunOptions}
 use Rattle.cli_demo.specs.Demo.{AnswersDemo, IsOfDemo, IsPreparedDemo, IsReadyDemo, MayPrecede, OnlyMakes, RanAllGenerated, RanGenerated, TellsSummary, generated_end}
 use Rattle.cli_ending.specs.Ending.{AreWhole, Concludes, IsFirstLogEnd, NothingStopped, counted_text}
@@ -193,7 +194,8 @@ Appends-keeps (Some xs) (Some ys) appended = appended ∙ append-nil xs
 later-opening : (records : List Rec) → later_of generated_opening records ≡ history_from (base_state_of (history generated_opening)).end [] records
 later-opening records = ap (λ end. history_from end [] records) (end-opening ∙ sym opening-end)
 
-module _ {D : Type 0} {K : Type 0} (g : Ghosts D) (h : SinkGhosts K) (n seed : ℕ) (options : RunOptions) (few : n ≤ 100000) (ready : ReadyRun) {wait : Bool} (entry disk disk_new : D)
+module _ {D : Type 0} {K : Type 0} (g : Ghosts D) (h : SinkGhosts K) (n seed : ℕ) (options : RunOptions) (range : AreInRange options) (few : n ≤ 100000) (ready : ReadyRun) {wait : Bool}
+    (entry disk disk_new : D)
     (sink sink_mid sink_new : K) (ended : Ended) (is : IsReadyDemo g n seed options entry disk ready)
     (has : HasEnded g h ready.prepared generated_opening ready.tail Count wait disk disk_new sink sink_mid ended) where
   abbrev jobs : Jobs
@@ -228,7 +230,8 @@ module _ {D : Type 0} {K : Type 0} (g : Ghosts D) (h : SinkGhosts K) (n seed : �
 
   -- and none of them came to the end of the log
   no-log_end : (tail total : ℕ) → ended.fault ≡ None → IsFirstLogEnd ended.ends.items tail total → ⊥
-  no-log_end tail total fine first = never-log_end n seed few jobs is.generated.script generated_opening records tail total (omega (arith, end-opening))
+  no-log_end tail total fine first = never-log_end n seed few jobs is.generated.script generated_opening records _ _ tail total
+      (omega (arith, is.generated.workers_are, range.workers.1)) (omega (arith, end-opening))
       (end-most n seed 1 base few opening-generated records partly)
       (stops-ended g h ready.prepared generated_opening Count disk disk_new sink sink_mid ended has fine tail total first)
 

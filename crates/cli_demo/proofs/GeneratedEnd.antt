@@ -22,7 +22,7 @@ use Rattle.lock_core.specs.Transfers.{transfer_of}
 use Rattle.txn_script.proofs.OrderLemmas.{room-generated}
 use Rattle.txn_jobs.specs.declared.jobs.Jobs.{Jobs}
 use Rattle.txn_runner.specs.Places.{number_at, place_of, job_at}
-use Rattle.cli_threads.specs.RunStops.{HasNextOf, StopsAtLogEnd}
+use Rattle.cli_threads.specs.RunStops.{HasNextOf, IsTotalAmong, StopsAtLogEnd}
 
 -- ---- one transfer has 5 units at most, whatever its outcome
 
@@ -103,8 +103,8 @@ boundary-most records lsn is =
     omega (arith, longer, found.3)
 
 module _ (n seed : ℕ) (few : n ≤ 100000) (jobs : Jobs) (script : jobs.script ≡ generated_jobs n seed) where
-  next-most : (records : List Rec) (place tail total : ℕ) → place < length jobs.script → HasNextOf records jobs place tail total → total ≤ 5
-  next-most records place tail total inside next =
+  next-most : (records : List Rec) (place tail units : ℕ) → place < length jobs.script → HasNextOf records jobs place tail units → units ≤ 5
+  next-most records place tail units inside next =
       let found = generated-at n seed place (record { legs = []; note = None }) (omega (arith, inside, ap length script)) in
       let job : job_at jobs place ≡ job_from found.0 =
       ap (λ s. get_or s place (record { legs = []; note = None })) script ∙ found.1 in
@@ -112,10 +112,18 @@ module _ (n seed : ℕ) (few : n ≤ 100000) (jobs : Jobs) (script : jobs.script
       let weighed = records-most (history records) (number_at jobs place) (next.next ∷ next.rest) _ plan in
       omega (arith, weighed, outcome-most (number_at jobs place) found.0 (outcome_alone (transfer_of (job_from found.0)) next.balances), next.size)
 
-  pub never-log_end : (opened list : List Rec) (tail total : ℕ) → end_of opened ≤ 128 → end_of list ≤ 5 * n
-      → StopsAtLogEnd opened jobs list tail total → ⊥
-  never-log_end opened list tail total first most stops =
-      let small = next-most (opened ++ list) (place_of jobs stops.worker stops.stripe.cut) tail total stops.stripe.inside stops.no_room.next in
+  -- a group of 16 workers asks for few units too
+  asked-most : (ring slots units total : ℕ) → jobs.workers ≤ 16 → units ≤ 5 → IsTotalAmong ring slots jobs.workers units total → total ≤ 421
+  asked-most ring slots units total crew small (inl own) = omega (arith, own, small)
+  asked-most ring slots units total crew small (inr group) =
+      let most : total + 26 ≤ units + 26 * jobs.workers = group.known.1 in omega (arith, most, crew, small)
+
+  pub never-log_end : (opened list : List Rec) (ring slots tail total : ℕ) → jobs.workers ≤ 16 → end_of opened ≤ 128 → end_of list ≤ 5 * n
+      → StopsAtLogEnd opened jobs list ring slots tail total → ⊥
+  never-log_end opened list ring slots tail total crew first most stops =
+      let room = stops.no_room in
+      let small = next-most (opened ++ list) (place_of jobs stops.worker stops.stripe.cut) tail room.units stops.stripe.inside room.next in
+      let asked = asked-most ring slots room.units total crew small room.asked in
       let within = boundary-most (opened ++ list) tail stops.no_room.boundary in
       let longer = ap length (units_of-append opened list) ∙ length-append (units_of opened) (units_of list) in
       let past = stops.no_room.too_long in

@@ -5,4 +5,5 @@ pub mod RunEndWitness
 pub mod RunWitness
 pub mod ToldLemmas
 pub mod ToldWitness
+pub mod TotalLemmas
 pub mod WholeLines

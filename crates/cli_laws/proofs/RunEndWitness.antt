@@ -281,7 +281,7 @@ module _ (n : ℕ) (full : 4 + 2 * n ≤ LAST) (near : LAST < 4 + 2 * n + 2) whe
         next = Update 2 0 (negsuc 29) 0;
         rest = Update 2 1 (pos 30) 0 ∷ Commit 2 1 ∷ [];
         plan = refl;
-        size = refl;
+        asked = inl refl;
         too_long = near;
         seen = (0, omega arith, refl);
         alone = λ one. tt;
@@ -331,6 +331,7 @@ module _ (n : ℕ) (full : 4 + 2 * n ≤ LAST) (near : LAST < 4 + 2 * n + 2) whe
         workers = record { count = refl; taken = refl; each = has-share; stripes = is-stripe };
         gathered = gathered;
         settled = settled;
+        heard = tt;
       };
       script = refl;
       fine = refl;

@@ -251,154 +251,155 @@ workers = record { count = refl; taken = refl; each = has-share; stripes = is-st
 module _ (d : Daemon ℕ (List ℕ)) (of : IsOf d.flusher.table.now d.flusher.seat) (ring : d.flusher.table.now.ring ≡ 1024)
     (slots : d.flusher.table.now.slots ≡ 0)
   where
-  -- the seat with this view
-  abbrev seat_with : (v : View) → v.standing.worker ≡ 0 → Seat
-  seat_with v is = record { base = record d.flusher.seat.base { me = (v, []) }; worker = 0; named = sym is }
+    -- the seat with this view
+    abbrev seat_with : (v : View) → v.standing.worker ≡ 0 → Seat
+    seat_with v is = record { base = record d.flusher.seat.base { me = (v, []) }; worker = 0; named = sym is }
 
-  abbrev old : Daemon ℕ (List ℕ)
-  old = record {
-    flusher = record d.flusher { disk = record d.flusher.disk { now = 0 }; seat = seat_with view_old refl; batch = record { units = []; room = 1024 }; tail = tail_old };
-    sink = record d.sink { now = [] };
-    voice = Lines;
-    tally = record { done = 0; refused = 0 };
-    fault = None;
-  }
+    abbrev old : Daemon ℕ (List ℕ)
+    old = record {
+      flusher = record d.flusher { disk = record d.flusher.disk { now = 0 }; seat = seat_with view_old refl; batch = record { units = []; room = 1024 }; tail = tail_old };
+      sink = record d.sink { now = [] };
+      voice = Lines;
+      tally = record { done = 0; refused = 0 };
+      fault = None;
+    }
 
-  abbrev new : Daemon ℕ (List ℕ)
-  new = record {
-    flusher = record d.flusher { disk = record d.flusher.disk { now = 1 }; seat = seat_with view_new refl; batch = record { units = []; room = 1024 }; tail = tail_new };
-    sink = record d.sink { now = end_lines 4 transfer_records };
-    voice = Lines;
-    tally = record { done = 1; refused = 0 };
-    fault = None;
-  }
+    abbrev new : Daemon ℕ (List ℕ)
+    new = record {
+      flusher = record d.flusher { disk = record d.flusher.disk { now = 1 }; seat = seat_with view_new refl; batch = record { units = []; room = 1024 }; tail = tail_new };
+      sink = record d.sink { now = end_lines 4 transfer_records };
+      voice = Lines;
+      tally = record { done = 1; refused = 0 };
+      fault = None;
+    }
 
-  may-turn : MayTurn (plain_disk file_at) new
-  may-turn = record {
-    flusher = record {
-      seat = record { table_is = of.table_is; no_slots = refl; ring = sym ring; slots = sym slots };
-      flusher = refl;
-      unread = refl;
-      seen = (0, omega arith, refl);
-      next = refl;
-      place = omega (
-        arith,
-        length-append (batch (units_of genesis_log)) (OPEN ∷ batch (units_of transfer_records) ++ []),
-        length-append (batch (units_of transfer_records)) [],
-        length-batch (batch (units_of genesis_log)) (units_of genesis_log) [] (sym (append-nil (batch (units_of genesis_log)))),
-        length-batch (batch (units_of transfer_records)) (units_of transfer_records) [] (sym (append-nil (batch (units_of transfer_records)))),
-      );
-      shut = λ honest. shut-at file_at 1 tail_new.at (written (units_of genesis_log ∷ units_of transfer_records ∷ [])) refl refl;
-      room = omega (arith, ring);
-    };
-    fine = refl;
-    running = refl;
-    counted = omega arith;
-  }
-
-  -- what all images held at first are the units of the opened list
-  opening-is : (opening : List ℕ) → ((bytes : List ℕ) → bytes ≡ file_at 0 → StandsAt tail_old (opening ++ []) bytes) → opening ≡ units_of genesis_log
-  opening-is opening stand = sym (append-nil opening)
-      ∙ one_reading-units (file_at 0) (opening ++ []) (units_of genesis_log)
-      (holds tail_old (opening ++ []) (file_at 0) (stand (file_at 0) refl)) (holds tail_old (units_of genesis_log) (file_at 0) stands-old)
-
-  stands-later : (opening : List ℕ) → ((bytes : List ℕ) → bytes ≡ file_at 0 → StandsAt tail_old (opening ++ []) bytes)
-      → (bytes : List ℕ) → bytes ≡ file_at 1 → StandsAt tail_new (opening ++ units_of transfer_records) bytes
-  stands-later opening stand bytes is =
-      subst (λ (units : List ℕ). StandsAt tail_new (units ++ units_of transfer_records) bytes) (sym (opening-is opening stand))
-      (subst (StandsAt tail_new (units_of genesis_log ++ units_of transfer_records)) (sym is) stands-new)
-
-  moments : (opening : List ℕ) → ((bytes : List ℕ) → bytes ≡ file_at 0 → StandsAt tail_old (opening ++ []) bytes)
-      → Leaves (plain_disk file_at).moment (plain_disk file_at).images_since (HoldsFront (opening ++ []) (transfer_records ++ [])) 0 1
-  moments opening stand = record { later = omega arith; each = each }
-    where
-      each : (from : ℕ) (bytes : List ℕ) → from ≤ 0 → (moment : ℕ) × (from ≤ moment) × (moment ≤ 1) × (bytes ≡ file_at moment)
-          → ((moment : ℕ) × (from ≤ moment) × (moment ≤ 0) × (bytes ≡ file_at moment)) ⊎ HoldsFront (opening ++ []) (transfer_records ++ []) bytes
-      each from bytes early (zero, after, before, is) = inl (0, after, omega arith, is)
-      each from bytes early (suc moment, after, before, is) = inr (record {
-        front = transfer_records;
-        rest = [];
-        whole = refl;
-        holds = subst (λ (first : List ℕ). HoldsUnits bytes (first ++ units_of transfer_records)) (sym (append-nil opening))
-            (holds tail_new (opening ++ units_of transfer_records) bytes (stands-later opening stand bytes is));
-      })
-
-  -- the batch of the transfer takes 45 bytes, for five units
-  tails : tail_new.at ≤ tail_old.at + 13 * 5
-  tails = omega (
-    arith,
-    length-append (batch (units_of genesis_log)) [],
-    length-append (batch (units_of genesis_log)) (OPEN ∷ batch (units_of transfer_records) ++ []),
-    length-append (batch (units_of transfer_records)) [],
-    length-batch (batch (units_of transfer_records)) (units_of transfer_records) [] (sym (append-nil (batch (units_of transfer_records)))),
-  )
-
-  ran : Ran (plain_disk file_at) plain_sink old new
-  ran = record {
-    was_fine = refl;
-    more = transfer_records;
-    cut = [];
-    text = end_lines 4 transfer_records;
-    spellable = transfer-spellable;
-    same = record {
+    may-turn : MayTurn (plain_disk file_at) new
+    may-turn = record {
       flusher = record {
-        table = refl;
-        seat = record { table_is = refl; slots = refl; constants = refl; entries = refl; books = refl };
-        workers = refl;
-        disk = refl;
-        honest = (λ honest. honest, λ honest. honest);
-        attached = refl;
-        later = omega arith;
+        seat = record { table_is = of.table_is; no_slots = refl; ring = sym ring; slots = sym slots };
+        flusher = refl;
+        unread = refl;
+        seen = (0, omega arith, refl);
+        next = refl;
+        place = omega (
+          arith,
+          length-append (batch (units_of genesis_log)) (OPEN ∷ batch (units_of transfer_records) ++ []),
+          length-append (batch (units_of transfer_records)) [],
+          length-batch (batch (units_of genesis_log)) (units_of genesis_log) [] (sym (append-nil (batch (units_of genesis_log)))),
+          length-batch (batch (units_of transfer_records)) (units_of transfer_records) [] (sym (append-nil (batch (units_of transfer_records)))),
+        );
+        shut = λ honest. shut-at file_at 1 tail_new.at (written (units_of genesis_log ∷ units_of transfer_records ∷ [])) refl refl;
+        room = omega (arith, ring);
       };
-      sink = refl;
-      voice = refl;
-    };
-    constants = refl;
-    sent = refl;
-    in_flight = (refl, refl);
-    may_turn = λ fine. may-turn;
-    moments = λ honest opening stand. moments opening stand;
-    prefix = λ fault honest opening stand. stands-later opening stand;
-    torn = λ honest opening stand bytes is. inl (holds tail_new (opening ++ units_of transfer_records) bytes (stands-later opening stand bytes is));
-    appended = refl;
-    front = λ failed. absurd (none≢some WriteFault failed);
-    all = λ fault. (refl, refl);
-    reason = record {
-      stop = refl;
-      disk = record { counted = λ failed. absurd (none≢some DiskFault failed); fine = λ sent. refl };
-      sink = record { counted = λ failed. absurd (none≢some WriteFault failed); fine = λ written. refl };
-    };
-    count = λ honest. omega arith;
-    tail = tails;
-    grows = λ honest. omega (
-      arith,
-      length-append (written (units_of genesis_log ∷ units_of transfer_records ∷ [])) (CLOSED ∷ []),
-      tails,
-    );
-  }
+      fine = refl;
+      running = refl;
+      counted = omega arith;
+    }
 
-  pub payment-made : HasMadePayment
-  payment-made = record {
-    jobs = jobs;
-    shares = shares;
-    key = key;
-    old = old;
-    new = new;
-    view = view;
-    rows = rows;
-    known = record {
-      log = opened;
-      fresh = record { constants = refl; sent = refl; stop = refl; fine = refl };
-      later = inr ran;
-      sending = refl;
+    -- what all images held at first are the units of the opened list
+    opening-is : (opening : List ℕ) → ((bytes : List ℕ) → bytes ≡ file_at 0 → StandsAt tail_old (opening ++ []) bytes) → opening ≡ units_of genesis_log
+    opening-is opening stand = sym (append-nil opening)
+        ∙ one_reading-units (file_at 0) (opening ++ []) (units_of genesis_log)
+        (holds tail_old (opening ++ []) (file_at 0) (stand (file_at 0) refl)) (holds tail_old (units_of genesis_log) (file_at 0) stands-old)
+
+    stands-later : (opening : List ℕ) → ((bytes : List ℕ) → bytes ≡ file_at 0 → StandsAt tail_old (opening ++ []) bytes)
+        → (bytes : List ℕ) → bytes ≡ file_at 1 → StandsAt tail_new (opening ++ units_of transfer_records) bytes
+    stands-later opening stand bytes is =
+        subst (λ (units : List ℕ). StandsAt tail_new (units ++ units_of transfer_records) bytes) (sym (opening-is opening stand))
+        (subst (StandsAt tail_new (units_of genesis_log ++ units_of transfer_records)) (sym is) stands-new)
+
+    moments : (opening : List ℕ) → ((bytes : List ℕ) → bytes ≡ file_at 0 → StandsAt tail_old (opening ++ []) bytes)
+        → Leaves (plain_disk file_at).moment (plain_disk file_at).images_since (HoldsFront (opening ++ []) (transfer_records ++ [])) 0 1
+    moments opening stand = record { later = omega arith; each = each }
+      where
+        each : (from : ℕ) (bytes : List ℕ) → from ≤ 0 → (moment : ℕ) × (from ≤ moment) × (moment ≤ 1) × (bytes ≡ file_at moment)
+            → ((moment : ℕ) × (from ≤ moment) × (moment ≤ 0) × (bytes ≡ file_at moment)) ⊎ HoldsFront (opening ++ []) (transfer_records ++ []) bytes
+        each from bytes early (zero, after, before, is) = inl (0, after, omega arith, is)
+        each from bytes early (suc moment, after, before, is) = inr (record {
+          front = transfer_records;
+          rest = [];
+          whole = refl;
+          holds = subst (λ (first : List ℕ). HoldsUnits bytes (first ++ units_of transfer_records)) (sym (append-nil opening))
+              (holds tail_new (opening ++ units_of transfer_records) bytes (stands-later opening stand bytes is));
+        })
+
+    -- the batch of the transfer takes 45 bytes, for five units
+    tails : tail_new.at ≤ tail_old.at + 13 * 5
+    tails = omega (
+      arith,
+      length-append (batch (units_of genesis_log)) [],
+      length-append (batch (units_of genesis_log)) (OPEN ∷ batch (units_of transfer_records) ++ []),
+      length-append (batch (units_of transfer_records)) [],
+      length-batch (batch (units_of transfer_records)) (units_of transfer_records) [] (sym (append-nil (batch (units_of transfer_records)))),
+    )
+
+    ran : Ran (plain_disk file_at) plain_sink old new
+    ran = record {
+      was_fine = refl;
+      more = transfer_records;
+      cut = [];
+      text = end_lines 4 transfer_records;
+      spellable = transfer-spellable;
+      same = record {
+        flusher = record {
+          table = refl;
+          seat = record { table_is = refl; slots = refl; constants = refl; entries = refl; books = refl };
+          workers = refl;
+          disk = refl;
+          honest = (λ honest. honest, λ honest. honest);
+          attached = refl;
+          later = omega arith;
+        };
+        sink = refl;
+        voice = refl;
+      };
       constants = refl;
-      drained = λ fine. record { quiet = refl; looked = refl; all = refl };
-      workers = workers;
-      gathered = gathered;
-      settled = settled;
-    };
-    script = refl;
-    list = refl;
-    fine = refl;
-    text = append-nil (done_line 1 9);
-  }
+      sent = refl;
+      in_flight = (refl, refl);
+      may_turn = λ fine. may-turn;
+      moments = λ honest opening stand. moments opening stand;
+      prefix = λ fault honest opening stand. stands-later opening stand;
+      torn = λ honest opening stand bytes is. inl (holds tail_new (opening ++ units_of transfer_records) bytes (stands-later opening stand bytes is));
+      appended = refl;
+      front = λ failed. absurd (none≢some WriteFault failed);
+      all = λ fault. (refl, refl);
+      reason = record {
+        stop = refl;
+        disk = record { counted = λ failed. absurd (none≢some DiskFault failed); fine = λ sent. refl };
+        sink = record { counted = λ failed. absurd (none≢some WriteFault failed); fine = λ written. refl };
+      };
+      count = λ honest. omega arith;
+      tail = tails;
+      grows = λ honest. omega (
+        arith,
+        length-append (written (units_of genesis_log ∷ units_of transfer_records ∷ [])) (CLOSED ∷ []),
+        tails,
+      );
+    }
+
+    pub payment-made : HasMadePayment
+    payment-made = record {
+      jobs = jobs;
+      shares = shares;
+      key = key;
+      old = old;
+      new = new;
+      view = view;
+      rows = rows;
+      known = record {
+        log = opened;
+        fresh = record { constants = refl; sent = refl; stop = refl; fine = refl };
+        later = inr ran;
+        sending = refl;
+        constants = refl;
+        drained = λ fine. record { quiet = refl; looked = refl; all = refl };
+        workers = workers;
+        gathered = gathered;
+        settled = settled;
+        heard = tt;
+      };
+      script = refl;
+      list = refl;
+      fine = refl;
+      text = append-nil (done_line 1 9);
+    }

@@ -1,6 +1,6 @@
 //! Laws of the definitions. The functions do nothing.
 
-ghost use Rattle.std.specs.Prelude.{◌≡◌, ◌≢◌, ◌++◌, ℕ, List, Option, None, ◌≤◌, ◌+◌, ◌*◌, [], Some};
+ghost use Rattle.std.specs.Prelude.{◌≡◌, ◌≢◌, ◌⊎◌, ◌++◌, ℕ, List, Option, None, ◌≤◌, ◌+◌, ◌*◌, ◌/◌, [], Some};
 ghost use Rattle.std.specs.Io.KnownBytes.{Appends};
 ghost use Rattle.std.specs.List.{AllByRecursion};
 ghost use mathlib.Core.Option.{some};
@@ -33,7 +33,7 @@ ghost use Rattle.cli_shared.specs.Answers.{status_of};
 ghost use Rattle.cli_shared.specs.Creation.{genesis_list};
 ghost use Rattle.cli_threads.specs.Run.{HoldsRun, RunKeepsLog, RunIsDrained, RunsWhole};
 ghost use Rattle.cli_run.specs.RunAnswers.{Outside, HoldsTold, run_text};
-ghost use Rattle.cli_threads.specs.RunStops.{StopsAtLogEnd};
+ghost use Rattle.cli_threads.specs.RunStops.{IsTotalAmong, StopsAtLogEnd};
 ghost use Rattle.cli_laws.specs.RunWitness.{HasMadePayment, HasHitLogEnd};
 ghost use Rattle.cli_threads.specs.Shares.{Share};
 ghost use Rattle.cli_laws.specs.Told.{HasLine, HasCommitAt, HasToldPayment};
@@ -84,7 +84,7 @@ pub fn run_keeps_log<D: LogDisk, K: Sink>()
         (lsn : ℕ) (rows : List (ℕ × ℕ)) → HasTransferred D.LogDisk K.Sink opened jobs shares key old new view lsn rows
         → new.fault ≡ None
         → (worker : ℕ) (taken : List ℕ) (tail total : ℕ) → get_elem? shares worker ≡ some (record { taken = taken; worked = Worked.Cut (Cause.LogEnd tail total) })
-        → StopsAtLogEnd opened jobs (records_of view.entries) tail total }
+        → StopsAtLogEnd opened jobs (records_of view.entries) key.ring key.slots tail total }
     ensures stop { (opened : List Rec) (jobs : Jobs) (shares : List Share) (key : Start) (old new : Daemon D K) (view : View)
         (lsn : ℕ) (rows : List (ℕ × ℕ)) → HasTransferred D.LogDisk K.Sink opened jobs shares key old new view lsn rows
         → new.fault ≡ None
@@ -95,6 +95,16 @@ pub fn run_keeps_log<D: LogDisk, K: Sink>()
     ensures same { (opened : List Rec) (jobs : Jobs) (shares : List Share) (key : Start) (old new : Daemon D K) (view : View)
         (lsn : ℕ) (rows : List (ℕ × ℕ)) → HasTransferred D.LogDisk K.Sink opened jobs shares key old new view lsn rows
         → IsSameDaemon D.LogDisk old new }
+{}
+
+/// A law: the total that is told at the end of the log is the record's own size where there are no slots, and with one worker. It is
+/// never below that size, and at most 26 units for each worker; a group's is at most a quarter of the ring.
+pub fn total_at_the_log_end()
+    ensures own { (ring slots workers size total : ℕ) → IsTotalAmong ring slots workers size total → (slots ≡ 0) ⊎ (workers ≡ 1) → total ≡ size }
+    ensures least { (ring slots workers size total : ℕ) → IsTotalAmong ring slots workers size total → size ≤ total }
+    ensures most { (ring slots workers size total : ℕ) → IsTotalAmong ring slots workers size total → 1 ≤ workers → size ≤ 26
+        → total ≤ 26 * workers }
+    ensures quarter { (ring slots workers size total : ℕ) → IsTotalAmong ring slots workers size total → (total ≡ size) ⊎ (total ≤ ring / 4) }
 {}
 
 /// A law: a `done` line that was written whole is of a Commit in the list of each image, which ends at the LSN of the line.

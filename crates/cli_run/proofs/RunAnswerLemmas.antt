@@ -32,6 +32,7 @@ use Rattle.cli_ending.specs.declared.conclusion.Ended.{Ended}
 use Rattle.cli_ending.specs.Ending.{Concludes, closed_text}
 use Rattle.cli_threads.specs.Ending.{HasEnded}
 use Rattle.cli_threads.specs.Run.{GoesOn, HoldsRun, RunIsDrained}
+use Rattle.cli_threads.specs.RunStops.{StopsAtLogEnd}
 use Rattle.cli_run.specs.RunAnswers.{AnswersRun, HoldsTold, IsOfRun, Ran, RanOut, RanShort, RunStaysSilent, Outside, outside, run_text}
 use Rattle.cli_run.specs.RunReady.{IsBeforeRun, IsReadyFor}
 use Rattle.cli_run.proofs.ReadyLemmas.{keeps-refl}
@@ -197,7 +198,8 @@ module _ {D : Type 0} {K : Type 0} (g : Ghosts D) (h : SinkGhosts K) (options : 
       })
       (λ tail total said. let text = told-lines said.0.0 said.1 in record {
         out = out said.0.0 (end_lines (end_of opened) records, accounts_text (opened ++ records), refl, text);
-        stops = stops-ended g h ready.prepared opened Lines disk disk_new sink sink_mid ended has said.0.0 tail total said.0.1;
+        stops = subst (λ (made : ℕ × ℕ). StopsAtLogEnd opened jobs records made.0 made.1 tail total) (λ i. (is.ring i, is.slots i))
+            (stops-ended g h ready.prepared opened Lines disk disk_new sink sink_mid ended has said.0.0 tail total said.0.1);
         text = text;
       })
 

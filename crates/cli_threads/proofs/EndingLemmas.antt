@@ -177,7 +177,8 @@ module _ {D : Type 0} {K : Type 0} (g : Ghosts D) (h : SinkGhosts K) (prepared :
             ended.closed.accounts.rows has.transferred (has.fault ∙ fine) k found.0.taken word
             (found.1 ∙ (λ i. some (record { taken = found.0.taken; worked = stopped i })))
 
-    pub stops-ended : (tail total : ℕ) → IsFirstLogEnd ended.ends.items tail total → StopsAtLogEnd opened prepared.jobs list tail total
+    pub stops-ended : (tail total : ℕ) → IsFirstLogEnd ended.ends.items tail total
+        → StopsAtLogEnd opened prepared.jobs list (key_of prepared.table).ring (key_of prepared.table).slots tail total
     stops-ended tail total first =
         let ends = has.ends ∙ first.whole in
         let counted = ap length ends in

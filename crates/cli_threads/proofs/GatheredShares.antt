@@ -9,6 +9,7 @@ use Rattle.std.specs.Option.{unwrap_or}
 use mathlib.Core.Option.{some, some-injective, some-ne-none}
 use lib.ListN.{get_elem?}
 use Rattle.lsn_space.proofs.TilingLemmas.{all-weaker as all-fewer}
+use Rattle.log_record.specs.LogList.{size_of}
 use Rattle.lock_core.specs.Records.{txn_of}
 use Rattle.log_table.specs.declared.table.LogTable.{LogTable}
 use Rattle.log_table.specs.declared.view.Entry.{Entry}
@@ -24,7 +25,8 @@ use Rattle.txn_jobs.specs.declared.cause.Cause.TheVariants.{Stop, LogEnd}
 use Rattle.txn_jobs.specs.declared.cause.Worked.{Worked}
 use Rattle.txn_jobs.specs.declared.cause.Worked.TheVariants.{All, Cut}
 use Rattle.txn_jobs.specs.declared.jobs.Jobs.{Jobs}
-use Rattle.txn_runner.specs.Running.{account_given, IsUncommittedAt}
+use Rattle.txn_runner.specs.Running.{account_given, IsTotalFor, IsTotalOfSeat, IsHeard, IsUncommittedAt}
+use Rattle.ring_buffer.proofs.TotalLemmas.{IsTotalFor-weaker}
 use Rattle.txn_runner.specs.Places.{number_at, job_at, place_of, jobs_taken, stripe_places, IsOneOf, HasAllIfDone}
 use Rattle.txn_runner.specs.Working.{EndsLog, HasEnd, HaveEnded, IsCutBy, LieInTurn, Works, places_taken, taken_in}
 use Rattle.txn_runner.proofs.EntryLemmas.{LieInOrder-ends}
@@ -49,6 +51,19 @@ numbers-apart jobs worker other j k below below_too apart same = by_order (cases
         let next : j + 1 ≤ k = omega arith in let more = mul-le-mul_left jobs.workers next in absurd (omega (arith, more, same))
     by_order (inr (inr more)) =
         let next : k + 1 ≤ j = omega arith in let less = mul-le-mul_left jobs.workers next in absurd (omega (arith, less, same))
+
+-- what was asked for, by a seat that another takes in, whose table has such a ring and so many slots too
+asked-first : (view other : View) (size total : ℕ) → IsTotalOfSeat view size total → IsTotalOfSeat (takes_in view other) size total
+asked-first view other size total asked = IsTotalFor-weaker view.constants.ring view.constants.slots (IsHeard view.seen.refusals)
+    (IsHeard (takes_in view other).seen.refusals) size total
+    (Contains-append_left view.seen.refusals other.seen.refusals (record { size = size; total = total })) asked
+
+asked-second : (view other : View) (size total : ℕ) → other.constants.ring ≡ view.constants.ring → other.constants.slots ≡ view.constants.slots
+    → IsTotalOfSeat other size total → IsTotalOfSeat (takes_in view other) size total
+asked-second view other size total ring slots asked =
+    subst (λ (made : ℕ × ℕ). IsTotalFor made.0 made.1 (IsHeard (takes_in view other).seen.refusals) size total) (λ i. (ring i, slots i))
+    (IsTotalFor-weaker other.constants.ring other.constants.slots (IsHeard other.seen.refusals) (IsHeard (takes_in view other).seen.refusals) size total
+    (Contains-append_right view.seen.refusals other.seen.refusals (record { size = size; total = total })) asked)
 
 -- what is known of a worker that is done
 pub served : (table : LogTable) (jobs : Jobs) (wait : Bool) (worker : Worker) → IsDone table jobs wait worker → HasServed table jobs wait worker (worked_of worker)
@@ -140,7 +155,7 @@ module _ (jobs : Jobs) where
         plan = ap (λ l. l ++ was.next ∷ was.rest) (merged-others (number_at jobs place) view.entries (view_in other).entries
             (all-weaker _ _ (view_in other).entries (λ entry own. own-apart taken others place (txn_of entry.rec) apart has own)
             done.has.own)) ∙ was.plan;
-        size = was.size;
+        asked = asked-first view (view_in other) (size_of was.next) total was.asked;
         too_long = was.too_long;
         seen = Contains-append_left view.seen.lsns (view_in other).seen.lsns tail was.seen;
         alone = λ one. absurd (two one);
@@ -178,7 +193,8 @@ module _ (jobs : Jobs) where
       (done : HasServed table jobs wait worker (worked_of worker)) (lacks : LacksFrom worker.seat.worker view.entries)
       (first : jobs.workers ≡ 1 → view.entries ≡ [])
       (sized : AllByRecursion (λ (entry : Entry). 1 ≤ entry.size) (view_in worker).entries)
-      (stop : HasReadStop view.sending.stop (view_in worker)) where
+      (stop : HasReadStop view.sending.stop (view_in worker))
+      (ring : view.constants.ring ≡ table.ring) (slots : view.constants.slots ≡ table.slots) where
     abbrev own : View
     own = view_in worker
 
@@ -239,7 +255,7 @@ module _ (jobs : Jobs) where
       plan = ap (λ l. l ++ cut.next ∷ cut.rest) (merged-own (number_at jobs place) view.entries own.entries
           (all-weaker _ _ view.entries (lacks-at place has) lacks)
           (Rises-in_order 0 own.seen.tail own.entries done.has.below sized)) ∙ cut.plan;
-      size = cut.size;
+      asked = asked-second view own (size_of cut.next) total (done.seat.ring ∙ sym ring) (done.seat.slots ∙ sym slots) cut.asked;
       too_long = cut.too_long;
       seen = Contains-append_right view.seen.lsns own.seen.lsns tail cut.seen;
       alone = alone-ends tail cut.tail_is;
@@ -301,20 +317,21 @@ module _ (jobs : Jobs) where
         → (view : View) → LacksFrom number view.entries → (number ≡ 0 → view.entries ≡ [])
         → AllByRecursion (λ (worker : Worker). AllByRecursion (λ (entry : Entry). 1 ≤ entry.size) (view_in worker).entries) workers
         → AllByRecursion (HasReadStop view.sending.stop) (map view_in workers)
+        → view.constants.ring ≡ table.ring → view.constants.slots ≡ table.slots
         → (i : ℕ) (share : Share) → get_elem? (map (share_of jobs) workers) i ≡ some share
         → HasShare jobs share (takes_all view (map view_in workers))
-    HasShare-all number [] done few view lacks first sized stops i share at = absurd (some-ne-none share (sym at))
-    HasShare-all number (worker ∷ workers) done few view lacks first sized stops zero share at =
+    HasShare-all number [] done few view lacks first sized stops ring slots i share at = absurd (some-ne-none share (sym at))
+    HasShare-all number (worker ∷ workers) done few view lacks first sized stops ring slots zero share at =
         let is = done.0.0 in
         let taken = HasShare-taken table view worker (omega (arith, few, is)) (served table jobs wait worker done.0.1)
-        (subst (λ n. LacksFrom n view.entries) (sym is) lacks) (λ one. first (omega (arith, one, few))) sized.0 stops.0 in
+        (subst (λ n. LacksFrom n view.entries) (sym is) lacks) (λ one. first (omega (arith, one, few))) sized.0 stops.0 ring slots in
         subst (λ s. HasShare jobs s (takes_all view (map view_in (worker ∷ workers)))) (some-injective (share_of jobs worker) share at)
         (HasShare-keeps_all (number + 1) workers done.1 (omega (arith, few)) (takes_in view (view_in worker)) worker.seat.worker
         (taken_in worker.rows) (share_of jobs worker) (omega (arith, is)) refl taken)
-    HasShare-all number (worker ∷ workers) done few view lacks first sized stops (suc i) share at =
+    HasShare-all number (worker ∷ workers) done few view lacks first sized stops ring slots (suc i) share at =
         let lacks_next = LacksFrom-next table view worker number done.0.0 (omega (arith, few)) (served table jobs wait worker done.0.1) lacks in
         HasShare-all (number + 1) workers done.1 (omega (arith, few)) (takes_in view (view_in worker)) lacks_next
-        (λ none. absurd (omega (arith, none))) sized.1 stops.1 i share at
+        (λ none. absurd (omega (arith, none))) sized.1 stops.1 ring slots i share at
 
     -- each took the first places of its stripe
     IsStripeOf-all : (number : ℕ) (workers : List Worker) → AreDoneFrom number workers → (i : ℕ) (share : Share)
@@ -357,15 +374,16 @@ sized (entry ∷ entries) full spelled =
 -- Once the flusher's seat took in the seats of all workers, each done, and nothing before them, it has their shares.
 pub HasGathered-all : (table : LogTable) (jobs : Jobs) (wait : Bool) (workers : List Worker) → AreDone table jobs wait workers → length workers ≡ jobs.workers
     → (view : View) → view.entries ≡ [] → view.books.jobs ≡ [] → AllByRecursion (HasReadStop view.sending.stop) (map view_in workers)
+    → view.constants.ring ≡ table.ring → view.constants.slots ≡ table.slots
     → (lsn : ℕ) → IsGathered lsn (takes_all view (map view_in workers))
     → HasGathered jobs (map (share_of jobs) workers) (takes_all view (map view_in workers))
-HasGathered-all table jobs wait workers done count view no_entries no_jobs stops lsn gathered =
+HasGathered-all table jobs wait workers done count view no_entries no_jobs stops ring slots lsn gathered =
     let all = takes_all view (map view_in workers) in
     let sizes = all-each (λ (entry : Entry). 1 ≤ entry.size) view workers (sized all.entries gathered.full gathered.spelled) in
     record {
       count = length-map workers (share_of jobs) ∙ count;
       taken = jobs-all jobs table wait 0 workers done view ∙ ap (λ l. l ++ all_taken jobs (map (share_of jobs) workers)) no_jobs;
       each = HasShare-all jobs table wait 0 workers done (omega (arith, count)) view (subst (LacksFrom jobs 0) (sym no_entries) tt)
-          (λ none. no_entries) sizes.1 stops;
+          (λ none. no_entries) sizes.1 stops ring slots;
       stripes = λ i share at. subst (λ n. IsStripeOf jobs n share) (zero-add i) (IsStripeOf-all jobs table wait 0 workers done i share at);
     }

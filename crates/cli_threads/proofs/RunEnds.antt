@@ -11,7 +11,7 @@ use Rattle.lsn_space.specs.Tiling.{IsTiling}
 use Rattle.lsn_space.proofs.TilingLemmas.{all-weaker}
 use Rattle.log_record.specs.declared.rec.Rec.{Rec}
 use Rattle.log_record.specs.declared.rec.Placed.{Placed}
-use Rattle.log_record.specs.LogList.{units_of, end_of}
+use Rattle.log_record.specs.LogList.{size_of, units_of, end_of}
 use Rattle.log_record.proofs.LogListLemmas.{front_is_boundary}
 use Rattle.lock_core.specs.Alone.{outcome_alone}
 use Rattle.lock_core.specs.History.{history}
@@ -28,13 +28,15 @@ use Rattle.log_table.specs.Books.{task_of}
 use Rattle.lock_core.specs.Transfers.{transfer_of}
 use Rattle.log_table.specs.Closing.{records_of, IsGathered}
 use Rattle.log_table.specs.Log.{IsEntryBoundary}
+use Rattle.log_table.specs.Members.{IsRefusalOf}
 use Rattle.txn_jobs.specs.declared.cause.Cause.TheVariants.{Stop, LogEnd}
 use Rattle.txn_jobs.specs.declared.cause.Worked.{Worked}
 use Rattle.txn_jobs.specs.declared.cause.Worked.TheVariants.{All, Cut}
 use Rattle.txn_jobs.specs.declared.jobs.Jobs.{Jobs}
 use Rattle.txn_runner.specs.Places.{number_at, job_at, place_of, stripe_places, IsStripeEnd, HasStripe, HasAllIfDone}
+use Rattle.txn_runner.specs.Running.{IsTotalOfSeat}
 use Rattle.txn_runner.specs.Working.{HasEnd, own_records}
-use Rattle.cli_threads.specs.RunStops.{FoundNoRoom, WasCutForRoom, IsOfScript, IsWholeStripe, IsCutStripe, HadBalance, HadBalances, HasNextOf, StopsAtLogEnd}
+use Rattle.cli_threads.specs.RunStops.{FoundNoRoom, WasCutForRoom, IsOfScript, IsWholeStripe, IsCutStripe, IsTotalAmong, HadBalance, HadBalances, HasNextOf, StopsAtLogEnd}
 use Rattle.cli_threads.specs.Shares.{Share, all_taken, IsGivenUncommitted, AreGivenUncommitted, EndsLogAt, HasGathered}
 use Rattle.cli_threads.proofs.CameAlong.{CameAlong, came-along}
 use Rattle.cli_threads.proofs.RunHistory.{later_of, history-own}
@@ -130,7 +132,8 @@ module _ (opened : List Rec) (jobs : Jobs) (view : View) (below : greatest_txn (
       (All-from_recursion _ view.books.given had) is.contains is.uncommitted)
 
   -- what comes next of the transfer that was cut off
-  next-of : HadThem → (place tail total : ℕ) → EndsLogAt jobs place tail total view → HasNextOf (opened ++ list) jobs place tail total
+  next-of : HadThem → (place tail total : ℕ) → (ends : EndsLogAt jobs place tail total view)
+      → HasNextOf (opened ++ list) jobs place tail (size_of ends.next)
   next-of had place tail total ends =
       let n : ℕ = number_at jobs place in
       let transfer = transfer_of (job_at jobs place) in
@@ -144,7 +147,7 @@ module _ (opened : List Rec) (jobs : Jobs) (view : View) (below : greatest_txn (
         rest = all_without_prev ends.rest;
         plan = ap (λ records. in_order (all_without_prev records) (without_prev ends.next ∷ all_without_prev ends.rest)) (own-later n (omega arith))
             ∙ planned-next n transfer ends.marks ends.balances (own_records_of n later) ends.rest ends.next (plan ∙ ends.plan);
-        size = ends.size ∙ sym (size-without_prev ends.next);
+        size = sym (size-without_prev ends.next);
       }
 
   -- ---- where the log ended
@@ -176,10 +179,26 @@ module _ (opened : List Rec) (jobs : Jobs) (view : View) (below : greatest_txn (
       let high = tiled-below view.constants.start lsn tail view.entries whole.tiles all (omega (arith, front.3, start, front_size)) in
       omega (arith, front.3, start, end, high, whole_size, front_size, list_size)
 
+  -- each group of whose refusal a worker heard was one of these workers
+  abbrev HeardThem : Type 0
+  HeardThem = AllByRecursion (IsRefusalOf jobs.workers) view.seen.refusals
+
+  -- a worker asked for no more than a group of all of them could
+  asked-among : HeardThem → (size total : ℕ) → IsTotalOfSeat view size total
+      → IsTotalAmong view.constants.ring view.constants.slots jobs.workers size total
+  asked-among heard size total (inl own) = inl own
+  asked-among heard size total (inr group) =
+      let most : total + 26 ≤ size + 26 * jobs.workers = All-contains (IsRefusalOf jobs.workers) view.seen.refusals (record { size = size; total = total })
+      (All-from_recursion (IsRefusalOf jobs.workers) view.seen.refusals heard) group.known in
+      let within = group.within in
+      let some = jobs.shared in
+      dite (dec_lt 1 jobs.workers) (λ more. inr (record { grouped = group.grouped; within = within; few = group.few; known = (more, most) }))
+      (λ one. inl (omega arith))
+
   -- what the transfer at this place, which was cut off, found
-  no-room : HadThem → (lsn : ℕ) → IsGathered lsn view → view.constants.start ≡ end_of opened → (place tail total : ℕ)
-      → EndsLogAt jobs place tail total view → FoundNoRoom (opened ++ list) jobs place tail total
-  no-room had lsn whole start place tail total ends =
+  no-room : HadThem → HeardThem → (lsn : ℕ) → IsGathered lsn view → view.constants.start ≡ end_of opened → (place tail total : ℕ)
+      → EndsLogAt jobs place tail total view → FoundNoRoom (opened ++ list) jobs view.constants.ring view.constants.slots place tail total
+  no-room had heard lsn whole start place tail total ends =
       let front = tail-front lsn tail whole start ends.seen in
       let end = tiling-end view.constants.start lsn view.entries whole.full whole.spelled whole.tiles in
       record {
@@ -187,20 +206,22 @@ module _ (opened : List Rec) (jobs : Jobs) (view : View) (below : greatest_txn (
         boundary = front_is_boundary (opened ++ list) tail
             (opened ++ front.0, front.1, ap (λ l. opened ++ l) front.2 ∙ sym (append_assoc opened front.0 front.1), front.3);
         alone = λ one. alone lsn tail whole start end front (ends.alone one);
+        units = size_of ends.next;
         next = next-of had place tail total ends;
+        asked = asked-among heard (size_of ends.next) total ends.asked;
       }
 
-  cut-stripe : (shares : List Share) → HasGathered jobs shares view → IsTakenAlone shares → HadThem → (lsn : ℕ) → IsGathered lsn view
+  cut-stripe : (shares : List Share) → HasGathered jobs shares view → IsTakenAlone shares → HadThem → HeardThem → (lsn : ℕ) → IsGathered lsn view
       → view.constants.start ≡ end_of opened → (worker tail total : ℕ) (share : Share) → get_elem? shares worker ≡ some share
       → share.worked ≡ Cut (LogEnd tail total)
       → (stripe : IsCutStripe jobs worker (history (opened ++ list)))
-      × FoundNoRoom (opened ++ list) jobs (place_of jobs worker stripe.cut) tail total
-  cut-stripe shares gathered others had lsn whole start worker tail total share at is =
+      × FoundNoRoom (opened ++ list) jobs view.constants.ring view.constants.slots (place_of jobs worker stripe.cut) tail total
+  cut-stripe shares gathered others had heard lsn whole start worker tail total share at is =
       let came = subst (λ (w : Worked). CameAlong jobs worker (length share.taken) w view) is (along shares gathered worker share at) in
       let stripe = stripe-of jobs shares gathered.count gathered.stripes worker share at (gathered.each worker share at).places in
       let j : ℕ = came.0 in
       let place : ℕ = place_of jobs worker j in
-      let found = no-room had lsn whole start place tail total came.3 in
+      let found = no-room had heard lsn whole start place tail total came.3 in
       let next = found.next in
       let n : ℕ = number_at jobs place in (
         record {
@@ -222,27 +243,28 @@ module _ (opened : List Rec) (jobs : Jobs) (view : View) (below : greatest_txn (
       let came = subst (λ (w : Worked). CameAlong jobs worker (length share.taken) w view) is (along shares gathered worker share at) in
       came.3.0 (sym came.3.1 ∙ no_stop)
 
-  each-stripe : (shares : List Share) → HasGathered jobs shares view → IsTakenAlone shares → HadThem → (lsn : ℕ) → IsGathered lsn view
+  each-stripe : (shares : List Share) → HasGathered jobs shares view → IsTakenAlone shares → HadThem → HeardThem → (lsn : ℕ) → IsGathered lsn view
       → view.constants.start ≡ end_of opened → view.sending.stop ≡ 0 → (worker : ℕ) (share : Share)
       → get_elem? shares worker ≡ some share → (worked : Worked) → share.worked ≡ worked
-      → IsWholeStripe jobs worker (history (opened ++ list)) ⊎ WasCutForRoom (opened ++ list) jobs worker
-  each-stripe shares gathered others had lsn whole start no_stop worker share at All is =
+      → IsWholeStripe jobs worker (history (opened ++ list))
+      ⊎ WasCutForRoom (opened ++ list) jobs view.constants.ring view.constants.slots worker
+  each-stripe shares gathered others had heard lsn whole start no_stop worker share at All is =
       inl (whole-stripe worker share (along shares gathered worker share at) is)
-  each-stripe shares gathered others had lsn whole start no_stop worker share at (Cut (Stop word)) is =
+  each-stripe shares gathered others had heard lsn whole start no_stop worker share at (Cut (Stop word)) is =
       absurd (no-stop shares gathered no_stop worker word share at is)
-  each-stripe shares gathered others had lsn whole start no_stop worker share at (Cut (LogEnd tail total)) is =
-      let cut = cut-stripe shares gathered others had lsn whole start worker tail total share at is in
+  each-stripe shares gathered others had heard lsn whole start no_stop worker share at (Cut (LogEnd tail total)) is =
+      let cut = cut-stripe shares gathered others had heard lsn whole start worker tail total share at is in
       inr (record { stripe = cut.0; tail = tail; total = total; no_room = cut.1 })
 
-  pub stops : (shares : List Share) → HasGathered jobs shares view → IsTakenAlone shares → HadThem → (lsn : ℕ) → IsGathered lsn view
+  pub stops : (shares : List Share) → HasGathered jobs shares view → IsTakenAlone shares → HadThem → HeardThem → (lsn : ℕ) → IsGathered lsn view
       → view.constants.start ≡ end_of opened → view.sending.stop ≡ 0 → (worker tail total : ℕ) (share : Share) → get_elem? shares worker ≡ some share
-      → share.worked ≡ Cut (LogEnd tail total) → StopsAtLogEnd opened jobs list tail total
-  stops shares gathered others had lsn whole start no_stop worker tail total share at is =
-      let cut = cut-stripe shares gathered others had lsn whole start worker tail total share at is in
+      → share.worked ≡ Cut (LogEnd tail total) → StopsAtLogEnd opened jobs list view.constants.ring view.constants.slots tail total
+  stops shares gathered others had heard lsn whole start no_stop worker tail total share at is =
+      let cut = cut-stripe shares gathered others had heard lsn whole start worker tail total share at is in
       record {
         stripes = λ other small.
             let found = share-at shares other (let count = gathered.count in omega arith) in
-            each-stripe shares gathered others had lsn whole start no_stop other found.0 found.1 found.0.worked refl;
+            each-stripe shares gathered others had heard lsn whole start no_stop other found.0 found.1 found.0.worked refl;
         worker = worker;
         is_worker = (let inside = share-inside shares worker share at in let count = gathered.count in omega arith);
         stripe = cut.0;

@@ -36,6 +36,7 @@ use Rattle.log_table.specs.Closing.{records_of, IsLedger}
 use Rattle.log_table.specs.Log.{units_in}
 use Rattle.log_table.specs.Seats.{view_of}
 use Rattle.log_table.specs.Sound.{base_of}
+use Rattle.log_table.specs.Views.{constants_of}
 use Rattle.flusher.specs.Flushing.{sent_of}
 use Rattle.commit_pipeline.specs.declared.daemon.Daemon.{Daemon}
 use Rattle.commit_pipeline.specs.EndLines.{text_of}
@@ -130,12 +131,15 @@ module _ {D : Type 0} {K : Type 0} (g : Ghosts D) (h : SinkGhosts K) (opened : L
   ring-is : ring_of old ≡ key.ring
   ring-is = ap (λ (c : Constants). c.ring) known.fresh.constants
 
-  start-view : view.constants.start ≡ end_of opened
-  start-view = ap (λ (c : Constants). c.start) (known.constants ∙ kept known.later ∙ known.fresh.constants) ∙ known.log.start
+  constants-view : view.constants ≡ constants_of key
+  constants-view = known.constants ∙ kept known.later ∙ known.fresh.constants
     where
       kept : Later g h old new → (view_of new.flusher.seat).constants ≡ (view_of old.flusher.seat).constants
       kept (inl is) = ap (λ (d : Daemon D K). (view_of d.flusher.seat).constants) is
       kept (inr ran) = ran.constants
+
+  start-view : view.constants.start ≡ end_of opened
+  start-view = ap (λ (c : Constants). c.start) constants-view ∙ known.log.start
 
   pub sends : RunSends g old.voice opened list (place_of old) (ring_of old) old.flusher.disk.now new.flusher.disk.now (h.held_bytes old.sink.now) (h.held_bytes new.sink.now)
   sends = by_later known.later
@@ -287,9 +291,10 @@ module _ {D : Type 0} {K : Type 0} (g : Ghosts D) (h : SinkGhosts K) (opened : L
         (apart opened list jobs known.log.lawful known.log.some_accounts known.log.below spellable lawful_after serial)) went-back
 
     pub stops-at-end : (worker : ℕ) (taken : List ℕ) (tail total : ℕ) → get_elem? shares worker ≡ some (record { taken = taken; worked = Cut (LogEnd tail total) })
-        → StopsAtLogEnd opened jobs list tail total
-    stops-at-end worker taken tail total at = stops opened jobs view known.log.below shares known.workers ledger.serial.others had lsn known.gathered start-view
-        stop-none worker tail total (record { taken = taken; worked = Cut (LogEnd tail total) }) at refl
+        → StopsAtLogEnd opened jobs list key.ring key.slots tail total
+    stops-at-end worker taken tail total at = subst (λ (c : Constants). StopsAtLogEnd opened jobs list c.ring c.slots tail total) constants-view
+        (stops opened jobs view known.log.below shares known.workers ledger.serial.others had known.heard lsn known.gathered start-view
+        stop-none worker tail total (record { taken = taken; worked = Cut (LogEnd tail total) }) at refl)
 
     pub never-stops : (worker : ℕ) (taken : List ℕ) (word : ℕ) → get_elem? shares worker ≡ some (record { taken = taken; worked = Cut (Stop word) }) → ⊥
     never-stops worker taken word at =

@@ -62,7 +62,7 @@ module _ (jobs : Jobs) where
     next = is.next;
     rest = is.rest;
     plan = is.plan;
-    size = is.size;
+    asked = is.asked;
     too_long = is.too_long;
     tail_is = is.tail_is;
     seen = is.seen;

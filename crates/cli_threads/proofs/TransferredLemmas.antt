@@ -1,5 +1,5 @@
 -- A run's end: the seats are gathered, the table is closed, and what is known then.
-use Rattle.std.proofs.Common.{◌≡◌, ◌∙◌, ℕ, ◌+◌, Bool, true, cond, eqb, List, [], ◌∷◌, length, map, sym, refl, ap, subst, arith, add-one, add-zero, Option, None, Some, IsSome, IsSomeAnd}
+use Rattle.std.proofs.Common.{◌≡◌, ◌∙◌, ℕ, zero, suc, ◌+◌, Bool, true, cond, eqb, List, [], ◌∷◌, length, map, sym, refl, ap, subst, arith, add-one, add-zero, Option, None, Some, IsSome, IsSomeAnd}
 use Rattle.std.specs.List.{AllByRecursion, list_any}
 use Rattle.log_disk.specs.declared.disk.LogDisk.{Ghosts}
 use Rattle.log_disk.specs.declared.sink.Sink.{Ghosts as SinkGhosts}
@@ -9,13 +9,15 @@ use Rattle.log_table.specs.declared.table.LogTable.{LogTable}
 use Rattle.log_table.specs.declared.table.Seat.{Seat}
 use Rattle.log_table.specs.declared.table.Start.{Start}
 use Rattle.log_table.specs.declared.view.Books.{Books}
+use Rattle.log_table.specs.declared.view.Constants.{Constants}
 use Rattle.log_table.specs.declared.view.Role.{Role}
 use Rattle.log_table.specs.declared.view.Role.TheVariants.{Flusher}
 use Rattle.log_table.specs.declared.view.Sending.{Sending}
 use Rattle.log_table.specs.declared.view.Standing.{Standing}
 use Rattle.log_table.specs.declared.view.View.{View}
-use Rattle.log_table.specs.Closing.{IsGathered, IsSettled}
+use Rattle.log_table.specs.Closing.{HasHeardOfWorkers, IsGathered, IsSettled}
 use Rattle.log_table.specs.May.{MayClose}
+use Rattle.log_table.specs.Members.{IsRefusalOf}
 use Rattle.log_table.specs.Seats.{view_of}
 use Rattle.log_table.specs.Sends.{IsDrained}
 use Rattle.log_table.specs.Sound.{HasReadStop, base_of}
@@ -84,6 +86,10 @@ takes_all-merged table jobs wait number (worker ∷ workers) done view below =
     one ∙ ((λ i. named i ∷ below i) ∙ ap hired_numbers (sym (add-one number))) in
     takes_all-merged table jobs wait (number + 1) workers done.1 (takes_in view own) next ∙ ap hired_numbers (omega arith)
 
+length-hired : (n : ℕ) → length (hired_numbers n) ≡ n
+length-hired zero = refl
+length-hired (suc n) = ap suc (length-hired n)
+
 -- a view that sends as another, from the same start, is drained where that is
 IsDrained-same : (view other : View) → view.sending ≡ other.sending → view.constants ≡ other.constants → IsDrained other → IsDrained view
 IsDrained-same view other sending constants drained =
@@ -141,15 +147,18 @@ module _ {D : Type 0} {K : Type 0} (g : Ghosts D) (h : SinkGhosts K) (tail : Tai
       → AreDone table jobs wait served'.workers.items → length served'.workers.items ≡ jobs.workers
       → AllByRecursion (HasReadStop (view_of served'.boss).sending.stop) (map view_in served'.workers.items)
       → (view : View) → view ≡ takes_all (view_of served'.boss) (map view_in served'.workers.items)
-      → (lsn : ℕ) (rows : List (ℕ × ℕ)) → IsGathered lsn view → IsSettled (base_of key) view rows
+      → view.constants.ring ≡ table.ring → view.constants.slots ≡ table.slots
+      → (lsn : ℕ) (rows : List (ℕ × ℕ)) → IsGathered lsn view → IsSettled (base_of key) view rows → HasHeardOfWorkers view
       → HasTransferred g h opened jobs (map (share_of jobs) served'.workers.items) key turned.first turned.last view lsn rows
-  HasTransferred-gathered key table jobs wait knows opened log done count stops view is lsn rows gathered settled =
+  HasTransferred-gathered key table jobs wait knows opened log done count stops view is ring slots lsn rows gathered settled heard =
       let others = map view_in served'.workers.items in
       let taken = HasTaken-turned key jobs.workers knows in
       let sending = ap (λ (v : View). v.sending) is ∙ takes_all-sending (view_of served'.boss) others in
       let constants = ap (λ (v : View). v.constants) is ∙ takes_all-constants (view_of served'.boss) others in
-      let shares = HasGathered-all table jobs wait served'.workers.items done count (view_of served'.boss) taken.entries taken.jobs stops lsn
+      let shares = HasGathered-all table jobs wait served'.workers.items done count (view_of served'.boss) taken.entries taken.jobs stops
+      (ap (λ (c : Constants). c.ring) (sym constants) ∙ ring) (ap (λ (c : Constants). c.slots) (sym constants) ∙ slots) lsn
       (subst (IsGathered lsn) is gathered) in
+      let made = ap (λ (v : View). v.standing.made) is ∙ takes_all-made (view_of served'.boss) others ∙ taken.made in
       record {
         log = subst (λ d. IsOpened g d turned.first.flusher.tail opened jobs.first key) (sym turned.disk_old)
             (subst (λ t. IsOpened g disk t opened jobs.first key) (sym turned.tail_is) log);
@@ -161,6 +170,7 @@ module _ {D : Type 0} {K : Type 0} (g : Ghosts D) (h : SinkGhosts K) (tail : Tai
         workers = subst (HasGathered jobs (map (share_of jobs) served'.workers.items)) (sym is) shares;
         gathered = gathered;
         settled = settled;
+        heard = subst (λ (n : ℕ). AllByRecursion (IsRefusalOf n) view.seen.refusals) (ap length made ∙ length-hired jobs.workers) heard;
       }
 
 -- Once the seats of all workers are taken in, the table may be closed.

@@ -12,7 +12,9 @@ use Rattle.lock_core.specs.Sums.{IsBalanceOf}
 use Rattle.lock_core.specs.Transactions.{own_records_of, has_end, all_without_prev, in_order}
 use Rattle.lock_core.specs.Transfers.{transfer_of}
 use Rattle.txn_jobs.specs.declared.jobs.Jobs.{Jobs}
+use Rattle.log_table.specs.Members.{IsTotalOf}
 use Rattle.txn_runner.specs.Places.{place_of, number_at, job_at}
+use Rattle.txn_runner.specs.Running.{IsTotalFor}
 
 -- the script has a k-th transfer of the worker
 abbrev pub IsOfScript : Jobs → ℕ → ℕ → Type 0
@@ -48,35 +50,46 @@ HadBalances records tail balances leg = HadBalance records tail leg.0 (balances 
 
 -- Each account of the transfer at this place has its balance in a front of the list that ends at or above this tail. By the outcome of that
 -- transfer run alone on these balances its next record, behind those that the list has of it, has so many units.
-pub record HasNextOf (records : List Rec) (jobs : Jobs) (place tail total : ℕ) : Type 0 where
+pub record HasNextOf (records : List Rec) (jobs : Jobs) (place tail units : ℕ) : Type 0 where
   pub balances : ℕ → ℕ
   pub each : AllByRecursion (HadBalances records tail balances) (job_at jobs place).legs
   pub next : Rec
   pub rest : List Rec
   pub plan : in_order (all_without_prev (own_records_of (number_at jobs place) (history records))) (next ∷ rest)
       ≡ outcome_records (number_at jobs place) (transfer_of (job_at jobs place)) (outcome_alone (transfer_of (job_at jobs place)) balances)
-  pub size : total ≡ size_of next
+  pub size : units ≡ size_of next
 
--- The next record of the transfer at this place, of so many units, did not fit between this tail, a boundary of the list, and the last LSN.
--- With one worker that tail is the end of the list.
-pub record FoundNoRoom (records : List Rec) (jobs : Jobs) (place tail total : ℕ) : Type 0 where
+-- a group of this total, in which the record of this size was one of others: of two workers at least, each of which has one record in it
+abbrev pub IsOfWorkers : ℕ → ℕ → ℕ → Type 0
+IsOfWorkers workers size total = (1 < workers) × IsTotalOf workers size total
+
+-- The total is the record's own size, or that of a group that it was one of. Without slots, and with one worker, there is no group; else a group has at
+-- most a quarter of the ring, and at most 26 units for each further worker besides the record.
+abbrev pub IsTotalAmong : ℕ → ℕ → ℕ → ℕ → ℕ → Type 0
+IsTotalAmong ring slots workers size total = IsTotalFor ring slots (IsOfWorkers workers) size total
+
+-- For the next record of the transfer at this place so many units were asked for, and they did not fit between this tail, a boundary of the list, and
+-- the last LSN. With one worker that tail is the end of the list. The table had such a ring and so many slots.
+pub record FoundNoRoom (records : List Rec) (jobs : Jobs) (ring slots place tail total : ℕ) : Type 0 where
   pub too_long : LAST < tail + total
   pub boundary : IsBoundary records tail
   pub alone : jobs.workers ≡ 1 → tail ≡ end_of records
-  pub next : HasNextOf records jobs place tail total
+  pub units : ℕ
+  pub next : HasNextOf records jobs place tail units
+  pub asked : IsTotalAmong ring slots jobs.workers units total
 
 -- the worker's stripe was cut in a transfer that found no room
-pub record WasCutForRoom (records : List Rec) (jobs : Jobs) (worker : ℕ) : Type 0 where
+pub record WasCutForRoom (records : List Rec) (jobs : Jobs) (ring slots worker : ℕ) : Type 0 where
   pub stripe : IsCutStripe jobs worker (history records)
   pub tail : ℕ
   pub total : ℕ
-  pub no_room : FoundNoRoom records jobs (place_of jobs worker stripe.cut) tail total
+  pub no_room : FoundNoRoom records jobs ring slots (place_of jobs worker stripe.cut) tail total
 
 -- A worker's transfer was cut off since it found no room for so many units behind this tail. Each stripe is whole, or was cut for the same reason.
-pub record StopsAtLogEnd (opened : List Rec) (jobs : Jobs) (list : List Rec) (tail total : ℕ) : Type 0 where
+pub record StopsAtLogEnd (opened : List Rec) (jobs : Jobs) (list : List Rec) (ring slots tail total : ℕ) : Type 0 where
   pub stripes : (worker : ℕ) → worker < jobs.workers
-      → IsWholeStripe jobs worker (history (opened ++ list)) ⊎ WasCutForRoom (opened ++ list) jobs worker
+      → IsWholeStripe jobs worker (history (opened ++ list)) ⊎ WasCutForRoom (opened ++ list) jobs ring slots worker
   pub worker : ℕ
   pub is_worker : worker < jobs.workers
   pub stripe : IsCutStripe jobs worker (history (opened ++ list))
-  pub no_room : FoundNoRoom (opened ++ list) jobs (place_of jobs worker stripe.cut) tail total
+  pub no_room : FoundNoRoom (opened ++ list) jobs ring slots (place_of jobs worker stripe.cut) tail total

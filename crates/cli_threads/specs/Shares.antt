@@ -18,6 +18,7 @@ use Rattle.txn_jobs.specs.declared.cause.Worked.{Worked}
 use Rattle.txn_jobs.specs.declared.cause.Worked.TheVariants.{All, Cut}
 use Rattle.txn_jobs.specs.declared.jobs.Jobs.{Jobs}
 use Rattle.txn_runner.specs.Places.{number_at, job_at, jobs_taken, stripe_places, AreOfScript, HasAllIfDone}
+use Rattle.txn_runner.specs.Running.{IsTotalOfSeat}
 use Rattle.txn_runner.specs.Working.{LieInTurn, HaveEnded, own_records}
 
 -- the places of the script that a worker took, and how it ended
@@ -45,8 +46,8 @@ abbrev pub AreGivenUncommitted : ℕ → ℕ → (ℕ → ℕ) → List Given �
 AreGivenUncommitted number tail balances given leg =
     IsGivenUncommitted number tail (balances leg.0) given leg.0 × IsGivenUncommitted number tail (balances leg.1) given leg.1
 
--- The next record of the transfer at this place has so many units, and they do not fit between this tail, which a worker saw, and the
--- last LSN. By the balances with which its accounts were taken, and given back at that tail, uncommitted, it is that record.
+-- For the next record of the transfer at this place so many units were asked for, its own or those of a group, and they do not fit between this
+-- tail, which a worker saw, and the last LSN. By the balances with which its accounts were taken, and given back at that tail, uncommitted, it is that record.
 pub record EndsLogAt (jobs : Jobs) (place tail total : ℕ) (view : View) : Type 0 where
   pub balances : ℕ → ℕ
   pub marks : ℕ → ℕ
@@ -55,7 +56,7 @@ pub record EndsLogAt (jobs : Jobs) (place tail total : ℕ) (view : View) : Type
   pub rest : List Rec
   pub plan : own_records (number_at jobs place) view.entries ++ next ∷ rest
       ≡ planned_records (number_at jobs place) (transfer_of (job_at jobs place)) marks balances
-  pub size : total ≡ size_of next
+  pub asked : IsTotalOfSeat view (size_of next) total
   pub too_long : LAST < tail + total
   pub seen : Contains view.seen.lsns tail
   pub alone : jobs.workers ≡ 1 → AllByRecursion (λ (entry : Entry). entry.start + entry.size ≤ tail) view.entries

@@ -14,6 +14,7 @@ use Rattle.segment_file.specs.declared.scan_result.Tail.{Tail}
 use Rattle.log_table.specs.declared.table.Start.{Start}
 use Rattle.log_table.specs.declared.view.View.{View}
 use Rattle.log_table.specs.Closing.{IsGathered, IsSettled}
+use Rattle.log_table.specs.Members.{IsRefusalOf}
 use Rattle.log_table.specs.Seats.{view_of}
 use Rattle.log_table.specs.Sends.{IsDrained}
 use Rattle.log_table.specs.Sound.{base_of}
@@ -46,7 +47,7 @@ pub record IsFresh {D : Type 0} {K : Type 0} (key : Start) (d : Daemon D K) : Ty
   pub fine : d.fault ≡ None
 
 -- The run went on from the opened log. Turns led from the one daemon to the other, whose seat then took in all workers' seats, which left it
--- with this view. Then the table was closed, with this end of the log and these rows.
+-- with this view. Then the table was closed, with this end of the log and these rows. A group of whose refusal a worker heard was one of these workers.
 pub record HasTransferred {D : Type 0} {K : Type 0} (g : Ghosts D) (h : SinkGhosts K) (opened : List Rec) (jobs : Jobs) (shares : List Share)
     (key : Start) (old new : Daemon D K) (view : View) (lsn : ℕ) (rows : List (ℕ × ℕ)) : Type 0 where
   pub log : IsOpened g old.flusher.disk.now old.flusher.tail opened jobs.first key
@@ -58,3 +59,4 @@ pub record HasTransferred {D : Type 0} {K : Type 0} (g : Ghosts D) (h : SinkGhos
   pub workers : HasGathered jobs shares view
   pub gathered : IsGathered lsn view
   pub settled : IsSettled (base_of key) view rows
+  pub heard : AllByRecursion (IsRefusalOf jobs.workers) view.seen.refusals

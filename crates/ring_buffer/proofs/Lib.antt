@@ -1,4 +1,5 @@
 pub mod Exposing
 pub mod Inserted
 pub mod OneStep
+pub mod TotalLemmas
 pub mod TwoCalls

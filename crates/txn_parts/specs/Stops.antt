@@ -6,6 +6,7 @@ use Rattle.log_record.specs.LogList.{size_of}
 use Rattle.log_table.specs.declared.view.View.{View}
 use Rattle.ring_buffer.specs.declared.refused.Refused.{Refused}
 use Rattle.ring_buffer.specs.declared.refused.Refused.TheVariants as refusal
+use Rattle.ring_buffer.specs.Totals.{IsTotalOfSeat}
 use Rattle.txn_jobs.specs.declared.cause.Cause.{Cause}
 use Rattle.txn_jobs.specs.declared.cause.Cause.TheVariants.{Stop, LogEnd}
 
@@ -19,9 +20,9 @@ abbrev pub IsRingFull : Refused → Type 0
 IsRingFull (refusal.RingFull tail durable total) = ⊤
 IsRingFull (refusal.LogEnd tail total) = ⊥
 
--- The log stopped; or the next of the records that are left doesn't fit in the log behind the tail that the seat saw last.
+-- The log stopped; or the next of the records that are left, alone or in a group, doesn't fit in the log behind the tail that the seat saw last.
 abbrev pub StopsFor : Cause → List Rec → View → Type 0
 StopsFor (Stop word) rest view = (word ≢ 0) × (view.seen.stop ≡ word)
 StopsFor (LogEnd tail total) [] view = ⊥
 StopsFor (LogEnd tail total) (next ∷ rest) view =
-    (total ≡ size_of next) × (LAST < tail + total) × (tail ≡ view.seen.tail) × Contains view.seen.lsns tail
+    IsTotalOfSeat view (size_of next) total × (LAST < tail + total) × (tail ≡ view.seen.tail) × Contains view.seen.lsns tail

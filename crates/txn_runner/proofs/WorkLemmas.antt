@@ -224,7 +224,7 @@ IsCutBy-next jobs taken place above wait (LogEnd tail total) old new worked cut 
   next = cut.0;
   rest = cut.1;
   plan = ap (λ l. l ++ cut.0 ∷ cut.1) (own_records-next jobs taken place above (cut.0 ∷ cut.1) old new cut.2 worked) ∙ cut.2.plan;
-  size = cut.5;
+  asked = cut.5;
   too_long = cut.6;
   tail_is = cut.7;
   seen = cut.8;

@@ -13,6 +13,7 @@ use Rattle.log_table.specs.Closing.{records_of}
 use Rattle.txn_jobs.specs.declared.cause.Cause.{Cause}
 use Rattle.txn_jobs.specs.declared.cause.Cause.TheVariants.{Stop, LogEnd}
 use Rattle.txn_jobs.specs.declared.rows.Row.{Row}
+pub use Rattle.ring_buffer.specs.Totals.{IsTotalFor, IsTotalOfSeat, IsHeard, IsOfGroup}
 pub use Rattle.txn_jobs.specs.Rows.{outcome_of}
 pub use Rattle.txn_making.specs.Inserts.{LieInOrder}
 pub use Rattle.txn_making.specs.Holdings.{account_given}
@@ -60,13 +61,13 @@ pub record HasRun (number : ℕ) (job : Job) (wait : Bool) (row : Row) (old new 
 abbrev pub IsUncommittedAt : ℕ → Given → Type 0
 IsUncommittedAt tail given = (given.committed ≡ false) × (given.tail ≡ tail)
 
--- Why the transfer was cut off: the seat read a stop word that isn't 0, where records are left or the worker waits; or its next record has
--- so many units, and by the tail as the seat saw it last they do not fit in the log; each account went back then, uncommitted, at that tail,
--- so that its balance as it was taken tells which record that is.
+-- Why the transfer was cut off: the seat read a stop word that isn't 0, where records are left or the worker waits; or for its next
+-- record so many units were asked for, its own or those of a group, and by the tail as the seat saw it last they do not fit in the log; each account
+-- went back then, uncommitted, at that tail, so that its balance as it was taken tells which record that is.
 abbrev pub HasCut : ℕ → Job → Bool → Cause → View → View → Type 0
 HasCut number job wait (Stop word) old new =
     (rest : List Rec) × HasInserted number job rest old new × (rest ≡ [] → wait ≡ true) × (word ≢ 0) × (new.seen.stop ≡ word)
 HasCut number job wait (LogEnd tail total) old new =
     (next : Rec) × (rest : List Rec) × (inserted : HasInserted number job (next ∷ rest) old new)
     × (gave : GaveBack number job inserted.balances old.books.given new) × All (IsUncommittedAt tail) gave.back
-    × (total ≡ size_of next) × (LAST < tail + total) × (tail ≡ new.seen.tail) × Contains new.seen.lsns tail
+    × IsTotalOfSeat new (size_of next) total × (LAST < tail + total) × (tail ≡ new.seen.tail) × Contains new.seen.lsns tail

@@ -20,7 +20,7 @@ use Rattle.txn_jobs.specs.declared.jobs.Jobs.{Jobs}
 use Rattle.txn_jobs.specs.declared.rows.Row.{Row}
 use Rattle.txn_jobs.specs.declared.rows.Rows.{Rows}
 pub use Rattle.txn_jobs.specs.Rows.{rows_in, room_of, taken_in, HasRoomForRows}
-use Rattle.txn_runner.specs.Running.{outcome_of, LieInOrder, GaveBack, IsUncommittedAt}
+use Rattle.txn_runner.specs.Running.{outcome_of, LieInOrder, GaveBack, IsTotalOfSeat, IsUncommittedAt}
 use Rattle.txn_runner.specs.Places.{number_at, job_at, jobs_taken, stripe_places, IsOneOf, Rises, AreOfScript}
 
 -- the places of its stripe that a worker took, as its rows count them
@@ -70,8 +70,8 @@ HaveEnded jobs places view = AllByRecursion (λ place. HasEnd (number_at jobs pl
 abbrev pub own_records : ℕ → List Entry → List Rec
 own_records number entries = filter (λ rec. txn_of rec == number) (records_of entries)
 
--- The transfer's next record, by the balances as its accounts were taken, has so many units, and they do not fit between this tail, which the
--- seat saw last, and the last LSN. The accounts all went back under its number, uncommitted, where the seat had seen tail there.
+-- For the transfer's next record, by the balances as its accounts were taken, so many units were asked for, its own or those of a group, and they
+-- do not fit between this tail, which the seat saw last, and the last LSN. The accounts all went back under its number, uncommitted, where the seat had seen tail there.
 pub record EndsLog (jobs : Jobs) (place tail total : ℕ) (view : View) : Type 0 where
   pub balances : ℕ → ℕ
   pub marks : ℕ → ℕ
@@ -82,7 +82,7 @@ pub record EndsLog (jobs : Jobs) (place tail total : ℕ) (view : View) : Type 0
   pub rest : List Rec
   pub plan : own_records (number_at jobs place) view.entries ++ next ∷ rest
       ≡ planned_records (number_at jobs place) (transfer_of (job_at jobs place)) marks balances
-  pub size : total ≡ size_of next
+  pub asked : IsTotalOfSeat view (size_of next) total
   pub too_long : LAST < tail + total
   pub tail_is : tail ≡ view.seen.tail
   pub seen : Contains view.seen.lsns tail

@@ -7,22 +7,22 @@ use Rattle.cli_demo.proofs.demo_command.demo_command.Goals as goal
 
 pub returns-in-Ok-clause-answer : goal.returns-in-Ok-clause-answer
 returns-in-Ok-clause-answer g c = λ honest.
-    answers-demo g.D.LogDisk g.K.Sink _ _ _ c.requires.few c.in-Ok.ready _ _ _ _ _ _ _ c.in-Ok.ensures.ready c.finish.ensures.has honest
+    answers-demo g.D.LogDisk g.K.Sink _ _ _ c.requires.options c.requires.few c.in-Ok.ready _ _ _ _ _ _ _ c.in-Ok.ensures.ready c.finish.ensures.has honest
     (c.in-Ok.ensures.honest.0 honest) c.finish.result c.finish.ensures.concludes
 
 pub returns-in-Ok-clause-text : goal.returns-in-Ok-clause-text
 returns-in-Ok-clause-text g c =
-    text-concluded g.D.LogDisk g.K.Sink _ _ _ c.requires.few c.in-Ok.ready _ _ _ _ _ _ _ c.in-Ok.ensures.ready c.finish.ensures.has
+    text-concluded g.D.LogDisk g.K.Sink _ _ _ c.requires.options c.requires.few c.in-Ok.ready _ _ _ _ _ _ _ c.in-Ok.ensures.ready c.finish.ensures.has
     c.finish.result c.finish.ensures.concludes
 
 pub returns-in-Ok-clause-range : goal.returns-in-Ok-clause-range
 returns-in-Ok-clause-range g c =
-    range-concluded g.D.LogDisk g.K.Sink _ _ _ c.requires.few c.in-Ok.ready _ _ _ _ _ _ _ c.in-Ok.ensures.ready c.finish.ensures.has
+    range-concluded g.D.LogDisk g.K.Sink _ _ _ c.requires.options c.requires.few c.in-Ok.ready _ _ _ _ _ _ _ c.in-Ok.ensures.ready c.finish.ensures.has
     c.finish.result c.finish.ensures.concludes
 
 pub returns-in-Ok-clause-exists : goal.returns-in-Ok-clause-exists
 returns-in-Ok-clause-exists g c = λ honest.
-    tells-concluded g.D.LogDisk g.K.Sink _ _ _ c.requires.few c.in-Ok.ready _ _ _ _ _ _ _ c.in-Ok.ensures.ready c.finish.ensures.has _
+    tells-concluded g.D.LogDisk g.K.Sink _ _ _ c.requires.options c.requires.few c.in-Ok.ready _ _ _ _ _ _ _ c.in-Ok.ensures.ready c.finish.ensures.has _
     (c.in-Ok.ensures.closed honest) c.finish.result c.finish.ensures.concludes
 
 pub returns-in-Ok-clause-honest : goal.returns-in-Ok-clause-honest

@@ -54,6 +54,7 @@ returns-in-Ok-clause-ready g c =
       asked = asked-prepared g.D.LogDisk _ _ _ opens _ _ prepared c.in_ok-prepared.ensures.prepared _ _ c.in_ok-transfers.ensures.ok
           c.in_ok-transfers.ensures.fit;
       ring = c.in_ok-prepared.ensures.prepared.ring;
+      slots = c.in_ok-prepared.ensures.prepared.slots;
       prepared = c.in_ok-prepared.ensures.prepared.ready;
       images = λ honest. leaves-settled g.D.LogDisk _ _ _ opens c.settle.new.disk (reads honest) (stood honest) (settled.count (said.honest.0 honest));
       count = λ honest. count-settled g.D.LogDisk _ _ _ opens c.settle.new.disk (reads honest) (stood honest) (settled.count (said.honest.0 honest));

@@ -13,6 +13,7 @@ returns-in-Ok-clause-prepared g c =
       start = ap (λ (key : Start). key.start) made.key;
       accounts = ap (λ (key : Start). key.accounts) made.key;
       ring = ap (λ (key : Start). key.ring) made.key ∙ c.plan_of_run-plan.ensures.ring;
+      slots = ap (λ (key : Start). key.slots) made.key;
       script_is = made.script;
       first = made.first;
       workers_are = made.workers ∙ c.plan_of_run-plan.ensures.workers;

@@ -64,7 +64,8 @@ returns g c =
         view = view_of c.gather-ends.new.boss;
         transferred = HasTransferred-gathered g.D.LogDisk g.K.Sink _ _ _ _ _ _ _ _ turned (key_of table) table jobs c.args.wait
             c.requires.prepared.crew.boss.knows opened log served.done count gathered.stops (view_of c.gather-ends.new.boss) gathered.view
-            c.close.result.tail c.close.result.accounts.rows c.close.ensures.gathered c.close.ensures.settled;
+            gathered.boss.ring gathered.boss.slots
+            c.close.result.tail c.close.result.accounts.rows c.close.ensures.gathered c.close.ensures.settled c.close.ensures.heard;
         ends = ends-of_shares jobs workers.items ∙ sym gathered.ends;
         waited = λ waits. subst (λ (v : View). (worker : ℕ) (share : Share) → get_elem? (map (share_of jobs) workers.items) worker ≡ some share
             → HaveWaited jobs (made_of share.taken share.worked) v.entries v.books.given) (sym gathered.view)
