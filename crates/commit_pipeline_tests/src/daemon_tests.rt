@@ -45,6 +45,7 @@ fn transfer<R: Wait + Clock + Abort>(
 )
     requires unused { IsNew table.now seat.old }
     requires first { seat.old.worker < 1 }
+    requires no_slots { table.now.slots ≡ 0 }
     requires accounts { table.now.accounts ≡ 2 }
     ensures seat { IsOf table.now seat.new }
     ensures may { MayLeave (view_of seat.new) }
@@ -99,6 +100,7 @@ fn report_worker<R: Wait + Clock + Abort>(
 ) -> Result<[(Drained, Turn); 2], DaemonFault>
     requires unused { IsNew table.now seat }
     requires first { seat.worker < 1 }
+    requires no_slots { table.now.slots ≡ 0 }
     requires accounts { table.now.accounts ≡ 2 }
     requires ready { MayTurn ⟦<MemoryDisk as LogDisk>⟧ daemon.old }
     requires told { knows_all_enrolled (view_of daemon.old.flusher.seat).standing ≡ true }

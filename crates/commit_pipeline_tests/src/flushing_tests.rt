@@ -38,6 +38,7 @@ const ENDS: (u32, u32) = (4, 1028);
 /// A worker fills the ring with notes of two units, and then finds no room.
 fn fills<R: Abort>(rt: &R, table: &LogTable, seat: &mut Seat, job: &Job)
     requires worker { MayInsert table.now 1 seat.old }
+    requires no_slots { table.now.slots ≡ 0 }
     requires accounts { table.now.accounts ≡ 2 }
     requires job { IsNotedJob job.now }
     ensures worker { MayInsert table.now 514 seat.new }
@@ -73,6 +74,7 @@ fn empties<R: Abort>(rt: &R, alloc: Global, table: &LogTable, boss: Seat) -> Res
 /// The worker's next note starts where the flush ended, at the ring's fourth place.
 fn goes_on<R: Abort>(rt: &R, table: &LogTable, seat: &mut Seat, job: &Job)
     requires worker { MayInsert table.now 514 seat.old }
+    requires no_slots { table.now.slots ≡ 0 }
     requires accounts { table.now.accounts ≡ 2 }
     requires ring { table.now.ring ≡ 1024 }
     requires job { IsNotedJob job.now }

@@ -59,6 +59,7 @@ fn finish<R: Wait + Clock, D: LogDisk>(rt: &R, daemon: &mut Daemon<D, MemorySink
 fn insert(table: &LogTable, mut seat: Seat, first: u32, job: &Job) -> u32
     requires worker { MayInsert table.now first seat }
     requires numbers { first < 1000 }
+    requires no_slots { table.now.slots ≡ 0 }
     requires accounts { table.now.accounts ≡ 2 }
     requires job { IsNotedJob job.now }
 {
@@ -71,16 +72,17 @@ fn insert(table: &LogTable, mut seat: Seat, first: u32, job: &Job) -> u32
 fn insert_both<R: Threads>(rt: &R, table: &LogTable, one: Seat, two: Seat, job: &Job) -> u32
     requires one { MayInsert table.now 1 one }
     requires two { MayInsert table.now 501 two }
+    requires no_slots { table.now.slots ≡ 0 }
     requires accounts { table.now.accounts ≡ 2 }
     requires job { IsNotedJob job.now }
 {
     let (first, second) = join(
         rt,
         move ||
-            requires { MayInsert table.now 1 one × (table.now.accounts ≡ 2) × IsNotedJob job.now }
+            requires { MayInsert table.now 1 one × (table.now.slots ≡ 0) × (table.now.accounts ≡ 2) × IsNotedJob job.now }
         { insert(table, one, 1, job) },
         move ||
-            requires { MayInsert table.now 501 two × (table.now.accounts ≡ 2) × IsNotedJob job.now }
+            requires { MayInsert table.now 501 two × (table.now.slots ≡ 0) × (table.now.accounts ≡ 2) × IsNotedJob job.now }
         { insert(table, two, 501, job) },
     );
     first.saturating_add(second)
@@ -106,7 +108,7 @@ fn run_notes<R: Threads + Wait + Clock + Sync, D: LogDisk>(
     Some(join(
         rt,
         move ||
-            requires { MayInsert t.now 1 one × MayInsert t.now 501 two × (t.now.accounts ≡ 2) × IsNotedJob job.now }
+            requires { MayInsert t.now 1 one × MayInsert t.now 501 two × (t.now.slots ≡ 0) × (t.now.accounts ≡ 2) × IsNotedJob job.now }
         { insert_both(rt, t, one, two, job) },
         move ||
             requires { MayTurn D.LogDisk daemon × (knows_all_enrolled (view_of daemon.flusher.seat).standing ≡ true) }
@@ -124,6 +126,7 @@ fn transfer<R: Wait + Clock>(
 ) -> usize
     requires unused { IsNew table.now seat }
     requires worker { seat.worker < jobs.now.workers }
+    requires no_slots { table.now.slots ≡ 0 }
     requires allowed { All (IsAllowedJob table.now.accounts) jobs.now.script }
 {
     let made = make_transfers(rt, alloc, table, &mut seat, jobs);
@@ -145,15 +148,16 @@ fn transfer_both<R: Threads + Wait + Clock + Sync>(
 ) -> usize
     requires one { IsNew table.now one × (one.worker < jobs.now.workers) }
     requires two { IsNew table.now two × (two.worker < jobs.now.workers) }
+    requires no_slots { table.now.slots ≡ 0 }
     requires allowed { All (IsAllowedJob table.now.accounts) jobs.now.script }
 {
     let (first, second) = join(
         rt,
         move ||
-            requires { IsNew table.now one × (one.worker < jobs.now.workers) × All (IsAllowedJob table.now.accounts) jobs.now.script }
+            requires { (table.now.slots ≡ 0) × IsNew table.now one × (one.worker < jobs.now.workers) × All (IsAllowedJob table.now.accounts) jobs.now.script }
         { transfer(rt, alloc, table, one, jobs) },
         move ||
-            requires { IsNew table.now two × (two.worker < jobs.now.workers) × All (IsAllowedJob table.now.accounts) jobs.now.script }
+            requires { (table.now.slots ≡ 0) × IsNew table.now two × (two.worker < jobs.now.workers) × All (IsAllowedJob table.now.accounts) jobs.now.script }
         { transfer(rt, alloc, table, two, jobs) },
     );
     first.saturating_add(second)
@@ -179,7 +183,7 @@ fn run_transfers<R: Threads + Wait + Clock + Sync, D: LogDisk>(
     Some(join(
         rt,
         move ||
-            requires { (IsNew t.now one × (one.worker < jobs.now.workers)) × (IsNew t.now two × (two.worker < jobs.now.workers)) × All (IsAllowedJob t.now.accounts) jobs.now.script }
+            requires { (t.now.slots ≡ 0) × (IsNew t.now one × (one.worker < jobs.now.workers)) × (IsNew t.now two × (two.worker < jobs.now.workers)) × All (IsAllowedJob t.now.accounts) jobs.now.script }
         { transfer_both(rt, alloc, t, one, two, jobs) },
         move ||
             requires { MayTurn D.LogDisk daemon × (knows_all_enrolled (view_of daemon.flusher.seat).standing ≡ true) }

@@ -1,5 +1,5 @@
 //! A worker that makes the transfers of its stripe.
-ghost use Rattle.std.specs.Prelude.{◌<◌, All};
+ghost use Rattle.std.specs.Prelude.{◌≡◌, ◌<◌, All};
 ghost use Rattle.log_table.specs.May.{MayLeave};
 ghost use Rattle.log_table.specs.Seats.{IsOf, view_of};
 ghost use Rattle.lock_core.specs.Transfers.{IsAllowedJob};
@@ -24,6 +24,7 @@ pub(crate) fn make_transfers<R: Wait + Clock>(
 ) -> Option<(Worked, usize)>
     requires unused { IsNew table.now seat.old }
     requires worker { seat.old.worker < jobs.now.workers }
+    requires no_slots { table.now.slots ≡ 0 }
     requires allowed { All (IsAllowedJob table.now.accounts) jobs.now.script }
     ensures seat { IsOf table.now seat.new }
     ensures may { MayLeave (view_of seat.new) }

@@ -70,6 +70,7 @@ fn works<R: Wait, Q: Relief>(
 ) -> Option<(Worked, Rows)>
     requires unused { IsNew table.now seat }
     requires worker { seat.worker < jobs.now.workers }
+    requires no_slots { table.now.slots ≡ 0 }
     requires allowed { All (IsAllowedJob table.now.accounts) jobs.now.script }
     requires relief { Q.ready relief.old }
 {
@@ -90,6 +91,7 @@ fn looks_and_flushes<R: Wait, D: LogDisk>(
 ) -> Option<Outcome>
     requires unused { IsNew table.now seat }
     requires worker { seat.worker < jobs.now.workers }
+    requires no_slots { table.now.slots ≡ 0 }
     requires allowed { All (IsAllowedJob table.now.accounts) jobs.now.script }
     requires looker { IsOf table.now looker }
     requires accounts { table.now.accounts ≡ 2 }

@@ -45,6 +45,7 @@ fn work<G: Gate>(
 ) -> (Option<Lsn>, Seat)
     requires worker { MayInsert table.now number seat }
     requires next { IsTxn (number + 1) }
+    requires no_slots { table.now.slots ≡ 0 }
     requires accounts { table.now.accounts ≡ 2 }
     requires job { IsNotedJob job.now }
     ensures seat { IsOf table.now result.1 }
@@ -102,11 +103,11 @@ pub(crate) fn insert_both<R: Threads, G: Gate + Sync>(
     let ((at_first, one), (at_second, two)) = join(
         rt,
         move ||
-            requires { MayInsert t.now 1 one × (t.now.accounts ≡ 2) × IsNotedJob first.now }
+            requires { MayInsert t.now 1 one × (t.now.slots ≡ 0) × (t.now.accounts ≡ 2) × IsNotedJob first.now }
             ensures { IsOf t.entry.now result.1 × ((view_of result.1).standing.role ≡ Ended) × ((view_of result.1).standing.worker ≡ (view_of one).standing.worker) }
         { work(t, one, 1, first, gate) },
         move ||
-            requires { MayInsert t.now 2 two × (t.now.accounts ≡ 2) × IsNotedJob second.now }
+            requires { MayInsert t.now 2 two × (t.now.slots ≡ 0) × (t.now.accounts ≡ 2) × IsNotedJob second.now }
             ensures { IsOf t.entry.now result.1 × ((view_of result.1).standing.role ≡ Ended) × ((view_of result.1).standing.worker ≡ (view_of two).standing.worker) }
         { work(t, two, 2, second, gate) },
     );

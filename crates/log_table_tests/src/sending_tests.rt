@@ -31,6 +31,7 @@ const SECOND: [u64; 2] = [0x0602_0008_0000_0002, 0x6a6b_6c6d_6e6f_7071];
 fn inserts<R: Abort>(rt: &R, table: &LogTable, seat: &mut Seat, number: u32, job: &Job, at: u32)
     requires worker { MayInsert table.now number seat.old }
     requires next { IsTxn (number + 1) }
+    requires no_slots { table.now.slots ≡ 0 }
     requires accounts { table.now.accounts ≡ 2 }
     requires job { IsNotedJob job.now }
     ensures worker { MayInsert table.now (number + 1) seat.new }

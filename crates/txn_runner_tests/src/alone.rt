@@ -51,6 +51,7 @@ pub(crate) fn work_alone<R: Wait + Abort>(
 ) -> Result<(Worked, Rows, Seat), NoMemory>
     requires unused { IsNew table.now seat }
     requires worker { seat.worker < jobs.now.workers }
+    requires no_slots { table.now.slots ≡ 0 }
     requires allowed { All (IsAllowedJob table.now.accounts) jobs.now.script }
     ensures seat { IfOk result (λ came. IsOf table.now came.2) }
     ensures ended { IfOk result (λ came. (view_of came.2).standing.role ≡ Ended) }

@@ -12,5 +12,5 @@ exchange_exposed-requires-clause-next c = let above : c.args.at < c.load_mark-ma
     record {
       after = Nothing;
       raising = ap (λ me. me.0.call) c.load_mark-mark.ensures.view.me
-          ∙ (ap (call_with_mark c.load_mark-mark.result) c.requires.hand ∙ next_raise-above c.args.at c.load_mark-mark.result above);
+          ∙ (ap (call_with_mark c.load_mark-mark.result) c.requires.hand ∙ next_raise-above c.args.at c.load_mark-mark.result Nothing above);
     }
