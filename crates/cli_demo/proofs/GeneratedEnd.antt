@@ -108,9 +108,16 @@ module _ (n seed : ℕ) (few : n ≤ 100000) (jobs : Jobs) (script : jobs.script
       let found = generated-at n seed place (record { legs = []; note = None }) (omega (arith, inside, ap length script)) in
       let job : job_at jobs place ≡ job_from found.0 =
       ap (λ s. get_or s place (record { legs = []; note = None })) script ∙ found.1 in
-      let plan = next.plan ∙ ap (λ j. outcome_records (number_at jobs place) (transfer_of j) (outcome_alone (transfer_of j) next.balances)) job in
+      let plan = next.plan ∙ ap (λ j. outcome_records (number_at jobs place) (transfer_of j)
+      (outcome_alone (transfer_of j) next.balances)) job in
       let weighed = records-most (history records) (number_at jobs place) (next.next ∷ next.rest) _ plan in
-      omega (arith, weighed, outcome-most (number_at jobs place) found.0 (outcome_alone (transfer_of (job_from found.0)) next.balances), next.size)
+      omega (
+        arith,
+        weighed,
+        outcome-most (number_at jobs place) found.0
+            (outcome_alone (transfer_of (job_from found.0)) next.balances),
+        next.size,
+      )
 
   -- a group of 16 workers asks for few units too
   asked-most : (ring slots units total : ℕ) → jobs.workers ≤ 16 → units ≤ 5 → IsTotalAmong ring slots jobs.workers units total → total ≤ 421

@@ -223,19 +223,20 @@ of-first entry = All-contains IsFirst view.entries entry (All-from_recursion IsF
     IsFirst other = txn_of other.rec ≡ 1
 
 has-share : (worker : ℕ) (share : Share) → get_elem? shares worker ≡ some share → HasShare jobs share view
-has-share zero share at = subst (λ (s : Share). HasShare jobs s view) (some-injective (record { taken = 0 ∷ []; worked = All }) share at) (record {
-  places = (omega arith, tt);
-  came_to = (
-    record {
-      end = entry 8 1 (Commit 1 1);
-      contains = (2, omega arith, refl);
-      number_is = omega arith;
-      is_end = refl;
-    },
-    tt,
-  );
-  in_turn = λ i j before after less one other has has' is is'. absurd (omega (arith, less, is', of-first after has'));
-})
+has-share zero share at = subst (λ (s : Share). HasShare jobs s view) (some-injective (record { taken = 0 ∷ []; worked = All }) share at)
+    (record {
+      places = (omega arith, tt);
+      came_to = (
+        record {
+          end = entry 8 1 (Commit 1 1);
+          contains = (2, omega arith, refl);
+          number_is = omega arith;
+          is_end = refl;
+        },
+        tt,
+      );
+      in_turn = λ i j before after less one other has has' is is'. absurd (omega (arith, less, is', of-first after has'));
+    })
 has-share (suc worker) share at = absurd (some-ne-none share (sym at))
 
 is-stripe : (worker : ℕ) (share : Share) → get_elem? shares worker ≡ some share → IsStripeOf jobs worker share

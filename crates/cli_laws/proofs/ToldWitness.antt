@@ -31,8 +31,10 @@ serial = serial-partly (base_state_of (history genesis_log)) (tasks_of jobs) tra
 
 -- no transfer but the first has a record
 in_turn : ComeInTurn jobs (history (genesis_log ++ transfer_records))
-in_turn worker i j small less recorded = absurd (recorded (history-own genesis_log transfer_records (number_at jobs (place_of jobs worker j)) (omega (arith, less))
-    ∙ ap recs_of (history-others (number_at jobs (place_of jobs worker j)) (end_of genesis_log) [] transfer_records (other, (other, (other, tt))) refl)))
+in_turn worker i j small less recorded = absurd (recorded (history-own genesis_log transfer_records
+    (number_at jobs (place_of jobs worker j)) (omega (arith, less))
+    ∙ ap recs_of (history-others (number_at jobs (place_of jobs worker j)) (end_of genesis_log) [] transfer_records
+    (other, (other, (other, tt))) refl)))
   where
     other : 1 ≢ number_at jobs (place_of jobs worker j)
     other same = absurd (omega (arith, same, less))

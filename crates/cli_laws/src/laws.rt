@@ -83,12 +83,14 @@ pub fn run_keeps_log<D: LogDisk, K: Sink>()
     ensures log_end { (opened : List Rec) (jobs : Jobs) (shares : List Share) (key : Start) (old new : Daemon D K) (view : View)
         (lsn : ℕ) (rows : List (ℕ × ℕ)) → HasTransferred D.LogDisk K.Sink opened jobs shares key old new view lsn rows
         → new.fault ≡ None
-        → (worker : ℕ) (taken : List ℕ) (tail total : ℕ) → get_elem? shares worker ≡ some (record { taken = taken; worked = Worked.Cut (Cause.LogEnd tail total) })
+        → (worker : ℕ) (taken : List ℕ) (tail total : ℕ)
+        → get_elem? shares worker ≡ some (record { taken = taken; worked = Worked.Cut (Cause.LogEnd tail total) })
         → StopsAtLogEnd opened jobs (records_of view.entries) key.ring key.slots tail total }
     ensures stop { (opened : List Rec) (jobs : Jobs) (shares : List Share) (key : Start) (old new : Daemon D K) (view : View)
         (lsn : ℕ) (rows : List (ℕ × ℕ)) → HasTransferred D.LogDisk K.Sink opened jobs shares key old new view lsn rows
         → new.fault ≡ None
-        → (worker : ℕ) (taken : List ℕ) (word : ℕ) → get_elem? shares worker ≡ some (record { taken = taken; worked = Worked.Cut (Cause.Stop word) }) → ⊥ }
+        → (worker : ℕ) (taken : List ℕ) (word : ℕ)
+        → get_elem? shares worker ≡ some (record { taken = taken; worked = Worked.Cut (Cause.Stop word) }) → ⊥ }
     ensures reason { (opened : List Rec) (jobs : Jobs) (shares : List Share) (key : Start) (old new : Daemon D K) (view : View)
         (lsn : ℕ) (rows : List (ℕ × ℕ)) → HasTransferred D.LogDisk K.Sink opened jobs shares key old new view lsn rows
         → HasReason D.LogDisk K.Sink old new }

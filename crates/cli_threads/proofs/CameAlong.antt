@@ -1,5 +1,5 @@
 -- How far a worker came along its stripe, transfer by transfer.
-use Rattle.std.proofs.Common.{◌≡◌, ◌∙◌, ℕ, ◌+◌, ◌<◌, List, [], ◌∷◌, ◌++◌, length, sym, ap, subst, Contains}
+use Rattle.std.proofs.Common.{◌≡◌, ◌∙◌, ℕ, ◌+◌, ◌<◌, List, length, sym, subst, Contains}
 use Rattle.std.proofs.lemmas.List.Elements.{All-contains, All-from_recursion}
 use Rattle.log_table.specs.declared.view.View.{View}
 use Rattle.txn_jobs.specs.declared.cause.Worked.{Worked}
@@ -24,7 +24,8 @@ module _ (jobs : Jobs) (worker : ℕ) (view : View) where
       (All-from_recursion (λ place. HasEnd (number_at jobs place) view.entries) places ended)
       (subst (λ l. Contains l (place_of jobs worker k)) (sym are) (stripe-contains jobs worker n k less))
 
-  along : (taken : List ℕ) (n : ℕ) (worked : Worked) → taken ≡ stripe_places jobs worker n → HasAllIfDone jobs worker n worked → CameTo jobs taken worked view
+  along : (taken : List ℕ) (n : ℕ) (worked : Worked) → taken ≡ stripe_places jobs worker n → HasAllIfDone jobs worker n worked
+      → CameTo jobs taken worked view
       → CameAlong jobs worker n worked view
   along taken n All are all came = (all, ended-along n taken are came)
   along taken n (Cut cause) are all came =
@@ -35,6 +36,8 @@ module _ (jobs : Jobs) (worker : ℕ) (view : View) where
         subst (λ place. WasCutBy jobs place cause view) last.3 came.4,
       )
 
-pub came-along : (jobs : Jobs) (worker : ℕ) (share : Share) (view : View) → IsStripeOf jobs worker share → CameTo jobs share.taken share.worked view
+pub came-along : (jobs : Jobs) (worker : ℕ) (share : Share) (view : View) → IsStripeOf jobs worker share
+    → CameTo jobs share.taken share.worked view
     → CameAlong jobs worker (length share.taken) share.worked view
-came-along jobs worker share view stripe came = along jobs worker view share.taken (length share.taken) share.worked stripe.places stripe.all came
+came-along jobs worker share view stripe came = along jobs worker view share.taken
+    (length share.taken) share.worked stripe.places stripe.all came

@@ -1,5 +1,5 @@
 -- The workers' shares, once the flusher's seat took in their seats.
-use Rattle.std.proofs.Common.{◌≡◌, ◌≢◌, ◌⊎◌, ◌∙◌, inl, inr, ℕ, zero, suc, ◌+◌, ◌*◌, ◌≤◌, ◌<◌, List, [], ◌∷◌, ◌++◌, length, map, refl, sym, ap, subst, arith, append_assoc, append-nil, add-zero, zero-add, Contains, IsSomeAnd, Option, None, Some, Bool, true}
+use Rattle.std.proofs.Common.{◌≡◌, ◌≢◌, ◌⊎◌, ◌∙◌, inl, inr, ℕ, zero, suc, ◌+◌, ◌*◌, ◌≤◌, ◌<◌, List, [], ◌∷◌, ◌++◌, length, map, refl, sym, ap, subst, arith, append_assoc, append-nil, zero-add, Contains, IsSomeAnd, Option, None, Some, Bool, true}
 use Rattle.std.proofs.Math.Nat.{mul-le-mul_left}
 use Rattle.std.proofs.lemmas.Bool.{cases_order}
 use Rattle.std.proofs.lemmas.List.{length-map}
@@ -163,8 +163,13 @@ module _ (jobs : Jobs) where
 
       CameTo-keeps : (worked : Worked) → CameTo jobs taken worked view → CameTo jobs taken worked after
       CameTo-keeps All came = HaveEnded-keeps taken came
-      CameTo-keeps (Cut cause) came = (came.0, came.1, came.2, HaveEnded-keeps came.0 came.3,
-          WasCutBy-keeps came.1 cause (subst (λ l. Contains l came.1) (sym came.2) (Contains-push came.0 came.1)) came.4)
+      CameTo-keeps (Cut cause) came = (
+        came.0,
+        came.1,
+        came.2,
+        HaveEnded-keeps came.0 came.3,
+        WasCutBy-keeps came.1 cause (subst (λ l. Contains l came.1) (sym came.2) (Contains-push came.0 came.1)) came.4,
+      )
 
       -- an entry at one of these places is none of the other's
       stays : (place : ℕ) (entry : Entry) → Contains taken place → Contains after.entries entry → txn_of entry.rec ≡ number_at jobs place
@@ -221,7 +226,8 @@ module _ (jobs : Jobs) where
         (subst (λ n. AllByRecursion (λ (entry : Entry). entry.start + entry.size ≤ n) own.entries) (sym is)
         (LieInOrder-ends 0 own.seen.tail own.entries done.has.below))
 
-    gave-taken : (place tail total : ℕ) (ends : EndsLog jobs place tail total own) (account : ℕ) → Contains (map account_given ends.given.back) account
+    gave-taken : (place tail total : ℕ) (ends : EndsLog jobs place tail total own) (account : ℕ)
+        → Contains (map account_given ends.given.back) account
         → IsGivenUncommitted (number_at jobs place) tail (ends.balances account) taken_in'.books.given account
     gave-taken place tail total ends account has =
         let one = account-given ends.given.back account has in
@@ -249,7 +255,8 @@ module _ (jobs : Jobs) where
       marks = cut.marks;
       gave = recursion_from_All (AreGivenUncommitted (number_at jobs place) tail cut.balances taken_in'.books.given)
           (job_at jobs place).legs
-          (λ i d within. let both = cut.given.each i d within in (gave-taken place tail total cut _ both.0, gave-taken place tail total cut _ both.1));
+          (λ i d within. let both = cut.given.each i d within in
+          (gave-taken place tail total cut _ both.0, gave-taken place tail total cut _ both.1));
       next = cut.next;
       rest = cut.rest;
       plan = ap (λ l. l ++ cut.next ∷ cut.rest) (merged-own (number_at jobs place) view.entries own.entries
@@ -263,8 +270,13 @@ module _ (jobs : Jobs) where
 
     CameTo-taken : (worked : Worked) → Works jobs [] mine true worked own → CameTo jobs mine worked taken_in'
     CameTo-taken All works = subst (λ places. HaveEnded jobs places taken_in') (sym works.1) (HaveEnded-taken works.0 works.2)
-    CameTo-taken (Cut cause) works = (works.0, works.1, works.2, HaveEnded-taken works.0 works.3,
-        WasCutBy-taken works.1 cause (subst (λ l. Contains l works.1) (sym works.2) (Contains-push works.0 works.1)) works.4)
+    CameTo-taken (Cut cause) works = (
+      works.0,
+      works.1,
+      works.2,
+      HaveEnded-taken works.0 works.3,
+      WasCutBy-taken works.1 cause (subst (λ l. Contains l works.1) (sym works.2) (Contains-push works.0 works.1)) works.4,
+    )
 
     -- an entry at one of its places is one that it brings
     brought : (place : ℕ) (entry : Entry) → Contains mine place → Contains taken_in'.entries entry → txn_of entry.rec ≡ number_at jobs place
@@ -294,7 +306,8 @@ module _ (jobs : Jobs) where
       all-merged _ view.entries (view_in worker).entries
       (all-weaker _ _ view.entries (λ entry lacks' w j least less. lacks' w j (omega (arith, least)) less) lacks)
       (all-weaker _ _ (view_in worker).entries
-      (λ entry own w j least less. own-other worker.seat.worker (taken_in worker.rows) w j (txn_of entry.rec) less (omega (arith, is, below)) (λ same. absurd (omega (arith, same, is, least))) own)
+      (λ entry own w j least less. own-other worker.seat.worker (taken_in worker.rows) w j (txn_of entry.rec) less
+      (omega (arith, is, below)) (λ same. absurd (omega (arith, same, is, least))) own)
       done.has.own)
 
   module _ (table : LogTable) (wait : Bool) where
@@ -307,7 +320,8 @@ module _ (jobs : Jobs) where
     HasShare-keeps_all number [] done few view worker k share below is has = has
     HasShare-keeps_all number (other ∷ others) done few view worker k share below is has =
         let at = done.0.0 in
-        HasShare-keeps_all (number + 1) others done.1 (omega (arith, few)) (takes_in view (view_in other)) worker k share (omega (arith, below)) is
+        HasShare-keeps_all (number + 1) others done.1 (omega (arith, few)) (takes_in view (view_in other)) worker k share
+        (omega (arith, below)) is
         (HasShare-keeps table view other (λ one. absurd (omega (arith, one, few, below))) (served table jobs wait other done.0.1) share
         (subst (λ l. Apart l (places_taken jobs other.seat.worker other.rows)) (sym is)
         (stripes-apart worker other.seat.worker k (taken_in other.rows) (omega (arith, few, below)) (omega (arith, few, at))

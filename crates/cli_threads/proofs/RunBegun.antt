@@ -33,7 +33,8 @@ module _ {D : Type 0} (g : Ghosts D) (disk : D) (tail : Tail) (opened : List Rec
   nothing-goes_on = goes-on opened [] jobs is.lawful is.some_accounts is.below
       (subst (AllByRecursion IsSpellable) (sym (append-nil opened)) is.spellable) tt
       (record { each = partly-none _ jobs.first (transfers_of jobs); others = λ txn apart. refl })
-      (λ worker i j small less recorded. absurd (recorded (history-own opened [] (number_at jobs (place_of jobs worker j)) (omega (arith, is.below)))))
+      (λ worker i j small less recorded. absurd (recorded (history-own opened [] (number_at jobs (place_of jobs worker j))
+      (omega (arith, is.below)))))
 
   holds-nothing : (bytes : List ℕ) → HoldsLawful bytes opened → HoldsRun opened jobs records bytes
   holds-nothing bytes held = record {

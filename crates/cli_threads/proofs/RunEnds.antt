@@ -33,7 +33,7 @@ use Rattle.txn_jobs.specs.declared.cause.Cause.TheVariants.{Stop, LogEnd}
 use Rattle.txn_jobs.specs.declared.cause.Worked.{Worked}
 use Rattle.txn_jobs.specs.declared.cause.Worked.TheVariants.{All, Cut}
 use Rattle.txn_jobs.specs.declared.jobs.Jobs.{Jobs}
-use Rattle.txn_runner.specs.Places.{number_at, job_at, place_of, stripe_places, IsStripeEnd, HasStripe, HasAllIfDone}
+use Rattle.txn_runner.specs.Places.{number_at, job_at, place_of, IsStripeEnd}
 use Rattle.txn_runner.specs.Running.{IsTotalOfSeat}
 use Rattle.txn_runner.specs.Working.{HasEnd, own_records}
 use Rattle.cli_threads.specs.RunStops.{FoundNoRoom, WasCutForRoom, IsOfScript, IsWholeStripe, IsCutStripe, IsTotalAmong, HadBalance, HadBalances, HasNextOf, StopsAtLogEnd}
@@ -118,7 +118,8 @@ module _ (opened : List Rec) (jobs : Jobs) (view : View) (below : greatest_txn (
       → own_records_of (number_at jobs (place_of jobs worker k)) (history (opened ++ list)) ≡ []
   none-behind shares gathered others worker k share at behind =
       own-later (number_at jobs (place_of jobs worker k)) (omega arith)
-      ∙ ap recs_of (others (number_at jobs (place_of jobs worker k)) (not_taken jobs shares gathered.count gathered.stripes worker k share at behind))
+      ∙ ap recs_of (others (number_at jobs (place_of jobs worker k))
+      (not_taken jobs shares gathered.count gathered.stripes worker k share at behind))
 
   -- each account that was given back uncommitted had its balance in a front of the list
   abbrev HadThem : Type 0
@@ -141,7 +142,8 @@ module _ (opened : List Rec) (jobs : Jobs) (view : View) (below : greatest_txn (
       own_records_of-own n (end_of opened) [] list (ends.next ∷ ends.rest) in
       record {
         balances = ends.balances;
-        each = all-weaker (AreGivenUncommitted n tail ends.balances view.books.given) (HadBalances (opened ++ list) tail ends.balances) (job_at jobs place).legs
+        each = all-weaker (AreGivenUncommitted n tail ends.balances view.books.given) (HadBalances (opened ++ list) tail ends.balances)
+            (job_at jobs place).legs
             (λ leg both. (had-it had n tail (ends.balances leg.0) leg.0 both.0, had-it had n tail (ends.balances leg.1) leg.1 both.1)) ends.gave;
         next = without_prev ends.next;
         rest = all_without_prev ends.rest;

@@ -290,15 +290,18 @@ module _ {D : Type 0} {K : Type 0} (g : Ghosts D) (h : SinkGhosts K) (opened : L
     had = all-weaker (WentBack base (later_of opened list)) _ view.books.given (had-balance opened list known.log.lawful lawful_after
         (apart opened list jobs known.log.lawful known.log.some_accounts known.log.below spellable lawful_after serial)) went-back
 
-    pub stops-at-end : (worker : ℕ) (taken : List ℕ) (tail total : ℕ) → get_elem? shares worker ≡ some (record { taken = taken; worked = Cut (LogEnd tail total) })
+    pub stops-at-end : (worker : ℕ) (taken : List ℕ) (tail total : ℕ)
+        → get_elem? shares worker ≡ some (record { taken = taken; worked = Cut (LogEnd tail total) })
         → StopsAtLogEnd opened jobs list key.ring key.slots tail total
     stops-at-end worker taken tail total at = subst (λ (c : Constants). StopsAtLogEnd opened jobs list c.ring c.slots tail total) constants-view
         (stops opened jobs view known.log.below shares known.workers ledger.serial.others had known.heard lsn known.gathered start-view
         stop-none worker tail total (record { taken = taken; worked = Cut (LogEnd tail total) }) at refl)
 
-    pub never-stops : (worker : ℕ) (taken : List ℕ) (word : ℕ) → get_elem? shares worker ≡ some (record { taken = taken; worked = Cut (Stop word) }) → ⊥
+    pub never-stops : (worker : ℕ) (taken : List ℕ) (word : ℕ)
+        → get_elem? shares worker ≡ some (record { taken = taken; worked = Cut (Stop word) }) → ⊥
     never-stops worker taken word at =
-        no-stop opened jobs view known.log.below shares known.workers stop-none worker word (record { taken = taken; worked = Cut (Stop word) }) at refl
+        no-stop opened jobs view known.log.below shares known.workers stop-none worker word
+        (record { taken = taken; worked = Cut (Stop word) }) at refl
 
   pub whole_after : AllByRecursion (λ (share : Share). share.worked ≡ All) shares → IsSerialAfter base (tasks_of jobs) (later_of opened list)
   whole_after all = partly-serial base (tasks_of jobs) (later_of opened list)

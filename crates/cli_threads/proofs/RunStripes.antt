@@ -200,13 +200,14 @@ map-append : (xs ys : List TakenJob) → map task_of (xs ++ ys) ≡ map task_of 
 map-append [] ys = refl
 map-append (x ∷ xs) ys = ap (λ l. task_of x ∷ l) (map-append xs ys)
 
-taken-has : (jobs : Jobs) (worker : ℕ) (shares : List Share) (i j : ℕ) (share : Share) → get_elem? shares i ≡ some share → j < length share.taken
+taken-has : (jobs : Jobs) (worker : ℕ) (shares : List Share) (i j : ℕ) (share : Share) → get_elem? shares i ≡ some share
+    → j < length share.taken
     → Contains (map task_of (stripes_taken jobs worker shares)) (task_kth jobs (worker + i) j)
 taken-has jobs worker [] i j share at below = absurd (some-ne-none share (sym at))
 taken-has jobs worker (first ∷ shares) zero j share at below =
     let own : List Task = map task_of (stripe_jobs jobs worker (length first.taken)) in
     let rest : List Task = map task_of (stripes_taken jobs (worker + 1) shares) in
-    subst (λ l. Contains l (task_kth jobs (worker + 0) j)) 
+    subst (λ l. Contains l (task_kth jobs (worker + 0) j))
     (sym (map-append (stripe_jobs jobs worker (length first.taken)) (stripes_taken jobs (worker + 1) shares)))
     (Contains-append_left own rest (task_kth jobs (worker + 0) j)
     (subst (λ w. Contains own (task_kth jobs w j)) (omega arith)
@@ -214,7 +215,7 @@ taken-has jobs worker (first ∷ shares) zero j share at below =
 taken-has jobs worker (first ∷ shares) (suc i) j share at below =
     let own : List Task = map task_of (stripe_jobs jobs worker (length first.taken)) in
     let rest : List Task = map task_of (stripes_taken jobs (worker + 1) shares) in
-    subst (λ l. Contains l (task_kth jobs (worker + suc i) j)) 
+    subst (λ l. Contains l (task_kth jobs (worker + suc i) j))
     (sym (map-append (stripe_jobs jobs worker (length first.taken)) (stripes_taken jobs (worker + 1) shares)))
     (Contains-append_right own rest (task_kth jobs (worker + suc i) j)
     (subst (λ w. Contains rest (task_kth jobs w j)) (omega arith) (taken-has jobs (worker + 1) shares i j share at below)))
@@ -273,7 +274,8 @@ module _ (jobs : Jobs) (shares : List Share) (count : length shares ≡ jobs.wor
       (not_taken here.worker here.k found.0 found.1 (omega arith))))
 
   -- the script has each place of a stripe that was taken
-  pub stripe-of : (i : ℕ) (share : Share) → get_elem? shares i ≡ some share → AreOfScript jobs share.taken → HasStripe jobs i (length share.taken)
+  pub stripe-of : (i : ℕ) (share : Share) → get_elem? shares i ≡ some share → AreOfScript jobs share.taken
+      → HasStripe jobs i (length share.taken)
   stripe-of i share at are = HasStripe-of jobs i (length share.taken) (subst (AreOfScript jobs) (stripes i share at).places are)
 
   -- each transfer that was taken is one of the script

@@ -24,7 +24,7 @@ use Rattle.txn_jobs.specs.declared.cause.Worked.{Worked}
 use Rattle.txn_jobs.specs.declared.cause.Worked.TheVariants.{All, Cut}
 use Rattle.txn_jobs.specs.declared.jobs.Jobs.{Jobs}
 use Rattle.txn_runner.specs.Running.{LieInOrder}
-use Rattle.txn_runner.specs.Places.{number_at, place_of, stripe_places}
+use Rattle.txn_runner.specs.Places.{number_at, place_of}
 use Rattle.txn_runner.specs.Working.{HasEnd}
 use Rattle.txn_runner.proofs.EntryLemmas.{LieInOrder-starts}
 use Rattle.cli_threads.specs.Run.{ComeInTurn}
@@ -93,7 +93,8 @@ one-of n (entry ∷ entries) = dite (ℕ_discrete (txn_of entry.rec) n)
     (one-of n entries))
 
 module _ (opened : List Rec) (jobs : Jobs) (view : View) (below : greatest_txn (history opened) < jobs.first) (shares : List Share)
-    (gathered : HasGathered jobs shares view) (others : HasNoOthers (map task_of (all_taken jobs shares)) (later_of opened (records_of view.entries)))
+    (gathered : HasGathered jobs shares view) (others : HasNoOthers (map task_of (all_taken jobs shares))
+    (later_of opened (records_of view.entries)))
     (lsn : ℕ) (whole : IsGathered lsn view) where
   -- of a transfer that was taken each before it in the stripe has its end record
   ended-before : (worker i j : ℕ) (share : Share) → get_elem? shares worker ≡ some share → i < j → j < length share.taken
@@ -101,7 +102,8 @@ module _ (opened : List Rec) (jobs : Jobs) (view : View) (below : greatest_txn (
   ended-before worker i j share at less taken = by_case share.worked
       (came-along jobs worker share view (gathered.stripes worker share at) (gathered.each worker share at).came_to)
     where
-      by_case : (worked : Worked) → CameAlong jobs worker (length share.taken) worked view → HasEnd (number_at jobs (place_of jobs worker i)) view.entries
+      by_case : (worked : Worked) → CameAlong jobs worker (length share.taken) worked view
+          → HasEnd (number_at jobs (place_of jobs worker i)) view.entries
       by_case All came = came.1 i (omega (arith, less, taken))
       by_case (Cut cause) came = came.2 i (omega (arith, less, taken, came.1))
 

@@ -1,5 +1,5 @@
 -- What a worker did stands once it has ended.
-use Rattle.std.proofs.Common.{◌≡◌, ℕ, Bool, true, List, [], sym, ap, subst, ◌∙◌}
+use Rattle.std.proofs.Common.{◌≡◌, ℕ, Bool, true, List, [], ap, subst, ◌∙◌}
 use Rattle.log_table.specs.declared.table.Seat.{Seat}
 use Rattle.log_table.specs.declared.table.LogTable.{LogTable}
 use Rattle.log_table.specs.declared.view.Role.TheVariants.{Ended}
@@ -45,7 +45,8 @@ module _ (jobs : Jobs) where
     in_turn = has.in_turn;
   }
 
-  IsCutBy-retired : (place : ℕ) (cause : Cause) (view : View) → IsCutBy jobs place true cause view → IsCutBy jobs place true cause (retired view)
+  IsCutBy-retired : (place : ℕ) (cause : Cause) (view : View) → IsCutBy jobs place true cause view
+      → IsCutBy jobs place true cause (retired view)
   IsCutBy-retired place (Stop word) view is = is
   IsCutBy-retired place (LogEnd tail total) view is = record {
     balances = is.balances;
@@ -80,7 +81,8 @@ module _ (jobs : Jobs) where
     pub works : Works jobs [] taken true worked view
 
   -- a worker that took no transfer before did its work, and left
-  pub HasDone-left : (before taken : List ℕ) (wait : Bool) (worked : Worked) (old new : View) → before ≡ [] → old.books.jobs ≡ [] → HasWorked jobs taken new
+  pub HasDone-left : (before taken : List ℕ) (wait : Bool) (worked : Worked) (old new : View) → before ≡ [] → old.books.jobs ≡ []
+      → HasWorked jobs taken new
       → TakesJobs jobs before taken old new → Works jobs before taken wait worked new → HasDone taken worked (retired new)
   HasDone-left before taken wait worked old new none no_jobs has takes works = record {
     jobs_are = jobs-from_none jobs before taken old new none no_jobs takes;

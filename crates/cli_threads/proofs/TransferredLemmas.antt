@@ -187,6 +187,7 @@ MayClose-all table jobs wait key workers done view taken =
     }
 
 -- the shares are those of what the works came to
-pub ends-of_shares : (jobs : Jobs) (workers : List Worker) → map (λ (share : Share). share.worked) (map (share_of jobs) workers) ≡ map worked_of workers
+pub ends-of_shares : (jobs : Jobs) (workers : List Worker)
+    → map (λ (share : Share). share.worked) (map (share_of jobs) workers) ≡ map worked_of workers
 ends-of_shares jobs [] = refl
 ends-of_shares jobs (worker ∷ workers) = ap (λ l. worked_of worker ∷ l) (ends-of_shares jobs workers)

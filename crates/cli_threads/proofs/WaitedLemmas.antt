@@ -1,5 +1,5 @@
 -- The accounts of a worker that waits went back once the ends were durable, also once other seats are taken in.
-use Rattle.std.proofs.Common.{◌≡◌, ◌∙◌, ℕ, zero, suc, ◌+◌, ◌≤◌, Bool, true, List, [], ◌∷◌, ◌++◌, length, map, take, sym, ap, subst, arith, Contains, refl}
+use Rattle.std.proofs.Common.{◌≡◌, ◌∙◌, ℕ, zero, suc, ◌+◌, Bool, true, List, [], ◌∷◌, ◌++◌, length, map, take, sym, ap, subst, arith, Contains, refl}
 use Rattle.std.proofs.lemmas.List.{take_all}
 use Rattle.std.proofs.lemmas.List.Elements.{Contains-append_left, Contains-append_right}
 use mathlib.Core.Option.{some, some-injective, some-ne-none}
@@ -22,7 +22,7 @@ use Rattle.txn_runner.specs.Places.{number_at, job_at}
 use Rattle.txn_runner.specs.Working.{AddsRows, AreRowsOf, AreGivenAt, EachHasRow, IsGivenAt, TellsEnd}
 use Rattle.txn_runner.proofs.PlanLemmas.{end_record-own, end_record-ends}
 use Rattle.cli_workers.specs.declared.workers.Worker.{Worker}
-use Rattle.cli_threads.specs.Gathering.{share_of, takes_all, view_in, worked_of}
+use Rattle.cli_threads.specs.Gathering.{share_of, takes_all, view_in}
 use Rattle.cli_threads.specs.Shares.{Share}
 use Rattle.cli_threads.specs.Waiting.{HasWaited, HaveWaited, IsGivenFrom, AreGivenFrom, made_of}
 use Rattle.cli_workers.specs.Workers.{Numbered}
@@ -63,7 +63,8 @@ module _ (jobs : Jobs) where
       (HasWaited-row place view row tell.0, HaveWaited-told places row.end row.seen view rows tell.3)
 
   -- as many transfers were made as there are rows
-  made-rows : (taken : List ℕ) (worked : Worked) (rows : List Row) → EachHasRow taken worked rows → take (length rows) taken ≡ made_of taken worked
+  made-rows : (taken : List ℕ) (worked : Worked) (rows : List Row) → EachHasRow taken worked rows
+      → take (length rows) taken ≡ made_of taken worked
   made-rows taken All rows each = take_all (length rows) taken (omega (arith, each))
   made-rows taken (Cut cause) rows each = ap (λ n. take n taken) (omega (arith, each))
 

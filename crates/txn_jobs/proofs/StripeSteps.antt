@@ -1,5 +1,5 @@
 -- Lists of places, and those of a stripe, one place further.
-use Rattle.std.proofs.Common.{ℕ, zero, suc, ◌≡◌, ◌+◌, ◌<◌, ◌≤◌, List, [], ◌∷◌, ◌++◌, length, arith}
+use Rattle.std.proofs.Common.{ℕ, zero, suc, ◌+◌, ◌<◌, ◌≤◌, List, [], ◌∷◌, ◌++◌, length, arith}
 use Rattle.std.proofs.Math.Nat.{mul-le-mul_left}
 use Rattle.std.specs.List.{AllByRecursion}
 use borrow.Author.Count.{below_more}
@@ -29,13 +29,15 @@ module _ (jobs : Jobs) (worker : ℕ) where
 
   pub stripe_places-below : (i k : ℕ) → i ≤ k → AllByRecursion (λ place. place < place_of jobs worker k) (stripe_places jobs worker i)
   stripe_places-below zero k few = tt
-  stripe_places-below (suc i) k few = all-append (λ place. place < place_of jobs worker k) (stripe_places jobs worker i) (place_of jobs worker i ∷ [])
+  stripe_places-below (suc i) k few = all-append (λ place. place < place_of jobs worker k) (stripe_places jobs worker i)
+      (place_of jobs worker i ∷ [])
       (stripe_places-below i k (omega arith)) (place_of-rises i k (omega arith), tt)
 
   -- the script has the places just where it has so much of the stripe
   pub AreOfScript-stripe : (k : ℕ) → HasStripe jobs worker k → AreOfScript jobs (stripe_places jobs worker k)
   AreOfScript-stripe zero stripe = tt
-  AreOfScript-stripe (suc k) stripe = all-append (λ place. place < length jobs.script) (stripe_places jobs worker k) (place_of jobs worker k ∷ [])
+  AreOfScript-stripe (suc k) stripe = all-append (λ place. place < length jobs.script) (stripe_places jobs worker k)
+      (place_of jobs worker k ∷ [])
       (AreOfScript-stripe k (λ j less. stripe j (omega (arith, less)))) (stripe k (omega arith), tt)
 
   pub HasStripe-of : (k : ℕ) → AreOfScript jobs (stripe_places jobs worker k) → HasStripe jobs worker k

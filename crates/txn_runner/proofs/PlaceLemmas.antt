@@ -28,7 +28,8 @@ module _ (jobs : Jobs) where
   pub jobs_taken-below : (places : List ℕ) (place : ℕ) → AllByRecursion (λ before. before < place) places
       → AllByRecursion (λ (taken : TakenJob). taken.number < number_at jobs place) (jobs_taken jobs places)
   jobs_taken-below [] place below = tt
-  jobs_taken-below (first ∷ places) place below = all-append (λ (taken : TakenJob). taken.number < number_at jobs place) (jobs_taken jobs places)
+  jobs_taken-below (first ∷ places) place below = all-append (λ (taken : TakenJob). taken.number < number_at jobs place)
+      (jobs_taken jobs places)
       (taken_at jobs first ∷ []) (jobs_taken-below places place below.1) (omega (arith, below.0), tt)
 
   -- the table allows a transfer of the script
@@ -56,7 +57,8 @@ module _ (jobs : Jobs) (worker : ℕ) where
   HasStripe-few zero stripe = omega arith
   HasStripe-few (suc k) stripe = omega (arith, stripe-few jobs worker k (stripe k (omega arith)))
 
-  pub HasRoomForRows-none : (rows : Rows) → rows_in rows ≡ [] → taken_in rows ≡ 0 → length jobs.script ≤ room_of rows → HasRoomForRows jobs worker rows
+  pub HasRoomForRows-none : (rows : Rows) → rows_in rows ≡ [] → taken_in rows ≡ 0 → length jobs.script ≤ room_of rows
+      → HasRoomForRows jobs worker rows
   HasRoomForRows-none rows empty none enough k stripe = omega (arith, HasStripe-few k stripe, ap length empty, none, enough)
 
   -- one more was taken, and its row put

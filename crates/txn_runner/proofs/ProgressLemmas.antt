@@ -15,7 +15,7 @@ use Rattle.txn_jobs.specs.Rows.{IsTold}
 use Rattle.txn_making.specs.Holdings.{KeepsGiven}
 use Rattle.txn_runner.specs.Running.{HasInserted, HasRun, HasCut}
 use Rattle.txn_runner.specs.Places.{number_at, job_at, jobs_taken}
-use Rattle.txn_runner.specs.Working.{rows_in, room_of, HasWorked, KeepsEntries, TakesJobs, HaveEnded, Works, AddsRows}
+use Rattle.txn_runner.specs.Working.{rows_in, room_of, HasWorked, KeepsEntries, TakesJobs, Works, AddsRows}
 use Rattle.txn_runner.proofs.RowLemmas.{AddsRows-push, AddsRows-cut}
 use Rattle.txn_making.proofs.GivenLemmas.{given-same, given-trans}
 use Rattle.txn_runner.proofs.PlaceLemmas.{jobs_taken-push}
@@ -39,11 +39,21 @@ Progress-first jobs start wait rows view worked = record {
   given = given-same view view refl;
   takes = record { taken = []; places = sym (append-nil start); jobs_are = refl };
   works = ([], sym (append-nil start), tt);
-  adds = record { taken = []; places = sym (append-nil start); added = []; rows = sym (append-nil (rows_in rows)); room = refl; tell = refl; each = refl };
+  adds = record {
+    taken = [];
+    places = sym (append-nil start);
+    added = [];
+    rows = sym
+        (append-nil (rows_in rows));
+    room = refl;
+    tell = refl;
+    each = refl;
+  };
 }
 
 -- the transfer taken last was cut off
-pub record Stopped (jobs : Jobs) (start taken : List ℕ) (wait : Bool) (rows_first rows : Rows) (first view : View) (ended : Worked) : Type 0 where
+pub record Stopped (jobs : Jobs) (start taken : List ℕ) (wait : Bool) (rows_first rows : Rows) (first view : View)
+    (ended : Worked) : Type 0 where
   pub worked : HasWorked jobs taken view
   pub kept : KeepsEntries first view
   pub given : KeepsGiven first view
@@ -148,7 +158,8 @@ module _ (jobs : Jobs) (start mid : List ℕ) (last : ℕ) (wait : Bool) (rows_f
       (Progress-cut cause cut put.1)
 
 -- a seat that had no job has just those that it took
-pub jobs-from_none : (jobs : Jobs) (before taken : List ℕ) (old new : View) → before ≡ [] → old.books.jobs ≡ [] → TakesJobs jobs before taken old new
+pub jobs-from_none : (jobs : Jobs) (before taken : List ℕ) (old new : View) → before ≡ [] → old.books.jobs ≡ []
+    → TakesJobs jobs before taken old new
     → new.books.jobs ≡ jobs_taken jobs taken
 jobs-from_none jobs before taken old new none no_jobs takes = takes.jobs_are ∙ (ap (λ l. jobs_taken jobs takes.taken ++ l) no_jobs
     ∙ (append-nil _ ∙ ap (jobs_taken jobs) (sym (takes.places ∙ ap (λ l. l ++ takes.taken) none))))

@@ -90,7 +90,8 @@ module _ (jobs : Jobs) (wait : Bool) (old new : View) (goes : Goes old new) wher
       TellsEnd-still place other tell.0,
       tell.1,
       tell.2,
-      AreRowsOf-push last other.end other.seen places rows (omega (arith, count)) (row-ends jobs wait old place other order tell.0) tell.0.seen tells tell.3,
+      AreRowsOf-push last other.end other.seen places rows (omega (arith, count))
+          (row-ends jobs wait old place other order tell.0) tell.0.seen tells tell.3,
     )
 
 TellsEnd-run : (jobs : Jobs) (place : ℕ) (wait : Bool) (row : Row) (old new : View)

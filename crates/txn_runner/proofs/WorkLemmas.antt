@@ -1,4 +1,5 @@
--- A worker's next transfer, behind those that it took before, at the places `taken`. `old` and `new` are its seat's view before and after that transfer.
+-- A worker's next transfer, behind those that it took before, at the places `taken`. `old` and `new` are its seat's view before and after
+-- that transfer.
 use Rattle.std.proofs.Common.{◌≡◌, ◌≢◌, ◌⊎◌, inl, inr, ⊎_elim, ◌∙◌, ℕ, ◌+◌, ◌<◌, ◌≤◌, List, [], ◌∷◌, ◌++◌, length, All, Contains, sym, ap, subst, arith, refl, Bool, true, false, true≢false}
 use Rattle.std.proofs.lemmas.List.Elements.{All-contains, All-from_recursion, recursion_from_All, Contains-append_cases, Contains-append_left, Contains-append_right, Contains-push, Contains-push_cases}
 use Rattle.std.specs.List.{AllByRecursion}
@@ -23,8 +24,8 @@ use Rattle.txn_jobs.specs.declared.cause.Worked.TheVariants as worked
 use Rattle.txn_jobs.specs.declared.jobs.Jobs.{Jobs}
 use Rattle.txn_jobs.specs.declared.rows.Row.{Row}
 use Rattle.txn_runner.specs.Running.{outcome_of, LieInOrder, IsUncommittedAt, HasInserted, HasRun, HasCut}
-use Rattle.txn_runner.specs.Places.{place_of, number_at, job_at, taken_at, jobs_taken, stripe_places, IsOneOf, Rises, AreOfScript}
-use Rattle.txn_runner.specs.Working.{LieInTurn, HasWorked, TakesJobs, HasEnd, HaveEnded, own_records, IsCutBy, Works}
+use Rattle.txn_runner.specs.Places.{place_of, number_at, job_at, taken_at, jobs_taken, stripe_places, IsOneOf}
+use Rattle.txn_runner.specs.Working.{LieInTurn, HasWorked, HasEnd, HaveEnded, own_records, IsCutBy, Works}
 use Rattle.txn_runner.proofs.EntryLemmas.{all-records, own_records-append, own_records-none, own_records-all, LieInOrder-append, LieInOrder-starts, LieInOrder-ends}
 use Rattle.txn_runner.proofs.PlanLemmas.{IsRecordOf, planned_records-own, planned_records-front, end_record-own, end_record-ends}
 use Rattle.txn_jobs.proofs.StripeSteps.{Rises-push, stripe_places-below}
@@ -75,7 +76,8 @@ module _ (jobs : Jobs) (taken : List ℕ) (place number : ℕ) (job : Job) (next
     above = subst (λ n. AllByRecursion (λ (taken : TakenJob). taken.number < n) view.books.jobs) (sym next.number_is)
         (subst (AllByRecursion (IsBelow (number_at jobs place))) (sym worked.jobs_are) (all-append (IsBelow (number_at jobs place))
         (jobs_taken jobs taken) worked.earlier (jobs_taken-below jobs taken place next.above)
-        (all-weaker (IsBelow jobs.first) (IsBelow (number_at jobs place)) worked.earlier (λ taken below. omega (arith, below)) worked.numbers)));
+        (all-weaker (IsBelow jobs.first) (IsBelow (number_at jobs place)) worked.earlier
+        (λ taken below. omega (arith, below)) worked.numbers)));
   }
     where
       IsBelow : ℕ → TakenJob → Type 0
@@ -83,7 +85,8 @@ module _ (jobs : Jobs) (taken : List ℕ) (place number : ℕ) (job : Job) (next
 
 -- a place that is taken is below the next
 below-next : (taken : List ℕ) (place before : ℕ) → AllByRecursion (λ before. before < place) taken → Contains taken before → before < place
-below-next taken place before above = All-contains (λ before. before < place) taken before (All-from_recursion (λ before. before < place) taken above)
+below-next taken place before above = All-contains (λ before. before < place) taken before
+    (All-from_recursion (λ before. before < place) taken above)
 
 -- what was inserted for the transfer at a place above those before, behind what was there
 module _ (jobs : Jobs) (taken : List ℕ) (place : ℕ) (above : AllByRecursion (λ before. before < place) taken) (rest : List Rec) (old new : View)
@@ -96,7 +99,8 @@ module _ (jobs : Jobs) (taken : List ℕ) (place : ℕ) (above : AllByRecursion 
 
   taken-next : (places : List ℕ) (earlier : List TakenJob) → old.books.jobs ≡ jobs_taken jobs places ++ earlier
       → new.books.jobs ≡ jobs_taken jobs (places ++ place ∷ []) ++ earlier
-  taken-next places earlier is = inserted.jobs ∙ ap (λ l. taken_at jobs place ∷ l) is ∙ sym (ap (λ l. l ++ earlier) (jobs_taken-push jobs places place))
+  taken-next places earlier is = inserted.jobs ∙ ap (λ l. taken_at jobs place ∷ l) is ∙ sym
+      (ap (λ l. l ++ earlier) (jobs_taken-push jobs places place))
 
   -- it lies behind what was there, and that is of transfers at places below
   in_turn-next : HasWorked jobs taken old → LieInTurn jobs (taken ++ place ∷ []) (old.entries ++ inserted.added)
@@ -128,7 +132,8 @@ module _ (jobs : Jobs) (taken : List ℕ) (place : ℕ) (above : AllByRecursion 
       by_place : Contains old.entries before ⊎ Contains inserted.added before → Contains old.entries after ⊎ Contains inserted.added after
           → before.start + before.size ≤ after.start
       by_place (inl first) (inl second) =
-          worked.in_turn i j before after less (earlier i (lower before i first is) one) (earlier j (lower after j second is') other) first second is is'
+          worked.in_turn i j before after less (earlier i (lower before i first is) one)
+          (earlier j (lower after j second is') other) first second is is'
       by_place (inl first) (inr second) = omega (arith, ends first, starts second)
       by_place (inr first) (inl second) = absurd (omega (arith, lower after j second is', last before first, is, less))
       by_place (inr first) (inr second) = absurd (omega (arith, less, last before first, last after second, is, is'))
@@ -155,13 +160,15 @@ module _ (jobs : Jobs) (taken : List ℕ) (place : ℕ) (above : AllByRecursion 
       still entry (inr own) = inr (own.0, Contains-append_left taken (place ∷ []) own.0 own.1, own.2)
 
   pub HaveEnded-still : (places : List ℕ) → HaveEnded jobs places old → HaveEnded jobs places new
-  HaveEnded-still places ended = all-weaker (λ place. HasEnd (number_at jobs place) old.entries) (λ place. HasEnd (number_at jobs place) new.entries) places
+  HaveEnded-still places ended = all-weaker (λ place. HasEnd (number_at jobs place) old.entries)
+      (λ place. HasEnd (number_at jobs place) new.entries) places
       (λ place ended. subst (HasEnd (number_at jobs place)) (sym inserted.entries)
       (HasEnd-append (number_at jobs place) old.entries inserted.added ended)) ended
 
   -- the records before are of other numbers
   before-other : HasWorked jobs taken old → AllByRecursion (λ (entry : Entry). txn_of entry.rec ≢ number_at jobs place) old.entries
-  before-other worked = all-weaker (IsOwnEntry jobs taken) (λ (entry : Entry). txn_of entry.rec ≢ number_at jobs place) old.entries other worked.own
+  before-other worked = all-weaker (IsOwnEntry jobs taken)
+      (λ (entry : Entry). txn_of entry.rec ≢ number_at jobs place) old.entries other worked.own
     where
       other : (entry : Entry) → IsOwnEntry jobs taken entry → txn_of entry.rec ≢ number_at jobs place
       other entry (inl earlier) is = absurd (omega (arith, earlier, is))
@@ -178,7 +185,8 @@ module _ (jobs : Jobs) (taken : List ℕ) (place : ℕ) (above : AllByRecursion 
   unended-next : HasWorked jobs taken old → rest ≢ [] → HasEnd (number_at jobs place) new.entries → ⊥
   unended-next worked some ended = All-contains IsNoEnd (old.entries ++ inserted.added) ended.end
       (All-from_recursion IsNoEnd (old.entries ++ inserted.added) (all-append IsNoEnd old.entries inserted.added
-      (all-weaker (λ (entry : Entry). txn_of entry.rec ≢ number_at jobs place) IsNoEnd old.entries (λ entry other is on. other is) (before-other worked))
+      (all-weaker (λ (entry : Entry). txn_of entry.rec ≢ number_at jobs place) IsNoEnd old.entries (λ entry other is on. other is)
+      (before-other worked))
       (all-weaker (λ (entry : Entry). ends entry.rec ≡ false) IsNoEnd inserted.added (λ entry off is on. true≢false (sym on ∙ off))
       (all-records (λ rec. ends rec ≡ false) inserted.added
       (planned_records-front (number_at jobs place) (transfer_of (job_at jobs place)) inserted.marks inserted.balances
@@ -198,16 +206,19 @@ HasEnd-run number job wait row old new run = record {
   is_end = ap ends run.rec ∙ end_record-ends number (transfer_of job) (outcome_of row.answer);
 }
 
-pub HaveEnded-next : (jobs : Jobs) (taken : List ℕ) (place : ℕ) (above : AllByRecursion (λ before. before < place) taken) (wait : Bool) (row : Row) (old new : View)
+pub HaveEnded-next : (jobs : Jobs) (taken : List ℕ) (place : ℕ) (above : AllByRecursion (λ before. before < place) taken) (wait : Bool)
+    (row : Row) (old new : View)
     → HasRun (number_at jobs place) (job_at jobs place) wait row old new → (places : List ℕ) → HaveEnded jobs places old
     → HaveEnded jobs (places ++ place ∷ []) new
-HaveEnded-next jobs taken place above wait row old new run places ended = all-append (λ place. HasEnd (number_at jobs place) new.entries) places (place ∷ [])
+HaveEnded-next jobs taken place above wait row old new run places ended = all-append
+    (λ place. HasEnd (number_at jobs place) new.entries) places (place ∷ [])
     (HaveEnded-still jobs taken place above [] old new run.inserted places ended)
     (HasEnd-run (number_at jobs place) (job_at jobs place) wait row old new run, tt)
 
 -- the transfer was cut off
 pub IsCutBy-next : (jobs : Jobs) (taken : List ℕ) (place : ℕ) → AllByRecursion (λ before. before < place) taken → (wait : Bool) (cause : Cause)
-    (old new : View) → HasWorked jobs taken old → HasCut (number_at jobs place) (job_at jobs place) wait cause old new → IsCutBy jobs place wait cause new
+    (old new : View) → HasWorked jobs taken old → HasCut (number_at jobs place)
+    (job_at jobs place) wait cause old new → IsCutBy jobs place wait cause new
 IsCutBy-next jobs taken place above wait (Stop word) old new worked cut = (waits cut.0 cut.1 cut.2, cut.3, cut.4)
   where
     waits : (rest : List Rec) → HasInserted (number_at jobs place) (job_at jobs place) rest old new → (rest ≡ [] → wait ≡ true)
@@ -236,7 +247,8 @@ IsCutBy-may_wait : (jobs : Jobs) (place : ℕ) (wait : Bool) (cause : Cause) (vi
 IsCutBy-may_wait jobs place wait (Stop word) view cut = (λ ended. refl, cut.1, cut.2)
 IsCutBy-may_wait jobs place wait (LogEnd tail total) view cut = cut
 
-pub Works-may_wait : (jobs : Jobs) (before after : List ℕ) (wait : Bool) (worked : Worked) (view : View) → Works jobs before after wait worked view
+pub Works-may_wait : (jobs : Jobs) (before after : List ℕ) (wait : Bool) (worked : Worked) (view : View)
+    → Works jobs before after wait worked view
     → Works jobs before after true worked view
 Works-may_wait jobs before after wait worked.All view works = works
 Works-may_wait jobs before after wait (worked.Cut cause) view works =

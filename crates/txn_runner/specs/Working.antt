@@ -1,4 +1,5 @@
--- What a worker has done. `taken` are the places of the script that it took, in this order; `old` and `new` are its seat's view before and after.
+-- What a worker has done. `taken` are the places of the script that it took, in this order; `old` and `new` are its seat's view before and
+-- after.
 use Rattle.std.specs.Prelude.{◌≡◌, ◌≢◌, ◌⊎◌, ℕ, ◌+◌, ◌<◌, ◌≤◌, ◌==◌, true, Bool, List, [], ◌∷◌, ◌++◌, length, filter, Contains}
 use Rattle.std.specs.List.{AllByRecursion}
 use Rattle.lsn_space.specs.declared.lsn.TheConstants.{LAST}
@@ -30,7 +31,8 @@ places_taken jobs worker rows = stripe_places jobs worker (taken_in rows)
 -- among the entries each of a transfer at one of these places ends at or below the start of each of one at a later place
 abbrev pub LieInTurn : Jobs → List ℕ → List Entry → Type 0
 LieInTurn jobs taken entries = (i j : ℕ) (before after : Entry) → i < j → Contains taken i → Contains taken j → Contains entries before
-    → Contains entries after → txn_of before.rec ≡ number_at jobs i → txn_of after.rec ≡ number_at jobs j → before.start + before.size ≤ after.start
+    → Contains entries after → txn_of before.rec ≡ number_at jobs i → txn_of after.rec ≡ number_at jobs j
+    → before.start + before.size ≤ after.start
 
 -- The seat took the transfers at these places of the script, which rise, after others with numbers below the first. Its records are of these,
 -- and lie one behind another below the tail as it saw it last, in the order of the places.
@@ -137,7 +139,8 @@ EachHasRow taken All added = length added ≡ length taken
 EachHasRow taken (Cut cause) added = length added + 1 ≡ length taken
 
 -- from the places `before` to `after`: rows were added behind those before; there is as much room as before
-pub record AddsRows (jobs : Jobs) (before after : List ℕ) (wait : Bool) (worked : Worked) (rows_old rows_new : Rows) (old new : View) : Type 0 where
+pub record AddsRows (jobs : Jobs) (before after : List ℕ) (wait : Bool) (worked : Worked) (rows_old rows_new : Rows)
+    (old new : View) : Type 0 where
   pub taken : List ℕ
   pub places : after ≡ before ++ taken
   pub added : List Row

@@ -46,10 +46,13 @@ pub fn work<R: Wait, Q: Relief, G: Gate>(
     ensures worked { HasWorked jobs.now (places_taken jobs.now seat.old.worker rows.new) (view_of seat.new) }
     ensures kept { KeepsEntries (view_of seat.old) (view_of seat.new) }
     ensures given { KeepsGiven (view_of seat.old) (view_of seat.new) }
-    ensures jobs { TakesJobs jobs.now (places_taken jobs.now seat.old.worker rows.old) (places_taken jobs.now seat.old.worker rows.new) (view_of seat.old) (view_of seat.new) }
-    ensures works { Works jobs.now (places_taken jobs.now seat.old.worker rows.old) (places_taken jobs.now seat.old.worker rows.new) wait result (view_of seat.new) }
+    ensures jobs { TakesJobs jobs.now (places_taken jobs.now seat.old.worker rows.old) (places_taken jobs.now seat.old.worker rows.new)
+        (view_of seat.old) (view_of seat.new) }
+    ensures works { Works jobs.now (places_taken jobs.now seat.old.worker rows.old) (places_taken jobs.now seat.old.worker rows.new)
+        wait result (view_of seat.new) }
     ensures all { HasAllIfDone jobs.now seat.old.worker (taken_in rows.new) result }
-    ensures rows { AddsRows jobs.now (places_taken jobs.now seat.old.worker rows.old) (places_taken jobs.now seat.old.worker rows.new) wait result rows.old rows.new (view_of seat.old) (view_of seat.new) }
+    ensures rows { AddsRows jobs.now (places_taken jobs.now seat.old.worker rows.old) (places_taken jobs.now seat.old.worker rows.new)
+        wait result rows.old rows.new (view_of seat.old) (view_of seat.new) }
     ensures relief { Q.ready relief.new }
     ensures later { Q.later relief.old relief.new }
 {

@@ -41,7 +41,8 @@ module _ (jobs : Jobs) (job : Job) (script : jobs.script ≡ job ∷ []) (first 
   taken i = record { number = number-is i; job = job-is i } ∷ []
 
   pub one-job : (k : ℕ) (worked : Worked) (view : View) → AreOfScript jobs (stripe_places jobs 0 k) → HasAllIfDone jobs 0 k worked
-      → Works jobs [] (stripe_places jobs 0 k) false worked view → jobs_taken jobs (stripe_places jobs 0 k) ≡ record { number = 1; job = job } ∷ []
+      → Works jobs [] (stripe_places jobs 0 k) false worked view
+      → jobs_taken jobs (stripe_places jobs 0 k) ≡ record { number = 1; job = job } ∷ []
   one-job zero All view places all works = absurd (omega (arith, one, all))
   one-job zero (Cut cause) view places all works = absurd (omega (arith, ap length works.2, length-append works.0 (works.1 ∷ [])))
   one-job (suc zero) worked view places all works = taken

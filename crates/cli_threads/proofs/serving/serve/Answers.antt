@@ -33,7 +33,8 @@ returns-clause-done g c =
     let leaves = c.leave.ensures.view in
     let left = view-left c.work-worked.new.seat c.leave.new.seat leaves in
     let same : c.leave.new.seat.worker ≡ number = leaves.worker ∙ did.same.worker in
-    let done = HasDone-left jobs start taken c.waits-wait.result worked (view_of c.args.worker.seat) new first none did.worked did.jobs did.works in
+    let done = HasDone-left jobs start taken c.waits-wait.result worked
+    (view_of c.args.worker.seat) new first none did.worked did.jobs did.works in
     let all = subst (HasDone jobs taken worked) (sym left) done in
     let mine = subst (λ n. HasDone jobs (stripe_places jobs n count) worked (view_of c.leave.new.seat)) (sym same) all in
     record {

@@ -10,7 +10,8 @@ use Rattle.run_rig.proofs.workers.work_stripe.Goals as goal
 
 pub work-worked-requires-clause-worked : goal.work-worked-requires-clause-worked
 work-worked-requires-clause-worked g c =
-    subst (λ k. HasWorked c.args.jobs.now (stripe_places c.args.jobs.now c.args.seat.now.worker k) (view_of c.args.seat.now)) (sym c.in_ok-rows.ensures.taken)
+    subst (λ k. HasWorked c.args.jobs.now (stripe_places c.args.jobs.now c.args.seat.now.worker k) (view_of c.args.seat.now))
+    (sym c.in_ok-rows.ensures.taken)
     (HasWorked-none c.args.jobs.now (view_of c.args.seat.now) c.requires.unused.entries
     (ap (λ (books : Books). books.jobs) c.requires.unused.books))
 
@@ -18,7 +19,8 @@ pub work-worked-requires-clause-room : goal.work-worked-requires-clause-room
 work-worked-requires-clause-room g c = HasRoomForRows-none c.args.jobs.now _ c.in_ok-rows.rows c.in_ok-rows.ensures.rows c.in_ok-rows.ensures.taken (search rules)
 
 pub returns-clause-works : goal.returns-clause-works
-returns-clause-works g c = subst (λ before. Works c.args.jobs.now before (places_taken c.args.jobs.now c.args.seat.now.worker c.work-worked.new.rows)
+returns-clause-works g c = subst (λ before. Works c.args.jobs.now before
+    (places_taken c.args.jobs.now c.args.seat.now.worker c.work-worked.new.rows)
     c.args.wait c.work-worked.result (view_of c.work-worked.new.seat))
     (ap (stripe_places c.args.jobs.now c.args.seat.now.worker) c.in_ok-rows.ensures.taken) c.work-worked.ensures.works
 

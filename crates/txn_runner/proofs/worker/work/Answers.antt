@@ -9,7 +9,7 @@ use Rattle.txn_jobs.specs.declared.rows.Rows.{Rows}
 use Rattle.txn_jobs.specs.Rows.{IsTold}
 use Rattle.txn_runner.specs.Places.{place_of, HasStripe, IsStripeEnd, HasAllIfDone}
 use Rattle.txn_runner.specs.Working.{taken_in, places_taken, rows_in, room_of, HasRoomForRows}
-use Rattle.txn_jobs.proofs.StripeSteps.{HasStripe-of, stripe_places-below}
+use Rattle.txn_jobs.proofs.StripeSteps.{HasStripe-of}
 use Rattle.txn_runner.proofs.PlaceLemmas.{stripe-nears, stripe_places-more, HasRoomForRows-next}
 use Rattle.txn_runner.proofs.ProgressLemmas.{Progress, Progress-first, Progress-told, Stopped-told, Stopped, told-longer}
 use Rattle.txn_runner.proofs.StageLemmas.{IsSameWorker-refl}
@@ -59,8 +59,10 @@ pub tell-requires : goal.tell-requires
 tell-requires g c = record { room = c.in-Some.ensures.room }
 
 -- the places that are taken once it is told
-taken-more : (g : _) (c : In-Some g) (rows : Rows) → taken_in rows ≡ taken_in c.take_next.new.rows → places_taken c.args.jobs.now c.args.seat.now.worker rows
-    ≡ places_taken c.args.jobs.now c.args.seat.now.worker c.stripe.rows ++ place_of c.args.jobs.now c.args.seat.now.worker (taken_in c.stripe.rows) ∷ []
+taken-more : (g : _) (c : In-Some g) (rows : Rows) → taken_in rows ≡ taken_in c.take_next.new.rows
+    → places_taken c.args.jobs.now c.args.seat.now.worker rows
+    ≡ places_taken c.args.jobs.now c.args.seat.now.worker c.stripe.rows ++ place_of c.args.jobs.now c.args.seat.now.worker
+    (taken_in c.stripe.rows) ∷ []
 taken-more g c rows same = stripe_places-more c.args.jobs.now c.args.seat.now.worker (taken_in c.stripe.rows) (taken_in rows)
     (same ∙ ap taken_in c.in-Some.ensures.counted)
 
@@ -75,18 +77,22 @@ stripe-preserved g c =
       none_held = c.run_job-made.ensures.none_held;
       same = IsSameWorker-trans _ _ _ c.stripe.invariant.same c.run_job-made.ensures.same;
       room = HasRoomForRows-next c.args.jobs.now c.args.seat.now.worker c.stripe.rows c.tell.new.self c.stripe.invariant.room
-          (c.tell.ensures.taken ∙ ap taken_in c.in-Some.ensures.counted) (told-longer c.run_job-made.result None (rows_in c.stripe.rows) (rows_in c.tell.new.self) told) room;
-      progress = subst (λ taken. Progress c.args.jobs.now (places_taken c.args.jobs.now c.args.seat.now.worker c.args.rows.now) taken c.args.wait c.args.rows.now
+          (c.tell.ensures.taken ∙ ap taken_in c.in-Some.ensures.counted)
+          (told-longer c.run_job-made.result None (rows_in c.stripe.rows) (rows_in c.tell.new.self) told) room;
+      progress = subst (λ taken. Progress c.args.jobs.now
+          (places_taken c.args.jobs.now c.args.seat.now.worker c.args.rows.now) taken c.args.wait c.args.rows.now
           c.tell.new.self (view_of c.args.seat.now) (view_of c.run_job-made.new.seat))
           (sym (taken-more g (goal.at.stripe-preserved g c).In-Some c.tell.new.self c.tell.ensures.taken))
           (Progress-told c.args.jobs.now _ _ _ c.args.wait c.args.rows.now c.stripe.rows c.tell.new.self
-          (view_of c.args.seat.now) (view_of c.stripe.seat) (view_of c.run_job-made.new.seat) c.stripe.invariant.progress c.in-Some.number c.take_next.new.job
+          (view_of c.args.seat.now) (view_of c.stripe.seat)
+          (view_of c.run_job-made.new.seat) c.stripe.invariant.progress c.in-Some.number c.take_next.new.job
           (next-is g (goal.at.stripe-preserved g c).In-Some)
           record { tail = c.stripe.invariant.same.grows; durable = c.stripe.invariant.same.durable }
           record { tail = c.run_job-made.ensures.same.grows; durable = c.run_job-made.ensures.same.durable } c.run_job-made.ensures.given
           room c.run_job-made.result None told c.run_job-made.ensures.run);
       relief = c.run_job-made.ensures.relief;
-      later = g.met.Q.Relief.later_trans c.args.relief.now c.stripe.relief c.run_job-made.new.relief c.stripe.invariant.later c.run_job-made.ensures.later;
+      later = g.met.Q.Relief.later_trans c.args.relief.now c.stripe.relief c.run_job-made.new.relief c.stripe.invariant.later
+          c.run_job-made.ensures.later;
     }
 
 pub stripe-smaller : goal.stripe-smaller
@@ -98,7 +104,8 @@ stripe-smaller g c = stripe-nears c.args.jobs.now c.args.seat.now.worker (taken_
 stopped : (g : _) (c : In-Some-tell g) → Stopped c.args.jobs.now (places_taken c.args.jobs.now c.args.seat.now.worker c.args.rows.now)
     (places_taken c.args.jobs.now c.args.seat.now.worker c.tell.new.self) c.args.wait c.args.rows.now c.tell.new.self
     (view_of c.args.seat.now) (view_of c.run_job-made.new.seat) c.in-Some-tell.worked
-stopped g c = subst (λ taken. Stopped c.args.jobs.now (places_taken c.args.jobs.now c.args.seat.now.worker c.args.rows.now) taken c.args.wait c.args.rows.now
+stopped g c = subst (λ taken. Stopped c.args.jobs.now
+    (places_taken c.args.jobs.now c.args.seat.now.worker c.args.rows.now) taken c.args.wait c.args.rows.now
     c.tell.new.self (view_of c.args.seat.now) (view_of c.run_job-made.new.seat) c.in-Some-tell.worked)
     (sym (taken-more g (goal.at.returns-in-Some-tell-clause-worked g c).In-Some c.tell.new.self c.tell.ensures.taken))
     (Stopped-told c.args.jobs.now _ _ _ c.args.wait c.args.rows.now c.stripe.rows c.tell.new.self
@@ -119,7 +126,8 @@ cut-none jobs worker k (Ok row) worked old new told = absurd told
 cut-none jobs worker k (Err cause) worked old new told = subst (HasAllIfDone jobs worker k) (sym told.0) tt
 
 pub returns-in-Some-tell-clause-all : goal.returns-in-Some-tell-clause-all
-returns-in-Some-tell-clause-all g c = cut-none c.args.jobs.now c.args.seat.now.worker (taken_in c.tell.new.self) c.run_job-made.result c.in-Some-tell.worked _ _
+returns-in-Some-tell-clause-all g c = cut-none c.args.jobs.now c.args.seat.now.worker
+    (taken_in c.tell.new.self) c.run_job-made.result c.in-Some-tell.worked _ _
     c.in-Some-tell.ensures.told
 
 pub returns-in-Some-tell-clause-same : goal.returns-in-Some-tell-clause-same

@@ -13,7 +13,8 @@ invariant-stripe g l = record {
   none_held : (view_of l.seat).books.held ≡ [];
   same : IsSameWorker l.fn.seat l.seat;
   room : HasRoomForRows l.jobs l.fn.seat.worker l.rows;
-  progress : Progress l.jobs (places_taken l.jobs l.fn.seat.worker l.fn.rows) (places_taken l.jobs l.fn.seat.worker l.rows) l.wait l.fn.rows l.rows
+  progress : Progress l.jobs (places_taken l.jobs l.fn.seat.worker l.fn.rows)
+      (places_taken l.jobs l.fn.seat.worker l.rows) l.wait l.fn.rows l.rows
       (view_of l.fn.seat) (view_of l.seat);
   relief : g.Q.Relief.ready l.relief;
   later : g.Q.Relief.later l.fn.relief l.relief;
