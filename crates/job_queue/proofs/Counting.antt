@@ -1,11 +1,9 @@
 -- Numbers in order, how often a list has one, and sums over views.
 use Rattle.std.proofs.Common.{◌≡◌, ◌≢◌, ◌<◌, ◌≤◌, ◌+◌, ℕ, zero, suc, List, [], ◌∷◌, ◌++◌, length, set, sym, refl, ap, ◌∙◌, subst, ⊎_elim, arith, length-append}
-use Rattle.std.specs.List.{AllByRecursion}
 use mathlib.Core.Option.{some, some-injective, some-ne-none}
 use lib.ListN.{get_elem?}
 use Rattle.crossbeam_queue.proofs.Lists.{at_set, at_snoc}
-use Rattle.lock_core.proofs.ListLemmas.{all-append}
-use Rattle.job_queue.specs.Takings.{same, once_below, times, Rises}
+use Rattle.job_queue.specs.Takings.{same, once_below, times}
 use Rattle.job_queue.specs.Rule.{counted, summed, Everywhere}
 
 counted-more : (k n : ℕ) → counted k n ++ (k + n) ∷ [] ≡ counted k (suc n)
@@ -62,10 +60,6 @@ times-append x (y ∷ xs) ys = omega (arith, times-append x xs ys)
 
 pub times-push : (x : ℕ) (xs : List ℕ) (y : ℕ) → times x (xs ++ y ∷ []) ≡ times x xs + same x y
 times-push x xs y = omega (arith, times-append x xs (y ∷ []))
-
-pub rises-push : (xs : List ℕ) (x : ℕ) → Rises xs → AllByRecursion (λ y. y < x) xs → Rises (xs ++ x ∷ [])
-rises-push [] x rises all = (tt, tt)
-rises-push (y ∷ ys) x rises all = (all-append (λ z. y < z) ys (x ∷ []) rises.0 (all.0, tt), rises-push ys x rises.1 all.1)
 
 module _ {A : Type 0} where
   pub there-is : (list : List A) (i : ℕ) (x : A) → get_elem? list i ≡ some x → i < length list

@@ -1,3 +1,7 @@
 pub mod Counting
-pub mod Keeping
+pub mod FirstPass
+pub mod Learning
+pub mod Lending
 pub mod PassLemmas
+pub mod Popping
+pub mod Pushing

@@ -6,10 +6,11 @@ use Rattle.lock_core.specs.declared.job.Job.{Job}
 use Rattle.lock_core.proofs.ListLemmas.{all-append}
 use Rattle.job_queue.specs.declared.queue.Queue.{Queue}
 use Rattle.job_queue.specs.declared.rows.Rows.{Rows}
+use Rattle.txn_jobs.proofs.StripeSteps.{Rises-push}
 use Rattle.job_queue.specs.declared.takings.Takings.{Takings}
 use Rattle.job_queue.specs.Takings.{fresh, took_place, took_mark, TakesNext, handed_out, worker_of, took_back, times, once_below, IsBalanced, HasAllBelow, ArePlaces, AreMarks, IsWorkers, IsFirst}
 use Rattle.job_queue.specs.Passes.{pass_in, places_by, marks_by, marks_in, IsWorkersPass, HasPassOf, job_in, TakesPlace, TakesMark, AreTakenOnce, AreAllTaken}
-use Rattle.job_queue.proofs.Counting.{once-some, same-refl, rises-push}
+use Rattle.job_queue.proofs.Counting.{once-some, same-refl}
 
 -- a pass of the queue stays one
 pub still-pass : (queue : Queue) (old new : Pass ℕ Takings) → IsPassOf queue.line old → IsSamePass old new → IsPassOf queue.line new
@@ -33,7 +34,7 @@ after-place : (count x : ℕ) (v : Takings) → IsWorkers count v → x < v.coun
 after-place count x v is within above = record {
   live = is.live;
   count_is = is.count_is;
-  rising = rises-push v.places x is.rising above;
+  rising = Rises-push v.places x is.rising above;
   places = all-append (λ place. place < count) v.places (x ∷ []) is.places (omega (arith, within, is.count_is), tt);
   marks = is.marks;
   one_mark = is.one_mark;

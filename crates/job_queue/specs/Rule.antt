@@ -4,8 +4,9 @@ use Rattle.std.specs.Prelude.{◌≡◌, ℕ, zero, suc, ◌+◌, ◌<◌, ◌�
 use Rattle.std.specs.List.{AllByRecursion}
 use mathlib.Core.Option.{some}
 use lib.ListN.{get_elem?}
+use Rattle.txn_jobs.specs.Places.{Rises}
 use Rattle.job_queue.specs.declared.takings.Takings.{Takings}
-use Rattle.job_queue.specs.Takings.{times_in, once_below, Rises, CountsMarks}
+use Rattle.job_queue.specs.Takings.{times_in, once_below, CountsMarks}
 
 -- k, k + 1 and so on, n numbers
 abbrev pub counted : ℕ → ℕ → List ℕ

@@ -1,6 +1,7 @@
 -- What one pass of the queue knows. The numbers put are the places of a script, 0, 1, 2 and so on, and behind them the marks.
 use Rattle.std.specs.Prelude.{◌≡◌, ◌⊎◌, ℕ, zero, suc, ◌+◌, ◌-◌, ◌<◌, ◌≤◌, Bool, true, List, [], ◌∷◌, ◌++◌, length}
 use Rattle.std.specs.List.{AllByRecursion}
+use Rattle.txn_jobs.specs.Places.{Rises}
 use Rattle.job_queue.specs.declared.takings.Takings.{Takings}
 
 -- it has taken nothing
@@ -74,11 +75,6 @@ times x (y ∷ ys) = same x y + times x ys
 -- how often the pass has it, as what it took or as what it took back
 abbrev pub times_in : ℕ → Takings → ℕ
 times_in x v = (times x v.places + times x v.own_marks) + (times x v.places_back + times x v.marks_back)
-
--- each number is above those before it
-abbrev pub Rises : List ℕ → Type 0
-Rises [] = Unit {0}
-Rises (x ∷ xs) = AllByRecursion (λ y. x < y) xs × Rises xs
 
 -- each mark that was put may be taken by this pass, or was handed out, or was taken
 abbrev pub CountsMarks : Takings → Type 0

@@ -1,6 +1,6 @@
 use Rattle.std.proofs.Common.{ap, sym, arith}
 use Rattle.job_queue.specs.declared.takings.Takings.{Takings}
-use Rattle.job_queue.proofs.Keeping.{begins, puts-place, puts-mark, knows-put}
+use Rattle.job_queue.proofs.Pushing.{begins, puts-place, puts-mark, knows-put}
 use Rattle.job_queue.proofs.filling.filled.Goals as goal
 
 pub ruled-requires-clause-rule : goal.ruled-requires-clause-rule

@@ -1,7 +1,7 @@
 use Rattle.std.proofs.Common.{length, sym, subst}
 use Rattle.job_queue.specs.declared.takings.Takings.{Takings}
 use Rattle.job_queue.specs.Passes.{AreAllTaken}
-use Rattle.job_queue.proofs.Keeping.{tells}
+use Rattle.job_queue.proofs.Learning.{tells}
 use Rattle.job_queue.proofs.PassLemmas.{all-taken}
 use Rattle.job_queue.proofs.jobs.Jobs.count_taken.Goals as goal
 

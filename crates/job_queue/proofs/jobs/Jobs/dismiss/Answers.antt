@@ -1,5 +1,6 @@
 use Rattle.std.proofs.Common.{◌∙◌}
-use Rattle.job_queue.proofs.Keeping.{merges, balances}
+use Rattle.job_queue.proofs.Learning.{balances}
+use Rattle.job_queue.proofs.Lending.{merges}
 use Rattle.job_queue.proofs.PassLemmas.{pass-of, one-back}
 use Rattle.job_queue.proofs.jobs.Jobs.dismiss.Goals as goal
 

@@ -1,4 +1,4 @@
-use Rattle.job_queue.proofs.Keeping.{forks}
+use Rattle.job_queue.proofs.Lending.{forks}
 use Rattle.job_queue.proofs.PassLemmas.{some-left}
 use Rattle.job_queue.proofs.jobs.Jobs.enlist.Goals as goal
 

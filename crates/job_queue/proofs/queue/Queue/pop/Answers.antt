@@ -1,4 +1,4 @@
-use Rattle.job_queue.proofs.Keeping.{takes, holds-some}
+use Rattle.job_queue.proofs.Popping.{takes, holds-some}
 use Rattle.job_queue.proofs.PassLemmas.{still-pass, IsWorkers-took, may-take}
 use Rattle.job_queue.proofs.queue.Queue.pop.Goals as goal
 

@@ -1,0 +1,143 @@
+-- A pass takes what is next: that keeps the rule of the queue. `me` is the pass's number and `v` what it knows before.
+use Rattle.std.proofs.Common.{◌≡◌, ◌⊎◌, ◌<◌, ◌≤◌, ◌+◌, ℕ, suc, cond, true, true≢false, List, [], ◌∷◌, length, set, sym, refl, ap, ◌∙◌, subst, ⊎_elim, inl, inr, arith, length-append}
+use Rattle.std.specs.List.{AllByRecursion}
+use mathlib.Core.Logic.{dite}
+use native.Mathlib.Decide.{ℕ_discrete, dec_lt, dec_le}
+use mathlib.Core.Option.{some}
+use lib.ListN.{get_elem?}
+use Rattle.crossbeam_queue.specs.Fifo.{Pops, Learns}
+use Rattle.crossbeam_queue.proofs.Lists.{set_here, set_else}
+use Rattle.lsn_space.proofs.TilingLemmas.{all-weaker}
+use Rattle.lock_core.proofs.ListLemmas.{all-append}
+use Rattle.txn_jobs.proofs.StripeSteps.{Rises-push}
+use Rattle.job_queue.specs.declared.takings.Takings.{Takings}
+use Rattle.job_queue.specs.Takings.{took_place, took_mark, TakesNext, same, times_in, CountsMarks}
+use Rattle.job_queue.specs.Rule.{HasCount, lives, marks_left_of, IsInOrder, IsEmptyIfSpent, IsShared}
+use Rattle.job_queue.proofs.Counting.{counted-first, once-more, times-push, there-is, everywhere-set, summed-set, summed-one}
+use Rattle.job_queue.proofs.FirstPass.{boss-same}
+
+-- what changes of a pass that takes the number `next`
+record Took (next : ℕ) (v w : Takings) : Type 0 where
+  pub live : w.live ≡ v.live
+  pub count : w.count ≡ v.count
+  pub marks : w.marks ≡ v.marks
+  pub out : w.out ≡ v.out
+  pub times : (y : ℕ) → times_in y w ≡ times_in y v + same y next
+  pub left : ((next < v.count) × (w.marks_left ≡ v.marks_left)) ⊎ ((v.count ≤ next) × (w.marks_left + 1 ≡ v.marks_left))
+  pub budget : CountsMarks v → CountsMarks w
+  pub order : IsInOrder next v → IsInOrder (suc next) w
+
+still-below : (next : ℕ) (places : List ℕ) → AllByRecursion (λ y. y < next) places → AllByRecursion (λ y. y < suc next) places
+still-below next places all = all-weaker (λ y. y < next) (λ y. y < suc next) places (λ y less. omega (arith, less)) all
+
+Took-place : (next : ℕ) (v : Takings) → next < v.count → Took next v (took_place next v)
+Took-place next v less = record {
+  live = refl;
+  count = refl;
+  marks = refl;
+  out = refl;
+  times = λ y. omega (arith, times-push y v.places next);
+  left = inl (less, refl);
+  budget = λ same. same;
+  order = λ order. (
+    Rises-push v.places next order.0 order.1,
+    all-append (λ y. y < suc next) v.places (next ∷ []) (still-below next v.places order.1) (omega arith, tt),
+  );
+}
+
+Took-mark : (next : ℕ) (v : Takings) → v.count ≤ next → 1 ≤ v.marks_left → Took next v (took_mark next v)
+Took-mark next v more some' = record {
+  live = refl;
+  count = refl;
+  marks = refl;
+  out = refl;
+  times = λ y. omega (arith, times-push y v.own_marks next);
+  left = inr (more, omega (arith, some'));
+  budget = λ same. omega (arith, same, some', length-append v.own_marks (next ∷ []));
+  order = λ order. (order.0, still-below next v.places order.1);
+}
+
+-- the first view, where one view changes but for what it put and handed out
+record Boss (views : List Takings) (boss : Takings) : Type 0 where
+  pub now : Takings
+  pub first : get_elem? views 0 ≡ some now
+  pub live : now.live ≡ boss.live
+  pub count : now.count ≡ boss.count
+  pub marks : now.marks ≡ boss.marks
+  pub out : now.out ≡ boss.out
+  pub budget : CountsMarks now
+
+boss-stays : (items : List ℕ) (views : List Takings) (me : ℕ) (v w : Takings) (next : ℕ) (s : IsShared items views)
+    → get_elem? views me ≡ some v → Took next v w → Boss (set views me w) s.boss
+boss-stays items views me v w next s at took = dite (ℕ_discrete me 0)
+    (λ here. let boss = sym (boss-same items views me v s at here) in record {
+      now = w;
+      first = subst (λ i. get_elem? (set views me w) i ≡ some w) here (set_here views me w (there-is views me v at));
+      live = took.live ∙ ap (λ (u : Takings). u.live) boss;
+      count = took.count ∙ ap (λ (u : Takings). u.count) boss;
+      marks = took.marks ∙ ap (λ (u : Takings). u.marks) boss;
+      out = took.out ∙ ap (λ (u : Takings). u.out) boss;
+      budget = took.budget (subst CountsMarks (sym boss) s.budget);
+    })
+    (λ away. record {
+      now = s.boss;
+      first = set_else views me 0 w (λ e. away (sym e)) ∙ s.first;
+      live = refl;
+      count = refl;
+      marks = refl;
+      out = refl;
+      budget = s.budget;
+    })
+
+-- the rule is kept where a pass takes the least number that is left
+keeps : (me : ℕ) (v w : Takings) (x : ℕ) (items : List ℕ) (views : List Takings) → v.live ≡ true → (s : IsShared (x ∷ items) views)
+    → get_elem? views me ≡ some v → x ≡ s.next → Took s.next v w → IsShared items (set views me w)
+keeps me v w x items views on s at number took =
+    let boss = boss-stays (x ∷ items) views me v w s.next s at took in let count = s.counts me v at on in
+    let sum = summed-set marks_left_of views me v w at in let all = s.put in let bc = boss.count in let bm = boss.marks in record {
+      next = suc s.next;
+      boss = boss.now;
+      first = boss.first;
+      boss_lives = boss.live ∙ s.boss_lives;
+      put = omega arith;
+      items_are = (counted-first x s.next items s.items_are).1;
+      once = λ y. omega (arith, s.once y, once-more y s.next, took.times y, summed-set (times_in y) views me v w at);
+      out = omega (arith, s.out, summed-set lives views me v w at, boss.out, ap (λ b. cond {A = ℕ} b 1 0) took.live);
+      budget = boss.budget;
+      counts = everywhere-set (HasCount s.boss.count) (HasCount boss.now.count) views me w s.counts
+          (λ on'. took.count ∙ count ∙ sym boss.count) (λ u h on'. h on' ∙ sym boss.count);
+      early = λ le. ⊎_elim (λ t. let kept = t.1 in let was = s.early (omega arith) in omega arith)
+          (λ t. let high = t.0 in absurd (omega arith)) took.left;
+      late = λ le. ⊎_elim (λ t. let low = t.0 in let kept = t.1 in let was = s.early (omega arith) in omega arith)
+          (λ t. let high = t.0 in let one = t.1 in let was = s.late (omega arith) in omega arith) took.left;
+      spent = everywhere-set IsEmptyIfSpent IsEmptyIfSpent views me w s.spent
+          (λ off. absurd (true≢false (sym (took.live ∙ on) ∙ off))) (λ u h. h);
+      in_order = everywhere-set (IsInOrder s.next) (IsInOrder (suc s.next)) views me w s.in_order (took.order (s.in_order me v at))
+          (λ u h. (h.0, still-below s.next u.places h.1));
+    }
+
+pub takes : (me : ℕ) (v : Takings) → v.live ≡ true → 1 ≤ v.marks_left → Pops IsShared me v (TakesNext v)
+takes me v on some' x items views s at = dite (dec_lt s.next v.count)
+    (λ less. (
+      took_place s.next v,
+      keeps me v (took_place s.next v) x items views on s at number (Took-place s.next v less),
+      inl (
+        omega (arith, number, less),
+        subst (λ n. AllByRecursion (λ place. place < n) v.places) (sym number) (s.in_order me v at).1,
+        ap (λ n. took_place n v) (sym number),
+      ),
+    ))
+    (λ more. (
+      took_mark s.next v,
+      keeps me v (took_mark s.next v) x items views on s at number (Took-mark s.next v (omega (arith, more)) some'),
+      inr (omega (arith, number, more), ap (λ n. took_mark n v) (sym number)),
+    ))
+  where
+    number : x ≡ s.next
+    number = (counted-first x s.next items s.items_are).0
+
+-- while a mark may be taken, the queue holds something
+pub holds-some : (me : ℕ) (v : Takings) → Learns IsShared me v (λ items. 1 ≤ v.marks_left → 1 ≤ length items)
+holds-some me v items views s at some' =
+    let one = summed-one marks_left_of views me v at in let all = s.put in dite (dec_le s.next s.boss.count)
+    (λ le. let was = s.early le in omega arith) (λ more. let was = s.late (omega arith) in omega arith)

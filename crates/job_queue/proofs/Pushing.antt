@@ -1,0 +1,92 @@
+-- The first pass puts places and marks: that keeps the rule of the queue. `v` is what it knows before.
+use Rattle.std.proofs.Common.{◌≡◌, ◌≢◌, ◌≤◌, ◌+◌, ℕ, true, true≢false, List, [], ◌∷◌, length, set, sym, refl, ap, ◌∙◌, subst, ⊎_elim, arith, length-append}
+use mathlib.Core.Option.{some}
+use lib.ListN.{get_elem?}
+use Rattle.crossbeam_queue.specs.Fifo.{Pushes, Learns}
+use Rattle.crossbeam_queue.proofs.Lists.{at_set, set_here}
+use Rattle.job_queue.specs.declared.takings.Takings.{Takings}
+use Rattle.job_queue.specs.Takings.{fresh, put_place, put_mark, times_in}
+use Rattle.job_queue.specs.Rule.{summed, HasCount, lives, marks_left_of, IsInOrder, IsEmptyIfSpent, IsShared}
+use Rattle.job_queue.proofs.Counting.{counted-push, there-is, everywhere-one, everywhere-set, summed-set, summed-two}
+use Rattle.job_queue.proofs.FirstPass.{weighs, is-boss}
+
+pub begins : IsShared [] (fresh true 0 0 0 0 ∷ [])
+begins = record {
+  next = 0;
+  boss = fresh true 0 0 0 0;
+  first = refl;
+  boss_lives = refl;
+  put = refl;
+  items_are = refl;
+  once = λ x. refl;
+  out = refl;
+  budget = refl;
+  counts = everywhere-one (HasCount 0) (fresh true 0 0 0 0) (λ on. refl);
+  early = λ le. refl;
+  late = λ le. refl;
+  spent = everywhere-one IsEmptyIfSpent (fresh true 0 0 0 0) (λ off. absurd (true≢false off));
+  in_order = everywhere-one (IsInOrder 0) (fresh true 0 0 0 0) (tt, tt);
+}
+
+-- no other pass lives while places are put
+other-none : (views : List Takings) (me : ℕ) (v u : Takings) (j : ℕ) → get_elem? views me ≡ some v → get_elem? views j ≡ some u → j ≢ me
+    → v.live ≡ true → u.live ≡ true → summed lives views ≡ 1 → ⊥
+other-none views me v u j at there other on lives' alone =
+    absurd (omega (arith, summed-two lives views me j v u at there other, weighs v on, weighs u lives', alone))
+
+pub puts-place : (n me : ℕ) (v : Takings) (x : ℕ) → me ≡ 0 → x ≡ v.count → v.marks ≡ 0 → v.out ≡ 0
+    → Pushes IsShared n me v x (λ w. w ≡ put_place v)
+puts-place n me v x here next unmarked none items views _ s at =
+    let w : Takings = put_place v in let boss = is-boss items views me v s at here in
+    let count = boss.count in let marks = boss.marks in let out = boss.out in
+    let sum = summed-set marks_left_of views me v w at in let all = s.put in (
+      w,
+      record {
+        next = s.next;
+        boss = w;
+        first = subst (λ i. get_elem? (set views me w) i ≡ some w) here (set_here views me w (there-is views me v at));
+        boss_lives = boss.live;
+        put = omega (arith, length-append items (x ∷ []));
+        items_are = counted-push s.next items x s.items_are (omega arith);
+        once = λ y. omega (arith, s.once y, summed-set (times_in y) views me v w at);
+        out = omega (arith, s.out, summed-set lives views me v w at);
+        budget = boss.budget;
+        counts = λ j u there lives'. ⊎_elim (λ (t : (j ≡ me) × (w ≡ u)). ap (λ (z : Takings). z.count) (sym t.1))
+            (λ (t : (j ≢ me) × (get_elem? views j ≡ some u)).
+            absurd (other-none views me v u j at t.1 t.0 boss.live lives' (omega (arith, s.out, out, none)))) (at_set views me j w u there);
+        early = λ le. let was = s.early (omega arith) in omega arith;
+        late = λ le. absurd (omega arith);
+        spent = everywhere-set IsEmptyIfSpent IsEmptyIfSpent views me w s.spent (s.spent me v at) (λ u h. h);
+        in_order = everywhere-set (IsInOrder s.next) (IsInOrder s.next) views me w s.in_order (s.in_order me v at) (λ u h. h);
+      },
+      refl,
+    )
+
+pub puts-mark : (n me : ℕ) (v : Takings) (x : ℕ) → me ≡ 0 → x ≡ v.count + v.marks → Pushes IsShared n me v x (λ w. w ≡ put_mark v)
+puts-mark n me v x here next items views _ s at =
+    let w : Takings = put_mark v in let boss = is-boss items views me v s at here in
+    let count = boss.count in let marks = boss.marks in let sum = summed-set marks_left_of views me v w at in let all = s.put in (
+      w,
+      record {
+        next = s.next;
+        boss = w;
+        first = subst (λ i. get_elem? (set views me w) i ≡ some w) here (set_here views me w (there-is views me v at));
+        boss_lives = boss.live;
+        put = omega (arith, length-append items (x ∷ []));
+        items_are = counted-push s.next items x s.items_are (omega arith);
+        once = λ y. omega (arith, s.once y, summed-set (times_in y) views me v w at);
+        out = omega (arith, s.out, summed-set lives views me v w at, boss.out);
+        budget = omega (arith, boss.budget);
+        counts = everywhere-set (HasCount s.boss.count) (HasCount v.count) views me w s.counts
+            (λ on. refl) (λ u h on. h on ∙ count);
+        early = λ le. let was = s.early (omega arith) in omega arith;
+        late = λ le. let was = s.late (omega arith) in omega arith;
+        spent = everywhere-set IsEmptyIfSpent IsEmptyIfSpent views me w s.spent (s.spent me v at) (λ u h. h);
+        in_order = everywhere-set (IsInOrder s.next) (IsInOrder s.next) views me w s.in_order (s.in_order me v at) (λ u h. h);
+      },
+      refl,
+    )
+
+-- the queue holds no more than was put
+pub knows-put : (me : ℕ) (v : Takings) → me ≡ 0 → Learns IsShared me v (λ items. length items ≤ v.count + v.marks)
+knows-put me v here items views s at = let boss = is-boss items views me v s at here in omega (arith, s.put, boss.count, boss.marks)
