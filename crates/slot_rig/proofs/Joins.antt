@@ -41,7 +41,7 @@ module _ (table : LogTable) (share : Share) (number : ℕ) (job : Job) (seat aft
     may-join from to own_slot gathers total phase grown remaining room = record {
       rests = subst IsAtRest (sym is) record { active = worker.ready.rests.active; idle = worker.ready.rests.idle };
       enters = (MayPlace-noted table number job share.units seat after word worker taken noted).enters;
-      own_slot = own_slot ∙ (sym (λ i. joiner.numbered i % joiner.slots i) ∙ sym (ap own_slot_of is));
+      own_slot = own_slot ∙ (sym (λ i. joiner.numbered i % worker.own.slots i) ∙ sym (ap own_slot_of is));
       gathers = gathers;
       phase = phase;
       total = grown ∙ ap (λ n. from.total + n) (sym size);
@@ -60,7 +60,6 @@ module _ (table : LogTable) (share : Share) (number : ℕ) (job : Job) (seat aft
         worker-stays table seat after (took_job number job word (view_of seat)) taken record { constants = refl; standing = refl; held = refl } share.worker
         record {
           own = worker.own;
-          slots = joiner.slots;
           active = worker.ready.rests.active;
           numbered = joiner.numbered;
           none_held = worker.free.none_held;

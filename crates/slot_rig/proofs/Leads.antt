@@ -77,7 +77,7 @@ module _ (table : LogTable) (share : Share) (total tail durable : ℕ) (closed t
       piece = member.piece;
       total = total;
       closed = placing.closed;
-      there = subst (λ n. share.slot < n) (sym member.worker.slots) member.slot;
+      there = subst (λ n. share.slot < n) (sym member.worker.own.slots) member.slot;
       places = member.call;
       tail_loaded = tail_loaded;
       durable_loaded = durable_loaded;

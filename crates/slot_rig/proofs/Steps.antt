@@ -28,8 +28,8 @@ module _ (table : LogTable) (old new : Seat) (view : View) (becomes : Becomes ol
       table_is = becomes.table_is ∙ worker.own.table_is;
       no_slots = ap (λ me. me.1) becomes.me ∙ worker.own.no_slots;
       ring = ap (λ (v : View). v.constants.ring) is ∙ (ap (λ (c : Constants). c.ring) keeps.constants ∙ worker.own.ring);
+      slots = ap (λ (v : View). v.constants.slots) is ∙ (ap (λ (c : Constants). c.slots) keeps.constants ∙ worker.own.slots);
     };
-    slots = ap (λ (v : View). v.constants.slots) is ∙ (ap (λ (c : Constants). c.slots) keeps.constants ∙ worker.slots);
     active = ap (λ (v : View). v.standing.role) is ∙ (ap (λ (s : Standing). s.role) keeps.standing ∙ worker.active);
     numbered = ap (λ (v : View). v.standing.worker) is ∙ (ap (λ (s : Standing). s.worker) keeps.standing ∙ worker.numbered);
     none_held = ap (λ (v : View). v.books.held) is ∙ (keeps.held ∙ worker.none_held);

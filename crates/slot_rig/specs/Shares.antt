@@ -17,7 +17,6 @@ use Rattle.slot_rig.specs.declared.share.Share.{Share}
 -- the seat is this table's, of the worker of this number, which is at work and holds no account
 pub record IsWorker (table : LogTable) (number : ℕ) (seat : Seat) : Type 0 where
   pub own : IsOf table seat
-  pub slots : (view_of seat).constants.slots ≡ table.slots
   pub active : (view_of seat).standing.role ≡ Active
   pub numbered : (view_of seat).standing.worker ≡ number
   pub none_held : (view_of seat).books.held ≡ []
@@ -31,7 +30,6 @@ pub record IsDone (table : LogTable) (number : ℕ) (seat : Seat) : Type 0 where
 pub record IsJoiner (table : LogTable) (worker number : ℕ) (seat : Seat) : Type 0 where
   pub inserts : MayInsert table number seat
   pub numbered : (view_of seat).standing.worker ≡ worker
-  pub slots : (view_of seat).constants.slots ≡ table.slots
   pub no_entry : (view_of seat).entries ≡ []
 
 -- the piece is the share's

@@ -3,31 +3,56 @@ ghost use Rattle.std.specs.Prelude.{◌≡◌, ◌+◌, ◌≤◌, IfOk};
 ghost use Rattle.log_table.specs.declared.group_view.MemberStep.TheVariants.{Waits};
 ghost use Rattle.log_table.specs.declared.view.Call.TheVariants.{Idle};
 ghost use Rattle.log_table.specs.Hiring.{HasHired};
+ghost use Rattle.test_rig.specs.NotedJobs.{IsNotedJob};
 ghost use Rattle.slot_rig.specs.Shares.{HasLeft, IsMember};
 
 use crate::found::{has_joined, is_at, is_number, is_refusal};
+use lock_core::Job;
 use log_table::{LogTable, Seat};
 use slot_rig::{
     Pair, Share, hear_refusal, join_for_note, joiner, lead_without_room, leave_refused, pair_of,
 };
 use std::process::Abort;
 use std::test::Fail;
-use test_rig::{insert_all, note_units, noted_job, table_with_slots, worker};
+use test_rig::{note_units, noted_job, place_note, table_with_slots, worker};
 
-/// Worker 0 fills the ring, which is not flushed.
-fn fill_ring<R: Abort>(rt: &R, table: &LogTable, boss: &mut Seat) -> Result<(), Fail>
+/// The worker of the next number is hired, and reserves for this note, up to there.
+fn hired_reserves<R: Abort>(
+    rt: &R,
+    table: &LogTable,
+    boss: &mut Seat,
+    number: u32,
+    job: &Job,
+    end: u32,
+) -> Result<(), Fail>
+    requires boss { HasHired table.now number boss.old }
+    requires few { number ≤ 100 }
+    requires accounts { table.now.accounts ≡ 2 }
+    requires job { IsNotedJob job.now }
+    ensures boss { HasHired table.now (number + 1) boss.new }
+{
+    let mut seat = worker(table, boss, number, number + 1);
+    let units = note_units(number + 1, job);
+    let Ok(Some(range)) = place_note(table, &mut seat, number + 1, job, &units) else {
+        return Err(Fail::new("no room"));
+    };
+    is_at(rt, "the end of the run", range.end(), end);
+    Ok(())
+}
+
+/// Forty workers reserve the whole ring: 39 with the longest note, of 26 units, and one with a note of ten.
+fn reserve_ring<R: Abort>(rt: &R, table: &LogTable, boss: &mut Seat) -> Result<(), Fail>
     requires boss { HasHired table.now 0 boss.old }
     requires accounts { table.now.accounts ≡ 2 }
-    ensures boss { HasHired table.now 1 boss.new }
+    ensures boss { IfOk result (λ done. HasHired table.now 40 boss.new) }
 {
-    let mut seat = worker(table, boss, 0, 1);
-    let Some(job) = noted_job(b"aaaaaaaa") else {
+    let (Some(long), Some(short)) = (noted_job(&[97; 200]), noted_job(&[97; 72])) else {
         return Err(Fail::new("no job"));
     };
-    let (done, last) = insert_all(table, &mut seat, 1, 512, &job);
-    is_number(rt, "notes in the ring", done, 512);
-    is_at(rt, "the last of them", last, 1026);
-    Ok(())
+    for i in 0..39 {
+        hired_reserves(rt, table, boss, i, &long, 30 + 26 * i)?;
+    }
+    hired_reserves(rt, table, boss, 39, &short, 1028)
 }
 
 /// The member hears that its group was refused, and releases, where so much remained.
@@ -57,8 +82,8 @@ fn hears_and_leaves<R: Abort>(
 #[test]
 fn a_group_is_refused_by_a_full_ring(rt: HostRuntime) -> Result<(), Fail> {
     let (table, mut boss) = table_with_slots(rt.alloc(), (100, 0), 4, 1)?;
-    fill_ring(&rt, &table, &mut boss)?;
-    let Some(pair) = pair_of(&table, boss, 1, 513) else {
+    reserve_ring(&rt, &table, &mut boss)?;
+    let Some(pair) = pair_of(&table, boss, 40, 41) else {
         return Err(Fail::new("no pair"));
     };
     let Pair {
@@ -77,25 +102,25 @@ fn a_group_is_refused_by_a_full_ring(rt: HostRuntime) -> Result<(), Fail> {
     joins_first(&rt, &table, &mut boss)
 }
 
-/// Worker 3 is the first at the slot.
+/// A further worker is the first at the slot.
 fn joins_first<R: Abort>(rt: &R, table: &LogTable, boss: &mut Seat) -> Result<(), Fail>
-    requires boss { HasHired table.now 3 boss.old }
+    requires boss { HasHired table.now 42 boss.old }
     requires slots { table.now.slots ≡ 1 }
     requires accounts { table.now.accounts ≡ 2 }
 {
-    let mut seat = joiner(table, boss, 3, 515);
+    let mut seat = joiner(table, boss, 42, 43);
     let Some(job) = noted_job(b"aaaaaaaa") else {
         return Err(Fail::new("no job"));
     };
     let share = Share {
-        worker: 3,
+        worker: 42,
         slot: 0,
         offset: 0,
-        units: note_units(515, &job),
+        units: note_units(43, &job),
     };
     has_joined(
         rt,
-        join_for_note(table, &mut seat, &share, 515, &job),
+        join_for_note(table, &mut seat, &share, 43, &job),
         Ok(()),
     );
     Ok(())
