@@ -1,5 +1,5 @@
 -- A worker that took a job with a note may place it, and what it has reserved then.
-use Rattle.std.proofs.Common.{◌≡◌, ◌∙◌, ◌⊎◌, inl, ℕ, ◌+◌, ◌-◌, List, length, ap, sym, refl, subst, arith}
+use Rattle.std.proofs.Common.{◌≡◌, ◌∙◌, inl, ℕ, ◌+◌, ◌-◌, List, length, ap, sym, refl, subst, arith}
 use Rattle.log_record.specs.declared.rec.Rec.{Rec}
 use Rattle.log_record.specs.declared.rec.Rec.TheVariants.{Note}
 use Rattle.log_record.specs.Spelling.{spelling}
@@ -10,7 +10,7 @@ use Rattle.log_table.specs.declared.view.Books.{Books}
 use Rattle.log_table.specs.declared.view.Call.TheVariants.{Filling}
 use Rattle.log_table.specs.AccountViews.{took_job}
 use Rattle.log_table.specs.Books.{taking_job, next_of, IsNext, MayEnter}
-use Rattle.log_table.specs.Seats.{Becomes, IsOf, view_of}
+use Rattle.log_table.specs.Seats.{Becomes, view_of}
 use Rattle.log_table.specs.Views.{empty_entry}
 use Rattle.log_table.proofs.Nexting.{next-is, may-enter, note-next}
 use Rattle.ring_buffer.specs.Calls.{MayPlace, HasPlaced, HasReserved}
