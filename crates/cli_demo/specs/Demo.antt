@@ -104,11 +104,12 @@ IsBeforeDemo Disk = Unit {0}
 IsBeforeDemo Exists = Unit {0}
 IsBeforeDemo detail = ⊥
 
--- the table starts where the new log ends, with its accounts and a ring as it was asked, and the transfers are the generated ones
+-- the table starts where the new log ends, with its accounts, a ring and slots as was asked, and the transfers are the generated ones
 pub record IsPreparedDemo (n seed : ℕ) (options : RunOptions) (prepared : Prepared) : Type 0 where
   pub start : (key_of prepared.table).start ≡ 2 * GENERATED_ACCOUNTS
   pub accounts : (key_of prepared.table).accounts.rows ≡ generated_rows
   pub ring : (key_of prepared.table).ring ≡ options.ring
+  pub slots : (key_of prepared.table).slots ≡ options.slots
   pub generated : AreGenerated n seed options.workers prepared.jobs
   pub ready : IsPrepared prepared
 

@@ -133,7 +133,7 @@ fn prepare_demo<R>(
     let start = Start {
         start: Lsn::new(2 * GENERATED_ACCOUNTS),
         ring: plan.ring,
-        slots: 0,
+        slots: plan.slots,
         accounts,
     };
     let prepared = prepare(rt, alloc, start, script, 1, plan.workers)?;

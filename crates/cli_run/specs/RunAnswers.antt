@@ -125,7 +125,7 @@ pub record RanWhole {D : Type 0} (g : Ghosts D) (options : RunOptions) (old new 
 -- a record did not fit in the log, and the lines of all end records were written
 pub record RanIntoEnd {D : Type 0} (g : Ghosts D) (options : RunOptions) (tail total : ℕ) (old new : Outside D) : Type 0 where
   pub out : RanOut g options old new
-  pub stops : StopsAtLogEnd out.ran.opened out.ran.jobs out.ran.list options.ring 0 tail total
+  pub stops : StopsAtLogEnd out.ran.opened out.ran.jobs out.ran.list options.ring options.slots tail total
   pub text : Appends old.text new.text (end_lines (end_of out.ran.opened) out.ran.list)
 
 -- the whole input is a script, but the number that would follow those of its transfers is above the last transaction number

@@ -22,12 +22,12 @@ use Rattle.cli_threads.specs.Prepared.{IsPrepared}
 use Rattle.cli_run.specs.RunAnswers.{AnswersRun, AreAsked, outside}
 use Rattle.cli_threads.specs.Transferred.{IsOpened}
 
--- the table starts where the opened log ends, with its accounts, a ring as it was asked and no slots, and these are the transfers, for the workers asked
+-- the table starts where the opened log ends, with its accounts, a ring and slots as was asked, and these are the transfers, for the workers asked
 pub record IsPreparedFor (options : RunOptions) (opened : Recovered) (script : List Job) (prepared : Prepared) : Type 0 where
   pub start : (key_of prepared.table).start ≡ opened.lsn
   pub accounts : (key_of prepared.table).accounts ≡ opened.accounts
   pub ring : (key_of prepared.table).ring ≡ options.ring
-  pub slots : (key_of prepared.table).slots ≡ 0
+  pub slots : (key_of prepared.table).slots ≡ options.slots
   pub script_is : prepared.jobs.script ≡ script
   pub first : prepared.jobs.first ≡ opened.next_txn
   pub workers_are : prepared.jobs.workers ≡ options.workers
@@ -42,7 +42,7 @@ pub record IsReadyFor {D : Type 0} (g : Ghosts D) (options : RunOptions) (old ne
   pub log : IsOpened g new ready.tail opened ready.prepared.jobs.first (key_of ready.prepared.table)
   pub asked : AreAsked options.workers opened left left_new ready.prepared.jobs
   pub ring : (key_of ready.prepared.table).ring ≡ options.ring
-  pub slots : (key_of ready.prepared.table).slots ≡ 0
+  pub slots : (key_of ready.prepared.table).slots ≡ options.slots
   pub prepared : IsPrepared ready.prepared
   pub images : g.honest old → Leaves g.moment g.images_since (λ bytes. g.images old bytes ⊎ HoldsLawful bytes opened) old new
   pub count : g.honest old → Costs g 3 (most_calls g old + 3) old new

@@ -134,7 +134,7 @@ fn prepare_run<R>(
     let start = Start {
         start: opened.lsn,
         ring: plan.ring,
-        slots: 0,
+        slots: plan.slots,
         accounts: opened.accounts,
     };
     match prepare(rt, alloc, start, script, opened.next_txn, plan.workers) {

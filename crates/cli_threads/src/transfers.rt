@@ -3,6 +3,7 @@ ghost use Rattle.std.specs.Prelude.{◌≡◌, ◌≤◌, ◌<◌, ◌+◌, ◌*
 ghost use Rattle.lsn_space.specs.declared.lsn.TheConstants.{LEAST_RING, GREATEST_RING};
 ghost use Rattle.log_record.specs.declared.limits.TheConstants.{LAST_TXN};
 ghost use Rattle.log_record.specs.declared.rec.Rec.{Rec};
+ghost use Rattle.log_table.specs.declared.layout.TheConstants.{MOST_SLOTS};
 ghost use Rattle.log_table.specs.Hiring.{HasHired};
 ghost use Rattle.log_table.specs.Opening.{HasAccounts};
 ghost use Rattle.log_table.specs.Seats.{key_of};
@@ -88,7 +89,7 @@ pub fn prepare<R>(
 ) -> Result<Prepared, NoMemory>
     requires ring { (LEAST_RING ≤ start.ring) × (start.ring ≤ GREATEST_RING) }
     requires power { (n : ℕ) × (start.ring ≡ 2 ^ n) }
-    requires no_slots { start.slots ≡ 0 }
+    requires slots { start.slots ≤ MOST_SLOTS }
     requires accounts { HasAccounts start }
     requires some { 1 ≤ first }
     requires shared { 1 ≤ workers }

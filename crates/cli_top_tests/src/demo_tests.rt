@@ -32,6 +32,37 @@ const SUMS: &[(&[&str], &[u8])] = &[
         &["aether", "demo", "log", "5000", "7", "--workers", "1"],
         MANY,
     ),
+    (
+        &[
+            "aether", "demo", "log", "5000", "7", "--ring", "1024", "--slots", "0",
+        ],
+        MANY,
+    ),
+    (
+        &[
+            "aether", "demo", "log", "5000", "7", "--ring", "1024", "--slots", "1",
+        ],
+        MANY,
+    ),
+    (
+        &[
+            "aether", "demo", "log", "5000", "7", "--ring", "1024", "--slots", "16",
+        ],
+        MANY,
+    ),
+    (
+        &[
+            "aether",
+            "demo",
+            "log",
+            "5000",
+            "7",
+            "--ring=1024",
+            "--slots=1",
+            "--workers=1",
+        ],
+        MANY,
+    ),
 ];
 
 /// A demo writes this sum; any read of the input would fail.

@@ -220,6 +220,7 @@ fn noted<R: AllocGlobal>(rt: &R, length: u32) -> Result<Vec<u8>, Fail> {
 /// The run of a transfer with a note of so many bytes, over the genesis log.
 fn runs_noted<R: Threads + Wait + Clock + Sync + AllocGlobal + Abort>(
     rt: &R,
+    words: &[&str],
     length: u32,
     end: &End,
     text: &[u8],
@@ -228,16 +229,26 @@ fn runs_noted<R: Threads + Wait + Clock + Sync + AllocGlobal + Abort>(
     let given = Given {
         held: GENESIS_LOG,
         input: script.as_slice(),
-        ..Given::words(ALONE)
+        ..Given::words(words)
     };
     answers(rt, &given, end, text)
 }
 
+/// Runs with the shortest ring, and without slots, with one, and with as many as there may be.
+const SLOTS: &[&[&str]] = &[
+    &["aether", "run", "log", "--ring", "1024", "--slots", "0"],
+    &["aether", "run", "log", "--ring", "1024", "--slots", "1"],
+    &["aether", "run", "log", "--ring", "1024", "--slots", "16"],
+];
+
 #[test]
 fn the_longest_note(rt: HostRuntime) -> Result<(), Fail> {
     let text = b"done 1 35\nlsn 35\n0 70\n1 30\n";
-    runs_noted(&rt, 200, &End::Fine, text)?;
-    runs_noted(&rt, 201, &End::Script(1), b"")
+    for words in SLOTS {
+        runs_noted(&rt, words, 200, &End::Fine, text)?;
+        runs_noted(&rt, words, 201, &End::Script(1), b"")?;
+    }
+    runs_noted(&rt, ALONE, 200, &End::Fine, text)
 }
 
 /// The run ended well, and wrote one of these.
@@ -458,6 +469,89 @@ fn workers_overlap(rt: HostRuntime) -> Result<(), Fail> {
         b"done 1 13\ndone 2 18\nlsn 18\n0 90\n1 10\n2 80\n3 20\n",
         b"done 2 13\ndone 1 18\nlsn 18\n0 90\n1 10\n2 80\n3 20\n",
     );
+    Ok(())
+}
+
+/// Holds each worker at its first look for room until both stand there, and counts those that joined a group.
+#[derive(Drop)]
+struct BothLook {
+    looked: AtomicU32,
+    joined: AtomicU32,
+    gave_up: AtomicBool,
+}
+
+impl BothLook {
+    fn wait(&self) {
+        for _ in 0..MOST_TURNS {
+            if self.looked.load(Ordering::SeqCst) >= 2 {
+                return;
+            }
+            yield_now();
+        }
+        self.gave_up.store(true, Ordering::SeqCst);
+    }
+}
+
+impl Gate for BothLook {
+    fn at(&self, _worker: u32, place: Place) {
+        match place {
+            Place::Looked => {
+                if self.looked.fetch_add(1, Ordering::SeqCst) < 2 {
+                    self.wait();
+                }
+            }
+            Place::Joined => {
+                self.joined.fetch_add(1, Ordering::SeqCst);
+            }
+            _ => {}
+        }
+    }
+}
+
+/// What the two transfers may tell: the first to end has none, one or two Updates of the other before its Commit.
+const EITHER_FIRST: &[&[u8]] = &[
+    b"done 1 13\ndone 2 18\nlsn 18\n0 70\n1 30\n2 60\n3 40\n",
+    b"done 1 15\ndone 2 18\nlsn 18\n0 70\n1 30\n2 60\n3 40\n",
+    b"done 1 17\ndone 2 18\nlsn 18\n0 70\n1 30\n2 60\n3 40\n",
+    b"done 2 13\ndone 1 18\nlsn 18\n0 70\n1 30\n2 60\n3 40\n",
+    b"done 2 15\ndone 1 18\nlsn 18\n0 70\n1 30\n2 60\n3 40\n",
+    b"done 2 17\ndone 1 18\nlsn 18\n0 70\n1 30\n2 60\n3 40\n",
+];
+
+/// Whether the text is one of these.
+fn is_one_of(text: &[u8], wanted: &[&[u8]]) -> bool {
+    for want in wanted {
+        if text == *want {
+            return true;
+        }
+    }
+    false
+}
+
+/// Both looks show the same tail, so one of the exchanges is lost, and whoever lost it joins a group.
+#[test]
+fn group_forms(rt: HostRuntime) -> Result<(), Fail> {
+    let mut answer = made(&rt, b"100\n0\n100\n0\n")?;
+    let gate = BothLook {
+        looked: AtomicU32::new(0),
+        joined: AtomicU32::new(0),
+        gave_up: AtomicBool::new(false),
+    };
+    let given = Given {
+        input: b"pay 0 1 30\npay 2 3 40\n",
+        ..Given::words(BOTH)
+    };
+    run_on(&rt, &given, &mut answer, &gate)?;
+    assert!(rt;
+        !gate.gave_up.load(Ordering::SeqCst),
+        "the workers did not meet"
+    );
+    assert!(rt;
+        gate.joined.load(Ordering::SeqCst) >= 1,
+        "no worker joined a group"
+    );
+    let text = answer.text.bytes();
+    assert!(rt; is_one_of(text, EITHER_FIRST), "{text:?}");
     Ok(())
 }
 

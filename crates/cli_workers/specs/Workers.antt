@@ -8,10 +8,9 @@ use Rattle.txn_jobs.specs.declared.jobs.Jobs.{Jobs}
 use Rattle.txn_runner.specs.Working.{HasRoomForRows, rows_in, taken_in}
 use Rattle.cli_workers.specs.declared.workers.Worker.{Worker}
 
--- the worker is enrolled in a table without slots and has done nothing, and has room for its rows
+-- the worker is enrolled and has done nothing, and has room for its rows
 pub record IsHired (table : LogTable) (jobs : Jobs) (worker : Worker) : Type 0 where
   pub seat : IsOf table worker.seat
-  pub no_slots : table.slots ≡ 0
   pub ready : IsReady (view_of worker.seat)
   pub below : worker.seat.worker < jobs.workers
   pub entries : (view_of worker.seat).entries ≡ []

@@ -21,7 +21,6 @@ pub struct Worker {
 
 /// The worker of the next number. It is enrolled, and the flusher's seat knows that.
 fn hire(table: &LogTable, boss: &mut Seat, jobs: &Jobs, number: u32, rows: Rows) -> Worker
-    requires no_slots { table.now.slots ≡ 0 }
     requires boss { HasHired table.now number boss.old }
     requires number { number < jobs.now.workers }
     requires room { HasRoomForRows jobs.now number rows }
@@ -54,7 +53,6 @@ pub fn hire_all(
     jobs: &Jobs,
     count: u32,
 ) -> Result<Vec<Worker>, NoMemory>
-    requires no_slots { table.now.slots ≡ 0 }
     requires boss { HasHired table.now 0 boss.old }
     requires count { count ≡ jobs.now.workers }
     ensures boss { OnOk result (HasHired table.now count boss.new) }

@@ -15,7 +15,7 @@ pub struct RunOptions {
     /// The length of the ring in units, a power of two from 1024 to 1048576.
     pub ring: u32,
 
-    /// How many slots there are, at most 16. They have no effect yet.
+    /// How many slots there are, at most 16, at which workers that meet at the tail go on as one group. At 0 each goes alone.
     pub slots: u32,
 
     /// Whether a worker gives accounts back only once the end of its transaction is durable. `demo` has no such flag.

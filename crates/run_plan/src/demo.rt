@@ -16,16 +16,18 @@ pub struct Generated {
     pub accounts: Balances,
 }
 
-/// The plan of `demo`: the ends are counted and not told, the workers and the ring are as was asked, and no worker waits.
+/// The plan of `demo`: the ends are counted and not told, the workers, the ring and the slots are as was asked, and no worker waits.
 pub fn plan_of_demo(options: &RunOptions) -> Plan
     ensures workers { result.workers ≡ options.now.workers }
     ensures ring { result.ring ≡ options.now.ring }
+    ensures slots { result.slots ≡ options.now.slots }
     ensures voice { result.voice ≡ Voice.Count }
     ensures wait { result.wait ≡ false }
 {
     Plan {
         workers: options.workers,
         ring: options.ring,
+        slots: options.slots,
         voice: Voice::Count,
         wait: false,
     }

@@ -12,6 +12,9 @@ pub struct Plan {
     /// The length of the log buffer in units.
     pub ring: u32,
 
+    /// How many slots the log buffer has, at which workers may meet in groups.
+    pub slots: u32,
+
     /// What is written of each record that ends one of them.
     pub voice: Voice,
 
@@ -19,16 +22,18 @@ pub struct Plan {
     pub wait: bool,
 }
 
-/// The plan of `run`: each end is told, the workers and the ring are as was asked, and the workers wait where that was asked.
+/// The plan of `run`: each end is told, the workers, the ring and the slots are as was asked, and the workers wait where that was asked.
 pub fn plan_of_run(options: &RunOptions) -> Plan
     ensures workers { result.workers ≡ options.now.workers }
     ensures ring { result.ring ≡ options.now.ring }
+    ensures slots { result.slots ≡ options.now.slots }
     ensures voice { result.voice ≡ Voice.Lines }
     ensures wait { result.wait ≡ options.now.wait }
 {
     Plan {
         workers: options.workers,
         ring: options.ring,
+        slots: options.slots,
         voice: Voice::Lines,
         wait: options.wait,
     }

@@ -58,7 +58,6 @@ pub fn work_stripe<R: Wait, Q: Relief, G: Gate>(
     wait: bool,
     gate: &G,
 ) -> Result<(Worked, Rows), NoMemory>
-    requires no_slots { table.now.slots ≡ 0 }
     requires unused { IsNew table.now seat.old }
     requires worker { seat.old.worker < jobs.now.workers }
     requires allowed { All (IsAllowedJob table.now.accounts) jobs.now.script }

@@ -6,10 +6,10 @@ ghost use Rattle.log_table.specs.Seats.{IsOf, view_of};
 ghost use Rattle.ring_buffer.specs.Calls.{IsReady, HasEntries};
 ghost use Rattle.txn_making.specs.Inserts.{Puts, StopsFor};
 
+use consol_array::insert;
 use log_record::Units;
 use log_table::{LogTable, Seat};
 use lsn_space::Lsn;
-use ring_buffer::insert_alone;
 use schedule_hook::Gate;
 use std::sync::Wait;
 use txn_jobs::Cause;
@@ -26,7 +26,6 @@ pub fn insert_units<R: Wait, Q: Relief, G: Gate>(
     gate: &G,
 ) -> Result<Lsn, Cause>
     requires seat { IsOf table.now seat.old }
-    requires no_slots { table.now.slots ≡ 0 }
     requires ready { IsReady (view_of seat.old) }
     requires next { MayEnter (next_of (view_of seat.old).books) (view_of seat.old).books }
     requires spelled { units.now ≡ spelling (next_of (view_of seat.old).books) }
@@ -39,7 +38,7 @@ pub fn insert_units<R: Wait, Q: Relief, G: Gate>(
 {
     let count = units.as_slice().len() as u32;
     for _ in rt.forever() {
-        match insert_alone(table, seat, units, gate) {
+        match insert(rt, table, seat, units, gate) {
             Ok(at) => return Ok(Lsn::new(at.units() + count)),
             Err(refused) => may_come(refused)?,
         }

@@ -30,7 +30,6 @@ pub fn make_legs<R: Wait, Q: Relief, G: Gate>(
     gate: &G,
 ) -> Result<Answer, Cause>
     requires seat { IsOf table.now seat.old }
-    requires no_slots { table.now.slots ≡ 0 }
     requires ready { IsReady (view_of seat.old) }
     requires job { HoldsJob table.now.accounts number job.now holdings.old (view_of seat.old).books }
     requires first { StandsBefore 0 number job.now holdings.old (view_of seat.old).books }
@@ -67,7 +66,6 @@ fn make_leg<R: Wait, Q: Relief, G: Gate>(
     gate: &G,
 ) -> Result<(), Cause>
     requires seat { IsOf table.now seat.old }
-    requires no_slots { table.now.slots ≡ 0 }
     requires ready { IsReady (view_of seat.old) }
     requires leg { MayMakeLeg table.now.accounts number leg holdings.now (view_of seat.old).books }
     requires relief { Q.ready relief.old }

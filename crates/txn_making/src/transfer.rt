@@ -35,7 +35,6 @@ pub fn insert_transfer<R: Wait, Q: Relief, G: Gate>(
     gate: &G,
 ) -> Result<Ended, Cause>
     requires seat { IsOf table.now seat.old }
-    requires no_slots { table.now.slots ≡ 0 }
     requires ready { IsReady (view_of seat.old) }
     requires job { HoldsJob table.now.accounts number job.now holdings.old.items (view_of seat.old).books }
     requires unchanged { All IsUnchanged holdings.old.items }
@@ -69,7 +68,6 @@ fn insert_note<R: Wait, Q: Relief, G: Gate>(
     gate: &G,
 ) -> Result<(), Cause>
     requires seat { IsOf table.now seat.old }
-    requires no_slots { table.now.slots ≡ 0 }
     requires ready { IsReady (view_of seat.old) }
     requires job { (view_of seat.old).books.last ≡ record { number = number; job = job.now } }
     requires number { IsTxn number }

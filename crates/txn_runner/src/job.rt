@@ -34,7 +34,6 @@ pub(crate) fn run_job<R: Wait, Q: Relief, G: Gate>(
     gate: &G,
 ) -> Result<Row, Cause>
     requires seat { IsOf table.now seat.old }
-    requires no_slots { table.now.slots ≡ 0 }
     requires ready { IsReady (view_of seat.old) }
     requires may { MayTakeJob table.now.accounts number job.now (view_of seat.old) }
     requires relief { Q.ready relief.old }
@@ -129,7 +128,6 @@ fn make_transfer<R: Wait, Q: Relief, G: Gate>(
     gate: &G,
 ) -> Result<Row, Cause>
     requires seat { IsOf table.now seat.old }
-    requires no_slots { table.now.slots ≡ 0 }
     requires ready { IsReady (view_of seat.old) }
     requires may { MayMakeTransfer table.now.accounts number job.now holdings.old.items (view_of seat.old).books }
     requires runs { (view_of seat.old).seen.stop ≡ 0 }

@@ -31,7 +31,6 @@ pub fn work<R: Wait, Q: Relief, G: Gate>(
     gate: &G,
 ) -> Worked
     requires seat { IsOf table.now seat.old }
-    requires no_slots { table.now.slots ≡ 0 }
     requires ready { IsReady (view_of seat.old) }
     requires none_held { (view_of seat.old).books.held ≡ [] }
     requires worker { seat.old.worker < jobs.now.workers }

@@ -7,17 +7,17 @@ use Rattle.ring_buffer.specs.Calls.{MayPlace}
 use Rattle.txn_making.proofs.Putting.{may-place, puts}
 use Rattle.txn_making.proofs.inserting.insert_units.Goals as goal
 
-pub insert_alone-requires-clause-next : goal.insert_alone-requires-clause-next
-insert_alone-requires-clause-next g c = subst (MayPlace (length c.args.units.now)) (sym c.loop.invariant.0.books_are)
+pub insert-requires-clause-next : goal.insert-requires-clause-next
+insert-requires-clause-next g c = subst (MayPlace (length c.args.units.now)) (sym c.loop.invariant.0.books_are)
     (may-place c.args.units.now (view_of c.args.seat.now).books c.requires.spelled c.requires.next)
 
-pub insert_alone-requires-clause-units : goal.insert_alone-requires-clause-units
-insert_alone-requires-clause-units g c = c.requires.spelled
+pub insert-requires-clause-units : goal.insert-requires-clause-units
+insert-requires-clause-units g c = c.requires.spelled
     ∙ ap (λ (books : Books). spelling (next_of books)) (sym c.loop.invariant.0.books_are)
 
 pub returns-in-Ok-clause-put : goal.returns-in-Ok-clause-put
 returns-in-Ok-clause-put g c =
     let end : c.new.result ≡ c.in-Ok.at + length c.args.units.now = search rules in
     puts (length c.args.units.now) c.in-Ok.at c.new.result c.args.seat.now c.loop.seat
-    c.insert_alone.new.seat (ap length c.requires.spelled) end
+    c.insert.new.seat (ap length c.requires.spelled) end
     c.loop.invariant.0 c.in-Ok.ensures.inserted c.in-Ok.ensures.behind c.in-Ok.ensures.seen
