@@ -30,6 +30,7 @@ pub record HasPiece (table : LogTable) (member : Member) (units : List ℕ) (vie
   pub base : ℕ
   pub call : IsAtStep member.slot piece (Fills base []) view
   pub at_is : member.at ≡ base + piece.offset
+  pub offset_is : member.offset ≡ piece.offset
   pub size_is : member.n ≡ piece.size
   pub whole : piece.size ≡ length (spelling piece.rec)
   pub units_are : units ≡ spelling piece.rec
