@@ -1,0 +1,73 @@
+-- What a seat is that has joined a group, and what it was since.
+use Rattle.std.proofs.Common.{arith, ◌≡◌, ◌∙◌, ℕ, List, length, ap, refl, sym}
+use Rattle.log_record.specs.Spelling.{spelling}
+use Rattle.log_table.specs.declared.group_view.MemberStep.{MemberStep}
+use Rattle.log_table.specs.declared.table.LogTable.{LogTable}
+use Rattle.log_table.specs.declared.table.Seat.{Seat}
+use Rattle.log_table.specs.declared.view.Constants.{Constants}
+use Rattle.log_table.specs.Books.{next_of}
+use Rattle.log_table.specs.Seats.{IsOf, view_of}
+use Rattle.log_table.specs.SlotViews.{piece_joining, step_joining}
+use Rattle.ring_buffer.specs.Calls.{IsSameWorker}
+use Rattle.ring_buffer.proofs.TwoCalls.{IsSameWorker-trans}
+use Rattle.consol_array.specs.declared.call.Joined.{Joined}
+use Rattle.consol_array.specs.Joining.{HasJoined}
+use Rattle.consol_array.specs.Members.{IsAtStep}
+use Rattle.consol_array_tests.specs.Shares.{HasShare}
+
+IsSameWorker-refl : (seat : Seat) → IsSameWorker seat seat
+IsSameWorker-refl seat = record {
+  table_is = refl;
+  number = refl;
+  slots = refl;
+  worker = refl;
+  constants = refl;
+  standing = refl;
+  grows = omega arith;
+  exposed = omega arith;
+  durable = omega arith;
+  steps = omega arith;
+}
+
+pub HasShare-joined : (table : LogTable) (old new : Seat) (n : ℕ) (units : List ℕ) (joined : Joined) → HasJoined table old new n joined → n ≡ length units
+    → units ≡ spelling (next_of (view_of old).books) → HasShare table joined units (step_joining joined.offset) new
+HasShare-joined table old new n units joined has n-is units-are = record {
+  slot_below = has.slot_below;
+  piece = piece_joining joined.offset (view_of old);
+  call = ap (λ me. me.0.call) has.becomes.me;
+  offset_is = refl;
+  size_is = has.size_is ∙ (n-is ∙ ap length units-are);
+  whole = refl;
+  units_are = units-are;
+  first = new;
+  same = IsSameWorker-refl new;
+  tail_seen = omega (arith, ap (λ me. me.0.seen.tail) has.becomes.me);
+  durable_seen = omega (arith, ap (λ me. me.0.seen.durable) has.becomes.me);
+}
+
+-- at another step the share is the same
+pub HasShare-since : (table : LogTable) (joined : Joined) (units : List ℕ) (before step : MemberStep) (old new : Seat)
+    → (has : HasShare table joined units before old) → IsSameWorker old new → IsAtStep joined.slot has.piece step (view_of new)
+    → HasShare table joined units step new
+HasShare-since table joined units before step old new has same call = record {
+  slot_below = has.slot_below;
+  piece = has.piece;
+  call = call;
+  offset_is = has.offset_is;
+  size_is = has.size_is;
+  whole = has.whole;
+  units_are = has.units_are;
+  first = has.first;
+  same = IsSameWorker-trans has.first old new has.same same;
+  tail_seen = has.tail_seen;
+  durable_seen = has.durable_seen;
+}
+
+-- both are the same worker's as the first
+pub IsOf-beside : (table : LogTable) (first old new : Seat) → IsOf table old → IsSameWorker first old → IsSameWorker first new → IsOf table new
+IsOf-beside table first old new of was is = record {
+  table_is = is.table_is ∙ (sym was.table_is ∙ of.table_is);
+  no_slots = is.slots ∙ (sym was.slots ∙ of.no_slots);
+  ring = ap (λ (constants : Constants). constants.ring) (is.constants ∙ sym was.constants) ∙ of.ring;
+  slots = ap (λ (constants : Constants). constants.slots) (is.constants ∙ sym was.constants) ∙ of.slots;
+}

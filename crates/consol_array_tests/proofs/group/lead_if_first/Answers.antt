@@ -1,0 +1,15 @@
+use Rattle.std.proofs.Common.{cond, ap, eq-eqb, ◌∙◌}
+use Rattle.log_table.specs.declared.group_view.MemberStep.{MemberStep}
+use Rattle.log_table.specs.declared.group_view.MemberStep.TheVariants.{Closes, Waits}
+use Rattle.log_table.specs.declared.view.Call.TheVariants.{Joined}
+use Rattle.log_table.specs.SlotViews.{step_joining}
+use Rattle.consol_array_tests.proofs.Sharing.{HasShare-since}
+use Rattle.consol_array_tests.proofs.group.lead_if_first.Goals as goal
+
+pub returns-clause-waits : goal.returns-clause-waits
+returns-clause-waits c =
+    let share = c.requires.share in
+    let joined = c.args.joined.now in
+    HasShare-since c.args.table.now joined c.args._units.now (step_joining joined.offset) Waits c.args.seat.now c.lead.new.seat share c.lead.ensures.stays.same
+    (c.lead.ensures.told share.piece (share.call
+    ∙ ap (λ b. Joined joined.slot share.piece (cond {A = MemberStep} b Closes Waits)) (eq-eqb joined.offset 0 c.if-joined-ne0.false)))

@@ -1,0 +1,25 @@
+-- A seat that has joined a group.
+use Rattle.std.specs.Prelude.{◌≡◌, ℕ, ◌<◌, ◌≤◌, List, length}
+use Rattle.log_record.specs.Spelling.{spelling}
+use Rattle.log_table.specs.declared.group_view.MemberStep.{MemberStep}
+use Rattle.log_table.specs.declared.group_view.Piece.{Piece}
+use Rattle.log_table.specs.declared.table.LogTable.{LogTable}
+use Rattle.log_table.specs.declared.table.Seat.{Seat}
+use Rattle.log_table.specs.Seats.{view_of}
+use Rattle.ring_buffer.specs.Calls.{IsSameWorker}
+use Rattle.consol_array.specs.declared.call.Joined.{Joined}
+use Rattle.consol_array.specs.Members.{IsAtStep}
+
+-- the seat is a member of the group at the slot, at this step, with a piece for a record of these units; `first` is the seat as it joined
+pub record HasShare (table : LogTable) (joined : Joined) (units : List ℕ) (step : MemberStep) (seat : Seat) : Type 0 where
+  pub slot_below : joined.slot < table.slots
+  pub piece : Piece
+  pub call : IsAtStep joined.slot piece step (view_of seat)
+  pub offset_is : piece.offset ≡ joined.offset
+  pub size_is : joined.n ≡ piece.size
+  pub whole : piece.size ≡ length (spelling piece.rec)
+  pub units_are : units ≡ spelling piece.rec
+  pub first : Seat
+  pub same : IsSameWorker first seat
+  pub tail_seen : (view_of first).seen.tail ≤ piece.tail
+  pub durable_seen : (view_of first).seen.durable ≤ piece.durable

@@ -1,0 +1,229 @@
+//! Groups on one thread: placed, released in both orders, of one member, and refused.
+ghost use Rattle.std.specs.Prelude.{◌≡◌, ◌≤◌, ◌+◌, IfOk};
+ghost use Rattle.log_table.specs.Hiring.{HasHired};
+ghost use Rattle.log_table.specs.Seats.{IsOf, view_of};
+ghost use Rattle.log_table.specs.SlotViews.{step_joining};
+ghost use Rattle.consol_array.specs.Members.{HasPiece};
+ghost use Rattle.consol_array_tests.specs.Shares.{HasShare};
+ghost use Rattle.test_rig.specs.NotedJobs.{IsNotedJob};
+
+use crate::found::{is_at, is_number, is_so};
+use crate::group::{hear_piece, join_for, lead_if_first, put_piece};
+use consol_array::{Joined, Member, leave_group};
+use lock_core::Job;
+use log_record::Units;
+use log_table::{LogTable, Seat};
+use lsn_space::Lsn;
+use ring_buffer::{Refused, fill, finish};
+use std::process::Abort;
+use std::sync::Wait;
+use std::test::Fail;
+use test_rig::{note_units, noted_job, place_note, table_with_slots, worker};
+
+/// A worker that has joined, with the units of its note.
+#[derive(Drop)]
+struct Sharer {
+    seat: Seat,
+    joined: Joined,
+    units: Units,
+}
+
+/// The worker of the next number joins for a note of these letters, behind so many units.
+fn joins<R: Abort>(
+    rt: &R,
+    table: &LogTable,
+    boss: &mut Seat,
+    number: u32,
+    letters: &[u8],
+    offset: u32,
+) -> Result<Sharer, Fail>
+    requires boss { HasHired table.now number boss.old }
+    requires few { number ≤ 1000 }
+    requires slots { 1 ≤ table.now.slots }
+    requires accounts { table.now.accounts ≡ 2 }
+    ensures boss { IfOk result (λ sharer. HasHired table.now (number + 1) boss.new) }
+    ensures own { IfOk result (λ sharer. IsOf table.now sharer.seat) }
+    ensures share { IfOk result (λ sharer. HasShare table.now sharer.joined sharer.units (step_joining sharer.joined.offset) sharer.seat) }
+{
+    let mut seat = worker(table, boss, number, number + 1);
+    let Some(job) = noted_job(letters) else {
+        return Err(Fail::new("no job"));
+    };
+    let units = note_units(number + 1, &job);
+    let Ok(joined) = join_for(table, &mut seat, number + 1, &job, &units) else {
+        return Err(Fail::new("the worker has not joined"));
+    };
+    is_number(rt, "offset", joined.offset, offset);
+    Ok(Sharer {
+        seat,
+        joined,
+        units,
+    })
+}
+
+/// A worker that has heard where its piece lies.
+#[derive(Drop)]
+struct Placed {
+    seat: Seat,
+    member: Member,
+    units: Units,
+}
+
+/// The member hears that its record begins there.
+fn hears<R: Abort + Wait>(rt: &R, table: &LogTable, sharer: Sharer, at: u32) -> Result<Placed, Fail>
+    requires own { IsOf table.now sharer.seat }
+    requires share { HasShare table.now sharer.joined sharer.units (step_joining sharer.joined.offset) sharer.seat }
+    ensures own { IfOk result (λ placed. IsOf table.now placed.seat) }
+    ensures piece { IfOk result (λ placed. HasPiece table.now placed.member placed.units (view_of placed.seat)) }
+{
+    let Sharer {
+        mut seat,
+        joined,
+        units,
+    } = sharer;
+    lead_if_first(table, &mut seat, &joined, &units);
+    let Ok(member) = hear_piece(rt, table, &mut seat, joined, &units) else {
+        return Err(Fail::new("the group was refused"));
+    };
+    is_at(rt, "the piece", member.at, at);
+    Ok(Placed {
+        seat,
+        member,
+        units,
+    })
+}
+
+/// The member fills its piece and releases it, as the last one or not.
+fn puts<R: Abort>(rt: &R, table: &LogTable, placed: Placed, at: u32, last: bool) -> Seat
+    requires own { IsOf table.now placed.seat }
+    requires piece { HasPiece table.now placed.member placed.units (view_of placed.seat) }
+    ensures own { IsOf table.now result }
+{
+    let Placed {
+        mut seat,
+        member,
+        units,
+    } = placed;
+    let released = put_piece(table, &mut seat, member, &units);
+    is_at(rt, "the record", released.at, at);
+    is_so(rt, "the last to release", released.last, last);
+    seat
+}
+
+/// Two workers share a group of five units, which is placed behind 4; the one or the other releases first.
+fn releases_in_turn<R: Abort + Wait>(
+    rt: &R,
+    table: &LogTable,
+    boss: &mut Seat,
+    leader_first: bool,
+) -> Result<(), Fail>
+    requires boss { HasHired table.now 0 boss.old }
+    requires slots { 1 ≤ table.now.slots }
+    requires accounts { table.now.accounts ≡ 2 }
+{
+    let first = joins(rt, table, boss, 0, b"aaaaaaaa", 0)?;
+    let second = joins(rt, table, boss, 1, b"bbbbbbbbb", 2)?;
+    let first = hears(rt, table, first, 4)?;
+    let second = hears(rt, table, second, 6)?;
+    let mut seat = if leader_first {
+        puts(rt, table, first, 4, false);
+        puts(rt, table, second, 6, true)
+    } else {
+        puts(rt, table, second, 6, false);
+        puts(rt, table, first, 4, true)
+    };
+    is_at(rt, "tail", table.load_tail(&mut seat), 9);
+    is_at(rt, "exposed", table.load_exposed(&mut seat), 9);
+    let after = table.load_slot(&mut seat, 0);
+    is_number(rt, "the slot's total", after.total(), 0);
+    Ok(())
+}
+
+#[test]
+fn the_last_to_release_exposes(rt: HostRuntime) -> Result<(), Fail> {
+    for leader_first in [true, false] {
+        let (table, mut boss) = table_with_slots(rt.alloc(), (100, 0), 4, 1)?;
+        releases_in_turn(&rt, &table, &mut boss, leader_first)?;
+    }
+    Ok(())
+}
+
+#[test]
+fn a_group_of_one_goes_on(rt: HostRuntime) -> Result<(), Fail> {
+    let (table, mut boss) = table_with_slots(rt.alloc(), (100, 0), 4, 1)?;
+    let only = joins(&rt, &table, &mut boss, 0, b"aaaaaaaa", 0)?;
+    let only = hears(&rt, &table, only, 4)?;
+    puts(&rt, &table, only, 4, true);
+    let next = joins(&rt, &table, &mut boss, 1, b"bbbbbbbbb", 0)?;
+    let next = hears(&rt, &table, next, 6)?;
+    puts(&rt, &table, next, 6, true);
+    Ok(())
+}
+
+/// So many workers, each of which inserts a note of four units and is let go, fill the ring, which nobody flushes.
+fn fill_ring(table: &LogTable, boss: &mut Seat, job: &Job) -> Result<(), Fail>
+    requires boss { HasHired table.now 0 boss.old }
+    requires accounts { table.now.accounts ≡ 2 }
+    requires job { IsNotedJob job.now }
+    ensures boss { IfOk result (λ done. HasHired table.now 256 boss.new) }
+{
+    for i in 0..256 {
+        let mut seat = worker(table, boss, i, i + 1);
+        let units = note_units(i + 1, job);
+        let Ok(Some(range)) = place_note(table, &mut seat, i + 1, job, &units) else {
+            return Err(Fail::new("a note has no room"));
+        };
+        let filled = fill(table, &mut seat, range, &units);
+        finish(table, &mut seat, filled);
+    }
+    Ok(())
+}
+
+/// The member hears that its group of five units was refused, and leaves, as the last one or not.
+fn is_turned_away<R: Abort + Wait>(
+    rt: &R,
+    table: &LogTable,
+    sharer: Sharer,
+    last: bool,
+) -> Result<(), Fail>
+    requires own { IsOf table.now sharer.seat }
+    requires share { HasShare table.now sharer.joined sharer.units (step_joining sharer.joined.offset) sharer.seat }
+{
+    let Sharer {
+        mut seat,
+        joined,
+        units,
+    } = sharer;
+    lead_if_first(table, &mut seat, &joined, &units);
+    let Err((refused, leaver)) = hear_piece(rt, table, &mut seat, joined, &units) else {
+        return Err(Fail::new("the group has room"));
+    };
+    let full = Refused::RingFull {
+        tail: Lsn::new(1028),
+        durable: Lsn::new(4),
+        total: 5,
+    };
+    assert_eq!(rt; refused, full);
+    is_so(
+        rt,
+        "the last to leave",
+        leave_group(table, &mut seat, leaver),
+        last,
+    );
+    Ok(())
+}
+
+#[test]
+fn a_group_is_refused_with_its_own_numbers(rt: HostRuntime) -> Result<(), Fail> {
+    let (table, mut boss) = table_with_slots(rt.alloc(), (100, 0), 4, 1)?;
+    let Some(job) = noted_job(&[97; 24]) else {
+        return Err(Fail::new("no job"));
+    };
+    fill_ring(&table, &mut boss, &job)?;
+    let first = joins(&rt, &table, &mut boss, 256, b"aaaaaaaa", 0)?;
+    let second = joins(&rt, &table, &mut boss, 257, b"bbbbbbbbb", 2)?;
+    is_turned_away(&rt, &table, first, false)?;
+    is_turned_away(&rt, &table, second, true)?;
+    joins(&rt, &table, &mut boss, 258, b"aaaaaaaa", 0)?;
+    Ok(())
+}
