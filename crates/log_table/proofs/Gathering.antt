@@ -26,8 +26,8 @@ use Rattle.lock_core.specs.Sums.{BaseState, IsBalanceOf, last_commit_of, total}
 use Rattle.log_table.specs.declared.view.Books.{Books}
 use Rattle.log_table.specs.Accounts.{summed, holders, takers, HasDistinctJobs, WentBack, AccountsFollowList}
 use Rattle.log_table.specs.Books.{task_of, times_held, times_taken}
-use Rattle.log_table.specs.Closing.{HasHeardOfWorkers, IsGathered, IsLedger, IsSettled, ReadsRows, records_of, history_of}
-use Rattle.log_table.specs.Layout.{Account, index_of}
+use Rattle.log_table.specs.Closing.{HasHeardOfWorkers, IsGathered, IsLedger, IsSettled, ReadsRows, records_of, history_of, in_use}
+use Rattle.log_table.specs.Layout.{Account, Slot, index_of}
 use Rattle.log_table.proofs.Gathered.{gathered}
 use Rattle.log_table.specs.Log.{Part, Log, own, part_of, parts_of, IsSpelled, ranges_of, Laid, IsFull, IsFullIfReleased, AgreesFrom, IsRangeBoundary, IsEntryBoundary, SpellsRecord, records_in}
 use Rattle.log_table.specs.Sends.{IsDrained}
@@ -43,6 +43,7 @@ use Rattle.log_table.proofs.MemberBooks.{held-books_in, jobs-books_in}
 use Rattle.log_table.proofs.Lists.{all-both, all-weaker}
 use Rattle.log_table.proofs.Looking.{part-boundary}
 use Rattle.log_table.proofs.Resting.{at_rest}
+use Rattle.log_table.proofs.Vacancy.{word-at_rest, none-in_use}
 use Rattle.log_table.proofs.Viewing.{seat_at}
 
 -- what holds of each view and of nobody's holds of each seat
@@ -143,6 +144,9 @@ module _ (key : Start) (words : Words) (views : List View) (me : ℕ) (v : View)
 
   pub all_exposed : words.exposed ≡ words.tail
   all_exposed = at_rest key words views log s idle
+
+  pub all_vacant : (slot : ℕ) → words.slot slot ≡ 0
+  all_vacant = word-at_rest key words views log s idle
 
   no-entries : (j : ℕ) → j ≢ me → own j log.parts ≡ []
   no-entries j differ = (s.owners j).owns ∙ (λ i. parts_of j true (none i) ++ parts_of j false (entries_in log.groups (idle j i)))
@@ -294,6 +298,7 @@ pub record IsClosed (key : Start) (ws : List ℕ) (tail exposed : ℕ) (v : View
   pub gathered : IsGathered tail v
   pub settled : (old rows : List (ℕ × ℕ)) → length old ≡ length key.accounts.rows → ReadsRows key.ring key.slots (length old) ws old rows → IsSettled (base_of key) v rows
   pub heard : HasHeardOfWorkers v
+  pub empty : in_use key.ring key.slots ws ≡ 0
 
 pub at-index : (l : List ℕ) (i a : ℕ) → get_elem? l i ≡ some a → get_or l i 0 ≡ a
 at-index [] i a e = absurd (some-ne-none a (sym e))
@@ -311,4 +316,8 @@ closes key me v ws xs tail exposed final may tail-at exposed-at =
       gathered = subst (λ n. IsGathered n v) tail-is (gathers key words state.views me v log s at may);
       settled = λ old rows same reads. settles key words state.views me v log s at may ws old rows (ap (words_in key) final.2) same reads;
       heard = s.heard me v at me v at may.flusher;
+      empty = none-in_use key.ring key.slots ws (λ slot below.
+          sym (ap (λ l. (words_in key l).slot slot) final.2
+          ∙ ap (λ t. cond t (slice_index ws (index_of key.ring key.slots (Slot slot))) 0) (lt-ltb slot key.slots below))
+          ∙ all_vacant key words state.views me v log s at may slot);
     }

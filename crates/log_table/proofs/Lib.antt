@@ -72,5 +72,6 @@ mod TailMoving
 mod Taking
 mod ToldMembers
 mod TrueMarks
+mod Vacancy
 mod Viewing
 mod Wording

@@ -1,5 +1,5 @@
 -- What the list of entries is once all seats are gathered.
-use Rattle.std.specs.Prelude.{◌≡◌, ℕ, ◌<◌, ◌≤◌, List, [], ◌∷◌, ◌++◌, map, length, slice_index}
+use Rattle.std.specs.Prelude.{◌≡◌, ℕ, zero, suc, ◌+◌, ◌<◌, ◌≤◌, min, List, [], ◌∷◌, ◌++◌, map, length, slice_index}
 use Rattle.std.specs.List.{AllByRecursion}
 use Rattle.lsn_space.specs.Tiling.{IsTiling}
 use Rattle.log_table.specs.declared.view.Entry.{Entry}
@@ -16,7 +16,7 @@ use Rattle.lock_core.specs.Settling.{row, KeepsRows}
 use Rattle.lock_core.specs.Sums.{BaseState}
 use Rattle.log_table.specs.Accounts.{WentBack}
 use Rattle.log_table.specs.Books.{task_of, times_taken}
-use Rattle.log_table.specs.Layout.{Account, index_of}
+use Rattle.log_table.specs.Layout.{Account, Slot, index_of}
 use Rattle.log_table.specs.Members.{IsRefusalOf}
 
 -- The entries are the whole log from the start to this LSN, without gap or overlap, and each is filled. Each LSN that a seat saw lies
@@ -66,3 +66,8 @@ pub record ReadsRows (ring slots n : ℕ) (words : List ℕ) (old new : List (�
   pub count : length new ≡ length old
   pub each : (account : ℕ) → account < n
       → row new account ≡ (balance_in (slice_index words (index_of ring slots (Account account))), mark_in (slice_index words (index_of ring slots (Account account))))
+
+-- how many of the first n slots have a state that is not 0, by the words of a table whose ring has that length
+abbrev pub in_use : ℕ → ℕ → List ℕ → ℕ
+in_use ring zero words = 0
+in_use ring (suc n) words = in_use ring n words + min (slice_index words (index_of ring 0 (Slot n))) 1

@@ -3,7 +3,7 @@ ghost use Rattle.std.specs.Prelude.{◌≡◌, ◌<◌, ◌≤◌, length};
 ghost use Rattle.lsn_space.specs.declared.lsn.TheConstants.{GREATEST_RING};
 ghost use Rattle.log_record.specs.declared.limits.TheConstants.{MOST_ACCOUNTS};
 ghost use Rattle.lock_core.specs.Settling.{row};
-ghost use Rattle.log_table.specs.Closing.{HasHeardOfWorkers, IsGathered, IsSettled, ReadsRows};
+ghost use Rattle.log_table.specs.Closing.{HasHeardOfWorkers, IsGathered, IsSettled, ReadsRows, in_use};
 ghost use Rattle.log_table.specs.May.{MayClose};
 ghost use Rattle.log_table.specs.Seats.{IsOf, view_of, key_of};
 ghost use Rattle.log_table.specs.Sound.{base_of};
@@ -11,7 +11,7 @@ ghost use Rattle.std.specs.Slots.{slots_len, slots_items, IsFull};
 ghost use Rattle.log_table.specs.Layout.{word_count};
 ghost use Rattle.log_table.specs.declared.layout.TheConstants.{MOST_SLOTS};
 
-use crate::layout::{EXPOSED, TAIL, account_place};
+use crate::layout::{EXPOSED, TAIL, account_place, slot_place};
 use crate::table::{LogTable, Seat};
 use lsn_space::{Balances, Lsn};
 use slot_word::AccountWord;
@@ -22,6 +22,7 @@ use std::alloc::Global;
 pub struct Closed {
     tail: Lsn,
     exposed: Lsn,
+    in_use: u64,
     accounts: Balances,
 }
 
@@ -38,6 +39,13 @@ impl Closed {
         ensures { result ≡ self.now.exposed }
     {
         self.exposed
+    }
+
+    /// The number of slots that were in use: where nobody is, a slot's state is 0.
+    pub fn slots_in_use(&self) -> u64
+        ensures { result ≡ self.now.in_use }
+    {
+        self.in_use
     }
 
     /// The accounts: their balances and last commits.
@@ -81,9 +89,26 @@ fn read_rows(rows: &mut Balances, closed: &atomic_table::Closed<(), Global>, rin
     }
 }
 
+/// Counts the slots in use by the words of a closed table whose ring has that length, and which has so many
+/// slots.
+fn count_in_use(closed: &atomic_table::Closed<(), Global>, ring: u32, slots: u32) -> u64
+    requires ring { ring ≤ GREATEST_RING }
+    requires slots { slots ≤ MOST_SLOTS }
+    requires size { word_count ring slots 0 ≤ slots_len closed.now.words }
+    requires full { IsFull closed.now.words }
+    ensures { result ≡ in_use ring slots (slots_items closed.now.words) }
+{
+    let mut count = 0;
+    for slot in 0..slots {
+        let word = closed.word(slot_place(ring, slot));
+        count += word.min(1);
+    }
+    count
+}
+
 impl LogTable {
     /// Ends the table: the entries gathered in the flusher's seat are the whole log, and all of it is
-    /// released. Where no job number stands twice, the log is lawful, the jobs are run whole or cut
+    /// released. No slot is in use. Where no job number stands twice, the log is lawful, the jobs are run whole or cut
     /// short, and the accounts are the log's. A group that was refused had no greater total than the workers
     /// that were made can bring.
     pub fn close(self, seat: Seat) -> Closed
@@ -91,6 +116,7 @@ impl LogTable {
         requires may { MayClose (view_of seat) }
         ensures gathered { IsGathered result.tail (view_of seat) }
         ensures released { result.exposed ≡ result.tail }
+        ensures empty { result.in_use ≡ 0 }
         ensures settled { IsSettled (base_of (key_of self)) (view_of seat) result.accounts.rows }
         ensures heard { HasHeardOfWorkers (view_of seat) }
     {
@@ -104,11 +130,13 @@ impl LogTable {
         let closed = table.close_with(seat.base);
         let tail = closed.word(TAIL);
         let exposed = closed.word(EXPOSED);
+        let in_use = count_in_use(&closed, ring, slots);
         read_rows(&mut rows, &closed, ring, slots);
         closed.free();
         Closed {
             tail: Lsn::new(tail as u32),
             exposed: Lsn::new(exposed as u32),
+            in_use,
             accounts: rows,
         }
     }

@@ -1,6 +1,6 @@
 use Rattle.std.proofs.Common.{arith, ℕ, length, ◌∙◌, sym, subst}
 use Rattle.std.specs.Slots.{slots_items}
-use Rattle.log_table.specs.Closing.{IsGathered, ReadsRows}
+use Rattle.log_table.specs.Closing.{IsGathered, ReadsRows, in_use}
 use Rattle.log_table.specs.Seats.{view_of}
 use Rattle.log_table.proofs.Gathering.{IsClosed, closes}
 use Rattle.log_table.proofs.table.LogTable.close.Goals as goal
@@ -31,3 +31,9 @@ returns-clause-settled c = let is : IsClosed _ _ c.word-tail.result c.word-expos
 pub returns-clause-heard : goal.returns-clause-heard
 returns-clause-heard c = let is : IsClosed _ _ c.word-tail.result c.word-exposed.result (view_of c.args.seat) =
     closes _ _ _ _ _ _ _ c.close_with-closed.ensures.values.2 c.requires.may c.word-tail.ensures c.word-exposed.ensures in is.heard
+
+pub returns-clause-empty : goal.returns-clause-empty
+returns-clause-empty c = let is : IsClosed _ _ c.word-tail.result c.word-exposed.result (view_of c.args.seat) =
+    closes _ _ _ _ _ _ _ c.close_with-closed.ensures.values.2 c.requires.may c.word-tail.ensures c.word-exposed.ensures in
+    c.count_in_use-in_use.ensures
+    ∙ ((λ i. in_use (sym c.args.self.keyed i) (sym c.args.self.slotted i) (slots_items c.close_with-closed.result.words)) ∙ is.empty)
