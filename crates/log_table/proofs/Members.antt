@@ -217,7 +217,8 @@ totals-more workers members (Emptied last) is = tt
 
 pub refusals-more : (workers : ℕ) (refusals : List HeardRefusal) → AllByRecursion (IsRefusalOf workers) refusals
     → AllByRecursion (IsRefusalOf (suc workers)) refusals
-refusals-more workers refusals = all-weaker (IsRefusalOf workers) (IsRefusalOf (suc workers)) refusals (λ refusal is. omega (arith, is))
+refusals-more workers refusals = all-weaker (IsRefusalOf workers) (IsRefusalOf (suc workers)) refusals
+    (λ refusal is. record { within = is.within; most = omega (arith, is.most) })
 
 -- ---- refusals that seats heard
 

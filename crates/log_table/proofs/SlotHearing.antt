@@ -276,7 +276,10 @@ module _ (key : Start) (words : Words) (views : List View) (me : ℕ) (v : View)
         (subst (HasTotalAtPhase made (log.groups slot).members) told (s.totals j z there slot flusher)) (λ _ is. is)
 
     refusals-heard : EachView (λ _ z. HeardOfWorkers z (record v { seen = seen })) views
-    refusals-heard j z there flusher = (total-of z j there flusher, s.heard j z there me v at flusher)
+    refusals-heard j z there flusher = (
+      record { within = omega (arith, within refusal remaining told); most = total-of z j there flusher },
+      s.heard j z there me v at flusher,
+    )
 
     refusal-heard : slot < key.slots → Leads key words words views (set views me (heard_refused slot word piece total v)) log (hears me)
     refusal-heard = heard refusal remaining told (Leaves (word / 2 ^ 32) (word % 2 ^ 32)) v.books seen

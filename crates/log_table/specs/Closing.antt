@@ -56,8 +56,8 @@ pub record IsSettled (base : BaseState) (view : View) (rows : List (ℕ × ℕ))
   pub given : ((number : ℕ) → times_taken number view.books.jobs ≤ 1)
       → AllByRecursion (WentBack base (history_of base view.entries)) view.books.given
 
--- Of each group's refusal that a gathered seat heard, the total is at most the units of the seat's own record and 26 for each further
--- worker that was made; so where one worker was made, it is no more than these units.
+-- Of each group's refusal that a gathered seat heard, the total is at least the units of the seat's own record, and at most these and 26
+-- for each further worker that was made; so where one worker was made, it is exactly these units.
 abbrev pub HasHeardOfWorkers : View → Type 0
 HasHeardOfWorkers view = AllByRecursion (IsRefusalOf (length view.standing.made)) view.seen.refusals
 

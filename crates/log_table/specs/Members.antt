@@ -162,9 +162,10 @@ HasTotalAtPhase workers members (Emptied last) = Unit {0}
 abbrev pub HasTotalOfWorkers : Group → View → Type 0
 HasTotalOfWorkers group view = view.standing.role ≡ Flusher → HasTotalAtPhase (length view.standing.made) group.members group.phase
 
--- so had each group of whose refusal a seat heard
-abbrev pub IsRefusalOf : ℕ → HeardRefusal → Type 0
-IsRefusalOf workers refusal = IsTotalOf workers refusal.size refusal.total
+-- so had each group of whose refusal a seat heard, and it asked for the seat's record too: where one worker was made, for no more
+pub record IsRefusalOf (workers : ℕ) (refusal : HeardRefusal) : Type 0 where
+  pub within : refusal.size ≤ refusal.total
+  pub most : IsTotalOf workers refusal.size refusal.total
 
 abbrev pub HeardOfWorkers : View → View → Type 0
 HeardOfWorkers view other = view.standing.role ≡ Flusher → AllByRecursion (IsRefusalOf (length view.standing.made)) other.seen.refusals
