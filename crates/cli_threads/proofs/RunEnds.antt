@@ -190,8 +190,9 @@ module _ (opened : List Rec) (jobs : Jobs) (view : View) (below : greatest_txn (
       → IsTotalAmong view.constants.ring view.constants.slots jobs.workers size total
   asked-among heard size total (inl own) = inl own
   asked-among heard size total (inr group) =
-      let most : total + 26 ≤ size + 26 * jobs.workers = All-contains (IsRefusalOf jobs.workers) view.seen.refusals (record { size = size; total = total })
-      (All-from_recursion (IsRefusalOf jobs.workers) view.seen.refusals heard) group.known in
+      let most : total + 26 ≤ size + 26 * jobs.workers =
+      (All-contains (IsRefusalOf jobs.workers) view.seen.refusals (record { size = size; total = total })
+      (All-from_recursion (IsRefusalOf jobs.workers) view.seen.refusals heard) group.known).most in
       let within = group.within in
       let some = jobs.shared in
       dite (dec_lt 1 jobs.workers) (λ more. inr (record { grouped = group.grouped; within = within; few = group.few; known = (more, most) }))
