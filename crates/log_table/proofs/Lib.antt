@@ -71,6 +71,7 @@ mod Stopping
 mod TailMoving
 mod Taking
 mod ToldMembers
+mod ToldWaiting
 mod TrueMarks
 mod Vacancy
 mod Viewing

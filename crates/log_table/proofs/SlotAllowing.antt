@@ -12,7 +12,7 @@ use Rattle.log_table.specs.declared.table.Start.{Start}
 use Rattle.log_table.specs.declared.view.View.{View}
 use Rattle.log_table.specs.Layout.{Slot, Base}
 use Rattle.log_table.specs.May.{MayJoinSlot, MayCloseSlot, MayStoreBase, MayStoreGranted, MayStoreRefused, MayPublish, MayLoadBase, MayReopen}
-use Rattle.log_table.specs.SlotViews.{own_slot_of, saw_slot, after_join, closed_slot, stored_base, published, heard_base, reopened, IsGatheringWord, TellsMember}
+use Rattle.log_table.specs.SlotViews.{own_slot_of, saw_slot, after_join, closed_slot, stored_base, published, heard_base, reopened, IsGatheringWord, TellsMember, TellsWaiting}
 use Rattle.log_table.specs.Sound.{Ruled}
 use Rattle.log_table.proofs.Lifting.{allowed-if_step}
 use Rattle.log_table.proofs.SlotClosing.{close-step, close-tells}
@@ -22,6 +22,7 @@ use Rattle.log_table.proofs.SlotLooks.{slot-looks, slot-tells}
 use Rattle.log_table.proofs.SlotReopening.{reopen-step}
 use Rattle.log_table.proofs.SlotStoring.{granted-step, refused-step}
 use Rattle.log_table.proofs.SlotTelling.{publish-step}
+use Rattle.log_table.proofs.ToldWaiting.{look-tells}
 use Rattle.log_table.proofs.Wording.{Fits, of_slot, of_base}
 
 module _ (key : Start) (slots seat : ℕ) (me : Me (Unit {0}) View) where
@@ -37,10 +38,11 @@ module _ (key : Start) (slots seat : ℕ) (me : Me (Unit {0}) View) where
     at-slot left then allows = subst (λ (p : ℕ × ℕ). Allows (Ruled key) slots seat me p.0 left (then p.1))
         (λ i. ((ap (λ r. RING + r + r + STRIDE * slot) same ∙ sym at) i, sym is i)) allows
 
-    pub load_slot-allowed : Allows (Ruled key) slots seat me place (λ n. n) (λ n new. (new ≡ (saw_slot picked n me.0, me.1)) × IsSlotWord n)
-    load_slot-allowed = at-slot (λ n. n) (λ p n new. (new ≡ (saw_slot p n me.0, me.1)) × IsSlotWord n)
-        (allowed-if_step key slots seat me (Slot slot) fits-slot (λ n. n) (λ n. saw_slot slot n me.0) (λ _. none) IsSlotWord
-        (slot-tells key seat me.0 slot) (λ n _. slot-looks key seat me.0 slot n))
+    pub load_slot-allowed : Allows (Ruled key) slots seat me place (λ n. n)
+        (λ n new. (new ≡ (saw_slot picked n me.0, me.1)) × (IsSlotWord n × TellsWaiting picked n me.0))
+    load_slot-allowed = at-slot (λ n. n) (λ p n new. (new ≡ (saw_slot p n me.0, me.1)) × (IsSlotWord n × TellsWaiting p n me.0))
+        (allowed-if_step key slots seat me (Slot slot) fits-slot (λ n. n) (λ n. saw_slot slot n me.0) (λ _. none)
+        (λ n. IsSlotWord n × TellsWaiting slot n me.0) (look-tells key seat me.0 slot) (λ n _. slot-looks key seat me.0 slot n))
 
   -- the slot's number stands in the seat's call
   module _ (place ring number slot : ℕ) (at : place ≡ RING + ring + ring + STRIDE * slot) (same : key.ring ≡ ring)

@@ -40,7 +40,7 @@ use Rattle.log_table.proofs.Reading.{put-same}
 use Rattle.log_table.proofs.Showing.{hands_of-set, task_of-hands_of}
 use Rattle.log_table.proofs.SlotLeading.{active}
 use Rattle.log_table.proofs.Slotting.{Mine, member-moves, slot-sound}
-use Rattle.log_table.proofs.ToldMembers.{piece-has, ends-at_boundary, own-piece, told-at, lies-within, group-range}
+use Rattle.log_table.proofs.ToldMembers.{piece-has, lies-between, own-piece, told-at, lies-within, group-range}
 use Rattle.log_table.proofs.Viewing.{seat_at}
 
 -- What a member comes to that hears this of its group. What the log has of it is what it was by the group's phase before.
@@ -207,11 +207,14 @@ module _ (key : Start) (words : Words) (views : List View) (me : ℕ) (v : View)
 
   -- the group has its range
   module _ (remaining : ℕ) (told : (log.groups slot).phase ≡ Told total (Granted word) remaining) where
-    -- which ends at a boundary, and not above the tail
+    -- which begins and ends at boundaries, and ends not above the tail
     ends : IsRangeBoundary key.start (ranges_of log) (word + total) × (word + total ≤ words.tail)
+        × IsRangeBoundary key.start (ranges_of log) word
     ends = let range = group-range key words views me v slot piece step-before log s at hearing total word remaining told in
-        subst (λ n. IsRangeBoundary key.start (ranges_of log) n × (n ≤ words.tail)) (λ i. (range.is i).base + (range.is i).size)
-        (ends-at_boundary (key.ring / 4) key.start words.tail log range.before range.behind range.here
+        subst (λ (p : ℕ × ℕ). IsRangeBoundary key.start (ranges_of log) p.0 × (p.0 ≤ words.tail)
+        × IsRangeBoundary key.start (ranges_of log) p.1)
+        (λ i. ((range.is i).base + (range.is i).size, (range.is i).base))
+        (lies-between (key.ring / 4) key.start words.tail log range.before range.behind range.here
         (all-tile _ _ _ _ _ log s.contiguous) range.split)
 
     sees-base : HasSeenBoundaries key.start words.tail words.exposed words.durable (ranges_of log) (seen_granted word total v.seen)
@@ -219,13 +222,14 @@ module _ (key : Start) (words : Words) (views : List View) (me : ℕ) (v : View)
       tail_seen = ends.1;
       exposed_seen = old.exposed_seen;
       durable_seen = old.durable_seen;
-      boundaries = (ends.0, old.boundaries);
+      boundaries = (ends.0, (ends.2, old.boundaries));
     }
 
     last-base : SawLast (seen_granted word total v.seen)
     last-base = let last = s.lasts me v at (ap is_spent works) in record {
-      tail_among = among-first (word + total) v.seen.lsns;
-      durable_among = among-more v.seen.durable (word + total) v.seen.lsns last.durable_among;
+      tail_among = among-first (word + total) (word ∷ v.seen.lsns);
+      durable_among = among-more v.seen.durable (word + total) (word ∷ v.seen.lsns)
+          (among-more v.seen.durable word v.seen.lsns last.durable_among);
       tail_made = omega arith;
       durable_made = omega (arith, last.durable_made);
     }

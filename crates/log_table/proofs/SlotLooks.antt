@@ -160,7 +160,7 @@ module _ (key : Start) (words : Words) (views : List View) (me : ℕ) (v : View)
   small = let quarter = div-le_self key.ring 4 in let greatest = s.ordered.greatest_ring in omega arith
 
   -- the seat is a member where its call says so
-  member-there : (other : ℕ) (piece : Piece) (step : MemberStep) → v.call ≡ Joined other piece step → (log.groups other).members ≡ [] → ⊥
+  pub member-there : (other : ℕ) (piece : Piece) (step : MemberStep) → v.call ≡ Joined other piece step → (log.groups other).members ≡ [] → ⊥
   member-there other piece step call none =
       let one : [] ≡ piece ∷ [] = sym (ap (own_pieces me) none)
       ∙ ((seat_at (HasWorkingOwner log.groups log.parts log.ahead) views me v at s.owners).joins other

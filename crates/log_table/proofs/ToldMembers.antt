@@ -26,10 +26,11 @@ pub piece-has : (seat : ℕ) (members : List Member) (piece : Piece) (P : Member
 piece-has seat members piece P Q own all tell = let last = picked-last (is_member seat) piece_of members [] piece own in
     subst Q last.is (tell last.here (all-at P last.before last.behind last.here (subst (AllByRecursion P) last.split all)))
 
--- a range ahead ends at a boundary of the ranges, and not above the tail
-pub ends-at_boundary : (most start tail : ℕ) (log : Log) (before behind : List Range) (r : Range) → Tiles most start (ranges_of log) tail
-    → log.ahead ≡ before ++ r ∷ behind → IsRangeBoundary start (ranges_of log) (r.base + r.size) × (r.base + r.size ≤ tail)
-ends-at_boundary most start tail log before behind r tiles is =
+-- a range ahead begins and ends at boundaries of the ranges, and ends not above the tail
+pub lies-between : (most start tail : ℕ) (log : Log) (before behind : List Range) (r : Range) → Tiles most start (ranges_of log) tail
+    → log.ahead ≡ before ++ r ∷ behind
+    → IsRangeBoundary start (ranges_of log) (r.base + r.size) × (r.base + r.size ≤ tail) × IsRangeBoundary start (ranges_of log) r.base
+lies-between most start tail log before behind r tiles is =
     let front : List Range = log.flushed ++ (log.exposed ++ before) in
     let split : ranges_of log ≡ front ++ r ∷ behind = ranges-split log before behind r is in
     let mid = tiles-mid most start tail front behind r (subst (λ l. Tiles most start l tail) split tiles) in (
@@ -37,6 +38,8 @@ ends-at_boundary most start tail log before behind r tiles is =
           (boundary-behind most start r.base (r.base + r.size) front (r ∷ behind) mid.0
           (inr (boundary-start range_size (r.base + r.size) behind))),
       tiles-le most (r.base + r.size) tail behind mid.3,
+      subst (λ l. IsRangeBoundary start l r.base) (sym split)
+          (boundary-behind most start r.base r.base front (r ∷ behind) mid.0 (boundary-start range_size r.base (r ∷ behind))),
     )
 
 module _ (key : Start) (words : Words) (views : List View) (me : ℕ) (v : View) (slot : ℕ) (piece : Piece) (step : MemberStep) (log : Log)

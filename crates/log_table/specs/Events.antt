@@ -1,5 +1,5 @@
 -- What a table shows of the machine with slots, and which of its events a step is. What speaks of steps uses these names, and not those of
--- the machine itself. All events so far are the ring machine's.
+-- the machine itself. Those of the machine without slots are `Ring` there.
 use Rattle.std.specs.Prelude.{◌≡◌, ℕ, ◌+◌, true, List, [], ◌∷◌, map, set, zero, suc, Some, None}
 use mathlib.Core.Option.{some}
 use lib.ListN.{get_elem?}

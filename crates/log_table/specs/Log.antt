@@ -1,6 +1,6 @@
 -- The reserved part of the log as lists that no word holds: its parts, each with its owner, and the reserved ranges; and the groups at the
 -- slots.
--- One seat's range is one part; a group's range will be as many parts as it has members.
+-- One seat's range is one part; a group's range is as many parts as it had members when it was placed.
 use Rattle.std.specs.Prelude.{◌≡◌, ◌≢◌, ◌==◌, ◌&&◌, ◌⊎◌, ℕ, ◌+◌, ◌-◌, ◌%◌, ◌<◌, ◌≤◌, if◌then◌else◌, nat_le, nat_lt, Bool, true, false, List, [], ◌∷◌, ◌++◌, length, slice_index}
 use Rattle.lsn_space.specs.Tiling.{IsTilingBoundary}
 use Rattle.log_record.specs.declared.rec.Rec.{Rec}

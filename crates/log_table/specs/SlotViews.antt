@@ -68,6 +68,18 @@ saw_slot slot word view = record view {
   contended = contended_seeing slot word view;
 }
 
+-- The group of this state is told: it has a total of at most so many units, in which the piece lies, and the piece is part of what remains.
+pub record IsToldWord (most : ℕ) (piece : Piece) (word : ℕ) : Type 0 where
+  pub within : piece.offset + piece.size ≤ total_in word
+  pub remains : piece.size ≤ remaining_in word
+  pub whole : remaining_in word ≤ total_in word
+  pub few : total_in word ≤ most
+
+-- what the slot's state tells a member there that waits and finds its group told
+abbrev pub TellsWaiting : ℕ → ℕ → View → Type 0
+TellsWaiting slot word view =
+    (piece : Piece) → view.call ≡ Joined slot piece Waits → 2 ^ 63 ≤ word → IsToldWord (view.constants.ring / 4) piece word
+
 -- the piece of a seat that joins for the next record of its last job, where others have these units
 abbrev pub piece_joining : ℕ → View → Piece
 piece_joining offset view = record {
@@ -332,10 +344,16 @@ pub record HasToRelease (most n : ℕ) (call : Call) (word : ℕ) : Type 0 where
 abbrev pub reopened : View → View
 reopened view = record view { seen = counted view.seen; call = Idle }
 
--- it was heard where the range of the group of this total begins: the tail behind the range counts as seen
+-- it was heard where the range of the group of this total begins: the base counts as seen, and the tail behind the range
 abbrev pub seen_granted : ℕ → ℕ → Seen → Seen
 seen_granted base total seen =
-    record seen { steps = seen.steps + 1; tail = base + total; tail_step = seen.steps + 1; base = base; lsns = (base + total) ∷ seen.lsns }
+    record seen {
+      steps = seen.steps + 1;
+      tail = base + total;
+      tail_step = seen.steps + 1;
+      base = base;
+      lsns = (base + total) ∷ base ∷ seen.lsns;
+    }
 
 -- it was heard, for a piece of this size, by which tail and which durable the group of this total was refused: both count as seen
 abbrev pub seen_refused : ℕ → ℕ → ℕ → Seen → Seen

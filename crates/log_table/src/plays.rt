@@ -207,9 +207,9 @@ pub(crate) struct LoadSlot<N> {
 impl<N: Number> Play<(), View> for LoadSlot<N> {
     ghost use Rattle.std.specs.Prelude.{◌≡◌};
     ghost use Rattle.slot_word.specs.SlotWord.{IsSlotWord};
-    ghost use Rattle.log_table.specs.SlotViews.{saw_slot};
+    ghost use Rattle.log_table.specs.SlotViews.{saw_slot, TellsWaiting};
 
-    ghost then = { λ st old n new. (new ≡ (saw_slot N.number n old.0, old.1)) × IsSlotWord n };
+    ghost then = { λ st old n new. (new ≡ (saw_slot N.number n old.0, old.1)) × (IsSlotWord n × TellsWaiting N.number n old.0) };
 }
 
 pub(crate) struct JoinSlot;

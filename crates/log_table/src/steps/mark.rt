@@ -12,8 +12,8 @@ use crate::table::{LogTable, Seat};
 use lsn_space::Lsn;
 
 impl LogTable {
-    /// Marks the seat's run, which is full, as released, whatever stands before it. Then the run is one
-    /// of the seat's entries.
+    /// Marks a range as released, whatever stands before it: the seat's run, which is full and then one of
+    /// its entries, or, by the last of a group to release, the whole range of the group.
     pub fn store_mark(&self, seat: &mut Seat, base: Lsn, end: Lsn)
         requires seat { IsOf self.now seat.old }
         requires next { MayMark base end (view_of seat.old) }

@@ -8,7 +8,7 @@ ghost use Rattle.log_table.specs.Events.{IsStep, closes, hears, joins, none, ref
 ghost use Rattle.log_table.specs.Layout.{Slot, Base};
 ghost use Rattle.log_table.specs.May.{MayJoinSlot, MayCloseSlot, MayStoreBase, MayStoreGranted, MayStoreRefused, MayPublish, MayLoadBase, MayReopen, MayReleaseSlot};
 ghost use Rattle.log_table.specs.Seats.{IsOf, Becomes, view_of, number_of, key_of};
-ghost use Rattle.log_table.specs.SlotViews.{saw_slot, joined_slot, lost_join, closed_slot, stored_base, published, heard_base, reopened, IsGatheringWord, TellsMember, released_piece, HasToRelease};
+ghost use Rattle.log_table.specs.SlotViews.{saw_slot, joined_slot, lost_join, closed_slot, stored_base, published, heard_base, reopened, IsGatheringWord, TellsMember, TellsWaiting, released_piece, HasToRelease};
 
 use crate::layout::{base_place, slot_place};
 use crate::plays::{
@@ -24,6 +24,7 @@ fn load_slot_as<N: Number>(table: &LogTable, seat: &mut Seat, slot: u32) -> Slot
     requires slot { slot < table.now.slots }
     requires named { N.number ≡ slot }
     ensures view { Becomes seat.old seat.new (saw_slot slot (word_of result) (view_of seat.old)) }
+    ensures tells { TellsWaiting slot (word_of result) (view_of seat.old) }
 {
     let place = slot_place(table.ring, slot);
     let word = table
@@ -34,12 +35,14 @@ fn load_slot_as<N: Number>(table: &LogTable, seat: &mut Seat, slot: u32) -> Slot
 }
 
 impl LogTable {
-    /// The state of the slot. A member of the group there that waits sees by it whether its group is told. A
-    /// contended seat stays so, unless the slot is its own and it couldn't join there.
+    /// The state of the slot. A member of the group there that waits sees by it whether its group is told; then
+    /// the total holds the member's piece, and the piece is part of what remains. A contended seat stays so,
+    /// unless the slot is its own and it couldn't join there.
     pub fn load_slot(&self, seat: &mut Seat, slot: u32) -> SlotWord
         requires seat { IsOf self.now seat.old }
         requires slot { slot < self.now.slots }
         ensures view { Becomes seat.old seat.new (saw_slot slot (word_of result) (view_of seat.old)) }
+        ensures tells { TellsWaiting slot (word_of result) (view_of seat.old) }
         ensures event { IsStep (key_of self.now) (number_of seat.old) (Slot slot) (word_of result) (word_of result) (view_of seat.old) (saw_slot slot (word_of result) (view_of seat.old)) none }
     {
         load_slot_as::<Brand>(self, seat, slot)

@@ -1,8 +1,8 @@
-use Rattle.std.proofs.Common.{rules, arith, ◌≡◌, ◌^◌, ◌<◌, ◌∙◌, refl, sym, ap}
+use Rattle.std.proofs.Common.{rules, arith, ◌≡◌, ℕ, ◌^◌, ◌<◌, ◌∙◌, refl, sym, ap, subst}
 use Rattle.slot_word.specs.SlotWord.{packed, word_of}
 use Rattle.slot_word.proofs.SlotWordLemmas.{word_back}
 use Rattle.log_table.specs.Seats.{view_of}
-use Rattle.log_table.specs.SlotViews.{saw_slot}
+use Rattle.log_table.specs.SlotViews.{saw_slot, TellsWaiting}
 use Rattle.log_table.proofs.SlotAllowing.{load_slot-allowed}
 use Rattle.log_table.proofs.steps.slots.load_slot_as.Goals as goal
 
@@ -14,7 +14,7 @@ load-word-requires g c = (
 )
 
 pub unpack-requires : goal.unpack-requires
-unpack-requires g c = c.load-word.ensures.2.1
+unpack-requires g c = c.load-word.ensures.2.1.0
 
 pub returns : goal.returns
 returns g c =
@@ -31,4 +31,5 @@ returns g c =
             ∙ ap (λ word. (saw_slot c.args.slot word (view_of c.args.seat.now), c.args.seat.now.base.me.1)) is);
         worker = refl;
       };
+      tells = subst (λ (p : ℕ × ℕ). TellsWaiting p.0 p.1 (view_of c.args.seat.now)) (λ i. (c.requires.named i, is i)) step.2.1.1;
     }
