@@ -122,7 +122,7 @@ pub record RanWhole {D : Type 0} (g : Ghosts D) (options : RunOptions) (old new 
   pub whole : RunsWhole out.ran.opened out.ran.jobs out.ran.list
   pub text : Appends old.text new.text (run_text out.ran.opened out.ran.list)
 
--- a record did not fit in the log, and the lines of all end records were written
+-- a record, alone or in a group, did not fit in the log, and the lines of all end records were written
 pub record RanIntoEnd {D : Type 0} (g : Ghosts D) (options : RunOptions) (tail total : ℕ) (old new : Outside D) : Type 0 where
   pub out : RanOut g options old new
   pub stops : StopsAtLogEnd out.ran.opened out.ran.jobs out.ran.list options.ring options.slots tail total

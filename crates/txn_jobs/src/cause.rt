@@ -7,7 +7,7 @@ use lsn_space::Lsn;
 pub enum Cause {
     /// The daemon has stopped, and this is the stop word.
     Stop(u64),
-    /// A record of so many units does not fit between this tail and the last LSN.
+    /// So many units do not fit between this tail and the last LSN: a record's, or those of a group that it was one of.
     LogEnd { tail: Lsn, total: u32 },
 }
 
