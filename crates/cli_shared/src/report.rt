@@ -39,7 +39,7 @@ pub enum Detail {
     /// The record that starts at this LSN is the first that fails a test, and this is the first that it fails.
     Unlawful { lsn: Lsn, why: Why },
 
-    /// The next record of a transfer has so many units, and they do not fit between this tail and the last LSN.
+    /// So many units do not fit between this tail and the last LSN: those of a transfer's next record, or of its group.
     LogEnd { tail: Lsn, total: u32 },
 
     /// The script has so many transfers that, counted from the first number on, the number that would follow theirs is above the last one.
