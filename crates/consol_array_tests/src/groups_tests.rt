@@ -14,7 +14,7 @@ use lock_core::Job;
 use log_record::Units;
 use log_table::{LogTable, Seat};
 use lsn_space::Lsn;
-use ring_buffer::{Refused, fill, finish};
+use ring_buffer::{Refused, expose, fill, finish};
 use std::process::Abort;
 use std::sync::Wait;
 use std::test::Fail;
@@ -160,7 +160,7 @@ fn a_group_of_one_goes_on(rt: HostRuntime) -> Result<(), Fail> {
     Ok(())
 }
 
-/// So many workers, each of which inserts a note of four units and is let go, fill the ring, which nobody flushes.
+/// 256 workers fill the ring, which nobody flushes: each inserts a note of four units, exposes it and is let go.
 fn fill_ring(table: &LogTable, boss: &mut Seat, job: &Job) -> Result<(), Fail>
     requires boss { HasHired table.now 0 boss.old }
     requires accounts { table.now.accounts ≡ 2 }
@@ -175,6 +175,7 @@ fn fill_ring(table: &LogTable, boss: &mut Seat, job: &Job) -> Result<(), Fail>
         };
         let filled = fill(table, &mut seat, range, &units);
         finish(table, &mut seat, filled);
+        expose(table, &mut seat);
     }
     Ok(())
 }
