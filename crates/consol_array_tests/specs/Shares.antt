@@ -1,10 +1,14 @@
--- A seat that has joined a group.
-use Rattle.std.specs.Prelude.{◌≡◌, ℕ, ◌<◌, ◌≤◌, List, length}
+-- A seat that has joined a group, and what it may do behind it.
+use Rattle.std.specs.Prelude.{◌≡◌, ℕ, ◌<◌, ◌≤◌, false, List, [], length}
+use Rattle.std.specs.List.{AllByRecursion}
 use Rattle.log_record.specs.Spelling.{spelling}
 use Rattle.log_table.specs.declared.group_view.MemberStep.{MemberStep}
 use Rattle.log_table.specs.declared.group_view.Piece.{Piece}
 use Rattle.log_table.specs.declared.table.LogTable.{LogTable}
 use Rattle.log_table.specs.declared.table.Seat.{Seat}
+use Rattle.log_table.specs.declared.view.Role.TheVariants.{Active}
+use Rattle.log_table.specs.declared.view.TakenJob.{TakenJob}
+use Rattle.log_table.specs.declared.view.View.{View}
 use Rattle.log_table.specs.Seats.{view_of}
 use Rattle.ring_buffer.specs.Calls.{IsSameWorker}
 use Rattle.consol_array.specs.declared.call.Joined.{Joined}
@@ -23,3 +27,10 @@ pub record HasShare (table : LogTable) (joined : Joined) (units : List ℕ) (ste
   pub same : IsSameWorker first seat
   pub tail_seen : (view_of first).seen.tail ≤ piece.tail
   pub durable_seen : (view_of first).seen.durable ≤ piece.durable
+
+-- once nothing is under way, the worker may take a job of this number and place for it alone
+pub record GoesOn (number : ℕ) (view : View) : Type 0 where
+  pub active : view.standing.role ≡ Active
+  pub alone : view.contended ≡ false
+  pub none_held : view.books.held ≡ []
+  pub above : AllByRecursion (λ (taken : TakenJob). taken.number < number) view.books.jobs

@@ -1,12 +1,12 @@
 //! The calls of a worker in a group, each wanting the one before it.
-ghost use Rattle.std.specs.Prelude.{◌≡◌, ◌≤◌, ◌+◌, IfOk, IfErr, OnErr};
+ghost use Rattle.std.specs.Prelude.{◌≡◌, ◌≤◌, ◌+◌, ◌<◌, ℕ, IfOk, IfErr, OnErr};
 ghost use Rattle.log_table.specs.declared.group_view.MemberStep.TheVariants.{Waits};
 ghost use Rattle.log_table.specs.Hiring.{HasHired};
 ghost use Rattle.log_table.specs.Seats.{IsOf, view_of};
 ghost use Rattle.log_table.specs.SlotViews.{step_joining};
 ghost use Rattle.log_record.specs.Spelling.{IsTxn};
 ghost use Rattle.consol_array.specs.Members.{HasPiece, MayLeaveGroup};
-ghost use Rattle.consol_array_tests.specs.Shares.{HasShare};
+ghost use Rattle.consol_array_tests.specs.Shares.{GoesOn, HasShare};
 ghost use Rattle.test_rig.specs.NotedJobs.{AreNoteUnits, IsNotedJob, MayInsert};
 
 use consol_array::{
@@ -33,6 +33,7 @@ pub(crate) fn join_for(
     requires units { AreNoteUnits number job.now units.now }
     ensures own { IsOf table.now seat.new }
     ensures share { IfOk result (λ joined. HasShare table.now joined units.now (step_joining joined.offset) seat.new) }
+    ensures goes_on { IfOk result (λ joined. (next : ℕ) → number < next → GoesOn next (view_of seat.new)) }
 {
     table.take_job(seat, number, job);
     try_join(table, seat, units.as_slice().len() as u32)
@@ -44,6 +45,7 @@ pub(crate) fn lead_if_first(table: &LogTable, seat: &mut Seat, joined: &Joined, 
     requires share { HasShare table.now joined.now _units.now (step_joining joined.now.offset) seat.old }
     ensures own { IsOf table.now seat.new }
     ensures waits { HasShare table.now joined.now _units.now Waits seat.new }
+    ensures goes_on { (next : ℕ) → GoesOn next (view_of seat.old) → GoesOn next (view_of seat.new) }
 {
     if joined.offset != 0 {
         return;
@@ -63,6 +65,7 @@ pub(crate) fn hear_piece<R: Wait>(
     requires waits { HasShare table.now joined _units.now Waits seat.old }
     ensures own { IsOf table.now seat.new }
     ensures piece { IfOk result (λ member. HasPiece table.now member _units.now (view_of seat.new)) }
+    ensures goes_on { IfOk result (λ member. (next : ℕ) → GoesOn next (view_of seat.old) → GoesOn next (view_of seat.new)) }
     ensures leaves { IfErr result (λ refused. MayLeaveGroup table.now refused.1 (view_of seat.new)) }
 {
     match hear(rt, table, seat, joined) {
@@ -81,6 +84,7 @@ pub(crate) fn put_piece(
     requires own { IsOf table.now seat.old }
     requires piece { HasPiece table.now member units.now (view_of seat.old) }
     ensures own { IsOf table.now seat.new }
+    ensures may { (next : ℕ) → IsTxn next → GoesOn next (view_of seat.old) → MayInsert table.now next seat.new }
 {
     let filled = fill_member(table, seat, member, units);
     release(table, seat, filled)

@@ -1,11 +1,12 @@
 //! Groups on one thread: placed, released in both orders, of one member, and refused.
-ghost use Rattle.std.specs.Prelude.{◌≡◌, ◌≤◌, ◌+◌, IfOk};
+ghost use Rattle.std.specs.Prelude.{◌≡◌, ◌≤◌, ◌+◌, ◌<◌, ℕ, IfOk};
+ghost use Rattle.log_record.specs.Spelling.{IsTxn};
 ghost use Rattle.log_table.specs.Hiring.{HasHired};
 ghost use Rattle.log_table.specs.Seats.{IsOf, view_of};
 ghost use Rattle.log_table.specs.SlotViews.{step_joining};
 ghost use Rattle.consol_array.specs.Members.{HasPiece};
-ghost use Rattle.consol_array_tests.specs.Shares.{HasShare};
-ghost use Rattle.test_rig.specs.NotedJobs.{IsNotedJob};
+ghost use Rattle.consol_array_tests.specs.Shares.{GoesOn, HasShare};
+ghost use Rattle.test_rig.specs.NotedJobs.{IsNotedJob, MayInsert};
 
 use crate::found::{is_at, is_number, is_so};
 use crate::group::{hear_piece, join_for, lead_if_first, put_piece};
@@ -44,6 +45,7 @@ fn joins<R: Abort>(
     ensures boss { IfOk result (λ sharer. HasHired table.now (number + 1) boss.new) }
     ensures own { IfOk result (λ sharer. IsOf table.now sharer.seat) }
     ensures share { IfOk result (λ sharer. HasShare table.now sharer.joined sharer.units (step_joining sharer.joined.offset) sharer.seat) }
+    ensures goes_on { IfOk result (λ sharer. (next : ℕ) → number + 1 < next → GoesOn next (view_of sharer.seat)) }
 {
     let mut seat = worker(table, boss, number, number + 1);
     let Some(job) = noted_job(letters) else {
@@ -75,6 +77,7 @@ fn hears<R: Abort + Wait>(rt: &R, table: &LogTable, sharer: Sharer, at: u32) -> 
     requires share { HasShare table.now sharer.joined sharer.units (step_joining sharer.joined.offset) sharer.seat }
     ensures own { IfOk result (λ placed. IsOf table.now placed.seat) }
     ensures piece { IfOk result (λ placed. HasPiece table.now placed.member placed.units (view_of placed.seat)) }
+    ensures goes_on { IfOk result (λ placed. (next : ℕ) → GoesOn next (view_of sharer.seat) → GoesOn next (view_of placed.seat)) }
 {
     let Sharer {
         mut seat,
@@ -98,6 +101,7 @@ fn puts<R: Abort>(rt: &R, table: &LogTable, placed: Placed, at: u32, last: bool)
     requires own { IsOf table.now placed.seat }
     requires piece { HasPiece table.now placed.member placed.units (view_of placed.seat) }
     ensures own { IsOf table.now result }
+    ensures may { (next : ℕ) → IsTxn next → GoesOn next (view_of placed.seat) → MayInsert table.now next result }
 {
     let Placed {
         mut seat,
@@ -160,8 +164,68 @@ fn a_group_of_one_goes_on(rt: HostRuntime) -> Result<(), Fail> {
     Ok(())
 }
 
+/// Inserts a note of this number alone, which begins there.
+fn inserts_alone<R: Abort>(
+    rt: &R,
+    table: &LogTable,
+    seat: &mut Seat,
+    number: u32,
+    job: &Job,
+    at: u32,
+) -> Result<(), Fail>
+    requires worker { MayInsert table.now number seat.old }
+    requires accounts { table.now.accounts ≡ 2 }
+    requires job { IsNotedJob job.now }
+    ensures own { IfOk result (λ done. IsOf table.now seat.new) }
+{
+    let units = note_units(number, job);
+    let Ok(Some(range)) = place_note(table, seat, number, job, &units) else {
+        return Err(Fail::new("a note has no room"));
+    };
+    is_at(rt, "the note", range.start(), at);
+    let filled = fill(table, seat, range, &units);
+    finish(table, seat, filled);
+    expose(table, seat);
+    Ok(())
+}
+
+/// The first of a group releases, inserts a note of two units alone behind its group, and waits for nobody: the other, which releases
+/// then, exposes both.
+fn first_goes_on<R: Abort + Wait>(
+    rt: &R,
+    table: &LogTable,
+    boss: &mut Seat,
+    job: &Job,
+) -> Result<(), Fail>
+    requires boss { HasHired table.now 0 boss.old }
+    requires slots { 1 ≤ table.now.slots }
+    requires accounts { table.now.accounts ≡ 2 }
+    requires job { IsNotedJob job.now }
+{
+    let first = joins(rt, table, boss, 0, b"aaaaaaaa", 0)?;
+    let second = joins(rt, table, boss, 1, b"bbbbbbbbb", 2)?;
+    let first = hears(rt, table, first, 4)?;
+    let second = hears(rt, table, second, 6)?;
+    let mut ahead = puts(rt, table, first, 4, false);
+    inserts_alone(rt, table, &mut ahead, 3, job, 9)?;
+    is_at(rt, "exposed before", table.load_exposed(&mut ahead), 4);
+    let mut seat = puts(rt, table, second, 6, true);
+    is_at(rt, "tail", table.load_tail(&mut seat), 11);
+    is_at(rt, "exposed", table.load_exposed(&mut seat), 11);
+    Ok(())
+}
+
+#[test]
+fn the_first_goes_on_before_its_group_is_exposed(rt: HostRuntime) -> Result<(), Fail> {
+    let (table, mut boss) = table_with_slots(rt.alloc(), (100, 0), 4, 1)?;
+    let Some(job) = noted_job(b"cccccccc") else {
+        return Err(Fail::new("no job"));
+    };
+    first_goes_on(&rt, &table, &mut boss, &job)
+}
+
 /// 256 workers fill the ring, which nobody flushes: each inserts a note of four units, exposes it and is let go.
-fn fill_ring(table: &LogTable, boss: &mut Seat, job: &Job) -> Result<(), Fail>
+fn fill_ring<R: Abort>(rt: &R, table: &LogTable, boss: &mut Seat, job: &Job) -> Result<(), Fail>
     requires boss { HasHired table.now 0 boss.old }
     requires accounts { table.now.accounts ≡ 2 }
     requires job { IsNotedJob job.now }
@@ -169,13 +233,7 @@ fn fill_ring(table: &LogTable, boss: &mut Seat, job: &Job) -> Result<(), Fail>
 {
     for i in 0..256 {
         let mut seat = worker(table, boss, i, i + 1);
-        let units = note_units(i + 1, job);
-        let Ok(Some(range)) = place_note(table, &mut seat, i + 1, job, &units) else {
-            return Err(Fail::new("a note has no room"));
-        };
-        let filled = fill(table, &mut seat, range, &units);
-        finish(table, &mut seat, filled);
-        expose(table, &mut seat);
+        inserts_alone(rt, table, &mut seat, i + 1, job, 4 + 4 * i)?;
     }
     Ok(())
 }
@@ -220,7 +278,7 @@ fn a_group_is_refused_with_its_own_numbers(rt: HostRuntime) -> Result<(), Fail> 
     let Some(job) = noted_job(&[97; 24]) else {
         return Err(Fail::new("no job"));
     };
-    fill_ring(&table, &mut boss, &job)?;
+    fill_ring(&rt, &table, &mut boss, &job)?;
     let first = joins(&rt, &table, &mut boss, 256, b"aaaaaaaa", 0)?;
     let second = joins(&rt, &table, &mut boss, 257, b"bbbbbbbbb", 2)?;
     is_turned_away(&rt, &table, first, false)?;

@@ -1,4 +1,7 @@
-use Rattle.consol_array_tests.proofs.Sharing.{IsOf-beside}
+use Rattle.std.proofs.Common.{◌∙◌, ap, sym}
+use Rattle.log_table.specs.declared.view.Books.{Books}
+use Rattle.log_table.specs.Seats.{view_of}
+use Rattle.consol_array_tests.proofs.Sharing.{GoesOn-kept, IsOf-beside}
 use Rattle.consol_array_tests.proofs.group.hear_piece.Goals as goal
 
 pub returns-in-Base-clause-own : goal.returns-in-Base-clause-own
@@ -14,3 +17,11 @@ returns-in-Refused-clause-own g c =
     let heard = c.in-Refused.ensures.heard share.piece share.call in
     IsOf-beside c.args.table.now share.first c.args.seat.now c.hear.new.seat c.requires.own share.same
     (heard.same share.first share.same share.tail_seen share.durable_seen)
+
+pub returns-in-Base-clause-goes_on : goal.returns-in-Base-clause-goes_on
+returns-in-Base-clause-goes_on g c next may =
+    let share = c.requires.waits in
+    let heard = c.in-Base.ensures.heard share.piece share.call in
+    let same = heard.same share.first share.same share.tail_seen share.durable_seen in
+    GoesOn-kept next (view_of c.args.seat.now) (view_of c.hear.new.seat) (same.standing ∙ sym share.same.standing) (heard.alone may.alone)
+    (ap (λ (books : Books). books.held) heard.books) (ap (λ (books : Books). books.jobs) heard.books) may
