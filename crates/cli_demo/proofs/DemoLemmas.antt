@@ -24,8 +24,8 @@ use Rattle.lock_core.specs.Sums.{BaseState, greatest_txn}
 use Rattle.lock_core.proofs.JudgingLemmas.{shows-kept}
 use Rattle.log_recovery.specs.Recovery.{HoldsLawful}
 use Rattle.log_recovery.proofs.ListingLemmas.{units_of-append}
-use Rattle.log_table.specs.declared.table.Start.{Start}
-use Rattle.log_table.specs.Opening.{HasAccounts}
+use Rattle.log_rule.specs.declared.start.Start.{Start}
+use Rattle.log_rule.specs.Opening.{HasAccounts}
 use Rattle.log_table.specs.Seats.{key_of}
 use Rattle.segment_file.specs.File.{HoldsUnits}
 use Rattle.segment_file.specs.Lengths.{most_end}

@@ -26,13 +26,13 @@ use Rattle.segment_file.specs.Standing.{StandsAt}
 use Rattle.segment_file.specs.declared.layout.TheConstants.{CLOSED}
 use Rattle.segment_file.specs.declared.scan_result.Tail.{Tail}
 use Rattle.segment_file.proofs.BatchLemmas.{length-batch}
-use Rattle.log_table.specs.declared.table.Start.{Start}
-use Rattle.log_table.specs.declared.view.Given.{Given}
-use Rattle.log_table.specs.declared.view.View.{View}
-use Rattle.log_table.specs.Accounts.{IsOfFront}
-use Rattle.log_table.specs.Closing.{IsGathered, IsSettled}
-use Rattle.log_table.specs.Sound.{base_of}
-use Rattle.log_table.specs.Views.{flusher}
+use Rattle.log_rule.specs.declared.start.Start.{Start}
+use Rattle.log_rule.specs.declared.view.Given.{Given}
+use Rattle.log_rule.specs.declared.view.View.{View}
+use Rattle.log_rule.specs.Accounts.{IsOfFront}
+use Rattle.log_rule.specs.Closing.{IsGathered, IsSettled}
+use Rattle.log_rule.specs.Sound.{base_of}
+use Rattle.log_rule.specs.Views.{flusher}
 use Rattle.commit_pipeline.specs.declared.daemon.Daemon.{Daemon}
 use Rattle.end_lines.specs.declared.voice.Voice.TheVariants.{Lines}
 use Rattle.txn_jobs.specs.declared.cause.Cause.TheVariants.{LogEnd}

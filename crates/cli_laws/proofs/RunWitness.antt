@@ -27,14 +27,14 @@ use Rattle.segment_file.proofs.BatchLemmas.{length-batch}
 use Rattle.segment_file.proofs.OneReading.{one_reading-units}
 use Rattle.segment_file.proofs.StandingLemmas.{holds}
 use Rattle.log_table.specs.declared.table.Seat.{Seat}
-use Rattle.log_table.specs.declared.table.Start.{Start}
-use Rattle.log_table.specs.declared.view.Entry.{Entry}
-use Rattle.log_table.specs.declared.view.View.{View}
-use Rattle.log_table.specs.Closing.{IsGathered, IsSettled, IsLedger}
+use Rattle.log_rule.specs.declared.start.Start.{Start}
+use Rattle.log_rule.specs.declared.view.Entry.{Entry}
+use Rattle.log_rule.specs.declared.view.View.{View}
+use Rattle.log_rule.specs.Closing.{IsGathered, IsSettled, IsLedger}
 use Rattle.log_table.specs.Seats.{IsOf}
-use Rattle.log_table.specs.Sound.{base_of}
-use Rattle.log_table.specs.Views.{flusher}
-use Rattle.log_table.proofs.Deltas.{more-delta, less-delta}
+use Rattle.log_rule.specs.Sound.{base_of}
+use Rattle.log_rule.specs.Views.{flusher}
+use Rattle.log_rule.proofs.Deltas.{more-delta, less-delta}
 use Rattle.commit_pipeline.specs.declared.daemon.Daemon.{Daemon}
 use Rattle.stop_word.specs.declared.fault.DaemonFault.TheVariants.{DiskFault, WriteFault}
 use Rattle.end_lines.specs.declared.voice.Voice.TheVariants.{Lines}

@@ -20,8 +20,8 @@ use Rattle.lock_core.proofs.LastCommits.{genesis_of-last_commit}
 use Rattle.lock_core.proofs.Ranging.{balance_of-is, in_range-log}
 use Rattle.log_recovery.specs.declared.recovery.Recovered.{Recovered}
 use Rattle.log_recovery.specs.Recovery.{Recovers, HoldsLawful}
-use Rattle.log_table.specs.declared.table.Start.{Start}
-use Rattle.log_table.specs.Opening.{HasAccounts}
+use Rattle.log_rule.specs.declared.start.Start.{Start}
+use Rattle.log_rule.specs.Opening.{HasAccounts}
 use Rattle.segment_file.specs.File.{HoldsUnits, IsCountedBatch, joined}
 
 abbrev IsSpelled : List Placed → Type 0

@@ -16,7 +16,7 @@ use Rattle.lock_core.specs.Lawful.{base_state_of}
 use Rattle.lock_core.specs.Serial.{IsPartlySerialAfter, IsSerialAfter}
 use Rattle.lock_core.specs.Settling.{KeepsRows}
 use Rattle.segment_file.specs.declared.scan_result.Tail.{Tail}
-use Rattle.log_table.specs.Closing.{records_of}
+use Rattle.log_rule.specs.Closing.{records_of}
 use Rattle.log_table.specs.Seats.{key_of}
 use Rattle.stop_word.specs.declared.fault.DaemonFault.{DaemonFault}
 use Rattle.stop_word.specs.declared.fault.DaemonFault.TheVariants.{DiskFault, WriteFault}

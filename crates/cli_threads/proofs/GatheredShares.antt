@@ -12,13 +12,13 @@ use Rattle.lsn_space.proofs.TilingLemmas.{all-weaker as all-fewer}
 use Rattle.log_record.specs.LogList.{size_of}
 use Rattle.lock_core.specs.Records.{txn_of}
 use Rattle.log_table.specs.declared.table.LogTable.{LogTable}
-use Rattle.log_table.specs.declared.view.Entry.{Entry}
-use Rattle.log_table.specs.declared.view.Given.{Given}
-use Rattle.log_table.specs.declared.view.View.{View}
-use Rattle.log_table.specs.Closing.{IsGathered}
-use Rattle.log_table.specs.Log.{IsFull, IsSpelled}
-use Rattle.log_table.specs.Sound.{HasReadStop}
-use Rattle.log_table.specs.CrewViews.{takes_in}
+use Rattle.log_rule.specs.declared.view.Entry.{Entry}
+use Rattle.log_rule.specs.declared.view.Given.{Given}
+use Rattle.log_rule.specs.declared.view.View.{View}
+use Rattle.log_rule.specs.Closing.{IsGathered}
+use Rattle.log_rule.specs.Log.{IsFull, IsSpelled}
+use Rattle.log_rule.specs.Sound.{HasReadStop}
+use Rattle.log_rule.specs.CrewViews.{takes_in}
 use Rattle.commit_pipeline.proofs.ToldLemmas.{size_of-some}
 use Rattle.txn_jobs.specs.declared.cause.Cause.{Cause}
 use Rattle.txn_jobs.specs.declared.cause.Cause.TheVariants.{Stop, LogEnd}

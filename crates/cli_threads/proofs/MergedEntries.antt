@@ -3,8 +3,8 @@ use Rattle.std.proofs.Common.{◌≡◌, ◌≢◌, ◌⊎◌, ◌∙◌, ℕ, �
 use Rattle.std.specs.List.{AllByRecursion}
 use Rattle.std.proofs.lemmas.List.Elements.{All-contains, All-contains_itself, All-from_recursion, recursion_from_All, Contains-append_left, Contains-append_right, Contains-append_cases}
 use Rattle.lock_core.specs.Records.{txn_of}
-use Rattle.log_table.specs.declared.view.Entry.{Entry}
-use Rattle.log_table.specs.CrewViews.{inserted, merged_entries}
+use Rattle.log_rule.specs.declared.view.Entry.{Entry}
+use Rattle.log_rule.specs.CrewViews.{inserted, merged_entries}
 use Rattle.txn_runner.specs.Running.{LieInOrder}
 use Rattle.txn_runner.specs.Working.{own_records}
 use Rattle.txn_runner.proofs.EntryLemmas.{own_records-none}

@@ -12,8 +12,8 @@ use Rattle.lock_core.proofs.Fronts.{lawful_after-front}
 use Rattle.lock_core.proofs.ListLemmas.{all-split}
 use Rattle.lock_core.proofs.SoundLemmas.{is_balance-lawful_append}
 use Rattle.log_recovery.proofs.ListingLemmas.{end_from-history, units_of-append}
-use Rattle.log_table.specs.declared.view.Given.{Given}
-use Rattle.log_table.specs.Accounts.{WentBack}
+use Rattle.log_rule.specs.declared.view.Given.{Given}
+use Rattle.log_rule.specs.Accounts.{WentBack}
 use Rattle.cli_threads.specs.RunStops.{HadBalance}
 use Rattle.cli_threads.proofs.RunHistory.{later_of, end-opened, history-later, history-front}
 use Rattle.cli_threads.proofs.RunLedger.{end-genesis}

@@ -8,7 +8,7 @@ use Rattle.log_disk.proofs.Moments.{Leaves-trans, Leaves-weaken}
 use Rattle.log_record.specs.declared.rec.Rec.{Rec}
 use Rattle.log_record.specs.Spelling.{IsSpellable}
 use Rattle.log_recovery.specs.Recovery.{HoldsLawful}
-use Rattle.log_table.specs.declared.table.Start.{Start}
+use Rattle.log_rule.specs.declared.start.Start.{Start}
 use Rattle.lock_core.specs.Alone.{PlainTransfer, with_note, leg_updates}
 use Rattle.lock_core.specs.Serial.{numbered, IsRunWhole, IsCutShort}
 use Rattle.lock_core.specs.Sums.{BaseState}

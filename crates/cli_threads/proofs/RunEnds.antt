@@ -21,14 +21,14 @@ use Rattle.lock_core.specs.Sums.{greatest_txn}
 use Rattle.lock_core.specs.Transactions.{recs_of, own_records_of, has_end, all_without_prev, in_order}
 use Rattle.lock_core.proofs.NextRecords.{own_records_of-own, has_end-own, unended-next, planned-next, size-without_prev}
 use Rattle.log_recovery.proofs.ListingLemmas.{units_of-append}
-use Rattle.log_table.specs.declared.view.Entry.{Entry}
-use Rattle.log_table.specs.declared.view.Given.{Given}
-use Rattle.log_table.specs.declared.view.View.{View}
-use Rattle.log_table.specs.Books.{task_of}
+use Rattle.log_rule.specs.declared.view.Entry.{Entry}
+use Rattle.log_rule.specs.declared.view.Given.{Given}
+use Rattle.log_rule.specs.declared.view.View.{View}
+use Rattle.log_rule.specs.Books.{task_of}
 use Rattle.lock_core.specs.Transfers.{transfer_of}
-use Rattle.log_table.specs.Closing.{records_of, IsGathered}
-use Rattle.log_table.specs.Log.{IsEntryBoundary}
-use Rattle.log_table.specs.Members.{IsRefusalOf}
+use Rattle.log_rule.specs.Closing.{records_of, IsGathered}
+use Rattle.log_rule.specs.Log.{IsEntryBoundary}
+use Rattle.log_rule.specs.Members.{IsRefusalOf}
 use Rattle.txn_jobs.specs.declared.cause.Cause.TheVariants.{Stop, LogEnd}
 use Rattle.txn_jobs.specs.declared.cause.Worked.{Worked}
 use Rattle.txn_jobs.specs.declared.cause.Worked.TheVariants.{All, Cut}

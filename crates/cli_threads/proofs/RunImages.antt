@@ -18,7 +18,7 @@ use Rattle.segment_file.specs.Lengths.{most_end}
 use Rattle.segment_file.specs.Standing.{AllStand}
 use Rattle.segment_file.proofs.StandingLemmas.{holds}
 use Rattle.log_recovery.proofs.ListingLemmas.{units_of-append}
-use Rattle.log_table.specs.declared.view.View.{View}
+use Rattle.log_rule.specs.declared.view.View.{View}
 use Rattle.log_table.specs.Seats.{view_of}
 use Rattle.flusher.specs.Flushing.{sent_of}
 use Rattle.commit_pipeline.specs.declared.daemon.Daemon.{Daemon}

@@ -27,8 +27,8 @@ use Rattle.lock_core.proofs.SerialFronts.{partly_serial-front, partly-serial, nu
 use Rattle.lock_core.proofs.SoundLemmas.{sound-after, base_state-past}
 use Rattle.log_recovery.proofs.TextLemmas.{rows_text-shown}
 use Rattle.log_recovery.specs.Text.{rows_text, accounts_text}
-use Rattle.log_table.specs.declared.table.Start.{Start}
-use Rattle.log_table.specs.Sound.{base_of}
+use Rattle.log_rule.specs.declared.start.Start.{Start}
+use Rattle.log_rule.specs.Sound.{base_of}
 use Rattle.txn_jobs.specs.declared.jobs.Jobs.{Jobs}
 use Rattle.cli_threads.specs.Run.{transfers_of, ComeInTurn, GoesOn, RunsWhole}
 use Rattle.cli_threads.proofs.RunHistory.{later_of, history-later, later-append, end-opened, spellable-history}

@@ -25,18 +25,18 @@ use Rattle.lock_core.proofs.SerialTasks.{partly_serial-more}
 use Rattle.log_recovery.proofs.ListingLemmas.{units_of-append}
 use Rattle.log_recovery.proofs.TextLemmas.{AppendsPrefix-first}
 use Rattle.segment_file.specs.Lengths.{most_end}
-use Rattle.log_table.specs.declared.table.Start.{Start}
-use Rattle.log_table.specs.declared.view.Constants.{Constants}
-use Rattle.log_table.specs.declared.view.Given.{Given}
-use Rattle.log_table.specs.declared.view.Sending.{Sending}
-use Rattle.log_table.specs.declared.view.View.{View}
-use Rattle.log_table.specs.Accounts.{WentBack}
-use Rattle.log_table.specs.Books.{task_of, times_taken}
-use Rattle.log_table.specs.Closing.{records_of, IsLedger}
-use Rattle.log_table.specs.Log.{units_in}
+use Rattle.log_rule.specs.declared.start.Start.{Start}
+use Rattle.log_rule.specs.declared.view.Constants.{Constants}
+use Rattle.log_rule.specs.declared.view.Given.{Given}
+use Rattle.log_rule.specs.declared.view.Sending.{Sending}
+use Rattle.log_rule.specs.declared.view.View.{View}
+use Rattle.log_rule.specs.Accounts.{WentBack}
+use Rattle.log_rule.specs.Books.{task_of, times_taken}
+use Rattle.log_rule.specs.Closing.{records_of, IsLedger}
+use Rattle.log_rule.specs.Log.{units_in}
 use Rattle.log_table.specs.Seats.{view_of}
-use Rattle.log_table.specs.Sound.{base_of}
-use Rattle.log_table.specs.Views.{constants_of}
+use Rattle.log_rule.specs.Sound.{base_of}
+use Rattle.log_rule.specs.Views.{constants_of}
 use Rattle.flusher.specs.Flushing.{sent_of}
 use Rattle.commit_pipeline.specs.declared.daemon.Daemon.{Daemon}
 use Rattle.commit_pipeline.specs.EndLines.{text_of}

@@ -6,9 +6,9 @@ use Rattle.log_record.specs.declared.rec.Rec.{Rec}
 use Rattle.log_record.specs.LogList.{units_of, end_of, size_of}
 use Rattle.log_record.specs.Spelling.{spelling, IsSpellable}
 use Rattle.log_record.proofs.SpellingLemmas.{spelling-append-injective}
-use Rattle.log_table.specs.declared.view.Entry.{Entry}
-use Rattle.log_table.specs.Closing.{records_of}
-use Rattle.log_table.specs.Log.{IsFull, IsSpelled, units_in}
+use Rattle.log_rule.specs.declared.view.Entry.{Entry}
+use Rattle.log_rule.specs.Closing.{records_of}
+use Rattle.log_rule.specs.Log.{IsFull, IsSpelled, units_in}
 use Rattle.commit_pipeline.proofs.ToldLemmas.{size_of-some}
 
 -- the entries' records are spellable, and their units are those of the records

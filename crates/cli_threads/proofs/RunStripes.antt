@@ -9,8 +9,8 @@ use mathlib.Core.Option.{some, some-injective, some-ne-none}
 use native.Mathlib.Decide.{ℕ_discrete, dec_lt}
 use lib.ListN.{get_elem?}
 use Rattle.lock_core.specs.Serial.{Task, numbered}
-use Rattle.log_table.specs.declared.view.TakenJob.{TakenJob}
-use Rattle.log_table.specs.Books.{task_of, times_taken}
+use Rattle.log_rule.specs.declared.view.TakenJob.{TakenJob}
+use Rattle.log_rule.specs.Books.{task_of, times_taken}
 use Rattle.lock_core.specs.Transfers.{transfer_of}
 use Rattle.lock_core.specs.declared.job.Job.{Job}
 use Rattle.txn_jobs.specs.declared.jobs.Jobs.{Jobs}

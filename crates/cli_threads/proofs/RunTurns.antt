@@ -16,10 +16,10 @@ use Rattle.lock_core.specs.Sums.{greatest_txn}
 use Rattle.lock_core.specs.Transactions.{of_transaction, recs_of, own_records_of, has_end}
 use Rattle.lock_core.proofs.Apart.{of_transaction-older}
 use Rattle.lock_core.proofs.NextRecords.{has_end-own}
-use Rattle.log_table.specs.declared.view.Entry.{Entry}
-use Rattle.log_table.specs.declared.view.View.{View}
-use Rattle.log_table.specs.Books.{task_of}
-use Rattle.log_table.specs.Closing.{records_of, IsGathered}
+use Rattle.log_rule.specs.declared.view.Entry.{Entry}
+use Rattle.log_rule.specs.declared.view.View.{View}
+use Rattle.log_rule.specs.Books.{task_of}
+use Rattle.log_rule.specs.Closing.{records_of, IsGathered}
 use Rattle.txn_jobs.specs.declared.cause.Worked.{Worked}
 use Rattle.txn_jobs.specs.declared.cause.Worked.TheVariants.{All, Cut}
 use Rattle.txn_jobs.specs.declared.jobs.Jobs.{Jobs}

@@ -2,9 +2,9 @@
 use Rattle.std.proofs.Common.{◌≡◌, ℕ, Bool, true, List, [], ap, subst, ◌∙◌}
 use Rattle.log_table.specs.declared.table.Seat.{Seat}
 use Rattle.log_table.specs.declared.table.LogTable.{LogTable}
-use Rattle.log_table.specs.declared.view.Role.TheVariants.{Ended}
-use Rattle.log_table.specs.declared.view.View.{View}
-use Rattle.log_table.specs.CrewViews.{retired}
+use Rattle.log_rule.specs.declared.view.Role.TheVariants.{Ended}
+use Rattle.log_rule.specs.declared.view.View.{View}
+use Rattle.log_rule.specs.CrewViews.{retired}
 use Rattle.log_table.specs.Seats.{Becomes, IsOf, view_of}
 use Rattle.txn_jobs.specs.declared.cause.Cause.{Cause}
 use Rattle.txn_jobs.specs.declared.cause.Cause.TheVariants.{Stop, LogEnd}

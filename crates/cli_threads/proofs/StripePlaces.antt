@@ -3,7 +3,7 @@ use Rattle.std.proofs.Common.{ℕ, zero, suc, ◌≡◌, ◌+◌, ◌<◌, List,
 use Rattle.std.proofs.lemmas.List.Elements.{Contains-append_left, Contains-push, Contains-push_cases}
 use mathlib.Core.Logic.{dite}
 use native.Mathlib.Decide.{ℕ_discrete}
-use Rattle.log_table.specs.declared.view.TakenJob.{TakenJob}
+use Rattle.log_rule.specs.declared.view.TakenJob.{TakenJob}
 use Rattle.txn_jobs.specs.declared.jobs.Jobs.{Jobs}
 use Rattle.txn_runner.specs.Places.{taken_at, jobs_taken, place_of, stripe_places}
 use Rattle.txn_runner.proofs.PlaceLemmas.{jobs_taken-push}

@@ -7,23 +7,23 @@ use Rattle.log_record.specs.declared.rec.Rec.{Rec}
 use Rattle.segment_file.specs.declared.scan_result.Tail.{Tail}
 use Rattle.log_table.specs.declared.table.LogTable.{LogTable}
 use Rattle.log_table.specs.declared.table.Seat.{Seat}
-use Rattle.log_table.specs.declared.table.Start.{Start}
-use Rattle.log_table.specs.declared.view.Books.{Books}
-use Rattle.log_table.specs.declared.view.Constants.{Constants}
-use Rattle.log_table.specs.declared.view.Role.{Role}
-use Rattle.log_table.specs.declared.view.Role.TheVariants.{Flusher}
-use Rattle.log_table.specs.declared.view.Sending.{Sending}
-use Rattle.log_table.specs.declared.view.Standing.{Standing}
-use Rattle.log_table.specs.declared.view.View.{View}
-use Rattle.log_table.specs.Closing.{HasHeardOfWorkers, IsGathered, IsSettled}
-use Rattle.log_table.specs.May.{MayClose}
-use Rattle.log_table.specs.Members.{IsRefusalOf}
+use Rattle.log_rule.specs.declared.start.Start.{Start}
+use Rattle.log_rule.specs.declared.view.Books.{Books}
+use Rattle.log_rule.specs.declared.view.Constants.{Constants}
+use Rattle.log_rule.specs.declared.view.Role.{Role}
+use Rattle.log_rule.specs.declared.view.Role.TheVariants.{Flusher}
+use Rattle.log_rule.specs.declared.view.Sending.{Sending}
+use Rattle.log_rule.specs.declared.view.Standing.{Standing}
+use Rattle.log_rule.specs.declared.view.View.{View}
+use Rattle.log_rule.specs.Closing.{HasHeardOfWorkers, IsGathered, IsSettled}
+use Rattle.log_rule.specs.May.{MayClose}
+use Rattle.log_rule.specs.Members.{IsRefusalOf}
 use Rattle.log_table.specs.Seats.{view_of}
-use Rattle.log_table.specs.Sends.{IsDrained}
-use Rattle.log_table.specs.Sound.{HasReadStop, base_of}
-use Rattle.log_table.specs.Roles.{is_worker}
-use Rattle.log_table.specs.Views.{constants_of, sent_to}
-use Rattle.log_table.specs.CrewViews.{takes_in}
+use Rattle.log_rule.specs.Sends.{IsDrained}
+use Rattle.log_rule.specs.Sound.{HasReadStop, base_of}
+use Rattle.log_rule.specs.Roles.{is_worker}
+use Rattle.log_rule.specs.Views.{constants_of, sent_to}
+use Rattle.log_rule.specs.CrewViews.{takes_in}
 use Rattle.end_lines.specs.declared.voice.Voice.{Voice}
 use Rattle.commit_pipeline.specs.Turning.{IsSameDaemon}
 use Rattle.commit_pipeline.proofs.RanLemmas.{Later-same}

@@ -7,10 +7,10 @@ use lib.ListN.{get_elem?}
 use Rattle.lsn_space.proofs.TilingLemmas.{all-weaker as all-fewer}
 use Rattle.lock_core.specs.Records.{txn_of, ends}
 use Rattle.log_table.specs.declared.table.LogTable.{LogTable}
-use Rattle.log_table.specs.declared.view.Entry.{Entry}
-use Rattle.log_table.specs.declared.view.Given.{Given}
-use Rattle.log_table.specs.declared.view.View.{View}
-use Rattle.log_table.specs.CrewViews.{takes_in}
+use Rattle.log_rule.specs.declared.view.Entry.{Entry}
+use Rattle.log_rule.specs.declared.view.Given.{Given}
+use Rattle.log_rule.specs.declared.view.View.{View}
+use Rattle.log_rule.specs.CrewViews.{takes_in}
 use Rattle.txn_jobs.specs.declared.cause.Worked.{Worked}
 use Rattle.txn_jobs.specs.declared.cause.Worked.TheVariants.{All, Cut}
 use Rattle.txn_jobs.specs.declared.jobs.Jobs.{Jobs}

@@ -2,10 +2,10 @@
 use Rattle.std.specs.Prelude.{◌≡◌, List, [], ◌∷◌, IsSome}
 use Rattle.std.specs.Option.{unwrap_or}
 use Rattle.log_table.specs.declared.table.LogTable.{LogTable}
-use Rattle.log_table.specs.declared.view.Role.TheVariants.{Ended}
-use Rattle.log_table.specs.declared.view.View.{View}
+use Rattle.log_rule.specs.declared.view.Role.TheVariants.{Ended}
+use Rattle.log_rule.specs.declared.view.View.{View}
 use Rattle.log_table.specs.Seats.{IsOf, view_of}
-use Rattle.log_table.specs.CrewViews.{takes_in}
+use Rattle.log_rule.specs.CrewViews.{takes_in}
 use Rattle.txn_jobs.specs.declared.cause.Worked.{Worked}
 use Rattle.txn_jobs.specs.declared.cause.Worked.TheVariants.{All}
 use Rattle.txn_jobs.specs.declared.jobs.Jobs.{Jobs}

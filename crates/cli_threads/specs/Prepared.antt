@@ -8,7 +8,7 @@ use Rattle.log_table.specs.declared.table.LogTable.{LogTable}
 use Rattle.log_table.specs.declared.table.Seat.{Seat}
 use Rattle.log_table.specs.Hiring.{HasHired}
 use Rattle.log_table.specs.Seats.{view_of}
-use Rattle.log_table.specs.Sends.{IsDrained}
+use Rattle.log_rule.specs.Sends.{IsDrained}
 use Rattle.commit_pipeline.specs.declared.daemon.Daemon.{Daemon}
 use Rattle.end_lines.specs.declared.voice.Voice.{Voice}
 use Rattle.commit_pipeline.specs.Later.{Later}

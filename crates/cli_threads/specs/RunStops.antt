@@ -12,7 +12,7 @@ use Rattle.lock_core.specs.Sums.{IsBalanceOf}
 use Rattle.lock_core.specs.Transactions.{own_records_of, has_end, all_without_prev, in_order}
 use Rattle.lock_core.specs.Transfers.{transfer_of}
 use Rattle.txn_jobs.specs.declared.jobs.Jobs.{Jobs}
-use Rattle.log_table.specs.Members.{IsTotalOf}
+use Rattle.log_rule.specs.Members.{IsTotalOf}
 use Rattle.txn_runner.specs.Places.{place_of, number_at, job_at}
 use Rattle.txn_runner.specs.Running.{IsTotalFor}
 

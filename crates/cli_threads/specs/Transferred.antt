@@ -11,14 +11,14 @@ use Rattle.lock_core.specs.Lawful.{IsLawful, genesis_of}
 use Rattle.lock_core.specs.Sums.{ShowsAccounts, greatest_txn}
 use Rattle.segment_file.specs.Standing.{AllStand, IsShut}
 use Rattle.segment_file.specs.declared.scan_result.Tail.{Tail}
-use Rattle.log_table.specs.declared.table.Start.{Start}
-use Rattle.log_table.specs.declared.view.View.{View}
-use Rattle.log_table.specs.Closing.{IsGathered, IsSettled}
-use Rattle.log_table.specs.Members.{IsRefusalOf}
+use Rattle.log_rule.specs.declared.start.Start.{Start}
+use Rattle.log_rule.specs.declared.view.View.{View}
+use Rattle.log_rule.specs.Closing.{IsGathered, IsSettled}
+use Rattle.log_rule.specs.Members.{IsRefusalOf}
 use Rattle.log_table.specs.Seats.{view_of}
-use Rattle.log_table.specs.Sends.{IsDrained}
-use Rattle.log_table.specs.Sound.{base_of}
-use Rattle.log_table.specs.Views.{constants_of}
+use Rattle.log_rule.specs.Sends.{IsDrained}
+use Rattle.log_rule.specs.Sound.{base_of}
+use Rattle.log_rule.specs.Views.{constants_of}
 use Rattle.flusher.specs.Flushing.{sent_of}
 use Rattle.commit_pipeline.specs.declared.daemon.Daemon.{Daemon}
 use Rattle.commit_pipeline.specs.Later.{Later}

@@ -1,7 +1,7 @@
 -- Workers of a run, once they were started and after their work. Each has a number, from 0 on.
 use Rattle.std.specs.Prelude.{◌≡◌, ℕ, Bool, true, List, [], MatchOption, IsSomeAnd}
 use Rattle.log_table.specs.declared.table.LogTable.{LogTable}
-use Rattle.log_table.specs.declared.view.Role.TheVariants.{Ended}
+use Rattle.log_rule.specs.declared.view.Role.TheVariants.{Ended}
 use Rattle.log_table.specs.Seats.{IsOf, view_of}
 use Rattle.txn_jobs.specs.declared.cause.Worked.{Worked}
 use Rattle.txn_jobs.specs.declared.jobs.Jobs.{Jobs}

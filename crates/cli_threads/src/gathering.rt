@@ -1,9 +1,9 @@
 //! The end of a run: the flusher's seat takes in the workers' seats.
 ghost use Rattle.std.specs.Prelude.{◌≡◌, ◌≤◌, [], map, vec_len, vec_capacity};
 ghost use Rattle.std.specs.List.{AllByRecursion};
-ghost use Rattle.log_table.specs.declared.view.Role.TheVariants.{Flusher};
+ghost use Rattle.log_rule.specs.declared.view.Role.TheVariants.{Flusher};
 ghost use Rattle.log_table.specs.Seats.{IsOf, view_of};
-ghost use Rattle.log_table.specs.Sound.{HasReadStop};
+ghost use Rattle.log_rule.specs.Sound.{HasReadStop};
 ghost use Rattle.cli_threads.specs.Gathering.{HasLeft, takes_all, view_in, worked_of};
 
 use cli_workers::Worker;

@@ -1,8 +1,8 @@
 //! The workers in their threads, and the daemon beside them.
 ghost use Rattle.std.specs.Prelude.{◌≡◌, ◌≤◌, [], None, true, vec_len, vec_capacity};
 ghost use Rattle.log_table.specs.Seats.{view_of};
-ghost use Rattle.log_table.specs.Sends.{IsDrained};
-ghost use Rattle.log_table.specs.Views.{knows_all_enrolled};
+ghost use Rattle.log_rule.specs.Sends.{IsDrained};
+ghost use Rattle.log_rule.specs.Views.{knows_all_enrolled};
 ghost use Rattle.commit_pipeline.specs.Later.{Later};
 ghost use Rattle.commit_pipeline.specs.Turning.{IsSameDaemon, MayTurn};
 ghost use Rattle.cli_workers.specs.Workers.{AreUnused};

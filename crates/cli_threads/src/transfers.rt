@@ -3,9 +3,9 @@ ghost use Rattle.std.specs.Prelude.{◌≡◌, ◌≤◌, ◌<◌, ◌+◌, ◌*
 ghost use Rattle.lsn_space.specs.declared.lsn.TheConstants.{LEAST_RING, GREATEST_RING};
 ghost use Rattle.log_record.specs.declared.limits.TheConstants.{LAST_TXN};
 ghost use Rattle.log_record.specs.declared.rec.Rec.{Rec};
-ghost use Rattle.log_table.specs.declared.layout.TheConstants.{MOST_SLOTS};
+ghost use Rattle.log_rule.specs.declared.layout.TheConstants.{MOST_SLOTS};
 ghost use Rattle.log_table.specs.Hiring.{HasHired};
-ghost use Rattle.log_table.specs.Opening.{HasAccounts};
+ghost use Rattle.log_rule.specs.Opening.{HasAccounts};
 ghost use Rattle.log_table.specs.Seats.{key_of};
 ghost use Rattle.segment_file.specs.Standing.{IsShut};
 ghost use Rattle.lock_core.specs.Transfers.{IsAllowedJob};

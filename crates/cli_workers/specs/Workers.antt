@@ -1,7 +1,7 @@
 -- Workers of a run, before their work. Each has a number, from 0 on.
 use Rattle.std.specs.Prelude.{◌≡◌, ℕ, ◌+◌, ◌<◌, List, [], ◌∷◌, None}
 use Rattle.log_table.specs.declared.table.LogTable.{LogTable}
-use Rattle.log_table.specs.Books.{no_books}
+use Rattle.log_rule.specs.Books.{no_books}
 use Rattle.log_table.specs.Seats.{IsOf, view_of}
 use Rattle.ring_buffer.specs.Calls.{IsReady}
 use Rattle.txn_jobs.specs.declared.jobs.Jobs.{Jobs}

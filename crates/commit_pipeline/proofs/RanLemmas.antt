@@ -12,8 +12,8 @@ use Rattle.log_record.specs.declared.rec.Rec.{Rec}
 use Rattle.log_record.specs.LogList.{units_of, end_of}
 use Rattle.log_record.specs.Spelling.{spelling, IsSpellable}
 use Rattle.log_table.specs.Seats.{view_of}
-use Rattle.log_table.specs.declared.view.Constants.{Constants}
-use Rattle.log_table.specs.declared.view.View.{View}
+use Rattle.log_rule.specs.declared.view.Constants.{Constants}
+use Rattle.log_rule.specs.declared.view.View.{View}
 use Rattle.segment_file.specs.File.{HoldsUnits}
 use Rattle.segment_file.specs.Lengths.{most_end}
 use Rattle.flusher.specs.Flushing.{sent_of}

@@ -8,7 +8,7 @@ use Rattle.log_disk.specs.declared.sink.Sink.{Ghosts as SinkGhosts}
 use Rattle.std.specs.List.{AllByRecursion}
 use Rattle.log_record.specs.declared.rec.Rec.{Rec}
 use Rattle.log_record.specs.Spelling.{IsSpellable}
-use Rattle.log_table.specs.declared.view.View.{View}
+use Rattle.log_rule.specs.declared.view.View.{View}
 use Rattle.log_table.specs.Seats.{Becomes, view_of}
 use Rattle.flusher.specs.declared.flusher.Drained.{Drained}
 use Rattle.flusher.specs.declared.flusher.Drained.TheVariants.{At, Active, Behind}

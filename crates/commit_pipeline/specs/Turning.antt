@@ -6,7 +6,7 @@ use Rattle.log_disk.specs.declared.disk.LogDisk.{Ghosts}
 use Rattle.log_disk.specs.declared.sink.Sink.{Ghosts as SinkGhosts}
 use Rattle.log_disk.specs.Faults.{Rose}
 use Rattle.log_table.specs.Seats.{view_of}
-use Rattle.log_table.specs.Views.{sent_to}
+use Rattle.log_rule.specs.Views.{sent_to}
 use Rattle.flusher.specs.declared.flusher.Drained.{Drained}
 use Rattle.flusher.specs.declared.flusher.Drained.TheVariants.{At, Active, Behind}
 use Rattle.flusher.specs.declared.flusher.Flusher.{Flusher}

@@ -1,8 +1,8 @@
 //! Turns until the log has come to its end.
 ghost use Rattle.std.specs.Prelude.{◌≡◌, IfOk, IfErr, OnOk, IfSome, IfNone, true, Some};
 ghost use Rattle.log_table.specs.Seats.{view_of};
-ghost use Rattle.log_table.specs.Sends.{IsDrained};
-ghost use Rattle.log_table.specs.Views.{knows_all_enrolled};
+ghost use Rattle.log_rule.specs.Sends.{IsDrained};
+ghost use Rattle.log_rule.specs.Views.{knows_all_enrolled};
 ghost use Rattle.flusher.specs.Flushing.{Asks};
 ghost use Rattle.commit_pipeline.specs.Later.{Later};
 ghost use Rattle.commit_pipeline.specs.Turning.{GoesOn, MayTurn, durable};

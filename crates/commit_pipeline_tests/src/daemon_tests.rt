@@ -2,9 +2,9 @@
 ghost use Rattle.std.specs.Prelude.{◌≡◌, ◌<◌, [], true, OnOk};
 ghost use Rattle.log_disk.specs.Disk.{IsOnlyImage};
 ghost use Rattle.memory_disk.specs.MemoryDisks.{ImagesOf};
-ghost use Rattle.log_table.specs.May.{MayLeave};
+ghost use Rattle.log_rule.specs.May.{MayLeave};
 ghost use Rattle.log_table.specs.Seats.{IsOf, view_of};
-ghost use Rattle.log_table.specs.Views.{knows_all_enrolled};
+ghost use Rattle.log_rule.specs.Views.{knows_all_enrolled};
 ghost use Rattle.commit_pipeline.specs.Turning.{MayTurn};
 ghost use Rattle.test_rig.specs.NotedJobs.{IsNew};
 

@@ -5,7 +5,7 @@ use Rattle.slot_word.specs.SlotWord.{word_of}
 use Rattle.log_table.specs.declared.table.LogTable.{LogTable}
 use Rattle.log_table.specs.declared.table.Seat.{Seat}
 use Rattle.log_table.specs.Seats.{Becomes, IsOf, view_of}
-use Rattle.log_table.specs.SlotViews.{HasToRelease, released_piece}
+use Rattle.log_rule.specs.SlotViews.{HasToRelease, released_piece}
 use Rattle.consol_array.specs.Releasing.{LetsGo}
 
 -- the seat released it by a subtraction, which found this state

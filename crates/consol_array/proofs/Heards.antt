@@ -1,11 +1,11 @@
 -- A member hears what became of its group.
 use Rattle.std.proofs.Common.{arith, false, ◌≡◌, ◌∙◌, ℕ, ◌+◌, ap}
-use Rattle.log_table.specs.declared.group_view.Piece.{Piece}
+use Rattle.log_rule.specs.declared.group_view.Piece.{Piece}
 use Rattle.log_table.specs.declared.table.Seat.{Seat}
-use Rattle.log_table.specs.Books.{placing}
+use Rattle.log_rule.specs.Books.{placing}
 use Rattle.log_table.specs.Seats.{Becomes, view_of}
-use Rattle.log_table.specs.SlotViews.{saw_slot}
-use Rattle.log_table.proofs.Contending.{contended-looked}
+use Rattle.log_rule.specs.SlotViews.{saw_slot}
+use Rattle.log_rule.proofs.Contending.{contended-looked}
 use Rattle.ring_buffer.specs.Calls.{IsSameWorker}
 use Rattle.ring_buffer.specs.declared.refused.Refused.{Refused}
 use Rattle.ring_buffer.proofs.TwoCalls.{IsSameWorker-trans}

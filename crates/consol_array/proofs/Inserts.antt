@@ -2,14 +2,14 @@
 use Rattle.std.proofs.Common.{arith, inr, ◌≡◌, ◌∙◌, ℕ, ◌+◌, ◌/◌, ◌<◌, ◌≤◌, List, [], ◌∷◌, ◌++◌, false, length, ap, sym, refl, le_refl, subst}
 use Rattle.std.specs.List.{Contains}
 use Rattle.log_record.specs.Spelling.{spelling}
-use Rattle.log_table.specs.declared.group_view.MemberStep.TheVariants.{Fills}
+use Rattle.log_rule.specs.declared.group_view.MemberStep.TheVariants.{Fills}
 use Rattle.log_table.specs.declared.table.LogTable.{LogTable}
 use Rattle.log_table.specs.declared.table.Seat.{Seat}
-use Rattle.log_table.specs.declared.view.Constants.{Constants}
-use Rattle.log_table.specs.Books.{next_of, placing}
-use Rattle.log_table.specs.GroupViews.{placed_piece}
+use Rattle.log_rule.specs.declared.view.Constants.{Constants}
+use Rattle.log_rule.specs.Books.{next_of, placing}
+use Rattle.log_rule.specs.GroupViews.{placed_piece}
 use Rattle.log_table.specs.Seats.{Becomes, IsOf, view_of}
-use Rattle.log_table.specs.SlotViews.{piece_in}
+use Rattle.log_rule.specs.SlotViews.{piece_in}
 use Rattle.ring_buffer.specs.Calls.{HasEntries, HasOnlySeen, IsSameWorker, Refuses, entry_of, filled_with, with_units}
 use Rattle.ring_buffer.specs.Totals.{IsHeard}
 use Rattle.ring_buffer.specs.declared.refused.Refused.{Refused}

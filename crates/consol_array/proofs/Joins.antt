@@ -6,10 +6,10 @@ use Rattle.slot_word.specs.declared.phase.Phase.TheVariants.{Gathering}
 use Rattle.slot_word.proofs.SlotWordLemmas.{phase_back, total_back}
 use Rattle.log_table.specs.declared.table.LogTable.{LogTable}
 use Rattle.log_table.specs.declared.table.Seat.{Seat}
-use Rattle.log_table.specs.May.{IsAtRest, MayJoinSlot}
+use Rattle.log_rule.specs.May.{IsAtRest, MayJoinSlot}
 use Rattle.log_table.specs.Seats.{IsOf, Becomes, view_of}
-use Rattle.log_table.specs.SlotViews.{own_slot_of, saw_slot, joined_slot, call_seeing, contended_seeing}
-use Rattle.log_table.proofs.Contending.{clears-unless_gathering, clears-without_room}
+use Rattle.log_rule.specs.SlotViews.{own_slot_of, saw_slot, joined_slot, call_seeing, contended_seeing}
+use Rattle.log_rule.proofs.Contending.{clears-unless_gathering, clears-without_room}
 use Rattle.ring_buffer.specs.Calls.{MayPlace}
 use Rattle.consol_array.specs.Joining.{IsStateJoined, LacksSlotRoom}
 use Rattle.consol_array.proofs.Keeping.{Becomes-then}

@@ -1,9 +1,9 @@
 -- What a seat is after steps that change what it saw, and its call.
 use Rattle.std.proofs.Common.{arith, ◌∙◌, ℕ, ap, refl, le_refl}
 use Rattle.log_table.specs.declared.table.Seat.{Seat}
-use Rattle.log_table.specs.declared.view.View.{View}
+use Rattle.log_rule.specs.declared.view.View.{View}
 use Rattle.log_table.specs.Seats.{Becomes, view_of}
-use Rattle.log_table.specs.SlotViews.{saw_slot}
+use Rattle.log_rule.specs.SlotViews.{saw_slot}
 use Rattle.ring_buffer.specs.Calls.{IsSameWorker}
 use Rattle.ring_buffer.proofs.OneStep.{IsSameWorker-becomes}
 

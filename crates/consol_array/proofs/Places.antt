@@ -2,19 +2,19 @@
 use Rattle.std.proofs.Common.{arith, inl, inr, ◌≡◌, ◌∙◌, ℕ, ◌+◌, ◌*◌, ◌^◌, ◌<◌, ap, sym, subst, refl}
 use Rattle.slot_word.specs.declared.slot_word.SlotWord.{SlotWord}
 use Rattle.slot_word.specs.SlotWord.{word_of}
-use Rattle.log_table.specs.declared.group_view.MemberStep.TheVariants.{Places, Stores}
-use Rattle.log_table.specs.declared.group_view.Piece.{Piece}
+use Rattle.log_rule.specs.declared.group_view.MemberStep.TheVariants.{Places, Stores}
+use Rattle.log_rule.specs.declared.group_view.Piece.{Piece}
 use Rattle.log_table.specs.declared.table.LogTable.{LogTable}
 use Rattle.log_table.specs.declared.table.Seat.{Seat}
-use Rattle.log_table.specs.declared.view.Seen.{Seen}
-use Rattle.log_table.specs.declared.view.View.{View}
-use Rattle.log_table.specs.Groups.{Granted, Refused}
-use Rattle.log_table.specs.May.{MayPlaceGroup, MayStoreGranted, MayStoreRefused}
-use Rattle.log_table.specs.Members.{LacksRoom}
+use Rattle.log_rule.specs.declared.view.Seen.{Seen}
+use Rattle.log_rule.specs.declared.view.View.{View}
+use Rattle.log_rule.specs.Groups.{Granted, Refused}
+use Rattle.log_rule.specs.May.{MayPlaceGroup, MayStoreGranted, MayStoreRefused}
+use Rattle.log_rule.specs.Members.{LacksRoom}
 use Rattle.log_table.specs.Seats.{IsOf, Becomes, view_of}
-use Rattle.log_table.specs.Slots.{told_word}
-use Rattle.log_table.specs.SlotViews.{call_reserved, call_stored, reserved_group, stored_base}
-use Rattle.log_table.specs.Views.{counted, seen_tail}
+use Rattle.log_rule.specs.Slots.{told_word}
+use Rattle.log_rule.specs.SlotViews.{call_reserved, call_stored, reserved_group, stored_base}
+use Rattle.log_rule.specs.Views.{counted, seen_tail}
 use Rattle.ring_buffer.specs.Calls.{HasOnlySeen, HasRoom, Refuses, looked}
 use Rattle.ring_buffer.specs.declared.refused.Refused.TheVariants as why
 use Rattle.ring_buffer.specs.declared.refused.Refused.{Refused as Why}

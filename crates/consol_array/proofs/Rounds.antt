@@ -4,11 +4,11 @@ use Rattle.log_record.specs.Spelling.{spelling}
 use Rattle.slot_word.specs.SlotWord.{word_of}
 use Rattle.log_table.specs.declared.table.LogTable.{LogTable}
 use Rattle.log_table.specs.declared.table.Seat.{Seat}
-use Rattle.log_table.specs.declared.view.Books.{Books}
-use Rattle.log_table.specs.Books.{next_of}
+use Rattle.log_rule.specs.declared.view.Books.{Books}
+use Rattle.log_rule.specs.Books.{next_of}
 use Rattle.log_table.specs.Seats.{Becomes, view_of}
-use Rattle.log_table.specs.SlotViews.{joined_slot, piece_joining, saw_slot}
-use Rattle.log_table.specs.Views.{lost_alone}
+use Rattle.log_rule.specs.SlotViews.{joined_slot, piece_joining, saw_slot}
+use Rattle.log_rule.specs.Views.{lost_alone}
 use Rattle.ring_buffer.specs.Calls.{IsSameWorker, MayPlace, looked}
 use Rattle.ring_buffer.proofs.OneStep.{IsSameWorker-becomes}
 use Rattle.ring_buffer.proofs.TwoCalls.{IsSameWorker-trans}

@@ -4,13 +4,13 @@ use Rattle.slot_word.specs.declared.phase.Phase.TheVariants.{Published, Refused}
 use Rattle.slot_word.specs.declared.slot_word.SlotWord.{SlotWord}
 use Rattle.slot_word.specs.SlotWord.{packed, total_in, word_of}
 use Rattle.slot_word.proofs.SlotWordLemmas.{total_back}
-use Rattle.log_table.specs.declared.group_view.MemberStep.{MemberStep}
-use Rattle.log_table.specs.declared.group_view.MemberStep.TheVariants.{Waits, Hears}
-use Rattle.log_table.specs.declared.group_view.Piece.{Piece}
+use Rattle.log_rule.specs.declared.group_view.MemberStep.{MemberStep}
+use Rattle.log_rule.specs.declared.group_view.MemberStep.TheVariants.{Waits, Hears}
+use Rattle.log_rule.specs.declared.group_view.Piece.{Piece}
 use Rattle.log_table.specs.declared.table.Seat.{Seat}
-use Rattle.log_table.specs.declared.view.Call.TheVariants as calls
+use Rattle.log_rule.specs.declared.view.Call.TheVariants as calls
 use Rattle.log_table.specs.Seats.{Becomes, view_of}
-use Rattle.log_table.specs.SlotViews.{call_seeing, saw_slot, step_seeing, tells_refusal}
+use Rattle.log_rule.specs.SlotViews.{call_seeing, saw_slot, step_seeing, tells_refusal}
 use Rattle.consol_array.specs.declared.call.Joined.{Joined}
 use Rattle.consol_array.specs.Hearing.{TellsGroup, is_refused, step_told}
 use Rattle.consol_array.specs.Members.{IsAtStep}

@@ -4,15 +4,15 @@ use Rattle.slot_word.specs.declared.phase.Phase.{Phase}
 use Rattle.slot_word.specs.declared.phase.Phase.TheVariants as phase
 use Rattle.slot_word.specs.declared.slot_word.SlotWord.{SlotWord}
 use Rattle.slot_word.specs.SlotWord.{word_of}
-use Rattle.log_table.specs.declared.group_view.MemberStep.{MemberStep}
-use Rattle.log_table.specs.declared.group_view.MemberStep.TheVariants.{Hears, Fills, Leaves}
-use Rattle.log_table.specs.declared.group_view.Piece.{Piece}
+use Rattle.log_rule.specs.declared.group_view.MemberStep.{MemberStep}
+use Rattle.log_rule.specs.declared.group_view.MemberStep.TheVariants.{Hears, Fills, Leaves}
+use Rattle.log_rule.specs.declared.group_view.Piece.{Piece}
 use Rattle.log_table.specs.declared.table.LogTable.{LogTable}
 use Rattle.log_table.specs.declared.table.Seat.{Seat}
-use Rattle.log_table.specs.declared.view.View.{View}
-use Rattle.log_table.specs.Books.{placing}
+use Rattle.log_rule.specs.declared.view.View.{View}
+use Rattle.log_rule.specs.Books.{placing}
 use Rattle.log_table.specs.Seats.{Becomes, view_of}
-use Rattle.log_table.specs.SlotViews.{saw_slot}
+use Rattle.log_rule.specs.SlotViews.{saw_slot}
 use Rattle.ring_buffer.specs.Calls.{Refuses, IsSameWorker}
 use Rattle.ring_buffer.specs.Totals.{IsHeard}
 use Rattle.ring_buffer.specs.declared.refused.Refused.{Refused}

@@ -1,12 +1,12 @@
 -- What the rounds of an insert come to, and what an insert that was refused tells.
 use Rattle.std.specs.Prelude.{◌≡◌, ℕ, ◌<◌, false, Contains}
 use Rattle.lsn_space.specs.declared.lsn.TheConstants.{LAST}
-use Rattle.log_table.specs.declared.group_view.Piece.{Piece}
+use Rattle.log_rule.specs.declared.group_view.Piece.{Piece}
 use Rattle.log_table.specs.declared.table.LogTable.{LogTable}
 use Rattle.log_table.specs.declared.table.Seat.{Seat}
-use Rattle.log_table.specs.Books.{next_of}
+use Rattle.log_rule.specs.Books.{next_of}
 use Rattle.log_table.specs.Seats.{view_of}
-use Rattle.log_table.specs.SlotViews.{step_joining}
+use Rattle.log_rule.specs.SlotViews.{step_joining}
 use Rattle.ring_buffer.specs.Calls.{HasEntries, IsSameWorker, PlacesNext, Refuses}
 use Rattle.ring_buffer.specs.Totals.{IsTotalOfSeat}
 use Rattle.ring_buffer.specs.declared.refused.Refused.{Refused}

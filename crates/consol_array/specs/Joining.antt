@@ -5,9 +5,9 @@ use Rattle.slot_word.specs.declared.slot_word.SlotWord.{SlotWord}
 use Rattle.slot_word.specs.SlotWord.{word_of}
 use Rattle.log_table.specs.declared.table.LogTable.{LogTable}
 use Rattle.log_table.specs.declared.table.Seat.{Seat}
-use Rattle.log_table.specs.declared.view.Call.TheVariants.{Idle}
+use Rattle.log_rule.specs.declared.view.Call.TheVariants.{Idle}
 use Rattle.log_table.specs.Seats.{Becomes, view_of}
-use Rattle.log_table.specs.SlotViews.{own_slot_of, saw_slot, joined_slot, lost_join}
+use Rattle.log_rule.specs.SlotViews.{own_slot_of, saw_slot, joined_slot, lost_join}
 use Rattle.ring_buffer.specs.Calls.{IsSameWorker}
 use Rattle.consol_array.specs.declared.call.Joined.{Joined}
 use Rattle.consol_array.specs.declared.call.NotJoined.{NotJoined}

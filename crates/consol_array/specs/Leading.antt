@@ -3,14 +3,14 @@ use Rattle.std.specs.Prelude.{◌≡◌, ℕ, ◌+◌, ◌/◌, ◌<◌, ◌≤�
 use Rattle.lsn_space.specs.declared.lsn.TheConstants.{LAST}
 use Rattle.slot_word.specs.declared.slot_word.SlotWord.{SlotWord}
 use Rattle.slot_word.specs.SlotWord.{word_of}
-use Rattle.log_table.specs.declared.group_view.MemberStep.TheVariants.{Closes, Waits, Places, Tells}
-use Rattle.log_table.specs.declared.group_view.Piece.{Piece}
+use Rattle.log_rule.specs.declared.group_view.MemberStep.TheVariants.{Closes, Waits, Places, Tells}
+use Rattle.log_rule.specs.declared.group_view.Piece.{Piece}
 use Rattle.log_table.specs.declared.table.LogTable.{LogTable}
-use Rattle.log_table.specs.declared.view.Seen.{Seen}
-use Rattle.log_table.specs.declared.view.View.{View}
-use Rattle.log_table.specs.Groups.{Outcome, Granted, Refused}
-use Rattle.log_table.specs.Members.{LacksRoom}
-use Rattle.log_table.specs.Slots.{told_word}
+use Rattle.log_rule.specs.declared.view.Seen.{Seen}
+use Rattle.log_rule.specs.declared.view.View.{View}
+use Rattle.log_rule.specs.Groups.{Outcome, Granted, Refused}
+use Rattle.log_rule.specs.Members.{LacksRoom}
+use Rattle.log_rule.specs.Slots.{told_word}
 use Rattle.ring_buffer.specs.Calls.{HasRoom}
 use Rattle.consol_array.specs.Members.{IsAtStep}
 

@@ -1,12 +1,12 @@
 -- When a value names the call that a member of a group has under way.
 use Rattle.std.specs.Prelude.{◌≡◌, ℕ, ◌+◌, ◌<◌, List, [], length}
 use Rattle.log_record.specs.Spelling.{spelling}
-use Rattle.log_table.specs.declared.group_view.MemberStep.{MemberStep}
-use Rattle.log_table.specs.declared.group_view.MemberStep.TheVariants.{Fills, Leaves}
-use Rattle.log_table.specs.declared.group_view.Piece.{Piece}
+use Rattle.log_rule.specs.declared.group_view.MemberStep.{MemberStep}
+use Rattle.log_rule.specs.declared.group_view.MemberStep.TheVariants.{Fills, Leaves}
+use Rattle.log_rule.specs.declared.group_view.Piece.{Piece}
 use Rattle.log_table.specs.declared.table.LogTable.{LogTable}
-use Rattle.log_table.specs.declared.view.Call.TheVariants.{Joined}
-use Rattle.log_table.specs.declared.view.View.{View}
+use Rattle.log_rule.specs.declared.view.Call.TheVariants.{Joined}
+use Rattle.log_rule.specs.declared.view.View.{View}
 use Rattle.consol_array.specs.declared.call.FilledMember.{FilledMember}
 use Rattle.consol_array.specs.declared.call.Leaver.{Leaver}
 use Rattle.consol_array.specs.declared.call.Member.{Member}

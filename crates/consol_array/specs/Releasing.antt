@@ -4,10 +4,10 @@ use Rattle.slot_word.specs.declared.slot_word.SlotWord.{SlotWord}
 use Rattle.slot_word.specs.SlotWord.{word_of}
 use Rattle.log_table.specs.declared.table.LogTable.{LogTable}
 use Rattle.log_table.specs.declared.table.Seat.{Seat}
-use Rattle.log_table.specs.declared.view.Seen.{Seen}
-use Rattle.log_table.specs.MarkViews.{marked}
+use Rattle.log_rule.specs.declared.view.Seen.{Seen}
+use Rattle.log_rule.specs.MarkViews.{marked}
 use Rattle.log_table.specs.Seats.{Becomes, view_of}
-use Rattle.log_table.specs.SlotViews.{released_piece, reopened, HasToRelease}
+use Rattle.log_rule.specs.SlotViews.{released_piece, reopened, HasToRelease}
 use Rattle.ring_buffer.specs.Calls.{HasOnlySeen, HasExposed}
 
 -- the seat released its piece of n units by a subtraction from this state, and is the last of its group to do so exactly where no more remained

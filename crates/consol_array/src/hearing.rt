@@ -1,7 +1,7 @@
 //! A member waits until its group is told.
 ghost use Rattle.std.specs.Prelude.{IfSome, IfNone};
-ghost use Rattle.log_table.specs.declared.group_view.MemberStep.TheVariants.{Waits};
-ghost use Rattle.log_table.specs.declared.group_view.Piece.{Piece};
+ghost use Rattle.log_rule.specs.declared.group_view.MemberStep.TheVariants.{Waits};
+ghost use Rattle.log_rule.specs.declared.group_view.Piece.{Piece};
 ghost use Rattle.log_table.specs.Seats.{IsOf, view_of};
 ghost use Rattle.consol_array.specs.Hearing.{HasSeenTold, HasSeenUntold, IsToHear, HasHeard, step_told};
 ghost use Rattle.consol_array.specs.Members.{IsAtStep, IsMember};

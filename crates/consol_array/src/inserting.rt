@@ -2,12 +2,12 @@
 ghost use Rattle.std.specs.Prelude.{◌≡◌, ◌++◌, ◌∷◌, ◌+◌, ◌≤◌, [], length, IfOk, IfErr, IfSome, IfNone, OnErr};
 ghost use Rattle.lsn_space.specs.declared.lsn.TheConstants.{LAST};
 ghost use Rattle.log_record.specs.Spelling.{spelling};
-ghost use Rattle.log_table.specs.declared.group_view.MemberStep.TheVariants.{Waits};
-ghost use Rattle.log_table.specs.declared.group_view.Piece.{Piece};
-ghost use Rattle.log_table.specs.Books.{next_of, placing};
+ghost use Rattle.log_rule.specs.declared.group_view.MemberStep.TheVariants.{Waits};
+ghost use Rattle.log_rule.specs.declared.group_view.Piece.{Piece};
+ghost use Rattle.log_rule.specs.Books.{next_of, placing};
 ghost use Rattle.log_table.specs.Seats.{IsOf, view_of};
-ghost use Rattle.log_table.specs.SlotViews.{step_joining};
-ghost use Rattle.log_table.specs.Views.{run_in};
+ghost use Rattle.log_rule.specs.SlotViews.{step_joining};
+ghost use Rattle.log_rule.specs.Views.{run_in};
 ghost use Rattle.ring_buffer.specs.Calls.{IsReady, MayPlace, HasReserved, HasEntries, HasOnlySeen, IsRefusedNow, entry_of, filled_with};
 ghost use Rattle.consol_array.specs.Inserting.{HasComeTo, HasLostRound, WasRefused};
 ghost use Rattle.consol_array.specs.Members.{IsAtStep, IsMember};

@@ -1,7 +1,7 @@
 //! A seat joins the group at its slot.
 ghost use Rattle.std.specs.Prelude.{◌≡◌, ◌≤◌, false, IfOk, IfErr, IfSome, IfNone};
 ghost use Rattle.lsn_space.specs.declared.lsn.TheConstants.{GREATEST_RING};
-ghost use Rattle.log_table.specs.May.{IsAtRest};
+ghost use Rattle.log_rule.specs.May.{IsAtRest};
 ghost use Rattle.log_table.specs.Seats.{IsOf, view_of};
 ghost use Rattle.ring_buffer.specs.Calls.{MayPlace};
 ghost use Rattle.consol_array.specs.Joining.{LacksSlotRoom, IsStateJoined, HasJoined, HasNotJoined, IsBackAtRest};

@@ -1,6 +1,6 @@
 //! A leader reserves for its group, and tells it.
 ghost use Rattle.std.specs.Prelude.{IfSome, IfNone};
-ghost use Rattle.log_table.specs.declared.group_view.MemberStep.TheVariants.{Closes};
+ghost use Rattle.log_rule.specs.declared.group_view.MemberStep.TheVariants.{Closes};
 ghost use Rattle.log_table.specs.Seats.{IsOf, view_of};
 ghost use Rattle.ring_buffer.specs.Calls.{HasOnlySeen};
 ghost use Rattle.consol_array.specs.Leading.{HasClosed, HasPlacedGroup, IsOvertaken, HasTold, HasDecided};

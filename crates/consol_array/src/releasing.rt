@@ -1,9 +1,9 @@
 //! A member releases its piece, and the last one of a group ends what the group has begun.
 ghost use Rattle.std.specs.Prelude.{◌≡◌, ◌+◌, ◌<◌, ◌≤◌, ◌++◌};
 ghost use Rattle.lsn_space.specs.declared.lsn.TheConstants.{LAST};
-ghost use Rattle.log_table.specs.declared.view.Call.TheVariants.{Emptying};
+ghost use Rattle.log_rule.specs.declared.view.Call.TheVariants.{Emptying};
 ghost use Rattle.log_table.specs.Seats.{IsOf, view_of};
-ghost use Rattle.log_table.specs.SlotViews.{piece_in};
+ghost use Rattle.log_rule.specs.SlotViews.{piece_in};
 ghost use Rattle.ring_buffer.specs.Calls.{HasEntries};
 ghost use Rattle.consol_array.specs.Members.{HasFilledPiece, MayLeaveGroup};
 ghost use Rattle.consol_array.specs.Releasing.{HasEmptied, HasReleased, HasLeft, SeesTheSame};

@@ -3,18 +3,18 @@ use Rattle.std.proofs.Common.{arith, ◌≡◌, ◌∙◌, ℕ, ◌<◌, ◌≤�
 use Rattle.std.specs.List.{AllByRecursion}
 use Rattle.log_record.specs.Spelling.{IsTxn, spelling}
 use Rattle.lock_core.specs.declared.job.Job.{Job}
-use Rattle.log_table.specs.declared.group_view.MemberStep.{MemberStep}
+use Rattle.log_rule.specs.declared.group_view.MemberStep.{MemberStep}
 use Rattle.log_table.specs.declared.table.LogTable.{LogTable}
 use Rattle.log_table.specs.declared.table.Seat.{Seat}
-use Rattle.log_table.specs.declared.view.Call.TheVariants.{Idle}
-use Rattle.log_table.specs.declared.view.Constants.{Constants}
-use Rattle.log_table.specs.declared.view.Standing.{Standing}
-use Rattle.log_table.specs.declared.view.TakenJob.{TakenJob}
-use Rattle.log_table.specs.declared.view.View.{View}
-use Rattle.log_table.specs.AccountViews.{took_job}
-use Rattle.log_table.specs.Books.{next_of}
+use Rattle.log_rule.specs.declared.view.Call.TheVariants.{Idle}
+use Rattle.log_rule.specs.declared.view.Constants.{Constants}
+use Rattle.log_rule.specs.declared.view.Standing.{Standing}
+use Rattle.log_rule.specs.declared.view.TakenJob.{TakenJob}
+use Rattle.log_rule.specs.declared.view.View.{View}
+use Rattle.log_rule.specs.AccountViews.{took_job}
+use Rattle.log_rule.specs.Books.{next_of}
 use Rattle.log_table.specs.Seats.{Becomes, IsOf, view_of}
-use Rattle.log_table.specs.SlotViews.{piece_joining, step_joining}
+use Rattle.log_rule.specs.SlotViews.{piece_joining, step_joining}
 use Rattle.ring_buffer.specs.Calls.{IsSameWorker}
 use Rattle.ring_buffer.proofs.TwoCalls.{IsSameWorker-trans}
 use Rattle.consol_array.specs.declared.call.Joined.{Joined}

@@ -2,13 +2,13 @@
 use Rattle.std.specs.Prelude.{◌≡◌, ℕ, ◌<◌, ◌≤◌, false, List, [], length}
 use Rattle.std.specs.List.{AllByRecursion}
 use Rattle.log_record.specs.Spelling.{spelling}
-use Rattle.log_table.specs.declared.group_view.MemberStep.{MemberStep}
-use Rattle.log_table.specs.declared.group_view.Piece.{Piece}
+use Rattle.log_rule.specs.declared.group_view.MemberStep.{MemberStep}
+use Rattle.log_rule.specs.declared.group_view.Piece.{Piece}
 use Rattle.log_table.specs.declared.table.LogTable.{LogTable}
 use Rattle.log_table.specs.declared.table.Seat.{Seat}
-use Rattle.log_table.specs.declared.view.Role.TheVariants.{Active}
-use Rattle.log_table.specs.declared.view.TakenJob.{TakenJob}
-use Rattle.log_table.specs.declared.view.View.{View}
+use Rattle.log_rule.specs.declared.view.Role.TheVariants.{Active}
+use Rattle.log_rule.specs.declared.view.TakenJob.{TakenJob}
+use Rattle.log_rule.specs.declared.view.View.{View}
 use Rattle.log_table.specs.Seats.{view_of}
 use Rattle.ring_buffer.specs.Calls.{IsSameWorker}
 use Rattle.consol_array.specs.declared.call.Joined.{Joined}

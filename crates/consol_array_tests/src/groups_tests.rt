@@ -3,7 +3,7 @@ ghost use Rattle.std.specs.Prelude.{◌≡◌, ◌≤◌, ◌+◌, ◌<◌, ℕ,
 ghost use Rattle.log_record.specs.Spelling.{IsTxn};
 ghost use Rattle.log_table.specs.Hiring.{HasHired};
 ghost use Rattle.log_table.specs.Seats.{IsOf, view_of};
-ghost use Rattle.log_table.specs.SlotViews.{step_joining};
+ghost use Rattle.log_rule.specs.SlotViews.{step_joining};
 ghost use Rattle.consol_array.specs.Members.{HasPiece};
 ghost use Rattle.consol_array_tests.specs.Shares.{GoesOn, HasShare};
 ghost use Rattle.test_rig.specs.NotedJobs.{IsNotedJob, MayInsert};

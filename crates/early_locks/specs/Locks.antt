@@ -5,14 +5,14 @@ use Rattle.slot_word.specs.AccountWord.{word_of}
 use Rattle.lock_core.specs.History.{end_from}
 use Rattle.lock_core.specs.Transactions.{recs_of, has_commit, has_end}
 use Rattle.log_table.specs.declared.table.Seat.{Seat}
-use Rattle.log_table.specs.declared.view.Books.{Books}
-use Rattle.log_table.specs.declared.view.Held.{Held as HeldAccount}
-use Rattle.log_table.specs.declared.view.Given.{Given}
-use Rattle.log_table.specs.declared.view.View.{View}
-use Rattle.log_table.specs.Accounts.{FollowsJob}
-use Rattle.log_table.specs.Books.{times_held, balance_taken, mark_taken, taking}
+use Rattle.log_rule.specs.declared.view.Books.{Books}
+use Rattle.log_rule.specs.declared.view.Held.{Held as HeldAccount}
+use Rattle.log_rule.specs.declared.view.Given.{Given}
+use Rattle.log_rule.specs.declared.view.View.{View}
+use Rattle.log_rule.specs.Accounts.{FollowsJob}
+use Rattle.log_rule.specs.Books.{times_held, balance_taken, mark_taken, taking}
 use Rattle.log_table.specs.Seats.{Becomes, view_of}
-use Rattle.log_table.specs.AccountViews.{saw_account, took_account}
+use Rattle.log_rule.specs.AccountViews.{saw_account, took_account}
 use Rattle.early_locks.specs.declared.taking.Taken.{Taken}
 use Rattle.early_locks.specs.declared.taking.Held.{Held}
 

@@ -1,9 +1,9 @@
 //! An account is given back.
 ghost use Rattle.std.specs.Prelude.{◌≡◌, ◌<◌, ◌≤◌};
 ghost use Rattle.log_record.specs.declared.limits.TheConstants.{MOST_BALANCE};
-ghost use Rattle.log_table.specs.May.{IsAtRest};
+ghost use Rattle.log_rule.specs.May.{IsAtRest};
 ghost use Rattle.log_table.specs.Seats.{IsOf, Becomes, view_of};
-ghost use Rattle.log_table.specs.AccountViews.{gave_account};
+ghost use Rattle.log_rule.specs.AccountViews.{gave_account};
 ghost use Rattle.early_locks.specs.Locks.{HoldsTaken, GivesBack, HasSeenDurable};
 
 use crate::taking::Taken;

@@ -8,17 +8,17 @@ use Rattle.log_disk.specs.declared.disk.LogDisk.{Ghosts}
 use Rattle.log_disk.proofs.Moments.{Leaves-now}
 use Rattle.log_record.specs.declared.rec.Rec.{Rec}
 use Rattle.log_table.specs.declared.table.Seat.{Seat}
-use Rattle.log_table.specs.declared.view.Entry.{Entry}
-use Rattle.log_table.specs.Closing.{records_of}
-use Rattle.log_table.specs.Log.{IsSpelled, units_in}
-use Rattle.log_table.specs.declared.view.View.{View}
+use Rattle.log_rule.specs.declared.view.Entry.{Entry}
+use Rattle.log_rule.specs.Closing.{records_of}
+use Rattle.log_rule.specs.Log.{IsSpelled, units_in}
+use Rattle.log_rule.specs.declared.view.View.{View}
 use Rattle.log_table.specs.Seats.{Becomes, view_of}
 use Rattle.segment_file.specs.File.{HoldsUnits}
 use Rattle.segment_file.specs.Standing.{StandsAt, AllStand, HoldsEither, tail_after}
 use Rattle.segment_file.specs.declared.scan_result.Tail.{Tail}
 use Rattle.flusher.specs.declared.flusher.Flusher.{Flusher}
-use Rattle.log_table.specs.Sends.{AreEntries, ReadsWholeEntries}
-use Rattle.log_table.specs.Views.{sent_to, read_to}
+use Rattle.log_rule.specs.Sends.{AreEntries, ReadsWholeEntries}
+use Rattle.log_rule.specs.Views.{sent_to, read_to}
 use Rattle.log_record.specs.LogList.{AreUnitsOf}
 use Rattle.flusher.specs.Sending.{gathered, flushed}
 use Rattle.flusher.specs.Flushing.{MayFlush, IsSameSeat, HoldsDurablePrefix, sent_of, lsns_of}

@@ -6,10 +6,10 @@ use Rattle.log_disk.specs.Lengths.{GrowsAtMostTo}
 use Rattle.log_disk.specs.declared.disk.LogDisk.{Ghosts}
 use Rattle.log_record.specs.declared.rec.Rec.{Rec}
 use Rattle.log_table.specs.declared.table.Seat.{Seat}
-use Rattle.log_table.specs.declared.view.Role.TheVariants.{Flusher as FlusherRole}
+use Rattle.log_rule.specs.declared.view.Role.TheVariants.{Flusher as FlusherRole}
 use Rattle.log_table.specs.Seats.{IsOf, Becomes, view_of}
-use Rattle.log_table.specs.Sends.{IsDrained}
-use Rattle.log_table.specs.Views.{saw_exposed, saw_crew, sent_to}
+use Rattle.log_rule.specs.Sends.{IsDrained}
+use Rattle.log_rule.specs.Views.{saw_exposed, saw_crew, sent_to}
 use Rattle.segment_file.specs.Standing.{tail_after, AllStand, IsShut, HoldsEither}
 use Rattle.flusher.specs.declared.flusher.Flusher.{Flusher}
 use Rattle.flusher.specs.declared.flusher.Flushed.{Flushed}

@@ -1,11 +1,11 @@
 -- How units go from the ring into a batch.
 use Rattle.std.specs.Prelude.{◌≡◌, ℕ, ◌+◌, ◌<◌, ◌≤◌, List, length}
 use Rattle.log_table.specs.declared.table.Seat.{Seat}
-use Rattle.log_table.specs.declared.view.Role.TheVariants.{Flusher}
-use Rattle.log_table.specs.declared.view.View.{View}
+use Rattle.log_rule.specs.declared.view.Role.TheVariants.{Flusher}
+use Rattle.log_rule.specs.declared.view.View.{View}
 use Rattle.log_table.specs.Seats.{Becomes, view_of}
-use Rattle.log_table.specs.Sends.{ReadsWholeEntries}
-use Rattle.log_table.specs.Views.{read_to}
+use Rattle.log_rule.specs.Sends.{ReadsWholeEntries}
+use Rattle.log_rule.specs.Views.{read_to}
 use Rattle.segment_file.specs.Packing.{BatchState}
 use Rattle.flusher.specs.Sending.{read_units}
 

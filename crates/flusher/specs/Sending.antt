@@ -1,7 +1,7 @@
 -- How the view of the flusher's seat changes in a flush, and what it says of the log's end.
 use Rattle.std.specs.Prelude.{ℕ, ◌+◌, ◌++◌, List, length}
-use Rattle.log_table.specs.declared.view.View.{View}
-use Rattle.log_table.specs.Views.{saw_exposed, saw_crew, has_sent}
+use Rattle.log_rule.specs.declared.view.View.{View}
+use Rattle.log_rule.specs.Views.{saw_exposed, saw_crew, has_sent}
 
 -- these units were read from the ring, one by one
 abbrev pub read_units : List ℕ → View → View

@@ -2,7 +2,7 @@
 ghost use Rattle.std.specs.Prelude.{◌≡◌, true};
 ghost use Rattle.log_disk.specs.Faults.{HasCause};
 ghost use Rattle.log_table.specs.Seats.{IsOf, view_of};
-ghost use Rattle.log_table.specs.Views.{knows_all_enrolled};
+ghost use Rattle.log_rule.specs.Views.{knows_all_enrolled};
 ghost use Rattle.flusher.specs.Flushing.{MayFlush, Asks};
 
 use crate::flusher::{Drained, Flusher};

@@ -2,7 +2,7 @@
 ghost use Rattle.std.specs.Prelude.{◌≡◌, ◌≤◌, ◌<◌, ◌+◌, ◌-◌, ◌++◌, [], List, ℕ, length, IfOk, OnOk, OnErr};
 ghost use Rattle.log_disk.specs.Faults.{HasCause};
 ghost use Rattle.log_table.specs.Seats.{IsOf, Becomes, view_of};
-ghost use Rattle.log_table.specs.Views.{sent_to};
+ghost use Rattle.log_rule.specs.Views.{sent_to};
 ghost use Rattle.flusher.specs.Flushing.{MayFlush, IsSame, Flushes, Loses};
 ghost use Rattle.flusher.specs.Gathering.{MayGather, Gathers};
 

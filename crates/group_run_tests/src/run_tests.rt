@@ -1,7 +1,7 @@
 //! Four workers that make transfers with notes while a daemon sends them to a disk, and what the log holds behind them.
 ghost use Rattle.std.specs.Prelude.{◌≡◌, ◌<◌, true, All};
 ghost use Rattle.log_table.specs.Seats.{view_of};
-ghost use Rattle.log_table.specs.Views.{knows_all_enrolled};
+ghost use Rattle.log_rule.specs.Views.{knows_all_enrolled};
 ghost use Rattle.segment_file.specs.Standing.{IsStableGate};
 ghost use Rattle.lock_core.specs.Transfers.{IsAllowedJob};
 ghost use Rattle.commit_pipeline.specs.Turning.{MayTurn};

@@ -1,6 +1,6 @@
 //! A worker's whole life, and four of them in threads.
 ghost use Rattle.std.specs.Prelude.{◌≡◌, ◌<◌, All};
-ghost use Rattle.log_table.specs.May.{MayLeave};
+ghost use Rattle.log_rule.specs.May.{MayLeave};
 ghost use Rattle.log_table.specs.Seats.{IsOf, view_of};
 ghost use Rattle.lock_core.specs.Transfers.{IsAllowedJob};
 ghost use Rattle.test_rig.specs.NotedJobs.{IsNew};

@@ -2,12 +2,12 @@
 use Rattle.std.specs.Prelude.{◌≡◌, ℕ, zero, suc, true, List, [], ◌∷◌, Contains}
 use Rattle.log_table.specs.declared.table.LogTable.{LogTable}
 use Rattle.log_table.specs.declared.table.Seat.{Seat}
-use Rattle.log_table.specs.declared.table.Start.{Start}
-use Rattle.log_table.specs.declared.view.Role.TheVariants.{Flusher}
-use Rattle.log_table.specs.declared.view.View.{View}
-use Rattle.log_table.specs.Books.{no_books}
+use Rattle.log_rule.specs.declared.start.Start.{Start}
+use Rattle.log_rule.specs.declared.view.Role.TheVariants.{Flusher}
+use Rattle.log_rule.specs.declared.view.View.{View}
+use Rattle.log_rule.specs.Books.{no_books}
 use Rattle.log_table.specs.Seats.{IsOf, view_of, key_of}
-use Rattle.log_table.specs.Views.{constants_of, sending_from, knows_all_enrolled}
+use Rattle.log_rule.specs.Views.{constants_of, sending_from, knows_all_enrolled}
 
 -- the numbers of n workers, the last first
 abbrev pub hired_numbers : ℕ → List ℕ

@@ -1,20 +1,18 @@
 //! The end of a table, when all workers have ended and were merged.
 ghost use Rattle.std.specs.Prelude.{◌≡◌, ◌<◌, ◌≤◌, length};
 ghost use Rattle.lsn_space.specs.declared.lsn.TheConstants.{GREATEST_RING};
-ghost use Rattle.log_record.specs.declared.limits.TheConstants.{MOST_ACCOUNTS};
 ghost use Rattle.lock_core.specs.Settling.{row};
-ghost use Rattle.log_table.specs.Closing.{HasHeardOfWorkers, IsGathered, IsSettled, ReadsRows, in_use};
-ghost use Rattle.log_table.specs.May.{MayClose};
+ghost use Rattle.log_rule.specs.Closing.{HasHeardOfWorkers, IsGathered, IsSettled, in_use};
+ghost use Rattle.log_rule.specs.May.{MayClose};
 ghost use Rattle.log_table.specs.Seats.{IsOf, view_of, key_of};
-ghost use Rattle.log_table.specs.Sound.{base_of};
+ghost use Rattle.log_rule.specs.Sound.{base_of};
 ghost use Rattle.std.specs.Slots.{slots_len, slots_items, IsFull};
-ghost use Rattle.log_table.specs.Layout.{word_count};
-ghost use Rattle.log_table.specs.declared.layout.TheConstants.{MOST_SLOTS};
+ghost use Rattle.log_rule.specs.Layout.{word_count};
+ghost use Rattle.log_rule.specs.declared.layout.TheConstants.{MOST_SLOTS};
 
-use crate::layout::{EXPOSED, TAIL, account_place, slot_place};
 use crate::table::{LogTable, Seat};
+use log_rule::{EXPOSED, TAIL, read_rows, slot_place};
 use lsn_space::{Balances, Lsn};
-use slot_word::AccountWord;
 use std::alloc::Global;
 
 /// What the words of a closed table held.
@@ -69,23 +67,6 @@ impl Closed {
         ensures { result ≡ (row self.now.accounts.rows account).1 }
     {
         self.accounts.at(account).1
-    }
-}
-
-/// Reads the accounts from the words of a closed table whose ring has that length, and which has so many
-/// slots.
-fn read_rows(rows: &mut Balances, closed: &atomic_table::Closed<(), Global>, ring: u32, slots: u32)
-    requires ring { ring ≤ GREATEST_RING }
-    requires slots { slots ≤ MOST_SLOTS }
-    requires few { length rows.old.rows ≤ MOST_ACCOUNTS }
-    requires size { slots_len closed.now.words ≡ word_count ring slots (length rows.old.rows) }
-    requires full { IsFull closed.now.words }
-    ensures room { rows.new.room ≡ rows.old.room }
-    ensures rows { ReadsRows ring slots (length rows.old.rows) (slots_items closed.now.words) rows.old.rows rows.new.rows }
-{
-    for account in 0..rows.count() {
-        let word = AccountWord::unpack(closed.word(account_place(ring, slots, account)));
-        rows.set(account, word.balance(), word.mark());
     }
 }
 

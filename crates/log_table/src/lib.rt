@@ -3,19 +3,15 @@
 #![tactic(auto)]
 
 mod closing;
-mod group_view;
 mod hiring;
-mod layout;
 mod plays;
 mod seating;
 mod steps;
 mod table;
-mod view;
 
 pub use closing::Closed;
-pub use group_view::{After, HeardRefusal, MemberStep, Piece};
-pub use layout::{MOST_SLOTS, fixed_layout};
-pub use table::{LogTable, Seat, Start};
-pub use view::{
-    Books, Call, Constants, Entry, Given, Held, Role, Seen, Sending, Standing, TakenJob, View,
+pub use log_rule::{
+    After, Books, Call, Constants, Entry, Given, HeardRefusal, Held, MOST_SLOTS, MemberStep, Piece,
+    Role, Seen, Sending, Standing, Start, TakenJob, View, fixed_layout,
 };
+pub use table::{LogTable, Seat};

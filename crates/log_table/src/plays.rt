@@ -1,7 +1,7 @@
 //! What each kind of step tells the seat that makes it: its new view, and what the rule says of the
 //! word that it found.
-use crate::view::View;
 use atomic_table::{Join, Play, Split};
+use log_rule::View;
 use std::marker::{Brand, PhantomData};
 
 pub(crate) struct LoadTail;
@@ -9,7 +9,7 @@ pub(crate) struct LoadTail;
 impl Play<(), View> for LoadTail {
     ghost use Rattle.std.specs.Prelude.{◌≡◌, ◌≤◌};
     ghost use Rattle.lsn_space.specs.declared.lsn.TheConstants.{LAST};
-    ghost use Rattle.log_table.specs.Views.{saw_tail};
+    ghost use Rattle.log_rule.specs.Views.{saw_tail};
 
     ghost then = { λ st old n new. (new ≡ (saw_tail n old.0, old.1)) × ((old.0.seen.tail ≤ n) × (n ≤ LAST)) };
 }
@@ -19,8 +19,8 @@ pub(crate) struct LoadExposed;
 impl Play<(), View> for LoadExposed {
     ghost use Rattle.std.specs.Prelude.{◌≡◌, ◌≤◌};
     ghost use Rattle.lsn_space.specs.declared.lsn.TheConstants.{LAST};
-    ghost use Rattle.log_table.specs.Sends.{IsExposedToFlusher};
-    ghost use Rattle.log_table.specs.Views.{saw_exposed};
+    ghost use Rattle.log_rule.specs.Sends.{IsExposedToFlusher};
+    ghost use Rattle.log_rule.specs.Views.{saw_exposed};
 
     ghost then = { λ st old n new. (new ≡ (saw_exposed n old.0, old.1)) × ((old.0.seen.exposed ≤ n) × (n ≤ LAST) × IsExposedToFlusher old.0 n) };
 }
@@ -30,8 +30,8 @@ pub(crate) struct LoadDurable;
 impl Play<(), View> for LoadDurable {
     ghost use Rattle.std.specs.Prelude.{◌≡◌, ◌≤◌};
     ghost use Rattle.lsn_space.specs.declared.lsn.TheConstants.{LAST};
-    ghost use Rattle.log_table.specs.Sends.{IsDurableToFlusher};
-    ghost use Rattle.log_table.specs.Views.{saw_durable};
+    ghost use Rattle.log_rule.specs.Sends.{IsDurableToFlusher};
+    ghost use Rattle.log_rule.specs.Views.{saw_durable};
 
     ghost then = { λ st old n new. (new ≡ (saw_durable n old.0, old.1)) × ((old.0.seen.durable ≤ n) × (n ≤ LAST) × IsDurableToFlusher old.0 n) };
 }
@@ -41,7 +41,7 @@ pub(crate) struct ExchangeTail;
 impl Play<(), View> for ExchangeTail {
     ghost use Rattle.std.specs.Prelude.{◌≡◌, ◌≤◌};
     ghost use Rattle.lsn_space.specs.declared.lsn.TheConstants.{LAST};
-    ghost use Rattle.log_table.specs.SlotViews.{after_exchange};
+    ghost use Rattle.log_rule.specs.SlotViews.{after_exchange};
 
     ghost then = { λ st old n new. (new ≡ (after_exchange st.first st.second n old.0, old.1)) × ((old.0.seen.tail ≤ n) × (n ≤ LAST)) };
 }
@@ -50,7 +50,7 @@ pub(crate) struct StoreRing;
 
 impl Play<(), View> for StoreRing {
     ghost use Rattle.std.specs.Prelude.{◌≡◌};
-    ghost use Rattle.log_table.specs.Views.{filled};
+    ghost use Rattle.log_rule.specs.Views.{filled};
 
     ghost then = { λ st old n new. (new ≡ (filled st.first old.0, old.1)) × Unit {0} };
 }
@@ -59,7 +59,7 @@ pub(crate) struct StoreMark;
 
 impl Play<(), View> for StoreMark {
     ghost use Rattle.std.specs.Prelude.{◌≡◌};
-    ghost use Rattle.log_table.specs.MarkViews.{marked};
+    ghost use Rattle.log_rule.specs.MarkViews.{marked};
 
     ghost then = { λ st old n new. (new ≡ (marked old.0, old.1)) × Unit {0} };
 }
@@ -69,7 +69,7 @@ pub(crate) struct LoadMark;
 impl Play<(), View> for LoadMark {
     ghost use Rattle.std.specs.Prelude.{◌≡◌, ◌≤◌};
     ghost use Rattle.lsn_space.specs.declared.lsn.TheConstants.{LAST};
-    ghost use Rattle.log_table.specs.MarkViews.{saw_mark};
+    ghost use Rattle.log_rule.specs.MarkViews.{saw_mark};
 
     ghost then = { λ st old n new. (new ≡ (saw_mark n old.0, old.1)) × (n ≤ LAST) };
 }
@@ -79,7 +79,7 @@ pub(crate) struct ExchangeExposed;
 impl Play<(), View> for ExchangeExposed {
     ghost use Rattle.std.specs.Prelude.{◌≡◌, ◌≤◌, ◌==◌, if◌then◌else◌};
     ghost use Rattle.lsn_space.specs.declared.lsn.TheConstants.{LAST};
-    ghost use Rattle.log_table.specs.MarkViews.{after_raise};
+    ghost use Rattle.log_rule.specs.MarkViews.{after_raise};
 
     ghost then = { λ st old n new. (new ≡ (after_raise (if n == st.first then st.second else n) old.0, old.1)) × ((st.first ≤ n) × (old.0.seen.exposed ≤ n) × (n ≤ LAST)) };
 }
@@ -88,7 +88,7 @@ pub(crate) struct Enroll;
 
 impl Play<(), View> for Enroll {
     ghost use Rattle.std.specs.Prelude.{◌≡◌};
-    ghost use Rattle.log_table.specs.CrewViews.{enrolled};
+    ghost use Rattle.log_rule.specs.CrewViews.{enrolled};
 
     ghost then = { λ st old n new. (new ≡ (enrolled old.0, old.1)) × Unit {0} };
 }
@@ -97,7 +97,7 @@ pub(crate) struct Leave;
 
 impl Play<(), View> for Leave {
     ghost use Rattle.std.specs.Prelude.{◌≡◌};
-    ghost use Rattle.log_table.specs.CrewViews.{retired};
+    ghost use Rattle.log_rule.specs.CrewViews.{retired};
 
     ghost then = { λ st old n new. (new ≡ (retired old.0, old.1)) × Unit {0} };
 }
@@ -106,8 +106,8 @@ pub(crate) struct LoadRing;
 
 impl Play<(), View> for LoadRing {
     ghost use Rattle.std.specs.Prelude.{◌≡◌};
-    ghost use Rattle.log_table.specs.Sends.{ReadsWholeEntries};
-    ghost use Rattle.log_table.specs.Views.{has_read};
+    ghost use Rattle.log_rule.specs.Sends.{ReadsWholeEntries};
+    ghost use Rattle.log_rule.specs.Views.{has_read};
 
     ghost then = { λ st old n new. (new ≡ (has_read n old.0, old.1)) × ReadsWholeEntries (has_read n old.0) };
 }
@@ -116,7 +116,7 @@ pub(crate) struct StoreDurable;
 
 impl Play<(), View> for StoreDurable {
     ghost use Rattle.std.specs.Prelude.{◌≡◌};
-    ghost use Rattle.log_table.specs.Views.{has_sent};
+    ghost use Rattle.log_rule.specs.Views.{has_sent};
 
     ghost then = { λ st old n new. (new ≡ (has_sent st.first old.0, old.1)) × Unit {0} };
 }
@@ -125,7 +125,7 @@ pub(crate) struct StoreStop;
 
 impl Play<(), View> for StoreStop {
     ghost use Rattle.std.specs.Prelude.{◌≡◌};
-    ghost use Rattle.log_table.specs.Views.{has_stopped};
+    ghost use Rattle.log_rule.specs.Views.{has_stopped};
 
     ghost then = { λ st old n new. (new ≡ (has_stopped st.first old.0, old.1)) × Unit {0} };
 }
@@ -134,7 +134,7 @@ pub(crate) struct LoadStop;
 
 impl Play<(), View> for LoadStop {
     ghost use Rattle.std.specs.Prelude.{◌≡◌, ◌≢◌};
-    ghost use Rattle.log_table.specs.Views.{saw_stop};
+    ghost use Rattle.log_rule.specs.Views.{saw_stop};
 
     ghost then = { λ st old n new. (new ≡ (saw_stop n old.0, old.1)) × (old.0.seen.stop ≢ 0 → n ≡ old.0.seen.stop) };
 }
@@ -145,8 +145,8 @@ pub(crate) struct TellStop;
 
 impl Play<(), View> for TellStop {
     ghost use Rattle.std.specs.Prelude.{◌≡◌};
-    ghost use Rattle.log_table.specs.declared.view.Role.TheVariants.{Flusher};
-    ghost use Rattle.log_table.specs.Sound.{HasReadStop};
+    ghost use Rattle.log_rule.specs.declared.view.Role.TheVariants.{Flusher};
+    ghost use Rattle.log_rule.specs.Sound.{HasReadStop};
 
     ghost then = { λ st old n new. (new ≡ (old.0, old.1)) × (old.0.standing.role ≡ Flusher → HasReadStop old.0.sending.stop old.0) };
 }
@@ -155,7 +155,7 @@ pub(crate) struct LoadCrew;
 
 impl Play<(), View> for LoadCrew {
     ghost use Rattle.std.specs.Prelude.{◌≡◌};
-    ghost use Rattle.log_table.specs.Views.{saw_crew};
+    ghost use Rattle.log_rule.specs.Views.{saw_crew};
 
     ghost then = { λ st old n new. (new ≡ (saw_crew n old.0, old.1)) × Unit {0} };
 }
@@ -182,7 +182,7 @@ pub trait Task {
 }
 
 impl Task for Brand {
-    ghost use Rattle.log_table.specs.Books.{no_job};
+    ghost use Rattle.log_rule.specs.Books.{no_job};
 
     ghost number = { 0 };
 
@@ -195,7 +195,7 @@ pub(crate) struct TakeJob<N> {
 
 impl<N: Task> Play<(), View> for TakeJob<N> {
     ghost use Rattle.std.specs.Prelude.{◌≡◌, ◌≢◌};
-    ghost use Rattle.log_table.specs.AccountViews.{took_job};
+    ghost use Rattle.log_rule.specs.AccountViews.{took_job};
 
     ghost then = { λ st old n new. (new ≡ (took_job N.number N.job n old.0, old.1)) × (old.0.seen.stop ≢ 0 → n ≡ old.0.seen.stop) };
 }
@@ -207,7 +207,7 @@ pub(crate) struct LoadSlot<N> {
 impl<N: Number> Play<(), View> for LoadSlot<N> {
     ghost use Rattle.std.specs.Prelude.{◌≡◌};
     ghost use Rattle.slot_word.specs.SlotWord.{IsSlotWord};
-    ghost use Rattle.log_table.specs.SlotViews.{saw_slot, TellsWaiting};
+    ghost use Rattle.log_rule.specs.SlotViews.{saw_slot, TellsWaiting};
 
     ghost then = { λ st old n new. (new ≡ (saw_slot N.number n old.0, old.1)) × (IsSlotWord n × TellsWaiting N.number n old.0) };
 }
@@ -217,7 +217,7 @@ pub(crate) struct JoinSlot;
 impl Play<(), View> for JoinSlot {
     ghost use Rattle.std.specs.Prelude.{◌≡◌};
     ghost use Rattle.slot_word.specs.SlotWord.{total_in, IsSlotWord};
-    ghost use Rattle.log_table.specs.SlotViews.{own_slot_of, after_join};
+    ghost use Rattle.log_rule.specs.SlotViews.{own_slot_of, after_join};
 
     ghost then = { λ st old n new. (new ≡ (after_join (own_slot_of old.0) (total_in st.first) st.first n old.0, old.1)) × IsSlotWord n };
 }
@@ -226,7 +226,7 @@ pub(crate) struct CloseSlot;
 
 impl Play<(), View> for CloseSlot {
     ghost use Rattle.std.specs.Prelude.{◌≡◌, ◌/◌};
-    ghost use Rattle.log_table.specs.SlotViews.{closed_slot, IsGatheringWord};
+    ghost use Rattle.log_rule.specs.SlotViews.{closed_slot, IsGatheringWord};
 
     ghost then = { λ st old n new. (new ≡ (closed_slot n old.0, old.1)) × IsGatheringWord (old.0.constants.ring / 4) n };
 }
@@ -235,7 +235,7 @@ pub(crate) struct StoreBase;
 
 impl Play<(), View> for StoreBase {
     ghost use Rattle.std.specs.Prelude.{◌≡◌};
-    ghost use Rattle.log_table.specs.SlotViews.{stored_base};
+    ghost use Rattle.log_rule.specs.SlotViews.{stored_base};
 
     ghost then = { λ st old n new. (new ≡ (stored_base old.0, old.1)) × Unit {0} };
 }
@@ -244,7 +244,7 @@ pub(crate) struct Publish;
 
 impl Play<(), View> for Publish {
     ghost use Rattle.std.specs.Prelude.{◌≡◌};
-    ghost use Rattle.log_table.specs.SlotViews.{published};
+    ghost use Rattle.log_rule.specs.SlotViews.{published};
 
     ghost then = { λ st old n new. (new ≡ (published old.0, old.1)) × Unit {0} };
 }
@@ -253,7 +253,7 @@ pub(crate) struct LoadBase;
 
 impl Play<(), View> for LoadBase {
     ghost use Rattle.std.specs.Prelude.{◌≡◌};
-    ghost use Rattle.log_table.specs.SlotViews.{heard_base, TellsMember};
+    ghost use Rattle.log_rule.specs.SlotViews.{heard_base, TellsMember};
 
     ghost then = { λ st old n new. (new ≡ (heard_base n old.0, old.1)) × TellsMember n old.0 };
 }
@@ -262,7 +262,7 @@ pub(crate) struct ReleaseSlot;
 
 impl Play<(), View> for ReleaseSlot {
     ghost use Rattle.std.specs.Prelude.{◌≡◌, ◌/◌};
-    ghost use Rattle.log_table.specs.SlotViews.{released_piece, HasToRelease};
+    ghost use Rattle.log_rule.specs.SlotViews.{released_piece, HasToRelease};
 
     ghost then = { λ st old n new. (new ≡ (released_piece n old.0, old.1)) × HasToRelease (old.0.constants.ring / 4) st.first old.0.call n };
 }
@@ -271,7 +271,7 @@ pub(crate) struct Reopen;
 
 impl Play<(), View> for Reopen {
     ghost use Rattle.std.specs.Prelude.{◌≡◌};
-    ghost use Rattle.log_table.specs.SlotViews.{reopened};
+    ghost use Rattle.log_rule.specs.SlotViews.{reopened};
 
     ghost then = { λ st old n new. (new ≡ (reopened old.0, old.1)) × Unit {0} };
 }
@@ -282,8 +282,8 @@ pub(crate) struct LoadAccount<N> {
 
 impl<N: Number> Play<(), View> for LoadAccount<N> {
     ghost use Rattle.std.specs.Prelude.{◌≡◌};
-    ghost use Rattle.log_table.specs.May.{IsOwnWord};
-    ghost use Rattle.log_table.specs.AccountViews.{saw_account};
+    ghost use Rattle.log_rule.specs.May.{IsOwnWord};
+    ghost use Rattle.log_rule.specs.AccountViews.{saw_account};
 
     ghost then = { λ st old n new. (new ≡ (saw_account N.number n old.0, old.1)) × IsOwnWord N.number n old.0.books };
 }
@@ -294,8 +294,8 @@ pub(crate) struct ExchangeAccount<N> {
 
 impl<N: Number> Play<(), View> for ExchangeAccount<N> {
     ghost use Rattle.std.specs.Prelude.{◌≡◌};
-    ghost use Rattle.log_table.specs.May.{IsOwnWord};
-    ghost use Rattle.log_table.specs.AccountViews.{after_account};
+    ghost use Rattle.log_rule.specs.May.{IsOwnWord};
+    ghost use Rattle.log_rule.specs.AccountViews.{after_account};
 
     ghost then = { λ st old n new. (new ≡ (after_account N.number st.first n old.0, old.1)) × IsOwnWord N.number n old.0.books };
 }
@@ -306,7 +306,7 @@ pub(crate) struct StoreAccount<N> {
 
 impl<N: Number> Play<(), View> for StoreAccount<N> {
     ghost use Rattle.std.specs.Prelude.{◌≡◌};
-    ghost use Rattle.log_table.specs.AccountViews.{gave_account};
+    ghost use Rattle.log_rule.specs.AccountViews.{gave_account};
 
     ghost then = { λ st old n new. (new ≡ (gave_account N.number old.0, old.1)) × Unit {0} };
 }
@@ -316,7 +316,7 @@ pub(crate) struct Hire<N> {
 }
 
 impl<N: Number> Split<View> for Hire<N> {
-    ghost use Rattle.log_table.specs.CrewViews.{hires, hired};
+    ghost use Rattle.log_rule.specs.CrewViews.{hires, hired};
 
     ghost left = { hires N.number };
 
@@ -326,7 +326,7 @@ impl<N: Number> Split<View> for Hire<N> {
 pub(crate) struct MakeNote;
 
 impl Split<View> for MakeNote {
-    ghost use Rattle.log_table.specs.CrewViews.{noted};
+    ghost use Rattle.log_rule.specs.CrewViews.{noted};
 
     ghost left = { λ view. view };
 
@@ -336,8 +336,8 @@ impl Split<View> for MakeNote {
 pub(crate) struct TakeIn;
 
 impl Join<View> for TakeIn {
-    ghost use Rattle.log_table.specs.Views.{nobody};
-    ghost use Rattle.log_table.specs.CrewViews.{takes_in};
+    ghost use Rattle.log_rule.specs.Views.{nobody};
+    ghost use Rattle.log_rule.specs.CrewViews.{takes_in};
 
     ghost both = { takes_in };
 

@@ -1,22 +1,20 @@
 //! Seats are made, and taken in again.
 ghost use Rattle.std.specs.Prelude.{◌≡◌, ◌≤◌, ◌^◌, ℕ, length, IfOk, false};
 ghost use Rattle.lsn_space.specs.declared.lsn.TheConstants.{LEAST_RING, GREATEST_RING};
-ghost use Rattle.log_table.specs.Layout.{word_count};
-ghost use Rattle.log_table.specs.declared.layout.TheConstants.{MOST_SLOTS};
-ghost use Rattle.log_table.specs.May.{MaySplit, MayMerge};
-ghost use Rattle.log_table.specs.Opening.{HasAccounts, PutsAccounts};
+ghost use Rattle.log_rule.specs.declared.layout.TheConstants.{MOST_SLOTS};
+ghost use Rattle.log_rule.specs.May.{MaySplit, MayMerge};
+ghost use Rattle.log_rule.specs.Opening.{HasAccounts};
 ghost use Rattle.log_table.specs.Seats.{IsOf, Becomes, view_of, key_of};
-ghost use Rattle.log_table.specs.Sound.{HasReadStop};
-ghost use Rattle.log_table.specs.Roles.{is_spent};
-ghost use Rattle.log_table.specs.Views.{flusher};
-ghost use Rattle.log_table.specs.CrewViews.{hires, hired, noted, takes_in};
+ghost use Rattle.log_rule.specs.Sound.{HasReadStop};
+ghost use Rattle.log_rule.specs.Roles.{is_spent};
+ghost use Rattle.log_rule.specs.Views.{flusher};
+ghost use Rattle.log_rule.specs.CrewViews.{hires, hired, noted, takes_in};
 
-use crate::layout::{DURABLE, EXPOSED, STOP, TAIL, account_place};
 use crate::plays::{Hire, MakeNote, Number, TakeIn, TellStop};
-use crate::table::{LogTable, Seat, Start};
+use crate::table::{LogTable, Seat};
 use atomic_table::Table;
+use log_rule::{DURABLE, EXPOSED, STOP, Start, TAIL, account_place, put_accounts};
 use lsn_space::NoMemory;
-use slot_word::AccountWord;
 use std::alloc::Global;
 use std::marker::Brand;
 
@@ -32,21 +30,6 @@ fn split_as<N: Number>(table: &LogTable, seat: &mut Seat, worker: u32) -> Seat
 {
     let base = table.table.shared.split_seat::<Hire<N>>(&mut seat.base);
     Seat { base, worker }
-}
-
-/// Puts the accounts' words, each free with its balance and last commit.
-fn put_accounts(words: &mut Vec<u64>, start: &Start)
-    requires ring { (LEAST_RING ≤ start.now.ring) × (start.now.ring ≤ GREATEST_RING) }
-    requires slots { start.now.slots ≤ MOST_SLOTS }
-    requires accounts { HasAccounts start.now }
-    requires size { length words.old.items ≡ word_count start.now.ring start.now.slots (length start.now.accounts.rows) }
-    ensures { PutsAccounts start.now (length start.now.accounts.rows) words.old.items words.new.items }
-{
-    for account in 0..start.accounts.count() {
-        let (balance, mark) = start.accounts.at(account);
-        let word = AccountWord::free(balance, mark).pack();
-        words[account_place(start.ring, start.slots, account)] = word;
-    }
 }
 
 impl LogTable {

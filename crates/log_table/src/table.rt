@@ -2,30 +2,20 @@
 ghost use Rattle.std.specs.Prelude.{◌≡◌, ◌≤◌, length};
 ghost use Rattle.lsn_space.specs.declared.lsn.TheConstants.{LEAST_RING, GREATEST_RING};
 ghost use Rattle.log_record.specs.declared.limits.TheConstants.{MOST_ACCOUNTS};
-ghost use Rattle.log_table.specs.Layout.{word_count};
-ghost use Rattle.log_table.specs.declared.layout.TheConstants.{MOST_SLOTS};
-ghost use Rattle.log_table.specs.Views.{constants_of};
+ghost use Rattle.log_rule.specs.Layout.{word_count};
+ghost use Rattle.log_rule.specs.declared.layout.TheConstants.{MOST_SLOTS};
+ghost use Rattle.log_rule.specs.Views.{constants_of};
 
-use crate::view::View;
 use atomic_table::{Table, TableRule};
-use lsn_space::{Balances, Lsn};
+use log_rule::{Start, View};
+use lsn_space::Balances;
 use std::alloc::Global;
-
-/// What a table starts with: the end of the log, the ring's length in units, the number of slots of
-/// the consolidation array, and the accounts.
-#[derive(Drop)]
-pub struct Start {
-    pub start: Lsn,
-    pub ring: u32,
-    pub slots: u32,
-    pub accounts: Balances,
-}
 
 pub(crate) struct Rule;
 
 impl TableRule<(), View, Start> for Rule {
-    ghost use Rattle.log_table.specs.Sound.{Ruled};
-    ghost use Rattle.log_table.specs.Views.{flusher};
+    ghost use Rattle.log_rule.specs.Sound.{Ruled};
+    ghost use Rattle.log_rule.specs.Views.{flusher};
 
     ghost holds = { Ruled };
 

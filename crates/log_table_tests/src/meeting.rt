@@ -1,7 +1,7 @@
 //! Two workers that insert at once, each in a thread, and threads that are held until they have met.
 ghost use Rattle.std.specs.Prelude.{◌≡◌, ◌+◌, [], ◌∷◌};
 ghost use Rattle.log_record.specs.Spelling.{IsTxn};
-ghost use Rattle.log_table.specs.declared.view.Role.TheVariants.{Ended, Flusher};
+ghost use Rattle.log_rule.specs.declared.view.Role.TheVariants.{Ended, Flusher};
 ghost use Rattle.log_table.specs.Seats.{IsOf, view_of};
 ghost use Rattle.test_rig.specs.NotedJobs.{IsNotedJob, MayInsert};
 

@@ -1,7 +1,7 @@
 //! Releases out of turn: whoever comes to a released range exposes it, and a look that is old by a lap exposes nothing.
 ghost use Rattle.std.specs.Prelude.{◌≡◌, IfSome};
-ghost use Rattle.log_table.specs.declared.group_view.After.TheVariants.{Nothing};
-ghost use Rattle.log_table.specs.declared.view.Call.TheVariants.{Marked, Holding};
+ghost use Rattle.log_rule.specs.declared.group_view.After.TheVariants.{Nothing};
+ghost use Rattle.log_rule.specs.declared.view.Call.TheVariants.{Marked, Holding};
 ghost use Rattle.log_table.specs.Seats.{IsOf, view_of};
 ghost use Rattle.ring_buffer.specs.Calls.{HasReserved};
 

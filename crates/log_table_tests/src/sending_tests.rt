@@ -1,10 +1,10 @@
 //! What a worker inserted is read and sent by the flusher's seat, on one thread.
 ghost use Rattle.std.specs.Prelude.{◌≡◌, ◌+◌, ◌∷◌, [], IfOk};
 ghost use Rattle.log_record.specs.Spelling.{IsTxn};
-ghost use Rattle.log_table.specs.declared.view.Role.TheVariants.{Flusher};
-ghost use Rattle.log_table.specs.May.{MayLeave};
+ghost use Rattle.log_rule.specs.declared.view.Role.TheVariants.{Flusher};
+ghost use Rattle.log_rule.specs.May.{MayLeave};
 ghost use Rattle.log_table.specs.Seats.{IsOf, view_of};
-ghost use Rattle.log_table.specs.Views.{sent_to};
+ghost use Rattle.log_rule.specs.Views.{sent_to};
 ghost use Rattle.test_rig.specs.NotedJobs.{IsNotedJob, MayInsert};
 
 use crate::found::{has_answered, has_sent, is_at, is_number};

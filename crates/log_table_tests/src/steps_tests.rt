@@ -1,8 +1,8 @@
 //! The steps of a flusher and of a note, on one thread.
 ghost use Rattle.std.specs.Prelude.{◌≡◌};
-ghost use Rattle.log_table.specs.May.{MaySplit};
+ghost use Rattle.log_rule.specs.May.{MaySplit};
 ghost use Rattle.log_table.specs.Seats.{IsOf, view_of};
-ghost use Rattle.log_table.specs.CrewViews.{hires, hired, enrolled};
+ghost use Rattle.log_rule.specs.CrewViews.{hires, hired, enrolled};
 
 use crate::found::{is_at, is_number};
 use log_table::{LogTable, Seat};

@@ -1,6 +1,6 @@
 //! An account is taken, found held by another worker, and given back.
 ghost use Rattle.std.specs.Prelude.{◌≡◌, ◌<◌, ◌≤◌, ◌+◌, [], ◌∷◌};
-ghost use Rattle.log_table.specs.May.{IsAtRest, HasBegunNothing, Ascends};
+ghost use Rattle.log_rule.specs.May.{IsAtRest, HasBegunNothing, Ascends};
 ghost use Rattle.log_table.specs.Seats.{IsOf, view_of};
 
 use crate::found::is_at;

@@ -1,14 +1,14 @@
 -- What a seat has in hand while it raises exposed.
 use Rattle.std.proofs.Common.{arith, ◌≡◌, ◌∙◌, ℕ, ◌+◌, ◌<◌, ◌≤◌, nat_lt, cond, Bool, true, false, ap, sym, refl, subst, le_refl, lt-ltb, ltb-true}
 use Rattle.log_table.specs.declared.table.Seat.{Seat}
-use Rattle.log_table.specs.declared.group_view.After.{After}
-use Rattle.log_table.specs.declared.view.Call.TheVariants.{Marked, Holding, Raising}
-use Rattle.log_table.specs.declared.view.View.{View}
-use Rattle.log_table.specs.GroupViews.{call_after, follow_up}
-use Rattle.log_table.specs.MarkViews.{saw_mark, after_raise, next_raise, in_hand, call_with_mark, call_with_exposed}
-use Rattle.log_table.specs.May.{MayRaise}
+use Rattle.log_rule.specs.declared.group_view.After.{After}
+use Rattle.log_rule.specs.declared.view.Call.TheVariants.{Marked, Holding, Raising}
+use Rattle.log_rule.specs.declared.view.View.{View}
+use Rattle.log_rule.specs.GroupViews.{call_after, follow_up}
+use Rattle.log_rule.specs.MarkViews.{saw_mark, after_raise, next_raise, in_hand, call_with_mark, call_with_exposed}
+use Rattle.log_rule.specs.May.{MayRaise}
 use Rattle.log_table.specs.Seats.{Becomes, view_of}
-use Rattle.log_table.specs.Views.{saw_exposed, after_look}
+use Rattle.log_rule.specs.Views.{saw_exposed, after_look}
 use Rattle.ring_buffer.specs.Calls.{HasMarked, HasInHand, HasExposed, HasOnlySeen}
 use Rattle.ring_buffer.proofs.OneStep.{IsSameWorker-becomes}
 use Rattle.ring_buffer.proofs.TwoCalls.{IsSameWorker-trans}

@@ -1,14 +1,14 @@
 -- What a seat has once it has filled a range, and then marked it and exposed.
 use Rattle.std.proofs.Common.{arith, ◌≡◌, ◌∙◌, ℕ, ◌≤◌, List, [], ◌∷◌, ◌++◌, length, ap, sym, refl, le_refl}
 use Rattle.log_table.specs.declared.table.Seat.{Seat}
-use Rattle.log_table.specs.declared.group_view.After.TheVariants.{Nothing}
-use Rattle.log_table.specs.declared.view.Call.TheVariants.{Idle, Filling, Marked}
-use Rattle.log_table.specs.declared.view.Entry.{Entry}
-use Rattle.log_table.specs.declared.view.View.{View}
-use Rattle.log_table.specs.GroupViews.{call_after, follow_up}
-use Rattle.log_table.specs.MarkViews.{marked}
+use Rattle.log_rule.specs.declared.group_view.After.TheVariants.{Nothing}
+use Rattle.log_rule.specs.declared.view.Call.TheVariants.{Idle, Filling, Marked}
+use Rattle.log_rule.specs.declared.view.Entry.{Entry}
+use Rattle.log_rule.specs.declared.view.View.{View}
+use Rattle.log_rule.specs.GroupViews.{call_after, follow_up}
+use Rattle.log_rule.specs.MarkViews.{marked}
 use Rattle.log_table.specs.Seats.{Becomes, view_of}
-use Rattle.log_table.specs.Views.{run_in}
+use Rattle.log_rule.specs.Views.{run_in}
 use Rattle.ring_buffer.specs.Calls.{HasReserved, HasFilled, IsSameWorker, HasOnlySeen, HasExposed, filled_with, with_units}
 use Rattle.ring_buffer.specs.declared.call.Range.{Range}
 use Rattle.ring_buffer.proofs.OneStep.{IsSameWorker-becomes}

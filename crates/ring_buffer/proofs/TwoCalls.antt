@@ -1,8 +1,8 @@
 -- What a seat has after two calls, one after the other.
 use Rattle.std.proofs.Common.{◌∙◌, List, arith}
 use Rattle.log_table.specs.declared.table.Seat.{Seat}
-use Rattle.log_table.specs.declared.view.Books.{Books}
-use Rattle.log_table.specs.declared.view.Entry.{Entry}
+use Rattle.log_rule.specs.declared.view.Books.{Books}
+use Rattle.log_rule.specs.declared.view.Entry.{Entry}
 use Rattle.ring_buffer.specs.Calls.{IsSameWorker, HasEntries}
 
 pub IsSameWorker-trans : (first second third : Seat) → IsSameWorker first second → IsSameWorker second third → IsSameWorker first third

@@ -1,7 +1,7 @@
 -- How many units were asked for at once where a record had no room.
 use Rattle.std.specs.Prelude.{◌≡◌, ◌⊎◌, ℕ, ◌/◌, ◌<◌, ◌≤◌, List, Contains}
-use Rattle.log_table.specs.declared.group_view.HeardRefusal.{HeardRefusal}
-use Rattle.log_table.specs.declared.view.View.{View}
+use Rattle.log_rule.specs.declared.group_view.HeardRefusal.{HeardRefusal}
+use Rattle.log_rule.specs.declared.view.View.{View}
 
 -- The record of this size was one of a group of this total, of which this is known. In a table with slots a group gets a quarter of the ring at most.
 pub record IsOfGroup (ring slots : ℕ) (Known : ℕ → ℕ → Type 0) (size total : ℕ) : Type 0 where

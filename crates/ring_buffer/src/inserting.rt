@@ -2,7 +2,7 @@
 ghost use Rattle.std.specs.Prelude.{◌≡◌, ◌++◌, ◌∷◌, ◌+◌, ◌≤◌, [], length, IfOk, IfErr, OnOk};
 ghost use Rattle.lsn_space.specs.declared.lsn.TheConstants.{LAST};
 ghost use Rattle.log_record.specs.Spelling.{spelling};
-ghost use Rattle.log_table.specs.Books.{next_of, placing};
+ghost use Rattle.log_rule.specs.Books.{next_of, placing};
 ghost use Rattle.log_table.specs.Seats.{IsOf, view_of};
 ghost use Rattle.ring_buffer.specs.Calls.{IsReady, MayPlace, PlacesNext, HasEntries, IsSameWorker, IsRefusedNow, entry_of};
 

@@ -2,7 +2,7 @@
 ghost use Rattle.std.specs.Prelude.{◌≡◌, ℕ, ◌+◌, ◌<◌, ◌≤◌, Contains, OnOk, IfOk, IfErr, IfSome, IfNone};
 ghost use Rattle.lsn_space.specs.declared.lsn.TheConstants.{GREATEST_RING};
 ghost use Rattle.log_table.specs.Seats.{IsOf, Becomes, view_of};
-ghost use Rattle.log_table.specs.Views.{lost_alone, reserved};
+ghost use Rattle.log_rule.specs.Views.{lost_alone, reserved};
 ghost use Rattle.ring_buffer.specs.Calls.{IsReady, MayPlace, IsLastLook, HasRoom, Refuses, HasPlaced, HasLost, HasRefused, looked};
 
 use crate::call::{Look, Range};

@@ -1,7 +1,7 @@
 //! A range is released, and exposed is raised past what is released.
 ghost use Rattle.std.specs.Prelude.{◌≡◌, ◌≤◌, ◌<◌, IfSome, IfNone};
-ghost use Rattle.log_table.specs.GroupViews.{follow_up};
-ghost use Rattle.log_table.specs.MarkViews.{marked};
+ghost use Rattle.log_rule.specs.GroupViews.{follow_up};
+ghost use Rattle.log_rule.specs.MarkViews.{marked};
 ghost use Rattle.log_table.specs.Seats.{IsOf, Becomes, view_of};
 ghost use Rattle.ring_buffer.specs.Calls.{HasFilled, HasMarked, HasInHand, HasExposed, HasOnlySeen};
 

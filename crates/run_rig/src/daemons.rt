@@ -3,7 +3,7 @@ ghost use Rattle.std.specs.Prelude.{◌≡◌, ℕ, true, length, IfOk, IfSome};
 ghost use Rattle.segment_file.specs.Standing.{IsStableGate};
 ghost use Rattle.log_table.specs.Hiring.{HasHired};
 ghost use Rattle.log_table.specs.Seats.{view_of, key_of};
-ghost use Rattle.log_table.specs.Views.{knows_all_enrolled};
+ghost use Rattle.log_rule.specs.Views.{knows_all_enrolled};
 ghost use Rattle.flusher.specs.Flushing.{MayFlush};
 ghost use Rattle.commit_pipeline.specs.Turning.{MayTurn};
 

@@ -5,13 +5,13 @@ use Rattle.std.proofs.lemmas.Bool.{le-ltb}
 use lib.Dec.{eqb}
 use Rattle.log_table.specs.declared.table.LogTable.{LogTable}
 use Rattle.log_table.specs.declared.table.Seat.{Seat}
-use Rattle.log_table.specs.declared.view.Call.TheVariants.{Idle}
-use Rattle.log_table.specs.declared.view.Entry.{Entry}
-use Rattle.log_table.specs.declared.view.Role.TheVariants.{Flusher, Ended}
-use Rattle.log_table.specs.CrewViews.{merged_entries, retired, takes_in}
-use Rattle.log_table.specs.GroupViews.{placed_piece}
-use Rattle.log_table.specs.May.{MayLeave, MayMerge, MayClose}
-use Rattle.log_table.specs.Roles.{is_worker, has_ended}
+use Rattle.log_rule.specs.declared.view.Call.TheVariants.{Idle}
+use Rattle.log_rule.specs.declared.view.Entry.{Entry}
+use Rattle.log_rule.specs.declared.view.Role.TheVariants.{Flusher, Ended}
+use Rattle.log_rule.specs.CrewViews.{merged_entries, retired, takes_in}
+use Rattle.log_rule.specs.GroupViews.{placed_piece}
+use Rattle.log_rule.specs.May.{MayLeave, MayMerge, MayClose}
+use Rattle.log_rule.specs.Roles.{is_worker, has_ended}
 use Rattle.log_table.specs.Seats.{Becomes, view_of}
 use Rattle.slot_rig.specs.Shares.{HasBoth, HasReleased, IsDone, IsWorker}
 use Rattle.slot_rig.specs.declared.share.Share.{Share}

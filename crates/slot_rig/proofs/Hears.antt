@@ -8,16 +8,16 @@ use Rattle.slot_word.specs.declared.phase.Phase.TheVariants as kind
 use Rattle.slot_word.specs.declared.slot_word.SlotWord.{SlotWord}
 use Rattle.slot_word.specs.SlotWord.{number_of, word_of, total_in}
 use Rattle.slot_word.proofs.SlotWordLemmas.{total_back}
-use Rattle.log_table.specs.declared.group_view.MemberStep.{MemberStep}
-use Rattle.log_table.specs.declared.group_view.MemberStep.TheVariants.{Waits, Hears, Fills, Leaves}
+use Rattle.log_rule.specs.declared.group_view.MemberStep.{MemberStep}
+use Rattle.log_rule.specs.declared.group_view.MemberStep.TheVariants.{Waits, Hears, Fills, Leaves}
 use Rattle.log_table.specs.declared.table.LogTable.{LogTable}
 use Rattle.log_table.specs.declared.table.Seat.{Seat}
-use Rattle.log_table.specs.declared.view.Call.{Call}
-use Rattle.log_table.specs.declared.view.Call.TheVariants.{Joined}
+use Rattle.log_rule.specs.declared.view.Call.{Call}
+use Rattle.log_rule.specs.declared.view.Call.TheVariants.{Joined}
 use Rattle.log_table.specs.Seats.{Becomes, view_of}
-use Rattle.log_table.specs.SlotViews.{tells_refusal, step_seeing, call_seeing, saw_slot, heard_granted, heard_refused, heard_by, heard_base}
-use Rattle.log_table.specs.Views.{call_with_unit, filled}
-use Rattle.log_table.specs.May.{MayFillPiece, MayLoadBase}
+use Rattle.log_rule.specs.SlotViews.{tells_refusal, step_seeing, call_seeing, saw_slot, heard_granted, heard_refused, heard_by, heard_base}
+use Rattle.log_rule.specs.Views.{call_with_unit, filled}
+use Rattle.log_rule.specs.May.{MayFillPiece, MayLoadBase}
 use Rattle.slot_rig.proofs.Steps.{member-stays}
 use Rattle.slot_rig.specs.Shares.{IsMember}
 use Rattle.slot_rig.specs.declared.share.Share.{Share}

@@ -6,13 +6,13 @@ use Rattle.slot_word.specs.declared.slot_word.SlotWord.{SlotWord}
 use Rattle.lock_core.specs.declared.job.Job.{Job}
 use Rattle.log_table.specs.declared.table.LogTable.{LogTable}
 use Rattle.log_table.specs.declared.table.Seat.{Seat}
-use Rattle.log_table.specs.declared.view.Call.TheVariants.{Joined}
-use Rattle.log_table.specs.declared.view.View.{View}
-use Rattle.log_table.specs.AccountViews.{took_job}
-use Rattle.log_table.specs.Books.{next_of}
-use Rattle.log_table.specs.May.{IsAtRest, MayJoinSlot}
+use Rattle.log_rule.specs.declared.view.Call.TheVariants.{Joined}
+use Rattle.log_rule.specs.declared.view.View.{View}
+use Rattle.log_rule.specs.AccountViews.{took_job}
+use Rattle.log_rule.specs.Books.{next_of}
+use Rattle.log_rule.specs.May.{IsAtRest, MayJoinSlot}
 use Rattle.log_table.specs.Seats.{Becomes, view_of}
-use Rattle.log_table.specs.SlotViews.{own_slot_of, piece_joining, step_joining, joined_slot}
+use Rattle.log_rule.specs.SlotViews.{own_slot_of, piece_joining, step_joining, joined_slot}
 use Rattle.test_rig.proofs.Placing.{MayPlace-noted, units-noted}
 use Rattle.test_rig.specs.NotedJobs.{AreNoteUnits, MayInsert}
 use Rattle.slot_rig.proofs.Steps.{worker-stays}

@@ -5,17 +5,17 @@ use Rattle.slot_word.specs.declared.phase.Phase.TheVariants as kind
 use Rattle.slot_word.specs.declared.slot_word.SlotWord.{SlotWord}
 use Rattle.slot_word.specs.SlotWord.{packed, word_of, total_in}
 use Rattle.slot_word.proofs.SlotWordLemmas.{total_back}
-use Rattle.log_table.specs.declared.group_view.MemberStep.{MemberStep}
-use Rattle.log_table.specs.declared.group_view.MemberStep.TheVariants.{Closes, Waits, Places, Stores, Tells}
+use Rattle.log_rule.specs.declared.group_view.MemberStep.{MemberStep}
+use Rattle.log_rule.specs.declared.group_view.MemberStep.TheVariants.{Closes, Waits, Places, Stores, Tells}
 use Rattle.log_table.specs.declared.table.LogTable.{LogTable}
 use Rattle.log_table.specs.declared.table.Seat.{Seat}
-use Rattle.log_table.specs.declared.view.Call.TheVariants.{Joined}
-use Rattle.log_table.specs.declared.view.View.{View}
-use Rattle.log_table.specs.Groups.{Granted, Refused}
-use Rattle.log_table.specs.May.{MayCloseSlot, MayStoreBase, MayStoreRefused, MayPublish, MayPlaceGroup}
+use Rattle.log_rule.specs.declared.view.Call.TheVariants.{Joined}
+use Rattle.log_rule.specs.declared.view.View.{View}
+use Rattle.log_rule.specs.Groups.{Granted, Refused}
+use Rattle.log_rule.specs.May.{MayCloseSlot, MayStoreBase, MayStoreRefused, MayPublish, MayPlaceGroup}
 use Rattle.log_table.specs.Seats.{Becomes, view_of}
-use Rattle.log_table.specs.SlotViews.{closed_slot, call_closed, stored_base, call_stored, published, call_published, reserved_group, call_reserved}
-use Rattle.log_table.specs.Views.{saw_tail, saw_durable}
+use Rattle.log_rule.specs.SlotViews.{closed_slot, call_closed, stored_base, call_stored, published, call_published, reserved_group, call_reserved}
+use Rattle.log_rule.specs.Views.{saw_tail, saw_durable}
 use Rattle.slot_rig.proofs.Steps.{member-stays}
 use Rattle.slot_rig.specs.Shares.{IsMember, IsPlacing}
 use Rattle.slot_rig.specs.declared.share.Share.{Share}

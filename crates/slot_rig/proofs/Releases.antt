@@ -5,19 +5,19 @@ use Rattle.std.proofs.lemmas.Bool.Decides.{eqb_tells}
 use Rattle.slot_word.specs.declared.slot_word.SlotWord.{SlotWord}
 use Rattle.slot_word.specs.SlotWord.{word_of, total_in, remaining_in}
 use Rattle.slot_word.proofs.SlotWordLemmas.{total_back, remaining_back}
-use Rattle.log_table.specs.declared.group_view.After.TheVariants.{Reopens}
-use Rattle.log_table.specs.declared.group_view.MemberStep.{MemberStep}
-use Rattle.log_table.specs.declared.group_view.MemberStep.TheVariants.{Fills, Leaves}
+use Rattle.log_rule.specs.declared.group_view.After.TheVariants.{Reopens}
+use Rattle.log_rule.specs.declared.group_view.MemberStep.{MemberStep}
+use Rattle.log_rule.specs.declared.group_view.MemberStep.TheVariants.{Fills, Leaves}
 use Rattle.log_table.specs.declared.table.LogTable.{LogTable}
 use Rattle.log_table.specs.declared.table.Seat.{Seat}
-use Rattle.log_table.specs.declared.view.Call.{Call}
-use Rattle.log_table.specs.declared.view.Call.TheVariants.{Idle, Joined, Emptying, Marked, Holding, Raising, Reopening}
-use Rattle.log_table.specs.GroupViews.{follow_up}
-use Rattle.log_table.specs.MarkViews.{marked, saw_mark, call_with_mark, after_raise, call_with_exposed}
-use Rattle.log_table.specs.May.{MayLookMark, MayRaise, MayReleaseFilled, MayReleaseRefused, MayMarkGroup}
+use Rattle.log_rule.specs.declared.view.Call.{Call}
+use Rattle.log_rule.specs.declared.view.Call.TheVariants.{Idle, Joined, Emptying, Marked, Holding, Raising, Reopening}
+use Rattle.log_rule.specs.GroupViews.{follow_up}
+use Rattle.log_rule.specs.MarkViews.{marked, saw_mark, call_with_mark, after_raise, call_with_exposed}
+use Rattle.log_rule.specs.May.{MayLookMark, MayRaise, MayReleaseFilled, MayReleaseRefused, MayMarkGroup}
 use Rattle.log_table.specs.Seats.{Becomes, view_of}
-use Rattle.log_table.specs.SlotViews.{reopened, call_emptying, call_released, piece_in, released_piece}
-use Rattle.log_table.specs.Views.{run_in, after_look, saw_exposed}
+use Rattle.log_rule.specs.SlotViews.{reopened, call_emptying, call_released, piece_in, released_piece}
+use Rattle.log_rule.specs.Views.{run_in, after_look, saw_exposed}
 use Rattle.slot_rig.proofs.Steps.{worker-stays, released-stays, left-stays}
 use Rattle.slot_rig.specs.Shares.{IsMember, HasReleased, HasLeft}
 use Rattle.slot_rig.specs.declared.share.Share.{Share}

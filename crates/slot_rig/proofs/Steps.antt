@@ -1,13 +1,13 @@
 -- A worker stays the one that it is, and a member of its group, by a step that changes its view alone.
 use Rattle.std.proofs.Common.{◌≡◌, ◌∙◌, ℕ, ap}
-use Rattle.log_table.specs.declared.group_view.MemberStep.{MemberStep}
+use Rattle.log_rule.specs.declared.group_view.MemberStep.{MemberStep}
 use Rattle.log_table.specs.declared.table.LogTable.{LogTable}
 use Rattle.log_table.specs.declared.table.Seat.{Seat}
-use Rattle.log_table.specs.declared.view.Call.{Call}
-use Rattle.log_table.specs.declared.view.Call.TheVariants.{Joined}
-use Rattle.log_table.specs.declared.view.Constants.{Constants}
-use Rattle.log_table.specs.declared.view.Standing.{Standing}
-use Rattle.log_table.specs.declared.view.View.{View}
+use Rattle.log_rule.specs.declared.view.Call.{Call}
+use Rattle.log_rule.specs.declared.view.Call.TheVariants.{Joined}
+use Rattle.log_rule.specs.declared.view.Constants.{Constants}
+use Rattle.log_rule.specs.declared.view.Standing.{Standing}
+use Rattle.log_rule.specs.declared.view.View.{View}
 use Rattle.log_table.specs.Seats.{Becomes, view_of}
 use Rattle.slot_rig.specs.Shares.{IsWorker, IsMember, HasReleased, HasLeft}
 use Rattle.slot_rig.specs.declared.share.Share.{Share}

@@ -1,15 +1,15 @@
 -- Where a seat stands in the group at its slot.
 use Rattle.std.specs.Prelude.{◌≡◌, ℕ, ◌^◌, ◌<◌, [], ◌∷◌, length}
 use Rattle.log_record.specs.Spelling.{spelling}
-use Rattle.log_table.specs.declared.group_view.MemberStep.{MemberStep}
-use Rattle.log_table.specs.declared.group_view.MemberStep.TheVariants.{Places}
-use Rattle.log_table.specs.declared.group_view.Piece.{Piece}
+use Rattle.log_rule.specs.declared.group_view.MemberStep.{MemberStep}
+use Rattle.log_rule.specs.declared.group_view.MemberStep.TheVariants.{Places}
+use Rattle.log_rule.specs.declared.group_view.Piece.{Piece}
 use Rattle.log_table.specs.declared.table.LogTable.{LogTable}
 use Rattle.log_table.specs.declared.table.Seat.{Seat}
-use Rattle.log_table.specs.declared.view.Call.{Call}
-use Rattle.log_table.specs.declared.view.Call.TheVariants.{Idle, Joined}
-use Rattle.log_table.specs.declared.view.Role.TheVariants.{Active}
-use Rattle.log_table.specs.GroupViews.{placed_piece}
+use Rattle.log_rule.specs.declared.view.Call.{Call}
+use Rattle.log_rule.specs.declared.view.Call.TheVariants.{Idle, Joined}
+use Rattle.log_rule.specs.declared.view.Role.TheVariants.{Active}
+use Rattle.log_rule.specs.GroupViews.{placed_piece}
 use Rattle.log_table.specs.Seats.{IsOf, view_of}
 use Rattle.test_rig.specs.NotedJobs.{MayInsert}
 use Rattle.slot_rig.specs.declared.share.Share.{Share}

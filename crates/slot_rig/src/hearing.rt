@@ -1,7 +1,7 @@
 //! A member hears what became of its group, and fills its piece.
 ghost use Rattle.std.specs.Prelude.{◌≡◌, ◌+◌, ◌≤◌, [], length, IfSome};
 ghost use Rattle.lsn_space.specs.declared.lsn.TheConstants.{LAST};
-ghost use Rattle.log_table.specs.declared.group_view.MemberStep.TheVariants.{Waits, Fills, Leaves};
+ghost use Rattle.log_rule.specs.declared.group_view.MemberStep.TheVariants.{Waits, Fills, Leaves};
 ghost use Rattle.slot_rig.specs.Shares.{IsMember};
 
 use crate::share::{Refusal, Share};

@@ -2,7 +2,7 @@
 ghost use Rattle.std.specs.Prelude.{◌≡◌, ◌+◌, ◌%◌, ◌<◌, OnOk};
 ghost use Rattle.log_record.specs.Spelling.{IsTxn};
 ghost use Rattle.log_table.specs.Hiring.{HasHired};
-ghost use Rattle.log_table.specs.SlotViews.{step_joining};
+ghost use Rattle.log_rule.specs.SlotViews.{step_joining};
 ghost use Rattle.slot_rig.specs.Shares.{IsJoiner, IsMember};
 ghost use Rattle.test_rig.specs.NotedJobs.{AreNoteUnits, IsNotedJob};
 

@@ -1,7 +1,7 @@
 //! The leader of a group closes it, reserves for it and tells it, or refuses it.
 ghost use Rattle.std.specs.Prelude.{◌≡◌, ◌^◌, ◌<◌, IfSome};
-ghost use Rattle.log_table.specs.declared.group_view.MemberStep.TheVariants.{Closes, Waits, Stores, Tells};
-ghost use Rattle.log_table.specs.Groups.{Granted, Refused};
+ghost use Rattle.log_rule.specs.declared.group_view.MemberStep.TheVariants.{Closes, Waits, Stores, Tells};
+ghost use Rattle.log_rule.specs.Groups.{Granted, Refused};
 ghost use Rattle.slot_rig.specs.Shares.{IsMember, IsPlacing};
 
 use crate::share::{Refusal, Share};

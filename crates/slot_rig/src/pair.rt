@@ -1,12 +1,12 @@
 //! Two workers of one group, from their joins to the end of the log.
 ghost use Rattle.std.specs.Prelude.{◌≡◌, ◌+◌, ◌≤◌, [], ◌∷◌, IfSome};
 ghost use Rattle.log_record.specs.Spelling.{IsTxn};
-ghost use Rattle.log_table.specs.declared.group_view.MemberStep.TheVariants.{Closes, Waits};
-ghost use Rattle.log_table.specs.declared.view.Call.TheVariants.{Idle};
-ghost use Rattle.log_table.specs.declared.view.Role.TheVariants.{Flusher};
-ghost use Rattle.log_table.specs.CrewViews.{merged_entries};
+ghost use Rattle.log_rule.specs.declared.group_view.MemberStep.TheVariants.{Closes, Waits};
+ghost use Rattle.log_rule.specs.declared.view.Call.TheVariants.{Idle};
+ghost use Rattle.log_rule.specs.declared.view.Role.TheVariants.{Flusher};
+ghost use Rattle.log_rule.specs.CrewViews.{merged_entries};
 ghost use Rattle.log_table.specs.Hiring.{HasHired};
-ghost use Rattle.log_table.specs.May.{MayClose};
+ghost use Rattle.log_rule.specs.May.{MayClose};
 ghost use Rattle.log_table.specs.Seats.{IsOf, view_of};
 ghost use Rattle.slot_rig.specs.Shares.{HasBoth, HasReleased, IsDone, IsMember};
 

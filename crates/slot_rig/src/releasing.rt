@@ -1,8 +1,8 @@
 //! A member releases its piece. The last one marks the group's range, exposes it and opens the slot again.
 ghost use Rattle.std.specs.Prelude.{◌≡◌, ◌≢◌, length, IfSome};
-ghost use Rattle.log_table.specs.declared.group_view.After.TheVariants.{Reopens};
-ghost use Rattle.log_table.specs.declared.group_view.MemberStep.TheVariants.{Fills, Leaves};
-ghost use Rattle.log_table.specs.declared.view.Call.TheVariants.{Idle, Emptying, Marked, Reopening};
+ghost use Rattle.log_rule.specs.declared.group_view.After.TheVariants.{Reopens};
+ghost use Rattle.log_rule.specs.declared.group_view.MemberStep.TheVariants.{Fills, Leaves};
+ghost use Rattle.log_rule.specs.declared.view.Call.TheVariants.{Idle, Emptying, Marked, Reopening};
 ghost use Rattle.slot_rig.specs.Shares.{HasLeft, HasReleased, IsMember};
 
 use crate::share::{Refusal, Share};

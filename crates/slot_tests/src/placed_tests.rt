@@ -1,7 +1,7 @@
 //! A group is placed, told, filled and released: whoever releases last exposes its range and opens the slot again.
 ghost use Rattle.std.specs.Prelude.{◌≡◌, ◌≤◌, [], IfOk};
-ghost use Rattle.log_table.specs.declared.group_view.MemberStep.TheVariants.{Closes, Waits, Fills};
-ghost use Rattle.log_table.specs.declared.view.Call.TheVariants.{Idle};
+ghost use Rattle.log_rule.specs.declared.group_view.MemberStep.TheVariants.{Closes, Waits, Fills};
+ghost use Rattle.log_rule.specs.declared.view.Call.TheVariants.{Idle};
 ghost use Rattle.log_table.specs.Hiring.{HasHired};
 ghost use Rattle.log_table.specs.Seats.{key_of};
 ghost use Rattle.slot_rig.specs.Shares.{HasReleased, IsMember};

@@ -1,7 +1,7 @@
 //! A group for which the ring has no room: its members hear why, and the last to let go opens the slot again.
 ghost use Rattle.std.specs.Prelude.{◌≡◌, ◌+◌, ◌≤◌, IfOk};
-ghost use Rattle.log_table.specs.declared.group_view.MemberStep.TheVariants.{Waits};
-ghost use Rattle.log_table.specs.declared.view.Call.TheVariants.{Idle};
+ghost use Rattle.log_rule.specs.declared.group_view.MemberStep.TheVariants.{Waits};
+ghost use Rattle.log_rule.specs.declared.view.Call.TheVariants.{Idle};
 ghost use Rattle.log_table.specs.Hiring.{HasHired};
 ghost use Rattle.test_rig.specs.NotedJobs.{IsNotedJob};
 ghost use Rattle.slot_rig.specs.Shares.{HasLeft, IsMember};

@@ -1,8 +1,8 @@
 //! The workers are told of a fault.
 ghost use Rattle.std.specs.Prelude.{◌≡◌};
-ghost use Rattle.log_table.specs.May.{MayStop};
+ghost use Rattle.log_rule.specs.May.{MayStop};
 ghost use Rattle.log_table.specs.Seats.{IsOf, Becomes, view_of};
-ghost use Rattle.log_table.specs.Views.{has_stopped};
+ghost use Rattle.log_rule.specs.Views.{has_stopped};
 ghost use Rattle.stop_word.specs.Stopping.{stop_word};
 
 use crate::fault::DaemonFault;

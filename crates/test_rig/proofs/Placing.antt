@@ -6,13 +6,13 @@ use Rattle.log_record.specs.Spelling.{spelling}
 use Rattle.lock_core.specs.declared.job.Job.{Job}
 use Rattle.log_table.specs.declared.table.LogTable.{LogTable}
 use Rattle.log_table.specs.declared.table.Seat.{Seat}
-use Rattle.log_table.specs.declared.view.Books.{Books}
-use Rattle.log_table.specs.declared.view.Call.TheVariants.{Filling}
-use Rattle.log_table.specs.AccountViews.{took_job}
-use Rattle.log_table.specs.Books.{taking_job, next_of, IsNext, MayEnter}
+use Rattle.log_rule.specs.declared.view.Books.{Books}
+use Rattle.log_rule.specs.declared.view.Call.TheVariants.{Filling}
+use Rattle.log_rule.specs.AccountViews.{took_job}
+use Rattle.log_rule.specs.Books.{taking_job, next_of, IsNext, MayEnter}
 use Rattle.log_table.specs.Seats.{Becomes, view_of}
-use Rattle.log_table.specs.Views.{empty_entry}
-use Rattle.log_table.proofs.Nexting.{next-is, may-enter, note-next}
+use Rattle.log_rule.specs.Views.{empty_entry}
+use Rattle.log_rule.proofs.Nexting.{next-is, may-enter, note-next}
 use Rattle.ring_buffer.specs.Calls.{MayPlace, HasPlaced, HasReserved}
 use Rattle.ring_buffer.specs.declared.call.Range.{Range}
 use Rattle.test_rig.specs.NotedJobs.{AreNoteUnits, MayInsert}

@@ -7,9 +7,9 @@ use Rattle.lock_core.specs.declared.job.Job.{Job}
 use Rattle.lock_core.specs.Transfers.{IsAllowedJob}
 use Rattle.log_table.specs.declared.table.LogTable.{LogTable}
 use Rattle.log_table.specs.declared.table.Seat.{Seat}
-use Rattle.log_table.specs.declared.view.TakenJob.{TakenJob}
-use Rattle.log_table.specs.declared.view.View.{View}
-use Rattle.log_table.specs.Books.{no_books}
+use Rattle.log_rule.specs.declared.view.TakenJob.{TakenJob}
+use Rattle.log_rule.specs.declared.view.View.{View}
+use Rattle.log_rule.specs.Books.{no_books}
 use Rattle.log_table.specs.Seats.{IsOf, view_of}
 use Rattle.ring_buffer.specs.Calls.{IsReady}
 

@@ -1,6 +1,6 @@
 //! What another worker finds of an account.
 ghost use Rattle.std.specs.Prelude.{◌≡◌, ◌<◌, ℕ, OnErr};
-ghost use Rattle.log_table.specs.May.{IsAtRest, HasBegunNothing, Ascends};
+ghost use Rattle.log_rule.specs.May.{IsAtRest, HasBegunNothing, Ascends};
 ghost use Rattle.log_table.specs.Seats.{IsOf, view_of};
 
 use early_locks::{Held, try_take};

@@ -1,8 +1,8 @@
 //! What was inserted is sent by the flusher's seat, with no disk.
 ghost use Rattle.std.specs.Prelude.{◌≡◌, [], IfOk};
-ghost use Rattle.log_table.specs.declared.view.Role.TheVariants.{Flusher};
+ghost use Rattle.log_rule.specs.declared.view.Role.TheVariants.{Flusher};
 ghost use Rattle.log_table.specs.Seats.{IsOf, view_of};
-ghost use Rattle.log_table.specs.Views.{sent_to};
+ghost use Rattle.log_rule.specs.Views.{sent_to};
 
 use log_table::{LogTable, Seat};
 use lsn_space::Lsn;

@@ -9,8 +9,8 @@ use Rattle.lock_core.specs.History.{end_from}
 use Rattle.lock_core.specs.Records.{commits, gain, loss}
 use Rattle.lock_core.specs.Sums.{moved}
 use Rattle.lock_core.specs.Transactions.{recs_of, changes_in, has_commit, touches}
-use Rattle.log_table.specs.declared.view.Books.{Books}
-use Rattle.log_table.specs.Books.{IsNote}
+use Rattle.log_rule.specs.declared.view.Books.{Books}
+use Rattle.log_rule.specs.Books.{IsNote}
 use Rattle.txn_parts.specs.declared.release.Release.TheVariants.{Unchanged}
 use Rattle.txn_parts.specs.declared.holding.Holding.{Holding}
 use Rattle.txn_making.specs.Holdings.{GoesBack}

@@ -10,14 +10,14 @@ use Rattle.lock_core.specs.Sums.{moved}
 use Rattle.lock_core.specs.Transactions.{recs_of, changes_in, has_commit, in_order}
 use Rattle.lock_core.specs.declared.job.Job.{Job}
 use Rattle.log_table.specs.declared.table.Seat.{Seat}
-use Rattle.log_table.specs.declared.view.Books.{Books}
-use Rattle.log_table.specs.declared.view.Entry.{Entry}
-use Rattle.log_table.specs.declared.view.TakenJob.{TakenJob}
-use Rattle.log_table.specs.Books.{balance_taken, mark_taken, next_of, IsNext, MayEnter}
+use Rattle.log_rule.specs.declared.view.Books.{Books}
+use Rattle.log_rule.specs.declared.view.Entry.{Entry}
+use Rattle.log_rule.specs.declared.view.TakenJob.{TakenJob}
+use Rattle.log_rule.specs.Books.{balance_taken, mark_taken, next_of, IsNext, MayEnter}
 use Rattle.lock_core.specs.Transfers.{transfer_of, note_of}
-use Rattle.log_table.specs.Closing.{records_of}
+use Rattle.log_rule.specs.Closing.{records_of}
 use Rattle.log_table.specs.Seats.{view_of}
-use Rattle.log_table.proofs.Nexting.{may-enter, note-next}
+use Rattle.log_rule.proofs.Nexting.{may-enter, note-next}
 use Rattle.ring_buffer.specs.Calls.{HasEntries, entry_of}
 use Rattle.txn_jobs.specs.declared.cause.Cause.{Cause}
 use Rattle.txn_parts.specs.declared.holding.Holding.{Holding}

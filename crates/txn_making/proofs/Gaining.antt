@@ -5,11 +5,11 @@ use Rattle.std.specs.List.Sorted.{IsStrictlyIncreasing}
 use Rattle.std.proofs.lemmas.List.{length-map, length-take, get_or-map, get_or-take, map-append}
 use Rattle.std.proofs.lemmas.List.Elements.{All-push, All-from_get_or, recursion_from_All}
 use Rattle.log_table.specs.declared.table.Seat.{Seat}
-use Rattle.log_table.specs.declared.view.Books.{Books}
-use Rattle.log_table.specs.declared.view.Entry.{Entry}
-use Rattle.log_table.specs.declared.view.Held.{Held}
-use Rattle.log_table.specs.Books.{taking}
-use Rattle.log_table.specs.May.{Ascends}
+use Rattle.log_rule.specs.declared.view.Books.{Books}
+use Rattle.log_rule.specs.declared.view.Entry.{Entry}
+use Rattle.log_rule.specs.declared.view.Held.{Held}
+use Rattle.log_rule.specs.Books.{taking}
+use Rattle.log_rule.specs.May.{Ascends}
 use Rattle.log_table.specs.Seats.{view_of}
 use Rattle.ring_buffer.specs.Calls.{HasEntries}
 use Rattle.txn_parts.specs.declared.holding.Holding.{Holding}

@@ -1,6 +1,6 @@
 -- What a seat gave back, over calls one after the other.
 use Rattle.std.proofs.Common.{◌≡◌, ◌∙◌, [], ◌++◌, ap, sym, append_assoc}
-use Rattle.log_table.specs.declared.view.View.{View}
+use Rattle.log_rule.specs.declared.view.View.{View}
 use Rattle.txn_making.specs.Holdings.{KeepsGiven}
 
 -- no account was given back

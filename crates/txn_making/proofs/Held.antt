@@ -5,13 +5,13 @@ use Rattle.std.specs.List.Sorted.{IsStrictlyIncreasing}
 use Rattle.std.proofs.lemmas.List.{length-map, get_or-map}
 use Rattle.std.proofs.lemmas.List.Elements.{recursion_from_All, All-cons, Contains-append_left, Contains-append_right, Contains-append_cases, Contains-push, Contains-push_cases}
 use Rattle.log_table.specs.declared.table.Seat.{Seat}
-use Rattle.log_table.specs.declared.view.Books.{Books}
-use Rattle.log_table.specs.declared.view.Given.{Given}
-use Rattle.log_table.specs.declared.view.Held.{Held}
-use Rattle.log_table.specs.declared.view.View.{View}
-use Rattle.log_table.specs.Books.{times_held, balance_taken, mark_taken, without}
+use Rattle.log_rule.specs.declared.view.Books.{Books}
+use Rattle.log_rule.specs.declared.view.Given.{Given}
+use Rattle.log_rule.specs.declared.view.Held.{Held}
+use Rattle.log_rule.specs.declared.view.View.{View}
+use Rattle.log_rule.specs.Books.{times_held, balance_taken, mark_taken, without}
 use Rattle.log_table.specs.Seats.{Becomes, view_of}
-use Rattle.log_table.specs.AccountViews.{gave_account}
+use Rattle.log_rule.specs.AccountViews.{gave_account}
 use Rattle.early_locks.specs.declared.taking.Taken.{Taken}
 use Rattle.early_locks.specs.Locks.{HoldsTaken, held_of, given_at}
 use Rattle.txn_parts.specs.declared.holding.Holding.{Holding}

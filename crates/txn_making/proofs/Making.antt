@@ -5,10 +5,10 @@ use Rattle.log_record.specs.declared.rec.Rec.{Rec}
 use Rattle.log_record.specs.declared.rec.Rec.TheVariants.{Update}
 use Rattle.log_record.specs.Spelling.{spelling}
 use Rattle.log_table.specs.declared.table.Seat.{Seat}
-use Rattle.log_table.specs.declared.view.Books.{Books}
-use Rattle.log_table.specs.Books.{mark_taken, next_of, HoldsAccounts, IsNext, MayEnter}
+use Rattle.log_rule.specs.declared.view.Books.{Books}
+use Rattle.log_rule.specs.Books.{mark_taken, next_of, HoldsAccounts, IsNext, MayEnter}
 use Rattle.log_table.specs.Seats.{view_of}
-use Rattle.log_table.proofs.Nexting.{may-enter}
+use Rattle.log_rule.proofs.Nexting.{may-enter}
 use Rattle.ring_buffer.specs.Calls.{entry_of}
 use Rattle.early_locks.specs.Locks.{HoldsTaken}
 use Rattle.txn_jobs.specs.declared.cause.Cause.{Cause}

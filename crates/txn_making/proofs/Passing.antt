@@ -16,14 +16,14 @@ use Rattle.lock_core.specs.Transactions.{recs_of, changes_in, has_commit, touche
 use Rattle.lock_core.specs.declared.job.Job.{Job}
 use Rattle.early_locks.specs.declared.taking.Taken.{Taken}
 use Rattle.early_locks.specs.Locks.{HoldsTaken}
-use Rattle.log_table.specs.declared.view.Books.{Books}
-use Rattle.log_table.specs.declared.view.Entry.{Entry}
-use Rattle.log_table.specs.declared.view.Held.{Held}
-use Rattle.log_table.specs.declared.view.TakenJob.{TakenJob}
-use Rattle.log_table.specs.Books.{times_held, balance_taken, mark_taken, HoldsLeg, HoldsAccounts}
+use Rattle.log_rule.specs.declared.view.Books.{Books}
+use Rattle.log_rule.specs.declared.view.Entry.{Entry}
+use Rattle.log_rule.specs.declared.view.Held.{Held}
+use Rattle.log_rule.specs.declared.view.TakenJob.{TakenJob}
+use Rattle.log_rule.specs.Books.{times_held, balance_taken, mark_taken, HoldsLeg, HoldsAccounts}
 use Rattle.lock_core.specs.Transfers.{transfer_of}
-use Rattle.log_table.specs.Closing.{records_of}
-use Rattle.log_table.proofs.Planning.{leg-sums}
+use Rattle.log_rule.specs.Closing.{records_of}
+use Rattle.log_rule.proofs.Planning.{leg-sums}
 use Rattle.txn_parts.specs.declared.holding.Holding.{Holding}
 use Rattle.txn_jobs.specs.declared.rows.Answer.{Answer}
 use Rattle.txn_jobs.specs.declared.rows.Answer.TheVariants as answer

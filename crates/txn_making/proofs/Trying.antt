@@ -2,13 +2,13 @@
 use Rattle.std.proofs.Common.{◌≡◌, ℕ, ◌≤◌, ◌∙◌, List, Bool, true, false, sym, ap, arith}
 use Rattle.std.specs.Prelude.{MatchBool}
 use Rattle.log_record.specs.declared.limits.TheConstants.{MOST_BALANCE}
-use Rattle.log_table.specs.Books.{taking}
+use Rattle.log_rule.specs.Books.{taking}
 use Rattle.log_table.specs.Seats.{Becomes, view_of}
 use Rattle.log_table.specs.declared.table.Seat.{Seat}
-use Rattle.log_table.specs.declared.view.Seen.{Seen}
-use Rattle.log_table.specs.declared.view.Books.{Books}
-use Rattle.log_table.specs.declared.view.Call.TheVariants.{Idle}
-use Rattle.log_table.specs.declared.view.Entry.{Entry}
+use Rattle.log_rule.specs.declared.view.Seen.{Seen}
+use Rattle.log_rule.specs.declared.view.Books.{Books}
+use Rattle.log_rule.specs.declared.view.Call.TheVariants.{Idle}
+use Rattle.log_rule.specs.declared.view.Entry.{Entry}
 use Rattle.ring_buffer.specs.Calls.{HasEntries}
 use Rattle.ring_buffer.proofs.TwoCalls.{IsSameWorker-trans}
 use Rattle.early_locks.specs.declared.taking.Held.{Held}

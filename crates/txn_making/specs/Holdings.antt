@@ -2,11 +2,11 @@
 use Rattle.std.specs.Prelude.{◌≡◌, ◌≢◌, ℕ, ◌+◌, ◌<◌, List, [], ◌∷◌, ◌++◌, length, map, All}
 use Rattle.std.specs.List.{AllByRecursion}
 use Rattle.log_table.specs.declared.table.Seat.{Seat}
-use Rattle.log_table.specs.declared.view.Books.{Books}
-use Rattle.log_table.specs.declared.view.Call.TheVariants.{Idle}
-use Rattle.log_table.specs.declared.view.Given.{Given}
-use Rattle.log_table.specs.declared.view.Held.{Held}
-use Rattle.log_table.specs.declared.view.View.{View}
+use Rattle.log_rule.specs.declared.view.Books.{Books}
+use Rattle.log_rule.specs.declared.view.Call.TheVariants.{Idle}
+use Rattle.log_rule.specs.declared.view.Given.{Given}
+use Rattle.log_rule.specs.declared.view.Held.{Held}
+use Rattle.log_rule.specs.declared.view.View.{View}
 use Rattle.log_table.specs.Seats.{view_of}
 use Rattle.ring_buffer.specs.Calls.{IsSameWorker, HasEntries}
 use Rattle.early_locks.specs.Locks.{GivesBack, held_of, given_at}

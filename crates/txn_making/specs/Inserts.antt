@@ -5,10 +5,10 @@ use Rattle.log_record.specs.declared.rec.Placed.{Placed}
 use Rattle.log_record.specs.LogList.{size_of}
 use Rattle.lock_core.specs.Transactions.{recs_of, in_order, has_commit}
 use Rattle.log_table.specs.declared.table.Seat.{Seat}
-use Rattle.log_table.specs.declared.view.Books.{Books}
-use Rattle.log_table.specs.declared.view.Entry.{Entry}
-use Rattle.log_table.specs.declared.view.View.{View}
-use Rattle.log_table.specs.Books.{plan_of}
+use Rattle.log_rule.specs.declared.view.Books.{Books}
+use Rattle.log_rule.specs.declared.view.Entry.{Entry}
+use Rattle.log_rule.specs.declared.view.View.{View}
+use Rattle.log_rule.specs.Books.{plan_of}
 use Rattle.log_table.specs.Seats.{view_of}
 use Rattle.ring_buffer.specs.Calls.{HasEntries, entry_of}
 use Rattle.txn_jobs.specs.declared.cause.Cause.{Cause}

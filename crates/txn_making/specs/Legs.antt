@@ -11,12 +11,12 @@ use Rattle.lock_core.specs.Transactions.{recs_of, changes_in, has_commit, touche
 use Rattle.lock_core.specs.declared.job.Job.{Job}
 use Rattle.early_locks.specs.Locks.{HoldsTaken}
 use Rattle.log_table.specs.declared.table.Seat.{Seat}
-use Rattle.log_table.specs.declared.view.Books.{Books}
-use Rattle.log_table.specs.declared.view.Entry.{Entry}
-use Rattle.log_table.specs.Accounts.{MayBeTaken}
-use Rattle.log_table.specs.Books.{balance_taken, mark_taken, HoldsAccounts}
+use Rattle.log_rule.specs.declared.view.Books.{Books}
+use Rattle.log_rule.specs.declared.view.Entry.{Entry}
+use Rattle.log_rule.specs.Accounts.{MayBeTaken}
+use Rattle.log_rule.specs.Books.{balance_taken, mark_taken, HoldsAccounts}
 use Rattle.lock_core.specs.Transfers.{transfer_of}
-use Rattle.log_table.specs.Closing.{records_of}
+use Rattle.log_rule.specs.Closing.{records_of}
 use Rattle.txn_parts.specs.declared.holding.Holding.{Holding}
 pub use Rattle.txn_parts.specs.Leg.{HasBalance, IsRefused, CanMake, CanBear, IsAfter}
 use Rattle.txn_jobs.specs.declared.rows.Answer.{Answer}

@@ -1,7 +1,7 @@
 //! One record of a transfer is inserted.
 ghost use Rattle.std.specs.Prelude.{◌≡◌, [], ◌∷◌, IfOk, IfErr, OnErr};
 ghost use Rattle.log_record.specs.Spelling.{spelling};
-ghost use Rattle.log_table.specs.Books.{MayEnter, next_of};
+ghost use Rattle.log_rule.specs.Books.{MayEnter, next_of};
 ghost use Rattle.log_table.specs.Seats.{IsOf, view_of};
 ghost use Rattle.ring_buffer.specs.Calls.{IsReady, HasEntries};
 ghost use Rattle.txn_making.specs.Inserts.{Puts, StopsFor};

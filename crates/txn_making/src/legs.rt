@@ -5,7 +5,7 @@ ghost use Rattle.ring_buffer.specs.Calls.{IsReady};
 ghost use Rattle.txn_making.specs.Holdings.{taken_of};
 ghost use Rattle.txn_making.specs.Inserts.{HasAdded, IsCutOff};
 ghost use Rattle.txn_making.specs.Legs.{HoldsJob, StandsBefore, ReachesEnd, MayMakeLeg, AddsRecords, leg_records};
-ghost use Rattle.log_table.specs.Books.{mark_taken};
+ghost use Rattle.log_rule.specs.Books.{mark_taken};
 
 use crate::inserting::insert_units;
 use lock_core::Job;

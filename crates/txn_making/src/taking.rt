@@ -2,8 +2,8 @@
 ghost use Rattle.std.specs.Prelude.{◌≡◌, ◌≤◌, ◌<◌, [], All, IfOk, IfErr, OnOk, OnErr, length};
 ghost use Rattle.std.specs.List.Sorted.{IsStrictlyIncreasing};
 ghost use Rattle.log_record.specs.declared.limits.TheConstants.{MOST_BALANCE};
-ghost use Rattle.log_table.specs.Books.{taking};
-ghost use Rattle.log_table.specs.May.{HasBegunNothing, Ascends};
+ghost use Rattle.log_rule.specs.Books.{taking};
+ghost use Rattle.log_rule.specs.May.{HasBegunNothing, Ascends};
 ghost use Rattle.log_table.specs.Seats.{IsOf, view_of};
 ghost use Rattle.ring_buffer.specs.Calls.{IsReady, HasEntries};
 ghost use Rattle.early_locks.specs.Locks.{held_of};

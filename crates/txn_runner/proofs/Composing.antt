@@ -11,15 +11,15 @@ use Rattle.lock_core.specs.declared.job.Job.{Job}
 use Rattle.early_locks.specs.declared.taking.Taken.{Taken}
 use Rattle.early_locks.specs.Locks.{HoldsTaken, held_of, given_at}
 use Rattle.log_table.specs.declared.table.Seat.{Seat}
-use Rattle.log_table.specs.declared.view.Books.{Books}
-use Rattle.log_table.specs.declared.view.Entry.{Entry}
-use Rattle.log_table.specs.declared.view.Given.{Given}
-use Rattle.log_table.specs.declared.view.Held.{Held}
-use Rattle.log_table.specs.declared.view.View.{View}
-use Rattle.log_table.specs.Accounts.{MayBeTaken}
-use Rattle.log_table.specs.Books.{balance_taken, mark_taken}
+use Rattle.log_rule.specs.declared.view.Books.{Books}
+use Rattle.log_rule.specs.declared.view.Entry.{Entry}
+use Rattle.log_rule.specs.declared.view.Given.{Given}
+use Rattle.log_rule.specs.declared.view.Held.{Held}
+use Rattle.log_rule.specs.declared.view.View.{View}
+use Rattle.log_rule.specs.Accounts.{MayBeTaken}
+use Rattle.log_rule.specs.Books.{balance_taken, mark_taken}
 use Rattle.lock_core.specs.Transfers.{transfer_of}
-use Rattle.log_table.specs.Closing.{records_of}
+use Rattle.log_rule.specs.Closing.{records_of}
 use Rattle.log_table.specs.Seats.{Becomes, view_of}
 use Rattle.ring_buffer.specs.Calls.{entry_of}
 use Rattle.txn_jobs.specs.declared.cause.Cause.{Cause}

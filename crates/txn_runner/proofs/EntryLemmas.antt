@@ -5,8 +5,8 @@ use Rattle.std.proofs.lemmas.List.Elements.{filter-append}
 use Rattle.std.specs.List.{AllByRecursion}
 use Rattle.log_record.specs.declared.rec.Rec.{Rec}
 use Rattle.lock_core.specs.Records.{txn_of}
-use Rattle.log_table.specs.declared.view.Entry.{Entry}
-use Rattle.log_table.specs.Closing.{records_of}
+use Rattle.log_rule.specs.declared.view.Entry.{Entry}
+use Rattle.log_rule.specs.Closing.{records_of}
 use Rattle.txn_runner.specs.Running.{LieInOrder}
 use Rattle.txn_runner.specs.Working.{own_records}
 

@@ -5,8 +5,8 @@ use Rattle.std.proofs.lemmas.List.Elements.{All-get_or}
 use Rattle.std.specs.List.{AllByRecursion}
 use Rattle.lock_core.proofs.ListLemmas.{all-append}
 use Rattle.lock_core.specs.Transfers.{IsAllowedJob}
-use Rattle.log_table.specs.declared.view.TakenJob.{TakenJob}
-use Rattle.log_table.specs.Accounts.{MayBeTaken}
+use Rattle.log_rule.specs.declared.view.TakenJob.{TakenJob}
+use Rattle.log_rule.specs.Accounts.{MayBeTaken}
 use Rattle.txn_jobs.specs.declared.jobs.Jobs.{Jobs}
 use Rattle.txn_jobs.specs.declared.rows.Rows.{Rows}
 use Rattle.txn_jobs.proofs.StripeSteps.{stripe-few}

@@ -3,7 +3,7 @@
 use Rattle.std.proofs.Common.{◌≡◌, ◌∙◌, ℕ, ◌+◌, ◌≤◌, Bool, Option, None, Some, Result, Ok, Err, IfNone, IfSome, IfOk, IfErr, List, [], ◌∷◌, ◌++◌, length, refl, sym, ap, subst, arith, length-append, append-nil, append_assoc}
 use Rattle.log_record.specs.declared.rec.Rec.{Rec}
 use Rattle.lock_core.specs.declared.job.Job.{Job}
-use Rattle.log_table.specs.declared.view.View.{View}
+use Rattle.log_rule.specs.declared.view.View.{View}
 use Rattle.txn_jobs.specs.declared.cause.Cause.{Cause}
 use Rattle.txn_jobs.specs.declared.cause.Cause.TheVariants.{Stop, LogEnd}
 use Rattle.txn_jobs.specs.declared.cause.Worked.{Worked}

@@ -9,13 +9,13 @@ use Rattle.lock_core.specs.Records.{txn_of, ends}
 use Rattle.lock_core.proofs.ListLemmas.{all-append, all-split}
 use Rattle.lock_core.specs.declared.job.Job.{Job}
 use Rattle.lock_core.specs.Transfers.{IsAllowedJob}
-use Rattle.log_table.specs.declared.view.Entry.{Entry}
-use Rattle.log_table.specs.declared.view.TakenJob.{TakenJob}
-use Rattle.log_table.specs.declared.view.View.{View}
-use Rattle.log_table.specs.Accounts.{MayBeTaken}
+use Rattle.log_rule.specs.declared.view.Entry.{Entry}
+use Rattle.log_rule.specs.declared.view.TakenJob.{TakenJob}
+use Rattle.log_rule.specs.declared.view.View.{View}
+use Rattle.log_rule.specs.Accounts.{MayBeTaken}
 use Rattle.lock_core.specs.Transfers.{transfer_of}
-use Rattle.log_table.specs.Closing.{records_of}
-use Rattle.log_table.specs.May.{MayTakeJob}
+use Rattle.log_rule.specs.Closing.{records_of}
+use Rattle.log_rule.specs.May.{MayTakeJob}
 use Rattle.ring_buffer.specs.Calls.{IsReady}
 use Rattle.txn_jobs.specs.declared.cause.Cause.{Cause}
 use Rattle.txn_jobs.specs.declared.cause.Cause.TheVariants.{Stop, LogEnd}

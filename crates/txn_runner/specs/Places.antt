@@ -1,6 +1,6 @@
 -- Places of the script, as a seat takes the transfers there.
 use Rattle.std.specs.Prelude.{ℕ, List, [], ◌∷◌, ◌++◌}
-use Rattle.log_table.specs.declared.view.TakenJob.{TakenJob}
+use Rattle.log_rule.specs.declared.view.TakenJob.{TakenJob}
 use Rattle.txn_jobs.specs.declared.jobs.Jobs.{Jobs}
 pub use Rattle.txn_jobs.specs.Places.{number_at, job_at, IsOneOf, Rises, AreOfScript}
 pub use Rattle.txn_jobs.specs.Stripes.{place_of, stripe_places, HasStripe, IsStripeEnd, HasAllIfDone}

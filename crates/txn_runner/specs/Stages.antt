@@ -4,9 +4,9 @@ use Rattle.lock_core.specs.History.{end_from}
 use Rattle.lock_core.specs.Transactions.{recs_of, has_end}
 use Rattle.lock_core.specs.declared.job.Job.{Job}
 use Rattle.log_table.specs.declared.table.Seat.{Seat}
-use Rattle.log_table.specs.declared.view.Books.{Books}
-use Rattle.log_table.specs.declared.view.Call.TheVariants.{Idle}
-use Rattle.log_table.specs.declared.view.View.{View}
+use Rattle.log_rule.specs.declared.view.Books.{Books}
+use Rattle.log_rule.specs.declared.view.Call.TheVariants.{Idle}
+use Rattle.log_rule.specs.declared.view.View.{View}
 use Rattle.log_table.specs.Seats.{view_of}
 use Rattle.ring_buffer.specs.Calls.{IsSameWorker}
 use Rattle.txn_jobs.specs.declared.cause.Cause.{Cause}

@@ -1,7 +1,7 @@
 //! One transfer, from its first account to its last.
 ghost use Rattle.std.specs.Prelude.{◌≡◌, ◌≤◌, [], Bool, true, IfOk, IfErr, OnOk, OnErr};
-ghost use Rattle.log_table.specs.Books.{taking_job};
-ghost use Rattle.log_table.specs.May.{MayTakeJob};
+ghost use Rattle.log_rule.specs.Books.{taking_job};
+ghost use Rattle.log_rule.specs.May.{MayTakeJob};
 ghost use Rattle.log_table.specs.Seats.{IsOf, view_of};
 ghost use Rattle.ring_buffer.specs.Calls.{IsReady, IsSameWorker, HasEntries};
 ghost use Rattle.txn_making.specs.Holdings.{KeepsGiven};

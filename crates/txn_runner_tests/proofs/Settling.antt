@@ -1,19 +1,19 @@
 -- One worker, and one transfer.
 use Rattle.std.proofs.Common.{◌≡◌, ℕ, zero, suc, ◌==◌, ◌+◌, ◌≤◌, Bool, true, false, if◌then◌else◌, None, List, [], ◌∷◌, ◌++◌, map, length, get_or, refl, sym, ap, subst, ◌∙◌, arith, length-append}
 use Rattle.lock_core.specs.declared.job.Job.{Job}
-use Rattle.log_table.specs.declared.view.TakenJob.{TakenJob}
-use Rattle.log_table.specs.declared.view.View.{View}
-use Rattle.log_table.specs.declared.view.Books.{Books}
-use Rattle.log_table.specs.declared.view.Constants.{Constants}
-use Rattle.log_table.specs.declared.view.Entry.{Entry}
+use Rattle.log_rule.specs.declared.view.TakenJob.{TakenJob}
+use Rattle.log_rule.specs.declared.view.View.{View}
+use Rattle.log_rule.specs.declared.view.Books.{Books}
+use Rattle.log_rule.specs.declared.view.Constants.{Constants}
+use Rattle.log_rule.specs.declared.view.Entry.{Entry}
 use Rattle.log_table.specs.declared.closing.Closed.{Closed}
-use Rattle.log_table.specs.declared.table.Start.{Start}
+use Rattle.log_rule.specs.declared.start.Start.{Start}
 use Rattle.lsn_space.specs.Tiling.{IsTiling}
-use Rattle.log_table.specs.Books.{task_of, times_taken}
-use Rattle.log_table.specs.Closing.{IsGathered, IsLedger, IsSettled, history_of}
-use Rattle.log_table.specs.CrewViews.{takes_in}
+use Rattle.log_rule.specs.Books.{task_of, times_taken}
+use Rattle.log_rule.specs.Closing.{IsGathered, IsLedger, IsSettled, history_of}
+use Rattle.log_rule.specs.CrewViews.{takes_in}
 use Rattle.log_table.specs.Hiring.{KnowsHired}
-use Rattle.log_table.specs.Sound.{base_of}
+use Rattle.log_rule.specs.Sound.{base_of}
 use Rattle.txn_runner_tests.specs.Settled.{SettlesOne}
 use Rattle.txn_jobs.specs.declared.cause.Worked.{Worked}
 use Rattle.txn_jobs.specs.declared.cause.Worked.TheVariants.{All, Cut}

@@ -2,7 +2,7 @@
 ghost use Rattle.std.specs.Prelude.{◌≡◌, ◌≤◌, ◌<◌, All, IfOk};
 ghost use Rattle.log_record.specs.declared.limits.TheConstants.{MOST_BALANCE};
 ghost use Rattle.lock_core.specs.Transfers.{IsAllowedJob};
-ghost use Rattle.log_table.specs.declared.view.Role.TheVariants.{Ended};
+ghost use Rattle.log_rule.specs.declared.view.Role.TheVariants.{Ended};
 ghost use Rattle.log_table.specs.Seats.{IsOf, view_of};
 ghost use Rattle.test_rig.specs.NotedJobs.{IsNew};
 

@@ -1,7 +1,7 @@
 //! When the accounts of a transfer go back: early, or once its end is durable; and the log's end.
 ghost use Rattle.std.specs.Prelude.{◌≡◌, ◌<◌, ◌+◌, [], ℕ, IfOk};
 ghost use Rattle.log_table.specs.Hiring.{HasHired};
-ghost use Rattle.log_table.specs.May.{IsAtRest, HasBegunNothing, Ascends};
+ghost use Rattle.log_rule.specs.May.{IsAtRest, HasBegunNothing, Ascends};
 ghost use Rattle.log_table.specs.Seats.{IsOf, view_of};
 
 use crate::alone::{Given, has_ended, has_rows, run_two, work_alone};
@@ -102,9 +102,9 @@ struct Sending<'a, R> {
 
 impl<'a, R: Abort> Relief for Sending<'a, R> {
     ghost use Rattle.std.specs.Prelude.{◌≡◌, ◌<◌, [], ⊤};
-    ghost use Rattle.log_table.specs.declared.view.Role.TheVariants.{Flusher};
+    ghost use Rattle.log_rule.specs.declared.view.Role.TheVariants.{Flusher};
     ghost use Rattle.log_table.specs.Seats.{IsOf, view_of};
-    ghost use Rattle.log_table.specs.Views.{sent_to};
+    ghost use Rattle.log_rule.specs.Views.{sent_to};
 
     ghost ready = { λ relief. IsOf relief.table.now relief.boss × ((view_of relief.boss).standing.role ≡ Flusher)
         × ((view_of relief.boss).sending.read ≡ []) × (sent_to (view_of relief.boss) ≡ relief.from)

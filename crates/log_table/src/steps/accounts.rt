@@ -1,15 +1,15 @@
 //! The accounts: who holds them, and with which balance and last commit.
 ghost use Rattle.std.specs.Prelude.{◌≡◌, ◌≢◌, ◌<◌, OnOk, IfErr, ℕ};
 ghost use Rattle.slot_word.specs.AccountWord.{word_of};
-ghost use Rattle.log_table.specs.Events.{IsStep, none};
-ghost use Rattle.log_table.specs.Layout.{Account};
-ghost use Rattle.log_table.specs.May.{IsOwnWord, MayTake, MayGiveBack};
+ghost use Rattle.log_rule.specs.Events.{IsStep, none};
+ghost use Rattle.log_rule.specs.Layout.{Account};
+ghost use Rattle.log_rule.specs.May.{IsOwnWord, MayTake, MayGiveBack};
 ghost use Rattle.log_table.specs.Seats.{IsOf, Becomes, view_of, number_of, key_of};
-ghost use Rattle.log_table.specs.AccountViews.{saw_account, took_account, gave_account};
+ghost use Rattle.log_rule.specs.AccountViews.{saw_account, took_account, gave_account};
 
-use crate::layout::account_place;
 use crate::plays::{ExchangeAccount, LoadAccount, Number, StoreAccount};
 use crate::table::{LogTable, Seat};
+use log_rule::account_place;
 use slot_word::AccountWord;
 use std::marker::Brand;
 

@@ -1,16 +1,16 @@
 //! The crew: how many workers are active.
 ghost use Rattle.std.specs.Prelude.{◌≡◌, ◌+◌, ◌-◌, ◌%◌, ◌^◌, ℕ};
-ghost use Rattle.log_table.specs.declared.view.Role.TheVariants.{Fresh};
-ghost use Rattle.log_table.specs.Events.{IsStep, none};
-ghost use Rattle.log_table.specs.Layout.{Crew};
-ghost use Rattle.log_table.specs.May.{MayLeave};
+ghost use Rattle.log_rule.specs.declared.view.Role.TheVariants.{Fresh};
+ghost use Rattle.log_rule.specs.Events.{IsStep, none};
+ghost use Rattle.log_rule.specs.Layout.{Crew};
+ghost use Rattle.log_rule.specs.May.{MayLeave};
 ghost use Rattle.log_table.specs.Seats.{IsOf, Becomes, view_of, number_of, key_of};
-ghost use Rattle.log_table.specs.Views.{saw_crew};
-ghost use Rattle.log_table.specs.CrewViews.{enrolled, retired};
+ghost use Rattle.log_rule.specs.Views.{saw_crew};
+ghost use Rattle.log_rule.specs.CrewViews.{enrolled, retired};
 
-use crate::layout::CREW;
 use crate::plays::{Enroll, Leave, LoadCrew};
 use crate::table::{LogTable, Seat};
+use log_rule::CREW;
 
 impl LogTable {
     /// Counts a new worker as active.

@@ -1,15 +1,15 @@
 //! Durable: everything below is on the disk.
 ghost use Rattle.std.specs.Prelude.{◌≡◌, ◌≤◌, ℕ};
-ghost use Rattle.log_table.specs.Events.{IsStep, flushes, none};
-ghost use Rattle.log_table.specs.Layout.{Durable};
-ghost use Rattle.log_table.specs.May.{MaySend};
+ghost use Rattle.log_rule.specs.Events.{IsStep, flushes, none};
+ghost use Rattle.log_rule.specs.Layout.{Durable};
+ghost use Rattle.log_rule.specs.May.{MaySend};
 ghost use Rattle.log_table.specs.Seats.{IsOf, Becomes, view_of, number_of, key_of};
-ghost use Rattle.log_table.specs.Sends.{IsDurableToFlusher};
-ghost use Rattle.log_table.specs.Views.{saw_durable, has_sent};
+ghost use Rattle.log_rule.specs.Sends.{IsDurableToFlusher};
+ghost use Rattle.log_rule.specs.Views.{saw_durable, has_sent};
 
-use crate::layout::DURABLE;
 use crate::plays::{LoadDurable, StoreDurable};
 use crate::table::{LogTable, Seat};
+use log_rule::DURABLE;
 use lsn_space::Lsn;
 
 impl LogTable {

@@ -1,16 +1,16 @@
 //! Exposed: everything below is filled and released.
 ghost use Rattle.std.specs.Prelude.{◌≡◌, ◌≤◌, ◌<◌, OnOk, IfErr};
-ghost use Rattle.log_table.specs.Events.{IsStep, look_event, raises};
-ghost use Rattle.log_table.specs.Layout.{Exposed};
-ghost use Rattle.log_table.specs.MarkViews.{after_raise};
-ghost use Rattle.log_table.specs.May.{MayRaise};
+ghost use Rattle.log_rule.specs.Events.{IsStep, look_event, raises};
+ghost use Rattle.log_rule.specs.Layout.{Exposed};
+ghost use Rattle.log_rule.specs.MarkViews.{after_raise};
+ghost use Rattle.log_rule.specs.May.{MayRaise};
 ghost use Rattle.log_table.specs.Seats.{IsOf, Becomes, view_of, number_of, key_of};
-ghost use Rattle.log_table.specs.Sends.{IsExposedToFlusher};
-ghost use Rattle.log_table.specs.Views.{saw_exposed};
+ghost use Rattle.log_rule.specs.Sends.{IsExposedToFlusher};
+ghost use Rattle.log_rule.specs.Views.{saw_exposed};
 
-use crate::layout::EXPOSED;
 use crate::plays::{ExchangeExposed, LoadExposed};
 use crate::table::{LogTable, Seat};
+use log_rule::EXPOSED;
 use lsn_space::Lsn;
 
 impl LogTable {

@@ -1,15 +1,15 @@
 //! A seat takes a job, and looks whether the log has stopped.
 ghost use Rattle.std.specs.Prelude.{◌≡◌, ◌≢◌};
-ghost use Rattle.log_table.specs.Events.{IsStep, none};
-ghost use Rattle.log_table.specs.Layout.{Stop};
-ghost use Rattle.log_table.specs.May.{MayTakeJob};
+ghost use Rattle.log_rule.specs.Events.{IsStep, none};
+ghost use Rattle.log_rule.specs.Layout.{Stop};
+ghost use Rattle.log_rule.specs.May.{MayTakeJob};
 ghost use Rattle.log_table.specs.Seats.{IsOf, Becomes, view_of, number_of, key_of};
-ghost use Rattle.log_table.specs.AccountViews.{took_job};
+ghost use Rattle.log_rule.specs.AccountViews.{took_job};
 
-use crate::layout::STOP;
 use crate::plays::{TakeJob, Task};
 use crate::table::{LogTable, Seat};
 use lock_core::Job;
+use log_rule::STOP;
 use std::marker::Brand;
 
 /// The job and its number, which a step can't see, come by the type.

@@ -1,14 +1,14 @@
 //! The release marks: where a released range ends, at the place of its base.
 ghost use Rattle.std.specs.Prelude.{◌≡◌, ◌%◌, ℕ};
-ghost use Rattle.log_table.specs.Events.{IsStep, marks, looks_mark};
-ghost use Rattle.log_table.specs.Layout.{Mark};
-ghost use Rattle.log_table.specs.MarkViews.{marked, saw_mark};
-ghost use Rattle.log_table.specs.May.{MayMark, MayLookMark};
+ghost use Rattle.log_rule.specs.Events.{IsStep, marks, looks_mark};
+ghost use Rattle.log_rule.specs.Layout.{Mark};
+ghost use Rattle.log_rule.specs.MarkViews.{marked, saw_mark};
+ghost use Rattle.log_rule.specs.May.{MayMark, MayLookMark};
 ghost use Rattle.log_table.specs.Seats.{IsOf, Becomes, view_of, number_of, key_of};
 
-use crate::layout::mark_place;
 use crate::plays::{LoadMark, StoreMark};
 use crate::table::{LogTable, Seat};
+use log_rule::mark_place;
 use lsn_space::Lsn;
 
 impl LogTable {

@@ -1,15 +1,15 @@
 //! The ring: the units that are reserved and not yet on the disk.
 ghost use Rattle.std.specs.Prelude.{◌≡◌, ◌%◌, ℕ};
-ghost use Rattle.log_table.specs.Events.{IsStep, fills, none};
-ghost use Rattle.log_table.specs.Layout.{Ring};
-ghost use Rattle.log_table.specs.May.{MayFill, MayRead};
+ghost use Rattle.log_rule.specs.Events.{IsStep, fills, none};
+ghost use Rattle.log_rule.specs.Layout.{Ring};
+ghost use Rattle.log_rule.specs.May.{MayFill, MayRead};
 ghost use Rattle.log_table.specs.Seats.{IsOf, Becomes, view_of, number_of, key_of};
-ghost use Rattle.log_table.specs.Sends.{ReadsWholeEntries};
-ghost use Rattle.log_table.specs.Views.{filled, has_read};
+ghost use Rattle.log_rule.specs.Sends.{ReadsWholeEntries};
+ghost use Rattle.log_rule.specs.Views.{filled, has_read};
 
-use crate::layout::RING;
 use crate::plays::{LoadRing, StoreRing};
 use crate::table::{LogTable, Seat};
+use log_rule::RING;
 use lsn_space::{Lsn, place};
 
 impl LogTable {

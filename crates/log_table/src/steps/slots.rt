@@ -3,18 +3,18 @@ ghost use Rattle.std.specs.Prelude.{ℕ, ◌≡◌, ◌≢◌, ◌<◌, ◌-◌,
 ghost use Rattle.log_record.specs.Spelling.{spelling};
 ghost use Rattle.slot_word.specs.declared.phase.Phase.TheVariants.{Pending};
 ghost use Rattle.slot_word.specs.SlotWord.{packed, word_of};
-ghost use Rattle.log_table.specs.Books.{next_of};
-ghost use Rattle.log_table.specs.Events.{IsStep, closes, hears, joins, none, refuses, reopens, stores_base, tells, releases};
-ghost use Rattle.log_table.specs.Layout.{Slot, Base};
-ghost use Rattle.log_table.specs.May.{MayJoinSlot, MayCloseSlot, MayStoreBase, MayStoreGranted, MayStoreRefused, MayPublish, MayLoadBase, MayReopen, MayReleaseSlot};
+ghost use Rattle.log_rule.specs.Books.{next_of};
+ghost use Rattle.log_rule.specs.Events.{IsStep, closes, hears, joins, none, refuses, reopens, stores_base, tells, releases};
+ghost use Rattle.log_rule.specs.Layout.{Slot, Base};
+ghost use Rattle.log_rule.specs.May.{MayJoinSlot, MayCloseSlot, MayStoreBase, MayStoreGranted, MayStoreRefused, MayPublish, MayLoadBase, MayReopen, MayReleaseSlot};
 ghost use Rattle.log_table.specs.Seats.{IsOf, Becomes, view_of, number_of, key_of};
-ghost use Rattle.log_table.specs.SlotViews.{saw_slot, joined_slot, lost_join, closed_slot, stored_base, published, heard_base, reopened, IsGatheringWord, TellsMember, TellsWaiting, released_piece, HasToRelease};
+ghost use Rattle.log_rule.specs.SlotViews.{saw_slot, joined_slot, lost_join, closed_slot, stored_base, published, heard_base, reopened, IsGatheringWord, TellsMember, TellsWaiting, released_piece, HasToRelease};
 
-use crate::layout::{base_place, slot_place};
 use crate::plays::{
     CloseSlot, JoinSlot, LoadBase, LoadSlot, Number, Publish, ReleaseSlot, Reopen, StoreBase,
 };
 use crate::table::{LogTable, Seat};
+use log_rule::{base_place, slot_place};
 use slot_word::SlotWord;
 use std::marker::Brand;
 

@@ -1,14 +1,14 @@
 //! Stop: why the log stopped, 0 while it runs.
 ghost use Rattle.std.specs.Prelude.{◌≡◌, ◌≢◌, ℕ};
-ghost use Rattle.log_table.specs.Events.{IsStep, none};
-ghost use Rattle.log_table.specs.Layout.{Stop};
-ghost use Rattle.log_table.specs.May.{MayStop};
+ghost use Rattle.log_rule.specs.Events.{IsStep, none};
+ghost use Rattle.log_rule.specs.Layout.{Stop};
+ghost use Rattle.log_rule.specs.May.{MayStop};
 ghost use Rattle.log_table.specs.Seats.{IsOf, Becomes, view_of, number_of, key_of};
-ghost use Rattle.log_table.specs.Views.{saw_stop, has_stopped};
+ghost use Rattle.log_rule.specs.Views.{saw_stop, has_stopped};
 
-use crate::layout::STOP;
 use crate::plays::{LoadStop, StoreStop};
 use crate::table::{LogTable, Seat};
+use log_rule::STOP;
 
 impl LogTable {
     pub fn load_stop(&self, seat: &mut Seat) -> u64

@@ -1,15 +1,15 @@
 //! The tail: the end of the last reservation.
 ghost use Rattle.std.specs.Prelude.{◌≡◌, ◌-◌, ◌≤◌, ◌<◌, OnOk, IfErr};
-ghost use Rattle.log_table.specs.Events.{IsStep, places, reserves, none};
-ghost use Rattle.log_table.specs.Layout.{Tail};
-ghost use Rattle.log_table.specs.May.{MayReserve, MayPlaceGroup, MayExchangeTail};
+ghost use Rattle.log_rule.specs.Events.{IsStep, places, reserves, none};
+ghost use Rattle.log_rule.specs.Layout.{Tail};
+ghost use Rattle.log_rule.specs.May.{MayReserve, MayPlaceGroup, MayExchangeTail};
 ghost use Rattle.log_table.specs.Seats.{IsOf, Becomes, view_of, number_of, key_of};
-ghost use Rattle.log_table.specs.SlotViews.{reserved_group};
-ghost use Rattle.log_table.specs.Views.{saw_tail, reserved, lost_alone};
+ghost use Rattle.log_rule.specs.SlotViews.{reserved_group};
+ghost use Rattle.log_rule.specs.Views.{saw_tail, reserved, lost_alone};
 
-use crate::layout::TAIL;
 use crate::plays::{ExchangeTail, LoadTail};
 use crate::table::{LogTable, Seat};
+use log_rule::TAIL;
 use lsn_space::Lsn;
 
 impl LogTable {

@@ -1,6 +1,6 @@
 use Rattle.std.proofs.Common.{◌∙◌, ap, subst, sym, length, All, arith}
 use Rattle.log_record.specs.LogList.{units_of}
-use Rattle.log_table.specs.declared.table.Start.{Start}
+use Rattle.log_rule.specs.declared.start.Start.{Start}
 use Rattle.lock_core.specs.Transfers.{IsAllowedJob}
 use Rattle.txn_script.proofs.GeneratorLemmas.{generated-allowed, length-generated}
 use Rattle.cli_demo.proofs.DemoLemmas.{accounts-generated, each-generated, few-generated, list-generated}

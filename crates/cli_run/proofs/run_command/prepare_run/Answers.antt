@@ -1,5 +1,5 @@
 use Rattle.std.proofs.Common.{◌∙◌, ap, refl}
-use Rattle.log_table.specs.declared.table.Start.{Start}
+use Rattle.log_rule.specs.declared.start.Start.{Start}
 use Rattle.cli_run.proofs.OpenedAccounts.{has-accounts}
 use Rattle.cli_run.proofs.run_command.prepare_run.Goals as goal
 

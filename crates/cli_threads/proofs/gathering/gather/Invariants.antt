@@ -1,8 +1,8 @@
 use Rattle.std.proofs.Common.{◌≡◌, ◌+◌, ◌++◌, length, map, vec_len, vec_capacity}
 use Rattle.std.specs.List.{AllByRecursion}
-use Rattle.log_table.specs.declared.view.Role.TheVariants.{Flusher}
+use Rattle.log_rule.specs.declared.view.Role.TheVariants.{Flusher}
 use Rattle.log_table.specs.Seats.{IsOf, view_of}
-use Rattle.log_table.specs.Sound.{HasReadStop}
+use Rattle.log_rule.specs.Sound.{HasReadStop}
 use Rattle.cli_threads.specs.Gathering.{HasLeft, takes_all, view_in, worked_of}
 use Rattle.cli_threads.proofs.gathering.gather.Given as goal
 

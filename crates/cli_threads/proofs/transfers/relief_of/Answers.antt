@@ -1,9 +1,9 @@
 use Rattle.std.proofs.Common.{arith, ◌≡◌, ◌∙◌, ap, length, sym, subst}
 use Rattle.std.specs.List.{Contains}
-use Rattle.log_table.specs.declared.view.Sending.{Sending}
-use Rattle.log_table.specs.declared.view.Constants.{Constants}
+use Rattle.log_rule.specs.declared.view.Sending.{Sending}
+use Rattle.log_rule.specs.declared.view.Constants.{Constants}
 use Rattle.log_table.specs.Seats.{key_of, view_of}
-use Rattle.log_table.specs.Views.{sent_to}
+use Rattle.log_rule.specs.Views.{sent_to}
 use Rattle.flusher.specs.declared.flusher.Flusher.{Flusher}
 use Rattle.flusher.specs.Flushing.{MayFlush}
 use Rattle.cli_threads.proofs.transfers.relief_of.Goals as goal

@@ -1,8 +1,8 @@
 use Rattle.std.proofs.Common.{rules, ◌≡◌, ◌∙◌, ℕ, length, map, sym, subst, IsSomeAnd}
 use mathlib.Core.Option.{some}
 use lib.ListN.{get_elem?}
-use Rattle.log_table.specs.May.{MayClose}
-use Rattle.log_table.specs.declared.view.View.{View}
+use Rattle.log_rule.specs.May.{MayClose}
+use Rattle.log_rule.specs.declared.view.View.{View}
 use Rattle.log_table.specs.Seats.{key_of, view_of}
 use Rattle.cli_threads.specs.Gathering.{share_of, takes_all, view_in}
 use Rattle.cli_threads.specs.Prepared.{IsServed}

@@ -1,5 +1,5 @@
 use Rattle.std.proofs.Common.{◌∙◌, ap}
-use Rattle.log_table.specs.Views.{knows_all_enrolled}
+use Rattle.log_rule.specs.Views.{knows_all_enrolled}
 use Rattle.commit_pipeline_tests.proofs.daemon_tests.turn.Goals as goal
 
 pub returns-clause-ready : goal.returns-clause-ready

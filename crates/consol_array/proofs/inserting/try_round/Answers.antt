@@ -1,6 +1,6 @@
 use Rattle.std.proofs.Common.{Option, IfNone, ℕ, ◌<◌, subst}
 use Rattle.log_table.specs.Seats.{Becomes, view_of}
-use Rattle.log_table.specs.Views.{lost_alone}
+use Rattle.log_rule.specs.Views.{lost_alone}
 use Rattle.ring_buffer.specs.declared.call.Range.{Range}
 use Rattle.consol_array.proofs.Rounds.{JoinsNext-joined}
 use Rattle.consol_array.proofs.inserting.try_round.Goals as goal

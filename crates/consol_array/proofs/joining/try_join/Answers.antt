@@ -1,7 +1,7 @@
 use Rattle.std.proofs.Common.{arith, inl, inr, ◌≡◌, ◌∙◌, ℕ, ◌%◌, ◌<◌, mod-lt, sym, refl, subst}
 use Rattle.slot_word.specs.SlotWord.{word_of}
 use Rattle.log_table.specs.Seats.{Becomes, view_of}
-use Rattle.log_table.specs.SlotViews.{own_slot_of, saw_slot, lost_join}
+use Rattle.log_rule.specs.SlotViews.{own_slot_of, saw_slot, lost_join}
 use Rattle.consol_array.specs.Joining.{HasSlotRoom, IsStateJoined, LacksSlotRoom}
 use Rattle.consol_array.proofs.Joins.{MayJoinSlot-looked, Becomes-joined, alone-turned_away}
 use Rattle.consol_array.proofs.Keeping.{Becomes-then}

@@ -1,6 +1,6 @@
 use Rattle.std.proofs.Common.{inl, inr, sym, subst}
 use Rattle.slot_word.specs.SlotWord.{packed}
-use Rattle.log_table.specs.May.{MayStoreGranted, MayStoreRefused}
+use Rattle.log_rule.specs.May.{MayStoreGranted, MayStoreRefused}
 use Rattle.log_table.specs.Seats.{view_of}
 use Rattle.ring_buffer.specs.Calls.{HasRoom, Refuses}
 use Rattle.consol_array.proofs.Places.{LacksRoom-refused, MayPlaceGroup-looked, MayStoreRefused-looked, HasPlacedGroup-refused, MayStoreGranted-placed, HasPlacedGroup-granted}

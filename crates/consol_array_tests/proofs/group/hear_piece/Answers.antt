@@ -1,5 +1,5 @@
 use Rattle.std.proofs.Common.{◌∙◌, ap, sym}
-use Rattle.log_table.specs.declared.view.Books.{Books}
+use Rattle.log_rule.specs.declared.view.Books.{Books}
 use Rattle.log_table.specs.Seats.{view_of}
 use Rattle.consol_array_tests.proofs.Sharing.{GoesOn-kept, IsOf-beside}
 use Rattle.consol_array_tests.proofs.group.hear_piece.Goals as goal

@@ -1,6 +1,6 @@
 use Rattle.std.proofs.Common.{ℕ, length, ap, sym, subst}
 use Rattle.std.proofs.lemmas.Result.{IfOk-weaker}
-use Rattle.log_table.specs.declared.view.View.{View}
+use Rattle.log_rule.specs.declared.view.View.{View}
 use Rattle.log_table.specs.Seats.{view_of}
 use Rattle.ring_buffer.specs.Calls.{MayPlace}
 use Rattle.test_rig.proofs.Placing.{MayPlace-noted, units-noted}

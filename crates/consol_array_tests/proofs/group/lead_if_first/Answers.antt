@@ -1,10 +1,10 @@
 use Rattle.std.proofs.Common.{cond, ap, eq-eqb, ◌∙◌}
-use Rattle.log_table.specs.declared.group_view.MemberStep.{MemberStep}
-use Rattle.log_table.specs.declared.group_view.MemberStep.TheVariants.{Closes, Waits}
-use Rattle.log_table.specs.declared.view.Call.TheVariants.{Joined}
-use Rattle.log_table.specs.declared.view.Books.{Books}
+use Rattle.log_rule.specs.declared.group_view.MemberStep.{MemberStep}
+use Rattle.log_rule.specs.declared.group_view.MemberStep.TheVariants.{Closes, Waits}
+use Rattle.log_rule.specs.declared.view.Call.TheVariants.{Joined}
+use Rattle.log_rule.specs.declared.view.Books.{Books}
 use Rattle.log_table.specs.Seats.{view_of}
-use Rattle.log_table.specs.SlotViews.{step_joining}
+use Rattle.log_rule.specs.SlotViews.{step_joining}
 use Rattle.consol_array_tests.proofs.Sharing.{GoesOn-kept, HasShare-since}
 use Rattle.consol_array_tests.proofs.group.lead_if_first.Goals as goal
 

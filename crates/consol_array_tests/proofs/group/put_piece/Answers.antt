@@ -1,6 +1,6 @@
 use Rattle.std.proofs.Common.{rules, ◌∙◌, ap}
-use Rattle.log_table.specs.declared.view.Books.{Books}
-use Rattle.log_table.specs.declared.view.View.{View}
+use Rattle.log_rule.specs.declared.view.Books.{Books}
+use Rattle.log_rule.specs.declared.view.View.{View}
 use Rattle.log_table.specs.Seats.{IsOf, view_of}
 use Rattle.consol_array_tests.proofs.Sharing.{GoesOn-kept, MayInsert-idle}
 use Rattle.consol_array_tests.proofs.group.put_piece.Goals as goal

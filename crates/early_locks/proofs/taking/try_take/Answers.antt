@@ -1,7 +1,7 @@
 use Rattle.std.proofs.Common.{rules, ◌≡◌, ◌<◌, ◌^◌, ◌∙◌, ap, sym}
-use Rattle.log_table.specs.Books.{taking}
+use Rattle.log_rule.specs.Books.{taking}
 use Rattle.log_table.specs.Seats.{Becomes, view_of}
-use Rattle.log_table.specs.AccountViews.{saw_account, took_account}
+use Rattle.log_rule.specs.AccountViews.{saw_account, took_account}
 use Rattle.slot_word.specs.AccountWord.{word_of}
 use Rattle.slot_word.proofs.AccountWordLemmas.{balance_back, mark_back}
 use Rattle.early_locks.proofs.taking.try_take.Goals as goal

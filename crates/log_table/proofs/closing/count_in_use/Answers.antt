@@ -1,8 +1,8 @@
 use Rattle.std.proofs.Common.{◌≡◌, ◌∙◌, ◌+◌, ℕ, List, get_or, min, sym, ap, arith}
 use Rattle.std.specs.Slots.{slots_items}
-use Rattle.log_table.specs.Layout.{Slot, index_of}
-use Rattle.log_table.proofs.Gathering.{at-index}
-use Rattle.log_table.proofs.Vacancy.{in_use-more}
+use Rattle.log_rule.specs.Layout.{Slot, index_of}
+use Rattle.log_rule.proofs.Gathering.{at-index}
+use Rattle.log_rule.proofs.Vacancy.{in_use-more}
 use Rattle.log_table.proofs.closing.count_in_use.Goals as goal
 
 pub loop-slot-preserved : goal.loop-slot-preserved

@@ -1,6 +1,6 @@
 use Rattle.std.proofs.Common.{◌≡◌, ◌≤◌}
 use Rattle.std.specs.Slots.{slots_items}
-use Rattle.log_table.specs.Closing.{in_use}
+use Rattle.log_rule.specs.Closing.{in_use}
 use Rattle.log_table.proofs.closing.count_in_use.Given as goal
 
 abbrev pub invariant-loop-slot : goal.invariant-loop-slot

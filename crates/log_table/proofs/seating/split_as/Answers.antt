@@ -1,7 +1,7 @@
 use Rattle.std.proofs.Common.{arith, ◌∙◌, ℕ, sym, subst}
-use Rattle.log_table.specs.May.{MaySplit}
+use Rattle.log_rule.specs.May.{MaySplit}
 use Rattle.log_table.specs.Seats.{view_of, number_of, key_of}
-use Rattle.log_table.proofs.Splitting.{split-allowed}
+use Rattle.log_rule.proofs.Splitting.{split-allowed}
 use Rattle.log_table.proofs.seating.split_as.Goals as goal
 
 pub split_seat-base-requires : goal.split_seat-base-requires

@@ -1,5 +1,5 @@
 use Rattle.std.proofs.Common.{◌∙◌, ap}
-use Rattle.log_table.specs.declared.view.Standing.{Standing}
+use Rattle.log_rule.specs.declared.view.Standing.{Standing}
 use Rattle.log_table_tests.proofs.meeting.insert_both.Goals as goal
 
 pub gather-closed-requires-clause-flusher : goal.gather-closed-requires-clause-flusher

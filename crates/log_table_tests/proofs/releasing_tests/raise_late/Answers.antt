@@ -1,6 +1,6 @@
 use Rattle.std.proofs.Common.{arith, ap, ◌∙◌, ◌<◌}
-use Rattle.log_table.specs.declared.group_view.After.TheVariants.{Nothing}
-use Rattle.log_table.specs.MarkViews.{call_with_mark}
+use Rattle.log_rule.specs.declared.group_view.After.TheVariants.{Nothing}
+use Rattle.log_rule.specs.MarkViews.{call_with_mark}
 use Rattle.ring_buffer.proofs.Exposing.{next_raise-above}
 use Rattle.log_table_tests.proofs.releasing_tests.raise_late.Goals as goal
 

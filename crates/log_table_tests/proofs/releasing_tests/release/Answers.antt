@@ -1,4 +1,4 @@
-use Rattle.log_table.specs.declared.group_view.After.TheVariants.{Nothing}
+use Rattle.log_rule.specs.declared.group_view.After.TheVariants.{Nothing}
 use Rattle.log_table.specs.Seats.{view_of}
 use Rattle.ring_buffer.proofs.Exposing.{HasMarked-call}
 use Rattle.log_table_tests.proofs.releasing_tests.release.Goals as goal

@@ -1,6 +1,6 @@
 use Rattle.std.proofs.Common.{◌∙◌, ap}
-use Rattle.log_table.specs.declared.view.Standing.{Standing}
-use Rattle.log_table.specs.declared.view.View.{View}
+use Rattle.log_rule.specs.declared.view.Standing.{Standing}
+use Rattle.log_rule.specs.declared.view.View.{View}
 use Rattle.log_table_tests.proofs.sending_tests.the_flusher_reads_what_was_inserted.Goals as goal
 
 pub ends_at-requires-clause-worker : goal.ends_at-requires-clause-worker

@@ -1,7 +1,7 @@
 use Rattle.std.proofs.Common.{arith, inl, ◌≡◌, ◌∙◌, ℕ, List, take, length, get_or, ap, sym, length-take-le}
 use Rattle.std.proofs.lemmas.Grind.{common_steps}
 use Rattle.log_record.specs.Spelling.{spelling}
-use Rattle.log_table.specs.declared.view.Entry.{Entry}
+use Rattle.log_rule.specs.declared.view.Entry.{Entry}
 use Rattle.ring_buffer.specs.Calls.{filled_with}
 use Rattle.ring_buffer.proofs.filling.fill.Goals as goal
 

@@ -1,11 +1,11 @@
 use Rattle.std.proofs.Common.{arith, ◌≡◌, ◌∙◌, ◌+◌, ◌++◌, ◌∷◌, [], ℕ, List, length, ap, sym, refl, subst}
 use Rattle.log_record.specs.Spelling.{spelling}
-use Rattle.log_table.specs.Books.{next_of, placing}
-use Rattle.log_table.specs.GroupViews.{follow_up}
-use Rattle.log_table.specs.declared.group_view.After.TheVariants.{Nothing}
-use Rattle.log_table.specs.declared.view.Call.{Call}
-use Rattle.log_table.specs.declared.view.Call.TheVariants.{Filling, Marked}
-use Rattle.log_table.specs.declared.view.Entry.{Entry}
+use Rattle.log_rule.specs.Books.{next_of, placing}
+use Rattle.log_rule.specs.GroupViews.{follow_up}
+use Rattle.log_rule.specs.declared.group_view.After.TheVariants.{Nothing}
+use Rattle.log_rule.specs.declared.view.Call.{Call}
+use Rattle.log_rule.specs.declared.view.Call.TheVariants.{Filling, Marked}
+use Rattle.log_rule.specs.declared.view.Entry.{Entry}
 use Rattle.log_table.specs.Seats.{view_of}
 use Rattle.ring_buffer.specs.Calls.{HasFilled, filled_with, entry_of}
 use Rattle.ring_buffer.specs.declared.call.Range.{Range}

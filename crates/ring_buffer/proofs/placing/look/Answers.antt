@@ -1,5 +1,5 @@
 use Rattle.std.proofs.Common.{rules, ap, ◌∙◌}
-use Rattle.log_table.specs.Views.{saw_durable}
+use Rattle.log_rule.specs.Views.{saw_durable}
 use Rattle.ring_buffer.proofs.placing.look.Goals as goal
 
 pub returns-clause-becomes : goal.returns-clause-becomes

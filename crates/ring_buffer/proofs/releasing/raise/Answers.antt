@@ -1,5 +1,5 @@
 use Rattle.std.proofs.Common.{arith, ◌<◌}
-use Rattle.log_table.specs.GroupViews.{follow_up}
+use Rattle.log_rule.specs.GroupViews.{follow_up}
 use Rattle.log_table.specs.Seats.{view_of}
 use Rattle.ring_buffer.proofs.Exposing.{MayRaise-above}
 use Rattle.ring_buffer.proofs.releasing.raise.Goals as goal

@@ -1,5 +1,5 @@
 use Rattle.std.proofs.Common.{arith, ◌∙◌, ap, sym, subst}
-use Rattle.log_table.specs.declared.view.Sending.{Sending}
+use Rattle.log_rule.specs.declared.view.Sending.{Sending}
 use Rattle.log_table.specs.Seats.{view_of}
 use Rattle.flusher.specs.declared.flusher.Flusher.{Flusher}
 use Rattle.flusher.specs.Flushing.{MayFlush}

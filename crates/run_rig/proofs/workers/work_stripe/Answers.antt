@@ -1,6 +1,6 @@
 use Rattle.std.proofs.Common.{ap, subst, sym, rules}
 use Rattle.log_table.specs.Seats.{view_of}
-use Rattle.log_table.specs.declared.view.Books.{Books}
+use Rattle.log_rule.specs.declared.view.Books.{Books}
 use Rattle.txn_runner.specs.Places.{stripe_places}
 use Rattle.txn_runner.specs.Working.{HasWorked, Works, places_taken}
 use Rattle.txn_runner.proofs.PlaceLemmas.{HasRoomForRows-none}

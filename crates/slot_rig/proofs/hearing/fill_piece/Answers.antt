@@ -1,8 +1,8 @@
 use Rattle.std.proofs.Common.{arith, ◌≡◌, ◌+◌, ◌<◌, inr, length, take, get_or, ap, sym, subst}
-use Rattle.log_table.specs.declared.group_view.MemberStep.TheVariants.{Fills}
+use Rattle.log_rule.specs.declared.group_view.MemberStep.TheVariants.{Fills}
 use Rattle.log_table.specs.Seats.{Becomes, view_of}
-use Rattle.log_table.specs.Views.{filled}
-use Rattle.log_table.specs.May.{MayFillPiece}
+use Rattle.log_rule.specs.Views.{filled}
+use Rattle.log_rule.specs.May.{MayFillPiece}
 use Rattle.slot_rig.specs.Shares.{IsMember}
 use Rattle.slot_rig.proofs.Hears.{may-fill, member-fills}
 use Rattle.slot_rig.proofs.hearing.fill_piece.Goals as goal

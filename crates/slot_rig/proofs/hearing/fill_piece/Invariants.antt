@@ -1,5 +1,5 @@
 use Rattle.std.proofs.Common.{take}
-use Rattle.log_table.specs.declared.group_view.MemberStep.TheVariants.{Fills}
+use Rattle.log_rule.specs.declared.group_view.MemberStep.TheVariants.{Fills}
 use Rattle.slot_rig.specs.Shares.{IsMember}
 use Rattle.slot_rig.proofs.hearing.fill_piece.Given as goal
 

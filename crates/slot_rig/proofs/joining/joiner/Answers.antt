@@ -1,5 +1,5 @@
 use Rattle.std.proofs.Common.{rules, ap}
-use Rattle.log_table.specs.declared.view.View.{View}
+use Rattle.log_rule.specs.declared.view.View.{View}
 use Rattle.slot_rig.proofs.joining.joiner.Goals as goal
 
 pub returns-clause-joiner : goal.returns-clause-joiner

@@ -1,5 +1,5 @@
 use Rattle.std.proofs.Common.{sym, subst}
-use Rattle.log_table.specs.May.{MayStoreBase}
+use Rattle.log_rule.specs.May.{MayStoreBase}
 use Rattle.log_table.specs.Seats.{view_of}
 use Rattle.slot_rig.proofs.Leads.{may-store, member-stored}
 use Rattle.slot_rig.proofs.leading.store.Goals as goal

@@ -1,5 +1,5 @@
 use Rattle.std.proofs.Common.{◌∙◌, inr, length, ap, sym, subst}
-use Rattle.log_table.specs.May.{MayReleaseRefused}
+use Rattle.log_rule.specs.May.{MayReleaseRefused}
 use Rattle.log_table.specs.Seats.{view_of}
 use Rattle.slot_rig.proofs.Releases.{may-leave, left-last}
 use Rattle.slot_rig.proofs.releasing.leave_refused.Goals as goal

@@ -1,6 +1,6 @@
 use Rattle.std.proofs.Common.{inl, length, ap, sym, subst}
 use Rattle.log_table.specs.Seats.{view_of}
-use Rattle.log_table.specs.May.{MayReleaseFilled}
+use Rattle.log_rule.specs.May.{MayReleaseFilled}
 use Rattle.slot_rig.proofs.Releases.{may-release, released-last, released-before}
 use Rattle.slot_rig.proofs.releasing.release.Goals as goal
 

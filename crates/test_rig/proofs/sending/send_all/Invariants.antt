@@ -1,6 +1,6 @@
 use Rattle.std.proofs.Common.{◌≡◌}
 use Rattle.log_table.specs.Seats.{IsOf, view_of}
-use Rattle.log_table.specs.Views.{read_to, sent_to}
+use Rattle.log_rule.specs.Views.{read_to, sent_to}
 use Rattle.test_rig.proofs.sending.send_all.Given as goal
 
 abbrev pub invariant-loop-at : goal.invariant-loop-at

@@ -1,7 +1,7 @@
 use Rattle.std.proofs.Common.{rules, ◌≡◌, ◌+◌, ◌∙◌, length, ap, subst, sym}
 use Rattle.log_record.specs.Spelling.{spelling}
-use Rattle.log_table.specs.declared.view.Books.{Books}
-use Rattle.log_table.specs.Books.{next_of}
+use Rattle.log_rule.specs.declared.view.Books.{Books}
+use Rattle.log_rule.specs.Books.{next_of}
 use Rattle.log_table.specs.Seats.{view_of}
 use Rattle.ring_buffer.specs.Calls.{MayPlace}
 use Rattle.txn_making.proofs.Putting.{may-place, puts}

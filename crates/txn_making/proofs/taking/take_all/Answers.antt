@@ -1,6 +1,6 @@
 use Rattle.std.proofs.Common.{◌≡◌, ◌<◌, ◌∷◌, ◌++◌, [], get_or, take, ap, sym, refl, ◌∙◌}
 use Rattle.lock_core.specs.Transactions.{recs_of, has_commit}
-use Rattle.log_table.specs.declared.view.Books.{Books}
+use Rattle.log_rule.specs.declared.view.Books.{Books}
 use Rattle.std.proofs.lemmas.List.{take_more}
 use Rattle.std.proofs.lemmas.List.Elements.{All-take}
 use Rattle.txn_making.proofs.Backing.{notes-uncommitted}

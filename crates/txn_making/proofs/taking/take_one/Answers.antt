@@ -1,6 +1,6 @@
 use Rattle.std.proofs.Common.{◌∙◌, ap, subst, sym}
 use Rattle.std.proofs.lemmas.Result.{err_from_is_err_and}
-use Rattle.log_table.specs.May.{Ascends}
+use Rattle.log_rule.specs.May.{Ascends}
 use Rattle.txn_making.proofs.Trying.{stays, taken-fits, takes-one, passes-one}
 use Rattle.txn_making.proofs.taking.take_one.Goals as goal
 

@@ -2,7 +2,7 @@ use Rattle.std.proofs.Common.{◌≡◌, ◌≤◌, true, All, arith, subst, sym
 use Rattle.std.proofs.lemmas.Grind.{common_steps}
 use Rattle.lock_core.specs.History.{end_from}
 use Rattle.lock_core.specs.Transactions.{recs_of, has_end}
-use Rattle.log_table.specs.declared.view.Books.{Books}
+use Rattle.log_rule.specs.declared.view.Books.{Books}
 use Rattle.log_table.specs.Seats.{view_of}
 use Rattle.txn_making.specs.Holdings.{HoldsAll, GoesBack}
 use Rattle.txn_runner.proofs.StageLemmas.{IsOf-same, IsReady-same, gives-all, gives-then, still-seen, still-stopped}

@@ -1,5 +1,5 @@
 use Rattle.std.proofs.Common.{rules, ap, ◌∙◌}
-use Rattle.log_table.specs.Views.{knows_all_enrolled}
+use Rattle.log_rule.specs.Views.{knows_all_enrolled}
 use Rattle.commit_pipeline.proofs.RanLemmas.{Later-trans, Later-standing}
 use Rattle.commit_pipeline.proofs.daemon.Daemon.run_until_drained.Goals as goal
 

@@ -1,6 +1,6 @@
 use Rattle.std.proofs.Common.{◌≡◌, true}
 use Rattle.log_table.specs.Seats.{view_of}
-use Rattle.log_table.specs.Views.{knows_all_enrolled}
+use Rattle.log_rule.specs.Views.{knows_all_enrolled}
 use Rattle.commit_pipeline.specs.Later.{Later}
 use Rattle.commit_pipeline.specs.Turning.{MayTurn}
 use Rattle.commit_pipeline.proofs.daemon.Daemon.run_until_drained.Given as goal

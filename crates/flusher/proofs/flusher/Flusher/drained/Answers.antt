@@ -1,7 +1,7 @@
 use Rattle.std.proofs.Common.{arith, refl, ◌≡◌, ◌∙◌, sym, ap, subst}
 use Rattle.std.proofs.lemmas.Bool.{eqb-true}
 use Rattle.log_table.specs.Seats.{Becomes, view_of}
-use Rattle.log_table.specs.Views.{saw_crew, saw_exposed, sent_to}
+use Rattle.log_rule.specs.Views.{saw_crew, saw_exposed, sent_to}
 use Rattle.flusher.proofs.Flushes.{Becomes-then, MayFlush-step, seen-newer}
 use Rattle.flusher.proofs.flusher.Flusher.drained.Goals as goal
 

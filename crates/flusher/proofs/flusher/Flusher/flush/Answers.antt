@@ -1,9 +1,9 @@
 use Rattle.std.proofs.Common.{arith, ◌≡◌, ◌≢◌, ◌∙◌, sym, ap, refl, length, ◌<◌, ◌+◌, ◌++◌}
 use Rattle.std.proofs.lemmas.Bool.{eqb-true, eqb-false}
 use Rattle.std.proofs.lemmas.Result.{err_from_is_err_and}
-use Rattle.log_table.specs.declared.view.View.{View}
+use Rattle.log_rule.specs.declared.view.View.{View}
 use Rattle.log_table.specs.Seats.{view_of}
-use Rattle.log_table.specs.Views.{has_sent}
+use Rattle.log_rule.specs.Views.{has_sent}
 use Rattle.flusher.specs.Sending.{read_units, gathered}
 use Rattle.flusher.proofs.Flushes.{Becomes-then, GrowsAtMostTo-append, IsSameSeat-becomes, Leaves-append, Reads-gathered, sent_to-flushed, seen-flushed, HoldsDurablePrefix-append, MayHoldBatchInFlight-append, MayFlush-step, seen-newer, tail-appended, tail-place}
 use Rattle.flusher.proofs.flusher.Flusher.flush.Goals as goal

@@ -1,5 +1,5 @@
 use Rattle.std.proofs.Common.{arith}
-use Rattle.log_table.proofs.Allowing.{load_account-allowed}
+use Rattle.log_rule.proofs.Allowing.{load_account-allowed}
 use Rattle.log_table.proofs.steps.accounts.load_account_as.Goals as goal
 
 pub load-requires : goal.load-requires

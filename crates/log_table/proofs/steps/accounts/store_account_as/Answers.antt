@@ -1,8 +1,8 @@
 use Rattle.std.proofs.Common.{rules, arith, ◌∙◌, refl, ap}
-use Rattle.log_table.specs.AccountViews.{gave_account}
+use Rattle.log_rule.specs.AccountViews.{gave_account}
 use Rattle.log_table.specs.Seats.{view_of}
-use Rattle.log_table.proofs.Allowing.{store_account-allowed}
-use Rattle.log_table.proofs.Owing.{FitsWord}
+use Rattle.log_rule.proofs.Allowing.{store_account-allowed}
+use Rattle.log_rule.proofs.Owing.{FitsWord}
 use Rattle.log_table.proofs.steps.accounts.store_account_as.Goals as goal
 
 pub store-requires : goal.store-requires

@@ -1,5 +1,5 @@
 use Rattle.std.proofs.Common.{arith}
-use Rattle.log_table.proofs.Allowing.{take_job-allowed}
+use Rattle.log_rule.proofs.Allowing.{take_job-allowed}
 use Rattle.log_table.proofs.steps.jobs.take_job_as.Goals as goal
 
 pub load-requires : goal.load-requires

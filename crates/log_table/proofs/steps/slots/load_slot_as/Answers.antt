@@ -2,8 +2,8 @@ use Rattle.std.proofs.Common.{rules, arith, ◌≡◌, ℕ, ◌^◌, ◌<◌, �
 use Rattle.slot_word.specs.SlotWord.{packed, word_of}
 use Rattle.slot_word.proofs.SlotWordLemmas.{word_back}
 use Rattle.log_table.specs.Seats.{view_of}
-use Rattle.log_table.specs.SlotViews.{saw_slot, TellsWaiting}
-use Rattle.log_table.proofs.SlotAllowing.{load_slot-allowed}
+use Rattle.log_rule.specs.SlotViews.{saw_slot, TellsWaiting}
+use Rattle.log_rule.proofs.SlotAllowing.{load_slot-allowed}
 use Rattle.log_table.proofs.steps.slots.load_slot_as.Goals as goal
 
 pub load-word-requires : goal.load-word-requires

@@ -1,8 +1,8 @@
 use Rattle.std.proofs.Common.{arith, ℕ, length, ◌∙◌, sym, subst}
 use Rattle.std.specs.Slots.{slots_items}
-use Rattle.log_table.specs.Closing.{IsGathered, ReadsRows, in_use}
+use Rattle.log_rule.specs.Closing.{IsGathered, ReadsRows, in_use}
 use Rattle.log_table.specs.Seats.{view_of}
-use Rattle.log_table.proofs.Gathering.{IsClosed, closes}
+use Rattle.log_rule.proofs.Gathering.{IsClosed, closes}
 use Rattle.log_table.proofs.table.LogTable.close.Goals as goal
 
 pub overflow_cast-exposed : goal.overflow_cast-exposed

@@ -3,9 +3,9 @@ use Rattle.slot_word.specs.declared.phase.Phase.TheVariants as kind
 use Rattle.slot_word.specs.SlotWord.{packed, word_of}
 use Rattle.slot_word.proofs.SlotWordLemmas.{word_back}
 use Rattle.log_table.specs.Seats.{view_of, number_of, key_of}
-use Rattle.log_table.specs.SlotViews.{closed_slot, IsGatheringWord}
-use Rattle.log_table.proofs.SlotAllowing.{close_slot-allowed}
-use Rattle.log_table.proofs.SlotClosing.{close-step}
+use Rattle.log_rule.specs.SlotViews.{closed_slot, IsGatheringWord}
+use Rattle.log_rule.proofs.SlotAllowing.{close_slot-allowed}
+use Rattle.log_rule.proofs.SlotClosing.{close-step}
 use Rattle.log_table.proofs.table.LogTable.close_slot.Goals as goal
 
 pub swap-word-requires : goal.swap-word-requires

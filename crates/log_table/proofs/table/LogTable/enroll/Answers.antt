@@ -1,6 +1,6 @@
 use Rattle.std.proofs.Common.{arith}
-use Rattle.log_table.proofs.Allowing.{enroll-allowed}
-use Rattle.log_table.proofs.Crewing.{enroll-step}
+use Rattle.log_rule.proofs.Allowing.{enroll-allowed}
+use Rattle.log_rule.proofs.Crewing.{enroll-step}
 use Rattle.log_table.proofs.table.LogTable.enroll.Goals as goal
 
 pub fetch_add-requires : goal.fetch_add-requires

@@ -1,5 +1,5 @@
 use Rattle.std.proofs.Common.{rules}
-use Rattle.log_table.proofs.Owing.{FitsWord, account-takes, account-looks, on_ok, if_err}
+use Rattle.log_rule.proofs.Owing.{FitsWord, account-takes, account-looks, on_ok, if_err}
 use Rattle.log_table.proofs.table.LogTable.exchange_account.Goals as goal
 
 pub returns-clause-ok_event : goal.returns-clause-ok_event

@@ -1,8 +1,8 @@
 use Rattle.std.proofs.Common.{rules, arith, ℕ, sym, subst}
-use Rattle.log_table.specs.May.{MayRaise}
+use Rattle.log_rule.specs.May.{MayRaise}
 use Rattle.log_table.specs.Seats.{view_of, number_of, key_of}
-use Rattle.log_table.proofs.Allowing.{exchange_exposed-allowed}
-use Rattle.log_table.proofs.Raising.{raise-won, raise-lost}
+use Rattle.log_rule.proofs.Allowing.{exchange_exposed-allowed}
+use Rattle.log_rule.proofs.Raising.{raise-won, raise-lost}
 use Rattle.log_table.proofs.table.LogTable.exchange_exposed.Goals as goal
 
 pub compare_exchange-found-requires : goal.compare_exchange-found-requires

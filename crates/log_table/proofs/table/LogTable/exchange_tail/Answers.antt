@@ -1,14 +1,14 @@
 use Rattle.std.proofs.Common.{arith, ◌≡◌, ◌≢◌, ℕ, cond, refl, sym, ap, ◌∙◌, subst, ne_eqb}
-use Rattle.log_table.specs.declared.view.View.{View}
-use Rattle.log_table.specs.May.{MayExchangeTail}
+use Rattle.log_rule.specs.declared.view.View.{View}
+use Rattle.log_rule.specs.May.{MayExchangeTail}
 use Rattle.log_table.specs.Seats.{view_of, number_of, key_of}
-use Rattle.log_table.proofs.Allowing.{exchange_tail-allowed}
-use Rattle.log_table.proofs.LeaderPlacing.{place-step}
-use Rattle.log_table.proofs.Looking.{tail-looks_as}
-use Rattle.log_table.proofs.Reserving.{reserve-step}
-use Rattle.log_table.proofs.TailMoving.{exchange-made}
-use Rattle.log_table.specs.SlotViews.{exchanged, reserved_group, after_exchange, lost_exchange, contended_losing}
-use Rattle.log_table.specs.Views.{reserved, seen_tail, lost_alone, saw_tail}
+use Rattle.log_rule.proofs.Allowing.{exchange_tail-allowed}
+use Rattle.log_rule.proofs.LeaderPlacing.{place-step}
+use Rattle.log_rule.proofs.Looking.{tail-looks_as}
+use Rattle.log_rule.proofs.Reserving.{reserve-step}
+use Rattle.log_rule.proofs.TailMoving.{exchange-made}
+use Rattle.log_rule.specs.SlotViews.{exchanged, reserved_group, after_exchange, lost_exchange, contended_losing}
+use Rattle.log_rule.specs.Views.{reserved, seen_tail, lost_alone, saw_tail}
 use Rattle.log_table.proofs.table.LogTable.exchange_tail.Goals as goal
 
 pub compare_exchange-found-requires : goal.compare_exchange-found-requires

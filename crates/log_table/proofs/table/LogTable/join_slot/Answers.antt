@@ -2,10 +2,10 @@ use Rattle.std.proofs.Common.{arith, ◌≡◌, cond, refl, sym, ap, ◌∙◌, 
 use Rattle.slot_word.specs.SlotWord.{packed, word_of, total_in}
 use Rattle.slot_word.proofs.SlotWordLemmas.{total_back, word_back}
 use Rattle.log_table.specs.Seats.{view_of, number_of, key_of}
-use Rattle.log_table.specs.SlotViews.{own_slot_of, joined_slot, lost_join}
-use Rattle.log_table.proofs.SlotAllowing.{join_slot-allowed}
-use Rattle.log_table.proofs.SlotJoining.{join-won}
-use Rattle.log_table.proofs.SlotLooks.{slot-looks_as}
+use Rattle.log_rule.specs.SlotViews.{own_slot_of, joined_slot, lost_join}
+use Rattle.log_rule.proofs.SlotAllowing.{join_slot-allowed}
+use Rattle.log_rule.proofs.SlotJoining.{join-won}
+use Rattle.log_rule.proofs.SlotLooks.{slot-looks_as}
 use Rattle.log_table.proofs.table.LogTable.join_slot.Goals as goal
 
 pub compare_exchange-found-requires : goal.compare_exchange-found-requires

@@ -1,6 +1,6 @@
 use Rattle.std.proofs.Common.{arith}
-use Rattle.log_table.proofs.Allowing.{leave-allowed}
-use Rattle.log_table.proofs.Crewing.{leave-step}
+use Rattle.log_rule.proofs.Allowing.{leave-allowed}
+use Rattle.log_rule.proofs.Crewing.{leave-step}
 use Rattle.log_table.proofs.table.LogTable.leave.Goals as goal
 
 pub fetch_sub-requires : goal.fetch_sub-requires

@@ -1,4 +1,4 @@
-use Rattle.log_table.proofs.Owing.{account-looks}
+use Rattle.log_rule.proofs.Owing.{account-looks}
 use Rattle.log_table.proofs.table.LogTable.load_account.Goals as goal
 
 pub returns-clause-event : goal.returns-clause-event

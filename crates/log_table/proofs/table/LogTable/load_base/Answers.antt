@@ -1,7 +1,7 @@
 use Rattle.std.proofs.Common.{arith, refl}
 use Rattle.log_table.specs.Seats.{number_of, key_of}
-use Rattle.log_table.proofs.SlotAllowing.{load_base-allowed}
-use Rattle.log_table.proofs.SlotHearing.{hear-step}
+use Rattle.log_rule.proofs.SlotAllowing.{load_base-allowed}
+use Rattle.log_rule.proofs.SlotHearing.{hear-step}
 use Rattle.log_table.proofs.table.LogTable.load_base.Goals as goal
 
 pub load-requires : goal.load-requires

@@ -1,6 +1,6 @@
 use Rattle.std.proofs.Common.{arith, refl}
-use Rattle.log_table.proofs.Allowing.{load_crew-allowed}
-use Rattle.log_table.proofs.Stopping.{crew-looks}
+use Rattle.log_rule.proofs.Allowing.{load_crew-allowed}
+use Rattle.log_rule.proofs.Stopping.{crew-looks}
 use Rattle.log_table.proofs.table.LogTable.load_crew.Goals as goal
 
 pub load-requires : goal.load-requires

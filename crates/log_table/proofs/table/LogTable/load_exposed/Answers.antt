@@ -1,6 +1,6 @@
 use Rattle.std.proofs.Common.{arith}
-use Rattle.log_table.proofs.Allowing.{load_exposed-allowed}
-use Rattle.log_table.proofs.Exposing.{exposed-looks}
+use Rattle.log_rule.proofs.Allowing.{load_exposed-allowed}
+use Rattle.log_rule.proofs.Exposing.{exposed-looks}
 use Rattle.log_table.proofs.table.LogTable.load_exposed.Goals as goal
 
 pub load-requires : goal.load-requires

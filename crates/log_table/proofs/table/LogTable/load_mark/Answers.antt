@@ -1,7 +1,7 @@
 use Rattle.std.proofs.Common.{arith, ◌%◌, ◌<◌, mod-lt}
 use Rattle.log_table.specs.Seats.{number_of, key_of}
-use Rattle.log_table.proofs.Allowing.{load_mark-allowed}
-use Rattle.log_table.proofs.Exposing.{look-step}
+use Rattle.log_rule.proofs.Allowing.{load_mark-allowed}
+use Rattle.log_rule.proofs.Exposing.{look-step}
 use Rattle.log_table.proofs.table.LogTable.load_mark.Goals as goal
 
 pub load-requires : goal.load-requires

@@ -1,12 +1,12 @@
 use Rattle.std.proofs.Common.{◌≡◌, arith, ℕ, ◌+◌, ◌%◌, ◌<◌, mod-lt, sym, subst}
 use Rattle.atomic_table.specs.Table.{Allows}
-use Rattle.log_table.specs.declared.layout.TheConstants.{RING}
+use Rattle.log_rule.specs.declared.layout.TheConstants.{RING}
 use Rattle.log_table.specs.Seats.{number_of, key_of}
-use Rattle.log_table.specs.Sends.{ReadsWholeEntries}
-use Rattle.log_table.specs.Sound.{Ruled}
-use Rattle.log_table.specs.Views.{has_read}
-use Rattle.log_table.proofs.Allowing.{load_ring-allowed}
-use Rattle.log_table.proofs.Reading.{read-step}
+use Rattle.log_rule.specs.Sends.{ReadsWholeEntries}
+use Rattle.log_rule.specs.Sound.{Ruled}
+use Rattle.log_rule.specs.Views.{has_read}
+use Rattle.log_rule.proofs.Allowing.{load_ring-allowed}
+use Rattle.log_rule.proofs.Reading.{read-step}
 use Rattle.log_table.proofs.table.LogTable.load_ring.Goals as goal
 
 pub load-requires : goal.load-requires

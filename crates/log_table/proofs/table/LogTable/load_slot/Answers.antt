@@ -1,4 +1,4 @@
-use Rattle.log_table.proofs.SlotLooks.{slot-looks}
+use Rattle.log_rule.proofs.SlotLooks.{slot-looks}
 use Rattle.log_table.proofs.table.LogTable.load_slot.Goals as goal
 
 pub returns-clause-event : goal.returns-clause-event

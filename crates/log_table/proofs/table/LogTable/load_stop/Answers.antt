@@ -1,6 +1,6 @@
 use Rattle.std.proofs.Common.{arith, refl}
-use Rattle.log_table.proofs.Allowing.{load_stop-allowed}
-use Rattle.log_table.proofs.Looking.{stop-looks}
+use Rattle.log_rule.proofs.Allowing.{load_stop-allowed}
+use Rattle.log_rule.proofs.Looking.{stop-looks}
 use Rattle.log_table.proofs.table.LogTable.load_stop.Goals as goal
 
 pub load-requires : goal.load-requires

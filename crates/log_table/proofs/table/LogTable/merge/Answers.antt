@@ -1,7 +1,7 @@
 use Rattle.std.proofs.Common.{rules, arith, ◌∙◌, refl}
 use Rattle.log_table.specs.Seats.{view_of, number_of, key_of}
-use Rattle.log_table.proofs.Allowing.{tell_stop-allowed}
-use Rattle.log_table.proofs.Merging.{merge-allowed}
+use Rattle.log_rule.proofs.Allowing.{tell_stop-allowed}
+use Rattle.log_rule.proofs.Merging.{merge-allowed}
 use Rattle.log_table.proofs.table.LogTable.merge.Goals as goal
 
 pub join_seat-requires : goal.join_seat-requires

@@ -1,6 +1,6 @@
 use Rattle.std.proofs.Common.{arith}
 use Rattle.log_table.specs.Seats.{view_of, number_of, key_of}
-use Rattle.log_table.proofs.Noting.{note-allowed}
+use Rattle.log_rule.proofs.Noting.{note-allowed}
 use Rattle.log_table.proofs.table.LogTable.note.Goals as goal
 
 pub split_seat-base-requires : goal.split_seat-base-requires

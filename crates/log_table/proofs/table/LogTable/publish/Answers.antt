@@ -1,7 +1,7 @@
 use Rattle.std.proofs.Common.{arith, refl}
 use Rattle.log_table.specs.Seats.{number_of, key_of}
-use Rattle.log_table.proofs.SlotAllowing.{publish-allowed}
-use Rattle.log_table.proofs.SlotTelling.{publish-step}
+use Rattle.log_rule.proofs.SlotAllowing.{publish-allowed}
+use Rattle.log_rule.proofs.SlotTelling.{publish-step}
 use Rattle.log_table.proofs.table.LogTable.publish.Goals as goal
 
 pub store-requires : goal.store-requires

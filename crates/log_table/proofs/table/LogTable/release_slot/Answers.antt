@@ -2,8 +2,8 @@ use Rattle.std.proofs.Common.{rules, arith, ◌≡◌, ◌^◌, ◌<◌, ◌/◌
 use Rattle.slot_word.specs.SlotWord.{packed, word_of}
 use Rattle.slot_word.proofs.SlotWordLemmas.{word_back}
 use Rattle.log_table.specs.Seats.{view_of, number_of, key_of}
-use Rattle.log_table.specs.SlotViews.{released_piece, HasToRelease}
-use Rattle.log_table.proofs.SlotReleased.{release_slot-allowed, release-step, less-minus}
+use Rattle.log_rule.specs.SlotViews.{released_piece, HasToRelease}
+use Rattle.log_rule.proofs.SlotReleased.{release_slot-allowed, release-step, less-minus}
 use Rattle.log_table.proofs.table.LogTable.release_slot.Goals as goal
 
 pub fetch_sub-word-requires : goal.fetch_sub-word-requires

@@ -1,7 +1,7 @@
 use Rattle.std.proofs.Common.{arith, refl}
 use Rattle.log_table.specs.Seats.{number_of, key_of}
-use Rattle.log_table.proofs.SlotAllowing.{reopen-allowed}
-use Rattle.log_table.proofs.SlotReopening.{reopen-step}
+use Rattle.log_rule.proofs.SlotAllowing.{reopen-allowed}
+use Rattle.log_rule.proofs.SlotReopening.{reopen-step}
 use Rattle.log_table.proofs.table.LogTable.reopen.Goals as goal
 
 pub store-requires : goal.store-requires

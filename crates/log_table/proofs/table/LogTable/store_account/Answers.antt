@@ -1,5 +1,5 @@
 use Rattle.std.proofs.Common.{rules}
-use Rattle.log_table.proofs.Owing.{FitsWord, give-step}
+use Rattle.log_rule.proofs.Owing.{FitsWord, give-step}
 use Rattle.log_table.proofs.table.LogTable.store_account.Goals as goal
 
 pub returns-clause-event : goal.returns-clause-event

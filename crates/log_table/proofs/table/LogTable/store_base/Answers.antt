@@ -1,7 +1,7 @@
 use Rattle.std.proofs.Common.{arith, refl}
 use Rattle.log_table.specs.Seats.{number_of, key_of}
-use Rattle.log_table.proofs.SlotAllowing.{store_base-allowed}
-use Rattle.log_table.proofs.SlotStoring.{granted-step, refused-step}
+use Rattle.log_rule.proofs.SlotAllowing.{store_base-allowed}
+use Rattle.log_rule.proofs.SlotStoring.{granted-step, refused-step}
 use Rattle.log_table.proofs.table.LogTable.store_base.Goals as goal
 
 pub store-requires : goal.store-requires

@@ -1,9 +1,9 @@
 use Rattle.std.proofs.Common.{arith, ◌∙◌, ℕ, refl, sym, ap, subst}
-use Rattle.log_table.specs.May.{MaySend}
+use Rattle.log_rule.specs.May.{MaySend}
 use Rattle.log_table.specs.Seats.{view_of, number_of, key_of}
-use Rattle.log_table.specs.Views.{has_sent}
-use Rattle.log_table.proofs.Allowing.{store_durable-allowed}
-use Rattle.log_table.proofs.Flushing.{send-step}
+use Rattle.log_rule.specs.Views.{has_sent}
+use Rattle.log_rule.proofs.Allowing.{store_durable-allowed}
+use Rattle.log_rule.proofs.Flushing.{send-step}
 use Rattle.log_table.proofs.table.LogTable.store_durable.Goals as goal
 
 pub store-requires : goal.store-requires

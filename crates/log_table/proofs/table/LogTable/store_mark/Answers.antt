@@ -1,8 +1,8 @@
 use Rattle.std.proofs.Common.{arith, ℕ, ◌%◌, ◌<◌, mod-lt, refl, sym, subst}
-use Rattle.log_table.specs.May.{MayMark}
+use Rattle.log_rule.specs.May.{MayMark}
 use Rattle.log_table.specs.Seats.{view_of, number_of, key_of}
-use Rattle.log_table.proofs.Allowing.{store_mark-allowed}
-use Rattle.log_table.proofs.GroupMarking.{mark-step}
+use Rattle.log_rule.proofs.Allowing.{store_mark-allowed}
+use Rattle.log_rule.proofs.GroupMarking.{mark-step}
 use Rattle.log_table.proofs.table.LogTable.store_mark.Goals as goal
 
 pub store-requires : goal.store-requires

@@ -1,11 +1,11 @@
 use Rattle.std.proofs.Common.{◌≡◌, arith, ℕ, ◌+◌, ◌%◌, ◌<◌, mod-lt, refl, sym, subst}
 use Rattle.atomic_table.specs.Table.{Allows}
-use Rattle.log_table.specs.declared.layout.TheConstants.{RING}
+use Rattle.log_rule.specs.declared.layout.TheConstants.{RING}
 use Rattle.log_table.specs.Seats.{number_of, key_of}
-use Rattle.log_table.specs.Sound.{Ruled}
-use Rattle.log_table.specs.Views.{filled}
-use Rattle.log_table.proofs.Allowing.{store_ring-allowed}
-use Rattle.log_table.proofs.PieceFilling.{fill-step}
+use Rattle.log_rule.specs.Sound.{Ruled}
+use Rattle.log_rule.specs.Views.{filled}
+use Rattle.log_rule.proofs.Allowing.{store_ring-allowed}
+use Rattle.log_rule.proofs.PieceFilling.{fill-step}
 use Rattle.log_table.proofs.table.LogTable.store_ring.Goals as goal
 
 pub store-requires : goal.store-requires

@@ -1,6 +1,6 @@
 use Rattle.std.proofs.Common.{arith, refl}
-use Rattle.log_table.proofs.Allowing.{store_stop-allowed}
-use Rattle.log_table.proofs.Stopping.{stop-step}
+use Rattle.log_rule.proofs.Allowing.{store_stop-allowed}
+use Rattle.log_rule.proofs.Stopping.{stop-step}
 use Rattle.log_table.proofs.table.LogTable.store_stop.Goals as goal
 
 pub store-requires : goal.store-requires

@@ -1,0 +1,366 @@
+-- The next record of a seat's last job enters the log: each kind keeps the account part of the rule.
+use Rattle.std.proofs.Common.{◌≡◌, ◌≢◌, ◌⊎◌, inl, inr, ◌&&◌, ◌||◌, ℕ, ◌+◌, ◌≤◌, ◌<◌, cond, ℤ, true, false, true≢false, List, [], ◌∷◌, length, set, Option, Some, None, IfSome, sym, refl, ap, ◌∙◌, subst, arith}
+use Rattle.std.specs.List.{AllByRecursion}
+use mathlib.Core.Logic.{dite}
+use mathlib.Core.Option.{some}
+use native.Mathlib.Decide.{dec_le}
+use lib.ListN.{get_elem?}
+use Rattle.log_record.specs.declared.rec.Rec.{Rec}
+use Rattle.log_record.specs.declared.rec.Rec.TheVariants.{Genesis, Update, Commit, Short, Over, Note}
+use Rattle.log_record.specs.declared.rec.Placed.{Placed}
+use Rattle.log_record.specs.Spelling.{IsNoteText, IsSpellable}
+use Rattle.log_record.specs.declared.limits.TheConstants.{MOST_BALANCE}
+use Rattle.lock_core.specs.Records.{txn_of, commits, ends, gain, loss}
+use Rattle.lock_core.specs.History.{end_from}
+use Rattle.lock_core.specs.Transactions.{recs_of, own_records_of, changes_in, has_end, has_commit, is_committed, touches, all_without_prev, in_order}
+use Rattle.lock_core.specs.Sums.{BaseState, moved, total, AreInRange, balance_of, last_commit_of}
+use Rattle.lock_core.specs.Tests.{IsCurrent, IsGenesis}
+use Rattle.lock_core.specs.Alone.{with_note, IsAllowedLeg}
+use Rattle.lock_core.specs.Serial.{Task, IsRunWhole}
+use Rattle.lock_core.proofs.Appending.{passes-after}
+use Rattle.lock_core.proofs.Meeting.{MeetsTests}
+use Rattle.lock_core.proofs.OneMore.{of_transaction-same, has_commit-unended, total-plain, total-commit, last_commit_of-plain, last_commit_of-commit}
+use Rattle.lock_core.proofs.Running.{AgreesOn, planned_from-agrees, planned_records-without_prev, planned_records-outcome, all_without_prev-in_order, no_commit}
+use Rattle.lock_core.proofs.SerialFronts.{IsRunPartly}
+use Rattle.lock_core.proofs.SettlingLemmas.{moved-untouched}
+use Rattle.log_rule.specs.declared.view.Held.{Held}
+use Rattle.log_rule.specs.declared.view.Books.{Books}
+use Rattle.log_rule.specs.Books.{task_of, times_held, balance_taken, mark_taken, plan_of, IsNext, HoldsLeg, HoldsAccounts, IsNote, MayEnter, placing}
+use Rattle.lock_core.specs.Transfers.{note_of}
+use Rattle.log_rule.specs.Accounts.{IsAsTaken, HasOneHolder, HasDistinctJobs, moved_if_committed, Follows, AccountsFollowList, KeepsAccounts, MayBeTaken}
+use Rattle.log_rule.proofs.Bookings.{everywhere-set, summed-set, found, balance_taken-none, mark_taken-all}
+use Rattle.log_rule.proofs.Growing.{IsSameAt, grows}
+use Rattle.log_rule.proofs.Lists.{all-weaker, all-both}
+use Rattle.log_rule.proofs.Taking.{LastIsOne, distinct-before}
+use Rattle.lsn_space.specs.declared.lsn.TheConstants.{LAST}
+use Rattle.slot_word.specs.AccountWord.{mark_in}
+use Rattle.log_rule.proofs.PlanFronts.{IsPlanned, IsSmallLeg, next-planned}
+use Rattle.log_rule.proofs.Planning.{Walk, walk-at, walk-plan, walk-marked, untouched, IsHeldLeg, IsMarked, IsFront, Step}
+
+module _ (base : BaseState) (words : ℕ → ℕ) (h : List Placed) (all : List Books) (me : ℕ) (mine : Books) (distinct : HasDistinctJobs all)
+    (holder : HasOneHolder base.accounts words all) (s : AccountsFollowList base words h all) (at : get_elem? all me ≡ some mine)
+    (some_job : 1 ≤ mine.last.number) where
+  -- the seat holds the account
+  abbrev Mine : ℕ → Type 0
+  Mine account = 1 ≤ times_held account mine.held
+
+  abbrev task : Task
+  task = task_of mine.last
+
+  abbrev before : List Rec
+  before = recs_of mine.placed
+
+  known : (account : ℕ) → Mine account → account < base.accounts
+  known account has = let f = found (IsAsTaken base.accounts words) account mine.held has (holder.taken me mine at) in
+      subst (λ a. a < base.accounts) f.is f.known.known
+
+  tied : own_records_of mine.last.number h ≡ before
+  tied = ap recs_of (s.placed me mine at some_job)
+
+  tied-to : (txn : ℕ) → txn ≡ mine.last.number → own_records_of txn h ≡ before
+  tied-to txn own = ap (λ n. own_records_of n h) own ∙ tied
+
+  module _ (unended : has_end before ≡ false) where
+    uncommitted : has_commit before ≡ false
+    uncommitted = has_commit-unended before unended
+
+    nothing : (side : ℤ → ℕ) (account : ℕ) → moved_if_committed side account mine.placed ≡ 0
+    nothing side account = ap (λ b. cond b (moved side account (changes_in before)) 0) uncommitted
+
+    -- until the job is committed, the balance as taken is the list's, and so is the last Commit
+    balance-taken : (account : ℕ) → Mine account → balance_taken mine.held account + total loss account h ≡ base.balance account + total gain account h
+    balance-taken account has =
+        let f = found (Follows base h mine.placed) account mine.held has (s.held me mine at) in
+        let old : Follows base h mine.placed f.held = f.known in
+        let is : f.held.balance + moved_if_committed gain account mine.placed + total loss account h
+        ≡ base.balance account + total gain account h + moved_if_committed loss account mine.placed =
+        subst (λ a. f.held.balance + moved_if_committed gain a mine.placed + total loss a h ≡ base.balance a + total gain a h + moved_if_committed loss a mine.placed) f.is old.balance in
+        let up = nothing gain account in let down = nothing loss account in let balance = f.balance in omega arith
+
+    mark-taken : (account : ℕ) → Mine account → mark_taken mine.held account ≡ last_commit_of base h account
+    mark-taken account has =
+        let f = found (Follows base h mine.placed) account mine.held has (s.held me mine at) in
+        let old : Follows base h mine.placed f.held = f.known in
+        f.mark ∙ (sym (ap (λ b. cond (b && touches f.held.account (changes_in before)) (end_from 0 mine.placed) f.held.mark) uncommitted)
+        ∙ (sym old.mark ∙ ap (last_commit_of base h) f.is))
+
+    in-range : (account : ℕ) → balance_taken mine.held account ≤ MOST_BALANCE
+    in-range account = dite (dec_le 1 (times_held account mine.held))
+        (λ has. let is = balance-taken account has in let r = s.range account (known account has) in let range = r.1 in let sum = r.2 in omega arith)
+        (λ none. let zero' = balance_taken-none account mine.held (omega (arith, none)) in omega arith)
+
+    -- a record that is no Commit
+    module _ (entry : Placed) (own : txn_of entry.rec ≡ mine.last.number) (plain : commits entry.rec ≡ false) where
+      uncommitted-here : is_committed (txn_of entry.rec) h ≡ false
+      uncommitted-here = ap has_commit (tied-to (txn_of entry.rec) own) ∙ uncommitted
+
+      same-plain : (account : ℕ) → IsSameAt base h entry account
+      same-plain account = record {
+        added = total-plain gain account entry h plain uncommitted-here;
+        taken = total-plain loss account entry h plain uncommitted-here;
+        mark = last_commit_of-plain base entry h account plain;
+      }
+
+      range-plain : AreInRange base (entry ∷ h)
+      range-plain account below = let r = s.range account below in let same = same-plain account in let added = same.added in let taken = same.taken in
+          let sum = r.2 in (r.0, r.1, omega arith)
+
+      follows-plain : AllByRecursion (Follows base (entry ∷ h) (entry ∷ mine.placed)) mine.held
+      follows-plain = all-weaker (Follows base h mine.placed) (Follows base (entry ∷ h) (entry ∷ mine.placed)) mine.held
+          (λ held old. let same = same-plain held.account in let added = same.added in let taken = same.taken in let balance = old.balance in
+          let none : has_commit (recs_of (entry ∷ mine.placed)) ≡ false = (λ i. plain i || uncommitted i) in
+          let up = nothing gain held.account in let down = nothing loss held.account in
+          let up' : moved_if_committed gain held.account (entry ∷ mine.placed) ≡ 0 = ap (λ b. cond b (moved gain held.account (changes_in (recs_of (entry ∷ mine.placed)))) 0) none in
+          let down' : moved_if_committed loss held.account (entry ∷ mine.placed) ≡ 0 = ap (λ b. cond b (moved loss held.account (changes_in (recs_of (entry ∷ mine.placed)))) 0) none in
+          record {
+            balance = omega arith;
+            mark = same.mark ∙ (old.mark ∙ (ap (λ b. cond (b && touches held.account (changes_in before)) (end_from 0 mine.placed) held.mark) uncommitted
+                ∙ sym (ap (λ b. cond (b && touches held.account (changes_in (recs_of (entry ∷ mine.placed)))) entry.end held.mark) none)));
+          }) (s.held me mine at)
+
+      passes-plain : MeetsTests base h entry → (IsGenesis entry.rec → ⊥) → IsRunPartly base (entry ∷ h) task
+          → AccountsFollowList base words (entry ∷ h) (set all me (record mine { placed = entry ∷ mine.placed }))
+      passes-plain meets other ran = grows base words h all me mine entry distinct holder s at some_job own
+          (passes-after base h entry other meets) range-plain (λ account _. same-plain account) follows-plain ran
+
+  -- what the log has of the job, once the record is in it
+  has-more : (entry : Placed) → txn_of entry.rec ≡ mine.last.number → own_records_of mine.last.number (entry ∷ h) ≡ entry.rec ∷ before
+  has-more entry own = ap recs_of (of_transaction-same mine.last.number entry h own ∙ ap (λ l. entry ∷ l) (s.placed me mine at some_job))
+
+  cut-more : (entry : Placed) → txn_of entry.rec ≡ mine.last.number → IsFront task (entry.rec ∷ before) → IsRunPartly base (entry ∷ h) task
+  cut-more entry own front = inr (record {
+    rest = front.rest;
+    front = ap (λ l. in_order (all_without_prev l) front.rest) (has-more entry own) ∙ front.front;
+  })
+
+  -- a Note needs no account
+  pub note-enters : (end txn : ℕ) (text : List ℕ) → txn ≡ mine.last.number → has_end before ≡ false → IsFront task (Note txn text ∷ before)
+      → AccountsFollowList base words (record { end = end; rec = Note txn text } ∷ h) (set all me (placing end (Note txn text) mine))
+  note-enters end txn text own unended front = let entry : Placed = record { end = end; rec = Note txn text } in
+      passes-plain unended entry own refl
+      record {
+        account = tt;
+        ended = ap has_end (tied-to txn own) ∙ unended;
+        legs = tt;
+        pair = tt;
+        prev = tt;
+        stale = tt;
+        balance = λ on. absurd (true≢false (sym on));
+      } (λ g. g) (cut-more entry own front)
+
+  module _ (few : length mine.last.job.legs ≤ 8) (some_amounts : AllByRecursion (λ (leg : ℕ × ℕ × ℕ). (leg.0 ≢ leg.1) × (1 ≤ leg.2)) mine.last.job.legs)
+      (holds : HoldsAccounts mine) (unended : has_end before ≡ false) (rec : Rec) (rest : List Rec) (next : in_order before (rec ∷ rest) ≡ plan_of mine) where
+    abbrev T : List Rec → Rec → List Rec → Type 0
+    T = Step task Mine (mark_taken mine.held) (balance_taken mine.held)
+
+    walk : Walk T [] (in_order before (rec ∷ rest))
+    walk = subst (Walk T []) (sym next) (walk-plan task Mine (mark_taken mine.held) (balance_taken mine.held) few
+        (all-both (λ (leg : ℕ × ℕ × ℕ). (leg.0 ≢ leg.1) × (1 ≤ leg.2)) (HoldsLeg mine.held) (IsHeldLeg Mine) mine.last.job.legs
+        (λ leg a b. (a.0, a.1, b.0, b.1)) some_amounts holds) (in-range unended))
+
+    step : T before rec rest
+    step = (walk-at T before (rec ∷ rest) walk).0
+
+    marked : AllByRecursion (IsMarked Mine (mark_taken mine.held)) (changes_in before)
+    marked = walk-marked task Mine (mark_taken mine.held) (balance_taken mine.held) before (rec ∷ rest) walk
+
+    -- an end record: all of the job, run alone on the balances before it
+    run-whole : (entry : Placed) → entry.rec ≡ rec → txn_of rec ≡ mine.last.number → ends rec ≡ true → rest ≡ [] → IsRunWhole base (entry ∷ h) task
+    run-whole entry is own end none = record {
+      later = [];
+      end = entry;
+      front = h;
+      whole = refl;
+      own = ap txn_of is ∙ own;
+      ended = ap ends is ∙ end;
+      last = refl;
+      records = ap (λ l. in_order (all_without_prev l) []) (λ i. is i ∷ tied i)
+          ∙ (sym (all_without_prev-in_order (rec ∷ before) [])
+          ∙ (ap all_without_prev (ap (λ l. in_order before (rec ∷ l)) (sym none) ∙ next)
+          ∙ (planned_records-without_prev mine.last.number task.job (mark_taken mine.held) (balance_taken mine.held)
+          ∙ (ap (with_note mine.last.number task.job.note) (planned_from-agrees mine.last.number no_commit (balance_taken mine.held) (balance_of base h) 0 mine.last.job.legs
+          (all-weaker (HoldsLeg mine.held) (AgreesOn (balance_taken mine.held) (balance_of base h)) mine.last.job.legs (λ leg has. (agrees leg.0 has.0, agrees leg.1 has.1)) holds))
+          ∙ planned_records-outcome mine.last.number task.job (balance_of base h)))));
+    }
+      where
+        agrees : (account : ℕ) → Mine account → balance_taken mine.held account ≡ balance_of base h account
+        agrees account has = let is' = balance-taken unended account has in omega arith
+
+  module _ (end txn legs : ℕ) (few : length mine.last.job.legs ≤ 8)
+      (some_amounts : AllByRecursion (λ (leg : ℕ × ℕ × ℕ). (leg.0 ≢ leg.1) × (1 ≤ leg.2)) mine.last.job.legs)
+      (holds : HoldsAccounts mine) (unended : has_end before ≡ false) (rest : List Rec) (next : in_order before (Commit txn legs ∷ rest) ≡ plan_of mine) where
+    abbrev commit : Placed
+    commit = record { end = end; rec = Commit txn legs }
+
+    is-commit : Step task Mine (mark_taken mine.held) (balance_taken mine.held) before (Commit txn legs) rest
+    is-commit = step few some_amounts holds unended (Commit txn legs) rest next
+
+    all-marked : AllByRecursion (IsMarked Mine (mark_taken mine.held)) (changes_in before)
+    all-marked = marked few some_amounts holds unended (Commit txn legs) rest next
+
+    sums : (side : ℤ → ℕ) (account : ℕ) → total side account (commit ∷ h) ≡ total side account h + moved side account (changes_in before)
+    sums side account = let list = tied-to txn is-commit.own in
+        total-commit side account commit h refl (ap has_commit list ∙ uncommitted unended)
+        ∙ ap (λ records. total side account h + moved side account (changes_in records)) list
+
+    last-is : (account : ℕ) → last_commit_of base (commit ∷ h) account ≡ cond (touches account (changes_in before)) end (last_commit_of base h account)
+    last-is account = last_commit_of-commit base commit h account refl
+        ∙ ap (λ records. cond (touches account (changes_in records)) end (last_commit_of base h account)) (tied-to txn is-commit.own)
+
+    same-commit : (account : ℕ) → (Mine account → ⊥) → IsSameAt base h commit account
+    same-commit account none =
+        let off = untouched Mine (mark_taken mine.held) (changes_in before) account none all-marked in
+        let added = sums gain account in let taken = sums loss account in
+        let up = moved-untouched gain account (changes_in before) off in let down = moved-untouched loss account (changes_in before) off in
+        record { added = omega arith; taken = omega arith; mark = last-is account ∙ ap (λ b. cond b end (last_commit_of base h account)) off }
+
+    range-commit : AreInRange base (commit ∷ h)
+    range-commit account below = dite (dec_le 1 (times_held account mine.held))
+        (λ has. let b = is-commit.balances account in let is = balance-taken unended account has in
+        let added = sums gain account in let taken = sums loss account in let sum = b.sum in (b.now, b.range, omega arith))
+        (λ none. let r = s.range account below in let same = same-commit account none in
+        let added = same.added in let taken = same.taken in let sum = r.2 in (r.0, r.1, omega arith))
+
+    follows-commit : AllByRecursion (Follows base (commit ∷ h) (commit ∷ mine.placed)) mine.held
+    follows-commit = all-weaker (Follows base h mine.placed) (Follows base (commit ∷ h) (commit ∷ mine.placed)) mine.held
+        (λ held old. let added = sums gain held.account in let taken = sums loss held.account in let balance = old.balance in
+        let up = nothing unended gain held.account in let down = nothing unended loss held.account in record {
+          balance = omega arith;
+          mark = last-is held.account ∙ ap (λ n. cond (touches held.account (changes_in before)) end n)
+              (old.mark ∙ ap (λ b. cond (b && touches held.account (changes_in before)) (end_from 0 mine.placed) held.mark) (uncommitted unended));
+        }) (s.held me mine at)
+
+    pub commit-enters : AccountsFollowList base words (commit ∷ h) (set all me (placing end (Commit txn legs) mine))
+    commit-enters = let list = tied-to txn is-commit.own in
+        grows base words h all me mine commit distinct holder s at some_job is-commit.own
+        (passes-after base h commit (λ g. g) record {
+          account = tt;
+          ended = ap has_end list ∙ unended;
+          legs = ap (λ records. length (changes_in records)) list ∙ is-commit.count;
+          pair = tt;
+          prev = tt;
+          stale = subst (λ records. AllByRecursion (IsCurrent base h) (changes_in records)) (sym list)
+              (all-weaker (IsMarked Mine (mark_taken mine.held)) (IsCurrent base h) (changes_in before)
+              (λ change is. is.0 ∙ mark-taken unended change.account is.1) all-marked);
+          balance = λ _. range-commit;
+        }) range-commit (λ account none. same-commit account (λ has. absurd (omega (arith, none)))) follows-commit
+        (inl (run-whole few some_amounts holds unended (Commit txn legs) rest next commit refl is-commit.own refl is-commit.last))
+
+  -- the next record, of whatever kind, once the job's accounts are held
+  pub held-enters : (end : ℕ) (rec : Rec) (rest : List Rec) → length mine.last.job.legs ≤ 8
+      → AllByRecursion (λ (leg : ℕ × ℕ × ℕ). (leg.0 ≢ leg.1) × (1 ≤ leg.2)) mine.last.job.legs
+      → HoldsAccounts mine → has_end before ≡ false → in_order before (rec ∷ rest) ≡ plan_of mine
+      → AccountsFollowList base words (record { end = end; rec = rec } ∷ h) (set all me (placing end rec mine))
+  held-enters end (Genesis account balance) rest few some_amounts holds unended next =
+      absurd (step few some_amounts holds unended (Genesis account balance) rest next)
+  held-enters end (Update txn account delta prev) rest few some_amounts holds unended next =
+      let is = step few some_amounts holds unended (Update txn account delta prev) rest next in
+      let list = tied-to txn is.own in let entry : Placed = record { end = end; rec = Update txn account delta prev } in
+      passes-plain unended entry is.own refl
+      record {
+        account = known account is.marked.1;
+        ended = ap has_end list ∙ unended;
+        legs = let few_before = subst (λ records. length (changes_in records) ≤ 15) (sym list) is.legs in omega (arith, few_before);
+        pair = subst (λ records. Rattle.lock_core.specs.Tests.IsPaired (changes_in records) (record { account = account; delta = delta; prev = prev })) (sym list) is.paired;
+        prev = is.marked.0 ∙ mark-taken unended account is.marked.1;
+        stale = tt;
+        balance = λ on. absurd (true≢false (sym on));
+      } (λ g. g) (cut-more entry is.own is.cut)
+  held-enters end (Commit txn legs) rest few some_amounts holds unended next = commit-enters end txn legs few some_amounts holds unended rest next
+  held-enters end (Short txn leg) rest few some_amounts holds unended next =
+      let is = step few some_amounts holds unended (Short txn leg) rest next in
+      let list = tied-to txn is.own in let entry : Placed = record { end = end; rec = Short txn leg } in
+      passes-plain unended entry is.own refl
+      record {
+        account = tt;
+        ended = ap has_end list ∙ unended;
+        legs = ap (λ records. length (changes_in records)) list ∙ is.count;
+        pair = tt;
+        prev = tt;
+        stale = tt;
+        balance = λ on. absurd (true≢false (sym on));
+      } (λ g. g) (inl (run-whole few some_amounts holds unended (Short txn leg) rest next entry refl is.own refl is.last))
+  held-enters end (Over txn leg) rest few some_amounts holds unended next =
+      let is = step few some_amounts holds unended (Over txn leg) rest next in
+      let list = tied-to txn is.own in let entry : Placed = record { end = end; rec = Over txn leg } in
+      passes-plain unended entry is.own refl
+      record {
+        account = tt;
+        ended = ap has_end list ∙ unended;
+        legs = ap (λ records. length (changes_in records)) list ∙ is.count;
+        pair = tt;
+        prev = tt;
+        stale = tt;
+        balance = λ on. absurd (true≢false (sym on));
+      } (λ g. g) (inl (run-whole few some_amounts holds unended (Over txn leg) rest next entry refl is.own refl is.last))
+  held-enters end (Note txn text) rest few some_amounts holds unended next =
+      let is = step few some_amounts holds unended (Note txn text) rest next in note-enters end txn text is.own unended is.cut
+
+-- what a seat's last job is known to be
+module _ (base : BaseState) (words : ℕ → ℕ) (all : List Books) (me : ℕ) (mine : Books) (holder : HasOneHolder base.accounts words all)
+    (at : get_elem? all me ≡ some mine) where
+  marks-fit : (account : ℕ) → mark_taken mine.held account ≤ LAST
+  marks-fit account = mark_taken-all (λ m. m ≤ LAST) account mine.held (omega arith)
+      (all-weaker (IsAsTaken base.accounts words) (λ (held : Held). held.mark ≤ LAST) mine.held
+      (λ held t. subst (λ m. m ≤ LAST) t.mark (mark-fits (words held.account))) (holder.taken me mine at))
+    where
+      mark-fits : (word : ℕ) → mark_in word ≤ LAST
+      mark-fits word = grind (arith)
+
+  module _ (some_job : 1 ≤ mine.last.number) where
+    allowed : MayBeTaken base.accounts mine.last
+    allowed = (holder.last me mine at some_job).0
+
+    legs-allowed : AllByRecursion (IsAllowedLeg base.accounts) mine.last.job.legs
+    legs-allowed = allowed.job.legs.each
+
+    amounts : AllByRecursion (λ (leg : ℕ × ℕ × ℕ). (leg.0 ≢ leg.1) × (1 ≤ leg.2)) mine.last.job.legs
+    amounts = all-weaker (IsAllowedLeg base.accounts) (λ (leg : ℕ × ℕ × ℕ). (leg.0 ≢ leg.1) × (1 ≤ leg.2)) mine.last.job.legs
+        (λ leg a. (a.two, a.some)) legs-allowed
+
+    planned : (rec : Rec) (next : IsNext rec mine) → IsPlanned (task_of mine.last) (recs_of mine.placed) rec next.rest
+    planned rec next = next-planned (task_of mine.last) (mark_taken mine.held) allowed.number marks-fit (balance_taken mine.held)
+        allowed.job.legs.some allowed.job.legs.few
+        (all-weaker (IsAllowedLeg base.accounts) IsSmallLeg mine.last.job.legs (λ leg a. let few = holder.few in let payer = a.payer in let payee = a.payee in
+        record { payer = omega arith; payee = omega arith; least = a.some; most = a.most }) legs-allowed)
+        (by_note mine.last.job.note allowed.job.note) (recs_of mine.placed) rec next.rest next.plan
+      where
+        by_note : (note : Option (List ℕ)) → IfSome note IsNoteText → (note_of note ≡ []) ⊎ IsNoteText (note_of note)
+        by_note None fits = inl refl
+        by_note (Some text) fits = inr fits
+
+  -- the next record can be spelled
+  pub enters-spellable : (rec : Rec) → MayEnter rec mine → IsSpellable rec
+  enters-spellable rec may = (planned may.some_job rec may.next).spellable
+
+  -- placing changes neither what is held nor what was taken
+  pub placed-holder : (end : ℕ) (rec : Rec) → HasOneHolder base.accounts words (set all me (placing end rec mine))
+  placed-holder end rec = record {
+    few = holder.few;
+    counts = λ account below. let sum = summed-set (λ (books : Books). times_held account books.held) all me mine (placing end rec mine) at in
+        let count = holder.counts account below in omega arith;
+    taken = everywhere-set (λ (books : Books). AllByRecursion (IsAsTaken base.accounts words) books.held) all me (placing end rec mine) holder.taken (holder.taken me mine at);
+    last = everywhere-set (LastIsOne base.accounts) all me (placing end rec mine) holder.last (holder.last me mine at);
+  }
+
+-- the next record of a seat's last job enters the log
+pub enters : (base : BaseState) (words : ℕ → ℕ) (h : List Placed) (all : List Books) (me : ℕ) (mine : Books) → get_elem? all me ≡ some mine → (end : ℕ) (rec : Rec)
+    → MayEnter rec mine → KeepsAccounts base words h all
+    → KeepsAccounts base words (record { end = end; rec = rec } ∷ h) (set all me (placing end rec mine))
+enters base words h all me mine at end rec may s = record {
+  holder = placed-holder base words all me mine s.holder at end rec;
+  follows = λ distinct. let before = distinct-before base words h all me mine at (placing end rec mine) (λ number. omega arith) distinct in
+      by_accounts before may.accounts rec refl may.next (planned base words all me mine s.holder at may.some_job rec may.next);
+}
+  where
+    by_accounts : HasDistinctJobs all → IsNote rec ⊎ HoldsAccounts mine → (r : Rec) → rec ≡ r → (next : IsNext r mine) → IsPlanned (task_of mine.last) (recs_of mine.placed) r next.rest
+        → AccountsFollowList base words (record { end = end; rec = r } ∷ h) (set all me (placing end r mine))
+    by_accounts distinct (inr holds) r same next p = held-enters base words h all me mine distinct s.holder (s.follows distinct) at may.some_job end r next.rest
+        (allowed base words all me mine s.holder at may.some_job).job.legs.few (amounts base words all me mine s.holder at may.some_job) holds p.unended next.plan
+    by_accounts distinct (inl note) (Note txn text) same next p =
+        note-enters base words h all me mine distinct s.holder (s.follows distinct) at may.some_job end txn text p.note.own p.unended p.note.cut
+    by_accounts distinct (inl note) (Genesis account balance) same next p = absurd (subst IsNote same note)
+    by_accounts distinct (inl note) (Update txn account delta prev) same next p = absurd (subst IsNote same note)
+    by_accounts distinct (inl note) (Commit txn legs) same next p = absurd (subst IsNote same note)
+    by_accounts distinct (inl note) (Short txn leg) same next p = absurd (subst IsNote same note)
+    by_accounts distinct (inl note) (Over txn leg) same next p = absurd (subst IsNote same note)

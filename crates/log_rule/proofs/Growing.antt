@@ -1,0 +1,130 @@
+-- A record of a seat's last job enters the log, whatever its kind.
+use Rattle.std.proofs.Common.{◌≡◌, ◌≢◌, ◌⊎◌, ℕ, ◌+◌, ◌≤◌, ◌<◌, cond, Bool, true, false, List, ◌∷◌, set, sym, ap, ◌∙◌, subst, arith}
+use Rattle.std.specs.List.{AllByRecursion}
+use mathlib.Core.Logic.{dite}
+use mathlib.Core.Option.{some}
+use native.Mathlib.Decide.{ℕ_discrete}
+use lib.ListN.{get_elem?}
+use Rattle.slot_word.specs.AccountWord.{held_in}
+use Rattle.log_record.specs.declared.rec.Placed.{Placed}
+use Rattle.lock_core.specs.Records.{txn_of, gain, loss}
+use Rattle.lock_core.specs.Transactions.{of_transaction}
+use Rattle.lock_core.specs.Sums.{BaseState, total, AreInRange, last_commit_of}
+use Rattle.lock_core.specs.Lawful.{tests, PassesAfter}
+use Rattle.lock_core.specs.Serial.{IsRunWhole, IsCutShort}
+use Rattle.lock_core.proofs.OneMore.{of_transaction-same, of_transaction-other}
+use Rattle.lock_core.proofs.SerialFronts.{IsRunPartly, run_partly-other}
+use Rattle.log_rule.specs.declared.view.TakenJob.{TakenJob}
+use Rattle.log_rule.specs.declared.view.Held.{Held}
+use Rattle.log_rule.specs.declared.view.Given.{Given}
+use Rattle.log_rule.specs.declared.view.Books.{Books}
+use Rattle.log_rule.specs.Books.{task_of, times_held, times_taken}
+use Rattle.log_rule.specs.Accounts.{takers, IsAsTaken, HasOneHolder, HasDistinctJobs, Follows, WentBack, AccountsFollowList}
+use Rattle.log_rule.proofs.Bookings.{everywhere-moves, everywhere-set, summed-set, summed-one, summed-two, all-held, all-taken, one-taker}
+use Rattle.log_rule.proofs.Lists.{all-both, all-weaker}
+
+-- the entry leaves the account as it was
+pub record IsSameAt (base : BaseState) (h : List Placed) (entry : Placed) (account : ℕ) : Type 0 where
+  pub added : total gain account (entry ∷ h) ≡ total gain account h
+  pub taken : total loss account (entry ∷ h) ≡ total loss account h
+  pub mark : last_commit_of base (entry ∷ h) account ≡ last_commit_of base h account
+
+follows-same : (base : BaseState) (h placed : List Placed) (entry : Placed) (held : Held) → IsSameAt base h entry held.account → Follows base h placed held
+    → Follows base (entry ∷ h) placed held
+follows-same base h placed entry held same old =
+    let added = same.added in let taken = same.taken in let balance = old.balance in record { balance = omega arith; mark = same.mark ∙ old.mark }
+
+-- a front of the list stays one
+still-back : (base : BaseState) (h : List Placed) (entry : Placed) (given : Given) → WentBack base h given → WentBack base (entry ∷ h) given
+still-back base h entry given old uncommitted = let was = old uncommitted in record {
+  later = entry ∷ was.later;
+  front = was.front;
+  whole = ap (λ entries. entry ∷ entries) was.whole;
+  balance = was.balance;
+  tail = was.tail;
+}
+
+-- a held account of one seat is held by no other
+pub one-holder : (accounts : ℕ) (words : ℕ → ℕ) (all : List Books) → HasOneHolder accounts words all → (i j : ℕ) (x y : Books) → get_elem? all i ≡ some x
+    → get_elem? all j ≡ some y → j ≢ i → (account : ℕ) → account < accounts → 1 ≤ times_held account y.held → times_held account x.held ≡ 0
+one-holder accounts words all holder i j x y here there differ account below has =
+    at_most (held_in (words account)) (holder.counts account below)
+    (summed-two (λ (books : Books). times_held account books.held) all i j x y here there differ) has
+  where
+    at_most : (b : Bool) {n m k : ℕ} → k ≡ cond b 1 0 → n + m ≤ k → 1 ≤ m → n ≡ 0
+    at_most true count two has = omega arith
+    at_most false count two has = omega arith
+
+-- a free account is held by no seat
+pub free-unheld : (accounts : ℕ) (words : ℕ → ℕ) (all : List Books) → HasOneHolder accounts words all → (i : ℕ) (x : Books) → get_elem? all i ≡ some x
+    → (account : ℕ) → account < accounts → held_in (words account) ≡ false → times_held account x.held ≡ 0
+free-unheld accounts words all holder i x here account below free =
+    let none : cond {A = ℕ} (held_in (words account)) 1 0 ≡ 0 = ap (λ b. cond {A = ℕ} b 1 0) free in
+    let one = summed-one (λ (books : Books). times_held account books.held) all i x here in let count = holder.counts account below in omega arith
+
+module _ (base : BaseState) (words : ℕ → ℕ) (h : List Placed) (all : List Books) (me : ℕ) (mine : Books) (entry : Placed)
+    (distinct : HasDistinctJobs all) (holder : HasOneHolder base.accounts words all) (s : AccountsFollowList base words h all)
+    (at : get_elem? all me ≡ some mine) (some_job : 1 ≤ mine.last.number) (own : txn_of entry.rec ≡ mine.last.number) where
+  abbrev new : Books
+  new = record mine { placed = entry ∷ mine.placed }
+
+  here : 1 ≤ times_taken mine.last.number mine.jobs
+  here = (holder.last me mine at some_job).1
+
+  -- the entry is of no other seat's job
+  other-job : (j : ℕ) (x : Books) → j ≢ me → get_elem? all j ≡ some x → (number : ℕ) → 1 ≤ times_taken number x.jobs → txn_of entry.rec ≢ number
+  other-job j x differ there number has same = one-taker all me j mine x mine.last.number number distinct at there differ here has (sym own ∙ same)
+
+  takers-same : (number : ℕ) → takers number (set all me new) ≡ takers number all
+  takers-same number = let set' = summed-set (λ (books : Books). times_taken number books.jobs) all me mine new at in omega arith
+
+  runs-mine : IsRunPartly base (entry ∷ h) (task_of mine.last)
+      → AllByRecursion (λ (taken : TakenJob). IsRunWhole base (entry ∷ h) (task_of taken) ⊎ IsCutShort (entry ∷ h) (task_of taken)) mine.jobs
+  runs-mine ran = all-taken _ (λ (taken : TakenJob). IsRunPartly base (entry ∷ h) (task_of taken)) mine.jobs
+      (all-both (λ (taken : TakenJob). IsRunPartly base h (task_of taken)) (λ (taken : TakenJob). taken.number ≡ mine.last.number → taken.job ≡ mine.last.job)
+      (λ (taken : TakenJob). IsRunPartly base h (task_of taken) × (taken.number ≡ mine.last.number → taken.job ≡ mine.last.job)) mine.jobs
+      (λ _ a b. (a, b)) (s.runs me mine at) (s.last me mine at some_job))
+      (λ taken has old. dite (ℕ_discrete taken.number mine.last.number)
+      (λ same. subst (λ (t : TakenJob). IsRunPartly base (entry ∷ h) (task_of t)) (λ i. record { number = sym same i; job = sym (old.1 same) i }) ran)
+      (λ differ. run_partly-other base entry h (task_of taken) (λ is. differ (sym is ∙ own)) old.0))
+
+  abbrev Lasts : Books → Type 0
+  Lasts b = 1 ≤ b.last.number → AllByRecursion (λ (taken : TakenJob). taken.number ≡ b.last.number → taken.job ≡ b.last.job) b.jobs
+
+  pub grows : AllByRecursion (PassesAfter base h entry) tests → AreInRange base (entry ∷ h)
+      → ((account : ℕ) → times_held account mine.held ≡ 0 → IsSameAt base h entry account)
+      → AllByRecursion (Follows base (entry ∷ h) (entry ∷ mine.placed)) mine.held → IsRunPartly base (entry ∷ h) (task_of mine.last)
+      → AccountsFollowList base words (entry ∷ h) (set all me new)
+  grows passes range same follows ran = record {
+    lawful = (passes, s.lawful);
+    range = range;
+    placed = everywhere-moves (λ (b : Books). 1 ≤ b.last.number → of_transaction b.last.number h ≡ b.placed)
+        (λ (b : Books). 1 ≤ b.last.number → of_transaction b.last.number (entry ∷ h) ≡ b.placed) all me new s.placed
+        (λ _. of_transaction-same mine.last.number entry h own ∙ ap (λ l. entry ∷ l) (s.placed me mine at some_job))
+        (λ j x differ there old has. of_transaction-other x.last.number entry h (other-job j x differ there x.last.number (holder.last j x there has).1) ∙ old has);
+    last = everywhere-set Lasts all me new s.last (s.last me mine at);
+    free = λ account below free. let old = s.free account below free in
+        let now = same account (free-unheld base.accounts words all holder me mine at account below free) in
+        let added = now.added in let taken = now.taken in let balance = old.balance in record { balance = omega arith; mark = now.mark ∙ old.mark };
+    held = everywhere-moves (λ (b : Books). AllByRecursion (Follows base h b.placed) b.held)
+        (λ (b : Books). AllByRecursion (Follows base (entry ∷ h) b.placed) b.held) all me new s.held
+        follows
+        (λ j x differ there old. all-held (λ z. IsAsTaken base.accounts words z × Follows base h x.placed z) (Follows base (entry ∷ h) x.placed) x.held
+        (all-both (IsAsTaken base.accounts words) (Follows base h x.placed) _ x.held (λ _ a b. (a, b)) (holder.taken j x there) old)
+        (λ z has p. follows-same base h x.placed entry z
+        (same z.account (one-holder base.accounts words all holder me j mine x at there differ z.account p.0.known has)) p.1));
+    given = everywhere-moves (λ (b : Books). AllByRecursion (WentBack base h) b.given) (λ (b : Books). AllByRecursion (WentBack base (entry ∷ h)) b.given)
+        all me new s.given
+        (all-weaker (WentBack base h) (WentBack base (entry ∷ h)) mine.given (still-back base h entry) (s.given me mine at))
+        (λ j x _ _. all-weaker (WentBack base h) (WentBack base (entry ∷ h)) x.given (still-back base h entry));
+    runs = everywhere-moves (λ (b : Books). AllByRecursion (λ (taken : TakenJob). IsRunPartly base h (task_of taken)) b.jobs)
+        (λ (b : Books). AllByRecursion (λ (taken : TakenJob). IsRunPartly base (entry ∷ h) (task_of taken)) b.jobs) all me new s.runs
+        (runs-mine ran)
+        (λ j x differ there old. all-taken (λ (taken : TakenJob). IsRunPartly base h (task_of taken))
+        (λ (taken : TakenJob). IsRunPartly base (entry ∷ h) (task_of taken)) x.jobs old
+        (λ taken has. run_partly-other base entry h (task_of taken) (other-job j x differ there taken.number has)));
+    others = λ number none. of_transaction-other number entry h (λ is.
+        let again : 1 ≤ times_taken number mine.jobs = subst (λ n. 1 ≤ times_taken n mine.jobs) (sym own ∙ is) here in
+        let one = summed-one (λ (books : Books). times_taken number books.jobs) all me mine at in let same' = takers-same number in omega arith)
+        ∙ s.others number (sym (takers-same number) ∙ none);
+  }

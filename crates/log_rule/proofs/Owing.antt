@@ -1,0 +1,191 @@
+-- The steps on an account's word, and the load of stop with which a seat takes a job.
+use Rattle.std.proofs.Common.{◌≡◌, inr, ℕ, ◌+◌, ◌≤◌, ◌<◌, cond, eqb, ◌||◌, ◌^◌, Bool, false, true≢false, List, [], ◌∷◌, length, map, set, Result, Ok, Err, OnOk, IfErr, sym, refl, ap, ◌∙◌, subst, eq-eqb, ne_eqb}
+use Rattle.std.specs.List.{AllByRecursion}
+use mathlib.Core.Logic.{dite}
+use mathlib.Core.Option.{some}
+use native.Mathlib.Decide.{ℕ_discrete}
+use lib.ListN.{get_elem?}
+use prog.Atomic.{either}
+use Rattle.atomic_table.proofs.Lists.{at_map}
+use Rattle.slot_word.specs.declared.account_word.AccountWord.{AccountWord}
+use Rattle.slot_word.specs.AccountWord.{word_of, held_in, balance_in, mark_in}
+use Rattle.slot_word.proofs.AccountWordLemmas.{held_back, balance_back, mark_back}
+use Rattle.log_record.specs.declared.rec.Rec.{Rec}
+use Rattle.log_record.specs.declared.rec.Rec.TheVariants as rec
+use Rattle.log_record.specs.declared.rec.Placed.{Placed}
+use Rattle.lock_core.specs.Transactions.{recs_of, has_commit}
+use Rattle.lock_core.specs.History.{end_from}
+use Rattle.lock_core.specs.Records.{commits}
+use Rattle.lock_core.specs.declared.job.Job.{Job}
+use Rattle.log_rule.specs.declared.start.Start.{Start}
+use Rattle.log_rule.specs.declared.view.Books.{Books}
+use Rattle.log_rule.specs.declared.view.Call.TheVariants.{Idle}
+use Rattle.log_rule.specs.declared.view.Seen.{Seen}
+use Rattle.log_rule.specs.declared.view.TakenJob.{TakenJob}
+use Rattle.log_rule.specs.declared.view.View.{View}
+use Rattle.log_rule.specs.Accounts.{IsAsTaken, MayBeTaken, KeepsAccounts}
+use Rattle.log_rule.specs.Books.{IsNote, taking_job, taking, giving}
+use Rattle.log_rule.specs.Events.{Leads, IsStep, none}
+use Rattle.log_rule.specs.Layout.{Stop, Account}
+use Rattle.log_rule.specs.Log.{Log, ranges_of}
+use Rattle.log_rule.specs.May.{IsOwnWord, MayTakeJob, MayTake, MayGiveBack}
+use Rattle.log_rule.specs.Members.{AwaitsPlace}
+use Rattle.log_rule.specs.Sound.{HasSeenBoundaries, StoresStop, HasReadStop, HoldsIfActive, IsSound, base_of, history_in, books_of}
+use Rattle.log_rule.specs.Roles.{is_active, may_own}
+use Rattle.log_rule.specs.AccountViews.{took_job, seen_account, saw_account, held_as, took_account, after_account, given_as, gave_account}
+use Rattle.log_rule.specs.Views.{counted}
+use Rattle.log_rule.specs.Words.{Words, put}
+use Rattle.log_rule.proofs.Bookings.{found}
+use Rattle.log_rule.proofs.Lifting.{Tells}
+use Rattle.log_rule.proofs.Looking.{sees-word}
+use Rattle.log_rule.proofs.Members.{KeepsSeen, steps-on, loads-stay, keeps-view}
+use Rattle.log_rule.proofs.Roles.{crew-same, quiet-moves, restands}
+use Rattle.log_rule.proofs.Viewing.{each_set}
+use Rattle.log_rule.proofs.Taking.{takes-job, takes-account}
+use Rattle.log_rule.proofs.Giving.{gives}
+use Rattle.log_rule.proofs.Keeping.{books-at, books-set, history-end}
+use Rattle.log_rule.proofs.MemberBooks.{held-books_in}
+
+-- the seat's books change, and the accounts' words with them
+module _ (key : Start) (words : Words) (account : ℕ → ℕ) (views : List View) (me : ℕ) (v : View) (log : Log) (seen : Seen) (books : Books)
+    (s : IsSound key words views log) (at : get_elem? views me ≡ some v) (idle : v.call ≡ Idle)
+    (sees : HasSeenBoundaries key.start words.tail words.exposed words.durable (ranges_of log) seen)
+    (read : HasReadStop words.stop (record v { seen = seen })) (keeps : KeepsSeen log.groups v.seen seen) where
+  abbrev new : View
+  new = record v { seen = seen; books = books }
+
+  books-change : HoldsIfActive new → KeepsAccounts (base_of key) account (history_in key log.parts) (set (map (books_of log.groups) views) me books)
+      → Leads key words (record words { account = account }) views (set views me new) log none
+  books-change unheld accounts = restands key words words.stop words.crew account views me v new log s at refl refl sees (s.constants me v at)
+      (s.resting me v at) (s.entries me v at) (crew-same words.crew views me v new s.roles at refl) (s.sends me v at)
+      (each_set (λ _ z. StoresStop words.stop z) views me new s.stops (s.stops me v at))
+      (each_set (λ _ z. HasReadStop words.stop z) views me new s.read_stop read)
+      (quiet-moves views me v new s.quiet at (λ _ _ _ h. h) (λ _ h. h)) (s.looked me v at) unheld
+      (subst (KeepsAccounts (base_of key) account (history_in key log.parts)) (sym (books-set log.groups views me new idle)) accounts)
+      (keeps-view key words views me v log s at new refl keeps (loads-stay key words views me v log s at seen keeps)
+      (subst (λ call. AwaitsPlace call books) (sym idle) tt))
+
+-- one step more, and no LSN seen
+sees-same : (start tail exposed durable : ℕ) (log : Log) (old now : Seen) → HasSeenBoundaries start tail exposed durable (ranges_of log) old
+    → now.tail ≡ old.tail → now.exposed ≡ old.exposed → now.durable ≡ old.durable → now.lsns ≡ old.lsns
+    → HasSeenBoundaries start tail exposed durable (ranges_of log) now
+sees-same start tail exposed durable log old now s is-tail is-exposed is-durable is-lsns = record {
+  tail_seen = subst (λ n. n ≤ tail) (sym is-tail) s.tail_seen;
+  exposed_seen = subst (λ n. n ≤ exposed) (sym is-exposed) s.exposed_seen;
+  durable_seen = subst (λ n. n ≤ durable) (sym is-durable) s.durable_seen;
+  boundaries = subst (AllByRecursion (Rattle.log_rule.specs.Log.IsRangeBoundary start (ranges_of log))) (sym is-lsns) s.boundaries;
+}
+
+-- records that are Notes at most commit nothing
+only_note-uncommitted : (entries : List Placed) → AllByRecursion (λ (entry : Placed). IsNote entry.rec) entries → has_commit (recs_of entries) ≡ false
+only_note-uncommitted [] all = refl
+only_note-uncommitted (entry ∷ entries) all = λ i. note-commits_not entry.rec all.0 i || only_note-uncommitted entries all.1 i
+  where
+    note-commits_not : (r : Rec) → IsNote r → commits r ≡ false
+    note-commits_not (rec.Genesis account balance) note = absurd note
+    note-commits_not (rec.Update txn account delta prev) note = absurd note
+    note-commits_not (rec.Commit txn legs) note = absurd note
+    note-commits_not (rec.Short txn leg) note = absurd note
+    note-commits_not (rec.Over txn leg) note = absurd note
+    note-commits_not (rec.Note txn text) note = refl
+
+-- the fields fit in a word
+abbrev pub FitsWord : AccountWord → Type 0
+FitsWord word = (word.balance < 2 ^ 31) × (word.mark < 2 ^ 32)
+
+module _ (key : Start) (me : ℕ) (v : View) where
+  pub job-step : (accounts number : ℕ) (job : Job) → length key.accounts.rows ≡ accounts → MayTakeJob accounts number job v → (n : ℕ)
+      → IsStep key me Stop n n v (took_job number job n v) none
+  job-step accounts number job same may n = record {
+    leads = λ words views log s at is. let taken : TakenJob = record { number = number; job = job } in
+        subst (λ x. Leads key words (record words { stop = x }) views (set views me (took_job number job x v)) log none) is
+        (books-change key words words.account views me v log (record v.seen { steps = v.seen.steps + 1; stop = words.stop }) (taking_job taken v.books) s at
+        may.rests.idle
+        (sees-same key.start words.tail words.exposed words.durable log v.seen _ (s.seen me v at) refl refl refl refl) (inr refl)
+        (steps-on log.groups v.seen _ refl refl refl refl refl refl refl)
+        ((λ _. may.none_held), (λ off. absurd (true≢false (sym (ap may_own may.rests.active) ∙ off))))
+        (takes-job (base_of key) words.account (history_in key log.parts) (map (books_of log.groups) views) me v.books
+        (books-at log.groups views me v may.rests.idle at) taken
+        (subst (λ c. MayBeTaken c taken) (sym same) may.allowed) may.above may.none_held s.accounts));
+  }
+
+  pub account-looks : (account n : ℕ) → IsStep key me (Account account) n n v (saw_account account n v) none
+  account-looks account n = record {
+    leads = λ words views log s at is.
+        subst (λ (f : ℕ → ℕ). Leads key words (record words { account = f }) views (set views me (saw_account account n v)) log none)
+        (λ i k. sym (Rattle.log_rule.proofs.Reading.put-same words.account account n k is) i)
+        (sees-word key words views me v log (seen_account account n v.seen) s at
+        (sees-same key.start words.tail words.exposed words.durable log v.seen _ (s.seen me v at) refl refl refl refl) (s.read_stop me v at)
+        (steps-on log.groups v.seen _ refl refl refl refl refl refl refl));
+  }
+
+  -- the word of an account that the seat holds is its own
+  pub account-tells : (account : ℕ) → Tells key me (Account account) v (λ n. IsOwnWord account n v.books)
+  account-tells account words views log s at has =
+      let own = found (IsAsTaken (base_of key).accounts words.account) account v.books.held has
+      (subst (AllByRecursion (IsAsTaken (base_of key).accounts words.account)) (held-books_in log.groups v.call v.books)
+      (s.accounts.holder.taken me (books_of log.groups v) (at_map (books_of log.groups) views me v at))) in
+      let is = sym own.is in (
+        ap (λ a. held_in (words.account a)) is ∙ own.known.taken,
+        ap (λ a. balance_in (words.account a)) is ∙ (own.known.balance ∙ sym own.balance),
+        ap (λ a. mark_in (words.account a)) is ∙ (own.known.mark ∙ sym own.mark),
+      )
+
+  pub account-takes : (accounts account : ℕ) → length key.accounts.rows ≡ accounts → account < accounts → (from to : AccountWord) → FitsWord from → FitsWord to → MayTake account from to v
+      → IsStep key me (Account account) (word_of from) (word_of to) v (took_account account (word_of from) v) none
+  account-takes accounts account same below from to from-fits to-fits may = record {
+    leads = λ words views log s at is.
+        let free : held_in (words.account account) ≡ false = ap held_in is ∙ (held_back from.held from.balance from.mark from-fits.0 from-fits.1 ∙ may.free) in
+        books-change key words (put words.account account (word_of to)) views me v log (seen_account account (word_of from) v.seen)
+        (taking (held_as account (word_of from)) v.books) s at may.rests.idle
+        (sees-same key.start words.tail words.exposed words.durable log v.seen _ (s.seen me v at) refl refl refl refl) (s.read_stop me v at)
+        (steps-on log.groups v.seen _ refl refl refl refl refl refl refl)
+        ((λ off. absurd (true≢false (sym (ap is_active may.rests.active) ∙ off))), (λ off. absurd (true≢false (sym (ap may_own may.rests.active) ∙ off))))
+        (takes-account (base_of key) words.account (history_in key log.parts) (map (books_of log.groups) views) me v.books
+        (books-at log.groups views me v may.rests.idle at)
+        (held_as account (word_of from)) (word_of to) (subst (λ c. account < c) (sym same) below) free (ap balance_in is) (ap mark_in is)
+        (held_back to.held to.balance to.mark to-fits.0 to-fits.1 ∙ may.taken)
+        (balance_back to.held to.balance to.mark to-fits.0 to-fits.1 ∙ (may.balance ∙ sym (balance_back from.held from.balance from.mark from-fits.0 from-fits.1)))
+        (mark_back to.held to.balance to.mark to-fits.0 to-fits.1 ∙ (may.mark ∙ sym (mark_back from.held from.balance from.mark from-fits.0 from-fits.1)))
+        (only_note-uncommitted v.books.placed may.begins.only_note) s.accounts);
+  }
+
+  pub account-step : (accounts account : ℕ) → length key.accounts.rows ≡ accounts → account < accounts → (from to : AccountWord) → FitsWord from → FitsWord to → MayTake account from to v → (n : ℕ)
+      → IsStep key me (Account account) n (either (eqb n (word_of from)) (word_of to) n) v (after_account account (word_of from) n v) none
+  account-step accounts account same below from to from-fits to-fits may n = dite (ℕ_discrete n (word_of from))
+      (λ is. subst (λ (b : Bool). IsStep key me (Account account) n (either b (word_of to) n) v
+      (cond b (took_account account (word_of from) v) (saw_account account n v)) none) (sym (eq-eqb n (word_of from) is))
+      (subst (λ k. IsStep key me (Account account) k (word_of to) v (took_account account (word_of from) v) none) (sym is)
+      (account-takes accounts account same below from to from-fits to-fits may)))
+      (λ differ. subst (λ (b : Bool). IsStep key me (Account account) n (either b (word_of to) n) v
+      (cond b (took_account account (word_of from) v) (saw_account account n v)) none) (sym (ne_eqb n (word_of from) differ)) (account-looks account n))
+
+  -- the tail as the seat saw it is at or below the end of the list
+  sees-front : (words : Words) (views : List View) (log : Log) → IsSound key words views log → get_elem? views me ≡ some v
+      → v.seen.tail ≤ end_from key.start (history_in key log.parts)
+  sees-front words views log s at = subst (λ n. v.seen.tail ≤ n)
+      (sym (history-end key.start key.start words.tail [] log.parts refl s.contiguous.parts s.filled.spelled)) (s.seen me v at).tail_seen
+
+  pub give-step : (account : ℕ) (word : AccountWord) → FitsWord word → MayGiveBack account word v → (n : ℕ)
+      → IsStep key me (Account account) n (word_of word) v (gave_account account v) none
+  give-step account word word-fits may n = record {
+    leads = λ words views log s at is.
+        books-change key words (put words.account account (word_of word)) views me v log (counted v.seen) (giving (given_as account v) v.books) s at
+        may.rests.idle
+        (sees-same key.start words.tail words.exposed words.durable log v.seen _ (s.seen me v at) refl refl refl refl) (s.read_stop me v at)
+        (steps-on log.groups v.seen _ refl refl refl refl refl refl refl)
+        ((λ off. absurd (true≢false (sym (ap is_active may.rests.active) ∙ off))), (λ off. absurd (true≢false (sym (ap may_own may.rests.active) ∙ off))))
+        (gives (base_of key) words.account (history_in key log.parts) (map (books_of log.groups) views) me v.books
+        (books-at log.groups views me v may.rests.idle at) s.accounts.holder
+        (given_as account v) record { balance = refl; committed = refl; tail = sees-front words views log s at }
+        (word_of word) (held_back word.held word.balance word.mark word-fits.0 word-fits.1 ∙ may.free) may.gives s.accounts);
+  }
+
+-- what holds whatever the answer is
+pub on_ok : {A : Type 0} {E : Type 0} (answer : Result A E) (P : Type 0) → P → OnOk answer P
+on_ok (Ok x) P holds = holds
+on_ok (Err e) P holds = tt
+
+pub if_err : {A : Type 0} {E : Type 0} (answer : Result A E) (P : E → Type 0) → ((e : E) → P e) → IfErr answer P
+if_err (Ok x) P holds = tt
+if_err (Err e) P holds = holds e

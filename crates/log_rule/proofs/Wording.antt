@@ -1,0 +1,316 @@
+-- No two words share a place, so a write of one word changes that word alone.
+use Rattle.std.proofs.Common.{◌≡◌, ◌≢◌, ◌==◌, ℕ, ◌+◌, ◌-◌, ◌*◌, ◌/◌, ◌<◌, ◌≤◌, cond, nat_lt, Bool, true, false, List, length, get_or, set, get_or-set_same, get_or-set_other, sym, refl, ap, ◌∙◌, arith, eq-eqb, ne_eqb, ltb-true, lt-ltb}
+use mathlib.Core.Logic.{dite}
+use native.Mathlib.Decide.{ℕ_discrete}
+use Rattle.log_rule.specs.declared.layout.TheConstants.{STRIDE, TAIL, EXPOSED, DURABLE, STOP, CREW, RING}
+use Rattle.log_rule.specs.Layout.{Word, Tail, Exposed, Durable, Stop, Crew, Ring, Mark, Slot, Base, Account, index_of, word_count}
+use Rattle.log_rule.specs.Words.{read, words_of, word_at, put, with_word}
+
+-- the word lies in a table whose ring has that many units, and which has so many slots and accounts
+pub data Fits (size slots accounts : ℕ) : Word → Type 0 where
+  shared_tail : Fits size slots accounts Tail
+  shared_exposed : Fits size slots accounts Exposed
+  shared_durable : Fits size slots accounts Durable
+  shared_stop : Fits size slots accounts Stop
+  shared_crew : Fits size slots accounts Crew
+  in_ring : (index : ℕ) → index < size → Fits size slots accounts (Ring index)
+  in_marks : (index : ℕ) → index < size → Fits size slots accounts (Mark index)
+  of_slot : (slot : ℕ) → slot < slots → Fits size slots accounts (Slot slot)
+  of_base : (slot : ℕ) → slot < slots → Fits size slots accounts (Base slot)
+  of_account : (account : ℕ) → account < accounts → Fits size slots accounts (Account account)
+
+-- of the words that stand 16 words apart behind the marks, the one by its number: first the slots' states, then their bases, then the
+-- accounts
+abbrev behind_slots : ℕ → ℕ → Word
+behind_slots slots n = cond (nat_lt n slots) (Base n) (Account (n - slots))
+
+abbrev behind_marks : ℕ → ℕ → Word
+behind_marks slots n = cond (nat_lt n slots) (Slot n) (behind_slots slots (n - slots))
+
+-- the word that lies at a place
+abbrev behind_ring : ℕ → ℕ → ℕ → Word
+behind_ring size slots n = cond (nat_lt n size) (Mark n) (behind_marks slots ((n - size) / STRIDE))
+
+abbrev behind_crew : ℕ → ℕ → ℕ → Word
+behind_crew size slots n = cond (nat_lt (n - RING) size) (Ring (n - RING)) (behind_ring size slots (n - RING - size))
+
+abbrev word_of : ℕ → ℕ → ℕ → Word
+word_of size slots n = cond (n == TAIL) Tail
+    (cond (n == EXPOSED) Exposed (cond (n == DURABLE) Durable (cond (n == STOP) Stop (cond (n == CREW) Crew (behind_crew size slots n)))))
+
+lt_not : (n size : ℕ) → size ≤ n → nat_lt n size ≡ false
+lt_not n size least = by_test (nat_lt n size) refl
+  where
+    by_test : (b : Bool) → nat_lt n size ≡ b → b ≡ false
+    by_test true is = let less = ltb-true n size is in absurd (omega arith)
+    by_test false is = refl
+
+word_of-behind : (size slots n : ℕ) → RING ≤ n → word_of size slots n ≡ behind_crew size slots n
+word_of-behind size slots n least = λ i. cond (other TAIL (omega arith) i) Tail
+    (cond (other EXPOSED (omega arith) i) Exposed
+    (cond (other DURABLE (omega arith) i) Durable (cond (other STOP (omega arith) i) Stop (cond (other CREW (omega arith) i) Crew (behind_crew size slots n)))))
+  where
+    other : (place : ℕ) → place < RING → (n == place) ≡ false
+    other place below = ne_eqb n place (λ e. omega arith)
+
+module _ (size slots accounts : ℕ) where
+  word_of-spaced : (n : ℕ) → word_of size slots (RING + size + size + STRIDE * n) ≡ behind_marks slots n
+  word_of-spaced n = word_of-behind size slots (RING + size + size + STRIDE * n) (omega arith)
+      ∙ (ap (λ b. cond b (Ring (RING + size + size + STRIDE * n - RING)) (behind_ring size slots (RING + size + size + STRIDE * n - RING - size)))
+      (lt_not (RING + size + size + STRIDE * n - RING) size (omega arith))
+      ∙ (ap (behind_ring size slots) behind
+      ∙ (ap (λ b. cond b (Mark (size + STRIDE * n)) (behind_marks slots ((size + STRIDE * n - size) / STRIDE))) (lt_not (size + STRIDE * n) size (omega arith))
+      ∙ ap (behind_marks slots) back)))
+    where
+      behind : RING + size + size + STRIDE * n - RING - size ≡ size + STRIDE * n
+      behind = omega arith
+
+      back : (size + STRIDE * n - size) / STRIDE ≡ n
+      back = omega arith
+
+  word_of-index : (word : Word) → Fits size slots accounts word → word_of size slots (index_of size slots word) ≡ word
+  word_of-index Tail fits = refl
+  word_of-index Exposed fits = refl
+  word_of-index Durable fits = refl
+  word_of-index Stop fits = refl
+  word_of-index Crew fits = refl
+  word_of-index (Ring index) (in_ring _ below) = word_of-behind size slots (RING + index) (omega arith)
+      ∙ (ap (λ b. cond b (Ring (RING + index - RING)) (behind_ring size slots (RING + index - RING - size))) (lt-ltb (RING + index - RING) size (omega arith))
+      ∙ ap Ring back)
+    where
+      back : RING + index - RING ≡ index
+      back = omega arith
+  word_of-index (Mark index) (in_marks _ below) = word_of-behind size slots (RING + size + index) (omega arith)
+      ∙ (ap (λ b. cond b (Ring (RING + size + index - RING)) (behind_ring size slots (RING + size + index - RING - size)))
+      (lt_not (RING + size + index - RING) size (omega arith))
+      ∙ (ap (behind_ring size slots) back ∙ ap (λ b. cond b (Mark index) (behind_marks slots ((index - size) / STRIDE))) (lt-ltb index size below)))
+    where
+      back : RING + size + index - RING - size ≡ index
+      back = omega arith
+  word_of-index (Slot slot) (of_slot _ below) =
+      word_of-spaced slot ∙ ap (λ b. cond b (Slot slot) (behind_slots slots (slot - slots))) (lt-ltb slot slots below)
+  word_of-index (Base slot) (of_base _ below) = word_of-spaced (slots + slot)
+      ∙ (ap (λ b. cond b (Slot (slots + slot)) (behind_slots slots (slots + slot - slots))) (lt_not (slots + slot) slots (omega arith))
+      ∙ (ap (behind_slots slots) back ∙ ap (λ b. cond b (Base slot) (Account (slot - slots))) (lt-ltb slot slots below)))
+    where
+      back : slots + slot - slots ≡ slot
+      back = omega arith
+  word_of-index (Account account) fits = word_of-spaced (slots + slots + account)
+      ∙ (ap (λ b. cond b (Slot (slots + slots + account)) (behind_slots slots (slots + slots + account - slots)))
+      (lt_not (slots + slots + account) slots (omega arith))
+      ∙ (ap (behind_slots slots) behind
+      ∙ (ap (λ b. cond b (Base (slots + account)) (Account (slots + account - slots))) (lt_not (slots + account) slots (omega arith)) ∙ ap Account back)))
+    where
+      behind : slots + slots + account - slots ≡ slots + account
+      behind = omega arith
+
+      back : slots + account - slots ≡ account
+      back = omega arith
+
+  -- no two words share a place
+  pub index-injective : (a b : Word) → Fits size slots accounts a → Fits size slots accounts b → index_of size slots a ≡ index_of size slots b → a ≡ b
+  index-injective a b fits-a fits-b e = sym (word_of-index a fits-a) ∙ (ap (word_of size slots) e ∙ word_of-index b fits-b)
+
+  -- the words of a kind by their index, and 0 beyond them
+  abbrev row_in : List ℕ → ℕ → (ℕ → Word) → ℕ → ℕ
+  row_in ws count name index = cond (nat_lt index count) (read size slots ws (name index)) 0
+
+  -- a write of one word leaves another
+  module _ (ws : List ℕ) (word : Word) (x : ℕ) (fits : Fits size slots accounts word) where
+    abbrev after : List ℕ
+    after = set ws (index_of size slots word) x
+
+    read-other : (other : Word) → Fits size slots accounts other → word ≢ other → read size slots after other ≡ read size slots ws other
+    read-other other fits-other differ = get_or-set_other ws (index_of size slots word) (index_of size slots other) x 0
+        (λ e. differ (index-injective word other fits fits-other (sym e)))
+
+    read-same : index_of size slots word < length ws → read size slots after word ≡ x
+    read-same below = get_or-set_same ws (index_of size slots word) x 0 below
+
+    row-other : (count : ℕ) (name : ℕ → Word) → ((k : ℕ) → k < count → Fits size slots accounts (name k)) → (index : ℕ) → word ≢ name index
+        → row_in after count name index ≡ row_in ws count name index
+    row-other count name there index differ = by_test (nat_lt index count) refl
+      where
+        by_test : (b : Bool) → nat_lt index count ≡ b
+            → cond b (read size slots after (name index)) 0 ≡ cond b (read size slots ws (name index)) 0
+        by_test true is = read-other (name index) (there index (ltb-true index count is)) differ
+        by_test false is = refl
+
+    -- a row that holds the word changes at its index alone
+    row-put : (count : ℕ) (name : ℕ → Word) → ((k : ℕ) → k < count → Fits size slots accounts (name k)) → (index : ℕ) → index < count
+        → word ≡ name index → ((k : ℕ) → name index ≡ name k → k ≡ index) → index_of size slots word < length ws
+        → (k : ℕ) → row_in after count name k ≡ put (row_in ws count name) index x k
+    row-put count name there index below is apart within k = dite (ℕ_discrete k index)
+        (λ same. ap (row_in after count name) same
+        ∙ (ap (λ b. cond b (read size slots after (name index)) 0) (lt-ltb index count below)
+        ∙ (ap (read size slots after) (sym is)
+        ∙ (read-same within ∙ sym (ap (λ b. cond b x (row_in ws count name k)) (eq-eqb k index same))))))
+        (λ differ. row-other count name there k (λ e. differ (apart k (sym is ∙ e)))
+        ∙ sym (ap (λ b. cond b x (row_in ws count name k)) (ne_eqb k index differ)))
+
+  ring-fits : (k : ℕ) → k < size → Fits size slots accounts (Ring k)
+  ring-fits k below = in_ring k below
+
+  ring-apart : (index k : ℕ) → Ring index ≡ Ring k → k ≡ index
+  ring-apart index k e = cc
+
+  mark-fits : (k : ℕ) → k < size → Fits size slots accounts (Mark k)
+  mark-fits k below = in_marks k below
+
+  mark-apart : (index k : ℕ) → Mark index ≡ Mark k → k ≡ index
+  mark-apart index k e = cc
+
+  slot-fits : (k : ℕ) → k < slots → Fits size slots accounts (Slot k)
+  slot-fits k below = of_slot k below
+
+  slot-apart : (slot k : ℕ) → Slot slot ≡ Slot k → k ≡ slot
+  slot-apart slot k e = cc
+
+  base-fits : (k : ℕ) → k < slots → Fits size slots accounts (Base k)
+  base-fits k below = of_base k below
+
+  base-apart : (slot k : ℕ) → Base slot ≡ Base k → k ≡ slot
+  base-apart slot k e = cc
+
+  account-fits : (k : ℕ) → k < accounts → Fits size slots accounts (Account k)
+  account-fits k below = of_account k below
+
+  account-apart : (account k : ℕ) → Account account ≡ Account k → k ≡ account
+  account-apart account k e = cc
+
+  pub words_of-set : (ws : List ℕ) (word : Word) (x : ℕ) → Fits size slots accounts word → length ws ≡ word_count size slots accounts
+      → words_of size slots accounts (set ws (index_of size slots word) x) ≡ with_word (words_of size slots accounts ws) word x
+  words_of-set ws Tail x fits len i = record {
+    tail = read-same ws Tail x fits (omega (arith, len)) i;
+    exposed = read-other ws Tail x fits Exposed shared_exposed (λ e. cc) i;
+    durable = read-other ws Tail x fits Durable shared_durable (λ e. cc) i;
+    stop = read-other ws Tail x fits Stop shared_stop (λ e. cc) i;
+    crew = read-other ws Tail x fits Crew shared_crew (λ e. cc) i;
+    ring = λ k. row-other ws Tail x fits size Ring ring-fits k (λ e. cc) i;
+    mark = λ k. row-other ws Tail x fits size Mark mark-fits k (λ e. cc) i;
+    slot = λ k. row-other ws Tail x fits slots Slot slot-fits k (λ e. cc) i;
+    base = λ k. row-other ws Tail x fits slots Base base-fits k (λ e. cc) i;
+    account = λ k. row-other ws Tail x fits accounts Account account-fits k (λ e. cc) i;
+  }
+  words_of-set ws Exposed x fits len i = record {
+    tail = read-other ws Exposed x fits Tail shared_tail (λ e. cc) i;
+    exposed = read-same ws Exposed x fits (omega (arith, len)) i;
+    durable = read-other ws Exposed x fits Durable shared_durable (λ e. cc) i;
+    stop = read-other ws Exposed x fits Stop shared_stop (λ e. cc) i;
+    crew = read-other ws Exposed x fits Crew shared_crew (λ e. cc) i;
+    ring = λ k. row-other ws Exposed x fits size Ring ring-fits k (λ e. cc) i;
+    mark = λ k. row-other ws Exposed x fits size Mark mark-fits k (λ e. cc) i;
+    slot = λ k. row-other ws Exposed x fits slots Slot slot-fits k (λ e. cc) i;
+    base = λ k. row-other ws Exposed x fits slots Base base-fits k (λ e. cc) i;
+    account = λ k. row-other ws Exposed x fits accounts Account account-fits k (λ e. cc) i;
+  }
+  words_of-set ws Durable x fits len i = record {
+    tail = read-other ws Durable x fits Tail shared_tail (λ e. cc) i;
+    exposed = read-other ws Durable x fits Exposed shared_exposed (λ e. cc) i;
+    durable = read-same ws Durable x fits (omega (arith, len)) i;
+    stop = read-other ws Durable x fits Stop shared_stop (λ e. cc) i;
+    crew = read-other ws Durable x fits Crew shared_crew (λ e. cc) i;
+    ring = λ k. row-other ws Durable x fits size Ring ring-fits k (λ e. cc) i;
+    mark = λ k. row-other ws Durable x fits size Mark mark-fits k (λ e. cc) i;
+    slot = λ k. row-other ws Durable x fits slots Slot slot-fits k (λ e. cc) i;
+    base = λ k. row-other ws Durable x fits slots Base base-fits k (λ e. cc) i;
+    account = λ k. row-other ws Durable x fits accounts Account account-fits k (λ e. cc) i;
+  }
+  words_of-set ws Stop x fits len i = record {
+    tail = read-other ws Stop x fits Tail shared_tail (λ e. cc) i;
+    exposed = read-other ws Stop x fits Exposed shared_exposed (λ e. cc) i;
+    durable = read-other ws Stop x fits Durable shared_durable (λ e. cc) i;
+    stop = read-same ws Stop x fits (omega (arith, len)) i;
+    crew = read-other ws Stop x fits Crew shared_crew (λ e. cc) i;
+    ring = λ k. row-other ws Stop x fits size Ring ring-fits k (λ e. cc) i;
+    mark = λ k. row-other ws Stop x fits size Mark mark-fits k (λ e. cc) i;
+    slot = λ k. row-other ws Stop x fits slots Slot slot-fits k (λ e. cc) i;
+    base = λ k. row-other ws Stop x fits slots Base base-fits k (λ e. cc) i;
+    account = λ k. row-other ws Stop x fits accounts Account account-fits k (λ e. cc) i;
+  }
+  words_of-set ws Crew x fits len i = record {
+    tail = read-other ws Crew x fits Tail shared_tail (λ e. cc) i;
+    exposed = read-other ws Crew x fits Exposed shared_exposed (λ e. cc) i;
+    durable = read-other ws Crew x fits Durable shared_durable (λ e. cc) i;
+    stop = read-other ws Crew x fits Stop shared_stop (λ e. cc) i;
+    crew = read-same ws Crew x fits (omega (arith, len)) i;
+    ring = λ k. row-other ws Crew x fits size Ring ring-fits k (λ e. cc) i;
+    mark = λ k. row-other ws Crew x fits size Mark mark-fits k (λ e. cc) i;
+    slot = λ k. row-other ws Crew x fits slots Slot slot-fits k (λ e. cc) i;
+    base = λ k. row-other ws Crew x fits slots Base base-fits k (λ e. cc) i;
+    account = λ k. row-other ws Crew x fits accounts Account account-fits k (λ e. cc) i;
+  }
+  words_of-set ws (Ring index) x (in_ring _ below) len i = record {
+    tail = read-other ws (Ring index) x (in_ring index below) Tail shared_tail (λ e. cc) i;
+    exposed = read-other ws (Ring index) x (in_ring index below) Exposed shared_exposed (λ e. cc) i;
+    durable = read-other ws (Ring index) x (in_ring index below) Durable shared_durable (λ e. cc) i;
+    stop = read-other ws (Ring index) x (in_ring index below) Stop shared_stop (λ e. cc) i;
+    crew = read-other ws (Ring index) x (in_ring index below) Crew shared_crew (λ e. cc) i;
+    ring = λ k. row-put ws (Ring index) x (in_ring index below) size Ring ring-fits index below refl (ring-apart index) (omega (arith, len, below)) k i;
+    mark = λ k. row-other ws (Ring index) x (in_ring index below) size Mark mark-fits k (λ e. cc) i;
+    slot = λ k. row-other ws (Ring index) x (in_ring index below) slots Slot slot-fits k (λ e. cc) i;
+    base = λ k. row-other ws (Ring index) x (in_ring index below) slots Base base-fits k (λ e. cc) i;
+    account = λ k. row-other ws (Ring index) x (in_ring index below) accounts Account account-fits k (λ e. cc) i;
+  }
+  words_of-set ws (Mark index) x (in_marks _ below) len i = record {
+    tail = read-other ws (Mark index) x (in_marks index below) Tail shared_tail (λ e. cc) i;
+    exposed = read-other ws (Mark index) x (in_marks index below) Exposed shared_exposed (λ e. cc) i;
+    durable = read-other ws (Mark index) x (in_marks index below) Durable shared_durable (λ e. cc) i;
+    stop = read-other ws (Mark index) x (in_marks index below) Stop shared_stop (λ e. cc) i;
+    crew = read-other ws (Mark index) x (in_marks index below) Crew shared_crew (λ e. cc) i;
+    ring = λ k. row-other ws (Mark index) x (in_marks index below) size Ring ring-fits k (λ e. cc) i;
+    mark = λ k. row-put ws (Mark index) x (in_marks index below) size Mark mark-fits index below refl (mark-apart index) (omega (arith, len, below)) k i;
+    slot = λ k. row-other ws (Mark index) x (in_marks index below) slots Slot slot-fits k (λ e. cc) i;
+    base = λ k. row-other ws (Mark index) x (in_marks index below) slots Base base-fits k (λ e. cc) i;
+    account = λ k. row-other ws (Mark index) x (in_marks index below) accounts Account account-fits k (λ e. cc) i;
+  }
+  words_of-set ws (Slot slot) x (of_slot _ below) len i = record {
+    tail = read-other ws (Slot slot) x (of_slot slot below) Tail shared_tail (λ e. cc) i;
+    exposed = read-other ws (Slot slot) x (of_slot slot below) Exposed shared_exposed (λ e. cc) i;
+    durable = read-other ws (Slot slot) x (of_slot slot below) Durable shared_durable (λ e. cc) i;
+    stop = read-other ws (Slot slot) x (of_slot slot below) Stop shared_stop (λ e. cc) i;
+    crew = read-other ws (Slot slot) x (of_slot slot below) Crew shared_crew (λ e. cc) i;
+    ring = λ k. row-other ws (Slot slot) x (of_slot slot below) size Ring ring-fits k (λ e. cc) i;
+    mark = λ k. row-other ws (Slot slot) x (of_slot slot below) size Mark mark-fits k (λ e. cc) i;
+    slot = λ k. row-put ws (Slot slot) x (of_slot slot below) slots Slot slot-fits slot below refl (slot-apart slot) (omega (arith, len, below)) k i;
+    base = λ k. row-other ws (Slot slot) x (of_slot slot below) slots Base base-fits k (λ e. cc) i;
+    account = λ k. row-other ws (Slot slot) x (of_slot slot below) accounts Account account-fits k (λ e. cc) i;
+  }
+  words_of-set ws (Base slot) x (of_base _ below) len i = record {
+    tail = read-other ws (Base slot) x (of_base slot below) Tail shared_tail (λ e. cc) i;
+    exposed = read-other ws (Base slot) x (of_base slot below) Exposed shared_exposed (λ e. cc) i;
+    durable = read-other ws (Base slot) x (of_base slot below) Durable shared_durable (λ e. cc) i;
+    stop = read-other ws (Base slot) x (of_base slot below) Stop shared_stop (λ e. cc) i;
+    crew = read-other ws (Base slot) x (of_base slot below) Crew shared_crew (λ e. cc) i;
+    ring = λ k. row-other ws (Base slot) x (of_base slot below) size Ring ring-fits k (λ e. cc) i;
+    mark = λ k. row-other ws (Base slot) x (of_base slot below) size Mark mark-fits k (λ e. cc) i;
+    slot = λ k. row-other ws (Base slot) x (of_base slot below) slots Slot slot-fits k (λ e. cc) i;
+    base = λ k. row-put ws (Base slot) x (of_base slot below) slots Base base-fits slot below refl (base-apart slot) (omega (arith, len, below)) k i;
+    account = λ k. row-other ws (Base slot) x (of_base slot below) accounts Account account-fits k (λ e. cc) i;
+  }
+  words_of-set ws (Account account) x (of_account _ below) len i = record {
+    tail = read-other ws (Account account) x (of_account account below) Tail shared_tail (λ e. cc) i;
+    exposed = read-other ws (Account account) x (of_account account below) Exposed shared_exposed (λ e. cc) i;
+    durable = read-other ws (Account account) x (of_account account below) Durable shared_durable (λ e. cc) i;
+    stop = read-other ws (Account account) x (of_account account below) Stop shared_stop (λ e. cc) i;
+    crew = read-other ws (Account account) x (of_account account below) Crew shared_crew (λ e. cc) i;
+    ring = λ k. row-other ws (Account account) x (of_account account below) size Ring ring-fits k (λ e. cc) i;
+    mark = λ k. row-other ws (Account account) x (of_account account below) size Mark mark-fits k (λ e. cc) i;
+    slot = λ k. row-other ws (Account account) x (of_account account below) slots Slot slot-fits k (λ e. cc) i;
+    base = λ k. row-other ws (Account account) x (of_account account below) slots Base base-fits k (λ e. cc) i;
+    account = λ k. row-put ws (Account account) x (of_account account below) accounts Account account-fits account below refl (account-apart account) (omega (arith, len, below)) k i;
+  }
+
+  -- what a list holds at the word's place is what the word holds
+  pub read-word : (ws : List ℕ) (word : Word) → Fits size slots accounts word
+      → get_or ws (index_of size slots word) 0 ≡ word_at (words_of size slots accounts ws) word
+  read-word ws Tail fits = refl
+  read-word ws Exposed fits = refl
+  read-word ws Durable fits = refl
+  read-word ws Stop fits = refl
+  read-word ws Crew fits = refl
+  read-word ws (Ring index) (in_ring _ below) = sym (ap (λ b. cond b (read size slots ws (Ring index)) 0) (lt-ltb index size below))
+  read-word ws (Mark index) (in_marks _ below) = sym (ap (λ b. cond b (read size slots ws (Mark index)) 0) (lt-ltb index size below))
+  read-word ws (Slot slot) (of_slot _ below) = sym (ap (λ b. cond b (read size slots ws (Slot slot)) 0) (lt-ltb slot slots below))
+  read-word ws (Base slot) (of_base _ below) = sym (ap (λ b. cond b (read size slots ws (Base slot)) 0) (lt-ltb slot slots below))
+  read-word ws (Account account) (of_account _ below) = sym (ap (λ b. cond b (read size slots ws (Account account)) 0) (lt-ltb account accounts below))

@@ -1,0 +1,29 @@
+use Rattle.std.proofs.Common.{rules, arith, ◌≡◌, ◌<◌, ◌∙◌, ◌+◌, ℕ, List, get_or, length, sym, ap, subst}
+use Rattle.std.specs.Slots.{slots_items}
+use Rattle.lsn_space.specs.Accounts.{Accounts}
+use Rattle.slot_word.specs.AccountWord.{balance_in, mark_in}
+use Rattle.log_rule.specs.Closing.{ReadsRows}
+use Rattle.log_rule.specs.Layout.{Account, index_of}
+use Rattle.log_rule.proofs.Gathering.{at-index}
+use Rattle.log_rule.proofs.Rows.{reads-more}
+use Rattle.log_rule.proofs.account_words.read_rows.Goals as goal
+
+pub loop-account-preserved : goal.loop-account-preserved
+loop-account-preserved c =
+    let words : List ℕ = slots_items c.args.closed.now.words in
+    let word-is : c.word.result ≡ get_or words (index_of c.args.ring c.args.slots (Account c.loop-account.account)) 0 =
+    sym (at-index words c.account_place.result c.word.result c.word.ensures) ∙ ap (λ place. get_or words place 0) c.account_place.ensures in
+    let below : c.loop-account.account < length c.args.rows.now.rows = omega arith in
+    record {
+      room = ap (λ (a : Accounts). a.room) c.set.ensures ∙ c.loop-account.invariant.room;
+      rows = subst (λ (rows : List (ℕ × ℕ)). ReadsRows c.args.ring c.args.slots (c.loop-account.account + 1) words c.args.rows.now.rows rows)
+          (sym (ap (λ (a : Accounts). a.rows) c.set.ensures))
+          (reads-more c.args.ring c.args.slots c.loop-account.account words (c.balance.result, c.mark.result) _ _ below
+          (λ i. (
+            (c.balance.ensures.balance ∙ (c.unpack-word.ensures.balance ∙ ap balance_in word-is)) i,
+            (c.mark.ensures ∙ (c.unpack-word.ensures.mark ∙ ap mark_in word-is)) i,
+          )) c.loop-account.invariant.rows);
+    }
+
+pub returns-clause-rows : goal.returns-clause-rows
+returns-clause-rows c = search rules steps 100000

@@ -1,0 +1,128 @@
+-- The account part of the rule: accounts follow the list. `words` are the accounts' words, `h` is the list that was inserted as a
+-- history, newest first, and `base` the state of the accounts before it.
+use Rattle.std.specs.Prelude.{◌≡◌, ◌&&◌, ℕ, ℤ, ◌+◌, ◌<◌, ◌≤◌, if◌then◌else◌, false, true, ◌⊎◌, List, [], ◌∷◌, ◌++◌}
+use Rattle.std.specs.List.{AllByRecursion}
+use mathlib.Core.Option.{some}
+use lib.ListN.{get_elem?}
+use Rattle.slot_word.specs.AccountWord.{held_in, balance_in, mark_in}
+use Rattle.log_record.specs.declared.limits.TheConstants.{MOST_ACCOUNTS}
+use Rattle.log_record.specs.declared.rec.Placed.{Placed}
+use Rattle.log_record.specs.Spelling.{IsTxn}
+use Rattle.lock_core.specs.Transfers.{IsAllowedJob}
+use Rattle.lock_core.specs.Records.{gain, loss}
+use Rattle.lock_core.specs.History.{end_from}
+use Rattle.lock_core.specs.Transactions.{of_transaction, recs_of, changes_in, has_commit, touches}
+use Rattle.lock_core.specs.Sums.{BaseState, moved, total, IsBalanceOf, AreInRange, last_commit_of}
+use Rattle.lock_core.specs.Lawful.{IsLawfulAfter}
+use Rattle.lock_core.specs.Serial.{IsRunWhole, IsCutShort}
+use Rattle.log_rule.specs.declared.view.TakenJob.{TakenJob}
+use Rattle.log_rule.specs.declared.view.Held.{Held}
+use Rattle.log_rule.specs.declared.view.Given.{Given}
+use Rattle.log_rule.specs.declared.view.Books.{Books}
+use Rattle.log_rule.specs.Books.{task_of, times_held, times_taken, balance_taken, mark_taken}
+
+-- each element has this
+abbrev pub Everywhere : {A : Type 0} → (A → Type 0) → List A → Type 0
+Everywhere P list = (i : ℕ) (x : _) → get_elem? list i ≡ some x → P x
+
+-- the sum over all elements
+abbrev pub summed : {A : Type 0} → (A → ℕ) → List A → ℕ
+summed amount [] = 0
+summed amount (x ∷ more) = amount x + summed amount more
+
+-- how often all seats together hold the account, and took a job of this number
+abbrev pub holders : ℕ → List Books → ℕ
+holders account all = summed (λ (books : Books). times_held account books.held) all
+
+abbrev pub takers : ℕ → List Books → ℕ
+takers number all = summed (λ (books : Books). times_taken number books.jobs) all
+
+-- the account is one of the table's, and its word is held with the values as they were taken
+pub record IsAsTaken (accounts : ℕ) (words : ℕ → ℕ) (held : Held) : Type 0 where
+  pub known : held.account < accounts
+  pub taken : held_in (words held.account) ≡ true
+  pub balance : balance_in (words held.account) ≡ held.balance
+  pub mark : mark_in (words held.account) ≡ held.mark
+
+-- a job that may be taken
+pub record MayBeTaken (accounts : ℕ) (taken : TakenJob) : Type 0 where
+  pub number : IsTxn taken.number
+  pub job : IsAllowedJob accounts taken.job
+
+-- A held account is held by exactly one seat, with the word's values as taken; a free one by none. A seat's last job is one of its
+-- jobs, and an allowed one.
+pub record HasOneHolder (accounts : ℕ) (words : ℕ → ℕ) (all : List Books) : Type 0 where
+  pub few : accounts ≤ MOST_ACCOUNTS
+  pub counts : (account : ℕ) → account < accounts → holders account all ≡ (if held_in (words account) then 1 else 0)
+  pub taken : Everywhere (λ (books : Books). AllByRecursion (IsAsTaken accounts words) books.held) all
+  pub last : Everywhere (λ (books : Books). 1 ≤ books.last.number → MayBeTaken accounts books.last × (1 ≤ times_taken books.last.number books.jobs)) all
+
+-- no job number stands twice
+abbrev pub HasDistinctJobs : List Books → Type 0
+HasDistinctJobs all = (number : ℕ) → takers number all ≤ 1
+
+-- what the records of one transaction, once it is committed, move of an account on one side
+abbrev pub moved_if_committed : (ℤ → ℕ) → ℕ → List Placed → ℕ
+moved_if_committed side account entries =
+    if has_commit (recs_of entries) then moved side account (changes_in (recs_of entries)) else 0
+
+-- the end of the last Commit on an account, where one of these records is it, else this
+abbrev pub commit_in : List Placed → ℕ → ℕ → ℕ
+commit_in entries account mark =
+    if has_commit (recs_of entries) && touches account (changes_in (recs_of entries)) then end_from 0 entries else mark
+
+-- With what the seat's last job made of it by its Commit, the balance as it was taken is the balance of the whole list, and so is the
+-- last Commit.
+pub record Follows (base : BaseState) (h placed : List Placed) (held : Held) : Type 0 where
+  pub balance : held.balance + moved_if_committed gain held.account placed + total loss held.account h
+      ≡ base.balance held.account + total gain held.account h + moved_if_committed loss held.account placed
+  pub mark : last_commit_of base h held.account ≡ commit_in placed held.account held.mark
+
+-- the values of a free account's word are those of the whole list
+pub record IsUpToDate (base : BaseState) (h : List Placed) (account word : ℕ) : Type 0 where
+  pub balance : IsBalanceOf base h account (balance_in word)
+  pub mark : last_commit_of base h account ≡ mark_in word
+
+-- The account's balance as it was taken is that of some front of the list, which ends at or above the tail as the seat had seen it when
+-- it gave the account back.
+pub record IsOfFront (base : BaseState) (h : List Placed) (given : Given) : Type 0 where
+  pub later : List Placed
+  pub front : List Placed
+  pub whole : h ≡ later ++ front
+  pub balance : IsBalanceOf base front given.account given.balance
+  pub tail : given.tail ≤ end_from base.end front
+
+-- that is known of an account which went back while the seat's last job was not committed
+abbrev pub WentBack : BaseState → List Placed → Given → Type 0
+WentBack base h given = given.committed ≡ false → IsOfFront base h given
+
+-- Where no job number stands twice: the list is a lawful continuation of the base state, and every balance is in its range. What it
+-- has of a seat's last job is what the seat placed. Each free account's word is that of the list, and each held account follows it; one
+-- that was given back uncommitted had the balance of a front. Each job is run whole or cut short, and there are no other transactions.
+pub record AccountsFollowList (base : BaseState) (words : ℕ → ℕ) (h : List Placed) (all : List Books) : Type 0 where
+  pub lawful : IsLawfulAfter base h
+  pub range : AreInRange base h
+  pub placed : Everywhere (λ (books : Books). 1 ≤ books.last.number → of_transaction books.last.number h ≡ books.placed) all
+  pub last : Everywhere (λ (books : Books). 1 ≤ books.last.number
+      → AllByRecursion (λ (taken : TakenJob). taken.number ≡ books.last.number → taken.job ≡ books.last.job) books.jobs) all
+  pub free : (account : ℕ) → account < base.accounts → held_in (words account) ≡ false → IsUpToDate base h account (words account)
+  pub held : Everywhere (λ (books : Books). AllByRecursion (Follows base h books.placed) books.held) all
+  pub given : Everywhere (λ (books : Books). AllByRecursion (WentBack base h) books.given) all
+  pub runs : Everywhere (λ (books : Books). AllByRecursion (λ (taken : TakenJob). IsRunWhole base h (task_of taken) ⊎ IsCutShort h (task_of taken)) books.jobs) all
+  pub others : (number : ℕ) → takers number all ≡ 0 → of_transaction number h ≡ []
+
+-- the accounts go with the list and with what the seats took
+pub record KeepsAccounts (base : BaseState) (words : ℕ → ℕ) (h : List Placed) (all : List Books) : Type 0 where
+  pub holder : HasOneHolder base.accounts words all
+  pub follows : HasDistinctJobs all → AccountsFollowList base words h all
+
+-- An account goes back as the job that placed these records left it: where the job has no Commit, with the balance and the last Commit
+-- as they were taken, and else with the balance as the job changed it, and with the end of its Commit if it has a change of the account.
+pub record FollowsJob (account balance mark taken_balance taken_mark : ℕ) (placed : List Placed) : Type 0 where
+  pub balance_is : balance + moved_if_committed loss account placed ≡ taken_balance + moved_if_committed gain account placed
+  pub mark_is : mark ≡ commit_in placed account taken_mark
+
+-- the seat holds the account, and may give it back with the values of the word
+pub record MayGive (account word : ℕ) (books : Books) : Type 0 where
+  pub has : 1 ≤ times_held account books.held
+  pub values : FollowsJob account (balance_in word) (mark_in word) (balance_taken books.held account) (mark_taken books.held account) books.placed

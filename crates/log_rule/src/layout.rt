@@ -1,0 +1,68 @@
+//! Where the words lie in the table. Words that many threads write stand far enough apart to lie on
+//! cache lines of their own. `proofs/Wording.antt` shows that no two words share a place.
+
+ghost use Rattle.std.specs.Prelude.{◌≡◌, ◌≤◌, ◌+◌, ◌*◌, ◌%◌};
+ghost use Rattle.lsn_space.specs.declared.lsn.TheConstants.{LEAST_RING, GREATEST_RING};
+ghost use Rattle.log_record.specs.declared.limits.TheConstants.{MOST_ACCOUNTS};
+ghost use Rattle.log_rule.specs.declared.layout.TheConstants.{STRIDE, RING, MOST_SLOTS};
+
+use lsn_space::{Lsn, place};
+
+/// The most slots of a table.
+pub const MOST_SLOTS: u32 = 16;
+
+/// Words from one shared word to the next, two cache lines.
+pub const STRIDE: usize = 16;
+
+/// The end of the last reservation. The base crate's own moves load word 0.
+pub const TAIL: usize = 0;
+/// Everything below is filled.
+pub const EXPOSED: usize = STRIDE;
+/// Everything below is on the disk.
+pub const DURABLE: usize = 2 * STRIDE;
+/// Why the log stopped, 0 while it runs.
+pub const STOP: usize = 3 * STRIDE;
+/// The number of active workers.
+pub const CREW: usize = 4 * STRIDE;
+/// The first word of the ring, which is packed. Behind it stand the release marks, packed too and as
+/// many as it has words, and behind these, 16 words apart, the slots' states, the slots' bases and the
+/// accounts' words.
+pub const RING: usize = 5 * STRIDE;
+
+/// A law: the words that many threads write stand 16 words apart.
+pub fn fixed_layout()
+    ensures stride { STRIDE ≡ 16 }
+{}
+
+/// Where the release mark of the range that begins at an LSN lies.
+pub fn mark_place(ring: u32, at: Lsn) -> usize
+    requires { (LEAST_RING ≤ ring) × (ring ≤ GREATEST_RING) }
+    ensures { result ≡ RING + ring + at % ring }
+{
+    RING + ring as usize + place(at, ring)
+}
+
+/// Where the word of a slot's state lies.
+pub fn slot_place(ring: u32, slot: u32) -> usize
+    requires { (ring ≤ GREATEST_RING) × (slot ≤ MOST_SLOTS) }
+    ensures { result ≡ RING + ring + ring + STRIDE * slot }
+{
+    RING + ring as usize + ring as usize + STRIDE * slot as usize
+}
+
+/// Where the word of a slot's base lies, in a table with so many slots.
+pub fn base_place(ring: u32, slots: u32, slot: u32) -> usize
+    requires { (ring ≤ GREATEST_RING) × (slots ≤ MOST_SLOTS) × (slot ≤ MOST_SLOTS) }
+    ensures { result ≡ RING + ring + ring + STRIDE * (slots + slot) }
+{
+    RING + ring as usize + ring as usize + STRIDE * (slots as usize + slot as usize)
+}
+
+/// Where the word of an account lies, in a table with so many slots.
+pub fn account_place(ring: u32, slots: u32, account: u32) -> usize
+    requires { (ring ≤ GREATEST_RING) × (slots ≤ MOST_SLOTS) × (account ≤ MOST_ACCOUNTS) }
+    ensures { result ≡ RING + ring + ring + STRIDE * (slots + slots + account) }
+{
+    let before = slots as usize + slots as usize;
+    RING + ring as usize + ring as usize + STRIDE * (before + account as usize)
+}

@@ -1,0 +1,20 @@
+//! What holds of the words of the log between any two steps: where each word lies, what each seat knows, and
+//! one rule over both. `log_table` has the steps.
+#![tactic(auto)]
+
+mod account_words;
+mod group_view;
+mod layout;
+mod start;
+mod view;
+
+pub use account_words::{put_accounts, read_rows};
+pub use group_view::{After, HeardRefusal, MemberStep, Piece};
+pub use layout::{
+    CREW, DURABLE, EXPOSED, MOST_SLOTS, RING, STOP, STRIDE, TAIL, account_place, base_place,
+    fixed_layout, mark_place, slot_place,
+};
+pub use start::Start;
+pub use view::{
+    Books, Call, Constants, Entry, Given, Held, Role, Seen, Sending, Standing, TakenJob, View,
+};

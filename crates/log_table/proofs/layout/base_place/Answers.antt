@@ -1,5 +1,0 @@
-use Rattle.std.proofs.Common.{refl}
-use Rattle.log_table.proofs.layout.base_place.Goals as goal
-
-pub returns : goal.returns
-returns c = refl

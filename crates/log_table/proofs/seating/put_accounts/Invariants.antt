@@ -1,5 +1,0 @@
-use Rattle.log_table.specs.Opening.{PutsAccounts}
-use Rattle.log_table.proofs.seating.put_accounts.Given as goal
-
-abbrev pub invariant-loop-account : goal.invariant-loop-account
-invariant-loop-account l = PutsAccounts l.start l.account l.initial.words.items l.words.items
