@@ -41,7 +41,11 @@ fn takes<R: Wait + Abort>(rt: &R, queue: &Queue, rows: &mut Rows, number: u32, a
         panic!(rt; "{number}: no place is left")
     };
     assert_eq!(rt; taken, number);
-    assert_eq!(rt; job.legs.as_slice(), [(0, 1, amount)].as_slice(), "{number}");
+    assert_eq!(rt;
+        job.legs.as_slice(),
+        [(0, 1, amount)].as_slice(),
+        "{number}"
+    );
 }
 
 /// The rows' pass takes its mark.
