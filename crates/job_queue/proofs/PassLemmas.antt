@@ -4,12 +4,13 @@ use Rattle.std.specs.List.{AllByRecursion}
 use Rattle.crossbeam_queue.specs.Passes.{Pass, view, IsPassOf, IsSamePass}
 use Rattle.lock_core.specs.declared.job.Job.{Job}
 use Rattle.lock_core.proofs.ListLemmas.{all-append}
+use Rattle.txn_jobs.specs.Places.{number_at, job_at}
 use Rattle.job_queue.specs.declared.queue.Queue.{Queue}
 use Rattle.job_queue.specs.declared.rows.Rows.{Rows}
-use Rattle.txn_jobs.proofs.StripeSteps.{Rises-push}
+use Rattle.txn_jobs.proofs.Rising.{Rises-push}
 use Rattle.job_queue.specs.declared.takings.Takings.{Takings}
 use Rattle.job_queue.specs.Takings.{fresh, took_place, took_mark, TakesNext, handed_out, worker_of, took_back, times, once_below, IsBalanced, HasAllBelow, ArePlaces, AreMarks, IsWorkers, IsFirst}
-use Rattle.job_queue.specs.Passes.{pass_in, places_by, marks_by, marks_in, IsWorkersPass, HasPassOf, job_in, TakesPlace, TakesMark, AreTakenOnce, AreAllTaken}
+use Rattle.job_queue.specs.Passes.{pass_in, places_by, marks_by, marks_in, IsWorkersPass, HasPassOf, jobs_of, TakesPlace, TakesMark, AreTakenOnce, AreAllTaken}
 use Rattle.job_queue.proofs.Counting.{once-some, same-refl}
 
 -- a pass of the queue stays one
@@ -62,7 +63,7 @@ module _ (queue : Queue) (old new : Rows) (before after : Pass ℕ Takings) (was
   none-before : (view before).own_marks ≡ []
   none-before = sym (ap marks_by was) ∙ none
 
-  pub takes-place : (number : ℕ) (job : Job) → x < length queue.script → number ≡ queue.first + x → job ≡ job_in queue x
+  pub takes-place : (number : ℕ) (job : Job) → x < length queue.script → number ≡ number_at (jobs_of queue) x → job ≡ job_at (jobs_of queue) x
       → TakesPlace queue number job old new
   takes-place number job within number_is job_is =
       ⊎_elim (λ place. record {

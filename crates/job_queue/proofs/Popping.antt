@@ -9,7 +9,7 @@ use Rattle.crossbeam_queue.specs.Fifo.{Pops, Learns}
 use Rattle.crossbeam_queue.proofs.Lists.{set_here, set_else}
 use Rattle.lsn_space.proofs.TilingLemmas.{all-weaker}
 use Rattle.lock_core.proofs.ListLemmas.{all-append}
-use Rattle.txn_jobs.proofs.StripeSteps.{Rises-push}
+use Rattle.txn_jobs.proofs.Rising.{Rises-push}
 use Rattle.job_queue.specs.declared.takings.Takings.{Takings}
 use Rattle.job_queue.specs.Takings.{took_place, took_mark, TakesNext, same, times_in, CountsMarks}
 use Rattle.job_queue.specs.Rule.{HasCount, lives, marks_left_of, IsInOrder, IsEmptyIfSpent, IsShared}

@@ -1,8 +1,9 @@
 -- What jobs and rows show of their passes.
-use Rattle.std.specs.Prelude.{◌≡◌, ℕ, ◌+◌, ◌<◌, ◌≤◌, List, [], ◌∷◌, ◌++◌, length, Option, None, Some, IsSomeAnd, get_or}
+use Rattle.std.specs.Prelude.{◌≡◌, ℕ, ◌+◌, ◌<◌, ◌≤◌, List, [], ◌∷◌, ◌++◌, length, Option, None, Some, IsSomeAnd}
 use Rattle.std.specs.List.{AllByRecursion}
 use Rattle.crossbeam_queue.specs.Passes.{Pass, view, IsPassOf}
 use Rattle.lock_core.specs.declared.job.Job.{Job}
+use Rattle.txn_jobs.specs.Places.{NumberedJobs, number_at, job_at}
 use Rattle.txn_jobs.specs.declared.rows.Row.{Row}
 use Rattle.txn_jobs.specs.Rows.{rows_in as told_in, room_of as told_room}
 use Rattle.job_queue.specs.declared.jobs.Jobs.{Jobs}
@@ -10,6 +11,12 @@ use Rattle.job_queue.specs.declared.queue.Queue.{Queue}
 use Rattle.job_queue.specs.declared.rows.Rows.{Rows}
 use Rattle.job_queue.specs.declared.takings.Takings.{Takings}
 use Rattle.job_queue.specs.Takings.{times, once_below, IsWorkers, IsFirst}
+
+-- ---- the queue
+
+-- the jobs whose places the queue hands out
+abbrev pub jobs_of : Queue → NumberedJobs
+jobs_of queue = record { script = queue.script; first = queue.first }
 
 -- ---- rows
 
@@ -45,10 +52,6 @@ pub record IsWorkersPass (queue : Queue) (pass : Pass ℕ Takings) : Type 0 wher
 abbrev pub HasPassOf : Queue → Rows → Type 0
 HasPassOf queue rows = IsSomeAnd (pass_in rows) (IsWorkersPass queue)
 
--- the transfer at this place
-abbrev pub job_in : Queue → ℕ → Job
-job_in queue place = get_or queue.script place (record { legs = []; note = None })
-
 -- the rows are those of before
 pub record KeepsRows (old new : Rows) : Type 0 where
   pub rows : rows_in new ≡ rows_in old
@@ -61,8 +64,8 @@ pub record TakesPlace (queue : Queue) (number : ℕ) (job : Job) (old new : Rows
   pub above : AllByRecursion (λ before. before < place) (places_in old)
   pub places : places_in new ≡ places_in old ++ place ∷ []
   pub marks : marks_in new ≡ []
-  pub number_is : number ≡ queue.first + place
-  pub job_is : job ≡ job_in queue place
+  pub number_is : number ≡ number_at (jobs_of queue) place
+  pub job_is : job ≡ job_at (jobs_of queue) place
 
 -- it took its mark
 pub record TakesMark (queue : Queue) (old new : Rows) : Type 0 where

@@ -48,6 +48,13 @@ impl Jobs {
         Ok(Jobs { queue, pass })
     }
 
+    /// How many transfers the script has.
+    pub fn count(&self) -> u64
+        ensures { result ≡ length self.now.queue.script }
+    {
+        self.queue.script.count()
+    }
+
     /// What workers share.
     pub fn queue(&self) -> &Queue
         ensures { result.now ≡ self.now.queue }

@@ -1,10 +1,12 @@
-//! Scripts, and a worker that makes the transfers of its stripe.
-ghost use Rattle.std.specs.Prelude.{◌≡◌, ◌≤◌, ◌<◌, [], All, IfOk, IfSome, length};
+//! Scripts in a queue, rows that have a pass of it, and a worker that takes from it.
+ghost use Rattle.std.specs.Prelude.{◌≡◌, ◌≤◌, ◌<◌, ◌+◌, [], All, IfOk, IfSome, OnOk, length};
 ghost use Rattle.log_table.specs.Seats.{IsOf, view_of};
-ghost use Rattle.ring_buffer.specs.Calls.{IsReady, IsSameWorker};
+ghost use Rattle.ring_buffer.specs.Calls.{IsReady};
 ghost use Rattle.lock_core.specs.Transfers.{IsAllowedJob};
-ghost use Rattle.txn_runner.specs.Places.{AreOfScript, HasAllIfDone, jobs_taken};
-ghost use Rattle.txn_runner.specs.Working.{Works, places_taken, taken_in};
+ghost use Rattle.job_queue.specs.Passes.{HasPassOf, IsSameQueue, workers_of};
+ghost use Rattle.txn_runner.specs.Places.{AreOfScript, jobs_taken};
+ghost use Rattle.txn_runner.specs.Working.{EndsByMark, Works, jobs_of, places_in};
+ghost use Rattle.run_rig.specs.Enlisted.{HasEnlisted, IsEnlisted};
 ghost use Rattle.test_rig.specs.NotedJobs.{IsNew};
 
 use log_table::{LogTable, Seat};
@@ -13,14 +15,15 @@ use schedule_hook::Gate;
 use std::alloc::Global;
 use std::sync::Wait;
 use test_rig::job_of;
-use txn_runner::{Jobs, Relief, Rows, Worked, work};
+use txn_runner::{Jobs, Queue, Relief, Rows, Worked, work};
 use txn_script::{Script, parse};
 
-/// The transfers of the text, numbered from 1, for so many workers.
-pub fn jobs_of<R>(rt: &R, alloc: Global, text: &[u8], workers: u32) -> Option<Jobs>
+/// The transfers of the text, numbered from 1, for so many workers, none of which is enlisted.
+pub fn jobs_of<R: Wait>(rt: &R, alloc: Global, text: &[u8], workers: u32) -> Option<Jobs>
     requires workers { 1 ≤ workers }
-    ensures allowed { IfSome result (λ jobs. All (IsAllowedJob 2) jobs.script) }
-    ensures workers { IfSome result (λ jobs. jobs.workers ≡ workers) }
+    ensures none { IfSome result (HasEnlisted 0) }
+    ensures allowed { IfSome result (λ jobs. All (IsAllowedJob 2) jobs.queue.script) }
+    ensures workers { IfSome result (λ jobs. workers_of jobs ≡ workers) }
 {
     let Ok(script) = parse(alloc, text, 2) else {
         return None;
@@ -31,11 +34,13 @@ pub fn jobs_of<R>(rt: &R, alloc: Global, text: &[u8], workers: u32) -> Option<Jo
     Jobs::make(rt, alloc, script, 1, workers).ok()
 }
 
-/// So many transfers of 30 from account 0 to account 1, at most 1000, numbered from 1, for so many workers.
-pub fn thirties<R>(rt: &R, alloc: Global, times: u32, workers: u32) -> Option<Jobs>
+/// So many transfers of 30 from account 0 to account 1, at most 1000, numbered from 1, for so many workers, none of which is
+/// enlisted.
+pub fn thirties<R: Wait>(rt: &R, alloc: Global, times: u32, workers: u32) -> Option<Jobs>
     requires workers { 1 ≤ workers }
-    ensures allowed { IfSome result (λ jobs. All (IsAllowedJob 2) jobs.script) }
-    ensures workers { IfSome result (λ jobs. jobs.workers ≡ workers) }
+    ensures none { IfSome result (HasEnlisted 0) }
+    ensures allowed { IfSome result (λ jobs. All (IsAllowedJob 2) jobs.queue.script) }
+    ensures workers { IfSome result (λ jobs. workers_of jobs ≡ workers) }
 {
     let mut script = Script::with_room(alloc, times).ok()?;
     for _ in 0..times {
@@ -47,32 +52,44 @@ pub fn thirties<R>(rt: &R, alloc: Global, times: u32, workers: u32) -> Option<Jo
     Jobs::make(rt, alloc, script, 1, workers).ok()
 }
 
-/// Makes the transfers of a new worker's stripe. Answers how its work ended, and its rows.
-pub fn work_stripe<R: Wait, Q: Relief, G: Gate>(
+/// Rows of the worker of this number: room for all transfers, and a pass.
+pub fn enlisted(alloc: Global, jobs: &mut Jobs, number: u32) -> Result<Rows, NoMemory>
+    requires jobs { HasEnlisted number jobs.old }
+    requires mark { number < workers_of jobs.old }
+    ensures jobs { OnOk result (HasEnlisted (number + 1) jobs.new) }
+    ensures same { OnOk result (IsSameQueue jobs.old jobs.new) }
+    ensures rows { IfOk result (IsEnlisted jobs.new.queue) }
+{
+    let mut rows = Rows::make(alloc, jobs.count() as u32)?;
+    jobs.enlist(alloc, &mut rows)?;
+    Ok(rows)
+}
+
+/// A new worker makes the transfers that it takes of the queue. Answers how its work ended.
+pub fn work_queue<R: Wait, Q: Relief, G: Gate>(
     rt: &R,
-    alloc: Global,
     table: &LogTable,
     seat: &mut Seat,
-    jobs: &Jobs,
+    queue: &Queue,
+    rows: &mut Rows,
     relief: &mut Q,
     wait: bool,
     gate: &G,
-) -> Result<(Worked, Rows), NoMemory>
+) -> Worked
     requires unused { IsNew table.now seat.old }
-    requires worker { seat.old.worker < jobs.now.workers }
-    requires allowed { All (IsAllowedJob table.now.accounts) jobs.now.script }
+    requires rows { IsEnlisted queue.now rows.old }
+    requires allowed { All (IsAllowedJob table.now.accounts) queue.now.script }
     requires relief { Q.ready relief.old }
     ensures seat { IsOf table.now seat.new }
     ensures ready { IsReady (view_of seat.new) }
     ensures none_held { (view_of seat.new).books.held ≡ [] }
     ensures standing { (view_of seat.new).standing ≡ (view_of seat.old).standing }
-    ensures jobs { IfOk result (λ came. (view_of seat.new).books.jobs ≡ jobs_taken jobs.now (places_taken jobs.now seat.old.worker came.1)) }
-    ensures places { IfOk result (λ came. AreOfScript jobs.now (places_taken jobs.now seat.old.worker came.1)) }
-    ensures works { IfOk result (λ came. Works jobs.now [] (places_taken jobs.now seat.old.worker came.1) wait came.0 (view_of seat.new)) }
-    ensures all { IfOk result (λ came. HasAllIfDone jobs.now seat.old.worker (taken_in came.1) came.0) }
+    ensures pass { HasPassOf queue.now rows.new }
+    ensures jobs { (view_of seat.new).books.jobs ≡ jobs_taken (jobs_of queue.now) (places_in rows.new) }
+    ensures places { AreOfScript (jobs_of queue.now) (places_in rows.new) }
+    ensures works { Works (jobs_of queue.now) [] (places_in rows.new) wait result (view_of seat.new) }
+    ensures all { EndsByMark result rows.new }
     ensures relief { Q.ready relief.new }
 {
-    let mut rows = Rows::make(alloc, jobs.count() as u32)?;
-    let worked = work(rt, table, seat, jobs, &mut rows, relief, wait, gate);
-    Ok((worked, rows))
+    work(rt, table, seat, queue, rows, relief, wait, gate)
 }

@@ -1,4 +1,3 @@
 pub mod Accounts
 pub mod Places
 pub mod Rows
-pub mod Stripes

@@ -1,15 +1,13 @@
 -- The rows of one worker.
-use Rattle.std.specs.Prelude.{◌≡◌, ℕ, ◌+◌, ◌≤◌, List, [], ◌∷◌, ◌++◌, length, Option, None, Some, Result, Ok, Err, vec_capacity}
+use Rattle.std.specs.Prelude.{◌≡◌, ℕ, List, [], ◌∷◌, ◌++◌, Option, None, Some, Result, Ok, Err, vec_capacity}
 use Rattle.lock_core.specs.Alone.{Outcome, Done, ShortAt, OverAt}
 use Rattle.txn_jobs.specs.declared.cause.Cause.{Cause}
 use Rattle.txn_jobs.specs.declared.cause.Worked.{Worked}
 use Rattle.txn_jobs.specs.declared.cause.Worked.TheVariants.{Cut}
-use Rattle.txn_jobs.specs.declared.jobs.Jobs.{Jobs}
 use Rattle.txn_jobs.specs.declared.rows.Answer.{Answer}
 use Rattle.txn_jobs.specs.declared.rows.Answer.TheVariants as answer
 use Rattle.txn_jobs.specs.declared.rows.Row.{Row}
 use Rattle.txn_jobs.specs.declared.rows.Rows.{Rows}
-use Rattle.txn_jobs.specs.Stripes.{HasStripe}
 
 -- the outcome that an answer tells
 abbrev pub outcome_of : Answer → Outcome
@@ -22,13 +20,6 @@ rows_in rows = rows.rows.items
 
 abbrev pub room_of : Rows → ℕ
 room_of rows = vec_capacity rows.rows
-
-abbrev pub taken_in : Rows → ℕ
-taken_in rows = rows.taken
-
--- there is room for a row of each transfer of the stripe that is left
-abbrev pub HasRoomForRows : Jobs → ℕ → Rows → Type 0
-HasRoomForRows jobs worker rows = (k : ℕ) → HasStripe jobs worker k → length (rows_in rows) + k ≤ room_of rows + taken_in rows
 
 -- a transfer that ended has its row behind those before; one that was cut off has none, and the worker ends so
 abbrev pub IsTold : Result Row Cause → Option Worked → List Row → List Row → Type 0

@@ -14,7 +14,7 @@ pub enum Cause {
 /// How a worker ended.
 #[derive(Clone, Copy, Debug, PartialEq, Eq)]
 pub enum Worked {
-    /// All transfers of its stripe have their end record.
+    /// All transfers that it took have their end record, and no more were left.
     All,
     /// The transfer that it took last was cut off.
     Cut(Cause),

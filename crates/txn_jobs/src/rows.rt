@@ -1,5 +1,5 @@
-ghost use Rattle.std.specs.Prelude.{◌≡◌, ◌≤◌, ◌<◌, ◌+◌, ◌++◌, ◌∷◌, ◌^◌, [], length, IfOk};
-ghost use Rattle.txn_jobs.specs.Rows.{rows_in, room_of, taken_in, IsTold};
+ghost use Rattle.std.specs.Prelude.{◌≡◌, ◌≤◌, ◌<◌, ◌++◌, ◌∷◌, [], length, IfOk};
+ghost use Rattle.txn_jobs.specs.Rows.{rows_in, room_of, IsTold};
 
 use crate::cause::{Cause, Worked};
 use lsn_space::{Lsn, NoMemory};
@@ -25,11 +25,10 @@ pub struct Row {
     pub seen: Lsn,
 }
 
-/// The rows of one worker, in the order of their ends, and how many transfers of its stripe it took.
+/// The rows of one worker, in the order of their ends.
 #[derive(Drop)]
 pub struct Rows {
     rows: Vec<Row>,
-    pub(crate) taken: u64,
 }
 
 impl Rows {
@@ -37,10 +36,9 @@ impl Rows {
     pub fn make(alloc: Global, n: u32) -> Result<Rows, NoMemory>
         ensures rows { IfOk result (λ rows. rows_in rows ≡ []) }
         ensures room { IfOk result (λ rows. n ≤ room_of rows) }
-        ensures taken { IfOk result (λ rows. taken_in rows ≡ 0) }
     {
         match Vec::with_capacity(alloc, n as usize) {
-            Ok(rows) => Ok(Rows { rows, taken: 0 }),
+            Ok(rows) => Ok(Rows { rows }),
             Err(_) => Err(NoMemory),
         }
     }
@@ -51,20 +49,11 @@ impl Rows {
         self.rows.as_slice()
     }
 
-    /// Counts one more transfer as taken.
-    pub(crate) fn take(&mut self)
-        requires { taken_in self.old < 2 ^ 32 }
-        ensures { self.new ≡ record self.old { taken = taken_in self.old + 1 } }
-    {
-        self.taken += 1;
-    }
-
     /// Adds the row of the transfer that was taken last.
     pub fn push(&mut self, row: Row)
         requires room { length (rows_in self.old) < room_of self.old }
         ensures rows { rows_in self.new ≡ rows_in self.old ++ row ∷ [] }
         ensures room { room_of self.new ≡ room_of self.old }
-        ensures taken { taken_in self.new ≡ taken_in self.old }
     {
         self.rows.push_reserved(row);
     }
@@ -75,7 +64,6 @@ impl Rows {
         requires room { length (rows_in self.old) < room_of self.old }
         ensures told { IsTold made result (rows_in self.old) (rows_in self.new) }
         ensures room { room_of self.new ≡ room_of self.old }
-        ensures taken { taken_in self.new ≡ taken_in self.old }
     {
         match made {
             Ok(row) => {

@@ -1,19 +1,20 @@
--- Transfers at places of the script, as a seat takes them, and those of a stripe.
-use Rattle.std.proofs.Common.{◌≡◌, ℕ, zero, suc, ◌+◌, ◌-◌, ◌<◌, ◌≤◌, List, [], ◌∷◌, ◌++◌, length, All, None, refl, sym, ap, ◌∙◌, arith, add-one, append-nil, append_assoc}
-use Rattle.std.proofs.Math.Nat.{mul-le-mul_left}
+-- Transfers at places of the script, as a seat takes them, and room for their rows.
+use Rattle.std.proofs.Common.{◌≡◌, ℕ, ◌+◌, ◌-◌, ◌<◌, ◌≤◌, List, [], ◌∷◌, ◌++◌, length, All, None, refl, sym, ap, ◌∙◌, arith, append-nil, append_assoc, length-append}
 use Rattle.std.proofs.lemmas.List.Elements.{All-get_or}
 use Rattle.std.specs.List.{AllByRecursion}
 use Rattle.lock_core.proofs.ListLemmas.{all-append}
+use Rattle.lock_core.specs.declared.job.Job.{Job}
 use Rattle.lock_core.specs.Transfers.{IsAllowedJob}
 use Rattle.log_rule.specs.declared.view.TakenJob.{TakenJob}
 use Rattle.log_rule.specs.Accounts.{MayBeTaken}
-use Rattle.txn_jobs.specs.declared.jobs.Jobs.{Jobs}
-use Rattle.txn_jobs.specs.declared.rows.Rows.{Rows}
-use Rattle.txn_jobs.proofs.StripeSteps.{stripe-few}
-use Rattle.txn_runner.specs.Places.{number_at, taken_at, jobs_taken, place_of, stripe_places, HasStripe}
-use Rattle.txn_runner.specs.Working.{rows_in, room_of, taken_in, HasRoomForRows}
+use Rattle.txn_jobs.proofs.Rising.{Rises-few}
+use Rattle.job_queue.specs.declared.queue.Queue.{Queue}
+use Rattle.job_queue.specs.declared.rows.Rows.{Rows}
+use Rattle.job_queue.specs.Passes.{KeepsRows, TakesPlace}
+use Rattle.txn_runner.specs.Places.{NumberedJobs, number_at, taken_at, jobs_taken, Rises}
+use Rattle.txn_runner.specs.Working.{jobs_of, rows_in, room_of, places_in, HasRoomForRows}
 
-module _ (jobs : Jobs) where
+module _ (jobs : NumberedJobs) where
   -- the newest comes first
   pub jobs_taken-push : (places : List ℕ) (place : ℕ) → jobs_taken jobs (places ++ place ∷ []) ≡ taken_at jobs place ∷ jobs_taken jobs places
   jobs_taken-push [] place = refl
@@ -32,36 +33,36 @@ module _ (jobs : Jobs) where
       (jobs_taken jobs places)
       (taken_at jobs first ∷ []) (jobs_taken-below places place below.1) (omega (arith, below.0), tt)
 
-  -- the table allows a transfer of the script
-  pub taken_at-allowed : (accounts place : ℕ) → All (IsAllowedJob accounts) jobs.script → place < length jobs.script
-      → MayBeTaken accounts (taken_at jobs place)
-  taken_at-allowed accounts place all within = record {
-    number = (omega (arith, jobs.some), omega (arith, jobs.numbered));
-    job = All-get_or (IsAllowedJob accounts) jobs.script place (record { legs = []; note = None }) within all;
-  }
+-- the table allows a transfer of the queue
+pub taken_at-allowed : (queue : Queue) (accounts place : ℕ) → All (IsAllowedJob accounts) queue.script → place < length queue.script
+    → MayBeTaken accounts (taken_at (jobs_of queue) place)
+taken_at-allowed queue accounts place all within = record {
+  number = (omega (arith, queue.some), omega (arith, queue.numbered));
+  job = All-get_or (IsAllowedJob accounts) queue.script place (record { legs = []; note = None }) within all;
+}
 
-module _ (jobs : Jobs) (worker : ℕ) where
-  -- each transfer of a stripe leaves less of the script
-  pub stripe-nears : (j k : ℕ) → k ≡ j + 1 → place_of jobs worker j < length jobs.script
-      → length jobs.script - place_of jobs worker k < length jobs.script - place_of jobs worker j
-  stripe-nears j k next within =
-      let up : j + 1 ≤ k = omega arith in
-      omega (arith, mul-le-mul_left jobs.workers up, jobs.shared)
-
-  -- the next place comes behind the others
-  pub stripe_places-more : (k n : ℕ) → n ≡ k + 1 → stripe_places jobs worker n ≡ stripe_places jobs worker k ++ place_of jobs worker k ∷ []
-  stripe_places-more k n next = ap (stripe_places jobs worker) (next ∙ add-one k)
-
-  -- so room for a row of each transfer is enough for a stripe
-  pub HasStripe-few : (k : ℕ) → HasStripe jobs worker k → k ≤ length jobs.script
-  HasStripe-few zero stripe = omega arith
-  HasStripe-few (suc k) stripe = omega (arith, stripe-few jobs worker k (stripe k (omega arith)))
-
-  pub HasRoomForRows-none : (rows : Rows) → rows_in rows ≡ [] → taken_in rows ≡ 0 → length jobs.script ≤ room_of rows
-      → HasRoomForRows jobs worker rows
-  HasRoomForRows-none rows empty none enough k stripe = omega (arith, HasStripe-few k stripe, ap length empty, none, enough)
+module _ (jobs : NumberedJobs) where
+  -- where no place was taken, room for a row of each transfer is enough
+  pub HasRoomForRows-none : (rows : Rows) → rows_in rows ≡ [] → places_in rows ≡ [] → length jobs.script ≤ room_of rows → HasRoomForRows jobs rows
+  HasRoomForRows-none rows empty none enough = omega (arith, ap length empty, ap length none, enough)
 
   -- one more was taken, and its row put
-  pub HasRoomForRows-next : (old new : Rows) → HasRoomForRows jobs worker old → taken_in new ≡ taken_in old + 1
-      → length (rows_in new) ≤ length (rows_in old) + 1 → room_of new ≡ room_of old → HasRoomForRows jobs worker new
-  HasRoomForRows-next old new room taken more same k stripe = omega (arith, room k stripe, taken, more, same)
+  pub HasRoomForRows-next : (old new : Rows) (place : ℕ) → HasRoomForRows jobs old → places_in new ≡ places_in old ++ place ∷ []
+      → length (rows_in new) ≤ length (rows_in old) + 1 → room_of new ≡ room_of old → HasRoomForRows jobs new
+  HasRoomForRows-next old new place room places more same =
+      omega (arith, room, ap length places, length-append (places_in old) (place ∷ []), more, same)
+
+-- The rows' pass took a place, above the others, which rise.
+module _ (queue : Queue) (number : ℕ) (job : Job) (old new : Rows) (takes : TakesPlace queue number job old new) (rises : Rises (places_in old)) where
+  places-few : length (places_in old) ≤ takes.place
+  places-few = Rises-few (places_in old) takes.place rises takes.above
+
+  -- there is room for the row of its transfer
+  pub HasRoomForRows-now : HasRoomForRows (jobs_of queue) old → KeepsRows old new → length (rows_in new) < room_of new
+  HasRoomForRows-now room kept = omega (arith, room, places-few, takes.within, ap length kept.rows, kept.room)
+
+  -- fewer are left
+  pub places-nearer : (later : Rows) → places_in later ≡ places_in old ++ takes.place ∷ []
+      → length queue.script - length (places_in later) < length queue.script - length (places_in old)
+  places-nearer later places =
+      omega (arith, places-few, takes.within, ap length places, length-append (places_in old) (takes.place ∷ []))

@@ -8,21 +8,21 @@ use Rattle.txn_jobs.specs.declared.cause.Cause.{Cause}
 use Rattle.txn_jobs.specs.declared.cause.Cause.TheVariants.{Stop, LogEnd}
 use Rattle.txn_jobs.specs.declared.cause.Worked.{Worked}
 use Rattle.txn_jobs.specs.declared.cause.Worked.TheVariants.{All, Cut}
-use Rattle.txn_jobs.specs.declared.jobs.Jobs.{Jobs}
 use Rattle.txn_jobs.specs.declared.rows.Row.{Row}
-use Rattle.txn_jobs.specs.declared.rows.Rows.{Rows}
+use Rattle.job_queue.specs.declared.rows.Rows.{Rows}
 use Rattle.txn_jobs.specs.Rows.{IsTold}
+use Rattle.job_queue.specs.Passes.{KeepsRows}
 use Rattle.txn_making.specs.Holdings.{KeepsGiven}
 use Rattle.txn_runner.specs.Running.{HasInserted, HasRun, HasCut}
-use Rattle.txn_runner.specs.Places.{number_at, job_at, jobs_taken}
-use Rattle.txn_runner.specs.Working.{rows_in, room_of, HasWorked, KeepsEntries, TakesJobs, Works, AddsRows}
+use Rattle.txn_runner.specs.Places.{NumberedJobs, number_at, job_at, jobs_taken}
+use Rattle.txn_runner.specs.Working.{rows_in, room_of, marks_in, EndsByMark, HasWorked, KeepsEntries, TakesJobs, Works, AddsRows}
 use Rattle.txn_runner.proofs.RowLemmas.{AddsRows-push, AddsRows-cut}
 use Rattle.txn_making.proofs.GivenLemmas.{given-same, given-trans}
 use Rattle.txn_runner.proofs.PlaceLemmas.{jobs_taken-push}
 use Rattle.txn_runner.proofs.WorkLemmas.{IsNextJob, at-place, HasWorked-next, HaveEnded-next, HaveEnded-still, IsCutBy-next}
 
 -- it took the transfers at the places `taken`, those of before first; each of the others has its end record and its row
-pub record Progress (jobs : Jobs) (start taken : List ℕ) (wait : Bool) (rows_first rows : Rows) (first view : View) : Type 0 where
+pub record Progress (jobs : NumberedJobs) (start taken : List ℕ) (wait : Bool) (rows_first rows : Rows) (first view : View) : Type 0 where
   pub worked : HasWorked jobs taken view
   pub kept : KeepsEntries first view
   pub given : KeepsGiven first view
@@ -31,7 +31,7 @@ pub record Progress (jobs : Jobs) (start taken : List ℕ) (wait : Bool) (rows_f
   pub adds : AddsRows jobs start taken wait All rows_first rows first view
 
 -- before the first transfer
-pub Progress-first : (jobs : Jobs) (start : List ℕ) (wait : Bool) (rows : Rows) (view : View) → HasWorked jobs start view
+pub Progress-first : (jobs : NumberedJobs) (start : List ℕ) (wait : Bool) (rows : Rows) (view : View) → HasWorked jobs start view
     → Progress jobs start start wait rows rows view view
 Progress-first jobs start wait rows view worked = record {
   worked = worked;
@@ -51,8 +51,29 @@ Progress-first jobs start wait rows view worked = record {
   };
 }
 
+-- the rows are those of before
+pub Progress-rows : (jobs : NumberedJobs) (start taken : List ℕ) (wait : Bool) (rows_first rows_old rows_new : Rows) (first view : View)
+    → KeepsRows rows_old rows_new → Progress jobs start taken wait rows_first rows_old first view
+    → Progress jobs start taken wait rows_first rows_new first view
+Progress-rows jobs start taken wait rows_first rows_old rows_new first view kept progress = record {
+  worked = progress.worked;
+  kept = progress.kept;
+  given = progress.given;
+  takes = progress.takes;
+  works = progress.works;
+  adds = record {
+    taken = progress.adds.taken;
+    places = progress.adds.places;
+    added = progress.adds.added;
+    rows = kept.rows ∙ progress.adds.rows;
+    room = kept.room ∙ progress.adds.room;
+    tell = progress.adds.tell;
+    each = progress.adds.each;
+  };
+}
+
 -- the transfer taken last was cut off
-pub record Stopped (jobs : Jobs) (start taken : List ℕ) (wait : Bool) (rows_first rows : Rows) (first view : View)
+pub record Stopped (jobs : NumberedJobs) (start taken : List ℕ) (wait : Bool) (rows_first rows : Rows) (first view : View)
     (ended : Worked) : Type 0 where
   pub worked : HasWorked jobs taken view
   pub kept : KeepsEntries first view
@@ -82,7 +103,7 @@ inserted-in number job wait (LogEnd tail total) old new cut = (cut.0 ∷ cut.1, 
 longer : (start mid made : List ℕ) (last : ℕ) → mid ≡ start ++ made → mid ++ last ∷ [] ≡ start ++ (made ++ last ∷ [])
 longer start mid made last is = ap (λ l. l ++ last ∷ []) is ∙ append_assoc start made (last ∷ [])
 
-TakesJobs-next : (jobs : Jobs) (start mid : List ℕ) (last : ℕ) (rest : List Rec) (first old new : View) → TakesJobs jobs start mid first old
+TakesJobs-next : (jobs : NumberedJobs) (start mid : List ℕ) (last : ℕ) (rest : List Rec) (first old new : View) → TakesJobs jobs start mid first old
     → HasInserted (number_at jobs last) (job_at jobs last) rest old new → TakesJobs jobs start (mid ++ last ∷ []) first new
 TakesJobs-next jobs start mid last rest first old new takes inserted = record {
   taken = takes.taken ++ last ∷ [];
@@ -91,7 +112,7 @@ TakesJobs-next jobs start mid last rest first old new takes inserted = record {
       ∙ sym (ap (λ l. l ++ first.books.jobs) (jobs_taken-push jobs takes.taken last));
 }
 
-module _ (jobs : Jobs) (start mid : List ℕ) (last : ℕ) (wait : Bool) (rows_first rows_old rows_new : Rows) (first old new : View)
+module _ (jobs : NumberedJobs) (start mid : List ℕ) (last : ℕ) (wait : Bool) (rows_first rows_old rows_new : Rows) (first old new : View)
     (progress : Progress jobs start mid wait rows_first rows_old first old) (number : ℕ) (job : Job) (next : IsNextJob jobs mid last number job)
     (since : SawNoLess first old) (later : SawNoLess old new) (given : KeepsGiven old new) (room : room_of rows_new ≡ room_of rows_old) where
   -- one transfer more was run, and its row put
@@ -158,7 +179,7 @@ module _ (jobs : Jobs) (start mid : List ℕ) (last : ℕ) (wait : Bool) (rows_f
       (Progress-cut cause cut put.1)
 
 -- a seat that had no job has just those that it took
-pub jobs-from_none : (jobs : Jobs) (before taken : List ℕ) (old new : View) → before ≡ [] → old.books.jobs ≡ []
+pub jobs-from_none : (jobs : NumberedJobs) (before taken : List ℕ) (old new : View) → before ≡ [] → old.books.jobs ≡ []
     → TakesJobs jobs before taken old new
     → new.books.jobs ≡ jobs_taken jobs taken
 jobs-from_none jobs before taken old new none no_jobs takes = takes.jobs_are ∙ (ap (λ l. jobs_taken jobs takes.taken ++ l) no_jobs
@@ -170,3 +191,9 @@ told-longer (Ok row) None old new put = omega (arith, ap length put, length-appe
 told-longer (Ok row) (Some ended) old new put = absurd put
 told-longer (Err cause) None old new put = absurd put
 told-longer (Err cause) (Some ended) old new put = omega (arith, ap length put.1)
+
+-- where a transfer was cut off, so was the worker, which may take its mark yet
+pub EndsByMark-told : (made : Result Row Cause) (worked : Worked) (rows : Rows) (old new : List Row) → IsTold made (Some worked) old new
+    → marks_in rows ≡ [] → EndsByMark worked rows
+EndsByMark-told (Ok row) worked rows old new told none = absurd told
+EndsByMark-told (Err cause) worked rows old new told none = subst (λ worked. EndsByMark worked rows) (sym told.0) none

@@ -9,12 +9,11 @@ use Rattle.log_rule.specs.declared.view.View.{View}
 use Rattle.lock_core.specs.Transfers.{transfer_of}
 use Rattle.txn_jobs.specs.declared.cause.Cause.{Cause}
 use Rattle.txn_jobs.specs.declared.cause.Worked.TheVariants.{All, Cut}
-use Rattle.txn_jobs.specs.declared.jobs.Jobs.{Jobs}
 use Rattle.txn_jobs.specs.declared.rows.Row.{Row}
-use Rattle.txn_jobs.specs.declared.rows.Rows.{Rows}
+use Rattle.job_queue.specs.declared.rows.Rows.{Rows}
 use Rattle.txn_making.specs.Holdings.{KeepsGiven}
 use Rattle.txn_runner.specs.Running.{outcome_of, LieInOrder, account_given, HasRun}
-use Rattle.txn_runner.specs.Places.{number_at, job_at}
+use Rattle.txn_runner.specs.Places.{NumberedJobs, number_at, job_at}
 use Rattle.txn_runner.specs.Working.{rows_in, room_of, IsGivenAt, AreGivenAt, TellsEnd, AreRowsOf, AddsRows}
 use Rattle.txn_runner.proofs.EntryLemmas.{LieInOrder-ends}
 use Rattle.txn_making.proofs.Held.{account-given}
@@ -26,7 +25,7 @@ pub record Goes (old new : View) : Type 0 where
   pub durable : old.seen.durable ≤ new.seen.durable
   pub given : KeepsGiven old new
 
-module _ (jobs : Jobs) (wait : Bool) (old : View) where
+module _ (jobs : NumberedJobs) (wait : Bool) (old : View) where
   -- what a row tells lies below what the seat saw last
   row-ends : (place : ℕ) (row : Row) → LieInOrder 0 old.seen.tail old.entries → TellsEnd jobs place wait old row → row.end ≤ old.seen.tail
   row-ends place row order tells = omega (
@@ -37,7 +36,7 @@ module _ (jobs : Jobs) (wait : Bool) (old : View) where
         tells.contains,
   )
 
-module _ (jobs : Jobs) (wait : Bool) (old new : View) (goes : Goes old new) where
+module _ (jobs : NumberedJobs) (wait : Bool) (old new : View) (goes : Goes old new) where
   IsGivenAt-still : (number durable account : ℕ) → IsGivenAt number durable old.books.given account → IsGivenAt number durable new.books.given account
   IsGivenAt-still number durable account at = record {
     back = at.back;
@@ -94,7 +93,7 @@ module _ (jobs : Jobs) (wait : Bool) (old new : View) (goes : Goes old new) wher
           (row-ends jobs wait old place other order tell.0) tell.0.seen tells tell.3,
     )
 
-TellsEnd-run : (jobs : Jobs) (place : ℕ) (wait : Bool) (row : Row) (old new : View)
+TellsEnd-run : (jobs : NumberedJobs) (place : ℕ) (wait : Bool) (row : Row) (old new : View)
     → HasRun (number_at jobs place) (job_at jobs place) wait row old new → TellsEnd jobs place wait new row
 TellsEnd-run jobs place wait row old new run = record {
   txn = run.txn;
@@ -119,7 +118,7 @@ TellsEnd-run jobs place wait row old new run = record {
     }
 
 -- one more transfer was taken, at the place `last`, behind those at the places `mid`
-module _ (jobs : Jobs) (start mid : List ℕ) (last : ℕ) (wait : Bool) (rows_first rows_old rows_new : Rows) (first old new : View)
+module _ (jobs : NumberedJobs) (start mid : List ℕ) (last : ℕ) (wait : Bool) (rows_first rows_old rows_new : Rows) (first old new : View)
     (adds : AddsRows jobs start mid wait All rows_first rows_old first old) (room : room_of rows_new ≡ room_of rows_old) where
   grows : mid ++ last ∷ [] ≡ start ++ (adds.taken ++ last ∷ [])
   grows = ap (λ l. l ++ last ∷ []) adds.places ∙ append_assoc start adds.taken (last ∷ [])

@@ -1,7 +1,9 @@
 -- The stages of one transfer, one after another, and what they come to.
 use Rattle.std.proofs.Common.{◌≡◌, ◌≢◌, ℕ, ◌≤◌, Bool, true, List, [], map, All, IfOk, IfErr, OnErr, Ok, Err, Result, refl, sym, ap, ◌∙◌, subst, arith}
+use Rattle.std.specs.List.{AllByRecursion}
 use Rattle.std.specs.List.Sorted.{IsStrictlyIncreasing}
 use Rattle.std.proofs.lemmas.Result.{IfOk-weaker, IfErr-weaker}
+use Rattle.log_record.specs.declared.rec.Placed.{Placed}
 use Rattle.lock_core.specs.Transactions.{recs_of, has_commit}
 use Rattle.lock_core.specs.declared.job.Job.{Job}
 use Rattle.log_table.specs.declared.table.LogTable.{LogTable}
@@ -12,9 +14,9 @@ use Rattle.log_rule.specs.declared.view.Constants.{Constants}
 use Rattle.log_rule.specs.declared.view.Entry.{Entry}
 use Rattle.log_rule.specs.declared.view.TakenJob.{TakenJob}
 use Rattle.log_rule.specs.declared.view.View.{View}
-use Rattle.log_rule.specs.Accounts.{MayBeTaken}
 use Rattle.log_rule.specs.AccountViews.{took_job}
-use Rattle.log_rule.specs.Books.{balance_taken, taking_job}
+use Rattle.log_rule.specs.Books.{balance_taken, taking_job, IsNote}
+use Rattle.log_rule.specs.May.{HasBegunNothing, MayTakeJob}
 use Rattle.log_table.specs.Seats.{IsOf, Becomes, view_of}
 use Rattle.ring_buffer.specs.Calls.{IsReady, IsSameWorker, HasEntries}
 use Rattle.ring_buffer.proofs.TwoCalls.{IsSameWorker-trans}
@@ -28,7 +30,7 @@ use Rattle.txn_making.specs.Endings.{EndsTransfer}
 use Rattle.txn_making.specs.Holdings.{taken_of, given_behind, with_held, HoldsAll, KeepsBooks, KeepsGiven, TakesAll}
 use Rattle.txn_making.specs.Inserts.{Adds, HasAdded, IsCutOff, StopsFor}
 use Rattle.txn_runner.specs.Running.{GaveBack, HasRun, HasCut}
-use Rattle.txn_runner.specs.Stages.{HasTakenJob, MayMakeTransfer, TakesTransfer, MayEndTransfer, GivesAll, LetsGo, HasRunTaken, HasCutTaken}
+use Rattle.txn_runner.specs.Stages.{HasTakenJob, HasNextJob, MayMakeTransfer, TakesAccounts, MayEndTransfer, GivesAll, LetsGo, HasRunTaken, HasCutTaken}
 use Rattle.txn_runner.proofs.Composing.{Keeps, IsGivenFrom, may-make, still-known, still-held, gave-back, has-inserted, uncommitted-at, has-cut, has-stopped, cut-early, has-run, still-stops}
 use Rattle.txn_making.proofs.GivenLemmas.{given-same, given-trans}
 use Rattle.txn_making.proofs.Held.{given-front}
@@ -82,7 +84,7 @@ same-worker first second steps stop books more becomes = record {
 
 -- the job is taken
 module _ (number : ℕ) (job : Job) (first second : Seat) where
-  abbrev IsTaken : Type 0
+  abbrev pub IsTaken : Type 0
   IsTaken = HasEntries first second (view_of first).entries (taking_job (record { number = number; job = job }) (view_of first).books)
 
   pub takes-job : (word : ℕ) → IsReady (view_of first) → Becomes first second (took_job number job word (view_of first)) → IsTaken
@@ -104,80 +106,107 @@ module _ (number : ℕ) (job : Job) (first second : Seat) where
     none = ap (λ (books : Books). books.placed) taken.books_are;
   }
 
-  pub cut-first : (wait : Bool) (cause : Cause) → IsTaken → StopsFor cause [] (view_of second)
-      → HasCut number job wait cause (view_of first) (view_of second)
-  cut-first wait cause taken = cut-early number job wait cause (view_of first) (view_of second) (view_of second) (took taken)
-      record { entries = refl; grows = omega arith; jobs = refl }
+  pub has-next : (accounts : ℕ) → MayTakeJob accounts number job (view_of first) → IsTaken → HasNextJob accounts number job (view_of second).books
+  has-next accounts may taken = record {
+    last = (took taken).last;
+    allowed = may.allowed;
+    none_held = ap (λ (books : Books). books.held) taken.books_are ∙ may.none_held;
+    none = (took taken).none;
+  }
 
-  -- so by a stop word that was read
-  pub cut-first-by : (word : ℕ) (result : Result (Unit {0}) Cause) → IsTaken → (view_of second).seen.stop ≡ word
-      → IfErr result (λ cause. (cause ≡ Stop word) × (word ≢ 0))
-      → IfErr result (λ cause. (wait : Bool) → HasCut number job wait cause (view_of first) (view_of second))
-  cut-first-by word (Ok done) taken read stopped = tt
-  cut-first-by word (Err cause) taken read stopped = λ wait. cut-first wait cause taken
-      (subst (λ cause. StopsFor cause [] (view_of second)) (sym stopped.0) (stopped.1, read))
+  -- where the stop word that was read isn't 0, the log has stopped
+  pub stops-by : (word : ℕ) (result : Result (Unit {0}) Cause) → (view_of second).seen.stop ≡ word
+      → IfErr result (λ cause. (cause ≡ Stop word) × (word ≢ 0)) → IfErr result (λ cause. StopsFor cause [] (view_of second))
+  stops-by word (Ok done) read stopped = tt
+  stops-by word (Err cause) read stopped = subst (λ cause. StopsFor cause [] (view_of second)) (sym stopped.0) (stopped.1, read)
 
-  module _ (none_held : (view_of first).books.held ≡ []) (taken : IsTaken) where
-    pub lets-go-first : LetsGo first second
-    lets-go-first = record {
-      same = taken.same;
-      idle = taken.idle;
-      contended = taken.contended;
-      none_held = ap (λ (books : Books). books.held) taken.books_are ∙ none_held;
-      given = given-same (view_of first) (view_of second) (ap (λ (books : Books). books.given) taken.books_are);
+-- what the seat made since `second` it made since `first`, where it gave nothing back between
+lets-go-since : (first second third : Seat) → IsSameWorker first second → (view_of second).contended ≡ (view_of first).contended
+    → (view_of second).books.given ≡ (view_of first).books.given → LetsGo second third → LetsGo first third
+lets-go-since first second third same contended given made = record {
+  same = IsSameWorker-trans first second third same made.same;
+  idle = made.idle;
+  contended = made.contended ∙ contended;
+  none_held = made.none_held;
+  given = given-trans (view_of first) (view_of second) (view_of third) (given-same (view_of first) (view_of second) given) made.given;
+}
+
+-- The transfer was taken as the seat's job, and was made since or cut off.
+module _ (number : ℕ) (job : Job) (first second third : Seat) (taken : IsTaken number job first second) where
+  pub lets-go-taken : LetsGo second third → LetsGo first third
+  lets-go-taken = lets-go-since first second third taken.same taken.contended (took number job first second taken).given
+
+  module _ (wait : Bool) (result : Result Row Cause) where
+    pub run-taken : IfOk result (λ row. HasRunTaken number job wait row (view_of second) (view_of third))
+        → IfOk result (λ row. HasRun number job wait row (view_of first) (view_of third))
+    run-taken = IfOk-weaker result (λ row. HasRunTaken number job wait row (view_of second) (view_of third))
+        (λ row. HasRun number job wait row (view_of first) (view_of third)) (λ row run. run (view_of first) (took number job first second taken))
+
+    pub cut-taken : IfErr result (λ cause. HasCutTaken number job wait cause (view_of second) (view_of third))
+        → IfErr result (λ cause. HasCut number job wait cause (view_of first) (view_of third))
+    cut-taken = IfErr-weaker result (λ cause. HasCutTaken number job wait cause (view_of second) (view_of third))
+        (λ cause. HasCut number job wait cause (view_of first) (view_of third)) (λ cause cut. cut (view_of first) (took number job first second taken))
+
+-- The job is the seat's next. Its accounts are taken then, but for a cut.
+module _ (accounts number : ℕ) (job : Job) (first : Seat) (next : HasNextJob accounts number job (view_of first).books) where
+  pub begins-nothing : HasBegunNothing (view_of first)
+  begins-nothing = record {
+    some_job = omega (arith, ap (λ (taken : TakenJob). taken.number) next.last, next.allowed.number.0);
+    only_note = subst (AllByRecursion (λ (entry : Placed). IsNote entry.rec)) (sym next.none) tt;
+  }
+
+  pub lets-go-first : IsReady (view_of first) → LetsGo first first
+  lets-go-first ready = record {
+    same = IsSameWorker-refl first;
+    idle = ready.rests.idle;
+    contended = refl;
+    none_held = next.none_held;
+    given = given-same (view_of first) (view_of first) refl;
+  }
+
+  pub cut-first : (cause : Cause) → StopsFor cause [] (view_of first) → (wait : Bool)
+      → HasCutTaken number job wait cause (view_of first) (view_of first)
+  cut-first cause stops wait origin taken = cut-early number job wait cause origin (view_of first) (view_of first) taken
+      record { entries = refl; grows = omega arith; jobs = refl } stops
+
+  module _ {T : Type 0} (second : Seat) where
+    pub lets-go-untaken : (result : Result T Cause) → OnErr result (KeepsBooks first second)
+        → OnErr result (KeepsGiven (view_of first) (view_of second)) → OnErr result (LetsGo first second)
+    lets-go-untaken (Ok done) kept given = tt
+    lets-go-untaken (Err cause) kept given = record {
+      same = kept.same;
+      idle = kept.idle;
+      contended = kept.contended;
+      none_held = ap (λ (books : Books). books.held) kept.books ∙ next.none_held;
+      given = given;
     }
 
-    -- then its accounts are, but for a cut
-    module _ {T : Type 0} (result : Result T Cause) (third : Seat) where
-      pub lets-go-taken : OnErr result (KeepsBooks second third) → OnErr result (KeepsGiven (view_of second) (view_of third))
-          → OnErr result (LetsGo first third)
-      lets-go-taken = both result
-        where
-          both : (result : Result T Cause) → OnErr result (KeepsBooks second third) → OnErr result (KeepsGiven (view_of second) (view_of third))
-              → OnErr result (LetsGo first third)
-          both (Ok holdings) kept given = tt
-          both (Err cause) kept given = record {
-            same = IsSameWorker-trans first second third taken.same kept.same;
-            idle = kept.idle;
-            contended = kept.contended ∙ taken.contended;
-            none_held = ap (λ (books : Books). books.held) (kept.books) ∙ lets-go-first.none_held;
-            given = given-trans (view_of first) (view_of second) (view_of third) lets-go-first.given given;
-          }
+    pub cut-untaken : (result : Result T Cause) → OnErr result (KeepsBooks first second)
+        → IfErr result (λ cause. StopsFor cause [] (view_of second))
+        → IfErr result (λ cause. (wait : Bool) → HasCutTaken number job wait cause (view_of first) (view_of second))
+    cut-untaken (Ok done) kept stops = tt
+    cut-untaken (Err cause) kept stops = λ wait origin taken. cut-early number job wait cause origin (view_of first) (view_of second) taken
+        record { entries = kept.entries; grows = kept.same.grows; jobs = ap (λ (books : Books). books.jobs) kept.books } stops
 
-      pub cut-taken : OnErr result (KeepsBooks second third) → IfErr result (λ cause. StopsFor cause [] (view_of third))
-          → IfErr result (λ cause. (wait : Bool) → HasCut number job wait cause (view_of first) (view_of third))
-      cut-taken = both result
-        where
-          both : (result : Result T Cause) → OnErr result (KeepsBooks second third) → IfErr result (λ cause. StopsFor cause [] (view_of third))
-              → IfErr result (λ cause. (wait : Bool) → HasCut number job wait cause (view_of first) (view_of third))
-          both (Ok holdings) kept stops = tt
-          both (Err cause) kept stops = λ wait. cut-early number job wait cause (view_of first) (view_of second) (view_of third)
-              (took taken)
-              record { entries = kept.entries; grows = kept.same.grows; jobs = ap (λ (books : Books). books.jobs) kept.books } stops
-
--- and its accounts, which are held then
-pub takes-transfer : (accounts number : ℕ) (job : Job) (list slice : List ℕ) (holdings : List Holding) (first second third : Seat)
-    → slice ≡ list → IsStrictlyIncreasing list → All (IsAccountOf job.legs) list → MayBeTaken accounts (record { number = number; job = job })
-    → All (HasAccountsOf list) job.legs
-    → HasEntries first second (view_of first).entries (taking_job (record { number = number; job = job }) (view_of first).books)
-    → TakesAll slice holdings second third → TakesTransfer accounts number job holdings first third
-takes-transfer accounts number job list slice holdings first second third same rising only allowed all taken takes = record {
-  same = IsSameWorker-trans first second third taken.same takes.entries.same;
-  idle = takes.entries.idle;
-  contended = takes.entries.contended ∙ taken.contended;
-  taken = record {
-    entries = takes.entries.entries_are ∙ taken.entries_are;
-    grows = omega (arith, taken.same.grows, takes.entries.same.grows);
-    jobs = ap (λ (books : Books). books.jobs) takes.entries.books_are ∙ job-taken.jobs;
-    last = ap (λ (books : Books). books.last) takes.entries.books_are ∙ job-taken.last;
-    given = ap (λ (books : Books). books.given) takes.entries.books_are ∙ job-taken.given;
-    none = ap (λ (books : Books). books.placed) takes.entries.books_are ∙ job-taken.none;
-  };
-  may = may-make accounts number job list slice holdings second third same rising only allowed takes all job-taken.last job-taken.none;
-}
-  where
-    job-taken : HasTakenJob number job (view_of first) (view_of second)
-    job-taken = took number job first second taken
+  -- they are held then
+  pub takes-accounts : (list slice : List ℕ) (holdings : List Holding) (second : Seat) → slice ≡ list → IsStrictlyIncreasing list
+      → All (IsAccountOf job.legs) list → All (HasAccountsOf list) job.legs → TakesAll slice holdings first second
+      → TakesAccounts accounts number job holdings first second
+  takes-accounts list slice holdings second same rising only all takes = record {
+    same = takes.entries.same;
+    idle = takes.entries.idle;
+    contended = takes.entries.contended;
+    given = ap (λ (books : Books). books.given) takes.entries.books_are;
+    taken = λ origin taken. record {
+      entries = takes.entries.entries_are ∙ taken.entries;
+      grows = omega (arith, taken.grows, takes.entries.same.grows);
+      jobs = ap (λ (books : Books). books.jobs) takes.entries.books_are ∙ taken.jobs;
+      last = ap (λ (books : Books). books.last) takes.entries.books_are ∙ taken.last;
+      given = ap (λ (books : Books). books.given) takes.entries.books_are ∙ taken.given;
+      none = ap (λ (books : Books). books.placed) takes.entries.books_are ∙ taken.none;
+    };
+    may = may-make accounts number job list slice holdings first second same rising only next.allowed takes all next.last next.none;
+  }
 
 -- The transfer was made from `second` to `third`, as far as it came: all its accounts are held still.
 module _ (accounts number : ℕ) (job : Job) (holdings paid : List Holding) (second third : Seat)
@@ -300,26 +329,19 @@ module _ (accounts number : ℕ) (job : Job) (wait : Bool) (holdings paid : List
     stop-made (Err cause) cut = λ first taken. has-stopped number job wait cause first (view_of fourth)
         (has-inserted number job [] first (view_of fourth) second third _ taken ends.adds ends.left keeps) cut.0 cut.1
 
--- the transfer was taken, and is made or cut off
+-- its accounts were taken, and it is made or cut off
 module _ (accounts number : ℕ) (job : Job) (holdings : List Holding) (first second third : Seat)
-    (takes : TakesTransfer accounts number job holdings first second) where
+    (takes : TakesAccounts accounts number job holdings first second) where
   pub lets-go-made : LetsGo second third → LetsGo first third
-  lets-go-made made = record {
-    same = IsSameWorker-trans first second third takes.same made.same;
-    idle = made.idle;
-    contended = made.contended ∙ takes.contended;
-    none_held = made.none_held;
-    given = given-trans (view_of first) (view_of second) (view_of third)
-        (given-same (view_of first) (view_of second) takes.taken.given) made.given;
-  }
+  lets-go-made = lets-go-since first second third takes.same takes.contended takes.given
 
   module _ (wait : Bool) (result : Result Row Cause) where
-    pub run-taken : IfOk result (λ row. HasRunTaken number job wait row (view_of second) (view_of third))
-        → IfOk result (λ row. HasRun number job wait row (view_of first) (view_of third))
-    run-taken = IfOk-weaker result (λ row. HasRunTaken number job wait row (view_of second) (view_of third))
-        (λ row. HasRun number job wait row (view_of first) (view_of third)) (λ row run. run (view_of first) takes.taken)
+    pub run-behind : IfOk result (λ row. HasRunTaken number job wait row (view_of second) (view_of third))
+        → IfOk result (λ row. HasRunTaken number job wait row (view_of first) (view_of third))
+    run-behind = IfOk-weaker result (λ row. HasRunTaken number job wait row (view_of second) (view_of third))
+        (λ row. HasRunTaken number job wait row (view_of first) (view_of third)) (λ row run origin taken. run origin (takes.taken origin taken))
 
     pub cut-behind : IfErr result (λ cause. HasCutTaken number job wait cause (view_of second) (view_of third))
-        → IfErr result (λ cause. HasCut number job wait cause (view_of first) (view_of third))
+        → IfErr result (λ cause. HasCutTaken number job wait cause (view_of first) (view_of third))
     cut-behind = IfErr-weaker result (λ cause. HasCutTaken number job wait cause (view_of second) (view_of third))
-        (λ cause. HasCut number job wait cause (view_of first) (view_of third)) (λ cause cut. cut (view_of first) takes.taken)
+        (λ cause. HasCutTaken number job wait cause (view_of first) (view_of third)) (λ cause cut origin taken. cut origin (takes.taken origin taken))

@@ -21,33 +21,33 @@ use Rattle.txn_jobs.specs.declared.cause.Cause.{Cause}
 use Rattle.txn_jobs.specs.declared.cause.Cause.TheVariants.{Stop, LogEnd}
 use Rattle.txn_jobs.specs.declared.cause.Worked.{Worked}
 use Rattle.txn_jobs.specs.declared.cause.Worked.TheVariants as worked
-use Rattle.txn_jobs.specs.declared.jobs.Jobs.{Jobs}
 use Rattle.txn_jobs.specs.declared.rows.Row.{Row}
+use Rattle.job_queue.specs.declared.queue.Queue.{Queue}
+use Rattle.job_queue.specs.declared.rows.Rows.{Rows}
+use Rattle.job_queue.specs.Passes.{jobs_of, places_in, TakesPlace}
 use Rattle.txn_runner.specs.Running.{outcome_of, LieInOrder, IsUncommittedAt, HasInserted, HasRun, HasCut}
-use Rattle.txn_runner.specs.Places.{place_of, number_at, job_at, taken_at, jobs_taken, stripe_places, IsOneOf}
+use Rattle.txn_runner.specs.Places.{NumberedJobs, number_at, job_at, taken_at, jobs_taken, IsOneOf}
 use Rattle.txn_runner.specs.Working.{LieInTurn, HasWorked, HasEnd, HaveEnded, own_records, IsCutBy, Works}
 use Rattle.txn_runner.proofs.EntryLemmas.{all-records, own_records-append, own_records-none, own_records-all, LieInOrder-append, LieInOrder-starts, LieInOrder-ends}
 use Rattle.txn_runner.proofs.PlanLemmas.{IsRecordOf, planned_records-own, planned_records-front, end_record-own, end_record-ends}
-use Rattle.txn_jobs.proofs.StripeSteps.{Rises-push, stripe_places-below}
+use Rattle.txn_jobs.proofs.Rising.{Rises-push}
 use Rattle.txn_runner.proofs.PlaceLemmas.{jobs_taken-push, jobs_taken-below, taken_at-allowed}
 
 -- this is the transfer at the place, under its number, and the place is above those before
-pub record IsNextJob (jobs : Jobs) (taken : List ℕ) (place number : ℕ) (job : Job) : Type 0 where
+pub record IsNextJob (jobs : NumberedJobs) (taken : List ℕ) (place number : ℕ) (job : Job) : Type 0 where
   pub within : place < length jobs.script
   pub above : AllByRecursion (λ before. before < place) taken
   pub number_is : number ≡ number_at jobs place
   pub job_is : job ≡ job_at jobs place
 
--- so is the next of the worker's stripe, which was taken by this number of the worker
-pub IsNextJob-taken : (jobs : Jobs) (worker k number : ℕ) (job : Job) (by : ℕ) → by ≡ worker → place_of jobs by k < length jobs.script
-    → number ≡ number_at jobs (place_of jobs by k) → job ≡ job_at jobs (place_of jobs by k)
-    → IsNextJob jobs (stripe_places jobs worker k) (place_of jobs worker k) number job
-IsNextJob-taken jobs worker k number job by by-is within number-is job-is =
-    subst (λ worker. IsNextJob jobs (stripe_places jobs worker k) (place_of jobs worker k) number job) by-is
-    record { within = within; above = stripe_places-below jobs by k k (omega arith); number_is = number-is; job_is = job-is }
+-- so is one at a place that the rows' pass took
+pub IsNextJob-taken : (queue : Queue) (number : ℕ) (job : Job) (old new : Rows) (takes : TakesPlace queue number job old new)
+    → IsNextJob (jobs_of queue) (places_in old) takes.place number job
+IsNextJob-taken queue number job old new takes =
+    record { within = takes.within; above = takes.above; number_is = takes.number_is; job_is = takes.job_is }
 
 -- the record of an entry is of a transaction before the script's first, or of one at these places
-abbrev pub IsOwnEntry : Jobs → List ℕ → Entry → Type 0
+abbrev pub IsOwnEntry : NumberedJobs → List ℕ → Entry → Type 0
 IsOwnEntry jobs taken entry = (txn_of entry.rec < jobs.first) ⊎ IsOneOf jobs taken (txn_of entry.rec)
 
 -- an end record stays, whatever is added
@@ -59,29 +59,31 @@ HasEnd-append number entries added ended = record {
   is_end = ended.is_end;
 }
 
-module _ (jobs : Jobs) (taken : List ℕ) (place number : ℕ) (job : Job) (next : IsNextJob jobs taken place number job) where
+module _ (jobs : NumberedJobs) (taken : List ℕ) (place number : ℕ) (job : Job) (next : IsNextJob jobs taken place number job) where
   -- what is said of the transfer, said of the one at the place
   pub at-place : (P : ℕ → Job → Type 0) → P number job → P (number_at jobs place) (job_at jobs place)
   at-place P said = subst (λ n. P n (job_at jobs place)) next.number_is (subst (P number) next.job_is said)
 
-  -- the worker may take the transfer
-  pub MayTakeJob-next : (accounts : ℕ) (view : View) → IsReady view → view.books.held ≡ [] → All (IsAllowedJob accounts) jobs.script
-      → HasWorked jobs taken view → MayTakeJob accounts number job view
-  MayTakeJob-next accounts view ready none_held allowed worked = record {
-    rests = ready.rests;
-    none_held = none_held;
-    allowed = subst (λ n. MayBeTaken accounts (record { number = n; job = job })) (sym next.number_is)
-        (subst (λ j. MayBeTaken accounts (record { number = number_at jobs place; job = j })) (sym next.job_is)
-        (taken_at-allowed jobs accounts place allowed next.within));
-    above = subst (λ n. AllByRecursion (λ (taken : TakenJob). taken.number < n) view.books.jobs) (sym next.number_is)
-        (subst (AllByRecursion (IsBelow (number_at jobs place))) (sym worked.jobs_are) (all-append (IsBelow (number_at jobs place))
-        (jobs_taken jobs taken) worked.earlier (jobs_taken-below jobs taken place next.above)
-        (all-weaker (IsBelow jobs.first) (IsBelow (number_at jobs place)) worked.earlier
-        (λ taken below. omega (arith, below)) worked.numbers)));
-  }
-    where
-      IsBelow : ℕ → TakenJob → Type 0
-      IsBelow n taken = taken.number < n
+-- the worker may take the next transfer of the queue
+pub MayTakeJob-next : (queue : Queue) (taken : List ℕ) (place number : ℕ) (job : Job) → IsNextJob (jobs_of queue) taken place number job
+    → (accounts : ℕ) (view : View) → IsReady view → view.books.held ≡ [] → All (IsAllowedJob accounts) queue.script
+    → HasWorked (jobs_of queue) taken view → MayTakeJob accounts number job view
+MayTakeJob-next queue taken place number job next accounts view ready none_held allowed worked = record {
+  rests = ready.rests;
+  none_held = none_held;
+  allowed = subst (λ n. MayBeTaken accounts (record { number = n; job = job })) (sym next.number_is)
+      (subst (λ j. MayBeTaken accounts (record { number = number_at (jobs_of queue) place; job = j })) (sym next.job_is)
+      (taken_at-allowed queue accounts place allowed next.within));
+  above = subst (λ n. AllByRecursion (IsBelow n) view.books.jobs) (sym next.number_is)
+      (subst (AllByRecursion (IsBelow (number_at (jobs_of queue) place))) (sym worked.jobs_are)
+      (all-append (IsBelow (number_at (jobs_of queue) place))
+      (jobs_taken (jobs_of queue) taken) worked.earlier (jobs_taken-below (jobs_of queue) taken place next.above)
+      (all-weaker (IsBelow queue.first) (IsBelow (number_at (jobs_of queue) place)) worked.earlier
+      (λ taken below. omega (arith, below)) worked.numbers)));
+}
+  where
+    IsBelow : ℕ → TakenJob → Type 0
+    IsBelow n taken = taken.number < n
 
 -- a place that is taken is below the next
 below-next : (taken : List ℕ) (place before : ℕ) → AllByRecursion (λ before. before < place) taken → Contains taken before → before < place
@@ -89,7 +91,7 @@ below-next taken place before above = All-contains (λ before. before < place) t
     (All-from_recursion (λ before. before < place) taken above)
 
 -- what was inserted for the transfer at a place above those before, behind what was there
-module _ (jobs : Jobs) (taken : List ℕ) (place : ℕ) (above : AllByRecursion (λ before. before < place) taken) (rest : List Rec) (old new : View)
+module _ (jobs : NumberedJobs) (taken : List ℕ) (place : ℕ) (above : AllByRecursion (λ before. before < place) taken) (rest : List Rec) (old new : View)
     (inserted : HasInserted (number_at jobs place) (job_at jobs place) rest old new) where
   added-own : AllByRecursion (λ (entry : Entry). txn_of entry.rec ≡ number_at jobs place) inserted.added
   added-own = all-records (IsRecordOf (number_at jobs place)) inserted.added
@@ -206,7 +208,7 @@ HasEnd-run number job wait row old new run = record {
   is_end = ap ends run.rec ∙ end_record-ends number (transfer_of job) (outcome_of row.answer);
 }
 
-pub HaveEnded-next : (jobs : Jobs) (taken : List ℕ) (place : ℕ) (above : AllByRecursion (λ before. before < place) taken) (wait : Bool)
+pub HaveEnded-next : (jobs : NumberedJobs) (taken : List ℕ) (place : ℕ) (above : AllByRecursion (λ before. before < place) taken) (wait : Bool)
     (row : Row) (old new : View)
     → HasRun (number_at jobs place) (job_at jobs place) wait row old new → (places : List ℕ) → HaveEnded jobs places old
     → HaveEnded jobs (places ++ place ∷ []) new
@@ -216,7 +218,7 @@ HaveEnded-next jobs taken place above wait row old new run places ended = all-ap
     (HasEnd-run (number_at jobs place) (job_at jobs place) wait row old new run, tt)
 
 -- the transfer was cut off
-pub IsCutBy-next : (jobs : Jobs) (taken : List ℕ) (place : ℕ) → AllByRecursion (λ before. before < place) taken → (wait : Bool) (cause : Cause)
+pub IsCutBy-next : (jobs : NumberedJobs) (taken : List ℕ) (place : ℕ) → AllByRecursion (λ before. before < place) taken → (wait : Bool) (cause : Cause)
     (old new : View) → HasWorked jobs taken old → HasCut (number_at jobs place)
     (job_at jobs place) wait cause old new → IsCutBy jobs place wait cause new
 IsCutBy-next jobs taken place above wait (Stop word) old new worked cut = (waits cut.0 cut.1 cut.2, cut.3, cut.4)
@@ -242,12 +244,12 @@ IsCutBy-next jobs taken place above wait (LogEnd tail total) old new worked cut 
 }
 
 -- a cut is a cut of a worker that may wait
-IsCutBy-may_wait : (jobs : Jobs) (place : ℕ) (wait : Bool) (cause : Cause) (view : View) → IsCutBy jobs place wait cause view
+IsCutBy-may_wait : (jobs : NumberedJobs) (place : ℕ) (wait : Bool) (cause : Cause) (view : View) → IsCutBy jobs place wait cause view
     → IsCutBy jobs place true cause view
 IsCutBy-may_wait jobs place wait (Stop word) view cut = (λ ended. refl, cut.1, cut.2)
 IsCutBy-may_wait jobs place wait (LogEnd tail total) view cut = cut
 
-pub Works-may_wait : (jobs : Jobs) (before after : List ℕ) (wait : Bool) (worked : Worked) (view : View)
+pub Works-may_wait : (jobs : NumberedJobs) (before after : List ℕ) (wait : Bool) (worked : Worked) (view : View)
     → Works jobs before after wait worked view
     → Works jobs before after true worked view
 Works-may_wait jobs before after wait worked.All view works = works
@@ -255,7 +257,7 @@ Works-may_wait jobs before after wait (worked.Cut cause) view works =
     (works.0, works.1, works.2, works.3, IsCutBy-may_wait jobs works.1 wait cause view works.4)
 
 -- a worker that has done nothing yet
-pub HasWorked-none : (jobs : Jobs) (view : View) → view.entries ≡ [] → view.books.jobs ≡ [] → HasWorked jobs [] view
+pub HasWorked-none : (jobs : NumberedJobs) (view : View) → view.entries ≡ [] → view.books.jobs ≡ [] → HasWorked jobs [] view
 HasWorked-none jobs view no_entries no_jobs = record {
   places = tt;
   rising = tt;

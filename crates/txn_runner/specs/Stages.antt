@@ -7,8 +7,13 @@ use Rattle.log_table.specs.declared.table.Seat.{Seat}
 use Rattle.log_rule.specs.declared.view.Books.{Books}
 use Rattle.log_rule.specs.declared.view.Call.TheVariants.{Idle}
 use Rattle.log_rule.specs.declared.view.View.{View}
+use Rattle.log_rule.specs.Accounts.{MayBeTaken}
+use Rattle.log_rule.specs.Books.{taking_job}
 use Rattle.log_table.specs.Seats.{view_of}
-use Rattle.ring_buffer.specs.Calls.{IsSameWorker}
+use Rattle.ring_buffer.specs.Calls.{IsSameWorker, HasEntries}
+use Rattle.job_queue.specs.declared.queue.Queue.{Queue}
+use Rattle.job_queue.specs.declared.rows.Rows.{Rows}
+use Rattle.job_queue.specs.Passes.{TakesPlace, TakesMark}
 use Rattle.txn_jobs.specs.declared.cause.Cause.{Cause}
 use Rattle.txn_parts.specs.declared.holding.Holding.{Holding}
 use Rattle.txn_jobs.specs.declared.rows.Row.{Row}
@@ -17,6 +22,17 @@ use Rattle.txn_making.specs.Endings.{release_at}
 use Rattle.txn_making.specs.Holdings.{IsKnown, IsUnchanged, GoesBack, HoldsAll, KeepsGiven, given_behind}
 use Rattle.txn_making.specs.Legs.{HoldsJob}
 use Rattle.txn_runner.specs.Running.{HasRun, HasCut}
+
+-- The rows' pass took a place, and the jobs of the seat grew by exactly the one there, under its number. Its other books, its entries and
+-- what it has under way are as they were.
+pub record TakesNextJob (queue : Queue) (number : ℕ) (job : Job) (rows_old rows_new : Rows) (old new : Seat) : Type 0 where
+  pub place : TakesPlace queue number job rows_old rows_new
+  pub as_job : HasEntries old new (view_of old).entries (taking_job (record { number = number; job = job }) (view_of old).books)
+
+-- the rows' pass took its mark, and the seat is as it was
+pub record TakesNoJob (queue : Queue) (rows_old rows_new : Rows) (old new : Seat) : Type 0 where
+  pub mark : TakesMark queue rows_old rows_new
+  pub seat_is : new ≡ old
 
 -- the seat took the job under this number, and nothing of it is in the log
 pub record HasTakenJob (number : ℕ) (job : Job) (old new : View) : Type 0 where
@@ -27,6 +43,13 @@ pub record HasTakenJob (number : ℕ) (job : Job) (old new : View) : Type 0 wher
   pub given : new.books.given ≡ old.books.given
   pub none : new.books.placed ≡ []
 
+-- the seat's last job is this one, which the table allows; nothing of it is in the log, and no account is held
+pub record HasNextJob (accounts number : ℕ) (job : Job) (books : Books) : Type 0 where
+  pub last : books.last ≡ record { number = number; job = job }
+  pub allowed : MayBeTaken accounts (record { number = number; job = job })
+  pub none_held : books.held ≡ []
+  pub none : books.placed ≡ []
+
 -- The seat's last job may be made: nothing of it is in the log, and its accounts are held as they were taken, each once, and no other.
 pub record MayMakeTransfer (accounts number : ℕ) (job : Job) (holdings : List Holding) (books : Books) : Type 0 where
   pub holds : HoldsJob accounts number job holdings books
@@ -35,12 +58,13 @@ pub record MayMakeTransfer (accounts number : ℕ) (job : Job) (holdings : List 
   pub unchanged : All IsUnchanged holdings
   pub none : books.placed ≡ []
 
--- the seat took the job and its accounts, has nothing under way, and is as contended as before
-pub record TakesTransfer (accounts number : ℕ) (job : Job) (holdings : List Holding) (old new : Seat) : Type 0 where
+-- the seat had taken the job, and took its accounts, has nothing under way, and is as contended as before
+pub record TakesAccounts (accounts number : ℕ) (job : Job) (holdings : List Holding) (old new : Seat) : Type 0 where
   pub same : IsSameWorker old new
   pub idle : (view_of new).call ≡ Idle
   pub contended : (view_of new).contended ≡ (view_of old).contended
-  pub taken : HasTakenJob number job (view_of old) (view_of new)
+  pub given : (view_of new).books.given ≡ (view_of old).books.given
+  pub taken : (first : View) → HasTakenJob number job first (view_of old) → HasTakenJob number job first (view_of new)
   pub may : MayMakeTransfer accounts number job holdings (view_of new).books
 
 -- The transfer's end record is in the log and ends there, and its accounts are held, and no other, with the values with which they go back.

@@ -17,26 +17,30 @@ use Rattle.txn_jobs.specs.declared.cause.Cause.{Cause}
 use Rattle.txn_jobs.specs.declared.cause.Cause.TheVariants.{Stop, LogEnd}
 use Rattle.txn_jobs.specs.declared.cause.Worked.{Worked}
 use Rattle.txn_jobs.specs.declared.cause.Worked.TheVariants.{All, Cut}
-use Rattle.txn_jobs.specs.declared.jobs.Jobs.{Jobs}
 use Rattle.txn_jobs.specs.declared.rows.Row.{Row}
-use Rattle.txn_jobs.specs.declared.rows.Rows.{Rows}
-pub use Rattle.txn_jobs.specs.Rows.{rows_in, room_of, taken_in, HasRoomForRows}
+use Rattle.job_queue.specs.declared.rows.Rows.{Rows}
+pub use Rattle.job_queue.specs.Passes.{jobs_of, rows_in, room_of, places_in, marks_in}
 use Rattle.txn_runner.specs.Running.{outcome_of, LieInOrder, GaveBack, IsTotalOfSeat, IsUncommittedAt}
-use Rattle.txn_runner.specs.Places.{number_at, job_at, jobs_taken, stripe_places, IsOneOf, Rises, AreOfScript}
+use Rattle.txn_runner.specs.Places.{NumberedJobs, number_at, job_at, jobs_taken, IsOneOf, Rises, AreOfScript}
 
--- the places of its stripe that a worker took, as its rows count them
-abbrev pub places_taken : Jobs → ℕ → Rows → List ℕ
-places_taken jobs worker rows = stripe_places jobs worker (taken_in rows)
+-- there is room for a row of each place that is left
+abbrev pub HasRoomForRows : NumberedJobs → Rows → Type 0
+HasRoomForRows jobs rows = length (rows_in rows) + length jobs.script ≤ room_of rows + length (places_in rows)
+
+-- a worker that was not cut off took its mark, and so no place is left; one that was may take its mark yet
+abbrev pub EndsByMark : Worked → Rows → Type 0
+EndsByMark All rows = 1 ≤ length (marks_in rows)
+EndsByMark (Cut cause) rows = marks_in rows ≡ []
 
 -- among the entries each of a transfer at one of these places ends at or below the start of each of one at a later place
-abbrev pub LieInTurn : Jobs → List ℕ → List Entry → Type 0
+abbrev pub LieInTurn : NumberedJobs → List ℕ → List Entry → Type 0
 LieInTurn jobs taken entries = (i j : ℕ) (before after : Entry) → i < j → Contains taken i → Contains taken j → Contains entries before
     → Contains entries after → txn_of before.rec ≡ number_at jobs i → txn_of after.rec ≡ number_at jobs j
     → before.start + before.size ≤ after.start
 
 -- The seat took the transfers at these places of the script, which rise, after others with numbers below the first. Its records are of these,
 -- and lie one behind another below the tail as it saw it last, in the order of the places.
-pub record HasWorked (jobs : Jobs) (taken : List ℕ) (view : View) : Type 0 where
+pub record HasWorked (jobs : NumberedJobs) (taken : List ℕ) (view : View) : Type 0 where
   pub places : AreOfScript jobs taken
   pub rising : Rises taken
   pub earlier : List TakenJob
@@ -52,7 +56,7 @@ pub record KeepsEntries (old new : View) : Type 0 where
   pub entries : new.entries ≡ old.entries ++ added
 
 -- from the places `before` to `after`: the seat took the transfers at just those that were added, behind the jobs that it had
-pub record TakesJobs (jobs : Jobs) (before after : List ℕ) (old new : View) : Type 0 where
+pub record TakesJobs (jobs : NumberedJobs) (before after : List ℕ) (old new : View) : Type 0 where
   pub taken : List ℕ
   pub places : after ≡ before ++ taken
   pub jobs_are : new.books.jobs ≡ jobs_taken jobs taken ++ old.books.jobs
@@ -65,7 +69,7 @@ pub record HasEnd (number : ℕ) (entries : List Entry) : Type 0 where
   pub is_end : ends end.rec ≡ true
 
 -- the transfer at each of these places has its end record
-abbrev pub HaveEnded : Jobs → List ℕ → View → Type 0
+abbrev pub HaveEnded : NumberedJobs → List ℕ → View → Type 0
 HaveEnded jobs places view = AllByRecursion (λ place. HasEnd (number_at jobs place) view.entries) places
 
 -- the records of one number among the entries, in order
@@ -74,7 +78,7 @@ own_records number entries = filter (λ rec. txn_of rec == number) (records_of e
 
 -- For the transfer's next record, by the balances as its accounts were taken, so many units were asked for, its own or those of a group, and they
 -- do not fit between this tail, which the seat saw last, and the last LSN. The accounts all went back under its number, uncommitted, where the seat had seen tail there.
-pub record EndsLog (jobs : Jobs) (place tail total : ℕ) (view : View) : Type 0 where
+pub record EndsLog (jobs : NumberedJobs) (place tail total : ℕ) (view : View) : Type 0 where
   pub balances : ℕ → ℕ
   pub marks : ℕ → ℕ
   pub before : List Given
@@ -90,13 +94,13 @@ pub record EndsLog (jobs : Jobs) (place tail total : ℕ) (view : View) : Type 0
   pub seen : Contains view.seen.lsns tail
 
 -- why the transfer at this place was cut off; at a stop it has its end record only where the worker waits
-abbrev pub IsCutBy : Jobs → ℕ → Bool → Cause → View → Type 0
+abbrev pub IsCutBy : NumberedJobs → ℕ → Bool → Cause → View → Type 0
 IsCutBy jobs place wait (Stop word) view =
     (HasEnd (number_at jobs place) view.entries → wait ≡ true) × (word ≢ 0) × (view.seen.stop ≡ word)
 IsCutBy jobs place wait (LogEnd tail total) view = EndsLog jobs place tail total view
 
 -- from the places `before` to `after`: each transfer at those that were added ended, or the last one was cut off
-abbrev pub Works : Jobs → List ℕ → List ℕ → Bool → Worked → View → Type 0
+abbrev pub Works : NumberedJobs → List ℕ → List ℕ → Bool → Worked → View → Type 0
 Works jobs before after wait All view = (made : List ℕ) × (after ≡ before ++ made) × HaveEnded jobs made view
 Works jobs before after wait (Cut cause) view =
     (made : List ℕ) × (place : ℕ) × (after ≡ before ++ (made ++ place ∷ [])) × HaveEnded jobs made view × IsCutBy jobs place wait cause view
@@ -115,7 +119,7 @@ AreGivenAt number durable given leg = IsGivenAt number durable given leg.0 × Is
 
 -- The row tells of the transfer at this place how it ended, by its end record among the entries, and the durable LSN that the seat had seen
 -- when it gave back each account of that transfer, under its number; the one that the seat saw last is at or above it.
-pub record TellsEnd (jobs : Jobs) (place : ℕ) (wait : Bool) (view : View) (row : Row) : Type 0 where
+pub record TellsEnd (jobs : NumberedJobs) (place : ℕ) (wait : Bool) (view : View) (row : Row) : Type 0 where
   pub txn : row.txn ≡ number_at jobs place
   pub end : Entry
   pub contains : Contains view.entries end
@@ -127,7 +131,7 @@ pub record TellsEnd (jobs : Jobs) (place : ℕ) (wait : Bool) (view : View) (row
 
 -- rows of the transfers at the first of these places, each with an end above the one before, and a durable LSN not below the one before;
 -- the first with an end above `above`, and one not below `since`
-abbrev pub AreRowsOf : Jobs → List ℕ → Bool → View → ℕ → ℕ → List Row → Type 0
+abbrev pub AreRowsOf : NumberedJobs → List ℕ → Bool → View → ℕ → ℕ → List Row → Type 0
 AreRowsOf jobs [] wait view above since rows = rows ≡ []
 AreRowsOf jobs (place ∷ places) wait view above since [] = Unit {0}
 AreRowsOf jobs (place ∷ places) wait view above since (row ∷ rows) =
@@ -139,7 +143,7 @@ EachHasRow taken All added = length added ≡ length taken
 EachHasRow taken (Cut cause) added = length added + 1 ≡ length taken
 
 -- from the places `before` to `after`: rows were added behind those before; there is as much room as before
-pub record AddsRows (jobs : Jobs) (before after : List ℕ) (wait : Bool) (worked : Worked) (rows_old rows_new : Rows)
+pub record AddsRows (jobs : NumberedJobs) (before after : List ℕ) (wait : Bool) (worked : Worked) (rows_old rows_new : Rows)
     (old new : View) : Type 0 where
   pub taken : List ℕ
   pub places : after ≡ before ++ taken

@@ -1,14 +1,11 @@
-//! One transfer, from its first account to its last.
+//! One transfer that was taken, from its first account to its last.
 ghost use Rattle.std.specs.Prelude.{◌≡◌, ◌≤◌, [], Bool, true, IfOk, IfErr, OnOk, OnErr};
-ghost use Rattle.log_rule.specs.Books.{taking_job};
-ghost use Rattle.log_rule.specs.May.{MayTakeJob};
 ghost use Rattle.log_table.specs.Seats.{IsOf, view_of};
-ghost use Rattle.ring_buffer.specs.Calls.{IsReady, IsSameWorker, HasEntries};
-ghost use Rattle.txn_making.specs.Holdings.{KeepsGiven};
+ghost use Rattle.ring_buffer.specs.Calls.{IsReady};
 ghost use Rattle.txn_making.specs.Inserts.{StopsFor};
-ghost use Rattle.txn_runner.specs.Running.{HasRun, HasCut};
-ghost use Rattle.txn_runner.specs.Stages.{MayMakeTransfer, TakesTransfer, MayEndTransfer, GivesAll, LetsGo, HasRunTaken, HasCutTaken};
+ghost use Rattle.txn_runner.specs.Stages.{HasNextJob, MayMakeTransfer, TakesAccounts, MayEndTransfer, GivesAll, LetsGo, HasRunTaken, HasCutTaken};
 
+use crate::taking::Begun;
 use arrayvec::ArrayVec;
 use lock_core::Job;
 use log_record::Units;
@@ -16,16 +13,16 @@ use log_table::{LogTable, Seat};
 use lsn_space::Lsn;
 use schedule_hook::{Gate, Place};
 use std::sync::Wait;
-use txn_jobs::{Cause, MOST_PARTIES, Row, accounts_of, unless_stopped};
+use txn_jobs::{Cause, MOST_PARTIES, Row, accounts_of};
 use txn_making::{give_all, give_unchanged, insert_transfer, take_all};
 use txn_parts::{Ended, Holding, Relief, see_durable};
 
-/// Makes the transfer under this transaction number, and answers its row. The lists are lent: what they hold is lost.
+/// Makes the transfer that was taken, and answers its row. The lists are lent: what they hold is lost.
 pub(crate) fn run_job<R: Wait, Q: Relief, G: Gate>(
     rt: &R,
     table: &LogTable,
     seat: &mut Seat,
-    number: u32,
+    begun: Begun,
     job: &Job,
     holdings: &mut ArrayVec<Holding, MOST_PARTIES>,
     units: &mut Units,
@@ -35,30 +32,31 @@ pub(crate) fn run_job<R: Wait, Q: Relief, G: Gate>(
 ) -> Result<Row, Cause>
     requires seat { IsOf table.now seat.old }
     requires ready { IsReady (view_of seat.old) }
-    requires may { MayTakeJob table.now.accounts number job.now (view_of seat.old) }
+    requires next { HasNextJob table.now.accounts begun.number job.now (view_of seat.old).books }
+    requires runs { OnOk begun.goes_on ((view_of seat.old).seen.stop ≡ 0) }
+    requires stopped { IfErr begun.goes_on (λ cause. StopsFor cause [] (view_of seat.old)) }
     requires relief { Q.ready relief.old }
     ensures seat { IsOf table.now seat.new }
     ensures ready { IsReady (view_of seat.new) }
-    ensures none_held { (view_of seat.new).books.held ≡ [] }
-    ensures same { IsSameWorker seat.old seat.new }
-    ensures given { KeepsGiven (view_of seat.old) (view_of seat.new) }
-    ensures run { IfOk result (λ row. HasRun number job.now wait row (view_of seat.old) (view_of seat.new)) }
-    ensures cut { IfErr result (λ cause. HasCut number job.now wait cause (view_of seat.old) (view_of seat.new)) }
+    ensures let_go { LetsGo seat.old seat.new }
+    ensures run { IfOk result (λ row. HasRunTaken begun.number job.now wait row (view_of seat.old) (view_of seat.new)) }
+    ensures cut { IfErr result (λ cause. HasCutTaken begun.number job.now wait cause (view_of seat.old) (view_of seat.new)) }
     ensures relief { Q.ready relief.new }
     ensures later { Q.later relief.old relief.new }
 {
-    take_transfer(rt, table, seat, number, job, holdings, relief, gate)?;
+    let number = begun.number;
+    take_accounts(rt, table, seat, begun, job, holdings, relief, gate)?;
     make_transfer(
         rt, table, seat, number, job, holdings, units, relief, wait, gate,
     )
 }
 
-/// Takes the transfer, and then its accounts. After an Err none is held.
-fn take_transfer<R: Wait, Q: Relief, G: Gate>(
+/// Takes the accounts of the transfer, unless the log had stopped when it was taken. After an Err none is held.
+fn take_accounts<R: Wait, Q: Relief, G: Gate>(
     rt: &R,
     table: &LogTable,
     seat: &mut Seat,
-    number: u32,
+    begun: Begun,
     job: &Job,
     holdings: &mut ArrayVec<Holding, MOST_PARTIES>,
     relief: &mut Q,
@@ -66,52 +64,23 @@ fn take_transfer<R: Wait, Q: Relief, G: Gate>(
 ) -> Result<(), Cause>
     requires seat { IsOf table.now seat.old }
     requires ready { IsReady (view_of seat.old) }
-    requires may { MayTakeJob table.now.accounts number job.now (view_of seat.old) }
+    requires next { HasNextJob table.now.accounts begun.number job.now (view_of seat.old).books }
+    requires runs { OnOk begun.goes_on ((view_of seat.old).seen.stop ≡ 0) }
+    requires stopped { IfErr begun.goes_on (λ cause. StopsFor cause [] (view_of seat.old)) }
     requires relief { Q.ready relief.old }
-    ensures taken { OnOk result (TakesTransfer table.now.accounts number job.now holdings.new.items seat.old seat.new) }
+    ensures taken { OnOk result (TakesAccounts table.now.accounts begun.number job.now holdings.new.items seat.old seat.new) }
     ensures runs { OnOk result ((view_of seat.new).seen.stop ≡ 0) }
     ensures let_go { OnErr result (LetsGo seat.old seat.new) }
-    ensures cut { IfErr result (λ cause. (wait : Bool) → HasCut number job.now wait cause (view_of seat.old) (view_of seat.new)) }
+    ensures cut { IfErr result (λ cause. (wait : Bool) → HasCutTaken begun.number job.now wait cause (view_of seat.old) (view_of seat.new)) }
     ensures relief { Q.ready relief.new }
     ensures later { Q.later relief.old relief.new }
 {
-    begin_job(table, seat, number, job, gate)?;
+    if let Err(cause) = begun.goes_on {
+        return Err(cause);
+    }
     relief.begin();
     let accounts = accounts_of(job);
     take_all(rt, table, seat, accounts.as_slice(), holdings, relief, gate)
-}
-
-/// Takes the transfer as the seat's job, and goes on unless the log has stopped.
-fn begin_job<G: Gate>(
-    table: &LogTable,
-    seat: &mut Seat,
-    number: u32,
-    job: &Job,
-    gate: &G,
-) -> Result<(), Cause>
-    requires seat { IsOf table.now seat.old }
-    requires ready { IsReady (view_of seat.old) }
-    requires may { MayTakeJob table.now.accounts number job.now (view_of seat.old) }
-    ensures taken { HasEntries seat.old seat.new (view_of seat.old).entries (taking_job (record { number = number; job = job.now }) (view_of seat.old).books) }
-    ensures runs { OnOk result ((view_of seat.new).seen.stop ≡ 0) }
-    ensures cut { IfErr result (λ cause. (wait : Bool) → HasCut number job.now wait cause (view_of seat.old) (view_of seat.new)) }
-{
-    let taken = take_as_job(table, seat, number, job);
-    gate.at(seat.worker(), Place::JobTaken);
-    taken
-}
-
-/// Takes the transfer as the seat's job, together with a look at the stop word.
-fn take_as_job(table: &LogTable, seat: &mut Seat, number: u32, job: &Job) -> Result<(), Cause>
-    requires seat { IsOf table.now seat.old }
-    requires ready { IsReady (view_of seat.old) }
-    requires may { MayTakeJob table.now.accounts number job.now (view_of seat.old) }
-    ensures taken { HasEntries seat.old seat.new (view_of seat.old).entries (taking_job (record { number = number; job = job.now }) (view_of seat.old).books) }
-    ensures runs { OnOk result ((view_of seat.new).seen.stop ≡ 0) }
-    ensures cut { IfErr result (λ cause. (wait : Bool) → HasCut number job.now wait cause (view_of seat.old) (view_of seat.new)) }
-{
-    let word = table.take_job(seat, number, job);
-    unless_stopped(word)
 }
 
 /// Inserts the records of the transfer, whose accounts are held, and gives the accounts back.

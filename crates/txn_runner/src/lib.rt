@@ -1,10 +1,12 @@
-//! Workers: each takes the transfers of its stripe, one after another, and makes each of them over the table: it takes the
+//! Workers: each takes the next transfer of one queue as soon as it is free, and makes it over the table: it takes the
 //! accounts, inserts the records, and gives the accounts back once the end record has its place in the log.
 #![tactic(auto)]
 
 mod job;
+mod taking;
 mod worker;
 
-pub use txn_jobs::{Answer, Cause, Jobs, MOST_PARTIES, Row, Rows, Worked, accounts_of};
+pub use job_queue::{Jobs, Queue, Rows};
+pub use txn_jobs::{Answer, Cause, MOST_PARTIES, Row, Worked, accounts_of};
 pub use txn_parts::{Relief, YieldRelief};
 pub use worker::work;

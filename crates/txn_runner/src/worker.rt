@@ -1,30 +1,33 @@
-//! A worker: the transfers of its stripe, one after another.
+//! A worker: the transfers that it takes of the queue, one after another.
 ghost use Rattle.std.specs.Prelude.{◌≡◌, ◌<◌, [], All};
 ghost use Rattle.lock_core.specs.Transfers.{IsAllowedJob};
 ghost use Rattle.log_table.specs.Seats.{IsOf, view_of};
 ghost use Rattle.ring_buffer.specs.Calls.{IsReady, IsSameWorker};
 ghost use Rattle.txn_making.specs.Holdings.{KeepsGiven};
-ghost use Rattle.txn_runner.specs.Places.{HasAllIfDone};
-ghost use Rattle.txn_runner.specs.Working.{HasWorked, HasRoomForRows, KeepsEntries, TakesJobs, Works, taken_in, places_taken, AddsRows};
+ghost use Rattle.job_queue.specs.Passes.{HasPassOf, jobs_of, marks_in, places_in};
+ghost use Rattle.txn_runner.specs.Working.{AddsRows, EndsByMark, HasRoomForRows, HasWorked, KeepsEntries, TakesJobs, Works};
 
 use crate::job::run_job;
+use crate::taking::begin_job;
 use arrayvec::ArrayVec;
+use job_queue::{Queue, Rows};
 use lock_core::Job;
 use log_record::Units;
 use log_table::{LogTable, Seat};
 use schedule_hook::Gate;
 use std::sync::Wait;
-use txn_jobs::{Jobs, Rows, Worked};
+use txn_jobs::Worked;
 use txn_parts::Relief;
 
-/// Makes the transfers of the worker's stripe, as many as are left, and for each that ended there is a row, but for the
-/// last one where the worker waits and the log stops before it saw that end durable. It waits: for accounts that others hold,
-/// for room in the ring, and, where asked, for the disk.
+/// Takes one transfer after another of the queue, each the next one, and makes it, until the rows' pass takes its mark: then no transfer is
+/// left for anyone. For each that ended there is a row, but for the last one where the worker waits and the log stops before it saw
+/// that end durable. Behind a transfer that was cut off the worker takes no other, nor its mark. It waits: for other workers in the
+/// queue, for accounts that they hold, for room in the ring, and, where asked, for the disk.
 pub fn work<R: Wait, Q: Relief, G: Gate>(
     rt: &R,
     table: &LogTable,
     seat: &mut Seat,
-    jobs: &Jobs,
+    queue: &Queue,
     rows: &mut Rows,
     relief: &mut Q,
     wait: bool,
@@ -33,24 +36,26 @@ pub fn work<R: Wait, Q: Relief, G: Gate>(
     requires seat { IsOf table.now seat.old }
     requires ready { IsReady (view_of seat.old) }
     requires none_held { (view_of seat.old).books.held ≡ [] }
-    requires worker { seat.old.worker < jobs.now.workers }
-    requires allowed { All (IsAllowedJob table.now.accounts) jobs.now.script }
-    requires worked { HasWorked jobs.now (places_taken jobs.now seat.old.worker rows.old) (view_of seat.old) }
-    requires room { HasRoomForRows jobs.now seat.old.worker rows.old }
+    requires allowed { All (IsAllowedJob table.now.accounts) queue.now.script }
+    requires pass { HasPassOf queue.now rows.old }
+    requires mark { marks_in rows.old ≡ [] }
+    requires worked { HasWorked (jobs_of queue.now) (places_in rows.old) (view_of seat.old) }
+    requires room { HasRoomForRows (jobs_of queue.now) rows.old }
     requires relief { Q.ready relief.old }
     ensures seat { IsOf table.now seat.new }
     ensures ready { IsReady (view_of seat.new) }
     ensures none_held { (view_of seat.new).books.held ≡ [] }
     ensures same { IsSameWorker seat.old seat.new }
-    ensures worked { HasWorked jobs.now (places_taken jobs.now seat.old.worker rows.new) (view_of seat.new) }
+    ensures pass { HasPassOf queue.now rows.new }
+    ensures worked { HasWorked (jobs_of queue.now) (places_in rows.new) (view_of seat.new) }
     ensures kept { KeepsEntries (view_of seat.old) (view_of seat.new) }
     ensures given { KeepsGiven (view_of seat.old) (view_of seat.new) }
-    ensures jobs { TakesJobs jobs.now (places_taken jobs.now seat.old.worker rows.old) (places_taken jobs.now seat.old.worker rows.new)
+    ensures jobs { TakesJobs (jobs_of queue.now) (places_in rows.old) (places_in rows.new)
         (view_of seat.old) (view_of seat.new) }
-    ensures works { Works jobs.now (places_taken jobs.now seat.old.worker rows.old) (places_taken jobs.now seat.old.worker rows.new)
+    ensures works { Works (jobs_of queue.now) (places_in rows.old) (places_in rows.new)
         wait result (view_of seat.new) }
-    ensures all { HasAllIfDone jobs.now seat.old.worker (taken_in rows.new) result }
-    ensures rows { AddsRows jobs.now (places_taken jobs.now seat.old.worker rows.old) (places_taken jobs.now seat.old.worker rows.new)
+    ensures all { EndsByMark result rows.new }
+    ensures rows { AddsRows (jobs_of queue.now) (places_in rows.old) (places_in rows.new)
         wait result rows.old rows.new (view_of seat.old) (view_of seat.new) }
     ensures relief { Q.ready relief.new }
     ensures later { Q.later relief.old relief.new }
@@ -59,12 +64,12 @@ pub fn work<R: Wait, Q: Relief, G: Gate>(
     let mut job = Job::new();
     let mut holdings = ArrayVec::new();
     let mut units = Units::new();
-    'stripe: while let Some(number) = jobs.take_next(seat.worker(), rows, &mut job) {
+    'jobs: while let Some(begun) = begin_job(rt, table, seat, queue, rows, &mut job, gate) {
         let made = run_job(
             rt,
             table,
             seat,
-            number,
+            begun,
             &job,
             &mut holdings,
             &mut units,

@@ -1,1 +1,2 @@
+mod AllTaken
 mod Settling

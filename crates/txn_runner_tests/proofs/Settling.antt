@@ -1,5 +1,5 @@
 -- One worker, and one transfer.
-use Rattle.std.proofs.Common.{◌≡◌, ℕ, zero, suc, ◌==◌, ◌+◌, ◌≤◌, Bool, true, false, if◌then◌else◌, None, List, [], ◌∷◌, ◌++◌, map, length, get_or, refl, sym, ap, subst, ◌∙◌, arith, length-append}
+use Rattle.std.proofs.Common.{◌≡◌, ℕ, ◌==◌, ◌+◌, ◌≤◌, Bool, true, false, if◌then◌else◌, None, List, [], ◌∷◌, ◌++◌, map, length, get_or, sym, ap, subst, ◌∙◌, arith, length-append}
 use Rattle.lock_core.specs.declared.job.Job.{Job}
 use Rattle.log_rule.specs.declared.view.TakenJob.{TakenJob}
 use Rattle.log_rule.specs.declared.view.View.{View}
@@ -17,37 +17,36 @@ use Rattle.log_rule.specs.Sound.{base_of}
 use Rattle.txn_runner_tests.specs.Settled.{SettlesOne}
 use Rattle.txn_jobs.specs.declared.cause.Worked.{Worked}
 use Rattle.txn_jobs.specs.declared.cause.Worked.TheVariants.{All, Cut}
-use Rattle.txn_jobs.specs.declared.jobs.Jobs.{Jobs}
-use Rattle.txn_jobs.proofs.StripeSteps.{HasStripe-of}
-use Rattle.txn_runner.specs.Places.{place_of, number_at, job_at, jobs_taken, stripe_places, AreOfScript, HasAllIfDone}
-use Rattle.txn_runner.specs.Working.{Works}
+use Rattle.job_queue.specs.declared.rows.Rows.{Rows}
+use Rattle.job_queue.specs.Rule.{counted}
+use Rattle.txn_runner.specs.Places.{NumberedJobs, number_at, job_at, jobs_taken, AreOfScript, Rises}
+use Rattle.txn_runner.specs.Working.{EndsByMark, Works, marks_in, places_in}
 
--- the stripe of the only worker of one job is that job
-module _ (jobs : Jobs) (job : Job) (script : jobs.script ≡ job ∷ []) (first : jobs.first ≡ 1) (workers : jobs.workers ≡ 1) where
+module _ (jobs : NumberedJobs) (job : Job) (script : jobs.script ≡ job ∷ []) (first : jobs.first ≡ 1) where
   one : length jobs.script ≡ 1
   one = ap length script
 
-  place : place_of jobs 0 0 ≡ 0
-  place = omega arith
+  number-is : number_at jobs 0 ≡ 1
+  number-is = omega (arith, first)
 
-  number-is : number_at jobs (place_of jobs 0 0) ≡ 1
-  number-is = omega (arith, first, place)
+  job-is : job_at jobs 0 ≡ job
+  job-is = ap (λ (l : List Job). get_or l 0 (record { legs = []; note = None })) script
 
-  job-is : job_at jobs (place_of jobs 0 0) ≡ job
-  job-is = ap (λ (n : ℕ). get_or jobs.script n (record { legs = []; note = None })) place
-      ∙ ap (λ (l : List Job). get_or l 0 (record { legs = []; note = None })) script
-
-  taken : jobs_taken jobs (stripe_places jobs 0 1) ≡ record { number = 1; job = job } ∷ []
+  taken : jobs_taken jobs (0 ∷ []) ≡ record { number = 1; job = job } ∷ []
   taken i = record { number = number-is i; job = job-is i } ∷ []
 
-  pub one-job : (k : ℕ) (worked : Worked) (view : View) → AreOfScript jobs (stripe_places jobs 0 k) → HasAllIfDone jobs 0 k worked
-      → Works jobs [] (stripe_places jobs 0 k) false worked view
-      → jobs_taken jobs (stripe_places jobs 0 k) ≡ record { number = 1; job = job } ∷ []
-  one-job zero All view places all works = absurd (omega (arith, one, all))
-  one-job zero (Cut cause) view places all works = absurd (omega (arith, ap length works.2, length-append works.0 (works.1 ∷ [])))
-  one-job (suc zero) worked view places all works = taken
-  one-job (suc (suc k)) worked view places all works =
-      absurd (let second = HasStripe-of jobs 0 (suc (suc k)) places 1 (omega arith) in omega (arith, one, second, workers, place))
+  only-place : (places : List ℕ) → Rises places → AreOfScript jobs places → 1 ≤ length places → places ≡ 0 ∷ []
+  only-place [] rises are some' = absurd (omega (arith, some'))
+  only-place (place ∷ []) rises are some' = let is : place ≡ 0 = omega (arith, one, are.0) in ap (λ n. n ∷ []) is
+  only-place (place ∷ next ∷ places) rises are some' = absurd (omega (arith, one, are.1.0, rises.0.0))
+
+  -- the only worker of one job took it, whether it ended or was cut off
+  pub one-job : (worked : Worked) (rows : Rows) (view : View) → Rises (places_in rows) → AreOfScript jobs (places_in rows)
+      → EndsByMark worked rows → (1 ≤ length (marks_in rows) → places_in rows ≡ counted 0 (length jobs.script))
+      → Works jobs [] (places_in rows) false worked view → jobs_taken jobs (places_in rows) ≡ record { number = 1; job = job } ∷ []
+  one-job All rows view rises are mark all works = ap (jobs_taken jobs) (all mark ∙ ap (counted 0) one) ∙ taken
+  one-job (Cut cause) rows view rises are mark all works =
+      ap (jobs_taken jobs) (only-place (places_in rows) rises are (omega (arith, ap length works.2, length-append works.0 (works.1 ∷ [])))) ∙ taken
 
 few : (b : Bool) → (if b then 1 else 0) + 0 ≤ 1
 few true = omega arith

@@ -1,21 +1,24 @@
 //! A worker alone waits for nobody; and what it came to.
-ghost use Rattle.std.specs.Prelude.{◌≡◌, ◌≤◌, ◌<◌, All, IfOk};
+ghost use Rattle.std.specs.Prelude.{◌≡◌, ◌≤◌, All};
 ghost use Rattle.log_record.specs.declared.limits.TheConstants.{MOST_BALANCE};
 ghost use Rattle.lock_core.specs.Transfers.{IsAllowedJob};
 ghost use Rattle.log_rule.specs.declared.view.Role.TheVariants.{Ended};
 ghost use Rattle.log_table.specs.Seats.{IsOf, view_of};
+ghost use Rattle.job_queue.specs.Passes.{HasPassOf};
+ghost use Rattle.txn_runner.specs.Working.{EndsByMark};
+ghost use Rattle.run_rig.specs.Enlisted.{IsEnlisted};
 ghost use Rattle.test_rig.specs.NotedJobs.{IsNew};
 
 use log_table::{LogTable, Seat};
-use lsn_space::{Lsn, NoMemory};
-use run_rig::{jobs_of, work_stripe};
+use lsn_space::Lsn;
+use run_rig::{enlisted, jobs_of, work_queue};
 use schedule_hook::OpenGate;
 use std::alloc::Global;
 use std::process::Abort;
 use std::sync::Wait;
 use std::test::Fail;
 use test_rig::{table_of, worker};
-use txn_runner::{Answer, Jobs, Relief, Row, Rows, Worked};
+use txn_runner::{Answer, Queue, Relief, Row, Rows, Worked};
 
 /// The relief of a worker that has nobody to wait for: a rest ends the test.
 #[derive(Drop)]
@@ -41,35 +44,37 @@ impl<'a, R: Abort> Relief for NeverRests<'a, R> {
     ghost later_trans = { λ first mid last before after. tt };
 }
 
-/// A worker's whole work: how it ended, and its rows. Its seat comes back as one that has left.
+/// A worker's whole work: how it ended. Its seat comes back as one that has left.
 pub(crate) fn work_alone<R: Wait + Abort>(
     rt: &R,
-    alloc: Global,
     table: &LogTable,
     mut seat: Seat,
-    jobs: &Jobs,
-) -> Result<(Worked, Rows, Seat), NoMemory>
+    queue: &Queue,
+    rows: &mut Rows,
+) -> (Worked, Seat)
     requires unused { IsNew table.now seat }
-    requires worker { seat.worker < jobs.now.workers }
+    requires rows { IsEnlisted queue.now rows.old }
     requires no_slots { table.now.slots ≡ 0 }
-    requires allowed { All (IsAllowedJob table.now.accounts) jobs.now.script }
-    ensures seat { IfOk result (λ came. IsOf table.now came.2) }
-    ensures ended { IfOk result (λ came. (view_of came.2).standing.role ≡ Ended) }
-    ensures number { IfOk result (λ came. (view_of came.2).standing.worker ≡ seat.worker) }
+    requires allowed { All (IsAllowedJob table.now.accounts) queue.now.script }
+    ensures pass { HasPassOf queue.now rows.new }
+    ensures all { EndsByMark result.0 rows.new }
+    ensures seat { IsOf table.now result.1 }
+    ensures ended { (view_of result.1).standing.role ≡ Ended }
+    ensures number { (view_of result.1).standing.worker ≡ seat.worker }
 {
     let mut relief = NeverRests { rt };
-    let (worked, rows) = work_stripe(
+    let worked = work_queue(
         rt,
-        alloc,
         table,
         &mut seat,
-        jobs,
+        queue,
+        rows,
         &mut relief,
         false,
         &OpenGate,
-    )?;
+    );
     table.leave(&mut seat);
-    Ok((worked, rows, seat))
+    (worked, seat)
 }
 
 /// The script that a worker makes, and the LSN at which the log ended before.
@@ -90,10 +95,13 @@ pub(crate) fn run_alone<R: Wait + Abort>(
     let (script, end) = given;
     let (table, mut boss) = table_of(alloc, balances, end)?;
     let seat = worker(&table, &mut boss, 0, 1);
-    let Some(jobs) = jobs_of(rt, alloc, script, 1) else {
+    let Some(mut jobs) = jobs_of(rt, alloc, script, 1) else {
         return Err(Fail::new("no script"));
     };
-    let (worked, rows, seat) = work_alone(rt, alloc, &table, seat, &jobs)?;
+    let mut rows = enlisted(alloc, &mut jobs, 0)?;
+    let (worked, seat) = work_alone(rt, &table, seat, jobs.queue(), &mut rows);
+    let rows = jobs.dismiss(rows);
+    jobs.count_taken();
     table.merge(&mut boss, seat);
     let closed = table.close(boss);
     Ok((worked, rows, (closed.balance(0), closed.balance(1))))
@@ -102,7 +110,7 @@ pub(crate) fn run_alone<R: Wait + Abort>(
 /// How two workers ended, the one after the other, their rows, and the balances that they left.
 pub(crate) type BothRan = ((Worked, Rows), (Worked, Rows), (u32, u32));
 
-/// A worker makes its part of the script over balances 100 and 0, and then another its own.
+/// A worker makes what it takes of the script over balances 100 and 0, and then another the rest.
 pub(crate) fn run_two<R: Wait + Abort>(
     rt: &R,
     alloc: Global,
@@ -110,14 +118,19 @@ pub(crate) fn run_two<R: Wait + Abort>(
 ) -> Result<BothRan, Fail> {
     let (table, mut boss) = table_of(alloc, (100, 0), end)?;
     let one = worker(&table, &mut boss, 0, 1);
-    let two = worker(&table, &mut boss, 1, 2);
-    let Some(jobs) = jobs_of(rt, alloc, script, 2) else {
+    let two = worker(&table, &mut boss, 1, 1);
+    let Some(mut jobs) = jobs_of(rt, alloc, script, 2) else {
         return Err(Fail::new("no script"));
     };
-    let (first, first_rows, seat) = work_alone(rt, alloc, &table, one, &jobs)?;
+    let mut first_rows = enlisted(alloc, &mut jobs, 0)?;
+    let mut second_rows = enlisted(alloc, &mut jobs, 1)?;
+    let (first, seat) = work_alone(rt, &table, one, jobs.queue(), &mut first_rows);
     table.merge(&mut boss, seat);
-    let (second, second_rows, seat) = work_alone(rt, alloc, &table, two, &jobs)?;
+    let (second, seat) = work_alone(rt, &table, two, jobs.queue(), &mut second_rows);
     table.merge(&mut boss, seat);
+    let first_rows = jobs.dismiss(first_rows);
+    let second_rows = jobs.dismiss(second_rows);
+    jobs.count_taken();
     let closed = table.close(boss);
     let balances = (closed.balance(0), closed.balance(1));
     Ok(((first, first_rows), (second, second_rows), balances))

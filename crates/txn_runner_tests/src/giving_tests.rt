@@ -7,7 +7,7 @@ ghost use Rattle.log_table.specs.Seats.{IsOf, view_of};
 use crate::alone::{Given, has_ended, has_rows, run_two, work_alone};
 use log_table::{LogTable, Seat};
 use lsn_space::{LAST, Lsn};
-use run_rig::{jobs_of, work_stripe};
+use run_rig::{enlisted, jobs_of, work_queue};
 use schedule_hook::OpenGate;
 use std::alloc::Global;
 use std::process::Abort;
@@ -46,10 +46,11 @@ fn run_beside<R: Wait + Abort>(rt: &R, alloc: Global, given: Given) -> Result<Ra
     let (table, mut boss) = table_of(alloc, (100, 0), end)?;
     let seat = worker(&table, &mut boss, 0, 1);
     let looker = looker(&table, &mut boss);
-    let Some(jobs) = jobs_of(rt, alloc, script, 1) else {
+    let Some(mut jobs) = jobs_of(rt, alloc, script, 1) else {
         return Err(Fail::new("no script"));
     };
-    let (worked, rows, _) = work_alone(rt, alloc, &table, seat, &jobs)?;
+    let mut rows = enlisted(alloc, &mut jobs, 0)?;
+    let (worked, _) = work_alone(rt, &table, seat, jobs.queue(), &mut rows);
     Ok((table, looker, worked, rows))
 }
 
@@ -138,9 +139,10 @@ fn accounts_are_given_back_at_durable(rt: HostRuntime) -> Result<(), Fail> {
     let mut one = worker(&table, &mut boss, 0, 1);
     let mut two = looker(&table, &mut boss);
     let given: Given = (b"pay 0 1 30\n", 4);
-    let Some(jobs) = jobs_of(&rt, alloc, given.0, 1) else {
+    let Some(mut jobs) = jobs_of(&rt, alloc, given.0, 1) else {
         return Err(Fail::new("no script"));
     };
+    let mut rows = enlisted(alloc, &mut jobs, 0)?;
     let looker = table.note(&mut two);
     let mut relief = Sending {
         rt: &rt,
@@ -151,16 +153,16 @@ fn accounts_are_given_back_at_durable(rt: HostRuntime) -> Result<(), Fail> {
         looker,
         held: true,
     };
-    let (worked, rows) = work_stripe(
+    let worked = work_queue(
         &rt,
-        alloc,
         &table,
         &mut one,
-        &jobs,
+        jobs.queue(),
+        &mut rows,
         &mut relief,
         true,
         &OpenGate,
-    )?;
+    );
     has_ended(&rt, given, worked, Worked::All);
     has_rows(&rt, given, &rows, &[(1, Answer::Done, 9, 9)]);
     assert!(rt;
@@ -184,7 +186,7 @@ fn accounts_of_a_refused_transfer_are_as_before(rt: HostRuntime) -> Result<(), F
     Ok(())
 }
 
-/// There is no place for a Note of two units, and then one for a Short of one.
+/// There is no place for a Note of two units, which cuts the first worker off, and then one for a Short of one.
 #[test]
 fn one_unit_has_a_place_where_two_have_none(rt: HostRuntime) -> Result<(), Fail> {
     let given: Given = (b"pay 0 1 30 : aaaaaaaa\npay 0 1 500\n", LAST - 1);

@@ -6,6 +6,8 @@ mod accounts_tests;
 #[cfg(test)]
 mod alone;
 #[cfg(test)]
+mod front_tests;
+#[cfg(test)]
 mod giving_tests;
 #[cfg(test)]
 mod settling_tests;

@@ -1,12 +1,14 @@
 //! A table closed behind a transfer.
 ghost use Rattle.std.specs.Prelude.{◌≡◌, [], ◌∷◌, None, IfOk, IfSome};
 ghost use Rattle.lock_core.specs.Transfers.{IsAllowedJob};
+ghost use Rattle.job_queue.specs.Passes.{workers_of};
+ghost use Rattle.run_rig.specs.Enlisted.{HasEnlisted};
 ghost use Rattle.txn_runner_tests.specs.Settled.{SettlesOne};
 
 use crate::alone::NeverRests;
 use log_table::Closed;
 use lsn_space::{Lsn, NoMemory};
-use run_rig::work_stripe;
+use run_rig::{enlisted, work_queue};
 use schedule_hook::OpenGate;
 use std::alloc::Global;
 use std::process::Abort;
@@ -17,11 +19,12 @@ use txn_runner::Jobs;
 use txn_script::Script;
 
 /// One transfer of 30 from account 0 to account 1, under number 1.
-fn one_job<R>(rt: &R, alloc: Global) -> Result<Jobs, NoMemory>
-    ensures script { IfOk result (λ jobs. jobs.script ≡ record { legs = (0, 1, 30) ∷ []; note = None } ∷ []) }
+fn one_job<R: Wait>(rt: &R, alloc: Global) -> Result<Jobs, NoMemory>
+    ensures script { IfOk result (λ jobs. jobs.queue.script ≡ record { legs = (0, 1, 30) ∷ []; note = None } ∷ []) }
     ensures allowed { IfOk result (λ jobs. IsAllowedJob 2 (record { legs = (0, 1, 30) ∷ []; note = None })) }
-    ensures first { IfOk result (λ jobs. jobs.first ≡ 1) }
-    ensures workers { IfOk result (λ jobs. jobs.workers ≡ 1) }
+    ensures first { IfOk result (λ jobs. jobs.queue.first ≡ 1) }
+    ensures none { IfOk result (HasEnlisted 0) }
+    ensures workers { IfOk result (λ jobs. workers_of jobs ≡ 1) }
 {
     let mut script = Script::with_room(alloc, 1)?;
     script.push(job_of(30))?;
@@ -35,21 +38,23 @@ fn settle_one<R: Wait + Abort>(rt: &R, alloc: Global) -> Result<Closed, NoMemory
 {
     let (table, mut boss) = table_of(alloc, (100, 0), 4)?;
     let mut seat = worker(&table, &mut boss, 0, 1);
-    let jobs = one_job(rt, alloc)?;
+    let mut jobs = one_job(rt, alloc)?;
+    let mut rows = enlisted(alloc, &mut jobs, 0)?;
     let mut relief = NeverRests { rt };
-    let came = work_stripe(
+    work_queue(
         rt,
-        alloc,
         &table,
         &mut seat,
-        &jobs,
+        jobs.queue(),
+        &mut rows,
         &mut relief,
         false,
         &OpenGate,
-    )?;
+    );
+    jobs.dismiss(rows);
+    jobs.count_taken();
     table.leave(&mut seat);
     table.merge(&mut boss, seat);
-    let (_worked, _rows) = came;
     Ok(table.close(boss))
 }
 

@@ -2,7 +2,7 @@
 use crate::alone::{Given, Line, has_ended, has_left, has_rows, run_alone, run_two, work_alone};
 use log_record::MOST_BALANCE;
 use lsn_space::{LAST, Lsn};
-use run_rig::jobs_of;
+use run_rig::{enlisted, jobs_of};
 use std::alloc::Global;
 use std::process::Abort;
 use std::sync::Wait;
@@ -96,20 +96,19 @@ fn a_worker_alone_makes_each_transfer(rt: HostRuntime) -> Result<(), Fail> {
 
 const FIRST_ROWS: &[Line] = &[
     (1, Answer::Done, 9, GENESIS_END),
-    (3, Answer::Done, 14, GENESIS_END),
+    (2, Answer::Short(1), 10, GENESIS_END),
+    (3, Answer::Done, 15, GENESIS_END),
 ];
 
-const SECOND_ROWS: &[Line] = &[(2, Answer::Done, 19, GENESIS_END)];
-
 #[test]
-fn two_workers_share_a_script(rt: HostRuntime) -> Result<(), Fail> {
+fn the_first_of_two_workers_leaves_the_second_its_mark(rt: HostRuntime) -> Result<(), Fail> {
     let given: Given = (b"pay 0 1 30\npay 0 1 80\npay 1 0 10\n", GENESIS_END);
     let ((first, first_rows), (second, second_rows), balances) = run_two(&rt, rt.alloc(), given)?;
     has_ended(&rt, given, first, Worked::All);
     has_ended(&rt, given, second, Worked::All);
     has_rows(&rt, given, &first_rows, FIRST_ROWS);
-    has_rows(&rt, given, &second_rows, SECOND_ROWS);
-    has_left(&rt, given, balances, (0, 100));
+    has_rows(&rt, given, &second_rows, &[]);
+    has_left(&rt, given, balances, (80, 20));
     Ok(())
 }
 
@@ -118,11 +117,12 @@ fn a_stopped_log_cuts_the_first_transfer_off(rt: HostRuntime) -> Result<(), Fail
     let given: Given = (b"pay 0 1 30\n", GENESIS_END);
     let (table, mut boss) = table_of(rt.alloc(), (100, 0), given.1)?;
     let seat = worker(&table, &mut boss, 0, 1);
-    let Some(jobs) = jobs_of(&rt, rt.alloc(), given.0, 1) else {
+    let Some(mut jobs) = jobs_of(&rt, rt.alloc(), given.0, 1) else {
         return Err(Fail::new("no script"));
     };
+    let mut rows = enlisted(rt.alloc(), &mut jobs, 0)?;
     table.store_stop(&mut boss, 2);
-    let (worked, rows, _) = work_alone(&rt, rt.alloc(), &table, seat, &jobs)?;
+    let (worked, _) = work_alone(&rt, &table, seat, jobs.queue(), &mut rows);
     has_ended(&rt, given, worked, Worked::Cut(Cause::Stop(2)));
     has_rows(&rt, given, &rows, &[]);
     Ok(())
@@ -181,11 +181,12 @@ fn a_relief_rests(rt: HostRuntime) {
 
 #[test]
 fn there_is_room_for_jobs_and_rows(rt: HostRuntime) -> Result<(), Fail> {
-    let Some(jobs) = jobs_of(&rt, rt.alloc(), b"pay 0 1 30\n\npay 1 0 5\n", 2) else {
+    let Some(mut jobs) = jobs_of(&rt, rt.alloc(), b"pay 0 1 30\n\npay 1 0 5\n", 2) else {
         return Err(Fail::new("no script"));
     };
     assert_eq!(rt; jobs.count(), 2);
-    let rows = Rows::make(rt.alloc(), 1000)?;
+    let mut rows = Rows::make(rt.alloc(), 1000)?;
+    jobs.enlist(rt.alloc(), &mut rows)?;
     assert_eq!(rt; rows.as_slice().len(), 0);
     Ok(())
 }

@@ -1,0 +1,140 @@
+//! Workers, each with a seat and rows of its own, and all of them in threads.
+ghost use Rattle.std.specs.Prelude.{◌≡◌, ◌≤◌, ◌<◌, ◌+◌, All, IfSome, OnSome};
+ghost use Rattle.std.specs.List.{AllByRecursion};
+ghost use Rattle.log_table.specs.Hiring.{HasHired};
+ghost use Rattle.lock_core.specs.Transfers.{IsAllowedJob};
+ghost use Rattle.job_queue.specs.Passes.{IsSameQueue, workers_of};
+ghost use Rattle.run_rig.specs.Enlisted.{HasEnlisted, IsHand};
+
+use crate::workers::{enlisted, work_queue};
+use log_table::{LogTable, Seat};
+use schedule_hook::OpenGate;
+use std::alloc::Global;
+use std::sync::Wait;
+use std::sync::atomic::{AtomicUsize, Ordering};
+use std::thread;
+use std::thread::{Scope, Threads};
+use std::time::Clock;
+use test_rig::worker;
+use txn_runner::{Jobs, Queue, Rows, YieldRelief};
+
+/// A worker before its work: its seat, and its rows.
+#[derive(Drop)]
+pub struct Hand {
+    pub seat: Seat,
+    pub rows: Rows,
+}
+
+/// The worker of this number, which is the next.
+fn hire(
+    alloc: Global,
+    table: &LogTable,
+    boss: &mut Seat,
+    jobs: &mut Jobs,
+    number: u32,
+) -> Option<Hand>
+    requires boss { HasHired table.now number boss.old }
+    requires jobs { HasEnlisted number jobs.old }
+    requires mark { number < workers_of jobs.old }
+    ensures boss { OnSome result (HasHired table.now (number + 1) boss.new) }
+    ensures jobs { OnSome result (HasEnlisted (number + 1) jobs.new) }
+    ensures same { OnSome result (IsSameQueue jobs.old jobs.new) }
+    ensures hand { IfSome result (IsHand table.now jobs.new.queue) }
+{
+    let Ok(rows) = enlisted(alloc, jobs, number) else {
+        return None;
+    };
+    let seat = worker(table, boss, number, 1);
+    Some(Hand { seat, rows })
+}
+
+/// So many workers, the first of the table and of the jobs.
+pub fn hands(
+    alloc: Global,
+    table: &LogTable,
+    boss: &mut Seat,
+    jobs: &mut Jobs,
+    count: u32,
+) -> Option<Vec<Hand>>
+    requires boss { HasHired table.now 0 boss.old }
+    requires jobs { HasEnlisted 0 jobs.old }
+    requires marks { count ≤ workers_of jobs.old }
+    ensures boss { OnSome result (HasHired table.now count boss.new) }
+    ensures same { OnSome result (IsSameQueue jobs.old jobs.new) }
+    ensures hands { IfSome result (λ hands. AllByRecursion (IsHand table.now jobs.new.queue) hands.items) }
+{
+    let mut hands = Vec::new(alloc);
+    for number in 0..count {
+        let hand = hire(alloc, table, boss, jobs, number)?;
+        hands.push(hand).ok()?;
+    }
+    Some(hands)
+}
+
+/// A worker's whole life: the transfers that it takes of the queue, and the end. Answers how many rows it has.
+fn live<R: Wait + Clock>(rt: &R, table: &LogTable, queue: &Queue, hand: Hand) -> usize
+    requires hand { IsHand table.now queue.now hand }
+    requires allowed { All (IsAllowedJob table.now.accounts) queue.now.script }
+{
+    let Hand { mut seat, mut rows } = hand;
+    let mut relief = YieldRelief::new(rt);
+    work_queue(
+        rt,
+        table,
+        &mut seat,
+        queue,
+        &mut rows,
+        &mut relief,
+        false,
+        &OpenGate,
+    );
+    table.leave(&mut seat);
+    rows.as_slice().len()
+}
+
+/// Starts a thread for each worker, which adds how many rows it has. One that gets no thread is served here.
+fn start_all<'a, R: Threads + Wait + Clock + Sync, E>(
+    rt: &'a R,
+    scope: &Scope<'a, E>,
+    table: &'a LogTable,
+    queue: &'a Queue,
+    hands: Vec<Hand>,
+    rows: &'a AtomicUsize,
+)
+    requires hands { AllByRecursion (IsHand table.now queue.now) hands.items }
+    requires allowed { All (IsAllowedJob table.now.accounts) queue.now.script }
+{
+    for hand in hands {
+        let started = scope.spawn(
+            move ||
+                requires { IsHand table.now queue.now hand × All (IsAllowedJob table.now.accounts) queue.now.script }
+            {
+                rows.fetch_add(live(rt, table, queue, hand), Ordering::SeqCst);
+            },
+        );
+        if let Err(refused) = started {
+            (refused.value)();
+        }
+    }
+}
+
+/// All workers, each in a thread, until the last has ended. Their rows are counted.
+pub fn live_all<'a, R: Threads + Wait + Clock + Sync>(
+    rt: &'a R,
+    table: &'a LogTable,
+    queue: &'a Queue,
+    hands: Vec<Hand>,
+    rows: &'a AtomicUsize,
+)
+    requires hands { AllByRecursion (IsHand table.now queue.now) hands.items }
+    requires allowed { All (IsAllowedJob table.now.accounts) queue.now.script }
+{
+    thread::scope(
+        thread::scope_env(),
+        rt,
+        move |scope|
+            requires hands { AllByRecursion (IsHand table.now queue.now) hands.items }
+            requires allowed { All (IsAllowedJob table.now.accounts) queue.now.script }
+        { start_all(rt, scope, table, queue, hands, rows) },
+    );
+}
