@@ -34,7 +34,8 @@ use Rattle.segment_file.specs.declared.scan_result.Tail.{Tail}
 use Rattle.stop_word.specs.declared.fault.DaemonFault.TheVariants.{WriteFault}
 use Rattle.end_lines.specs.declared.voice.Voice.{Voice}
 use Rattle.end_lines.specs.declared.voice.Voice.TheVariants.{Count, Lines}
-use Rattle.txn_jobs.specs.declared.jobs.Jobs.{Jobs}
+use Rattle.job_queue.specs.Passes.{jobs_of}
+use Rattle.txn_jobs.specs.Places.{NumberedJobs}
 use Rattle.txn_script.specs.Generator.{generated_transfers}
 use Rattle.lock_core.specs.Transfers.{transfer_of}
 use Rattle.cli_shared.specs.declared.report.Detail.{Detail}
@@ -51,13 +52,14 @@ use Rattle.cli_threads.specs.Ending.{HasEnded}
 use Rattle.cli_demo.specs.Summary.{generated_opening, generated_rows, summary_text}
 use Rattle.run_summary.specs.Summary.{summary_of}
 use Rattle.cli_shared.specs.Opening.{OnlyLooks}
+use Rattle.cli_threads.specs.Sharing.{IsSharedOut, Sharing}
 use Rattle.cli_threads.specs.Transferred.{IsOpened}
-use Rattle.cli_threads.proofs.EndingLemmas.{by-conclusion, list, counted-ended, drained-ended, keeps-ended, kept-ended, serial-ended, speaks-ended, stops-ended, told-ended, whole-ended, whole_after-ended}
+use Rattle.cli_threads.proofs.EndingLemmas.{by-conclusion, list, sharing, counted-ended, drained-ended, keeps-ended, kept-ended, serial-ended, shared-ended, speaks-ended, stops-ended, told-ended, whole-ended, whole_after-ended}
 use Rattle.cli_demo.proofs.GeneratedEnd.{end-most, never-log_end}
 use Rattle.cli_shared.proofs.GenesisLemmas.{end_of-genesis, genesis-holds, genesis-kept, genesis-lawful, genesis-spellable, opening_rows}
 use Rattle.cli_threads.proofs.RunBegun.{images-begun}
 use Rattle.cli_threads.proofs.RunHistory.{later_of}
-use Rattle.cli_threads.proofs.RunStripes.{tasks_of}
+use Rattle.cli_threads.proofs.RunPlaces.{tasks_of}
 use Rattle.cli_demo.proofs.SummaryLemmas.{summary-same, opening-generated, opening-end}
 
 -- ---- the new log
@@ -163,7 +165,7 @@ module _ {D : Type 0} (g : Ghosts D) (n seed : ℕ) (options : RunOptions) (prep
     (units : List ℕ) (made : units ≡ units_of generated_opening) where
   pub opened-generated : (g.honest disk → AllStand tail units (g.images disk)) → (g.honest disk → IsShut tail.at (g.images disk))
       → tail.at ≡ 12 + 8 * length units → tail.next ≡ length units
-      → IsOpened g disk tail generated_opening prepared.jobs.first (key_of prepared.table)
+      → IsOpened g disk tail generated_opening prepared.jobs.queue.first (key_of prepared.table)
   opened-generated stand shut place next =
       let counted : length units ≡ 128 = ap length made ∙ end-opening in
       record {
@@ -198,11 +200,19 @@ module _ {D : Type 0} {K : Type 0} (g : Ghosts D) (h : SinkGhosts K) (n seed : �
     (entry disk disk_new : D)
     (sink sink_mid sink_new : K) (ended : Ended) (is : IsReadyDemo g n seed options entry disk ready)
     (has : HasEnded g h ready.prepared generated_opening ready.tail Count wait disk disk_new sink sink_mid ended) where
-  abbrev jobs : Jobs
-  jobs = ready.prepared.jobs
+  abbrev jobs : NumberedJobs
+  jobs = jobs_of ready.prepared.jobs.queue
 
   abbrev records : List Rec
   records = list g h ready.prepared generated_opening Count disk disk_new sink sink_mid ended has
+
+  -- which worker took which transfers
+  abbrev taken : Sharing
+  taken = sharing g h ready.prepared generated_opening Count disk disk_new sink sink_mid ended has
+
+  shared : IsSharedOut options.workers jobs taken
+  shared = subst (λ w. IsSharedOut w jobs taken) is.workers_are
+      (shared-ended g h ready.prepared generated_opening Count disk disk_new sink sink_mid ended has)
 
   abbrev base : BaseState
   base = base_state_of (history generated_opening)
@@ -230,8 +240,8 @@ module _ {D : Type 0} {K : Type 0} (g : Ghosts D) (h : SinkGhosts K) (n seed : �
 
   -- and none of them came to the end of the log
   no-log_end : (tail total : ℕ) → ended.fault ≡ None → IsFirstLogEnd ended.ends.items tail total → ⊥
-  no-log_end tail total fine first = never-log_end n seed few jobs is.generated.script generated_opening records _ _ tail total
-      (omega (arith, is.generated.workers_are, range.workers.1)) (omega (arith, end-opening))
+  no-log_end tail total fine first = never-log_end n seed few jobs is.generated.script options.workers taken shared generated_opening
+      records _ _ tail total range.workers.1 (omega (arith, end-opening))
       (end-most n seed 1 base few opening-generated records partly)
       (stops-ended g h ready.prepared generated_opening Count disk disk_new sink sink_mid ended has fine tail total first)
 
@@ -285,9 +295,11 @@ module _ {D : Type 0} {K : Type 0} (g : Ghosts D) (h : SinkGhosts K) (n seed : �
     ran = record {
       jobs = jobs;
       generated = is.generated;
+      sharing = taken;
+      shared = shared;
       list = records;
       goes_on = (keeps-ended g h ready.prepared generated_opening Count disk disk_new sink sink_mid ended has).goes_on;
-      images = images-begun g disk ready.tail generated_opening jobs _ is.log records (MayPrecede (g.images entry)) entry disk_new made.images
+      images = images-begun g disk ready.tail generated_opening jobs taken _ is.log records (MayPrecede (g.images entry)) entry disk_new made.images
           ((keeps-ended g h ready.prepared generated_opening Count disk disk_new sink sink_mid ended has).moments honest_mid);
       kept = λ image left_image.
           let left = (keeps-ended g h ready.prepared generated_opening Count disk disk_new sink sink_mid ended has).left honest_mid image left_image in

@@ -20,9 +20,9 @@ use Rattle.lock_core.specs.declared.job.Job.{Job}
 use Rattle.txn_script.specs.Generator.{number_after, leg_from, job_from, generated_jobs, generated_transfers, OpensGenerated}
 use Rattle.lock_core.specs.Transfers.{transfer_of}
 use Rattle.txn_script.proofs.OrderLemmas.{room-generated}
-use Rattle.txn_jobs.specs.declared.jobs.Jobs.{Jobs}
-use Rattle.txn_runner.specs.Places.{number_at, place_of, job_at}
+use Rattle.txn_jobs.specs.Places.{NumberedJobs, number_at, job_at}
 use Rattle.cli_threads.specs.RunStops.{HasNextOf, IsTotalAmong, StopsAtLogEnd}
+use Rattle.cli_threads.specs.Sharing.{IsSharedOut, Sharing}
 
 -- ---- one transfer has 5 units at most, whatever its outcome
 
@@ -102,7 +102,7 @@ boundary-most records lsn is =
     let longer = ap end_of found.2 ∙ ap length (units_of-append found.0 found.1) ∙ length-append (units_of found.0) (units_of found.1) in
     omega (arith, longer, found.3)
 
-module _ (n seed : ℕ) (few : n ≤ 100000) (jobs : Jobs) (script : jobs.script ≡ generated_jobs n seed) where
+module _ (n seed : ℕ) (few : n ≤ 100000) (jobs : NumberedJobs) (script : jobs.script ≡ generated_jobs n seed) where
   next-most : (records : List Rec) (place tail units : ℕ) → place < length jobs.script → HasNextOf records jobs place tail units → units ≤ 5
   next-most records place tail units inside next =
       let found = generated-at n seed place (record { legs = []; note = None }) (omega (arith, inside, ap length script)) in
@@ -120,17 +120,18 @@ module _ (n seed : ℕ) (few : n ≤ 100000) (jobs : Jobs) (script : jobs.script
       )
 
   -- a group of 16 workers asks for few units too
-  asked-most : (ring slots units total : ℕ) → jobs.workers ≤ 16 → units ≤ 5 → IsTotalAmong ring slots jobs.workers units total → total ≤ 421
-  asked-most ring slots units total crew small (inl own) = omega (arith, own, small)
-  asked-most ring slots units total crew small (inr group) =
-      let most : total + 26 ≤ units + 26 * jobs.workers = group.known.1 in omega (arith, most, crew, small)
+  asked-most : (ring slots workers units total : ℕ) → workers ≤ 16 → units ≤ 5 → IsTotalAmong ring slots workers units total → total ≤ 421
+  asked-most ring slots workers units total crew small (inl own) = omega (arith, own, small)
+  asked-most ring slots workers units total crew small (inr group) =
+      let most : total + 26 ≤ units + 26 * workers = group.known.1 in omega (arith, most, crew, small)
 
-  pub never-log_end : (opened list : List Rec) (ring slots tail total : ℕ) → jobs.workers ≤ 16 → end_of opened ≤ 128 → end_of list ≤ 5 * n
-      → StopsAtLogEnd opened jobs list ring slots tail total → ⊥
-  never-log_end opened list ring slots tail total crew first most stops =
+  pub never-log_end : (workers : ℕ) (sharing : Sharing) → IsSharedOut workers jobs sharing → (opened list : List Rec) (ring slots tail total : ℕ)
+      → workers ≤ 16 → end_of opened ≤ 128 → end_of list ≤ 5 * n → StopsAtLogEnd opened jobs sharing list ring slots tail total → ⊥
+  never-log_end workers sharing shared opened list ring slots tail total crew first most stops =
       let room = stops.no_room in
-      let small = next-most (opened ++ list) (place_of jobs stops.worker stops.stripe.cut) tail room.units stops.stripe.inside room.next in
-      let asked = asked-most ring slots room.units total crew small room.asked in
+      let inside : stops.cut < length jobs.script = omega (arith, stops.all_cut.0.inside, shared.within) in
+      let small = next-most (opened ++ list) stops.cut tail room.units inside room.next in
+      let asked = asked-most ring slots (length sharing.taken) room.units total (omega (arith, shared.count, crew)) small room.asked in
       let within = boundary-most (opened ++ list) tail stops.no_room.boundary in
       let longer = ap length (units_of-append opened list) ∙ length-append (units_of opened) (units_of list) in
       let past = stops.no_room.too_long in

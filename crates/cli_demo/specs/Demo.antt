@@ -14,7 +14,8 @@ use Rattle.log_recovery.specs.Recovery.{HoldsLawful}
 use Rattle.log_table.specs.Seats.{key_of}
 use Rattle.segment_file.specs.File.{BeginsAsLog}
 use Rattle.segment_file.specs.Lengths.{most_end, new_end}
-use Rattle.txn_jobs.specs.declared.jobs.Jobs.{Jobs}
+use Rattle.job_queue.specs.Passes.{jobs_of, workers_of}
+use Rattle.txn_jobs.specs.Places.{NumberedJobs}
 use Rattle.txn_script.specs.declared.generator.TheConstants.{GENERATED_ACCOUNTS}
 use Rattle.txn_script.specs.Generator.{generated_jobs}
 use Rattle.cli_shared.specs.declared.report.Detail.{Detail}
@@ -23,15 +24,15 @@ use Rattle.cli_threads.specs.declared.transfers.ReadyRun.{ReadyRun}
 use Rattle.cli_threads.specs.declared.transfers.Prepared.{Prepared}
 use Rattle.cli_threads.specs.Prepared.{IsPrepared}
 use Rattle.cli_threads.specs.Run.{GoesOn, HoldsRun, RunsWhole}
+use Rattle.cli_threads.specs.Sharing.{Sharing, IsSharedOut}
 use Rattle.cli_shared.specs.Opening.{OnlyLooks}
 use Rattle.cli_demo.specs.Summary.{generated_opening, generated_rows, summary_text}
 use Rattle.cli_threads.specs.Transferred.{IsOpened}
 
--- the transfers of the seed, under the numbers from 1 on, dealt out to so many workers
-pub record AreGenerated (n seed workers : ℕ) (jobs : Jobs) : Type 0 where
+-- the transfers of the seed, under the numbers from 1 on
+pub record AreGenerated (n seed : ℕ) (jobs : NumberedJobs) : Type 0 where
   pub script : jobs.script ≡ generated_jobs n seed
   pub first : jobs.first ≡ 1
-  pub workers_are : jobs.workers ≡ workers
 
 -- an image of before, or no log
 abbrev pub MayPrecede : (List ℕ → Type 0) → List ℕ → Type 0
@@ -41,29 +42,34 @@ MayPrecede images bytes = images bytes ⊎ (BeginsAsLog bytes → ⊥)
 abbrev pub generated_end : ℕ
 generated_end = new_end (end_of generated_opening)
 
--- No transfer was begun. Each image of a moment is one of before, or no log, or the new log of the generated accounts. The file is no longer than
--- before, or ends at most behind the new log and the gate at its tail.
+-- No transfer was begun. Each image of a moment is one of before, or no log, or the new log of the generated accounts. The file is no longer
+-- than before, or ends at most behind the new log and the gate at its tail.
 pub record OnlyMakes {D : Type 0} (g : Ghosts D) (old new : D) : Type 0 where
   pub images : Leaves g.moment g.images_since (λ bytes. MayPrecede (g.images old) bytes ⊎ HoldsLawful bytes generated_opening) old new
   pub count : Costs g 7 11 old new
   pub grows : GrowsAtMostTo g (generated_end + 1) old new
 
--- the image holds the new log and a front of what the run inserted; at most 4 writes and syncs succeeded for each record of it, and 11 more, of at
--- most 4 calls for each and 15 more
-pub record HoldsMade {D : Type 0} (g : Ghosts D) (jobs : Jobs) (list : List Rec) (old new : D) (image : List ℕ) : Type 0 where
-  pub run : HoldsRun generated_opening jobs list image
+-- the image holds the new log and a front of what the run inserted; at most 4 writes and syncs succeeded for each record of it, and 11
+-- more, of at most 4 calls for each and 15 more
+pub record HoldsMade {D : Type 0} (g : Ghosts D) (jobs : NumberedJobs) (sharing : Sharing) (list : List Rec) (old new : D)
+    (image : List ℕ) : Type 0 where
+  pub run : HoldsRun generated_opening jobs sharing list image
   pub count : Costs g (4 * length run.front + 11) (4 * length run.front + 15) old new
 
--- The log was made and transfers were begun. Each image of a moment is one of before, or no log, or holds the new log and a front of one and
--- the same list, which goes on from it by these transfers. At the exit the file is no longer than before, or ends at most so far behind the tail
--- of the new log: 13 bytes for each unit of the front that an image holds, and one batch in flight, of 6 bytes and 8 for each unit of the ring.
+-- The log was made and transfers were begun: a front of them was shared out among the workers. Each image of a moment is one of before, or
+-- no log, or holds the new log and a front of one and the same list, which goes on from it by these transfers. At the exit the file is no
+-- longer than before, or ends at most so far behind the tail of the new log: 13 bytes for each unit of the front that an image holds, and
+-- one batch in flight, of 6 bytes and 8 for each unit of the ring.
 pub record RanGenerated {D : Type 0} (g : Ghosts D) (n seed : ℕ) (options : RunOptions) (old new : D) : Type 0 where
-  pub jobs : Jobs
-  pub generated : AreGenerated n seed options.workers jobs
+  pub jobs : NumberedJobs
+  pub generated : AreGenerated n seed jobs
+  pub sharing : Sharing
+  pub shared : IsSharedOut options.workers jobs sharing
   pub list : List Rec
-  pub goes_on : GoesOn generated_opening jobs (generated_opening ++ list)
-  pub images : Leaves g.moment g.images_since (λ bytes. MayPrecede (g.images old) bytes ⊎ HoldsRun generated_opening jobs list bytes) old new
-  pub kept : (image : List ℕ) → g.images new image → HoldsMade g jobs list old new image
+  pub goes_on : GoesOn generated_opening jobs sharing (generated_opening ++ list)
+  pub images : Leaves g.moment g.images_since
+      (λ bytes. MayPrecede (g.images old) bytes ⊎ HoldsRun generated_opening jobs sharing list bytes) old new
+  pub kept : (image : List ℕ) → g.images new image → HoldsMade g jobs sharing list old new image
   pub grows : (image : List ℕ) (left : g.images new image)
       → GrowsAtMostTo g (most_end generated_end (end_of (kept image left).run.front) options.ring) old new
 
@@ -110,14 +116,16 @@ pub record IsPreparedDemo (n seed : ℕ) (options : RunOptions) (prepared : Prep
   pub accounts : (key_of prepared.table).accounts.rows ≡ generated_rows
   pub ring : (key_of prepared.table).ring ≡ options.ring
   pub slots : (key_of prepared.table).slots ≡ options.slots
-  pub generated : AreGenerated n seed options.workers prepared.jobs
+  pub generated : AreGenerated n seed (jobs_of prepared.jobs.queue)
+  pub workers_are : workers_of prepared.jobs ≡ options.workers
   pub ready : IsPrepared prepared
 
 -- the log was made, and the transfers are ready to be run over it
 pub record IsReadyDemo {D : Type 0} (g : Ghosts D) (n seed : ℕ) (options : RunOptions) (old new : D) (ready : ReadyRun) : Type 0 where
-  pub log : IsOpened g new ready.tail generated_opening ready.prepared.jobs.first (key_of ready.prepared.table)
+  pub log : IsOpened g new ready.tail generated_opening ready.prepared.jobs.queue.first (key_of ready.prepared.table)
   pub place : ready.tail.at ≡ generated_end
   pub ring : (key_of ready.prepared.table).ring ≡ options.ring
-  pub generated : AreGenerated n seed options.workers ready.prepared.jobs
+  pub generated : AreGenerated n seed (jobs_of ready.prepared.jobs.queue)
+  pub workers_are : workers_of ready.prepared.jobs ≡ options.workers
   pub prepared : IsPrepared ready.prepared
   pub made : g.honest old → OnlyMakes g old new

@@ -14,8 +14,8 @@ use Rattle.cli_threads.specs.Ending.{HasEnded}
 use Rattle.cli_demo.specs.Summary.{generated_opening}
 
 -- the transfers ended so, none of them told, which left this sink, and this was concluded of so many then
-pub record HasFinished {D : Type 0} {K : Type 0} (g : Ghosts D) (h : SinkGhosts K) (prepared : Prepared) (tail : Tail) (transfers : ℕ) (disk disk_new : D)
-    (sink sink_new : K) (detail : Detail) : Type 0 where
+pub record HasFinished {D : Type 0} {K : Type 0} (g : Ghosts D) (h : SinkGhosts K) (prepared : Prepared) (tail : Tail) (transfers : ℕ)
+    (disk disk_new : D) (sink sink_new : K) (detail : Detail) : Type 0 where
   pub ended : Ended
   pub left : K
   pub has : HasEnded g h prepared generated_opening tail Count false disk disk_new sink left ended

@@ -73,7 +73,8 @@ fn finish<R: Threads + Wait + Clock + Sync, D: LogDisk, K: Sink, G: Gate + Sync>
     gate: &G,
 ) -> Detail
     requires prepared { IsPrepared ready.prepared }
-    requires opened { IsOpened D.LogDisk disk.old ready.tail generated_opening ready.prepared.jobs.first (key_of ready.prepared.table) }
+    requires opened { IsOpened D.LogDisk disk.old ready.tail generated_opening ready.prepared.jobs.queue.first
+        (key_of ready.prepared.table) }
     ensures { HasFinished D.LogDisk K.Sink ready.prepared ready.tail transfers disk.old disk.new out.old out.new result }
 {
     let ReadyRun { prepared, tail } = ready;
@@ -83,7 +84,7 @@ fn finish<R: Threads + Wait + Clock + Sync, D: LogDisk, K: Sink, G: Gate + Sync>
 }
 
 /// Finds that no log is there, asks for all memory, and makes the log.
-fn make_ready<R, D: LogDisk>(
+fn make_ready<R: Wait, D: LogDisk>(
     rt: &R,
     alloc: Global,
     log: &Word,
@@ -115,7 +116,7 @@ fn make_ready<R, D: LogDisk>(
 }
 
 /// Asks for the memory of the run, and spells the list of the log that it runs over.
-fn prepare_demo<R>(
+fn prepare_demo<R: Wait>(
     rt: &R,
     alloc: Global,
     transfers: u32,

@@ -13,7 +13,7 @@ use Rattle.cli_shared.specs.declared.report.Detail.TheVariants.{Fine, Write, Dis
 use Rattle.run_summary.specs.Summary.{summary_of}
 use Rattle.cli_ending.specs.declared.conclusion.Ended.{Ended}
 
--- all workers came to the end of their stripes
+-- all workers came to the end of the queue
 abbrev pub AreWhole : List Worked → Type 0
 AreWhole ends = All (λ end. end ≡ worked.All) ends
 
@@ -21,7 +21,7 @@ AreWhole ends = All (λ end. end ≡ worked.All) ends
 abbrev pub NoneStopped : List Worked → Type 0
 NoneStopped ends = All (λ end. (word : ℕ) → end ≡ worked.Cut (cause.Stop word) → ⊥) ends
 
--- the lowest worker that did not come to its end found no room for so many units behind this tail
+-- the lowest worker that did not come to the end of the queue was cut off: it found no room for so many units behind this tail
 pub record IsFirstLogEnd (ends : List Worked) (tail total : ℕ) : Type 0 where
   pub below : List Worked
   pub above : List Worked

@@ -1,4 +1,5 @@
 pub mod DoneLines
+pub mod InTurn
 pub mod LawLemmas
 pub mod NumberTexts
 pub mod RunEndWitness

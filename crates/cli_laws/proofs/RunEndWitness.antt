@@ -1,4 +1,4 @@
--- A transfer that finds no room: the log is full of notes of one transaction, but for one unit.
+-- Transfers that find no room: the log is full of notes of one transaction, but for one unit. Each of two workers is cut off.
 use Rattle.std.proofs.Common.{◌≡◌, inl, inr, ◌<◌, ◌≤◌, ℕ, zero, suc, ◌+◌, ◌*◌, pos, negsuc, true, false, true≢false, List, [], ◌∷◌, ◌++◌, length, Some, None, slice_get, All, Contains, refl, ap, ◌∙◌, sym, subst, arith, append-nil, length-append}
 use Rattle.std.specs.List.{AllByRecursion, flat_map}
 use Rattle.std.proofs.lemmas.List.Elements.{All-cons, All-nil}
@@ -20,7 +20,9 @@ use Rattle.lock_core.specs.Witness.{genesis_log}
 use Rattle.lock_core.proofs.Fronts.{history_from-append}
 use Rattle.lock_core.proofs.ListLemmas.{all-append}
 use Rattle.lock_core.proofs.OneMore.{total-empty}
-use Rattle.lock_core.specs.Alone.{leg_updates}
+use Rattle.lock_core.specs.declared.job.Job.{Job}
+use Rattle.lock_core.specs.Alone.{leg_updates, planned_records}
+use Rattle.lock_core.specs.Transfers.{transfer_of}
 use Rattle.segment_file.specs.File.{written, batch, gated, joined, IsCountedBatch}
 use Rattle.segment_file.specs.Standing.{StandsAt}
 use Rattle.segment_file.specs.declared.layout.TheConstants.{CLOSED}
@@ -36,10 +38,13 @@ use Rattle.log_rule.specs.Views.{flusher}
 use Rattle.commit_pipeline.specs.declared.daemon.Daemon.{Daemon}
 use Rattle.end_lines.specs.declared.voice.Voice.TheVariants.{Lines}
 use Rattle.txn_jobs.specs.declared.cause.Cause.TheVariants.{LogEnd}
+use Rattle.txn_jobs.specs.declared.cause.Worked.TheVariants as worked
 use Rattle.txn_jobs.specs.declared.cause.Worked.TheVariants.{Cut}
-use Rattle.txn_jobs.specs.declared.jobs.Jobs.{Jobs}
+use Rattle.txn_jobs.specs.Places.{NumberedJobs, number_at, job_at}
+use Rattle.job_queue.specs.Takings.{times, once_below}
 use Rattle.cli_laws.specs.RunWitness.{payment, plain_disk, HasHitLogEnd}
-use Rattle.cli_threads.specs.Shares.{Share, IsGivenUncommitted, HasShare, IsStripeOf}
+use Rattle.cli_threads.specs.Shares.{Share, IsGivenUncommitted, AreGivenUncommitted, EndsLogAt, HasShare, HasGathered, sharing_of}
+use Rattle.cli_threads.specs.Sharing.{IsSharedOut}
 use Rattle.cli_threads.specs.Transferred.{IsOpened}
 use Rattle.cli_laws.proofs.RunWitness.{genesis-counted, genesis-spellable, genesis-lawful, shut-at}
 
@@ -142,7 +147,7 @@ length-notes (suc n) =
     let one = length-batch (batch (spelling note)) (spelling note) [] (sym (append-nil (batch (spelling note)))) in
     let sum = length-append (batch (spelling note)) (flat_map gated (batches n)) in omega arith
 
-module _ (n : ℕ) (full : 4 + 2 * n ≤ LAST) (near : LAST < 4 + 2 * n + 2) where
+module _ (n slots : ℕ) (full : 4 + 2 * n ≤ LAST) (near : LAST < 4 + 2 * n + 2) where
   abbrev opened : List Rec
   opened = genesis_log ++ notes n
 
@@ -175,7 +180,7 @@ module _ (n : ℕ) (full : 4 + 2 * n ≤ LAST) (near : LAST < 4 + 2 * n + 2) whe
   }
 
   abbrev key : Start
-  key = record { start = 4 + 2 * n; ring = 1024; slots = 0; accounts = record { rows = (100, 0) ∷ (0, 0) ∷ []; room = 2 } }
+  key = record { start = 4 + 2 * n; ring = 1024; slots = slots; accounts = record { rows = (100, 0) ∷ (0, 0) ∷ []; room = 2 } }
 
   is-opened : IsOpened (plain_disk (λ moment. file)) 0 tail opened 2 key
   is-opened = record {
@@ -199,19 +204,22 @@ module _ (n : ℕ) (full : 4 + 2 * n ≤ LAST) (near : LAST < 4 + 2 * n + 2) whe
 
   -- ---- the run
 
-  abbrev jobs : Jobs
-  jobs = record { script = payment ∷ []; first = 2; workers = 1; some = omega arith; shared = omega arith; numbered = omega arith }
+  abbrev jobs : NumberedJobs
+  jobs = record { script = payment ∷ payment ∷ payment ∷ []; first = 2 }
 
-  abbrev cut : Share
-  cut = record { taken = 0 ∷ []; worked = Cut (LogEnd (4 + 2 * n) 2) }
+  abbrev cut : ℕ → Share
+  cut place = record { taken = place ∷ []; worked = Cut (LogEnd (4 + 2 * n) 2) }
+
+  abbrev shares : List Share
+  shares = cut 0 ∷ cut 1 ∷ []
 
   abbrev view_old : View
   view_old = record (flusher key) { sending = record (flusher key).sending { quiet = true; looked = true } }
 
-  -- the account as the worker gave it back
-  abbrev given_of : ℕ → Given
-  given_of account = record {
-    txn = 2;
+  -- the account as the transaction's worker gave it back
+  abbrev given_of : ℕ → ℕ → Given
+  given_of txn account = record {
+    txn = txn;
     account = account;
     balance = (row key.accounts.rows account).0;
     tail = 4 + 2 * n;
@@ -220,7 +228,12 @@ module _ (n : ℕ) (full : 4 + 2 * n ≤ LAST) (near : LAST < 4 + 2 * n + 2) whe
   }
 
   abbrev view : View
-  view = record view_old { books = record (flusher key).books { jobs = record { number = 2; job = payment } ∷ []; given = given_of 1 ∷ given_of 0 ∷ [] } }
+  view = record view_old {
+    books = record (flusher key).books {
+      jobs = record { number = 2; job = payment } ∷ record { number = 3; job = payment } ∷ [];
+      given = given_of 3 1 ∷ given_of 3 0 ∷ given_of 2 1 ∷ given_of 2 0 ∷ [];
+    };
+  }
 
   gathered : IsGathered (4 + 2 * n) view
   gathered = record {
@@ -239,25 +252,32 @@ module _ (n : ℕ) (full : 4 + 2 * n ≤ LAST) (near : LAST < 4 + 2 * n + 2) whe
     ledger = λ once. record {
       lawful = tt;
       serial = record {
-        each = (inr (record { rest = leg_updates 2 payment.legs; front = refl }), tt);
+        each = (
+          inr (record { rest = leg_updates 2 payment.legs; front = refl }),
+          (inr (record { rest = leg_updates 3 payment.legs; front = refl }), tt),
+        );
         others = λ txn none. refl;
       };
       accounts = record { count = refl; range = range; balance = λ account inside. refl; last = λ account inside. refl };
     };
-    given = λ once. (λ uncommitted. all-of 1, (λ uncommitted. all-of 0, tt));
+    given = λ once. (λ _. all-of 3 1, (λ _. all-of 3 0, (λ _. all-of 2 1, (λ _. all-of 2 0, tt))));
   }
     where
-      all-of : (account : ℕ) → IsOfFront (base_of key) [] (given_of account)
-      all-of account = record { later = []; front = []; whole = refl; balance = refl; tail = omega arith }
+      all-of : (txn account : ℕ) → IsOfFront (base_of key) [] (given_of txn account)
+      all-of txn account = record { later = []; front = []; whole = refl; balance = refl; tail = omega arith }
 
       range : (account : ℕ) → account < 2 → IsBalance (row ((100, 0) ∷ (0, 0) ∷ []) account).0
       range zero inside = omega arith
       range (suc zero) inside = omega arith
       range (suc (suc n)) inside = absurd (omega arith)
 
-  given-at : (account : ℕ) → Contains view.books.given (given_of account) → IsGivenUncommitted 2 (4 + 2 * n) (row key.accounts.rows account).0 view.books.given account
-  given-at account has = record {
-    back = given_of account;
+  abbrev balance_at : ℕ → ℕ
+  balance_at account = (row key.accounts.rows account).0
+
+  given-at : (txn account : ℕ) → Contains view.books.given (given_of txn account)
+      → IsGivenUncommitted txn (4 + 2 * n) (balance_at account) view.books.given account
+  given-at txn account has = record {
+    back = given_of txn account;
     contains = has;
     txn = refl;
     account_is = refl;
@@ -266,34 +286,67 @@ module _ (n : ℕ) (full : 4 + 2 * n ≤ LAST) (near : LAST < 4 + 2 * n + 2) whe
     balance_is = refl;
   }
 
-  has-share : (worker : ℕ) (share : Share) → get_elem? (cut ∷ []) worker ≡ some share → HasShare jobs share view
-  has-share zero share at = subst (λ (s : Share). HasShare jobs s view) (some-injective cut share at) (record {
-    places = (omega arith, tt);
-    came_to = (
-      [],
-      0,
-      refl,
-      tt,
-      record {
-        balances = λ account. (row key.accounts.rows account).0;
-        marks = λ account. 0;
-        gave = ((given-at 0 (1, omega arith, refl), given-at 1 (0, omega arith, refl)), tt);
-        next = Update 2 0 (negsuc 29) 0;
-        rest = Update 2 1 (pos 30) 0 ∷ Commit 2 1 ∷ [];
-        plan = refl;
-        asked = inl refl;
-        too_long = near;
-        seen = (0, omega arith, refl);
-        alone = λ one. tt;
-      },
-    );
-    in_turn = λ i j before after less one other has. absurd (omega (arith, has.1));
-  })
-  has-share (suc worker) share at = absurd (some-ne-none share (sym at))
+  -- for the payment at this place there was no room, by its own two units
+  ends-at : (place : ℕ) → job_at jobs place ≡ payment
+      → AreGivenUncommitted (number_at jobs place) (4 + 2 * n) balance_at view.books.given (0, 1, 30)
+      → EndsLogAt jobs 2 place (4 + 2 * n) 2 view
+  ends-at place is gave = record {
+    balances = balance_at;
+    marks = λ account. 0;
+    gave = subst (λ (job : Job). AllByRecursion (AreGivenUncommitted (number_at jobs place) (4 + 2 * n) balance_at view.books.given) job.legs)
+        (sym is) (gave, tt);
+    next = Update (number_at jobs place) 0 (negsuc 29) 0;
+    rest = Update (number_at jobs place) 1 (pos 30) 0 ∷ Commit (number_at jobs place) 1 ∷ [];
+    plan = ap (λ (job : Job). planned_records (number_at jobs place) (transfer_of job) (λ account. 0) balance_at) (sym is);
+    asked = inl refl;
+    too_long = near;
+    seen = (0, omega arith, refl);
+    alone = λ one. tt;
+  }
 
-  is-stripe : (worker : ℕ) (share : Share) → get_elem? (cut ∷ []) worker ≡ some share → IsStripeOf jobs worker share
-  is-stripe zero share at = subst (IsStripeOf jobs 0) (some-injective cut share at) (record { places = refl; all = tt })
-  is-stripe (suc worker) share at = absurd (some-ne-none share (sym at))
+  share-cut : (place : ℕ) → place < 3 → EndsLogAt jobs 2 place (4 + 2 * n) 2 view → HasShare jobs 2 (cut place) view
+  share-cut place inside ends = record {
+    places = (inside, tt);
+    came_to = ([], place, refl, tt, ends);
+    in_turn = λ i j before after less one other has. absurd (omega (arith, has.1));
+  }
+
+  has-share : (worker : ℕ) (share : Share) → get_elem? shares worker ≡ some share → HasShare jobs 2 share view
+  has-share zero share at = subst (λ (s : Share). HasShare jobs 2 s view) (some-injective (cut 0) share at)
+      (share-cut 0 (omega arith) (ends-at 0 refl (given-at 2 0 (3, omega arith, refl), given-at 2 1 (2, omega arith, refl))))
+  has-share (suc zero) share at = subst (λ (s : Share). HasShare jobs 2 s view) (some-injective (cut 1) share at)
+      (share-cut 1 (omega arith) (ends-at 1 refl (given-at 3 0 (1, omega arith, refl), given-at 3 1 (0, omega arith, refl))))
+  has-share (suc (suc worker)) share at = absurd (some-ne-none share (sym at))
+
+  -- none of them came to the end of the queue
+  none-whole : (worker : ℕ) (share : Share) → get_elem? shares worker ≡ some share → share.worked ≡ worked.All → ⊥
+  none-whole zero share at all = is-cut (ap (λ (s : Share). s.worked) (some-injective (cut 0) share at) ∙ all)
+    where
+      is-cut : Cut (LogEnd (4 + 2 * n) 2) ≡ worked.All → ⊥
+      is-cut same = cc
+  none-whole (suc zero) share at all = is-cut (ap (λ (s : Share). s.worked) (some-injective (cut 1) share at) ∙ all)
+    where
+      is-cut : Cut (LogEnd (4 + 2 * n) 2) ≡ worked.All → ⊥
+      is-cut same = cc
+  none-whole (suc (suc worker)) share at all = absurd (some-ne-none share (sym at))
+
+  -- the first two places are one worker's each
+  once : (place : ℕ) → times place (0 ∷ 1 ∷ []) ≡ once_below place 2
+  once zero = refl
+  once (suc zero) = refl
+  once (suc (suc place)) = refl
+
+  shared : IsSharedOut 2 jobs (sharing_of 2 shares)
+  shared = record { count = refl; rise = ((tt, tt), ((tt, tt), tt)); once = once; within = omega arith }
+
+  workers : HasGathered jobs 2 shares view
+  workers = record {
+    someone = omega arith;
+    taken = refl;
+    each = has-share;
+    sharing = shared;
+    all = λ worker share at all. absurd (none-whole worker share at all);
+  }
 
   module _ (d : Daemon ℕ (List ℕ)) where
     abbrev daemon : Daemon ℕ (List ℕ)
@@ -309,12 +362,13 @@ module _ (n : ℕ) (full : 4 + 2 * n ≤ LAST) (near : LAST < 4 + 2 * n + 2) whe
       fault = None;
     }
 
-    hit : HasHitLogEnd
+    hit : HasHitLogEnd slots
     hit = record {
       file = file;
       opened = opened;
       jobs = jobs;
-      shares = cut ∷ [];
+      front = 2;
+      shares = shares;
       key = key;
       old = daemon;
       new = daemon;
@@ -328,16 +382,18 @@ module _ (n : ℕ) (full : 4 + 2 * n ≤ LAST) (near : LAST < 4 + 2 * n + 2) whe
         sending = refl;
         constants = refl;
         drained = λ fine. record { quiet = refl; looked = refl; all = omega arith };
-        workers = record { count = refl; taken = refl; each = has-share; stripes = is-stripe };
+        workers = workers;
         gathered = gathered;
         settled = settled;
         heard = tt;
       };
+      slots_are = refl;
       script = refl;
+      taken = refl;
+      shared = refl;
       fine = refl;
-      share = refl;
     }
 
 -- 2147483645 notes of 2 units each behind two Genesis records leave one unit
-pub log-end-hit : Daemon ℕ (List ℕ) → HasHitLogEnd
-log-end-hit d = hit 2147483645 (omega arith) (omega arith) d
+pub log-end-hit : (slots : ℕ) → Daemon ℕ (List ℕ) → HasHitLogEnd slots
+log-end-hit slots d = hit 2147483645 slots (omega arith) (omega arith) d

@@ -1,4 +1,4 @@
--- One transfer, from the opened log to the closed table: all that is known of such a run holds of it.
+-- One transfer, made by the first of two workers, from the opened log to the closed table: all that is known of such a run holds of it.
 use Rattle.std.proofs.Common.{◌≡◌, ◌⊎◌, inl, inr, ◌+◌, ◌*◌, ◌<◌, ◌≤◌, ℕ, zero, suc, pos, negsuc, true, List, [], ◌∷◌, ◌++◌, length, Some, None, slice_get, refl, ap, ◌∙◌, sym, subst, arith, append-nil, length-append, Contains}
 use Rattle.std.specs.List.{AllByRecursion}
 use Rattle.std.proofs.lemmas.List.Elements.{All-contains, All-from_recursion}
@@ -43,44 +43,36 @@ use Rattle.commit_pipeline.specs.Later.{Ran, HoldsFront}
 use Rattle.commit_pipeline.specs.Turning.{MayTurn}
 use Rattle.commit_pipeline.proofs.RanLemmas.{none≢some}
 use Rattle.txn_jobs.specs.declared.cause.Worked.TheVariants.{All}
-use Rattle.txn_jobs.specs.declared.jobs.Jobs.{Jobs}
+use Rattle.txn_jobs.specs.Places.{NumberedJobs}
 use Rattle.cli_laws.specs.RunWitness.{payment, file_at, plain_disk, plain_sink, HasMadePayment}
-use Rattle.cli_threads.specs.Shares.{Share, HasShare, IsStripeOf, HasGathered}
+use Rattle.cli_threads.specs.Shares.{Share, HasShare, HasGathered, sharing_of}
+use Rattle.cli_threads.specs.Sharing.{IsSharedOut}
+use Rattle.job_queue.specs.Takings.{times, once_below}
 use Rattle.cli_threads.specs.Transferred.{IsOpened}
 use Rattle.cli_threads.proofs.RunLedger.{base-opened}
 
 -- ---- the data
 
-abbrev pub jobs : Jobs
-jobs = record { script = payment ∷ []; first = 1; workers = 1; some = omega arith; shared = omega arith; numbered = omega arith }
+abbrev pub jobs : NumberedJobs
+jobs = record { script = payment ∷ []; first = 1 }
 
-abbrev shares : List Share
-shares = record { taken = 0 ∷ []; worked = All } ∷ []
+abbrev made : Share
+made = record { taken = 0 ∷ []; worked = All }
 
-abbrev key : Start
-key = record { start = 4; ring = 1024; slots = 0; accounts = record { rows = (100, 0) ∷ (0, 0) ∷ []; room = 2 } }
+abbrev idle : Share
+idle = record { taken = []; worked = All }
+
+abbrev pub shares : List Share
+shares = made ∷ idle ∷ []
+
+abbrev rows_old : List (ℕ × ℕ)
+rows_old = (100, 0) ∷ (0, 0) ∷ []
 
 abbrev rows : List (ℕ × ℕ)
 rows = (70, 9) ∷ (30, 9) ∷ []
 
 abbrev entry : ℕ → ℕ → Rec → Entry
 entry start size rec = record { start = start; size = size; units = spelling rec; rec = rec }
-
--- the flusher's view before, after its turns, and with the worker's seat taken in
-abbrev view_old : View
-view_old = flusher key
-
-abbrev view_new : View
-view_new = record (flusher key) {
-  seen = record (flusher key).seen { exposed = 9; durable = 9; lsns = 9 ∷ 4 ∷ [] };
-  sending = record { sent = units_of transfer_records; read = []; exposed = 9; stop = 0; quiet = true; looked = true };
-}
-
-abbrev view : View
-view = record view_new {
-  entries = entry 4 2 (Update 1 0 (negsuc 29) 0) ∷ entry 6 2 (Update 1 1 (pos 30) 0) ∷ entry 8 1 (Commit 1 1) ∷ [];
-  books = record (flusher key).books { jobs = record { number = 1; job = payment } ∷ [] };
-}
 
 abbrev tail_old : Tail
 tail_old = record { at = length (written (units_of genesis_log ∷ [])); next = 4 }
@@ -144,7 +136,7 @@ pub genesis-lawful : IsLawful (history genesis_log)
 genesis-lawful =
     (passes-genesis (record { end = 2; rec = Genesis 0 100 } ∷ []) 4 1 0 (tt, tt) refl, (passes-genesis [] 2 0 100 tt refl, tt))
 
-genesis-shown : ShowsAccounts key.accounts.rows (genesis_of (history genesis_log)) (history genesis_log)
+genesis-shown : ShowsAccounts rows_old (genesis_of (history genesis_log)) (history genesis_log)
 genesis-shown = record { count = refl; each = each }
   where
     each : (account : ℕ) → account < 2 → slice_get {X = ℕ × ℕ} ((100, 0) ∷ (0, 0) ∷ []) account
@@ -153,24 +145,7 @@ genesis-shown = record { count = refl; each = each }
     each (suc zero) inside = refl
     each (suc (suc n)) inside = absurd (omega arith)
 
-opened : IsOpened (plain_disk file_at) 0 tail_old genesis_log 1 key
-opened = record {
-  spellable = genesis-spellable;
-  lawful = genesis-lawful;
-  some_accounts = omega arith;
-  below = omega arith;
-  stand = λ honest bytes is. subst (StandsAt tail_old (units_of genesis_log)) (sym is) stands-old;
-  shut = λ honest. shut-at file_at 0 tail_old.at (written (units_of genesis_log ∷ [])) refl refl;
-  next = refl;
-  place = omega (arith, length-batch (batch (units_of genesis_log) ++ []) (units_of genesis_log) [] refl, length-append (batch (units_of genesis_log)) []);
-  start = refl;
-  accounts = genesis-shown;
-}
-
 -- ---- the closed table
-
-base-is : base_of key ≡ base_state_of (history genesis_log)
-base-is = base-opened genesis_log key genesis-lawful refl genesis-shown
 
 rows-kept : KeepsRows rows (base_state_of (history genesis_log)) transfer_history
 rows-kept = record { count = refl; range = range; balance = balance; last = last }
@@ -190,217 +165,274 @@ rows-kept = record { count = refl; range = range; balance = balance; last = last
     last (suc zero) inside = refl
     last (suc (suc n)) inside = absurd (omega arith)
 
-settled : IsSettled (base_of key) view rows
-settled = record {
-  count = refl;
-  ledger = λ once. subst (λ (base : BaseState). IsLedger base transfer_history (numbered 1 (transfer ∷ [])) rows) (sym base-is) (record {
-    lawful = transfer-lawful;
-    serial = serial-partly (base_state_of (history genesis_log)) (numbered 1 (transfer ∷ [])) transfer_history transfer-serial;
-    accounts = rows-kept;
-  });
-  given = λ once. tt;
-}
+-- the one place of the script is the first worker's
+once : (place : ℕ) → times place (0 ∷ []) ≡ once_below place 1
+once zero = refl
+once (suc place) = refl
 
-gathered : IsGathered 9 view
-gathered = record {
-  tiles = (refl, (refl, (refl, refl)));
-  full = (refl, (refl, (refl, tt)));
-  seen = (inr (inr (inr refl)), (inl refl, tt));
-  unsent = [];
-  sent = refl;
-  drained = λ drained. refl;
-  spelled = (
-    record { spellable = transfer-spellable.0; units = refl },
-    (record { spellable = transfer-spellable.1.0; units = refl }, (record { spellable = transfer-spellable.1.1.0; units = refl }, tt)),
-  );
-}
+shared : IsSharedOut 2 jobs (sharing_of 1 shares)
+shared = record { count = refl; rise = ((tt, tt), (tt, tt)); once = once; within = omega arith }
 
--- each entry is of the first transaction
-of-first : (entry : Entry) → Contains view.entries entry → txn_of entry.rec ≡ 1
-of-first entry = All-contains IsFirst view.entries entry (All-from_recursion IsFirst view.entries (refl, (refl, (refl, tt))))
-  where
-    IsFirst : Entry → Type 0
-    IsFirst other = txn_of other.rec ≡ 1
+-- ---- the run over a daemon's table
 
-has-share : (worker : ℕ) (share : Share) → get_elem? shares worker ≡ some share → HasShare jobs share view
-has-share zero share at = subst (λ (s : Share). HasShare jobs s view) (some-injective (record { taken = 0 ∷ []; worked = All }) share at)
-    (record {
-      places = (omega arith, tt);
-      came_to = (
-        record {
-          end = entry 8 1 (Commit 1 1);
-          contains = (2, omega arith, refl);
-          number_is = omega arith;
-          is_end = refl;
-        },
-        tt,
-      );
-      in_turn = λ i j before after less one other has has' is is'. absurd (omega (arith, less, is', of-first after has'));
-    })
-has-share (suc worker) share at = absurd (some-ne-none share (sym at))
+module _ (d : Daemon ℕ (List ℕ)) (of : IsOf d.flusher.table.now d.flusher.seat) where
+  abbrev ring : ℕ
+  ring = d.flusher.table.now.ring
 
-is-stripe : (worker : ℕ) (share : Share) → get_elem? shares worker ≡ some share → IsStripeOf jobs worker share
-is-stripe zero share at = subst (IsStripeOf jobs 0) (some-injective (record { taken = 0 ∷ []; worked = All }) share at)
-    (record { places = refl; all = omega arith })
-is-stripe (suc worker) share at = absurd (some-ne-none share (sym at))
+  abbrev key : Start
+  key = record { start = 4; ring = ring; slots = d.flusher.table.now.slots; accounts = record { rows = rows_old; room = 2 } }
 
-workers : HasGathered jobs shares view
-workers = record { count = refl; taken = refl; each = has-share; stripes = is-stripe }
+  -- the flusher's view before, after its turns, and with the workers' seats taken in
+  abbrev view_old : View
+  view_old = flusher key
 
--- ---- the turns
+  abbrev view_new : View
+  view_new = record (flusher key) {
+    seen = record (flusher key).seen { exposed = 9; durable = 9; lsns = 9 ∷ 4 ∷ [] };
+    sending = record { sent = units_of transfer_records; read = []; exposed = 9; stop = 0; quiet = true; looked = true };
+  }
 
-module _ (d : Daemon ℕ (List ℕ)) (of : IsOf d.flusher.table.now d.flusher.seat) (ring : d.flusher.table.now.ring ≡ 1024)
-    (slots : d.flusher.table.now.slots ≡ 0)
-  where
-    -- the seat with this view
-    abbrev seat_with : (v : View) → v.standing.worker ≡ 0 → Seat
-    seat_with v is = record { base = record d.flusher.seat.base { me = (v, []) }; worker = 0; named = sym is }
+  abbrev view : View
+  view = record view_new {
+    entries = entry 4 2 (Update 1 0 (negsuc 29) 0) ∷ entry 6 2 (Update 1 1 (pos 30) 0) ∷ entry 8 1 (Commit 1 1) ∷ [];
+    books = record (flusher key).books { jobs = record { number = 1; job = payment } ∷ [] };
+  }
 
-    abbrev old : Daemon ℕ (List ℕ)
-    old = record {
-      flusher = record d.flusher { disk = record d.flusher.disk { now = 0 }; seat = seat_with view_old refl; batch = record { units = []; room = 1024 }; tail = tail_old };
-      sink = record d.sink { now = [] };
-      voice = Lines;
-      tally = record { done = 0; refused = 0 };
-      fault = None;
-    }
+  -- ---- the opened log, and the closed table
 
-    abbrev new : Daemon ℕ (List ℕ)
-    new = record {
-      flusher = record d.flusher { disk = record d.flusher.disk { now = 1 }; seat = seat_with view_new refl; batch = record { units = []; room = 1024 }; tail = tail_new };
-      sink = record d.sink { now = end_lines 4 transfer_records };
-      voice = Lines;
-      tally = record { done = 1; refused = 0 };
-      fault = None;
-    }
+  opened : IsOpened (plain_disk file_at) 0 tail_old genesis_log 1 key
+  opened = record {
+    spellable = genesis-spellable;
+    lawful = genesis-lawful;
+    some_accounts = omega arith;
+    below = omega arith;
+    stand = λ honest bytes is. subst (StandsAt tail_old (units_of genesis_log)) (sym is) stands-old;
+    shut = λ honest. shut-at file_at 0 tail_old.at (written (units_of genesis_log ∷ [])) refl refl;
+    next = refl;
+    place = omega (arith, length-batch (batch (units_of genesis_log) ++ []) (units_of genesis_log) [] refl, length-append (batch (units_of genesis_log)) []);
+    start = refl;
+    accounts = genesis-shown;
+  }
 
-    may-turn : MayTurn (plain_disk file_at) new
-    may-turn = record {
-      flusher = record {
-        seat = record { table_is = of.table_is; no_slots = refl; ring = sym ring; slots = sym slots };
-        flusher = refl;
-        unread = refl;
-        seen = (0, omega arith, refl);
-        next = refl;
-        place = omega (
-          arith,
-          length-append (batch (units_of genesis_log)) (OPEN ∷ batch (units_of transfer_records) ++ []),
-          length-append (batch (units_of transfer_records)) [],
-          length-batch (batch (units_of genesis_log)) (units_of genesis_log) [] (sym (append-nil (batch (units_of genesis_log)))),
-          length-batch (batch (units_of transfer_records)) (units_of transfer_records) [] (sym (append-nil (batch (units_of transfer_records)))),
+  base-is : base_of key ≡ base_state_of (history genesis_log)
+  base-is = base-opened genesis_log key genesis-lawful refl genesis-shown
+
+  settled : IsSettled (base_of key) view rows
+  settled = record {
+    count = refl;
+    ledger = λ once. subst (λ (base : BaseState). IsLedger base transfer_history (numbered 1 (transfer ∷ [])) rows) (sym base-is) (record {
+      lawful = transfer-lawful;
+      serial = serial-partly (base_state_of (history genesis_log)) (numbered 1 (transfer ∷ [])) transfer_history transfer-serial;
+      accounts = rows-kept;
+    });
+    given = λ once. tt;
+  }
+
+  gathered : IsGathered 9 view
+  gathered = record {
+    tiles = (refl, (refl, (refl, refl)));
+    full = (refl, (refl, (refl, tt)));
+    seen = (inr (inr (inr refl)), (inl refl, tt));
+    unsent = [];
+    sent = refl;
+    drained = λ drained. refl;
+    spelled = (
+      record { spellable = transfer-spellable.0; units = refl },
+      (record { spellable = transfer-spellable.1.0; units = refl }, (record { spellable = transfer-spellable.1.1.0; units = refl }, tt)),
+    );
+  }
+
+  -- each entry is of the first transaction
+  of-first : (entry : Entry) → Contains view.entries entry → txn_of entry.rec ≡ 1
+  of-first entry = All-contains IsFirst view.entries entry (All-from_recursion IsFirst view.entries (refl, (refl, (refl, tt))))
+    where
+      IsFirst : Entry → Type 0
+      IsFirst other = txn_of other.rec ≡ 1
+
+  has-share : (worker : ℕ) (share : Share) → get_elem? shares worker ≡ some share → HasShare jobs 2 share view
+  has-share zero share at = subst (λ (s : Share). HasShare jobs 2 s view) (some-injective made share at)
+      (record {
+        places = (omega arith, tt);
+        came_to = (
+          record {
+            end = entry 8 1 (Commit 1 1);
+            contains = (2, omega arith, refl);
+            number_is = omega arith;
+            is_end = refl;
+          },
+          tt,
         );
-        shut = λ honest. shut-at file_at 1 tail_new.at (written (units_of genesis_log ∷ units_of transfer_records ∷ [])) refl refl;
-        room = omega (arith, ring);
-      };
-      fine = refl;
-      running = refl;
-      counted = omega arith;
-    }
+        in_turn = λ i j before after less one other has has' is is'. absurd (omega (arith, less, is', of-first after has'));
+      })
+  has-share (suc zero) share at = subst (λ (s : Share). HasShare jobs 2 s view) (some-injective idle share at)
+      (record { places = tt; came_to = tt; in_turn = λ i j before after less one. absurd (omega (arith, one.1)) })
+  has-share (suc (suc worker)) share at = absurd (some-ne-none share (sym at))
 
-    -- what all images held at first are the units of the opened list
-    opening-is : (opening : List ℕ) → ((bytes : List ℕ) → bytes ≡ file_at 0 → StandsAt tail_old (opening ++ []) bytes) → opening ≡ units_of genesis_log
-    opening-is opening stand = sym (append-nil opening)
-        ∙ one_reading-units (file_at 0) (opening ++ []) (units_of genesis_log)
-        (holds tail_old (opening ++ []) (file_at 0) (stand (file_at 0) refl)) (holds tail_old (units_of genesis_log) (file_at 0) stands-old)
+  workers : HasGathered jobs 1 shares view
+  workers = record {
+    someone = omega arith;
+    taken = refl;
+    each = has-share;
+    sharing = shared;
+    all = λ worker share at all. refl;
+  }
 
-    stands-later : (opening : List ℕ) → ((bytes : List ℕ) → bytes ≡ file_at 0 → StandsAt tail_old (opening ++ []) bytes)
-        → (bytes : List ℕ) → bytes ≡ file_at 1 → StandsAt tail_new (opening ++ units_of transfer_records) bytes
-    stands-later opening stand bytes is =
-        subst (λ (units : List ℕ). StandsAt tail_new (units ++ units_of transfer_records) bytes) (sym (opening-is opening stand))
-        (subst (StandsAt tail_new (units_of genesis_log ++ units_of transfer_records)) (sym is) stands-new)
+  -- ---- the turns
 
-    moments : (opening : List ℕ) → ((bytes : List ℕ) → bytes ≡ file_at 0 → StandsAt tail_old (opening ++ []) bytes)
-        → Leaves (plain_disk file_at).moment (plain_disk file_at).images_since (HoldsFront (opening ++ []) (transfer_records ++ [])) 0 1
-    moments opening stand = record { later = omega arith; each = each }
-      where
-        each : (from : ℕ) (bytes : List ℕ) → from ≤ 0 → (moment : ℕ) × (from ≤ moment) × (moment ≤ 1) × (bytes ≡ file_at moment)
-            → ((moment : ℕ) × (from ≤ moment) × (moment ≤ 0) × (bytes ≡ file_at moment)) ⊎ HoldsFront (opening ++ []) (transfer_records ++ []) bytes
-        each from bytes early (zero, after, before, is) = inl (0, after, omega arith, is)
-        each from bytes early (suc moment, after, before, is) = inr (record {
-          front = transfer_records;
-          rest = [];
-          whole = refl;
-          holds = subst (λ (first : List ℕ). HoldsUnits bytes (first ++ units_of transfer_records)) (sym (append-nil opening))
-              (holds tail_new (opening ++ units_of transfer_records) bytes (stands-later opening stand bytes is));
-        })
+  -- the seat with this view
+  abbrev seat_with : (v : View) → v.standing.worker ≡ 0 → Seat
+  seat_with v is = record { base = record d.flusher.seat.base { me = (v, []) }; worker = 0; named = sym is }
 
-    -- the batch of the transfer takes 45 bytes, for five units
-    tails : tail_new.at ≤ tail_old.at + 13 * 5
-    tails = omega (
-      arith,
-      length-append (batch (units_of genesis_log)) [],
-      length-append (batch (units_of genesis_log)) (OPEN ∷ batch (units_of transfer_records) ++ []),
-      length-append (batch (units_of transfer_records)) [],
-      length-batch (batch (units_of transfer_records)) (units_of transfer_records) [] (sym (append-nil (batch (units_of transfer_records)))),
-    )
+  abbrev old : Daemon ℕ (List ℕ)
+  old = record {
+    flusher = record d.flusher { disk = record d.flusher.disk { now = 0 }; seat = seat_with view_old refl; batch = record { units = []; room = ring }; tail = tail_old };
+    sink = record d.sink { now = [] };
+    voice = Lines;
+    tally = record { done = 0; refused = 0 };
+    fault = None;
+  }
 
-    ran : Ran (plain_disk file_at) plain_sink old new
-    ran = record {
-      was_fine = refl;
-      more = transfer_records;
-      cut = [];
-      text = end_lines 4 transfer_records;
-      spellable = transfer-spellable;
-      same = record {
-        flusher = record {
-          table = refl;
-          seat = record { table_is = refl; slots = refl; constants = refl; entries = refl; books = refl };
-          workers = refl;
-          disk = refl;
-          honest = (λ honest. honest, λ honest. honest);
-          attached = refl;
-          later = omega arith;
-        };
-        sink = refl;
-        voice = refl;
-      };
-      constants = refl;
-      sent = refl;
-      in_flight = (refl, refl);
-      may_turn = λ fine. may-turn;
-      moments = λ honest opening stand. moments opening stand;
-      prefix = λ fault honest opening stand. stands-later opening stand;
-      torn = λ honest opening stand bytes is. inl (holds tail_new (opening ++ units_of transfer_records) bytes (stands-later opening stand bytes is));
-      appended = refl;
-      front = λ failed. absurd (none≢some WriteFault failed);
-      all = λ fault. (refl, refl);
-      reason = record {
-        stop = refl;
-        disk = record { counted = λ failed. absurd (none≢some DiskFault failed); fine = λ sent. refl };
-        sink = record { counted = λ failed. absurd (none≢some WriteFault failed); fine = λ written. refl };
-      };
-      count = λ honest. omega arith;
-      tail = tails;
-      grows = λ honest. omega (
+  abbrev new : Daemon ℕ (List ℕ)
+  new = record {
+    flusher = record d.flusher { disk = record d.flusher.disk { now = 1 }; seat = seat_with view_new refl; batch = record { units = []; room = ring }; tail = tail_new };
+    sink = record d.sink { now = end_lines 4 transfer_records };
+    voice = Lines;
+    tally = record { done = 1; refused = 0 };
+    fault = None;
+  }
+
+  may-turn : MayTurn (plain_disk file_at) new
+  may-turn = record {
+    flusher = record {
+      seat = record { table_is = of.table_is; no_slots = refl; ring = refl; slots = refl };
+      flusher = refl;
+      unread = refl;
+      seen = (0, omega arith, refl);
+      next = refl;
+      place = omega (
         arith,
-        length-append (written (units_of genesis_log ∷ units_of transfer_records ∷ [])) (CLOSED ∷ []),
-        tails,
+        length-append (batch (units_of genesis_log)) (OPEN ∷ batch (units_of transfer_records) ++ []),
+        length-append (batch (units_of transfer_records)) [],
+        length-batch (batch (units_of genesis_log)) (units_of genesis_log) [] (sym (append-nil (batch (units_of genesis_log)))),
+        length-batch (batch (units_of transfer_records)) (units_of transfer_records) [] (sym (append-nil (batch (units_of transfer_records)))),
       );
-    }
+      shut = λ honest. shut-at file_at 1 tail_new.at (written (units_of genesis_log ∷ units_of transfer_records ∷ [])) refl refl;
+      room = omega arith;
+    };
+    fine = refl;
+    running = refl;
+    counted = omega arith;
+  }
 
-    pub payment-made : HasMadePayment
-    payment-made = record {
-      jobs = jobs;
-      shares = shares;
-      key = key;
-      old = old;
-      new = new;
-      view = view;
-      rows = rows;
-      known = record {
-        log = opened;
-        fresh = record { constants = refl; sent = refl; stop = refl; fine = refl };
-        later = inr ran;
-        sending = refl;
-        constants = refl;
-        drained = λ fine. record { quiet = refl; looked = refl; all = refl };
-        workers = workers;
-        gathered = gathered;
-        settled = settled;
-        heard = tt;
+  -- what all images held at first are the units of the opened list
+  opening-is : (opening : List ℕ) → ((bytes : List ℕ) → bytes ≡ file_at 0 → StandsAt tail_old (opening ++ []) bytes) → opening ≡ units_of genesis_log
+  opening-is opening stand = sym (append-nil opening)
+      ∙ one_reading-units (file_at 0) (opening ++ []) (units_of genesis_log)
+      (holds tail_old (opening ++ []) (file_at 0) (stand (file_at 0) refl)) (holds tail_old (units_of genesis_log) (file_at 0) stands-old)
+
+  stands-later : (opening : List ℕ) → ((bytes : List ℕ) → bytes ≡ file_at 0 → StandsAt tail_old (opening ++ []) bytes)
+      → (bytes : List ℕ) → bytes ≡ file_at 1 → StandsAt tail_new (opening ++ units_of transfer_records) bytes
+  stands-later opening stand bytes is =
+      subst (λ (units : List ℕ). StandsAt tail_new (units ++ units_of transfer_records) bytes) (sym (opening-is opening stand))
+      (subst (StandsAt tail_new (units_of genesis_log ++ units_of transfer_records)) (sym is) stands-new)
+
+  moments : (opening : List ℕ) → ((bytes : List ℕ) → bytes ≡ file_at 0 → StandsAt tail_old (opening ++ []) bytes)
+      → Leaves (plain_disk file_at).moment (plain_disk file_at).images_since (HoldsFront (opening ++ []) (transfer_records ++ [])) 0 1
+  moments opening stand = record { later = omega arith; each = each }
+    where
+      each : (from : ℕ) (bytes : List ℕ) → from ≤ 0 → (moment : ℕ) × (from ≤ moment) × (moment ≤ 1) × (bytes ≡ file_at moment)
+          → ((moment : ℕ) × (from ≤ moment) × (moment ≤ 0) × (bytes ≡ file_at moment)) ⊎ HoldsFront (opening ++ []) (transfer_records ++ []) bytes
+      each from bytes early (zero, after, before, is) = inl (0, after, omega arith, is)
+      each from bytes early (suc moment, after, before, is) = inr (record {
+        front = transfer_records;
+        rest = [];
+        whole = refl;
+        holds = subst (λ (first : List ℕ). HoldsUnits bytes (first ++ units_of transfer_records)) (sym (append-nil opening))
+            (holds tail_new (opening ++ units_of transfer_records) bytes (stands-later opening stand bytes is));
+      })
+
+  -- the batch of the transfer takes 45 bytes, for five units
+  tails : tail_new.at ≤ tail_old.at + 13 * 5
+  tails = omega (
+    arith,
+    length-append (batch (units_of genesis_log)) [],
+    length-append (batch (units_of genesis_log)) (OPEN ∷ batch (units_of transfer_records) ++ []),
+    length-append (batch (units_of transfer_records)) [],
+    length-batch (batch (units_of transfer_records)) (units_of transfer_records) [] (sym (append-nil (batch (units_of transfer_records)))),
+  )
+
+  ran : Ran (plain_disk file_at) plain_sink old new
+  ran = record {
+    was_fine = refl;
+    more = transfer_records;
+    cut = [];
+    text = end_lines 4 transfer_records;
+    spellable = transfer-spellable;
+    same = record {
+      flusher = record {
+        table = refl;
+        seat = record { table_is = refl; slots = refl; constants = refl; entries = refl; books = refl };
+        workers = refl;
+        disk = refl;
+        honest = (λ honest. honest, λ honest. honest);
+        attached = refl;
+        later = omega arith;
       };
-      script = refl;
-      list = refl;
-      fine = refl;
-      text = append-nil (done_line 1 9);
-    }
+      sink = refl;
+      voice = refl;
+    };
+    constants = refl;
+    sent = refl;
+    in_flight = (refl, refl);
+    may_turn = λ fine. may-turn;
+    moments = λ honest opening stand. moments opening stand;
+    prefix = λ fault honest opening stand. stands-later opening stand;
+    torn = λ honest opening stand bytes is. inl (holds tail_new (opening ++ units_of transfer_records) bytes (stands-later opening stand bytes is));
+    appended = refl;
+    front = λ failed. absurd (none≢some WriteFault failed);
+    all = λ fault. (refl, refl);
+    reason = record {
+      stop = refl;
+      disk = record { counted = λ failed. absurd (none≢some DiskFault failed); fine = λ sent. refl };
+      sink = record { counted = λ failed. absurd (none≢some WriteFault failed); fine = λ written. refl };
+    };
+    count = λ honest. omega arith;
+    tail = tails;
+    grows = λ honest. omega (
+      arith,
+      length-append (written (units_of genesis_log ∷ units_of transfer_records ∷ [])) (CLOSED ∷ []),
+      tails,
+    );
+  }
+
+  pub payment-made : HasMadePayment d
+  payment-made = record {
+    jobs = jobs;
+    front = 1;
+    shares = shares;
+    key = key;
+    old = old;
+    new = new;
+    view = view;
+    rows = rows;
+    known = record {
+      log = opened;
+      fresh = record { constants = refl; sent = refl; stop = refl; fine = refl };
+      later = inr ran;
+      sending = refl;
+      constants = refl;
+      drained = λ fine. record { quiet = refl; looked = refl; all = refl };
+      workers = workers;
+      gathered = gathered;
+      settled = settled;
+      heard = tt;
+    };
+    table = refl;
+    ring = refl;
+    slots = refl;
+    script = refl;
+    shared = refl;
+    list = refl;
+    fine = refl;
+    text = append-nil (done_line 1 9);
+  }

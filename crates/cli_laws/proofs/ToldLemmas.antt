@@ -15,7 +15,8 @@ use Rattle.log_recovery.specs.Recovery.{HoldsLawful}
 use Rattle.log_recovery.specs.Text.{lsn_line, account_line, accounts_text}
 use Rattle.log_recovery.proofs.ListingLemmas.{units_of-append}
 use Rattle.commit_pipeline.specs.EndLines.{done_line, short_line, over_line, end_line, end_lines}
-use Rattle.txn_jobs.specs.declared.jobs.Jobs.{Jobs}
+use Rattle.txn_jobs.specs.Places.{NumberedJobs}
+use Rattle.cli_threads.specs.Sharing.{Sharing}
 use Rattle.cli_run.specs.RunAnswers.{Outside, HoldsTold, run_text}
 use Rattle.cli_laws.specs.Told.{HasLine, HasCommitAt}
 use Rattle.cli_laws.proofs.WholeLines.{HasLine-nil, HasLine-append, HasLine-first}
@@ -116,9 +117,9 @@ told-front old new before text whole was is (prefix, rest, split, appended) =
     (rest, split ∙ ap (λ t. t ++ rest) (sym same))
 
 module _ {D : Type 0} (g : Ghosts D) where
-  pub image-commit : (opened list : List Rec) (jobs : Jobs) (old new : Outside D) (image before text : List ℕ) (txn end : ℕ)
-      → (held : HoldsTold g opened jobs list old new image) → old.text ≡ Some before → new.text ≡ Some (before ++ text)
+  pub image-commit : (opened list : List Rec) (jobs : NumberedJobs) (sharing : Sharing) (old new : Outside D) (image before text : List ℕ)
+      (txn end : ℕ) → (held : HoldsTold g opened jobs sharing list old new image) → old.text ≡ Some before → new.text ≡ Some (before ++ text)
       → HasLine text (done_line txn end) → HasCommitAt (end_of opened) held.run.front txn end
-  image-commit opened list jobs old new image before text txn end held was is has =
+  image-commit opened list jobs sharing old new image before text txn end held was is has =
       let (rest, whole) = told-front old.text new.text before text (run_text opened held.run.front) was is held.told in
       told-commit image text rest opened held.run.front txn end held.run.holds whole has

@@ -14,14 +14,16 @@ use Rattle.lock_core.proofs.Witnessing.{transfer-lawful, transfer-serial}
 use Rattle.log_recovery.specs.Text.{accounts_text}
 use Rattle.segment_file.proofs.StandingLemmas.{holds}
 use Rattle.commit_pipeline.specs.EndLines.{done_line}
-use Rattle.txn_runner.specs.Places.{number_at, place_of}
-use Rattle.cli_threads.specs.Run.{ComeInTurn, HoldsRun}
+use Rattle.txn_jobs.specs.Places.{number_at}
+use Rattle.cli_threads.specs.Run.{ComeInTurn, HasNoneBehind, HoldsRun}
+use Rattle.cli_threads.specs.Shares.{sharing_of}
+use Rattle.cli_threads.specs.Sharing.{Sharing}
 use Rattle.cli_laws.specs.RunWitness.{file_at}
 use Rattle.cli_laws.specs.Told.{HasToldPayment}
 use Rattle.cli_threads.proofs.RunHistory.{history-own, history-others}
 use Rattle.cli_threads.proofs.RunLedger.{whole-lawful, goes-on}
-use Rattle.cli_threads.proofs.RunStripes.{tasks_of}
-use Rattle.cli_laws.proofs.RunWitness.{jobs, tail_new, stands-new, genesis-spellable, transfer-spellable, genesis-lawful}
+use Rattle.cli_threads.proofs.RunPlaces.{tasks_of}
+use Rattle.cli_laws.proofs.RunWitness.{jobs, shares, tail_new, stands-new, genesis-spellable, transfer-spellable, genesis-lawful}
 
 spellable : AllByRecursion IsSpellable (genesis_log ++ transfer_records)
 spellable = all-append IsSpellable genesis_log transfer_records genesis-spellable transfer-spellable
@@ -29,17 +31,21 @@ spellable = all-append IsSpellable genesis_log transfer_records genesis-spellabl
 serial : IsPartlySerialAfter (base_state_of (history genesis_log)) (tasks_of jobs) transfer_history
 serial = serial-partly (base_state_of (history genesis_log)) (tasks_of jobs) transfer_history transfer-serial
 
--- no transfer but the first has a record
-in_turn : ComeInTurn jobs (history (genesis_log ++ transfer_records))
-in_turn worker i j small less recorded = absurd (recorded (history-own genesis_log transfer_records
-    (number_at jobs (place_of jobs worker j)) (omega (arith, less))
-    ∙ ap recs_of (history-others (number_at jobs (place_of jobs worker j)) (end_of genesis_log) [] transfer_records
-    (other, (other, (other, tt))) refl)))
-  where
-    other : 1 ≢ number_at jobs (place_of jobs worker j)
-    other same = absurd (omega (arith, same, less))
+abbrev sharing : Sharing
+sharing = sharing_of 1 shares
 
-run : HoldsRun genesis_log jobs transfer_records (file_at 1)
+-- no transfer but the first has a record
+none_behind : HasNoneBehind jobs sharing (history (genesis_log ++ transfer_records))
+none_behind place behind = history-own genesis_log transfer_records (number_at jobs place) (omega (arith, behind))
+    ∙ ap recs_of (history-others (number_at jobs place) (end_of genesis_log) [] transfer_records (other, (other, (other, tt))) refl)
+  where
+    other : 1 ≢ number_at jobs place
+    other same = absurd (omega (arith, same, behind))
+
+in_turn : ComeInTurn jobs sharing (history (genesis_log ++ transfer_records))
+in_turn places i j is-list has has' less recorded = absurd (recorded (none_behind j (omega (arith, less))))
+
+run : HoldsRun genesis_log jobs sharing transfer_records (file_at 1)
 run = record {
   front = transfer_records;
   rest = [];
@@ -48,13 +54,15 @@ run = record {
     list = record { each = spellable; holds = holds tail_new (units_of genesis_log ++ units_of transfer_records) (file_at 1) stands-new };
     lawful = whole-lawful genesis_log transfer_records jobs genesis-lawful (omega arith) (omega arith) spellable transfer-lawful serial;
   };
-  goes_on = goes-on genesis_log transfer_records jobs genesis-lawful (omega arith) (omega arith) spellable transfer-lawful serial in_turn;
+  goes_on = goes-on genesis_log transfer_records jobs genesis-lawful (omega arith) (omega arith) spellable transfer-lawful serial sharing in_turn
+      none_behind;
 }
 
 pub payment-told : HasToldPayment
 unfolding run
 payment-told = record {
   jobs = jobs;
+  sharing = sharing;
   held = record {
     run = run;
     told = (

@@ -1,8 +1,6 @@
--- Runs of one transfer, 30 from account 0 to account 1, on a disk and a sink that are plain data: over the log of two accounts, of balances
--- 100 and 0, and over a log that has no room for it.
+-- Runs by two workers, on a disk and a sink that are plain data. Each transfer is 30 from account 0 to account 1. One run makes one of them
+-- over the log of two accounts, of balances 100 and 0; the other has three, over a log that has no room for any.
 use Rattle.std.specs.Prelude.{◌≡◌, ◌≤◌, ℕ, zero, suc, ◌*◌, List, [], ◌∷◌, ◌++◌, Some, None}
-use mathlib.Core.Option.{some}
-use lib.ListN.{get_elem?}
 use Rattle.log_disk.specs.declared.disk.LogDisk.{Ghosts}
 use Rattle.log_disk.specs.declared.sink.Sink.{Ghosts as SinkGhosts}
 use Rattle.log_record.specs.declared.rec.Rec.{Rec}
@@ -17,8 +15,8 @@ use Rattle.log_rule.specs.Closing.{records_of}
 use Rattle.commit_pipeline.specs.declared.daemon.Daemon.{Daemon}
 use Rattle.commit_pipeline.specs.EndLines.{done_line}
 use Rattle.txn_jobs.specs.declared.cause.Cause.TheVariants.{LogEnd}
-use Rattle.txn_jobs.specs.declared.cause.Worked.TheVariants.{Cut}
-use Rattle.txn_jobs.specs.declared.jobs.Jobs.{Jobs}
+use Rattle.txn_jobs.specs.declared.cause.Worked.TheVariants.{All, Cut}
+use Rattle.txn_jobs.specs.Places.{NumberedJobs}
 use Rattle.cli_threads.specs.Shares.{Share}
 use Rattle.cli_threads.specs.Transferred.{HasTransferred}
 
@@ -48,26 +46,32 @@ plain_disk file = record {
 abbrev pub plain_sink : SinkGhosts (List ℕ)
 plain_sink = record { held_bytes = λ bytes. Some bytes; faults = λ bytes. 0 }
 
--- the run was made, and told
-pub record HasMadePayment : Type 0 where
-  pub jobs : Jobs
+-- The run was made and told, over the table of this daemon, by two workers: the first made the transfer, and the second found none left.
+pub record HasMadePayment (d : Daemon ℕ (List ℕ)) : Type 0 where
+  pub jobs : NumberedJobs
+  pub front : ℕ
   pub shares : List Share
   pub key : Start
   pub old : Daemon ℕ (List ℕ)
   pub new : Daemon ℕ (List ℕ)
   pub view : View
   pub rows : List (ℕ × ℕ)
-  pub known : HasTransferred (plain_disk file_at) plain_sink genesis_log jobs shares key old new view 9 rows
+  pub known : HasTransferred (plain_disk file_at) plain_sink genesis_log jobs front shares key old new view 9 rows
+  pub table : old.flusher.table ≡ d.flusher.table
+  pub ring : key.ring ≡ d.flusher.table.now.ring
+  pub slots : key.slots ≡ d.flusher.table.now.slots
   pub script : jobs.script ≡ payment ∷ []
+  pub shared : shares ≡ record { taken = 0 ∷ []; worked = All } ∷ record { taken = []; worked = All } ∷ []
   pub list : records_of view.entries ≡ transfer_records
   pub fine : new.fault ≡ None
   pub text : new.sink.now ≡ done_line 1 9
 
--- the one worker's transfer was cut off at the end of the log
-pub record HasHitLogEnd : Type 0 where
+-- With so many slots each of two workers was cut off at the end of the log in the transfer that it took, and the third was left.
+pub record HasHitLogEnd (slots : ℕ) : Type 0 where
   pub file : List ℕ
   pub opened : List Rec
-  pub jobs : Jobs
+  pub jobs : NumberedJobs
+  pub front : ℕ
   pub shares : List Share
   pub key : Start
   pub old : Daemon ℕ (List ℕ)
@@ -75,7 +79,9 @@ pub record HasHitLogEnd : Type 0 where
   pub view : View
   pub lsn : ℕ
   pub rows : List (ℕ × ℕ)
-  pub known : HasTransferred (plain_disk (λ moment. file)) plain_sink opened jobs shares key old new view lsn rows
-  pub script : jobs.script ≡ payment ∷ []
+  pub known : HasTransferred (plain_disk (λ moment. file)) plain_sink opened jobs front shares key old new view lsn rows
+  pub slots_are : key.slots ≡ slots
+  pub script : jobs.script ≡ payment ∷ payment ∷ payment ∷ []
+  pub taken : front ≡ 2
+  pub shared : shares ≡ record { taken = 0 ∷ []; worked = Cut (LogEnd lsn 2) } ∷ record { taken = 1 ∷ []; worked = Cut (LogEnd lsn 2) } ∷ []
   pub fine : new.fault ≡ None
-  pub share : get_elem? shares 0 ≡ some (record { taken = 0 ∷ []; worked = Cut (LogEnd lsn 2) })

@@ -5,8 +5,9 @@ use Rattle.log_record.specs.declared.rec.Rec.TheVariants.{Commit}
 use Rattle.log_record.specs.LogList.{end_of, size_of}
 use Rattle.lock_core.specs.Witness.{genesis_log, transfer_records}
 use Rattle.commit_pipeline.specs.EndLines.{done_line}
-use Rattle.txn_jobs.specs.declared.jobs.Jobs.{Jobs}
+use Rattle.txn_jobs.specs.Places.{NumberedJobs}
 use Rattle.cli_run.specs.RunAnswers.{HoldsTold, outside}
+use Rattle.cli_threads.specs.Sharing.{Sharing}
 use Rattle.cli_laws.specs.RunWitness.{plain_disk, file_at}
 
 -- the text has this line, given with its line feed, whole: at its beginning, or behind the end of another
@@ -26,7 +27,8 @@ pub record HasCommitAt (at : ℕ) (records : List Rec) (txn end : ℕ) : Type 0 
 
 -- one transfer was told, and the image holds what was told
 pub record HasToldPayment : Type 0 where
-  pub jobs : Jobs
-  pub held : HoldsTold (plain_disk file_at) genesis_log jobs transfer_records (outside 0 None (Some []))
+  pub jobs : NumberedJobs
+  pub sharing : Sharing
+  pub held : HoldsTold (plain_disk file_at) genesis_log jobs sharing transfer_records (outside 0 None (Some []))
       (outside 1 None (Some (done_line 1 9))) (file_at 1)
   pub line : HasLine (done_line 1 9) (done_line 1 9)

@@ -1,6 +1,6 @@
 //! Laws of the definitions. The functions do nothing.
 
-ghost use Rattle.std.specs.Prelude.{◌≡◌, ◌≢◌, ◌⊎◌, ◌++◌, ℕ, List, Option, None, ◌≤◌, ◌+◌, ◌*◌, ◌/◌, [], Some};
+ghost use Rattle.std.specs.Prelude.{◌≡◌, ◌≢◌, ◌⊎◌, ◌++◌, ℕ, List, Option, None, ◌≤◌, ◌<◌, ◌+◌, ◌*◌, ◌/◌, [], Some, length, true};
 ghost use Rattle.std.specs.Io.KnownBytes.{Appends};
 ghost use Rattle.std.specs.List.{AllByRecursion};
 ghost use mathlib.Core.Option.{some};
@@ -13,7 +13,8 @@ ghost use Rattle.log_table.specs.Seats.{IsOf};
 ghost use Rattle.commit_pipeline.specs.declared.daemon.Daemon.{Daemon};
 ghost use Rattle.commit_pipeline.specs.Later.{HasReason};
 ghost use Rattle.commit_pipeline.specs.Turning.{IsSameDaemon};
-ghost use Rattle.txn_jobs.specs.declared.jobs.Jobs.{Jobs};
+ghost use Rattle.job_queue.specs.Takings.{times};
+ghost use Rattle.txn_jobs.specs.Places.{NumberedJobs, number_at};
 ghost use Rattle.txn_jobs.specs.declared.cause.Cause.{Cause};
 ghost use Rattle.txn_jobs.specs.declared.cause.Worked.{Worked};
 ghost use Rattle.commit_pipeline.specs.EndLines.{done_in, done_line, refused_in};
@@ -22,6 +23,7 @@ ghost use Rattle.lock_core.specs.Lawful.{base_state_of};
 ghost use Rattle.lock_core.specs.Serial.{numbered, IsSerialAfter};
 ghost use Rattle.lock_core.specs.Settling.{KeepsRows};
 ghost use Rattle.lock_core.specs.Sums.{BaseState};
+ghost use Rattle.lock_core.specs.Transactions.{own_records_of};
 ghost use Rattle.log_record.specs.LogList.{end_of};
 ghost use Rattle.log_recovery.specs.Recovery.{HoldsLawful};
 ghost use Rattle.log_recovery.specs.Text.{accounts_text};
@@ -31,11 +33,13 @@ ghost use Rattle.txn_script.specs.Generator.{generated_balance, generated_transf
 ghost use Rattle.cli_reports.specs.Answers.{AnswersRecover};
 ghost use Rattle.cli_shared.specs.Answers.{status_of};
 ghost use Rattle.cli_shared.specs.Creation.{genesis_list};
-ghost use Rattle.cli_threads.specs.Run.{HoldsRun, RunKeepsLog, RunIsDrained, RunsWhole};
+ghost use Rattle.cli_threads.specs.Run.{GoesOn, HoldsRun, RunKeepsLog, RunIsDrained, RunsWhole};
 ghost use Rattle.cli_run.specs.RunAnswers.{Outside, HoldsTold, run_text};
-ghost use Rattle.cli_threads.specs.RunStops.{IsTotalAmong, StopsAtLogEnd};
+ghost use Rattle.cli_threads.specs.RunStops.{EndsAs, IsTotalAmong, StopsAtLogEnd};
+ghost use Rattle.cli_laws.specs.InTurn.{IsUnended};
 ghost use Rattle.cli_laws.specs.RunWitness.{HasMadePayment, HasHitLogEnd};
-ghost use Rattle.cli_threads.specs.Shares.{Share};
+ghost use Rattle.cli_threads.specs.Shares.{Share, sharing_of};
+ghost use Rattle.cli_threads.specs.Sharing.{IsSharedOut, Sharing};
 ghost use Rattle.cli_laws.specs.Told.{HasLine, HasCommitAt, HasToldPayment};
 ghost use Rattle.cli_threads.specs.Transferred.{HasTransferred};
 ghost use Rattle.cli_demo.specs.Summary.{generated_opening, mix_below, summary_of, summary_text};
@@ -57,8 +61,8 @@ pub fn new_is_recovered()
 pub fn run_is_recovered()
     ensures status { (bytes : List ℕ) (records : List Rec) (left old new : Option (List ℕ)) (detail : Detail)
         → HoldsLawful bytes records → AnswersRecover bytes left old new detail → status_of detail ≢ 7 }
-    ensures text { (bytes : List ℕ) (opened list : List Rec) (jobs : Jobs) (left old new : Option (List ℕ))
-        → (held : HoldsRun opened jobs list bytes) → AnswersRecover bytes left old new Detail.Fine
+    ensures text { (bytes : List ℕ) (opened list : List Rec) (jobs : NumberedJobs) (sharing : Sharing) (left old new : Option (List ℕ))
+        → (held : HoldsRun opened jobs sharing list bytes) → AnswersRecover bytes left old new Detail.Fine
         → Appends old new (accounts_text (opened ++ held.front)) }
 {}
 
@@ -66,47 +70,61 @@ pub fn run_is_recovered()
 /// each image holds a front behind the opened list, and all of them where the log was drained. A stop word that a worker
 /// read is the fault's, and a fault has its reason.
 pub fn run_keeps_log<D: LogDisk, K: Sink>()
-    ensures keeps { (opened : List Rec) (jobs : Jobs) (shares : List Share) (key : Start) (old new : Daemon D K) (view : View)
-        (lsn : ℕ) (rows : List (ℕ × ℕ)) → HasTransferred D.LogDisk K.Sink opened jobs shares key old new view lsn rows
-        → RunKeepsLog D.LogDisk old.voice opened jobs (records_of view.entries) old.flusher.tail.at key.ring
+    ensures keeps { (opened : List Rec) (jobs : NumberedJobs) (front : ℕ) (shares : List Share) (key : Start) (old new : Daemon D K)
+        (view : View) (lsn : ℕ) (rows : List (ℕ × ℕ)) → HasTransferred D.LogDisk K.Sink opened jobs front shares key old new view lsn rows
+        → RunKeepsLog D.LogDisk old.voice opened jobs (sharing_of front shares) (records_of view.entries) old.flusher.tail.at key.ring
         old.flusher.disk.now new.flusher.disk.now
         (K.held_bytes old.sink.now) (K.held_bytes new.sink.now) }
-    ensures drained { (opened : List Rec) (jobs : Jobs) (shares : List Share) (key : Start) (old new : Daemon D K) (view : View)
-        (lsn : ℕ) (rows : List (ℕ × ℕ)) → HasTransferred D.LogDisk K.Sink opened jobs shares key old new view lsn rows
+    ensures drained { (opened : List Rec) (jobs : NumberedJobs) (front : ℕ) (shares : List Share) (key : Start) (old new : Daemon D K)
+        (view : View) (lsn : ℕ) (rows : List (ℕ × ℕ)) → HasTransferred D.LogDisk K.Sink opened jobs front shares key old new view lsn rows
         → new.fault ≡ None
-        → RunIsDrained D.LogDisk old.voice opened jobs (records_of view.entries) old.flusher.tail.at key.ring
+        → RunIsDrained D.LogDisk old.voice opened (records_of view.entries) old.flusher.tail.at key.ring
         old.flusher.disk.now new.flusher.disk.now
         (K.held_bytes old.sink.now) (K.held_bytes new.sink.now) lsn rows }
-    ensures whole { (opened : List Rec) (jobs : Jobs) (shares : List Share) (key : Start) (old new : Daemon D K) (view : View)
-        (lsn : ℕ) (rows : List (ℕ × ℕ)) → HasTransferred D.LogDisk K.Sink opened jobs shares key old new view lsn rows
+    ensures whole { (opened : List Rec) (jobs : NumberedJobs) (front : ℕ) (shares : List Share) (key : Start) (old new : Daemon D K)
+        (view : View) (lsn : ℕ) (rows : List (ℕ × ℕ)) → HasTransferred D.LogDisk K.Sink opened jobs front shares key old new view lsn rows
         → AllByRecursion (λ (share : Share). share.worked ≡ Worked.All) shares → RunsWhole opened jobs (records_of view.entries) }
-    ensures log_end { (opened : List Rec) (jobs : Jobs) (shares : List Share) (key : Start) (old new : Daemon D K) (view : View)
-        (lsn : ℕ) (rows : List (ℕ × ℕ)) → HasTransferred D.LogDisk K.Sink opened jobs shares key old new view lsn rows
+    ensures log_end { (opened : List Rec) (jobs : NumberedJobs) (front : ℕ) (shares : List Share) (key : Start) (old new : Daemon D K)
+        (view : View) (lsn : ℕ) (rows : List (ℕ × ℕ)) → HasTransferred D.LogDisk K.Sink opened jobs front shares key old new view lsn rows
         → new.fault ≡ None
         → (worker : ℕ) (taken : List ℕ) (tail total : ℕ)
         → get_elem? shares worker ≡ some (record { taken = taken; worked = Worked.Cut (Cause.LogEnd tail total) })
-        → StopsAtLogEnd opened jobs (records_of view.entries) key.ring key.slots tail total }
-    ensures stop { (opened : List Rec) (jobs : Jobs) (shares : List Share) (key : Start) (old new : Daemon D K) (view : View)
-        (lsn : ℕ) (rows : List (ℕ × ℕ)) → HasTransferred D.LogDisk K.Sink opened jobs shares key old new view lsn rows
+        → StopsAtLogEnd opened jobs (sharing_of front shares) (records_of view.entries) key.ring key.slots tail total }
+    ensures stop { (opened : List Rec) (jobs : NumberedJobs) (front : ℕ) (shares : List Share) (key : Start) (old new : Daemon D K)
+        (view : View) (lsn : ℕ) (rows : List (ℕ × ℕ)) → HasTransferred D.LogDisk K.Sink opened jobs front shares key old new view lsn rows
         → new.fault ≡ None
         → (worker : ℕ) (taken : List ℕ) (word : ℕ)
         → get_elem? shares worker ≡ some (record { taken = taken; worked = Worked.Cut (Cause.Stop word) }) → ⊥ }
-    ensures reason { (opened : List Rec) (jobs : Jobs) (shares : List Share) (key : Start) (old new : Daemon D K) (view : View)
-        (lsn : ℕ) (rows : List (ℕ × ℕ)) → HasTransferred D.LogDisk K.Sink opened jobs shares key old new view lsn rows
+    ensures reason { (opened : List Rec) (jobs : NumberedJobs) (front : ℕ) (shares : List Share) (key : Start) (old new : Daemon D K)
+        (view : View) (lsn : ℕ) (rows : List (ℕ × ℕ)) → HasTransferred D.LogDisk K.Sink opened jobs front shares key old new view lsn rows
         → HasReason D.LogDisk K.Sink old new }
-    ensures same { (opened : List Rec) (jobs : Jobs) (shares : List Share) (key : Start) (old new : Daemon D K) (view : View)
-        (lsn : ℕ) (rows : List (ℕ × ℕ)) → HasTransferred D.LogDisk K.Sink opened jobs shares key old new view lsn rows
+    ensures same { (opened : List Rec) (jobs : NumberedJobs) (front : ℕ) (shares : List Share) (key : Start) (old new : Daemon D K)
+        (view : View) (lsn : ℕ) (rows : List (ℕ × ℕ)) → HasTransferred D.LogDisk K.Sink opened jobs front shares key old new view lsn rows
         → IsSameDaemon D.LogDisk old new }
+{}
+
+/// A law: of transfers that were shared out among so many workers at most as many have records and no end record in any list that the
+/// run leaves: `unended`. With one worker each one before another that has a record has its end record, so that they end in
+/// the script's order: `one_worker`.
+pub fn transfers_come_in_turn()
+    ensures unended { (opened records : List Rec) (jobs : NumberedJobs) (sharing : Sharing) (workers : ℕ) (places : List ℕ)
+        → GoesOn opened jobs sharing records → IsSharedOut workers jobs sharing → ((place : ℕ) → times place places ≤ 1)
+        → AllByRecursion (IsUnended jobs (history records)) places → length places ≤ workers }
+    ensures one_worker { (opened records : List Rec) (jobs : NumberedJobs) (sharing : Sharing) → GoesOn opened jobs sharing records
+        → IsSharedOut 1 jobs sharing → (i j : ℕ) → i < j → own_records_of (number_at jobs j) (history records) ≢ []
+        → EndsAs jobs i (history records) true }
 {}
 
 /// A law: the total that is told at the end of the log is the record's own size where there are no slots, and with one worker. It is
 /// never below that size, and at most 26 units for each worker; a group's is at most a quarter of the ring.
 pub fn total_at_the_log_end()
-    ensures own { (ring slots workers size total : ℕ) → IsTotalAmong ring slots workers size total → (slots ≡ 0) ⊎ (workers ≡ 1) → total ≡ size }
+    ensures own { (ring slots workers size total : ℕ) → IsTotalAmong ring slots workers size total → (slots ≡ 0) ⊎ (workers ≡ 1)
+        → total ≡ size }
     ensures least { (ring slots workers size total : ℕ) → IsTotalAmong ring slots workers size total → size ≤ total }
     ensures most { (ring slots workers size total : ℕ) → IsTotalAmong ring slots workers size total → 1 ≤ workers → size ≤ 26
         → total ≤ 26 * workers }
-    ensures quarter { (ring slots workers size total : ℕ) → IsTotalAmong ring slots workers size total → (total ≡ size) ⊎ (total ≤ ring / 4) }
+    ensures quarter { (ring slots workers size total : ℕ) → IsTotalAmong ring slots workers size total
+        → (total ≡ size) ⊎ (total ≤ ring / 4) }
 {}
 
 /// A law: a `done` line that was written whole is of a Commit in the list of each image, which ends at the LSN of the line.
@@ -114,18 +132,17 @@ pub fn total_at_the_log_end()
 pub fn told_commits_are_held<D: LogDisk>()
     ensures text { (bytes text rest : List ℕ) (opened front : List Rec) (txn end : ℕ) → HoldsLawful bytes (opened ++ front)
         → run_text opened front ≡ text ++ rest → HasLine text (done_line txn end) → HasCommitAt (end_of opened) front txn end }
-    ensures image { (opened list : List Rec) (jobs : Jobs) (old new : Outside D) (image before text : List ℕ) (txn end : ℕ)
-        → (held : HoldsTold D.LogDisk opened jobs list old new image) → old.text ≡ Some before → new.text ≡ Some (before ++ text)
-        → HasLine text (done_line txn end) → HasCommitAt (end_of opened) held.run.front txn end }
+    ensures image { (opened list : List Rec) (jobs : NumberedJobs) (sharing : Sharing) (old new : Outside D) (image before text : List ℕ)
+        (txn end : ℕ) → (held : HoldsTold D.LogDisk opened jobs sharing list old new image) → old.text ≡ Some before
+        → new.text ≡ Some (before ++ text) → HasLine text (done_line txn end) → HasCommitAt (end_of opened) held.run.front txn end }
     ensures met { HasToldPayment }
 {}
 
-/// A witness that the premises of the law on runs can be met, all at once: with any daemon whose seat is its table's, which has no
-/// slots, there is a run of one transfer, and one that finds no room for it at the end of the log.
+/// A witness that the premises of the law on runs can be met, all at once: over the table of any daemon whose seat is of it two workers
+/// make one transfer; and with any number of slots two workers find no room for theirs at the end of the log, and leave a third.
 pub fn one_payment_is_made()
-    ensures made { (d : Daemon ℕ (List ℕ)) → IsOf d.flusher.table.now d.flusher.seat → d.flusher.table.now.ring ≡ 1024
-        → d.flusher.table.now.slots ≡ 0 → HasMadePayment }
-    ensures log_end { Daemon ℕ (List ℕ) → HasHitLogEnd }
+    ensures made { (d : Daemon ℕ (List ℕ)) → IsOf d.flusher.table.now d.flusher.seat → HasMadePayment d }
+    ensures log_end { (slots : ℕ) → Daemon ℕ (List ℕ) → HasHitLogEnd slots }
 {}
 
 /// A law: the summary of generated transfers is told by their number and seed, in whatever order they ran. The list of their

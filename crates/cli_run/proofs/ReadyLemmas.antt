@@ -26,6 +26,7 @@ use Rattle.segment_file.specs.declared.scan_result.Tail.{Tail}
 use Rattle.segment_file.specs.File.{HoldsUnits}
 use Rattle.segment_file.specs.Standing.{AllStand, IsShut, StandsAt}
 use Rattle.lock_core.specs.declared.job.Job.{Job}
+use Rattle.job_queue.specs.Passes.{jobs_of}
 use Rattle.cli_threads.specs.declared.transfers.Prepared.{Prepared}
 use Rattle.cli_shared.specs.Opening.{Opens, HasOpeningFault}
 use Rattle.cli_run.specs.RunAnswers.{AnswersRun, AreAsked, OnlyReads, OnlySettles, HoldsAsRead, accounts_of, next_txn, outside}
@@ -160,21 +161,20 @@ module _ {D : Type 0} (g : Ghosts D) (old mid : D) (opened : Recovered) (opens :
 
   module _ (options : RunOptions) (script : List Job) (prepared : Prepared) (is : IsPreparedFor options opened script prepared) where
     pub asked-prepared : (left left_new : Option (List ℕ)) → IsWholeScript (length opened.accounts.rows) left left_new script
-        → opened.next_txn + length script ≤ LAST_TXN → AreAsked options.workers records left left_new prepared.jobs
+        → opened.next_txn + length script ≤ LAST_TXN → AreAsked records left left_new (jobs_of prepared.jobs.queue)
     asked-prepared left left_new whole fits =
         let same : length opened.accounts.rows ≡ accounts_of records = opens.recovers.accounts.count in
-        let first : prepared.jobs.first ≡ next_txn records = is.first ∙ opens.recovers.next_txn in
+        let first : prepared.jobs.queue.first ≡ next_txn records = is.first ∙ opens.recovers.next_txn in
         record {
           script = subst (λ (jobs : List Job). IsWholeScript (accounts_of records) left left_new jobs) (sym is.script_is)
               (subst (λ n. IsWholeScript n left left_new script) same whole);
           first = first;
           numbered = omega (arith, is.first, ap length is.script_is, fits);
-          workers_are = is.workers_are;
         }
 
     pub opened-prepared : (new : D) (tail : Tail) → tail ≡ opened.tail
         → (g.honest old → AllStand opened.tail (units_of records) (g.images new)) → (g.honest old → IsShut opened.tail.at (g.images new))
-        → (g.honest new → g.honest old) → IsOpened g new tail records prepared.jobs.first (key_of prepared.table)
+        → (g.honest new → g.honest old) → IsOpened g new tail records prepared.jobs.queue.first (key_of prepared.table)
     opened-prepared new tail same stand shut honest = record {
       spellable = opens.recovers.held.list.each;
       lawful = opens.recovers.held.lawful;

@@ -21,7 +21,8 @@ use Rattle.log_recovery.specs.Text.{account_lines, accounts_text, lsn_line, rows
 use Rattle.log_recovery.proofs.TextLemmas.{AppendsPart-behind, AppendsPrefix-first, AppendsPrefix-behind, lsn_line-some}
 use Rattle.log_table.specs.Seats.{key_of}
 use Rattle.segment_file.specs.Lengths.{most_end}
-use Rattle.txn_jobs.specs.declared.jobs.Jobs.{Jobs}
+use Rattle.job_queue.specs.Passes.{jobs_of}
+use Rattle.txn_jobs.specs.Places.{NumberedJobs}
 use Rattle.commit_pipeline.specs.EndLines.{end_lines}
 use Rattle.end_lines.specs.declared.voice.Voice.TheVariants.{Lines}
 use Rattle.cli_shared.specs.Opening.{most_calls}
@@ -33,10 +34,11 @@ use Rattle.cli_ending.specs.Ending.{Concludes, closed_text}
 use Rattle.cli_threads.specs.Ending.{HasEnded}
 use Rattle.cli_threads.specs.Run.{GoesOn, HoldsRun, RunIsDrained}
 use Rattle.cli_threads.specs.RunStops.{StopsAtLogEnd}
+use Rattle.cli_threads.specs.Sharing.{IsSharedOut, Sharing}
 use Rattle.cli_run.specs.RunAnswers.{AnswersRun, HoldsTold, IsOfRun, Ran, RanOut, RanShort, RunStaysSilent, Outside, outside, run_text}
 use Rattle.cli_run.specs.RunReady.{IsBeforeRun, IsReadyFor}
 use Rattle.cli_run.proofs.ReadyLemmas.{keeps-refl}
-use Rattle.cli_threads.proofs.EndingLemmas.{by-conclusion, list, keeps-ended, whole-ended, drained-ended, stops-ended}
+use Rattle.cli_threads.proofs.EndingLemmas.{by-conclusion, list, sharing, keeps-ended, shared-ended, whole-ended, drained-ended, stops-ended}
 use Rattle.cli_threads.proofs.RunBegun.{images-begun}
 
 -- the accounts text begins with the end of the list
@@ -52,11 +54,15 @@ module _ {D : Type 0} {K : Type 0} (g : Ghosts D) (h : SinkGhosts K) (options : 
   abbrev opened : List Rec
   opened = is.opened
 
-  abbrev jobs : Jobs
-  jobs = ready.prepared.jobs
+  abbrev jobs : NumberedJobs
+  jobs = jobs_of ready.prepared.jobs.queue
 
   abbrev records : List Rec
   records = list g h ready.prepared opened Lines disk disk_new sink sink_mid ended has
+
+  -- which worker took which transfers
+  abbrev taken : Sharing
+  taken = sharing g h ready.prepared opened Lines disk disk_new sink sink_mid ended has
 
   abbrev old : Outside D
   old = outside entry left (h.held_bytes sink)
@@ -64,11 +70,11 @@ module _ {D : Type 0} {K : Type 0} (g : Ghosts D) (h : SinkGhosts K) (options : 
   abbrev new : Outside D
   new = outside disk_new left_new (h.held_bytes sink_new)
 
-  images-ran : Leaves g.moment g.images_since (λ bytes. g.images entry bytes ⊎ HoldsRun opened jobs records bytes) entry disk_new
-  images-ran = images-begun g disk ready.tail opened jobs _ is.log records (g.images entry) entry disk_new (is.images honest)
+  images-ran : Leaves g.moment g.images_since (λ bytes. g.images entry bytes ⊎ HoldsRun opened jobs taken records bytes) entry disk_new
+  images-ran = images-begun g disk ready.tail opened jobs taken _ is.log records (g.images entry) entry disk_new (is.images honest)
       ((keeps-ended g h ready.prepared opened Lines disk disk_new sink sink_mid ended has).moments honest_mid)
 
-  goes_on-ran : GoesOn opened jobs (opened ++ records)
+  goes_on-ran : GoesOn opened jobs taken (opened ++ records)
   goes_on-ran = (keeps-ended g h ready.prepared opened Lines disk disk_new sink sink_mid ended has).goes_on
 
   -- the file was settled first, and then grew as the transfers let it
@@ -80,7 +86,7 @@ module _ {D : Type 0} {K : Type 0} (g : Ghosts D) (h : SinkGhosts K) (options : 
       (GrowsAtMostTo-more g (ready.tail.at + 1) place entry disk (omega arith) (is.grows honest))
       (GrowsAtMostTo-more g (most_end ready.tail.at (end_of front) (key_of ready.prepared.table).ring) place disk disk_new (omega (arith, is.ring)) grows)
 
-  abbrev ran : (kept : (image : List ℕ) → g.images disk_new image → HoldsTold g opened jobs records old new image)
+  abbrev ran : (kept : (image : List ℕ) → g.images disk_new image → HoldsTold g opened jobs taken records old new image)
       → ((image : List ℕ) (left_image : g.images disk_new image)
       → GrowsAtMostTo g (most_end ready.tail.at (end_of (kept image left_image).run.front) (key_of ready.prepared.table).ring) disk disk_new)
       → Ran g options old new
@@ -91,6 +97,9 @@ module _ {D : Type 0} {K : Type 0} (g : Ghosts D) (h : SinkGhosts K) (options : 
     stands = is.stands honest;
     jobs = jobs;
     asked = is.asked;
+    sharing = taken;
+    shared = subst (λ n. IsSharedOut n jobs taken) is.workers_are
+        (shared-ended g h ready.prepared opened Lines disk disk_new sink sink_mid ended has);
     list = records;
     goes_on = goes_on-ran;
     images = images-ran;
@@ -136,7 +145,7 @@ module _ {D : Type 0} {K : Type 0} (g : Ghosts D) (h : SinkGhosts K) (options : 
   }
 
   module _ (fine : ended.fault ≡ None) where
-    drained : RunIsDrained g Lines opened jobs records ready.tail.at (key_of ready.prepared.table).ring disk disk_new (h.held_bytes sink)
+    drained : RunIsDrained g Lines opened records ready.tail.at (key_of ready.prepared.table).ring disk disk_new (h.held_bytes sink)
         (h.held_bytes sink_mid) ended.closed.tail ended.closed.accounts.rows
     drained = drained-ended g h ready.prepared opened Lines disk disk_new sink sink_mid ended has fine
 
@@ -198,7 +207,7 @@ module _ {D : Type 0} {K : Type 0} (g : Ghosts D) (h : SinkGhosts K) (options : 
       })
       (λ tail total said. let text = told-lines said.0.0 said.1 in record {
         out = out said.0.0 (end_lines (end_of opened) records, accounts_text (opened ++ records), refl, text);
-        stops = subst (λ (made : ℕ × ℕ). StopsAtLogEnd opened jobs records made.0 made.1 tail total) (λ i. (is.ring i, is.slots i))
+        stops = subst (λ (made : ℕ × ℕ). StopsAtLogEnd opened jobs taken records made.0 made.1 tail total) (λ i. (is.ring i, is.slots i))
             (stops-ended g h ready.prepared opened Lines disk disk_new sink sink_mid ended has said.0.0 tail total said.0.1);
         text = text;
       })

@@ -20,12 +20,13 @@ use Rattle.log_recovery.specs.declared.recovery.RecoverFault.TheVariants as faul
 use Rattle.log_recovery.specs.Recovery.{HoldsLawful, IsFaultOf}
 use Rattle.log_recovery.specs.Text.{accounts_text}
 use Rattle.commit_pipeline.specs.EndLines.{end_lines}
-use Rattle.txn_jobs.specs.declared.jobs.Jobs.{Jobs}
+use Rattle.txn_jobs.specs.Places.{NumberedJobs}
 use Rattle.lock_core.specs.declared.job.Job.{Job}
 use Rattle.cli_shared.specs.declared.report.Detail.{Detail}
 use Rattle.cli_shared.specs.declared.report.Detail.TheVariants.{Fine, NoMemory, Usage, Script, Read, Write, Disk, NotALog, BadBatch, BadRec, Unlawful, LogEnd, TxnEnd, Exists}
 use Rattle.cli_threads.specs.Run.{HoldsRun, GoesOn, RunsWhole}
 use Rattle.cli_threads.specs.RunStops.{StopsAtLogEnd}
+use Rattle.cli_threads.specs.Sharing.{Sharing, IsSharedOut}
 use Rattle.cli_shared.specs.Scripts.{IsWholeScript, HasNoScript}
 use Rattle.cli_shared.specs.Opening.{OnlyLooks, most_calls}
 
@@ -71,37 +72,38 @@ pub record OnlySettles {D : Type 0} (g : Ghosts D) (old new : Outside D) : Type 
   pub count : Costs g 3 (most_calls g old.disk + 3) old.disk new.disk
   pub grows : GrowsByGate g old.disk new.disk
 
--- the transfers of the whole input, under the numbers from the first on that the opened list leaves, dealt out to so many workers
-pub record AreAsked (workers : ℕ) (opened : List Rec) (left left_new : Option (List ℕ)) (jobs : Jobs) : Type 0 where
+-- the transfers of the whole input, under the numbers from the first on that the opened list leaves
+pub record AreAsked (opened : List Rec) (left left_new : Option (List ℕ)) (jobs : NumberedJobs) : Type 0 where
   pub script : IsWholeScript (accounts_of opened) left left_new jobs.script
   pub first : jobs.first ≡ next_txn opened
   pub numbered : jobs.first + length jobs.script ≤ LAST_TXN
-  pub workers_are : jobs.workers ≡ workers
 
--- The image holds the opened list and a front of what the run inserted. What was written is a prefix of the text of the image's list, so each
--- commit that was told is in it. At most 4 writes and syncs succeeded for each record of the front, and 7 more, and of calls at most as many beside
--- those that the opening took.
-pub record HoldsTold {D : Type 0} (g : Ghosts D) (opened : List Rec) (jobs : Jobs) (list : List Rec) (old new : Outside D) (image : List ℕ)
-    : Type 0 where
-  pub run : HoldsRun opened jobs list image
+-- The image holds the opened list and a front of what the run inserted. What was written is a prefix of the text of the image's list, so
+-- each commit that was told is in it. At most 4 writes and syncs succeeded for each record of the front, and 7 more, and of calls at most as
+-- many beside those that the opening took.
+pub record HoldsTold {D : Type 0} (g : Ghosts D) (opened : List Rec) (jobs : NumberedJobs) (sharing : Sharing) (list : List Rec)
+    (old new : Outside D) (image : List ℕ) : Type 0 where
+  pub run : HoldsRun opened jobs sharing list image
   pub told : AppendsPrefix old.text new.text (run_text opened run.front)
   pub count : Costs g (4 * length run.front + 7) (most_calls g old.disk + 4 * length run.front + 7) old.disk new.disk
 
--- Transfers were begun. Each image of a moment is one of before, or holds the list that was opened and a front of one and the same list, which
--- goes on from it as the script says; so of two of the latter the one is a prefix of the other. At the exit the file is no longer than before, or
--- ends at most so far behind the tail of the list that was opened: 13 bytes for each unit of the front that an image holds, and one batch in flight,
--- of 6 bytes and 8 for each unit of the ring.
+-- Transfers were begun: a front of the script was shared out among the workers. Each image of a moment is one of before, or holds the list
+-- that was opened and a front of one and the same list, which goes on from it as the script says; so of two of the latter the one is a
+-- prefix of the other. At the exit the file is no longer than before, or ends at most so far behind the tail of the list that was opened:
+-- 13 bytes for each unit of the front that an image holds, and one batch in flight, of 6 bytes and 8 for each unit of the ring.
 pub record Ran {D : Type 0} (g : Ghosts D) (options : RunOptions) (old new : Outside D) : Type 0 where
   pub opened : List Rec
   pub held : HoldsLawful (g.reads old.disk) opened
   pub tail : Tail
   pub stands : StandsAt tail (units_of opened) (g.reads old.disk)
-  pub jobs : Jobs
-  pub asked : AreAsked options.workers opened old.left new.left jobs
+  pub jobs : NumberedJobs
+  pub asked : AreAsked opened old.left new.left jobs
+  pub sharing : Sharing
+  pub shared : IsSharedOut options.workers jobs sharing
   pub list : List Rec
-  pub goes_on : GoesOn opened jobs (opened ++ list)
-  pub images : Leaves g.moment g.images_since (λ bytes. g.images old.disk bytes ⊎ HoldsRun opened jobs list bytes) old.disk new.disk
-  pub kept : (image : List ℕ) → g.images new.disk image → HoldsTold g opened jobs list old new image
+  pub goes_on : GoesOn opened jobs sharing (opened ++ list)
+  pub images : Leaves g.moment g.images_since (λ bytes. g.images old.disk bytes ⊎ HoldsRun opened jobs sharing list bytes) old.disk new.disk
+  pub kept : (image : List ℕ) → g.images new.disk image → HoldsTold g opened jobs sharing list old new image
   pub grows : (image : List ℕ) (left : g.images new.disk image)
       → GrowsAtMostTo g (most_end tail.at (end_of (kept image left).run.front) options.ring) old.disk new.disk
 
@@ -125,7 +127,7 @@ pub record RanWhole {D : Type 0} (g : Ghosts D) (options : RunOptions) (old new 
 -- a record, alone or in a group, did not fit in the log, and the lines of all end records were written
 pub record RanIntoEnd {D : Type 0} (g : Ghosts D) (options : RunOptions) (tail total : ℕ) (old new : Outside D) : Type 0 where
   pub out : RanOut g options old new
-  pub stops : StopsAtLogEnd out.ran.opened out.ran.jobs out.ran.list options.ring options.slots tail total
+  pub stops : StopsAtLogEnd out.ran.opened out.ran.jobs out.ran.sharing out.ran.list options.ring options.slots tail total
   pub text : Appends old.text new.text (end_lines (end_of out.ran.opened) out.ran.list)
 
 -- the whole input is a script, but the number that would follow those of its transfers is above the last transaction number

@@ -16,31 +16,34 @@ use Rattle.lock_core.specs.declared.job.Job.{Job}
 use Rattle.cli_shared.specs.Opening.{most_calls}
 use Rattle.cli_shared.specs.declared.report.Detail.{Detail}
 use Rattle.cli_shared.specs.declared.report.Detail.TheVariants.{Fine, Usage, Write, LogEnd, Exists}
+use Rattle.job_queue.specs.Passes.{jobs_of, workers_of}
 use Rattle.cli_threads.specs.declared.transfers.ReadyRun.{ReadyRun}
 use Rattle.cli_threads.specs.declared.transfers.Prepared.{Prepared}
 use Rattle.cli_threads.specs.Prepared.{IsPrepared}
 use Rattle.cli_run.specs.RunAnswers.{AnswersRun, AreAsked, outside}
 use Rattle.cli_threads.specs.Transferred.{IsOpened}
 
--- the table starts where the opened log ends, with its accounts, a ring and slots as was asked, and these are the transfers, for the workers asked
+-- the table starts where the opened log ends, with its accounts, a ring and slots as was asked, and these are the transfers, for as many
+-- workers as were asked for
 pub record IsPreparedFor (options : RunOptions) (opened : Recovered) (script : List Job) (prepared : Prepared) : Type 0 where
   pub start : (key_of prepared.table).start ≡ opened.lsn
   pub accounts : (key_of prepared.table).accounts ≡ opened.accounts
   pub ring : (key_of prepared.table).ring ≡ options.ring
   pub slots : (key_of prepared.table).slots ≡ options.slots
-  pub script_is : prepared.jobs.script ≡ script
-  pub first : prepared.jobs.first ≡ opened.next_txn
-  pub workers_are : prepared.jobs.workers ≡ options.workers
+  pub script_is : prepared.jobs.queue.script ≡ script
+  pub first : prepared.jobs.queue.first ≡ opened.next_txn
+  pub workers_are : workers_of prepared.jobs ≡ options.workers
   pub ready : IsPrepared prepared
 
--- The transfers that are asked are ready to be made over the log that was opened. Each image of a moment is one of before or holds its list. The file
--- that a read gave goes on at the tail, and grew by no more than the gate there.
+-- The transfers that are asked are ready to be made over the log that was opened. Each image of a moment is one of before or holds its
+-- list. The file that a read gave goes on at the tail, and grew by no more than the gate there.
 pub record IsReadyFor {D : Type 0} (g : Ghosts D) (options : RunOptions) (old new : D) (left left_new : Option (List ℕ)) (ready : ReadyRun)
     : Type 0 where
   pub opened : List Rec
   pub held : g.honest old → HoldsLawful (g.reads old) opened
-  pub log : IsOpened g new ready.tail opened ready.prepared.jobs.first (key_of ready.prepared.table)
-  pub asked : AreAsked options.workers opened left left_new ready.prepared.jobs
+  pub log : IsOpened g new ready.tail opened ready.prepared.jobs.queue.first (key_of ready.prepared.table)
+  pub asked : AreAsked opened left left_new (jobs_of ready.prepared.jobs.queue)
+  pub workers_are : workers_of ready.prepared.jobs ≡ options.workers
   pub ring : (key_of ready.prepared.table).ring ≡ options.ring
   pub slots : (key_of ready.prepared.table).slots ≡ options.slots
   pub prepared : IsPrepared ready.prepared

@@ -76,8 +76,10 @@ fn finish<R: Threads + Wait + Clock + Sync, D: LogDisk, K: Sink, G: Gate + Sync>
     gate: &G,
 ) -> Detail
     requires prepared { IsPrepared ready.prepared }
-    requires opened { (opened : List Rec) × IsOpened D.LogDisk disk.old ready.tail opened ready.prepared.jobs.first (key_of ready.prepared.table) }
-    ensures { (opened : List Rec) → IsOpened D.LogDisk disk.old ready.tail opened ready.prepared.jobs.first (key_of ready.prepared.table)
+    requires opened { (opened : List Rec)
+        × IsOpened D.LogDisk disk.old ready.tail opened ready.prepared.jobs.queue.first (key_of ready.prepared.table) }
+    ensures { (opened : List Rec)
+        → IsOpened D.LogDisk disk.old ready.tail opened ready.prepared.jobs.queue.first (key_of ready.prepared.table)
         → HasFinished D.LogDisk K.Sink ready.prepared opened ready.tail options.now.wait disk.old disk.new out.old out.new result }
 {
     let ReadyRun { prepared, tail } = ready;
@@ -87,7 +89,7 @@ fn finish<R: Threads + Wait + Clock + Sync, D: LogDisk, K: Sink, G: Gate + Sync>
 }
 
 /// Opens the log, reads the script, and asks for all memory. Nothing is written to the disk before all of it is there.
-fn make_ready<R, D: LogDisk, S: Source>(
+fn make_ready<R: Wait, D: LogDisk, S: Source>(
     rt: &R,
     alloc: Global,
     log: &Word,
@@ -116,7 +118,7 @@ fn make_ready<R, D: LogDisk, S: Source>(
 }
 
 /// Asks for the memory of a run that goes on from the opened log.
-fn prepare_run<R>(
+fn prepare_run<R: Wait>(
     rt: &R,
     alloc: Global,
     opened: Recovered,

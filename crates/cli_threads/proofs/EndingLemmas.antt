@@ -37,10 +37,13 @@ use Rattle.cli_threads.specs.declared.transfers.Prepared.{Prepared}
 use Rattle.cli_threads.specs.Ending.{HasEnded}
 use Rattle.cli_threads.specs.Run.{RunKeepsLog, RunIsDrained, RunsWhole}
 use Rattle.cli_threads.specs.RunStops.{StopsAtLogEnd}
-use Rattle.cli_threads.specs.Shares.{Share}
+use Rattle.job_queue.specs.Passes.{jobs_of, workers_of}
+use Rattle.txn_jobs.specs.Places.{NumberedJobs}
+use Rattle.cli_threads.specs.Shares.{Share, sharing_of}
+use Rattle.cli_threads.specs.Sharing.{IsSharedOut, Sharing}
 use Rattle.cli_threads.proofs.RunLemmas.{sends, serial, kept, whole_after, tally-all, keeps, drained, whole, stops-at-end, never-stops, reason, same}
 use Rattle.cli_threads.proofs.RunHistory.{later_of}
-use Rattle.cli_threads.proofs.RunStripes.{tasks_of}
+use Rattle.cli_threads.proofs.RunPlaces.{tasks_of}
 
 abbrev work_of : Share → Worked
 work_of share = share.worked
@@ -97,38 +100,48 @@ module _ {D : Type 0} {K : Type 0} (g : Ghosts D) (h : SinkGhosts K) (prepared :
   abbrev pub list : List Rec
   list = records_of has.view.entries
 
-  pub keeps-ended : RunKeepsLog g voice opened prepared.jobs list tail.at (key_of prepared.table).ring disk disk_new (h.held_bytes sink)
+  abbrev jobs : NumberedJobs
+  jobs = jobs_of prepared.jobs.queue
+
+  -- which worker took which transfers
+  abbrev pub sharing : Sharing
+  sharing = sharing_of has.front has.shares
+
+  pub shared-ended : IsSharedOut (workers_of prepared.jobs) jobs sharing
+  shared-ended = subst (λ n. IsSharedOut n jobs sharing) has.count has.transferred.workers.sharing
+
+  pub keeps-ended : RunKeepsLog g voice opened jobs sharing list tail.at (key_of prepared.table).ring disk disk_new (h.held_bytes sink)
       (h.held_bytes sink_new)
   keeps-ended = rw (← has.speaks, ← has.tail_is, ← has.disk_old, ← has.disk_is, ← has.sink_old, ← has.sink_is)
-      (keeps g h opened prepared.jobs has.shares (key_of prepared.table) has.first has.last has.view ended.closed.tail
+      (keeps g h opened jobs has.front has.shares (key_of prepared.table) has.first has.last has.view ended.closed.tail
       ended.closed.accounts.rows has.transferred)
 
-  pub whole-ended : AreWhole ended.ends.items → RunsWhole opened prepared.jobs list
-  whole-ended all = whole g h opened prepared.jobs has.shares (key_of prepared.table) has.first has.last has.view ended.closed.tail
+  pub whole-ended : AreWhole ended.ends.items → RunsWhole opened jobs list
+  whole-ended all = whole g h opened jobs has.front has.shares (key_of prepared.table) has.first has.last has.view ended.closed.tail
       ended.closed.accounts.rows has.transferred (all-whole has.shares (subst AreWhole (sym has.ends) all))
 
   -- what was written of the transfers, whatever befell the daemon
   pub told-ended : (more : List Rec) × AppendsPrefix (h.held_bytes sink) (h.held_bytes sink_new) (text_of voice (end_of opened) more)
   told-ended =
-      let sent = sends g h opened prepared.jobs has.shares (key_of prepared.table) has.first has.last has.view ended.closed.tail
+      let sent = sends g h opened jobs has.front has.shares (key_of prepared.table) has.first has.last has.view ended.closed.tail
       ended.closed.accounts.rows has.transferred in
       (sent.more, rw (← has.speaks, ← has.sink_old, ← has.sink_is) sent.text)
 
-  pub serial-ended : IsPartlySerialAfter (base_state_of (history opened)) (tasks_of prepared.jobs) (later_of opened list)
-  serial-ended = serial g h opened prepared.jobs has.shares (key_of prepared.table) has.first has.last has.view ended.closed.tail
+  pub serial-ended : IsPartlySerialAfter (base_state_of (history opened)) (tasks_of jobs) (later_of opened list)
+  serial-ended = serial g h opened jobs has.front has.shares (key_of prepared.table) has.first has.last has.view ended.closed.tail
       ended.closed.accounts.rows has.transferred
 
   pub kept-ended : KeepsRows ended.closed.accounts.rows (base_state_of (history opened)) (later_of opened list)
-  kept-ended = kept g h opened prepared.jobs has.shares (key_of prepared.table) has.first has.last has.view ended.closed.tail
+  kept-ended = kept g h opened jobs has.front has.shares (key_of prepared.table) has.first has.last has.view ended.closed.tail
       ended.closed.accounts.rows has.transferred
 
-  pub whole_after-ended : AreWhole ended.ends.items → IsSerialAfter (base_state_of (history opened)) (tasks_of prepared.jobs) (later_of opened list)
-  whole_after-ended all = whole_after g h opened prepared.jobs has.shares (key_of prepared.table) has.first has.last has.view ended.closed.tail
+  pub whole_after-ended : AreWhole ended.ends.items → IsSerialAfter (base_state_of (history opened)) (tasks_of jobs) (later_of opened list)
+  whole_after-ended all = whole_after g h opened jobs has.front has.shares (key_of prepared.table) has.first has.last has.view ended.closed.tail
       ended.closed.accounts.rows has.transferred (all-whole has.shares (subst AreWhole (sym has.ends) all))
 
   -- what befell the daemon, and what was counted then
   reason-ended : HasReason g h has.first has.last
-  reason-ended = reason g h opened prepared.jobs has.shares (key_of prepared.table) has.first has.last has.view ended.closed.tail
+  reason-ended = reason g h opened jobs has.front has.shares (key_of prepared.table) has.first has.last has.view ended.closed.tail
       ended.closed.accounts.rows has.transferred
 
   disk-ended : CountsWhere (ended.fault ≡ Some DiskFault) (g.faults disk) (g.faults disk_new)
@@ -142,25 +155,25 @@ module _ {D : Type 0} {K : Type 0} (g : Ghosts D) (h : SinkGhosts K) (prepared :
 
   -- the disk is as honest as it was
   pub honest-ended : g.honest disk ↔ g.honest disk_new
-  honest-ended = rw (← has.disk_old, ← has.disk_is) (same g h opened prepared.jobs has.shares (key_of prepared.table) has.first has.last
+  honest-ended = rw (← has.disk_old, ← has.disk_is) (same g h opened jobs has.front has.shares (key_of prepared.table) has.first has.last
       has.view ended.closed.tail ended.closed.accounts.rows has.transferred).flusher.honest
 
   -- and has the same file attached
   pub attached-ended : g.attached disk_new ≡ g.attached disk
-  attached-ended = rw (← has.disk_old, ← has.disk_is) (same g h opened prepared.jobs has.shares (key_of prepared.table) has.first has.last
+  attached-ended = rw (← has.disk_old, ← has.disk_is) (same g h opened jobs has.front has.shares (key_of prepared.table) has.first has.last
       has.view ended.closed.tail ended.closed.accounts.rows has.transferred).flusher.attached
 
   module _ (fine : ended.fault ≡ None) where
-    pub drained-ended : RunIsDrained g voice opened prepared.jobs list tail.at (key_of prepared.table).ring disk disk_new (h.held_bytes sink)
+    pub drained-ended : RunIsDrained g voice opened list tail.at (key_of prepared.table).ring disk disk_new (h.held_bytes sink)
         (h.held_bytes sink_new) ended.closed.tail ended.closed.accounts.rows
     drained-ended = rw (← has.speaks, ← has.tail_is, ← has.disk_old, ← has.disk_is, ← has.sink_old, ← has.sink_is)
-        (drained g h opened prepared.jobs has.shares (key_of prepared.table) has.first has.last has.view ended.closed.tail
+        (drained g h opened jobs has.front has.shares (key_of prepared.table) has.first has.last has.view ended.closed.tail
         ended.closed.accounts.rows has.transferred (has.fault ∙ fine))
 
     -- each end record was counted
     pub counted-ended : (ended.done ≡ done_in list) × (ended.refused ≡ refused_in list)
     counted-ended =
-        let all = tally-all g h opened prepared.jobs has.shares (key_of prepared.table) has.first has.last has.view ended.closed.tail
+        let all = tally-all g h opened jobs has.front has.shares (key_of prepared.table) has.first has.last has.view ended.closed.tail
         ended.closed.accounts.rows has.transferred (has.fault ∙ fine) in
         let done = ap (λ (t : Tally). t.done) all in
         let refused = ap (λ (t : Tally). t.refused) all in
@@ -173,12 +186,12 @@ module _ {D : Type 0} {K : Type 0} (g : Ghosts D) (h : SinkGhosts K) (prepared :
         each k other below word at =
             let found = share-at has.shares k other (omega (arith, below, length-map has.shares work_of)) in
             let stopped : found.0.worked ≡ worked.Cut (cause.Stop word) = sym found.2 ∙ at in
-            never-stops g h opened prepared.jobs has.shares (key_of prepared.table) has.first has.last has.view ended.closed.tail
+            never-stops g h opened jobs has.front has.shares (key_of prepared.table) has.first has.last has.view ended.closed.tail
             ended.closed.accounts.rows has.transferred (has.fault ∙ fine) k found.0.taken word
             (found.1 ∙ (λ i. some (record { taken = found.0.taken; worked = stopped i })))
 
     pub stops-ended : (tail total : ℕ) → IsFirstLogEnd ended.ends.items tail total
-        → StopsAtLogEnd opened prepared.jobs list (key_of prepared.table).ring (key_of prepared.table).slots tail total
+        → StopsAtLogEnd opened jobs sharing list (key_of prepared.table).ring (key_of prepared.table).slots tail total
     stops-ended tail total first =
         let ends = has.ends ∙ first.whole in
         let counted = ap length ends in
@@ -186,7 +199,7 @@ module _ {D : Type 0} {K : Type 0} (g : Ghosts D) (h : SinkGhosts K) (prepared :
         (omega (arith, counted, length-map has.shares work_of, length-behind first.below first.above (worked.Cut (cause.LogEnd tail total)))) in
         let stopped : found.0.worked ≡ worked.Cut (cause.LogEnd tail total) =
         sym found.2 ∙ ap (λ list. get_or list (length first.below) worked.All) ends ∙ get_or-behind first.below first.above _ worked.All in
-        stops-at-end g h opened prepared.jobs has.shares (key_of prepared.table) has.first has.last has.view ended.closed.tail
+        stops-at-end g h opened jobs has.front has.shares (key_of prepared.table) has.first has.last has.view ended.closed.tail
         ended.closed.accounts.rows has.transferred (has.fault ∙ fine) (length first.below) found.0.taken tail total
         (found.1 ∙ (λ i. some (record { taken = found.0.taken; worked = stopped i })))
 

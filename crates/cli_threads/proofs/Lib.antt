@@ -1,7 +1,8 @@
-pub mod CameAlong
+pub mod CutPlaces
 pub mod EndingLemmas
 pub mod GatheredShares
 pub mod MergedEntries
+pub mod PlaceTimes
 pub mod RunBalances
 pub mod RunBegun
 pub mod RunEnds
@@ -9,10 +10,10 @@ pub mod RunHistory
 pub mod RunImages
 pub mod RunLedger
 pub mod RunLemmas
+pub mod RunPlaces
 pub mod RunRecords
-pub mod RunStripes
 pub mod RunTurns
 pub mod ServedLemmas
-pub mod StripePlaces
+pub mod TakenPlaces
 pub mod TransferredLemmas
 pub mod WaitedLemmas

@@ -1,5 +1,5 @@
 -- A run that was begun over the opened list: at first an image holds that list alone.
-use Rattle.std.proofs.Common.{◌⊎◌, ⊎_elim, inl, inr, refl, sym, subst, arith, ℕ, ◌+◌, List, [], ◌∷◌, ◌++◌}
+use Rattle.std.proofs.Common.{◌≡◌, ◌⊎◌, ⊎_elim, inl, inr, refl, sym, subst, arith, ℕ, ◌+◌, List, [], ◌∷◌, ◌++◌}
 use Rattle.std.proofs.lemmas.List.{append-nil}
 use Rattle.std.specs.List.{AllByRecursion}
 use Rattle.log_disk.specs.Disk.{Leaves}
@@ -12,11 +12,13 @@ use Rattle.log_rule.specs.declared.start.Start.{Start}
 use Rattle.lock_core.specs.Alone.{PlainTransfer, with_note, leg_updates}
 use Rattle.lock_core.specs.Serial.{numbered, IsRunWhole, IsCutShort}
 use Rattle.lock_core.specs.Sums.{BaseState}
+use Rattle.lock_core.specs.History.{history}
+use Rattle.lock_core.specs.Transactions.{own_records_of}
 use Rattle.segment_file.specs.declared.scan_result.Tail.{Tail}
-use Rattle.txn_jobs.specs.declared.jobs.Jobs.{Jobs}
 use Rattle.cli_threads.specs.Run.{HoldsRun, GoesOn, transfers_of}
+use Rattle.cli_threads.specs.Sharing.{Sharing}
 use Rattle.cli_threads.specs.Transferred.{IsOpened}
-use Rattle.txn_runner.specs.Places.{number_at, place_of}
+use Rattle.txn_runner.specs.Places.{NumberedJobs, number_at}
 use Rattle.cli_threads.proofs.RunHistory.{history-own}
 use Rattle.cli_threads.proofs.RunLedger.{goes-on}
 
@@ -27,16 +29,18 @@ partly-none base first [] = tt
 partly-none base first (job ∷ jobs) =
     (inr (record { rest = with_note first job.note (leg_updates first job.legs); front = refl }), partly-none base (first + 1) jobs)
 
-module _ {D : Type 0} (g : Ghosts D) (disk : D) (tail : Tail) (opened : List Rec) (jobs : Jobs) (key : Start)
+module _ {D : Type 0} (g : Ghosts D) (disk : D) (tail : Tail) (opened : List Rec) (jobs : NumberedJobs) (sharing : Sharing) (key : Start)
     (is : IsOpened g disk tail opened jobs.first key) (records : List Rec) where
-  nothing-goes_on : GoesOn opened jobs (opened ++ [])
+  nothing-there : (place : ℕ) → own_records_of (number_at jobs place) (history (opened ++ [])) ≡ []
+  nothing-there place = history-own opened [] (number_at jobs place) (omega (arith, is.below))
+
+  nothing-goes_on : GoesOn opened jobs sharing (opened ++ [])
   nothing-goes_on = goes-on opened [] jobs is.lawful is.some_accounts is.below
       (subst (AllByRecursion IsSpellable) (sym (append-nil opened)) is.spellable) tt
       (record { each = partly-none _ jobs.first (transfers_of jobs); others = λ txn apart. refl })
-      (λ worker i j small less recorded. absurd (recorded (history-own opened [] (number_at jobs (place_of jobs worker j))
-      (omega (arith, is.below)))))
+      sharing (λ places i j one first second less recorded. absurd (recorded (nothing-there j))) (λ place behind. nothing-there place)
 
-  holds-nothing : (bytes : List ℕ) → HoldsLawful bytes opened → HoldsRun opened jobs records bytes
+  holds-nothing : (bytes : List ℕ) → HoldsLawful bytes opened → HoldsRun opened jobs sharing records bytes
   holds-nothing bytes held = record {
     front = [];
     rest = records;
@@ -48,12 +52,12 @@ module _ {D : Type 0} (g : Ghosts D) (disk : D) (tail : Tail) (opened : List Rec
   -- the images of all moments, those before the run and those of it
   pub images-begun : (Before : List ℕ → Type 0) (entry new : D)
       → Leaves g.moment g.images_since (λ bytes. Before bytes ⊎ HoldsLawful bytes opened) entry disk
-      → Leaves g.moment g.images_since (HoldsRun opened jobs records) disk new
-      → Leaves g.moment g.images_since (λ bytes. Before bytes ⊎ HoldsRun opened jobs records bytes) entry new
+      → Leaves g.moment g.images_since (HoldsRun opened jobs sharing records) disk new
+      → Leaves g.moment g.images_since (λ bytes. Before bytes ⊎ HoldsRun opened jobs sharing records bytes) entry new
   images-begun Before entry new first then =
-      Leaves-trans g.moment g.images_since (λ bytes. Before bytes ⊎ HoldsRun opened jobs records bytes) entry disk new
+      Leaves-trans g.moment g.images_since (λ bytes. Before bytes ⊎ HoldsRun opened jobs sharing records bytes) entry disk new
       (Leaves-weaken g.moment g.images_since (λ bytes. Before bytes ⊎ HoldsLawful bytes opened)
-      (λ bytes. Before bytes ⊎ HoldsRun opened jobs records bytes) entry disk
+      (λ bytes. Before bytes ⊎ HoldsRun opened jobs sharing records bytes) entry disk
       (λ bytes. ⊎_elim (λ before. inl before) (λ held. inr (holds-nothing bytes held))) first)
-      (Leaves-weaken g.moment g.images_since (HoldsRun opened jobs records) (λ bytes. Before bytes ⊎ HoldsRun opened jobs records bytes)
-      disk new (λ bytes held. inr held) then)
+      (Leaves-weaken g.moment g.images_since (HoldsRun opened jobs sharing records)
+      (λ bytes. Before bytes ⊎ HoldsRun opened jobs sharing records bytes) disk new (λ bytes held. inr held) then)

@@ -1,12 +1,12 @@
 -- The history of a list that goes on from the opened one.
-use Rattle.std.proofs.Common.{◌≡◌, ◌≢◌, ◌<◌, ◌≤◌, ℕ, List, [], ◌∷◌, ◌++◌, length, refl, ap, sym, ◌∙◌, arith, drop, length-append}
+use Rattle.std.proofs.Common.{◌≡◌, ◌≢◌, ◌<◌, ◌≤◌, ℕ, ◌+◌, List, [], ◌∷◌, ◌++◌, length, refl, ap, sym, ◌∙◌, arith, drop, length-append}
 use Rattle.std.proofs.Math.Seq.{drop-append_seam}
 use Rattle.std.specs.List.{AllByRecursion}
 use mathlib.Core.Logic.{dite}
 use native.Mathlib.Decide.{dec_lt}
 use Rattle.log_record.specs.declared.rec.Rec.{Rec}
 use Rattle.log_record.specs.declared.rec.Placed.{Placed}
-use Rattle.log_record.specs.LogList.{end_of}
+use Rattle.log_record.specs.LogList.{units_of, end_of}
 use Rattle.log_record.specs.Spelling.{IsSpellable}
 use Rattle.lock_core.specs.Records.{txn_of}
 use Rattle.lock_core.specs.Sums.{greatest_txn}
@@ -15,11 +15,14 @@ use Rattle.lock_core.proofs.Apart.{own_records_of-left, of_transaction-none, bel
 use Rattle.lock_core.proofs.OneMore.{of_transaction-other}
 use Rattle.lock_core.specs.History.{end_from, entry_at, history_from, history}
 use Rattle.lock_core.proofs.Fronts.{history_from-append, history_from-onto, history_from-apart}
-use Rattle.log_recovery.proofs.ListingLemmas.{end_from-history}
+use Rattle.log_recovery.proofs.ListingLemmas.{end_from-history, units_of-append}
 
 -- what follows the opened list
 abbrev pub later_of : List Rec → List Rec → List Placed
 later_of opened records = history_from (end_of opened) [] records
+
+pub end_of-append : (xs ys : List Rec) → end_of (xs ++ ys) ≡ end_of xs + end_of ys
+end_of-append xs ys = ap length (units_of-append xs ys) ∙ length-append (units_of xs) (units_of ys)
 
 pub end-opened : (opened : List Rec) → end_from 0 (history opened) ≡ end_of opened
 end-opened opened = end_from-history 0 [] opened ∙ omega arith
@@ -36,7 +39,8 @@ history-own opened records n below = ap (own_records_of n) (history-later opened
     ∙ own_records_of-left n (later_of opened records) (history opened)
     (of_transaction-none n (history opened) (other (history opened) (below-greatest (history opened) n below)))
   where
-    other : (h : List Placed) → AllByRecursion (λ (entry : Placed). txn_of entry.rec < n) h → AllByRecursion (λ (entry : Placed). n ≢ txn_of entry.rec) h
+    other : (h : List Placed) → AllByRecursion (λ (entry : Placed). txn_of entry.rec < n) h
+        → AllByRecursion (λ (entry : Placed). n ≢ txn_of entry.rec) h
     other [] all = tt
     other (entry ∷ h) all = (λ same. let low = all.0 in omega arith, other h all.1)
 
@@ -45,7 +49,8 @@ pub history-others : (n start : ℕ) (h : List Placed) (records : List Rec) → 
     → of_transaction n h ≡ [] → of_transaction n (history_from start h records) ≡ []
 history-others n start h [] others none = none
 history-others n start h (rec ∷ records) others none =
-    history-others n start (entry_at (end_from start h) rec ∷ h) records others.1 (of_transaction-other n (entry_at (end_from start h) rec) h others.0 ∙ none)
+    history-others n start (entry_at (end_from start h) rec ∷ h) records others.1
+    (of_transaction-other n (entry_at (end_from start h) rec) h others.0 ∙ none)
 
 -- more records stand before
 pub later-append : (opened front rest : List Rec) → (more : List Placed) × (later_of opened (front ++ rest) ≡ more ++ later_of opened front)
@@ -58,12 +63,13 @@ later-append opened front rest = (
 pub spellable-history : (start : ℕ) (h : List Placed) (records : List Rec) → AllByRecursion (λ (entry : Placed). IsSpellable entry.rec) h
     → AllByRecursion IsSpellable records → AllByRecursion (λ (entry : Placed). IsSpellable entry.rec) (history_from start h records)
 spellable-history start h [] all each = all
-spellable-history start h (rec ∷ records) all each = spellable-history start (entry_at (end_from start h) rec ∷ h) records (each.0, all) each.1
+spellable-history start h (rec ∷ records) all each =
+    spellable-history start (entry_at (end_from start h) rec ∷ h) records (each.0, all) each.1
 
 -- ends of one list of the same length are the same
 end-same : {A : Type 0} (xs ys a b : List A) → xs ++ a ≡ ys ++ b → length a ≡ length b → a ≡ b
 end-same xs ys a b whole long =
-    let count : length xs ≡ length ys = let one = length-append xs a in let two = length-append ys b in let both = ap length whole in omega arith in
+    let count : length xs ≡ length ys = omega (arith, long, ap length whole, length-append xs a, length-append ys b) in
     sym (drop-append_seam xs a) ∙ (λ i. drop (count i) (whole i)) ∙ drop-append_seam ys b
 
 -- a front of a history is the history of a front of its records
@@ -74,7 +80,8 @@ history-front start records later front whole = onto [] records (omega arith) wh
     IsFrontOf : List Placed → List Rec → Type 0
     IsFrontOf h records = (before rest : List Rec) × (records ≡ before ++ rest) × (front ≡ history_from start h before)
 
-    onto : (h : List Placed) (records : List Rec) → length h ≤ length front → history_from start h records ≡ later ++ front → IsFrontOf h records
+    onto : (h : List Placed) (records : List Rec) → length h ≤ length front → history_from start h records ≡ later ++ front
+        → IsFrontOf h records
     onto h [] short whole =
         let long = length-append later front in let both = ap length whole in
         ([], [], refl, end-same later [] front h (sym whole) (omega arith))

@@ -39,10 +39,10 @@ HoldsBoth opened records bytes = HoldsUnits bytes (units_of (opened ++ records))
 abbrev pub HoldsSome : List Rec → List Rec → List ℕ → Type 0
 HoldsSome opened list bytes = (front rest : List Rec) × (list ≡ front ++ rest) × HoldsBoth opened front bytes
 
--- What turns do with the records of a run, from the tail at this place on and with a ring of this length: they sent the first of them, and may have
--- written some more. Of the first, a front of the lines was written.
-pub record RunSends {D : Type 0} (g : Ghosts D) (voice : Voice) (opened list : List Rec) (at ring : ℕ) (before after : D) (old new : Option (List ℕ))
-    : Type 0 where
+-- What turns do with the records of a run, from the tail at this place on and with a ring of this length: they sent the first of them,
+-- and may have written some more. Of the first, a front of the lines was written.
+pub record RunSends {D : Type 0} (g : Ghosts D) (voice : Voice) (opened list : List Rec) (at ring : ℕ) (before after : D)
+    (old new : Option (List ℕ)) : Type 0 where
   pub more : List Rec
   pub cut : List Rec
   pub rest : List Rec
@@ -54,12 +54,21 @@ pub record RunSends {D : Type 0} (g : Ghosts D) (voice : Voice) (opened list : L
   pub grows : g.honest before → GrowsAtMostTo g (most_end at (end_of more) ring) before after
 
 -- and where nothing failed, all lines of the first
-pub record RunSent {D : Type 0} (g : Ghosts D) (voice : Voice) (opened more : List Rec) (at ring : ℕ) (before after : D) (old new : Option (List ℕ))
-    : Type 0 where
+pub record RunSent {D : Type 0} (g : Ghosts D) (voice : Voice) (opened more : List Rec) (at ring : ℕ) (before after : D)
+    (old new : Option (List ℕ)) : Type 0 where
   pub now : g.honest before → (bytes : List ℕ) → g.images after bytes → HoldsBoth opened more bytes
   pub text : Appends old new (text_of voice (end_of opened) more)
   pub count : g.honest before → Costs g (4 * length more) (4 * length more) before after
   pub grows : g.honest before → GrowsAtMostTo g (most_end at (end_of more) ring) before after
+
+-- so turns did from the one daemon to the other
+abbrev pub SendsBy : {D : Type 0} {K : Type 0} → Ghosts D → SinkGhosts K → List Rec → List Rec → Daemon D K → Daemon D K → Type 0
+SendsBy g h opened list old new = RunSends g old.voice opened list (place_of old) (ring_of old) old.flusher.disk.now new.flusher.disk.now
+    (h.held_bytes old.sink.now) (h.held_bytes new.sink.now)
+
+abbrev pub AreSentBy : {D : Type 0} {K : Type 0} → Ghosts D → SinkGhosts K → List Rec → List Rec → Daemon D K → Daemon D K → Type 0
+AreSentBy g h opened more old new = RunSent g old.voice opened more (place_of old) (ring_of old) old.flusher.disk.now new.flusher.disk.now
+    (h.held_bytes old.sink.now) (h.held_bytes new.sink.now)
 
 -- units sent and read, behind the opened ones, as records
 both-units : (opened records : List Rec) (sent units : List ℕ) → sent ≡ [] → units ≡ units_of records
@@ -82,14 +91,16 @@ module _ {D : Type 0} {K : Type 0} (g : Ghosts D) (h : SinkGhosts K) (opened lis
     (unsent : sent_of old.flusher ≡ []) (start : durable old ≡ end_of opened) where
   standing : g.honest old.flusher.disk.now → (bytes : List ℕ) → g.images old.flusher.disk.now bytes → HoldsBoth opened [] bytes
   standing honest bytes image =
-      subst (HoldsUnits bytes) (ap units_of (sym (append-nil opened))) (holds old.flusher.tail (units_of opened) bytes (stand honest bytes image))
+      subst (HoldsUnits bytes) (ap units_of (sym (append-nil opened)))
+      (holds old.flusher.tail (units_of opened) bytes (stand honest bytes image))
 
   -- as the turns see it
-  opening : g.honest old.flusher.disk.now → AllStand old.flusher.tail (units_of opened ++ sent_of old.flusher) (g.images old.flusher.disk.now)
+  opening : g.honest old.flusher.disk.now
+      → AllStand old.flusher.tail (units_of opened ++ sent_of old.flusher) (g.images old.flusher.disk.now)
   opening honest = subst (λ (units : List ℕ). AllStand old.flusher.tail units (g.images old.flusher.disk.now))
       (sym (ap (λ l. units_of opened ++ l) unsent ∙ append-nil (units_of opened))) (stand honest)
 
-  pub sends-still : RunSends g old.voice opened list (place_of old) (ring_of old) old.flusher.disk.now old.flusher.disk.now (h.held_bytes old.sink.now) (h.held_bytes old.sink.now)
+  pub sends-still : SendsBy g h opened list old old
   sends-still = record {
     more = [];
     cut = [];
@@ -98,15 +109,18 @@ module _ {D : Type 0} {K : Type 0} (g : Ghosts D) (h : SinkGhosts K) (opened lis
     moments = λ honest. Leaves-refl g.moment g.images_since (HoldsSome opened list) old.flusher.disk.now;
     now = λ honest bytes image. inl (standing honest bytes image);
     text = ([], text_of old.voice (end_of opened) [], refl, Appends-nil (h.held_bytes old.sink.now));
-    count = λ honest. Costs-more g 0 _ 0 _ old.flusher.disk.now old.flusher.disk.now (omega arith) (omega arith) (Costs-none g old.flusher.disk.now);
+    count = λ honest. Costs-more g 0 _ 0 _ old.flusher.disk.now old.flusher.disk.now (omega arith) (omega arith)
+        (Costs-none g old.flusher.disk.now);
     grows = λ honest. GrowsAtMostTo-same g _ old.flusher.disk.now old.flusher.disk.now refl;
   }
 
-  pub sent-still : RunSent g old.voice opened [] (place_of old) (ring_of old) old.flusher.disk.now old.flusher.disk.now (h.held_bytes old.sink.now) (h.held_bytes old.sink.now)
+  pub sent-still : AreSentBy g h opened [] old old
   sent-still = record {
     now = standing;
-    text = subst (Appends (h.held_bytes old.sink.now) (h.held_bytes old.sink.now)) (text_of-none old.voice (end_of opened)) (Appends-nil (h.held_bytes old.sink.now));
-    count = λ honest. Costs-more g 0 _ 0 _ old.flusher.disk.now old.flusher.disk.now (omega arith) (omega arith) (Costs-none g old.flusher.disk.now);
+    text = subst (Appends (h.held_bytes old.sink.now) (h.held_bytes old.sink.now)) (text_of-none old.voice (end_of opened))
+        (Appends-nil (h.held_bytes old.sink.now));
+    count = λ honest. Costs-more g 0 _ 0 _ old.flusher.disk.now old.flusher.disk.now (omega arith) (omega arith)
+        (Costs-none g old.flusher.disk.now);
     grows = λ honest. GrowsAtMostTo-same g _ old.flusher.disk.now old.flusher.disk.now refl;
   }
 
@@ -122,7 +136,8 @@ module _ {D : Type 0} {K : Type 0} (g : Ghosts D) (h : SinkGhosts K) (opened lis
     torn-now honest bytes image =
         let first : units_of opened ++ sent_of new.flusher ≡ units_of (opened ++ ran.more) =
         ap (λ l. units_of opened ++ l) sent-now ∙ sym (units_of-append opened ran.more) in
-        let both : (units_of opened ++ sent_of new.flusher) ++ (view_of new.flusher.seat).sending.read ≡ units_of (opened ++ (ran.more ++ ran.cut)) =
+        let both : (units_of opened ++ sent_of new.flusher) ++ (view_of new.flusher.seat).sending.read
+        ≡ units_of (opened ++ (ran.more ++ ran.cut)) =
         (λ i. (units_of opened ++ sent-now i) ++ read-now i) ∙ append_assoc (units_of opened) (units_of ran.more) (units_of ran.cut)
         ∙ ap (λ l. units_of opened ++ l) (sym (units_of-append ran.more ran.cut)) ∙ sym (units_of-append opened (ran.more ++ ran.cut)) in
         ⊎_elim (λ held. inl (subst (HoldsUnits bytes) first held)) (λ held. inr (subst (HoldsUnits bytes) both held))
@@ -134,14 +149,14 @@ module _ {D : Type 0} {K : Type 0} (g : Ghosts D) (h : SinkGhosts K) (opened lis
         let (rest, lines) = Ran-text g h old new ran in
         (ran.text, rest, ap (λ at. text_of old.voice at ran.more) (sym start) ∙ lines, ran.appended)
 
-    pub sends-ran : (rest : List Rec) → list ≡ (ran.more ++ ran.cut) ++ rest
-        → RunSends g old.voice opened list (place_of old) (ring_of old) old.flusher.disk.now new.flusher.disk.now (h.held_bytes old.sink.now) (h.held_bytes new.sink.now)
+    pub sends-ran : (rest : List Rec) → list ≡ (ran.more ++ ran.cut) ++ rest → SendsBy g h opened list old new
     sends-ran rest splits = record {
       more = ran.more;
       cut = ran.cut;
       rest = rest;
       splits = splits;
-      moments = λ honest. Leaves-weaken g.moment g.images_since (HoldsFront (units_of opened ++ sent_of old.flusher) (ran.more ++ ran.cut)) (HoldsSome opened list)
+      moments = λ honest. Leaves-weaken g.moment g.images_since
+          (HoldsFront (units_of opened ++ sent_of old.flusher) (ran.more ++ ran.cut)) (HoldsSome opened list)
           old.flusher.disk.now new.flusher.disk.now
           (λ bytes held. (
             held.front,
@@ -157,18 +172,19 @@ module _ {D : Type 0} {K : Type 0} (g : Ghosts D) (h : SinkGhosts K) (opened lis
       grows = ran.grows;
     }
 
-    pub sent-ran : new.fault ≡ None
-        → RunSent g old.voice opened ran.more (place_of old) (ring_of old) old.flusher.disk.now new.flusher.disk.now (h.held_bytes old.sink.now) (h.held_bytes new.sink.now)
+    pub sent-ran : new.fault ≡ None → AreSentBy g h opened ran.more old new
     sent-ran fine =
         let none : ran.cut ≡ [] = (subst (λ fault. InFlight fault (view_of new.flusher.seat) ran.cut) fine ran.in_flight).0 in
         let all = ran.all (λ is. none≢some WriteFault (sym fine ∙ is)) in
         let extra_none : extra new.fault ≡ 0 = ap extra fine in
         record {
           now = λ honest bytes image. ⊎_elim (λ held. held)
-              (λ held. subst (λ (records : List Rec). HoldsBoth opened records bytes) (ap (λ l. ran.more ++ l) none ∙ append-nil ran.more) held)
+              (λ held. subst (λ (records : List Rec). HoldsBoth opened records bytes)
+              (ap (λ l. ran.more ++ l) none ∙ append-nil ran.more) held)
               (torn-now honest bytes image);
           text = subst (Appends (h.held_bytes old.sink.now) (h.held_bytes new.sink.now))
               (all.0 ∙ ap (λ at. text_of old.voice at ran.more) start) ran.appended;
-          count = λ honest. Costs-more g _ _ _ _ old.flusher.disk.now new.flusher.disk.now (omega (arith, extra_none)) (omega (arith, extra_none)) (ran.count honest);
+          count = λ honest. Costs-more g _ _ _ _ old.flusher.disk.now new.flusher.disk.now (omega (arith, extra_none))
+              (omega (arith, extra_none)) (ran.count honest);
           grows = ran.grows;
         }

@@ -29,10 +29,11 @@ use Rattle.log_recovery.proofs.TextLemmas.{rows_text-shown}
 use Rattle.log_recovery.specs.Text.{rows_text, accounts_text}
 use Rattle.log_rule.specs.declared.start.Start.{Start}
 use Rattle.log_rule.specs.Sound.{base_of}
-use Rattle.txn_jobs.specs.declared.jobs.Jobs.{Jobs}
-use Rattle.cli_threads.specs.Run.{transfers_of, ComeInTurn, GoesOn, RunsWhole}
+use Rattle.txn_runner.specs.Places.{NumberedJobs}
+use Rattle.cli_threads.specs.Run.{transfers_of, ComeInTurn, HasNoneBehind, GoesOn, RunsWhole}
+use Rattle.cli_threads.specs.Sharing.{Sharing}
 use Rattle.cli_threads.proofs.RunHistory.{later_of, history-later, later-append, end-opened, spellable-history}
-use Rattle.cli_threads.proofs.RunStripes.{tasks_of}
+use Rattle.cli_threads.proofs.RunPlaces.{tasks_of}
 
 -- ---- the base state
 
@@ -54,23 +55,30 @@ base-opened opened key lawful start shows = λ i. record {
     rows-past account past = get_or_past key.accounts.rows account (0, 0) (let count = shows.count in omega arith)
 
     shown : (account : ℕ) → account < (genesis_of (history opened)).accounts
-        → row key.accounts.rows account ≡ (balance_of (genesis_of (history opened)) (history opened) account, last_commit_of (genesis_of (history opened)) (history opened) account)
+        → row key.accounts.rows account
+        ≡ (
+          balance_of (genesis_of (history opened)) (history opened) account,
+          last_commit_of (genesis_of (history opened)) (history opened) account,
+        )
     shown account below = get_or_from_slice_get key.accounts.rows account _ (0, 0) (shows.each account below)
 
     each-balance : (account : ℕ) → (row key.accounts.rows account).0 ≡ (base_state_of (history opened)).balance account
     each-balance account = dite (dec_lt account (genesis_of (history opened)).accounts)
         (λ below. ap (λ (r : ℕ × ℕ). r.0) (shown account below))
-        (λ past. ap (λ (r : ℕ × ℕ). r.0) (rows-past account (omega arith)) ∙ sym (base_state-past (history opened) account lawful (omega arith)).0)
+        (λ past. ap (λ (r : ℕ × ℕ). r.0) (rows-past account (omega arith))
+        ∙ sym (base_state-past (history opened) account lawful (omega arith)).0)
 
     each-commit : (account : ℕ) → (row key.accounts.rows account).1 ≡ (base_state_of (history opened)).last_commit account
     each-commit account = dite (dec_lt account (genesis_of (history opened)).accounts)
         (λ below. ap (λ (r : ℕ × ℕ). r.1) (shown account below))
-        (λ past. ap (λ (r : ℕ × ℕ). r.1) (rows-past account (omega arith)) ∙ sym (base_state-past (history opened) account lawful (omega arith)).1)
+        (λ past. ap (λ (r : ℕ × ℕ). r.1) (rows-past account (omega arith))
+        ∙ sym (base_state-past (history opened) account lawful (omega arith)).1)
 
 -- ---- a list that is lawful and partly serial after the opened one
 
-module _ (opened list : List Rec) (jobs : Jobs) (lawful : IsLawful (history opened)) (some_accounts : 0 < (genesis_of (history opened)).accounts)
-    (below : greatest_txn (history opened) < jobs.first) (spellable : AllByRecursion IsSpellable (opened ++ list))
+module _ (opened list : List Rec) (jobs : NumberedJobs) (lawful : IsLawful (history opened))
+    (some_accounts : 0 < (genesis_of (history opened)).accounts) (below : greatest_txn (history opened) < jobs.first)
+    (spellable : AllByRecursion IsSpellable (opened ++ list))
     (after : IsLawfulAfter (base_state_of (history opened)) (later_of opened list))
     (serial : IsPartlySerialAfter (base_state_of (history opened)) (tasks_of jobs) (later_of opened list)) where
   -- the records after the opened list have numbers from the first on
@@ -81,19 +89,24 @@ module _ (opened list : List Rec) (jobs : Jobs) (lawful : IsLawful (history open
   apart = share_none-numbers jobs.first (later_of opened list) (history opened) numbers (below-greatest (history opened) jobs.first below)
 
   pub whole-lawful : IsLawful (history (opened ++ list))
-  whole-lawful = subst IsLawful (sym (history-later opened list)) (lawful-append (later_of opened list) (history opened) lawful some_accounts after apart)
+  whole-lawful = subst IsLawful (sym (history-later opened list))
+      (lawful-append (later_of opened list) (history opened) lawful some_accounts after apart)
 
-  pub goes-on : ComeInTurn jobs (history (opened ++ list)) → GoesOn opened jobs (opened ++ list)
-  goes-on in_turn = record {
+  pub goes-on : (sharing : Sharing) → ComeInTurn jobs sharing (history (opened ++ list))
+      → HasNoneBehind jobs sharing (history (opened ++ list)) → GoesOn opened jobs sharing (opened ++ list)
+  goes-on sharing in_turn none_behind = record {
     sound = subst (IsSoundAfter (history opened)) (sym (history-later opened list))
         (sound-after (history opened) (later_of opened list) lawful some_accounts
-        (subst (AllByRecursion (λ (entry : Placed). IsSpellable entry.rec)) (history-later opened list) (spellable-history 0 [] (opened ++ list) tt spellable)) after apart);
+        (subst (AllByRecursion (λ (entry : Placed). IsSpellable entry.rec)) (history-later opened list)
+        (spellable-history 0 [] (opened ++ list) tt spellable)) after apart);
     serial = record { later = later_of opened list; whole = history-later opened list; serial = serial };
     in_turn = in_turn;
+    rest = none_behind;
   }
 
   -- with each transfer ended
-  pub runs-whole : AllByRecursion (λ (task : Task). has_end (own_records_of task.number (later_of opened list)) ≡ true) (tasks_of jobs) → RunsWhole opened jobs list
+  pub runs-whole : AllByRecursion (λ (task : Task). has_end (own_records_of task.number (later_of opened list)) ≡ true) (tasks_of jobs)
+      → RunsWhole opened jobs list
   runs-whole ended = record {
     later = later_of opened list;
     whole = history-later opened list;
@@ -108,7 +121,8 @@ module _ (opened list : List Rec) (jobs : Jobs) (lawful : IsLawful (history open
       subst (λ (h : List Placed). ShowsAccounts rows (genesis_of h) h) (sym (history-later opened list)) (record {
         count = shown.count ∙ ap (λ (base : BaseState). base.accounts) (sym genesis);
         each = λ account inside.
-            let small : account < (genesis_of (history opened)).accounts = subst (λ (base : BaseState). account < base.accounts) genesis inside in
+            let small : account < (genesis_of (history opened)).accounts =
+            subst (λ (base : BaseState). account < base.accounts) genesis inside in
             shown.each account small
             ∙ (λ i. Some (sym (balances account small) i, sym (commits account) i));
       })
@@ -124,14 +138,16 @@ module _ (opened list : List Rec) (jobs : Jobs) (lawful : IsLawful (history open
           ≡ balance_of (base_state_of (history opened)) (later_of opened list) account
       balances account small =
           ap (λ (base : BaseState). balance_of base (later_of opened list ++ history opened) account) genesis
-          ∙ balance_of-append (genesis_of (history opened)) (history opened) (met-log (history opened) lawful) (later_of opened list) account small apart
+          ∙ balance_of-append (genesis_of (history opened)) (history opened) (met-log (history opened) lawful) (later_of opened list)
+          account small apart
 
-      commits : (account : ℕ) → last_commit_of (genesis_of (later_of opened list ++ history opened)) (later_of opened list ++ history opened) account
+      commits : (account : ℕ)
+          → last_commit_of (genesis_of (later_of opened list ++ history opened)) (later_of opened list ++ history opened) account
           ≡ last_commit_of (base_state_of (history opened)) (later_of opened list) account
       commits account =
           ap (λ (base : BaseState). last_commit_of base (later_of opened list ++ history opened) account) genesis
-          ∙ last_commit_of-append (genesis_of (history opened)) (base_state_of (history opened)) (later_of opened list) (history opened) account refl
-          (none-shared (later_of opened list) (history opened) apart)
+          ∙ last_commit_of-append (genesis_of (history opened)) (base_state_of (history opened)) (later_of opened list) (history opened)
+          account refl (none-shared (later_of opened list) (history opened) apart)
 
   pub text-shown : (lsn : ℕ) (rows : List (ℕ × ℕ)) → lsn ≡ end_of (opened ++ list)
       → KeepsRows rows (base_state_of (history opened)) (later_of opened list) → rows_text lsn rows ≡ accounts_text (opened ++ list)
@@ -139,8 +155,9 @@ module _ (opened list : List Rec) (jobs : Jobs) (lawful : IsLawful (history open
 
 -- ---- fronts of it
 
-module _ (opened list : List Rec) (jobs : Jobs) (lawful : IsLawful (history opened)) (some_accounts : 0 < (genesis_of (history opened)).accounts)
-    (below : greatest_txn (history opened) < jobs.first) (spellable : AllByRecursion IsSpellable (opened ++ list))
+module _ (opened list : List Rec) (jobs : NumberedJobs) (lawful : IsLawful (history opened))
+    (some_accounts : 0 < (genesis_of (history opened)).accounts) (below : greatest_txn (history opened) < jobs.first)
+    (spellable : AllByRecursion IsSpellable (opened ++ list))
     (after : IsLawfulAfter (base_state_of (history opened)) (later_of opened list))
     (serial : IsPartlySerialAfter (base_state_of (history opened)) (tasks_of jobs) (later_of opened list))
     (front rest : List Rec) (splits : list ≡ front ++ rest) where
@@ -165,5 +182,6 @@ module _ (opened list : List Rec) (jobs : Jobs) (lawful : IsLawful (history open
   pub front-lawful : IsLawful (history (opened ++ front))
   front-lawful = whole-lawful opened front jobs lawful some_accounts below front-spellable front-after front-serial
 
-  pub front-goes-on : ComeInTurn jobs (history (opened ++ front)) → GoesOn opened jobs (opened ++ front)
+  pub front-goes-on : (sharing : Sharing) → ComeInTurn jobs sharing (history (opened ++ front))
+      → HasNoneBehind jobs sharing (history (opened ++ front)) → GoesOn opened jobs sharing (opened ++ front)
   front-goes-on = goes-on opened front jobs lawful some_accounts below front-spellable front-after front-serial

@@ -49,22 +49,24 @@ use Rattle.commit_pipeline.proofs.RanLemmas.{Later-same, Later-reason, none≢so
 use Rattle.commit_pipeline.proofs.LineLemmas.{text_of-append}
 use Rattle.txn_jobs.specs.declared.cause.Cause.TheVariants.{Stop, LogEnd}
 use Rattle.txn_jobs.specs.declared.cause.Worked.TheVariants.{All, Cut}
-use Rattle.txn_jobs.specs.declared.jobs.Jobs.{Jobs}
-use Rattle.cli_threads.specs.Run.{ComeInTurn, HoldsRun, IsLeft, RunKeepsLog, RunIsDrained, RunsWhole}
+use Rattle.txn_runner.specs.Places.{NumberedJobs}
+use Rattle.cli_threads.specs.Run.{ComeInTurn, HasNoneBehind, HoldsRun, IsLeft, RunKeepsLog, RunIsDrained, RunsWhole}
 use Rattle.cli_threads.specs.RunStops.{HadBalance, StopsAtLogEnd}
-use Rattle.cli_threads.specs.Shares.{Share, all_taken}
+use Rattle.cli_threads.specs.Shares.{Share, all_taken, sharing_of}
+use Rattle.cli_threads.specs.Sharing.{Sharing}
 use Rattle.cli_threads.specs.Transferred.{HasTransferred}
 use Rattle.cli_threads.proofs.RunBalances.{had-balance}
 use Rattle.cli_threads.proofs.RunEnds.{all-ended, no-stop, stops}
-use Rattle.cli_threads.proofs.RunHistory.{later_of}
-use Rattle.cli_threads.proofs.RunImages.{HoldsBoth, HoldsSome, RunSends, RunSent, sends-still, sent-still, sent-now, read-now, sends-ran, sent-ran}
+use Rattle.cli_threads.proofs.RunHistory.{later_of, end_of-append}
+use Rattle.cli_threads.proofs.RunImages.{HoldsBoth, HoldsSome, SendsBy, AreSentBy, sends-still, sent-still, sent-now, read-now, sends-ran, sent-ran}
 use Rattle.cli_threads.proofs.RunLedger.{base-opened, apart, whole-lawful, goes-on, runs-whole, text-shown, front-spellable, front-lawful, front-goes-on}
 use Rattle.cli_threads.proofs.RunRecords.{records-spellable, units_in-records, records-front, tiling-end}
-use Rattle.cli_threads.proofs.RunTurns.{front-in_turn}
-use Rattle.cli_threads.proofs.RunStripes.{tasks_of, each-numbered, taken-once, taken-numbered, taken-or_not}
+use Rattle.cli_threads.proofs.RunTurns.{front-in_turn, front-none_behind}
+use Rattle.cli_threads.proofs.RunPlaces.{tasks_of, each-numbered, taken-once, taken-numbered, taken-or_not}
 
-module _ {D : Type 0} {K : Type 0} (g : Ghosts D) (h : SinkGhosts K) (opened : List Rec) (jobs : Jobs) (shares : List Share) (key : Start)
-    (old new : Daemon D K) (view : View) (lsn : ℕ) (rows : List (ℕ × ℕ)) (known : HasTransferred g h opened jobs shares key old new view lsn rows) where
+module _ {D : Type 0} {K : Type 0} (g : Ghosts D) (h : SinkGhosts K) (opened : List Rec) (jobs : NumberedJobs) (front : ℕ)
+    (shares : List Share) (key : Start) (old new : Daemon D K) (view : View) (lsn : ℕ) (rows : List (ℕ × ℕ))
+    (known : HasTransferred g h opened jobs front shares key old new view lsn rows) where
   abbrev list : List Rec
   list = records_of view.entries
 
@@ -73,6 +75,9 @@ module _ {D : Type 0} {K : Type 0} (g : Ghosts D) (h : SinkGhosts K) (opened : L
 
   abbrev taken : List Task
   taken = map task_of (all_taken jobs shares)
+
+  abbrev sharing : Sharing
+  sharing = sharing_of front shares
 
   -- ---- the list
 
@@ -87,7 +92,7 @@ module _ {D : Type 0} {K : Type 0} (g : Ghosts D) (h : SinkGhosts K) (opened : L
 
   once : (number : ℕ) → times_taken number view.books.jobs ≤ 1
   once number = subst (λ jobs. times_taken number jobs ≤ 1) (sym known.workers.taken)
-      (taken-once jobs shares known.workers.count known.workers.stripes number)
+      (taken-once jobs front shares known.workers.sharing number)
 
   ledger : IsLedger base (later_of opened list) taken rows
   ledger =
@@ -102,13 +107,13 @@ module _ {D : Type 0} {K : Type 0} (g : Ghosts D) (h : SinkGhosts K) (opened : L
   went-back =
       let same = base-opened opened key known.log.lawful known.log.start known.log.accounts in
       subst (λ from. AllByRecursion (WentBack from (later_of opened list)) view.books.given) same
-      (subst (λ end. AllByRecursion (WentBack (base_of key) (history_from end [] list)) view.books.given) known.log.start (known.settled.given once))
+      (subst (λ end. AllByRecursion (WentBack (base_of key) (history_from end [] list)) view.books.given) known.log.start
+      (known.settled.given once))
 
   pub serial : IsPartlySerialAfter base (tasks_of jobs) (later_of opened list)
   serial = partly_serial-more base taken (tasks_of jobs) (later_of opened list)
-      (taken-numbered jobs shares known.workers.count known.workers.stripes (λ i share at. (known.workers.each i share at).places))
-      (each-numbered _ jobs.first jobs.script
-      (λ place inside. taken-or_not jobs shares known.workers.count known.workers.stripes place inside jobs.shared))
+      (taken-numbered jobs front shares known.workers.sharing)
+      (each-numbered _ jobs.first jobs.script (λ place inside. taken-or_not jobs front shares known.workers.sharing place))
       ledger.serial
 
   lawful_after : IsLawfulAfter base (later_of opened list)
@@ -118,8 +123,12 @@ module _ {D : Type 0} {K : Type 0} (g : Ghosts D) (h : SinkGhosts K) (opened : L
   kept = ledger.accounts
 
   -- each worker's transfers come one behind another, in each front
-  in_turn : (front rest : List Rec) → list ≡ front ++ rest → ComeInTurn jobs (history (opened ++ front))
-  in_turn = front-in_turn opened jobs view known.log.below shares known.workers ledger.serial.others lsn known.gathered
+  in_turn : (records rest : List Rec) → list ≡ records ++ rest → ComeInTurn jobs sharing (history (opened ++ records))
+  in_turn = front-in_turn opened jobs view known.log.below front shares known.workers ledger.serial.others lsn known.gathered
+
+  -- and those that no worker took have no record
+  none_behind : (records rest : List Rec) → list ≡ records ++ rest → HasNoneBehind jobs sharing (history (opened ++ records))
+  none_behind = front-none_behind opened jobs view known.log.below front shares known.workers ledger.serial.others lsn known.gathered
 
   -- ---- the turns
 
@@ -141,13 +150,11 @@ module _ {D : Type 0} {K : Type 0} (g : Ghosts D) (h : SinkGhosts K) (opened : L
   start-view : view.constants.start ≡ end_of opened
   start-view = ap (λ (c : Constants). c.start) constants-view ∙ known.log.start
 
-  pub sends : RunSends g old.voice opened list (place_of old) (ring_of old) old.flusher.disk.now new.flusher.disk.now (h.held_bytes old.sink.now) (h.held_bytes new.sink.now)
+  pub sends : SendsBy g h opened list old new
   sends = by_later known.later
     where
-      by_later : Later g h old new
-          → RunSends g old.voice opened list (place_of old) (ring_of old) old.flusher.disk.now new.flusher.disk.now (h.held_bytes old.sink.now) (h.held_bytes new.sink.now)
-      by_later (inl same) = subst (λ (d : Daemon D K). RunSends g old.voice opened list (place_of old) (ring_of old) old.flusher.disk.now d.flusher.disk.now
-          (h.held_bytes old.sink.now) (h.held_bytes d.sink.now)) (sym same)
+      by_later : Later g h old new → SendsBy g h opened list old new
+      by_later (inl same) = subst (SendsBy g h opened list old) (sym same)
           (sends-still g h opened list old old known.log.stand known.fresh.sent start-old)
       by_later (inr ran) =
           let sent : view.sending.sent ≡ units_of ran.more =
@@ -162,35 +169,40 @@ module _ {D : Type 0} {K : Type 0} (g : Ghosts D) (h : SinkGhosts K) (opened : L
 
   -- ---- what each image holds
 
-  abbrev image-run : (front rest : List Rec) → list ≡ front ++ rest → (bytes : List ℕ) → HoldsBoth opened front bytes → HoldsRun opened jobs list bytes
-  image-run front rest splits bytes held = record {
-    front = front;
+  abbrev image-run : (records rest : List Rec) → list ≡ records ++ rest → (bytes : List ℕ) → HoldsBoth opened records bytes
+      → HoldsRun opened jobs sharing list bytes
+  image-run records rest splits bytes held = record {
+    front = records;
     rest = rest;
     whole = splits;
     holds = record {
       list = record {
-        each = front-spellable opened list jobs known.log.lawful known.log.some_accounts known.log.below spellable lawful_after serial front rest splits;
+        each = front-spellable opened list jobs known.log.lawful known.log.some_accounts known.log.below spellable lawful_after serial
+            records rest splits;
         holds = held;
       };
-      lawful = front-lawful opened list jobs known.log.lawful known.log.some_accounts known.log.below spellable lawful_after serial front rest splits;
+      lawful = front-lawful opened list jobs known.log.lawful known.log.some_accounts known.log.below spellable lawful_after serial
+          records rest splits;
     };
-    goes_on = front-goes-on opened list jobs known.log.lawful known.log.some_accounts known.log.below spellable lawful_after serial front rest splits
-        (in_turn front rest splits);
+    goes_on = front-goes-on opened list jobs known.log.lawful known.log.some_accounts known.log.below spellable lawful_after serial
+        records rest splits sharing (in_turn records rest splits) (none_behind records rest splits);
   }
 
-  pub keeps : RunKeepsLog g old.voice opened jobs list (place_of old) key.ring old.flusher.disk.now new.flusher.disk.now (h.held_bytes old.sink.now)
-      (h.held_bytes new.sink.now)
+  pub keeps : RunKeepsLog g old.voice opened jobs sharing list (place_of old) key.ring old.flusher.disk.now new.flusher.disk.now
+      (h.held_bytes old.sink.now) (h.held_bytes new.sink.now)
   keeps = record {
     goes_on = goes-on opened list jobs known.log.lawful known.log.some_accounts known.log.below spellable lawful_after serial
-        (in_turn list [] (sym (append-nil list)));
-    moments = λ honest. Leaves-weaken g.moment g.images_since (HoldsSome opened list) (HoldsRun opened jobs list) old.flusher.disk.now new.flusher.disk.now
-        (λ bytes held. image-run held.0 held.1 held.2 bytes held.3) (sends.moments honest);
+        sharing (in_turn list [] (sym (append-nil list))) (none_behind list [] (sym (append-nil list)));
+    moments = λ honest. Leaves-weaken g.moment g.images_since (HoldsSome opened list) (HoldsRun opened jobs sharing list)
+        old.flusher.disk.now new.flusher.disk.now (λ bytes held. image-run held.0 held.1 held.2 bytes held.3) (sends.moments honest);
     left = λ honest bytes image. ⊎_elim (left-first honest bytes) (left-both honest bytes) (sends.now honest bytes image);
   }
     where
-      left-first : g.honest old.flusher.disk.now → (bytes : List ℕ) → HoldsBoth opened sends.more bytes
-          → IsLeft g old.voice opened jobs list (place_of old) key.ring old.flusher.disk.now new.flusher.disk.now (h.held_bytes old.sink.now)
-          (h.held_bytes new.sink.now) bytes
+      IsLeftAs : List ℕ → Type 0
+      IsLeftAs bytes = IsLeft g old.voice opened jobs sharing list (place_of old) key.ring old.flusher.disk.now new.flusher.disk.now
+          (h.held_bytes old.sink.now) (h.held_bytes new.sink.now) bytes
+
+      left-first : g.honest old.flusher.disk.now → (bytes : List ℕ) → HoldsBoth opened sends.more bytes → IsLeftAs bytes
       left-first honest bytes held = record {
         run = image-run sends.more (sends.cut ++ sends.rest) (sends.splits ∙ append_assoc sends.more sends.cut sends.rest) bytes held;
         text = sends.text;
@@ -199,18 +211,17 @@ module _ {D : Type 0} {K : Type 0} (g : Ghosts D) (h : SinkGhosts K) (opened : L
             (omega (arith, ring-is)) (sends.grows honest);
       }
 
-      left-both : g.honest old.flusher.disk.now → (bytes : List ℕ) → HoldsBoth opened (sends.more ++ sends.cut) bytes
-          → IsLeft g old.voice opened jobs list (place_of old) key.ring old.flusher.disk.now new.flusher.disk.now (h.held_bytes old.sink.now)
-          (h.held_bytes new.sink.now) bytes
+      left-both : g.honest old.flusher.disk.now → (bytes : List ℕ) → HoldsBoth opened (sends.more ++ sends.cut) bytes → IsLeftAs bytes
       left-both honest bytes held = record {
         run = image-run (sends.more ++ sends.cut) sends.rest sends.splits bytes held;
-        text = AppendsPrefix-first (h.held_bytes old.sink.now) (h.held_bytes new.sink.now) (text_of old.voice (end_of opened) (sends.more ++ sends.cut))
-            (text_of old.voice (end_of opened) sends.more) (text_of old.voice (end_of opened + length (units_of sends.more)) sends.cut) sends.text
+        text = AppendsPrefix-first (h.held_bytes old.sink.now) (h.held_bytes new.sink.now)
+            (text_of old.voice (end_of opened) (sends.more ++ sends.cut)) (text_of old.voice (end_of opened) sends.more)
+            (text_of old.voice (end_of opened + length (units_of sends.more)) sends.cut) sends.text
             (text_of-append old.voice (end_of opened) sends.more sends.cut);
         count = let long = length-append sends.more sends.cut in
             Costs-more g _ _ _ _ old.flusher.disk.now new.flusher.disk.now (omega (arith, long)) (omega (arith, long)) (sends.count honest);
         grows =
-            let ends = ap length (units_of-append sends.more sends.cut) ∙ length-append (units_of sends.more) (units_of sends.cut) in
+            let ends = end_of-append sends.more sends.cut in
             GrowsAtMostTo-more g (most_end (place_of old) (end_of sends.more) (ring_of old)) _ old.flusher.disk.now new.flusher.disk.now
             (omega (arith, ring-is, ends)) (sends.grows honest);
       }
@@ -232,24 +243,22 @@ module _ {D : Type 0} {K : Type 0} (g : Ghosts D) (h : SinkGhosts K) (opened : L
         (All-from_recursion IsSpellable list list-spellable) (sym sent ∙ sym (known.gathered.drained (known.drained fine)) ∙ list-units)
 
     list-none : new ≡ old → [] ≡ list
-    list-none same = list-is [] tt (ap (λ (s : Sending). s.sent) known.sending ∙ ap (λ (d : Daemon D K). sent_of d.flusher) same ∙ known.fresh.sent)
+    list-none same = list-is [] tt
+        (ap (λ (s : Sending). s.sent) known.sending ∙ ap (λ (d : Daemon D K). sent_of d.flusher) same ∙ known.fresh.sent)
 
     list-more : (ran : Ran g h old new) → ran.more ≡ list
     list-more ran = list-is ran.more (all-split IsSpellable ran.more ran.cut ran.spellable).0
         (ap (λ (s : Sending). s.sent) known.sending ∙ sent-now g h opened list old new known.log.stand known.fresh.sent start-old ran)
 
-    sent-all : RunSent g old.voice opened list (place_of old) (ring_of old) old.flusher.disk.now new.flusher.disk.now (h.held_bytes old.sink.now) (h.held_bytes new.sink.now)
+    sent-all : AreSentBy g h opened list old new
     sent-all = by_later known.later
       where
-        by_later : Later g h old new
-            → RunSent g old.voice opened list (place_of old) (ring_of old) old.flusher.disk.now new.flusher.disk.now (h.held_bytes old.sink.now) (h.held_bytes new.sink.now)
-        by_later (inl same) =
-            subst (λ (d : Daemon D K). RunSent g old.voice opened list (place_of old) (ring_of old) old.flusher.disk.now d.flusher.disk.now (h.held_bytes old.sink.now) (h.held_bytes d.sink.now)) (sym same)
-            (subst (λ (records : List Rec). RunSent g old.voice opened records (place_of old) (ring_of old) old.flusher.disk.now old.flusher.disk.now (h.held_bytes old.sink.now) (h.held_bytes old.sink.now))
-            (list-none same) (sent-still g h opened list old old known.log.stand known.fresh.sent start-old))
-        by_later (inr ran) =
-            subst (λ (records : List Rec). RunSent g old.voice opened records (place_of old) (ring_of old) old.flusher.disk.now new.flusher.disk.now (h.held_bytes old.sink.now) (h.held_bytes new.sink.now))
-            (list-more ran) (sent-ran g h opened list old new known.log.stand known.fresh.sent start-old ran fine)
+        by_later : Later g h old new → AreSentBy g h opened list old new
+        by_later (inl same) = subst (AreSentBy g h opened list old) (sym same)
+            (subst (λ (records : List Rec). AreSentBy g h opened records old old) (list-none same)
+            (sent-still g h opened list old old known.log.stand known.fresh.sent start-old))
+        by_later (inr ran) = subst (λ (records : List Rec). AreSentBy g h opened records old new) (list-more ran)
+            (sent-ran g h opened list old new known.log.stand known.fresh.sent start-old ran fine)
 
     -- and the end record of each was counted
     pub tally-all : new.tally ≡ counted old.tally list
@@ -262,8 +271,8 @@ module _ {D : Type 0} {K : Type 0} (g : Ghosts D) (h : SinkGhosts K) (opened : L
         by_later (inl still) = ap (λ (d : Daemon D K). d.tally) still ∙ counted-none old.tally ∙ ap (counted old.tally) (list-none still)
         by_later (inr ran) = (ran.all (λ failed. none≢some WriteFault (sym fine ∙ failed))).1 ∙ ap (counted old.tally) (list-more ran)
 
-    pub drained : RunIsDrained g old.voice opened jobs list (place_of old) key.ring old.flusher.disk.now new.flusher.disk.now (h.held_bytes old.sink.now)
-        (h.held_bytes new.sink.now) lsn rows
+    pub drained : RunIsDrained g old.voice opened list (place_of old) key.ring old.flusher.disk.now new.flusher.disk.now
+        (h.held_bytes old.sink.now) (h.held_bytes new.sink.now) lsn rows
     drained = record {
       images = λ honest bytes image. record {
         list = record { each = spellable; holds = sent-all.now honest bytes image };
@@ -271,42 +280,45 @@ module _ {D : Type 0} {K : Type 0} (g : Ghosts D) (h : SinkGhosts K) (opened : L
       };
       text = sent-all.text;
       end = end;
-      accounts = text-shown opened list jobs known.log.lawful known.log.some_accounts known.log.below spellable lawful_after serial lsn rows end ledger.accounts;
+      accounts = text-shown opened list jobs known.log.lawful known.log.some_accounts known.log.below spellable lawful_after serial lsn rows
+          end ledger.accounts;
       count = sent-all.count;
-      grows = λ honest. GrowsAtMostTo-more g (most_end (place_of old) (end_of list) (ring_of old)) _ old.flusher.disk.now new.flusher.disk.now
-          (omega (arith, ring-is)) (sent-all.grows honest);
+      grows = λ honest. GrowsAtMostTo-more g (most_end (place_of old) (end_of list) (ring_of old)) _ old.flusher.disk.now
+          new.flusher.disk.now (omega (arith, ring-is)) (sent-all.grows honest);
     }
       where
         end : lsn ≡ end_of (opened ++ list)
         end =
             let tiles = tiling-end view.constants.start lsn view.entries known.gathered.full known.gathered.spelled known.gathered.tiles in
-            let sizes : end_of (opened ++ list) ≡ end_of opened + end_of list = ap length (units_of-append opened list) ∙ length-append (units_of opened) (units_of list) in
-            omega (arith, tiles, start-view, sizes)
+            omega (arith, tiles, start-view, end_of-append opened list)
 
     stop-none : view.sending.stop ≡ 0
     stop-none = ap (λ (s : Sending). s.stop) known.sending ∙ subst (StopTells old new) fine reason.stop ∙ known.fresh.stop
 
-    had : AllByRecursion (λ (given : Given). given.committed ≡ false → HadBalance (opened ++ list) given.tail given.account given.balance) view.books.given
+    had : AllByRecursion (λ (given : Given). given.committed ≡ false → HadBalance (opened ++ list) given.tail given.account given.balance)
+        view.books.given
     had = all-weaker (WentBack base (later_of opened list)) _ view.books.given (had-balance opened list known.log.lawful lawful_after
         (apart opened list jobs known.log.lawful known.log.some_accounts known.log.below spellable lawful_after serial)) went-back
 
     pub stops-at-end : (worker : ℕ) (taken : List ℕ) (tail total : ℕ)
         → get_elem? shares worker ≡ some (record { taken = taken; worked = Cut (LogEnd tail total) })
-        → StopsAtLogEnd opened jobs list key.ring key.slots tail total
-    stops-at-end worker taken tail total at = subst (λ (c : Constants). StopsAtLogEnd opened jobs list c.ring c.slots tail total) constants-view
-        (stops opened jobs view known.log.below shares known.workers ledger.serial.others had known.heard lsn known.gathered start-view
+        → StopsAtLogEnd opened jobs sharing list key.ring key.slots tail total
+    stops-at-end worker taken tail total at =
+        subst (λ (c : Constants). StopsAtLogEnd opened jobs sharing list c.ring c.slots tail total) constants-view
+        (stops opened jobs view known.log.below front shares known.workers had known.heard lsn known.gathered start-view
         stop-none worker tail total (record { taken = taken; worked = Cut (LogEnd tail total) }) at refl)
 
     pub never-stops : (worker : ℕ) (taken : List ℕ) (word : ℕ)
         → get_elem? shares worker ≡ some (record { taken = taken; worked = Cut (Stop word) }) → ⊥
     never-stops worker taken word at =
-        no-stop opened jobs view known.log.below shares known.workers stop-none worker word
+        no-stop opened jobs view known.log.below front shares known.workers stop-none worker word
         (record { taken = taken; worked = Cut (Stop word) }) at refl
 
-  pub whole_after : AllByRecursion (λ (share : Share). share.worked ≡ All) shares → IsSerialAfter base (tasks_of jobs) (later_of opened list)
+  pub whole_after : AllByRecursion (λ (share : Share). share.worked ≡ All) shares
+      → IsSerialAfter base (tasks_of jobs) (later_of opened list)
   whole_after all = partly-serial base (tasks_of jobs) (later_of opened list)
-      (all-ended opened jobs view known.log.below shares known.workers jobs.shared all) serial
+      (all-ended opened jobs view known.log.below front shares known.workers all) serial
 
   pub whole : AllByRecursion (λ (share : Share). share.worked ≡ All) shares → RunsWhole opened jobs list
   whole all = runs-whole opened list jobs known.log.lawful known.log.some_accounts known.log.below spellable lawful_after serial
-      (all-ended opened jobs view known.log.below shares known.workers jobs.shared all)
+      (all-ended opened jobs view known.log.below front shares known.workers all)

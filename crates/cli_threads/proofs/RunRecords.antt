@@ -25,7 +25,8 @@ pub records-front : (all front : List Rec) (more : List ℕ) → AllByRecursion 
     → units_of all ≡ units_of front ++ more → (rest : List Rec) × (all ≡ front ++ rest)
 records-front all [] more each each' whole = (all, refl)
 records-front [] (rec ∷ front) more each each' whole =
-    absurd (omega (arith, ap length whole, size_of-some rec, length-append (spelling rec ++ units_of front) more, length-append (spelling rec) (units_of front)))
+    let long = length-append (spelling rec) (units_of front) in
+    absurd (omega (arith, ap length whole, size_of-some rec, length-append (spelling rec ++ units_of front) more, long))
 records-front (first ∷ all) (rec ∷ front) more each each' whole =
     let parts = spelling-append-injective first rec (units_of all) (units_of front ++ more) each.0 each'.0
     (whole ∙ append_assoc (spelling rec) (units_of front) more) in

@@ -1,10 +1,10 @@
--- In each front of a run's list the transfers of each worker come one behind another.
+-- In each front of a run's list the transfers of each worker come one behind another, and none comes that no worker took.
 use Rattle.std.proofs.Common.{◌≡◌, ◌≢◌, ◌⊎◌, inl, inr, ⊎_elim, ◌<◌, ◌≤◌, ℕ, zero, suc, ◌+◌, List, [], ◌∷◌, ◌++◌, length, map, refl, ap, ◌∙◌, sym, subst, arith, Contains}
 use Rattle.std.specs.List.{AllByRecursion}
-use Rattle.std.proofs.lemmas.List.Elements.{All-contains, All-from_recursion, Contains-append_cases, Contains-append_left, Contains-append_right}
+use Rattle.std.proofs.lemmas.List.Elements.{All-contains, All-from_recursion, Contains-append_cases, Contains-append_left, Contains-append_right, Contains-push_cases}
 use mathlib.Core.Logic.{dite}
 use mathlib.Core.Option.{some}
-use native.Mathlib.Decide.{ℕ_discrete, dec_lt}
+use native.Mathlib.Decide.{ℕ_discrete}
 use lib.ListN.{get_elem?}
 use Rattle.lsn_space.specs.Tiling.{IsTiling}
 use Rattle.log_record.specs.declared.rec.Rec.{Rec}
@@ -15,6 +15,7 @@ use Rattle.lock_core.specs.Serial.{HasNoOthers}
 use Rattle.lock_core.specs.Sums.{greatest_txn}
 use Rattle.lock_core.specs.Transactions.{of_transaction, recs_of, own_records_of, has_end}
 use Rattle.lock_core.proofs.Apart.{of_transaction-older}
+use Rattle.lock_core.proofs.ListLemmas.{all-split}
 use Rattle.lock_core.proofs.NextRecords.{has_end-own}
 use Rattle.log_rule.specs.declared.view.Entry.{Entry}
 use Rattle.log_rule.specs.declared.view.View.{View}
@@ -22,24 +23,35 @@ use Rattle.log_rule.specs.Books.{task_of}
 use Rattle.log_rule.specs.Closing.{records_of, IsGathered}
 use Rattle.txn_jobs.specs.declared.cause.Worked.{Worked}
 use Rattle.txn_jobs.specs.declared.cause.Worked.TheVariants.{All, Cut}
-use Rattle.txn_jobs.specs.declared.jobs.Jobs.{Jobs}
 use Rattle.txn_runner.specs.Running.{LieInOrder}
-use Rattle.txn_runner.specs.Places.{number_at, place_of}
+use Rattle.txn_runner.specs.Places.{NumberedJobs, number_at, Rises}
 use Rattle.txn_runner.specs.Working.{HasEnd}
 use Rattle.txn_runner.proofs.EntryLemmas.{LieInOrder-starts}
-use Rattle.cli_threads.specs.Run.{ComeInTurn}
-use Rattle.cli_threads.specs.Shares.{Share, all_taken, HasGathered}
-use Rattle.cli_threads.proofs.CameAlong.{CameAlong, came-along}
+use Rattle.cli_threads.specs.Run.{ComeInTurn, HasNoneBehind}
+use Rattle.cli_threads.specs.Shares.{Share, CameTo, HasShare, all_taken, sharing_of, HasGathered}
+use Rattle.cli_threads.specs.Sharing.{Sharing}
 use Rattle.cli_threads.proofs.GatheredShares.{sized}
 use Rattle.cli_threads.proofs.RunEnds.{contains-record}
 use Rattle.cli_threads.proofs.RunHistory.{later_of, later-append, history-own, history-others}
-use Rattle.cli_threads.proofs.RunStripes.{share-at, not_taken}
-use Rattle.cli_threads.proofs.StripePlaces.{stripe-contains}
-use Rattle.txn_jobs.proofs.StripeSteps.{place_of-rises}
+use Rattle.cli_threads.proofs.RunPlaces.{not_taken}
+
+-- the last of places that rise is above those before it
+rises-last : (made : List ℕ) (place : ℕ) → Rises (made ++ place ∷ []) → AllByRecursion (λ before. before < place) made
+rises-last [] place rises = tt
+rises-last (first ∷ made) place rises =
+    let above = (all-split (λ other. first < other) made (place ∷ []) rises.0).1 in (above.0, rises-last made place rises.1)
+
+-- the list of places is a worker's
+share-of : (shares : List Share) (places : List ℕ) → Contains (map (λ (share : Share). share.taken) shares) places
+    → (worker : ℕ) × (share : Share) × (get_elem? shares worker ≡ some share) × (share.taken ≡ places)
+share-of [] places (i, inside, is) = absurd (omega arith)
+share-of (share ∷ shares) places (zero, inside, is) = (0, share, refl, is)
+share-of (share ∷ shares) places (suc i, inside, is) =
+    let rest = share-of shares places (i, omega arith, is) in (suc rest.0, rest.1, rest.2, rest.3)
 
 -- entries that tile a part of the log lie in order
-tiling-in_order : (from to : ℕ) (entries : List Entry) → IsTiling (λ (entry : Entry). entry.start) (λ (entry : Entry). entry.size) from entries to
-    → LieInOrder from to entries
+tiling-in_order : (from to : ℕ) (entries : List Entry)
+    → IsTiling (λ (entry : Entry). entry.start) (λ (entry : Entry). entry.size) from entries to → LieInOrder from to entries
 tiling-in_order from to [] tiles = omega (arith, tiles)
 tiling-in_order from to (entry ∷ entries) tiles = (
   omega (arith, tiles.0),
@@ -85,62 +97,68 @@ are-first (entry ∷ entries) (rec ∷ front) rest is =
 
 -- an entry of the number, or none
 one-of : (n : ℕ) (entries : List Entry)
-    → ((entry : Entry) × Contains entries entry × (txn_of entry.rec ≡ n)) ⊎ AllByRecursion (λ (rec : Rec). txn_of rec ≢ n) (records_of entries)
+    → ((entry : Entry) × Contains entries entry × (txn_of entry.rec ≡ n))
+    ⊎ AllByRecursion (λ (rec : Rec). txn_of rec ≢ n) (records_of entries)
 one-of n [] = inr tt
 one-of n (entry ∷ entries) = dite (ℕ_discrete (txn_of entry.rec) n)
     (λ same. inl (entry, (0, omega arith, refl), same))
-    (λ other. ⊎_elim (λ found. inl (found.0, Contains-append_right (entry ∷ []) entries found.0 found.1, found.2)) (λ none. inr (other, none))
-    (one-of n entries))
+    (λ other. ⊎_elim (λ found. inl (found.0, Contains-append_right (entry ∷ []) entries found.0 found.1, found.2))
+    (λ none. inr (other, none)) (one-of n entries))
 
-module _ (opened : List Rec) (jobs : Jobs) (view : View) (below : greatest_txn (history opened) < jobs.first) (shares : List Share)
-    (gathered : HasGathered jobs shares view) (others : HasNoOthers (map task_of (all_taken jobs shares))
-    (later_of opened (records_of view.entries)))
+module _ (opened : List Rec) (jobs : NumberedJobs) (view : View) (below : greatest_txn (history opened) < jobs.first)
+    (front : ℕ) (shares : List Share) (gathered : HasGathered jobs front shares view)
+    (others : HasNoOthers (map task_of (all_taken jobs shares)) (later_of opened (records_of view.entries)))
     (lsn : ℕ) (whole : IsGathered lsn view) where
-  -- of a transfer that was taken each before it in the stripe has its end record
-  ended-before : (worker i j : ℕ) (share : Share) → get_elem? shares worker ≡ some share → i < j → j < length share.taken
-      → HasEnd (number_at jobs (place_of jobs worker i)) view.entries
-  ended-before worker i j share at less taken = by_case share.worked
-      (came-along jobs worker share view (gathered.stripes worker share at) (gathered.each worker share at).came_to)
+  abbrev sharing : Sharing
+  sharing = sharing_of front shares
+
+  -- of the transfers that a worker took each before another has its end record
+  ended-before : (taken : List ℕ) (worked : Worked) → Rises taken → CameTo jobs (length shares) taken worked view
+      → (i j : ℕ) → Contains taken i → Contains taken j → i < j → HasEnd (number_at jobs i) view.entries
+  ended-before taken All rises came i j has has' less = All-contains (λ place. HasEnd (number_at jobs place) view.entries) taken i
+      (All-from_recursion (λ place. HasEnd (number_at jobs place) view.entries) taken came) has
+  ended-before taken (Cut cause) rises came i j has has' less = ⊎_elim
+      (λ before. All-contains (λ place. HasEnd (number_at jobs place) view.entries) came.0 i
+      (All-from_recursion (λ place. HasEnd (number_at jobs place) view.entries) came.0 came.3) before)
+      (λ last. absurd (omega (arith, less, last, most)))
+      (Contains-push_cases came.0 came.1 i (subst (λ l. Contains l i) came.2 has))
     where
-      by_case : (worked : Worked) → CameAlong jobs worker (length share.taken) worked view
-          → HasEnd (number_at jobs (place_of jobs worker i)) view.entries
-      by_case All came = came.1 i (omega (arith, less, taken))
-      by_case (Cut cause) came = came.2 i (omega (arith, less, taken, came.1))
+      most : j ≤ came.1
+      most = ⊎_elim
+          (λ before.
+          let low = All-contains (λ place. place < came.1) came.0 j
+          (All-from_recursion (λ place. place < came.1) came.0 (rises-last came.0 came.1 (subst Rises came.2 rises))) before in
+          omega (arith, low))
+          (λ last. omega (arith, last))
+          (Contains-push_cases came.0 came.1 j (subst (λ l. Contains l j) came.2 has'))
 
-  module _ (front rest : List Rec) (splits : records_of view.entries ≡ front ++ rest) where
-    abbrev parts : AreFirst view.entries front
-    parts = are-first view.entries front rest splits
+  module _ (records rest : List Rec) (splits : records_of view.entries ≡ records ++ rest) where
+    abbrev parts : AreFirst view.entries records
+    parts = are-first view.entries records rest splits
 
-    number-high : (worker j : ℕ) → greatest_txn (history opened) < number_at jobs (place_of jobs worker j)
-    number-high worker j = omega (arith, below)
+    number-high : (place : ℕ) → greatest_txn (history opened) < number_at jobs place
+    number-high place = omega (arith, below)
 
-    -- a transfer with a record in the front was taken
-    was-taken : (worker j : ℕ) (share : Share) → get_elem? shares worker ≡ some share
-        → own_records_of (number_at jobs (place_of jobs worker j)) (history (opened ++ front)) ≢ [] → j < length share.taken
-    was-taken worker j share at recorded = dite (dec_lt j (length share.taken)) (λ less. less)
-        (λ behind. absurd (recorded (history-own opened front n (number-high worker j)
-        ∙ ap recs_of (of_transaction-older n (later-append opened front rest).0 (later_of opened front)
-        (ap (of_transaction n) (sym (later-append opened front rest).1) ∙ ap (λ records. of_transaction n (later_of opened records)) (sym splits)
-        ∙ others n (not_taken jobs shares gathered.count gathered.stripes worker j share at (omega (arith, behind))))))))
-      where
-        n : ℕ
-        n = number_at jobs (place_of jobs worker j)
+    -- a transfer behind those that were taken has no record
+    pub front-none_behind : HasNoneBehind jobs sharing (history (opened ++ records))
+    front-none_behind place behind =
+        history-own opened records (number_at jobs place) (number-high place)
+        ∙ ap recs_of (of_transaction-older (number_at jobs place) (later-append opened records rest).0 (later_of opened records)
+        (ap (of_transaction (number_at jobs place)) (sym (later-append opened records rest).1)
+        ∙ ap (λ l. of_transaction (number_at jobs place) (later_of opened l)) (sym splits)
+        ∙ others (number_at jobs place) (not_taken jobs front shares gathered.sharing place behind)))
 
-    is-taken : (worker j : ℕ) (share : Share) → get_elem? shares worker ≡ some share → j < length share.taken
-        → Contains share.taken (place_of jobs worker j)
-    is-taken worker j share at less = subst (λ l. Contains l (place_of jobs worker j)) (sym (gathered.stripes worker share at).places)
-        (stripe-contains jobs worker (length share.taken) j less)
-
-    -- and has an entry there
-    has-entry : (worker j : ℕ) → own_records_of (number_at jobs (place_of jobs worker j)) (history (opened ++ front)) ≢ []
-        → (entry : Entry) × Contains parts.first entry × (txn_of entry.rec ≡ number_at jobs (place_of jobs worker j))
-    has-entry worker j recorded = ⊎_elim (λ found. found)
-        (λ none. absurd (recorded (history-own opened front n (number-high worker j)
-        ∙ ap recs_of (history-others n (end_of opened) [] front (subst (AllByRecursion (λ (rec : Rec). txn_of rec ≢ n)) parts.records none) refl))))
+    -- a transfer with a record has an entry there
+    has-entry : (place : ℕ) → own_records_of (number_at jobs place) (history (opened ++ records)) ≢ []
+        → (entry : Entry) × Contains parts.first entry × (txn_of entry.rec ≡ number_at jobs place)
+    has-entry place recorded = ⊎_elim (λ found. found)
+        (λ none. absurd (recorded (history-own opened records n (number-high place)
+        ∙ ap recs_of (history-others n (end_of opened) [] records
+        (subst (AllByRecursion (λ (rec : Rec). txn_of rec ≢ n)) parts.records none) refl))))
         (one-of n parts.first)
       where
         n : ℕ
-        n = number_at jobs (place_of jobs worker j)
+        n = number_at jobs place
 
     -- an entry that does not lie behind one of the front is in it
     in-front : (entry other : Entry) → Contains view.entries entry → Contains parts.first other → entry.start + entry.size ≤ other.start
@@ -154,22 +172,25 @@ module _ (opened : List Rec) (jobs : Jobs) (view : View) (below : greatest_txn (
           arith,
           ends,
           in_order-behind view.constants.start lsn parts.first parts.others
-              (subst (LieInOrder view.constants.start lsn) parts.whole (tiling-in_order view.constants.start lsn view.entries whole.tiles)) other entry before later,
+              (subst (LieInOrder view.constants.start lsn) parts.whole
+              (tiling-in_order view.constants.start lsn view.entries whole.tiles)) other entry before later,
           All-contains (λ (e : Entry). 1 ≤ e.size) view.entries entry
               (All-from_recursion _ view.entries (sized view.entries whole.full whole.spelled)) has,
         ))
 
-    pub front-in_turn : ComeInTurn jobs (history (opened ++ front))
-    front-in_turn worker i j small less recorded =
-        let found = share-at shares worker (omega (arith, small, gathered.count)) in
-        let ended = ended-before worker i j found.0 found.1 less (was-taken worker j found.0 found.1 recorded) in
-        let entry = has-entry worker j recorded in
-        let taken = was-taken worker j found.0 found.1 recorded in
-        let before = (gathered.each worker found.0 found.1).in_turn (place_of jobs worker i) (place_of jobs worker j) ended.end entry.0
-        (place_of-rises jobs worker i j less) (is-taken worker i found.0 found.1 (omega (arith, less, taken)))
-        (is-taken worker j found.0 found.1 taken) ended.contains
-        (subst (λ l. Contains l entry.0) (sym parts.whole) (Contains-append_left parts.first parts.others entry.0 entry.1)) ended.number_is entry.2 in
-        ap has_end (history-own opened front (number_at jobs (place_of jobs worker i)) (number-high worker i))
-        ∙ has_end-own (number_at jobs (place_of jobs worker i)) (end_of opened) front ended.end.rec
-        (subst (λ records. Contains records ended.end.rec) parts.records (contains-record parts.first ended.end
+    pub front-in_turn : ComeInTurn jobs sharing (history (opened ++ records))
+    front-in_turn places i j is-list has has' less recorded =
+        let found = share-of shares places is-list in
+        let share : HasShare jobs (length shares) found.1 view = gathered.each found.0 found.1 found.2 in
+        let first = subst (λ l. Contains l i) (sym found.3) has in
+        let second = subst (λ l. Contains l j) (sym found.3) has' in
+        let rises = All-contains Rises sharing.taken places (All-from_recursion Rises sharing.taken gathered.sharing.rise) is-list in
+        let ended = ended-before found.1.taken found.1.worked (subst Rises (sym found.3) rises) share.came_to i j first second less in
+        let entry = has-entry j recorded in
+        let before = share.in_turn i j ended.end entry.0 less first second ended.contains
+        (subst (λ l. Contains l entry.0) (sym parts.whole) (Contains-append_left parts.first parts.others entry.0 entry.1))
+        ended.number_is entry.2 in
+        ap has_end (history-own opened records (number_at jobs i) (number-high i))
+        ∙ has_end-own (number_at jobs i) (end_of opened) records ended.end.rec
+        (subst (λ l. Contains l ended.end.rec) parts.records (contains-record parts.first ended.end
         (in-front ended.end entry.0 ended.contains entry.1 before))) ended.number_is ended.is_end

@@ -1,5 +1,6 @@
 -- What a worker did stands once it has ended.
-use Rattle.std.proofs.Common.{◌≡◌, ℕ, Bool, true, List, [], ap, subst, ◌∙◌}
+use Rattle.std.proofs.Common.{◌≡◌, ℕ, Bool, true, List, [], IsSomeAnd, Option, None, Some, ap, subst, ◌∙◌}
+use Rattle.std.specs.Option.{unwrap_or}
 use Rattle.log_table.specs.declared.table.Seat.{Seat}
 use Rattle.log_table.specs.declared.table.LogTable.{LogTable}
 use Rattle.log_rule.specs.declared.view.Role.TheVariants.{Ended}
@@ -10,11 +11,24 @@ use Rattle.txn_jobs.specs.declared.cause.Cause.{Cause}
 use Rattle.txn_jobs.specs.declared.cause.Cause.TheVariants.{Stop, LogEnd}
 use Rattle.txn_jobs.specs.declared.cause.Worked.{Worked}
 use Rattle.txn_jobs.specs.declared.cause.Worked.TheVariants.{All, Cut}
-use Rattle.txn_jobs.specs.declared.jobs.Jobs.{Jobs}
-use Rattle.txn_runner.specs.Places.{jobs_taken}
+use Rattle.job_queue.specs.declared.queue.Queue.{Queue}
+use Rattle.txn_runner.specs.Places.{NumberedJobs, jobs_taken}
 use Rattle.txn_runner.specs.Working.{HasWorked, IsCutBy, TakesJobs, Works}
 use Rattle.txn_runner.proofs.ProgressLemmas.{jobs-from_none}
 use Rattle.txn_runner.proofs.WorkLemmas.{Works-may_wait}
+use Rattle.cli_workers.specs.declared.workers.Worker.{Worker}
+use Rattle.cli_threads.specs.Gathering.{worked_of}
+use Rattle.cli_threads.specs.Workers.{HasServed, IsDone}
+
+-- what is known of a worker that is done
+pub served : (table : LogTable) (queue : Queue) (wait : Bool) (worker : Worker) → IsDone table queue wait worker
+    → HasServed table queue wait worker (worked_of worker)
+served table queue wait worker done = by_case worker.worked done
+  where
+    by_case : (worked : Option Worked) → IsSomeAnd worked (HasServed table queue wait worker)
+        → HasServed table queue wait worker (unwrap_or worked All)
+    by_case None done = absurd done
+    by_case (Some worked) done = done
 
 -- a seat that left is of the table that it was of
 module _ (old new : Seat) (left : Becomes old new (retired (view_of old))) where
@@ -32,7 +46,7 @@ module _ (old new : Seat) (left : Becomes old new (retired (view_of old))) where
     slots = ap (λ (view : View). view.constants.slots) view-left ∙ of.slots;
   }
 
-module _ (jobs : Jobs) where
+module _ (jobs : NumberedJobs) where
   HasWorked-retired : (taken : List ℕ) (view : View) → HasWorked jobs taken view → HasWorked jobs taken (retired view)
   HasWorked-retired taken view has = record {
     places = has.places;

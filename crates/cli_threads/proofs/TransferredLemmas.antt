@@ -1,6 +1,7 @@
 -- A run's end: the seats are gathered, the table is closed, and what is known then.
-use Rattle.std.proofs.Common.{◌≡◌, ◌∙◌, ℕ, zero, suc, ◌+◌, Bool, true, cond, eqb, List, [], ◌∷◌, length, map, sym, refl, ap, subst, arith, add-one, add-zero, Option, None, Some, IsSome, IsSomeAnd}
+use Rattle.std.proofs.Common.{◌≡◌, ◌∙◌, ℕ, zero, suc, ◌+◌, ◌≤◌, Bool, true, cond, eqb, List, [], ◌∷◌, length, map, sym, refl, ap, subst, arith, add-one, add-zero, Option, None, Some, IsSome, IsSomeAnd}
 use Rattle.std.specs.List.{AllByRecursion, list_any}
+use Rattle.std.proofs.lemmas.List.{length-map}
 use Rattle.log_disk.specs.declared.disk.LogDisk.{Ghosts}
 use Rattle.log_disk.specs.declared.sink.Sink.{Ghosts as SinkGhosts}
 use Rattle.log_record.specs.declared.rec.Rec.{Rec}
@@ -28,31 +29,36 @@ use Rattle.end_lines.specs.declared.voice.Voice.{Voice}
 use Rattle.commit_pipeline.specs.Turning.{IsSameDaemon}
 use Rattle.commit_pipeline.proofs.RanLemmas.{Later-same}
 use Rattle.txn_jobs.specs.declared.cause.Worked.{Worked}
-use Rattle.txn_jobs.specs.declared.jobs.Jobs.{Jobs}
+use Rattle.job_queue.specs.declared.queue.Queue.{Queue}
+use Rattle.txn_runner.specs.Working.{jobs_of}
 use Rattle.cli_threads.specs.declared.transfers.Served.{Served}
 use Rattle.cli_workers.specs.declared.workers.Worker.{Worker}
-use Rattle.cli_threads.specs.Gathering.{HasLeft, share_of, takes_all, view_in, worked_of}
-use Rattle.cli_threads.specs.Prepared.{HasTurned}
+use Rattle.cli_threads.specs.Gathering.{HasLeft, all_marks, all_places, share_of, takes_all, view_in, worked_of}
+use Rattle.cli_threads.specs.Prepared.{HasTurned, IsServed}
 use Rattle.cli_threads.specs.Shares.{Share, HasGathered}
 use Rattle.cli_threads.specs.Transferred.{HasTransferred, IsFresh, IsOpened}
 use Rattle.log_table.specs.Hiring.{KnowsHired, hired_numbers}
 use Rattle.cli_workers.specs.Workers.{Numbered}
 use Rattle.cli_threads.specs.Workers.{AreDone, HasServed, IsDone, IsDoneAs}
-use Rattle.cli_threads.proofs.GatheredShares.{HasGathered-all, served}
+use Rattle.cli_threads.proofs.GatheredShares.{HasGathered-all}
+use Rattle.cli_threads.proofs.ServedLemmas.{served}
+use Rattle.cli_threads.proofs.TakenPlaces.{AreFront}
 
 -- a worker that is done has left
-HasLeft-done : (table : LogTable) (jobs : Jobs) (wait : Bool) (worker : Worker) → IsDone table jobs wait worker → HasLeft table worker
-HasLeft-done table jobs wait worker done =
-    let has = served table jobs wait worker done in record { seat = has.seat; ended = has.ended; worked = by_case worker.worked done }
+HasLeft-done : (table : LogTable) (queue : Queue) (wait : Bool) (worker : Worker) → IsDone table queue wait worker → HasLeft table queue worker
+HasLeft-done table queue wait worker done =
+    let has = served table queue wait worker done in
+    record { seat = has.seat; ended = has.ended; worked = by_case worker.worked done; pass = has.pass }
   where
-    by_case : (worked : Option Worked) → IsSomeAnd worked (HasServed table jobs wait worker) → IsSome worked
+    by_case : (worked : Option Worked) → IsSomeAnd worked (HasServed table queue wait worker) → IsSome worked
     by_case None done = absurd done
     by_case (Some worked) done = refl
 
-pub HasLeft-all : (table : LogTable) (jobs : Jobs) (wait : Bool) (number : ℕ) (workers : List Worker) → Numbered (IsDoneAs table jobs wait) number workers
-    → AllByRecursion (HasLeft table) workers
-HasLeft-all table jobs wait number [] done = tt
-HasLeft-all table jobs wait number (worker ∷ workers) done = (HasLeft-done table jobs wait worker done.0.1, HasLeft-all table jobs wait (number + 1) workers done.1)
+pub HasLeft-all : (table : LogTable) (queue : Queue) (wait : Bool) (number : ℕ) (workers : List Worker)
+    → Numbered (IsDoneAs table queue wait) number workers → AllByRecursion (HasLeft table queue) workers
+HasLeft-all table queue wait number [] done = tt
+HasLeft-all table queue wait number (worker ∷ workers) done =
+    (HasLeft-done table queue wait worker done.0.1, HasLeft-all table queue wait (number + 1) workers done.1)
 
 -- what the flusher's seat keeps as it is, while it takes in others
 takes_all-constants : (view : View) (others : List View) → (takes_all view others).constants ≡ view.constants
@@ -72,19 +78,19 @@ takes_all-made view [] = refl
 takes_all-made view (other ∷ others) = takes_all-made (takes_in view other) others
 
 -- the numbers of the workers whose seats it took in
-takes_all-merged : (table : LogTable) (jobs : Jobs) (wait : Bool) (number : ℕ) (workers : List Worker) → Numbered (IsDoneAs table jobs wait) number workers
-    → (view : View) → view.standing.merged ≡ hired_numbers number
+takes_all-merged : (table : LogTable) (queue : Queue) (wait : Bool) (number : ℕ) (workers : List Worker)
+    → Numbered (IsDoneAs table queue wait) number workers → (view : View) → view.standing.merged ≡ hired_numbers number
     → (takes_all view (map view_in workers)).standing.merged ≡ hired_numbers (number + length workers)
-takes_all-merged table jobs wait number [] done view below = below ∙ ap hired_numbers (sym (add-zero number))
-takes_all-merged table jobs wait number (worker ∷ workers) done view below =
+takes_all-merged table queue wait number [] done view below = below ∙ ap hired_numbers (sym (add-zero number))
+takes_all-merged table queue wait number (worker ∷ workers) done view below =
     let own = view_in worker in
-    let ended = (served table jobs wait worker done.0.1).ended in
+    let ended = (served table queue wait worker done.0.1).ended in
     let one : (takes_in view own).standing.merged ≡ own.standing.worker ∷ view.standing.merged =
     ap (λ (role : Role). cond (is_worker role) (own.standing.worker ∷ view.standing.merged) view.standing.merged) ended in
     let named : own.standing.worker ≡ number = sym worker.seat.named ∙ done.0.0 in
     let next : (takes_in view own).standing.merged ≡ hired_numbers (number + 1) =
     one ∙ ((λ i. named i ∷ below i) ∙ ap hired_numbers (sym (add-one number))) in
-    takes_all-merged table jobs wait (number + 1) workers done.1 (takes_in view own) next ∙ ap hired_numbers (omega arith)
+    takes_all-merged table queue wait (number + 1) workers done.1 (takes_in view own) next ∙ ap hired_numbers (omega arith)
 
 length-hired : (n : ℕ) → length (hired_numbers n) ≡ n
 length-hired zero = refl
@@ -141,44 +147,59 @@ module _ {D : Type 0} {K : Type 0} (g : Ghosts D) (h : SinkGhosts K) (tail : Tai
     fine = turned.fine;
   }
 
-  -- Once all seats are taken in, and the table is closed, all is known of the run.
-  pub HasTransferred-gathered : (key : Start) (table : LogTable) (jobs : Jobs) (wait : Bool) → KnowsHired key jobs.workers (view_of boss)
-      → (opened : List Rec) → IsOpened g disk tail opened jobs.first key
-      → AreDone table jobs wait served'.workers.items → length served'.workers.items ≡ jobs.workers
+  -- Once all seats are taken in, a front of the script was taken, and the table is closed, all is known of the run.
+  pub HasTransferred-gathered : (key : Start) (table : LogTable) (queue : Queue) (wait : Bool) (crew : ℕ) → KnowsHired key crew (view_of boss)
+      → (opened : List Rec) → IsOpened g disk tail opened queue.first key
+      → AreDone table queue wait served'.workers.items → length served'.workers.items ≡ crew → 1 ≤ crew
+      → (front : AreFront (length queue.script) (all_places served'.workers.items) (all_marks served'.workers.items))
       → AllByRecursion (HasReadStop (view_of served'.boss).sending.stop) (map view_in served'.workers.items)
       → (view : View) → view ≡ takes_all (view_of served'.boss) (map view_in served'.workers.items)
       → view.constants.ring ≡ table.ring → view.constants.slots ≡ table.slots
       → (lsn : ℕ) (rows : List (ℕ × ℕ)) → IsGathered lsn view → IsSettled (base_of key) view rows → HasHeardOfWorkers view
-      → HasTransferred g h opened jobs (map (share_of jobs) served'.workers.items) key turned.first turned.last view lsn rows
-  HasTransferred-gathered key table jobs wait knows opened log done count stops view is ring slots lsn rows gathered settled heard =
-      let others = map view_in served'.workers.items in
-      let taken = HasTaken-turned key jobs.workers knows in
+      → HasTransferred g h opened (jobs_of queue) front.front (map share_of served'.workers.items) key turned.first turned.last view lsn rows
+  HasTransferred-gathered key table queue wait crew knows opened log done count someone front stops view is ring slots lsn rows gathered settled
+      heard =
+      let workers = served'.workers.items in
+      let others = map view_in workers in
+      let shares = map share_of workers in
+      let taken = HasTaken-turned key crew knows in
       let sending = ap (λ (v : View). v.sending) is ∙ takes_all-sending (view_of served'.boss) others in
       let constants = ap (λ (v : View). v.constants) is ∙ takes_all-constants (view_of served'.boss) others in
-      let shares = HasGathered-all table jobs wait served'.workers.items done count (view_of served'.boss) taken.entries taken.jobs stops
+      let has = HasGathered-all table queue wait workers done (omega (arith, count, someone)) front (view_of served'.boss) taken.entries taken.jobs stops
       (ap (λ (c : Constants). c.ring) (sym constants) ∙ ring) (ap (λ (c : Constants). c.slots) (sym constants) ∙ slots) lsn
       (subst (IsGathered lsn) is gathered) in
       let made = ap (λ (v : View). v.standing.made) is ∙ takes_all-made (view_of served'.boss) others ∙ taken.made in
+      let as_many : length view.standing.made ≡ length shares =
+      ap length made ∙ (length-hired crew ∙ (sym count ∙ sym (length-map workers share_of))) in
       record {
-        log = subst (λ d. IsOpened g d turned.first.flusher.tail opened jobs.first key) (sym turned.disk_old)
-            (subst (λ t. IsOpened g disk t opened jobs.first key) (sym turned.tail_is) log);
-        fresh = IsFresh-turned key jobs.workers knows;
+        log = subst (λ d. IsOpened g d turned.first.flusher.tail opened queue.first key) (sym turned.disk_old)
+            (subst (λ t. IsOpened g disk t opened queue.first key) (sym turned.tail_is) log);
+        fresh = IsFresh-turned key crew knows;
         later = turned.later;
         sending = sending ∙ ap (λ (s : Seat). (view_of s).sending) (sym turned.seat_is);
         constants = constants ∙ ap (λ (s : Seat). (view_of s).constants) (sym turned.seat_is);
         drained = λ fine. IsDrained-same view (view_of served'.boss) sending constants (turned.drained (sym turned.fault_is ∙ fine));
-        workers = subst (HasGathered jobs (map (share_of jobs) served'.workers.items)) (sym is) shares;
+        workers = subst (HasGathered (jobs_of queue) front.front shares) (sym is) has;
         gathered = gathered;
         settled = settled;
-        heard = subst (λ (n : ℕ). AllByRecursion (IsRefusalOf n) view.seen.refusals) (ap length made ∙ length-hired jobs.workers) heard;
+        heard = subst (λ (n : ℕ). AllByRecursion (IsRefusalOf n) view.seen.refusals) as_many heard;
       }
 
+-- What was left in the place for it, said of what the run was made of.
+pub IsServed-here : {table table' : LogTable} {queue queue' : Queue} {crew crew' : ℕ} {wait wait' : Bool} {place : Option Served}
+    (served' : Served) → table' ≡ table → queue' ≡ queue → crew' ≡ crew → wait' ≡ wait → place ≡ Some served'
+    → IsSomeAnd place (IsServed table' queue' crew' wait') → IsServed table queue crew wait served'
+IsServed-here {table' = table'} {queue' = queue'} {crew' = crew'} {wait' = wait'} served' same_table same_queue same_crew same_wait is left =
+    subst (λ (run : LogTable × Queue × ℕ × Bool). IsServed run.0 run.1 run.2 run.3 served')
+    (λ i. (same_table i, same_queue i, same_crew i, same_wait i))
+    (subst (λ found. IsSomeAnd found (IsServed table' queue' crew' wait')) is left)
+
 -- Once the seats of all workers are taken in, the table may be closed.
-pub MayClose-all : (table : LogTable) (jobs : Jobs) (wait : Bool) (key : Start) (workers : List Worker) → AreDone table jobs wait workers
+pub MayClose-all : (table : LogTable) (queue : Queue) (wait : Bool) (key : Start) (workers : List Worker) → AreDone table queue wait workers
     → (view : View) → HasTaken key (length workers) view → MayClose (takes_all view (map view_in workers))
-MayClose-all table jobs wait key workers done view taken =
+MayClose-all table queue wait key workers done view taken =
     let all = takes_all view (map view_in workers) in
-    let merged = takes_all-merged table jobs wait 0 workers done view taken.merged in
+    let merged = takes_all-merged table queue wait 0 workers done view taken.merged in
     let made = takes_all-made view (map view_in workers) ∙ taken.made in
     let count : 0 + length workers ≡ length workers = omega arith in
     record {
@@ -187,7 +208,6 @@ MayClose-all table jobs wait key workers done view taken =
     }
 
 -- the shares are those of what the works came to
-pub ends-of_shares : (jobs : Jobs) (workers : List Worker)
-    → map (λ (share : Share). share.worked) (map (share_of jobs) workers) ≡ map worked_of workers
-ends-of_shares jobs [] = refl
-ends-of_shares jobs (worker ∷ workers) = ap (λ l. worked_of worker ∷ l) (ends-of_shares jobs workers)
+pub ends-of_shares : (workers : List Worker) → map (λ (share : Share). share.worked) (map share_of workers) ≡ map worked_of workers
+ends-of_shares [] = refl
+ends-of_shares (worker ∷ workers) = ap (λ l. worked_of worker ∷ l) (ends-of_shares workers)

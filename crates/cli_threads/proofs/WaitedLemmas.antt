@@ -13,13 +13,13 @@ use Rattle.log_rule.specs.declared.view.View.{View}
 use Rattle.log_rule.specs.CrewViews.{takes_in}
 use Rattle.txn_jobs.specs.declared.cause.Worked.{Worked}
 use Rattle.txn_jobs.specs.declared.cause.Worked.TheVariants.{All, Cut}
-use Rattle.txn_jobs.specs.declared.jobs.Jobs.{Jobs}
 use Rattle.txn_jobs.specs.declared.rows.Row.{Row}
-use Rattle.txn_jobs.specs.declared.rows.Rows.{Rows}
+use Rattle.job_queue.specs.declared.queue.Queue.{Queue}
+use Rattle.job_queue.specs.declared.rows.Rows.{Rows}
 use Rattle.lock_core.specs.Transfers.{transfer_of}
 use Rattle.txn_runner.specs.Running.{outcome_of}
-use Rattle.txn_runner.specs.Places.{number_at, job_at}
-use Rattle.txn_runner.specs.Working.{AddsRows, AreRowsOf, AreGivenAt, EachHasRow, IsGivenAt, TellsEnd}
+use Rattle.txn_runner.specs.Places.{NumberedJobs, number_at, job_at}
+use Rattle.txn_runner.specs.Working.{AddsRows, AreRowsOf, AreGivenAt, EachHasRow, IsGivenAt, TellsEnd, jobs_of}
 use Rattle.txn_runner.proofs.PlanLemmas.{end_record-own, end_record-ends}
 use Rattle.cli_workers.specs.declared.workers.Worker.{Worker}
 use Rattle.cli_threads.specs.Gathering.{share_of, takes_all, view_in}
@@ -27,10 +27,10 @@ use Rattle.cli_threads.specs.Shares.{Share}
 use Rattle.cli_threads.specs.Waiting.{HasWaited, HaveWaited, IsGivenFrom, AreGivenFrom, made_of}
 use Rattle.cli_workers.specs.Workers.{Numbered}
 use Rattle.cli_threads.specs.Workers.{IsDoneAs}
-use Rattle.cli_threads.proofs.GatheredShares.{served}
 use Rattle.cli_threads.proofs.MergedEntries.{contains-first, contains-second}
+use Rattle.cli_threads.proofs.ServedLemmas.{served}
 
-module _ (jobs : Jobs) where
+module _ (jobs : NumberedJobs) where
   -- a row of a worker that waits tells it
   HasWaited-row : (place : ℕ) (view : View) (row : Row) → TellsEnd jobs place true view row → HasWaited jobs place view.entries view.books.given
   HasWaited-row place view row tells = record {
@@ -124,16 +124,18 @@ module _ (jobs : Jobs) where
       HaveWaited-keeps_all places (takes_in view other) others (HaveWaited-keeps places view other have)
 
 -- once the seats of all workers are taken in, it is so with each of them
-pub HaveWaited-all : (table : LogTable) (jobs : Jobs) (wait : Bool) (number : ℕ) (workers : List Worker) → Numbered (IsDoneAs table jobs wait) number workers
-    → (view : View) → wait ≡ true → (i : ℕ) (share : Share) → get_elem? (map (share_of jobs) workers) i ≡ some share
-    → HaveWaited jobs (made_of share.taken share.worked) (takes_all view (map view_in workers)).entries
+pub HaveWaited-all : (table : LogTable) (queue : Queue) (wait : Bool) (number : ℕ) (workers : List Worker)
+    → Numbered (IsDoneAs table queue wait) number workers → (view : View) → wait ≡ true → (i : ℕ) (share : Share)
+    → get_elem? (map share_of workers) i ≡ some share
+    → HaveWaited (jobs_of queue) (made_of share.taken share.worked) (takes_all view (map view_in workers)).entries
     (takes_all view (map view_in workers)).books.given
-HaveWaited-all table jobs wait number [] done view waits i share at = absurd (some-ne-none share (sym at))
-HaveWaited-all table jobs wait number (worker ∷ workers) done view waits zero share at =
+HaveWaited-all table queue wait number [] done view waits i share at = absurd (some-ne-none share (sym at))
+HaveWaited-all table queue wait number (worker ∷ workers) done view waits zero share at =
+    let jobs = jobs_of queue in
     let all = takes_all view (map view_in (worker ∷ workers)) in
     subst (λ (s : Share). HaveWaited jobs (made_of s.taken s.worked) all.entries all.books.given)
-    (some-injective (share_of jobs worker) share at)
+    (some-injective (share_of worker) share at)
     (HaveWaited-keeps_all jobs _ (takes_in view (view_in worker)) (map view_in workers)
-    (HaveWaited-taken jobs _ view (view_in worker) ((served table jobs wait worker done.0.1).waited waits)))
-HaveWaited-all table jobs wait number (worker ∷ workers) done view waits (suc i) share at =
-    HaveWaited-all table jobs wait (number + 1) workers done.1 (takes_in view (view_in worker)) waits i share at
+    (HaveWaited-taken jobs _ view (view_in worker) ((served table queue wait worker done.0.1).waited waits)))
+HaveWaited-all table queue wait number (worker ∷ workers) done view waits (suc i) share at =
+    HaveWaited-all table queue wait (number + 1) workers done.1 (takes_in view (view_in worker)) waits i share at

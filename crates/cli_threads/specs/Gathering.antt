@@ -1,5 +1,6 @@
 -- The flusher's seat takes in the workers' seats, one after another.
-use Rattle.std.specs.Prelude.{◌≡◌, List, [], ◌∷◌, IsSome}
+use Rattle.std.specs.Prelude.{◌≡◌, ℕ, List, [], ◌∷◌, map, IsSome}
+use Rattle.std.specs.List.{concat}
 use Rattle.std.specs.Option.{unwrap_or}
 use Rattle.log_table.specs.declared.table.LogTable.{LogTable}
 use Rattle.log_rule.specs.declared.view.Role.TheVariants.{Ended}
@@ -8,16 +9,18 @@ use Rattle.log_table.specs.Seats.{IsOf, view_of}
 use Rattle.log_rule.specs.CrewViews.{takes_in}
 use Rattle.txn_jobs.specs.declared.cause.Worked.{Worked}
 use Rattle.txn_jobs.specs.declared.cause.Worked.TheVariants.{All}
-use Rattle.txn_jobs.specs.declared.jobs.Jobs.{Jobs}
-use Rattle.txn_runner.specs.Working.{places_taken}
+use Rattle.job_queue.specs.declared.queue.Queue.{Queue}
+use Rattle.job_queue.specs.Passes.{HasPassOf}
+use Rattle.txn_runner.specs.Working.{marks_in, places_in}
 use Rattle.cli_workers.specs.declared.workers.Worker.{Worker}
 use Rattle.cli_threads.specs.Shares.{Share}
 
--- the worker came to an end and left the table
-pub record HasLeft (table : LogTable) (worker : Worker) : Type 0 where
+-- the worker came to an end and left the table, and its rows still have their pass
+pub record HasLeft (table : LogTable) (queue : Queue) (worker : Worker) : Type 0 where
   pub seat : IsOf table worker.seat
   pub ended : (view_of worker.seat).standing.role ≡ Ended
   pub worked : IsSome worker.worked
+  pub pass : HasPassOf queue worker.rows
 
 abbrev pub view_in : Worker → View
 view_in worker = view_of worker.seat
@@ -26,8 +29,15 @@ view_in worker = view_of worker.seat
 abbrev pub worked_of : Worker → Worked
 worked_of worker = unwrap_or worker.worked All
 
-abbrev pub share_of : Jobs → Worker → Share
-share_of jobs worker = record { taken = places_taken jobs worker.seat.worker worker.rows; worked = worked_of worker }
+abbrev pub share_of : Worker → Share
+share_of worker = record { taken = places_in worker.rows; worked = worked_of worker }
+
+-- the places and the marks that all of these took
+abbrev pub all_places : List Worker → List ℕ
+all_places workers = concat (map (λ (worker : Worker). places_in worker.rows) workers)
+
+abbrev pub all_marks : List Worker → List ℕ
+all_marks workers = concat (map (λ (worker : Worker). marks_in worker.rows) workers)
 
 -- the view after all of these were taken in
 abbrev pub takes_all : View → List View → View

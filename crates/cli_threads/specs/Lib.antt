@@ -4,6 +4,7 @@ pub mod Prepared
 pub mod Run
 pub mod RunStops
 pub mod Shares
+pub mod Sharing
 pub mod Transferred
 pub mod Waiting
 pub mod Workers

@@ -12,7 +12,9 @@ use Rattle.log_rule.specs.Sends.{IsDrained}
 use Rattle.commit_pipeline.specs.declared.daemon.Daemon.{Daemon}
 use Rattle.end_lines.specs.declared.voice.Voice.{Voice}
 use Rattle.commit_pipeline.specs.Later.{Later}
-use Rattle.txn_jobs.specs.declared.jobs.Jobs.{Jobs}
+use Rattle.job_queue.specs.declared.jobs.Jobs.{Jobs}
+use Rattle.job_queue.specs.declared.queue.Queue.{Queue}
+use Rattle.job_queue.specs.Passes.{HasFirstPass, marks_back, passes_out, places_back, workers_of}
 use Rattle.cli_threads.specs.declared.transfers.Crew.{Crew}
 use Rattle.cli_threads.specs.declared.room.Room.{Room}
 use Rattle.cli_threads.specs.declared.transfers.Prepared.{Prepared}
@@ -27,31 +29,39 @@ pub record HasRoomFor (workers : ℕ) (room : Room) : Type 0 where
   pub back : workers ≤ vec_capacity room.back
   pub ends : workers ≤ vec_capacity room.ends
 
--- All workers are enrolled, as the flusher's seat knows, and there is room for all that they and the daemon need.
-pub record IsCrew (table : LogTable) (jobs : Jobs) (crew : Crew) : Type 0 where
-  pub boss : HasHired table jobs.workers crew.boss
-  pub workers : AreUnused table jobs crew.workers.items
-  pub count : vec_len crew.workers ≡ jobs.workers
+-- All of so many workers are enrolled, as the flusher's seat knows, and there is room for all that they and the daemon need.
+pub record IsCrew (table : LogTable) (queue : Queue) (size : ℕ) (crew : Crew) : Type 0 where
+  pub boss : HasHired table size crew.boss
+  pub workers : AreUnused table queue crew.workers.items
+  pub count : vec_len crew.workers ≡ size
   pub batch : table.ring ≤ crew.batch.room
-  pub room : HasRoomFor jobs.workers crew.room
+  pub room : HasRoomFor size crew.room
+
+-- each of the workers, one at least, has its pass, and nothing was given back yet
+pub record AreEnlisted (jobs : Jobs) : Type 0 where
+  pub first : HasFirstPass jobs
+  pub someone : 1 ≤ workers_of jobs
+  pub out : passes_out jobs ≡ workers_of jobs
+  pub none_back : (places_back jobs ≡ []) × (marks_back jobs ≡ [])
 
 -- and the table allows the transfers, and each worker has its flag
 pub record IsPrepared (prepared : Prepared) : Type 0 where
-  pub flags : vec_len prepared.refused ≡ prepared.jobs.workers
-  pub allowed : All (IsAllowedJob prepared.table.accounts) prepared.jobs.script
-  pub crew : IsCrew prepared.table prepared.jobs prepared.crew
+  pub flags : vec_len prepared.refused ≡ workers_of prepared.jobs
+  pub allowed : All (IsAllowedJob prepared.table.accounts) prepared.jobs.queue.script
+  pub enlisted : AreEnlisted prepared.jobs
+  pub crew : IsCrew prepared.table prepared.jobs.queue (workers_of prepared.jobs) prepared.crew
 
 -- each worker is done, and there is room for what their work came to
-pub record IsServed (table : LogTable) (jobs : Jobs) (wait : Bool) (served : Served) : Type 0 where
-  pub done : AreDone table jobs wait served.workers.items
-  pub count : vec_len served.workers ≡ jobs.workers
+pub record IsServed (table : LogTable) (queue : Queue) (workers : ℕ) (wait : Bool) (served : Served) : Type 0 where
+  pub done : AreDone table queue wait served.workers.items
+  pub count : vec_len served.workers ≡ workers
   pub none : served.ends.items ≡ []
-  pub room : jobs.workers ≤ vec_capacity served.ends
+  pub room : workers ≤ vec_capacity served.ends
 
 -- Turns led from a daemon over the one seat, disk and sink, which nothing had befallen, to one over the others; and the log was drained
 -- where nothing befell that.
-pub record HasTurned {D : Type 0} {K : Type 0} (g : Ghosts D) (h : SinkGhosts K) (tail : Tail) (voice : Voice) (seat : Seat) (disk disk_new : D)
-    (sink sink_new : K) (served : Served) : Type 0 where
+pub record HasTurned {D : Type 0} {K : Type 0} (g : Ghosts D) (h : SinkGhosts K) (tail : Tail) (voice : Voice) (seat : Seat)
+    (disk disk_new : D) (sink sink_new : K) (served : Served) : Type 0 where
   pub first : Daemon D K
   pub last : Daemon D K
   pub later : Later g h first last

@@ -1,7 +1,8 @@
--- What a run leaves on the disk and writes. `opened` is the list that was opened, `jobs` are the transfers of the script under their numbers,
--- and `list` has the records that the run inserted. `at` is the place of the tail from which it went on in the file, and `ring` the length of the
--- ring. `g` is what a disk shows, and `old` and `new` are what is known of the output.
-use Rattle.std.specs.Prelude.{◌≡◌, ◌≢◌, ◌<◌, ℕ, ◌+◌, ◌*◌, true, List, [], ◌++◌, length, map, Option}
+-- What a run leaves on the disk and writes. `opened` is the list that was opened, `jobs` are the transfers of the script under
+-- their numbers, `sharing` says which worker took which of them, and `list` has the records that the run inserted. `at` is the place
+-- of the tail from which it went on in the file, and `ring` the length of the ring. `g` is what a disk shows, and `old` and `new` are
+-- what is known of the output.
+use Rattle.std.specs.Prelude.{◌≡◌, ◌≢◌, ◌<◌, ◌≤◌, ℕ, ◌+◌, ◌*◌, true, List, [], ◌++◌, length, map, Contains, Option}
 use Rattle.std.specs.Io.KnownBytes.{Appends}
 use Rattle.log_disk.specs.Costs.{Costs}
 use Rattle.log_disk.specs.Disk.{Leaves}
@@ -21,53 +22,62 @@ use Rattle.log_recovery.specs.Text.{accounts_text, rows_text}
 use Rattle.lock_core.specs.Transfers.{transfer_of}
 use Rattle.end_lines.specs.declared.voice.Voice.{Voice}
 use Rattle.commit_pipeline.specs.EndLines.{text_of}
-use Rattle.txn_jobs.specs.declared.jobs.Jobs.{Jobs}
-use Rattle.txn_runner.specs.Places.{place_of, number_at}
+use Rattle.txn_jobs.specs.Places.{NumberedJobs, number_at}
 use Rattle.segment_file.specs.Lengths.{most_end}
 use Rattle.cli_threads.specs.RunStops.{EndsAs}
+use Rattle.cli_threads.specs.Sharing.{Sharing}
 
 -- the transfers of the script
-abbrev pub transfers_of : Jobs → List PlainTransfer
+abbrev pub transfers_of : NumberedJobs → List PlainTransfer
 transfers_of jobs = map transfer_of jobs.script
 
--- The transfers of each worker come one behind another: where one has a record, each before it in the worker's stripe has its end record.
-abbrev pub ComeInTurn : Jobs → List Placed → Type 0
-ComeInTurn jobs h = (worker i j : ℕ) → worker < jobs.workers → i < j → own_records_of (number_at jobs (place_of jobs worker j)) h ≢ []
-    → EndsAs jobs (place_of jobs worker i) h true
+-- The jobs of each worker come one behind another: where one has a record, each before it among those that the worker took has its
+-- end record.
+abbrev pub ComeInTurn : NumberedJobs → Sharing → List Placed → Type 0
+ComeInTurn jobs sharing h = (places : List ℕ) (i j : ℕ) → Contains sharing.taken places → Contains places i → Contains places j → i < j
+    → own_records_of (number_at jobs j) h ≢ [] → EndsAs jobs i h true
 
--- the list goes on from the opened one as the script says: each transfer ran whole, or was cut short, each worker's in turn
-pub record GoesOn (opened : List Rec) (jobs : Jobs) (records : List Rec) : Type 0 where
+-- no job behind those that were taken has a record
+abbrev pub HasNoneBehind : NumberedJobs → Sharing → List Placed → Type 0
+HasNoneBehind jobs sharing h = (place : ℕ) → sharing.front ≤ place → own_records_of (number_at jobs place) h ≡ []
+
+-- The list goes on from the opened one as the script says: each transfer ran whole, or was cut short, each worker's in turn; those
+-- behind the front of the script did not begin.
+pub record GoesOn (opened : List Rec) (jobs : NumberedJobs) (sharing : Sharing) (records : List Rec) : Type 0 where
   pub sound : IsSoundAfter (history opened) (history records)
   pub serial : IsPartlySerial (history opened) jobs.first (transfers_of jobs) (history records)
-  pub in_turn : ComeInTurn jobs (history records)
+  pub in_turn : ComeInTurn jobs sharing (history records)
+  pub rest : HasNoneBehind jobs sharing (history records)
 
 -- the bytes hold the opened list and then a front of what the run inserted
-pub record HoldsRun (opened : List Rec) (jobs : Jobs) (list : List Rec) (bytes : List ℕ) : Type 0 where
+pub record HoldsRun (opened : List Rec) (jobs : NumberedJobs) (sharing : Sharing) (list : List Rec) (bytes : List ℕ) : Type 0 where
   pub front : List Rec
   pub rest : List Rec
   pub whole : list ≡ front ++ rest
   pub holds : HoldsLawful bytes (opened ++ front)
-  pub goes_on : GoesOn opened jobs (opened ++ front)
+  pub goes_on : GoesOn opened jobs sharing (opened ++ front)
 
--- The bytes are such, and what was written is a prefix of the lines of their end records: so each commit that was told is in them. At most 4
--- calls of the disk were made for each record, and 4 more in a flush that failed. The file grew by no more than these records take, and one batch.
-pub record IsLeft {D : Type 0} (g : Ghosts D) (voice : Voice) (opened : List Rec) (jobs : Jobs) (list : List Rec) (at ring : ℕ) (before after : D)
-    (old new : Option (List ℕ)) (bytes : List ℕ) : Type 0 where
-  pub run : HoldsRun opened jobs list bytes
+-- The bytes are such, and what was written is a prefix of the lines of their end records: so each commit that was told is in them. At
+-- most 4 calls of the disk were made for each record, and 4 more in a flush that failed. The file grew by no more than these records
+-- take, and one batch.
+pub record IsLeft {D : Type 0} (g : Ghosts D) (voice : Voice) (opened : List Rec) (jobs : NumberedJobs) (sharing : Sharing)
+    (list : List Rec) (at ring : ℕ) (before after : D) (old new : Option (List ℕ)) (bytes : List ℕ) : Type 0 where
+  pub run : HoldsRun opened jobs sharing list bytes
   pub text : AppendsPrefix old new (text_of voice (end_of opened) run.front)
   pub count : Costs g (4 * length run.front + 4) (4 * length run.front + 4) before after
   pub grows : GrowsAtMostTo g (most_end at (end_of run.front) ring) before after
 
 -- The list goes on from the opened one as the script says. At each moment an image holds the opened list and a front of it, so that of two
 -- such the one is a prefix of the other; and at the exit each image holds all that was told.
-pub record RunKeepsLog {D : Type 0} (g : Ghosts D) (voice : Voice) (opened : List Rec) (jobs : Jobs) (list : List Rec) (at ring : ℕ)
-    (before after : D) (old new : Option (List ℕ)) : Type 0 where
-  pub goes_on : GoesOn opened jobs (opened ++ list)
-  pub moments : g.honest before → Leaves g.moment g.images_since (HoldsRun opened jobs list) before after
-  pub left : g.honest before → (bytes : List ℕ) → g.images after bytes → IsLeft g voice opened jobs list at ring before after old new bytes
+pub record RunKeepsLog {D : Type 0} (g : Ghosts D) (voice : Voice) (opened : List Rec) (jobs : NumberedJobs) (sharing : Sharing)
+    (list : List Rec) (at ring : ℕ) (before after : D) (old new : Option (List ℕ)) : Type 0 where
+  pub goes_on : GoesOn opened jobs sharing (opened ++ list)
+  pub moments : g.honest before → Leaves g.moment g.images_since (HoldsRun opened jobs sharing list) before after
+  pub left : g.honest before → (bytes : List ℕ) → g.images after bytes
+      → IsLeft g voice opened jobs sharing list at ring before after old new bytes
 
 -- The log was drained: each image holds the whole list, whose lines are written, and the rows of the closed table are its accounts.
-pub record RunIsDrained {D : Type 0} (g : Ghosts D) (voice : Voice) (opened : List Rec) (jobs : Jobs) (list : List Rec) (at ring : ℕ)
+pub record RunIsDrained {D : Type 0} (g : Ghosts D) (voice : Voice) (opened list : List Rec) (at ring : ℕ)
     (before after : D) (old new : Option (List ℕ)) (lsn : ℕ) (rows : List (ℕ × ℕ)) : Type 0 where
   pub images : g.honest before → (bytes : List ℕ) → g.images after bytes → HoldsLawful bytes (opened ++ list)
   pub text : Appends old new (text_of voice (end_of opened) list)
@@ -77,5 +87,5 @@ pub record RunIsDrained {D : Type 0} (g : Ghosts D) (voice : Voice) (opened : Li
   pub grows : g.honest before → GrowsAtMostTo g (most_end at (end_of list) ring) before after
 
 -- each transfer of the script ran whole
-abbrev pub RunsWhole : List Rec → Jobs → List Rec → Type 0
+abbrev pub RunsWhole : List Rec → NumberedJobs → List Rec → Type 0
 RunsWhole opened jobs list = IsSerial (history opened) jobs.first (transfers_of jobs) (history (opened ++ list))

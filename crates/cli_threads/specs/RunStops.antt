@@ -1,5 +1,5 @@
--- How far the stripes of a run came that stopped at the end of the log. `h` is the history of the whole list.
-use Rattle.std.specs.Prelude.{◌≡◌, ◌⊎◌, ℕ, ◌+◌, ◌<◌, ◌≤◌, Bool, true, false, List, [], ◌∷◌, ◌++◌, length}
+-- How far a run came that stopped at the end of the log. `h` is the history of the whole list.
+use Rattle.std.specs.Prelude.{◌≡◌, ℕ, ◌+◌, ◌<◌, ◌≤◌, Bool, true, false, List, ◌∷◌, ◌++◌, length}
 use Rattle.lsn_space.specs.declared.lsn.TheConstants.{LAST}
 use Rattle.std.specs.List.{AllByRecursion}
 use Rattle.log_record.specs.declared.rec.Rec.{Rec}
@@ -11,30 +11,15 @@ use Rattle.lock_core.specs.Lawful.{genesis_of}
 use Rattle.lock_core.specs.Sums.{IsBalanceOf}
 use Rattle.lock_core.specs.Transactions.{own_records_of, has_end, all_without_prev, in_order}
 use Rattle.lock_core.specs.Transfers.{transfer_of}
-use Rattle.txn_jobs.specs.declared.jobs.Jobs.{Jobs}
 use Rattle.log_rule.specs.Members.{IsTotalOf}
-use Rattle.txn_runner.specs.Places.{place_of, number_at, job_at}
+use Rattle.job_queue.specs.Takings.{times}
+use Rattle.txn_jobs.specs.Places.{NumberedJobs, number_at, job_at}
 use Rattle.txn_runner.specs.Running.{IsTotalFor}
-
--- the script has a k-th transfer of the worker
-abbrev pub IsOfScript : Jobs → ℕ → ℕ → Type 0
-IsOfScript jobs worker k = place_of jobs worker k < length jobs.script
+use Rattle.cli_threads.specs.Sharing.{Sharing}
 
 -- whether the transfer at this place has an end record
-abbrev pub EndsAs : Jobs → ℕ → List Placed → Bool → Type 0
+abbrev pub EndsAs : NumberedJobs → ℕ → List Placed → Bool → Type 0
 EndsAs jobs place h is = has_end (own_records_of (number_at jobs place) h) ≡ is
-
--- each transfer of the worker has its end record
-abbrev pub IsWholeStripe : Jobs → ℕ → List Placed → Type 0
-IsWholeStripe jobs worker h = (k : ℕ) → IsOfScript jobs worker k → EndsAs jobs (place_of jobs worker k) h true
-
--- one of them is the first without an end record, and none after it has any record
-pub record IsCutStripe (jobs : Jobs) (worker : ℕ) (h : List Placed) : Type 0 where
-  pub cut : ℕ
-  pub inside : IsOfScript jobs worker cut
-  pub before : (k : ℕ) → k < cut → EndsAs jobs (place_of jobs worker k) h true
-  pub unended : EndsAs jobs (place_of jobs worker cut) h false
-  pub after : (k : ℕ) → cut < k → own_records_of (number_at jobs (place_of jobs worker k)) h ≡ []
 
 -- in a front of the list which ends at or above this tail the account has this balance
 pub record HadBalance (records : List Rec) (tail account balance : ℕ) : Type 0 where
@@ -50,7 +35,7 @@ HadBalances records tail balances leg = HadBalance records tail leg.0 (balances 
 
 -- Each account of the transfer at this place has its balance in a front of the list that ends at or above this tail. By the outcome of that
 -- transfer run alone on these balances its next record, behind those that the list has of it, has so many units.
-pub record HasNextOf (records : List Rec) (jobs : Jobs) (place tail units : ℕ) : Type 0 where
+pub record HasNextOf (records : List Rec) (jobs : NumberedJobs) (place tail units : ℕ) : Type 0 where
   pub balances : ℕ → ℕ
   pub each : AllByRecursion (HadBalances records tail balances) (job_at jobs place).legs
   pub next : Rec
@@ -63,33 +48,39 @@ pub record HasNextOf (records : List Rec) (jobs : Jobs) (place tail units : ℕ)
 abbrev pub IsOfWorkers : ℕ → ℕ → ℕ → Type 0
 IsOfWorkers workers size total = (1 < workers) × IsTotalOf workers size total
 
--- The total is the record's own size, or that of a group that it was one of. Without slots, and with one worker, there is no group; else a group has at
--- most a quarter of the ring, and at most 26 units for each further worker besides the record.
+-- The total is the record's own size, or that of a group that it was one of. Without slots, and with one worker, there is no group;
+-- else a group has at most a quarter of the ring, and at most 26 units for each further worker besides the record.
 abbrev pub IsTotalAmong : ℕ → ℕ → ℕ → ℕ → ℕ → Type 0
 IsTotalAmong ring slots workers size total = IsTotalFor ring slots (IsOfWorkers workers) size total
 
--- For the next record of the transfer at this place so many units were asked for, and they did not fit between this tail, a boundary of the list, and
--- the last LSN. With one worker that tail is the end of the list. The table had such a ring and so many slots.
-pub record FoundNoRoom (records : List Rec) (jobs : Jobs) (ring slots place tail total : ℕ) : Type 0 where
+-- For the next record of the transfer at this place so many units were asked for, and they did not fit between this tail, a boundary
+-- of the list, and the last LSN. With one worker that tail is the end of the list. The table had such a ring and so many slots.
+pub record FoundNoRoom (records : List Rec) (jobs : NumberedJobs) (workers ring slots place tail total : ℕ) : Type 0 where
   pub too_long : LAST < tail + total
   pub boundary : IsBoundary records tail
-  pub alone : jobs.workers ≡ 1 → tail ≡ end_of records
+  pub alone : workers ≡ 1 → tail ≡ end_of records
   pub units : ℕ
   pub next : HasNextOf records jobs place tail units
-  pub asked : IsTotalAmong ring slots jobs.workers units total
+  pub asked : IsTotalAmong ring slots workers units total
 
--- the worker's stripe was cut in a transfer that found no room
-pub record WasCutForRoom (records : List Rec) (jobs : Jobs) (ring slots worker : ℕ) : Type 0 where
-  pub stripe : IsCutStripe jobs worker (history records)
+-- the transfer at this place of the front was begun and not ended, since it found no room
+pub record WasCutForRoom (records : List Rec) (jobs : NumberedJobs) (front workers ring slots place : ℕ) : Type 0 where
+  pub inside : place < front
+  pub unended : EndsAs jobs place (history records) false
   pub tail : ℕ
   pub total : ℕ
-  pub no_room : FoundNoRoom records jobs ring slots (place_of jobs worker stripe.cut) tail total
+  pub no_room : FoundNoRoom records jobs workers ring slots place tail total
 
--- A worker's transfer was cut off since it found no room for so many units behind this tail. Each stripe is whole, or was cut for the same reason.
-pub record StopsAtLogEnd (opened : List Rec) (jobs : Jobs) (list : List Rec) (ring slots tail total : ℕ) : Type 0 where
-  pub stripes : (worker : ℕ) → worker < jobs.workers
-      → IsWholeStripe jobs worker (history (opened ++ list)) ⊎ WasCutForRoom (opened ++ list) jobs ring slots worker
-  pub worker : ℕ
-  pub is_worker : worker < jobs.workers
-  pub stripe : IsCutStripe jobs worker (history (opened ++ list))
-  pub no_room : FoundNoRoom (opened ++ list) jobs ring slots (place_of jobs worker stripe.cut) tail total
+-- The transfers at these places, `cut` and others, were cut off, and all others of the front ended. Each found no room, and the first
+-- of them this: so many units behind this tail. They are at most as many as the workers, and just as many where transfers of the
+-- script are left.
+pub record StopsAtLogEnd (opened : List Rec) (jobs : NumberedJobs) (sharing : Sharing) (list : List Rec) (ring slots tail total : ℕ)
+    : Type 0 where
+  pub cut : ℕ
+  pub others : List ℕ
+  pub once : (place : ℕ) → times place (cut ∷ others) ≤ 1
+  pub no_room : FoundNoRoom (opened ++ list) jobs (length sharing.taken) ring slots cut tail total
+  pub all_cut : AllByRecursion (WasCutForRoom (opened ++ list) jobs sharing.front (length sharing.taken) ring slots) (cut ∷ others)
+  pub ended : (place : ℕ) → place < sharing.front → times place (cut ∷ others) ≡ 0 → EndsAs jobs place (history (opened ++ list)) true
+  pub most : length (cut ∷ others) ≤ length sharing.taken
+  pub just : sharing.front < length jobs.script → length (cut ∷ others) ≡ length sharing.taken

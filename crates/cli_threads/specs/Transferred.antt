@@ -1,5 +1,5 @@
 -- What a run goes on from, and what is known of it once all seats are gathered: from that follows all that a run promises.
-use Rattle.std.specs.Prelude.{◌≡◌, ℕ, ◌+◌, ◌*◌, ◌^◌, ◌<◌, ◌≤◌, List, [], None}
+use Rattle.std.specs.Prelude.{◌≡◌, ℕ, ◌+◌, ◌*◌, ◌^◌, ◌<◌, ◌≤◌, List, [], length, None}
 use Rattle.std.specs.List.{AllByRecursion}
 use Rattle.log_disk.specs.declared.disk.LogDisk.{Ghosts}
 use Rattle.log_disk.specs.declared.sink.Sink.{Ghosts as SinkGhosts}
@@ -22,7 +22,7 @@ use Rattle.log_rule.specs.Views.{constants_of}
 use Rattle.flusher.specs.Flushing.{sent_of}
 use Rattle.commit_pipeline.specs.declared.daemon.Daemon.{Daemon}
 use Rattle.commit_pipeline.specs.Later.{Later}
-use Rattle.txn_jobs.specs.declared.jobs.Jobs.{Jobs}
+use Rattle.txn_jobs.specs.Places.{NumberedJobs}
 use Rattle.cli_threads.specs.Shares.{Share, HasGathered}
 
 -- Each image stands at the tail with the opened list, which is lawful and has no transaction from the first number on. The table is made to
@@ -46,17 +46,18 @@ pub record IsFresh {D : Type 0} {K : Type 0} (key : Start) (d : Daemon D K) : Ty
   pub stop : (view_of d.flusher.seat).sending.stop ≡ 0
   pub fine : d.fault ≡ None
 
--- The run went on from the opened log. Turns led from the one daemon to the other, whose seat then took in all workers' seats, which left it
--- with this view. Then the table was closed, with this end of the log and these rows. A group of whose refusal a worker heard was one of these workers.
-pub record HasTransferred {D : Type 0} {K : Type 0} (g : Ghosts D) (h : SinkGhosts K) (opened : List Rec) (jobs : Jobs) (shares : List Share)
-    (key : Start) (old new : Daemon D K) (view : View) (lsn : ℕ) (rows : List (ℕ × ℕ)) : Type 0 where
+-- The run went on from the opened log. Turns led from the one daemon to the other, whose seat then took in all workers' seats, which
+-- left it with this view. Then the table was closed, with this end of the log and these rows. A group of whose refusal a worker heard
+-- was one of these workers.
+pub record HasTransferred {D : Type 0} {K : Type 0} (g : Ghosts D) (h : SinkGhosts K) (opened : List Rec) (jobs : NumberedJobs) (front : ℕ)
+    (shares : List Share) (key : Start) (old new : Daemon D K) (view : View) (lsn : ℕ) (rows : List (ℕ × ℕ)) : Type 0 where
   pub log : IsOpened g old.flusher.disk.now old.flusher.tail opened jobs.first key
   pub fresh : IsFresh key old
   pub later : Later g h old new
   pub sending : view.sending ≡ (view_of new.flusher.seat).sending
   pub constants : view.constants ≡ (view_of new.flusher.seat).constants
   pub drained : new.fault ≡ None → IsDrained view
-  pub workers : HasGathered jobs shares view
+  pub workers : HasGathered jobs front shares view
   pub gathered : IsGathered lsn view
   pub settled : IsSettled (base_of key) view rows
-  pub heard : AllByRecursion (IsRefusalOf jobs.workers) view.seen.refusals
+  pub heard : AllByRecursion (IsRefusalOf (length shares)) view.seen.refusals

@@ -6,8 +6,7 @@ use Rattle.log_rule.specs.declared.view.Entry.{Entry}
 use Rattle.log_rule.specs.declared.view.Given.{Given}
 use Rattle.txn_jobs.specs.declared.cause.Worked.{Worked}
 use Rattle.txn_jobs.specs.declared.cause.Worked.TheVariants.{All, Cut}
-use Rattle.txn_jobs.specs.declared.jobs.Jobs.{Jobs}
-use Rattle.txn_runner.specs.Places.{number_at, job_at}
+use Rattle.txn_jobs.specs.Places.{NumberedJobs, number_at, job_at}
 
 -- under this number the account was given back where durable was seen at this LSN or above it
 pub record IsGivenFrom (number least : ℕ) (given : List Given) (account : ℕ) : Type 0 where
@@ -21,8 +20,9 @@ pub record IsGivenFrom (number least : ℕ) (given : List Given) (account : ℕ)
 abbrev pub AreGivenFrom : ℕ → ℕ → List Given → ℕ × ℕ × ℕ → Type 0
 AreGivenFrom number least given leg = IsGivenFrom number least given leg.0 × IsGivenFrom number least given leg.1
 
--- the transfer at this place has its end record among the entries, and each of its accounts went back once that record was seen to be durable
-pub record HasWaited (jobs : Jobs) (place : ℕ) (entries : List Entry) (given : List Given) : Type 0 where
+-- the transfer at this place has its end record among the entries, and each of its accounts went back once that record was seen to be
+-- durable
+pub record HasWaited (jobs : NumberedJobs) (place : ℕ) (entries : List Entry) (given : List Given) : Type 0 where
   pub end : Entry
   pub contains : Contains entries end
   pub number_is : txn_of end.rec ≡ number_at jobs place
@@ -35,5 +35,5 @@ made_of taken All = taken
 made_of taken (Cut cause) = take (length taken - 1) taken
 
 -- so it is with the transfer at each of these places
-abbrev pub HaveWaited : Jobs → List ℕ → List Entry → List Given → Type 0
+abbrev pub HaveWaited : NumberedJobs → List ℕ → List Entry → List Given → Type 0
 HaveWaited jobs places entries given = AllByRecursion (λ place. HasWaited jobs place entries given) places

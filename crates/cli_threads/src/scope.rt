@@ -1,5 +1,5 @@
 //! The workers in their threads, and the daemon beside them.
-ghost use Rattle.std.specs.Prelude.{◌≡◌, ◌≤◌, [], None, true, vec_len, vec_capacity};
+ghost use Rattle.std.specs.Prelude.{◌≡◌, ◌≤◌, [], None, true, length, vec_len, vec_capacity};
 ghost use Rattle.log_table.specs.Seats.{view_of};
 ghost use Rattle.log_rule.specs.Sends.{IsDrained};
 ghost use Rattle.log_rule.specs.Views.{knows_all_enrolled};
@@ -39,12 +39,13 @@ pub(crate) fn serve_all<'a, R: Threads + Wait + Clock + Sync, D: LogDisk, K: Sin
     back: Vec<Worker>,
     relief: FlushingRelief<'a, D, K>,
 ) -> (FlushingRelief<'a, D, K>, Vec<Worker>)
-    requires workers { AreUnused run.table.now run.jobs.now workers.items }
+    requires workers { AreUnused run.table.now run.queue.now workers.items }
+    requires flags { vec_len workers ≤ length run.refused.now }
     requires none { (started.items ≡ []) × (back.items ≡ []) }
     requires room { (vec_len workers ≤ vec_capacity started) × (vec_len workers ≤ vec_capacity back) }
     requires ready { relief.daemon.fault ≡ None → MayTurn D.LogDisk relief.daemon }
     requires told { knows_all_enrolled (view_of relief.daemon.flusher.seat).standing ≡ true }
-    ensures done { AreDone run.entry.table.now run.entry.jobs.now run.entry.wait result.1.items }
+    ensures done { AreDone run.entry.table.now run.entry.queue.now run.entry.wait result.1.items }
     ensures count { vec_len result.1 ≡ vec_len workers }
     ensures drained { result.0.daemon.fault ≡ None → IsDrained (view_of result.0.daemon.flusher.seat) }
     ensures later { Later D.LogDisk K.Sink relief.entry.daemon result.0.daemon }
@@ -54,12 +55,13 @@ pub(crate) fn serve_all<'a, R: Threads + Wait + Clock + Sync, D: LogDisk, K: Sin
         thread::scope_env(),
         run.rt,
         move |scope| -> (FlushingRelief<D, K>, Vec<Worker>)
-            requires workers { AreUnused run.table.now run.jobs.now workers.items }
+            requires workers { AreUnused run.table.now run.queue.now workers.items }
+            requires flags { vec_len workers ≤ length run.refused.now }
             requires none { (started.items ≡ []) × (back.items ≡ []) }
             requires room { (vec_len workers ≤ vec_capacity started) × (vec_len workers ≤ vec_capacity back) }
             requires ready { relief.daemon.fault ≡ None → MayTurn D.LogDisk relief.daemon }
             requires told { knows_all_enrolled (view_of relief.daemon.flusher.seat).standing ≡ true }
-            ensures done { AreDone run.entry.table.now run.entry.jobs.now run.entry.wait result.1.items }
+            ensures done { AreDone run.entry.table.now run.entry.queue.now run.entry.wait result.1.items }
             ensures count { vec_len result.1 ≡ vec_len workers }
             ensures drained { result.0.daemon.fault ≡ None → IsDrained (view_of result.0.daemon.flusher.seat) }
             ensures later { Later D.LogDisk K.Sink relief.entry.daemon result.0.daemon }

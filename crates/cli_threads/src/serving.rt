@@ -1,5 +1,5 @@
 //! The life of a worker, in a thread of its own or, where none can be made, in this one.
-ghost use Rattle.std.specs.Prelude.{◌≡◌, ◌≤◌, [], All, length, vec_len, vec_capacity};
+ghost use Rattle.std.specs.Prelude.{◌≡◌, ◌<◌, ◌≤◌, [], All, length, vec_len, vec_capacity};
 ghost use Rattle.lock_core.specs.Transfers.{IsAllowedJob};
 ghost use Rattle.cli_workers.specs.Workers.{IsHired, IsUnused, AreUnused};
 ghost use Rattle.cli_threads.specs.Workers.{IsDone, ComesBack, IsStarted, AreDone, AreStarted, number_of};
@@ -12,19 +12,19 @@ use std::sync::Wait;
 use std::sync::atomic::{AtomicBool, Ordering};
 use std::thread::{Promise, PromisedHandle, Scope, Threads};
 use std::time::Clock;
-use txn_runner::{Jobs, Relief, YieldRelief, work};
+use txn_runner::{Queue, Relief, YieldRelief, work};
 
 /// What a worker's thread brings: the worker of this number, which served or is as it was hired.
 #[derive(Drop)]
 pub(crate) struct Comes {
     table: Snapshot<LogTable>,
-    jobs: Snapshot<Jobs>,
+    queue: Snapshot<Queue>,
     wait: bool,
     number: u32,
 }
 
 impl Promise<Worker> for Comes {
-    ghost kept_by = { λ p worker. (worker.seat.worker ≡ p.number) × ComesBack p.table.value p.jobs.value p.wait worker };
+    ghost kept_by = { λ p worker. (worker.seat.worker ≡ p.number) × ComesBack p.table.value p.queue.value p.wait worker };
 }
 
 /// A worker in a thread of its own, or one that had none.
@@ -40,10 +40,10 @@ fn serve<'a, R: Wait, G: Gate, Q: Relief>(
     worker: Worker,
     relief: &mut Q,
 ) -> Worker
-    requires hired { IsHired run.now.table.now run.now.jobs.now worker }
+    requires hired { IsHired run.now.table.now run.now.queue.now worker }
     requires relief { Q.ready relief.old }
     ensures number { result.seat.worker ≡ worker.seat.worker }
-    ensures done { IsDone run.now.table.now run.now.jobs.now run.now.wait result }
+    ensures done { IsDone run.now.table.now run.now.queue.now run.now.wait result }
     ensures relief { Q.ready relief.new }
     ensures later { Q.later relief.old relief.new }
 {
@@ -54,7 +54,7 @@ fn serve<'a, R: Wait, G: Gate, Q: Relief>(
         ..
     } = worker;
     let worked = work(
-        run.rt, run.table, &mut seat, run.jobs, &mut rows, relief, wait, run.gate,
+        run.rt, run.table, &mut seat, run.queue, &mut rows, relief, wait, run.gate,
     );
     run.table.leave(&mut seat);
     Worker {
@@ -70,10 +70,10 @@ fn finish<'a, R: Wait, G: Gate, Q: Relief>(
     worker: Worker,
     relief: &mut Q,
 ) -> Worker
-    requires comes { ComesBack run.now.table.now run.now.jobs.now run.now.wait worker }
+    requires comes { ComesBack run.now.table.now run.now.queue.now run.now.wait worker }
     requires relief { Q.ready relief.old }
     ensures number { result.seat.worker ≡ worker.seat.worker }
-    ensures done { IsDone run.now.table.now run.now.jobs.now run.now.wait result }
+    ensures done { IsDone run.now.table.now run.now.queue.now run.now.wait result }
     ensures relief { Q.ready relief.new }
     ensures later { Q.later relief.old relief.new }
 {
@@ -90,17 +90,18 @@ fn start<'a, R: Threads + Wait + Clock + Sync, G: Gate + Sync, E, Q: Relief>(
     worker: Worker,
     relief: &mut Q,
 ) -> Started
-    requires unused { IsUnused run.now.table.now run.now.jobs.now worker }
+    requires unused { IsUnused run.now.table.now run.now.queue.now worker }
+    requires flag { worker.seat.worker < length run.now.refused.now }
     requires relief { Q.ready relief.old }
     ensures number { number_of result ≡ worker.seat.worker }
-    ensures started { IsStarted run.now.table.now run.now.jobs.now run.now.wait result }
+    ensures started { IsStarted run.now.table.now run.now.queue.now run.now.wait result }
     ensures relief { Q.ready relief.new }
     ensures later { Q.later relief.old relief.new }
 {
     let Run {
         rt,
         table,
-        jobs,
+        queue,
         refused,
         wait,
         gate,
@@ -109,18 +110,17 @@ fn start<'a, R: Threads + Wait + Clock + Sync, G: Gate + Sync, E, Q: Relief>(
     let flag = &refused[number as usize];
     let promise = Comes {
         table: Snapshot::of(table),
-        jobs: Snapshot::of(jobs),
+        queue: Snapshot::of(queue),
         wait,
         number,
     };
     match scope.spawn_with(
         promise,
         move || -> Worker
-            requires allowed { All (IsAllowedJob table.now.accounts) jobs.now.script }
-            requires flagged { jobs.now.workers ≤ length refused.now }
-            requires unused { IsUnused table.now jobs.now worker }
+            requires allowed { All (IsAllowedJob table.now.accounts) queue.now.script }
+            requires unused { IsUnused table.now queue.now worker }
             ensures number { result.seat.worker ≡ worker.seat.worker }
-            ensures comes { ComesBack table.entry.now jobs.entry.now wait result }
+            ensures comes { ComesBack table.entry.now queue.entry.now wait result }
         {
             // Set where no thread can be made, and this is called to have the worker back.
             if flag.load(Ordering::SeqCst) {
@@ -129,7 +129,7 @@ fn start<'a, R: Threads + Wait + Clock + Sync, G: Gate + Sync, E, Q: Relief>(
             let run = Run {
                 rt,
                 table,
-                jobs,
+                queue,
                 refused,
                 wait,
                 gate,
@@ -154,11 +154,12 @@ pub(crate) fn start_all<'a, R: Threads + Wait + Clock + Sync, G: Gate + Sync, E,
     mut started: Vec<Started>,
     relief: &mut Q,
 ) -> Vec<Started>
-    requires workers { AreUnused run.now.table.now run.now.jobs.now workers.items }
+    requires workers { AreUnused run.now.table.now run.now.queue.now workers.items }
+    requires flags { vec_len workers ≤ length run.now.refused.now }
     requires none { started.items ≡ [] }
     requires room { vec_len workers ≤ vec_capacity started }
     requires relief { Q.ready relief.old }
-    ensures started { AreStarted run.now.table.now run.now.jobs.now run.now.wait result.items }
+    ensures started { AreStarted run.now.table.now run.now.queue.now run.now.wait result.items }
     ensures count { vec_len result ≡ vec_len workers }
     ensures relief { Q.ready relief.new }
     ensures later { Q.later relief.old relief.new }
@@ -175,10 +176,10 @@ fn join<'a, R: Threads + Wait + Sync, G: Gate + Sync, Q: Relief>(
     started: Started,
     relief: &mut Q,
 ) -> Worker
-    requires started { IsStarted run.now.table.now run.now.jobs.now run.now.wait started }
+    requires started { IsStarted run.now.table.now run.now.queue.now run.now.wait started }
     requires relief { Q.ready relief.old }
     ensures number { result.seat.worker ≡ number_of started }
-    ensures done { IsDone run.now.table.now run.now.jobs.now run.now.wait result }
+    ensures done { IsDone run.now.table.now run.now.queue.now run.now.wait result }
     ensures relief { Q.ready relief.new }
     ensures later { Q.later relief.old relief.new }
 {
@@ -196,11 +197,11 @@ pub(crate) fn join_all<'a, R: Threads + Wait + Sync, G: Gate + Sync, Q: Relief>(
     mut back: Vec<Worker>,
     relief: &mut Q,
 ) -> Vec<Worker>
-    requires started { AreStarted run.now.table.now run.now.jobs.now run.now.wait started.items }
+    requires started { AreStarted run.now.table.now run.now.queue.now run.now.wait started.items }
     requires none { back.items ≡ [] }
     requires room { vec_len started ≤ vec_capacity back }
     requires relief { Q.ready relief.old }
-    ensures done { AreDone run.now.table.now run.now.jobs.now run.now.wait result.items }
+    ensures done { AreDone run.now.table.now run.now.queue.now run.now.wait result.items }
     ensures count { vec_len result ≡ vec_len started }
     ensures relief { Q.ready relief.new }
     ensures later { Q.later relief.old relief.new }

@@ -9,6 +9,7 @@ ghost use Rattle.log_rule.specs.Opening.{HasAccounts};
 ghost use Rattle.log_table.specs.Seats.{key_of};
 ghost use Rattle.segment_file.specs.Standing.{IsShut};
 ghost use Rattle.lock_core.specs.Transfers.{IsAllowedJob};
+ghost use Rattle.job_queue.specs.Passes.{workers_of};
 ghost use Rattle.cli_threads.specs.Ending.{HasEnded};
 ghost use Rattle.cli_threads.specs.Prepared.{IsCrew, IsPrepared, IsServed, HasTurned};
 ghost use Rattle.cli_threads.specs.Transferred.{IsOpened};
@@ -34,7 +35,8 @@ use std::time::Clock;
 use txn_runner::{Jobs, Worked};
 use txn_script::Script;
 
-/// All that a run needs memory for: the table, the transfers, a flag for each worker, and those who make the transfers.
+/// All that a run needs memory for: the table, the transfers in their queue, a flag for each worker, and those who make the
+/// transfers.
 #[derive(Drop)]
 pub struct Prepared {
     pub(crate) table: LogTable,
@@ -78,8 +80,8 @@ struct Served {
     ends: Vec<Worked>,
 }
 
-/// Makes the table, and all that workers and the daemon need.
-pub fn prepare<R>(
+/// Makes the table, and all that workers and the daemon need. The transfers are put into a queue, of which each worker has its pass.
+pub fn prepare<R: Wait>(
     rt: &R,
     alloc: Global,
     start: Start,
@@ -95,16 +97,16 @@ pub fn prepare<R>(
     requires shared { 1 ≤ workers }
     requires numbered { first + length script ≤ LAST_TXN }
     requires allowed { All (IsAllowedJob (length start.accounts.rows)) script }
-    ensures script { IfOk result (λ p. p.jobs.script ≡ script) }
-    ensures first { IfOk result (λ p. p.jobs.first ≡ first) }
-    ensures workers { IfOk result (λ p. p.jobs.workers ≡ workers) }
+    ensures script { IfOk result (λ p. p.jobs.queue.script ≡ script) }
+    ensures first { IfOk result (λ p. p.jobs.queue.first ≡ first) }
+    ensures workers { IfOk result (λ p. workers_of p.jobs ≡ workers) }
     ensures key { IfOk result (λ p. key_of p.table ≡ start) }
     ensures prepared { IfOk result IsPrepared }
 {
     let batch = Batch::make(alloc, start.ring)?;
     let (table, mut boss) = LogTable::make(alloc, start)?;
-    let jobs = Jobs::make(rt, alloc, script, first, workers)?;
-    let hired = hire_all(alloc, &table, &mut boss, &jobs, workers)?;
+    let mut jobs = Jobs::make(rt, alloc, script, first, workers)?;
+    let hired = hire_all(alloc, &table, &mut boss, &mut jobs, workers)?;
     let refused = flags(alloc, workers)?;
     let room = Room::make(alloc, workers)?;
     let crew = Crew {
@@ -154,11 +156,11 @@ fn serve_crew<'a, R: Threads + Wait + Clock + Sync, D: LogDisk, K: Sink, G: Gate
     outside: Outside<'a, D, K>,
     served: &mut Option<Served>,
 ) -> Outside<'a, D, K>
-    requires crew { IsCrew run.table.now run.jobs.now crew }
+    requires crew { IsCrew run.table.now run.queue.now (length run.refused.now) crew }
     requires shut { D.honest outside.disk.now → IsShut tail.at (D.images outside.disk.now) }
     requires next { tail.next ≡ (key_of run.table.now).start }
     requires place { tail.at ≤ 2 ^ 63 + 16 * tail.next }
-    ensures served { IsSomeAnd served.new (IsServed run.entry.table.now run.entry.jobs.now run.entry.wait) }
+    ensures served { IsSomeAnd served.new (IsServed run.entry.table.now run.entry.queue.now (length run.entry.refused.now) run.entry.wait) }
     ensures turned { IfSome served.new (HasTurned D.LogDisk K.Sink tail voice crew.boss outside.entry.disk.now result.disk.now outside.entry.out.now result.out.now) }
     ensures disk { result.disk.ghost_name ≡ outside.entry.disk.ghost_name }
     ensures out { result.out.ghost_name ≡ outside.entry.out.ghost_name }
@@ -196,7 +198,8 @@ fn serve_crew<'a, R: Threads + Wait + Clock + Sync, D: LogDisk, K: Sink, G: Gate
     Outside { disk, out: sink }
 }
 
-/// Makes the transfers, by workers in threads, while this thread is the daemon.
+/// Makes the transfers, by workers in threads, while this thread is the daemon. Then the flusher's seat takes in all workers' seats,
+/// and the queue's first pass all passes, so that it knows which transfers were taken.
 pub fn run_transfers<R: Threads + Wait + Clock + Sync, D: LogDisk, K: Sink, G: Gate + Sync>(
     rt: &R,
     prepared: Prepared,
@@ -208,22 +211,24 @@ pub fn run_transfers<R: Threads + Wait + Clock + Sync, D: LogDisk, K: Sink, G: G
     gate: &G,
 ) -> Ended
     requires prepared { IsPrepared prepared }
-    requires opened { (opened : List Rec) × IsOpened D.LogDisk disk.old tail opened prepared.jobs.first (key_of prepared.table) }
-    ensures ended { (opened : List Rec) → IsOpened D.LogDisk disk.old tail opened prepared.jobs.first (key_of prepared.table)
+    requires opened { (opened : List Rec) × IsOpened D.LogDisk disk.old tail opened prepared.jobs.queue.first (key_of prepared.table) }
+    ensures ended { (opened : List Rec) → IsOpened D.LogDisk disk.old tail opened prepared.jobs.queue.first (key_of prepared.table)
         → HasEnded D.LogDisk K.Sink prepared opened tail voice wait disk.old disk.new out.old out.new result }
 {
     let Prepared {
         table,
-        jobs,
+        mut jobs,
         refused,
         crew,
     } = prepared;
-    let run = Run::make(rt, &table, &jobs, refused.as_slice(), wait, gate);
+    let queue = jobs.queue();
+    let run = Run::make(rt, &table, queue, refused.as_slice(), wait, gate);
     let mut served = None;
     let _outside = serve_crew(run, crew, tail, voice, Outside { disk, out }, &mut served);
     let Some(served) = served else { unreachable!() };
     let mut boss = served.boss;
-    let ends = gather(&table, &mut boss, served.workers, served.ends);
+    let ends = gather(&table, &mut boss, &mut jobs, served.workers, served.ends);
+    jobs.count_taken();
     Ended {
         fault: served.fault,
         done: served.done,

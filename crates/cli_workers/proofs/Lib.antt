@@ -1,2 +1,2 @@
+pub mod HandingLemmas
 pub mod NumberedLemmas
-pub mod WorkerLemmas

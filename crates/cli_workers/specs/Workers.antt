@@ -1,27 +1,29 @@
 -- Workers of a run, before their work. Each has a number, from 0 on.
-use Rattle.std.specs.Prelude.{◌≡◌, ℕ, ◌+◌, ◌<◌, List, [], ◌∷◌, None}
+use Rattle.std.specs.Prelude.{◌≡◌, ℕ, ◌+◌, List, [], ◌∷◌, None}
 use Rattle.log_table.specs.declared.table.LogTable.{LogTable}
 use Rattle.log_rule.specs.Books.{no_books}
 use Rattle.log_table.specs.Seats.{IsOf, view_of}
 use Rattle.ring_buffer.specs.Calls.{IsReady}
-use Rattle.txn_jobs.specs.declared.jobs.Jobs.{Jobs}
-use Rattle.txn_runner.specs.Working.{HasRoomForRows, rows_in, taken_in}
+use Rattle.job_queue.specs.declared.jobs.Jobs.{Jobs}
+use Rattle.job_queue.specs.declared.queue.Queue.{Queue}
+use Rattle.job_queue.specs.Passes.{HasPassOf, IsSameQueue, marks_back, passes_out, places_back}
+use Rattle.txn_runner.specs.Working.{HasRoomForRows, jobs_of, rows_in, places_in, marks_in}
 use Rattle.cli_workers.specs.declared.workers.Worker.{Worker}
 
--- the worker is enrolled and has done nothing, and has room for its rows
-pub record IsHired (table : LogTable) (jobs : Jobs) (worker : Worker) : Type 0 where
+-- the worker is enrolled, and its rows have a pass of the queue; it has done nothing, and has room for its rows
+pub record IsHired (table : LogTable) (queue : Queue) (worker : Worker) : Type 0 where
   pub seat : IsOf table worker.seat
   pub ready : IsReady (view_of worker.seat)
-  pub below : worker.seat.worker < jobs.workers
   pub entries : (view_of worker.seat).entries ≡ []
   pub books : (view_of worker.seat).books ≡ no_books
-  pub room : HasRoomForRows jobs worker.seat.worker worker.rows
+  pub pass : HasPassOf queue worker.rows
+  pub fresh : (places_in worker.rows ≡ []) × (marks_in worker.rows ≡ [])
+  pub room : HasRoomForRows (jobs_of queue) worker.rows
   pub rows : rows_in worker.rows ≡ []
-  pub taken : taken_in worker.rows ≡ 0
 
 -- and it did not serve yet
-abbrev pub IsUnused : LogTable → Jobs → Worker → Type 0
-IsUnused table jobs worker = (worker.worked ≡ None) × IsHired table jobs worker
+abbrev pub IsUnused : LogTable → Queue → Worker → Type 0
+IsUnused table queue worker = (worker.worked ≡ None) × IsHired table queue worker
 
 -- each element has this, by its number, the first by this one
 abbrev pub Numbered : {A : Type 0} → (ℕ → A → Type 0) → ℕ → List A → Type 0
@@ -29,9 +31,16 @@ Numbered P number [] = Unit {0}
 Numbered P number (x ∷ xs) = P number x × Numbered P (number + 1) xs
 
 -- the worker of this number is unused
-abbrev pub IsUnusedAs : LogTable → Jobs → ℕ → Worker → Type 0
-IsUnusedAs table jobs number worker = (worker.seat.worker ≡ number) × IsUnused table jobs worker
+abbrev pub IsUnusedAs : LogTable → Queue → ℕ → Worker → Type 0
+IsUnusedAs table queue number worker = (worker.seat.worker ≡ number) × IsUnused table queue worker
 
 -- all workers of a run
-abbrev pub AreUnused : LogTable → Jobs → List Worker → Type 0
-AreUnused table jobs workers = Numbered (IsUnusedAs table jobs) 0 workers
+abbrev pub AreUnused : LogTable → Queue → List Worker → Type 0
+AreUnused table queue workers = Numbered (IsUnusedAs table queue) 0 workers
+
+-- so many passes more are out; what was given back is as before
+pub record HandsOut (count : ℕ) (old new : Jobs) : Type 0 where
+  pub same : IsSameQueue old new
+  pub out : passes_out new ≡ passes_out old + count
+  pub places : places_back new ≡ places_back old
+  pub marks : marks_back new ≡ marks_back old

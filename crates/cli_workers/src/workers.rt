@@ -1,9 +1,8 @@
 //! Workers of a run, and how each is made.
-ghost use Rattle.std.specs.Prelude.{◌≡◌, ◌+◌, ◌<◌, ◌≤◌, [], ℕ, IfOk, OnOk, vec_len};
+ghost use Rattle.std.specs.Prelude.{◌≡◌, ◌+◌, ◌<◌, ◌≤◌, [], ℕ, IfOk, OnOk, length, vec_len};
 ghost use Rattle.log_table.specs.Hiring.{HasHired};
-ghost use Rattle.txn_runner.specs.Places.{HasStripe};
-ghost use Rattle.txn_runner.specs.Working.{HasRoomForRows, rows_in, taken_in};
-ghost use Rattle.cli_workers.specs.Workers.{AreUnused, IsUnused};
+ghost use Rattle.job_queue.specs.Passes.{HasFirstPass, marks_back, passes_out, workers_of};
+ghost use Rattle.cli_workers.specs.Workers.{AreUnused, HandsOut, IsUnused};
 
 use crate::reserving::room_for;
 use log_table::{LogTable, Seat};
@@ -11,7 +10,7 @@ use lsn_space::NoMemory;
 use std::alloc::Global;
 use txn_runner::{Jobs, Rows, Worked};
 
-/// A worker: its seat, its rows, and what its work came to, where it was done.
+/// A worker: its seat, its rows with their pass of the queue, and what its work came to, where it was done.
 #[derive(Drop)]
 pub struct Worker {
     pub seat: Seat,
@@ -19,30 +18,31 @@ pub struct Worker {
     pub worked: Option<Worked>,
 }
 
-/// The worker of the next number. It is enrolled, and the flusher's seat knows that.
-fn hire(table: &LogTable, boss: &mut Seat, jobs: &Jobs, number: u32, rows: Rows) -> Worker
+/// The worker of the next number, enlisted: its rows have a pass, and room for all transfers. It is enrolled, and the flusher's seat
+/// knows that.
+fn hire(
+    alloc: Global,
+    table: &LogTable,
+    boss: &mut Seat,
+    jobs: &mut Jobs,
+    number: u32,
+) -> Result<Worker, NoMemory>
     requires boss { HasHired table.now number boss.old }
-    requires number { number < jobs.now.workers }
-    requires room { HasRoomForRows jobs.now number rows }
-    requires rows { rows_in rows ≡ [] }
-    requires taken { taken_in rows ≡ 0 }
-    ensures boss { HasHired table.now (number + 1) boss.new }
-    ensures number { result.seat.worker ≡ number }
-    ensures unused { IsUnused table.now jobs.now result }
+    requires jobs { HasFirstPass jobs.old }
+    requires mark { passes_out jobs.old + length (marks_back jobs.old) < workers_of jobs.old }
+    ensures boss { OnOk result (HasHired table.now (number + 1) boss.new) }
+    ensures jobs { HasFirstPass jobs.new }
+    ensures out { OnOk result (HandsOut 1 jobs.old jobs.new) }
+    ensures number { IfOk result (λ worker. worker.seat.worker ≡ number) }
+    ensures unused { IfOk result (IsUnused table.now jobs.new.queue) }
 {
-    Worker {
+    let mut rows = Rows::make(alloc, jobs.count() as u32)?;
+    jobs.enlist(alloc, &mut rows)?;
+    Ok(Worker {
         seat: table.hire(boss, number),
         rows,
         worked: None,
-    }
-}
-
-/// No worker has more transfers than this.
-fn most_of_one(jobs: &Jobs, count: u32) -> u32
-    requires { count ≡ jobs.now.workers }
-    ensures { (worker k : ℕ) → HasStripe jobs.now worker k → k ≤ result }
-{
-    (jobs.count() / u64::from(count) + 1) as u32
+    })
 }
 
 /// All workers of a run, so many, in the order of their numbers.
@@ -50,20 +50,22 @@ pub fn hire_all(
     alloc: Global,
     table: &LogTable,
     boss: &mut Seat,
-    jobs: &Jobs,
+    jobs: &mut Jobs,
     count: u32,
 ) -> Result<Vec<Worker>, NoMemory>
     requires boss { HasHired table.now 0 boss.old }
-    requires count { count ≡ jobs.now.workers }
+    requires jobs { HasFirstPass jobs.old }
+    requires fresh { (passes_out jobs.old ≡ 0) × (marks_back jobs.old ≡ []) }
+    requires count { count ≡ workers_of jobs.old }
     ensures boss { OnOk result (HasHired table.now count boss.new) }
-    ensures unused { IfOk result (λ workers. AreUnused table.now jobs.now workers.items) }
+    ensures jobs { OnOk result (HasFirstPass jobs.new) }
+    ensures out { OnOk result (HandsOut count jobs.old jobs.new) }
+    ensures unused { IfOk result (λ workers. AreUnused table.now jobs.new.queue workers.items) }
     ensures count { IfOk result (λ workers. vec_len workers ≡ count) }
 {
     let mut workers = room_for(alloc, count)?;
-    let most = most_of_one(jobs, count);
     for number in 0..count {
-        let rows = Rows::make(alloc, most)?;
-        workers.push_reserved(hire(table, boss, jobs, number, rows));
+        workers.push_reserved(hire(alloc, table, boss, jobs, number)?);
     }
     Ok(workers)
 }

@@ -29,6 +29,7 @@ returns-in-Ok-create-clause-ready g c =
       place = created.place ∙ ap (λ (units : List ℕ). new_end (length units)) c.in-Ok.ensures.batch;
       ring = prepared.ring;
       generated = prepared.generated;
+      workers_are = prepared.workers_are;
       prepared = prepared.ready;
       made = λ honest. only-makes g.D.LogDisk c.args.disk.now c.finds_none.new.disk c.create.new.disk c.in-Ok.batch.units c.in-Ok.ensures.batch
           found.moments (found.count honest) (found.reads honest) (created.moments (found.honest.0 honest)) (created.count (found.honest.0 honest))

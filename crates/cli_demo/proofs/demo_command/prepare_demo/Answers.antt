@@ -32,7 +32,8 @@ returns-clause-prepared g c =
       accounts = ap (λ (key : Start). key.accounts.rows) made.key ∙ c.in_ok-script.ensures.accounts;
       ring = ap (λ (key : Start). key.ring) made.key ∙ c.plan_of_demo-plan.ensures.ring;
       slots = ap (λ (key : Start). key.slots) made.key ∙ c.plan_of_demo-plan.ensures.slots;
-      generated = record { script = made.script ∙ c.in_ok-script.ensures.script; first = made.first; workers_are = made.workers ∙ c.plan_of_demo-plan.ensures.workers };
+      generated = record { script = made.script ∙ c.in_ok-script.ensures.script; first = made.first };
+      workers_are = made.workers ∙ c.plan_of_demo-plan.ensures.workers;
       ready = made.prepared;
     }
 

@@ -6,4 +6,4 @@ pub returns-clause-status : goal.returns-clause-status
 returns-clause-status c = lawful-status
 
 pub returns-clause-text : goal.returns-clause-text
-returns-clause-text c = λ bytes opened list jobs left old new held. lawful-text bytes (opened ++ held.front) left old new held.holds
+returns-clause-text c = λ bytes opened list jobs sharing left old new held. lawful-text bytes (opened ++ held.front) left old new held.holds

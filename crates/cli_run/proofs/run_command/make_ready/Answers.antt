@@ -53,6 +53,7 @@ returns-in-Ok-clause-ready g c =
           (λ honest. said.honest.1 (settled.honest.1 honest));
       asked = asked-prepared g.D.LogDisk _ _ _ opens _ _ prepared c.in_ok-prepared.ensures.prepared _ _ c.in_ok-transfers.ensures.ok
           c.in_ok-transfers.ensures.fit;
+      workers_are = c.in_ok-prepared.ensures.prepared.workers_are;
       ring = c.in_ok-prepared.ensures.prepared.ring;
       slots = c.in_ok-prepared.ensures.prepared.slots;
       prepared = c.in_ok-prepared.ensures.prepared.ready;

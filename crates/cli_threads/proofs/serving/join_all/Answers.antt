@@ -7,13 +7,13 @@ pub loop-one-preserved : goal.loop-one-preserved
 loop-one-preserved g c =
     let was = c.loop-one.invariant in
     let table = c.args.run.now.table.now in
-    let jobs = c.args.run.now.jobs.now in
+    let queue = c.args.run.now.queue.now in
     let wait = c.args.run.now.wait in
     let one = c.in-Some.one in
     let yielded = c.loop-one.yielded in
     let left = c.next.new.self.rest.items in
-    let P = IsStartedAs table jobs wait in
-    let Q = IsDoneAs table jobs wait in
+    let P = IsStartedAs table queue wait in
+    let Q = IsDoneAs table queue wait in
     let made = c.loop-one.back.items in
     let front : c.loop-one.one-iterator.rest.items ≡ one ∷ left = search rules in
     let before = subst (λ l. Makes P Q yielded l made) front was.makes in

@@ -1,0 +1,190 @@
+-- Each place of the front of a script is one worker's, once, so that each job is taken at most once.
+use Rattle.std.proofs.Common.{◌≡◌, ◌≢◌, ◌⊎◌, inl, inr, ◌<◌, ◌≤◌, ◌==◌, ℕ, zero, suc, ◌+◌, ◌-◌, cond, None, List, [], ◌∷◌, ◌++◌, length, map, get_or, refl, ap, sym, subst, arith, Contains, eq-eqb, ne_eqb}
+use Rattle.std.specs.List.{AllByRecursion, concat}
+use Rattle.std.proofs.lemmas.List.{map-append}
+use Rattle.std.proofs.lemmas.List.Elements.{Contains-append_left, Contains-append_right}
+use mathlib.Core.Logic.{dite}
+use mathlib.Core.Option.{some}
+use native.Mathlib.Decide.{ℕ_discrete, dec_lt}
+use lib.ListN.{get_elem?}
+use Rattle.lock_core.specs.Serial.{Task, numbered}
+use Rattle.lock_core.specs.Transfers.{transfer_of}
+use Rattle.lock_core.specs.declared.job.Job.{Job}
+use Rattle.lock_core.proofs.ListLemmas.{all-append}
+use Rattle.log_rule.specs.declared.view.TakenJob.{TakenJob}
+use Rattle.log_rule.specs.Books.{task_of, times_taken}
+use Rattle.job_queue.specs.Takings.{same, times}
+use Rattle.job_queue.proofs.Counting.{same-refl, once-most, once-some, times-append}
+use Rattle.txn_runner.specs.Places.{NumberedJobs, number_at, taken_at, jobs_taken}
+use Rattle.cli_threads.specs.Shares.{Share, all_taken, sharing_of}
+use Rattle.cli_threads.specs.Sharing.{IsSharedOut}
+use Rattle.cli_threads.proofs.PlaceTimes.{same-is, same-other, once-inside}
+
+-- the places that these workers took
+abbrev pub places_taken : List Share → List ℕ
+places_taken shares = concat (map (λ (share : Share). share.taken) shares)
+
+-- the job at this place, under its number
+abbrev pub task_at : ℕ → List Job → ℕ → Task
+task_at first script place =
+    record { number = first + place; job = transfer_of (get_or script place (record { legs = []; note = None })) }
+
+abbrev pub tasks_of : NumberedJobs → List Task
+tasks_of jobs = numbered jobs.first (map transfer_of jobs.script)
+
+-- ---- how often a number was taken
+
+times_taken-append : (n : ℕ) (xs ys : List TakenJob) → times_taken n (xs ++ ys) ≡ times_taken n xs + times_taken n ys
+times_taken-append n [] ys = omega arith
+times_taken-append n (taken ∷ xs) ys = let rest = times_taken-append n xs ys in omega arith
+
+times_taken-none : (n : ℕ) (list : List TakenJob) → AllByRecursion (λ (task : Task). task.number ≢ n) (map task_of list)
+    → times_taken n list ≡ 0
+times_taken-none n [] others = refl
+times_taken-none n (taken ∷ list) others =
+    let rest = times_taken-none n list others.1 in
+    let here : cond {A = ℕ} (taken.number == n) 1 0 ≡ 0 = ap (λ b. cond {A = ℕ} b 1 0) (ne_eqb taken.number n others.0) in omega arith
+
+module _ (jobs : NumberedJobs) (x : ℕ) where
+  -- as often as its place
+  times_taken-place : (place : ℕ) → times_taken (number_at jobs x) (taken_at jobs place ∷ []) ≡ same x place
+  times_taken-place place = dite (ℕ_discrete x place)
+      (λ is.
+      let here : cond {A = ℕ} (number_at jobs place == number_at jobs x) 1 0 ≡ 1 =
+      ap (λ b. cond {A = ℕ} b 1 0) (eq-eqb (number_at jobs place) (number_at jobs x) (ap (number_at jobs) (sym is))) in
+      omega (arith, here, same-is x place is))
+      (λ other.
+      let here : cond {A = ℕ} (number_at jobs place == number_at jobs x) 1 0 ≡ 0 =
+      ap (λ b. cond {A = ℕ} b 1 0) (ne_eqb (number_at jobs place) (number_at jobs x) (λ is. other (omega (arith, is)))) in
+      omega (arith, here, same-other x place other))
+
+  times_taken-places : (places : List ℕ) → times_taken (number_at jobs x) (jobs_taken jobs places) ≡ times x places
+  times_taken-places [] = refl
+  times_taken-places (place ∷ places) =
+      let sum = times_taken-append (number_at jobs x) (jobs_taken jobs places) (taken_at jobs place ∷ []) in
+      omega (arith, sum, times_taken-places places, times_taken-place place)
+
+  times_taken-shares : (shares : List Share) → times_taken (number_at jobs x) (all_taken jobs shares) ≡ times x (places_taken shares)
+  times_taken-shares [] = refl
+  times_taken-shares (share ∷ shares) =
+      let sum = times_taken-append (number_at jobs x) (jobs_taken jobs share.taken) (all_taken jobs shares) in
+      let places = times-append x share.taken (places_taken shares) in
+      omega (arith, sum, places, times_taken-places share.taken, times_taken-shares shares)
+
+-- ---- the jobs taken, as those of the script under their numbers
+
+module _ (P : Task → Type 0) where
+  -- what holds of the job at each place
+  pub each-numbered : (first : ℕ) (script : List Job) → ((place : ℕ) → place < length script → P (task_at first script place))
+      → AllByRecursion P (numbered first (map transfer_of script))
+  each-numbered first [] each = tt
+  each-numbered first (job ∷ script) each = (
+    subst (λ n. P (record { number = n; job = transfer_of job })) (omega arith) (each 0 (omega arith)),
+    each-numbered (first + 1) script (λ place inside. subst (λ n. P (record { number = n; job = (task_at first script place).job }))
+        (omega arith) (each (suc place) (omega arith))),
+  )
+
+  all-joined : (xs ys : List TakenJob) → AllByRecursion P (map task_of xs) → AllByRecursion P (map task_of ys)
+      → AllByRecursion P (map task_of (xs ++ ys))
+  all-joined xs ys first second =
+      subst (AllByRecursion P) (sym (map-append task_of xs ys)) (all-append P (map task_of xs) (map task_of ys) first second)
+
+  each-place : (jobs : NumberedJobs) (places : List ℕ) → ((place : ℕ) → 1 ≤ times place places → P (task_of (taken_at jobs place)))
+      → AllByRecursion P (map task_of (jobs_taken jobs places))
+  each-place jobs [] each = tt
+  each-place jobs (place ∷ places) each = all-joined (jobs_taken jobs places) (taken_at jobs place ∷ [])
+      (each-place jobs places (λ other has. each other (omega (arith, has))))
+      (each place (omega (arith, same-refl place)), tt)
+
+  -- what holds of the job at each place that was taken
+  pub each-taken : (jobs : NumberedJobs) (shares : List Share)
+      → ((place : ℕ) → 1 ≤ times place (places_taken shares) → P (task_of (taken_at jobs place)))
+      → AllByRecursion P (map task_of (all_taken jobs shares))
+  each-taken jobs [] each = tt
+  each-taken jobs (share ∷ shares) each = all-joined (jobs_taken jobs share.taken) (all_taken jobs shares)
+      (each-place jobs share.taken (λ place has. each place (omega (arith, has, times-append place share.taken (places_taken shares)))))
+      (each-taken jobs shares (λ place has. each place (omega (arith, has, times-append place share.taken (places_taken shares)))))
+
+pub numbered-has : (first : ℕ) (script : List Job) (place : ℕ) → place < length script
+    → Contains (numbered first (map transfer_of script)) (task_at first script place)
+numbered-has first [] place inside = absurd (omega arith)
+numbered-has first (job ∷ script) zero inside = (0, omega arith, ap (λ n. record { number = n; job = transfer_of job }) (omega arith))
+numbered-has first (job ∷ script) (suc place) inside =
+    let tasks : List Task = numbered (first + 1) (map transfer_of script) in
+    Contains-append_right (record { number = first; job = transfer_of job } ∷ []) tasks (task_at first (job ∷ script) (suc place))
+    (subst (λ n. Contains tasks (record { number = n; job = (task_at first script place).job })) (omega arith)
+    (numbered-has (first + 1) script place (omega arith)))
+
+module _ (jobs : NumberedJobs) (place : ℕ) where
+  abbrev own_task : Task
+  own_task = task_of (taken_at jobs place)
+
+  -- what is joined has the tasks of both
+  has-first : (xs ys : List TakenJob) → Contains (map task_of xs) own_task → Contains (map task_of (xs ++ ys)) own_task
+  has-first xs ys has = subst (λ l. Contains l own_task) (sym (map-append task_of xs ys))
+      (Contains-append_left (map task_of xs) (map task_of ys) own_task has)
+
+  has-second : (xs ys : List TakenJob) → Contains (map task_of ys) own_task → Contains (map task_of (xs ++ ys)) own_task
+  has-second xs ys has = subst (λ l. Contains l own_task) (sym (map-append task_of xs ys))
+      (Contains-append_right (map task_of xs) (map task_of ys) own_task has)
+
+  place-has : (places : List ℕ) → 1 ≤ times place places → Contains (map task_of (jobs_taken jobs places)) own_task
+  place-has [] has = absurd (omega (arith, has))
+  place-has (first ∷ places) has = dite (ℕ_discrete place first)
+      (λ is. has-second (jobs_taken jobs places) (taken_at jobs first ∷ []) (0, omega arith, ap (λ p. task_of (taken_at jobs p)) (sym is)))
+      (λ other. has-first (jobs_taken jobs places) (taken_at jobs first ∷ [])
+      (place-has places (omega (arith, has, same-other place first other))))
+
+  -- the job at a place that was taken is among those taken
+  taken-has : (shares : List Share) → 1 ≤ times place (places_taken shares) → Contains (map task_of (all_taken jobs shares)) own_task
+  taken-has [] has = absurd (omega (arith, has))
+  taken-has (share ∷ shares) has = dite (dec_lt 0 (times place share.taken))
+      (λ here. has-first (jobs_taken jobs share.taken) (all_taken jobs shares) (place-has share.taken here))
+      (λ none. has-second (jobs_taken jobs share.taken) (all_taken jobs shares)
+      (taken-has shares (omega (arith, has, none, times-append place share.taken (places_taken shares)))))
+
+-- ---- all workers
+
+pub share-at : (shares : List Share) (i : ℕ) → i < length shares → (share : Share) × (get_elem? shares i ≡ some share)
+share-at [] i inside = absurd (omega arith)
+share-at (first ∷ shares) zero inside = (first, refl)
+share-at (first ∷ shares) (suc i) inside = share-at shares i (omega arith)
+
+module _ (jobs : NumberedJobs) (front : ℕ) (shares : List Share) (shared : IsSharedOut (length shares) jobs (sharing_of front shares)) where
+  abbrev taken : List Task
+  taken = map task_of (all_taken jobs shares)
+
+  -- the places that were taken are those of the front
+  pub taken-front : (place : ℕ) → place < front → 1 ≤ times place (places_taken shares)
+  taken-front place inside = omega (arith, shared.once place, once-inside place front inside)
+
+  pub taken-inside : (place : ℕ) → 1 ≤ times place (places_taken shares) → place < front
+  taken-inside place has = once-some place front (omega (arith, has, shared.once place))
+
+  -- no number was taken twice
+  pub taken-once : (n : ℕ) → times_taken n (all_taken jobs shares) ≤ 1
+  taken-once n = dite (dec_lt n jobs.first)
+      (λ low.
+      let none = times_taken-none n (all_taken jobs shares) (each-taken (λ (task : Task). task.number ≢ n) jobs shares
+      (λ place has is. omega (arith, low, is))) in omega (arith, none))
+      (λ high. subst (λ m. times_taken m (all_taken jobs shares) ≤ 1) (omega (arith, high)) (at-place (n - jobs.first)))
+    where
+      at-place : (place : ℕ) → times_taken (number_at jobs place) (all_taken jobs shares) ≤ 1
+      at-place place = omega (arith, times_taken-shares jobs place shares, shared.once place, once-most place front)
+
+  -- a job behind the front has another number than each that was taken
+  pub not_taken : (place : ℕ) → front ≤ place → AllByRecursion (λ (task : Task). task.number ≢ number_at jobs place) taken
+  not_taken place behind = each-taken (λ (task : Task). task.number ≢ number_at jobs place) jobs shares
+      (λ other has is. omega (arith, behind, is, taken-inside other has))
+
+  -- each job of the script was taken, or has a number of its own
+  pub taken-or_not : (place : ℕ)
+      → Contains taken (task_at jobs.first jobs.script place) ⊎ AllByRecursion (λ (task : Task). task.number ≢ jobs.first + place) taken
+  taken-or_not place = dite (dec_lt place front)
+      (λ inside. inl (taken-has jobs place shares (taken-front place inside)))
+      (λ behind. inr (not_taken place (omega (arith, behind))))
+
+  -- each job that was taken is one of the script
+  pub taken-numbered : AllByRecursion (Contains (tasks_of jobs)) taken
+  taken-numbered = each-taken (Contains (tasks_of jobs)) jobs shares
+      (λ place has. numbered-has jobs.first jobs.script place (omega (arith, taken-inside place has, shared.within)))
