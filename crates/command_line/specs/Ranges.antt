@@ -3,9 +3,9 @@ use Rattle.std.specs.Prelude.{◌≡◌, ◌≤◌, ◌^◌, ℕ}
 use Rattle.lsn_space.specs.declared.lsn.TheConstants.{LEAST_RING, GREATEST_RING}
 use Rattle.command_line.specs.declared.options.RunOptions.{RunOptions}
 
--- one or two workers, a ring of a lawful length that is a power of two, and at most 16 slots
+-- 1 to 16 workers, a ring of a lawful length that is a power of two, and at most 16 slots
 pub record AreInRange (options : RunOptions) : Type 0 where
-  pub workers : (1 ≤ options.workers) × (options.workers ≤ 2)
+  pub workers : (1 ≤ options.workers) × (options.workers ≤ 16)
   pub ring : (LEAST_RING ≤ options.ring) × (options.ring ≤ GREATEST_RING)
   pub power : (n : ℕ) × (options.ring ≡ 2 ^ n)
   pub slots : options.slots ≤ 16

@@ -9,7 +9,7 @@ use lsn_space::{GREATEST_RING, LEAST_RING, number};
 /// How `run` and `demo` are to work.
 #[derive(Clone, Copy, Debug, PartialEq, Eq)]
 pub struct RunOptions {
-    /// How many workers there are, 1 or 2.
+    /// How many workers there are, 1 to 16.
     pub workers: u32,
 
     /// The length of the ring in units, a power of two from 1024 to 1048576.
@@ -27,7 +27,7 @@ pub(crate) fn options_in(found: &ArgMatches<'_>) -> Option<RunOptions>
     ensures some { IfSome result (AreOptions (rows_of (found_of found.now))) }
     ensures none { IfNone result (HasNoOptions (rows_of (found_of found.now))) }
 {
-    let workers = number_in(found, "workers", 2, 1, 2)?;
+    let workers = number_in(found, "workers", 2, 1, 16)?;
     let ring = number_in(found, "ring", 65536, LEAST_RING, GREATEST_RING)?;
     let slots = number_in(found, "slots", 4, 0, 16)?;
     if !ring.is_power_of_two() {
