@@ -1,6 +1,6 @@
 //! What `demo` answers, over a disk, a source and a sink in memory. The sums of 5000 transfers were reckoned apart from the program.
 
-use crate::tests::{End, Given, answer_at, answer_on, answers};
+use cli_rig::{End, Given, answer_at, answer_on, answers};
 use cli_shared::{Detail, Report};
 use log_disk::OpenGate;
 use std::alloc::AllocGlobal;
@@ -30,6 +30,42 @@ const SUMS: &[(&[&str], &[u8])] = &[
     ),
     (
         &["aether", "demo", "log", "5000", "7", "--workers", "1"],
+        MANY,
+    ),
+    (
+        &[
+            "aether",
+            "demo",
+            "log",
+            "5000",
+            "7",
+            "--ring=1024",
+            "--workers=1",
+        ],
+        MANY,
+    ),
+    (
+        &[
+            "aether",
+            "demo",
+            "log",
+            "5000",
+            "7",
+            "--ring=1024",
+            "--workers=4",
+        ],
+        MANY,
+    ),
+    (
+        &[
+            "aether",
+            "demo",
+            "log",
+            "5000",
+            "7",
+            "--ring=1024",
+            "--workers=16",
+        ],
         MANY,
     ),
     (

@@ -1,16 +1,16 @@
 //! What `run` answers, over a disk, a source and a sink in memory.
 
-use crate::tests::{
-    Answer, End, GENESIS_LOG, Given, NEW, UNFINISHED_TRANSFER, answer_at, answer_on, answers,
-    has_answered, is_no_command, leaves, log_of, sink_of,
+use crate::tests::UNFINISHED_TRANSFER;
+use cli_rig::{
+    Answer, End, GENESIS_LOG, Given, answer_at, answers, has_answered, is_no_command, leaves,
+    log_of, made, reads, run_on,
 };
-use log_disk::{Gate, OpenGate, Place};
+use log_disk::OpenGate;
 use std::alloc::AllocGlobal;
 use std::process::Abort;
 use std::sync::Wait;
-use std::sync::atomic::{AtomicBool, AtomicU32, Ordering};
 use std::test::Fail;
-use std::thread::{Threads, yield_now};
+use std::thread::Threads;
 use std::time::Clock;
 
 const ALONE: &[&str] = &["aether", "run", "bank.log", "--workers", "1"];
@@ -36,22 +36,8 @@ fn runs<R: Threads + Wait + Clock + Sync + AllocGlobal + Abort>(
         ..Given::words(words)
     };
     let answer = answer_at(rt, &given, &OpenGate)?;
-    has_answered(rt, &given, &answer, &End::Fine, text);
+    has_answered(&given, &answer, &End::Fine, text)?;
     Ok(answer)
-}
-
-/// This is read from the log that a run left.
-fn reads<R: Threads + Wait + Clock + Sync + AllocGlobal + Abort>(
-    rt: &R,
-    words: &[&str],
-    log: &[u8],
-    text: &[u8],
-) -> Result<(), Fail> {
-    let given = Given {
-        input: log,
-        ..Given::words(words)
-    };
-    answers(rt, &given, &End::Fine, text)
 }
 
 /// The run of the script over the genesis log writes this, and `recover` reads these accounts from what it leaves.
@@ -137,30 +123,6 @@ fn each_outcome_of_a_transfer(rt: HostRuntime) -> Result<(), Fail> {
     Ok(())
 }
 
-/// Makes a log of these balances.
-fn made<R: Threads + Wait + Clock + Sync + AllocGlobal>(
-    rt: &R,
-    balances: &[u8],
-) -> Result<Answer, Fail> {
-    let given = Given {
-        input: balances,
-        ..Given::words(NEW)
-    };
-    answer_at(rt, &given, &OpenGate)
-}
-
-/// Runs the script over the disk that is there.
-fn run_on<R: Threads + Wait + Clock + Sync + AllocGlobal, G: Gate + Sync>(
-    rt: &R,
-    given: &Given,
-    answer: &mut Answer,
-    gate: &G,
-) -> Result<(), Fail> {
-    answer.text = sink_of(rt, given.sink_failing)?;
-    answer.report = answer_on(rt, given, &mut answer.disk, &mut answer.text, gate)?;
-    Ok(())
-}
-
 #[test]
 fn over_at_the_greatest_balance(rt: HostRuntime) -> Result<(), Fail> {
     let mut answer = made(&rt, b"100\n2147483647\n")?;
@@ -170,7 +132,7 @@ fn over_at_the_greatest_balance(rt: HostRuntime) -> Result<(), Fail> {
     };
     run_on(&rt, &given, &mut answer, &OpenGate)?;
     let text = b"over 1 1 5\nlsn 5\n0 100\n1 2147483647\n";
-    has_answered(&rt, &given, &answer, &End::Fine, text);
+    has_answered(&given, &answer, &End::Fine, text)?;
     Ok(())
 }
 
@@ -251,31 +213,6 @@ fn the_longest_note(rt: HostRuntime) -> Result<(), Fail> {
     runs_noted(&rt, ALONE, 200, &End::Fine, text)
 }
 
-/// The run ended well, and wrote one of these.
-fn has_written(rt: &impl Abort, given: &Given, answer: &Answer, first: &[u8], second: &[u8]) {
-    let text = answer.text.bytes();
-    let written = if text == second { second } else { first };
-    has_answered(rt, given, answer, &End::Fine, written);
-}
-
-#[test]
-fn two_orders_of_two_transfers(rt: HostRuntime) -> Result<(), Fail> {
-    let given = Given {
-        held: GENESIS_LOG,
-        input: b"pay 0 1 30\npay 0 1 80\n",
-        ..Given::words(BOTH)
-    };
-    let answer = answer_at(&rt, &given, &OpenGate)?;
-    has_written(
-        &rt,
-        &given,
-        &answer,
-        b"done 1 9\nshort 2 1 10\nlsn 10\n0 70\n1 30\n",
-        b"done 2 9\nshort 1 1 10\nlsn 10\n0 20\n1 80\n",
-    );
-    Ok(())
-}
-
 /// A run over the genesis log's batch and these bytes behind it writes nothing, leaves them as they are, and ends so.
 fn refuses<R: Threads + Wait + Clock + Sync + AllocGlobal + Abort>(
     rt: &R,
@@ -354,7 +291,6 @@ fn refuses_what_is_no_log(rt: HostRuntime) -> Result<(), Fail> {
 const OTHER_WORDS: &[&[&str]] = &[
     &["aether", "run"],
     &["aether", "run", "log", "--ring", "1000"],
-    &["aether", "run", "log", "--workers", "3"],
     &["aether", "move", "log"],
 ];
 
@@ -399,190 +335,5 @@ fn faults_out_of_the_run(rt: HostRuntime) -> Result<(), Fail> {
     for (disk_failing, sink_failing, end, text) in FAULTS {
         runs_into(&rt, disk_failing, sink_failing, end, text)?;
     }
-    Ok(())
-}
-
-/// How often a thread that is held looks whether it may go on.
-const MOST_TURNS: u32 = 1000000;
-
-/// Holds the worker that takes a transfer first until the other has ended one.
-#[derive(Drop)]
-struct OneWaits {
-    taken: AtomicU32,
-    ended: AtomicBool,
-    gave_up: AtomicBool,
-}
-
-impl OneWaits {
-    fn wait(&self) {
-        for _ in 0..MOST_TURNS {
-            if self.ended.load(Ordering::SeqCst) {
-                return;
-            }
-            yield_now();
-        }
-        self.gave_up.store(true, Ordering::SeqCst);
-    }
-
-    /// Two transfers were taken, and the worker that was held went on behind the other.
-    fn has_held_one(&self, rt: &impl Abort) {
-        assert!(rt;
-            !self.gave_up.load(Ordering::SeqCst),
-            "no worker went past the other"
-        );
-        assert_eq!(rt; self.taken.load(Ordering::SeqCst), 2);
-    }
-}
-
-impl Gate for OneWaits {
-    fn at(&self, _worker: u32, place: Place) {
-        match place {
-            Place::JobTaken => {
-                if self.taken.fetch_add(1, Ordering::SeqCst) == 0 {
-                    self.wait();
-                }
-            }
-            Place::JobEnded => self.ended.store(true, Ordering::SeqCst),
-            _ => {}
-        }
-    }
-}
-
-#[test]
-fn workers_overlap(rt: HostRuntime) -> Result<(), Fail> {
-    let mut answer = made(&rt, b"100\n0\n100\n0\n")?;
-    let gate = OneWaits {
-        taken: AtomicU32::new(0),
-        ended: AtomicBool::new(false),
-        gave_up: AtomicBool::new(false),
-    };
-    let given = Given {
-        input: b"pay 0 1 10\npay 2 3 20\n",
-        ..Given::words(BOTH)
-    };
-    run_on(&rt, &given, &mut answer, &gate)?;
-    gate.has_held_one(&rt);
-    has_written(
-        &rt,
-        &given,
-        &answer,
-        b"done 1 13\ndone 2 18\nlsn 18\n0 90\n1 10\n2 80\n3 20\n",
-        b"done 2 13\ndone 1 18\nlsn 18\n0 90\n1 10\n2 80\n3 20\n",
-    );
-    Ok(())
-}
-
-/// Holds each worker at its first look for room until both stand there, and counts those that joined a group.
-#[derive(Drop)]
-struct BothLook {
-    looked: AtomicU32,
-    joined: AtomicU32,
-    gave_up: AtomicBool,
-}
-
-impl BothLook {
-    fn wait(&self) {
-        for _ in 0..MOST_TURNS {
-            if self.looked.load(Ordering::SeqCst) >= 2 {
-                return;
-            }
-            yield_now();
-        }
-        self.gave_up.store(true, Ordering::SeqCst);
-    }
-}
-
-impl Gate for BothLook {
-    fn at(&self, _worker: u32, place: Place) {
-        match place {
-            Place::Looked => {
-                if self.looked.fetch_add(1, Ordering::SeqCst) < 2 {
-                    self.wait();
-                }
-            }
-            Place::Joined => {
-                self.joined.fetch_add(1, Ordering::SeqCst);
-            }
-            _ => {}
-        }
-    }
-}
-
-/// What the two transfers may tell: the first to end has none, one or two Updates of the other before its Commit.
-const EITHER_FIRST: &[&[u8]] = &[
-    b"done 1 13\ndone 2 18\nlsn 18\n0 70\n1 30\n2 60\n3 40\n",
-    b"done 1 15\ndone 2 18\nlsn 18\n0 70\n1 30\n2 60\n3 40\n",
-    b"done 1 17\ndone 2 18\nlsn 18\n0 70\n1 30\n2 60\n3 40\n",
-    b"done 2 13\ndone 1 18\nlsn 18\n0 70\n1 30\n2 60\n3 40\n",
-    b"done 2 15\ndone 1 18\nlsn 18\n0 70\n1 30\n2 60\n3 40\n",
-    b"done 2 17\ndone 1 18\nlsn 18\n0 70\n1 30\n2 60\n3 40\n",
-];
-
-/// Whether the text is one of these.
-fn is_one_of(text: &[u8], wanted: &[&[u8]]) -> bool {
-    for want in wanted {
-        if text == *want {
-            return true;
-        }
-    }
-    false
-}
-
-/// Both looks show the same tail, so one of the exchanges is lost, and whoever lost it joins a group.
-#[test]
-fn group_forms(rt: HostRuntime) -> Result<(), Fail> {
-    let mut answer = made(&rt, b"100\n0\n100\n0\n")?;
-    let gate = BothLook {
-        looked: AtomicU32::new(0),
-        joined: AtomicU32::new(0),
-        gave_up: AtomicBool::new(false),
-    };
-    let given = Given {
-        input: b"pay 0 1 30\npay 2 3 40\n",
-        ..Given::words(BOTH)
-    };
-    run_on(&rt, &given, &mut answer, &gate)?;
-    assert!(rt;
-        !gate.gave_up.load(Ordering::SeqCst),
-        "the workers did not meet"
-    );
-    assert!(rt;
-        gate.joined.load(Ordering::SeqCst) >= 1,
-        "no worker joined a group"
-    );
-    let text = answer.text.bytes();
-    assert!(rt; is_one_of(text, EITHER_FIRST), "{text:?}");
-    Ok(())
-}
-
-/// Counts the transfers that were taken.
-#[derive(Drop)]
-struct Takes {
-    count: AtomicU32,
-}
-
-impl Gate for Takes {
-    fn at(&self, _worker: u32, place: Place) {
-        if place == Place::JobTaken {
-            self.count.fetch_add(1, Ordering::SeqCst);
-        }
-    }
-}
-
-/// The first write of a batch fails, so nothing becomes durable: a worker that waits takes no second transfer.
-#[test]
-fn waits_for_the_disk_where_asked(rt: HostRuntime) -> Result<(), Fail> {
-    let gate = Takes {
-        count: AtomicU32::new(0),
-    };
-    let given = Given {
-        held: GENESIS_LOG,
-        input: b"pay 0 1 30\npay 0 1 20\n",
-        disk_failing: FIRST_WRITE,
-        ..Given::words(ALONE_WAITING)
-    };
-    let answer = answer_at(&rt, &given, &gate)?;
-    has_answered(&rt, &given, &answer, &End::Disk, b"");
-    assert_eq!(rt; gate.count.load(Ordering::SeqCst), 1);
     Ok(())
 }

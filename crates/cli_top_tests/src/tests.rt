@@ -1,21 +1,19 @@
 //! The program's answers, over a disk, a source and a sink in memory.
 
-use cli_shared::{Detail, Report, put_fault};
-use cli_top::aether;
-use log_disk::{Gate, OpenGate};
+use cli_rig::{
+    Answer, End, GENESIS_LOG, Given, NEW, answer_at, answer_on, answers, has_answered, has_left,
+    is_no_command, leaves, log_of, sink_of,
+};
+use cli_shared::{Report, put_fault};
+use log_disk::OpenGate;
 use log_recovery::Why;
-use lsn_space::{LAST, Lsn, Word};
-use memory_disk::{MemoryDisk, MemorySink, MemorySource};
+use lsn_space::LAST;
 use std::alloc::AllocGlobal;
 use std::process::Abort;
 use std::sync::Wait;
 use std::test::Fail;
 use std::thread::Threads;
 use std::time::Clock;
-
-/// Two accounts, with balances 100 and 0.
-pub(crate) const GENESIS_LOG: &[u8] =
-    b"OAETHER1\0\0\0\x04\x01\x02\0\0\0\0\0\0\0\0\0\0\0\0\0\x64\x01\x02\0\x01\0\0\0\0\0\0\0\0\0\0\0\0\0";
 
 /// Then transaction 1 moves 30 from account 0 to account 1.
 pub(crate) const ONE_TRANSFER: &[u8] =
@@ -36,182 +34,6 @@ pub(crate) const CUT_TRANSFER: &[u8] = b"O\0\0\0\x05\x02\x02\0\0\0\0\0\x01\xff\x
 pub(crate) const NO_RECORD: &[u8] = b"O\0\0\0\x01\0\0\0\0\0\0\0\0\0";
 
 const GENESIS_TEXT: &[u8] = b"lsn 4\n0 100\n1 0\n";
-
-/// What the program is given: its words, a disk of these bytes with so much room for writes and syncs, and an input; and which
-/// calls of the disk, the source and the sink fail.
-#[derive(Clone, Copy)]
-pub(crate) struct Given<'a> {
-    pub words: &'a [&'a str],
-    pub held: &'a [u8],
-    pub room: usize,
-    pub input: &'a [u8],
-    pub disk_failing: &'a [u64],
-    pub source_failing: &'a [u64],
-    pub sink_failing: &'a [u64],
-}
-
-impl<'a> Given<'a> {
-    /// Words alone: the disk is empty, with room for a few transfers, the input too, and nothing fails.
-    pub fn words(words: &'a [&'a str]) -> Given<'a> {
-        Given {
-            words,
-            held: b"",
-            room: 4000,
-            input: b"",
-            disk_failing: &[],
-            source_failing: &[],
-            sink_failing: &[],
-        }
-    }
-}
-
-/// How the program ends, in numbers that a constant can hold.
-pub(crate) enum End {
-    Fine,
-    NoMemory,
-    Usage,
-    Script(u64),
-    Read,
-    Write,
-    Disk,
-    NotALog,
-    BadBatch(u64),
-    BadRec(u32),
-    Unlawful(u32, Why),
-    LogEnd(u32, u32),
-    TxnEnd(u64, u64),
-    Exists,
-}
-
-impl End {
-    pub fn detail(&self) -> Detail {
-        match *self {
-            End::Fine => Detail::Fine,
-            End::NoMemory => Detail::NoMemory,
-            End::Usage => Detail::Usage,
-            End::Script(line) => Detail::Script { line },
-            End::Read => Detail::Read,
-            End::Write => Detail::Write,
-            End::Disk => Detail::Disk,
-            End::NotALog => Detail::NotALog,
-            End::BadBatch(offset) => Detail::BadBatch { offset },
-            End::BadRec(lsn) => Detail::BadRec { lsn: Lsn::new(lsn) },
-            End::Unlawful(lsn, why) => Detail::Unlawful {
-                lsn: Lsn::new(lsn),
-                why,
-            },
-            End::LogEnd(tail, total) => Detail::LogEnd {
-                tail: Lsn::new(tail),
-                total,
-            },
-            End::TxnEnd(first, count) => Detail::TxnEnd { first, count },
-            End::Exists => Detail::Exists,
-        }
-    }
-}
-
-/// How the program ended, what it wrote, and the disk that it left.
-#[derive(Drop)]
-pub(crate) struct Answer {
-    pub report: Report,
-    pub text: MemorySink,
-    pub disk: MemoryDisk,
-}
-
-/// Runs the program on a disk and a sink, with a hook that workers pass.
-pub(crate) fn answer_on<R: Threads + Wait + Clock + Sync + AllocGlobal, G: Gate + Sync>(
-    rt: &R,
-    given: &Given,
-    disk: &mut MemoryDisk,
-    out: &mut MemorySink,
-    gate: &G,
-) -> Result<Report, Fail> {
-    let mut line = Vec::new(rt.alloc());
-    for text in given.words {
-        let Ok(word) = Word::make(rt.alloc(), text) else {
-            return Err(Fail::new("no memory"));
-        };
-        line.push(word)?;
-    }
-    let Ok(mut script) = MemorySource::make(rt.alloc(), given.input, 7, given.source_failing) else {
-        return Err(Fail::new("no memory"));
-    };
-    let alloc = rt.alloc();
-    Ok(aether(rt, alloc, line.as_slice(), disk, &mut script, out, gate))
-}
-
-pub(crate) fn sink_of<R: AllocGlobal>(rt: &R, failing: &[u64]) -> Result<MemorySink, Fail> {
-    MemorySink::make(rt.alloc(), 4000, failing).map_err(|_| Fail::new("no memory"))
-}
-
-/// Runs the program on a disk and a sink of its own, with a hook that workers pass.
-pub(crate) fn answer_at<R: Threads + Wait + Clock + Sync + AllocGlobal, G: Gate + Sync>(
-    rt: &R,
-    given: &Given,
-    gate: &G,
-) -> Result<Answer, Fail> {
-    let Ok(mut disk) = MemoryDisk::make(rt.alloc(), given.held, given.room, given.disk_failing)
-    else {
-        return Err(Fail::new("no memory"));
-    };
-    let mut text = sink_of(rt, given.sink_failing)?;
-    let report = answer_on(rt, given, &mut disk, &mut text, gate)?;
-    Ok(Answer { report, text, disk })
-}
-
-/// The program ended so, and wrote this.
-pub(crate) fn has_answered(
-    rt: &impl Abort,
-    given: &Given,
-    answer: &Answer,
-    end: &End,
-    text: &[u8],
-) {
-    let (words, held, input) = (given.words, given.held, given.input);
-    let want = Report::of(end.detail());
-    assert_eq!(rt; answer.report, want, "{words:?} {held:?} {input:?}");
-    assert_eq!(rt; answer.text.bytes(), text, "{words:?} {held:?} {input:?}");
-}
-
-/// This is what the program left on the disk.
-pub(crate) fn has_left(rt: &impl Abort, given: &Given, answer: &Answer, left: &[u8]) {
-    let (words, held, input) = (given.words, given.held, given.input);
-    assert_eq!(rt; answer.disk.bytes(), left, "{words:?} {held:?} {input:?}");
-}
-
-/// The program ends so, and writes this.
-pub(crate) fn answers<R: Threads + Wait + Clock + Sync + AllocGlobal + Abort>(
-    rt: &R,
-    given: &Given,
-    end: &End,
-    text: &[u8],
-) -> Result<(), Fail> {
-    let answer = answer_at(rt, given, &OpenGate)?;
-    has_answered(rt, given, &answer, end, text);
-    Ok(())
-}
-
-/// The program ends so, writes this, and leaves this on the disk.
-pub(crate) fn leaves<R: Threads + Wait + Clock + Sync + AllocGlobal + Abort>(
-    rt: &R,
-    given: &Given,
-    end: &End,
-    text: &[u8],
-    left: &[u8],
-) -> Result<(), Fail> {
-    let answer = answer_at(rt, given, &OpenGate)?;
-    has_answered(rt, given, &answer, end, text);
-    has_left(rt, given, &answer, left);
-    Ok(())
-}
-
-/// The genesis log's batch, and these bytes behind it.
-pub(crate) fn log_of<R: AllocGlobal>(rt: &R, rest: &[u8]) -> Result<Vec<u8>, Fail> {
-    let (front, _) = GENESIS_LOG.split_at(44);
-    let mut bytes = Vec::from_slice(rt.alloc(), front)?;
-    bytes.extend_from_slice(rest)?;
-    Ok(bytes)
-}
 
 const RECOVER: &[&str] = &["aether", "recover"];
 
@@ -259,7 +81,7 @@ fn is_told<R: Threads + Wait + Clock + Sync + AllocGlobal + Abort>(
         ..Given::words(RECOVER)
     };
     let answer = answer_at(rt, &given, &OpenGate)?;
-    has_answered(rt, &given, &answer, end, b"");
+    has_answered(&given, &answer, end, b"")?;
     has_line(rt, &answer.report, line)
 }
 
@@ -328,8 +150,6 @@ fn names_each_fault_and_writes_nothing(rt: HostRuntime) -> Result<(), Fail> {
     Ok(())
 }
 
-pub(crate) const NEW: &[&str] = &["aether", "new", "bank.log"];
-
 #[test]
 fn makes_a_log_once(rt: HostRuntime) -> Result<(), Fail> {
     let given = Given {
@@ -337,16 +157,16 @@ fn makes_a_log_once(rt: HostRuntime) -> Result<(), Fail> {
         ..Given::words(NEW)
     };
     let mut answer = answer_at(&rt, &given, &OpenGate)?;
-    has_answered(&rt, &given, &answer, &End::Fine, GENESIS_TEXT);
-    has_left(&rt, &given, &answer, GENESIS_LOG);
+    has_answered(&given, &answer, &End::Fine, GENESIS_TEXT)?;
+    has_left(&given, &answer, GENESIS_LOG)?;
 
     let again = Given {
         input: b"7\n",
         ..given
     };
     answer.report = answer_on(&rt, &again, &mut answer.disk, &mut answer.text, &OpenGate)?;
-    has_answered(&rt, &again, &answer, &End::Exists, GENESIS_TEXT);
-    has_left(&rt, &again, &answer, GENESIS_LOG);
+    has_answered(&again, &answer, &End::Exists, GENESIS_TEXT)?;
+    has_left(&again, &answer, GENESIS_LOG)?;
     assert!(rt; answer.report.status == 10);
     Ok(())
 }
@@ -372,7 +192,7 @@ fn recovers_what_new_made(rt: HostRuntime) -> Result<(), Fail> {
     };
     let made = answer_at(&rt, &given, &OpenGate)?;
     let text = b"lsn 6\n0 2147483647\n1 0\n2 5\n";
-    has_answered(&rt, &given, &made, &End::Fine, text);
+    has_answered(&given, &made, &End::Fine, text)?;
     recovers_made(&rt, &made)
 }
 
@@ -423,27 +243,6 @@ fn leaves_the_log_where_its_text_cannot_be_written(rt: HostRuntime) -> Result<()
         ..Given::words(NEW)
     };
     leaves(&rt, &given, &End::Write, b"", GENESIS_LOG)
-}
-
-/// These words are none of the program's: it ends with status 2, and no call of the disk or the source is made, since each would
-/// fail.
-pub(crate) fn is_no_command<R: Threads + Wait + Clock + Sync + AllocGlobal + Abort>(
-    rt: &R,
-    words: &[&str],
-    held: &[u8],
-    input: &[u8],
-) -> Result<(), Fail> {
-    let given = Given {
-        held,
-        input,
-        disk_failing: &[1],
-        source_failing: &[1],
-        ..Given::words(words)
-    };
-    let answer = answer_at(rt, &given, &OpenGate)?;
-    has_answered(rt, &given, &answer, &End::Usage, b"");
-    assert!(rt; answer.report.status == 2);
-    Ok(())
 }
 
 const HELP: &[&[&str]] = &[

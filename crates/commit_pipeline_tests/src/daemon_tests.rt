@@ -1,5 +1,5 @@
 //! A transfer that a worker inserts and a daemon reports, with faults of the disk and of the sink.
-ghost use Rattle.std.specs.Prelude.{◌≡◌, ◌<◌, [], true, OnOk};
+ghost use Rattle.std.specs.Prelude.{◌≡◌, [], true, OnOk};
 ghost use Rattle.log_disk.specs.Disk.{IsOnlyImage};
 ghost use Rattle.memory_disk.specs.MemoryDisks.{ImagesOf};
 ghost use Rattle.log_rule.specs.May.{MayLeave};
@@ -8,21 +8,20 @@ ghost use Rattle.log_rule.specs.Views.{knows_all_enrolled};
 ghost use Rattle.commit_pipeline.specs.Turning.{MayTurn};
 ghost use Rattle.test_rig.specs.NotedJobs.{IsNew};
 
-use crate::transfers::make_transfers;
 use commit_pipeline::{Daemon, DaemonFault, Turn, Voice};
 use flusher::Drained;
-use log_disk::LogDisk;
+use log_disk::{LogDisk, OpenGate};
 use log_table::{LogTable, Seat};
 use lsn_space::{Lsn, NoMemory};
 use memory_disk::{MemoryDisk, MemorySink};
-use run_rig::{CREATED, daemon_on, thirties};
+use run_rig::{CREATED, daemon_on, enlisted, thirties, work_queue};
 use std::alloc::Global;
 use std::process::Abort;
 use std::sync::Wait;
 use std::test::Fail;
 use std::time::Clock;
 use test_rig::{table_of, worker};
-use txn_runner::Worked;
+use txn_runner::{Worked, YieldRelief};
 
 /// The log of the two accounts, and the transfer behind it.
 const ONE_TRANSFER_LOG: [u8; 90] = [
@@ -44,18 +43,29 @@ fn transfer<R: Wait + Clock + Abort>(
     times: u32,
 )
     requires unused { IsNew table.now seat.old }
-    requires first { seat.old.worker < 1 }
-    requires no_slots { table.now.slots ≡ 0 }
     requires accounts { table.now.accounts ≡ 2 }
     ensures seat { IsOf table.now seat.new }
     ensures may { MayLeave (view_of seat.new) }
 {
-    let Some(jobs) = thirties(rt, alloc, times, 1) else {
+    let Some(mut jobs) = thirties(rt, alloc, times, 1) else {
         panic!(rt; "no memory");
     };
-    let made = make_transfers(rt, alloc, table, seat, &jobs);
-    let is_made = matches!(made, Some((Worked::All, _)));
-    assert!(rt; is_made, "the transfers were not made");
+    let Ok(mut rows) = enlisted(alloc, &mut jobs, 0) else {
+        panic!(rt; "no memory");
+    };
+    let queue = jobs.queue();
+    let mut relief = YieldRelief::new(rt);
+    let worked = work_queue(
+        rt,
+        table,
+        seat,
+        queue,
+        &mut rows,
+        &mut relief,
+        false,
+        &OpenGate,
+    );
+    assert!(rt; worked == Worked::All, "the transfers were not made");
 }
 
 /// Whether the log has come to its end.
@@ -99,8 +109,6 @@ fn report_worker<R: Wait + Clock + Abort>(
     daemon: &mut Daemon<MemoryDisk, MemorySink>,
 ) -> Result<[(Drained, Turn); 2], DaemonFault>
     requires unused { IsNew table.now seat }
-    requires first { seat.worker < 1 }
-    requires no_slots { table.now.slots ≡ 0 }
     requires accounts { table.now.accounts ≡ 2 }
     requires ready { MayTurn ⟦<MemoryDisk as LogDisk>⟧ daemon.old }
     requires told { knows_all_enrolled (view_of daemon.old.flusher.seat).standing ≡ true }

@@ -7,5 +7,3 @@ mod daemon_tests;
 mod flushing_tests;
 #[cfg(test)]
 mod pipeline_tests;
-#[cfg(test)]
-mod transfers;

@@ -1,30 +1,31 @@
 //! Two threads that insert notes or transfers while a daemon sends them to a disk, and what is recovered there.
 ghost use Rattle.std.specs.Prelude.{◌≡◌, ◌≤◌, ◌<◌, ◌+◌, true, All};
+ghost use Rattle.std.specs.List.{AllByRecursion};
 ghost use Rattle.log_table.specs.Seats.{IsOf, view_of};
 ghost use Rattle.log_rule.specs.Views.{knows_all_enrolled};
 ghost use Rattle.segment_file.specs.Standing.{IsStableGate};
 ghost use Rattle.lock_core.specs.Transfers.{IsAllowedJob};
 ghost use Rattle.commit_pipeline.specs.Turning.{MayTurn};
-ghost use Rattle.test_rig.specs.NotedJobs.{IsNotedJob, IsNew, MayInsert};
+ghost use Rattle.run_rig.specs.Enlisted.{IsHand};
+ghost use Rattle.test_rig.specs.NotedJobs.{IsNotedJob, MayInsert};
 
-use crate::transfers::make_transfers;
 use commit_pipeline::{Daemon, DaemonFault, Voice};
 use lock_core::Job;
 use log_disk::LogDisk;
 use log_table::{LogTable, Seat};
 use lsn_space::{Lsn, Word};
 use memory_disk::{MemoryDisk, MemorySink};
-use run_rig::{CREATED, daemon_on, recovered_balances, recovered_end, thirties};
+use run_rig::{CREATED, daemon_on, hands, live_all, recovered_balances, recovered_end, thirties};
 use std::alloc::Global;
 use std::fs;
 use std::process::Abort;
 use std::sync::Wait;
+use std::sync::atomic::{AtomicUsize, Ordering};
 use std::test::Fail;
 use std::thread::{Threads, join};
 use std::time::Clock;
 use system_disk::FileDisk;
 use test_rig::{insert_all, noted_job, table_of, worker};
-use txn_runner::Jobs;
 
 /// What account 0 begins with; account 1 begins with nothing.
 const RICH: u32 = 100_000;
@@ -116,53 +117,6 @@ fn run_notes<R: Threads + Wait + Clock + Sync, D: LogDisk>(
     ))
 }
 
-/// A worker's whole life: the transfers of its stripe, and the end. Answers how many rows it has.
-fn transfer<R: Wait + Clock>(
-    rt: &R,
-    alloc: Global,
-    table: &LogTable,
-    mut seat: Seat,
-    jobs: &Jobs,
-) -> usize
-    requires unused { IsNew table.now seat }
-    requires worker { seat.worker < jobs.now.workers }
-    requires no_slots { table.now.slots ≡ 0 }
-    requires allowed { All (IsAllowedJob table.now.accounts) jobs.now.script }
-{
-    let made = make_transfers(rt, alloc, table, &mut seat, jobs);
-    table.leave(&mut seat);
-    let Some((_, rows)) = made else {
-        return 0;
-    };
-    rows
-}
-
-/// Both workers make transfers, each in a thread.
-fn transfer_both<R: Threads + Wait + Clock + Sync>(
-    rt: &R,
-    alloc: Global,
-    table: &LogTable,
-    one: Seat,
-    two: Seat,
-    jobs: &Jobs,
-) -> usize
-    requires one { IsNew table.now one × (one.worker < jobs.now.workers) }
-    requires two { IsNew table.now two × (two.worker < jobs.now.workers) }
-    requires no_slots { table.now.slots ≡ 0 }
-    requires allowed { All (IsAllowedJob table.now.accounts) jobs.now.script }
-{
-    let (first, second) = join(
-        rt,
-        move ||
-            requires { (table.now.slots ≡ 0) × IsNew table.now one × (one.worker < jobs.now.workers) × All (IsAllowedJob table.now.accounts) jobs.now.script }
-        { transfer(rt, alloc, table, one, jobs) },
-        move ||
-            requires { (table.now.slots ≡ 0) × IsNew table.now two × (two.worker < jobs.now.workers) × All (IsAllowedJob table.now.accounts) jobs.now.script }
-        { transfer(rt, alloc, table, two, jobs) },
-    );
-    first.saturating_add(second)
-}
-
 /// Turns to the end, beside two threads that make the transfers; also how many rows they have.
 fn run_transfers<R: Threads + Wait + Clock + Sync, D: LogDisk>(
     rt: &R,
@@ -175,20 +129,21 @@ fn run_transfers<R: Threads + Wait + Clock + Sync, D: LogDisk>(
     let Ok((table, mut boss)) = table_of(alloc, (RICH, 0), 4) else {
         return None;
     };
-    let one = worker(&table, &mut boss, 0, 1);
-    let two = worker(&table, &mut boss, 1, 1);
+    let mut jobs = thirties(rt, alloc, 2 * TRANSFERS, 2)?;
+    let crew = hands(alloc, &table, &mut boss, &mut jobs, 2)?;
     let mut daemon = daemon_on(alloc, (RICH, 0), &table, boss, disk, sink, Voice::Lines)?;
-    let script = thirties(rt, alloc, 2 * TRANSFERS, 2)?;
-    let (t, jobs) = (&table, &script);
-    Some(join(
+    let rows = AtomicUsize::new(0);
+    let (t, queue, count) = (&table, jobs.queue(), &rows);
+    let ((), outcome) = join(
         rt,
         move ||
-            requires { (t.now.slots ≡ 0) × (IsNew t.now one × (one.worker < jobs.now.workers)) × (IsNew t.now two × (two.worker < jobs.now.workers)) × All (IsAllowedJob t.now.accounts) jobs.now.script }
-        { transfer_both(rt, alloc, t, one, two, jobs) },
+            requires { AllByRecursion (IsHand t.now queue.now) crew.items × All (IsAllowedJob t.now.accounts) queue.now.script }
+        { live_all(rt, t, queue, crew, count) },
         move ||
             requires { MayTurn D.LogDisk daemon × (knows_all_enrolled (view_of daemon.flusher.seat).standing ≡ true) }
         { finish(rt, &mut daemon) },
-    ))
+    );
+    Some((rows.load(Ordering::SeqCst), outcome))
 }
 
 /// The run ended well, with all in the log up to this end.

@@ -1,9 +1,10 @@
 //! A worker that waits for the disk, in the one thread that flushes.
-ghost use Rattle.std.specs.Prelude.{◌≡◌, ◌<◌, All};
+ghost use Rattle.std.specs.Prelude.{◌≡◌, All};
 ghost use Rattle.log_table.specs.Seats.{IsOf};
 ghost use Rattle.lock_core.specs.Transfers.{IsAllowedJob};
 ghost use Rattle.segment_file.specs.Standing.{IsStableGate};
 ghost use Rattle.commit_pipeline.specs.Turning.{MayTurn};
+ghost use Rattle.run_rig.specs.Enlisted.{IsEnlisted};
 ghost use Rattle.test_rig.specs.NotedJobs.{IsNew};
 
 use cli_reports::recover_command::recover_command;
@@ -14,13 +15,13 @@ use log_disk::{LogDisk, OpenGate, Sink};
 use log_table::{LogTable, Seat};
 use lsn_space::Lsn;
 use memory_disk::{MemoryDisk, MemorySink, MemorySource};
-use run_rig::{CREATED, daemon_on, jobs_of, recovered_balances, work_stripe};
+use run_rig::{CREATED, daemon_on, enlisted, jobs_of, recovered_balances, work_queue};
 use std::alloc::Global;
 use std::process::Abort;
 use std::sync::Wait;
 use std::test::Fail;
 use test_rig::{table_of, worker};
-use txn_runner::{Answer, Cause, Jobs, Relief, Row, Rows, Worked};
+use txn_runner::{Answer, Cause, Queue, Relief, Row, Rows, Worked};
 
 /// A relief that flushes, and first looks whether account 0 is held.
 #[derive(Drop)]
@@ -59,40 +60,40 @@ impl<'a, D: LogDisk, K: Sink> Relief for Looking<'a, D, K> {
 /// What a worker came to, its rows, what befell the daemon, and whether its accounts were held while it waited.
 type Outcome = (Worked, Rows, Option<DaemonFault>, bool);
 
-/// A new worker makes its transfers, and waits for the disk after each.
+/// A new worker makes all transfers, and waits for the disk after each.
 fn works<R: Wait, Q: Relief>(
     rt: &R,
-    alloc: Global,
     table: &LogTable,
     mut seat: Seat,
-    jobs: &Jobs,
+    queue: &Queue,
+    mut rows: Rows,
     relief: &mut Q,
-) -> Option<(Worked, Rows)>
+) -> (Worked, Rows)
     requires unused { IsNew table.now seat }
-    requires worker { seat.worker < jobs.now.workers }
-    requires no_slots { table.now.slots ≡ 0 }
-    requires allowed { All (IsAllowedJob table.now.accounts) jobs.now.script }
+    requires rows { IsEnlisted queue.now rows }
+    requires allowed { All (IsAllowedJob table.now.accounts) queue.now.script }
     requires relief { Q.ready relief.old }
 {
-    let came = work_stripe(rt, alloc, table, &mut seat, jobs, relief, true, &OpenGate);
+    let worked = work_queue(
+        rt, table, &mut seat, queue, &mut rows, relief, true, &OpenGate,
+    );
     table.leave(&mut seat);
-    came.ok()
+    (worked, rows)
 }
 
 /// The worker's relief looks whether account 0 is held, and then flushes; nothing else does.
 fn looks_and_flushes<R: Wait, D: LogDisk>(
     rt: &R,
-    alloc: Global,
     table: &LogTable,
     seat: Seat,
     looker: Seat,
-    jobs: &Jobs,
+    queue: &Queue,
+    rows: Rows,
     daemon: Daemon<D, MemorySink>,
-) -> Option<Outcome>
+) -> Outcome
     requires unused { IsNew table.now seat }
-    requires worker { seat.worker < jobs.now.workers }
-    requires no_slots { table.now.slots ≡ 0 }
-    requires allowed { All (IsAllowedJob table.now.accounts) jobs.now.script }
+    requires rows { IsEnlisted queue.now rows }
+    requires allowed { All (IsAllowedJob table.now.accounts) queue.now.script }
     requires looker { IsOf table.now looker }
     requires accounts { table.now.accounts ≡ 2 }
     requires daemon { MayTurn D.LogDisk daemon }
@@ -103,9 +104,9 @@ fn looks_and_flushes<R: Wait, D: LogDisk>(
         seat: looker,
         held: true,
     };
-    let (worked, rows) = works(rt, alloc, table, seat, jobs, &mut relief)?;
+    let (worked, rows) = works(rt, table, seat, queue, rows, &mut relief);
     let fault = relief.flushing.daemon.fault();
-    Some((worked, rows, fault, relief.held))
+    (worked, rows, fault, relief.held)
 }
 
 /// A worker makes both transfers, and waits for the disk after each; only its relief flushes.
@@ -120,11 +121,13 @@ fn work_and_flush<R: Wait, D: LogDisk>(
     let Ok((table, mut boss)) = table_of(alloc, (100, 0), 4) else {
         return None;
     };
-    let jobs = jobs_of(rt, alloc, b"pay 0 1 30\npay 1 0 30\n", 1)?;
+    let mut jobs = jobs_of(rt, alloc, b"pay 0 1 30\npay 1 0 30\n", 1)?;
+    let rows = enlisted(alloc, &mut jobs, 0).ok()?;
     let mut seat = worker(&table, &mut boss, 0, 1);
     let looker = table.note(&mut seat);
     let daemon = daemon_on(alloc, (100, 0), &table, boss, disk, sink, Voice::Lines)?;
-    looks_and_flushes(rt, alloc, &table, seat, looker, &jobs, daemon)
+    let queue = jobs.queue();
+    Some(looks_and_flushes(rt, &table, seat, looker, queue, rows, daemon))
 }
 
 /// The run of the worker over a disk and a sink in memory, and these two behind it.

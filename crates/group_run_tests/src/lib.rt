@@ -1,4 +1,4 @@
-//! A run of four workers beside a daemon, over a table with one slot.
+//! A run of sixteen workers beside a daemon, over a table with one slot.
 #![tactic(auto)]
 
 #[cfg(test)]
@@ -7,5 +7,3 @@ mod records;
 mod run_tests;
 #[cfg(test)]
 mod script;
-#[cfg(test)]
-mod workers;

@@ -1,32 +1,36 @@
-//! Four workers that make transfers with notes while a daemon sends them to a disk, and what the log holds behind them.
-ghost use Rattle.std.specs.Prelude.{◌≡◌, ◌<◌, true, All};
+//! Sixteen workers that make transfers with notes while a daemon sends them to a disk, and what the log holds behind them.
+ghost use Rattle.std.specs.Prelude.{◌≡◌, true, All};
+ghost use Rattle.std.specs.List.{AllByRecursion};
 ghost use Rattle.log_table.specs.Seats.{view_of};
 ghost use Rattle.log_rule.specs.Views.{knows_all_enrolled};
 ghost use Rattle.segment_file.specs.Standing.{IsStableGate};
 ghost use Rattle.lock_core.specs.Transfers.{IsAllowedJob};
 ghost use Rattle.commit_pipeline.specs.Turning.{MayTurn};
-ghost use Rattle.test_rig.specs.NotedJobs.{IsNew};
+ghost use Rattle.run_rig.specs.Enlisted.{IsHand};
 
 use crate::records::{RECORDS, TRANSFERS, count_records};
 use crate::script::noted_thirties;
-use crate::workers::{Four, live_all};
 use commit_pipeline::{Daemon, DaemonFault, Voice};
 use log_disk::LogDisk;
 use log_recovery::listed;
 use lsn_space::Lsn;
 use memory_disk::{MemoryDisk, MemorySink};
-use run_rig::{daemon_on, recovered_balances};
+use run_rig::{daemon_on, hands, live_all, recovered_balances};
 use segment_file::open_image;
 use std::alloc::Global;
 use std::process::Abort;
 use std::sync::Wait;
+use std::sync::atomic::{AtomicUsize, Ordering};
 use std::test::Fail;
 use std::thread::{Threads, join};
 use std::time::Clock;
-use test_rig::{table_with_slots, worker};
+use test_rig::table_with_slots;
 
 /// What account 0 begins with; account 1 begins with nothing.
 const RICH: u32 = 100_000;
+
+/// How many workers there are.
+const WORKERS: u32 = 16;
 
 /// The end of the log with all transfers, of seven units each.
 const END: u32 = 4 + 7 * TRANSFERS;
@@ -42,7 +46,7 @@ fn drain<R: Wait + Clock, D: LogDisk>(
     daemon.run_until_drained(rt)
 }
 
-/// Turns to the end, beside four threads that make the transfers, over a table with one slot; also how many rows they have.
+/// Turns to the end, beside the workers' threads, over a table with one slot; also how many rows they have.
 fn run_groups<R: Threads + Wait + Clock + Sync, D: LogDisk>(
     rt: &R,
     alloc: Global,
@@ -54,28 +58,21 @@ fn run_groups<R: Threads + Wait + Clock + Sync, D: LogDisk>(
     let Ok((table, mut boss)) = table_with_slots(alloc, (RICH, 0), 4, 1) else {
         return None;
     };
-    let one = worker(&table, &mut boss, 0, 1);
-    let two = worker(&table, &mut boss, 1, 1);
-    let three = worker(&table, &mut boss, 2, 1);
-    let four = worker(&table, &mut boss, 3, 1);
+    let mut jobs = noted_thirties(rt, alloc, TRANSFERS, WORKERS)?;
+    let crew = hands(alloc, &table, &mut boss, &mut jobs, WORKERS)?;
     let mut daemon = daemon_on(alloc, (RICH, 0), &table, boss, disk, sink, Voice::Lines)?;
-    let script = noted_thirties(rt, alloc, TRANSFERS, 4)?;
-    let seats = Four {
-        one,
-        two,
-        three,
-        four,
-    };
-    let (t, jobs) = (&table, &script);
-    Some(join(
+    let rows = AtomicUsize::new(0);
+    let (t, queue, count) = (&table, jobs.queue(), &rows);
+    let ((), answer) = join(
         rt,
         move ||
-            requires { (IsNew t.now seats.one × (seats.one.worker < jobs.now.workers)) × (IsNew t.now seats.two × (seats.two.worker < jobs.now.workers)) × (IsNew t.now seats.three × (seats.three.worker < jobs.now.workers)) × (IsNew t.now seats.four × (seats.four.worker < jobs.now.workers)) × All (IsAllowedJob t.now.accounts) jobs.now.script }
-        { live_all(rt, alloc, t, seats, jobs) },
+            requires { AllByRecursion (IsHand t.now queue.now) crew.items × All (IsAllowedJob t.now.accounts) queue.now.script }
+        { live_all(rt, t, queue, crew, count) },
         move ||
             requires { MayTurn D.LogDisk daemon × (knows_all_enrolled (view_of daemon.flusher.seat).standing ≡ true) }
         { drain(rt, &mut daemon) },
-    ))
+    );
+    Some((rows.load(Ordering::SeqCst), answer))
 }
 
 /// How many records of transfers the list of the disk's bytes has, and how many of them a second time.
@@ -86,7 +83,7 @@ fn counted<D: LogDisk>(alloc: Global, disk: &mut D) -> Option<(u32, u32)> {
 }
 
 #[test]
-fn four_workers_in_groups_beside_a_daemon(rt: HostRuntime) -> Result<(), Fail> {
+fn sixteen_workers_in_groups_beside_a_daemon(rt: HostRuntime) -> Result<(), Fail> {
     let alloc = rt.alloc();
     let mut disk = MemoryDisk::make(alloc, &[], 1_000_000, &[])?;
     let mut sink = MemorySink::make(alloc, 100_000, &[])?;
