@@ -1,13 +1,14 @@
-ghost use Rattle.std.specs.Prelude.{◌≡◌, ◌≤◌, ◌++◌, ◌∷◌, ℕ, List, IfSome, length, codes, Contains};
+ghost use Rattle.std.specs.Prelude.{◌≡◌, ◌≤◌, ◌++◌, ◌∷◌, ℕ, List, IfSome, length, codes, Contains, true};
+ghost use Rattle.std.specs.Fs.{new_options, with_read, with_write, with_create_new};
 ghost use Rattle.log_disk.specs.Faults.{Rose};
 ghost use Rattle.system_disk.specs.Folders.{SLASH, folder_before};
 
-use crate::retrying::read_retrying;
+use crate::retrying::{len_retrying, read_retrying};
 use log_disk::{Failed, LogDisk};
 use lsn_space::Word;
 use std::fs::{File, Files, OpenOptions};
 use std::io;
-use std::io::Read;
+use std::io::{ErrorKind, Read};
 use std::os::fd::AsRawFd;
 use std::os::unix::fs::FileExt;
 
@@ -123,9 +124,7 @@ impl<R: Files<File = File> + Drop> LogDisk for FileDisk<R> {
 /// Opens for reading and writing, with what the file holds left as it is, and takes the file's lock,
 /// which goes back where the file is closed. Where another one has the lock there is no file.
 fn open_file<R: Files<File = File>>(rt: &R, name: &str, make: bool) -> Option<File> {
-    let mut options = OpenOptions::new();
-    options.read(true).write(true).create(make);
-    let file = options.open(rt, name).ok()?;
+    let file = open_or_make(rt, name, make)?;
     // A standard stream was closed, and the file got its number: what the program writes to the stream would go into it.
     if file.as_raw_fd() <= LAST_STREAM {
         return None;
@@ -141,6 +140,35 @@ fn open_file<R: Files<File = File>>(rt: &R, name: &str, make: bool) -> Option<Fi
     Some(file)
 }
 
+/// Opens the file that is there, or makes one where nothing has its name. A link that leads nowhere has the name, so nothing
+/// is made for it: the entry would stand in the folder that the link names, which isn't the one that is synced.
+fn open_or_make<R: Files<File = File>>(rt: &R, name: &str, make: bool) -> Option<File> {
+    match log_options(false).open(rt, name) {
+        Err(error) if make && error.kind() == ErrorKind::NotFound => make_file(rt, name),
+        opened => opened.ok(),
+    }
+}
+
+/// Makes the file. Where it came to be since it was missing, by another program or by a call that was interrupted once it had
+/// made it, it is opened as it is, which is tried once.
+fn make_file<R: Files<File = File>>(rt: &R, name: &str) -> Option<File> {
+    match log_options(true).open(rt, name) {
+        Err(error) if error.kind() == ErrorKind::AlreadyExists => log_options(false)
+            .open(rt, name)
+            .ok(),
+        made => made.ok(),
+    }
+}
+
+/// How a log's file is opened, or made anew: then it must not be there, not even as a link. What it holds is never cut off.
+fn log_options(anew: bool) -> OpenOptions
+    ensures { result ≡ with_create_new (with_write (with_read new_options true) true) anew }
+{
+    let mut options = OpenOptions::new();
+    options.read(true).write(true).create_new(anew);
+    options
+}
+
 /// The folder in which the file at this path stands: what is before the last slash.
 pub fn folder_of(path: &str) -> &str
     ensures behind { (front name : List ℕ) → path.now ≡ front ++ SLASH ∷ name → (Contains name SLASH → ⊥) → result.now ≡ folder_before front }
@@ -154,7 +182,7 @@ pub fn folder_of(path: &str) -> &str
 
 fn len_of(file: &Option<File>) -> Option<u64> {
     match file {
-        Some(file) => Some(file.metadata().ok()?.len()),
+        Some(file) => len_retrying(file).ok(),
         None => None,
     }
 }

@@ -6,6 +6,7 @@ ghost use Rattle.std.specs.Io.{ReadsAtMost, WritesAtMost};
 ghost use Rattle.std.specs.Io.KnownBytes.{ReadConsumes, WriteAppends};
 ghost use Rattle.std.specs.IoError.{error_kind};
 
+use std::fs::File;
 use std::io;
 use std::io::{Error, ErrorKind, Read, Write};
 
@@ -37,6 +38,20 @@ pub(crate) fn write_retrying<W: Write>(writer: &mut W, piece: &[u8]) -> io::Resu
     'tries: for _ in 0..MOST_TRIES {
         match writer.write(piece) {
             Ok(count) => return Ok(count),
+            Err(error) if error.kind() == ErrorKind::Interrupted => {}
+            Err(error) => return Err(error),
+        }
+    }
+    Err(Error::from(ErrorKind::TimedOut))
+}
+
+/// The length of a file, asked again where that was interrupted.
+pub(crate) fn len_retrying(file: &File) -> io::Result<u64>
+    ensures retried { IfErr result (λ error. error_kind error ≢ ErrorKind.Interrupted) }
+{
+    'tries: for _ in 0..MOST_TRIES {
+        match file.metadata() {
+            Ok(metadata) => return Ok(metadata.len()),
             Err(error) if error.kind() == ErrorKind::Interrupted => {}
             Err(error) => return Err(error),
         }
