@@ -171,10 +171,43 @@ static void make_transfer(uint32_t txn, Leg leg, bool waits) {
     give_account(leg.payee, balance_of(payee) + (done ? leg.amount : 0), done ? end : last_commit_of(payee));
 }
 
+// The queue of the transfers' places. A slot's stamp is that of the place once it is put, and of the next lap once it is taken; it is put in once
+// alone, so there is no next lap.
+typedef struct {
+    _Atomic uint64_t stamp;
+    uint64_t place;
+} Slot;
+
+static Slot *slots;
+static Shared head, last;
+
+static void put_place(uint64_t place) {
+    uint64_t at = atomic_load(&last.word);
+    while (atomic_load(&slots[at].stamp) != at || !atomic_compare_exchange_strong(&last.word, &at, at + 1)) at = atomic_load(&last.word);
+    slots[at].place = place;
+    atomic_store(&slots[at].stamp, at + 1);
+}
+
+// The next place. Behind all places stand as many marks as there are workers, so there always is one.
+static uint64_t take_place(void) {
+    uint64_t at = atomic_load(&head.word);
+    while (atomic_load(&slots[at].stamp) != at + 1 || !atomic_compare_exchange_strong(&head.word, &at, at + 1)) at = atomic_load(&head.word);
+    uint64_t place = slots[at].place;
+    atomic_store(&slots[at].stamp, 0);
+    return place;
+}
+
+static void fill_queue(const Run *run) {
+    uint64_t count = run->transfers + run->workers;
+    slots = malloc(count * sizeof(Slot));
+    if (slots == NULL) die("malloc");
+    for (uint64_t i = 0; i < count; i++) atomic_store(&slots[i].stamp, i);
+    for (uint64_t i = 0; i < count; i++) put_place(i);
+}
+
 static void *work_by_steps(void *given) {
-    const Worker *worker = given;
-    const Run *run = worker->run;
-    for (uint32_t i = worker->number; i < run->transfers; i += run->workers) make_transfer(i + 1, run->legs[i], run->waits);
+    const Run *run = ((const Worker *)given)->run;
+    for (uint64_t i = take_place(); i < run->transfers; i = take_place()) make_transfer((uint32_t)i + 1, run->legs[i], run->waits);
     atomic_fetch_sub(&crew.word, 1);
     return NULL;
 }
@@ -215,6 +248,7 @@ static void run_steps(Run *run) {
     atomic_store(&durable.word, FIRST_LSN);
     atomic_store(&crew.word, run->workers);
     for (uint32_t account = 0; account < ACCOUNTS; account++) give_account(account, FIRST_BALANCE, 0);
+    fill_queue(run);
     serve(run, work_by_steps, flush_by_steps);
     for (uint32_t account = 0; account < ACCOUNTS; account++) run->balances[account] = balance_of(accounts[account].word);
 }
@@ -270,10 +304,12 @@ static void make_locked_transfer(uint32_t txn, Leg leg, bool waits) {
     pthread_mutex_unlock(&mutex);
 }
 
+static _Atomic uint64_t next_place;
+
 static void *work_by_mutex(void *given) {
-    const Worker *worker = given;
-    const Run *run = worker->run;
-    for (uint32_t i = worker->number; i < run->transfers; i += run->workers) make_locked_transfer(i + 1, run->legs[i], run->waits);
+    const Run *run = ((const Worker *)given)->run;
+    for (uint64_t i = atomic_fetch_add(&next_place, 1); i < run->transfers; i = atomic_fetch_add(&next_place, 1))
+        make_locked_transfer((uint32_t)i + 1, run->legs[i], run->waits);
     pthread_mutex_lock(&mutex);
     locked.active--;
     pthread_cond_signal(&has_units);
