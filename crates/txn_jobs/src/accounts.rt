@@ -1,5 +1,5 @@
 //! The accounts of a transfer, in the order in which every worker takes accounts.
-ghost use Rattle.std.specs.Prelude.{◌<◌, ◌∷◌, [], ℕ, All};
+ghost use Rattle.std.specs.Prelude.{◌≡◌, ◌<◌, ◌∷◌, [], ℕ, All};
 ghost use Rattle.std.specs.List.Sorted.{IsStrictlyIncreasing};
 ghost use Rattle.arrayvec.specs.ArrayVec.{array_vec_len};
 ghost use Rattle.txn_jobs.specs.declared.accounts.TheConstants.{MOST_PARTIES};
@@ -12,38 +12,36 @@ use log_record::MOST_LEGS;
 /// The most accounts of a transfer: two for each leg.
 pub const MOST_PARTIES: usize = 2 * MOST_LEGS as usize;
 
-/// The accounts of the transfer in ascending order, none of them twice.
-pub fn accounts_of(job: &Job) -> ArrayVec<u32, MOST_PARTIES>
-    ensures rising { IsStrictlyIncreasing result.items }
-    ensures all { All (HasAccountsOf result.items) job.now.legs }
-    ensures only { All (IsAccountOf job.now.legs) result.items }
+/// Puts the accounts of the transfer into the list, in ascending order, none of them twice. What the list held is lost.
+pub fn list_accounts(job: &Job, accounts: &mut ArrayVec<u32, MOST_PARTIES>)
+    ensures rising { IsStrictlyIncreasing accounts.new.items }
+    ensures all { All (HasAccountsOf accounts.new.items) job.now.legs }
+    ensures only { All (IsAccountOf job.now.legs) accounts.new.items }
 {
+    accounts.clear();
     // Most transfers have one leg, and one comparison puts its two accounts in order.
     if let [leg] = job.legs.as_slice() {
-        return pair(leg.0, leg.1);
+        return pair(leg.0, leg.1, accounts);
     }
-    let mut accounts = ArrayVec::new();
     'legs: for leg in job.legs.as_slice() {
-        add(&mut accounts, leg.0);
-        add(&mut accounts, leg.1);
+        add(accounts, leg.0);
+        add(accounts, leg.1);
     }
-    accounts
 }
 
 /// Both accounts in ascending order, or the one that they are.
-fn pair(payer: u32, payee: u32) -> ArrayVec<u32, MOST_PARTIES>
-    ensures rising { IsStrictlyIncreasing result.items }
-    ensures all { (amount : ℕ) → HasAccountsOf result.items (payer, payee, amount) }
-    ensures only { (amount : ℕ) → All (IsAccountOf ((payer, payee, amount) ∷ [])) result.items }
+fn pair(payer: u32, payee: u32, accounts: &mut ArrayVec<u32, MOST_PARTIES>)
+    requires empty { accounts.old.items ≡ [] }
+    ensures rising { IsStrictlyIncreasing accounts.new.items }
+    ensures all { (amount : ℕ) → HasAccountsOf accounts.new.items (payer, payee, amount) }
+    ensures only { (amount : ℕ) → All (IsAccountOf ((payer, payee, amount) ∷ [])) accounts.new.items }
 {
-    let mut accounts = ArrayVec::new();
     if payer == payee {
         accounts.push(payer);
-        return accounts;
+        return;
     }
     accounts.push(payer.min(payee));
     accounts.push(payer.max(payee));
-    accounts
 }
 
 /// Puts the account in its place among the others, where it isn't one of them.

@@ -5,6 +5,6 @@ mod accounts;
 mod cause;
 mod rows;
 
-pub use accounts::{MOST_PARTIES, accounts_of};
+pub use accounts::{MOST_PARTIES, list_accounts};
 pub use cause::{Cause, Worked, unless_stopped};
 pub use rows::{Answer, Row, Rows};

@@ -1,5 +1,5 @@
 -- The stages of one transfer, one after another, and what they come to.
-use Rattle.std.proofs.Common.{◌≡◌, ◌≢◌, ℕ, ◌≤◌, Bool, true, List, [], map, All, IfOk, IfErr, OnErr, Ok, Err, Result, refl, sym, ap, ◌∙◌, subst, arith}
+use Rattle.std.proofs.Common.{◌≡◌, ℕ, ◌≤◌, Bool, true, List, [], map, All, IfOk, IfErr, OnErr, Ok, Err, Result, refl, sym, ap, ◌∙◌, subst, arith}
 use Rattle.std.specs.List.{AllByRecursion}
 use Rattle.std.specs.List.Sorted.{IsStrictlyIncreasing}
 use Rattle.std.proofs.lemmas.Result.{IfOk-weaker, IfErr-weaker}
@@ -21,7 +21,6 @@ use Rattle.log_table.specs.Seats.{IsOf, Becomes, view_of}
 use Rattle.ring_buffer.specs.Calls.{IsReady, IsSameWorker, HasEntries}
 use Rattle.ring_buffer.proofs.TwoCalls.{IsSameWorker-trans}
 use Rattle.txn_jobs.specs.declared.cause.Cause.{Cause}
-use Rattle.txn_jobs.specs.declared.cause.Cause.TheVariants.{Stop}
 use Rattle.txn_parts.specs.declared.holding.Holding.{Holding}
 use Rattle.txn_jobs.specs.declared.rows.Row.{Row}
 use Rattle.txn_parts.specs.declared.ended.Ended.{Ended}
@@ -113,12 +112,6 @@ module _ (number : ℕ) (job : Job) (first second : Seat) where
     none_held = ap (λ (books : Books). books.held) taken.books_are ∙ may.none_held;
     none = (took taken).none;
   }
-
-  -- where the stop word that was read isn't 0, the log has stopped
-  pub stops-by : (word : ℕ) (result : Result (Unit {0}) Cause) → (view_of second).seen.stop ≡ word
-      → IfErr result (λ cause. (cause ≡ Stop word) × (word ≢ 0)) → IfErr result (λ cause. StopsFor cause [] (view_of second))
-  stops-by word (Ok done) read stopped = tt
-  stops-by word (Err cause) read stopped = subst (λ cause. StopsFor cause [] (view_of second)) (sym stopped.0) (stopped.1, read)
 
 -- what the seat made since `second` it made since `first`, where it gave nothing back between
 lets-go-since : (first second third : Seat) → IsSameWorker first second → (view_of second).contended ≡ (view_of first).contended

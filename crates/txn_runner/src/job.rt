@@ -13,7 +13,7 @@ use log_table::{LogTable, Seat};
 use lsn_space::Lsn;
 use schedule_hook::{Gate, Place};
 use std::sync::Wait;
-use txn_jobs::{Cause, MOST_PARTIES, Row, accounts_of};
+use txn_jobs::{Cause, MOST_PARTIES, Row, list_accounts, unless_stopped};
 use txn_making::{give_all, give_unchanged, insert_transfer, take_all};
 use txn_parts::{Ended, Holding, Relief, see_durable};
 
@@ -24,6 +24,7 @@ pub(crate) fn run_job<R: Wait, Q: Relief, G: Gate>(
     seat: &mut Seat,
     begun: Begun,
     job: &Job,
+    accounts: &mut ArrayVec<u32, MOST_PARTIES>,
     holdings: &mut ArrayVec<Holding, MOST_PARTIES>,
     units: &mut Units,
     relief: &mut Q,
@@ -33,8 +34,7 @@ pub(crate) fn run_job<R: Wait, Q: Relief, G: Gate>(
     requires seat { IsOf table.now seat.old }
     requires ready { IsReady (view_of seat.old) }
     requires next { HasNextJob table.now.accounts begun.number job.now (view_of seat.old).books }
-    requires runs { OnOk begun.goes_on ((view_of seat.old).seen.stop ≡ 0) }
-    requires stopped { IfErr begun.goes_on (λ cause. StopsFor cause [] (view_of seat.old)) }
+    requires stop { (view_of seat.old).seen.stop ≡ begun.stop }
     requires relief { Q.ready relief.old }
     ensures seat { IsOf table.now seat.new }
     ensures ready { IsReady (view_of seat.new) }
@@ -45,7 +45,9 @@ pub(crate) fn run_job<R: Wait, Q: Relief, G: Gate>(
     ensures later { Q.later relief.old relief.new }
 {
     let number = begun.number;
-    take_accounts(rt, table, seat, begun, job, holdings, relief, gate)?;
+    take_accounts(
+        rt, table, seat, begun, job, accounts, holdings, relief, gate,
+    )?;
     make_transfer(
         rt, table, seat, number, job, holdings, units, relief, wait, gate,
     )
@@ -58,6 +60,7 @@ fn take_accounts<R: Wait, Q: Relief, G: Gate>(
     seat: &mut Seat,
     begun: Begun,
     job: &Job,
+    accounts: &mut ArrayVec<u32, MOST_PARTIES>,
     holdings: &mut ArrayVec<Holding, MOST_PARTIES>,
     relief: &mut Q,
     gate: &G,
@@ -65,8 +68,7 @@ fn take_accounts<R: Wait, Q: Relief, G: Gate>(
     requires seat { IsOf table.now seat.old }
     requires ready { IsReady (view_of seat.old) }
     requires next { HasNextJob table.now.accounts begun.number job.now (view_of seat.old).books }
-    requires runs { OnOk begun.goes_on ((view_of seat.old).seen.stop ≡ 0) }
-    requires stopped { IfErr begun.goes_on (λ cause. StopsFor cause [] (view_of seat.old)) }
+    requires stop { (view_of seat.old).seen.stop ≡ begun.stop }
     requires relief { Q.ready relief.old }
     ensures taken { OnOk result (TakesAccounts table.now.accounts begun.number job.now holdings.new.items seat.old seat.new) }
     ensures runs { OnOk result ((view_of seat.new).seen.stop ≡ 0) }
@@ -75,11 +77,9 @@ fn take_accounts<R: Wait, Q: Relief, G: Gate>(
     ensures relief { Q.ready relief.new }
     ensures later { Q.later relief.old relief.new }
 {
-    if let Err(cause) = begun.goes_on {
-        return Err(cause);
-    }
+    unless_stopped(begun.stop)?;
     relief.begin();
-    let accounts = accounts_of(job);
+    list_accounts(job, accounts);
     take_all(rt, table, seat, accounts.as_slice(), holdings, relief, gate)
 }
 

@@ -7,6 +7,6 @@ mod taking;
 mod worker;
 
 pub use job_queue::{Jobs, Queue, Rows};
-pub use txn_jobs::{Answer, Cause, MOST_PARTIES, Row, Worked, accounts_of};
+pub use txn_jobs::{Answer, Cause, MOST_PARTIES, Row, Worked, list_accounts};
 pub use txn_parts::{Relief, YieldRelief};
 pub use worker::work;

@@ -1,10 +1,9 @@
 //! A worker takes its next transfer.
-ghost use Rattle.std.specs.Prelude.{◌≡◌, [], All, IfErr, IfNone, IfSome, OnOk};
+ghost use Rattle.std.specs.Prelude.{◌≡◌, [], All, IfNone, IfSome};
 ghost use Rattle.lock_core.specs.Transfers.{IsAllowedJob};
 ghost use Rattle.log_table.specs.Seats.{IsOf, view_of};
 ghost use Rattle.ring_buffer.specs.Calls.{IsReady};
 ghost use Rattle.job_queue.specs.Passes.{HasPassOf, jobs_of, KeepsRows, marks_in, places_in};
-ghost use Rattle.txn_making.specs.Inserts.{StopsFor};
 ghost use Rattle.txn_runner.specs.Stages.{HasNextJob, TakesNextJob, TakesNoJob};
 ghost use Rattle.txn_runner.specs.Working.{HasWorked};
 
@@ -13,13 +12,12 @@ use lock_core::Job;
 use log_table::{LogTable, Seat};
 use schedule_hook::{Gate, Place};
 use std::sync::Wait;
-use txn_jobs::{Cause, unless_stopped};
 
-/// The number of a transfer that was taken, and whether the log had not stopped by then.
+/// The number of a transfer that was taken, and the stop word as it was then.
 #[derive(Clone, Copy, Debug)]
 pub(crate) struct Begun {
     pub(crate) number: u32,
-    pub(crate) goes_on: Result<(), Cause>,
+    pub(crate) stop: u64,
 }
 
 /// Takes the next transfer (`take_as_job`), and tells the gate.
@@ -45,8 +43,7 @@ pub(crate) fn begin_job<R: Wait, G: Gate>(
     ensures rows { KeepsRows rows.old rows.new }
     ensures taken { IfSome result (λ begun. TakesNextJob queue.now begun.number job.new rows.old rows.new seat.old seat.new) }
     ensures next { IfSome result (λ begun. HasNextJob table.now.accounts begun.number job.new (view_of seat.new).books) }
-    ensures runs { IfSome result (λ begun. OnOk begun.goes_on ((view_of seat.new).seen.stop ≡ 0)) }
-    ensures stopped { IfSome result (λ begun. IfErr begun.goes_on (λ cause. StopsFor cause [] (view_of seat.new))) }
+    ensures stop { IfSome result (λ begun. (view_of seat.new).seen.stop ≡ begun.stop) }
     ensures none { IfNone result (TakesNoJob queue.now rows.old rows.new seat.old seat.new) }
 {
     let begun = take_as_job(rt, table, seat, queue, rows, job);
@@ -79,16 +76,12 @@ fn take_as_job<R: Wait>(
     ensures rows { KeepsRows rows.old rows.new }
     ensures taken { IfSome result (λ begun. TakesNextJob queue.now begun.number job.new rows.old rows.new seat.old seat.new) }
     ensures next { IfSome result (λ begun. HasNextJob table.now.accounts begun.number job.new (view_of seat.new).books) }
-    ensures runs { IfSome result (λ begun. OnOk begun.goes_on ((view_of seat.new).seen.stop ≡ 0)) }
-    ensures stopped { IfSome result (λ begun. IfErr begun.goes_on (λ cause. StopsFor cause [] (view_of seat.new))) }
+    ensures stop { IfSome result (λ begun. (view_of seat.new).seen.stop ≡ begun.stop) }
     ensures none { IfNone result (TakesNoJob queue.now rows.old rows.new seat.old seat.new) }
 {
     let Some(number) = queue.take_next(rt, rows, job) else {
         return None;
     };
-    let word = table.take_job(seat, number, job);
-    Some(Begun {
-        number,
-        goes_on: unless_stopped(word),
-    })
+    let stop = table.take_job(seat, number, job);
+    Some(Begun { number, stop })
 }

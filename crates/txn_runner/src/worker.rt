@@ -62,6 +62,7 @@ pub fn work<R: Wait, Q: Relief, G: Gate>(
 {
     // One place for all transfers, for the accounts of each, and for the units of each record, so that none is copied.
     let mut job = Job::new();
+    let mut accounts = ArrayVec::new();
     let mut holdings = ArrayVec::new();
     let mut units = Units::new();
     'jobs: while let Some(begun) = begin_job(rt, table, seat, queue, rows, &mut job, gate) {
@@ -71,6 +72,7 @@ pub fn work<R: Wait, Q: Relief, G: Gate>(
             seat,
             begun,
             &job,
+            &mut accounts,
             &mut holdings,
             &mut units,
             relief,

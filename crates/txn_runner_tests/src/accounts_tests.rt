@@ -1,8 +1,9 @@
 //! The order in which a transfer takes its accounts.
+use arrayvec::ArrayVec;
 use lock_core::{Job, Legs};
 use log_record::MOST_LEGS;
 use std::process::Abort;
-use txn_runner::accounts_of;
+use txn_runner::{MOST_PARTIES, list_accounts};
 
 const CASES: &[(&[(u32, u32, u32)], &[u32])] = &[
     (&[(0, 1, 30)], &[0, 1]),
@@ -14,20 +15,26 @@ const CASES: &[(&[(u32, u32, u32)], &[u32])] = &[
     ),
 ];
 
-/// A transfer of these legs takes these accounts, in this order.
-fn takes(rt: &impl Abort, list: &[(u32, u32, u32)], wanted: &[u32]) {
+/// A transfer of these legs takes these accounts, in this order, whatever the list held before.
+fn takes(
+    rt: &impl Abort,
+    list: &[(u32, u32, u32)],
+    accounts: &mut ArrayVec<u32, MOST_PARTIES>,
+    wanted: &[u32],
+) {
     let mut legs = Legs::new();
     for leg in list {
         assert!(rt; legs.as_slice().len() < usize::from(MOST_LEGS));
         legs.push(*leg);
     }
-    let accounts = accounts_of(&Job { legs, note: None });
+    list_accounts(&Job { legs, note: None }, accounts);
     assert_eq!(rt; accounts.as_slice(), wanted, "{list:?}");
 }
 
 #[test]
 fn each_account_stands_once_and_in_order(rt: HostRuntime) {
+    let mut accounts = ArrayVec::new();
     for (list, wanted) in CASES {
-        takes(&rt, list, wanted);
+        takes(&rt, list, &mut accounts, wanted);
     }
 }

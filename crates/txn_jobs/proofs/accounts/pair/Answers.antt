@@ -15,27 +15,27 @@ pushed-two none one two x y x' y' empty first second x-is y-is =
 
 pub returns-then-payer-payee-clause-rising : goal.returns-then-payer-payee-clause-rising
 returns-then-payer-payee-clause-rising c =
-    subst IsStrictlyIncreasing (sym (pushed _ _ _ c.new-accounts.ensures c.push.ensures.items)) (one-rising c.args.payer c.args.payee)
+    subst IsStrictlyIncreasing (sym (pushed _ _ _ c.requires.empty c.push.ensures.items)) (one-rising c.args.payer c.args.payee)
 
 pub returns-then-payer-payee-clause-all : goal.returns-then-payer-payee-clause-all
 returns-then-payer-payee-clause-all c = λ amount. subst (λ xs. HasAccountsOf xs (c.args.payer, c.args.payee, amount))
-    (sym (pushed _ _ _ c.new-accounts.ensures c.push.ensures.items)) (one-has c.args.payer c.args.payee amount c.if-payer-payee.true)
+    (sym (pushed _ _ _ c.requires.empty c.push.ensures.items)) (one-has c.args.payer c.args.payee amount c.if-payer-payee.true)
 
 pub returns-then-payer-payee-clause-only : goal.returns-then-payer-payee-clause-only
 returns-then-payer-payee-clause-only c = λ amount. subst (All (IsAccountOf ((c.args.payer, c.args.payee, amount) ∷ [])))
-    (sym (pushed _ _ _ c.new-accounts.ensures c.push.ensures.items)) (one-only c.args.payer c.args.payee amount)
+    (sym (pushed _ _ _ c.requires.empty c.push.ensures.items)) (one-only c.args.payer c.args.payee amount)
 
 pub returns-clause-rising : goal.returns-clause-rising
 returns-clause-rising c = subst IsStrictlyIncreasing
-    (sym (pushed-two _ _ _ _ _ _ _ c.new-accounts.ensures c.push-2.ensures.items c.push-3.ensures.items c.min.ensures c.max.ensures))
+    (sym (pushed-two _ _ _ _ _ _ _ c.requires.empty c.push-2.ensures.items c.push-3.ensures.items c.min.ensures c.max.ensures))
     (two-rising c.args.payer c.args.payee c.if-payer-payee.false)
 
 pub returns-clause-all : goal.returns-clause-all
 returns-clause-all c = λ amount. subst (λ xs. HasAccountsOf xs (c.args.payer, c.args.payee, amount))
-    (sym (pushed-two _ _ _ _ _ _ _ c.new-accounts.ensures c.push-2.ensures.items c.push-3.ensures.items c.min.ensures c.max.ensures))
+    (sym (pushed-two _ _ _ _ _ _ _ c.requires.empty c.push-2.ensures.items c.push-3.ensures.items c.min.ensures c.max.ensures))
     (two-has c.args.payer c.args.payee amount)
 
 pub returns-clause-only : goal.returns-clause-only
 returns-clause-only c = λ amount. subst (All (IsAccountOf ((c.args.payer, c.args.payee, amount) ∷ [])))
-    (sym (pushed-two _ _ _ _ _ _ _ c.new-accounts.ensures c.push-2.ensures.items c.push-3.ensures.items c.min.ensures c.max.ensures))
+    (sym (pushed-two _ _ _ _ _ _ _ c.requires.empty c.push-2.ensures.items c.push-3.ensures.items c.min.ensures c.max.ensures))
     (two-only c.args.payer c.args.payee amount)

@@ -3,10 +3,10 @@ use Rattle.std.proofs.lemmas.Result.{on_ok_weaker}
 use Rattle.job_queue.specs.Passes.{places_in}
 use Rattle.log_rule.specs.May.{MayTakeJob}
 use Rattle.log_table.specs.Seats.{view_of}
-use Rattle.txn_runner.proofs.StageLemmas.{IsOf-same, IsReady-same, IsTaken, takes-job, has-next, stops-by}
+use Rattle.txn_runner.proofs.StageLemmas.{IsOf-same, IsReady-same, IsTaken, takes-job, has-next}
 use Rattle.txn_runner.proofs.WorkLemmas.{IsNextJob-taken, MayTakeJob-next}
 use Rattle.txn_runner.proofs.taking.take_as_job.Goals as goal
-use Rattle.txn_runner.proofs.taking.take_as_job.Goals.{In-Some, After-unless_stopped}
+use Rattle.txn_runner.proofs.taking.take_as_job.Goals.{In-Some, After-take_job-stop}
 
 -- the seat may take the transfer at the place that was taken
 may-take : (g : _) (c : In-Some g) → MayTakeJob c.args.table.now.accounts c.in-Some.number c.take_next.new.job (view_of c.args.seat.now)
@@ -14,11 +14,11 @@ may-take g c = MayTakeJob-next c.args.queue.now (places_in c.args.rows.now) c.in
     (IsNextJob-taken c.args.queue.now c.in-Some.number c.take_next.new.job c.args.rows.now c.take_next.new.rows c.in-Some.ensures.place)
     c.args.table.now.accounts (view_of c.args.seat.now) c.requires.ready c.requires.none_held c.requires.allowed c.requires.worked
 
-pub take_job-word-requires-clause-may : goal.take_job-word-requires-clause-may
-take_job-word-requires-clause-may g c = may-take g (goal.at.take_job-word-requires-clause-may g c).In-Some
+pub take_job-stop-requires-clause-may : goal.take_job-stop-requires-clause-may
+take_job-stop-requires-clause-may g c = may-take g (goal.at.take_job-stop-requires-clause-may g c).In-Some
 
-taken : (g : _) (c : After-unless_stopped g) → IsTaken c.in-Some.number c.take_next.new.job c.args.seat.now c.take_job-word.new.seat
-taken g c = takes-job c.in-Some.number c.take_next.new.job c.args.seat.now c.take_job-word.new.seat c.take_job-word.result c.requires.ready c.take_job-word.ensures.view
+taken : (g : _) (c : After-take_job-stop g) → IsTaken c.in-Some.number c.take_next.new.job c.args.seat.now c.take_job-stop.new.seat
+taken g c = takes-job c.in-Some.number c.take_next.new.job c.args.seat.now c.take_job-stop.new.seat c.take_job-stop.result c.requires.ready c.take_job-stop.ensures.view
 
 pub returns-clause-seat : goal.returns-clause-seat
 returns-clause-seat g c = IsOf-same _ _ _ c.requires.seat (taken g c).same
@@ -30,13 +30,8 @@ pub returns-clause-taken : goal.returns-clause-taken
 returns-clause-taken g c = record { place = c.in-Some.ensures.place; as_job = taken g c }
 
 pub returns-clause-next : goal.returns-clause-next
-returns-clause-next g c = has-next c.in-Some.number c.take_next.new.job c.args.seat.now c.take_job-word.new.seat c.args.table.now.accounts
+returns-clause-next g c = has-next c.in-Some.number c.take_next.new.job c.args.seat.now c.take_job-stop.new.seat c.args.table.now.accounts
     (may-take g (goal.at.returns-clause-next g c).In-Some) (taken g c)
 
-pub returns-clause-runs : goal.returns-clause-runs
-returns-clause-runs g c = on_ok_weaker c.unless_stopped.result (λ word. ap (λ m. m.0.seen.stop) c.take_job-word.ensures.view.me ∙ word)
-    c.unless_stopped.ensures.runs
-
-pub returns-clause-stopped : goal.returns-clause-stopped
-returns-clause-stopped g c = stops-by c.in-Some.number c.take_next.new.job c.args.seat.now c.take_job-word.new.seat c.take_job-word.result c.unless_stopped.result
-    (ap (λ m. m.0.seen.stop) c.take_job-word.ensures.view.me) c.unless_stopped.ensures.stopped
+pub returns-clause-stop : goal.returns-clause-stop
+returns-clause-stop g c = ap (λ m. m.0.seen.stop) c.take_job-stop.ensures.view.me

@@ -1,7 +1,7 @@
 use Rattle.std.proofs.Common.{◌*◌, ◌≤◌, length, take, All}
 use Rattle.std.specs.List.Sorted.{IsStrictlyIncreasing}
 use Rattle.txn_jobs.specs.Accounts.{HasAccountsOf, IsAccountOf}
-use Rattle.txn_jobs.proofs.accounts.accounts_of.Given as goal
+use Rattle.txn_jobs.proofs.accounts.list_accounts.Given as goal
 
 pub record Lists (l : goal.Live-legs) : Type 0 where
   pub rising : IsStrictlyIncreasing l.accounts.items
