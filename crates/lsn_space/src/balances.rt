@@ -6,7 +6,7 @@ use std::marker::Model;
 
 /// The balance of each account, from account 0 on, and the LSN at which its last commit ends.
 /// Contracts see the list of these pairs, and for how many accounts room was made.
-#[derive(Drop)]
+#[derive(Debug, Drop)]
 pub struct Balances {
     rows: Vec<(u32, u32)>,
     most: u32,

@@ -6,6 +6,7 @@ mod balances;
 mod lsn;
 mod memory;
 mod numerals;
+mod opening;
 mod unit;
 mod word;
 
@@ -13,5 +14,6 @@ pub use balances::Balances;
 pub use lsn::{GREATEST_RING, LAST, LEAST_RING, Lsn, format_numbers, place};
 pub use memory::NoMemory;
 pub use numerals::{MOST_GENERATED, decimal, number};
+pub use opening::{MOST_ACCOUNTS, MOST_BALANCE, Opening};
 pub use unit::{bytes_of, unit_bytes_inverse, unit_of};
 pub use word::Word;

@@ -1,6 +1,7 @@
 ghost use Rattle.std.specs.Prelude.{◌≡◌, ◌+◌, ◌%◌, ◌≤◌, ◌↔◌, IsSome, IfSome};
 ghost use Rattle.lsn_space.specs.declared.lsn.TheConstants.{LAST, LEAST_RING, GREATEST_RING};
 ghost use Rattle.lsn_space.specs.declared.numerals.TheConstants.{MOST_GENERATED};
+ghost use Rattle.lsn_space.specs.declared.opening.TheConstants.{MOST_ACCOUNTS, MOST_BALANCE};
 
 use std::marker::Model;
 
@@ -13,12 +14,14 @@ pub const LEAST_RING: u32 = 1024;
 /// The greatest length of the log buffer.
 pub const GREATEST_RING: u32 = 0x10_0000;
 
-/// A law: the numbers that the definitions take from this crate are 4294967295, 1024, 1048576 and 100000.
+/// A law: the numbers that the definitions take from this crate are 4294967295, 1024, 1048576, 100000, 4096 and 2147483647.
 pub fn format_numbers()
     ensures last { LAST ≡ 4294967295 }
     ensures least_ring { LEAST_RING ≡ 1024 }
     ensures greatest_ring { GREATEST_RING ≡ 1048576 }
     ensures transfers { MOST_GENERATED ≡ 100000 }
+    ensures accounts { MOST_ACCOUNTS ≡ 4096 }
+    ensures balance { MOST_BALANCE ≡ 2147483647 }
 {}
 
 /// A log sequence number: the address of a unit in the log, counted in units of eight bytes.
