@@ -1,5 +1,5 @@
--- A lawful list, and what is lawful after it, is a lawful list: sums, last Commits and tests go on.
-use Rattle.std.proofs.Common.{◌≡◌, ◌<◌, ℕ, ◌+◌, ◌-◌, ◌*◌, ◌&&◌, cond, ℤ, Bool, false, true≢false, List, [], ◌∷◌, ◌++◌, length, refl, ap, ◌∙◌, sym, subst, arith, length-append}
+-- A lawful list, and what is lawful behind the opening that it leaves, is a lawful list: sums, last Commits and tests go on.
+use Rattle.std.proofs.Common.{◌≡◌, ◌<◌, ◌≤◌, ℕ, suc, ◌+◌, ◌-◌, ◌*◌, max, ◌&&◌, cond, ℤ, Bool, false, true≢false, List, [], ◌∷◌, ◌++◌, length, refl, ap, ◌∙◌, sym, subst, arith, length-append}
 use Rattle.std.specs.List.{AllByRecursion}
 use Rattle.log_record.specs.declared.limits.TheConstants.{MOST_LEGS}
 use Rattle.log_record.specs.declared.rec.Rec.{Rec}
@@ -8,14 +8,14 @@ use Rattle.log_record.specs.declared.rec.Rec.TheVariants.{Genesis, Update, Commi
 use Rattle.lock_core.specs.declared.update.Change.{Change}
 use Rattle.lock_core.specs.Records.{txn_of, commits, changes_of, gain, loss}
 use Rattle.lock_core.specs.Transactions.{of_transaction, own_records_of, updates_of, has_end, changes_in, has_commit, is_committed, touches, ShareNoTransaction}
-use Rattle.lock_core.specs.Sums.{BaseState, base_after, moved, moved_by, total, IsBalanceOf, balance_of, AreInRange, last_commit_of}
-use Rattle.lock_core.specs.Tests.{IsGenesis, OpensLedger, IsCurrent, IsPaired}
-use Rattle.lock_core.specs.Lawful.{tests, PassesAfter, IsLawfulAfter, Passes, IsLawful, genesis_of, with_genesis, base_state_of}
+use Rattle.lock_core.specs.Sums.{BaseState, Opening, base_after, moved, moved_by, total, IsBalanceOf, balance_of, AreInRange, last_commit_of, greatest_txn}
+use Rattle.lock_core.specs.Tests.{IsGenesis, HasNoGenesis, OpensLedger, AreAbove, IsCurrent, IsPaired}
+use Rattle.lock_core.specs.Lawful.{IsLawful, base_with, with_genesis, base_state_of, opening_after}
 use Rattle.lock_core.proofs.OneMore.{has_commit-unended, total-plain, total-empty}
-use Rattle.lock_core.proofs.Meeting.{MeetsTests, AreMet, meets-after, met-after, met-log}
+use Rattle.lock_core.proofs.Meeting.{MeetsTests, AreMet, meets-passes, passes-meets, met-lawful}
 use Rattle.lock_core.proofs.Ranging.{balance_of-is}
 use Rattle.lock_core.proofs.KindLemmas.{accounts-most}
-use Rattle.lock_core.proofs.Apart.{own_records_of-left, own_records_of-right, none-shared, share_none-sym}
+use Rattle.lock_core.proofs.Apart.{own_records_of-left, own_records_of-right, none-shared, share_none-sym, share_none-numbers, below-greatest}
 
 moved_by-append : (counts : ℕ → Bool) (side : ℤ → ℕ) (account : ℕ) (h l : List Placed)
     → moved_by counts side account (h ++ l) ≡ moved_by counts side account h + moved_by counts side account l
@@ -161,23 +161,9 @@ module _ (base : BaseState) (l : List Placed) (met : AreMet base l) where
             balance = λ on. absurd (true≢false (sym on));
           }
 
-pub passes-after : (base : BaseState) (h : List Placed) (entry : Placed) → (IsGenesis entry.rec → ⊥) → MeetsTests base h entry → AllByRecursion (PassesAfter base h entry) tests
-passes-after base h entry other meets =
-    (other, (meets.account, (meets.ended, (meets.legs, (meets.pair, (meets.prev, (meets.stale, (meets.balance, tt))))))))
+-- ---- behind an account there is no Genesis
 
-passes-log : (h : List Placed) (entry : Placed) → OpensLedger h entry.rec → MeetsTests (genesis_of h) h entry → AllByRecursion (Passes h entry) tests
-passes-log h entry opens meets =
-    (opens, (meets.account, (meets.ended, (meets.legs, (meets.pair, (meets.prev, (meets.stale, (meets.balance, tt))))))))
-
-opens-later : (h : List Placed) (rec : Rec) → (IsGenesis rec → ⊥) → 0 < length h → OpensLedger h rec
-opens-later h (Genesis account balance) other some = absurd (other tt)
-opens-later h (Update txn account delta prev) other some = some
-opens-later h (Commit txn legs) other some = some
-opens-later h (Short txn leg) other some = some
-opens-later h (Over txn leg) other some = some
-opens-later h (Note txn text) other some = some
-
-with_genesis-other : (rec : Rec) (base : BaseState) → (IsGenesis rec → ⊥) → with_genesis rec base ≡ base
+pub with_genesis-other : (rec : Rec) (base : BaseState) → (IsGenesis rec → ⊥) → with_genesis rec base ≡ base
 with_genesis-other (Genesis account balance) base other = absurd (other tt)
 with_genesis-other (Update txn account delta prev) base other = refl
 with_genesis-other (Commit txn legs) base other = refl
@@ -185,26 +171,79 @@ with_genesis-other (Short txn leg) base other = refl
 with_genesis-other (Over txn leg) base other = refl
 with_genesis-other (Note txn text) base other = refl
 
--- what follows a base state opens no account
-pub genesis_of-append : (base : BaseState) (h l : List Placed) → IsLawfulAfter base h → genesis_of (h ++ l) ≡ genesis_of l
-genesis_of-append base [] l lawful = refl
-genesis_of-append base (entry ∷ h) l lawful = with_genesis-other entry.rec (genesis_of (h ++ l)) lawful.0.0 ∙ genesis_of-append base h l lawful.1
+-- what has no Genesis opens no account
+pub base_with-append : (opening : Opening) (h l : List Placed) → HasNoGenesis h → base_with opening (h ++ l) ≡ base_with opening l
+base_with-append opening [] l none = refl
+base_with-append opening (entry ∷ h) l none = with_genesis-other entry.rec (base_with opening (h ++ l)) none.0 ∙ base_with-append opening h l none.1
 
-pub lawful_after-append : (base : BaseState) (h l : List Placed) → IsLawfulAfter base l → IsLawfulAfter (base_after base l) h → ShareNoTransaction h l
-    → IsLawfulAfter base (h ++ l)
-lawful_after-append base [] l before lawful apart = before
-lawful_after-append base (entry ∷ h) l before lawful apart = (
-  passes-after base (h ++ l) entry lawful.0.0
-      (meets-append base l (met-after base l before) h entry lawful.0.0 apart (meets-after (base_after base l) h entry lawful.0)),
-  lawful_after-append base h l before lawful.1 apart.1,
-)
+pub base_with-other : (opening : Opening) (h : List Placed) → HasNoGenesis h → base_with opening h ≡ opening.state
+base_with-other opening [] none = refl
+base_with-other opening (entry ∷ h) none = with_genesis-other entry.rec (base_with opening h) none.0 ∙ base_with-other opening h none.1
 
-pub lawful-append : (h l : List Placed) → IsLawful l → 0 < (genesis_of l).accounts → IsLawfulAfter (base_state_of l) h → ShareNoTransaction h l → IsLawful (h ++ l)
-lawful-append [] l before some lawful apart = before
-lawful-append (entry ∷ h) l before some lawful apart = (
-  passes-log (h ++ l) entry
-      (opens-later (h ++ l) entry.rec lawful.0.0 (let most = accounts-most l in let long = length-append h l in omega arith))
-      (subst (λ base. MeetsTests base (h ++ l) entry) (sym (genesis_of-append (base_state_of l) h l lawful.1))
-      (meets-append (genesis_of l) l (met-log l before) h entry lawful.0.0 apart (meets-after (base_state_of l) h entry lawful.0))),
-  lawful-append h l before some lawful.1 apart.1,
-)
+pub opens-other : (opening : Opening) (h : List Placed) (rec : Rec) → 0 < opening.state.accounts + length h → (IsGenesis rec → ⊥) → OpensLedger opening h rec
+opens-other opening h (Genesis account balance) some other = absurd (other tt)
+opens-other opening h (Update txn account delta prev) some other = some
+opens-other opening h (Commit txn legs) some other = some
+opens-other opening h (Short txn leg) some other = some
+opens-other opening h (Over txn leg) some other = some
+opens-other opening h (Note txn text) some other = some
+
+-- behind an account there is no Genesis
+other-opens : (opening : Opening) (h : List Placed) (rec : Rec) → 0 < opening.state.accounts → OpensLedger opening h rec → IsGenesis rec → ⊥
+other-opens opening h (Genesis account balance) some opens is = let none = opens.0 in absurd (omega arith)
+other-opens opening h (Update txn account delta prev) some opens is = is
+other-opens opening h (Commit txn legs) some opens is = is
+other-opens opening h (Short txn leg) some opens is = is
+other-opens opening h (Over txn leg) some opens is = is
+other-opens opening h (Note txn text) some opens is = is
+
+pub none-genesis : (opening : Opening) (h : List Placed) → 0 < opening.state.accounts → IsLawful opening h → HasNoGenesis h
+none-genesis opening [] some lawful = tt
+none-genesis opening (entry ∷ h) some lawful = (other-opens opening h entry.rec some lawful.0.0, none-genesis opening h some lawful.1)
+
+-- behind an account the tests are met with the opening's state
+pub met-behind : (opening : Opening) (h : List Placed) → 0 < opening.state.accounts → IsLawful opening h → AreMet opening.state h
+met-behind opening h some lawful = subst (λ base. AreMet base h) (base_with-other opening h (none-genesis opening h some lawful)) (met-lawful opening h lawful)
+
+-- ---- appending
+
+-- the state that l leaves, with any number
+abbrev pub state_after : Opening → List Placed → ℕ → Opening
+state_after opening l txn = record { state = base_state_of opening l; txn = txn }
+
+pub lawful-append : (opening : Opening) (txn : ℕ) (h l : List Placed) → IsLawful opening l → 0 < (base_with opening l).accounts
+    → IsLawful (state_after opening l txn) h → AreAbove opening.txn h → ShareNoTransaction h l
+    → IsLawful opening (h ++ l)
+lawful-append opening txn [] l before some lawful above apart = before
+lawful-append opening txn (entry ∷ h) l before some lawful above apart =
+    let none = none-genesis (state_after opening l txn) (entry ∷ h) some lawful in
+    let meets : MeetsTests (base_after (base_with opening l) l) h entry =
+    subst (λ base. MeetsTests base h entry) (base_with-other (state_after opening l txn) h none.1) (meets-passes (state_after opening l txn) h entry lawful.0) in (
+      passes-meets opening (h ++ l) entry
+          (opens-other opening (h ++ l) entry.rec (let most = accounts-most opening l in let long = length-append h l in omega arith) none.0)
+          above.0
+          (subst (λ base. MeetsTests base (h ++ l) entry) (sym (base_with-append opening h l none.1))
+          (meets-append (base_with opening l) l (met-lawful opening l before) h entry none.0 apart meets)),
+      lawful-append opening txn h l before some lawful.1 above.1 apart.1,
+    )
+
+-- numbers that are above the opening's, one by one
+pub above-all : (opening : Opening) (h : List Placed) → IsLawful opening h → HasNoGenesis h
+    → AllByRecursion (λ (entry : Placed). suc opening.txn ≤ txn_of entry.rec) h
+above-all opening [] lawful none = tt
+above-all opening (entry ∷ h) lawful none = (let high = lawful.0.1.1.0.0 none.0 in omega arith, above-all opening h lawful.1 none.1)
+
+-- numbers from one on are above those below it
+pub above-from : (low first : ℕ) → low < first → (h : List Placed) → AllByRecursion (λ (entry : Placed). first ≤ txn_of entry.rec) h → AreAbove low h
+above-from low first less [] all = tt
+above-from low first less (entry ∷ h) all = ((λ other. let here = all.0 in omega arith), above-from low first less h all.1)
+
+-- what is lawful behind the opening that a list leaves shares no transaction with it, and follows it
+pub lawful-goes_on : (opening : Opening) (h l : List Placed) → IsLawful opening l → 0 < (base_with opening l).accounts
+    → IsLawful (opening_after opening l) h → IsLawful opening (h ++ l)
+lawful-goes_on opening h l before some lawful =
+    let most : ℕ = max opening.txn (greatest_txn l) in
+    let all = above-all (opening_after opening l) h lawful (none-genesis (opening_after opening l) h some lawful) in
+    lawful-append opening most h l before some lawful
+    (above-from opening.txn (suc most) (omega arith) h all)
+    (share_none-numbers (suc most) h l all (below-greatest l (suc most) (omega arith)))

@@ -1,19 +1,18 @@
 -- Committed transactions add in all what they take: the sum of all balances stays.
-use Rattle.std.proofs.Common.{◌≡◌, ◌<◌, ◌≤◌, ◌==◌, ℕ, zero, suc, ◌+◌, ◌*◌, cond, ℤ, true, false, List, [], ◌∷◌, length, sym, refl, ap, ◌∙◌, subst, arith, eq-eqb, ne_eqb}
+use Rattle.std.proofs.Common.{◌≡◌, ◌<◌, ◌≤◌, ◌==◌, ℕ, zero, suc, ◌+◌, ◌*◌, cond, ℤ, true, false, List, [], ◌∷◌, length, sym, refl, ap, ◌∙◌, arith, eq-eqb, ne_eqb}
 use Rattle.std.specs.List.{AllByRecursion}
 use mathlib.Core.Logic.{dite}
 use native.Mathlib.Decide.{ℕ_discrete}
 use Rattle.log_record.specs.declared.rec.Rec.{Rec}
 use Rattle.log_record.specs.declared.rec.Placed.{Placed}
 use Rattle.log_record.specs.declared.rec.Rec.TheVariants.{Genesis, Update, Commit, Short, Over, Note}
-use Rattle.log_record.specs.Spelling.{IsSpellable}
 use Rattle.lock_core.specs.declared.update.Change.{Change}
 use Rattle.lock_core.specs.Records.{txn_of, commits, gain, loss}
 use Rattle.lock_core.specs.Transactions.{own_records_of, updates_of, has_end}
-use Rattle.lock_core.specs.Sums.{BaseState, moved, total, IsBalanceOf, balance_of, sum_below}
-use Rattle.lock_core.specs.Lawful.{IsLawful, genesis_of}
-use Rattle.lock_core.proofs.Meeting.{MeetsTests, AreMet, met-log}
-use Rattle.lock_core.proofs.Ranging.{in_range-log, balance_of-is}
+use Rattle.lock_core.specs.Sums.{BaseState, Opening, moved, total, IsBalanceOf, balance_of, sum_below}
+use Rattle.lock_core.specs.Lawful.{IsLawful, base_with}
+use Rattle.lock_core.proofs.Meeting.{MeetsTests, AreMet, met-lawful}
+use Rattle.lock_core.proofs.Appending.{is_balance-met}
 use Rattle.lock_core.proofs.OneMore.{has_commit-unended, total-plain, total-empty, total-commit}
 use Rattle.lock_core.proofs.Pairing.{updates_of-fits, all_moved, all_moved-paired, owed-even}
 
@@ -108,8 +107,8 @@ sum_below-balances base h balance met balances =
     let each = sum_below-same base.accounts (λ a. balance a + total loss a h) (λ a. base.balance a + total gain a h) balances in
     omega arith
 
-pub sum_below-log : (h : List Placed) → AllByRecursion (λ (entry : Placed). IsSpellable entry.rec) h → IsLawful h
-    → sum_below (genesis_of h).accounts (balance_of (genesis_of h) h) ≡ sum_below (genesis_of h).accounts (genesis_of h).balance
-sum_below-log h spellable lawful = sum_below-balances (genesis_of h) h (balance_of (genesis_of h) h) (met-log h lawful)
-    (λ a below. let found = in_range-log h spellable lawful a below in
-    subst (IsBalanceOf (genesis_of h) h a) (sym (balance_of-is (genesis_of h) h a found.0 found.2)) found.2)
+pub sum_below-lawful : (opening : Opening) (h : List Placed) → IsLawful opening h
+    → sum_below (base_with opening h).accounts (balance_of (base_with opening h) h) ≡ sum_below (base_with opening h).accounts (base_with opening h).balance
+sum_below-lawful opening h lawful =
+    let met = met-lawful opening h lawful in
+    sum_below-balances (base_with opening h) h (balance_of (base_with opening h) h) met (λ account inside. is_balance-met (base_with opening h) h account inside met)

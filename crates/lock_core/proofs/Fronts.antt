@@ -2,17 +2,13 @@
 use Rattle.std.proofs.Common.{◌≡◌, ℕ, List, [], ◌∷◌, ◌++◌, refl, ap, ◌∙◌, sym, subst, append_assoc}
 use Rattle.log_record.specs.declared.rec.Rec.{Rec}
 use Rattle.log_record.specs.declared.rec.Placed.{Placed}
-use Rattle.lock_core.specs.History.{end_from, entry_at, history_from, history}
-use Rattle.lock_core.specs.Sums.{BaseState}
-use Rattle.lock_core.specs.Lawful.{IsLawfulAfter, IsLawful}
+use Rattle.lock_core.specs.History.{end_from, entry_at, history_from}
+use Rattle.lock_core.specs.Sums.{Opening}
+use Rattle.lock_core.specs.Lawful.{IsLawful}
 
-pub lawful-front : (later front : List Placed) → IsLawful (later ++ front) → IsLawful front
-lawful-front [] front lawful = lawful
-lawful-front (entry ∷ later) front lawful = lawful-front later front lawful.1
-
-pub lawful_after-front : (base : BaseState) (later front : List Placed) → IsLawfulAfter base (later ++ front) → IsLawfulAfter base front
-lawful_after-front base [] front lawful = lawful
-lawful_after-front base (entry ∷ later) front lawful = lawful_after-front base later front lawful.1
+pub lawful-front : (opening : Opening) (later front : List Placed) → IsLawful opening (later ++ front) → IsLawful opening front
+lawful-front opening [] front lawful = lawful
+lawful-front opening (entry ∷ later) front lawful = lawful-front opening later front lawful.1
 
 pub history_from-append : (start : ℕ) (h : List Placed) (front later : List Rec)
     → history_from start h (front ++ later) ≡ history_from start (history_from start h front) later
@@ -27,10 +23,11 @@ history_from-onto start h (rec ∷ records) =
     let rest = history_from-onto start (entry ∷ h) records in
     (rest.0 ++ entry ∷ [], rest.1 ∙ sym (append_assoc rest.0 (entry ∷ []) h))
 
-pub lawful-records : (front later : List Rec) → IsLawful (history (front ++ later)) → IsLawful (history front)
-lawful-records front later lawful =
-    let rest = history_from-onto 0 (history front) later in
-    lawful-front rest.0 (history front) (subst IsLawful (history_from-append 0 [] front later ∙ rest.1) lawful)
+pub lawful-records : (opening : Opening) (start : ℕ) (front later : List Rec) → IsLawful opening (history_from start [] (front ++ later))
+    → IsLawful opening (history_from start [] front)
+lawful-records opening start front later lawful =
+    let rest = history_from-onto start (history_from start [] front) later in
+    lawful-front opening rest.0 (history_from start [] front) (subst (IsLawful opening) (history_from-append start [] front later ∙ rest.1) lawful)
 
 -- a history goes on as one of its own does that starts where it ends
 pub history_from-apart : (start : ℕ) (h : List Placed) (records : List Rec) → history_from start h records ≡ history_from (end_from start h) [] records ++ h

@@ -11,19 +11,19 @@ use Rattle.log_record.specs.declared.limits.TheConstants.{MOST_ACCOUNTS}
 use Rattle.lock_core.specs.declared.reason.Why.{Why}
 use Rattle.lock_core.specs.Records.{commits}
 use Rattle.lock_core.specs.Transactions.{own_records_of}
-use Rattle.lock_core.specs.Sums.{BaseState, ShowsAccounts}
+use Rattle.lock_core.specs.Sums.{BaseState, Opening, no_opening, ShowsAccounts}
 use Rattle.lock_core.specs.Tests.{IsGenesis}
-use Rattle.lock_core.specs.Lawful.{tests, Passes, IsLawful, genesis_of}
+use Rattle.lock_core.specs.Lawful.{tests, Passes, IsLawful, base_with}
 use Rattle.lock_core.specs.Faults.{IsFirstFailing}
 use Rattle.lock_core.specs.Settling.{row, KeepsRows}
 use Rattle.lock_core.specs.Judging.{IsJudged, Judges}
 use Rattle.lock_core.proofs.OneMore.{has_commit-unended, total-plain, total-empty}
-use Rattle.lock_core.proofs.Meeting.{meets-log}
+use Rattle.lock_core.proofs.Meeting.{meets-passes}
 use Rattle.lock_core.proofs.Ranging.{balance_of-is}
 use Rattle.lock_core.proofs.KindLemmas.{keeps-same}
 
 -- no record, no account
-pub judged-none : (accounts : Accounts) → accounts.rows ≡ [] → accounts.room ≡ MOST_ACCOUNTS → IsJudged accounts []
+pub judged-none : (accounts : Accounts) → accounts.rows ≡ [] → accounts.room ≡ MOST_ACCOUNTS → IsJudged no_opening accounts []
 judged-none accounts empty room = let none : length accounts.rows ≡ 0 = (λ i. length (empty i)) in record {
   lawful = tt;
   room = room;
@@ -35,72 +35,73 @@ judged-none accounts empty room = let none : length accounts.rows ≡ 0 = (λ i.
   };
 }
 
--- an entry that passes all tests, and neither opens an account nor commits, leaves the accounts
-pub judged-plain : (accounts : Accounts) (h : List Placed) (end : ℕ) (rec : Rec) → (IsGenesis rec → ⊥) → commits rec ≡ false
-    → IsJudged accounts h → AllByRecursion (Passes h (record { end = end; rec = rec })) tests → IsJudged accounts (record { end = end; rec = rec } ∷ h)
-judged-plain accounts h end (Genesis account balance) other plain before passes = absurd (other tt)
-judged-plain accounts h end (Commit txn legs) other plain before passes = absurd (true≢false plain)
-judged-plain accounts h end (Update txn account delta prev) other plain before passes =
-    let entry : Placed = record { end = end; rec = Update txn account delta prev } in
-    let unended = (meets-log h entry passes).ended in
-    record {
-      lawful = (passes, before.lawful);
-      room = before.room;
-      rows = keeps-same accounts.rows (genesis_of h) h entry (λ side a. total-plain side a entry h refl (has_commit-unended (own_records_of txn h) unended)) (λ a. refl) before.rows;
-    }
-judged-plain accounts h end (Short txn leg) other plain before passes =
-    let entry : Placed = record { end = end; rec = Short txn leg } in
-    record {
-      lawful = (passes, before.lawful);
-      room = before.room;
-      rows = keeps-same accounts.rows (genesis_of h) h entry (λ side a. total-empty side a entry h refl refl) (λ a. refl) before.rows;
-    }
-judged-plain accounts h end (Over txn leg) other plain before passes =
-    let entry : Placed = record { end = end; rec = Over txn leg } in
-    record {
-      lawful = (passes, before.lawful);
-      room = before.room;
-      rows = keeps-same accounts.rows (genesis_of h) h entry (λ side a. total-empty side a entry h refl refl) (λ a. refl) before.rows;
-    }
-judged-plain accounts h end (Note txn text) other plain before passes =
-    let entry : Placed = record { end = end; rec = Note txn text } in
-    record {
-      lawful = (passes, before.lawful);
-      room = before.room;
-      rows = keeps-same accounts.rows (genesis_of h) h entry (λ side a. total-empty side a entry h refl refl) (λ a. refl) before.rows;
-    }
+module _ (opening : Opening) where
+  -- an entry that passes all tests, and neither opens an account nor commits, leaves the accounts
+  pub judged-plain : (accounts : Accounts) (h : List Placed) (end : ℕ) (rec : Rec) → (IsGenesis rec → ⊥) → commits rec ≡ false
+      → IsJudged opening accounts h → AllByRecursion (Passes opening h (record { end = end; rec = rec })) tests → IsJudged opening accounts (record { end = end; rec = rec } ∷ h)
+  judged-plain accounts h end (Genesis account balance) other plain before passes = absurd (other tt)
+  judged-plain accounts h end (Commit txn legs) other plain before passes = absurd (true≢false plain)
+  judged-plain accounts h end (Update txn account delta prev) other plain before passes =
+      let entry : Placed = record { end = end; rec = Update txn account delta prev } in
+      let unended = (meets-passes opening h entry passes).ended in
+      record {
+        lawful = (passes, before.lawful);
+        room = before.room;
+        rows = keeps-same accounts.rows (base_with opening h) h entry (λ side a. total-plain side a entry h refl (has_commit-unended (own_records_of txn h) unended)) (λ a. refl) before.rows;
+      }
+  judged-plain accounts h end (Short txn leg) other plain before passes =
+      let entry : Placed = record { end = end; rec = Short txn leg } in
+      record {
+        lawful = (passes, before.lawful);
+        room = before.room;
+        rows = keeps-same accounts.rows (base_with opening h) h entry (λ side a. total-empty side a entry h refl refl) (λ a. refl) before.rows;
+      }
+  judged-plain accounts h end (Over txn leg) other plain before passes =
+      let entry : Placed = record { end = end; rec = Over txn leg } in
+      record {
+        lawful = (passes, before.lawful);
+        room = before.room;
+        rows = keeps-same accounts.rows (base_with opening h) h entry (λ side a. total-empty side a entry h refl refl) (λ a. refl) before.rows;
+      }
+  judged-plain accounts h end (Note txn text) other plain before passes =
+      let entry : Placed = record { end = end; rec = Note txn text } in
+      record {
+        lawful = (passes, before.lawful);
+        room = before.room;
+        rows = keeps-same accounts.rows (base_with opening h) h entry (λ side a. total-empty side a entry h refl refl) (λ a. refl) before.rows;
+      }
 
--- the answer on an entry whose record is known
-module _ {A : Type 0} (h : List Placed) (entry : Placed) (rec : Rec) (is : entry.rec ≡ rec) (result : Result A Why) where
-  abbrev known : Placed
-  known = record { end = entry.end; rec = rec }
+  -- the answer on an entry whose record is known
+  module _ {A : Type 0} (h : List Placed) (entry : Placed) (rec : Rec) (is : entry.rec ≡ rec) (result : Result A Why) where
+    abbrev known : Placed
+    known = record { end = entry.end; rec = rec }
 
-  same : (X : Placed → Type 0) → X known → X entry
-  same X here = subst (λ r. X (record { end = entry.end; rec = r })) (sym is) here
+    same : (X : Placed → Type 0) → X known → X entry
+    same X here = subst (λ r. X (record { end = entry.end; rec = r })) (sym is) here
 
-  pub why-judges : Judges h known result → IfErr result (IsFirstFailing (Passes h entry))
-  why-judges judges = same (λ e. IfErr result (IsFirstFailing (Passes h e))) (by_case result judges)
-    where
-      by_case : (r : Result A Why) → Judges h known r → IfErr r (IsFirstFailing (Passes h known))
-      by_case (Ok x) judges = tt
-      by_case (Err why) judges = judges
+    pub why-judges : Judges opening h known result → IfErr result (IsFirstFailing (Passes opening h entry))
+    why-judges judges = same (λ e. IfErr result (IsFirstFailing (Passes opening h e))) (by_case result judges)
+      where
+        by_case : (r : Result A Why) → Judges opening h known r → IfErr r (IsFirstFailing (Passes opening h known))
+        by_case (Ok x) judges = tt
+        by_case (Err why) judges = judges
 
-  pub ok-plain : (accounts : Accounts) → (IsGenesis rec → ⊥) → commits rec ≡ false → IsJudged accounts h → Judges h known result
-      → OnOk result (IsJudged accounts (entry ∷ h))
-  ok-plain accounts other plain before judges = same (λ e. OnOk result (IsJudged accounts (e ∷ h))) (by_case result judges)
-    where
-      by_case : (r : Result A Why) → Judges h known r → OnOk r (IsJudged accounts (known ∷ h))
-      by_case (Ok x) judges = judged-plain accounts h entry.end rec other plain before judges
-      by_case (Err why) judges = tt
+    pub ok-plain : (accounts : Accounts) → (IsGenesis rec → ⊥) → commits rec ≡ false → IsJudged opening accounts h → Judges opening h known result
+        → OnOk result (IsJudged opening accounts (entry ∷ h))
+    ok-plain accounts other plain before judges = same (λ e. OnOk result (IsJudged opening accounts (e ∷ h))) (by_case result judges)
+      where
+        by_case : (r : Result A Why) → Judges opening h known r → OnOk r (IsJudged opening accounts (known ∷ h))
+        by_case (Ok x) judges = judged-plain accounts h entry.end rec other plain before judges
+        by_case (Err why) judges = tt
 
-  pub ok-kept : (accounts : Accounts) → IsLawful h → Judges h known result
-      → OnOk result ((accounts.room ≡ MOST_ACCOUNTS) × KeepsRows accounts.rows (genesis_of (known ∷ h)) (known ∷ h)) → OnOk result (IsJudged accounts (entry ∷ h))
-  ok-kept accounts lawful judges kept = same (λ e. OnOk result (IsJudged accounts (e ∷ h))) (by_case result judges kept)
-    where
-      by_case : (r : Result A Why) → Judges h known r → OnOk r ((accounts.room ≡ MOST_ACCOUNTS) × KeepsRows accounts.rows (genesis_of (known ∷ h)) (known ∷ h))
-          → OnOk r (IsJudged accounts (known ∷ h))
-      by_case (Ok x) judges kept = record { lawful = (judges, lawful); room = kept.0; rows = kept.1 }
-      by_case (Err why) judges kept = tt
+    pub ok-kept : (accounts : Accounts) → IsLawful opening h → Judges opening h known result
+        → OnOk result ((accounts.room ≡ MOST_ACCOUNTS) × KeepsRows accounts.rows (base_with opening (known ∷ h)) (known ∷ h)) → OnOk result (IsJudged opening accounts (entry ∷ h))
+    ok-kept accounts lawful judges kept = same (λ e. OnOk result (IsJudged opening accounts (e ∷ h))) (by_case result judges kept)
+      where
+        by_case : (r : Result A Why) → Judges opening h known r → OnOk r ((accounts.room ≡ MOST_ACCOUNTS) × KeepsRows accounts.rows (base_with opening (known ∷ h)) (known ∷ h))
+            → OnOk r (IsJudged opening accounts (known ∷ h))
+        by_case (Ok x) judges kept = record { lawful = (judges, lawful); room = kept.0; rows = kept.1 }
+        by_case (Err why) judges kept = tt
 
 -- the rows that are kept are the accounts
 pub shows-kept : (rows : List (ℕ × ℕ)) (base : BaseState) (h : List Placed) → KeepsRows rows base h → ShowsAccounts rows base h

@@ -11,28 +11,17 @@ use Rattle.log_record.specs.Spelling.{IsBalance}
 use Rattle.lock_core.specs.declared.update.Change.{Change}
 use Rattle.lock_core.specs.Records.{gain, loss}
 use Rattle.lock_core.specs.Transactions.{own_records_of, updates_of, has_end, touches}
-use Rattle.lock_core.specs.Sums.{BaseState, moved, total, AreInRange, last_commit_of}
+use Rattle.lock_core.specs.Sums.{BaseState, Opening, moved, total, AreInRange, last_commit_of}
 use Rattle.lock_core.specs.Tests.{IsGenesis, IsCurrent}
 use Rattle.lock_core.specs.declared.reason.Why.TheVariants as why
-use Rattle.lock_core.specs.Lawful.{IsLawful, genesis_of, with_genesis, tests, Passes}
+use Rattle.lock_core.specs.Lawful.{IsLawful, base_with, with_genesis, tests, Passes}
 use Rattle.lock_core.specs.Faults.{IsFirstFailing}
 use Rattle.lock_core.specs.Settling.{row, Settles, LeavesSome, KeepsRows}
 use Rattle.lock_core.specs.Judging.{IsCommitting}
 use Rattle.lock_core.proofs.OneMore.{has_commit-unended, total-empty, total-commit, last_commit_of-commit}
-use Rattle.lock_core.proofs.Meeting.{met-log}
+use Rattle.lock_core.proofs.Meeting.{met-lawful}
+use Rattle.lock_core.proofs.LastCommits.{base_with-last_commit}
 use Rattle.lock_core.proofs.Pairing.{updates_of-fits}
-
--- at most 16 Updates of a transaction stand in a lawful list
-pub few_updates : (h : List Placed) (n : ℕ) → IsLawful h → length (updates_of n h) ≤ 16
-few_updates h n lawful = (updates_of-fits (genesis_of h) h n (met-log h lawful)).few
-
--- and their accounts have a row
-pub updates-known : (rows : List (ℕ × ℕ)) (h : List Placed) (n : ℕ) (changes : List Change) → IsLawful h → KeepsRows rows (genesis_of h) h
-    → changes ≡ updates_of n h → AllByRecursion (λ (change : Change). change.account < length rows) changes
-updates-known rows h n changes lawful kept are =
-    subst (λ count. AllByRecursion (λ (change : Change). change.account < count) changes) (sym kept.count)
-    (subst (AllByRecursion (λ (change : Change). change.account < (genesis_of h).accounts)) (sym are)
-    (updates_of-fits (genesis_of h) h n (met-log h lawful)).known)
 
 -- a record that moves nothing and commits nothing leaves the rows
 pub keeps-same : (rows : List (ℕ × ℕ)) (base : BaseState) (h : List Placed) (entry : Placed)
@@ -97,46 +86,6 @@ in_range-rows rows base h kept account below =
     let counted = kept.count in let inside : account < length rows = omega arith in
     ((row rows account).0, kept.range account inside, kept.balance account inside)
 
--- a list of Genesis records
-pub accounts-genesis : (h : List Placed) → AllByRecursion (λ (entry : Placed). IsGenesis entry.rec) h → (genesis_of h).accounts ≡ length h
-accounts-genesis [] all = refl
-accounts-genesis (entry ∷ h) all = by_kind entry.rec all.0 (accounts-genesis h all.1)
-  where
-    by_kind : (rec : Rec) → IsGenesis rec → (genesis_of h).accounts ≡ length h → (with_genesis rec (genesis_of h)).accounts ≡ length (entry ∷ h)
-    by_kind (Genesis account balance) is before = omega arith
-    by_kind (Update txn account delta prev) is before = absurd is
-    by_kind (Commit txn legs) is before = absurd is
-    by_kind (Short txn leg) is before = absurd is
-    by_kind (Over txn leg) is before = absurd is
-    by_kind (Note txn text) is before = absurd is
-
-pub accounts-most : (h : List Placed) → (genesis_of h).accounts ≤ length h
-accounts-most [] = omega arith
-accounts-most (entry ∷ h) = by_kind entry.rec (accounts-most h)
-  where
-    by_kind : (rec : Rec) → (genesis_of h).accounts ≤ length h → (with_genesis rec (genesis_of h)).accounts ≤ length (entry ∷ h)
-    by_kind (Genesis account balance) before = omega arith
-    by_kind (Update txn account delta prev) before = omega arith
-    by_kind (Commit txn legs) before = omega arith
-    by_kind (Short txn leg) before = omega arith
-    by_kind (Over txn leg) before = omega arith
-    by_kind (Note txn text) before = omega arith
-
--- where there are as many accounts as records, all are Genesis records
-pub genesis-accounts : (h : List Placed) → (genesis_of h).accounts ≡ length h → AllByRecursion (λ (entry : Placed). IsGenesis entry.rec) h
-genesis-accounts [] equal = tt
-genesis-accounts (entry ∷ h) equal = by_kind entry.rec equal (accounts-most h) (genesis-accounts h)
-  where
-    by_kind : (rec : Rec) → (with_genesis rec (genesis_of h)).accounts ≡ length (entry ∷ h) → (genesis_of h).accounts ≤ length h
-        → ((genesis_of h).accounts ≡ length h → AllByRecursion (λ (entry : Placed). IsGenesis entry.rec) h)
-        → IsGenesis rec × AllByRecursion (λ (entry : Placed). IsGenesis entry.rec) h
-    by_kind (Genesis account balance) equal most rest = (tt, rest (omega arith))
-    by_kind (Update txn account delta prev) equal most rest = absurd (omega arith)
-    by_kind (Commit txn legs) equal most rest = absurd (omega arith)
-    by_kind (Short txn leg) equal most rest = absurd (omega arith)
-    by_kind (Over txn leg) equal most rest = absurd (omega arith)
-    by_kind (Note txn text) equal most rest = absurd (omega arith)
-
 -- in a list of Genesis records nothing is moved, and nothing committed
 total-genesis : (side : ℤ → ℕ) (a : ℕ) (h : List Placed) → AllByRecursion (λ (entry : Placed). IsGenesis entry.rec) h → total side a h ≡ 0
 total-genesis side a [] all = refl
@@ -162,126 +111,168 @@ last-genesis base a (entry ∷ h) all = by_kind entry.rec entry.end all.0 ∙ la
     by_kind (Over txn leg) end is = absurd is
     by_kind (Note txn text) end is = absurd is
 
-last_commit-genesis : (h : List Placed) (a : ℕ) → (genesis_of h).last_commit a ≡ 0
-last_commit-genesis [] a = refl
-last_commit-genesis (entry ∷ h) a = by_kind entry.rec ∙ last_commit-genesis h a
-  where
-    by_kind : (rec : Rec) → (with_genesis rec (genesis_of h)).last_commit a ≡ (genesis_of h).last_commit a
-    by_kind (Genesis account balance) = refl
-    by_kind (Update txn account delta prev) = refl
-    by_kind (Commit txn legs) = refl
-    by_kind (Short txn leg) = refl
-    by_kind (Over txn leg) = refl
-    by_kind (Note txn text) = refl
+module _ (opening : Opening) where
+  -- at most 16 Updates of a transaction stand in a lawful list
+  pub few_updates : (h : List Placed) (n : ℕ) → IsLawful opening h → length (updates_of n h) ≤ 16
+  few_updates h n lawful = (updates_of-fits (base_with opening h) h n (met-lawful opening h lawful)).few
 
--- one more Genesis adds a row
-module _ (rows : List (ℕ × ℕ)) (h : List Placed) (end account balance : ℕ) (kept : KeepsRows rows (genesis_of h) h)
-    (all : AllByRecursion (λ (entry : Placed). IsGenesis entry.rec) h) (next : account ≡ (genesis_of h).accounts) (range : IsBalance balance) where
-  abbrev genesis : Placed
-  genesis = record { end = end; rec = Genesis account balance }
+  -- and their accounts have a row
+  pub updates-known : (rows : List (ℕ × ℕ)) (h : List Placed) (n : ℕ) (changes : List Change) → IsLawful opening h → KeepsRows rows (base_with opening h) h
+      → changes ≡ updates_of n h → AllByRecursion (λ (change : Change). change.account < length rows) changes
+  updates-known rows h n changes lawful kept are =
+      subst (λ count. AllByRecursion (λ (change : Change). change.account < count) changes) (sym kept.count)
+      (subst (AllByRecursion (λ (change : Change). change.account < (base_with opening h).accounts)) (sym are)
+      (updates_of-fits (base_with opening h) h n (met-lawful opening h lawful)).known)
 
-  abbrev grown : BaseState
-  grown = with_genesis (Genesis account balance) (genesis_of h)
+  -- behind a list of Genesis records there is an account for each
+  pub accounts-genesis : (h : List Placed) → AllByRecursion (λ (entry : Placed). IsGenesis entry.rec) h → (base_with opening h).accounts ≡ opening.state.accounts + length h
+  accounts-genesis [] all = omega arith
+  accounts-genesis (entry ∷ h) all = by_kind entry.rec all.0 (accounts-genesis h all.1)
+    where
+      by_kind : (rec : Rec) → IsGenesis rec → (base_with opening h).accounts ≡ opening.state.accounts + length h → (with_genesis rec (base_with opening h)).accounts ≡ opening.state.accounts + length (entry ∷ h)
+      by_kind (Genesis account balance) is before = omega arith
+      by_kind (Update txn account delta prev) is before = absurd is
+      by_kind (Commit txn legs) is before = absurd is
+      by_kind (Short txn leg) is before = absurd is
+      by_kind (Over txn leg) is before = absurd is
+      by_kind (Note txn text) is before = absurd is
 
-  old-row : (a : ℕ) → a < length rows → row (rows ++ (balance, 0) ∷ []) a ≡ row rows a
-  old-row a inside = get_or_append_left rows ((balance, 0) ∷ []) (0, 0) a inside
+  pub accounts-most : (h : List Placed) → (base_with opening h).accounts ≤ opening.state.accounts + length h
+  accounts-most [] = omega arith
+  accounts-most (entry ∷ h) = by_kind entry.rec (accounts-most h)
+    where
+      by_kind : (rec : Rec) → (base_with opening h).accounts ≤ opening.state.accounts + length h → (with_genesis rec (base_with opening h)).accounts ≤ opening.state.accounts + length (entry ∷ h)
+      by_kind (Genesis account balance) before = omega arith
+      by_kind (Update txn account delta prev) before = omega arith
+      by_kind (Commit txn legs) before = omega arith
+      by_kind (Short txn leg) before = omega arith
+      by_kind (Over txn leg) before = omega arith
+      by_kind (Note txn text) before = omega arith
 
-  new-row : (a : ℕ) → a ≡ length rows → row (rows ++ (balance, 0) ∷ []) a ≡ (balance, 0)
-  new-row a is = get_or_at rows (balance, 0) [] (0, 0) a (sym is)
+  -- where there are as many accounts as records, all are Genesis records
+  pub genesis-accounts : (h : List Placed) → (base_with opening h).accounts ≡ opening.state.accounts + length h → AllByRecursion (λ (entry : Placed). IsGenesis entry.rec) h
+  genesis-accounts [] equal = tt
+  genesis-accounts (entry ∷ h) equal = by_kind entry.rec equal (accounts-most h) (genesis-accounts h)
+    where
+      by_kind : (rec : Rec) → (with_genesis rec (base_with opening h)).accounts ≡ opening.state.accounts + length (entry ∷ h) → (base_with opening h).accounts ≤ opening.state.accounts + length h
+          → ((base_with opening h).accounts ≡ opening.state.accounts + length h → AllByRecursion (λ (entry : Placed). IsGenesis entry.rec) h)
+          → IsGenesis rec × AllByRecursion (λ (entry : Placed). IsGenesis entry.rec) h
+      by_kind (Genesis account balance) equal most rest = (tt, rest (omega arith))
+      by_kind (Update txn account delta prev) equal most rest = absurd (omega arith)
+      by_kind (Commit txn legs) equal most rest = absurd (omega arith)
+      by_kind (Short txn leg) equal most rest = absurd (omega arith)
+      by_kind (Over txn leg) equal most rest = absurd (omega arith)
+      by_kind (Note txn text) equal most rest = absurd (omega arith)
 
-  last-zero : (a : ℕ) → last_commit_of grown (genesis ∷ h) a ≡ 0
-  last-zero a = last-genesis grown a (genesis ∷ h) (tt, all) ∙ last_commit-genesis h a
+  -- one more Genesis adds a row
+  module _ (rows : List (ℕ × ℕ)) (h : List Placed) (end account balance : ℕ) (kept : KeepsRows rows (base_with opening h) h)
+      (all : AllByRecursion (λ (entry : Placed). IsGenesis entry.rec) h) (next : account ≡ (base_with opening h).accounts) (range : IsBalance balance)
+      (blank : (a : ℕ) → opening.state.last_commit a ≡ 0) where
+    abbrev genesis : Placed
+    genesis = record { end = end; rec = Genesis account balance }
 
-  balance-old : (a : ℕ) → a < length rows → grown.balance a ≡ (genesis_of h).balance a
-  balance-old a inside = let counted = kept.count in
-      ap (λ b. cond b balance ((genesis_of h).balance a)) (ne_eqb a account (λ same. absurd (omega arith)))
+    abbrev grown : BaseState
+    grown = with_genesis (Genesis account balance) (base_with opening h)
 
-  balance-new : (a : ℕ) → a ≡ length rows → grown.balance a ≡ balance
-  balance-new a is = let counted = kept.count in ap (λ b. cond b balance ((genesis_of h).balance a)) (eq-eqb a account (omega arith))
+    old-row : (a : ℕ) → a < length rows → row (rows ++ (balance, 0) ∷ []) a ≡ row rows a
+    old-row a inside = get_or_append_left rows ((balance, 0) ∷ []) (0, 0) a inside
 
-  pub keeps-genesis : KeepsRows (rows ++ (balance, 0) ∷ []) grown (genesis ∷ h)
-  keeps-genesis = let counted = kept.count in let longer = length-append rows ((balance, 0) ∷ []) in record {
-    count = omega arith;
-    range = λ a inside. dite (ℕ_discrete a (length rows))
-        (λ new. subst (λ (v : ℕ × ℕ). IsBalance v.0) (sym (new-row a new)) range)
-        (λ old. let inside' : a < length rows = omega arith in subst (λ (v : ℕ × ℕ). IsBalance v.0) (sym (old-row a inside')) (kept.range a inside'));
-    balance = λ a inside.
-        let gains = total-genesis gain a (genesis ∷ h) (tt, all) in let losses = total-genesis loss a (genesis ∷ h) (tt, all) in
-        dite (ℕ_discrete a (length rows))
-        (λ new. let here = ap (λ (v : ℕ × ℕ). v.0) (new-row a new) in let first = balance-new a new in omega arith)
-        (λ old. let inside' : a < length rows = omega arith in
-        let here = ap (λ (v : ℕ × ℕ). v.0) (old-row a inside') in let first = balance-old a inside' in
-        let before = kept.balance a inside' in let gains-before = total-genesis gain a h all in let losses-before = total-genesis loss a h all in omega arith);
-    last = λ a inside. dite (ℕ_discrete a (length rows))
-        (λ new. ap (λ (v : ℕ × ℕ). v.1) (new-row a new) ∙ sym (last-zero a))
-        (λ old. let inside' : a < length rows = omega arith in
-        ap (λ (v : ℕ × ℕ). v.1) (old-row a inside') ∙ kept.last a inside' ∙ last-genesis (genesis_of h) a h all ∙ last_commit-genesis h a ∙ sym (last-zero a));
-  }
+    new-row : (a : ℕ) → a ≡ length rows → row (rows ++ (balance, 0) ∷ []) a ≡ (balance, 0)
+    new-row a is = get_or_at rows (balance, 0) [] (0, 0) a (sym is)
 
--- a Commit whose transaction has these changes
-module _ (rows : List (ℕ × ℕ)) (h : List Placed) (txn legs end : ℕ) (changes : List Change) (lawful : IsLawful h) (kept : KeepsRows rows (genesis_of h) h)
-    (on : IsCommitting h txn legs changes) where
-  abbrev entry : Placed
-  entry = record { end = end; rec = Commit txn legs }
+    last-zero : (a : ℕ) → last_commit_of grown (genesis ∷ h) a ≡ 0
+    last-zero a = last-genesis grown a (genesis ∷ h) (tt, all) ∙ base_with-last_commit opening h a ∙ blank a
 
-  abbrev AreCurrentRows : Type 0
-  AreCurrentRows = AllByRecursion (λ (change : Change). change.prev ≡ (row rows change.account).1) changes
+    balance-old : (a : ℕ) → a < length rows → grown.balance a ≡ (base_with opening h).balance a
+    balance-old a inside = let counted = kept.count in
+        ap (λ b. cond b balance ((base_with opening h).balance a)) (ne_eqb a account (λ same. absurd (omega arith)))
 
-  known : AllByRecursion (λ (change : Change). change.account < length rows) changes
-  known = updates-known rows h txn changes lawful kept on.are
+    balance-new : (a : ℕ) → a ≡ length rows → grown.balance a ≡ balance
+    balance-new a is = let counted = kept.count in ap (λ b. cond b balance ((base_with opening h).balance a)) (eq-eqb a account (omega arith))
 
-  current : AreCurrentRows → AllByRecursion (IsCurrent (genesis_of h) h) (updates_of txn h)
-  current all = subst (AllByRecursion (IsCurrent (genesis_of h) h)) on.are (current-rows rows (genesis_of h) h changes known kept all)
+    pub keeps-genesis : KeepsRows (rows ++ (balance, 0) ∷ []) grown (genesis ∷ h)
+    keeps-genesis = let counted = kept.count in let longer = length-append rows ((balance, 0) ∷ []) in record {
+      count = omega arith;
+      range = λ a inside. dite (ℕ_discrete a (length rows))
+          (λ new. subst (λ (v : ℕ × ℕ). IsBalance v.0) (sym (new-row a new)) range)
+          (λ old. let inside' : a < length rows = omega arith in subst (λ (v : ℕ × ℕ). IsBalance v.0) (sym (old-row a inside')) (kept.range a inside'));
+      balance = λ a inside.
+          let gains = total-genesis gain a (genesis ∷ h) (tt, all) in let losses = total-genesis loss a (genesis ∷ h) (tt, all) in
+          dite (ℕ_discrete a (length rows))
+          (λ new. let here = ap (λ (v : ℕ × ℕ). v.0) (new-row a new) in let first = balance-new a new in omega arith)
+          (λ old. let inside' : a < length rows = omega arith in
+          let here = ap (λ (v : ℕ × ℕ). v.0) (old-row a inside') in let first = balance-old a inside' in
+          let before = kept.balance a inside' in let gains-before = total-genesis gain a h all in let losses-before = total-genesis loss a h all in omega arith);
+      last = λ a inside. dite (ℕ_discrete a (length rows))
+          (λ new. ap (λ (v : ℕ × ℕ). v.1) (new-row a new) ∙ sym (last-zero a))
+          (λ old. let inside' : a < length rows = omega arith in
+          ap (λ (v : ℕ × ℕ). v.1) (old-row a inside') ∙ kept.last a inside' ∙ last-genesis (base_with opening h) a h all ∙ base_with-last_commit opening h a ∙ blank a ∙ sym (last-zero a));
+    }
 
-  pub fails-stale : (AreCurrentRows → ⊥) → IsFirstFailing (Passes h entry) why.Stale
-  fails-stale stale = record {
-    passes = (on.some, (tt, (on.unended, (sym (ap length on.are) ∙ on.legs_are, (tt, (tt, tt))))));
-    fails = λ all. stale (rows-current rows (genesis_of h) h changes known kept (subst (AllByRecursion (IsCurrent (genesis_of h) h)) (sym on.are) all));
-  }
+  -- a Commit whose transaction has these changes
+  module _ (rows : List (ℕ × ℕ)) (h : List Placed) (txn legs end : ℕ) (changes : List Change) (lawful : IsLawful opening h) (kept : KeepsRows rows (base_with opening h) h)
+      (on : IsCommitting opening h txn legs changes) where
+    abbrev entry : Placed
+    entry = record { end = end; rec = Commit txn legs }
 
-  pub fails-balance : AreCurrentRows → LeavesSome changes rows → IsFirstFailing (Passes h entry) why.Balance
-  fails-balance all leaves = record {
-    passes = (on.some, (tt, (on.unended, (sym (ap length on.are) ∙ on.legs_are, (tt, (tt, (current all, tt)))))));
-    fails = λ keeps. leaves-commit rows (genesis_of h) h txn legs end changes kept on.unended on.are leaves (keeps refl);
-  }
+    abbrev AreCurrentRows : Type 0
+    AreCurrentRows = AllByRecursion (λ (change : Change). change.prev ≡ (row rows change.account).1) changes
 
-  pub keeps-settled : (new : List (ℕ × ℕ)) → Settles changes end rows new → KeepsRows new (genesis_of h) (entry ∷ h)
-  keeps-settled new settles = keeps-commit rows (genesis_of h) h txn legs end changes kept on.unended on.are new settles
+    known : AllByRecursion (λ (change : Change). change.account < length rows) changes
+    known = updates-known rows h txn changes lawful kept on.are
 
-  pub passes-commit : AreCurrentRows → (new : List (ℕ × ℕ)) → Settles changes end rows new → AllByRecursion (Passes h entry) tests
-  passes-commit all new settles = (
-    on.some,
-    (
-      tt,
+    current : AreCurrentRows → AllByRecursion (IsCurrent (base_with opening h) h) (updates_of txn h)
+    current all = subst (AllByRecursion (IsCurrent (base_with opening h) h)) on.are (current-rows rows (base_with opening h) h changes known kept all)
+
+    pub fails-stale : (AreCurrentRows → ⊥) → IsFirstFailing (Passes opening h entry) why.Stale
+    fails-stale stale = record {
+      passes = (on.some, (tt, (((λ other. on.above), on.unended), (sym (ap length on.are) ∙ on.legs_are, (tt, (tt, tt))))));
+      fails = λ all. stale (rows-current rows (base_with opening h) h changes known kept (subst (AllByRecursion (IsCurrent (base_with opening h) h)) (sym on.are) all));
+    }
+
+    pub fails-balance : AreCurrentRows → LeavesSome changes rows → IsFirstFailing (Passes opening h entry) why.Balance
+    fails-balance all leaves = record {
+      passes = (on.some, (tt, (((λ other. on.above), on.unended), (sym (ap length on.are) ∙ on.legs_are, (tt, (tt, (current all, tt)))))));
+      fails = λ keeps. leaves-commit rows (base_with opening h) h txn legs end changes kept on.unended on.are leaves (keeps refl);
+    }
+
+    pub keeps-settled : (new : List (ℕ × ℕ)) → Settles changes end rows new → KeepsRows new (base_with opening h) (entry ∷ h)
+    keeps-settled new settles = keeps-commit rows (base_with opening h) h txn legs end changes kept on.unended on.are new settles
+
+    pub passes-commit : AreCurrentRows → (new : List (ℕ × ℕ)) → Settles changes end rows new → AllByRecursion (Passes opening h entry) tests
+    passes-commit all new settles = (
+      on.some,
       (
-        on.unended,
+        tt,
         (
-          sym (ap length on.are) ∙ on.legs_are,
+          ((λ other. on.above), on.unended),
           (
-            tt,
+            sym (ap length on.are) ∙ on.legs_are,
             (
               tt,
               (
-                current all,
-                ((λ is. in_range-rows new (genesis_of h) (entry ∷ h) (keeps-settled new settles)), tt),
+                tt,
+                (
+                  current all,
+                  ((λ is. in_range-rows new (base_with opening h) (entry ∷ h) (keeps-settled new settles)), tt),
+                ),
               ),
             ),
           ),
         ),
       ),
-    ),
-  )
+    )
 
--- a Genesis passes all other tests
-pub passes-genesis : (h : List Placed) (end account balance : ℕ) → AllByRecursion (λ (entry : Placed). IsGenesis entry.rec) h → account ≡ length h
-    → AllByRecursion (Passes h (record { end = end; rec = Genesis account balance })) tests
-passes-genesis h end account balance all next =
-    ((all, next), (tt, (tt, (tt, (tt, (tt, (tt, ((λ on. absurd (true≢false (sym on))), tt))))))))
+  -- a Genesis passes all other tests
+  pub passes-genesis : (h : List Placed) (end account balance : ℕ) → AllByRecursion (λ (entry : Placed). IsGenesis entry.rec) h → opening.state.accounts ≡ 0 → account ≡ length h
+      → AllByRecursion (Passes opening h (record { end = end; rec = Genesis account balance })) tests
+  passes-genesis h end account balance all first next =
+      ((first, all, next), (tt, (((λ other. absurd (other tt)), tt), (tt, (tt, (tt, (tt, ((λ on. absurd (true≢false (sym on))), tt))))))))
 
-pub fails-genesis : (rows : List (ℕ × ℕ)) (h : List Placed) (account : ℕ) → KeepsRows rows (genesis_of h) h
-    → (length h ≡ length rows → account ≡ length rows → ⊥) → (end balance : ℕ)
-    → IsFirstFailing (Passes h (record { end = end; rec = Genesis account balance })) why.Genesis
-fails-genesis rows h account kept other end balance = record {
-  passes = tt;
-  fails = λ opens. let counted = kept.count in let all = accounts-genesis h opens.0 in let next = opens.1 in other (omega arith) (omega arith);
-}
+  pub fails-genesis : (rows : List (ℕ × ℕ)) (h : List Placed) (account : ℕ) → KeepsRows rows (base_with opening h) h
+      → (length h ≡ length rows → account ≡ length rows → ⊥) → (end balance : ℕ)
+      → IsFirstFailing (Passes opening h (record { end = end; rec = Genesis account balance })) why.Genesis
+  fails-genesis rows h account kept other end balance = record {
+    passes = tt;
+    fails = λ opens. let counted = kept.count in let all = accounts-genesis h opens.1 in let none = opens.0 in let next = opens.2 in other (omega arith) (omega arith);
+  }

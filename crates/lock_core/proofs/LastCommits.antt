@@ -1,12 +1,12 @@
--- The last Commit on an account is the base state's, or a Commit of the list; a whole log begins with none.
-use Rattle.std.proofs.Common.{◌≡◌, ◌⊎◌, inl, inr, ◌&&◌, ℕ, cond, Bool, true, false, List, [], ◌∷◌, refl, ap}
+-- The last Commit on an account is the base state's, or a Commit of the list; Genesis records leave the opening's.
+use Rattle.std.proofs.Common.{◌≡◌, ◌⊎◌, inl, inr, ◌&&◌, ℕ, cond, Bool, true, false, List, [], ◌∷◌, refl, ap, ◌∙◌}
 use Rattle.log_record.specs.declared.rec.Rec.{Rec}
 use Rattle.log_record.specs.declared.rec.Placed.{Placed}
 use Rattle.log_record.specs.declared.rec.Rec.TheVariants.{Genesis, Update, Commit, Short, Over, Note}
 use Rattle.lock_core.specs.Records.{txn_of, commits}
 use Rattle.lock_core.specs.Transactions.{updates_of, touches}
-use Rattle.lock_core.specs.Sums.{BaseState, last_commit_of, IsCommitOn}
-use Rattle.lock_core.specs.Lawful.{genesis_of, with_genesis}
+use Rattle.lock_core.specs.Sums.{BaseState, Opening, last_commit_of, IsCommitOn}
+use Rattle.lock_core.specs.Lawful.{base_with, with_genesis}
 
 -- the base state's last Commit on the account, or one of the history
 abbrev pub IsBaseOrCommitOn : BaseState → List Placed → ℕ → ℕ → Type 0
@@ -36,14 +36,14 @@ last_commit_of-is base (entry ∷ h) account = by_case (commits entry.rec) (touc
     by_case true false is off before = older (last_commit_of base h account) before
     by_case false changes is on before = older (last_commit_of base h account) before
 
-pub genesis_of-last_commit : (h : List Placed) (account : ℕ) → (genesis_of h).last_commit account ≡ 0
-genesis_of-last_commit [] account = refl
-genesis_of-last_commit (entry ∷ h) account = by_kind entry.rec (genesis_of-last_commit h account)
+pub base_with-last_commit : (opening : Opening) (h : List Placed) (account : ℕ) → (base_with opening h).last_commit account ≡ opening.state.last_commit account
+base_with-last_commit opening [] account = refl
+base_with-last_commit opening (entry ∷ h) account = by_kind entry.rec ∙ base_with-last_commit opening h account
   where
-    by_kind : (rec : Rec) → (genesis_of h).last_commit account ≡ 0 → (with_genesis rec (genesis_of h)).last_commit account ≡ 0
-    by_kind (Genesis account balance) before = before
-    by_kind (Update txn account delta prev) before = before
-    by_kind (Commit txn legs) before = before
-    by_kind (Short txn leg) before = before
-    by_kind (Over txn leg) before = before
-    by_kind (Note txn text) before = before
+    by_kind : (rec : Rec) → (with_genesis rec (base_with opening h)).last_commit account ≡ (base_with opening h).last_commit account
+    by_kind (Genesis own balance) = refl
+    by_kind (Update txn own delta prev) = refl
+    by_kind (Commit txn legs) = refl
+    by_kind (Short txn leg) = refl
+    by_kind (Over txn leg) = refl
+    by_kind (Note txn text) = refl

@@ -4,6 +4,7 @@ pub mod ChainLemmas
 pub mod Conserving
 pub mod Doing
 pub mod Fronts
+pub mod GoingOn
 pub mod JobLemmas
 pub mod JudgingLemmas
 pub mod KeepingLemmas
@@ -23,6 +24,7 @@ pub mod SerialFronts
 pub mod SerialTasks
 pub mod SettlingLemmas
 pub mod SoundLemmas
+pub mod Splitting
 pub mod TakingLemmas
 pub mod Witnessing
 pub mod Weighing

@@ -1,13 +1,12 @@
--- What lawful histories of both kinds have in common: each entry meets the tests other than that of a Genesis, all with
--- one base state. The laws are shown of this.
+-- In a lawful history each entry meets the tests other than that of a Genesis, all with one base state. The laws are shown of this.
 use Rattle.std.proofs.Common.{ℕ, true≢false, List, [], ◌∷◌, sym}
 use Rattle.std.specs.List.{AllByRecursion}
 use Rattle.log_record.specs.declared.rec.Rec.{Rec}
 use Rattle.log_record.specs.declared.rec.Placed.{Placed}
 use Rattle.log_record.specs.declared.rec.Rec.TheVariants.{Genesis, Update, Commit, Short, Over, Note}
-use Rattle.lock_core.specs.Sums.{BaseState}
-use Rattle.lock_core.specs.Tests.{IsGenesis, KnowsAccount, IsUnended, CountsLegs, PairsDeltas, NamesLastCommit, IsNotStale, KeepsBalances}
-use Rattle.lock_core.specs.Lawful.{tests, PassesAfter, IsLawfulAfter, Passes, IsLawful, genesis_of, with_genesis}
+use Rattle.lock_core.specs.Sums.{BaseState, Opening}
+use Rattle.lock_core.specs.Tests.{IsGenesis, OpensLedger, KnowsAccount, IsAbove, IsUnended, CountsLegs, PairsDeltas, NamesLastCommit, IsNotStale, KeepsBalances}
+use Rattle.lock_core.specs.Lawful.{tests, Passes, IsLawful, base_with, with_genesis}
 
 pub record MeetsTests (base : BaseState) (h : List Placed) (entry : Placed) : Type 0 where
   pub account : KnowsAccount base entry.rec
@@ -22,17 +21,15 @@ abbrev pub AreMet : BaseState → List Placed → Type 0
 AreMet base [] = Unit {0}
 AreMet base (entry ∷ h) = MeetsTests base h entry × AreMet base h
 
-pub meets-after : (base : BaseState) (h : List Placed) (entry : Placed) → AllByRecursion (PassesAfter base h entry) tests → MeetsTests base h entry
-meets-after base h entry (genesis, (account, (ended, (legs, (pair, (prev, (stale, (balance, end)))))))) =
-    record { account = account; ended = ended; legs = legs; pair = pair; prev = prev; stale = stale; balance = balance }
+pub meets-passes : (opening : Opening) (h : List Placed) (entry : Placed) → AllByRecursion (Passes opening h entry) tests
+    → MeetsTests (base_with opening h) h entry
+meets-passes opening h entry (genesis, (account, (ended, (legs, (pair, (prev, (stale, (balance, end)))))))) =
+    record { account = account; ended = ended.1; legs = legs; pair = pair; prev = prev; stale = stale; balance = balance }
 
-pub meets-log : (h : List Placed) (entry : Placed) → AllByRecursion (Passes h entry) tests → MeetsTests (genesis_of h) h entry
-meets-log h entry (genesis, (account, (ended, (legs, (pair, (prev, (stale, (balance, end)))))))) =
-    record { account = account; ended = ended; legs = legs; pair = pair; prev = prev; stale = stale; balance = balance }
-
-pub met-after : (base : BaseState) (h : List Placed) → IsLawfulAfter base h → AreMet base h
-met-after base [] lawful = tt
-met-after base (entry ∷ h) lawful = (meets-after base h entry lawful.0, met-after base h lawful.1)
+pub passes-meets : (opening : Opening) (h : List Placed) (entry : Placed) → OpensLedger opening h entry.rec → IsAbove opening.txn entry.rec
+    → MeetsTests (base_with opening h) h entry → AllByRecursion (Passes opening h entry) tests
+passes-meets opening h entry opens above meets =
+    (opens, (meets.account, ((above, meets.ended), (meets.legs, (meets.pair, (meets.prev, (meets.stale, (meets.balance, tt))))))))
 
 -- a Genesis meets all tests but its own
 meets-genesis : (base : BaseState) (h : List Placed) (entry : Placed) → IsGenesis entry.rec → MeetsTests base h entry
@@ -52,16 +49,16 @@ met-genesis base [] all = tt
 met-genesis base (entry ∷ h) all = (meets-genesis base h entry all.0, met-genesis base h all.1)
 
 -- the accounts stand once a record isn't a Genesis
-pub met-log : (h : List Placed) → IsLawful h → AreMet (genesis_of h) h
-met-log [] lawful = tt
-met-log (entry ∷ h) lawful = by_kind entry.rec entry.end lawful.0 (met-log h lawful.1)
+pub met-lawful : (opening : Opening) (h : List Placed) → IsLawful opening h → AreMet (base_with opening h) h
+met-lawful opening [] lawful = tt
+met-lawful opening (entry ∷ h) lawful = by_kind entry.rec entry.end lawful.0 (met-lawful opening h lawful.1)
   where
-    by_kind : (rec : Rec) (end : ℕ) → AllByRecursion (Passes h (record { end = end; rec = rec })) tests → AreMet (genesis_of h) h
-        → AreMet (with_genesis rec (genesis_of h)) (record { end = end; rec = rec } ∷ h)
+    by_kind : (rec : Rec) (end : ℕ) → AllByRecursion (Passes opening h (record { end = end; rec = rec })) tests → AreMet (base_with opening h) h
+        → AreMet (with_genesis rec (base_with opening h)) (record { end = end; rec = rec } ∷ h)
     by_kind (Genesis account balance) end passes before =
-        met-genesis (with_genesis (Genesis account balance) (genesis_of h)) (record { end = end; rec = Genesis account balance } ∷ h) (tt, passes.0.0)
-    by_kind (Update txn account delta prev) end passes before = (meets-log h (record { end = end; rec = Update txn account delta prev }) passes, before)
-    by_kind (Commit txn legs) end passes before = (meets-log h (record { end = end; rec = Commit txn legs }) passes, before)
-    by_kind (Short txn leg) end passes before = (meets-log h (record { end = end; rec = Short txn leg }) passes, before)
-    by_kind (Over txn leg) end passes before = (meets-log h (record { end = end; rec = Over txn leg }) passes, before)
-    by_kind (Note txn text) end passes before = (meets-log h (record { end = end; rec = Note txn text }) passes, before)
+        met-genesis (with_genesis (Genesis account balance) (base_with opening h)) (record { end = end; rec = Genesis account balance } ∷ h) (tt, passes.0.1)
+    by_kind (Update txn account delta prev) end passes before = (meets-passes opening h (record { end = end; rec = Update txn account delta prev }) passes, before)
+    by_kind (Commit txn legs) end passes before = (meets-passes opening h (record { end = end; rec = Commit txn legs }) passes, before)
+    by_kind (Short txn leg) end passes before = (meets-passes opening h (record { end = end; rec = Short txn leg }) passes, before)
+    by_kind (Over txn leg) end passes before = (meets-passes opening h (record { end = end; rec = Over txn leg }) passes, before)
+    by_kind (Note txn text) end passes before = (meets-passes opening h (record { end = end; rec = Note txn text }) passes, before)

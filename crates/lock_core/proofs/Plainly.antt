@@ -10,11 +10,11 @@ use Rattle.log_record.specs.declared.rec.Rec.TheVariants.{Genesis, Update, Commi
 use Rattle.lock_core.specs.declared.update.Change.{Change}
 use Rattle.lock_core.specs.Records.{txn_of, commits, ends, changes_of, lowers}
 use Rattle.lock_core.specs.Transactions.{recs_of, own_records_of, updates_of, has_end, touches}
-use Rattle.lock_core.specs.Sums.{BaseState, last_commit_of}
+use Rattle.lock_core.specs.Sums.{BaseState, Opening, last_commit_of}
 use Rattle.lock_core.specs.Tests.{IsUnended, IsPaired, IsOpposite}
 use Rattle.lock_core.specs.Plain.{last_commit_where, plain_last_commit, is_odd, IsOppositeOfNewest, IsPlainlyPaired}
-use Rattle.lock_core.specs.Lawful.{IsLawful, genesis_of}
-use Rattle.lock_core.proofs.Meeting.{AreMet, met-log}
+use Rattle.lock_core.specs.Lawful.{IsLawful, base_with}
+use Rattle.lock_core.proofs.Meeting.{AreMet, met-lawful}
 use Rattle.lock_core.proofs.OneMore.{of_transaction-same, of_transaction-other, updates_of-same, updates_of-other, changes_of-commit, or-true}
 use Rattle.lock_core.proofs.Pairing.{ArePaired, updates_of-fits, newest_lowers, newest_lowers-parity}
 
@@ -129,10 +129,12 @@ plainly-paired (newest ∷ older) change are plain = by_case (lowers newest.delt
     by_case true is = plain.even (sym (newest_lowers-parity (newest ∷ older) are) ∙ is)
     by_case false is = plain.odd (sym (newest_lowers-parity (newest ∷ older) are) ∙ is)
 
-pub last_commit_of-log : (h : List Placed) (account : ℕ) → IsLawful h → plain_last_commit (genesis_of h) h account ≡ last_commit_of (genesis_of h) h account
-last_commit_of-log h account lawful = last_commit_of-plainly (genesis_of h) h account (met-log h lawful)
+pub last_commit_of-lawful : (opening : Opening) (h : List Placed) (account : ℕ) → IsLawful opening h
+    → plain_last_commit (base_with opening h) h account ≡ last_commit_of (base_with opening h) h account
+last_commit_of-lawful opening h account lawful = last_commit_of-plainly (base_with opening h) h account (met-lawful opening h lawful)
 
-pub paired-log : (h : List Placed) (txn : ℕ) (change : Change) → IsLawful h → IsPaired (updates_of txn h) change ↔ IsPlainlyPaired (updates_of txn h) change
-paired-log h txn change lawful =
-    let fits = updates_of-fits (genesis_of h) h txn (met-log h lawful) in
+pub paired-lawful : (opening : Opening) (h : List Placed) (txn : ℕ) (change : Change) → IsLawful opening h
+    → IsPaired (updates_of txn h) change ↔ IsPlainlyPaired (updates_of txn h) change
+paired-lawful opening h txn change lawful =
+    let fits = updates_of-fits (base_with opening h) h txn (met-lawful opening h lawful) in
     (paired-plainly (updates_of txn h) change fits.paired, plainly-paired (updates_of txn h) change fits.paired)

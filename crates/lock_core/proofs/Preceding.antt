@@ -1,5 +1,5 @@
 -- Where each entry of a lawful history stands: behind the Commits that it builds on, and before nothing of its transaction that it ended.
-use Rattle.std.proofs.Common.{◌≡◌, ◌≢◌, ◌||◌, ℕ, true, true≢false, List, [], ◌∷◌, ◌++◌, refl, ap, ◌∙◌, sym, subst}
+use Rattle.std.proofs.Common.{◌≡◌, ◌≢◌, ◌||◌, true, true≢false, List, [], ◌∷◌, ◌++◌, refl, ap, ◌∙◌, sym, subst}
 use Rattle.std.specs.List.{AllByRecursion}
 use mathlib.Core.Logic.{dite}
 use native.Mathlib.Decide.{ℕ_discrete}
@@ -9,11 +9,11 @@ use Rattle.log_record.specs.declared.rec.Rec.TheVariants.{Genesis, Update, Commi
 use Rattle.lock_core.specs.declared.update.Change.{Change}
 use Rattle.lock_core.specs.Records.{txn_of, commits, ends, changes_of}
 use Rattle.lock_core.specs.Transactions.{of_transaction, recs_of, own_records_of, updates_of, has_end}
-use Rattle.lock_core.specs.Tests.{IsGenesis, IsUnended, IsCurrent, NamesLastCommit, IsNotStale}
-use Rattle.lock_core.specs.Sums.{BaseState}
-use Rattle.lock_core.specs.Lawful.{IsLawful, IsLawfulAfter, genesis_of}
+use Rattle.lock_core.specs.Tests.{IsGenesis, OpensLedger, IsUnended, IsCurrent, NamesLastCommit, IsNotStale}
+use Rattle.lock_core.specs.Sums.{BaseState, Opening}
+use Rattle.lock_core.specs.Lawful.{IsLawful, base_with}
 use Rattle.lock_core.specs.Soundness.{IsBuiltOn, StandsBetween, HasPredecessors}
-use Rattle.lock_core.proofs.Meeting.{AreMet, met-after, met-log}
+use Rattle.lock_core.proofs.Meeting.{AreMet, met-lawful}
 use Rattle.lock_core.proofs.LastCommits.{IsBaseOrCommitOn, last_commit_of-is}
 use Rattle.lock_core.proofs.ListLemmas.{all-split}
 use Rattle.lock_core.proofs.OneMore.{of_transaction-same, of_transaction-other, or-true}
@@ -51,21 +51,17 @@ abbrev OpensAlone : List Placed → Type 0
 OpensAlone [] = Unit {0}
 OpensAlone (entry ∷ h) = (IsGenesis entry.rec → AllByRecursion (λ (other : Placed). IsGenesis other.rec) h) × OpensAlone h
 
-opens-after : (base : BaseState) (h : List Placed) → IsLawfulAfter base h → OpensAlone h
-opens-after base [] lawful = tt
-opens-after base (entry ∷ h) lawful = ((λ is. absurd (lawful.0.0 is)), opens-after base h lawful.1)
-
-opens-log : (h : List Placed) → IsLawful h → OpensAlone h
-opens-log [] lawful = tt
-opens-log (entry ∷ h) lawful = (by_kind entry.rec entry.end lawful, opens-log h lawful.1)
+opens-alone : (opening : Opening) (h : List Placed) → IsLawful opening h → OpensAlone h
+opens-alone opening [] lawful = tt
+opens-alone opening (entry ∷ h) lawful = (by_kind entry.rec lawful.0.0, opens-alone opening h lawful.1)
   where
-    by_kind : (rec : Rec) (end : ℕ) → IsLawful (record { end = end; rec = rec } ∷ h) → IsGenesis rec → AllByRecursion (λ (other : Placed). IsGenesis other.rec) h
-    by_kind (Genesis account balance) end lawful is = lawful.0.0.0
-    by_kind (Update txn account delta prev) end lawful is = absurd is
-    by_kind (Commit txn legs) end lawful is = absurd is
-    by_kind (Short txn leg) end lawful is = absurd is
-    by_kind (Over txn leg) end lawful is = absurd is
-    by_kind (Note txn text) end lawful is = absurd is
+    by_kind : (rec : Rec) → OpensLedger opening h rec → IsGenesis rec → AllByRecursion (λ (other : Placed). IsGenesis other.rec) h
+    by_kind (Genesis account balance) opens is = opens.1
+    by_kind (Update txn account delta prev) opens is = absurd is
+    by_kind (Commit txn legs) opens is = absurd is
+    by_kind (Short txn leg) opens is = absurd is
+    by_kind (Over txn leg) opens is = absurd is
+    by_kind (Note txn text) opens is = absurd is
 
 genesis-not-end : (rec : Rec) → IsGenesis rec → ends rec ≡ true → ⊥
 genesis-not-end (Genesis account balance) is on = true≢false (sym on)
@@ -122,8 +118,5 @@ predecessors-met : (base : BaseState) (h : List Placed) → AreMet base h → Op
 predecessors-met base h met opens later front entry whole =
     stands-between base front entry later (subst (AreMet base) whole met) (subst OpensAlone whole opens)
 
-pub predecessors-log : (h : List Placed) → IsLawful h → HasPredecessors (genesis_of h) h
-predecessors-log h lawful = predecessors-met (genesis_of h) h (met-log h lawful) (opens-log h lawful)
-
-pub predecessors-after : (base : BaseState) (h : List Placed) → IsLawfulAfter base h → HasPredecessors base h
-predecessors-after base h lawful = predecessors-met base h (met-after base h lawful) (opens-after base h lawful)
+pub predecessors-lawful : (opening : Opening) (h : List Placed) → IsLawful opening h → HasPredecessors (base_with opening h) h
+predecessors-lawful opening h lawful = predecessors-met (base_with opening h) h (met-lawful opening h lawful) (opens-alone opening h lawful)

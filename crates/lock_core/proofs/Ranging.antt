@@ -1,5 +1,7 @@
 -- Every account of a lawful history has a balance, in its range.
-use Rattle.std.proofs.Common.{◌≡◌, ◌<◌, ℕ, cond, ◌==◌, ℤ, Bool, true, false, List, [], ◌∷◌, refl, arith}
+use Rattle.std.proofs.Common.{◌≡◌, ℕ, cond, ℤ, List, [], ◌∷◌, refl, ap, sym, subst, arith, eq-eqb, ne_eqb}
+use mathlib.Core.Logic.{dite}
+use native.Mathlib.Decide.{ℕ_discrete, dec_lt}
 use Rattle.log_record.specs.declared.rec.Rec.{Rec}
 use Rattle.log_record.specs.declared.rec.Placed.{Placed}
 use Rattle.log_record.specs.declared.rec.Rec.TheVariants.{Genesis, Update, Commit, Short, Over, Note}
@@ -7,9 +9,11 @@ use Rattle.std.specs.List.{AllByRecursion}
 use Rattle.log_record.specs.Spelling.{IsBalance, IsSpellable}
 use Rattle.lock_core.specs.Records.{gain, loss}
 use Rattle.lock_core.specs.Transactions.{own_records_of}
-use Rattle.lock_core.specs.Sums.{BaseState, total, IsBalanceOf, balance_of, AreInRange}
-use Rattle.lock_core.specs.Lawful.{IsLawful, genesis_of, with_genesis}
-use Rattle.lock_core.proofs.Meeting.{MeetsTests, AreMet, met-log}
+use Rattle.lock_core.specs.Sums.{BaseState, Opening, total, IsBalanceOf, balance_of, BeginsInRange, AreInRange}
+use Rattle.lock_core.specs.Tests.{OpensLedger}
+use Rattle.lock_core.specs.Lawful.{IsLawful, base_with, with_genesis}
+use Rattle.lock_core.proofs.Meeting.{MeetsTests, AreMet, met-lawful}
+use Rattle.lock_core.proofs.KindLemmas.{accounts-genesis}
 use Rattle.lock_core.proofs.OneMore.{has_commit-unended, total-plain, total-empty}
 
 pub balance_of-is : (base : BaseState) (h : List Placed) (account balance : ℕ) → IsBalanceOf base h account balance → balance_of base h account ≡ balance
@@ -38,25 +42,28 @@ in_range-more base h (Over txn leg) end meets range =
 in_range-more base h (Note txn text) end meets range =
     in_range-same base h (record { end = end; rec = Note txn text } ∷ h) (λ side a. total-empty side a (record { end = end; rec = Note txn text }) h refl refl) range
 
-pub in_range-met : (base : BaseState) (h : List Placed) → ((a : ℕ) → a < base.accounts → IsBalance (base.balance a)) → AreMet base h → AreInRange base h
+pub in_range-met : (base : BaseState) (h : List Placed) → BeginsInRange base → AreMet base h → AreInRange base h
 in_range-met base [] first met = λ account below. (base.balance account, first account below, refl)
 in_range-met base (entry ∷ h) first met = in_range-more base h entry.rec entry.end met.0 (in_range-met base h first met.1)
 
-genesis_of-range : (h : List Placed) → AllByRecursion (λ (entry : Placed). IsSpellable entry.rec) h → (a : ℕ) → IsBalance ((genesis_of h).balance a)
-genesis_of-range [] spellable a = omega arith
-genesis_of-range (entry ∷ h) spellable a = by_kind entry.rec spellable.0 (genesis_of-range h spellable.1 a)
+base_with-range : (opening : Opening) → BeginsInRange opening.state → (h : List Placed) → AllByRecursion (λ (entry : Placed). IsSpellable entry.rec) h
+    → IsLawful opening h → BeginsInRange (base_with opening h)
+base_with-range opening first [] spellable lawful = first
+base_with-range opening first (entry ∷ h) spellable lawful = by_kind entry.rec spellable.0 lawful.0.0 (base_with-range opening first h spellable.1 lawful.1)
   where
-    by_account : (b : Bool) (balance : ℕ) → IsBalance balance → IsBalance ((genesis_of h).balance a) → IsBalance (cond b balance ((genesis_of h).balance a))
-    by_account true balance own before = own
-    by_account false balance own before = before
+    by_kind : (rec : Rec) → IsSpellable rec → OpensLedger opening h rec → BeginsInRange (base_with opening h) → BeginsInRange (with_genesis rec (base_with opening h))
+    by_kind (Genesis own balance) is opens before account below = dite (ℕ_discrete account own)
+        (λ same. subst IsBalance (sym (ap (λ b. cond b balance ((base_with opening h).balance account)) (eq-eqb account own same))) is.1)
+        (λ other. subst IsBalance (sym (ap (λ b. cond b balance ((base_with opening h).balance account)) (ne_eqb account own other)))
+        (before account (let count = accounts-genesis opening h opens.1 in let none = opens.0 in let next = opens.2 in
+        dite (dec_lt account (base_with opening h).accounts) (λ inside. inside) (λ past. absurd (other (omega arith))))))
+    by_kind (Update txn own delta prev) is opens before account below = before account below
+    by_kind (Commit txn legs) is opens before account below = before account below
+    by_kind (Short txn leg) is opens before account below = before account below
+    by_kind (Over txn leg) is opens before account below = before account below
+    by_kind (Note txn text) is opens before account below = before account below
 
-    by_kind : (rec : Rec) → IsSpellable rec → IsBalance ((genesis_of h).balance a) → IsBalance ((with_genesis rec (genesis_of h)).balance a)
-    by_kind (Genesis account balance) own before = by_account (a == account) balance own.1 before
-    by_kind (Update txn account delta prev) own before = before
-    by_kind (Commit txn legs) own before = before
-    by_kind (Short txn leg) own before = before
-    by_kind (Over txn leg) own before = before
-    by_kind (Note txn text) own before = before
-
-pub in_range-log : (h : List Placed) → AllByRecursion (λ (entry : Placed). IsSpellable entry.rec) h → IsLawful h → AreInRange (genesis_of h) h
-in_range-log h spellable lawful = in_range-met (genesis_of h) h (λ a below. genesis_of-range h spellable a) (met-log h lawful)
+pub in_range-lawful : (opening : Opening) (h : List Placed) → BeginsInRange opening.state → AllByRecursion (λ (entry : Placed). IsSpellable entry.rec) h
+    → IsLawful opening h → AreInRange (base_with opening h) h
+in_range-lawful opening h first spellable lawful =
+    in_range-met (base_with opening h) h (base_with-range opening first h spellable lawful) (met-lawful opening h lawful)

@@ -10,35 +10,39 @@ use Rattle.log_record.specs.Spelling.{IsSpellable}
 use Rattle.lock_core.specs.declared.update.Change.{Change}
 use Rattle.lock_core.specs.Records.{txn_of, commits, changes_of, gain, loss}
 use Rattle.lock_core.specs.Transactions.{updates_of, touches, is_committed, ShareNoTransaction}
-use Rattle.lock_core.specs.Tests.{KnowsAccount, OpensLedger}
-use Rattle.lock_core.specs.Sums.{BaseState, moved, moved_by, sum_below, IsBalanceOf, balance_of, last_commit_of}
-use Rattle.lock_core.specs.Lawful.{IsLawful, IsLawfulAfter, genesis_of, with_genesis, base_state_of}
+use Rattle.lock_core.specs.Tests.{HasNoGenesis, KnowsAccount, OpensLedger}
+use Rattle.lock_core.specs.Sums.{BaseState, Opening, BeginsInRange, moved, moved_by, sum_below, IsBalanceOf, balance_of, last_commit_of}
+use Rattle.lock_core.specs.Lawful.{IsLawful, base_with, with_genesis, base_state_of, opening_after}
 use Rattle.lock_core.specs.Soundness.{IsSoundAfter}
-use Rattle.lock_core.proofs.Meeting.{AreMet, met-log}
-use Rattle.lock_core.proofs.LastCommits.{genesis_of-last_commit}
-use Rattle.lock_core.proofs.Preceding.{predecessors-log}
-use Rattle.lock_core.proofs.ListLemmas.{all-split}
-use Rattle.lock_core.proofs.Appending.{genesis_of-append, lawful-append, is_balance-met, total-append}
-use Rattle.lock_core.proofs.Ranging.{in_range-log}
-use Rattle.lock_core.proofs.Conserving.{sum_below-log}
+use Rattle.lock_core.proofs.Meeting.{AreMet, met-lawful}
+use Rattle.lock_core.proofs.LastCommits.{base_with-last_commit}
+use Rattle.lock_core.proofs.Preceding.{predecessors-lawful}
+use Rattle.lock_core.proofs.Fronts.{lawful-front}
+use Rattle.lock_core.proofs.Appending.{base_with-append, none-genesis, lawful-goes_on, is_balance-met, total-append}
+use Rattle.lock_core.proofs.Ranging.{in_range-lawful}
+use Rattle.lock_core.proofs.Conserving.{sum_below-lawful}
 use Rattle.lock_core.proofs.KindLemmas.{accounts-genesis}
 use Rattle.lock_core.proofs.Pairing.{updates_of-fits}
 
-pub sound-after : (before later : List Placed) → IsLawful before → 0 < (genesis_of before).accounts
-    → AllByRecursion (λ (entry : Placed). IsSpellable entry.rec) (later ++ before) → IsLawfulAfter (base_state_of before) later
-    → ShareNoTransaction later before → IsSoundAfter before (later ++ before)
-sound-after before later lawful some spellable after apart = record {
+-- a lawful list keeps sound what it goes on from, where nothing behind that is a Genesis
+pub sound-lawful : (opening : Opening) (before later : List Placed) → BeginsInRange opening.state → IsLawful opening (later ++ before) → HasNoGenesis later
+    → AllByRecursion (λ (entry : Placed). IsSpellable entry.rec) (later ++ before) → IsSoundAfter opening before (later ++ before)
+sound-lawful opening before later first whole none spellable = record {
   later = later;
   whole = refl;
-  predecessors = predecessors-log (later ++ before) whole;
-  range = in_range-log (later ++ before) spellable whole;
-  sum = sum_below-log (later ++ before) spellable whole
-      ∙ ap (λ (base : BaseState). sum_below base.accounts base.balance) (genesis_of-append (base_state_of before) later before after)
-      ∙ sym (sum_below-log before (all-split (λ (entry : Placed). IsSpellable entry.rec) later before spellable).1 lawful);
+  predecessors = predecessors-lawful opening (later ++ before) whole;
+  range = in_range-lawful opening (later ++ before) first spellable whole;
+  sum = sum_below-lawful opening (later ++ before) whole
+      ∙ ap (λ (base : BaseState). sum_below base.accounts base.balance) (base_with-append opening later before none)
+      ∙ sym (sum_below-lawful opening before (lawful-front opening later before whole));
 }
-  where
-    whole : IsLawful (later ++ before)
-    whole = lawful-append later before lawful some after apart
+
+pub sound-after : (opening : Opening) (before later : List Placed) → BeginsInRange opening.state → IsLawful opening before
+    → 0 < (base_with opening before).accounts → AllByRecursion (λ (entry : Placed). IsSpellable entry.rec) (later ++ before)
+    → IsLawful (opening_after opening before) later → IsSoundAfter opening before (later ++ before)
+sound-after opening before later first lawful some spellable after =
+    sound-lawful opening before later first (lawful-goes_on opening later before lawful some after)
+    (none-genesis (opening_after opening before) later some after) spellable
 
 -- ---- an account that the list doesn't have
 
@@ -88,44 +92,48 @@ module _ (base : BaseState) (account : ℕ) (past : base.accounts ≤ account) w
       by_kind true on off = ap (λ b. cond b entry.end (last_commit_of base h account)) off
       by_kind false on off = refl
 
-genesis_of-past : (h : List Placed) (account : ℕ) → IsLawful h → (genesis_of h).accounts ≤ account → (genesis_of h).balance account ≡ 0
-genesis_of-past [] account lawful past = refl
-genesis_of-past (entry ∷ h) account lawful past = by_kind entry.rec lawful.0.0 (genesis_of-past h account lawful.1) past
+base_with-past : (opening : Opening) (h : List Placed) (account : ℕ) → IsLawful opening h → (base_with opening h).accounts ≤ account
+    → (base_with opening h).balance account ≡ opening.state.balance account
+base_with-past opening [] account lawful past = refl
+base_with-past opening (entry ∷ h) account lawful past = by_kind entry.rec lawful.0.0 (base_with-past opening h account lawful.1) past
   where
-    by_kind : (rec : Rec) → OpensLedger h rec → ((genesis_of h).accounts ≤ account → (genesis_of h).balance account ≡ 0)
-        → (with_genesis rec (genesis_of h)).accounts ≤ account → (with_genesis rec (genesis_of h)).balance account ≡ 0
+    by_kind : (rec : Rec) → OpensLedger opening h rec
+        → ((base_with opening h).accounts ≤ account → (base_with opening h).balance account ≡ opening.state.balance account)
+        → (with_genesis rec (base_with opening h)).accounts ≤ account → (with_genesis rec (base_with opening h)).balance account ≡ opening.state.balance account
     by_kind (Genesis own balance) opens before past =
-        let count = accounts-genesis h opens.0 in let number = opens.1 in
-        ap (λ b. cond b balance ((genesis_of h).balance account)) (ne_eqb account own (λ same. omega arith)) ∙ before (omega arith)
+        let count = accounts-genesis opening h opens.1 in let none = opens.0 in let number = opens.2 in
+        ap (λ b. cond b balance ((base_with opening h).balance account)) (ne_eqb account own (λ same. omega arith)) ∙ before (omega arith)
     by_kind (Update txn own delta prev) opens before past = before past
     by_kind (Commit txn legs) opens before past = before past
     by_kind (Short txn leg) opens before past = before past
     by_kind (Over txn leg) opens before past = before past
     by_kind (Note txn text) opens before past = before past
 
--- an account that a lawful list doesn't have has nothing, and no Commit
-pub base_state-past : (h : List Placed) (account : ℕ) → IsLawful h → (genesis_of h).accounts ≤ account
-    → ((base_state_of h).balance account ≡ 0) × ((base_state_of h).last_commit account ≡ 0)
-base_state-past h account lawful past =
-    let met = met-log h lawful in
-    let gains = moved_by-past (genesis_of h) account past (λ txn. is_committed txn h) gain h met in
-    let losses = moved_by-past (genesis_of h) account past (λ txn. is_committed txn h) loss h met in
-    let opening = genesis_of-past h account lawful past in
-    (omega arith, last_commit_of-past (genesis_of h) account past h met ∙ genesis_of-last_commit h account)
+-- an account that a lawful list doesn't have has what the opening says of it: nothing, and no Commit, in a whole log
+pub base_state-past : (opening : Opening) (h : List Placed) (account : ℕ) → IsLawful opening h → (base_with opening h).accounts ≤ account
+    → ((base_state_of opening h).balance account ≡ opening.state.balance account) × ((base_state_of opening h).last_commit account ≡ opening.state.last_commit account)
+base_state-past opening h account lawful past =
+    let base = base_with opening h in
+    let met = met-lawful opening h lawful in
+    let gains = moved_by-past base account past (λ txn. is_committed txn h) gain h met in
+    let losses = moved_by-past base account past (λ txn. is_committed txn h) loss h met in
+    let begins = base_with-past opening h account lawful past in
+    (omega arith, last_commit_of-past base account past h met ∙ base_with-last_commit opening h account)
 
 -- the balance of any account in a lawful list is a balance
-is_balance-lawful : (h : List Placed) (account : ℕ) → IsLawful h → IsBalanceOf (genesis_of h) h account (balance_of (genesis_of h) h account)
-is_balance-lawful h account lawful = dite (dec_lt account (genesis_of h).accounts)
-    (λ inside. is_balance-met (genesis_of h) h account inside (met-log h lawful))
+is_balance-lawful : (opening : Opening) (h : List Placed) (account : ℕ) → IsLawful opening h
+    → IsBalanceOf (base_with opening h) h account (balance_of (base_with opening h) h account)
+is_balance-lawful opening h account lawful = dite (dec_lt account (base_with opening h).accounts)
+    (λ inside. is_balance-met (base_with opening h) h account inside (met-lawful opening h lawful))
     (λ outside.
-    let met = met-log h lawful in
-    let past : (genesis_of h).accounts ≤ account = omega arith in
-    let gains = moved_by-past (genesis_of h) account past (λ txn. is_committed txn h) gain h met in
-    let losses = moved_by-past (genesis_of h) account past (λ txn. is_committed txn h) loss h met in omega arith)
+    let met = met-lawful opening h lawful in
+    let past : (base_with opening h).accounts ≤ account = omega arith in
+    let gains = moved_by-past (base_with opening h) account past (λ txn. is_committed txn h) gain h met in
+    let losses = moved_by-past (base_with opening h) account past (λ txn. is_committed txn h) loss h met in omega arith)
 
 -- a balance after the base state that a lawful list leaves is one of both lists
-pub is_balance-lawful_append : (h l : List Placed) (account balance : ℕ) → IsLawful l → ShareNoTransaction h l
-    → IsBalanceOf (base_state_of l) h account balance → IsBalanceOf (genesis_of l) (h ++ l) account balance
-is_balance-lawful_append h l account balance lawful apart is =
-    let before = is_balance-lawful l account lawful in
+pub is_balance-lawful_append : (opening : Opening) (h l : List Placed) (account balance : ℕ) → IsLawful opening l → ShareNoTransaction h l
+    → IsBalanceOf (base_state_of opening l) h account balance → IsBalanceOf (base_with opening l) (h ++ l) account balance
+is_balance-lawful_append opening h l account balance lawful apart is =
+    let before = is_balance-lawful opening l account lawful in
     let gains = total-append gain account h l apart in let losses = total-append loss account h l apart in omega arith

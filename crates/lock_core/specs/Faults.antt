@@ -5,6 +5,7 @@ use Rattle.log_record.specs.declared.rec.Placed.{Placed}
 use Rattle.lock_core.specs.declared.reason.Why.{Why}
 use Rattle.lock_core.specs.declared.reason.Why.TheVariants as why
 use Rattle.lock_core.specs.History.{end_from}
+use Rattle.lock_core.specs.Sums.{Opening}
 use Rattle.lock_core.specs.Lawful.{Passes, IsLawful}
 
 -- the tests that are made before this one
@@ -24,11 +25,11 @@ pub record IsFirstFailing (Passes' : Why → Type 0) (test : Why) : Type 0 where
   pub fails : Passes' test → ⊥
 
 -- the record that starts at this address is the first that fails a test, and this is the first test that it fails
-pub record IsUnlawfulAt (h : List Placed) (lsn : ℕ) (test : Why) : Type 0 where
+pub record IsUnlawfulAt (opening : Opening) (h : List Placed) (lsn : ℕ) (test : Why) : Type 0 where
   pub later : List Placed
   pub entry : Placed
   pub front : List Placed
   pub whole : h ≡ later ++ entry ∷ front
-  pub lawful : IsLawful front
-  pub place : lsn ≡ end_from 0 front
-  pub first : IsFirstFailing (Passes front entry) test
+  pub lawful : IsLawful opening front
+  pub place : lsn ≡ end_from opening.state.end front
+  pub first : IsFirstFailing (Passes opening front entry) test

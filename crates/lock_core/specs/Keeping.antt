@@ -11,6 +11,7 @@ use Rattle.lock_core.specs.declared.update_links.UpdateLink.{UpdateLink}
 use Rattle.lock_core.specs.declared.transactions.Transactions.{Transactions}
 use Rattle.lock_core.specs.declared.ledger.Ledger.{Ledger}
 use Rattle.lock_core.specs.Transactions.{own_records_of, has_end, changes_in}
+use Rattle.lock_core.specs.Sums.{Opening}
 use Rattle.lock_core.specs.Tests.{IsGenesis}
 use Rattle.lock_core.specs.Judging.{IsJudged}
 
@@ -49,8 +50,10 @@ pub record KeepsTransactions (txns : Transactions) (h : List Placed) : Type 0 wh
   pub first : link_at txns.updates 0 ≡ no_link
   pub each : (txn : ℕ) → KeepsRecords txns.updates (value_at txns.newest txn) (own_records_of txn h)
 
--- what is kept of a lawful history
-pub record KeepsLedger (ledger : Ledger) (h : List Placed) : Type 0 where
-  pub judged : IsJudged ledger.accounts h
-  pub opening : IsTrue ledger.is_opening ↔ AllByRecursion (λ entry. IsGenesis entry.rec) h
+-- What is kept of a lawful history behind an opening. Where that has no account, no Commit was on any.
+pub record KeepsLedger (opening : Opening) (ledger : Ledger) (h : List Placed) : Type 0 where
+  pub judged : IsJudged opening ledger.accounts h
+  pub begins : IsTrue ledger.is_opening ↔ ((opening.state.accounts ≡ 0) × AllByRecursion (λ entry. IsGenesis entry.rec) h)
   pub transactions : KeepsTransactions ledger.txns h
+  pub least : ledger.least ≡ opening.txn
+  pub blank : opening.state.accounts ≡ 0 → (account : ℕ) → opening.state.last_commit account ≡ 0

@@ -5,7 +5,7 @@ use Rattle.log_record.specs.declared.rec.Rec.{Rec}
 use Rattle.log_record.specs.declared.rec.Placed.{Placed}
 use Rattle.lock_core.specs.Records.{txn_of, ends}
 use Rattle.lock_core.specs.Transactions.{of_transaction, own_records_of, all_without_prev, in_order}
-use Rattle.lock_core.specs.Sums.{BaseState, balance_of}
+use Rattle.lock_core.specs.Sums.{BaseState, Opening, balance_of}
 use Rattle.lock_core.specs.Lawful.{base_state_of}
 use Rattle.lock_core.specs.Alone.{PlainTransfer, outcome_alone, outcome_records, with_note, leg_updates}
 
@@ -52,14 +52,15 @@ pub record IsPartlySerialAfter (base : BaseState) (tasks : List Task) (h : List 
   pub each : AllByRecursion (λ task. IsRunWhole base h task ⊎ IsCutShort h task) tasks
   pub others : HasNoOthers tasks h
 
--- a whole list is a list before it and then a serial history of these transfers, under the numbers from this one on
-pub record IsSerial (before : List Placed) (first : ℕ) (jobs : List PlainTransfer) (h : List Placed) : Type 0 where
+-- a list behind an opening is a list before it and then a serial history of these transfers, under the numbers from this one on
+pub record IsSerial (opening : Opening) (before : List Placed) (first : ℕ) (jobs : List PlainTransfer) (h : List Placed) : Type 0 where
   pub later : List Placed
   pub whole : h ≡ later ++ before
-  pub serial : IsSerialAfter (base_state_of before) (numbered first jobs) later
+  pub serial : IsSerialAfter (base_state_of opening before) (numbered first jobs) later
 
 -- the same with a partly serial history
-pub record IsPartlySerial (before : List Placed) (first : ℕ) (jobs : List PlainTransfer) (h : List Placed) : Type 0 where
+pub record IsPartlySerial (opening : Opening) (before : List Placed) (first : ℕ) (jobs : List PlainTransfer)
+    (h : List Placed) : Type 0 where
   pub later : List Placed
   pub whole : h ≡ later ++ before
-  pub serial : IsPartlySerialAfter (base_state_of before) (numbered first jobs) later
+  pub serial : IsPartlySerialAfter (base_state_of opening before) (numbered first jobs) later

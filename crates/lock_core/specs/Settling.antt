@@ -5,11 +5,24 @@ use Rattle.log_record.specs.Spelling.{IsBalance}
 use Rattle.lock_core.specs.declared.update.Change.{Change}
 use Rattle.lock_core.specs.Records.{gain, loss}
 use Rattle.lock_core.specs.Transactions.{touches}
-use Rattle.lock_core.specs.Sums.{BaseState, moved, IsBalanceOf, last_commit_of}
+use Rattle.lsn_space.specs.Opening as space
+use Rattle.lock_core.specs.Sums.{BaseState, Opening, moved, IsBalanceOf, last_commit_of}
 
 -- the row of an account
 abbrev pub row : List (ℕ × ℕ) → ℕ → ℕ × ℕ
 row rows account = slice_index_or rows account (0, 0)
+
+-- what an opening says, as it is read from a file or kept: the state that its rows are, and its number
+abbrev pub opening_of : space.Opening → Opening
+opening_of opening = record {
+  state = record {
+    end = opening.lsn;
+    accounts = length opening.accounts;
+    balance = λ account. (row opening.accounts account).0;
+    last_commit = λ account. (row opening.accounts account).1;
+  };
+  txn = opening.txn;
+}
 
 -- this is the balance after the changes, of an account that had that balance before
 abbrev pub IsBalanceAfter : List Change → ℕ → ℕ → ℕ → Type 0

@@ -5,8 +5,8 @@ use Rattle.log_record.specs.declared.rec.Placed.{Placed}
 use Rattle.lock_core.specs.declared.update.Change.{Change}
 use Rattle.lock_core.specs.Records.{txn_of, commits, ends, changes_of}
 use Rattle.lock_core.specs.Transactions.{of_transaction, updates_of}
-use Rattle.lock_core.specs.Sums.{BaseState, IsCommitOn, AreInRange, sum_below, balance_of, last_commit_of}
-use Rattle.lock_core.specs.Lawful.{genesis_of}
+use Rattle.lock_core.specs.Sums.{BaseState, Opening, IsCommitOn, AreInRange, sum_below, balance_of, last_commit_of}
+use Rattle.lock_core.specs.Lawful.{base_with}
 
 -- the change names the last Commit on its account in the list before, and that Commit is there; the base state's where there is none
 pub record IsBuiltOn (base : BaseState) (front : List Placed) (change : Change) : Type 0 where
@@ -25,14 +25,14 @@ abbrev pub HasPredecessors : BaseState → List Placed → Type 0
 HasPredecessors base h = (later front : List Placed) (entry : Placed) → h ≡ later ++ entry ∷ front → StandsBetween base front later entry
 
 -- the sum of all balances
-abbrev pub sum_of_balances : List Placed → ℕ
-sum_of_balances h = sum_below (genesis_of h).accounts (balance_of (genesis_of h) h)
+abbrev pub sum_of_balances : Opening → List Placed → ℕ
+sum_of_balances opening h = sum_below (base_with opening h).accounts (balance_of (base_with opening h) h)
 
 -- The list goes on from the one before. Each Commit stands behind those whose accounts it took over, no balance is outside its range, and
 -- nothing was made or lost since the list before.
-pub record IsSoundAfter (before h : List Placed) : Type 0 where
+pub record IsSoundAfter (opening : Opening) (before h : List Placed) : Type 0 where
   pub later : List Placed
   pub whole : h ≡ later ++ before
-  pub predecessors : HasPredecessors (genesis_of h) h
-  pub range : AreInRange (genesis_of h) h
-  pub sum : sum_of_balances h ≡ sum_of_balances before
+  pub predecessors : HasPredecessors (base_with opening h) h
+  pub range : AreInRange (base_with opening h) h
+  pub sum : sum_of_balances opening h ≡ sum_of_balances opening before

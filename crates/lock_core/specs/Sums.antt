@@ -14,6 +14,19 @@ pub record BaseState : Type 0 where
   pub balance : ℕ → ℕ
   pub last_commit : ℕ → ℕ
 
+-- what stands before a list: the state there, and the greatest transaction number
+pub record Opening : Type 0 where
+  pub state : BaseState
+  pub txn : ℕ
+
+-- nothing stands before a whole log
+abbrev pub no_opening : Opening
+no_opening = record { state = record { end = 0; accounts = 0; balance = λ account. 0; last_commit = λ account. 0 }; txn = 0 }
+
+-- the state as an opening behind which every transaction may stand: its number is 0
+abbrev pub as_opening : BaseState → Opening
+as_opening base = record { state = base; txn = 0 }
+
 -- what the changes move of the account, on one side: gain or loss
 abbrev pub moved : (ℤ → ℕ) → ℕ → List Change → ℕ
 moved side account [] = 0
@@ -36,6 +49,10 @@ IsBalanceOf base h account balance = balance + total loss account h ≡ base.bal
 -- the balance of the account as a number; in a lawful list it is the balance
 abbrev pub balance_of : BaseState → List Placed → ℕ → ℕ
 balance_of base h account = base.balance account + total gain account h - total loss account h
+
+-- every account begins with a balance in its range
+abbrev pub BeginsInRange : BaseState → Type 0
+BeginsInRange base = (account : ℕ) → account < base.accounts → IsBalance (base.balance account)
 
 -- every account has a balance in its range
 abbrev pub AreInRange : BaseState → List Placed → Type 0

@@ -1,14 +1,14 @@
 -- The tests of a record on the history before it, each for its kinds of record.
-use Rattle.std.specs.Prelude.{◌≡◌, ◌≢◌, ◌-◌, ◌*◌, ◌<◌, neg_ℤ, true, false, MatchBool, List, [], ◌∷◌, length}
+use Rattle.std.specs.Prelude.{◌≡◌, ◌≢◌, ℕ, ◌+◌, ◌-◌, ◌*◌, ◌<◌, neg_ℤ, true, false, MatchBool, List, [], ◌∷◌, length}
 use Rattle.std.specs.List.{AllByRecursion}
 use Rattle.log_record.specs.declared.limits.TheConstants.{MOST_LEGS}
 use Rattle.log_record.specs.declared.rec.Rec.{Rec}
 use Rattle.log_record.specs.declared.rec.Placed.{Placed}
 use Rattle.log_record.specs.declared.rec.Rec.TheVariants.{Genesis, Update, Commit, Short, Over, Note}
 use Rattle.lock_core.specs.declared.update.Change.{Change}
-use Rattle.lock_core.specs.Records.{commits, lowers}
+use Rattle.lock_core.specs.Records.{txn_of, commits, lowers}
 use Rattle.lock_core.specs.Transactions.{own_records_of, updates_of, has_end}
-use Rattle.lock_core.specs.Sums.{BaseState, AreInRange, last_commit_of}
+use Rattle.lock_core.specs.Sums.{BaseState, Opening, AreInRange, last_commit_of}
 
 -- the record is a Genesis
 abbrev pub IsGenesis : Rec → Type 0
@@ -19,14 +19,20 @@ IsGenesis (Short txn leg) = ⊥
 IsGenesis (Over txn leg) = ⊥
 IsGenesis (Note txn text) = ⊥
 
--- A Genesis follows Genesis records alone, and has the next account number from 0 on; no other record is the first.
-abbrev pub OpensLedger : List Placed → Rec → Type 0
-OpensLedger h (Genesis account balance) = AllByRecursion (λ entry. IsGenesis entry.rec) h × (account ≡ length h)
-OpensLedger h (Update txn account delta prev) = 0 < length h
-OpensLedger h (Commit txn legs) = 0 < length h
-OpensLedger h (Short txn leg) = 0 < length h
-OpensLedger h (Over txn leg) = 0 < length h
-OpensLedger h (Note txn text) = 0 < length h
+-- no record is a Genesis
+abbrev pub HasNoGenesis : List Placed → Type 0
+HasNoGenesis h = AllByRecursion (λ entry. IsGenesis entry.rec → ⊥) h
+
+-- A Genesis stands behind an opening with no account, follows Genesis records alone, and has the next account number from 0 on; no other
+-- record is the first behind such an opening.
+abbrev pub OpensLedger : Opening → List Placed → Rec → Type 0
+OpensLedger opening h (Genesis account balance) =
+    (opening.state.accounts ≡ 0) × AllByRecursion (λ entry. IsGenesis entry.rec) h × (account ≡ length h)
+OpensLedger opening h (Update txn account delta prev) = 0 < opening.state.accounts + length h
+OpensLedger opening h (Commit txn legs) = 0 < opening.state.accounts + length h
+OpensLedger opening h (Short txn leg) = 0 < opening.state.accounts + length h
+OpensLedger opening h (Over txn leg) = 0 < opening.state.accounts + length h
+OpensLedger opening h (Note txn text) = 0 < opening.state.accounts + length h
 
 -- the account of an Update is one of the ledger
 abbrev pub KnowsAccount : BaseState → Rec → Type 0
@@ -36,6 +42,14 @@ KnowsAccount base (Commit txn legs) = Unit {0}
 KnowsAccount base (Short txn leg) = Unit {0}
 KnowsAccount base (Over txn leg) = Unit {0}
 KnowsAccount base (Note txn text) = Unit {0}
+
+-- the transaction of the record, if it has one, has a greater number than this
+abbrev pub IsAbove : ℕ → Rec → Type 0
+IsAbove txn rec = (IsGenesis rec → ⊥) → txn < txn_of rec
+
+-- so has each transaction of the history
+abbrev pub AreAbove : ℕ → List Placed → Type 0
+AreAbove txn h = AllByRecursion (λ entry. IsAbove txn entry.rec) h
 
 -- the transaction of the record has no end record
 abbrev pub IsUnended : List Placed → Rec → Type 0

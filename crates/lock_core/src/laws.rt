@@ -4,50 +4,97 @@ ghost use Rattle.log_record.specs.declared.rec.Rec.{Rec};
 ghost use Rattle.log_record.specs.declared.rec.Placed.{Placed};
 ghost use Rattle.log_record.specs.LogList.{size_of, end_of};
 ghost use Rattle.log_record.specs.Spelling.{IsSpellable, IsBalance};
+ghost use Rattle.lsn_space.specs.Opening.{IsSnapshot};
 ghost use Rattle.lock_core.specs.declared.job.Job.{Job};
 ghost use Rattle.lock_core.specs.declared.update.Change.{Change};
 ghost use Rattle.lock_core.specs.History.{history, history_from};
 ghost use Rattle.lock_core.specs.Records.{txn_of, commits, without_prev};
 ghost use Rattle.lock_core.specs.Transactions.{own_records_of, updates_of, has_end, is_committed, touches, all_without_prev, in_order, ShareNoTransaction};
-ghost use Rattle.lock_core.specs.Sums.{BaseState, base_after, moved, total, IsBalanceOf, balance_of, AreInRange, last_commit_of, sum_below, greatest_txn};
-ghost use Rattle.lock_core.specs.Tests.{IsPaired};
-ghost use Rattle.lock_core.specs.Lawful.{IsLawful, IsLawfulAfter, genesis_of, base_state_of};
+ghost use Rattle.lock_core.specs.Sums.{BaseState, Opening, no_opening, as_opening, base_after, BeginsInRange, moved, total, IsBalanceOf, balance_of, AreInRange, last_commit_of, sum_below, greatest_txn};
+ghost use Rattle.lock_core.specs.declared.reason.Why.TheVariants as why;
+ghost use Rattle.lock_core.specs.Tests.{IsGenesis, HasNoGenesis, AreAbove, IsPaired};
+ghost use Rattle.lock_core.specs.Lawful.{IsLawful, base_with, base_state_of, opening_after};
+ghost use Rattle.lock_core.specs.Faults.{IsUnlawfulAt};
 ghost use Rattle.lock_core.specs.Plain.{plain_last_commit, IsPlainlyPaired};
 ghost use Rattle.lock_core.specs.Alone.{PlainTransfer, Outcome, IsAllowedTransfer, outcome_alone, outcome_records, planned_records};
 ghost use Rattle.lock_core.specs.Serial.{Task, numbered, IsSerialAfter, IsPartlySerialAfter, IsCutShort};
 ghost use Rattle.lock_core.specs.Transfers.{transfer_of, IsAllowedJob};
 ghost use Rattle.lock_core.specs.Soundness.{HasPredecessors, IsSoundAfter};
 ghost use Rattle.lock_core.specs.AnyOrder.{taken, given, legs_of, HasRoomFor, IsDoneIn, done_records, weight_of};
-ghost use Rattle.lock_core.specs.Witness.{genesis_log, transfer, transfer_history};
+ghost use Rattle.lock_core.specs.Witness.{genesis_log, transfer, transfer_history, snapshot, cut, behind_cut, again_behind_cut};
 
 /// A law: a front of a lawful list is lawful.
 pub fn lawful_front()
-    ensures log { (later front : List Placed) → IsLawful (later ++ front) → IsLawful front }
-    ensures after { (base : BaseState) (later front : List Placed) → IsLawfulAfter base (later ++ front)
-        → IsLawfulAfter base front }
-    ensures records { (front later : List Rec) → IsLawful (history (front ++ later)) → IsLawful (history front) }
+    ensures list { (opening : Opening) (later front : List Placed) → IsLawful opening (later ++ front) → IsLawful opening front }
+    ensures records { (opening : Opening) (start : ℕ) (front later : List Rec) → IsLawful opening (history_from start [] (front ++ later))
+        → IsLawful opening (history_from start [] front) }
 {}
 
-/// A law: a lawful list that has an account, followed by what is lawful after its base state and shares no transaction with
-/// it, is lawful. So is what is lawful after a base state, followed by what is lawful after the base state that it leaves.
+/// A law: a lawful list that has an account, followed by what is lawful behind the opening that it leaves, is lawful. So it is
+/// where it is followed by what is lawful behind the state that it leaves, with any number, shares no transaction with it, and
+/// has none up to the opening's number.
 pub fn lawful_append()
-    ensures log { (h l : List Placed) → IsLawful l → 0 < (genesis_of l).accounts → IsLawfulAfter (base_state_of l) h
-        → ShareNoTransaction h l → IsLawful (h ++ l) }
-    ensures after { (base : BaseState) (h l : List Placed) → IsLawfulAfter base l → IsLawfulAfter (base_after base l) h
-        → ShareNoTransaction h l → IsLawfulAfter base (h ++ l) }
+    ensures on { (opening : Opening) (h l : List Placed) → IsLawful opening l → 0 < (base_with opening l).accounts
+        → IsLawful (opening_after opening l) h → IsLawful opening (h ++ l) }
+    ensures any { (opening : Opening) (txn : ℕ) (h l : List Placed) → IsLawful opening l → 0 < (base_with opening l).accounts
+        → IsLawful (record { state = base_state_of opening l; txn = txn }) h
+        → AreAbove opening.txn h → ShareNoTransaction h l → IsLawful opening (h ++ l) }
+{}
+
+/// A law: the number of an opening may be any that is below all numbers of the list. So what is lawful behind the state alone that
+/// a list leaves is lawful behind the opening that it leaves, where its numbers are above those before it.
+pub fn another_number()
+    ensures any { (opening : Opening) (txn : ℕ) (h : List Placed) → IsLawful opening h → AreAbove txn h
+        → IsLawful (record opening { txn = txn }) h }
+    ensures joins { (opening : Opening) (first : ℕ) (h l : List Placed) → IsLawful (as_opening (base_state_of opening l)) h
+        → AllByRecursion (λ entry. first ≤ txn_of entry.rec) h → (opening_after opening l).txn < first
+        → IsLawful (opening_after opening l) h }
+{}
+
+/// A law: of a lawful list, what follows a front that it shares no transaction with, and has no Genesis, is lawful behind the
+/// state that the front leaves and any number below all of its own. So what stands behind the Genesis records of a whole log is
+/// lawful behind the opening that they leave.
+pub fn lawful_split()
+    ensures any { (opening : Opening) (txn : ℕ) (h l : List Placed) → IsLawful opening (h ++ l) → 0 < (base_with opening l).accounts
+        → HasNoGenesis h → AreAbove txn h → ShareNoTransaction h l
+        → IsLawful (record { state = base_state_of opening l; txn = txn }) h }
+    ensures upgraded { (h l : List Placed) → AllByRecursion (λ entry. IsSpellable entry.rec) h → IsLawful no_opening (h ++ l)
+        → 0 < (base_with no_opening l).accounts → HasNoGenesis h → AllByRecursion (λ entry. IsGenesis entry.rec) l
+        → IsLawful (opening_after no_opening l) h }
+{}
+
+/// A law: a list that goes on behind the opening that another leaves shares no transaction with it, and leaves what both
+/// together leave. So a log that was run on, cut and run on leaves what it leaves where it wasn't cut.
+pub fn opening_goes_on()
+    ensures apart { (opening : Opening) (h l : List Placed) → IsLawful opening l → 0 < (base_with opening l).accounts
+        → IsLawful (opening_after opening l) h → ShareNoTransaction h l }
+    ensures txn { (opening : Opening) (h l : List Placed)
+        → (opening_after opening (h ++ l)).txn ≡ (opening_after (opening_after opening l) h).txn }
+    ensures accounts { (opening : Opening) (h l : List Placed) → 0 < (base_with opening l).accounts
+        → IsLawful (opening_after opening l) h
+        → (opening_after opening (h ++ l)).state.accounts ≡ (opening_after (opening_after opening l) h).state.accounts }
+    ensures end { (opening : Opening) (h l : List Placed) → 0 < (base_with opening l).accounts
+        → IsLawful (opening_after opening l) h
+        → (opening_after opening (h ++ l)).state.end ≡ (opening_after (opening_after opening l) h).state.end }
+    ensures balance { (opening : Opening) (h l : List Placed) (account : ℕ) → IsLawful opening l → account < (base_with opening l).accounts
+        → IsLawful (opening_after opening l) h
+        → (opening_after opening (h ++ l)).state.balance account ≡ (opening_after (opening_after opening l) h).state.balance account }
+    ensures mark { (opening : Opening) (h l : List Placed) (account : ℕ) → IsLawful opening l → 0 < (base_with opening l).accounts
+        → IsLawful (opening_after opening l) h
+        → (opening_after opening (h ++ l)).state.last_commit account
+        ≡ (opening_after (opening_after opening l) h).state.last_commit account }
 {}
 
 /// A law: what a list says goes on over what follows it, where they share no transaction: sums, balances, last Commits.
 pub fn sums_go_on()
     ensures total { (side : ℤ → ℕ) (account : ℕ) (h l : List Placed) → ShareNoTransaction h l
         → total side account (h ++ l) ≡ total side account h + total side account l }
-    ensures log { (h l : List Placed) (account : ℕ) → IsLawful l → account < (genesis_of l).accounts → ShareNoTransaction h l
-        → balance_of (genesis_of l) (h ++ l) account ≡ balance_of (base_state_of l) h account }
-    ensures after { (base : BaseState) (h l : List Placed) (account : ℕ) → IsLawfulAfter base l → account < base.accounts
-        → ShareNoTransaction h l → balance_of base (h ++ l) account ≡ balance_of (base_after base l) h account }
+    ensures balance { (opening : Opening) (h l : List Placed) (account : ℕ) → IsLawful opening l → account < (base_with opening l).accounts
+        → ShareNoTransaction h l → balance_of (base_with opening l) (h ++ l) account ≡ balance_of (base_state_of opening l) h account }
     ensures last_commit { (base : BaseState) (h l : List Placed) (account : ℕ) → ShareNoTransaction h l
         → last_commit_of base (h ++ l) account ≡ last_commit_of (base_after base l) h account }
-    ensures accounts { (base : BaseState) (h l : List Placed) → IsLawfulAfter base h → genesis_of (h ++ l) ≡ genesis_of l }
+    ensures base { (opening : Opening) (h l : List Placed) → HasNoGenesis h → base_with opening (h ++ l) ≡ base_with opening l }
+    ensures none { (opening : Opening) (h : List Placed) → 0 < opening.state.accounts → IsLawful opening h → HasNoGenesis h }
 {}
 
 /// A law: what one more record does. A record that is no Commit, of a transaction that isn't committed, changes neither
@@ -70,43 +117,39 @@ pub fn one_more_record()
         ≡ (if touches account (updates_of (txn_of entry.rec) h) then entry.end else last_commit_of base h account) }
 {}
 
-/// A law: in a lawful list of records each account has a balance, only one, and it is in its range.
+/// A law: behind balances in their range, each account of a lawful list of records has a balance, only one, and it is in its
+/// range.
 pub fn balances_in_range()
-    ensures range { (h : List Placed) → AllByRecursion (λ entry. IsSpellable entry.rec) h → IsLawful h
-        → AreInRange (genesis_of h) h }
-    ensures after { (base : BaseState) (h : List Placed)
-        → ((account : ℕ) → account < base.accounts → IsBalance (base.balance account))
-        → IsLawfulAfter base h
-        → AreInRange base h }
+    ensures range { (opening : Opening) (h : List Placed) → BeginsInRange opening.state
+        → AllByRecursion (λ entry. IsSpellable entry.rec) h → IsLawful opening h → AreInRange (base_with opening h) h }
+    ensures after { (opening : Opening) (h : List Placed) → BeginsInRange opening.state
+        → 0 < opening.state.accounts → IsLawful opening h → AreInRange opening.state h }
     ensures one { (base : BaseState) (h : List Placed) (account balance : ℕ) → IsBalanceOf base h account balance
         → balance ≡ balance_of base h account }
 {}
 
-/// A law: nothing is made or lost. In a lawful list of records the sum of all balances is that of the
-/// Genesis balances, and after a base state that of the balances there.
+/// A law: nothing is made or lost. In a lawful list the sum of all balances is that of the opening's and the Genesis balances.
 pub fn sum_is_kept()
-    ensures after { (base : BaseState) (h : List Placed) → IsLawfulAfter base h
-        → sum_below base.accounts (balance_of base h) ≡ sum_below base.accounts base.balance }
-    ensures log { (h : List Placed) → AllByRecursion (λ entry. IsSpellable entry.rec) h → IsLawful h
-        → sum_below (genesis_of h).accounts (balance_of (genesis_of h) h)
-        ≡ sum_below (genesis_of h).accounts (genesis_of h).balance }
+    ensures { (opening : Opening) (h : List Placed) → IsLawful opening h
+        → sum_below (base_with opening h).accounts (balance_of (base_with opening h) h)
+        ≡ sum_below (base_with opening h).accounts (base_with opening h).balance }
 {}
 
 /// A law: in a lawful list the tests say what the plain words of the format say.
 pub fn plain_words()
-    ensures last_commit { (h : List Placed) (account : ℕ) → IsLawful h
-        → plain_last_commit (genesis_of h) h account ≡ last_commit_of (genesis_of h) h account }
-    ensures pair { (h : List Placed) (txn : ℕ) (change : Change) → IsLawful h
+    ensures last_commit { (opening : Opening) (h : List Placed) (account : ℕ) → IsLawful opening h
+        → plain_last_commit (base_with opening h) h account ≡ last_commit_of (base_with opening h) h account }
+    ensures pair { (opening : Opening) (h : List Placed) (txn : ℕ) (change : Change) → IsLawful opening h
         → IsPaired (updates_of txn h) change ↔ IsPlainlyPaired (updates_of txn h) change }
 {}
 
 /// A law: in a lawful list each Update, committed or not, names the last Commit on its account before it, which is there, and
-/// still does at a Commit that commits it; where there is none it names the base state's, which in a whole log is 0. Nothing of
+/// still does at a Commit that commits it; where there is none it names the opening's, which before a whole log is 0. Nothing of
 /// a transaction stands behind its end record.
 pub fn predecessors()
-    ensures log { (h : List Placed) → IsLawful h → HasPredecessors (genesis_of h) h }
-    ensures after { (base : BaseState) (h : List Placed) → IsLawfulAfter base h → HasPredecessors base h }
-    ensures none { (h : List Placed) (account : ℕ) → (genesis_of h).last_commit account ≡ 0 }
+    ensures list { (opening : Opening) (h : List Placed) → IsLawful opening h → HasPredecessors (base_with opening h) h }
+    ensures none { (opening : Opening) (h : List Placed) (account : ℕ)
+        → (base_with opening h).last_commit account ≡ opening.state.last_commit account }
 {}
 
 /// A law: lists share no transaction where the numbers of the one are below a number, and those of the other are not. What
@@ -136,17 +179,18 @@ pub fn planned_records_are()
         → all_without_prev (planned_records txn job last_commit balance) ≡ outcome_records txn job (outcome_alone job balance) }
 {}
 
-/// A law: what is lawful after a lawful list of records keeps the list sound, where the two share no transaction.
+/// A law: what is lawful behind the opening that a lawful list of records leaves keeps the list sound.
 pub fn sound_after()
-    ensures { (before later : List Placed) → IsLawful before → 0 < (genesis_of before).accounts
-        → AllByRecursion (λ entry. IsSpellable entry.rec) (later ++ before) → IsLawfulAfter (base_state_of before) later
-        → ShareNoTransaction later before → IsSoundAfter before (later ++ before) }
+    ensures { (opening : Opening) (before later : List Placed) → BeginsInRange opening.state → IsLawful opening before
+        → 0 < (base_with opening before).accounts → AllByRecursion (λ entry. IsSpellable entry.rec) (later ++ before)
+        → IsLawful (opening_after opening before) later → IsSoundAfter opening before (later ++ before) }
 {}
 
-/// A law: an account that a lawful list doesn't have has a balance of 0, and no Commit.
+/// A law: an account that a lawful list doesn't have has what the opening says of it: nothing, and no Commit, in a whole log.
 pub fn no_more_accounts()
-    ensures { (h : List Placed) (account : ℕ) → IsLawful h → (genesis_of h).accounts ≤ account
-        → ((base_state_of h).balance account ≡ 0) × ((base_state_of h).last_commit account ≡ 0) }
+    ensures { (opening : Opening) (h : List Placed) (account : ℕ) → IsLawful opening h → (base_with opening h).accounts ≤ account
+        → ((base_state_of opening h).balance account ≡ opening.state.balance account)
+        × ((base_state_of opening h).last_commit account ≡ opening.state.last_commit account) }
 {}
 
 /// A law: a history that is partly serial for some transfers is so for more, of which it has no record.
@@ -202,19 +246,27 @@ pub fn done_in_any_order()
 
 /// A witness that the premises of these laws can be met: the log of two accounts, of balances 100 and 0.
 pub fn genesis_log_is_lawful()
-    ensures lawful { IsLawful (history genesis_log) }
+    ensures lawful { IsLawful no_opening (history genesis_log) }
     ensures spellable { AllByRecursion (λ entry. IsSpellable entry.rec) (history genesis_log) }
 {}
 
 /// A witness that the premises of the laws of serial lists, of appending, and of what keeps a list sound can be met: after that
 /// log, 30 from account 0 to account 1.
 pub fn one_transfer_is_serial()
-    ensures lawful { IsLawfulAfter (base_state_of (history genesis_log)) transfer_history }
-    ensures serial { IsSerialAfter (base_state_of (history genesis_log)) (numbered 1 (transfer ∷ [])) transfer_history }
+    ensures lawful { IsLawful (opening_after no_opening (history genesis_log)) transfer_history }
+    ensures serial { IsSerialAfter (base_state_of no_opening (history genesis_log)) (numbered 1 (transfer ∷ [])) transfer_history }
     ensures apart { ShareNoTransaction transfer_history (history genesis_log) }
     ensures spellable { AllByRecursion (λ entry. IsSpellable entry.rec) (transfer_history ++ history genesis_log) }
-    ensures allowed { IsAllowedTransfer (genesis_of (history genesis_log)).accounts transfer }
-    ensures room { HasRoomFor (base_state_of (history genesis_log)) (transfer ∷ []) }
+    ensures allowed { IsAllowedTransfer (base_with no_opening (history genesis_log)).accounts transfer }
+    ensures room { HasRoomFor (base_state_of no_opening (history genesis_log)) (transfer ∷ []) }
+{}
+
+/// A witness that what follows a cut log can be met, and that its number counts: behind the log that was cut after that transfer,
+/// 30 from account 1 to account 0 is lawful; under a number that the log had, it is `ended`.
+pub fn cut_log_goes_on()
+    ensures snapshot { IsSnapshot snapshot }
+    ensures lawful { IsLawful cut behind_cut }
+    ensures again { IsUnlawfulAt cut again_behind_cut 9 why.Ended }
 {}
 
 /// A law: where a log allows a job, it allows the transfer that the job is.

@@ -1,10 +1,15 @@
-ghost use Rattle.std.specs.Prelude.{◌≡◌, ◌≤◌, ◌+◌, ◌∷◌, [], true, false, ℕ, List, length, IfOk, IfErr, OnOk};
+ghost use Rattle.std.specs.Prelude.{◌≡◌, ◌<◌, ◌≤◌, ◌+◌, ◌∷◌, ◌⊎◌, [], true, false, ℕ, List, length, IfOk, IfErr, IfSome, IfNone, OnOk};
 ghost use Rattle.log_record.specs.declared.rec.Rec.{Rec};
 ghost use Rattle.log_record.specs.declared.rec.Placed.{Placed};
 ghost use Rattle.log_record.specs.Spelling.{spelling, IsAccount, IsBalance, IsLeg, IsSpellable};
 ghost use Rattle.lsn_space.specs.declared.lsn.TheConstants.{LAST};
+ghost use Rattle.log_record.specs.declared.limits.TheConstants.{MOST_ACCOUNTS};
+ghost use Rattle.lsn_space.specs.Opening.{IsSnapshot};
 ghost use Rattle.lock_core.specs.Records.{txn_of, ends};
-ghost use Rattle.lock_core.specs.Keeping.{KeepsTransactions, KeepsLedger};
+ghost use Rattle.lock_core.specs.Transactions.{own_records_of, has_end};
+ghost use Rattle.lock_core.specs.Sums.{Opening, no_opening};
+ghost use Rattle.lock_core.specs.Settling.{opening_of};
+ghost use Rattle.lock_core.specs.Keeping.{IsOpenAt, KeepsTransactions, KeepsLedger};
 ghost use Rattle.lock_core.specs.Taking.{TakesEntry};
 
 use crate::checks::{are_current, is_current, is_paired};
@@ -16,18 +21,34 @@ use log_record::{MOST_ACCOUNTS, Rec};
 use lsn_space::{Balances, Lsn, NoMemory};
 use std::alloc::Global;
 
-/// What a judge keeps of a lawful list: the accounts, whether there are Genesis records alone, and the transactions.
+/// What a judge keeps of a lawful list: the accounts, whether there are Genesis records alone, the transactions, and the greatest
+/// number before the list.
 #[derive(Drop)]
 pub struct Ledger {
     pub accounts: Balances,
     is_opening: bool,
     txns: Transactions,
+    least: u32,
+}
+
+/// The same accounts, with room for as many as a log may have.
+fn copied(alloc: Global, accounts: &Balances) -> Result<Balances, NoMemory>
+    requires few { length accounts.now.rows ≤ MOST_ACCOUNTS }
+    ensures rows { IfOk result (λ copy. copy.rows ≡ accounts.now.rows) }
+    ensures room { IfOk result (λ copy. copy.room ≡ MOST_ACCOUNTS) }
+{
+    let mut copy = Balances::make(alloc, MOST_ACCOUNTS)?;
+    'accounts: for account in 0..accounts.count() {
+        let (balance, mark) = accounts.at(account);
+        copy.push(balance, mark);
+    }
+    Ok(copy)
 }
 
 impl Ledger {
-    /// No record.
+    /// No record of a whole log.
     pub fn make(alloc: Global) -> Result<Ledger, NoMemory>
-        ensures { IfOk result (λ ledger. KeepsLedger ledger []) }
+        ensures { IfOk result (λ ledger. KeepsLedger no_opening ledger []) }
     {
         let accounts = Balances::make(alloc, MOST_ACCOUNTS)?;
         let txns = Transactions::make(alloc)?;
@@ -35,12 +56,45 @@ impl Ledger {
             accounts,
             is_opening: true,
             txns,
+            least: 0,
         })
+    }
+
+    /// No record behind this opening.
+    pub fn after(alloc: Global, opening: &lsn_space::Opening) -> Result<Ledger, NoMemory>
+        requires { (opening.now.accounts ≡ []) ⊎ IsSnapshot opening.now }
+        ensures { IfOk result (λ ledger. KeepsLedger (opening_of opening.now) ledger []) }
+    {
+        let accounts = copied(alloc, &opening.accounts)?;
+        let is_opening = accounts.count() == 0;
+        let txns = Transactions::make(alloc)?;
+        Ok(Ledger {
+            accounts,
+            is_opening,
+            txns,
+            least: opening.txn,
+        })
+    }
+
+    /// The place of the newest Update of a transaction, or `None` where its number isn't above the opening's, or it is ended.
+    fn place(&self, txn: u32) -> Option<u32>
+        requires kept { (opening : Opening) × (h : List Placed) × KeepsLedger opening self.now h }
+        ensures ended { IfNone result ((opening : Opening) (h : List Placed) → KeepsLedger opening self.now h → opening.txn < txn
+            → has_end (own_records_of txn h) ≡ false → ⊥) }
+        ensures above { IfSome result (λ place. self.now.least < txn) }
+        ensures unended { IfSome result (λ place. (h : List Placed) → KeepsTransactions self.now.txns h
+            → IsOpenAt self.now.txns.updates place (own_records_of txn h)) }
+        ensures inside { IfSome result (λ place. place < length self.now.txns.updates) }
+    {
+        if txn <= self.least {
+            return None;
+        }
+        self.txns.place(txn)
     }
 
     /// Takes the record that starts at `lsn`.
     pub fn take(&mut self, lsn: Lsn, rec: &Rec) -> Result<(), JudgeFault>
-        requires kept { (h : List Placed) × KeepsLedger self.old h }
+        requires kept { (opening : Opening) × (h : List Placed) × KeepsLedger opening self.old h }
         requires spellable { IsSpellable rec.now }
         requires fits { lsn + length (spelling rec.now) ≤ LAST }
         ensures { TakesEntry self.old self.new (lsn + length (spelling rec.now)) rec.now result }
@@ -70,7 +124,7 @@ impl Ledger {
     }
 
     fn take_genesis(&mut self, account: u32, balance: u32) -> Result<(), JudgeFault>
-        requires kept { (h : List Placed) × KeepsLedger self.old h }
+        requires kept { (opening : Opening) × (h : List Placed) × KeepsLedger opening self.old h }
         requires account { IsAccount account }
         requires balance { IsBalance balance }
         ensures { (end : ℕ) → TakesEntry self.old self.new end (Rec.Genesis account balance) result }
@@ -83,7 +137,7 @@ impl Ledger {
     }
 
     fn take_update(&mut self, txn: u32, change: Change) -> Result<(), JudgeFault>
-        requires kept { (h : List Placed) × KeepsLedger self.old h }
+        requires kept { (opening : Opening) × (h : List Placed) × KeepsLedger opening self.old h }
         requires account { IsAccount change.account }
         ensures { (end : ℕ) → TakesEntry self.old self.new end (Rec.Update txn change.account change.delta change.prev) result }
     {
@@ -94,7 +148,7 @@ impl Ledger {
         if change.account >= accounts {
             return Err(JudgeFault::Why(Why::Account));
         }
-        let Some(place) = self.txns.place(txn) else {
+        let Some(place) = self.place(txn) else {
             return Err(JudgeFault::Why(Why::Ended));
         };
         let newest = self.txns.update(place);
@@ -115,14 +169,14 @@ impl Ledger {
     }
 
     fn take_commit(&mut self, txn: u32, legs: u32, end: Lsn) -> Result<(), JudgeFault>
-        requires kept { (h : List Placed) × KeepsLedger self.old h }
+        requires kept { (opening : Opening) × (h : List Placed) × KeepsLedger opening self.old h }
         requires legs { IsLeg legs }
         ensures { TakesEntry self.old self.new end (Rec.Commit txn legs) result }
     {
         if self.accounts.count() == 0 {
             return Err(JudgeFault::Why(Why::Genesis));
         }
-        let Some(place) = self.txns.place(txn) else {
+        let Some(place) = self.place(txn) else {
             return Err(JudgeFault::Why(Why::Ended));
         };
         if self.txns.update(place).count != 2 * legs {
@@ -141,7 +195,7 @@ impl Ledger {
 
     /// Takes a Short or an Over.
     fn take_refusal(&mut self, txn: u32, leg: u32) -> Result<(), JudgeFault>
-        requires kept { (h : List Placed) × KeepsLedger self.old h }
+        requires kept { (opening : Opening) × (h : List Placed) × KeepsLedger opening self.old h }
         requires leg { IsLeg leg }
         ensures short { (end : ℕ) → TakesEntry self.old self.new end (Rec.Short txn leg) result }
         ensures over { (end : ℕ) → TakesEntry self.old self.new end (Rec.Over txn leg) result }
@@ -149,7 +203,7 @@ impl Ledger {
         if self.accounts.count() == 0 {
             return Err(JudgeFault::Why(Why::Genesis));
         }
-        let Some(place) = self.txns.place(txn) else {
+        let Some(place) = self.place(txn) else {
             return Err(JudgeFault::Why(Why::Ended));
         };
         if self.txns.update(place).count != 2 * (leg - 1) {
@@ -159,13 +213,13 @@ impl Ledger {
     }
 
     fn take_note(&mut self, txn: u32) -> Result<(), JudgeFault>
-        requires kept { (h : List Placed) × KeepsLedger self.old h }
+        requires kept { (opening : Opening) × (h : List Placed) × KeepsLedger opening self.old h }
         ensures { (end : ℕ) (text : List ℕ) → TakesEntry self.old self.new end (Rec.Note txn text) result }
     {
         if self.accounts.count() == 0 {
             return Err(JudgeFault::Why(Why::Genesis));
         }
-        match self.txns.place(txn) {
+        match self.place(txn) {
             Some(_) => {
                 self.is_opening = false;
                 Ok(())
@@ -178,6 +232,7 @@ impl Ledger {
     fn end(&mut self, txn: u32) -> Result<(), JudgeFault>
         ensures accounts { self.new.accounts ≡ self.old.accounts }
         ensures opening { self.new.is_opening ≡ false }
+        ensures least { self.new.least ≡ self.old.least }
         ensures ended { OnOk result ((entry : Placed) (h : List Placed) → KeepsTransactions self.old.txns h → txn_of entry.rec ≡ txn
             → ends entry.rec ≡ true → KeepsTransactions self.new.txns (entry ∷ h)) }
         ensures memory { IfErr result (λ fault. fault ≡ JudgeFault.NoMemory) }

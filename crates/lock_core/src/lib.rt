@@ -17,10 +17,11 @@ mod update_links;
 pub use job::{Job, Legs, Remark};
 pub use judge::Judge;
 pub use laws::{
-    allowed_jobs, balances_in_range, done_in_any_order, genesis_log_is_lawful, lawful_append,
-    lawful_front, no_more_accounts, numbers_apart, one_more_record, one_transfer_is_serial,
-    own_accounts_alone, partly_serial_for_more, partly_serial_front, plain_words,
-    planned_records_are, predecessors, records_to_come, sound_after, sum_is_kept, sums_go_on,
+    allowed_jobs, another_number, balances_in_range, cut_log_goes_on, done_in_any_order,
+    genesis_log_is_lawful, lawful_append, lawful_front, lawful_split, no_more_accounts,
+    numbers_apart, one_more_record, one_transfer_is_serial, opening_goes_on, own_accounts_alone,
+    partly_serial_for_more, partly_serial_front, plain_words, planned_records_are, predecessors,
+    records_to_come, sound_after, sum_is_kept, sums_go_on,
 };
 pub use plain::{PlainFault, plain_accounts};
 pub use reason::{JudgeFault, Why};

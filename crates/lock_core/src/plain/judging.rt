@@ -1,8 +1,8 @@
 ghost use Rattle.std.specs.Prelude.{◌∷◌, reverse, IfOk, IfErr, OnOk};
 ghost use Rattle.std.specs.List.{AllByRecursion};
 ghost use Rattle.log_record.specs.Spelling.{IsSpellable};
-ghost use Rattle.lock_core.specs.Sums.{ShowsAccounts};
-ghost use Rattle.lock_core.specs.Lawful.{Passes, IsLawful, genesis_of};
+ghost use Rattle.lock_core.specs.Sums.{no_opening, ShowsAccounts};
+ghost use Rattle.lock_core.specs.Lawful.{Passes, IsLawful, base_with};
 ghost use Rattle.lock_core.specs.Faults.{IsFirstFailing};
 ghost use Rattle.lock_core.specs.Judging.{IsJudged, IsPlainFaultOf};
 
@@ -24,10 +24,10 @@ pub enum PlainFault {
 
 /// Tests one entry more, and keeps the accounts; at an error they are of no use.
 fn admit(accounts: &mut Balances, front: &[Placed], entry: &Placed) -> Result<(), Why>
-    requires judged { IsJudged accounts.old (reverse front.now) }
+    requires judged { IsJudged no_opening accounts.old (reverse front.now) }
     requires spellable { IsSpellable entry.now.rec }
-    ensures ok { OnOk result (IsJudged accounts.new (entry.now ∷ reverse front.now)) }
-    ensures why { IfErr result (IsFirstFailing (Passes (reverse front.now) entry.now)) }
+    ensures ok { OnOk result (IsJudged no_opening accounts.new (entry.now ∷ reverse front.now)) }
+    ensures why { IfErr result (IsFirstFailing (Passes no_opening (reverse front.now) entry.now)) }
 {
     match &entry.rec {
         Rec::Genesis { account, balance } => admit_genesis(accounts, front, *account, *balance),
@@ -51,12 +51,12 @@ fn admit(accounts: &mut Balances, front: &[Placed], entry: &Placed) -> Result<()
     }
 }
 
-/// The accounts of a lawful list, given as its entries in the order of the file: the definition's plain program. It takes
+/// The accounts of a lawful whole log, given as its entries in the order of the file: the definition's plain program. It takes
 /// time in proportion to the square of their number, and memory for the accounts alone.
 pub fn plain_accounts(alloc: Global, entries: &[Placed]) -> Result<Balances, PlainFault>
     requires { AllByRecursion (λ entry. IsSpellable entry.rec) entries.now }
-    ensures lawful { OnOk result (IsLawful (reverse entries.now)) }
-    ensures accounts { IfOk result (λ accounts. ShowsAccounts accounts.rows (genesis_of (reverse entries.now)) (reverse entries.now)) }
+    ensures lawful { OnOk result (IsLawful no_opening (reverse entries.now)) }
+    ensures accounts { IfOk result (λ accounts. ShowsAccounts accounts.rows (base_with no_opening (reverse entries.now)) (reverse entries.now)) }
     ensures fault { IfErr result (IsPlainFaultOf (reverse entries.now)) }
 {
     let Ok(mut accounts) = Balances::make(alloc, MOST_ACCOUNTS) else {

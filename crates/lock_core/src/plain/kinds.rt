@@ -3,8 +3,9 @@ ghost use Rattle.std.specs.List.{AllByRecursion};
 ghost use Rattle.log_record.specs.Spelling.{IsAccount, IsBalance, IsLeg};
 ghost use Rattle.log_record.specs.declared.limits.TheConstants.{MOST_ACCOUNTS};
 ghost use Rattle.lock_core.specs.declared.update.Change.{Change};
+ghost use Rattle.lock_core.specs.Sums.{no_opening};
 ghost use Rattle.lock_core.specs.Tests.{IsPaired};
-ghost use Rattle.lock_core.specs.Lawful.{Passes, IsLawful, genesis_of};
+ghost use Rattle.lock_core.specs.Lawful.{Passes, IsLawful, base_with};
 ghost use Rattle.lock_core.specs.Faults.{IsFirstFailing};
 ghost use Rattle.lock_core.specs.Settling.{row, KeepsRows};
 ghost use Rattle.lock_core.specs.Judging.{IsJudged, Judges, IsCommitting};
@@ -25,12 +26,12 @@ pub fn admit_genesis(
     account: u32,
     balance: u32,
 ) -> Result<(), Why>
-    requires judged { IsJudged accounts.old (reverse front.now) }
+    requires judged { IsJudged no_opening accounts.old (reverse front.now) }
     requires account { IsAccount account }
     requires balance { IsBalance balance }
-    ensures tests { (end : ℕ) → Judges (reverse front.now) (record { end = end; rec = Rec.Genesis account balance }) result }
+    ensures tests { (end : ℕ) → Judges no_opening (reverse front.now) (record { end = end; rec = Rec.Genesis account balance }) result }
     ensures kept { (end : ℕ) → OnOk result (let h = record { end = end; rec = Rec.Genesis account balance } ∷ reverse front.now
-        in (accounts.new.room ≡ MOST_ACCOUNTS) × KeepsRows accounts.new.rows (genesis_of h) h) }
+        in (accounts.new.room ≡ MOST_ACCOUNTS) × KeepsRows accounts.new.rows (base_with no_opening h) h) }
 {
     if front.len() != accounts.count() as usize || account != accounts.count() {
         return Err(Why::Genesis);
@@ -47,8 +48,9 @@ pub fn admit_update(
     txn: u32,
     change: Change,
 ) -> Result<(), Why>
-    requires { IsJudged accounts.now (reverse front.now) }
-    ensures { (end : ℕ) → Judges (reverse front.now) (record { end = end; rec = Rec.Update txn change.account change.delta change.prev }) result }
+    requires judged { IsJudged no_opening accounts.now (reverse front.now) }
+    requires number { 0 < txn }
+    ensures { (end : ℕ) → Judges no_opening (reverse front.now) (record { end = end; rec = Rec.Update txn change.account change.delta change.prev }) result }
 {
     if front.is_empty() {
         return Err(Why::Genesis);
@@ -79,10 +81,11 @@ fn committed_changes(
     txn: u32,
     legs: u32,
 ) -> Result<ArrayVec<Change, MOST_UPDATES>, Why>
-    requires lawful { IsLawful (reverse front.now) }
+    requires lawful { IsLawful no_opening (reverse front.now) }
+    requires number { 0 < txn }
     requires legs { IsLeg legs }
-    ensures ok { IfOk result (λ changes. IsCommitting (reverse front.now) txn legs changes.items) }
-    ensures why { IfErr result (λ why. (end : ℕ) → IsFirstFailing (Passes (reverse front.now) (record { end = end; rec = Rec.Commit txn legs })) why) }
+    ensures ok { IfOk result (λ changes. IsCommitting no_opening (reverse front.now) txn legs changes.items) }
+    ensures why { IfErr result (λ why. (end : ℕ) → IsFirstFailing (Passes no_opening (reverse front.now) (record { end = end; rec = Rec.Commit txn legs })) why) }
 {
     if front.is_empty() {
         return Err(Why::Genesis);
@@ -105,11 +108,12 @@ pub fn admit_commit(
     legs: u32,
     end: Lsn,
 ) -> Result<(), Why>
-    requires judged { IsJudged accounts.old (reverse front.now) }
+    requires judged { IsJudged no_opening accounts.old (reverse front.now) }
+    requires number { 0 < txn }
     requires legs { IsLeg legs }
-    ensures tests { Judges (reverse front.now) (record { end = end; rec = Rec.Commit txn legs }) result }
+    ensures tests { Judges no_opening (reverse front.now) (record { end = end; rec = Rec.Commit txn legs }) result }
     ensures kept { OnOk result (let h = record { end = end; rec = Rec.Commit txn legs } ∷ reverse front.now
-        in (accounts.new.room ≡ MOST_ACCOUNTS) × KeepsRows accounts.new.rows (genesis_of h) h) }
+        in (accounts.new.room ≡ MOST_ACCOUNTS) × KeepsRows accounts.new.rows (base_with no_opening h) h) }
 {
     let changes = match committed_changes(front, txn, legs) {
         Ok(changes) => changes,
@@ -128,10 +132,11 @@ pub fn admit_commit(
 /// Tests a Short or an Over.
 #[tactic(auto, using(crate::proofs::KindLemmas::few_updates))]
 pub fn admit_refusal(front: &[Placed], txn: u32, leg: u32) -> Result<(), Why>
-    requires front { IsLawful (reverse front.now) }
+    requires front { IsLawful no_opening (reverse front.now) }
+    requires number { 0 < txn }
     requires leg { IsLeg leg }
-    ensures short { (end : ℕ) → Judges (reverse front.now) (record { end = end; rec = Rec.Short txn leg }) result }
-    ensures over { (end : ℕ) → Judges (reverse front.now) (record { end = end; rec = Rec.Over txn leg }) result }
+    ensures short { (end : ℕ) → Judges no_opening (reverse front.now) (record { end = end; rec = Rec.Short txn leg }) result }
+    ensures over { (end : ℕ) → Judges no_opening (reverse front.now) (record { end = end; rec = Rec.Over txn leg }) result }
 {
     if front.is_empty() {
         return Err(Why::Genesis);
@@ -149,8 +154,9 @@ pub fn admit_refusal(front: &[Placed], txn: u32, leg: u32) -> Result<(), Why>
 /// Tests a Note.
 #[tactic(auto, using(crate::proofs::KindLemmas::few_updates))]
 pub fn admit_note(front: &[Placed], txn: u32, text: &Text) -> Result<(), Why>
-    requires { IsLawful (reverse front.now) }
-    ensures { (end : ℕ) → Judges (reverse front.now) (record { end = end; rec = Rec.Note txn text.now }) result }
+    requires lawful { IsLawful no_opening (reverse front.now) }
+    requires number { 0 < txn }
+    ensures { (end : ℕ) → Judges no_opening (reverse front.now) (record { end = end; rec = Rec.Note txn text.now }) result }
 {
     if front.is_empty() {
         return Err(Why::Genesis);

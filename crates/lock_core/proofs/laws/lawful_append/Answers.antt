@@ -1,8 +1,8 @@
-use Rattle.lock_core.proofs.Appending.{lawful-append, lawful_after-append}
+use Rattle.lock_core.proofs.Appending.{lawful-goes_on, lawful-append}
 use Rattle.lock_core.proofs.laws.lawful_append.Goals as goal
 
-pub returns-clause-log : goal.returns-clause-log
-returns-clause-log c = lawful-append
+pub returns-clause-on : goal.returns-clause-on
+returns-clause-on c = lawful-goes_on
 
-pub returns-clause-after : goal.returns-clause-after
-returns-clause-after c = lawful_after-append
+pub returns-clause-any : goal.returns-clause-any
+returns-clause-any c = lawful-append

@@ -4,12 +4,12 @@ use Rattle.lock_core.proofs.ledger.Ledger.take_genesis.Goals as goal
 use Rattle.lock_core.proofs.ledger.Ledger.take_genesis.Goals.{then-not-self-via-then-not-self, then-not-self-via-else-not-self+then-account-count}
 
 pub returns-then-not-self : goal.returns-then-not-self
-returns-then-not-self c = λ end h kept. elim c.then-not-self.branch [
-  | then-not-self-via-then-not-self w ↦ fails-opening c.args.self.now h kept end c.args.account c.args.balance w.if-not-self.true
+returns-then-not-self c = λ end opening h kept. elim c.then-not-self.branch [
+  | then-not-self-via-then-not-self w ↦ fails-opening opening c.args.self.now h kept end c.args.account c.args.balance w.if-not-self.true
   | then-not-self-via-else-not-self+then-account-count w ↦
-      fails-next c.args.self.now h kept end c.args.account c.args.balance (λ same. let counted = w.count.ensures in absurd (omega arith))
+      fails-next opening c.args.self.now h kept end c.args.account c.args.balance (λ same. let counted = w.count.ensures in absurd (omega arith))
 ]
 
 pub returns : goal.returns
-returns c = λ end h kept. let counted = c.count.ensures in
-    takes-genesis c.args.self.now h kept end c.args.account c.args.balance c.push.new.self c.if-not-self.false (omega arith) c.requires.balance c.push.ensures
+returns c = λ end opening h kept. let counted = c.count.ensures in
+    takes-genesis opening c.args.self.now h kept end c.args.account c.args.balance c.push.new.self c.if-not-self.false (omega arith) c.requires.balance c.push.ensures

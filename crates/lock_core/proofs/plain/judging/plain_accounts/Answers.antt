@@ -2,8 +2,8 @@ use Rattle.std.proofs.Common.{◌≡◌, ◌+◌, take, drop, reverse, subst, ar
 use Rattle.std.proofs.lemmas.Grind.{common_steps}
 use Rattle.log_record.specs.declared.rec.Placed.{Placed}
 use Rattle.std.specs.Prelude.{List}
-use Rattle.lock_core.specs.Sums.{ShowsAccounts}
-use Rattle.lock_core.specs.Lawful.{genesis_of}
+use Rattle.lock_core.specs.Sums.{no_opening, ShowsAccounts}
+use Rattle.lock_core.specs.Lawful.{base_with}
 use Rattle.lock_core.proofs.OwnLemmas.{reverse-split}
 use Rattle.lock_core.proofs.JudgingLemmas.{shows-kept}
 use Rattle.lock_core.proofs.plain.judging.plain_accounts.Goals as goal
@@ -22,5 +22,5 @@ returns-in-Err-clause-fault c = record {
 pub returns-clause-accounts : goal.returns-clause-accounts
 returns-clause-accounts c =
     let whole : take c.entries.i c.args.entries.now ≡ c.args.entries.now = grind (arith, common_steps) in
-    subst (λ (entries : List Placed). ShowsAccounts c.entries.accounts.rows (genesis_of (reverse entries)) (reverse entries)) whole
-    (shows-kept c.entries.accounts.rows (genesis_of (reverse (take c.entries.i c.args.entries.now))) (reverse (take c.entries.i c.args.entries.now)) c.entries.invariant.judged.rows)
+    subst (λ (entries : List Placed). ShowsAccounts c.entries.accounts.rows (base_with no_opening (reverse entries)) (reverse entries)) whole
+    (shows-kept c.entries.accounts.rows (base_with no_opening (reverse (take c.entries.i c.args.entries.now))) (reverse (take c.entries.i c.args.entries.now)) c.entries.invariant.judged.rows)

@@ -1,41 +1,42 @@
 use Rattle.std.proofs.Common.{◌∙◌, sym, refl, true≢false, subst, reverse}
+use Rattle.lock_core.specs.Sums.{no_opening}
 use Rattle.lock_core.specs.Judging.{IsCommitting}
 use Rattle.lock_core.proofs.KindLemmas.{updates-known, fails-stale, fails-balance, keeps-settled, passes-commit}
 use Rattle.lock_core.proofs.plain.kinds.admit_commit.Goals as goal
 
 pub are_current-requires : goal.are_current-requires
 are_current-requires c =
-    updates-known c.args.accounts.now.rows (reverse c.args.front.now) c.args.txn c.as_slice-changes.result.now c.requires.judged.lawful c.requires.judged.rows
+    updates-known no_opening c.args.accounts.now.rows (reverse c.args.front.now) c.args.txn c.as_slice-changes.result.now c.requires.judged.lawful c.requires.judged.rows
     (c.as_slice-changes.ensures.value ∙ c.in-Ok.ensures.ok.are)
 
 pub settle-requires-clause-known : goal.settle-requires-clause-known
 settle-requires-clause-known c =
-    updates-known c.args.accounts.now.rows (reverse c.args.front.now) c.args.txn c.as_slice-changes.result.now c.requires.judged.lawful c.requires.judged.rows
+    updates-known no_opening c.args.accounts.now.rows (reverse c.args.front.now) c.args.txn c.as_slice-changes.result.now c.requires.judged.lawful c.requires.judged.rows
     (c.as_slice-changes.ensures.value ∙ c.in-Ok.ensures.ok.are)
 
 pub returns-then-not-are_current-clause-tests : goal.returns-then-not-are_current-clause-tests
 returns-then-not-are_current-clause-tests c =
-    let on = subst (IsCommitting (reverse c.args.front.now) c.args.txn c.args.legs) (sym c.as_slice-changes.ensures.value) c.in-Ok.ensures.ok in
-    fails-stale c.args.accounts.now.rows (reverse c.args.front.now) c.args.txn c.args.legs c.args.end c.as_slice-changes.result.now
+    let on = subst (IsCommitting no_opening (reverse c.args.front.now) c.args.txn c.args.legs) (sym c.as_slice-changes.ensures.value) c.in-Ok.ensures.ok in
+    fails-stale no_opening c.args.accounts.now.rows (reverse c.args.front.now) c.args.txn c.args.legs c.args.end c.as_slice-changes.result.now
     c.requires.judged.lawful c.requires.judged.rows on (λ all. true≢false (sym (c.if-not-are_current.ensures.1 all)))
 
 pub returns-then-not-settle-clause-tests : goal.returns-then-not-settle-clause-tests
 returns-then-not-settle-clause-tests c =
-    let on = subst (IsCommitting (reverse c.args.front.now) c.args.txn c.args.legs) (sym c.as_slice-changes.ensures.value) c.in-Ok.ensures.ok in
-    fails-balance c.args.accounts.now.rows (reverse c.args.front.now) c.args.txn c.args.legs c.args.end c.as_slice-changes.result.now
+    let on = subst (IsCommitting no_opening (reverse c.args.front.now) c.args.txn c.args.legs) (sym c.as_slice-changes.ensures.value) c.in-Ok.ensures.ok in
+    fails-balance no_opening c.args.accounts.now.rows (reverse c.args.front.now) c.args.txn c.args.legs c.args.end c.as_slice-changes.result.now
     c.requires.judged.lawful c.requires.judged.rows on (c.if-not-are_current.ensures.0 refl) c.if-not-settle.ensures.leaves
 
 pub returns-clause-tests : goal.returns-clause-tests
 returns-clause-tests c =
-    let on = subst (IsCommitting (reverse c.args.front.now) c.args.txn c.args.legs) (sym c.as_slice-changes.ensures.value) c.in-Ok.ensures.ok in
-    passes-commit c.args.accounts.now.rows (reverse c.args.front.now) c.args.txn c.args.legs c.args.end c.as_slice-changes.result.now
+    let on = subst (IsCommitting no_opening (reverse c.args.front.now) c.args.txn c.args.legs) (sym c.as_slice-changes.ensures.value) c.in-Ok.ensures.ok in
+    passes-commit no_opening c.args.accounts.now.rows (reverse c.args.front.now) c.args.txn c.args.legs c.args.end c.as_slice-changes.result.now
     c.requires.judged.lawful c.requires.judged.rows on (c.if-not-are_current.ensures.0 refl) c.settle.new.accounts.rows c.if-not-settle.ensures.settled
 
 pub returns-clause-kept : goal.returns-clause-kept
 returns-clause-kept c =
-    let on = subst (IsCommitting (reverse c.args.front.now) c.args.txn c.args.legs) (sym c.as_slice-changes.ensures.value) c.in-Ok.ensures.ok in (
+    let on = subst (IsCommitting no_opening (reverse c.args.front.now) c.args.txn c.args.legs) (sym c.as_slice-changes.ensures.value) c.in-Ok.ensures.ok in (
       c.if-not-settle.ensures.room ∙ c.requires.judged.room,
-      keeps-settled c.args.accounts.now.rows (reverse c.args.front.now) c.args.txn c.args.legs c.args.end c.as_slice-changes.result.now
+      keeps-settled no_opening c.args.accounts.now.rows (reverse c.args.front.now) c.args.txn c.args.legs c.args.end c.as_slice-changes.result.now
           c.requires.judged.lawful c.requires.judged.rows on c.settle.new.accounts.rows c.if-not-settle.ensures.settled,
     )
 
