@@ -1,5 +1,6 @@
 pub mod Apart
 pub mod Appending
+pub mod AsBefore
 pub mod ChainLemmas
 pub mod Conserving
 pub mod Doing

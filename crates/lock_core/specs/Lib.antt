@@ -1,5 +1,6 @@
 pub mod Alone
 pub mod AnyOrder
+pub mod Before
 pub mod Faults
 pub mod History
 pub mod Judging
