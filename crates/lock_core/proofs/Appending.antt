@@ -189,7 +189,7 @@ opens-other opening h (Over txn leg) some other = some
 opens-other opening h (Note txn text) some other = some
 
 -- behind an account there is no Genesis
-pub other-opens : (opening : Opening) (h : List Placed) (rec : Rec) → 0 < opening.state.accounts → OpensLedger opening h rec → IsGenesis rec → ⊥
+other-opens : (opening : Opening) (h : List Placed) (rec : Rec) → 0 < opening.state.accounts → OpensLedger opening h rec → IsGenesis rec → ⊥
 other-opens opening h (Genesis account balance) some opens is = let none = opens.0 in absurd (omega arith)
 other-opens opening h (Update txn account delta prev) some opens is = is
 other-opens opening h (Commit txn legs) some opens is = is

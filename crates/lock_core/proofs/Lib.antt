@@ -1,6 +1,5 @@
 pub mod Apart
 pub mod Appending
-pub mod AsBefore
 pub mod ChainLemmas
 pub mod Conserving
 pub mod Doing

@@ -1,6 +1,5 @@
 pub mod Alone
 pub mod AnyOrder
-pub mod Before
 pub mod Faults
 pub mod History
 pub mod Judging

@@ -2,7 +2,6 @@
 //! answers alone, and the judge that takes a list record by record.
 #![tactic(auto)]
 
-mod as_before;
 mod checks;
 mod job;
 mod judge;
@@ -15,7 +14,6 @@ mod transactions;
 mod update;
 mod update_links;
 
-pub use as_before::{after_a_base_state_as_before, whole_log_as_before};
 pub use job::{Job, Legs, Remark};
 pub use judge::Judge;
 pub use laws::{
