@@ -1,0 +1,39 @@
+use Rattle.std.proofs.Common.{rules, ℕ, ◌∷◌, [], ◌++◌, ◌∙◌, ap, length-append, append_assoc, arith}
+use Rattle.lsn_space.specs.Accounts.{Accounts}
+use Rattle.segment_head.proofs.HeadLemmas.{rows-long, rows-next, rows-read, rows-each}
+use Rattle.segment_head.proofs.snapshot.take_rows.Goals as goal
+use Rattle.segment_head.proofs.snapshot.take_rows.Goals.{then-balance-from-via-then-balance-from, then-balance-from-via-else-balance-from+then-mark-lsn}
+
+pub returns-in_default-clause-none : goal.returns-in_default-clause-none
+returns-in_default-clause-none c = λ rows rest counted each whole.
+    omega (
+      arith,
+      c.in_default.ensures.none,
+      rows-long c.args.lsn c.accounts.counter c.args.count _ rest (omega arith) (c.accounts.invariant.left rows rest counted each whole),
+    )
+
+pub returns-then-balance-from-clause-none : goal.returns-then-balance-from-clause-none
+returns-then-balance-from-clause-none c = λ rows rest counted each whole.
+    let next = rows-next c.args.lsn c.accounts.counter c.args.count c.in-Some.balance c.in-Some.mark _ c.in-Some.after.now rest (omega arith) (search rules) (search rules)
+    (omega arith) c.in-Some.ensures.some (c.accounts.invariant.left rows rest counted each whole) in
+    elim c.then-balance-from.branch [
+      | then-balance-from-via-then-balance-from w ↦ omega (arith, next.0.0)
+      | then-balance-from-via-else-balance-from+then-mark-lsn w ↦ omega (arith, next.0.1)
+    ]
+
+pub accounts-preserved : goal.accounts-preserved
+accounts-preserved c =
+    let before = c.accounts.invariant in
+    let row : ℕ × ℕ = (c.in-Some.balance, c.in-Some.mark) in
+    record {
+      more = before.more ++ row ∷ [];
+      counted = omega (arith, before.counted, length-append before.more (row ∷ []));
+      each = rows-each c.args.lsn before.more row before.each (omega arith, omega arith);
+      whole = rows-read before.more c.in-Some.balance c.in-Some.mark _ _ _ before.whole c.in-Some.ensures.some;
+      rows = ap (λ (accounts : Accounts). accounts.rows) c.push.ensures ∙ ap (λ rows. rows ++ row ∷ []) before.rows
+          ∙ append_assoc c.args.accounts.now.rows before.more (row ∷ []);
+      room = ap (λ (accounts : Accounts). accounts.room) c.push.ensures ∙ before.room;
+      left = λ rows rest counted each whole.
+          (rows-next c.args.lsn c.accounts.counter c.args.count c.in-Some.balance c.in-Some.mark _ c.in-Some.after.now rest (omega arith) (search rules) (search rules)
+          (omega arith) c.in-Some.ensures.some (before.left rows rest counted each whole)).1;
+    }
