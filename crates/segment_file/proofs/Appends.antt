@@ -7,34 +7,35 @@ use Rattle.segment_file.specs.declared.layout.TheConstants.{OPEN, CLOSED}
 use Rattle.segment_file.specs.declared.scan_result.Tail.{Tail}
 use Rattle.segment_file.specs.File.{batch, IsCountedBatch}
 use Rattle.segment_file.specs.Gates.{sealed, Midway}
-use Rattle.segment_file.specs.Standing.{tail_after, StandsAt, AllStand, IsShut, HoldsEither}
+use Rattle.segment_file.specs.Log.{Log, with_units}
+use Rattle.segment_file.specs.Standing.{tail_after, LogStandsAt, LogStands, IsShut, HoldsLogOrMore}
 use Rattle.segment_file.proofs.GateBytes.{closed-byte, behind, midway-gate, put-gate}
-use Rattle.segment_file.proofs.StandingLemmas.{holds, stands-again, stands-more}
+use Rattle.segment_file.proofs.StandingLemmas.{stands-again, stands-more}
 
-module _ (tail : Tail) (units more file : List ℕ) (images : List ℕ → Type 0) (image : images file) (shut : IsShut tail.at images)
-    (counted : IsCountedBatch more) (fits : tail.next + length more ≤ LAST) (stand : AllStand tail units images) where
+module _ (tail : Tail) (log : Log) (more file : List ℕ) (images : List ℕ → Type 0) (image : images file) (shut : IsShut tail.at images)
+    (counted : IsCountedBatch more) (fits : tail.next + length more ≤ LAST) (stand : LogStands tail log images) where
   abbrev rest : List ℕ
   rest = behind tail.at images shut (sealed more) file image
 
   stands-opened : (new : Tail) → new.at ≡ tail.at + (5 + 8 * length more) → new.next ≡ tail.next + length more
-      → (bytes : List ℕ) → bytes ≡ take tail.at file ++ OPEN ∷ (sealed more ++ rest) → StandsAt new (units ++ more) bytes
+      → (bytes : List ℕ) → bytes ≡ take tail.at file ++ OPEN ∷ (sealed more ++ rest) → LogStandsAt new (with_units log more) bytes
   stands-opened new at next bytes whole =
-      stands-more tail units file (stand file image) more counted fits new at next bytes (CLOSED ∷ rest)
+      stands-more tail log file (stand file image) more counted fits new at next bytes (CLOSED ∷ rest)
       (whole ∙ ap (λ body. take tail.at file ++ OPEN ∷ body) (append_assoc (batch more) (CLOSED ∷ []) rest)) (closed-byte CLOSED rest (omega arith))
 
   -- at each moment an image holds the list before, or with the whole batch
-  pub holds-either : (c : List ℕ) → Midway tail.at (sealed more) file images c → HoldsEither units more c
+  pub holds-either : (c : List ℕ) → Midway tail.at (sealed more) file images c → HoldsLogOrMore log more c
   holds-either c left = elim (midway-gate tail.at images shut (sealed more) file image c left) [
-    | inl kept ↦ inl (holds tail units c (stands-again tail units kept.0 (stand kept.0 kept.1) c _ kept.2 (closed-byte shut.gate _ shut.shut)))
+    | inl kept ↦ inl (stands-again tail log kept.0 (stand kept.0 kept.1) c _ kept.2 (closed-byte shut.gate _ shut.shut)).held
     | inr torn ↦ elim (cases_eq torn.0 OPEN) [
-      | inl opened ↦ inr (holds (tail_after tail more) (units ++ more) c
-          (stands-opened (tail_after tail more) (omega arith) (omega arith) c (torn.1 ∙ ap (λ byte. take tail.at file ++ byte ∷ (sealed more ++ rest)) opened)))
-      | inr closed ↦ inl (holds tail units c (stands-again tail units file (stand file image) c _ torn.1 (closed-byte torn.0 _ closed)))
+      | inl opened ↦ inr (stands-opened (tail_after tail more) (omega arith) (omega arith) c
+          (torn.1 ∙ ap (λ byte. take tail.at file ++ byte ∷ (sealed more ++ rest)) opened)).held
+      | inr closed ↦ inl (stands-again tail log file (stand file image) c _ torn.1 (closed-byte torn.0 _ closed)).held
     ]
   ]
 
   -- after both writes each image stands at the new tail
   pub all_stand-more : (new : Tail) → new.at ≡ tail.at + (5 + 8 * length more) → new.next ≡ tail.next + length more → (last : List ℕ) (lasts : List ℕ → Type 0)
-      → last ≡ put tail.at (OPEN ∷ []) (put (tail.at + 1) (sealed more) file) → IsOnlyImage last lasts → AllStand new (units ++ more) lasts
+      → last ≡ put tail.at (OPEN ∷ []) (put (tail.at + 1) (sealed more) file) → IsOnlyImage last lasts → LogStands new (with_units log more) lasts
   all_stand-more new at next last lasts written settled c left =
       stands-opened new at next c (settled c left ∙ written ∙ put-gate tail.at images shut (sealed more) file image)

@@ -36,7 +36,7 @@ module _ (at : ℕ) (images : List ℕ → Type 0) (shut : IsShut at images) whe
     abbrev pub behind : List ℕ
     behind = drop (length body) (drop (at + 1) file)
 
-    put-body : put (at + 1) body file ≡ take at file ++ shut.gate ∷ (body ++ behind)
+    pub put-body : put (at + 1) body file ≡ take at file ++ shut.gate ∷ (body ++ behind)
     put-body =
         let front = take at file ++ shut.gate ∷ [] in
         let split : file ≡ front ++ drop (at + 1) file = slice_get-split file at shut.gate (shut.stable file image) ∙ sym (append_assoc (take at file) (shut.gate ∷ []) (drop (at + 1) file)) in

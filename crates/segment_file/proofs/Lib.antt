@@ -2,11 +2,14 @@ pub mod Appends
 pub mod BatchLemmas
 pub mod Creates
 pub mod FileLemmas
+pub mod FirstFormat
 pub mod GateBytes
+pub mod LogLemmas
 pub mod OneReading
 pub mod OpeningLemmas
 pub mod PackingLemmas
 pub mod Results
+pub mod ScanLemmas
 pub mod Scanned
 pub mod Seams
 pub mod StableGates

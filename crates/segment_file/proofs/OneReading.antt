@@ -1,15 +1,19 @@
--- Bytes hold one list of units at most, or have one fault.
-use Rattle.std.proofs.Common.{◌≡◌, ◌≤◌, ◌<◌, ◌∙◌, sym, ap, refl, ℕ, ◌+◌, List, [], ◌∷◌, ◌++◌, length, take, drop, arith, append_assoc, length-append, subst}
+-- Bytes hold one log at most, or have one fault.
+use Rattle.std.proofs.Common.{◌≡◌, ◌≤◌, inl, inr, ◌∙◌, sym, ap, refl, ℕ, ◌+◌, List, [], ◌∷◌, ◌++◌, length, get_or, take, drop, arith, append_assoc, length-append, subst}
 use Rattle.std.specs.List.{flat_map, AllByRecursion}
-use Rattle.std.proofs.lemmas.List.{append-nil}
 use Rattle.std.proofs.lemmas.List.Concat.{flat_map-append}
 use Rattle.std.proofs.lemmas.Nat.{from_be_bytes-to_be_bytes_8}
 use Rattle.lsn_space.specs.declared.lsn.TheConstants.{LAST}
+use Rattle.lsn_space.specs.Opening.{Opening}
 use Rattle.lsn_space.specs.Unit.{unit_bytes, unit_value}
+use Rattle.segment_head.specs.Head.{head_magic}
+use Rattle.segment_head.proofs.HeadLemmas.{one_head}
 use Rattle.segment_file.specs.declared.layout.TheConstants.{OPEN}
-use Rattle.segment_file.specs.File.{magic, batch, gated, written, joined, IsCountedBatch, AreUnits, BeginsOpen, BeginsAsLog, IsFile, HoldsUnits, IsBadBatchAt}
+use Rattle.segment_file.specs.File.{magic, batch, gated, joined, IsCountedBatch, AreUnits, BeginsOpen, BeginsAsLog, HasNoBatch, HoldsUnits}
+use Rattle.segment_file.specs.Log.{Log, whole_log, log_end, IsFront, first_format, second_format, ReadsTo, HoldsLog, IsBadSnapshot, IsBadBatchBehind, IsBadBatch, first_batch, later_batch}
 use Rattle.segment_file.proofs.BatchLemmas.{count_at-batch}
-use Rattle.segment_file.proofs.FileLemmas.{append-cancel_left, written-more}
+use Rattle.segment_file.proofs.FirstFormat.{units-log}
+use Rattle.segment_file.proofs.FileLemmas.{append-cancel_left, begins_open}
 
 -- units that stand at the same place are the same
 same_units : (us vs x y : List ℕ) → AreUnits us → AreUnits vs → length us ≡ length vs
@@ -54,101 +58,182 @@ aligned_gated (b ∷ bs) (c ∷ cs) x y is_bs is_cs whole =
     let first = same_batch b c _ _ is_bs.0 is_cs.0 apart in
     Aligned-cons b c bs cs x y first.0 (aligned_gated bs cs x y is_bs.1 is_cs.1 first.1)
 
--- the same behind the magic bytes
-aligned : (bs cs : List (List ℕ)) (x y : List ℕ) → AllByRecursion IsCountedBatch bs → AllByRecursion IsCountedBatch cs
-    → written bs ++ x ≡ written cs ++ y → Aligned bs cs x y
-aligned [] [] x y is_bs is_cs whole = same refl whole
-aligned [] (c ∷ cs) x y is_bs is_cs whole = longer c cs refl
-aligned (b ∷ bs) [] x y is_bs is_cs whole = shorter b bs refl
-aligned (b ∷ bs) (c ∷ cs) x y is_bs is_cs whole =
-    let apart : batch b ++ (flat_map gated bs ++ x) ≡ batch c ++ (flat_map gated cs ++ y) =
-    sym (append_assoc (batch b) (flat_map gated bs) x) ∙ ap (drop 8) whole ∙ append_assoc (batch c) (flat_map gated cs) y in
-    let first = same_batch b c _ _ is_bs.0 is_cs.0 apart in
-    Aligned-cons b c bs cs x y first.0 (aligned_gated bs cs x y is_bs.1 is_cs.1 first.1)
+-- ---- fronts
 
-written-split : (bs : List (List ℕ)) (c : List ℕ) (later : List (List ℕ)) → written (bs ++ c ∷ later) ≡ written (bs ++ c ∷ []) ++ flat_map gated later
-written-split [] c later = rw (append-nil (batch c)) refl
-written-split (first ∷ bs) c later =
-    let later_is : flat_map gated (bs ++ c ∷ later) ≡ flat_map gated (bs ++ c ∷ []) ++ flat_map gated later =
-    ap (λ list. flat_map gated list) (sym (append_assoc bs (c ∷ []) later)) ∙ flat_map-append gated (bs ++ c ∷ []) later in
-    ap (λ bytes. OPEN ∷ magic ++ batch first ++ bytes) later_is
-    ∙ sym (append_assoc (OPEN ∷ magic ++ batch first) (flat_map gated (bs ++ c ∷ [])) (flat_map gated later))
+-- the seventh byte behind the first gate tells the formats apart
+magics-apart : (x y : List ℕ) → OPEN ∷ magic ++ x ≡ OPEN ∷ head_magic ++ y → ⊥
+magics-apart x y whole = let seventh : ◌≡◌ {A = ℕ} 49 50 = ap (λ list. get_or list 7 0) whole in absurd (omega (arith, seventh))
 
--- the batch that a longer list has next
-record Next (bytes : List ℕ) (bs : List (List ℕ)) (c : List ℕ) : Type 0 where
-  counted : IsCountedBatch c
+record SameFront (a b : Opening) (us vs x y : List ℕ) : Type 0 where
+  opening : a ≡ b
+  units : us ≡ vs
+  rest : x ≡ y
+
+-- fronts that stand at the same place are the same
+same_front : (f g : List ℕ) (a b : Opening) (us vs x y : List ℕ) → IsFront f a us → IsFront g b vs → f ++ x ≡ g ++ y → SameFront a b us vs x y
+same_front f g a b us vs x y (first_format nothing counted is) (first_format none also are) whole =
+    let level : OPEN ∷ magic ++ batch us ++ x ≡ OPEN ∷ magic ++ batch vs ++ y = ap (λ list. list ++ x) (sym is) ∙ whole ∙ ap (λ list. list ++ y) are in
+    let both = same_batch us vs x y counted also (ap (drop 8) level) in
+    record { opening = nothing ∙ sym none; units = both.0; rest = both.1 }
+same_front f g a b us vs x y (first_format nothing counted is) (second_format held none are) whole =
+    absurd (magics-apart _ _ (ap (λ list. list ++ x) (sym is) ∙ whole ∙ ap (λ list. list ++ y) are))
+same_front f g a b us vs x y (second_format held none is) (first_format nothing counted are) whole =
+    absurd (magics-apart _ _ (ap (λ list. list ++ y) (sym are) ∙ sym whole ∙ ap (λ list. list ++ x) is))
+same_front f g a b us vs x y (second_format held none is) (second_format also nothing are) whole =
+    let both = one_head a b x y held also (ap (drop 8) (ap (λ list. list ++ x) (sym is) ∙ whole ∙ ap (λ list. list ++ y) are)) in
+    record { opening = both.0; units = none ∙ sym nothing; rest = both.1 }
+
+-- ---- two readings of the same bytes
+
+-- a batch that follows, for which the log has room
+record Next (log : Log) (rest : List ℕ) : Type 0 where
+  units : List ℕ
+  counted : IsCountedBatch units
   more : List ℕ
-  whole : bytes ≡ written (bs ++ c ∷ []) ++ more
-  total : length (joined bs) + length c ≤ LAST
+  is : rest ≡ gated units ++ more
+  fits : log_end log + length units ≤ LAST
+
+next-open : (log : Log) (rest : List ℕ) → Next log rest → BeginsOpen rest
+unfolding batch
+next-open log rest next = subst BeginsOpen (sym next.is) refl
+
+next-none : (log : Log) (body : List ℕ) → Next log (OPEN ∷ body) → HasNoBatch (log_end log) body → ⊥
+next-none log body next none = none next.units next.more next.counted (ap (drop 1) next.is) next.fits
 
 counted-next : (bs : List (List ℕ)) (c : List ℕ) (later : List (List ℕ)) → AllByRecursion IsCountedBatch (bs ++ c ∷ later) → IsCountedBatch c
 counted-next [] c later each = each.0
 counted-next (first ∷ bs) c later each = counted-next bs c later each.1
 
-next_batch : (bytes : List ℕ) (bs cs : List (List ℕ)) (c : List ℕ) (later : List (List ℕ)) (y : List ℕ) → AllByRecursion IsCountedBatch cs
-    → length (joined cs) ≤ LAST → bytes ≡ written cs ++ y → cs ≡ bs ++ c ∷ later → Next bytes bs c
-next_batch bytes bs cs c later y each total whole is =
-    let joined_is : joined cs ≡ joined bs ++ (c ++ joined later) = rw (is, flat_map-append (λ units. units) bs (c ∷ later)) refl in
-    record {
-      counted = counted-next bs c later (subst (λ list. AllByRecursion IsCountedBatch list) is each);
-      more = flat_map gated later ++ y;
-      whole = rw (whole, is, written-split bs c later) (append_assoc (written (bs ++ c ∷ [])) (flat_map gated later) y);
-      total = omega (arith, ap length joined_is, length-append (joined bs) (c ++ joined later), length-append c (joined later));
-    }
+-- an open gate behind the batches that both have
+rest-next : (bs cs later : List (List ℕ)) (c x y : List ℕ) → cs ≡ bs ++ c ∷ later → flat_map gated bs ++ x ≡ flat_map gated cs ++ y
+    → x ≡ gated c ++ (flat_map gated later ++ y)
+rest-next bs cs later c x y is whole =
+    let split : flat_map gated (bs ++ c ∷ later) ++ y ≡ flat_map gated bs ++ (gated c ++ (flat_map gated later ++ y)) =
+    ap (λ bytes. bytes ++ y) (flat_map-append gated bs (c ∷ later)) ∙ append_assoc (flat_map gated bs) (gated c ++ flat_map gated later) y
+    ∙ ap (λ bytes. flat_map gated bs ++ bytes) (append_assoc (gated c) (flat_map gated later) y) in
+    append-cancel_left (flat_map gated bs) _ _ (whole ∙ ap (λ list. flat_map gated list ++ y) is ∙ split)
 
--- behind some batches, a gate that isn't open has no batch behind it
-closed-next : (bytes : List ℕ) (bs : List (List ℕ)) (c x : List ℕ) → 0 < length bs → bytes ≡ written bs ++ x → (BeginsOpen x → ⊥) → Next bytes bs c → ⊥
-unfolding batch
-closed-next bytes bs c x some whole closed next =
-    let again : written (bs ++ c ∷ []) ++ next.more ≡ written bs ++ (gated c ++ next.more) =
-    rw (written-more bs c some) (append_assoc (written bs) (gated c) next.more) in
-    let x_is : x ≡ gated c ++ next.more = append-cancel_left (written bs) _ _ (sym whole ∙ next.whole ∙ again) in
-    closed (subst BeginsOpen (sym x_is) refl)
+-- what follows the front
+behind-front : (bytes : List ℕ) (log : Log) (rest : List ℕ) (reads : ReadsTo bytes log rest) → bytes ≡ reads.front ++ (flat_map gated reads.batches ++ rest)
+behind-front bytes log rest reads = reads.whole ∙ append_assoc reads.front (flat_map gated reads.batches) rest
 
-same_files : (bytes : List ℕ) (bs cs : List (List ℕ)) (x y : List ℕ) → IsFile bytes bs x → IsFile bytes cs y → Aligned bs cs x y → bs ≡ cs
-same_files bytes bs cs x y file other (same batches rest) = batches
-same_files bytes bs cs x y file other (longer c later is) =
-    absurd (closed-next bytes bs c x file.some file.whole file.closed (next_batch bytes bs cs c later y other.each other.total other.whole is))
-same_files bytes bs cs x y file other (shorter b later is) =
-    absurd (closed-next bytes cs b y other.some other.whole other.closed (next_batch bytes cs bs b later x file.each file.total file.whole is))
+module _ (bytes : List ℕ) (a b : Log) (x y : List ℕ) (r : ReadsTo bytes a x) (s : ReadsTo bytes b y) where
+  fronts : SameFront a.opening b.opening r.first s.first (flat_map gated r.batches ++ x) (flat_map gated s.batches ++ y)
+  fronts = same_front r.front s.front a.opening b.opening r.first s.first _ _ r.begins s.begins (sym (behind-front bytes a x r) ∙ behind-front bytes b y s)
 
+  sides : Aligned r.batches s.batches x y
+  sides = aligned_gated r.batches s.batches x y r.each s.each fronts.rest
+
+  -- the batch that the longer reading has next
+  longer-next : (c : List ℕ) (later : List (List ℕ)) → s.batches ≡ r.batches ++ c ∷ later → Next a x
+  longer-next c later is =
+      let joined_is : joined s.batches ≡ joined r.batches ++ (c ++ joined later) = ap joined is ∙ flat_map-append (λ units. units) r.batches (c ∷ later) in
+      record {
+        units = c;
+        counted = counted-next r.batches c later (subst (λ list. AllByRecursion IsCountedBatch list) is s.each);
+        more = flat_map gated later ++ y;
+        is = rest-next r.batches s.batches later c x y is fronts.rest;
+        fits = omega (
+          arith,
+          s.total,
+          ap (λ (opening : Opening). opening.lsn) fronts.opening,
+          ap length fronts.units,
+          ap length r.units,
+          ap length s.units,
+          ap length joined_is,
+          length-append r.first (joined r.batches),
+          length-append s.first (joined s.batches),
+          length-append (joined r.batches) (c ++ joined later),
+          length-append c (joined later),
+        );
+      }
+
+  same-log : r.batches ≡ s.batches → a ≡ b
+  same-log batches =
+      let units : a.units ≡ b.units = r.units ∙ (λ i. fronts.units i ++ joined (batches i)) ∙ sym s.units in
+      λ i. record { opening = fronts.opening i; units = units i }
+
+-- ---- the law
+
+pub one_reading-log : (bytes : List ℕ) (a b : Log) → HoldsLog bytes a → HoldsLog bytes b → a ≡ b
+one_reading-log bytes a b held also = by_sides (sides bytes a b held.rest also.rest held.reads also.reads)
+  where
+    by_sides : Aligned held.reads.batches also.reads.batches held.rest also.rest → a ≡ b
+    by_sides (same batches rest) = same-log bytes a b held.rest also.rest held.reads also.reads batches
+    by_sides (longer c later is) = absurd (held.closed (next-open a held.rest (longer-next bytes a b held.rest also.rest held.reads also.reads c later is)))
+    by_sides (shorter c later is) = absurd (also.closed (next-open b also.rest (longer-next bytes b a also.rest held.rest also.reads held.reads c later is)))
+
+-- of the first format
 pub one_reading-units : (bytes us vs : List ℕ) → HoldsUnits bytes us → HoldsUnits bytes vs → us ≡ vs
 one_reading-units bytes us vs held also =
-    let sides = aligned held.0 also.0 held.1 also.1 held.2.each also.2.each (sym held.2.whole ∙ also.2.whole) in
-    held.3 ∙ ap joined (same_files bytes held.0 also.0 held.1 also.1 held.2 also.2 sides) ∙ sym also.3
+    ap (λ (log : Log). log.units) (one_reading-log bytes (whole_log us) (whole_log vs) (units-log bytes us held) (units-log bytes vs also))
 
--- a file begins as a log
-file-begins : (bytes : List ℕ) (bs : List (List ℕ)) (x : List ℕ) → IsFile bytes bs x → BeginsAsLog bytes
-file-begins bytes [] x file = let some = file.some in absurd (omega arith)
-file-begins bytes (b ∷ bs) x file =
-    (batch b ++ flat_map gated bs ++ x, file.whole)
+-- what is read begins as a log
+reads-begins : (bytes : List ℕ) (log : Log) (rest : List ℕ) (reads : ReadsTo bytes log rest) → IsFront reads.front log.opening reads.first → BeginsAsLog bytes
+reads-begins bytes log rest reads (first_format nothing counted is) =
+    inl (batch reads.first ++ (flat_map gated reads.batches ++ rest), behind-front bytes log rest reads ∙ ap (λ list. list ++ (flat_map gated reads.batches ++ rest)) is)
+reads-begins bytes log rest reads (second_format held none is) =
+    inr (_, behind-front bytes log rest reads ∙ ap (λ list. list ++ (flat_map gated reads.batches ++ rest)) is)
 
-pub one_reading-log : (bytes us : List ℕ) → HoldsUnits bytes us → BeginsAsLog bytes
-one_reading-log bytes us held = file-begins bytes held.0 held.1 held.2
+pub one_reading-begins : (bytes : List ℕ) (log : Log) → HoldsLog bytes log → BeginsAsLog bytes
+one_reading-begins bytes log held = reads-begins bytes log held.rest held.reads held.reads.begins
 
-file_or_bad : (bytes : List ℕ) (bs : List (List ℕ)) (x : List ℕ) (offset : ℕ) → IsFile bytes bs x → (bad : IsBadBatchAt bytes offset)
-    → Aligned bad.batches bs bad.rest x → ⊥
-file_or_bad bytes bs x offset file bad (same batches rest) = file.closed (subst BeginsOpen rest bad.opened)
-file_or_bad bytes bs x offset file bad (longer c later is) =
-    let next = next_batch bytes bad.batches bs c later x file.each file.total file.whole is in
-    bad.none c next.more next.counted next.whole next.total
-file_or_bad bytes bs x offset file bad (shorter b later is) =
-    closed-next bytes bs b x file.some file.whole file.closed (next_batch bytes bs bad.batches b later bad.rest bad.each bad.total bad.whole is)
+-- a bad batch stands in a log
+pub bad-begins : (bytes : List ℕ) (offset : ℕ) → IsBadBatch bytes offset → BeginsAsLog bytes
+bad-begins bytes offset (first_batch body begins none place) = inl (body, begins)
+bad-begins bytes offset (later_batch log bad) = reads-begins bytes log (OPEN ∷ bad.body) bad.reads bad.reads.begins
 
-pub one_reading-bad : (bytes us : List ℕ) (offset : ℕ) → HoldsUnits bytes us → IsBadBatchAt bytes offset → ⊥
-one_reading-bad bytes us offset held bad =
-    let sides = aligned bad.batches held.0 bad.rest held.1 bad.each held.2.each (sym bad.whole ∙ held.2.whole) in
-    file_or_bad bytes held.0 held.1 offset held.2 bad sides
+-- what is read has no bad snapshot
+reads-snapshot : (bytes : List ℕ) (log : Log) (rest : List ℕ) (reads : ReadsTo bytes log rest) → IsFront reads.front log.opening reads.first → IsBadSnapshot bytes → ⊥
+reads-snapshot bytes log rest reads (first_format nothing counted is) bad =
+    magics-apart _ _ (ap (λ list. list ++ (flat_map gated reads.batches ++ rest)) (sym is) ∙ sym (behind-front bytes log rest reads) ∙ bad.second.1)
+reads-snapshot bytes log rest reads (second_format held none is) bad =
+    bad.none log.opening (flat_map gated reads.batches ++ rest) held (behind-front bytes log rest reads ∙ ap (λ list. list ++ (flat_map gated reads.batches ++ rest)) is)
 
-same_place : (bytes : List ℕ) (a b : ℕ) (bad : IsBadBatchAt bytes a) (also : IsBadBatchAt bytes b) → Aligned bad.batches also.batches bad.rest also.rest → a ≡ b
-same_place bytes a b bad also (same batches rest) = bad.place ∙ ap (λ list. length (written list)) batches ∙ sym also.place
-same_place bytes a b bad also (longer c later is) =
-    let next = next_batch bytes bad.batches also.batches c later also.rest also.each also.total also.whole is in
-    absurd (bad.none c next.more next.counted next.whole next.total)
-same_place bytes a b bad also (shorter c later is) =
-    let next = next_batch bytes also.batches bad.batches c later bad.rest bad.each bad.total bad.whole is in
-    absurd (also.none c next.more next.counted next.whole next.total)
+pub one_reading-snapshot : (bytes : List ℕ) (log : Log) → HoldsLog bytes log → IsBadSnapshot bytes → ⊥
+one_reading-snapshot bytes log held bad = reads-snapshot bytes log held.rest held.reads held.reads.begins bad
 
-pub one_reading-place : (bytes : List ℕ) (a b : ℕ) → IsBadBatchAt bytes a → IsBadBatchAt bytes b → a ≡ b
-one_reading-place bytes a b bad also =
-    same_place bytes a b bad also (aligned bad.batches also.batches bad.rest also.rest bad.each also.each (sym bad.whole ∙ also.whole))
+-- what is read has a first batch, or a head
+reads-first : (bytes : List ℕ) (log : Log) (rest : List ℕ) (reads : ReadsTo bytes log rest) → IsFront reads.front log.opening reads.first
+    → (body : List ℕ) → bytes ≡ OPEN ∷ magic ++ body → HasNoBatch 0 body → ⊥
+reads-first bytes log rest reads (first_format nothing counted is) body begins none =
+    let level : OPEN ∷ magic ++ body ≡ OPEN ∷ magic ++ batch reads.first ++ (flat_map gated reads.batches ++ rest) =
+    sym begins ∙ behind-front bytes log rest reads ∙ ap (λ list. list ++ (flat_map gated reads.batches ++ rest)) is in
+    none reads.first (flat_map gated reads.batches ++ rest) counted (ap (drop 8) level) (let most = counted.most in omega arith)
+reads-first bytes log rest reads (second_format held no_units is) body begins none =
+    magics-apart _ _ (sym begins ∙ behind-front bytes log rest reads ∙ ap (λ list. list ++ (flat_map gated reads.batches ++ rest)) is)
+
+held-not_bad : (bytes : List ℕ) (log other : Log) (offset : ℕ) → HoldsLog bytes log → IsBadBatchBehind bytes other offset → ⊥
+held-not_bad bytes log other offset held bad = by_sides (sides bytes log other held.rest (OPEN ∷ bad.body) held.reads bad.reads)
+  where
+    by_sides : Aligned held.reads.batches bad.reads.batches held.rest (OPEN ∷ bad.body) → ⊥
+    by_sides (same batches rest) = held.closed (begins_open held.rest bad.body rest bad.some)
+    by_sides (longer c later is) = held.closed (next-open log held.rest (longer-next bytes log other held.rest (OPEN ∷ bad.body) held.reads bad.reads c later is))
+    by_sides (shorter c later is) = next-none other bad.body (longer-next bytes other log (OPEN ∷ bad.body) held.rest bad.reads held.reads c later is) bad.none
+
+pub one_reading-bad : (bytes : List ℕ) (log : Log) (offset : ℕ) → HoldsLog bytes log → IsBadBatch bytes offset → ⊥
+one_reading-bad bytes log offset held (first_batch body begins none place) = reads-first bytes log held.rest held.reads held.reads.begins body begins none
+one_reading-bad bytes log offset held (later_batch other bad) = held-not_bad bytes log other offset held bad
+
+pub one_reading-one : (bytes : List ℕ) (offset : ℕ) → IsBadSnapshot bytes → IsBadBatch bytes offset → ⊥
+one_reading-one bytes offset snapshot (first_batch body begins none place) = magics-apart _ _ (sym begins ∙ snapshot.second.1)
+one_reading-one bytes offset snapshot (later_batch log bad) = reads-snapshot bytes log (OPEN ∷ bad.body) bad.reads bad.reads.begins snapshot
+
+-- a bad batch is the first one
+later-place : (bytes : List ℕ) (p q : Log) (a b : ℕ) → IsBadBatchBehind bytes p a → IsBadBatchBehind bytes q b → a ≡ b
+later-place bytes p q a b bad also = by_sides (sides bytes p q (OPEN ∷ bad.body) (OPEN ∷ also.body) bad.reads also.reads)
+  where
+    by_sides : Aligned bad.reads.batches also.reads.batches (OPEN ∷ bad.body) (OPEN ∷ also.body) → a ≡ b
+    by_sides (same batches rest) = omega (arith, bad.place, also.place, ap length rest)
+    by_sides (longer c later is) =
+        absurd (next-none p bad.body (longer-next bytes p q (OPEN ∷ bad.body) (OPEN ∷ also.body) bad.reads also.reads c later is) bad.none)
+    by_sides (shorter c later is) =
+        absurd (next-none q also.body (longer-next bytes q p (OPEN ∷ also.body) (OPEN ∷ bad.body) also.reads bad.reads c later is) also.none)
+
+pub one_reading-place : (bytes : List ℕ) (a b : ℕ) → IsBadBatch bytes a → IsBadBatch bytes b → a ≡ b
+one_reading-place bytes a b (first_batch body begins none place) (first_batch other also nothing there) = place ∙ sym there
+one_reading-place bytes a b (first_batch body begins none place) (later_batch q also) =
+    absurd (reads-first bytes q (OPEN ∷ also.body) also.reads also.reads.begins body begins none)
+one_reading-place bytes a b (later_batch p bad) (first_batch body begins none place) =
+    absurd (reads-first bytes p (OPEN ∷ bad.body) bad.reads bad.reads.begins body begins none)
+one_reading-place bytes a b (later_batch p bad) (later_batch q also) = later-place bytes p q a b bad also

@@ -2,10 +2,11 @@
 use Rattle.std.proofs.Common.{◌≡◌, ◌≤◌, ◌<◌, ◌∙◌, sym, ap, refl, ℕ, zero, suc, slice_index, ◌+◌, ◌*◌, ◌^◌, List, [], ◌∷◌, ◌++◌, length, take, drop, arith, append_assoc, length-append, subst}
 use Rattle.std.specs.List.{flat_map}
 use Rattle.std.specs.Int.{w32, w64, to_be_bytes, from_be_bytes}
+use Rattle.std.proofs.Math.Seq.{take-append_seam}
 use Rattle.std.proofs.lemmas.Nat.{from_be_bytes-to_be_bytes_8}
 use Rattle.std.proofs.lemmas.List.Concat.{flat_map-append}
 use Rattle.lsn_space.specs.Unit.{unit_bytes}
-use Rattle.segment_file.specs.declared.layout.TheConstants.{CLOSED, MOST_UNITS}
+use Rattle.segment_file.specs.declared.layout.TheConstants.{OPEN, CLOSED, MOST_UNITS}
 use Rattle.segment_file.specs.File.{magic, batch, AreUnits, IsCountedBatch}
 use Rattle.segment_file.specs.Gates.{sealed}
 use Rattle.segment_file.specs.Packing.{BatchState, units_in, IsPacked}
@@ -107,6 +108,24 @@ module _ (bytes units : List ℕ) (room capacity : ℕ) (packed : IsPacked bytes
 
     pub counted-body : (full body : List ℕ) → full ≡ new ++ CLOSED ∷ [] → body ≡ drop 7 full → body ≡ sealed units
     counted-body full body full_is back = back ∙ ap (drop 7) (full_is ∙ counted-sealed)
+
+    -- with an open gate in place of the last magic byte
+    module _ (opened : List ℕ) (opened_is : opened ≡ take 6 new ++ (OPEN ∷ []) ++ drop 7 new) where
+      opened-batch : opened ≡ take 6 magic ++ (OPEN ∷ batch units)
+      opened-batch = opened_is ∙ ap (λ bs. take 6 bs ++ (OPEN ∷ []) ++ drop 7 bs) counted-batch
+
+      pub length-opened : length opened ≡ 11 + 8 * length units
+      length-opened = omega (arith, ap length opened-batch, length-sealed units, length-append (batch units) (CLOSED ∷ []))
+
+      pub opened-body : (full body : List ℕ) → full ≡ opened ++ CLOSED ∷ [] → body ≡ drop 6 full → body ≡ OPEN ∷ sealed units
+      opened-body full body full_is back = back ∙ ap (drop 6) (full_is ∙ ap (λ bs. bs ++ CLOSED ∷ []) opened-batch)
+
+      -- and that byte, 49, put back
+      pub counted-again : (cut restored : List ℕ) (n : ℕ) → n ≡ length opened → cut ≡ take n (opened ++ CLOSED ∷ [])
+          → restored ≡ take 6 cut ++ (49 ∷ []) ++ drop 7 cut → restored ≡ new
+      counted-again cut restored n n_is cut_is restored_is =
+          let same : cut ≡ opened = cut_is ∙ ap (λ n. take n (opened ++ CLOSED ∷ [])) n_is ∙ take-append_seam opened (CLOSED ∷ []) in
+          restored_is ∙ ap (λ bs. take 6 bs ++ (49 ∷ []) ++ drop 7 bs) (same ∙ opened-batch) ∙ sym counted-batch
 
 pub packed-none : (room capacity : ℕ) (bytes : List ℕ) → bytes ≡ magic ++ to_be_bytes w32 0 → room < 2 ^ 32 → 13 + 8 * room ≤ capacity → IsPacked bytes [] room capacity
 packed-none room capacity bytes is small fits = record { each = tt; number = 0; whole = is; few = omega arith; small = small; fits = fits }

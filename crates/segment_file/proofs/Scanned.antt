@@ -1,33 +1,40 @@
 -- A log that was scanned, on a disk that is settled: `settle` may be called at its tail.
-use Rattle.std.proofs.Common.{◌≡◌, ◌∙◌, sym, ap, subst, List, ℕ, drop, length}
+use Rattle.std.proofs.Common.{◌≡◌, ◌≤◌, ◌∙◌, sym, ap, subst, List, ℕ, length, drop, arith}
 use Rattle.std.specs.List.{slice_get}
 use Rattle.std.proofs.lemmas.List.{drop_at}
 use Rattle.log_disk.specs.Disk.{IsOnlyImage}
 use Rattle.segment_file.specs.declared.scan_result.Scan.{Scan}
-use Rattle.segment_file.specs.File.{written, BeginsOpen}
-use Rattle.segment_file.specs.Scan.{Scans}
-use Rattle.segment_file.specs.Standing.{StandsAt, AllStand, IsStableGate}
+use Rattle.segment_file.specs.declared.scan_result.Tail.{Tail}
+use Rattle.segment_file.specs.File.{BeginsOpen}
+use Rattle.segment_file.specs.Log.{Log}
+use Rattle.segment_file.specs.Scan.{Scans, scanned_log}
+use Rattle.segment_file.specs.Standing.{LogStandsAt, LogStands, IsStableGate}
+use Rattle.segment_file.proofs.StandingLemmas.{recorded, whole-recorded, length-recorded}
+
+-- a log that stands, in a file that a crash leaves alone
+module _ (tail : Tail) (log : Log) (file : List ℕ) (stands : LogStandsAt tail log file) where
+  pub stands-within : tail.at ≤ length file
+  stands-within = omega (arith, stands.place)
+
+  pub stands-rest : drop tail.at file ≡ stands.held.rest
+  stands-rest = ap (drop tail.at) (whole-recorded tail log file stands)
+      ∙ drop_at (recorded tail log file stands) stands.held.rest tail.at (sym (length-recorded tail log file stands))
+
+  module _ (images : List ℕ → Type 0) (settled : IsOnlyImage file images) where
+    -- the gate at the tail is the same in each image, as there is but one
+    pub stands-stable : IsStableGate tail.at images
+    stands-stable = record {
+      gate = slice_get file tail.at;
+      stable = λ c left. ap (λ bytes. slice_get bytes tail.at) (settled c left);
+      closed = λ c left opened. stands.held.closed (subst BeginsOpen (ap (drop tail.at) (settled c left) ∙ stands-rest) opened);
+    }
+
+    pub all-stands : LogStands tail log images
+    all-stands c left = subst (LogStandsAt tail log) (sym (settled c left)) stands
 
 module _ (found : Scan) (file : List ℕ) (images : List ℕ → Type 0) (scanned : Scans found file) (settled : IsOnlyImage file images) where
-  scanned-rest : drop found.tail.at file ≡ scanned.rest
-  scanned-rest = ap (drop found.tail.at) scanned.file.whole ∙ drop_at (written scanned.batches) scanned.rest found.tail.at (sym scanned.at)
-
   pub scanned-stable : IsStableGate found.tail.at images
-  scanned-stable = record {
-    gate = slice_get file found.tail.at;
-    stable = λ c left. ap (λ bytes. slice_get bytes found.tail.at) (settled c left);
-    closed = λ c left opened. scanned.file.closed (subst BeginsOpen (ap (drop found.tail.at) (settled c left) ∙ scanned-rest) opened);
-  }
+  scanned-stable = stands-stable found.tail (scanned_log found) file scanned images settled
 
-  scanned-stands_at : StandsAt found.tail found.units file
-  scanned-stands_at = record {
-    batches = scanned.batches;
-    rest = scanned.rest;
-    file = scanned.file;
-    units_are = scanned.units;
-    place = scanned.at;
-    next = scanned.next ∙ sym (ap length scanned.units);
-  }
-
-  pub scanned-stands : AllStand found.tail found.units images
-  scanned-stands c left = subst (StandsAt found.tail found.units) (sym (settled c left)) scanned-stands_at
+  pub scanned-stands : LogStands found.tail (scanned_log found) images
+  scanned-stands = all-stands found.tail (scanned_log found) file scanned images settled

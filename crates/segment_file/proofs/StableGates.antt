@@ -5,11 +5,12 @@ use Rattle.std.proofs.lemmas.List.{length-take-le, length-drop}
 use Rattle.log_disk.specs.Disk.{put, MayBeTorn, IsOnlyImage}
 use Rattle.segment_file.specs.declared.layout.TheConstants.{OPEN, CLOSED}
 use Rattle.segment_file.specs.declared.scan_result.Tail.{Tail}
-use Rattle.segment_file.specs.File.{BeginsOpen, HoldsUnits}
+use Rattle.segment_file.specs.File.{BeginsOpen, BeginsAsLog}
 use Rattle.segment_file.specs.Gates.{StaysClosed}
-use Rattle.segment_file.specs.Standing.{StandsAt, AllStand, IsShut, IsStableGate, LacksGate, HoldsNoneOr}
+use Rattle.segment_file.specs.Log.{Log}
+use Rattle.segment_file.specs.Standing.{LogStandsAt, LogStands, IsShut, IsStableGate, LacksGate, HoldsNoneOr}
 use Rattle.segment_file.proofs.Seams.{slice_get-seam, slice_get-drop}
-use Rattle.segment_file.proofs.StandingLemmas.{holds, stands-again}
+use Rattle.segment_file.proofs.StandingLemmas.{stands-again}
 
 closed-short : (bytes : List ℕ) → length bytes ≤ 1 → BeginsOpen bytes → ⊥
 closed-short [] short opened = opened
@@ -67,14 +68,15 @@ put-shut at old new news within written settled =
     }
 
 -- what stays closed stands as before
-pub stays-stands : (tail : Tail) (units : List ℕ) (images : List ℕ → Type 0) → AllStand tail units images → (c : List ℕ) → StaysClosed tail.at images c → StandsAt tail units c
-stays-stands tail units images stand c stays =
-    stands-again tail units stays.0 (stand stays.0 stays.1) c (drop tail.at c)
+pub stays-stands : (tail : Tail) (log : Log) (images : List ℕ → Type 0) → LogStands tail log images → (c : List ℕ) → StaysClosed tail.at images c → LogStandsAt tail log c
+stays-stands tail log images stand c stays =
+    stands-again tail log stays.0 (stand stays.0 stays.1) c (drop tail.at c)
     (sym (take-append-drop tail.at c) ∙ ap (λ front. front ++ drop tail.at c) stays.2) stays.3
 
-pub stays-holds : (tail : Tail) (units : List ℕ) (images : List ℕ → Type 0) → AllStand tail units images → (c : List ℕ) → StaysClosed tail.at images c → HoldsUnits c units
-stays-holds tail units images stand c stays = holds tail units c (stays-stands tail units images stand c stays)
-
 -- a closed first gate begins no log
+pub stays-no_log : (images : List ℕ → Type 0) (c : List ℕ) → StaysClosed 0 images c → BeginsAsLog c → ⊥
+stays-no_log images c stays (inl log) = stays.3 (subst BeginsOpen (sym log.1) refl)
+stays-no_log images c stays (inr log) = stays.3 (subst BeginsOpen (sym log.1) refl)
+
 pub stays-none : (units : List ℕ) (images : List ℕ → Type 0) (c : List ℕ) → StaysClosed 0 images c → HoldsNoneOr units c
-stays-none units images c stays = inl (λ log. stays.3 (subst BeginsOpen (sym log.1) refl))
+stays-none units images c stays = inl (stays-no_log images c stays)

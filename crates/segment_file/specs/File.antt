@@ -1,9 +1,10 @@
--- The bytes of a log file: batches of units, each behind a gate byte.
-use Rattle.std.specs.Prelude.{◌≡◌, ◌<◌, ◌≤◌, ℕ, ◌+◌, ◌^◌, List, [], ◌∷◌, ◌++◌, length, codes}
+-- The bytes of a log file: batches of units, each behind a gate byte. The files of the first format, whose list begins with nothing.
+use Rattle.std.specs.Prelude.{◌≡◌, ◌<◌, ◌≤◌, ◌⊎◌, ℕ, ◌+◌, ◌^◌, List, [], ◌∷◌, ◌++◌, length, codes}
 use Rattle.std.specs.List.{flat_map, AllByRecursion}
 use Rattle.std.specs.Int.{w32, to_be_bytes}
 use Rattle.lsn_space.specs.Unit.{unit_bytes}
 use Rattle.lsn_space.specs.declared.lsn.TheConstants.{LAST}
+use Rattle.segment_head.specs.Head.{head_magic}
 use Rattle.segment_file.specs.declared.layout.TheConstants.{OPEN, MOST_UNITS}
 
 -- the bytes behind a file's first gate
@@ -54,24 +55,17 @@ pub record IsFile (bytes : List ℕ) (batches : List (List ℕ)) (rest : List �
 abbrev pub HoldsUnits : List ℕ → List ℕ → Type 0
 HoldsUnits bytes units = (batches : List (List ℕ)) × (rest : List ℕ) × IsFile bytes batches rest × (units ≡ joined batches)
 
--- the bytes begin with an open gate and the magic bytes
+-- the bytes begin with an open gate and the magic bytes of the first format, or of the second
+abbrev pub BeginsAsFirst : List ℕ → Type 0
+BeginsAsFirst bytes = (rest : List ℕ) × (bytes ≡ OPEN ∷ magic ++ rest)
+
+abbrev pub BeginsAsSecond : List ℕ → Type 0
+BeginsAsSecond bytes = (rest : List ℕ) × (bytes ≡ OPEN ∷ head_magic ++ rest)
+
+-- the bytes begin as a log of either format
 abbrev pub BeginsAsLog : List ℕ → Type 0
-BeginsAsLog bytes = (rest : List ℕ) × (bytes ≡ OPEN ∷ magic ++ rest)
+BeginsAsLog bytes = BeginsAsFirst bytes ⊎ BeginsAsSecond bytes
 
--- the bytes begin with no batch that so many units before it leave room for
+-- the bytes begin with no batch that a log which ends at this LSN has room for
 abbrev pub HasNoBatch : ℕ → List ℕ → Type 0
-HasNoBatch before bytes = (units rest : List ℕ) → IsCountedBatch units → bytes ≡ batch units ++ rest → before + length units ≤ LAST → ⊥
-
--- whole batches lead to an open gate at this place, and behind it no batch follows: its count is cut, out of range or
--- too large for the log, or its units are cut
-pub record IsBadBatchAt (bytes : List ℕ) (offset : ℕ) : Type 0 where
-  pub batches : List (List ℕ)
-  pub each : AllByRecursion IsCountedBatch batches
-  pub total : length (joined batches) ≤ LAST
-  pub rest : List ℕ
-  pub whole : bytes ≡ written batches ++ rest
-  pub place : offset ≡ length (written batches)
-  pub log : BeginsAsLog bytes
-  pub opened : BeginsOpen rest
-  pub none : (units more : List ℕ) → IsCountedBatch units → bytes ≡ written (batches ++ units ∷ []) ++ more
-      → length (joined batches) + length units ≤ LAST → ⊥
+HasNoBatch end bytes = (units rest : List ℕ) → IsCountedBatch units → bytes ≡ batch units ++ rest → end + length units ≤ LAST → ⊥

@@ -1,6 +1,7 @@
 pub mod File
 pub mod Gates
 pub mod Lengths
+pub mod Log
 pub mod Opening
 pub mod Packing
 pub mod Scan

@@ -1,21 +1,23 @@
 -- What a scan of a file's bytes answers.
-use Rattle.std.specs.Prelude.{◌≡◌, ℕ, List, length}
-use Rattle.segment_file.specs.File.{IsFile, IsBadBatchAt, BeginsAsLog, written, joined}
+use Rattle.std.specs.Prelude.{ℕ, List}
+use Rattle.segment_file.specs.File.{BeginsAsLog}
+use Rattle.segment_file.specs.Log.{Log, IsBadSnapshot, IsBadBatch}
+use Rattle.segment_file.specs.Standing.{LogStandsAt}
 use Rattle.segment_file.specs.declared.scan_result.Scan.{Scan}
 use Rattle.segment_file.specs.declared.scan_result.ScanFault.{ScanFault}
-use Rattle.segment_file.specs.declared.scan_result.ScanFault.TheVariants.{NotALog, BadBatch, NoMemory}
+use Rattle.segment_file.specs.declared.scan_result.ScanFault.TheVariants.{NotALog, BadSnapshot, BadBatch, NoMemory}
 
--- the units of the file, the place of its first gate that isn't open, and the number of units
-pub record Scans (scan : Scan) (bytes : List ℕ) : Type 0 where
-  pub batches : List (List ℕ)
-  pub rest : List ℕ
-  pub file : IsFile bytes batches rest
-  pub units : scan.units ≡ joined batches
-  pub at : scan.tail.at ≡ length (written batches)
-  pub next : scan.tail.next ≡ length (joined batches)
+-- the log that was found
+abbrev pub scanned_log : Scan → Log
+scanned_log scan = record { opening = scan.opening; units = scan.units }
+
+-- the bytes hold it, and it goes on at the tail that was found
+abbrev pub Scans : Scan → List ℕ → Type 0
+Scans scan bytes = LogStandsAt scan.tail (scanned_log scan) bytes
 
 -- what is wrong with the bytes; want of memory says nothing of them
 abbrev pub IsScanFaultOf : List ℕ → ScanFault → Type 0
 IsScanFaultOf bytes NotALog = BeginsAsLog bytes → ⊥
-IsScanFaultOf bytes (BadBatch offset) = IsBadBatchAt bytes offset
+IsScanFaultOf bytes BadSnapshot = IsBadSnapshot bytes
+IsScanFaultOf bytes (BadBatch offset) = IsBadBatch bytes offset
 IsScanFaultOf bytes NoMemory = Unit {0}

@@ -1,6 +1,7 @@
 -- What a crash may leave of a log before, during and after a write.
 use Rattle.std.specs.Prelude.{◌≡◌, ◌≢◌, ◌⊎◌, ℕ, ◌+◌, ◌*◌, List, [], ◌∷◌, ◌++◌, length, drop, slice_get, Option, Some}
 use Rattle.segment_file.specs.File.{written, joined, IsFile, HoldsUnits, BeginsAsLog, BeginsOpen}
+use Rattle.segment_file.specs.Log.{Log, with_units, log_end, HoldsLog}
 use Rattle.segment_file.specs.declared.layout.TheConstants.{OPEN}
 use Rattle.segment_file.specs.declared.scan_result.Tail.{Tail}
 
@@ -13,6 +14,12 @@ pub record StandsAt (tail : Tail) (units bytes : List ℕ) : Type 0 where
   pub place : tail.at ≡ length (written batches)
   pub next : tail.next ≡ length units
 
+-- the bytes hold this log, and their first gate that isn't open is at this tail
+pub record LogStandsAt (tail : Tail) (log : Log) (bytes : List ℕ) : Type 0 where
+  pub held : HoldsLog bytes log
+  pub place : tail.at + length held.rest ≡ length bytes
+  pub next : tail.next ≡ log_end log
+
 -- the tail at this place, with this LSN next
 abbrev pub tail_at : ℕ → ℕ → Tail
 tail_at at next = record { at = at; next = next }
@@ -24,6 +31,10 @@ tail_after tail units = record { at = tail.at + (5 + 8 * length units); next = t
 -- each image holds these units and goes on at this tail
 abbrev pub AllStand : Tail → List ℕ → (List ℕ → Type 0) → Type 0
 AllStand tail units images = (c : List ℕ) → images c → StandsAt tail units c
+
+-- each image holds this log and goes on at this tail
+abbrev pub LogStands : Tail → Log → (List ℕ → Type 0) → Type 0
+LogStands tail log images = (c : List ℕ) → images c → LogStandsAt tail log c
 
 -- the same byte stands at this place in each image, and it opens no gate, whatever follows it
 pub record IsShut (at : ℕ) (images : List ℕ → Type 0) : Type 0 where
@@ -48,3 +59,11 @@ HoldsEither units more bytes = HoldsUnits bytes units ⊎ HoldsUnits bytes (unit
 -- no log, or the log with these units
 abbrev pub HoldsNoneOr : List ℕ → List ℕ → Type 0
 HoldsNoneOr units bytes = (BeginsAsLog bytes → ⊥) ⊎ HoldsUnits bytes units
+
+-- the log before, or the log with the whole batch
+abbrev pub HoldsLogOrMore : Log → List ℕ → List ℕ → Type 0
+HoldsLogOrMore log more bytes = HoldsLog bytes log ⊎ HoldsLog bytes (with_units log more)
+
+-- no log, or this one
+abbrev pub HoldsNoneOrLog : Log → List ℕ → Type 0
+HoldsNoneOrLog log bytes = (BeginsAsLog bytes → ⊥) ⊎ HoldsLog bytes log

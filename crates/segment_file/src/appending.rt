@@ -3,7 +3,8 @@ ghost use Rattle.log_disk.specs.Costs.{Costs};
 ghost use Rattle.log_disk.specs.Faults.{HasCause};
 ghost use Rattle.log_disk.specs.Disk.{put, IsOnlyImage, Leaves};
 ghost use Rattle.lsn_space.specs.declared.lsn.TheConstants.{LAST};
-ghost use Rattle.segment_file.specs.Standing.{tail_after, AllStand, IsShut, HoldsEither};
+ghost use Rattle.segment_file.specs.Log.{Log, with_units};
+ghost use Rattle.segment_file.specs.Standing.{tail_after, IsShut, LogStands, HoldsLogOrMore};
 
 use crate::batch::{Batch, put_count};
 use crate::gated_write::{DiskFault, write_gated};
@@ -20,10 +21,10 @@ pub fn append<D: LogDisk>(disk: &mut D, tail: Tail, batch: &mut Batch) -> Result
     // So that no place passes 64 bits: each unit takes 8 bytes, and each batch 5 more and has a unit.
     requires place { tail.at ≤ 2 ^ 63 + 16 * tail.next }
     requires shut { D.honest disk.old → IsShut tail.at (D.images disk.old) }
-    ensures moments { D.honest disk.old → (units : List ℕ) → AllStand tail units (D.images disk.old)
-        → Leaves D.moment D.images_since (HoldsEither units batch.old.units) disk.old disk.new }
-    ensures appended { D.honest disk.old → IfOk result (λ t. (units : List ℕ) → AllStand tail units (D.images disk.old)
-        → AllStand t (units ++ batch.old.units) (D.images disk.new)) }
+    ensures moments { D.honest disk.old → (log : Log) → LogStands tail log (D.images disk.old)
+        → Leaves D.moment D.images_since (HoldsLogOrMore log batch.old.units) disk.old disk.new }
+    ensures appended { D.honest disk.old → IfOk result (λ t. (log : Log) → LogStands tail log (D.images disk.old)
+        → LogStands t (with_units log batch.old.units) (D.images disk.new)) }
     ensures shut { D.honest disk.old → IfOk result (λ t. IsShut t.at (D.images disk.new)) }
     ensures settled { D.honest disk.old → OnOk result (IsOnlyImage (D.reads disk.new) (D.images disk.new)) }
     ensures place { IfOk result (λ t. t.at ≡ tail.at + 5 + 8 * length batch.old.units) }
@@ -49,10 +50,10 @@ fn append_sealed<D: LogDisk>(disk: &mut D, tail: Tail, batch: &mut Batch) -> Res
     requires fits { tail.next + length batch.old.units ≤ LAST }
     requires place { tail.at < 2 ^ 64 - 1 }
     requires shut { D.honest disk.old → IsShut tail.at (D.images disk.old) }
-    ensures moments { D.honest disk.old → (units : List ℕ) → AllStand tail units (D.images disk.old)
-        → Leaves D.moment D.images_since (HoldsEither units batch.old.units) disk.old disk.new }
-    ensures appended { D.honest disk.old → OnOk result ((units : List ℕ) → AllStand tail units (D.images disk.old)
-        → AllStand (tail_after tail batch.old.units) (units ++ batch.old.units) (D.images disk.new)) }
+    ensures moments { D.honest disk.old → (log : Log) → LogStands tail log (D.images disk.old)
+        → Leaves D.moment D.images_since (HoldsLogOrMore log batch.old.units) disk.old disk.new }
+    ensures appended { D.honest disk.old → OnOk result ((log : Log) → LogStands tail log (D.images disk.old)
+        → LogStands (tail_after tail batch.old.units) (with_units log batch.old.units) (D.images disk.new)) }
     ensures shut { D.honest disk.old → OnOk result (IsShut (tail.at + (5 + 8 * length batch.old.units)) (D.images disk.new)) }
     ensures settled { D.honest disk.old → OnOk result (IsOnlyImage (D.reads disk.new) (D.images disk.new)) }
     ensures batch { batch.new ≡ batch.old }

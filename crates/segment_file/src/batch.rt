@@ -5,8 +5,8 @@ ghost use Rattle.segment_file.specs.declared.layout.TheConstants.{HEAD};
 ghost use Rattle.segment_file.specs.File.{magic};
 
 use crate::layout::HEAD;
-use crate::taking::first_unit;
 use lsn_space::{NoMemory, bytes_of};
+use segment_head::first_unit;
 use std::alloc::Global;
 use std::marker::Model;
 
@@ -102,6 +102,15 @@ pub(crate) fn put_count(bytes: &mut Vec<u8>, count: u32)
     ensures capacity { vec_capacity bytes.old ≤ vec_capacity bytes.new }
 {
     bytes[7..HEAD].copy_from_slice(&count.to_be_bytes());
+}
+
+/// Writes a byte in front of the number of units.
+pub(crate) fn put_before(bytes: &mut Vec<u8>, byte: u8)
+    requires { HEAD ≤ length bytes.old.items }
+    ensures bytes { bytes.new.items ≡ take 6 bytes.old.items ++ (byte ∷ []) ++ drop 7 bytes.old.items }
+    ensures capacity { vec_capacity bytes.old ≤ vec_capacity bytes.new }
+{
+    bytes[6..7].copy_from_slice(&[byte]);
 }
 
 /// Adds the bytes of a unit.

@@ -1,5 +1,5 @@
 ghost use Rattle.std.specs.Prelude.{◌≡◌, ◌<◌, ◌∷◌, ◌++◌, length, IfSome, IfNone};
-ghost use Rattle.segment_file.specs.File.{magic, BeginsOpen, BeginsAsLog};
+ghost use Rattle.segment_file.specs.File.{magic, BeginsOpen, BeginsAsFirst};
 
 use crate::layout::OPEN;
 
@@ -15,10 +15,10 @@ pub fn after_gate(bytes: &[u8]) -> Option<&[u8]>
     }
 }
 
-/// What follows the open gate and the magic bytes that a log file begins with.
+/// What follows the open gate and the magic bytes that a file of the first format begins with.
 pub fn after_magic(bytes: &[u8]) -> Option<&[u8]>
     ensures some { IfSome result (λ rest. bytes.now ≡ OPEN ∷ magic ++ rest.now) }
-    ensures none { IfNone result (BeginsAsLog bytes.now → ⊥) }
+    ensures none { IfNone result (BeginsAsFirst bytes.now → ⊥) }
 {
     match bytes {
         [OPEN, b'A', b'E', b'T', b'H', b'E', b'R', b'1', rest @ ..] => Some(rest),

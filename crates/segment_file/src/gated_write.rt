@@ -1,4 +1,4 @@
-ghost use Rattle.std.specs.Prelude.{◌≡◌, ◌≤◌, ◌<◌, ◌+◌, ◌-◌, ◌^◌, ◌∷◌, ◌↔◌, [], length, max, OnOk};
+ghost use Rattle.std.specs.Prelude.{◌≡◌, ◌≤◌, ◌<◌, ◌+◌, ◌-◌, ◌^◌, ◌∷◌, ◌↔◌, [], length, max, OnOk, List, ℕ};
 ghost use Rattle.log_disk.specs.Costs.{Costs};
 ghost use Rattle.log_disk.specs.Faults.{HasCause};
 ghost use Rattle.log_disk.specs.Disk.{put, IsTorn, MayBeTorn, IsOnlyImage, Leaves};
@@ -31,6 +31,23 @@ pub fn write_synced<D: LogDisk>(disk: &mut D, at: u64, bytes: &[u8]) -> Result<(
 {
     disk.write_at(at, bytes)?;
     disk.sync()?;
+    Ok(())
+}
+
+/// Writes, and leaves it to a later sync to make that stable.
+pub fn write_unsynced<D: LogDisk>(disk: &mut D, at: u64, bytes: &[u8]) -> Result<(), DiskFault>
+    requires { D.honest disk.old → at ≤ length (D.reads disk.old) }
+    ensures written { D.honest disk.old → OnOk result (D.reads disk.new ≡ put at bytes.now (D.reads disk.old)) }
+    ensures torn { D.honest disk.old → IsTorn at (length bytes.now) (D.reads disk.old) (D.reads disk.new) }
+    ensures images { (c : List ℕ) → D.images disk.new c → MayBeTorn at (length bytes.now) (D.images disk.old) c }
+    ensures moments { Leaves D.moment D.images_since (MayBeTorn at (length bytes.now) (D.images disk.old)) disk.old disk.new }
+    ensures honest { D.honest disk.old ↔ D.honest disk.new }
+    ensures attached { D.attached disk.new ≡ D.attached disk.old }
+    ensures count { D.honest disk.old → Costs D.LogDisk 1 1 disk.old disk.new }
+    ensures later { D.moment disk.old ≤ D.moment disk.new }
+    ensures cause { HasCause (D.faults disk.old) (D.faults disk.new) result }
+{
+    disk.write_at(at, bytes)?;
     Ok(())
 }
 

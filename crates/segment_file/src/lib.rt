@@ -1,14 +1,16 @@
 //! The log file: batches of units, each behind a gate byte. A batch counts where its gate is open.
-//! `scan` reads the units of a file's bytes by the grammar of `specs/File.antt`.
+//! `scan` reads what a file's bytes hold by the grammar of `specs/Log.antt`.
 #![tactic(auto)]
 
 mod appending;
 mod batch;
 mod creating;
 mod first_gate;
+mod front;
 mod gate;
 mod gated_write;
 mod layout;
+mod opened_write;
 mod opening;
 mod scan_result;
 mod scanning;
@@ -20,10 +22,11 @@ pub use appending::append;
 pub use batch::Batch;
 pub use creating::create;
 pub use first_gate::has_open_gate;
-pub use gated_write::DiskFault;
-pub use layout::format_numbers;
+pub use gated_write::{DiskFault, write_gated, write_synced, write_unsynced};
+pub use layout::{MOST_UNITS, format_numbers};
+pub use opened_write::write_opened;
 pub use opening::{OpenFault, open_image};
 pub use scan_result::{Scan, ScanFault, Tail};
-pub use scanning::{one_reading, scan};
-pub use settling::settle;
+pub use scanning::{first_format, one_reading, scan};
+pub use settling::{close_gate, settle};
 pub use units::LogUnits;

@@ -2,7 +2,7 @@ ghost use Rattle.std.specs.Prelude.{◌≡◌, ◌≤◌, ◌<◌, ◌+◌, ◌*
 ghost use Rattle.lsn_space.specs.declared.lsn.TheConstants.{LAST};
 
 use crate::units::LogUnits;
-use lsn_space::{LAST, Lsn};
+use lsn_space::{LAST, Lsn, Opening};
 
 /// Where a log goes on: the place in the file of the first gate that isn't open, and the LSN of the next unit.
 #[derive(Clone, Copy, Debug, PartialEq, Eq)]
@@ -30,15 +30,23 @@ impl Tail {
 /// What a log file holds.
 #[derive(Debug, Drop)]
 pub struct Scan {
+    /// What stands before the list of records.
+    pub opening: Opening,
+
+    /// The units of the list.
     pub units: LogUnits,
+
     pub tail: Tail,
 }
 
 /// Why bytes are no log file.
 #[derive(Clone, Copy, Debug, PartialEq, Eq)]
 pub enum ScanFault {
-    /// They don't begin with an open gate and the magic bytes.
+    /// They don't begin with an open gate and the magic bytes of a format.
     NotALog,
+
+    /// In a file of the second format what the list begins with is cut, or a number in it is out of its range.
+    BadSnapshot,
 
     /// No batch stands behind the open gate at this place in the file.
     BadBatch { offset: u64 },

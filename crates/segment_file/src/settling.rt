@@ -2,9 +2,9 @@ ghost use Rattle.std.specs.Prelude.{◌≡◌, ◌≤◌, ◌+◌, ◌^◌, ◌�
 ghost use Rattle.log_disk.specs.Costs.{Costs};
 ghost use Rattle.log_disk.specs.Faults.{HasCause};
 ghost use Rattle.log_disk.specs.Disk.{put, IsOnlyImage, Elapses, Keeps, Leaves};
-ghost use Rattle.segment_file.specs.File.{HoldsUnits};
 ghost use Rattle.segment_file.specs.Gates.{StaysClosed};
-ghost use Rattle.segment_file.specs.Standing.{tail_at, AllStand, IsShut, IsStableGate, LacksGate};
+ghost use Rattle.segment_file.specs.Log.{Log, HoldsLog};
+ghost use Rattle.segment_file.specs.Standing.{tail_at, IsShut, IsStableGate, LacksGate, LogStands};
 
 use crate::gated_write::{DiskFault, write_synced};
 use crate::layout::{CLOSED, OPEN};
@@ -18,10 +18,10 @@ pub fn settle<D: LogDisk>(disk: &mut D, at: u64, next: Lsn) -> Result<Tail, Disk
     requires place { at ≤ 2 ^ 63 }
     requires within { D.honest disk.old → at ≤ length (D.reads disk.old) }
     requires stable { D.honest disk.old → IsStableGate at (D.images disk.old) }
-    ensures moments { D.honest disk.old → (units : List ℕ) → AllStand (tail_at at next) units (D.images disk.old)
-        → Leaves D.moment D.images_since (λ c. HoldsUnits c units) disk.old disk.new }
-    ensures stand { D.honest disk.old → (units : List ℕ) → AllStand (tail_at at next) units (D.images disk.old)
-        → AllStand (tail_at at next) units (D.images disk.new) }
+    ensures moments { D.honest disk.old → (log : Log) → LogStands (tail_at at next) log (D.images disk.old)
+        → Leaves D.moment D.images_since (λ c. HoldsLog c log) disk.old disk.new }
+    ensures stand { D.honest disk.old → (log : Log) → LogStands (tail_at at next) log (D.images disk.old)
+        → LogStands (tail_at at next) log (D.images disk.new) }
     ensures shut { D.honest disk.old → OnOk result (IsShut at (D.images disk.new)) }
     ensures tail { IfOk result (λ t. t ≡ tail_at at next) }
     ensures closed { D.honest disk.old → LacksGate at (D.reads disk.old)
@@ -42,7 +42,7 @@ pub fn settle<D: LogDisk>(disk: &mut D, at: u64, next: Lsn) -> Result<Tail, Disk
 }
 
 /// Writes a closed gate where none is, or where a last byte would become an open one.
-pub(crate) fn close_gate<D: LogDisk>(disk: &mut D, at: u64) -> Result<(), DiskFault>
+pub fn close_gate<D: LogDisk>(disk: &mut D, at: u64) -> Result<(), DiskFault>
     requires within { D.honest disk.old → at ≤ length (D.reads disk.old) }
     requires stable { D.honest disk.old → IsStableGate at (D.images disk.old) }
     ensures moments { D.honest disk.old → Leaves D.moment D.images_since (StaysClosed at (D.images disk.old)) disk.old disk.new }

@@ -6,7 +6,8 @@ ghost use Rattle.segment_file.specs.File.{IsCountedBatch, batch, AreUnits, HasNo
 ghost use Rattle.segment_file.specs.Taking.{TakesBatch};
 
 use crate::layout::MOST_UNITS;
-use lsn_space::{LAST, unit_of};
+use lsn_space::{LAST, Lsn};
+use segment_head::first_unit;
 use std::alloc::AllocError;
 
 /// Why no batch was taken.
@@ -34,19 +35,6 @@ fn split_batch(bytes: &[u8]) -> Option<(u32, &[u8], &[u8])>
     Some((count, body, after))
 }
 
-/// The unit that the bytes begin with, and the bytes behind it.
-pub(crate) fn first_unit(bytes: &[u8]) -> Option<(u64, &[u8])>
-    ensures some { IfSome result (λ u. bytes.now ≡ unit_bytes u.0 ++ u.1.now) }
-    ensures none { IfNone result (length bytes.now < 8) }
-{
-    match bytes {
-        [a, b, c, d, e, f, g, h, rest @ ..] => {
-            Some((unit_of([*a, *b, *c, *d, *e, *f, *g, *h]), rest))
-        }
-        _ => None,
-    }
-}
-
 /// Adds the units that the bytes spell.
 fn push_units(units: &mut Vec<u64>, body: &[u8]) -> Result<(), AllocError>
     requires { length body.now % 8 ≡ 0 }
@@ -61,16 +49,21 @@ fn push_units(units: &mut Vec<u64>, body: &[u8]) -> Result<(), AllocError>
     Ok(())
 }
 
-/// Adds the units of the batch that the bytes begin with, and answers the bytes behind it. A batch with which the log
-/// would pass the last LSN is bad.
-pub fn take_batch<'a>(units: &mut Vec<u64>, bytes: &'a [u8]) -> Result<&'a [u8], BatchFault>
-    ensures taken { IfOk result (λ rest. TakesBatch units.old.items bytes.now units.new.items rest.now) }
-    ensures bad { IsErrOf result BatchFault.Bad → HasNoBatch (length units.old.items) bytes.now }
+/// Adds the units of the batch that the bytes begin with to those of a log that begins at that LSN, and answers the bytes
+/// behind it. A batch with which the log would pass the last LSN is bad.
+pub fn take_batch<'a>(
+    begin: Lsn,
+    units: &mut Vec<u64>,
+    bytes: &'a [u8],
+) -> Result<&'a [u8], BatchFault>
+    ensures taken { IfOk result (λ rest. TakesBatch begin units.old.items bytes.now units.new.items rest.now) }
+    ensures bad { IsErrOf result BatchFault.Bad → HasNoBatch (begin + length units.old.items) bytes.now }
 {
     let Some((count, body, rest)) = split_batch(bytes) else {
         return Err(BatchFault::Bad);
     };
-    if units.len() as u64 + count as u64 > LAST as u64 {
+    let room = u64::from(LAST - begin.units());
+    if units.len() as u64 + count as u64 > room {
         return Err(BatchFault::Bad);
     }
     match push_units(units, body) {

@@ -18,12 +18,12 @@ pub write_gated-appended-requires-clause-within : goal.write_gated-appended-requ
 write_gated-appended-requires-clause-within g c = λ honest. shut-within _ _ (c.requires.shut honest) _ (g.met.D.LogDisk.read_is_image _ honest)
 
 pub returns-clause-moments : goal.returns-clause-moments
-returns-clause-moments g c = λ honest units stand.
+returns-clause-moments g c = λ honest log stand.
     let packed = packed-view _ _ _ _ _ c.batch.invariant c.batch.view_is in
     let body = counted-body _ _ _ _ packed _ _ c.count-count.ensures c.put_count.ensures.bytes _ _ (c.as_slice.ensures.value ∙ c.push_reserved.ensures.items) c.split_at.ensures.back in
     let moments = rw body at (c.write_gated-appended.ensures.moments honest) in
     Leaves-weaken g.D.LogDisk.moment g.D.LogDisk.images_since _ _ _ _
-    (holds-either c.args.tail units _ _ _ (g.met.D.LogDisk.read_is_image _ honest) (c.requires.shut honest) (counted _ _ _ _ packed c.requires.some c.requires.most) c.requires.fits stand)
+    (holds-either c.args.tail log _ _ _ (g.met.D.LogDisk.read_is_image _ honest) (c.requires.shut honest) (counted _ _ _ _ packed c.requires.some c.requires.most) c.requires.fits stand)
     moments
 
 pub returns-clause-appended : goal.returns-clause-appended
@@ -31,8 +31,8 @@ returns-clause-appended g c = λ honest.
     let packed = packed-view _ _ _ _ _ c.batch.invariant c.batch.view_is in
     let body = counted-body _ _ _ _ packed _ _ c.count-count.ensures c.put_count.ensures.bytes _ _ (c.as_slice.ensures.value ∙ c.push_reserved.ensures.items) c.split_at.ensures.back in
     let written = rw body at (c.write_gated-appended.ensures.written honest) in
-    OnOk-both c.write_gated-appended.result (λ written settled units stand.
-    all_stand-more c.args.tail units _ _ _ (g.met.D.LogDisk.read_is_image _ honest) (c.requires.shut honest) (counted _ _ _ _ packed c.requires.some c.requires.most) c.requires.fits stand
+    OnOk-both c.write_gated-appended.result (λ written settled log stand.
+    all_stand-more c.args.tail log _ _ _ (g.met.D.LogDisk.read_is_image _ honest) (c.requires.shut honest) (counted _ _ _ _ packed c.requires.some c.requires.most) c.requires.fits stand
     _ (omega arith) (omega arith) _ _ written settled) written (c.write_gated-appended.ensures.settled honest)
 
 pub returns-clause-shut : goal.returns-clause-shut

@@ -1,4 +1,4 @@
-use Rattle.std.proofs.Common.{◌≡◌, ◌∙◌, ◌+◌, ap, arith, subst, sym, drop, length, length-append, refl, rules, take}
+use Rattle.std.proofs.Common.{◌∙◌, ◌+◌, ap, arith, subst, sym, length, length-append, refl, rules, take}
 use Rattle.std.proofs.lemmas.List.{length-take-le}
 use Rattle.log_disk.specs.Faults.{raised}
 use Rattle.segment_file.proofs.OpeningLemmas.{HasSpent, HasSpent-more, bytes-more}

@@ -1,52 +1,58 @@
-use Rattle.std.proofs.Common.{◌≡◌, [], ◌∷◌, ◌++◌, ◌∙◌, ap, refl, length, arith, length-append}
-use Rattle.std.proofs.lemmas.Grind.{common_steps}
-use Rattle.std.proofs.lemmas.List.{append-nil}
-use Rattle.segment_file.specs.File.{written, joined}
-use Rattle.segment_file.proofs.FileLemmas.{bad-first, bad-later, written-first, written-next, counted-more, joined-more}
+use Rattle.std.proofs.Common.{List, ℕ, ◌∷◌, [], ◌++◌, ◌∙◌, ap, subst, length, arith}
+use Rattle.std.specs.List.{flat_map}
+use Rattle.lsn_space.specs.Opening.{Opening}
+use Rattle.segment_file.specs.File.{gated}
+use Rattle.segment_file.specs.Log.{later_batch, IsFront}
+use Rattle.segment_file.proofs.FileLemmas.{counted-more}
+use Rattle.segment_file.proofs.ScanLemmas.{reads-to, rest-shorter, whole-next, units-next}
 use Rattle.segment_file.proofs.scanning.scan.Goals as goal
-
-pub returns-in-Err-Bad-clause-fault : goal.returns-in-Err-Bad-clause-fault
-returns-in-Err-Bad-clause-fault c =
-    let none = c.in-Err-Bad.ensures.bad (cc) in
-    bad-first _ _ 0 c.in-Some.ensures.some refl (rw (c.new-units.ensures.items) at none)
-
-pub returns-in-Err-Bad-take_batch-clause-fault : goal.returns-in-Err-Bad-take_batch-clause-fault
-returns-in-Err-Bad-take_batch-clause-fault c =
-    let before = c.batches.invariant in
-    let gate = c.in-Some-after_gate.ensures.some in
-    let none = c.in-Err-Bad-take_batch.ensures.bad (cc) in
-    bad-later _ c.batches.rest.now _ before.read before.some before.whole gate.0 _ before.each before.total gate.1
-    (omega (arith, ap length before.whole, length-append (written before.read) c.batches.rest.now))
-    (c.in-Some.body.now, c.in-Some.ensures.some) (rw before.units at none)
-
-pub batches-init : goal.batches-init
-batches-init c =
-    let taken = c.in-Ok.ensures.taken in
-    let units : c.take_batch.new.units.items ≡ joined (taken.units ∷ []) = taken.added ∙ rw (c.new-units.ensures.items, append-nil taken.units) refl in
-    record {
-      read = taken.units ∷ [];
-      some = omega arith;
-      each = (taken.counted, tt);
-      whole = written-first _ _ taken.units _ c.in-Some.ensures.some taken.front;
-      units = units;
-      total = rw (← units) taken.total;
-    }
 
 pub batches-preserved : goal.batches-preserved
 batches-preserved c =
     let before = c.batches.invariant in
     let taken = c.in-Ok-take_batch.ensures.taken in
-    let gate = c.in-Some-after_gate.ensures.some in
-    let units : c.take_batch-in-Some-after_gate.new.units.items ≡ joined (before.read ++ taken.units ∷ []) =
-    taken.added ∙ rw (before.units, joined-more before.read taken.units) refl in
+    let gate = c.in-Some.ensures.some in
     record {
+      front = before.front;
+      first = before.first;
+      begins = before.begins;
       read = before.read ++ taken.units ∷ [];
-      some = omega (arith, length-append before.read (taken.units ∷ []));
       each = counted-more _ _ before.each taken.counted;
-      whole = written-next _ _ _ taken.units _ before.read before.some before.whole gate.0 taken.front;
-      units = units;
-      total = rw (← units) taken.total;
+      whole = whole-next _ before.front before.read _ _ taken.units _ before.whole gate.0 taken.front;
+      units = units-next before.first before.read _ taken.units _ before.units taken.added;
+      begin = before.begin;
+      total = taken.total;
     }
 
+pub returns-in-Err-Bad-clause-fault : goal.returns-in-Err-Bad-clause-fault
+returns-in-Err-Bad-clause-fault c =
+    let before = c.batches.invariant in
+    let gate = c.in-Some.ensures.some in
+    let recorded : List ℕ = before.front ++ flat_map gated before.read in
+    let opening : Opening = record { lsn = c.opening.inside.lsn; txn = c.opening.inside.txn; accounts = c.opening.inside.accounts.rows } in
+    later_batch (record { opening = opening; units = c.batches.units.items }) (record {
+      body = c.in-Some.body.now;
+      some = gate.1;
+      reads = reads-to _ before.front before.first opening before.read _ _ before.begins before.each (before.whole ∙ ap (λ rest. recorded ++ rest) gate.0)
+          before.units before.total;
+      place = omega (arith, ap length gate.0, rest-shorter c.args.bytes.now recorded c.batches.rest.now before.whole);
+      none = c.in-Err-Bad.ensures.bad (cc);
+    })
+
 pub returns-clause-found : goal.returns-clause-found
-returns-clause-found c = grind (arith, common_steps) steps 2000000
+returns-clause-found c =
+    let before = c.batches.invariant in
+    let recorded : List ℕ = before.front ++ flat_map gated before.read in
+    let begins = subst (λ (opening : Opening). IsFront before.front opening before.first) c.opening.view_is before.begins in
+    let same = ap length c.new-2.ensures in
+    let begin = ap (λ (opening : Opening). opening.lsn) c.opening.view_is in
+    record {
+      held = record {
+        rest = c.batches.rest.now;
+        reads = reads-to _ before.front before.first _ before.read _ _ begins before.each before.whole (c.new-2.ensures ∙ before.units)
+            (omega (arith, before.total, same, begin));
+        closed = c.in_default.ensures.none;
+      };
+      place = omega (arith, rest-shorter c.args.bytes.now recorded c.batches.rest.now before.whole);
+      next = omega (arith, c.new.ensures, c.units.ensures, c.len.ensures, same, begin);
+    }

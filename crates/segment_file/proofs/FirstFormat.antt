@@ -1,0 +1,82 @@
+-- Logs with nothing before their list are the files of the first format.
+use Rattle.std.proofs.Common.{◌≡◌, inl, inr, ⊎_elim, ◌∙◌, ap, refl, ℕ, List, [], ◌∷◌, ◌++◌, length, arith, length-append}
+use Rattle.std.specs.List.{flat_map}
+use Rattle.segment_file.specs.declared.layout.TheConstants.{OPEN}
+use Rattle.segment_file.specs.declared.scan_result.Tail.{Tail}
+use Rattle.segment_file.specs.File.{magic, batch, gated, written, joined, BeginsOpen, IsFile, HoldsUnits}
+use Rattle.segment_file.specs.Log.{whole_log, IsFront, first_format, second_format, ReadsTo, HoldsLog}
+use Rattle.segment_file.specs.Standing.{StandsAt, AllStand, HoldsEither, LogStandsAt, LogStands, HoldsLogOrMore}
+
+-- a file of the first format is read up to its last gate
+file-reads : (bytes units : List ℕ) (batches : List (List ℕ)) (rest : List ℕ) → IsFile bytes batches rest → units ≡ joined batches
+    → ReadsTo bytes (whole_log units) rest
+file-reads bytes units [] rest file is = let some = file.some in absurd (omega arith)
+file-reads bytes units (b ∷ bs) rest file is = record {
+  front = OPEN ∷ magic ++ batch b;
+  first = b;
+  begins = first_format refl file.each.0 refl;
+  batches = bs;
+  each = file.each.1;
+  units = is;
+  total = omega (arith, file.total, ap length is);
+  whole = file.whole;
+}
+
+pub units-log : (bytes units : List ℕ) → HoldsUnits bytes units → HoldsLog bytes (whole_log units)
+units-log bytes units held = record { rest = held.1; reads = file-reads bytes units held.0 held.1 held.2 held.3; closed = held.2.closed }
+
+-- and back
+record FileOf (bytes units rest : List ℕ) : Type 0 where
+  pub batches : List (List ℕ)
+  pub file : IsFile bytes batches rest
+  pub units_are : units ≡ joined batches
+
+reads-file : (bytes units rest : List ℕ) (reads : ReadsTo bytes (whole_log units) rest) → IsFront reads.front (whole_log units).opening reads.first
+    → (BeginsOpen rest → ⊥) → FileOf bytes units rest
+reads-file bytes units rest reads (second_format held none is) closed = let some = held.some in absurd (omega arith)
+reads-file bytes units rest reads (first_format nothing counted is) closed = record {
+  batches = reads.first ∷ reads.batches;
+  file = record {
+    some = omega arith;
+    each = (counted, reads.each);
+    whole = reads.whole ∙ ap (λ list. list ++ flat_map gated reads.batches ++ rest) is;
+    closed = closed;
+    total = omega (arith, reads.total, ap length reads.units);
+  };
+  units_are = reads.units;
+}
+
+log-file : (bytes units : List ℕ) (held : HoldsLog bytes (whole_log units)) → FileOf bytes units held.rest
+log-file bytes units held = reads-file bytes units held.rest held.reads held.reads.begins held.closed
+
+pub log-units : (bytes units : List ℕ) → HoldsLog bytes (whole_log units) → HoldsUnits bytes units
+log-units bytes units held = let of = log-file bytes units held in (of.batches, held.rest, of.file, of.units_are)
+
+-- at a tail
+pub stands-log : (tail : Tail) (units bytes : List ℕ) → StandsAt tail units bytes → LogStandsAt tail (whole_log units) bytes
+stands-log tail units bytes stands = record {
+  held = record { rest = stands.rest; reads = file-reads bytes units stands.batches stands.rest stands.file stands.units_are; closed = stands.file.closed };
+  place = omega (arith, stands.place, ap length stands.file.whole, length-append (written stands.batches) stands.rest);
+  next = omega (arith, stands.next);
+}
+
+pub log-stands : (tail : Tail) (units bytes : List ℕ) → LogStandsAt tail (whole_log units) bytes → StandsAt tail units bytes
+log-stands tail units bytes stands =
+    let of = log-file bytes units stands.held in
+    record {
+      batches = of.batches;
+      rest = stands.held.rest;
+      file = of.file;
+      units_are = of.units_are;
+      place = omega (arith, stands.place, ap length of.file.whole, length-append (written of.batches) stands.held.rest);
+      next = omega (arith, stands.next);
+    }
+
+pub all-log : (tail : Tail) (units : List ℕ) (images : List ℕ → Type 0) → AllStand tail units images → LogStands tail (whole_log units) images
+all-log tail units images stand c left = stands-log tail units c (stand c left)
+
+pub log-all : (tail : Tail) (units : List ℕ) (images : List ℕ → Type 0) → LogStands tail (whole_log units) images → AllStand tail units images
+log-all tail units images stand c left = log-stands tail units c (stand c left)
+
+pub log-either : (units more c : List ℕ) → HoldsLogOrMore (whole_log units) more c → HoldsEither units more c
+log-either units more c held = ⊎_elim (λ before. inl (log-units c units before)) (λ whole. inr (log-units c (units ++ more) whole)) held
