@@ -1,4 +1,4 @@
-//! Tests of `segment_file`.
+//! Tests of `segment_file`, `segment_head` and `segment_cut`.
 #![tactic(auto)]
 
 #[cfg(test)]
@@ -6,4 +6,8 @@ mod crashes;
 #[cfg(test)]
 mod first_gate;
 #[cfg(test)]
+mod heads;
+#[cfg(test)]
 mod scanning;
+#[cfg(test)]
+mod upgrades;

@@ -82,7 +82,7 @@ fn names_the_first_bad_batch(rt: HostRuntime) -> Result<(), Fail> {
     Ok(())
 }
 
-const NO_LOGS: &[&[u8]] = &[b"", b"O", b"OAETHER2\0\0\0\x01", b"\0AETHER1\0\0\0\x01"];
+const NO_LOGS: &[&[u8]] = &[b"", b"O", b"OAETHER3\0\0\0\x01", b"\0AETHER1\0\0\0\x01"];
 
 #[test]
 fn refuses_what_does_not_begin_as_a_log(rt: HostRuntime) {
