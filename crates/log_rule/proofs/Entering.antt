@@ -13,11 +13,12 @@ use Rattle.log_record.specs.declared.limits.TheConstants.{MOST_BALANCE}
 use Rattle.lock_core.specs.Records.{txn_of, commits, ends, gain, loss}
 use Rattle.lock_core.specs.History.{end_from}
 use Rattle.lock_core.specs.Transactions.{recs_of, own_records_of, changes_in, has_end, has_commit, is_committed, touches, all_without_prev, in_order}
-use Rattle.lock_core.specs.Sums.{BaseState, moved, total, AreInRange, balance_of, last_commit_of}
+use Rattle.lock_core.specs.Sums.{BaseState, as_opening, moved, total, AreInRange, balance_of, last_commit_of}
 use Rattle.lock_core.specs.Tests.{IsCurrent, IsGenesis}
 use Rattle.lock_core.specs.Alone.{with_note, IsAllowedLeg}
 use Rattle.lock_core.specs.Serial.{Task, IsRunWhole}
-use Rattle.lock_core.proofs.Appending.{passes-after}
+use Rattle.lock_core.specs.Lawful.{tests, Passes}
+use Rattle.lock_core.proofs.GoingOn.{passes-behind}
 use Rattle.lock_core.proofs.Meeting.{MeetsTests}
 use Rattle.lock_core.proofs.OneMore.{of_transaction-same, has_commit-unended, total-plain, total-commit, last_commit_of-plain, last_commit_of-commit}
 use Rattle.lock_core.proofs.Running.{AgreesOn, planned_from-agrees, planned_records-without_prev, planned_records-outcome, all_without_prev-in_order, no_commit}
@@ -49,6 +50,22 @@ module _ (base : BaseState) (words : ℕ → ℕ) (h : List Placed) (all : List 
 
   abbrev before : List Rec
   before = recs_of mine.placed
+
+  -- a leg is allowed, so there is an account
+  some_account : 0 < base.accounts
+  some_account = by_legs mine.last.job.legs allowed.job.legs.some allowed.job.legs.each
+    where
+      allowed : MayBeTaken base.accounts mine.last
+      allowed = (holder.last me mine at some_job).0
+
+      by_legs : (legs : List (ℕ × ℕ × ℕ)) → 1 ≤ length legs → AllByRecursion (IsAllowedLeg base.accounts) legs → 0 < base.accounts
+      by_legs [] least each = absurd (omega arith)
+      by_legs (leg ∷ legs) least each = let payer = each.0.payer in omega arith
+
+  -- a record of the job that meets the tests passes them all, behind the table's base
+  passes-all : (entry : Placed) → txn_of entry.rec ≡ mine.last.number → (IsGenesis entry.rec → ⊥) → MeetsTests base h entry
+      → AllByRecursion (Passes (as_opening base) h entry) tests
+  passes-all entry own other meets = passes-behind (as_opening base) h entry some_account s.lawful other (omega arith) meets
 
   known : (account : ℕ) → Mine account → account < base.accounts
   known account has = let f = found (IsAsTaken base.accounts words) account mine.held has (holder.taken me mine at) in
@@ -121,7 +138,7 @@ module _ (base : BaseState) (words : ℕ → ℕ) (h : List Placed) (all : List 
       passes-plain : MeetsTests base h entry → (IsGenesis entry.rec → ⊥) → IsRunPartly base (entry ∷ h) task
           → AccountsFollowList base words (entry ∷ h) (set all me (record mine { placed = entry ∷ mine.placed }))
       passes-plain meets other ran = grows base words h all me mine entry distinct holder s at some_job own
-          (passes-after base h entry other meets) range-plain (λ account _. same-plain account) follows-plain ran
+          (passes-all entry own other meets) range-plain (λ account _. same-plain account) follows-plain ran
 
   -- what the log has of the job, once the record is in it
   has-more : (entry : Placed) → txn_of entry.rec ≡ mine.last.number → own_records_of mine.last.number (entry ∷ h) ≡ entry.rec ∷ before
@@ -233,7 +250,7 @@ module _ (base : BaseState) (words : ℕ → ℕ) (h : List Placed) (all : List 
     pub commit-enters : AccountsFollowList base words (commit ∷ h) (set all me (placing end (Commit txn legs) mine))
     commit-enters = let list = tied-to txn is-commit.own in
         grows base words h all me mine commit distinct holder s at some_job is-commit.own
-        (passes-after base h commit (λ g. g) record {
+        (passes-all commit is-commit.own (λ g. g) record {
           account = tt;
           ended = ap has_end list ∙ unended;
           legs = ap (λ records. length (changes_in records)) list ∙ is-commit.count;

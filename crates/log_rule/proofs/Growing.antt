@@ -9,8 +9,8 @@ use Rattle.slot_word.specs.AccountWord.{held_in}
 use Rattle.log_record.specs.declared.rec.Placed.{Placed}
 use Rattle.lock_core.specs.Records.{txn_of, gain, loss}
 use Rattle.lock_core.specs.Transactions.{of_transaction}
-use Rattle.lock_core.specs.Sums.{BaseState, total, AreInRange, last_commit_of}
-use Rattle.lock_core.specs.Lawful.{tests, PassesAfter}
+use Rattle.lock_core.specs.Sums.{BaseState, as_opening, total, AreInRange, last_commit_of}
+use Rattle.lock_core.specs.Lawful.{tests, Passes}
 use Rattle.lock_core.specs.Serial.{IsRunWhole, IsCutShort}
 use Rattle.lock_core.proofs.OneMore.{of_transaction-same, of_transaction-other}
 use Rattle.lock_core.proofs.SerialFronts.{IsRunPartly, run_partly-other}
@@ -91,7 +91,7 @@ module _ (base : BaseState) (words : ℕ → ℕ) (h : List Placed) (all : List 
   abbrev Lasts : Books → Type 0
   Lasts b = 1 ≤ b.last.number → AllByRecursion (λ (taken : TakenJob). taken.number ≡ b.last.number → taken.job ≡ b.last.job) b.jobs
 
-  pub grows : AllByRecursion (PassesAfter base h entry) tests → AreInRange base (entry ∷ h)
+  pub grows : AllByRecursion (Passes (as_opening base) h entry) tests → AreInRange base (entry ∷ h)
       → ((account : ℕ) → times_held account mine.held ≡ 0 → IsSameAt base h entry account)
       → AllByRecursion (Follows base (entry ∷ h) (entry ∷ mine.placed)) mine.held → IsRunPartly base (entry ∷ h) (task_of mine.last)
       → AccountsFollowList base words (entry ∷ h) (set all me new)

@@ -12,8 +12,8 @@ use Rattle.lock_core.specs.Transfers.{IsAllowedJob}
 use Rattle.lock_core.specs.Records.{gain, loss}
 use Rattle.lock_core.specs.History.{end_from}
 use Rattle.lock_core.specs.Transactions.{of_transaction, recs_of, changes_in, has_commit, touches}
-use Rattle.lock_core.specs.Sums.{BaseState, moved, total, IsBalanceOf, AreInRange, last_commit_of}
-use Rattle.lock_core.specs.Lawful.{IsLawfulAfter}
+use Rattle.lock_core.specs.Sums.{BaseState, as_opening, moved, total, IsBalanceOf, AreInRange, last_commit_of}
+use Rattle.lock_core.specs.Lawful.{IsLawful}
 use Rattle.lock_core.specs.Serial.{IsRunWhole, IsCutShort}
 use Rattle.log_rule.specs.declared.view.TakenJob.{TakenJob}
 use Rattle.log_rule.specs.declared.view.Held.{Held}
@@ -100,7 +100,7 @@ WentBack base h given = given.committed ≡ false → IsOfFront base h given
 -- has of a seat's last job is what the seat placed. Each free account's word is that of the list, and each held account follows it; one
 -- that was given back uncommitted had the balance of a front. Each job is run whole or cut short, and there are no other transactions.
 pub record AccountsFollowList (base : BaseState) (words : ℕ → ℕ) (h : List Placed) (all : List Books) : Type 0 where
-  pub lawful : IsLawfulAfter base h
+  pub lawful : IsLawful (as_opening base) h
   pub range : AreInRange base h
   pub placed : Everywhere (λ (books : Books). 1 ≤ books.last.number → of_transaction books.last.number h ≡ books.placed) all
   pub last : Everywhere (λ (books : Books). 1 ≤ books.last.number

@@ -10,10 +10,10 @@ use Rattle.slot_word.specs.AccountWord.{balance_in, mark_in}
 use Rattle.log_record.specs.declared.rec.Rec.{Rec}
 use Rattle.log_record.specs.declared.rec.Placed.{Placed}
 use Rattle.lock_core.specs.History.{history_from}
-use Rattle.lock_core.specs.Lawful.{IsLawfulAfter}
+use Rattle.lock_core.specs.Lawful.{IsLawful}
 use Rattle.lock_core.specs.Serial.{Task, IsPartlySerialAfter}
 use Rattle.lock_core.specs.Settling.{row, KeepsRows}
-use Rattle.lock_core.specs.Sums.{BaseState}
+use Rattle.lock_core.specs.Sums.{BaseState, as_opening}
 use Rattle.log_rule.specs.Accounts.{WentBack}
 use Rattle.log_rule.specs.Books.{task_of, times_taken}
 use Rattle.log_rule.specs.Layout.{Account, Slot, index_of}
@@ -43,7 +43,7 @@ history_of base entries = history_from base.end [] (records_of entries)
 -- The list is a lawful continuation of the base state. These jobs are run whole or cut short in it, and it has no other transactions.
 -- The rows are its accounts.
 pub record IsLedger (base : BaseState) (h : List Placed) (tasks : List Task) (rows : List (ℕ × ℕ)) : Type 0 where
-  pub lawful : IsLawfulAfter base h
+  pub lawful : IsLawful (as_opening base) h
   pub serial : IsPartlySerialAfter base tasks h
   pub accounts : KeepsRows rows base h
 
