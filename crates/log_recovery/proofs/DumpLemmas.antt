@@ -4,14 +4,15 @@ use Rattle.std.specs.List.{AllByRecursion}
 use Rattle.std.proofs.lemmas.List.{append-nil}
 use Rattle.std.proofs.lemmas.List.Elements.{All-from_recursion}
 use Rattle.log_disk.specs.Streams.{AppendsPart, AppendsBut}
-use Rattle.log_disk.proofs.Blocks.{AppendsBut-none, AppendsBut-more, AppendsBut-part, AppendsPart-first}
+use Rattle.log_disk.proofs.Blocks.{AppendsBut-more, AppendsBut-part, AppendsPart-first}
 use Rattle.log_record.specs.declared.rec.Rec.{Rec}
 use Rattle.log_record.specs.declared.rec.Rec.TheVariants.{Genesis, Update, Commit, Short, Over, Note}
 use Rattle.log_record.specs.LogList.{AreUnitsOf, units_of, end_of, size_of}
 use Rattle.log_record.specs.Spelling.{spelling, IsSpellable, BeginsWith}
 use Rattle.log_record.proofs.SpellingLemmas.{spelling-append-injective, units_of-injective}
 use Rattle.lock_core.proofs.ListLemmas.{all-split}
-use Rattle.log_recovery.specs.Dump.{record_line, record_lines, dump_text}
+use Rattle.lsn_space.specs.Opening.{Opening}
+use Rattle.log_recovery.specs.Dump.{record_line, record_lines, opening_lines, dump_text}
 use Rattle.log_recovery.specs.Listing.{IsFront}
 use Rattle.log_recovery.specs.Text.{lsn_line}
 use Rattle.log_recovery.proofs.AnswerLemmas.{some_unit}
@@ -42,18 +43,29 @@ pub dumps-less : (rest after : List ℕ) (rec : Rec) → (length rest ≡ 0 → 
 dumps-less rest after rec some behind =
     let less = ap length behind ∙ length-drop (length (spelling rec)) rest in let units = some-units rec in omega (arith, some)
 
--- the lines of the records before this rest of the units are written, but for the bytes that wait
-pub record DumpsFront (units rest waiting : List ℕ) (old new : Option (List ℕ)) : Type 0 where
+-- the lines before these records, and theirs
+abbrev lines_to : Opening → List Rec → List ℕ
+lines_to opening records = opening_lines opening ++ record_lines opening.lsn records
+
+-- the lines of the records before this rest of the units are written, and what stands before the list, but for the bytes that wait
+pub record DumpsFront (opening : Opening) (units rest waiting : List ℕ) (old new : Option (List ℕ)) : Type 0 where
   pub done : List Rec
   pub more : List Rec
   pub list : AreUnitsOf units (done ++ more)
   pub left : rest ≡ units_of more
-  pub written : AppendsBut old new (record_lines 0 done) waiting
+  pub written : AppendsBut old new (opening_lines opening ++ record_lines opening.lsn done) waiting
 
-pub dumps-none : (units : List ℕ) (records : List Rec) (old : Option (List ℕ)) → AreUnitsOf units records → DumpsFront units units [] old old
-dumps-none units records old list = record { done = []; more = records; list = list; left = list.units_are; written = AppendsBut-none old [] }
+pub dumps-none : (opening : Opening) (units waiting : List ℕ) (records : List Rec) (old mid : Option (List ℕ)) → AreUnitsOf units records
+    → AppendsBut old mid (opening_lines opening) waiting → DumpsFront opening units units waiting old mid
+dumps-none opening units waiting records old mid list written = record {
+  done = [];
+  more = records;
+  list = list;
+  left = list.units_are;
+  written = subst (λ bytes. AppendsBut old mid bytes waiting) (sym (append-nil (opening_lines opening))) written;
+}
 
-module _ (units rest waiting : List ℕ) (old mid : Option (List ℕ)) (before : DumpsFront units rest waiting old mid) where
+module _ (opening : Opening) (units rest waiting : List ℕ) (old mid : Option (List ℕ)) (before : DumpsFront opening units rest waiting old mid) where
   each : AllByRecursion IsSpellable before.done × AllByRecursion IsSpellable before.more
   each = all-split IsSpellable before.done before.more before.list.spellable
 
@@ -79,14 +91,14 @@ module _ (units rest waiting : List ℕ) (old mid : Option (List ℕ)) (before :
   unfolding dumps-front
   front-length = front-end units before.done rest dumps-front.whole
 
-  pub dumps-fits : (end : ℕ) → end ≡ length units → length rest ≤ end
+  pub dumps-fits : (end : ℕ) → end ≡ opening.lsn + length units → length rest ≤ end
   dumps-fits end is = let lengths = front-length in omega arith
 
   -- the place of the rest
-  dumps-place : (start : ℕ) → start + length rest ≡ length units → start ≡ 0 + end_of before.done
+  dumps-place : (start : ℕ) → start + length rest ≡ opening.lsn + length units → start ≡ opening.lsn + end_of before.done
   dumps-place start place = let lengths = front-length in omega arith
 
-  module _ (start : ℕ) (place : start + length rest ≡ length units) (rec : Rec) (begun : BeginsWith rest rec) (some : length rest ≡ 0 → ⊥) where
+  module _ (start : ℕ) (place : start + length rest ≡ opening.lsn + length units) (rec : Rec) (begun : BeginsWith rest rec) (some : length rest ≡ 0 → ⊥) where
     parts : (first : Rec) × (later : List Rec) × (before.more ≡ first ∷ later)
     parts = begins before.more refl some
 
@@ -97,14 +109,18 @@ module _ (units rest waiting : List ℕ) (old mid : Option (List ℕ)) (before :
     more-is : before.more ≡ rec ∷ parts.1
     more-is = parts.2 ∙ ap (λ r. r ∷ parts.1) (sym same.0)
 
-    lines-more : record_lines 0 (before.done ++ rec ∷ []) ≡ record_lines 0 before.done ++ record_line start rec
-    lines-more = record_lines-append 0 before.done (rec ∷ [])
-        ∙ ap (λ n. record_lines 0 before.done ++ (record_line n rec ++ [])) (sym (dumps-place start place))
-        ∙ ap (λ l. record_lines 0 before.done ++ l) (append-nil (record_line start rec))
+    record-more : record_lines opening.lsn (before.done ++ rec ∷ []) ≡ record_lines opening.lsn before.done ++ record_line start rec
+    record-more = record_lines-append opening.lsn before.done (rec ∷ [])
+        ∙ ap (λ n. record_lines opening.lsn before.done ++ (record_line n rec ++ [])) (sym (dumps-place start place))
+        ∙ ap (λ l. record_lines opening.lsn before.done ++ l) (append-nil (record_line start rec))
+
+    lines-more : lines_to opening (before.done ++ rec ∷ []) ≡ lines_to opening before.done ++ record_line start rec
+    lines-more = ap (λ l. opening_lines opening ++ l) record-more
+        ∙ sym (append_assoc (opening_lines opening) (record_lines opening.lsn before.done) (record_line start rec))
 
     -- one more line is put
     pub dumps-more : (new : Option (List ℕ)) (after waiting' : List ℕ) → after ≡ drop (length (spelling rec)) rest
-        → AppendsBut mid new (waiting ++ record_line start rec) waiting' → DumpsFront units after waiting' old new
+        → AppendsBut mid new (waiting ++ record_line start rec) waiting' → DumpsFront opening units after waiting' old new
     dumps-more new after waiting' dropped line = record {
       done = before.done ++ rec ∷ [];
       more = parts.1;
@@ -118,22 +134,24 @@ module _ (units rest waiting : List ℕ) (old mid : Option (List ℕ)) (before :
         drop-front [] ys = refl
         drop-front (x ∷ xs) ys = drop-front xs ys
 
-    whole-text : dump_text (before.done ++ before.more)
-        ≡ (record_lines 0 before.done ++ record_line start rec)
-        ++ (record_lines (0 + end_of (before.done ++ rec ∷ [])) parts.1 ++ lsn_line (end_of (before.done ++ before.more)))
+    whole-text : dump_text (record { opening = opening; records = before.done ++ before.more })
+        ≡ (lines_to opening before.done ++ record_line start rec)
+        ++ (record_lines (opening.lsn + end_of (before.done ++ rec ∷ [])) parts.1 ++ lsn_line (opening.lsn + end_of (before.done ++ before.more)))
     whole-text =
         let all : before.done ++ before.more ≡ (before.done ++ rec ∷ []) ++ parts.1 =
         ap (λ l. before.done ++ l) more-is ∙ sym (append_assoc before.done (rec ∷ []) parts.1) in
-        ap (λ l. l ++ lsn_line (end_of (before.done ++ before.more)))
-        (ap (record_lines 0) all ∙ record_lines-append 0 (before.done ++ rec ∷ []) parts.1
-        ∙ ap (λ l. l ++ record_lines (0 + end_of (before.done ++ rec ∷ [])) parts.1) lines-more)
-        ∙ append_assoc (record_lines 0 before.done ++ record_line start rec) _ _
+        let later : List ℕ = record_lines (opening.lsn + end_of (before.done ++ rec ∷ [])) parts.1 in
+        ap (λ l. l ++ lsn_line (opening.lsn + end_of (before.done ++ before.more)))
+        (ap (lines_to opening) all ∙ ap (λ l. opening_lines opening ++ l) (record_lines-append opening.lsn (before.done ++ rec ∷ []) parts.1)
+        ∙ sym (append_assoc (opening_lines opening) (record_lines opening.lsn (before.done ++ rec ∷ [])) later)
+        ∙ ap (λ l. l ++ later) lines-more)
+        ∙ append_assoc (lines_to opening before.done ++ record_line start rec) later _
 
     -- of the lines with one more a part is written
     pub dumps-cut : (new : Option (List ℕ)) (records : List Rec) → AreUnitsOf units records → AppendsPart mid new (waiting ++ record_line start rec)
-        → AppendsPart old new (dump_text records)
+        → AppendsPart old new (dump_text (record { opening = opening; records = records }))
     dumps-cut new records list cut =
-        subst (λ l. AppendsPart old new (dump_text l)) (one-list_of units (before.done ++ before.more) records before.list list)
+        subst (λ l. AppendsPart old new (dump_text (record { opening = opening; records = l }))) (one-list_of units (before.done ++ before.more) records before.list list)
         (AppendsPart-first old new _ _ _ (AppendsBut-part old mid new _ waiting before.written (record_line start rec) cut) whole-text)
 
   -- the whole is written
@@ -146,16 +164,17 @@ module _ (units rest waiting : List ℕ) (old mid : Option (List ℕ)) (before :
     done-is = sym (append-nil before.done) ∙ ap (λ l. before.done ++ l) (sym (none-left before.more refl))
         ∙ one-list_of units (before.done ++ before.more) records before.list list
 
-    whole : (lsn : ℕ) → lsn ≡ end_of records → dump_text records ≡ record_lines 0 before.done ++ lsn_line lsn
-    whole lsn end = ap (λ l. record_lines 0 l ++ lsn_line (end_of records)) (sym done-is) ∙ ap (λ n. record_lines 0 before.done ++ lsn_line n) (sym end)
+    whole : (lsn : ℕ) → lsn ≡ opening.lsn + end_of records → dump_text (record { opening = opening; records = records }) ≡ lines_to opening before.done ++ lsn_line lsn
+    whole lsn end = ap (λ l. lines_to opening l ++ lsn_line (opening.lsn + end_of records)) (sym done-is)
+        ∙ ap (λ n. lines_to opening before.done ++ lsn_line n) (sym end)
 
     -- the end is put
-    pub dumps-end : (new : Option (List ℕ)) (waiting' : List ℕ) (lsn : ℕ) → lsn ≡ end_of records → AppendsBut mid new (waiting ++ lsn_line lsn) waiting'
-        → AppendsBut old new (dump_text records) waiting'
+    pub dumps-end : (new : Option (List ℕ)) (waiting' : List ℕ) (lsn : ℕ) → lsn ≡ opening.lsn + end_of records → AppendsBut mid new (waiting ++ lsn_line lsn) waiting'
+        → AppendsBut old new (dump_text (record { opening = opening; records = records })) waiting'
     dumps-end new waiting' lsn end line =
         subst (λ bytes. AppendsBut old new bytes waiting') (sym (whole lsn end)) (AppendsBut-more old mid new _ waiting before.written (lsn_line lsn) waiting' line)
 
-    pub dumps-end_cut : (new : Option (List ℕ)) (lsn : ℕ) → lsn ≡ end_of records → AppendsPart mid new (waiting ++ lsn_line lsn)
-        → AppendsPart old new (dump_text records)
+    pub dumps-end_cut : (new : Option (List ℕ)) (lsn : ℕ) → lsn ≡ opening.lsn + end_of records → AppendsPart mid new (waiting ++ lsn_line lsn)
+        → AppendsPart old new (dump_text (record { opening = opening; records = records }))
     dumps-end_cut new lsn end cut =
         subst (AppendsPart old new) (sym (whole lsn end)) (AppendsBut-part old mid new _ waiting before.written (lsn_line lsn) cut)

@@ -45,8 +45,8 @@ front-more units records rest after rec each before begins dropped =
 pub front-end : (units : List ℕ) (records : List Rec) (rest : List ℕ) → units ≡ units_of records ++ rest → end_of records + length rest ≡ length units
 front-end units records rest whole = let lengths = ap length whole in let parts = length-append (units_of records) rest in omega arith
 
-pub bad-front : (units : List ℕ) (rest : List ℕ) (lsn : ℕ) → IsFront units rest → 0 < length rest
-    → lsn + length rest ≡ length units → ((rec : Rec) → BeginsWith rest rec → ⊥) → IsBadRecAt units lsn
-bad-front units rest lsn before some place none =
+pub bad-front : (begin : ℕ) (units : List ℕ) (rest : List ℕ) (lsn : ℕ) → IsFront units rest → 0 < length rest
+    → lsn + length rest ≡ begin + length units → ((rec : Rec) → BeginsWith rest rec → ⊥) → IsBadRecAt begin units lsn
+bad-front begin units rest lsn before some place none =
     let lengths = ap length before.whole in let parts = length-append (units_of before.records) rest in
     record { front = before.records; each = before.each; rest = rest; whole = before.whole; place = omega arith; some = some; none = none }

@@ -1,36 +1,83 @@
 -- From what a scan, a reading and a judge answer to what the bytes say.
-use Rattle.std.proofs.Common.{◌≡◌, ◌∙◌, ℕ, ◌+◌, List, length, sym, ap, subst}
-use Rattle.log_record.specs.declared.rec.Rec.{Rec}
-use Rattle.log_record.specs.LogList.{AreUnitsOf, end_of}
+use Rattle.std.proofs.Common.{◌≡◌, ◌⊎◌, inl, inr, ◌≤◌, ◌∙◌, ℕ, ◌+◌, List, [], length, sym, ap, subst, arith}
+use Rattle.lsn_space.specs.declared.lsn.TheConstants.{LAST}
+use Rattle.lsn_space.specs.Opening.{Opening, IsSnapshot}
+use Rattle.log_record.specs.LogList.{AreUnitsOf, units_of}
 use Rattle.segment_file.specs.declared.scan_result.Scan.{Scan}
-use Rattle.segment_file.specs.Scan.{Scans}
-use Rattle.segment_file.specs.File.{HoldsUnits}
+use Rattle.segment_file.specs.declared.scan_result.Tail.{Tail}
+use Rattle.segment_file.specs.Log.{Log, IsFront, first_format, second_format, HoldsLog}
+use Rattle.segment_file.specs.Scan.{Scans, scanned_log}
+use Rattle.segment_file.specs.Standing.{LogStandsAt}
+use Rattle.log_recovery.specs.declared.list_result.Listed.{Listed}
 use Rattle.log_recovery.specs.declared.recovery.Recovered.{Recovered}
-use Rattle.lock_core.specs.Sums.{ShowsAccounts, greatest_txn}
-use Rattle.lock_core.specs.Lawful.{genesis_of}
+use Rattle.lock_core.specs.Sums.{ShowsAccounts}
+use Rattle.lock_core.specs.Lawful.{base_with, opening_after}
+use Rattle.lock_core.specs.Settling.{opening_of}
 use Rattle.lock_core.specs.declared.judge.Judge.{Judge}
-use Rattle.lock_core.specs.History.{history}
 use Rattle.log_recovery.specs.Judging.{HasTakenUnits}
-use Rattle.log_recovery.specs.Recovery.{HoldsList, Recovers}
+use Rattle.log_recovery.specs.Opened.{OpenedList, log_of, placed}
+use Rattle.log_recovery.specs.Listing.{IsRecords}
+use Rattle.log_recovery.specs.Recovery.{HoldsList, Recovers, ListsBytes, list_of}
 
-pub scan-holds : (scan : Scan) (bytes units : List ℕ) → Scans scan bytes → units ≡ scan.units → HoldsUnits bytes units
-scan-holds scan bytes units scans is = (scans.batches, scans.rest, scans.file, is ∙ scans.units)
+-- what a log begins with has no account, or is a snapshot
+pub log-opening : (bytes : List ℕ) (log : Log) → HoldsLog bytes log → (log.opening.accounts ≡ []) ⊎ IsSnapshot log.opening
+log-opening bytes log held = by_format held.reads.begins
+  where
+    by_format : IsFront held.reads.front log.opening held.reads.first → (log.opening.accounts ≡ []) ⊎ IsSnapshot log.opening
+    by_format (first_format nothing counted is) = inl (ap (λ (o : Opening). o.accounts) nothing)
+    by_format (second_format snapshot none is) = inr snapshot
 
-pub units-held : (bytes units : List ℕ) (records : List Rec) → HoldsUnits bytes units → AreUnitsOf units records → HoldsList bytes records
-units-held bytes units records holds list = record { each = list.spellable; holds = subst (HoldsUnits bytes) list.units_are holds }
+pub scan-opening : (scan : Scan) (bytes : List ℕ) → Scans scan bytes → (scan.opening.accounts ≡ []) ⊎ IsSnapshot scan.opening
+scan-opening scan bytes scans = log-opening bytes (scanned_log scan) scans.held
+
+pub scan-fits : (scan : Scan) (bytes units : List ℕ) → Scans scan bytes → units ≡ scan.units → scan.opening.lsn + length units ≤ LAST
+scan-fits scan bytes units scans is = omega (arith, scans.held.reads.total, ap length is)
+
+-- the log that was scanned, in records
+module _ (scan : Scan) (bytes units : List ℕ) (scans : Scans scan bytes) (is : units ≡ scan.units) where
+  pub scan-holds : HoldsLog bytes (record { opening = scan.opening; units = units })
+  scan-holds = subst (λ us. HoldsLog bytes (record { opening = scan.opening; units = us })) (sym is) scans.held
+
+  module _ (list : OpenedList) (opening : scan.opening ≡ list.opening) (records : AreUnitsOf units list.records) where
+    same-log : scanned_log scan ≡ log_of list
+    same-log = let spelled : scan.units ≡ units_of list.records = sym is ∙ records.units_are in λ i. record { opening = opening i; units = spelled i }
+
+    pub list-held : HoldsList bytes list
+    list-held = record { each = records.spellable; holds = subst (HoldsLog bytes) same-log scans.held }
+
+    pub list-stands : LogStandsAt scan.tail (log_of list) bytes
+    list-stands = subst (λ log. LogStandsAt scan.tail log bytes) same-log scans
 
 -- the answer for a lawful list
-pub recovers : (recovered : Recovered) (scan : Scan) (bytes units : List ℕ) (judge : Judge) → Scans scan bytes → units ≡ scan.units → (taken : HasTakenUnits units judge)
-    → recovered.lsn ≡ scan.tail.next → recovered.tail ≡ scan.tail → recovered.next_txn ≡ greatest_txn (history taken.records) + 1
-    → ShowsAccounts recovered.accounts.rows (genesis_of (history taken.records)) (history taken.records) → Recovers recovered bytes
+pub recovers : (recovered : Recovered) (scan : Scan) (bytes units : List ℕ) (judge : Judge) → Scans scan bytes → units ≡ scan.units
+    → (taken : HasTakenUnits scan.opening units judge) → recovered.lsn ≡ scan.tail.next → recovered.tail ≡ scan.tail
+    → recovered.next_txn ≡ (opening_after (opening_of scan.opening) (placed (record { opening = scan.opening; records = taken.records }))).txn + 1
+    → ShowsAccounts recovered.accounts.rows (base_with (opening_of scan.opening) (placed (record { opening = scan.opening; records = taken.records })))
+    (placed (record { opening = scan.opening; records = taken.records })) → Recovers recovered bytes
 recovers recovered scan bytes units judge scans is taken lsn tail next shows =
-    let end : scan.tail.next ≡ end_of taken.records = scans.next ∙ ap length (sym scans.units ∙ sym is ∙ taken.list.units_are) in
+    let list : OpenedList = record { opening = scan.opening; records = taken.records } in
+    let stands = list-stands scan bytes units scans is list (λ i. scan.opening) taken.list in
     record {
-      records = taken.records;
-      held = record { list = units-held bytes units taken.records (scan-holds scan bytes units scans is) taken.list; lawful = taken.taken.ledger.judged.lawful };
-      lsn = lsn ∙ end;
-      next = (λ i. (tail i).next) ∙ end;
-      at = record { batches = scans.batches; rest = scans.rest; file = scans.file; place = (λ i. (tail i).at) ∙ scans.at };
+      list = list;
+      held = record { list = list-held scan bytes units scans is list (λ i. scan.opening) taken.list; lawful = taken.taken.ledger.judged.lawful };
+      lsn = lsn ∙ stands.next;
+      stands = subst (λ (t : Tail). LogStandsAt t (log_of list) bytes) (sym tail) stands;
       next_txn = next;
       accounts = shows;
+    }
+
+-- the answer for a list that is lawful or not
+pub lists : (listed : Listed) (scan : Scan) (bytes units : List ℕ) (list : IsRecords units) → Scans scan bytes → units ≡ scan.units → listed.opening ≡ scan.opening
+    → listed.units ≡ scan.units → listed.tail ≡ scan.tail → ListsBytes listed bytes
+lists listed scan bytes units list scans is opening same tail =
+    let held = list-held scan bytes units scans is (list_of listed list.0) (sym opening) list.1 in
+    let stands = list-stands scan bytes units scans is (list_of listed list.0) (sym opening) list.1 in
+    record {
+      records = list.0;
+      held = held;
+      has = record {
+        list = record { spellable = list.1.spellable; units_are = same ∙ sym is ∙ list.1.units_are };
+        end = (λ i. (tail i).next) ∙ stands.next;
+      };
+      stands = subst (λ (t : Tail). LogStandsAt t (log_of (list_of listed list.0)) bytes) (sym tail) stands;
     }

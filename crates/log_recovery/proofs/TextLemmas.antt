@@ -9,11 +9,10 @@ use Rattle.std.proofs.KnownBytes.{Appends-trans}
 use Rattle.log_disk.specs.Streams.{AppendsPrefix, AppendsPart, AppendsBut}
 use Rattle.log_disk.proofs.Blocks.{AppendsBut-more, AppendsBut-part, AppendsPart-first, longer}
 use Rattle.lsn_space.specs.Number.{number_text}
-use Rattle.log_record.specs.declared.rec.Rec.{Rec}
-use Rattle.log_record.specs.LogList.{end_of}
-use Rattle.lock_core.specs.History.{history}
-use Rattle.lock_core.specs.Lawful.{genesis_of}
+use Rattle.lock_core.specs.Lawful.{base_with}
 use Rattle.lock_core.specs.Sums.{ShowsAccounts, balance_of, last_commit_of}
+use Rattle.lock_core.specs.Settling.{opening_of}
+use Rattle.log_recovery.specs.Opened.{OpenedList, list_end, placed}
 use Rattle.log_recovery.specs.Text.{account_line, numbers_below, account_lines, lsn_line, rows_text, accounts_text}
 
 account_lines-suc : (balance : ℕ → ℕ) (n : ℕ) → account_lines balance (n + 1) ≡ account_lines balance n ++ account_line n (balance n)
@@ -93,11 +92,11 @@ account_lines-same one other (suc n) same =
     ) refl
 
 -- the accounts of a list have its text
-pub rows_text-shown : (lsn : ℕ) (rows : List (ℕ × ℕ)) (records : List Rec) → lsn ≡ end_of records
-    → ShowsAccounts rows (genesis_of (history records)) (history records) → rows_text lsn rows ≡ accounts_text records
-rows_text-shown lsn rows records end shows =
-    let h = history records in
-    let base = genesis_of h in
+pub rows_text-shown : (lsn : ℕ) (rows : List (ℕ × ℕ)) (list : OpenedList) → lsn ≡ list_end list
+    → ShowsAccounts rows (base_with (opening_of list.opening) (placed list)) (placed list) → rows_text lsn rows ≡ accounts_text list
+rows_text-shown lsn rows list end shows =
+    let h = placed list in
+    let base = base_with (opening_of list.opening) h in
     let same = account_lines-same (balance_in rows) (balance_of base h) base.accounts
     (λ account below. balance_in-row rows account (balance_of base h account, last_commit_of base h account) (shows.each account below)) in
     rw (end, shows.count, same) refl

@@ -3,11 +3,14 @@ use Rattle.std.proofs.Common.{◌≡◌, ◌≤◌, ℕ, ◌+◌, List, [], ◌�
 use Rattle.std.specs.List.{AllByRecursion}
 use Rattle.std.proofs.lemmas.List.{append-nil}
 use Rattle.log_record.specs.declared.rec.Rec.{Rec}
+use Rattle.log_record.specs.declared.rec.Placed.{Placed}
 use Rattle.log_record.specs.LogList.{AreUnitsOf, units_of}
 use Rattle.log_record.specs.Spelling.{spelling, IsSpellable, BeginsWith}
+use Rattle.lsn_space.specs.Opening.{Opening}
+use Rattle.lock_core.specs.Settling.{opening_of}
 use Rattle.lock_core.specs.declared.judge.Judge.{Judge}
 use Rattle.lock_core.specs.declared.reason.Why.{Why}
-use Rattle.lock_core.specs.History.{end_from, entry_at, history}
+use Rattle.lock_core.specs.History.{end_from, entry_at, history_from}
 use Rattle.lock_core.specs.Lawful.{Passes}
 use Rattle.lock_core.specs.Faults.{IsFirstFailing, IsUnlawfulAt}
 use Rattle.lock_core.specs.Taking.{HasJudged}
@@ -26,35 +29,40 @@ pub front-all : (units rest : List ℕ) → rest ≡ [] → IsFront units rest �
 front-all units rest empty front =
     (front.records, record { spellable = front.each; units_are = front.whole ∙ ap (λ l. units_of front.records ++ l) empty ∙ append-nil (units_of front.records) })
 
-pub taken-none : (units : List ℕ) (judge : Judge) → HasJudged judge [] → HasTakenFront units units judge
-taken-none units judge taken = record { records = []; each = tt; whole = refl; taken = taken }
+pub taken-none : (opening : Opening) (units : List ℕ) (judge : Judge) → HasJudged (opening_of opening) judge [] → HasTakenFront opening units units judge
+taken-none opening units judge taken = record { records = []; each = tt; whole = refl; taken = taken }
 
-pub taken-front : (units rest : List ℕ) (judge : Judge) → HasTakenFront units rest judge → IsFront units rest
-taken-front units rest judge front = record { records = front.records; each = front.each; whole = front.whole }
+pub taken-front : (opening : Opening) (units rest : List ℕ) (judge : Judge) → HasTakenFront opening units rest judge → IsFront units rest
+taken-front opening units rest judge front = record { records = front.records; each = front.each; whole = front.whole }
 
-module _ (units rest : List ℕ) (judge : Judge) (lsn : ℕ) (before : HasTakenFront units rest judge) (place : lsn + length rest ≡ length units) where
-  pub taken-place : lsn ≡ end_from 0 (history before.records)
-  taken-place = let end = front-end units before.records rest before.whole in let start = end_from-history 0 [] before.records in omega arith
+module _ (opening : Opening) (units rest : List ℕ) (judge : Judge) (lsn : ℕ) (before : HasTakenFront opening units rest judge)
+    (place : lsn + length rest ≡ opening.lsn + length units) where
+  -- the records so far, in their places
+  abbrev pub so_far : List Placed
+  so_far = history_from opening.lsn [] before.records
 
-  pub taken-fits : (rec : Rec) (last : ℕ) → BeginsWith rest rec → length units ≤ last → lsn + length (spelling rec) ≤ last
+  pub taken-place : lsn ≡ end_from opening.lsn so_far
+  taken-place = let end = front-end units before.records rest before.whole in let start = end_from-history opening.lsn [] before.records in omega arith
+
+  pub taken-fits : (rec : Rec) (last : ℕ) → BeginsWith rest rec → opening.lsn + length units ≤ last → lsn + length (spelling rec) ≤ last
   taken-fits rec last begins fits = let longer = ap length begins.2 in let parts = length-append (spelling rec) begins.1 in omega arith
 
   module _ (rec : Rec) (after : List ℕ) (begins : BeginsWith rest rec) (dropped : after ≡ drop (length (spelling rec)) rest) where
     next : AllByRecursion IsSpellable (before.records ++ rec ∷ []) × (units ≡ units_of (before.records ++ rec ∷ []) ++ after)
     next = front-more units before.records rest after rec before.each before.whole begins dropped
 
-    history-next : history (before.records ++ rec ∷ []) ≡ entry_at lsn rec ∷ history before.records
-    history-next = history_from-append 0 [] before.records (rec ∷ []) ∙ ap (λ start. entry_at start rec ∷ history before.records) (sym taken-place)
+    history-next : history_from opening.lsn [] (before.records ++ rec ∷ []) ≡ entry_at lsn rec ∷ so_far
+    history-next = history_from-append opening.lsn [] before.records (rec ∷ []) ∙ ap (λ start. entry_at start rec ∷ so_far) (sym taken-place)
 
-    pub taken-next : (later : Judge) → HasJudged later (entry_at lsn rec ∷ history before.records) → HasTakenFront units after later
+    pub taken-next : (later : Judge) → HasJudged (opening_of opening) later (entry_at lsn rec ∷ so_far) → HasTakenFront opening units after later
     taken-next later taken = record {
       records = before.records ++ rec ∷ [];
       each = next.0;
       whole = next.1;
-      taken = subst (HasJudged later) (sym history-next) taken;
+      taken = subst (HasJudged (opening_of opening) later) (sym history-next) taken;
     }
 
-    pub fails-next : (why : Why) → IsFirstFailing (Passes (history before.records) (entry_at lsn rec)) why → FailsBefore units after lsn why
+    pub fails-next : (why : Why) → IsFirstFailing (Passes (opening_of opening) so_far (entry_at lsn rec)) why → FailsBefore opening units after lsn why
     fails-next why first = record {
       front = before.records;
       rec = rec;
@@ -65,19 +73,20 @@ module _ (units rest : List ℕ) (judge : Judge) (lsn : ℕ) (before : HasTakenF
       first = first;
     }
 
-pub taken-all : (units rest : List ℕ) (judge : Judge) → rest ≡ [] → HasTakenFront units rest judge → HasTakenUnits units judge
-taken-all units rest judge empty front = record {
+pub taken-all : (opening : Opening) (units rest : List ℕ) (judge : Judge) → rest ≡ [] → HasTakenFront opening units rest judge → HasTakenUnits opening units judge
+taken-all opening units rest judge empty front = record {
   records = front.records;
   list = record { spellable = front.each; units_are = front.whole ∙ ap (λ l. units_of front.records ++ l) empty ∙ append-nil (units_of front.records) };
   taken = front.taken;
 }
 
 -- a record that fails, and then the rest of a list
-pub unlawful-list : (units rest : List ℕ) (lsn : ℕ) (why : Why) → FailsBefore units rest lsn why → IsRecords rest
-    → (records : List Rec) × AreUnitsOf units records × IsUnlawfulAt (history records) lsn why
-unlawful-list units rest lsn why fails more =
+pub unlawful-list : (opening : Opening) (units rest : List ℕ) (lsn : ℕ) (why : Why) → FailsBefore opening units rest lsn why → IsRecords rest
+    → (records : List Rec) × AreUnitsOf units records × IsUnlawfulAt (opening_of opening) (history_from opening.lsn [] records) lsn why
+unlawful-list opening units rest lsn why fails more =
     let all : List Rec = (fails.front ++ fails.rec ∷ []) ++ more.0 in
-    let onto = history_from-onto 0 (history (fails.front ++ fails.rec ∷ [])) more.0 in (
+    let front : List Placed = history_from opening.lsn [] fails.front in
+    let onto = history_from-onto opening.lsn (history_from opening.lsn [] (fails.front ++ fails.rec ∷ [])) more.0 in (
       all,
       record {
         spellable = all-append IsSpellable (fails.front ++ fails.rec ∷ []) more.0 fails.each more.1.spellable;
@@ -86,9 +95,9 @@ unlawful-list units rest lsn why fails more =
       record {
         later = onto.0;
         entry = entry_at lsn fails.rec;
-        front = history fails.front;
-        whole = history_from-append 0 [] (fails.front ++ fails.rec ∷ []) more.0 ∙ onto.1
-            ∙ ap (λ h. onto.0 ++ h) (history_from-append 0 [] fails.front (fails.rec ∷ []) ∙ ap (λ start. entry_at start fails.rec ∷ history fails.front) (sym fails.place));
+        front = front;
+        whole = history_from-append opening.lsn [] (fails.front ++ fails.rec ∷ []) more.0 ∙ onto.1
+            ∙ ap (λ h. onto.0 ++ h) (history_from-append opening.lsn [] fails.front (fails.rec ∷ []) ∙ ap (λ start. entry_at start fails.rec ∷ front) (sym fails.place));
         lawful = fails.lawful;
         place = fails.place;
         first = fails.first;

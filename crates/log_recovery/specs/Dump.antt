@@ -1,10 +1,12 @@
--- The dump of a log list: each record with the place where it starts, and then the end. A line ends with LF.
-use Rattle.std.specs.Prelude.{ℕ, ◌+◌, ℤ, pos, negsuc, List, ◌++◌, codes}
+-- The dump of a list: what stands before it, each record with the place where it starts, and then the end. A line ends with LF.
+use Rattle.std.specs.Prelude.{ℕ, ◌+◌, ℤ, pos, negsuc, List, [], ◌∷◌, ◌++◌, codes}
 use Rattle.std.specs.List.{flat_map, zip}
 use Rattle.lsn_space.specs.Number.{number_text}
 use Rattle.log_record.specs.declared.rec.Rec.{Rec}
 use Rattle.log_record.specs.declared.rec.Rec.TheVariants.{Genesis, Update, Commit, Short, Over, Note}
-use Rattle.log_record.specs.LogList.{end_of, starts_from}
+use Rattle.log_record.specs.LogList.{starts_from}
+use Rattle.lsn_space.specs.Opening.{Opening}
+use Rattle.log_recovery.specs.Opened.{OpenedList, list_end}
 use Rattle.log_recovery.specs.Text.{lsn_line}
 
 -- a number that may be below 0: then `-` and its digits
@@ -37,6 +39,27 @@ record_line start rec = number_text start ++ codes " " ++ rec_text rec ++ codes 
 abbrev pub record_lines : ℕ → List Rec → List ℕ
 record_lines at records = flat_map (λ r. record_line r.0 r.1) (zip (starts_from at records) records)
 
--- the text of a log list
-abbrev pub dump_text : List Rec → List ℕ
-dump_text records = record_lines 0 records ++ lsn_line (end_of records)
+-- the line of an account, as a snapshot has it: its balance and its mark
+unfoldable pub row_line : ℕ → ℕ × ℕ → List ℕ
+row_line account row = codes "account " ++ number_text account ++ codes " " ++ two_numbers_text row.0 row.1 ++ codes "\n"
+
+-- a line for each account, from this one on
+abbrev pub row_lines : ℕ → List (ℕ × ℕ) → List ℕ
+row_lines account [] = []
+row_lines account (row ∷ rows) = row_line account row ++ row_lines (account + 1) rows
+
+-- where a list with a snapshot begins, and the greatest transaction number before it
+unfoldable pub snapshot_line : ℕ → ℕ → List ℕ
+snapshot_line lsn txn = codes "snapshot " ++ two_numbers_text lsn txn ++ codes "\n"
+
+-- what stands before a list; nothing of a list that is a whole log
+abbrev pub snapshot_lines : ℕ → ℕ → List (ℕ × ℕ) → List ℕ
+snapshot_lines lsn txn [] = []
+snapshot_lines lsn txn (row ∷ rows) = snapshot_line lsn txn ++ row_lines 0 (row ∷ rows)
+
+abbrev pub opening_lines : Opening → List ℕ
+opening_lines opening = snapshot_lines opening.lsn opening.txn opening.accounts
+
+-- the text of a list: what stands before it, its records, and its end
+abbrev pub dump_text : OpenedList → List ℕ
+dump_text list = opening_lines list.opening ++ record_lines list.opening.lsn list.records ++ lsn_line (list_end list)

@@ -1,5 +1,6 @@
 pub mod Dump
 pub mod Judging
 pub mod Listing
+pub mod Opened
 pub mod Recovery
 pub mod Text

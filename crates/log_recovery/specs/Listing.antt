@@ -1,5 +1,5 @@
 -- The records that units spell.
-use Rattle.std.specs.Prelude.{◌≡◌, ◌<◌, ℕ, List, ◌++◌, length}
+use Rattle.std.specs.Prelude.{◌≡◌, ◌<◌, ℕ, ◌+◌, List, ◌++◌, length}
 use Rattle.std.specs.List.{AllByRecursion}
 use Rattle.log_record.specs.declared.rec.Rec.{Rec}
 use Rattle.log_record.specs.LogList.{AreUnitsOf, units_of, end_of}
@@ -15,12 +15,12 @@ pub record IsFront (units rest : List ℕ) : Type 0 where
 abbrev pub IsRecords : List ℕ → Type 0
 IsRecords units = (records : List Rec) × AreUnitsOf units records
 
--- records lead to this address, and the units from there on begin with no record
-pub record IsBadRecAt (units : List ℕ) (lsn : ℕ) : Type 0 where
+-- in a list that begins at this address, records lead to this one, and the units from there on begin with no record
+pub record IsBadRecAt (begin : ℕ) (units : List ℕ) (lsn : ℕ) : Type 0 where
   pub front : List Rec
   pub each : AllByRecursion IsSpellable front
   pub rest : List ℕ
   pub whole : units ≡ units_of front ++ rest
-  pub place : lsn ≡ end_of front
+  pub place : lsn ≡ begin + end_of front
   pub some : 0 < length rest
   pub none : (rec : Rec) → BeginsWith rest rec → ⊥

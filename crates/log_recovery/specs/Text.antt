@@ -2,11 +2,10 @@
 use Rattle.std.specs.Prelude.{ℕ, zero, suc, List, [], ◌∷◌, ◌++◌, length, codes, slice_index_or}
 use Rattle.std.specs.List.{flat_map}
 use Rattle.lsn_space.specs.Number.{number_text}
-use Rattle.log_record.specs.declared.rec.Rec.{Rec}
-use Rattle.log_record.specs.LogList.{end_of}
-use Rattle.lock_core.specs.History.{history}
 use Rattle.lock_core.specs.Sums.{balance_of}
-use Rattle.lock_core.specs.Lawful.{genesis_of}
+use Rattle.lock_core.specs.Lawful.{base_with}
+use Rattle.lock_core.specs.Settling.{opening_of}
+use Rattle.log_recovery.specs.Opened.{OpenedList, list_end, placed}
 
 unfoldable pub lsn_line : ℕ → List ℕ
 lsn_line lsn = codes "lsn " ++ number_text lsn ++ codes "\n"
@@ -23,10 +22,11 @@ numbers_below (suc n) = numbers_below n ++ n ∷ []
 abbrev pub account_lines : (ℕ → ℕ) → ℕ → List ℕ
 account_lines balance count = flat_map (λ account. account_line account (balance account)) (numbers_below count)
 
--- the text of a log list
-abbrev pub accounts_text : List Rec → List ℕ
-accounts_text records =
-    let h = history records in lsn_line (end_of records) ++ account_lines (balance_of (genesis_of h) h) (genesis_of h).accounts
+-- the text of a list
+abbrev pub accounts_text : OpenedList → List ℕ
+accounts_text list =
+    let base = base_with (opening_of list.opening) (placed list) in
+    lsn_line (list_end list) ++ account_lines (balance_of base (placed list)) base.accounts
 
 -- the text of accounts that are kept as a balance and a last commit each
 abbrev pub rows_text : ℕ → List (ℕ × ℕ) → List ℕ

@@ -7,28 +7,29 @@ ghost use Rattle.log_disk.specs.Streams.{AppendsPart, AppendsBut};
 ghost use Rattle.log_record.specs.Spelling.{spelling, BeginsWith};
 ghost use Rattle.log_record.specs.declared.rec.Rec.{Rec};
 ghost use Rattle.lsn_space.specs.Number.{number_text};
-ghost use Rattle.log_recovery.specs.Dump.{dump_text, rec_text, record_line, signed_text, update_text};
-ghost use Rattle.log_recovery.specs.Recovery.{HasRecords};
+ghost use Rattle.log_recovery.specs.Dump.{dump_text, opening_lines, rec_text, record_line, row_line, row_lines, signed_text, snapshot_line, update_text};
+ghost use Rattle.log_recovery.specs.Recovery.{HasRecords, list_of};
 
 use crate::line::Line;
 use crate::list_result::Listed;
 use crate::texts::put_end;
 use log_disk::{OutputBlock, Sink, WriteFault};
 use log_record::{Rec, read};
-use lsn_space::Lsn;
+use lsn_space::{Balances, Lsn, Opening};
 
 /// Writes the dump of a list, or a part of it at a fault.
 pub fn put_dump<K: Sink>(listed: &Listed, sink: &mut K) -> Result<(), WriteFault>
     requires { (records : List Rec) × HasRecords listed.now records }
     ensures all { (records : List Rec) → HasRecords listed.now records
-        → OnOk result (Appends (K.held_bytes sink.old) (K.held_bytes sink.new) (dump_text records)) }
+        → OnOk result (Appends (K.held_bytes sink.old) (K.held_bytes sink.new) (dump_text (list_of listed.now records))) }
     ensures prefix { (records : List Rec) → HasRecords listed.now records
-        → OnErr result (AppendsPart (K.held_bytes sink.old) (K.held_bytes sink.new) (dump_text records)) }
+        → OnErr result (AppendsPart (K.held_bytes sink.old) (K.held_bytes sink.new) (dump_text (list_of listed.now records))) }
     ensures cause { HasCause (K.faults sink.old) (K.faults sink.new) result }
 {
     let end = listed.tail.next;
     let mut block = OutputBlock::new();
     let mut line = Line::new();
+    put_opening(&listed.opening, &mut line, &mut block, sink)?;
     let mut rest = listed.units.as_slice();
     'records: while !rest.is_empty() {
         let start = start_of(rest, end);
@@ -38,6 +39,103 @@ pub fn put_dump<K: Sink>(listed: &Listed, sink: &mut K) -> Result<(), WriteFault
     }
     put_end(end, &mut block, sink)?;
     block.write_out(sink)
+}
+
+/// Puts the lines of what stands before a list: none, where that is nothing.
+fn put_opening<K: Sink>(
+    opening: &Opening,
+    line: &mut Line,
+    block: &mut OutputBlock,
+    sink: &mut K,
+) -> Result<(), WriteFault>
+    ensures all { OnOk result (AppendsBut (K.held_bytes sink.old) (K.held_bytes sink.new) (block.old ++ opening_lines opening.now) block.new) }
+    ensures prefix { OnErr result (AppendsPart (K.held_bytes sink.old) (K.held_bytes sink.new) (block.old ++ opening_lines opening.now)) }
+    ensures cause { HasCause (K.faults sink.old) (K.faults sink.new) result }
+{
+    let count = opening.accounts.count();
+    if count == 0 {
+        return Ok(());
+    }
+    put_snapshot(opening.lsn, opening.txn, line, block, sink)?;
+    put_rows(&opening.accounts, line, block, sink)
+}
+
+/// Puts a line for each account.
+fn put_rows<K: Sink>(
+    accounts: &Balances,
+    line: &mut Line,
+    block: &mut OutputBlock,
+    sink: &mut K,
+) -> Result<(), WriteFault>
+    ensures all { OnOk result (AppendsBut (K.held_bytes sink.old) (K.held_bytes sink.new) (block.old ++ row_lines 0 accounts.now.rows) block.new) }
+    ensures prefix { OnErr result (AppendsPart (K.held_bytes sink.old) (K.held_bytes sink.new) (block.old ++ row_lines 0 accounts.now.rows)) }
+    ensures cause { HasCause (K.faults sink.old) (K.faults sink.new) result }
+{
+    'accounts: for account in 0..accounts.count() {
+        put_row(account, accounts.at(account), line, block, sink)?;
+    }
+    Ok(())
+}
+
+/// Puts the line of where a list begins, and of the greatest transaction number before it.
+fn put_snapshot<K: Sink>(
+    lsn: Lsn,
+    txn: u32,
+    line: &mut Line,
+    block: &mut OutputBlock,
+    sink: &mut K,
+) -> Result<(), WriteFault>
+    ensures all { OnOk result (AppendsBut (K.held_bytes sink.old) (K.held_bytes sink.new) (block.old ++ snapshot_line lsn txn) block.new) }
+    ensures prefix { OnErr result (AppendsPart (K.held_bytes sink.old) (K.held_bytes sink.new) (block.old ++ snapshot_line lsn txn)) }
+    ensures cause { HasCause (K.faults sink.old) (K.faults sink.new) result }
+{
+    make_snapshot(lsn, txn, line);
+    block.put(sink, line.as_slice())
+}
+
+/// Puts the line of an account, with its balance and its mark.
+fn put_row<K: Sink>(
+    account: u32,
+    row: (u32, u32),
+    line: &mut Line,
+    block: &mut OutputBlock,
+    sink: &mut K,
+) -> Result<(), WriteFault>
+    ensures all { OnOk result (AppendsBut (K.held_bytes sink.old) (K.held_bytes sink.new) (block.old ++ row_line account row) block.new) }
+    ensures prefix { OnErr result (AppendsPart (K.held_bytes sink.old) (K.held_bytes sink.new) (block.old ++ row_line account row)) }
+    ensures cause { HasCause (K.faults sink.old) (K.faults sink.new) result }
+{
+    make_row(account, row, line);
+    block.put(sink, line.as_slice())
+}
+
+/// The line of where a list begins, and the greatest transaction number before it.
+#[tactic(auto, unfolding(crate::specs::Dump::snapshot_line))]
+fn make_snapshot(lsn: Lsn, txn: u32, line: &mut Line)
+    ensures { line.new ≡ snapshot_line lsn txn }
+{
+    line.clear();
+    line.put_byte(b'\n');
+    line.put_number(txn);
+    line.put_byte(b' ');
+    line.put_number(lsn.units());
+    line.put_piece(b"snapshot ");
+}
+
+/// The line of an account, as a snapshot has it.
+#[tactic(auto, unfolding(crate::specs::Dump::row_line))]
+fn make_row(account: u32, row: (u32, u32), line: &mut Line)
+    ensures { line.new ≡ row_line account row }
+{
+    let (balance, mark) = row;
+    line.clear();
+    line.put_byte(b'\n');
+    line.put_number(mark);
+    line.put_byte(b' ');
+    line.put_number(balance);
+    line.put_byte(b' ');
+    line.put_number(account);
+    line.put_piece(b"account ");
 }
 
 /// The record that a rest of a list's units begins with, and the rest behind it.

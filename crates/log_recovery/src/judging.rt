@@ -1,13 +1,14 @@
 //! The records that units spell, judged one by one as they are read.
 
-ghost use Rattle.std.specs.Prelude.{◌≤◌, length, IfOk, IfErr};
+ghost use Rattle.std.specs.Prelude.{◌≡◌, ◌⊎◌, ◌+◌, ◌≤◌, [], length, IfOk, IfErr};
+ghost use Rattle.lsn_space.specs.Opening.{IsSnapshot};
 ghost use Rattle.lsn_space.specs.declared.lsn.TheConstants.{LAST};
 ghost use Rattle.log_recovery.specs.Judging.{FailsBefore, HasTakenUnits, IsUnitsFaultOf};
 
-use crate::places::{first_bad, place_of};
+use crate::places::{begin_of, first_bad, place_of};
 use lock_core::{Judge, JudgeFault, Why};
 use log_record::read;
-use lsn_space::Lsn;
+use lsn_space::{Lsn, Opening};
 use std::alloc::Global;
 
 /// Why units hold no lawful list of records.
@@ -24,30 +25,32 @@ pub enum UnitsFault {
 
 /// The fault of units whose records up to this rest end with the first that fails a test: this one, unless the rest is no
 /// list of records.
-fn unlawful(units: &[u64], rest: &[u64], lsn: Lsn, why: Why) -> UnitsFault
-    requires fails { FailsBefore units.now rest.now lsn why }
-    requires fits { length units.now ≤ LAST }
-    ensures { IsUnitsFaultOf units.now result }
+fn unlawful(opening: &Opening, units: &[u64], rest: &[u64], lsn: Lsn, why: Why) -> UnitsFault
+    requires fails { FailsBefore opening.now units.now rest.now lsn why }
+    requires fits { opening.now.lsn + length units.now ≤ LAST }
+    ensures { IsUnitsFaultOf opening.now units.now result }
 {
-    match first_bad(units, rest) {
+    match first_bad(begin_of(opening), units, rest) {
         Some(lsn) => UnitsFault::BadRec { lsn },
         None => UnitsFault::Unlawful { lsn, why },
     }
 }
 
-/// A judge that has taken the records which the units spell. A place at which no record begins hides a record that fails a
-/// test, wherever it is.
-pub fn judge_of_units(alloc: Global, units: &[u64]) -> Result<Judge, UnitsFault>
-    requires { length units.now ≤ LAST }
-    ensures found { IfOk result (HasTakenUnits units.now) }
-    ensures fault { IfErr result (IsUnitsFaultOf units.now) }
+/// A judge that has taken the records which the units spell, behind this opening. A place at which no record begins hides a
+/// record that fails a test, wherever it is.
+pub fn judge_of_units(alloc: Global, opening: &Opening, units: &[u64]) -> Result<Judge, UnitsFault>
+    requires opening { (opening.now.accounts ≡ []) ⊎ IsSnapshot opening.now }
+    requires fits { opening.now.lsn + length units.now ≤ LAST }
+    ensures found { IfOk result (HasTakenUnits opening.now units.now) }
+    ensures fault { IfErr result (IsUnitsFaultOf opening.now units.now) }
 {
-    let Ok(mut judge) = Judge::make(alloc) else {
+    let Ok(mut judge) = Judge::after(alloc, opening) else {
         return Err(UnitsFault::NoMemory);
     };
+    let begin = begin_of(opening);
     let mut rest = units;
     'records: while !rest.is_empty() {
-        let lsn = place_of(units, rest);
+        let lsn = place_of(begin, units, rest);
         let Ok((rec, size)) = read(rest) else {
             return Err(UnitsFault::BadRec { lsn });
         };
@@ -55,7 +58,7 @@ pub fn judge_of_units(alloc: Global, units: &[u64]) -> Result<Judge, UnitsFault>
         match judge.take(lsn, &rec) {
             Ok(()) => {}
             Err(JudgeFault::NoMemory) => return Err(UnitsFault::NoMemory),
-            Err(JudgeFault::Why(why)) => return Err(unlawful(units, rest, lsn, why)),
+            Err(JudgeFault::Why(why)) => return Err(unlawful(opening, units, rest, lsn, why)),
         }
     }
     Ok(judge)

@@ -16,5 +16,5 @@ pub use judging::{UnitsFault, judge_of_units};
 pub use list_result::Listed;
 pub use listing::listed;
 pub use lock_core::Why;
-pub use recovery::{RecoverFault, Recovered, one_answer, recover};
+pub use recovery::{RecoverFault, Recovered, one_answer, recover, recover_list};
 pub use texts::put_accounts;

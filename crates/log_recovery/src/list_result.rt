@@ -1,8 +1,12 @@
+use lsn_space::Opening;
 use segment_file::{LogUnits, Tail};
 
 /// The list of records that a log holds, lawful or not.
 #[derive(Debug, Drop)]
 pub struct Listed {
+    /// What stands before the list.
+    pub opening: Opening,
+
     /// The spellings of its records, joined.
     pub units: LogUnits,
 

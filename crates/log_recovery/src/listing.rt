@@ -4,7 +4,7 @@ ghost use Rattle.std.specs.Prelude.{IfOk, IfErr};
 ghost use Rattle.log_recovery.specs.Recovery.{ListsBytes, IsListedFaultOf};
 
 use crate::list_result::Listed;
-use crate::places::first_bad;
+use crate::places::{begin_of, first_bad};
 use crate::recovery::{RecoverFault, scan_fault};
 use segment_file::scan;
 use std::alloc::Global;
@@ -18,9 +18,11 @@ pub fn listed(alloc: Global, bytes: &[u8]) -> Result<Listed, RecoverFault>
         Ok(scan) => scan,
         Err(fault) => return Err(scan_fault(fault)),
     };
-    match first_bad(scan.units.as_slice(), scan.units.as_slice()) {
+    let begin = begin_of(&scan.opening);
+    match first_bad(begin, scan.units.as_slice(), scan.units.as_slice()) {
         Some(lsn) => Err(RecoverFault::BadRec { lsn }),
         None => Ok(Listed {
+            opening: scan.opening,
             units: scan.units,
             tail: scan.tail,
         }),

@@ -5,28 +5,35 @@ ghost use Rattle.lsn_space.specs.declared.lsn.TheConstants.{LAST};
 ghost use Rattle.log_recovery.specs.Listing.{IsFront, IsRecords, IsBadRecAt};
 
 use log_record::read;
-use lsn_space::Lsn;
+use lsn_space::{Lsn, Opening};
 
-/// Where the rest of the units begins.
-pub(crate) fn place_of(units: &[u64], rest: &[u64]) -> Lsn
-    requires front { IsFront units.now rest.now }
-    requires fits { length units.now ≤ LAST }
-    ensures { result + length rest.now ≡ length units.now }
+/// Where a list behind this opening begins.
+pub(crate) fn begin_of(opening: &Opening) -> Lsn
+    ensures { result ≡ opening.now.lsn }
 {
-    Lsn::new((units.len() - rest.len()) as u32)
+    opening.lsn
 }
 
-/// The first place behind a front of records at which no record begins, where there is one.
-pub(crate) fn first_bad(units: &[u64], front: &[u64]) -> Option<Lsn>
+/// Where the rest of the units begins, of a list that begins at that LSN.
+pub(crate) fn place_of(begin: Lsn, units: &[u64], rest: &[u64]) -> Lsn
+    requires front { IsFront units.now rest.now }
+    requires fits { begin + length units.now ≤ LAST }
+    ensures { result + length rest.now ≡ begin + length units.now }
+{
+    Lsn::new(begin.units() + (units.len() - rest.len()) as u32)
+}
+
+/// The first place behind a front of records at which no record begins, where there is one. The list begins at that LSN.
+pub(crate) fn first_bad(begin: Lsn, units: &[u64], front: &[u64]) -> Option<Lsn>
     requires front { IsFront units.now front.now }
-    requires fits { length units.now ≤ LAST }
-    ensures bad { IfSome result (IsBadRecAt units.now) }
+    requires fits { begin + length units.now ≤ LAST }
+    ensures bad { IfSome result (IsBadRecAt begin units.now) }
     ensures none { IfNone result (IsRecords front.now) }
 {
     let mut rest = front;
     'records: while !rest.is_empty() {
         let Ok((_, size)) = read(rest) else {
-            return Some(place_of(units, rest));
+            return Some(place_of(begin, units, rest));
         };
         rest = rest.split_at(size).1;
     }

@@ -1,15 +1,18 @@
-ghost use Rattle.std.specs.Prelude.{◌≡◌, ◌⊎◌, List, ℕ, IfOk, IfErr};
-ghost use Rattle.log_record.specs.declared.rec.Rec.{Rec};
+ghost use Rattle.std.specs.Prelude.{◌≡◌, ◌⊎◌, ◌≤◌, ◌^◌, List, ℕ, IfOk, IfErr};
 ghost use Rattle.log_recovery.specs.declared.recovery.RecoverFault.{RecoverFault};
-ghost use Rattle.segment_file.specs.File.{HoldsUnits};
-ghost use Rattle.segment_file.specs.Scan.{IsScanFaultOf};
+ghost use Rattle.segment_file.specs.Log.{Log, HoldsLog};
+ghost use Rattle.segment_file.specs.Scan.{IsScanFaultOf, Scans};
+ghost use Rattle.log_record.specs.declared.rec.Rec.{Rec};
+ghost use Rattle.log_record.specs.LogList.{AreUnitsOf};
 ghost use Rattle.log_recovery.specs.Judging.{IsUnitsFaultOf};
-ghost use Rattle.log_recovery.specs.Recovery.{HoldsList, HoldsLawful, Recovers, IsFaultOf, IsListedFaultOf};
+ghost use Rattle.log_recovery.specs.Opened.{OpenedList};
+ghost use Rattle.log_recovery.specs.Recovery.{HoldsList, HoldsLawful, ListsBytes, Recovers, IsFaultOf, IsListedFaultOf};
 
 use crate::judging::{UnitsFault, judge_of_units};
+use crate::list_result::Listed;
 use lock_core::Why;
 use lsn_space::{Balances, Lsn};
-use segment_file::{ScanFault, Tail, scan};
+use segment_file::{Scan, ScanFault, Tail, scan};
 use std::alloc::Global;
 
 /// What the bytes of a log say.
@@ -31,8 +34,11 @@ pub struct Recovered {
 /// Why nothing is recovered. Of the faults that bytes have, it is the first in this order.
 #[derive(Clone, Copy, Debug, PartialEq, Eq)]
 pub enum RecoverFault {
-    /// The bytes don't begin with an open gate and the magic bytes.
+    /// The bytes don't begin with an open gate and the magic bytes of a format.
     NotALog,
+
+    /// In a file of the second format what the list begins with is cut, or a number in it is out of its range.
+    BadSnapshot,
 
     /// No batch stands behind the open gate at this place in the file.
     BadBatch { offset: u64 },
@@ -52,13 +58,14 @@ pub(crate) fn scan_fault(fault: ScanFault) -> RecoverFault
 {
     match fault {
         ScanFault::NotALog => RecoverFault::NotALog,
+        ScanFault::BadSnapshot => RecoverFault::BadSnapshot,
         ScanFault::BadBatch { offset } => RecoverFault::BadBatch { offset },
         ScanFault::NoMemory => RecoverFault::NoMemory,
     }
 }
 
 fn units_fault(fault: UnitsFault) -> RecoverFault
-    ensures { (bytes units : List ℕ) → HoldsUnits bytes units → IsUnitsFaultOf units fault → IsFaultOf bytes result }
+    ensures { (bytes : List ℕ) (log : Log) → HoldsLog bytes log → IsUnitsFaultOf log.opening log.units fault → IsFaultOf bytes result }
 {
     match fault {
         UnitsFault::BadRec { lsn } => RecoverFault::BadRec { lsn },
@@ -70,32 +77,66 @@ fn units_fault(fault: UnitsFault) -> RecoverFault
 /// The accounts of the lawful list that the bytes hold.
 pub fn recover(alloc: Global, bytes: &[u8]) -> Result<Recovered, RecoverFault>
     ensures found { IfOk result (λ recovered. Recovers recovered bytes.now) }
+    ensures number { IfOk result (λ recovered. recovered.next_txn ≤ 2 ^ 32) }
+    ensures fault { IfErr result (IsFaultOf bytes.now) }
+{
+    match recover_list(alloc, bytes) {
+        Ok((recovered, _)) => Ok(recovered),
+        Err(fault) => Err(fault),
+    }
+}
+
+/// The accounts of the lawful list that the bytes hold, and the list, for which they are read once.
+pub fn recover_list(alloc: Global, bytes: &[u8]) -> Result<(Recovered, Listed), RecoverFault>
+    ensures found { IfOk result (λ both. Recovers both.0 bytes.now) }
+    ensures listed { IfOk result (λ both. ListsBytes both.1 bytes.now) }
+    ensures number { IfOk result (λ both. both.0.next_txn ≤ 2 ^ 32) }
     ensures fault { IfErr result (IsFaultOf bytes.now) }
 {
     let scan = match scan(alloc, bytes) {
         Ok(scan) => scan,
         Err(fault) => return Err(scan_fault(fault)),
     };
-    let tail = scan.tail;
-    let judge = match judge_of_units(alloc, scan.units.as_slice()) {
+    match recovered_of(alloc, &scan) {
+        Ok(recovered) => Ok((
+            recovered,
+            Listed {
+                opening: scan.opening,
+                units: scan.units,
+                tail: scan.tail,
+            },
+        )),
+        Err(fault) => Err(fault),
+    }
+}
+
+/// The accounts of the lawful list that was scanned.
+fn recovered_of(alloc: Global, scan: &Scan) -> Result<Recovered, RecoverFault>
+    requires { (bytes : List ℕ) × Scans scan.now bytes }
+    ensures found { IfOk result (λ recovered. (bytes : List ℕ) → Scans scan.now bytes → Recovers recovered bytes) }
+    ensures list { IfOk result (λ _. (records : List Rec) × AreUnitsOf scan.now.units records) }
+    ensures number { IfOk result (λ recovered. recovered.next_txn ≤ 2 ^ 32) }
+    ensures fault { IfErr result (λ fault. (bytes : List ℕ) → Scans scan.now bytes → IsFaultOf bytes fault) }
+{
+    let judge = match judge_of_units(alloc, &scan.opening, scan.units.as_slice()) {
         Ok(judge) => judge,
         Err(fault) => return Err(units_fault(fault)),
     };
     Ok(Recovered {
-        lsn: tail.next,
-        tail,
+        lsn: scan.tail.next,
+        tail: scan.tail,
         next_txn: u64::from(judge.greatest_txn()) + 1,
         accounts: judge.into_accounts(),
     })
 }
 
-/// A law: what `recover` answers is a function of the bytes, but for want of memory. They hold one list at most; where
+/// A law: what `recover` answers is a function of the bytes, but for want of memory. They hold one opening with one list at most; where
 /// they hold one, nothing hides it from `listed`; where it is lawful they have no fault; and no bytes have two faults.
 pub fn one_answer()
-    ensures list { (bytes : List ℕ) (xs ys : List Rec) → HoldsList bytes xs → HoldsList bytes ys → xs ≡ ys }
-    ensures listed { (bytes : List ℕ) (records : List Rec) (fault : RecoverFault) → HoldsList bytes records → IsListedFaultOf bytes fault
+    ensures list { (bytes : List ℕ) (a b : OpenedList) → HoldsList bytes a → HoldsList bytes b → a ≡ b }
+    ensures listed { (bytes : List ℕ) (list : OpenedList) (fault : RecoverFault) → HoldsList bytes list → IsListedFaultOf bytes fault
         → fault ≡ RecoverFault.NoMemory }
-    ensures lawful { (bytes : List ℕ) (records : List Rec) (fault : RecoverFault) → HoldsLawful bytes records → IsFaultOf bytes fault
+    ensures lawful { (bytes : List ℕ) (list : OpenedList) (fault : RecoverFault) → HoldsLawful bytes list → IsFaultOf bytes fault
         → fault ≡ RecoverFault.NoMemory }
     ensures fault { (bytes : List ℕ) (f g : RecoverFault) → IsFaultOf bytes f → IsFaultOf bytes g
         → (f ≡ g) ⊎ (f ≡ RecoverFault.NoMemory) ⊎ (g ≡ RecoverFault.NoMemory) }

@@ -10,6 +10,7 @@ use std::test::Fail;
 /// A fault, in numbers that a constant can hold.
 pub(crate) enum Fault {
     NotALog,
+    BadSnapshot,
     BadBatch(u64),
     BadRec(u32),
     Unlawful(u32, Why),
@@ -19,6 +20,7 @@ impl Fault {
     pub fn wanted(&self) -> RecoverFault {
         match *self {
             Fault::NotALog => RecoverFault::NotALog,
+            Fault::BadSnapshot => RecoverFault::BadSnapshot,
             Fault::BadBatch(offset) => RecoverFault::BadBatch { offset },
             Fault::BadRec(lsn) => RecoverFault::BadRec { lsn: Lsn::new(lsn) },
             Fault::Unlawful(lsn, why) => RecoverFault::Unlawful {

@@ -20,7 +20,7 @@ pub(crate) const TRANSFER: [u64; 5] = [
 ];
 
 /// Adds a count and so many units to the bytes of a log file.
-fn push_units(bytes: &mut Vec<u8>, units: &[u64]) -> Result<(), AllocError> {
+pub(crate) fn push_units(bytes: &mut Vec<u8>, units: &[u64]) -> Result<(), AllocError> {
     let count = u32::try_from(units.len()).unwrap_or(0);
     bytes.extend_from_slice(&count.to_be_bytes())?;
     for unit in units {

@@ -4,6 +4,8 @@
 #[cfg(test)]
 mod answers;
 #[cfg(test)]
+mod cut;
+#[cfg(test)]
 mod dumps;
 #[cfg(test)]
 mod hostile;
@@ -11,5 +13,7 @@ mod hostile;
 mod images;
 #[cfg(test)]
 mod judging;
+#[cfg(test)]
+mod openings;
 #[cfg(test)]
 mod plainly;

@@ -15,6 +15,7 @@ use std::alloc::Global;
 fn scan_fault(fault: ScanFault) -> RecoverFault {
     match fault {
         ScanFault::NotALog => RecoverFault::NotALog,
+        ScanFault::BadSnapshot => RecoverFault::BadSnapshot,
         ScanFault::BadBatch { offset } => RecoverFault::BadBatch { offset },
         ScanFault::NoMemory => RecoverFault::NoMemory,
     }
@@ -48,7 +49,7 @@ fn entries_of(alloc: Global, units: &[u64]) -> Result<Vec<Placed>, RecoverFault>
     Ok(entries)
 }
 
-/// What `recover` answers of the accounts, by the definition's plain program.
+/// What `recover` answers of the accounts of a file of the first format, by the definition's plain program.
 fn plain_recover(alloc: Global, bytes: &[u8]) -> Result<Balances, RecoverFault> {
     let scan = match scan(alloc, bytes) {
         Ok(scan) => scan,

@@ -4,7 +4,7 @@ use Rattle.log_recovery.proofs.dump.put_dump.Given as goal
 
 abbrev pub invariant-records : goal.invariant-records
 invariant-records g l = record {
-  dumped : DumpsFront l.listed.units l.rest l.block (g.K.Sink.held_bytes l.fn.sink) (g.K.Sink.held_bytes l.sink);
+  dumped : DumpsFront l.listed.opening l.listed.units l.rest l.block (g.K.Sink.held_bytes l.fn.sink) (g.K.Sink.held_bytes l.sink);
   same : g.K.Sink.faults l.sink ≡ g.K.Sink.faults l.fn.sink;
 }
 

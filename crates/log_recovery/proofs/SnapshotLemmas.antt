@@ -1,0 +1,96 @@
+-- How the lines of what stands before a list are written, account by account.
+use Rattle.std.proofs.Common.{◌≡◌, ◌≤◌, ℕ, zero, suc, ◌+◌, List, [], ◌∷◌, ◌++◌, length, drop, Option, Some, Result, refl, ap, ◌∙◌, sym, subst, arith, append_assoc}
+use Rattle.std.specs.List.{slice_get}
+use Rattle.std.proofs.lemmas.List.{append-nil, drop_all}
+use Rattle.std.proofs.lemmas.Option.{slice_get_within}
+use Rattle.lsn_space.specs.Opening.{Opening}
+use Rattle.log_disk.specs.Faults.{HasCause}
+use Rattle.log_disk.specs.Streams.{AppendsPart, AppendsBut}
+use Rattle.log_disk.proofs.Blocks.{AppendsBut-none, AppendsBut-more, AppendsBut-part, AppendsPart-first}
+use Rattle.log_recovery.specs.Dump.{row_line, row_lines, snapshot_line, snapshot_lines, opening_lines}
+
+-- where no fault was counted until then
+pub cause-since : {T E : Type 0} (first before now : ℕ) (result : Result T E) → before ≡ first → HasCause before now result → HasCause first now result
+cause-since first before now result same cause = subst (λ count. HasCause count now result) same cause
+
+-- from this row on
+drop-row : (rows : List (ℕ × ℕ)) (n : ℕ) (row : ℕ × ℕ) → slice_get rows n ≡ Some row → drop n rows ≡ row ∷ drop (n + 1) rows
+drop-row [] n row is = let within = slice_get_within [] n row is in absurd (omega (arith, within))
+drop-row (first ∷ rows) zero row is = let same : first ≡ row = cc in ap (λ r. r ∷ rows) same
+drop-row (first ∷ rows) (suc n) row is =
+    let past : suc (n + 1) ≡ suc n + 1 = omega arith in
+    drop-row rows n row is ∙ ap (λ k. row ∷ drop k (first ∷ rows)) past
+
+-- the lines of the accounts before this one are written, but for the bytes that wait; others waited before them
+pub record RowsFront (rows : List (ℕ × ℕ)) (account : ℕ) (first waiting : List ℕ) (old new : Option (List ℕ)) : Type 0 where
+  pub done : List ℕ
+  pub whole : row_lines 0 rows ≡ done ++ row_lines account (drop account rows)
+  pub written : AppendsBut old new (first ++ done) waiting
+
+pub rows-none : (accounts : List (ℕ × ℕ)) (first : List ℕ) (old : Option (List ℕ)) → RowsFront accounts 0 first first old old
+rows-none rows first old =
+    record { done = []; whole = refl; written = subst (λ bytes. AppendsBut old old bytes first) (sym (append-nil first)) (AppendsBut-none old first) }
+
+module _ (rows : List (ℕ × ℕ)) (account : ℕ) (row : ℕ × ℕ) (first waiting : List ℕ) (old mid : Option (List ℕ)) (is : slice_get rows account ≡ Some row)
+    (before : RowsFront rows account first waiting old mid) where
+  split : row_lines 0 rows ≡ before.done ++ row_line account row ++ row_lines (account + 1) (drop (account + 1) rows)
+  split = before.whole ∙ ap (λ list. before.done ++ row_lines account list) (drop-row rows account row is)
+      ∙ sym (append_assoc before.done (row_line account row) (row_lines (account + 1) (drop (account + 1) rows)))
+
+  -- one more line is put
+  pub rows-more : (new : Option (List ℕ)) (waiting' : List ℕ) → AppendsBut mid new (waiting ++ row_line account row) waiting'
+      → RowsFront rows (account + 1) first waiting' old new
+  rows-more new waiting' line = record {
+    done = before.done ++ row_line account row;
+    whole = split;
+    written = subst (λ bytes. AppendsBut old new bytes waiting') (append_assoc first before.done (row_line account row))
+        (AppendsBut-more old mid new _ waiting before.written (row_line account row) waiting' line);
+  }
+
+  -- of the lines with one more a part is written
+  pub rows-cut : (new : Option (List ℕ)) → AppendsPart mid new (waiting ++ row_line account row) → AppendsPart old new (first ++ row_lines 0 rows)
+  rows-cut new cut =
+      let rest : List ℕ = row_lines (account + 1) (drop (account + 1) rows) in
+      AppendsPart-first old new _ _ rest (AppendsBut-part old mid new _ waiting before.written (row_line account row) cut)
+      (ap (λ list. first ++ list) split ∙ sym (append_assoc first (before.done ++ row_line account row) rest)
+      ∙ ap (λ list. list ++ rest) (sym (append_assoc first before.done (row_line account row))))
+
+-- all lines are put
+pub rows-all : (rows : List (ℕ × ℕ)) (account : ℕ) (first waiting : List ℕ) (old new : Option (List ℕ)) → length rows ≤ account
+    → RowsFront rows account first waiting old new → AppendsBut old new (first ++ row_lines 0 rows) waiting
+rows-all rows account first waiting old new past front =
+    let whole : row_lines 0 rows ≡ front.done =
+    front.whole ∙ ap (λ list. front.done ++ row_lines account list) (drop_all account rows past) ∙ append-nil front.done in
+    subst (λ bytes. AppendsBut old new (first ++ bytes) waiting) (sym whole) front.written
+
+-- ---- what stands before a list
+
+lines-none : (lsn txn : ℕ) (rows : List (ℕ × ℕ)) → length rows ≡ 0 → snapshot_lines lsn txn rows ≡ []
+lines-none lsn txn [] none = refl
+lines-none lsn txn (row ∷ rows) none = absurd (omega (arith, none))
+
+lines-some : (lsn txn : ℕ) (rows : List (ℕ × ℕ)) → (length rows ≡ 0 → ⊥) → snapshot_lines lsn txn rows ≡ snapshot_line lsn txn ++ row_lines 0 rows
+lines-some lsn txn [] some = absurd (some refl)
+lines-some lsn txn (row ∷ rows) some = refl
+
+module _ (opening : Opening) (first : List ℕ) (old : Option (List ℕ)) where
+  pub opening-none : length opening.accounts ≡ 0 → AppendsBut old old (first ++ opening_lines opening) first
+  opening-none none =
+      subst (λ bytes. AppendsBut old old bytes first) (sym (ap (λ list. first ++ list) (lines-none opening.lsn opening.txn opening.accounts none) ∙ append-nil first))
+      (AppendsBut-none old first)
+
+  module _ (some : length opening.accounts ≡ 0 → ⊥) where
+    opening-split : first ++ opening_lines opening ≡ (first ++ snapshot_line opening.lsn opening.txn) ++ row_lines 0 opening.accounts
+    opening-split = ap (λ list. first ++ list) (lines-some opening.lsn opening.txn opening.accounts some)
+        ∙ sym (append_assoc first (snapshot_line opening.lsn opening.txn) (row_lines 0 opening.accounts))
+
+    pub opening-first_cut : (mid : Option (List ℕ)) → AppendsPart old mid (first ++ snapshot_line opening.lsn opening.txn) → AppendsPart old mid (first ++ opening_lines opening)
+    opening-first_cut mid cut = AppendsPart-first old mid _ _ (row_lines 0 opening.accounts) cut opening-split
+
+    module _ (mid new : Option (List ℕ)) (waiting : List ℕ) (put : AppendsBut old mid (first ++ snapshot_line opening.lsn opening.txn) waiting) where
+      pub opening-all : (waiting' : List ℕ) → AppendsBut mid new (waiting ++ row_lines 0 opening.accounts) waiting' → AppendsBut old new (first ++ opening_lines opening) waiting'
+      opening-all waiting' rows =
+          subst (λ bytes. AppendsBut old new bytes waiting') (sym opening-split) (AppendsBut-more old mid new _ waiting put (row_lines 0 opening.accounts) waiting' rows)
+
+      pub opening-cut : AppendsPart mid new (waiting ++ row_lines 0 opening.accounts) → AppendsPart old new (first ++ opening_lines opening)
+      opening-cut cut = subst (AppendsPart old new) (sym opening-split) (AppendsBut-part old mid new _ waiting put (row_lines 0 opening.accounts) cut)

@@ -1,0 +1,111 @@
+//! A judge behind the opening that a cut log leaves.
+
+ghost use Rattle.std.specs.Prelude.{◌≡◌, [], IfOk};
+ghost use Rattle.lock_core.specs.Taking.{HasJudged};
+ghost use Rattle.lock_core.specs.Witness.{snapshot, cut};
+
+use lock_core::{Judge, JudgeFault, Why};
+use log_record::Rec;
+use lsn_space::{Balances, Lsn, NoMemory, Opening};
+use std::alloc::Global;
+use std::process::Abort;
+use std::test::Fail;
+
+/// What the log of one transfer leaves: it ends at 9, transaction 1 was the last, and the accounts have 70 and 30, each by the
+/// Commit that ends at 9.
+fn kept(alloc: Global) -> Result<Opening, NoMemory>
+    ensures { IfOk result (λ opening. opening ≡ snapshot) }
+{
+    let mut accounts = Balances::make(alloc, 2)?;
+    accounts.push(70, 9);
+    accounts.push(30, 9);
+    Ok(Opening {
+        lsn: Lsn::new(9),
+        txn: 1,
+        accounts,
+    })
+}
+
+/// A judge that has taken no record behind it.
+fn judge_behind(alloc: Global) -> Result<Judge, NoMemory>
+    ensures { IfOk result (λ judge. HasJudged cut judge []) }
+{
+    let opening = kept(alloc)?;
+    Judge::after(alloc, &opening)
+}
+
+/// The accounts and the greatest transaction number.
+fn has(rt: &impl Abort, judge: &Judge, first: (u32, u32), second: (u32, u32), greatest: u32) {
+    assert_eq!(rt; judge.accounts(), 2);
+    assert_eq!(rt; (judge.balance(0), judge.last(0)), first);
+    assert_eq!(rt; (judge.balance(1), judge.last(1)), second);
+    assert_eq!(rt; judge.greatest_txn(), greatest);
+}
+
+/// The record was refused by this test.
+fn is_refused(rt: &impl Abort, found: Result<(), JudgeFault>, why: Why) {
+    assert_eq!(rt; found, Err(JudgeFault::Why(why)));
+}
+
+/// 30 from account 1 to account 0 goes on behind the log that was cut.
+#[test]
+fn goes_on(rt: HostRuntime) -> Result<(), Fail> {
+    let Ok(mut judge) = judge_behind(rt.alloc()) else {
+        return Err(Fail::new("no memory for a judge"));
+    };
+    has(&rt, &judge, (70, 9), (30, 9), 1);
+    let taking = Rec::Update {
+        txn: 2,
+        account: 1,
+        delta: -30,
+        prev: Lsn::new(9),
+    };
+    let giving = Rec::Update {
+        txn: 2,
+        account: 0,
+        delta: 30,
+        prev: Lsn::new(9),
+    };
+    let commit = Rec::Commit { txn: 2, legs: 1 };
+    let Ok(()) = judge.take(Lsn::new(9), &taking) else {
+        return Err(Fail::new("the taking is refused"));
+    };
+    let Ok(()) = judge.take(Lsn::new(11), &giving) else {
+        return Err(Fail::new("the giving is refused"));
+    };
+    let Ok(()) = judge.take(Lsn::new(13), &commit) else {
+        return Err(Fail::new("the Commit is refused"));
+    };
+    has(&rt, &judge, (100, 14), (0, 14), 2);
+    Ok(())
+}
+
+/// A transaction of the log that was cut is ended.
+#[test]
+fn refuses_an_old_transaction(rt: HostRuntime) -> Result<(), Fail> {
+    let Ok(mut judge) = judge_behind(rt.alloc()) else {
+        return Err(Fail::new("no memory for a judge"));
+    };
+    let again = Rec::Update {
+        txn: 1,
+        account: 1,
+        delta: -30,
+        prev: Lsn::new(9),
+    };
+    is_refused(&rt, judge.take(Lsn::new(9), &again), Why::Ended);
+    Ok(())
+}
+
+/// No account is opened behind accounts.
+#[test]
+fn refuses_an_account(rt: HostRuntime) -> Result<(), Fail> {
+    let Ok(mut judge) = judge_behind(rt.alloc()) else {
+        return Err(Fail::new("no memory for a judge"));
+    };
+    let third = Rec::Genesis {
+        account: 2,
+        balance: 7,
+    };
+    is_refused(&rt, judge.take(Lsn::new(9), &third), Why::Genesis);
+    Ok(())
+}
