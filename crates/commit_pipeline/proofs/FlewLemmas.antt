@@ -12,14 +12,14 @@ use Rattle.log_record.specs.LogList.{units_of, end_of}
 use Rattle.log_rule.specs.declared.view.View.{View}
 use Rattle.log_table.specs.Seats.{view_of}
 use Rattle.log_rule.specs.Views.{has_stopped}
-use Rattle.segment_file.specs.File.{HoldsUnits}
+use Rattle.segment_file.specs.Log.{Log, with_units, HoldsLog}
 use Rattle.segment_file.specs.Lengths.{most_end}
-use Rattle.segment_file.specs.Standing.{AllStand, HoldsEither}
+use Rattle.segment_file.specs.Standing.{LogStands, HoldsLogOrMore}
 use Rattle.segment_file.specs.declared.scan_result.Tail.{Tail}
 use Rattle.flusher.specs.declared.flusher.Flusher.{Flusher}
 use Rattle.flusher.specs.Flushing.{MayFlush, HoldsDurablePrefix, MayHoldBatchInFlight, Sends, Loses, sent_of}
 use Rattle.flusher.specs.Sending.{gathered, flushed}
-use Rattle.flusher.proofs.Flushes.{StandsAt-holds}
+use Rattle.segment_file.proofs.LogLemmas.{with_units-nil}
 use Rattle.commit_pipeline.specs.Later.{HoldsFront}
 use Rattle.daemon_turn.specs.OneTurn.{Stops}
 
@@ -29,56 +29,56 @@ pub record Flew {D : Type 0} (g : Ghosts D) (more cut : List Rec) (most : ℕ) (
   pub constants : (view_of new.seat).constants ≡ (view_of old.seat).constants
   pub sent : sent_of new ≡ sent_of old ++ units_of more
   pub read : (view_of new.seat).sending.read ≡ units_of cut
-  pub moments : g.honest old.disk.now → (opening : List ℕ) → HoldsDurablePrefix g old opening
-      → Leaves g.moment g.images_since (HoldsFront (opening ++ sent_of old) (more ++ cut)) old.disk.now new.disk.now
-  pub prefix : cut ≡ [] → g.honest old.disk.now → (opening : List ℕ) → HoldsDurablePrefix g old opening → HoldsDurablePrefix g new opening
-  pub torn : g.honest old.disk.now → (opening : List ℕ) → HoldsDurablePrefix g old opening → MayHoldBatchInFlight g new opening
+  pub moments : g.honest old.disk.now → (opened : Log) → HoldsDurablePrefix g old opened
+      → Leaves g.moment g.images_since (HoldsFront (with_units opened (sent_of old)) (more ++ cut)) old.disk.now new.disk.now
+  pub prefix : cut ≡ [] → g.honest old.disk.now → (opened : Log) → HoldsDurablePrefix g old opened → HoldsDurablePrefix g new opened
+  pub torn : g.honest old.disk.now → (opened : Log) → HoldsDurablePrefix g old opened → MayHoldBatchInFlight g new opened
   pub count : g.honest old.disk.now → Costs g most most old.disk.now new.disk.now
   pub tail : new.tail.at ≤ old.tail.at + 13 * end_of more
   pub grows : g.honest old.disk.now
       → GrowsAtMostTo g (most_end old.tail.at (end_of more) (view_of old.seat).constants.ring) old.disk.now new.disk.now
 
 -- where the whole list stands, nothing is in flight
-torn-none : {D : Type 0} (g : Ghosts D) (f : Flusher D) (opening : List ℕ) → HoldsDurablePrefix g f opening → MayHoldBatchInFlight g f opening
-torn-none g f opening stand = λ c image. inl (StandsAt-holds f.tail (opening ++ sent_of f) c (stand c image))
+torn-none : {D : Type 0} (g : Ghosts D) (f : Flusher D) (opened : Log) → HoldsDurablePrefix g f opened → MayHoldBatchInFlight g f opened
+torn-none g f opened stand = λ c image. inl (stand c image).held
 
 -- a step of the seat alone
 pub Flew-step : {D : Type 0} (g : Ghosts D) (old new : Flusher D) → new ≡ record old { seat = new.seat }
     → (view_of new.seat).constants ≡ (view_of old.seat).constants
     → sent_of new ≡ sent_of old → (view_of new.seat).sending.read ≡ [] → Flew g [] [] 0 old new
 Flew-step g old new rest constants sent read =
-    let prefix : (opening : List ℕ) → HoldsDurablePrefix g old opening → HoldsDurablePrefix g new opening = λ opening stand.
-    subst (λ (f : Flusher _). AllStand f.tail (opening ++ sent_of new) (g.images f.disk.now)) (sym rest)
-    (subst (λ us. AllStand old.tail (opening ++ us) (g.images old.disk.now)) (sym sent) stand) in
+    let prefix : (opened : Log) → HoldsDurablePrefix g old opened → HoldsDurablePrefix g new opened = λ opened stand.
+    subst (λ (f : Flusher _). LogStands f.tail (with_units opened (sent_of new)) (g.images f.disk.now)) (sym rest)
+    (subst (λ us. LogStands old.tail (with_units opened us) (g.images old.disk.now)) (sym sent) stand) in
     record {
       constants = constants;
       sent = sent ∙ sym (append-nil (sent_of old));
       read = read;
-      moments = λ honest opening stand.
-          let P = HoldsFront (opening ++ sent_of old) [] in
+      moments = λ honest opened stand.
+          let P = HoldsFront (with_units opened (sent_of old)) [] in
           subst (λ (f : Flusher _). Leaves g.moment g.images_since P old.disk.now f.disk.now) (sym rest)
           (Leaves-refl g.moment g.images_since P old.disk.now);
       prefix = λ none honest. prefix;
-      torn = λ honest opening stand. torn-none g new opening (prefix opening stand);
+      torn = λ honest opened stand. torn-none g new opened (prefix opened stand);
       count = λ honest. subst (λ (f : Flusher _). Costs g 0 0 old.disk.now f.disk.now) (sym rest) (Costs-none g old.disk.now);
       tail = omega (arith, ap (λ (f : Flusher _). f.tail.at) rest);
       grows = λ honest. GrowsAtMostTo-same g _ old.disk.now new.disk.now (ap (λ (f : Flusher _). g.reads f.disk.now) rest);
     }
 
 -- the list before, or it with all the records: a front of them
-HoldsFront-either : (before units : List ℕ) (records : List Rec) (bytes : List ℕ) → units ≡ units_of records → HoldsEither before units bytes
+HoldsFront-either : (before : Log) (units : List ℕ) (records : List Rec) (bytes : List ℕ) → units ≡ units_of records → HoldsLogOrMore before units bytes
     → HoldsFront before records bytes
 HoldsFront-either before units records bytes same (inl held) = record {
   front = [];
   rest = records;
   whole = refl;
-  holds = subst (HoldsUnits bytes) (sym (append-nil before)) held;
+  holds = subst (HoldsLog bytes) (sym (with_units-nil before)) held;
 }
 HoldsFront-either before units records bytes same (inr held) = record {
   front = records;
   rest = [];
   whole = sym (append-nil records);
-  holds = subst (λ us. HoldsUnits bytes (before ++ us)) same held;
+  holds = subst (λ us. HoldsLog bytes (with_units before us)) same held;
 }
 
 pub Flew-sends : {D : Type 0} (g : Ghosts D) (old new : Flusher D) (from to : ℕ) → MayFlush g old → (sends : Sends g old new from to)
@@ -91,13 +91,13 @@ Flew-sends g old new from to ready sends =
       sent = ap (λ (v : View). v.sending.sent) is ∙ ap (λ us. sent_of old ++ (us ++ sends.units)) ready.unread
           ∙ ap (λ us. sent_of old ++ us) sends.spelled.units_are;
       read = ap (λ (v : View). v.sending.read) is;
-      moments = λ honest opening stand.
+      moments = λ honest opened stand.
           Leaves-weaken g.moment g.images_since _ _ old.disk.now new.disk.now
-          (λ c either. subst (λ rs. HoldsFront (opening ++ sent_of old) rs c) (sym whole)
-          (HoldsFront-either (opening ++ sent_of old) sends.units sends.records c sends.spelled.units_are either))
-          (sends.writes.moments honest opening stand);
-      prefix = λ none honest opening stand. sends.prefix honest opening stand;
-      torn = λ honest opening stand. torn-none g new opening (sends.prefix honest opening stand);
+          (λ c either. subst (λ rs. HoldsFront (with_units opened (sent_of old)) rs c) (sym whole)
+          (HoldsFront-either (with_units opened (sent_of old)) sends.units sends.records c sends.spelled.units_are either))
+          (sends.writes.moments honest opened stand);
+      prefix = λ none honest opened stand. sends.prefix honest opened stand;
+      torn = λ honest opened stand. torn-none g new opened (sends.prefix honest opened stand);
       count = sends.writes.count;
       tail = omega (arith, ap (λ (tail : Tail). tail.at) sends.tail, sends.some, sends.whole, ap length sends.spelled.units_are);
       grows = λ honest. GrowsAtMostTo-more g (old.tail.at + 6 + 8 * length sends.units) _ old.disk.now new.disk.now
@@ -112,10 +112,10 @@ Flew-loses g old new ready loses =
       constants = ap (λ (v : View). v.constants) is;
       sent = ap (λ (v : View). v.sending.sent) is ∙ sym (append-nil (sent_of old));
       read = ap (λ (v : View). v.sending.read) is ∙ ap (λ us. us ++ loses.units) ready.unread ∙ loses.spelled.units_are;
-      moments = λ honest opening stand.
+      moments = λ honest opened stand.
           Leaves-weaken g.moment g.images_since _ _ old.disk.now new.disk.now
-          (λ c either. HoldsFront-either (opening ++ sent_of old) loses.units loses.records c loses.spelled.units_are either)
-          (loses.writes.moments honest opening stand);
+          (λ c either. HoldsFront-either (with_units opened (sent_of old)) loses.units loses.records c loses.spelled.units_are either)
+          (loses.writes.moments honest opened stand);
       prefix = λ none. absurd (omega (arith, loses.some, ap length loses.spelled.units_are, ap (λ rs. length (units_of rs)) none));
       torn = loses.prefix;
       count = loses.writes.count;
@@ -136,20 +136,20 @@ Flew-stop g more cut most word old mid new flew stops =
       constants = ap (λ (v : View). v.constants) is ∙ flew.constants;
       sent = sent ∙ flew.sent;
       read = read ∙ flew.read;
-      moments = λ honest opening stand.
+      moments = λ honest opened stand.
           subst (λ (f : Flusher _). Leaves g.moment g.images_since
-          (HoldsFront (opening ++ sent_of old) (more ++ cut)) old.disk.now f.disk.now)
-          (sym stops.rest) (flew.moments honest opening stand);
-      prefix = λ none honest opening stand.
-          subst (λ us. AllStand new.tail (opening ++ us) (g.images new.disk.now)) (sym sent)
-          (subst (λ (f : Flusher _). AllStand f.tail (opening ++ sent_of mid) (g.images f.disk.now)) (sym stops.rest)
-          (flew.prefix none honest opening stand));
-      torn = λ honest opening stand.
-          subst (λ us. (c : List ℕ) → g.images new.disk.now c → HoldsEither (opening ++ us) (view_of new.seat).sending.read c) (sym sent)
-          (subst (λ us. (c : List ℕ) → g.images new.disk.now c → HoldsEither (opening ++ sent_of mid) us c) (sym read)
+          (HoldsFront (with_units opened (sent_of old)) (more ++ cut)) old.disk.now f.disk.now)
+          (sym stops.rest) (flew.moments honest opened stand);
+      prefix = λ none honest opened stand.
+          subst (λ us. LogStands new.tail (with_units opened us) (g.images new.disk.now)) (sym sent)
+          (subst (λ (f : Flusher _). LogStands f.tail (with_units opened (sent_of mid)) (g.images f.disk.now)) (sym stops.rest)
+          (flew.prefix none honest opened stand));
+      torn = λ honest opened stand.
+          subst (λ us. (c : List ℕ) → g.images new.disk.now c → HoldsLogOrMore (with_units opened us) (view_of new.seat).sending.read c) (sym sent)
+          (subst (λ us. (c : List ℕ) → g.images new.disk.now c → HoldsLogOrMore (with_units opened (sent_of mid)) us c) (sym read)
           (subst (λ (f : Flusher _). (c : List ℕ) → g.images f.disk.now c
-          → HoldsEither (opening ++ sent_of mid) (view_of mid.seat).sending.read c) (sym stops.rest)
-          (flew.torn honest opening stand)));
+          → HoldsLogOrMore (with_units opened (sent_of mid)) (view_of mid.seat).sending.read c) (sym stops.rest)
+          (flew.torn honest opened stand)));
       count = λ honest. subst (λ (f : Flusher _). Costs g most most old.disk.now f.disk.now) (sym stops.rest) (flew.count honest);
       tail = omega (arith, flew.tail, ap (λ (f : Flusher _). f.tail.at) stops.rest);
       grows = λ honest. subst (λ (f : Flusher _). GrowsAtMostTo g (most_end old.tail.at (end_of more) (view_of old.seat).constants.ring) old.disk.now f.disk.now)

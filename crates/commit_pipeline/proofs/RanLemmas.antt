@@ -14,7 +14,8 @@ use Rattle.log_record.specs.Spelling.{spelling, IsSpellable}
 use Rattle.log_table.specs.Seats.{view_of}
 use Rattle.log_rule.specs.declared.view.Constants.{Constants}
 use Rattle.log_rule.specs.declared.view.View.{View}
-use Rattle.segment_file.specs.File.{HoldsUnits}
+use Rattle.segment_file.specs.Log.{Log, with_units, HoldsLog}
+use Rattle.segment_file.proofs.LogLemmas.{with_units-append}
 use Rattle.segment_file.specs.Lengths.{most_end}
 use Rattle.flusher.specs.Flushing.{sent_of}
 use Rattle.commit_pipeline.specs.declared.daemon.Daemon.{Daemon}
@@ -52,7 +53,7 @@ IsSameDaemon-trans g a b c first second = record {
 }
 
 -- a front of the first few is a front of all
-HoldsFront-more : (before : List ℕ) (more rest : List Rec) (bytes : List ℕ) → HoldsFront before more bytes
+HoldsFront-more : (before : Log) (more rest : List Rec) (bytes : List ℕ) → HoldsFront before more bytes
     → HoldsFront before (more ++ rest) bytes
 HoldsFront-more before more rest bytes some = record {
   front = some.front;
@@ -62,14 +63,14 @@ HoldsFront-more before more rest bytes some = record {
 }
 
 -- so is a front of what follows the first few, with these
-HoldsFront-behind : (before : List ℕ) (done more : List Rec) (bytes : List ℕ) → HoldsFront (before ++ units_of done) more bytes
+HoldsFront-behind : (before : Log) (done more : List Rec) (bytes : List ℕ) → HoldsFront (with_units before (units_of done)) more bytes
     → HoldsFront before (done ++ more) bytes
 HoldsFront-behind before done more bytes some = record {
   front = done ++ some.front;
   rest = some.rest;
   whole = ap (λ rs. done ++ rs) some.whole ∙ sym (append_assoc done some.front some.rest);
-  holds = subst (HoldsUnits bytes) (append_assoc before (units_of done) (units_of some.front)
-      ∙ ap (λ us. before ++ us) (sym (flat_map-append spelling done some.front))) some.holds;
+  holds = subst (HoldsLog bytes) (with_units-append before (units_of done) (units_of some.front)
+      ∙ ap (λ us. with_units before us) (sym (flat_map-append spelling done some.front))) some.holds;
 }
 
 -- the records of both parts are spellable
@@ -141,8 +142,8 @@ module _ {D : Type 0} {K : Type 0} (g : Ghosts D) (h : SinkGhosts K) (a b c : Da
     length-append (sent_of a.flusher) (units_of first.more),
   )
 
-  moved : (opening : List ℕ) → (opening ++ sent_of a.flusher) ++ units_of first.more ≡ opening ++ sent_of b.flusher
-  moved opening = append_assoc opening (sent_of a.flusher) (units_of first.more) ∙ ap (λ us. opening ++ us) (sym first.sent)
+  moved : (opened : Log) → with_units (with_units opened (sent_of a.flusher)) (units_of first.more) ≡ with_units opened (sent_of b.flusher)
+  moved opened = with_units-append opened (sent_of a.flusher) (units_of first.more) ∙ ap (λ us. with_units opened us) (sym first.sent)
 
   ends : end_of (first.more ++ second.more) ≡ end_of first.more + end_of second.more
   ends = ap length (flat_map-append spelling first.more second.more) ∙ length-append (units_of first.more) (units_of second.more)
@@ -150,19 +151,19 @@ module _ {D : Type 0} {K : Type 0} (g : Ghosts D) (h : SinkGhosts K) (a b c : Da
   records : (first.more ++ second.more) ++ second.cut ≡ first.more ++ (second.more ++ second.cut)
   records = append_assoc first.more second.more second.cut
 
-  HoldsFront-first : (opening c' : List ℕ) → HoldsFront (opening ++ sent_of a.flusher) (first.more ++ first.cut) c'
-      → HoldsFront (opening ++ sent_of a.flusher) ((first.more ++ second.more) ++ second.cut) c'
-  HoldsFront-first opening c' some =
-      subst (λ rs. HoldsFront (opening ++ sent_of a.flusher) rs c') (sym records)
-      (HoldsFront-more (opening ++ sent_of a.flusher) first.more (second.more ++ second.cut) c'
-      (subst (λ rs. HoldsFront (opening ++ sent_of a.flusher) rs c') no_cut some))
+  HoldsFront-first : (opened : Log) (c' : List ℕ) → HoldsFront (with_units opened (sent_of a.flusher)) (first.more ++ first.cut) c'
+      → HoldsFront (with_units opened (sent_of a.flusher)) ((first.more ++ second.more) ++ second.cut) c'
+  HoldsFront-first opened c' some =
+      subst (λ rs. HoldsFront (with_units opened (sent_of a.flusher)) rs c') (sym records)
+      (HoldsFront-more (with_units opened (sent_of a.flusher)) first.more (second.more ++ second.cut) c'
+      (subst (λ rs. HoldsFront (with_units opened (sent_of a.flusher)) rs c') no_cut some))
 
-  HoldsFront-second : (opening c' : List ℕ) → HoldsFront (opening ++ sent_of b.flusher) (second.more ++ second.cut) c'
-      → HoldsFront (opening ++ sent_of a.flusher) ((first.more ++ second.more) ++ second.cut) c'
-  HoldsFront-second opening c' some =
-      subst (λ rs. HoldsFront (opening ++ sent_of a.flusher) rs c') (sym records)
-      (HoldsFront-behind (opening ++ sent_of a.flusher) first.more (second.more ++ second.cut) c'
-      (subst (λ us. HoldsFront us (second.more ++ second.cut) c') (sym (moved opening)) some))
+  HoldsFront-second : (opened : Log) (c' : List ℕ) → HoldsFront (with_units opened (sent_of b.flusher)) (second.more ++ second.cut) c'
+      → HoldsFront (with_units opened (sent_of a.flusher)) ((first.more ++ second.more) ++ second.cut) c'
+  HoldsFront-second opened c' some =
+      subst (λ rs. HoldsFront (with_units opened (sent_of a.flusher)) rs c') (sym records)
+      (HoldsFront-behind (with_units opened (sent_of a.flusher)) first.more (second.more ++ second.cut) c'
+      (subst (λ log. HoldsFront log (second.more ++ second.cut) c') (sym (moved opened)) some))
 
   told : (first.text ≡ text_of a.voice (durable a) first.more) × (b.tally ≡ counted a.tally first.more)
   told = first.all (kept WriteFault)
@@ -210,15 +211,15 @@ module _ {D : Type 0} {K : Type 0} (g : Ghosts D) (h : SinkGhosts K) (a b c : Da
         ∙ ap (λ us. sent_of a.flusher ++ us) (sym (flat_map-append spelling first.more second.more));
     in_flight = second.in_flight;
     may_turn = second.may_turn;
-    moments = λ honest opening stand.
+    moments = λ honest opened stand.
         Leaves-trans g.moment g.images_since _ a.flusher.disk.now b.flusher.disk.now c.flusher.disk.now
-        (Leaves-weaken g.moment g.images_since _ _ a.flusher.disk.now b.flusher.disk.now (HoldsFront-first opening)
-        (first.moments honest opening stand))
-        (Leaves-weaken g.moment g.images_since _ _ b.flusher.disk.now c.flusher.disk.now (HoldsFront-second opening)
-        (second.moments (first.same.flusher.honest.0 honest) opening (first.prefix (kept DiskFault) honest opening stand)));
-    prefix = λ sent honest opening stand. second.prefix sent (first.same.flusher.honest.0 honest) opening
-        (first.prefix (kept DiskFault) honest opening stand);
-    torn = λ honest opening stand. second.torn (first.same.flusher.honest.0 honest) opening (first.prefix (kept DiskFault) honest opening stand);
+        (Leaves-weaken g.moment g.images_since _ _ a.flusher.disk.now b.flusher.disk.now (HoldsFront-first opened)
+        (first.moments honest opened stand))
+        (Leaves-weaken g.moment g.images_since _ _ b.flusher.disk.now c.flusher.disk.now (HoldsFront-second opened)
+        (second.moments (first.same.flusher.honest.0 honest) opened (first.prefix (kept DiskFault) honest opened stand)));
+    prefix = λ sent honest opened stand. second.prefix sent (first.same.flusher.honest.0 honest) opened
+        (first.prefix (kept DiskFault) honest opened stand);
+    torn = λ honest opened stand. second.torn (first.same.flusher.honest.0 honest) opened (first.prefix (kept DiskFault) honest opened stand);
     appended = Appends-trans _ _ _ first.text second.text first.appended second.appended;
     front = front;
     all = all;

@@ -13,7 +13,7 @@ use Rattle.log_record.specs.LogList.{units_of, end_of}
 use Rattle.log_record.specs.Spelling.{IsSpellable}
 use Rattle.log_rule.specs.declared.view.View.{View}
 use Rattle.log_table.specs.Seats.{view_of}
-use Rattle.segment_file.specs.File.{HoldsUnits}
+use Rattle.segment_file.specs.Log.{Log, with_units, HoldsLog}
 use Rattle.segment_file.specs.Lengths.{most_end}
 use Rattle.flusher.specs.Flushing.{HoldsDurablePrefix, MayHoldBatchInFlight, sent_of}
 use Rattle.commit_pipeline.specs.declared.daemon.Daemon.{Daemon}
@@ -25,12 +25,12 @@ use Rattle.stop_word.specs.Stopping.{stop_word}
 use Rattle.end_lines.specs.Telling.{TellsFront, counted}
 use Rattle.commit_pipeline.specs.Turning.{MayTurn, IsSameDaemon, durable}
 
--- the bytes hold these units, and then those of a front of the records
-pub record HoldsFront (before : List ℕ) (records : List Rec) (bytes : List ℕ) : Type 0 where
+-- the bytes hold this log, and then the units of a front of the records
+pub record HoldsFront (before : Log) (records : List Rec) (bytes : List ℕ) : Type 0 where
   pub front : List Rec
   pub rest : List Rec
   pub whole : records ≡ front ++ rest
-  pub holds : HoldsUnits bytes (before ++ units_of front)
+  pub holds : HoldsLog bytes (with_units before (units_of front))
 
 -- the records in flight: those that were read when the disk failed, and else none
 abbrev pub InFlight : Option DaemonFault → View → List Rec → Type 0
@@ -77,13 +77,13 @@ pub record Ran {D : Type 0} {K : Type 0} (g : Ghosts D) (h : SinkGhosts K) (old 
   pub sent : sent_of new.flusher ≡ sent_of old.flusher ++ units_of more
   pub in_flight : InFlight new.fault (view_of new.flusher.seat) cut
   pub may_turn : new.fault ≡ None → MayTurn g new
-  pub moments : g.honest old.flusher.disk.now → (opening : List ℕ) → HoldsDurablePrefix g old.flusher opening
-      → Leaves g.moment g.images_since (HoldsFront (opening ++ sent_of old.flusher) (more ++ cut))
+  pub moments : g.honest old.flusher.disk.now → (opened : Log) → HoldsDurablePrefix g old.flusher opened
+      → Leaves g.moment g.images_since (HoldsFront (with_units opened (sent_of old.flusher)) (more ++ cut))
       old.flusher.disk.now new.flusher.disk.now
-  pub prefix : new.fault ≢ Some DiskFault → g.honest old.flusher.disk.now → (opening : List ℕ)
-      → HoldsDurablePrefix g old.flusher opening → HoldsDurablePrefix g new.flusher opening
-  pub torn : g.honest old.flusher.disk.now → (opening : List ℕ)
-      → HoldsDurablePrefix g old.flusher opening → MayHoldBatchInFlight g new.flusher opening
+  pub prefix : new.fault ≢ Some DiskFault → g.honest old.flusher.disk.now → (opened : Log)
+      → HoldsDurablePrefix g old.flusher opened → HoldsDurablePrefix g new.flusher opened
+  pub torn : g.honest old.flusher.disk.now → (opened : Log)
+      → HoldsDurablePrefix g old.flusher opened → MayHoldBatchInFlight g new.flusher opened
   pub appended : Appends (h.held_bytes old.sink.now) (h.held_bytes new.sink.now) text
   pub front : new.fault ≡ Some WriteFault → TellsFront old.voice (durable old) more text old.tally new.tally
   pub all : new.fault ≢ Some WriteFault

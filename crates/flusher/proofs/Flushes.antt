@@ -1,5 +1,5 @@
 -- What the steps of a flush come to.
-use Rattle.std.proofs.Common.{◌≡◌, ◌≤◌, ◌<◌, ◌+◌, ◌*◌, ◌^◌, ◌∙◌, sym, ap, refl, subst, inl, ℕ, List, [], ◌∷◌, ◌++◌, length, length-append, arith, append_assoc}
+use Rattle.std.proofs.Common.{◌≡◌, ◌≤◌, ◌<◌, ◌+◌, ◌*◌, ◌^◌, ◌∙◌, sym, ap, refl, subst, inl, ℕ, List, [], ◌∷◌, ◌++◌, length, length-append, arith}
 use Rattle.std.specs.List.{AllByRecursion, Contains}
 use Rattle.std.proofs.lemmas.List.Elements.{Contains-append_left, Contains-append_right, Contains-push}
 use Rattle.log_disk.specs.Disk.{Leaves}
@@ -13,8 +13,9 @@ use Rattle.log_rule.specs.Closing.{records_of}
 use Rattle.log_rule.specs.Log.{IsSpelled, units_in}
 use Rattle.log_rule.specs.declared.view.View.{View}
 use Rattle.log_table.specs.Seats.{Becomes, view_of}
-use Rattle.segment_file.specs.File.{HoldsUnits}
-use Rattle.segment_file.specs.Standing.{StandsAt, AllStand, HoldsEither, tail_after}
+use Rattle.segment_file.specs.Log.{Log, with_units}
+use Rattle.segment_file.specs.Standing.{LogStands, HoldsLogOrMore, tail_after}
+use Rattle.segment_file.proofs.LogLemmas.{with_units-append}
 use Rattle.segment_file.specs.declared.scan_result.Tail.{Tail}
 use Rattle.flusher.specs.declared.flusher.Flusher.{Flusher}
 use Rattle.log_rule.specs.Sends.{AreEntries, ReadsWholeEntries}
@@ -43,18 +44,14 @@ IsSameSeat-becomes old new view becomes constants entries books = record {
   books = ap (λ m. m.0.books) becomes.me ∙ books;
 }
 
--- what stands at a tail holds its units
-pub StandsAt-holds : (tail : Tail) (units bytes : List ℕ) → StandsAt tail units bytes → HoldsUnits bytes units
-StandsAt-holds tail units bytes stands = (stands.batches, stands.rest, stands.file, stands.units_are)
-
--- what an append says of every list, said of the opening units and those sent
+-- what an append says of every log, said of the one that was opened with the units sent
 pub Leaves-append : {D : Type 0} (g : Ghosts D) (old : Flusher D) (disk : D) (batch units : List ℕ) → batch ≡ units
-    → ((us : List ℕ) → AllStand old.tail us (g.images old.disk.now) → Leaves g.moment g.images_since (HoldsEither us batch) old.disk.now disk)
-    → (opening : List ℕ) → HoldsDurablePrefix g old opening
-    → Leaves g.moment g.images_since (HoldsEither (opening ++ sent_of old) units) old.disk.now disk
-Leaves-append g old disk batch units same moments opening stand =
-    subst (λ us. Leaves g.moment g.images_since (HoldsEither (opening ++ sent_of old) us) old.disk.now disk) same
-    (moments (opening ++ sent_of old) stand)
+    → ((log : Log) → LogStands old.tail log (g.images old.disk.now) → Leaves g.moment g.images_since (HoldsLogOrMore log batch) old.disk.now disk)
+    → (opened : Log) → HoldsDurablePrefix g old opened
+    → Leaves g.moment g.images_since (HoldsLogOrMore (with_units opened (sent_of old)) units) old.disk.now disk
+Leaves-append g old disk batch units same moments opened stand =
+    subst (λ us. Leaves g.moment g.images_since (HoldsLogOrMore (with_units opened (sent_of old)) us) old.disk.now disk) same
+    (moments (with_units opened (sent_of old)) stand)
 
 -- what it says of the file's length, said of the units that the batch was gathered from
 pub GrowsAtMostTo-append : {D : Type 0} (g : Ghosts D) (old : Flusher D) (disk : D) (batch units : List ℕ) → batch ≡ units
@@ -64,29 +61,29 @@ GrowsAtMostTo-append g old disk batch units same grows =
 
 -- after an append the images hold what the view then says was sent
 pub HoldsDurablePrefix-append : {D : Type 0} (g : Ghosts D) (old : Flusher D) (tail : Tail) (disk : D) (batch units sent : List ℕ) → batch ≡ units
-    → ((us : List ℕ) → AllStand old.tail us (g.images old.disk.now) → AllStand tail (us ++ batch) (g.images disk))
-    → sent ≡ sent_of old ++ units → (opening : List ℕ) → HoldsDurablePrefix g old opening
-    → AllStand tail (opening ++ sent) (g.images disk)
-HoldsDurablePrefix-append g old tail disk batch units sent same appended sent_is opening stand =
-    subst (λ us. AllStand tail us (g.images disk))
-    (ap (λ us. (opening ++ sent_of old) ++ us) same ∙ append_assoc opening (sent_of old) units
-    ∙ ap (λ us. opening ++ us) (sym sent_is))
-    (appended (opening ++ sent_of old) stand)
+    → ((log : Log) → LogStands old.tail log (g.images old.disk.now) → LogStands tail (with_units log batch) (g.images disk))
+    → sent ≡ sent_of old ++ units → (opened : Log) → HoldsDurablePrefix g old opened
+    → LogStands tail (with_units opened sent) (g.images disk)
+HoldsDurablePrefix-append g old tail disk batch units sent same appended sent_is opened stand =
+    subst (λ log. LogStands tail log (g.images disk))
+    (ap (λ us. with_units (with_units opened (sent_of old)) us) same ∙ with_units-append opened (sent_of old) units
+    ∙ ap (λ us. with_units opened us) (sym sent_is))
+    (appended (with_units opened (sent_of old)) stand)
 
 -- after an append that failed they hold that, or with it what the view says was read
 pub MayHoldBatchInFlight-append : {D : Type 0} (g : Ghosts D)
     → ((disk : D) (t : ℕ) (c : List ℕ) → t ≤ g.moment disk → g.images disk c → g.images_since disk t c)
     → ((disk : D) (c : List ℕ) → g.images_since disk (g.moment disk) c → g.images disk c)
     → (old : Flusher D) (disk : D) (units sent read : List ℕ)
-    → ((opening : List ℕ) → HoldsDurablePrefix g old opening
-    → Leaves g.moment g.images_since (HoldsEither (opening ++ sent_of old) units) old.disk.now disk)
+    → ((opened : Log) → HoldsDurablePrefix g old opened
+    → Leaves g.moment g.images_since (HoldsLogOrMore (with_units opened (sent_of old)) units) old.disk.now disk)
     → sent ≡ sent_of old → read ≡ units
-    → (opening : List ℕ) → HoldsDurablePrefix g old opening → (c : List ℕ) → g.images disk c → HoldsEither (opening ++ sent) read c
-MayHoldBatchInFlight-append g counts_now only_now old disk units sent read moments sent_is read_is opening stand =
-    subst (λ us. (c : List ℕ) → g.images disk c → HoldsEither (opening ++ us) read c) (sym sent_is)
-    (subst (λ us. (c : List ℕ) → g.images disk c → HoldsEither (opening ++ sent_of old) us c) (sym read_is)
+    → (opened : Log) → HoldsDurablePrefix g old opened → (c : List ℕ) → g.images disk c → HoldsLogOrMore (with_units opened sent) read c
+MayHoldBatchInFlight-append g counts_now only_now old disk units sent read moments sent_is read_is opened stand =
+    subst (λ us. (c : List ℕ) → g.images disk c → HoldsLogOrMore (with_units opened us) read c) (sym sent_is)
+    (subst (λ us. (c : List ℕ) → g.images disk c → HoldsLogOrMore (with_units opened (sent_of old)) us c) (sym read_is)
     (Leaves-now g.moment g.images_since g.images counts_now _ old.disk.now disk only_now
-    (λ c image. inl (StandsAt-holds _ _ c (stand c image))) (moments opening stand)))
+    (λ c image. inl (stand c image).held) (moments opened stand)))
 
 -- entries whose units are the spellings of their records spell those
 spelled-records : (entries : List Entry) → AllByRecursion IsSpelled entries → AreUnitsOf (units_in entries) (records_of entries)

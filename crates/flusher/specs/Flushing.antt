@@ -1,5 +1,5 @@
 -- What a flush asks for, and what it leaves. `g` is what a disk shows; `old` and `new` are the flusher before and after.
-use Rattle.std.specs.Prelude.{◌≡◌, ◌↔◌, ℕ, ◌+◌, ◌*◌, ◌^◌, ◌<◌, ◌≤◌, List, [], ◌++◌, length, Contains}
+use Rattle.std.specs.Prelude.{◌≡◌, ◌↔◌, ℕ, ◌+◌, ◌*◌, ◌^◌, ◌<◌, ◌≤◌, List, [], length, Contains}
 use Rattle.log_disk.specs.Costs.{Costs}
 use Rattle.log_disk.specs.Disk.{IsOnlyImage, Leaves}
 use Rattle.log_disk.specs.Lengths.{GrowsAtMostTo}
@@ -10,7 +10,8 @@ use Rattle.log_rule.specs.declared.view.Role.TheVariants.{Flusher as FlusherRole
 use Rattle.log_table.specs.Seats.{IsOf, Becomes, view_of}
 use Rattle.log_rule.specs.Sends.{IsDrained}
 use Rattle.log_rule.specs.Views.{saw_exposed, saw_crew, sent_to}
-use Rattle.segment_file.specs.Standing.{tail_after, AllStand, IsShut, HoldsEither}
+use Rattle.segment_file.specs.Log.{Log, with_units}
+use Rattle.segment_file.specs.Standing.{tail_after, LogStands, IsShut, HoldsLogOrMore}
 use Rattle.flusher.specs.declared.flusher.Flusher.{Flusher}
 use Rattle.flusher.specs.declared.flusher.Flushed.{Flushed}
 use Rattle.flusher.specs.declared.flusher.Flushed.TheVariants.{Nothing, To}
@@ -56,20 +57,20 @@ pub record IsSame {D : Type 0} (g : Ghosts D) (old new : Flusher D) : Type 0 whe
   pub attached : g.attached new.disk.now ≡ g.attached old.disk.now
   pub later : g.moment old.disk.now ≤ g.moment new.disk.now
 
--- each image holds the opening units, and then the units sent, which reach up to durable; it goes on at the tail
-abbrev pub HoldsDurablePrefix : {D : Type 0} → Ghosts D → Flusher D → List ℕ → Type 0
-HoldsDurablePrefix g f opening = AllStand f.tail (opening ++ sent_of f) (g.images f.disk.now)
+-- each image holds the log that was opened, and then the units sent, which reach up to durable; it goes on at the tail
+abbrev pub HoldsDurablePrefix : {D : Type 0} → Ghosts D → Flusher D → Log → Type 0
+HoldsDurablePrefix g f opened = LogStands f.tail (with_units opened (sent_of f)) (g.images f.disk.now)
 
--- each image holds the opening units and those sent, or these and the whole batch that was read
-abbrev pub MayHoldBatchInFlight : {D : Type 0} → Ghosts D → Flusher D → List ℕ → Type 0
-MayHoldBatchInFlight g f opening = (c : List ℕ) → g.images f.disk.now c
-    → HoldsEither (opening ++ sent_of f) (view_of f.seat).sending.read c
+-- each image holds the log that was opened and the units sent, or these and the whole batch that was read
+abbrev pub MayHoldBatchInFlight : {D : Type 0} → Ghosts D → Flusher D → Log → Type 0
+MayHoldBatchInFlight g f opened = (c : List ℕ) → g.images f.disk.now c
+    → HoldsLogOrMore (with_units opened (sent_of f)) (view_of f.seat).sending.read c
 
--- At each moment an image holds what was sent before, or that and the whole batch; whatever the opening units were. The file ends at most
+-- At each moment an image holds what was sent before, or that and the whole batch; whatever log was opened. The file ends at most
 -- behind the batch and the next gate.
 pub record WritesWhole {D : Type 0} (g : Ghosts D) (units : List ℕ) (old new : Flusher D) : Type 0 where
-  pub moments : g.honest old.disk.now → (opening : List ℕ) → HoldsDurablePrefix g old opening
-      → Leaves g.moment g.images_since (HoldsEither (opening ++ sent_of old) units) old.disk.now new.disk.now
+  pub moments : g.honest old.disk.now → (opened : Log) → HoldsDurablePrefix g old opened
+      → Leaves g.moment g.images_since (HoldsLogOrMore (with_units opened (sent_of old)) units) old.disk.now new.disk.now
   pub count : g.honest old.disk.now → Costs g 4 4 old.disk.now new.disk.now
   pub grows : g.honest old.disk.now → GrowsAtMostTo g (old.tail.at + 6 + 8 * length units) old.disk.now new.disk.now
 
@@ -92,7 +93,7 @@ pub record Sends {D : Type 0} (g : Ghosts D) (old new : Flusher D) (from to : �
   pub batch : new.batch ≡ record old.batch { units = units }
   pub tail : new.tail ≡ tail_after old.tail units
   pub writes : WritesWhole g units old new
-  pub prefix : g.honest old.disk.now → (opening : List ℕ) → HoldsDurablePrefix g old opening → HoldsDurablePrefix g new opening
+  pub prefix : g.honest old.disk.now → (opened : Log) → HoldsDurablePrefix g old opened → HoldsDurablePrefix g new opened
   pub settled : g.honest old.disk.now → IsOnlyImage (g.reads new.disk.now) (g.images new.disk.now)
 
 -- the units up to exposed, as loaded, were read, no more than the ring has, which spell records, and the disk failed to take them; durable
@@ -109,7 +110,7 @@ pub record Loses {D : Type 0} (g : Ghosts D) (old new : Flusher D) : Type 0 wher
   pub batch : new.batch ≡ record old.batch { units = units }
   pub tail : new.tail ≡ old.tail
   pub writes : WritesWhole g units old new
-  pub prefix : g.honest old.disk.now → (opening : List ℕ) → HoldsDurablePrefix g old opening → MayHoldBatchInFlight g new opening
+  pub prefix : g.honest old.disk.now → (opened : Log) → HoldsDurablePrefix g old opened → MayHoldBatchInFlight g new opened
 
 -- a flush, by its answer
 abbrev pub Flushes : {D : Type 0} → Ghosts D → Flusher D → Flusher D → Flushed → Type 0
