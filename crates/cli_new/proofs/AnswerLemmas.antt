@@ -7,18 +7,18 @@ use Rattle.log_recovery.specs.Text.{rows_text, accounts_text}
 use Rattle.lsn_space.specs.Accounts.{Accounts}
 use Rattle.txn_script.specs.Balances.{IsBalancesText, IsFirstBadBalance}
 use Rattle.cli_shared.specs.declared.report.Detail.{Detail}
-use Rattle.cli_shared.specs.declared.report.Detail.TheVariants.{Fine, NoMemory, Usage, Script, Read, Write, Disk, NotALog, BadBatch, BadRec, Unlawful, LogEnd, TxnEnd, Exists}
+use Rattle.cli_shared.specs.declared.report.Detail.TheVariants.{Fine, NoMemory, Usage, Script, Read, Write, Disk, NotALog, BadSnapshot, BadBatch, BadRec, Unlawful, LogEnd, TxnEnd, Exists}
 use Rattle.cli_new.specs.Answers.{AnswersNew, AreOpening, IsMakingFault, IsOfNew}
 use Rattle.cli_new.specs.Creation.{FollowsLog}
 use Rattle.cli_shared.specs.Answers.{StaysSilent}
-use Rattle.cli_shared.specs.Creation.{genesis_list}
+use Rattle.cli_shared.specs.Creation.{new_list}
 use Rattle.cli_shared.proofs.ToldLemmas.{TellsWrite, kept-text, nothing-said}
 use Rattle.cli_shared.proofs.GenesisLemmas.{genesis-text}
 
 -- the text of the new log's accounts
 text-opening : (left left_new : Option (List ℕ)) (accounts : Accounts) (opening : AreOpening left left_new accounts) (lsn : ℕ)
     → lsn ≡ 2 * length accounts.rows
-    → rows_text lsn accounts.rows ≡ accounts_text (genesis_list opening.2.0)
+    → rows_text lsn accounts.rows ≡ accounts_text (new_list opening.2.0)
 text-opening left left_new accounts opening lsn is =
     let rows = opening.2.2 in
     let counted = ap length rows ∙ length-map opening.2.0 (λ (balance : ℕ). (balance, 0)) in
@@ -73,6 +73,7 @@ unmade-fault left left_new text Exists is =
     record { answer = nothing-said left; range = tt; silent = kept-text text; write = λ tells. tells; follows = λ follows. follows }
 unmade-fault left left_new text Usage is = absurd is
 unmade-fault left left_new text NotALog is = absurd is
+unmade-fault left left_new text BadSnapshot is = absurd is
 unmade-fault left left_new text (BadBatch offset) is = absurd is
 unmade-fault left left_new text (BadRec lsn) is = absurd is
 unmade-fault left left_new text (Unlawful lsn why) is = absurd is

@@ -17,7 +17,7 @@ use Rattle.segment_file.specs.declared.scan_result.Tail.{Tail}
 use Rattle.segment_file.proofs.StandingLemmas.{holds}
 use Rattle.txn_script.specs.Balances.{IsBalancesText}
 use Rattle.cli_new.specs.Answers.{AreOpening}
-use Rattle.cli_shared.specs.Creation.{genesis_list}
+use Rattle.cli_shared.specs.Creation.{genesis_list, new_list}
 use Rattle.cli_new.specs.Creation.{AllHoldNew, GrowsByNew, IsInput, MayBeLeft}
 use Rattle.cli_shared.proofs.GenesisLemmas.{opening_rows, end_of-genesis, genesis-holds}
 
@@ -57,7 +57,7 @@ module _ (left left_new : Option (List ℕ)) (accounts : Accounts) (opening : Ar
     pub most-made : length units ≤ 1048576
     most-made = omega (arith, length-made, text.most)
 
-    lawful-made : (c : List ℕ) → HoldsUnits c units → HoldsLawful c (genesis_list balances)
+    lawful-made : (c : List ℕ) → HoldsUnits c units → HoldsLawful c (new_list balances)
     lawful-made c held = genesis-holds balances text.most text.each c (subst (HoldsUnits c) units-made held)
 
     new-left : (images : List ℕ → Type 0) (c : List ℕ) → HoldsNoneOr units c → MayBeLeft left images c

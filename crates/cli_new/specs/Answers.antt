@@ -6,8 +6,8 @@ use Rattle.log_recovery.specs.Text.{accounts_text}
 use Rattle.txn_script.specs.Balances.{IsBalancesText, IsFirstBadBalance, ReadsBalances}
 use Rattle.lsn_space.specs.Accounts.{Accounts}
 use Rattle.cli_shared.specs.declared.report.Detail.{Detail}
-use Rattle.cli_shared.specs.declared.report.Detail.TheVariants.{Fine, NoMemory, Usage, Script, Read, Write, Disk, NotALog, BadBatch, BadRec, Unlawful, LogEnd, TxnEnd, Exists}
-use Rattle.cli_shared.specs.Creation.{genesis_list}
+use Rattle.cli_shared.specs.declared.report.Detail.TheVariants.{Fine, NoMemory, Usage, Script, Read, Write, Disk, NotALog, BadSnapshot, BadBatch, BadRec, Unlawful, LogEnd, TxnEnd, Exists}
+use Rattle.cli_shared.specs.Creation.{new_list}
 use Rattle.cli_shared.specs.Answers.{ReadsAll}
 
 -- the answers that there are to `new`
@@ -42,9 +42,9 @@ AreOpening left left_new accounts = (text : List ℕ) × ReadsAll left left_new 
 -- failed, the input was read to its end, and what is written is the text of the new log, or a part of it.
 abbrev pub AnswersNew : List ℕ → Option (List ℕ) → Option (List ℕ) → Option (List ℕ) → Detail → Type 0
 AnswersNew bytes left old new Fine =
-    (left ≡ Some []) × (balances : List ℕ) × IsBalancesText bytes balances × Appends old new (accounts_text (genesis_list balances))
+    (left ≡ Some []) × (balances : List ℕ) × IsBalancesText bytes balances × Appends old new (accounts_text (new_list balances))
 AnswersNew bytes left old new Write =
-    (left ≡ Some []) × (balances : List ℕ) × IsBalancesText bytes balances × AppendsPart old new (accounts_text (genesis_list balances))
+    (left ≡ Some []) × (balances : List ℕ) × IsBalancesText bytes balances × AppendsPart old new (accounts_text (new_list balances))
 AnswersNew bytes left old new (Script line) = (left ≡ Some []) × IsFirstBadBalance bytes line
 AnswersNew bytes left old new NoMemory = Unit {0}
 AnswersNew bytes left old new Read = Unit {0}
@@ -52,6 +52,7 @@ AnswersNew bytes left old new Disk = Unit {0}
 AnswersNew bytes left old new Exists = Unit {0}
 AnswersNew bytes left old new Usage = ⊥
 AnswersNew bytes left old new NotALog = ⊥
+AnswersNew bytes left old new BadSnapshot = ⊥
 AnswersNew bytes left old new (BadBatch offset) = ⊥
 AnswersNew bytes left old new (BadRec lsn) = ⊥
 AnswersNew bytes left old new (Unlawful lsn why) = ⊥

@@ -8,7 +8,7 @@ use Rattle.segment_file.specs.Lengths.{new_end}
 use Rattle.txn_script.specs.Balances.{IsBalancesText}
 use Rattle.cli_shared.specs.declared.report.Detail.{Detail}
 use Rattle.cli_shared.specs.declared.report.Detail.TheVariants.{Fine, NoMemory, Script, Read, Write, Exists}
-use Rattle.cli_shared.specs.Creation.{genesis_list}
+use Rattle.cli_shared.specs.Creation.{new_list}
 
 -- the input is the text of these balances; of an input that tells nothing, of any balances
 abbrev pub IsInput : Option (List ℕ) → List ℕ → Type 0
@@ -16,11 +16,11 @@ IsInput left balances = IfSome left (λ bytes. IsBalancesText bytes balances)
 
 -- the bytes are the new log
 abbrev pub HoldsNew : Option (List ℕ) → List ℕ → Type 0
-HoldsNew left bytes = (balances : List ℕ) × IsInput left balances × HoldsLawful bytes (genesis_list balances)
+HoldsNew left bytes = (balances : List ℕ) × IsInput left balances × HoldsLawful bytes (new_list balances)
 
 -- each image is the new log
 abbrev pub AllHoldNew : Option (List ℕ) → (List ℕ → Type 0) → Type 0
-AllHoldNew left images = (balances : List ℕ) × IsInput left balances × ((c : List ℕ) → images c → HoldsLawful c (genesis_list balances))
+AllHoldNew left images = (balances : List ℕ) × IsInput left balances × ((c : List ℕ) → images c → HoldsLawful c (new_list balances))
 
 -- what `new` may leave at any moment: an image of before, no log, or the new log
 abbrev pub MayBeLeft : Option (List ℕ) → (List ℕ → Type 0) → List ℕ → Type 0

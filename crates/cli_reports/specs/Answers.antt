@@ -2,14 +2,14 @@
 use Rattle.std.specs.Prelude.{◌≡◌, ℕ, List, [], Option, Some}
 use Rattle.std.specs.Io.KnownBytes.{Appends}
 use Rattle.log_disk.specs.Streams.{AppendsPart}
-use Rattle.log_record.specs.declared.rec.Rec.{Rec}
 use Rattle.log_recovery.specs.declared.recovery.RecoverFault.{RecoverFault}
 use Rattle.log_recovery.specs.declared.recovery.RecoverFault.TheVariants as fault
+use Rattle.log_recovery.specs.Opened.{OpenedList}
 use Rattle.log_recovery.specs.Recovery.{HoldsList, HoldsLawful, IsFaultOf}
 use Rattle.log_recovery.specs.Dump.{dump_text}
 use Rattle.log_recovery.specs.Text.{accounts_text}
 use Rattle.cli_shared.specs.declared.report.Detail.{Detail}
-use Rattle.cli_shared.specs.declared.report.Detail.TheVariants.{Fine, NoMemory, Usage, Script, Read, Write, Disk, NotALog, BadBatch, BadRec, Unlawful, LogEnd, TxnEnd, Exists}
+use Rattle.cli_shared.specs.declared.report.Detail.TheVariants.{Fine, NoMemory, Usage, Script, Read, Write, Disk, NotALog, BadSnapshot, BadBatch, BadRec, Unlawful, LogEnd, TxnEnd, Exists}
 
 -- the answers that there are to `recover`
 abbrev pub IsOfRecover : Detail → Type 0
@@ -18,6 +18,7 @@ IsOfRecover NoMemory = Unit {0}
 IsOfRecover Read = Unit {0}
 IsOfRecover Write = Unit {0}
 IsOfRecover NotALog = Unit {0}
+IsOfRecover BadSnapshot = Unit {0}
 IsOfRecover (BadBatch offset) = Unit {0}
 IsOfRecover (BadRec lsn) = Unit {0}
 IsOfRecover (Unlawful lsn why) = Unit {0}
@@ -30,6 +31,7 @@ IsOfDump NoMemory = Unit {0}
 IsOfDump Read = Unit {0}
 IsOfDump Write = Unit {0}
 IsOfDump NotALog = Unit {0}
+IsOfDump BadSnapshot = Unit {0}
 IsOfDump (BadBatch offset) = Unit {0}
 IsOfDump (BadRec lsn) = Unit {0}
 IsOfDump detail = ⊥
@@ -42,10 +44,11 @@ HasFault bytes left fault' = (left ≡ Some []) × IsFaultOf bytes fault'
 -- failed, the input was read to its end, and what is written is the text of its list, or a part of it.
 abbrev pub AnswersRecover : List ℕ → Option (List ℕ) → Option (List ℕ) → Option (List ℕ) → Detail → Type 0
 AnswersRecover bytes left old new Fine =
-    (left ≡ Some []) × (records : List Rec) × HoldsLawful bytes records × Appends old new (accounts_text records)
+    (left ≡ Some []) × (list : OpenedList) × HoldsLawful bytes list × Appends old new (accounts_text list)
 AnswersRecover bytes left old new Write =
-    (left ≡ Some []) × (records : List Rec) × HoldsLawful bytes records × AppendsPart old new (accounts_text records)
+    (left ≡ Some []) × (list : OpenedList) × HoldsLawful bytes list × AppendsPart old new (accounts_text list)
 AnswersRecover bytes left old new NotALog = HasFault bytes left fault.NotALog
+AnswersRecover bytes left old new BadSnapshot = HasFault bytes left fault.BadSnapshot
 AnswersRecover bytes left old new (BadBatch offset) = HasFault bytes left (fault.BadBatch offset)
 AnswersRecover bytes left old new (BadRec lsn) = HasFault bytes left (fault.BadRec lsn)
 AnswersRecover bytes left old new (Unlawful lsn why) = HasFault bytes left (fault.Unlawful lsn why)
@@ -61,10 +64,11 @@ AnswersRecover bytes left old new Exists = ⊥
 -- `dump` on these bytes: the same, but the list need not be lawful, and what is written is its dump, or a part of it
 abbrev pub AnswersDump : List ℕ → Option (List ℕ) → Option (List ℕ) → Option (List ℕ) → Detail → Type 0
 AnswersDump bytes left old new Fine =
-    (left ≡ Some []) × (records : List Rec) × HoldsList bytes records × Appends old new (dump_text records)
+    (left ≡ Some []) × (list : OpenedList) × HoldsList bytes list × Appends old new (dump_text list)
 AnswersDump bytes left old new Write =
-    (left ≡ Some []) × (records : List Rec) × HoldsList bytes records × AppendsPart old new (dump_text records)
+    (left ≡ Some []) × (list : OpenedList) × HoldsList bytes list × AppendsPart old new (dump_text list)
 AnswersDump bytes left old new NotALog = HasFault bytes left fault.NotALog
+AnswersDump bytes left old new BadSnapshot = HasFault bytes left fault.BadSnapshot
 AnswersDump bytes left old new (BadBatch offset) = HasFault bytes left (fault.BadBatch offset)
 AnswersDump bytes left old new (BadRec lsn) = HasFault bytes left (fault.BadRec lsn)
 AnswersDump bytes left old new Read = Unit {0}

@@ -2,7 +2,7 @@
 use Rattle.std.proofs.Common.{◌≡◌, ◌∙◌, inr, Option, Some, Result, Ok, Err, MatchResult}
 use Rattle.log_disk.specs.Attaching.{Attached, MayAttach}
 use Rattle.cli_shared.specs.declared.report.Detail.{Detail}
-use Rattle.cli_shared.specs.declared.report.Detail.TheVariants.{Fine, NoMemory, Usage, Script, Read, Write, Disk, NotALog, BadBatch, BadRec, Unlawful, LogEnd, TxnEnd, Exists}
+use Rattle.cli_shared.specs.declared.report.Detail.TheVariants.{Fine, NoMemory, Usage, Script, Read, Write, Disk, NotALog, BadSnapshot, BadBatch, BadRec, Unlawful, LogEnd, TxnEnd, Exists}
 use Rattle.cli_shared.specs.Attached.{LeavesAttached}
 
 -- where this file is attached, it is so whatever is answered
@@ -15,6 +15,7 @@ leaves-attached file before now Read is = is
 leaves-attached file before now Write is = is
 leaves-attached file before now Disk is = inr is
 leaves-attached file before now NotALog is = is
+leaves-attached file before now BadSnapshot is = is
 leaves-attached file before now (BadBatch offset) is = is
 leaves-attached file before now (BadRec lsn) is = is
 leaves-attached file before now (Unlawful lsn why) is = is

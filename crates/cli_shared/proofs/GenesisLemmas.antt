@@ -9,17 +9,19 @@ use Rattle.log_record.specs.declared.rec.Placed.{Placed}
 use Rattle.log_record.specs.declared.rec.Rec.TheVariants.{Genesis}
 use Rattle.log_record.specs.LogList.{units_of, end_of}
 use Rattle.log_record.specs.Spelling.{spelling, IsBalance, IsSpellable}
+use Rattle.lock_core.specs.Sums.{no_opening}
 use Rattle.lock_core.specs.History.{history, history_from, end_from, entry_at}
-use Rattle.lock_core.specs.Lawful.{IsLawful, genesis_of}
+use Rattle.lock_core.specs.Lawful.{IsLawful, base_with}
 use Rattle.log_recovery.specs.Recovery.{HoldsLawful}
 use Rattle.segment_file.specs.File.{HoldsUnits}
+use Rattle.segment_file.proofs.FirstFormat.{units-log}
 use Rattle.lock_core.specs.Settling.{KeepsRows}
 use Rattle.lock_core.specs.Tests.{IsGenesis}
 use Rattle.log_recovery.specs.Text.{rows_text, accounts_text}
 use Rattle.lock_core.proofs.JudgingLemmas.{shows-kept}
 use Rattle.lock_core.proofs.KindLemmas.{accounts-genesis, keeps-genesis, passes-genesis}
 use Rattle.log_recovery.proofs.TextLemmas.{rows_text-shown}
-use Rattle.cli_shared.specs.Creation.{genesis_from, genesis_list}
+use Rattle.cli_shared.specs.Creation.{genesis_from, genesis_list, new_list}
 
 -- one balance more
 units_of-more : (first : ℕ) (balances : List ℕ) (balance account : ℕ) → account ≡ first + length balances
@@ -68,24 +70,24 @@ opening_rows balances = map (λ balance. (balance, 0)) balances
 
 -- a history is lawful, and these rows are its accounts
 record Opens (h : List Placed) (rows : List (ℕ × ℕ)) : Type 0 where
-  pub lawful : IsLawful h
-  pub kept : KeepsRows rows (genesis_of h) h
+  pub lawful : IsLawful no_opening h
+  pub kept : KeepsRows rows (base_with no_opening h) h
 
 opens-more : (h : List Placed) (rows : List (ℕ × ℕ)) (account : ℕ) (balances : List ℕ) → AreGenesis h → account ≡ length h
     → AllByRecursion IsBalance balances → Opens h rows → Opens (history_from 0 h (genesis_from account balances)) (rows ++ opening_rows balances)
 opens-more h rows account [] all next range opened = subst (Opens h) (sym (append-nil rows)) opened
 opens-more h rows account (balance ∷ balances) all next range opened =
-    let counted = accounts-genesis h all in
+    let counted = accounts-genesis no_opening h all in
     let end = (entry_at (end_from 0 h) (Genesis account balance)).end in
     let one : Opens (entry_at (end_from 0 h) (Genesis account balance) ∷ h) (rows ++ (balance, 0) ∷ []) = record {
-      lawful = (passes-genesis h end account balance all next, opened.lawful);
-      kept = keeps-genesis rows h end account balance opened.kept all (next ∙ sym counted) range.0;
+      lawful = (passes-genesis no_opening h end account balance all refl next, opened.lawful);
+      kept = keeps-genesis no_opening rows h end account balance opened.kept all (omega (arith, counted, next)) range.0 (λ a. refl);
     } in
     let more = opens-more (entry_at (end_from 0 h) (Genesis account balance) ∷ h) (rows ++ (balance, 0) ∷ []) (account + 1) balances
     (tt, all) (omega arith) range.1 one in
     subst (Opens _) (append_assoc rows ((balance, 0) ∷ []) (opening_rows balances)) more
 
-keeps-none : KeepsRows [] (genesis_of []) []
+keeps-none : KeepsRows [] (base_with no_opening []) []
 keeps-none = record {
   count = refl;
   range = λ a inside. absurd (omega arith);
@@ -114,19 +116,19 @@ module _ (balances : List ℕ) (few : length balances ≤ MOST_ACCOUNTS) (each :
   pub genesis-spellable : AllByRecursion IsSpellable (genesis_list balances)
   genesis-spellable = spellable-genesis 0 balances (omega arith) range
 
-  pub genesis-lawful : IsLawful (history (genesis_list balances))
+  pub genesis-lawful : IsLawful no_opening (history (genesis_list balances))
   genesis-lawful = opens-genesis.lawful
 
-  pub genesis-kept : KeepsRows (opening_rows balances) (genesis_of (history (genesis_list balances))) (history (genesis_list balances))
+  pub genesis-kept : KeepsRows (opening_rows balances) (base_with no_opening (history (genesis_list balances))) (history (genesis_list balances))
   genesis-kept = opens-genesis.kept
 
   -- bytes that hold its units hold the list, which is lawful
-  pub genesis-holds : (c : List ℕ) → HoldsUnits c (units_of (genesis_list balances)) → HoldsLawful c (genesis_list balances)
+  pub genesis-holds : (c : List ℕ) → HoldsUnits c (units_of (genesis_list balances)) → HoldsLawful c (new_list balances)
   genesis-holds c held = record {
-    list = record { each = genesis-spellable; holds = held };
+    list = record { each = genesis-spellable; holds = units-log c (units_of (genesis_list balances)) held };
     lawful = genesis-lawful;
   }
 
-  pub genesis-text : (lsn : ℕ) → lsn ≡ 2 * length balances → rows_text lsn (opening_rows balances) ≡ accounts_text (genesis_list balances)
-  genesis-text lsn is = rows_text-shown lsn (opening_rows balances) (genesis_list balances) (is ∙ sym (end_of-genesis 0 balances))
+  pub genesis-text : (lsn : ℕ) → lsn ≡ 2 * length balances → rows_text lsn (opening_rows balances) ≡ accounts_text (new_list balances)
+  genesis-text lsn is = rows_text-shown lsn (opening_rows balances) (new_list balances) (omega (arith, is, end_of-genesis 0 balances))
       (shows-kept _ _ _ opens-genesis.kept)

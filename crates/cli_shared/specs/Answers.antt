@@ -4,7 +4,7 @@ use Rattle.std.specs.Io.KnownBytes.{Keeps}
 use Rattle.log_recovery.specs.declared.recovery.RecoverFault.{RecoverFault}
 use Rattle.log_recovery.specs.declared.recovery.RecoverFault.TheVariants as fault
 use Rattle.cli_shared.specs.declared.report.Detail.{Detail}
-use Rattle.cli_shared.specs.declared.report.Detail.TheVariants.{Fine, NoMemory, Usage, Script, Read, Write, Disk, NotALog, BadBatch, BadRec, Unlawful, LogEnd, TxnEnd, Exists}
+use Rattle.cli_shared.specs.declared.report.Detail.TheVariants.{Fine, NoMemory, Usage, Script, Read, Write, Disk, NotALog, BadSnapshot, BadBatch, BadRec, Unlawful, LogEnd, TxnEnd, Exists}
 
 abbrev pub status_of : Detail → ℕ
 status_of Fine = 0
@@ -15,6 +15,7 @@ status_of Read = 4
 status_of Write = 5
 status_of Disk = 6
 status_of NotALog = 7
+status_of BadSnapshot = 7
 status_of (BadBatch offset) = 7
 status_of (BadRec lsn) = 7
 status_of (Unlawful lsn why) = 7
@@ -33,6 +34,7 @@ StaysSilent old new Read = Keeps old new
 StaysSilent old new Disk = Keeps old new
 StaysSilent old new Exists = Keeps old new
 StaysSilent old new NotALog = Keeps old new
+StaysSilent old new BadSnapshot = Keeps old new
 StaysSilent old new (BadBatch offset) = Keeps old new
 StaysSilent old new (BadRec lsn) = Keeps old new
 StaysSilent old new (Unlawful lsn why) = Keeps old new
@@ -46,6 +48,7 @@ ReadsAll left left_new bytes = IfSome left (λ all. (bytes ≡ all) × (left_new
 -- how the program ends where nothing is recovered
 abbrev pub recover_detail : RecoverFault → Detail
 recover_detail fault.NotALog = NotALog
+recover_detail fault.BadSnapshot = BadSnapshot
 recover_detail (fault.BadBatch offset) = BadBatch offset
 recover_detail (fault.BadRec lsn) = BadRec lsn
 recover_detail (fault.Unlawful lsn why) = Unlawful lsn why

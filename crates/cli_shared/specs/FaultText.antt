@@ -4,10 +4,10 @@ use Rattle.lsn_space.specs.Number.{number_text}
 use Rattle.lock_core.specs.declared.reason.Why.{Why}
 use Rattle.lock_core.specs.declared.reason.Why.TheVariants as why
 use Rattle.cli_shared.specs.declared.report.Detail.{Detail}
-use Rattle.cli_shared.specs.declared.report.Detail.TheVariants.{Fine, NoMemory, Usage, Script, Read, Write, Disk, NotALog, BadBatch, BadRec, Unlawful, LogEnd, TxnEnd, Exists}
+use Rattle.cli_shared.specs.declared.report.Detail.TheVariants.{Fine, NoMemory, Usage, Script, Read, Write, Disk, NotALog, BadSnapshot, BadBatch, BadRec, Unlawful, LogEnd, TxnEnd, Exists}
 
 abbrev pub usage_line : List ℕ
-usage_line = codes "usage: aether new LOG | run LOG [--workers N] [--ring R] [--slots K] [--wait] | recover | dump | demo LOG N SEED [--workers N] [--ring R] [--slots K]\n"
+usage_line = codes "usage: aether new LOG | run LOG [--workers N] [--ring R] [--slots K] [--wait] | recover | dump | demo LOG N SEED [--workers N] [--ring R] [--slots K] | cut LOG | upgrade LOG\n"
 
 -- the word for the test that a record failed
 abbrev pub why_text : Why → List ℕ
@@ -29,6 +29,7 @@ fault_line Read = codes "aether: read failed\n"
 fault_line Write = codes "aether: write failed\n"
 fault_line Disk = codes "aether: disk failed\n"
 fault_line NotALog = codes "aether: not a log\n"
+fault_line BadSnapshot = codes "aether: bad snapshot\n"
 fault_line (BadBatch offset) = codes "aether: bad batch at byte " ++ number_text offset ++ codes "\n"
 fault_line (BadRec lsn) = codes "aether: bad record at lsn " ++ number_text lsn ++ codes "\n"
 fault_line (Unlawful lsn test) = codes "aether: unlawful record at lsn " ++ number_text lsn ++ (codes ": " ++ why_text test ++ codes "\n")

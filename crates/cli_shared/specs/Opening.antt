@@ -3,14 +3,14 @@ use Rattle.std.specs.Prelude.{◌≡◌, ◌≤◌, ◌^◌, ℕ, List, length, 
 use Rattle.log_disk.specs.Costs.{Costs}
 use Rattle.log_disk.specs.declared.disk.LogDisk.{Ghosts}
 use Rattle.log_disk.specs.Disk.{IsOnlyImage, Leaves}
-use Rattle.log_record.specs.LogList.{units_of}
 use Rattle.log_recovery.specs.declared.recovery.Recovered.{Recovered}
 use Rattle.log_recovery.specs.declared.recovery.RecoverFault.TheVariants as fault
+use Rattle.log_recovery.specs.Opened.{log_of}
 use Rattle.log_recovery.specs.Recovery.{Recovers, IsFaultOf}
 use Rattle.segment_file.specs.Opening.{most_reads}
-use Rattle.segment_file.specs.Standing.{AllStand, IsStableGate}
+use Rattle.segment_file.specs.Standing.{LogStands, IsStableGate}
 use Rattle.cli_shared.specs.declared.report.Detail.{Detail}
-use Rattle.cli_shared.specs.declared.report.Detail.TheVariants.{NoMemory, Disk, NotALog, BadBatch, BadRec, Unlawful}
+use Rattle.cli_shared.specs.declared.report.Detail.TheVariants.{NoMemory, Disk, NotALog, BadSnapshot, BadBatch, BadRec, Unlawful}
 
 -- opening takes at most an attach, a sync, the length, and the reads of all bytes
 abbrev pub most_calls : {D : Type 0} → Ghosts D → D → ℕ
@@ -20,8 +20,8 @@ most_calls g disk = most_reads (length (g.reads disk)) + 3
 abbrev pub MayHold : {D : Type 0} → Ghosts D → D → List ℕ → Type 0
 MayHold g disk bytes = g.honest disk → bytes ≡ g.reads disk
 
--- The bytes that were read hold a lawful list, and this is what it says. A crash leaves what was read: each image holds the list and
--- goes on at the tail, where each has the same gate.
+-- The bytes that were read hold a lawful list, and this is what it says. A crash leaves what was read: each image holds the list, with what
+-- stands before it, and goes on at the tail, where each has the same gate.
 pub record Opens {D : Type 0} (g : Ghosts D) (opened : Recovered) (old new : D) : Type 0 where
   pub bytes : List ℕ
   pub read : MayHold g old bytes
@@ -29,12 +29,13 @@ pub record Opens {D : Type 0} (g : Ghosts D) (opened : Recovered) (old new : D) 
   pub place : opened.tail.at ≤ 2 ^ 63
   pub settled : g.honest old → IsOnlyImage (g.reads new) (g.images new)
   pub within : g.honest old → opened.tail.at ≤ length (g.reads new)
-  pub stand : g.honest old → AllStand opened.tail (units_of recovers.records) (g.images new)
+  pub stand : g.honest old → LogStands opened.tail (log_of recovers.list) (g.images new)
   pub gate : g.honest old → IsStableGate opened.tail.at (g.images new)
 
 -- why these bytes are opened as no log; a fault of the disk and want of memory say nothing of them
 abbrev pub IsOpeningFault : List ℕ → Detail → Type 0
 IsOpeningFault bytes NotALog = IsFaultOf bytes fault.NotALog
+IsOpeningFault bytes BadSnapshot = IsFaultOf bytes fault.BadSnapshot
 IsOpeningFault bytes (BadBatch offset) = IsFaultOf bytes (fault.BadBatch offset)
 IsOpeningFault bytes (BadRec lsn) = IsFaultOf bytes (fault.BadRec lsn)
 IsOpeningFault bytes (Unlawful lsn why) = IsFaultOf bytes (fault.Unlawful lsn why)

@@ -15,7 +15,7 @@ use lsn_space::decimal;
 type Line = ArrayVec<u8, 192>;
 
 const USAGE: &[u8] =
-    b"usage: aether new LOG | run LOG [--workers N] [--ring R] [--slots K] [--wait] | recover | dump | demo LOG N SEED [--workers N] [--ring R] [--slots K]\n";
+    b"usage: aether new LOG | run LOG [--workers N] [--ring R] [--slots K] [--wait] | recover | dump | demo LOG N SEED [--workers N] [--ring R] [--slots K] | cut LOG | upgrade LOG\n";
 
 fn text(bytes: &[u8]) -> Line
     requires { length bytes.now ≤ 192 }
@@ -87,6 +87,7 @@ fn line_of(detail: Detail) -> Line
         Detail::Write => text(b"aether: write failed\n"),
         Detail::Disk => text(b"aether: disk failed\n"),
         Detail::NotALog => text(b"aether: not a log\n"),
+        Detail::BadSnapshot => text(b"aether: bad snapshot\n"),
         Detail::BadBatch { offset } => numbered(b"aether: bad batch at byte ", offset, b"\n"),
         Detail::BadRec { lsn } => {
             numbered(b"aether: bad record at lsn ", lsn.units() as u64, b"\n")

@@ -1,5 +1,5 @@
 //! The list of a new log, spelled.
-ghost use Rattle.std.specs.Prelude.{◌≡◌, ◌≤◌, ◌<◌, ◌+◌, ◌*◌, ◌++◌, ℕ, length, All, map, IfOk};
+ghost use Rattle.std.specs.Prelude.{◌≡◌, ◌≤◌, ◌<◌, ◌+◌, ◌*◌, ◌++◌, length, All, map, IfOk};
 ghost use Rattle.log_record.specs.LogList.{units_of};
 ghost use Rattle.log_record.specs.declared.limits.TheConstants.{MOST_ACCOUNTS};
 ghost use Rattle.log_record.specs.Spelling.{spelling, IsBalance};

@@ -30,6 +30,9 @@ pub enum Detail {
     /// The bytes don't begin as a log.
     NotALog,
 
+    /// In a log of the second format what its list begins with is cut, or a number in it is out of its range.
+    BadSnapshot,
+
     /// No batch stands behind the open gate at this byte.
     BadBatch { offset: u64 },
 
@@ -63,6 +66,7 @@ impl Detail {
             Detail::Write => 5,
             Detail::Disk => 6,
             Detail::NotALog
+            | Detail::BadSnapshot
             | Detail::BadBatch { .. }
             | Detail::BadRec { .. }
             | Detail::Unlawful { .. } => 7,
@@ -97,6 +101,7 @@ pub fn detail_of(fault: RecoverFault) -> Detail
 {
     match fault {
         RecoverFault::NotALog => Detail::NotALog,
+        RecoverFault::BadSnapshot => Detail::BadSnapshot,
         RecoverFault::BadBatch { offset } => Detail::BadBatch { offset },
         RecoverFault::BadRec { lsn } => Detail::BadRec { lsn },
         RecoverFault::Unlawful { lsn, why } => Detail::Unlawful { lsn, why },
