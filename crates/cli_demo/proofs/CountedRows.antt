@@ -2,8 +2,7 @@
 use Rattle.std.proofs.Common.{Bool, ◌≡◌, ◌≤◌, refl, length, arith}
 use Rattle.log_disk.specs.declared.disk.LogDisk.{Ghosts}
 use Rattle.log_disk.specs.declared.sink.Sink.{Ghosts as SinkGhosts}
-use Rattle.lock_core.specs.History.{history}
-use Rattle.lock_core.specs.Lawful.{base_state_of}
+use Rattle.log_recovery.specs.Opened.{base_left}
 use Rattle.segment_file.specs.declared.scan_result.Tail.{Tail}
 use Rattle.end_lines.specs.declared.voice.Voice.TheVariants.{Count}
 use Rattle.cli_ending.specs.declared.conclusion.Ended.{Ended}
@@ -17,5 +16,5 @@ module _ {D : Type 0} {K : Type 0} (g : Ghosts D) (h : SinkGhosts K) (prepared :
   pub rows-ended : length ended.closed.accounts.rows ≤ 4096
   rows-ended =
       let count = (kept-ended g h prepared generated_opening Count disk disk_new sink sink_new ended has).count in
-      let known : (base_state_of (history generated_opening)).accounts ≡ 64 = refl in
+      let known : (base_left generated_opening).accounts ≡ 64 = refl in
       omega (arith, count, known)

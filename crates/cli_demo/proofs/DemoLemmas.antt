@@ -1,5 +1,5 @@
 -- What `demo` answers: the log that it makes, what is promised of the transfers, and what was concluded.
-use Rattle.std.proofs.Common.{Bool, ◌≡◌, ◌≤◌, ◌⊎◌, ⊎_elim, inl, inr, refl, ap, sym, ◌∙◌, subst, ℕ, zero, suc, ◌+◌, ◌*◌, List, [], ◌∷◌, length, map, replicate, All, Option, Some, None, arith, append-nil, length-append}
+use Rattle.std.proofs.Common.{Bool, ◌≡◌, ◌≤◌, ◌⊎◌, ⊎_elim, inl, inr, refl, ap, sym, ◌∙◌, subst, ℕ, zero, suc, ◌+◌, ◌*◌, List, [], ◌∷◌, length, map, replicate, All, Option, Some, None, arith, append-nil}
 use Rattle.std.proofs.KnownBytes.{Appends-trans}
 use Rattle.std.proofs.lemmas.List.{length-replicate}
 use Rattle.std.proofs.lemmas.List.Elements.{All-replicate}
@@ -16,14 +16,15 @@ use Rattle.log_disk.proofs.Moments.{Leaves-trans, Leaves-weaken}
 use Rattle.log_record.specs.declared.rec.Rec.{Rec}
 use Rattle.log_record.specs.LogList.{units_of, end_of}
 use Rattle.log_record.specs.Spelling.{IsBalance}
-use Rattle.lock_core.specs.History.{history, history_from}
-use Rattle.lock_core.specs.Lawful.{base_state_of, genesis_of}
+use Rattle.lock_core.specs.History.{history_from}
 use Rattle.lock_core.specs.Serial.{numbered, IsPartlySerialAfter, IsSerialAfter}
 use Rattle.lock_core.specs.Settling.{row, KeepsRows}
 use Rattle.lock_core.specs.Sums.{BaseState, greatest_txn}
 use Rattle.lock_core.proofs.JudgingLemmas.{shows-kept}
 use Rattle.log_recovery.specs.Recovery.{HoldsLawful}
-use Rattle.log_recovery.proofs.ListingLemmas.{units_of-append}
+use Rattle.log_recovery.specs.Opened.{list_end, placed, base_in, base_left}
+use Rattle.log_recovery.proofs.OpenedLemmas.{list_end-more}
+use Rattle.segment_file.proofs.FirstFormat.{all-log}
 use Rattle.log_rule.specs.declared.start.Start.{Start}
 use Rattle.log_rule.specs.Opening.{HasAccounts}
 use Rattle.log_table.specs.Seats.{key_of}
@@ -39,7 +40,7 @@ use Rattle.txn_jobs.specs.Places.{NumberedJobs}
 use Rattle.txn_script.specs.Generator.{generated_transfers}
 use Rattle.lock_core.specs.Transfers.{transfer_of}
 use Rattle.cli_shared.specs.declared.report.Detail.{Detail}
-use Rattle.cli_shared.specs.declared.report.Detail.TheVariants.{Fine, NoMemory, Usage, Script, Read, Write, Disk, NotALog, BadBatch, BadRec, Unlawful, LogEnd, TxnEnd, Exists}
+use Rattle.cli_shared.specs.declared.report.Detail.TheVariants.{Fine, NoMemory, Usage, Script, Read, Write, Disk, NotALog, BadSnapshot, BadBatch, BadRec, Unlawful, LogEnd, TxnEnd, Exists}
 use Rattle.cli_threads.specs.declared.transfers.ReadyRun.{ReadyRun}
 use Rattle.cli_ending.specs.declared.conclusion.Ended.{Ended}
 use Rattle.cli_threads.specs.declared.transfers.Prepared.{Prepared}
@@ -82,7 +83,7 @@ firsts-replicate zero balance = refl
 firsts-replicate (suc n) balance = ap (λ more. balance ∷ more) (firsts-replicate n balance)
 
 -- the list of accounts with these rows is the one over which generated transfers run
-pub list-generated : (rows : List (ℕ × ℕ)) → rows ≡ generated_rows → genesis_list (map (λ row. row.0) rows) ≡ generated_opening
+pub list-generated : (rows : List (ℕ × ℕ)) → rows ≡ generated_rows → genesis_list (map (λ row. row.0) rows) ≡ generated_opening.records
 list-generated rows same = ap (λ rs. genesis_list (map (λ (row : ℕ × ℕ). row.0) rs)) same ∙ ap genesis_list (firsts-replicate 64 1000000)
 
 pub few-generated : (rows : List (ℕ × ℕ)) → rows ≡ generated_rows → length rows ≡ 64
@@ -92,7 +93,7 @@ pub each-generated : (rows : List (ℕ × ℕ)) → rows ≡ generated_rows → 
 each-generated rows same = subst (All (λ (row : ℕ × ℕ). IsBalance row.0)) (sym same)
     (All-replicate (λ (row : ℕ × ℕ). IsBalance row.0) 64 (1000000, 0) (omega arith))
 
-pub end-opening : end_of generated_opening ≡ 128
+pub end-opening : end_of generated_opening.records ≡ 128
 end-opening = end_of-genesis 0 balances ∙ ap (λ n. 2 * n) (length-replicate {A = ℕ} 64 1000000)
 
 marks-none : (n balance account : ℕ) → (row (replicate n (balance, 0)) account).1 ≡ 0
@@ -100,8 +101,8 @@ marks-none zero balance account = refl
 marks-none (suc n) balance zero = refl
 marks-none (suc n) balance (suc account) = marks-none n balance account
 
-kept-opening : (rows : List (ℕ × ℕ)) → rows ≡ generated_rows → KeepsRows rows (genesis_of (history generated_opening)) (history generated_opening)
-kept-opening rows same = subst (λ rs. KeepsRows rs (genesis_of (history generated_opening)) (history generated_opening))
+kept-opening : (rows : List (ℕ × ℕ)) → rows ≡ generated_rows → KeepsRows rows (base_in generated_opening) (placed generated_opening)
+kept-opening rows same = subst (λ rs. KeepsRows rs (base_in generated_opening) (placed generated_opening))
     (rows-replicate 64 1000000 ∙ sym same) (genesis-kept balances few-balances each-balance)
 
 -- the table can start with them
@@ -114,12 +115,12 @@ accounts-generated key same = record {
 }
 
 -- what holds its units holds it
-holds-generated : (units bytes : List ℕ) → units ≡ units_of generated_opening → HoldsUnits bytes units → HoldsLawful bytes generated_opening
+holds-generated : (units bytes : List ℕ) → units ≡ units_of generated_opening.records → HoldsUnits bytes units → HoldsLawful bytes generated_opening
 holds-generated units bytes same held = genesis-holds balances few-balances each-balance bytes (subst (HoldsUnits bytes) same held)
 
 -- ---- the log is made
 
-module _ {D : Type 0} (g : Ghosts D) (old mid new : D) (units : List ℕ) (made : units ≡ units_of generated_opening)
+module _ {D : Type 0} (g : Ghosts D) (old mid new : D) (units : List ℕ) (made : units ≡ units_of generated_opening.records)
     (found : Leaves g.moment g.images_since (g.images old) old mid) (one : Costs g 1 4 old mid) (read : g.reads mid ≡ g.reads old) where
   pub only-makes : Leaves g.moment g.images_since (HoldsNoneOr units) mid new → Costs g 6 7 mid new → GrowsAtMostTo g (13 + 8 * length units) mid new
       → OnlyMakes g old new
@@ -155,6 +156,7 @@ fault-found g n seed options old new (Script line) is looks few = absurd is
 fault-found g n seed options old new Read is looks few = absurd is
 fault-found g n seed options old new Write is looks few = absurd is
 fault-found g n seed options old new NotALog is looks few = absurd is
+fault-found g n seed options old new BadSnapshot is looks few = absurd is
 fault-found g n seed options old new (BadBatch offset) is looks few = absurd is
 fault-found g n seed options old new (BadRec lsn) is looks few = absurd is
 fault-found g n seed options old new (Unlawful lsn why) is looks few = absurd is
@@ -162,7 +164,7 @@ fault-found g n seed options old new (LogEnd tail total) is looks few = absurd i
 fault-found g n seed options old new (TxnEnd first count) is looks few = absurd is
 
 module _ {D : Type 0} (g : Ghosts D) (n seed : ℕ) (options : RunOptions) (prepared : Prepared) (is : IsPreparedDemo n seed options prepared) (disk : D) (tail : Tail)
-    (units : List ℕ) (made : units ≡ units_of generated_opening) where
+    (units : List ℕ) (made : units ≡ units_of generated_opening.records) where
   pub opened-generated : (g.honest disk → AllStand tail units (g.images disk)) → (g.honest disk → IsShut tail.at (g.images disk))
       → tail.at ≡ 12 + 8 * length units → tail.next ≡ length units
       → IsOpened g disk tail generated_opening prepared.jobs.queue.first (key_of prepared.table)
@@ -171,9 +173,10 @@ module _ {D : Type 0} (g : Ghosts D) (n seed : ℕ) (options : RunOptions) (prep
       record {
         spellable = genesis-spellable balances few-balances each-balance;
         lawful = genesis-lawful balances few-balances each-balance;
+        range = λ account none. absurd (omega arith);
         some_accounts = omega (arith, opening-generated.accounts);
-        below = let none : greatest_txn (history generated_opening) ≡ 0 = refl in omega (arith, none, is.generated.first);
-        stand = λ honest. subst (λ us. AllStand tail us (g.images disk)) made (stand honest);
+        below = let none : greatest_txn (placed generated_opening) ≡ 0 = refl in omega (arith, none, is.generated.first);
+        stand = λ honest. all-log tail (units_of generated_opening.records) (g.images disk) (subst (λ us. AllStand tail us (g.images disk)) made (stand honest));
         shut = shut;
         next = omega (arith, next, counted, end-opening);
         place = omega (arith, place, counted);
@@ -193,8 +196,10 @@ Appends-keeps (Some xs) None appended = absurd appended
 Appends-keeps (Some xs) (Some ys) appended = appended ∙ append-nil xs
 
 -- a new log's end, as the base state that the transfers follow has it
-later-opening : (records : List Rec) → later_of generated_opening records ≡ history_from (base_state_of (history generated_opening)).end [] records
-later-opening records = ap (λ end. history_from end [] records) (end-opening ∙ sym opening-end)
+later-opening : (records : List Rec) → later_of generated_opening records ≡ history_from (base_left generated_opening).end [] records
+later-opening records =
+    let same : list_end generated_opening ≡ (base_left generated_opening).end = omega (arith, end-opening, opening-end) in
+    ap (λ end. history_from end [] records) same
 
 module _ {D : Type 0} {K : Type 0} (g : Ghosts D) (h : SinkGhosts K) (n seed : ℕ) (options : RunOptions) (range : AreInRange options) (few : n ≤ 100000) (ready : ReadyRun) {wait : Bool}
     (entry disk disk_new : D)
@@ -215,7 +220,7 @@ module _ {D : Type 0} {K : Type 0} (g : Ghosts D) (h : SinkGhosts K) (n seed : �
       (shared-ended g h ready.prepared generated_opening Count disk disk_new sink sink_mid ended has)
 
   abbrev base : BaseState
-  base = base_state_of (history generated_opening)
+  base = base_left generated_opening
 
   tasks : tasks_of jobs ≡ numbered 1 (generated_transfers n seed)
   tasks = λ i. numbered (is.generated.first i) (map transfer_of (is.generated.script i))
@@ -250,7 +255,7 @@ module _ {D : Type 0} {K : Type 0} (g : Ghosts D) (h : SinkGhosts K) (n seed : �
   summary-ended fine all =
       let counts = counted-ended g h ready.prepared generated_opening Count disk disk_new sink sink_mid ended has fine in
       let drained = drained-ended g h ready.prepared generated_opening Count disk disk_new sink sink_mid ended has fine in
-      let longer = ap length (units_of-append generated_opening records) ∙ length-append (units_of generated_opening) (units_of records) in
+      let longer = list_end-more generated_opening records in
       let lsn : ended.closed.tail ≡ base.end + end_of records = omega (arith, drained.end, longer, end-opening, opening-end) in
       let whole : IsSerialAfter base (numbered 1 (generated_transfers n seed)) (history_from base.end [] records) =
       subst (IsSerialAfter base (numbered 1 (generated_transfers n seed))) (later-opening records)

@@ -1,15 +1,17 @@
 -- Generated transfers end far below the last LSN, also where some were cut short.
-use Rattle.std.proofs.Common.{◌≡◌, ◌≤◌, ◌<◌, ℕ, zero, suc, ◌||◌, ◌+◌, ◌*◌, false, ◌⊎◌, inl, inr, List, [], ◌∷◌, ◌++◌, length, take, get_or, None, ◌-◌, refl, ap, ◌∙◌, arith, ne_eqb, length-append}
+use Rattle.std.proofs.Common.{◌≡◌, ◌≤◌, ◌<◌, ℕ, zero, suc, ◌||◌, ◌+◌, ◌*◌, false, ◌⊎◌, inl, inr, List, [], ◌∷◌, length, take, get_or, None, ◌-◌, refl, ap, ◌∙◌, arith, ne_eqb, length-append}
 use Rattle.std.specs.List.{AllByRecursion}
 use Rattle.log_record.specs.declared.rec.Rec.{Rec}
 use Rattle.log_record.specs.declared.rec.Rec.TheVariants.{Short, Over}
 use Rattle.log_record.specs.declared.rec.Placed.{Placed}
 use Rattle.log_record.specs.LogList.{size_of, units_of, end_of, IsBoundary}
 use Rattle.log_record.proofs.LogListLemmas.{boundary_is_front}
+use Rattle.log_recovery.specs.Opened.{OpenedList, list_end, placed, with_records, IsListBoundary}
 use Rattle.log_recovery.proofs.ListingLemmas.{units_of-append}
+use Rattle.log_recovery.proofs.OpenedLemmas.{list_end-more}
 use Rattle.lock_core.specs.Alone.{PlainTransfer, Done, ShortAt, OverAt, Outcome, leg_updates, outcome_alone, outcome_records}
 use Rattle.lock_core.specs.AnyOrder.{IsDoneIn, weight_of}
-use Rattle.lock_core.specs.History.{history, history_from}
+use Rattle.lock_core.specs.History.{history_from}
 use Rattle.lock_core.specs.Serial.{Task, numbered, IsCutShort, IsPartlySerialAfter}
 use Rattle.lock_core.specs.Sums.{BaseState}
 use Rattle.lock_core.specs.Transactions.{own_records_of, all_without_prev, in_order}
@@ -96,21 +98,24 @@ generated-at zero seed place other inside = absurd (omega arith)
 generated-at (suc n) seed zero other inside = (number_after seed, refl)
 generated-at (suc n) seed (suc place) other inside = generated-at n (number_after seed) place other (omega arith)
 
-boundary-most : (records : List Rec) (lsn : ℕ) → IsBoundary records lsn → lsn ≤ end_of records
-boundary-most records lsn is =
+records-boundary_most : (records : List Rec) (lsn : ℕ) → IsBoundary records lsn → lsn ≤ end_of records
+records-boundary_most records lsn is =
     let found = boundary_is_front records lsn is in
     let longer = ap end_of found.2 ∙ ap length (units_of-append found.0 found.1) ∙ length-append (units_of found.0) (units_of found.1) in
     omega (arith, longer, found.3)
 
+boundary-most : (list : OpenedList) (lsn : ℕ) → IsListBoundary list lsn → lsn ≤ list_end list
+boundary-most list lsn is = omega (arith, is.1, records-boundary_most list.records is.0 is.2)
+
 module _ (n seed : ℕ) (few : n ≤ 100000) (jobs : NumberedJobs) (script : jobs.script ≡ generated_jobs n seed) where
-  next-most : (records : List Rec) (place tail units : ℕ) → place < length jobs.script → HasNextOf records jobs place tail units → units ≤ 5
-  next-most records place tail units inside next =
+  next-most : (list : OpenedList) (place tail units : ℕ) → place < length jobs.script → HasNextOf list jobs place tail units → units ≤ 5
+  next-most list place tail units inside next =
       let found = generated-at n seed place (record { legs = []; note = None }) (omega (arith, inside, ap length script)) in
       let job : job_at jobs place ≡ job_from found.0 =
       ap (λ s. get_or s place (record { legs = []; note = None })) script ∙ found.1 in
       let plan = next.plan ∙ ap (λ j. outcome_records (number_at jobs place) (transfer_of j)
       (outcome_alone (transfer_of j) next.balances)) job in
-      let weighed = records-most (history records) (number_at jobs place) (next.next ∷ next.rest) _ plan in
+      let weighed = records-most (placed list) (number_at jobs place) (next.next ∷ next.rest) _ plan in
       omega (
         arith,
         weighed,
@@ -125,14 +130,14 @@ module _ (n seed : ℕ) (few : n ≤ 100000) (jobs : NumberedJobs) (script : job
   asked-most ring slots workers units total crew small (inr group) =
       let most : total + 26 ≤ units + 26 * workers = group.known.1 in omega (arith, most, crew, small)
 
-  pub never-log_end : (workers : ℕ) (sharing : Sharing) → IsSharedOut workers jobs sharing → (opened list : List Rec) (ring slots tail total : ℕ)
-      → workers ≤ 16 → end_of opened ≤ 128 → end_of list ≤ 5 * n → StopsAtLogEnd opened jobs sharing list ring slots tail total → ⊥
+  pub never-log_end : (workers : ℕ) (sharing : Sharing) → IsSharedOut workers jobs sharing → (opened : OpenedList) (list : List Rec) (ring slots tail total : ℕ)
+      → workers ≤ 16 → list_end opened ≤ 128 → end_of list ≤ 5 * n → StopsAtLogEnd opened jobs sharing list ring slots tail total → ⊥
   never-log_end workers sharing shared opened list ring slots tail total crew first most stops =
       let room = stops.no_room in
       let inside : stops.cut < length jobs.script = omega (arith, stops.all_cut.0.inside, shared.within) in
-      let small = next-most (opened ++ list) stops.cut tail room.units inside room.next in
+      let small = next-most (with_records opened list) stops.cut tail room.units inside room.next in
       let asked = asked-most ring slots (length sharing.taken) room.units total (omega (arith, shared.count, crew)) small room.asked in
-      let within = boundary-most (opened ++ list) tail stops.no_room.boundary in
-      let longer = ap length (units_of-append opened list) ∙ length-append (units_of opened) (units_of list) in
+      let within = boundary-most (with_records opened list) tail stops.no_room.boundary in
+      let longer = list_end-more opened list in
       let past = stops.no_room.too_long in
       omega arith

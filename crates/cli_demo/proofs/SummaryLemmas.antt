@@ -5,9 +5,8 @@ use Rattle.log_record.specs.declared.rec.Rec.{Rec}
 use Rattle.log_record.specs.declared.rec.Rec.TheVariants.{Genesis, Update, Commit, Short, Over, Note}
 use Rattle.log_record.specs.LogList.{end_of}
 use Rattle.log_record.specs.Spelling.{IsBalance}
-use Rattle.lock_core.specs.History.{history, history_from}
+use Rattle.lock_core.specs.History.{history_from}
 use Rattle.lock_core.specs.Sums.{BaseState, sum_below}
-use Rattle.lock_core.specs.Lawful.{base_state_of, genesis_of}
 use Rattle.lock_core.specs.Alone.{Done, outcome_records}
 use Rattle.lock_core.specs.Serial.{numbered, IsSerialAfter}
 use Rattle.lock_core.specs.Settling.{row, KeepsRows}
@@ -22,6 +21,7 @@ use Rattle.lock_core.specs.Transfers.{transfer_of}
 use Rattle.txn_script.proofs.OrderLemmas.{room-generated, generated-balance, generated-end}
 use Rattle.cli_demo.specs.Summary.{generated_opening, summary_text}
 use Rattle.run_summary.specs.Summary.{balance_in, mix_below, summary_lines, summary_of}
+use Rattle.log_recovery.specs.Opened.{placed, base_in, base_left}
 use Rattle.cli_shared.proofs.GenesisLemmas.{opening_rows, genesis-kept}
 
 done_in-weight : (records : List Rec) → done_in records ≡ weight_of is_done records
@@ -101,13 +101,13 @@ first_balance zero account balance below = absurd (omega arith)
 first_balance (suc n) zero balance below = refl
 first_balance (suc n) (suc account) balance below = first_balance n account balance (omega arith)
 
-pub opening-generated : OpensGenerated (base_state_of (history generated_opening))
+pub opening-generated : OpensGenerated (base_left generated_opening)
 opening-generated =
-    let h = history generated_opening in
+    let h = placed generated_opening in
     let kept = genesis-kept (replicate 64 1000000) (omega arith) (All-replicate IsBalance 64 1000000 (omega arith)) in record {
       accounts = refl;
-      balance = λ account below. balance_of-is (genesis_of h) h account _ (kept.balance account below) ∙ first_balance 64 account 1000000 below;
+      balance = λ account below. balance_of-is (base_in generated_opening) h account _ (kept.balance account below) ∙ first_balance 64 account 1000000 below;
     }
 
-pub opening-end : (base_state_of (history generated_opening)).end ≡ 128
+pub opening-end : (base_left generated_opening).end ≡ 128
 opening-end = refl

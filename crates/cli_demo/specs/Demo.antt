@@ -1,6 +1,6 @@
 -- What `demo` answers: a log of generated accounts is made, and `n` transfers that a seed generates are run over it. `g` is what a disk
 -- shows; `old` and `new` are the disk before and after.
-use Rattle.std.specs.Prelude.{◌≡◌, ◌⊎◌, ℕ, ◌+◌, ◌*◌, List, ◌++◌, length, Option}
+use Rattle.std.specs.Prelude.{◌≡◌, ◌⊎◌, ℕ, ◌+◌, ◌*◌, List, length, Option}
 use Rattle.std.specs.Io.KnownBytes.{Keeps, Appends}
 use Rattle.command_line.specs.declared.options.RunOptions.{RunOptions}
 use Rattle.log_disk.specs.Costs.{Costs}
@@ -10,6 +10,7 @@ use Rattle.log_disk.specs.Streams.{AppendsPart}
 use Rattle.log_disk.specs.declared.disk.LogDisk.{Ghosts}
 use Rattle.log_record.specs.declared.rec.Rec.{Rec}
 use Rattle.log_record.specs.LogList.{end_of}
+use Rattle.log_recovery.specs.Opened.{with_records}
 use Rattle.log_recovery.specs.Recovery.{HoldsLawful}
 use Rattle.log_table.specs.Seats.{key_of}
 use Rattle.segment_file.specs.File.{BeginsAsLog}
@@ -40,7 +41,7 @@ MayPrecede images bytes = images bytes ⊎ (BeginsAsLog bytes → ⊥)
 
 -- where the new log of the generated accounts goes on
 abbrev pub generated_end : ℕ
-generated_end = new_end (end_of generated_opening)
+generated_end = new_end (end_of generated_opening.records)
 
 -- No transfer was begun. Each image of a moment is one of before, or no log, or the new log of the generated accounts. The file is no longer
 -- than before, or ends at most behind the new log and the gate at its tail.
@@ -66,7 +67,7 @@ pub record RanGenerated {D : Type 0} (g : Ghosts D) (n seed : ℕ) (options : Ru
   pub sharing : Sharing
   pub shared : IsSharedOut options.workers jobs sharing
   pub list : List Rec
-  pub goes_on : GoesOn generated_opening jobs sharing (generated_opening ++ list)
+  pub goes_on : GoesOn generated_opening jobs sharing (with_records generated_opening list)
   pub images : Leaves g.moment g.images_since
       (λ bytes. MayPrecede (g.images old) bytes ⊎ HoldsRun generated_opening jobs sharing list bytes) old new
   pub kept : (image : List ℕ) → g.images new image → HoldsMade g jobs sharing list old new image
@@ -76,7 +77,7 @@ pub record RanGenerated {D : Type 0} (g : Ghosts D) (n seed : ℕ) (options : Ru
 -- each of them ran whole, and each image holds the whole list
 pub record RanAllGenerated {D : Type 0} (g : Ghosts D) (n seed : ℕ) (options : RunOptions) (old new : D) : Type 0 where
   pub ran : RanGenerated g n seed options old new
-  pub all : (image : List ℕ) → g.images new image → HoldsLawful image (generated_opening ++ ran.list)
+  pub all : (image : List ℕ) → g.images new image → HoldsLawful image (with_records generated_opening ran.list)
   pub whole : RunsWhole generated_opening ran.jobs ran.list
 
 -- What `demo` with these options leaves of the disk, for each detail. The output is written only once all transfers are on the disk.

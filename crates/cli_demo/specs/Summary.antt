@@ -1,16 +1,16 @@
 -- The summary of generated transfers.
 use Rattle.std.specs.Prelude.{ℕ, ◌+◌, ◌*◌, List, replicate}
-use Rattle.log_record.specs.declared.rec.Rec.{Rec}
 use Rattle.lock_core.specs.Sums.{sum_below}
 use Rattle.txn_script.specs.declared.generator.TheConstants.{GENERATED_ACCOUNTS, GENERATED_BALANCE}
 use Rattle.txn_script.specs.Generator.{generated_balance}
-use Rattle.cli_shared.specs.Creation.{genesis_list}
+use Rattle.log_recovery.specs.Opened.{OpenedList}
+use Rattle.cli_shared.specs.Creation.{new_list}
 pub use Rattle.run_plan.specs.Generated.{generated_rows}
 pub use Rattle.run_summary.specs.Summary.{balance_in, mix_below, summary_lines, summary_of}
 
 -- the list on which generated transfers run: their accounts, each with the balance that it begins with
-abbrev pub generated_opening : List Rec
-generated_opening = genesis_list (replicate GENERATED_ACCOUNTS GENERATED_BALANCE)
+abbrev pub generated_opening : OpenedList
+generated_opening = new_list (replicate GENERATED_ACCOUNTS GENERATED_BALANCE)
 
 -- the summary of so many generated transfers: all are done, 5 units each behind the 2 of each account
 abbrev pub summary_text : ℕ → ℕ → List ℕ

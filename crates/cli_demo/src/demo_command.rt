@@ -126,7 +126,7 @@ fn prepare_demo<R: Wait>(
     requires options { AreInRange options.now }
     requires few { transfers ≤ MOST_GENERATED }
     ensures prepared { IfOk result (λ made. IsPreparedDemo transfers seed options.now made.0) }
-    ensures batch { IfOk result (λ made. made.1.units ≡ units_of generated_opening) }
+    ensures batch { IfOk result (λ made. made.1.units ≡ units_of generated_opening.records) }
 {
     let Generated { script, accounts } = generate(alloc, transfers, seed)?;
     let batch = genesis(alloc, &accounts)?;

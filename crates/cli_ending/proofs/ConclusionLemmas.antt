@@ -6,7 +6,7 @@ use Rattle.log_disk.specs.declared.sink.Sink.{Ghosts as SinkGhosts}
 use Rattle.log_disk.specs.Streams.{AppendsPart}
 use Rattle.log_recovery.specs.Text.{rows_text}
 use Rattle.cli_shared.specs.declared.report.Detail.{Detail}
-use Rattle.cli_shared.specs.declared.report.Detail.TheVariants.{Fine, NoMemory, Usage, Script, Read, Write, Disk, NotALog, BadBatch, BadRec, Unlawful, LogEnd, TxnEnd, Exists}
+use Rattle.cli_shared.specs.declared.report.Detail.TheVariants.{Fine, NoMemory, Usage, Script, Read, Write, Disk, NotALog, BadSnapshot, BadBatch, BadRec, Unlawful, LogEnd, TxnEnd, Exists}
 use Rattle.cli_ending.specs.declared.conclusion.Ended.{Ended}
 use Rattle.cli_ending.specs.Ending.{Concludes, NothingStopped, StoppedAs, closed_text}
 
@@ -22,6 +22,7 @@ concludes-stopped h ended text sink Usage is = absurd is
 concludes-stopped h ended text sink (Script line) is = absurd is
 concludes-stopped h ended text sink Read is = absurd is
 concludes-stopped h ended text sink NotALog is = absurd is
+concludes-stopped h ended text sink BadSnapshot is = absurd is
 concludes-stopped h ended text sink (BadBatch offset) is = absurd is
 concludes-stopped h ended text sink (BadRec lsn) is = absurd is
 concludes-stopped h ended text sink (Unlawful lsn why) is = absurd is

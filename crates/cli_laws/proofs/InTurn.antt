@@ -5,8 +5,7 @@ use Rattle.std.proofs.lemmas.List.Elements.{Contains-append_right}
 use mathlib.Core.Logic.{dite}
 use native.Mathlib.Decide.{dec_lt}
 use Rattle.log_record.specs.declared.rec.Placed.{Placed}
-use Rattle.log_record.specs.declared.rec.Rec.{Rec}
-use Rattle.lock_core.specs.History.{history}
+use Rattle.log_recovery.specs.Opened.{OpenedList, placed}
 use Rattle.lock_core.specs.Transactions.{own_records_of}
 use Rattle.job_queue.specs.Takings.{times}
 use Rattle.job_queue.proofs.Counting.{once-most, same-refl, times-append}
@@ -81,33 +80,33 @@ module _ (jobs : NumberedJobs) (h : List Placed) (list : List ℕ)
 
 -- ---- those of all
 
-module _ (opened records : List Rec) (jobs : NumberedJobs) (sharing : Sharing) (workers : ℕ) (goes_on : GoesOn opened jobs sharing records)
+module _ (opened records : OpenedList) (jobs : NumberedJobs) (sharing : Sharing) (workers : ℕ) (goes_on : GoesOn opened jobs sharing records)
     (shared : IsSharedOut workers jobs sharing) where
   -- what has a record was taken
-  begun-inside : (x : ℕ) → own_records_of (number_at jobs x) (history records) ≢ [] → x < sharing.front
+  begun-inside : (x : ℕ) → own_records_of (number_at jobs x) (placed records) ≢ [] → x < sharing.front
   begun-inside x begun = dite (dec_lt x sharing.front) (λ inside. inside)
       (λ no_less. absurd (begun (goes_on.rest x (omega (arith, no_less)))))
 
   taken-inside : (x : ℕ) → x < sharing.front → 1 ≤ times x (concat sharing.taken)
   taken-inside x inside = omega (arith, shared.once x, once-inside x sharing.front inside)
 
-  all-taken : (xs : List ℕ) → AllByRecursion (IsUnended jobs (history records)) xs
+  all-taken : (xs : List ℕ) → AllByRecursion (IsUnended jobs (placed records)) xs
       → AllByRecursion (λ x. 1 ≤ times x (concat sharing.taken)) xs
   all-taken [] each = tt
   all-taken (x ∷ xs) each = (taken-inside x (begun-inside x each.0.begun), all-taken xs each.1)
 
-  each-list : (xs : List ℕ) → ((x : ℕ) → times x xs ≤ 1) → AllByRecursion (IsUnended jobs (history records)) xs
+  each-list : (xs : List ℕ) → ((x : ℕ) → times x xs ≤ 1) → AllByRecursion (IsUnended jobs (placed records)) xs
       → (lists : List (List ℕ)) → ((list : List ℕ) → Contains lists list → Contains sharing.taken list)
       → ((x : ℕ) → times x (concat lists) ≤ 1) → AllByRecursion (λ list. hits xs list ≤ 1) lists
   each-list xs apart each [] among once = tt
   each-list xs apart each (list ∷ lists) among once = (
-    hits-most jobs (history records) list (λ i j. goes_on.in_turn list i j (among list (0, omega arith, refl)))
+    hits-most jobs (placed records) list (λ i j. goes_on.in_turn list i j (among list (0, omega arith, refl)))
         (λ x. omega (arith, once x, times-append x list (concat lists))) xs apart each,
     each-list xs apart each lists (λ other has. among other (Contains-append_right (list ∷ []) lists other has))
         (λ x. omega (arith, once x, times-append x list (concat lists))),
   )
 
-  pub unended-few : (places : List ℕ) → ((place : ℕ) → times place places ≤ 1) → AllByRecursion (IsUnended jobs (history records)) places
+  pub unended-few : (places : List ℕ) → ((place : ℕ) → times place places ≤ 1) → AllByRecursion (IsUnended jobs (placed records)) places
       → length places ≤ workers
   unended-few places apart each = omega (
     arith,
@@ -126,9 +125,9 @@ only-list (list ∷ []) one =
 only-list (list ∷ other ∷ lists) one = absurd (omega (arith, one))
 
 -- one worker makes the transfers in the order of the script
-pub one-in_order : (opened records : List Rec) (jobs : NumberedJobs) (sharing : Sharing) → GoesOn opened jobs sharing records
-    → IsSharedOut 1 jobs sharing → (i j : ℕ) → i < j → own_records_of (number_at jobs j) (history records) ≢ []
-    → EndsAs jobs i (history records) true
+pub one-in_order : (opened records : OpenedList) (jobs : NumberedJobs) (sharing : Sharing) → GoesOn opened jobs sharing records
+    → IsSharedOut 1 jobs sharing → (i j : ℕ) → i < j → own_records_of (number_at jobs j) (placed records) ≢ []
+    → EndsAs jobs i (placed records) true
 one-in_order opened records jobs sharing goes_on shared i j less begun =
     let inside = begun-inside opened records jobs sharing 1 goes_on shared j begun in
     let taken = taken-inside opened records jobs sharing 1 goes_on shared in

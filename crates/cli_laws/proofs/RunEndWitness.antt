@@ -11,10 +11,10 @@ use Rattle.log_record.specs.declared.rec.Placed.{Placed}
 use Rattle.log_record.specs.LogList.{units_of, end_of}
 use Rattle.log_record.specs.Spelling.{spelling, IsSpellable, IsBalance, IsPrintable}
 use Rattle.lock_core.specs.History.{end_from, entry_at, history_from, history}
-use Rattle.lock_core.specs.Lawful.{IsLawful, genesis_of}
+use Rattle.lock_core.specs.Lawful.{IsLawful, base_with}
 use Rattle.lock_core.specs.Records.{gain, loss}
 use Rattle.lock_core.specs.Settling.{row}
-use Rattle.lock_core.specs.Sums.{ShowsAccounts, balance_of, last_commit_of, greatest_txn, total}
+use Rattle.lock_core.specs.Sums.{no_opening, ShowsAccounts, balance_of, last_commit_of, greatest_txn, total}
 use Rattle.lock_core.specs.Transactions.{own_records_of, has_end}
 use Rattle.lock_core.specs.Witness.{genesis_log}
 use Rattle.lock_core.proofs.Fronts.{history_from-append}
@@ -28,6 +28,8 @@ use Rattle.segment_file.specs.Standing.{StandsAt}
 use Rattle.segment_file.specs.declared.layout.TheConstants.{CLOSED}
 use Rattle.segment_file.specs.declared.scan_result.Tail.{Tail}
 use Rattle.segment_file.proofs.BatchLemmas.{length-batch}
+use Rattle.segment_file.proofs.FirstFormat.{stands-log}
+use Rattle.log_recovery.specs.Opened.{OpenedList, whole_list, list_end, placed}
 use Rattle.log_rule.specs.declared.start.Start.{Start}
 use Rattle.log_rule.specs.declared.view.Given.{Given}
 use Rattle.log_rule.specs.declared.view.View.{View}
@@ -64,18 +66,18 @@ batches (suc n) = spelling note ∷ batches n
 -- what a history keeps to which notes are added
 record Stays (h : List Placed) : Type 0 where
   some : 0 < length h
-  lawful : IsLawful h
+  lawful : IsLawful no_opening h
   unended : has_end (own_records_of 1 h) ≡ false
   few : greatest_txn h ≤ 1
-  count : (genesis_of h).accounts ≡ 2
-  balance : (account : ℕ) → (genesis_of h).balance account ≡ (genesis_of (history genesis_log)).balance account
+  count : (base_with no_opening h).accounts ≡ 2
+  balance : (account : ℕ) → (base_with no_opening h).balance account ≡ (base_with no_opening (history genesis_log)).balance account
   totals : (account : ℕ) → (total gain account h ≡ 0) × (total loss account h ≡ 0)
-  marks : (account : ℕ) → last_commit_of (genesis_of h) h account ≡ 0
+  marks : (account : ℕ) → last_commit_of (base_with no_opening h) h account ≡ 0
 
 stays-note : (end : ℕ) (h : List Placed) → Stays h → Stays (record { end = end; rec = note } ∷ h)
 stays-note end h before = record {
   some = omega arith;
-  lawful = ((before.some, (tt, (before.unended, (tt, (tt, (tt, (tt, ((λ on. absurd (true≢false (sym on))), tt)))))))), before.lawful);
+  lawful = (((let some = before.some in omega arith), (tt, (((λ other. omega arith), before.unended), (tt, (tt, (tt, (tt, ((λ on. absurd (true≢false (sym on))), tt)))))))), before.lawful);
   unended = before.unended;
   few = (let most = before.few in omega arith);
   count = before.count;
@@ -114,16 +116,16 @@ end-notes : (n : ℕ) → end_of (notes n) ≡ 2 * n
 end-notes zero = refl
 end-notes (suc n) = let rest = end-notes n in omega arith
 
-rows-shown : (h : List Placed) → Stays h → ShowsAccounts ((100, 0) ∷ (0, 0) ∷ []) (genesis_of h) h
+rows-shown : (h : List Placed) → Stays h → ShowsAccounts ((100, 0) ∷ (0, 0) ∷ []) (base_with no_opening h) h
 rows-shown h stays = record { count = sym stays.count; each = each }
   where
-    each : (account : ℕ) → account < (genesis_of h).accounts → slice_get {X = ℕ × ℕ} ((100, 0) ∷ (0, 0) ∷ []) account
-        ≡ Some (balance_of (genesis_of h) h account, last_commit_of (genesis_of h) h account)
+    each : (account : ℕ) → account < (base_with no_opening h).accounts → slice_get {X = ℕ × ℕ} ((100, 0) ∷ (0, 0) ∷ []) account
+        ≡ Some (balance_of (base_with no_opening h) h account, last_commit_of (base_with no_opening h) h account)
     each zero inside =
-        let is : 100 ≡ balance_of (genesis_of h) h 0 = omega (arith, stays.balance 0, (stays.totals 0).0, (stays.totals 0).1) in
+        let is : 100 ≡ balance_of (base_with no_opening h) h 0 = omega (arith, stays.balance 0, (stays.totals 0).0, (stays.totals 0).1) in
         λ i. Some (is i, sym (stays.marks 0) i)
     each (suc zero) inside =
-        let is : 0 ≡ balance_of (genesis_of h) h 1 = omega (arith, stays.balance 1, (stays.totals 1).0, (stays.totals 1).1) in
+        let is : 0 ≡ balance_of (base_with no_opening h) h 1 = omega (arith, stays.balance 1, (stays.totals 1).0, (stays.totals 1).1) in
         λ i. Some (is i, sym (stays.marks 1) i)
     each (suc (suc n)) inside = absurd (omega (arith, stays.count))
 
@@ -148,8 +150,8 @@ length-notes (suc n) =
     let sum = length-append (batch (spelling note)) (flat_map gated (batches n)) in omega arith
 
 module _ (n slots : ℕ) (full : 4 + 2 * n ≤ LAST) (near : LAST < 4 + 2 * n + 2) where
-  abbrev opened : List Rec
-  opened = genesis_log ++ notes n
+  abbrev opened : OpenedList
+  opened = whole_list (genesis_log ++ notes n)
 
   abbrev file : List ℕ
   file = written (units_of genesis_log ∷ batches n) ++ CLOSED ∷ []
@@ -157,13 +159,13 @@ module _ (n slots : ℕ) (full : 4 + 2 * n ≤ LAST) (near : LAST < 4 + 2 * n + 
   abbrev tail : Tail
   tail = record { at = length (written (units_of genesis_log ∷ batches n)); next = 4 + 2 * n }
 
-  end-opened : end_of opened ≡ 4 + 2 * n
+  end-opened : list_end opened ≡ 4 + 2 * n
   end-opened = omega (arith, end-notes n)
 
-  stays-opened : Stays (history opened)
+  stays-opened : Stays (placed opened)
   stays-opened = subst Stays (sym (history_from-append 0 [] genesis_log (notes n))) (stays-notes n (history genesis_log) stays-genesis)
 
-  stands : StandsAt tail (units_of opened) file
+  stands : StandsAt tail (units_of opened.records) file
   stands = record {
     batches = units_of genesis_log ∷ batches n;
     rest = CLOSED ∷ [];
@@ -176,7 +178,7 @@ module _ (n slots : ℕ) (full : 4 + 2 * n ≤ LAST) (near : LAST < 4 + 2 * n + 
     };
     units_are = ap (λ units. units_of genesis_log ++ units) (sym (joined-notes n));
     place = refl;
-    next = sym end-opened;
+    next = omega (arith, end-opened);
   }
 
   abbrev key : Start
@@ -186,9 +188,10 @@ module _ (n slots : ℕ) (full : 4 + 2 * n ≤ LAST) (near : LAST < 4 + 2 * n + 
   is-opened = record {
     spellable = all-append IsSpellable genesis_log (notes n) genesis-spellable (notes-spellable n);
     lawful = stays-opened.lawful;
+    range = λ account none. absurd (omega arith);
     some_accounts = omega (arith, stays-opened.count);
     below = omega (arith, stays-opened.few);
-    stand = λ honest bytes is. subst (StandsAt tail (units_of opened)) (sym is) stands;
+    stand = λ honest bytes is. stands-log tail (units_of opened.records) bytes (subst (StandsAt tail (units_of opened.records)) (sym is) stands);
     shut = λ honest. shut-at (λ moment. file) 0 tail.at (written (units_of genesis_log ∷ batches n)) refl refl;
     next = sym end-opened;
     place = omega (
@@ -199,7 +202,7 @@ module _ (n slots : ℕ) (full : 4 + 2 * n ≤ LAST) (near : LAST < 4 + 2 * n + 
       length-batch (batch (units_of genesis_log)) (units_of genesis_log) [] (sym (append-nil (batch (units_of genesis_log)))),
     );
     start = sym end-opened;
-    accounts = rows-shown (history opened) stays-opened;
+    accounts = rows-shown (placed opened) stays-opened;
   }
 
   -- ---- the run

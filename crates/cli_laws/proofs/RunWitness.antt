@@ -10,22 +10,23 @@ use Rattle.log_record.specs.declared.rec.Rec.TheVariants.{Genesis, Update, Commi
 use Rattle.log_record.specs.LogList.{units_of}
 use Rattle.log_record.specs.Spelling.{spelling, IsSpellable, IsBalance}
 use Rattle.lock_core.specs.Records.{txn_of}
-use Rattle.lock_core.specs.History.{history}
-use Rattle.lock_core.specs.Lawful.{IsLawful, genesis_of, base_state_of}
+use Rattle.log_recovery.specs.Opened.{OpenedList, whole_list, log_of, placed, opening_before, base_in, base_left}
+use Rattle.lock_core.specs.Lawful.{IsLawful}
 use Rattle.lock_core.specs.Serial.{numbered}
 use Rattle.lock_core.specs.Settling.{row, KeepsRows}
-use Rattle.lock_core.specs.Sums.{BaseState, ShowsAccounts, IsBalanceOf, balance_of, last_commit_of}
+use Rattle.lock_core.specs.Sums.{no_opening, BaseState, BeginsInRange, ShowsAccounts, IsBalanceOf, balance_of, last_commit_of}
 use Rattle.lock_core.specs.Witness.{genesis_log, transfer, transfer_records, transfer_history}
 use Rattle.lock_core.proofs.KindLemmas.{passes-genesis}
 use Rattle.lock_core.proofs.SerialFronts.{serial-partly}
 use Rattle.lock_core.proofs.Witnessing.{transfer-lawful, transfer-serial}
-use Rattle.segment_file.specs.File.{written, batch, IsCountedBatch, HoldsUnits}
-use Rattle.segment_file.specs.Standing.{StandsAt, IsShut}
+use Rattle.segment_file.specs.File.{written, batch, IsCountedBatch}
+use Rattle.segment_file.specs.Log.{Log, with_units, HoldsLog}
+use Rattle.segment_file.specs.Standing.{StandsAt, LogStandsAt, IsShut}
 use Rattle.segment_file.specs.declared.layout.TheConstants.{OPEN, CLOSED}
 use Rattle.segment_file.specs.declared.scan_result.Tail.{Tail}
 use Rattle.segment_file.proofs.BatchLemmas.{length-batch}
-use Rattle.segment_file.proofs.OneReading.{one_reading-units}
-use Rattle.segment_file.proofs.StandingLemmas.{holds}
+use Rattle.segment_file.proofs.FirstFormat.{stands-log}
+use Rattle.segment_file.proofs.OneReading.{one_reading-log}
 use Rattle.log_table.specs.declared.table.Seat.{Seat}
 use Rattle.log_rule.specs.declared.start.Start.{Start}
 use Rattle.log_rule.specs.declared.view.Entry.{Entry}
@@ -73,6 +74,10 @@ rows = (70, 9) ∷ (30, 9) ∷ []
 
 abbrev entry : ℕ → ℕ → Rec → Entry
 entry start size rec = record { start = start; size = size; units = spelling rec; rec = rec }
+
+-- the list that is opened
+abbrev pub first_list : OpenedList
+first_list = whole_list genesis_log
 
 abbrev tail_old : Tail
 tail_old = record { at = length (written (units_of genesis_log ∷ [])); next = 4 }
@@ -132,22 +137,26 @@ transfer-spellable = (
   (((omega arith, omega arith), omega arith, more-delta 30 (omega arith) (omega arith), omega arith), (((omega arith, omega arith), (omega arith, omega arith)), tt)),
 )
 
-pub genesis-lawful : IsLawful (history genesis_log)
+pub genesis-lawful : IsLawful no_opening (placed first_list)
 genesis-lawful =
-    (passes-genesis (record { end = 2; rec = Genesis 0 100 } ∷ []) 4 1 0 (tt, tt) refl, (passes-genesis [] 2 0 100 tt refl, tt))
+    (passes-genesis no_opening (record { end = 2; rec = Genesis 0 100 } ∷ []) 4 1 0 (tt, tt) refl refl, (passes-genesis no_opening [] 2 0 100 tt refl refl, tt))
 
-genesis-shown : ShowsAccounts rows_old (genesis_of (history genesis_log)) (history genesis_log)
+-- no account stands before it
+pub genesis-range : BeginsInRange (opening_before first_list).state
+genesis-range account none = absurd (omega arith)
+
+genesis-shown : ShowsAccounts rows_old (base_in first_list) (placed first_list)
 genesis-shown = record { count = refl; each = each }
   where
     each : (account : ℕ) → account < 2 → slice_get {X = ℕ × ℕ} ((100, 0) ∷ (0, 0) ∷ []) account
-        ≡ Some (balance_of (genesis_of (history genesis_log)) (history genesis_log) account, last_commit_of (genesis_of (history genesis_log)) (history genesis_log) account)
+        ≡ Some (balance_of (base_in first_list) (placed first_list) account, last_commit_of (base_in first_list) (placed first_list) account)
     each zero inside = refl
     each (suc zero) inside = refl
     each (suc (suc n)) inside = absurd (omega arith)
 
 -- ---- the closed table
 
-rows-kept : KeepsRows rows (base_state_of (history genesis_log)) transfer_history
+rows-kept : KeepsRows rows (base_left first_list) transfer_history
 rows-kept = record { count = refl; range = range; balance = balance; last = last }
   where
     range : (account : ℕ) → account < 2 → IsBalance (row rows account).0
@@ -155,12 +164,12 @@ rows-kept = record { count = refl; range = range; balance = balance; last = last
     range (suc zero) inside = omega arith
     range (suc (suc n)) inside = absurd (omega arith)
 
-    balance : (account : ℕ) → account < 2 → IsBalanceOf (base_state_of (history genesis_log)) transfer_history account (row rows account).0
+    balance : (account : ℕ) → account < 2 → IsBalanceOf (base_left first_list) transfer_history account (row rows account).0
     balance zero inside = refl
     balance (suc zero) inside = refl
     balance (suc (suc n)) inside = absurd (omega arith)
 
-    last : (account : ℕ) → account < 2 → (row rows account).1 ≡ last_commit_of (base_state_of (history genesis_log)) transfer_history account
+    last : (account : ℕ) → account < 2 → (row rows account).1 ≡ last_commit_of (base_left first_list) transfer_history account
     last zero inside = refl
     last (suc zero) inside = refl
     last (suc (suc n)) inside = absurd (omega arith)
@@ -200,13 +209,14 @@ module _ (d : Daemon ℕ (List ℕ)) (of : IsOf d.flusher.table.now d.flusher.se
 
   -- ---- the opened log, and the closed table
 
-  opened : IsOpened (plain_disk file_at) 0 tail_old genesis_log 1 key
+  opened : IsOpened (plain_disk file_at) 0 tail_old first_list 1 key
   opened = record {
     spellable = genesis-spellable;
     lawful = genesis-lawful;
+    range = genesis-range;
     some_accounts = omega arith;
     below = omega arith;
-    stand = λ honest bytes is. subst (StandsAt tail_old (units_of genesis_log)) (sym is) stands-old;
+    stand = λ honest bytes is. stands-log tail_old (units_of genesis_log) bytes (subst (StandsAt tail_old (units_of genesis_log)) (sym is) stands-old);
     shut = λ honest. shut-at file_at 0 tail_old.at (written (units_of genesis_log ∷ [])) refl refl;
     next = refl;
     place = omega (arith, length-batch (batch (units_of genesis_log) ++ []) (units_of genesis_log) [] refl, length-append (batch (units_of genesis_log)) []);
@@ -214,15 +224,15 @@ module _ (d : Daemon ℕ (List ℕ)) (of : IsOf d.flusher.table.now d.flusher.se
     accounts = genesis-shown;
   }
 
-  base-is : base_of key ≡ base_state_of (history genesis_log)
-  base-is = base-opened genesis_log key genesis-lawful refl genesis-shown
+  base-is : base_of key ≡ base_left first_list
+  base-is = base-opened first_list key genesis-lawful refl genesis-shown
 
   settled : IsSettled (base_of key) view rows
   settled = record {
     count = refl;
     ledger = λ once. subst (λ (base : BaseState). IsLedger base transfer_history (numbered 1 (transfer ∷ [])) rows) (sym base-is) (record {
       lawful = transfer-lawful;
-      serial = serial-partly (base_state_of (history genesis_log)) (numbered 1 (transfer ∷ [])) transfer_history transfer-serial;
+      serial = serial-partly (base_left first_list) (numbered 1 (transfer ∷ [])) transfer_history transfer-serial;
       accounts = rows-kept;
     });
     given = λ once. tt;
@@ -324,31 +334,33 @@ module _ (d : Daemon ℕ (List ℕ)) (of : IsOf d.flusher.table.now d.flusher.se
     counted = omega arith;
   }
 
-  -- what all images held at first are the units of the opened list
-  opening-is : (opening : List ℕ) → ((bytes : List ℕ) → bytes ≡ file_at 0 → StandsAt tail_old (opening ++ []) bytes) → opening ≡ units_of genesis_log
-  opening-is opening stand = sym (append-nil opening)
-      ∙ one_reading-units (file_at 0) (opening ++ []) (units_of genesis_log)
-      (holds tail_old (opening ++ []) (file_at 0) (stand (file_at 0) refl)) (holds tail_old (units_of genesis_log) (file_at 0) stands-old)
+  -- what all images held at first is the opened list
+  opening-is : (log : Log) → ((bytes : List ℕ) → bytes ≡ file_at 0 → LogStandsAt tail_old (with_units log []) bytes) → log ≡ log_of first_list
+  opening-is log stand =
+      let same : log ≡ with_units log [] = λ i. record { opening = log.opening; units = sym (append-nil log.units) i } in
+      same ∙ one_reading-log (file_at 0) (with_units log []) (log_of first_list) (stand (file_at 0) refl).held
+      (stands-log tail_old (units_of genesis_log) (file_at 0) stands-old).held
 
-  stands-later : (opening : List ℕ) → ((bytes : List ℕ) → bytes ≡ file_at 0 → StandsAt tail_old (opening ++ []) bytes)
-      → (bytes : List ℕ) → bytes ≡ file_at 1 → StandsAt tail_new (opening ++ units_of transfer_records) bytes
-  stands-later opening stand bytes is =
-      subst (λ (units : List ℕ). StandsAt tail_new (units ++ units_of transfer_records) bytes) (sym (opening-is opening stand))
-      (subst (StandsAt tail_new (units_of genesis_log ++ units_of transfer_records)) (sym is) stands-new)
+  stands-later : (log : Log) → ((bytes : List ℕ) → bytes ≡ file_at 0 → LogStandsAt tail_old (with_units log []) bytes)
+      → (bytes : List ℕ) → bytes ≡ file_at 1 → LogStandsAt tail_new (with_units log (units_of transfer_records)) bytes
+  stands-later log stand bytes is =
+      subst (λ (first : Log). LogStandsAt tail_new (with_units first (units_of transfer_records)) bytes) (sym (opening-is log stand))
+      (stands-log tail_new (units_of genesis_log ++ units_of transfer_records) bytes
+      (subst (StandsAt tail_new (units_of genesis_log ++ units_of transfer_records)) (sym is) stands-new))
 
-  moments : (opening : List ℕ) → ((bytes : List ℕ) → bytes ≡ file_at 0 → StandsAt tail_old (opening ++ []) bytes)
-      → Leaves (plain_disk file_at).moment (plain_disk file_at).images_since (HoldsFront (opening ++ []) (transfer_records ++ [])) 0 1
-  moments opening stand = record { later = omega arith; each = each }
+  moments : (log : Log) → ((bytes : List ℕ) → bytes ≡ file_at 0 → LogStandsAt tail_old (with_units log []) bytes)
+      → Leaves (plain_disk file_at).moment (plain_disk file_at).images_since (HoldsFront (with_units log []) (transfer_records ++ [])) 0 1
+  moments log stand = record { later = omega arith; each = each }
     where
       each : (from : ℕ) (bytes : List ℕ) → from ≤ 0 → (moment : ℕ) × (from ≤ moment) × (moment ≤ 1) × (bytes ≡ file_at moment)
-          → ((moment : ℕ) × (from ≤ moment) × (moment ≤ 0) × (bytes ≡ file_at moment)) ⊎ HoldsFront (opening ++ []) (transfer_records ++ []) bytes
+          → ((moment : ℕ) × (from ≤ moment) × (moment ≤ 0) × (bytes ≡ file_at moment)) ⊎ HoldsFront (with_units log []) (transfer_records ++ []) bytes
       each from bytes early (zero, after, before, is) = inl (0, after, omega arith, is)
       each from bytes early (suc moment, after, before, is) = inr (record {
         front = transfer_records;
         rest = [];
         whole = refl;
-        holds = subst (λ (first : List ℕ). HoldsUnits bytes (first ++ units_of transfer_records)) (sym (append-nil opening))
-            (holds tail_new (opening ++ units_of transfer_records) bytes (stands-later opening stand bytes is));
+        holds = subst (λ (first : List ℕ). HoldsLog bytes (record { opening = log.opening; units = first ++ units_of transfer_records })) (sym (append-nil log.units))
+            (stands-later log stand bytes is).held;
       })
 
   -- the batch of the transfer takes 45 bytes, for five units
@@ -387,7 +399,7 @@ module _ (d : Daemon ℕ (List ℕ)) (of : IsOf d.flusher.table.now d.flusher.se
     may_turn = λ fine. may-turn;
     moments = λ honest opening stand. moments opening stand;
     prefix = λ fault honest opening stand. stands-later opening stand;
-    torn = λ honest opening stand bytes is. inl (holds tail_new (opening ++ units_of transfer_records) bytes (stands-later opening stand bytes is));
+    torn = λ honest opening stand bytes is. inl (stands-later opening stand bytes is).held;
     appended = refl;
     front = λ failed. absurd (none≢some WriteFault failed);
     all = λ fault. (refl, refl);

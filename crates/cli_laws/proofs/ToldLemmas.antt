@@ -1,5 +1,5 @@
 -- A `done` line that a run's text has whole is that of a Commit of the list.
-use Rattle.std.proofs.Common.{◌≡◌, ◌⊎◌, inl, inr, ⊎_elim, ◌≤◌, ◌∙◌, sym, refl, ap, subst, subst₂, ℕ, ◌+◌, List, [], ◌∷◌, ◌++◌, Some, Option, append_assoc, length, length-append, drop, drop_at, flat_map, arith}
+use Rattle.std.proofs.Common.{◌≡◌, ◌⊎◌, inl, inr, ⊎_elim, ◌≤◌, ◌∙◌, sym, refl, ap, subst, subst₂, ℕ, ◌+◌, List, [], ◌∷◌, ◌++◌, Some, Option, append_assoc, length, drop, drop_at, flat_map, arith}
 use Rattle.std.specs.List.{AllByRecursion}
 use Rattle.std.specs.Io.KnownBytes.{Appends}
 use Rattle.lsn_space.specs.declared.lsn.TheConstants.{LAST}
@@ -7,13 +7,14 @@ use Rattle.log_disk.specs.Streams.{AppendsPrefix}
 use Rattle.log_disk.specs.declared.disk.LogDisk.{Ghosts}
 use Rattle.log_record.specs.declared.rec.Rec.{Rec}
 use Rattle.log_record.specs.declared.rec.Rec.TheVariants.{Genesis, Update, Commit, Short, Over, Note}
-use Rattle.log_record.specs.LogList.{units_of, end_of, size_of}
+use Rattle.log_record.specs.LogList.{end_of, size_of}
 use Rattle.log_record.specs.Spelling.{IsSpellable}
 use Rattle.log_record.proofs.LogListLemmas.{end_of-cons}
 use Rattle.lock_core.proofs.ListLemmas.{all-split}
+use Rattle.log_recovery.specs.Opened.{OpenedList, list_end, with_records}
 use Rattle.log_recovery.specs.Recovery.{HoldsLawful}
 use Rattle.log_recovery.specs.Text.{lsn_line, account_line, accounts_text}
-use Rattle.log_recovery.proofs.ListingLemmas.{units_of-append}
+use Rattle.log_recovery.proofs.OpenedLemmas.{list_end-more}
 use Rattle.commit_pipeline.specs.EndLines.{done_line, short_line, over_line, end_line, end_lines}
 use Rattle.txn_jobs.specs.Places.{NumberedJobs}
 use Rattle.cli_threads.specs.Sharing.{Sharing}
@@ -31,10 +32,10 @@ account_lines-none balance (account ∷ accounts) txn end has =
     ⊎_elim (done-account txn end account (balance account)) (account_lines-none balance accounts txn end)
     (HasLine-first (account_line account (balance account)) _ (done_line txn end) (account-whole account (balance account)) (done-whole txn end) has)
 
-accounts_text-none : (records : List Rec) (txn end : ℕ) → HasLine (accounts_text records) (done_line txn end) → ⊥
-accounts_text-none records txn end has =
-    ⊎_elim (done-lsn txn end (end_of records)) (account_lines-none _ _ txn end)
-    (HasLine-first (lsn_line (end_of records)) _ (done_line txn end) (lsn-whole (end_of records)) (done-whole txn end) has)
+accounts_text-none : (list : OpenedList) (txn end : ℕ) → HasLine (accounts_text list) (done_line txn end) → ⊥
+accounts_text-none list txn end has =
+    ⊎_elim (done-lsn txn end (list_end list)) (account_lines-none _ _ txn end)
+    (HasLine-first (lsn_line (list_end list)) _ (done_line txn end) (lsn-whole (list_end list)) (done-whole txn end) has)
 
 -- ---- the lines of end records
 
@@ -97,14 +98,13 @@ end_lines-commit at (rec ∷ records) rest txn end each room none has =
 
 -- ---- what was told
 
-pub told-commit : (bytes text rest : List ℕ) (opened front : List Rec) (txn end : ℕ) → HoldsLawful bytes (opened ++ front)
-    → run_text opened front ≡ text ++ rest → HasLine text (done_line txn end) → HasCommitAt (end_of opened) front txn end
+pub told-commit : (bytes text rest : List ℕ) (opened : OpenedList) (front : List Rec) (txn end : ℕ) → HoldsLawful bytes (with_records opened front)
+    → run_text opened front ≡ text ++ rest → HasLine text (done_line txn end) → HasCommitAt (list_end opened) front txn end
 told-commit bytes text rest opened front txn end held whole has =
-    let (batches, shut, file, units) = held.list.holds in
-    let most : end_of (opened ++ front) ≤ LAST = omega (arith, file.total, ap length units) in
-    let sizes = ap length (units_of-append opened front) in
-    end_lines-commit (end_of opened) front (accounts_text (opened ++ front)) txn end (all-split IsSpellable opened front held.list.each).1
-    (omega (arith, length-append (units_of opened) (units_of front))) (accounts_text-none (opened ++ front) txn end)
+    let most : list_end (with_records opened front) ≤ LAST = held.list.holds.reads.total in
+    end_lines-commit (list_end opened) front (accounts_text (with_records opened front)) txn end
+    (all-split IsSpellable opened.records front held.list.each).1 (omega (arith, most, list_end-more opened front))
+    (accounts_text-none (with_records opened front) txn end)
     (subst (λ t. HasLine t (done_line txn end)) (sym whole) (HasLine-append text rest (done_line txn end) has))
 
 -- what a sink has more is a front of the text
@@ -117,9 +117,9 @@ told-front old new before text whole was is (prefix, rest, split, appended) =
     (rest, split ∙ ap (λ t. t ++ rest) (sym same))
 
 module _ {D : Type 0} (g : Ghosts D) where
-  pub image-commit : (opened list : List Rec) (jobs : NumberedJobs) (sharing : Sharing) (old new : Outside D) (image before text : List ℕ)
+  pub image-commit : (opened : OpenedList) (list : List Rec) (jobs : NumberedJobs) (sharing : Sharing) (old new : Outside D) (image before text : List ℕ)
       (txn end : ℕ) → (held : HoldsTold g opened jobs sharing list old new image) → old.text ≡ Some before → new.text ≡ Some (before ++ text)
-      → HasLine text (done_line txn end) → HasCommitAt (end_of opened) held.run.front txn end
+      → HasLine text (done_line txn end) → HasCommitAt (list_end opened) held.run.front txn end
   image-commit opened list jobs sharing old new image before text txn end held was is has =
       let (rest, whole) = told-front old.text new.text before text (run_text opened held.run.front) was is held.told in
       told-commit image text rest opened held.run.front txn end held.run.holds whole has

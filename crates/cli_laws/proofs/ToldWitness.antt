@@ -1,17 +1,17 @@
 -- The `done` line of one transfer is told, and the file holds what was told.
 use Rattle.std.proofs.Common.{◌≢◌, ◌∙◌, inl, refl, sym, ap, [], ◌++◌, append-nil, arith}
 use Rattle.std.specs.List.{AllByRecursion}
-use Rattle.log_record.specs.LogList.{units_of, end_of}
+use Rattle.log_record.specs.LogList.{units_of}
 use Rattle.log_record.specs.Spelling.{IsSpellable}
-use Rattle.lock_core.specs.History.{history}
-use Rattle.lock_core.specs.Lawful.{base_state_of}
 use Rattle.lock_core.specs.Serial.{IsPartlySerialAfter}
 use Rattle.lock_core.specs.Transactions.{recs_of}
 use Rattle.lock_core.specs.Witness.{genesis_log, transfer_records, transfer_history}
 use Rattle.lock_core.proofs.ListLemmas.{all-append}
 use Rattle.lock_core.proofs.SerialFronts.{serial-partly}
 use Rattle.lock_core.proofs.Witnessing.{transfer-lawful, transfer-serial}
+use Rattle.log_recovery.specs.Opened.{list_end, placed, with_records, base_left}
 use Rattle.log_recovery.specs.Text.{accounts_text}
+use Rattle.segment_file.proofs.FirstFormat.{units-log}
 use Rattle.segment_file.proofs.StandingLemmas.{holds}
 use Rattle.commit_pipeline.specs.EndLines.{done_line}
 use Rattle.txn_jobs.specs.Places.{number_at}
@@ -23,38 +23,42 @@ use Rattle.cli_laws.specs.Told.{HasToldPayment}
 use Rattle.cli_threads.proofs.RunHistory.{history-own, history-others}
 use Rattle.cli_threads.proofs.RunLedger.{whole-lawful, goes-on}
 use Rattle.cli_threads.proofs.RunPlaces.{tasks_of}
-use Rattle.cli_laws.proofs.RunWitness.{jobs, shares, tail_new, stands-new, genesis-spellable, transfer-spellable, genesis-lawful}
+use Rattle.cli_laws.proofs.RunWitness.{first_list, jobs, shares, tail_new, stands-new, genesis-spellable, transfer-spellable, genesis-lawful, genesis-range}
 
 spellable : AllByRecursion IsSpellable (genesis_log ++ transfer_records)
 spellable = all-append IsSpellable genesis_log transfer_records genesis-spellable transfer-spellable
 
-serial : IsPartlySerialAfter (base_state_of (history genesis_log)) (tasks_of jobs) transfer_history
-serial = serial-partly (base_state_of (history genesis_log)) (tasks_of jobs) transfer_history transfer-serial
+serial : IsPartlySerialAfter (base_left first_list) (tasks_of jobs) transfer_history
+serial = serial-partly (base_left first_list) (tasks_of jobs) transfer_history transfer-serial
 
 abbrev sharing : Sharing
 sharing = sharing_of 1 shares
 
 -- no transfer but the first has a record
-none_behind : HasNoneBehind jobs sharing (history (genesis_log ++ transfer_records))
-none_behind place behind = history-own genesis_log transfer_records (number_at jobs place) (omega (arith, behind))
-    ∙ ap recs_of (history-others (number_at jobs place) (end_of genesis_log) [] transfer_records (other, (other, (other, tt))) refl)
+none_behind : HasNoneBehind jobs sharing (placed (with_records first_list transfer_records))
+none_behind place behind = history-own first_list transfer_records (number_at jobs place) (omega (arith, behind))
+    ∙ ap recs_of (history-others (number_at jobs place) (list_end first_list) [] transfer_records (other, (other, (other, tt))) refl)
   where
     other : 1 ≢ number_at jobs place
     other same = absurd (omega (arith, same, behind))
 
-in_turn : ComeInTurn jobs sharing (history (genesis_log ++ transfer_records))
+in_turn : ComeInTurn jobs sharing (placed (with_records first_list transfer_records))
 in_turn places i j is-list has has' less recorded = absurd (recorded (none_behind j (omega (arith, less))))
 
-run : HoldsRun genesis_log jobs sharing transfer_records (file_at 1)
+run : HoldsRun first_list jobs sharing transfer_records (file_at 1)
 run = record {
   front = transfer_records;
   rest = [];
   whole = refl;
   holds = record {
-    list = record { each = spellable; holds = holds tail_new (units_of genesis_log ++ units_of transfer_records) (file_at 1) stands-new };
-    lawful = whole-lawful genesis_log transfer_records jobs genesis-lawful (omega arith) (omega arith) spellable transfer-lawful serial;
+    list = record {
+      each = spellable;
+      holds = units-log (file_at 1) (units_of genesis_log ++ units_of transfer_records)
+          (holds tail_new (units_of genesis_log ++ units_of transfer_records) (file_at 1) stands-new);
+    };
+    lawful = whole-lawful first_list transfer_records jobs genesis-lawful genesis-range (omega arith) (omega arith) spellable transfer-lawful serial;
   };
-  goes_on = goes-on genesis_log transfer_records jobs genesis-lawful (omega arith) (omega arith) spellable transfer-lawful serial sharing in_turn
+  goes_on = goes-on first_list transfer_records jobs genesis-lawful genesis-range (omega arith) (omega arith) spellable transfer-lawful serial sharing in_turn
       none_behind;
 }
 
@@ -67,8 +71,8 @@ payment-told = record {
     run = run;
     told = (
       done_line 1 9,
-      accounts_text (genesis_log ++ transfer_records),
-      ap (λ text. text ++ accounts_text (genesis_log ++ transfer_records)) (append-nil (done_line 1 9)),
+      accounts_text (with_records first_list transfer_records),
+      ap (λ text. text ++ accounts_text (with_records first_list transfer_records)) (append-nil (done_line 1 9)),
       refl,
     );
     count = omega arith;

@@ -3,9 +3,9 @@
 use Rattle.std.specs.Prelude.{◌≡◌, ◌≤◌, ℕ, zero, suc, ◌*◌, List, [], ◌∷◌, ◌++◌, Some, None}
 use Rattle.log_disk.specs.declared.disk.LogDisk.{Ghosts}
 use Rattle.log_disk.specs.declared.sink.Sink.{Ghosts as SinkGhosts}
-use Rattle.log_record.specs.declared.rec.Rec.{Rec}
 use Rattle.log_record.specs.LogList.{units_of}
 use Rattle.lock_core.specs.Witness.{genesis_log, transfer_records}
+use Rattle.log_recovery.specs.Opened.{OpenedList, whole_list}
 use Rattle.segment_file.specs.File.{written}
 use Rattle.segment_file.specs.declared.layout.TheConstants.{CLOSED}
 use Rattle.lock_core.specs.declared.job.Job.{Job}
@@ -56,7 +56,7 @@ pub record HasMadePayment (d : Daemon ℕ (List ℕ)) : Type 0 where
   pub new : Daemon ℕ (List ℕ)
   pub view : View
   pub rows : List (ℕ × ℕ)
-  pub known : HasTransferred (plain_disk file_at) plain_sink genesis_log jobs front shares key old new view 9 rows
+  pub known : HasTransferred (plain_disk file_at) plain_sink (whole_list genesis_log) jobs front shares key old new view 9 rows
   pub table : old.flusher.table ≡ d.flusher.table
   pub ring : key.ring ≡ d.flusher.table.now.ring
   pub slots : key.slots ≡ d.flusher.table.now.slots
@@ -69,7 +69,7 @@ pub record HasMadePayment (d : Daemon ℕ (List ℕ)) : Type 0 where
 -- With so many slots each of two workers was cut off at the end of the log in the transfer that it took, and the third was left.
 pub record HasHitLogEnd (slots : ℕ) : Type 0 where
   pub file : List ℕ
-  pub opened : List Rec
+  pub opened : OpenedList
   pub jobs : NumberedJobs
   pub front : ℕ
   pub shares : List Share

@@ -4,6 +4,7 @@ use Rattle.log_record.specs.declared.rec.Rec.{Rec}
 use Rattle.log_record.specs.declared.rec.Rec.TheVariants.{Commit}
 use Rattle.log_record.specs.LogList.{end_of, size_of}
 use Rattle.lock_core.specs.Witness.{genesis_log, transfer_records}
+use Rattle.log_recovery.specs.Opened.{whole_list}
 use Rattle.commit_pipeline.specs.EndLines.{done_line}
 use Rattle.txn_jobs.specs.Places.{NumberedJobs}
 use Rattle.cli_run.specs.RunAnswers.{HoldsTold, outside}
@@ -29,6 +30,6 @@ pub record HasCommitAt (at : ℕ) (records : List Rec) (txn end : ℕ) : Type 0 
 pub record HasToldPayment : Type 0 where
   pub jobs : NumberedJobs
   pub sharing : Sharing
-  pub held : HoldsTold (plain_disk file_at) genesis_log jobs sharing transfer_records (outside 0 None (Some []))
+  pub held : HoldsTold (plain_disk file_at) (whole_list genesis_log) jobs sharing transfer_records (outside 0 None (Some []))
       (outside 1 None (Some (done_line 1 9))) (file_at 1)
   pub line : HasLine (done_line 1 9) (done_line 1 9)

@@ -18,13 +18,13 @@ ghost use Rattle.txn_jobs.specs.Places.{NumberedJobs, number_at};
 ghost use Rattle.txn_jobs.specs.declared.cause.Cause.{Cause};
 ghost use Rattle.txn_jobs.specs.declared.cause.Worked.{Worked};
 ghost use Rattle.commit_pipeline.specs.EndLines.{done_in, done_line, refused_in};
-ghost use Rattle.lock_core.specs.History.{history, history_from};
-ghost use Rattle.lock_core.specs.Lawful.{base_state_of};
+ghost use Rattle.lock_core.specs.History.{history_from};
 ghost use Rattle.lock_core.specs.Serial.{numbered, IsSerialAfter};
 ghost use Rattle.lock_core.specs.Settling.{KeepsRows};
 ghost use Rattle.lock_core.specs.Sums.{BaseState};
 ghost use Rattle.lock_core.specs.Transactions.{own_records_of};
 ghost use Rattle.log_record.specs.LogList.{end_of};
+ghost use Rattle.log_recovery.specs.Opened.{OpenedList, list_end, placed, with_records, base_left};
 ghost use Rattle.log_recovery.specs.Recovery.{HoldsLawful};
 ghost use Rattle.log_recovery.specs.Text.{accounts_text};
 ghost use Rattle.lsn_space.specs.declared.numerals.TheConstants.{MOST_GENERATED};
@@ -32,7 +32,7 @@ ghost use Rattle.txn_script.specs.declared.generator.TheConstants.{GENERATED_ACC
 ghost use Rattle.txn_script.specs.Generator.{generated_balance, generated_transfers, OpensGenerated};
 ghost use Rattle.cli_reports.specs.Answers.{AnswersRecover};
 ghost use Rattle.cli_shared.specs.Answers.{status_of};
-ghost use Rattle.cli_shared.specs.Creation.{genesis_list};
+ghost use Rattle.cli_shared.specs.Creation.{new_list};
 ghost use Rattle.cli_threads.specs.Run.{GoesOn, HoldsRun, RunKeepsLog, RunIsDrained, RunsWhole};
 ghost use Rattle.cli_run.specs.RunAnswers.{Outside, HoldsTold, run_text};
 ghost use Rattle.cli_threads.specs.RunStops.{EndsAs, IsTotalAmong, StopsAtLogEnd};
@@ -50,55 +50,55 @@ use log_disk::{LogDisk, Sink};
 /// A law: `recover` reads what `new` left. It finds no fault in it, and what it writes of it is the text of the new log.
 pub fn new_is_recovered()
     ensures status { (bytes balances : List ℕ) (left old new : Option (List ℕ)) (detail : Detail)
-        → HoldsLawful bytes (genesis_list balances)
+        → HoldsLawful bytes (new_list balances)
         → AnswersRecover bytes left old new detail → status_of detail ≢ 7 }
-    ensures text { (bytes balances : List ℕ) (left old new : Option (List ℕ)) → HoldsLawful bytes (genesis_list balances)
-        → AnswersRecover bytes left old new Detail.Fine → Appends old new (accounts_text (genesis_list balances)) }
+    ensures text { (bytes balances : List ℕ) (left old new : Option (List ℕ)) → HoldsLawful bytes (new_list balances)
+        → AnswersRecover bytes left old new Detail.Fine → Appends old new (accounts_text (new_list balances)) }
 {}
 
 /// A law: `recover` reads what `run` left. It finds no fault in it, and what it writes of it is the text of the opened list and
 /// the front that the bytes hold. So it does where the bytes hold the opened list alone.
 pub fn run_is_recovered()
-    ensures status { (bytes : List ℕ) (records : List Rec) (left old new : Option (List ℕ)) (detail : Detail)
-        → HoldsLawful bytes records → AnswersRecover bytes left old new detail → status_of detail ≢ 7 }
-    ensures text { (bytes : List ℕ) (opened list : List Rec) (jobs : NumberedJobs) (sharing : Sharing) (left old new : Option (List ℕ))
+    ensures status { (bytes : List ℕ) (list : OpenedList) (left old new : Option (List ℕ)) (detail : Detail)
+        → HoldsLawful bytes list → AnswersRecover bytes left old new detail → status_of detail ≢ 7 }
+    ensures text { (bytes : List ℕ) (opened : OpenedList) (list : List Rec) (jobs : NumberedJobs) (sharing : Sharing) (left old new : Option (List ℕ))
         → (held : HoldsRun opened jobs sharing list bytes) → AnswersRecover bytes left old new Detail.Fine
-        → Appends old new (accounts_text (opened ++ held.front)) }
+        → Appends old new (accounts_text (with_records opened held.front)) }
 {}
 
 /// A law: what is known of a run once all seats are gathered is what it promises. Of the records that it inserted, in order,
 /// each image holds a front behind the opened list, and all of them where the log was drained. A stop word that a worker
 /// read is the fault's, and a fault has its reason.
 pub fn run_keeps_log<D: LogDisk, K: Sink>()
-    ensures keeps { (opened : List Rec) (jobs : NumberedJobs) (front : ℕ) (shares : List Share) (key : Start) (old new : Daemon D K)
+    ensures keeps { (opened : OpenedList) (jobs : NumberedJobs) (front : ℕ) (shares : List Share) (key : Start) (old new : Daemon D K)
         (view : View) (lsn : ℕ) (rows : List (ℕ × ℕ)) → HasTransferred D.LogDisk K.Sink opened jobs front shares key old new view lsn rows
         → RunKeepsLog D.LogDisk old.voice opened jobs (sharing_of front shares) (records_of view.entries) old.flusher.tail.at key.ring
         old.flusher.disk.now new.flusher.disk.now
         (K.held_bytes old.sink.now) (K.held_bytes new.sink.now) }
-    ensures drained { (opened : List Rec) (jobs : NumberedJobs) (front : ℕ) (shares : List Share) (key : Start) (old new : Daemon D K)
+    ensures drained { (opened : OpenedList) (jobs : NumberedJobs) (front : ℕ) (shares : List Share) (key : Start) (old new : Daemon D K)
         (view : View) (lsn : ℕ) (rows : List (ℕ × ℕ)) → HasTransferred D.LogDisk K.Sink opened jobs front shares key old new view lsn rows
         → new.fault ≡ None
         → RunIsDrained D.LogDisk old.voice opened (records_of view.entries) old.flusher.tail.at key.ring
         old.flusher.disk.now new.flusher.disk.now
         (K.held_bytes old.sink.now) (K.held_bytes new.sink.now) lsn rows }
-    ensures whole { (opened : List Rec) (jobs : NumberedJobs) (front : ℕ) (shares : List Share) (key : Start) (old new : Daemon D K)
+    ensures whole { (opened : OpenedList) (jobs : NumberedJobs) (front : ℕ) (shares : List Share) (key : Start) (old new : Daemon D K)
         (view : View) (lsn : ℕ) (rows : List (ℕ × ℕ)) → HasTransferred D.LogDisk K.Sink opened jobs front shares key old new view lsn rows
         → AllByRecursion (λ (share : Share). share.worked ≡ Worked.All) shares → RunsWhole opened jobs (records_of view.entries) }
-    ensures log_end { (opened : List Rec) (jobs : NumberedJobs) (front : ℕ) (shares : List Share) (key : Start) (old new : Daemon D K)
+    ensures log_end { (opened : OpenedList) (jobs : NumberedJobs) (front : ℕ) (shares : List Share) (key : Start) (old new : Daemon D K)
         (view : View) (lsn : ℕ) (rows : List (ℕ × ℕ)) → HasTransferred D.LogDisk K.Sink opened jobs front shares key old new view lsn rows
         → new.fault ≡ None
         → (worker : ℕ) (taken : List ℕ) (tail total : ℕ)
         → get_elem? shares worker ≡ some (record { taken = taken; worked = Worked.Cut (Cause.LogEnd tail total) })
         → StopsAtLogEnd opened jobs (sharing_of front shares) (records_of view.entries) key.ring key.slots tail total }
-    ensures stop { (opened : List Rec) (jobs : NumberedJobs) (front : ℕ) (shares : List Share) (key : Start) (old new : Daemon D K)
+    ensures stop { (opened : OpenedList) (jobs : NumberedJobs) (front : ℕ) (shares : List Share) (key : Start) (old new : Daemon D K)
         (view : View) (lsn : ℕ) (rows : List (ℕ × ℕ)) → HasTransferred D.LogDisk K.Sink opened jobs front shares key old new view lsn rows
         → new.fault ≡ None
         → (worker : ℕ) (taken : List ℕ) (word : ℕ)
         → get_elem? shares worker ≡ some (record { taken = taken; worked = Worked.Cut (Cause.Stop word) }) → ⊥ }
-    ensures reason { (opened : List Rec) (jobs : NumberedJobs) (front : ℕ) (shares : List Share) (key : Start) (old new : Daemon D K)
+    ensures reason { (opened : OpenedList) (jobs : NumberedJobs) (front : ℕ) (shares : List Share) (key : Start) (old new : Daemon D K)
         (view : View) (lsn : ℕ) (rows : List (ℕ × ℕ)) → HasTransferred D.LogDisk K.Sink opened jobs front shares key old new view lsn rows
         → HasReason D.LogDisk K.Sink old new }
-    ensures same { (opened : List Rec) (jobs : NumberedJobs) (front : ℕ) (shares : List Share) (key : Start) (old new : Daemon D K)
+    ensures same { (opened : OpenedList) (jobs : NumberedJobs) (front : ℕ) (shares : List Share) (key : Start) (old new : Daemon D K)
         (view : View) (lsn : ℕ) (rows : List (ℕ × ℕ)) → HasTransferred D.LogDisk K.Sink opened jobs front shares key old new view lsn rows
         → IsSameDaemon D.LogDisk old new }
 {}
@@ -107,12 +107,12 @@ pub fn run_keeps_log<D: LogDisk, K: Sink>()
 /// run leaves: `unended`. With one worker each one before another that has a record has its end record, so that they end in
 /// the script's order: `one_worker`.
 pub fn transfers_come_in_turn()
-    ensures unended { (opened records : List Rec) (jobs : NumberedJobs) (sharing : Sharing) (workers : ℕ) (places : List ℕ)
-        → GoesOn opened jobs sharing records → IsSharedOut workers jobs sharing → ((place : ℕ) → times place places ≤ 1)
-        → AllByRecursion (IsUnended jobs (history records)) places → length places ≤ workers }
-    ensures one_worker { (opened records : List Rec) (jobs : NumberedJobs) (sharing : Sharing) → GoesOn opened jobs sharing records
-        → IsSharedOut 1 jobs sharing → (i j : ℕ) → i < j → own_records_of (number_at jobs j) (history records) ≢ []
-        → EndsAs jobs i (history records) true }
+    ensures unended { (opened list : OpenedList) (jobs : NumberedJobs) (sharing : Sharing) (workers : ℕ) (places : List ℕ)
+        → GoesOn opened jobs sharing list → IsSharedOut workers jobs sharing → ((place : ℕ) → times place places ≤ 1)
+        → AllByRecursion (IsUnended jobs (placed list)) places → length places ≤ workers }
+    ensures one_worker { (opened list : OpenedList) (jobs : NumberedJobs) (sharing : Sharing) → GoesOn opened jobs sharing list
+        → IsSharedOut 1 jobs sharing → (i j : ℕ) → i < j → own_records_of (number_at jobs j) (placed list) ≢ []
+        → EndsAs jobs i (placed list) true }
 {}
 
 /// A law: the total that is told at the end of the log is the record's own size where there are no slots, and with one worker. It is
@@ -130,11 +130,12 @@ pub fn total_at_the_log_end()
 /// A law: a `done` line that was written whole is of a Commit in the list of each image, which ends at the LSN of the line.
 /// `text` says so of a front of the text of an image's list, `image` of what a run told its sink. One transfer was told: `met`.
 pub fn told_commits_are_held<D: LogDisk>()
-    ensures text { (bytes text rest : List ℕ) (opened front : List Rec) (txn end : ℕ) → HoldsLawful bytes (opened ++ front)
-        → run_text opened front ≡ text ++ rest → HasLine text (done_line txn end) → HasCommitAt (end_of opened) front txn end }
-    ensures image { (opened list : List Rec) (jobs : NumberedJobs) (sharing : Sharing) (old new : Outside D) (image before text : List ℕ)
+    ensures text { (bytes text rest : List ℕ) (opened : OpenedList) (front : List Rec) (txn end : ℕ)
+        → HoldsLawful bytes (with_records opened front)
+        → run_text opened front ≡ text ++ rest → HasLine text (done_line txn end) → HasCommitAt (list_end opened) front txn end }
+    ensures image { (opened : OpenedList) (list : List Rec) (jobs : NumberedJobs) (sharing : Sharing) (old new : Outside D) (image before text : List ℕ)
         (txn end : ℕ) → (held : HoldsTold D.LogDisk opened jobs sharing list old new image) → old.text ≡ Some before
-        → new.text ≡ Some (before ++ text) → HasLine text (done_line txn end) → HasCommitAt (end_of opened) held.run.front txn end }
+        → new.text ≡ Some (before ++ text) → HasLine text (done_line txn end) → HasCommitAt (list_end opened) held.run.front txn end }
     ensures met { HasToldPayment }
 {}
 
@@ -154,8 +155,8 @@ pub fn summary_in_any_order()
         → KeepsRows rows base (history_from base.end [] records)
         → summary_of (record { transfers = n; done = done_in records; refused = refused_in records; lsn = base.end + end_of records }) rows
         ≡ summary_text n seed }
-    ensures opening { OpensGenerated (base_state_of (history generated_opening)) }
-    ensures start { (base_state_of (history generated_opening)).end ≡ 2 * GENERATED_ACCOUNTS }
+    ensures opening { OpensGenerated (base_left generated_opening) }
+    ensures start { (base_left generated_opening).end ≡ 2 * GENERATED_ACCOUNTS }
 {}
 
 /// Mixes that were reckoned by hand.

@@ -10,21 +10,19 @@ use Rattle.log_disk.specs.Lengths.{GrowsAtMostTo}
 use Rattle.log_disk.specs.declared.disk.LogDisk.{Ghosts}
 use Rattle.log_disk.proofs.Moments.{Leaves-trans, Leaves-weaken}
 use Rattle.log_record.specs.declared.limits.TheConstants.{LAST_TXN}
-use Rattle.log_record.specs.declared.rec.Rec.{Rec}
-use Rattle.lock_core.specs.History.{history}
-use Rattle.lock_core.specs.Lawful.{genesis_of}
 use Rattle.lock_core.specs.Sums.{ShowsAccounts}
 use Rattle.log_recovery.specs.declared.recovery.RecoverFault.TheVariants as fault
+use Rattle.log_recovery.specs.Opened.{OpenedList, log_of, placed, base_in}
 use Rattle.log_recovery.specs.Recovery.{HoldsLawful, IsFaultOf}
+use Rattle.log_recovery.proofs.OpenedLemmas.{list-range, some-accounts}
 use Rattle.cli_shared.specs.Opening.{most_calls}
 use Rattle.cli_shared.specs.declared.report.Detail.{Detail}
-use Rattle.cli_shared.specs.declared.report.Detail.TheVariants.{Fine, NoMemory, Usage, Script, Read, Write, Disk, NotALog, BadBatch, BadRec, Unlawful, LogEnd, TxnEnd, Exists}
-use Rattle.log_record.specs.LogList.{units_of}
+use Rattle.cli_shared.specs.declared.report.Detail.TheVariants.{Fine, NoMemory, Usage, Script, Read, Write, Disk, NotALog, BadSnapshot, BadBatch, BadRec, Unlawful, LogEnd, TxnEnd, Exists}
 use Rattle.log_recovery.specs.declared.recovery.Recovered.{Recovered}
 use Rattle.log_table.specs.Seats.{key_of}
 use Rattle.segment_file.specs.declared.scan_result.Tail.{Tail}
-use Rattle.segment_file.specs.File.{HoldsUnits}
-use Rattle.segment_file.specs.Standing.{AllStand, IsShut, StandsAt}
+use Rattle.segment_file.specs.Log.{HoldsLog}
+use Rattle.segment_file.specs.Standing.{LogStands, IsShut, LogStandsAt}
 use Rattle.lock_core.specs.declared.job.Job.{Job}
 use Rattle.job_queue.specs.Passes.{jobs_of}
 use Rattle.cli_threads.specs.declared.transfers.Prepared.{Prepared}
@@ -33,7 +31,6 @@ use Rattle.cli_run.specs.RunAnswers.{AnswersRun, AreAsked, OnlyReads, OnlySettle
 use Rattle.cli_run.specs.RunReady.{IsPreparedFor}
 use Rattle.cli_shared.specs.Scripts.{HasNoScript, HasNoTransfers, IsWholeScript}
 use Rattle.cli_threads.specs.Transferred.{IsOpened}
-use Rattle.cli_run.proofs.OpenedAccounts.{some-accounts}
 
 pub keeps-refl : (text : Option (List ℕ)) → Keeps text text
 keeps-refl None = tt
@@ -63,6 +60,7 @@ module _ {D : Type 0} (g : Ghosts D) (old mid : D) where
       pub answers-opening : (detail : Detail) → HasOpeningFault g old detail → g.honest old
           → AnswersRun g options (outside old left text) (outside mid left_new text) detail
       answers-opening NotALog has honest = (only-reads, subst (λ bytes. IsFaultOf bytes fault.NotALog) (has.1 honest) has.2)
+      answers-opening BadSnapshot has honest = (only-reads, subst (λ bytes. IsFaultOf bytes fault.BadSnapshot) (has.1 honest) has.2)
       answers-opening (BadBatch offset) has honest = (only-reads, subst (λ bytes. IsFaultOf bytes (fault.BadBatch offset)) (has.1 honest) has.2)
       answers-opening (BadRec lsn) has honest = (only-reads, subst (λ bytes. IsFaultOf bytes (fault.BadRec lsn)) (has.1 honest) has.2)
       answers-opening (Unlawful lsn why) has honest = (only-reads, subst (λ bytes. IsFaultOf bytes (fault.Unlawful lsn why)) (has.1 honest) has.2)
@@ -78,7 +76,7 @@ module _ {D : Type 0} (g : Ghosts D) (old mid : D) where
       answers-opening Exists has honest = absurd has.2
 
       -- the input is no script
-      pub answers-script : (opened : List Rec) (detail : Detail) → HoldsLawful (g.reads old) opened
+      pub answers-script : (opened : OpenedList) (detail : Detail) → HoldsLawful (g.reads old) opened
           → HasNoScript (accounts_of opened) left left_new detail → AnswersRun g options (outside old left text) (outside mid left_new text) detail
       answers-script opened (Script line) held has = (only-reads, (opened, held, has))
       answers-script opened Read held has = only-reads
@@ -88,6 +86,7 @@ module _ {D : Type 0} (g : Ghosts D) (old mid : D) where
       answers-script opened Write held has = absurd has
       answers-script opened Disk held has = absurd has
       answers-script opened NotALog held has = absurd has
+      answers-script opened BadSnapshot held has = absurd has
       answers-script opened (BadBatch offset) held has = absurd has
       answers-script opened (BadRec lsn) held has = absurd has
       answers-script opened (Unlawful lsn why) held has = absurd has
@@ -96,25 +95,25 @@ module _ {D : Type 0} (g : Ghosts D) (old mid : D) where
       answers-script opened Exists held has = absurd has
 
 module _ {D : Type 0} (g : Ghosts D) (old mid : D) (opened : Recovered) (opens : Opens g opened old mid) where
-  abbrev pub records : List Rec
-  records = opens.recovers.records
+  abbrev pub list : OpenedList
+  list = opens.recovers.list
 
-  pub held-read : g.honest old → HoldsLawful (g.reads old) records
-  held-read honest = subst (λ bytes. HoldsLawful bytes records) (opens.read honest) opens.recovers.held
+  pub held-read : g.honest old → HoldsLawful (g.reads old) list
+  held-read honest = subst (λ bytes. HoldsLawful bytes list) (opens.read honest) opens.recovers.held
 
-  -- what holds the units of the opened list holds the list
-  holds-opened : (bytes : List ℕ) → HoldsUnits bytes (units_of records) → HoldsLawful bytes records
+  -- what holds the units of the opened list, behind what stands before them, holds the list
+  holds-opened : (bytes : List ℕ) → HoldsLog bytes (log_of list) → HoldsLawful bytes list
   holds-opened bytes held =
       record { list = record { each = opens.recovers.held.list.each; holds = held }; lawful = opens.recovers.held.lawful }
 
   -- and the disk as it was settled
-  module _ (new : D) (reads : Reads g old mid) (moments : Leaves g.moment g.images_since (λ c. HoldsUnits c (units_of records)) mid new)
+  module _ (new : D) (reads : Reads g old mid) (moments : Leaves g.moment g.images_since (λ c. HoldsLog c (log_of list)) mid new)
       (count : Costs g 2 3 mid new) where
-    pub leaves-settled : Leaves g.moment g.images_since (λ bytes. g.images old bytes ⊎ HoldsLawful bytes records) old new
-    leaves-settled = Leaves-trans g.moment g.images_since (λ bytes. g.images old bytes ⊎ HoldsLawful bytes records) old mid new
-        (Leaves-weaken g.moment g.images_since (g.images old) (λ bytes. g.images old bytes ⊎ HoldsLawful bytes records) old mid
+    pub leaves-settled : Leaves g.moment g.images_since (λ bytes. g.images old bytes ⊎ HoldsLawful bytes list) old new
+    leaves-settled = Leaves-trans g.moment g.images_since (λ bytes. g.images old bytes ⊎ HoldsLawful bytes list) old mid new
+        (Leaves-weaken g.moment g.images_since (g.images old) (λ bytes. g.images old bytes ⊎ HoldsLawful bytes list) old mid
         (λ bytes image. inl image) reads.1)
-        (Leaves-weaken g.moment g.images_since (λ c. HoldsUnits c (units_of records)) (λ bytes. g.images old bytes ⊎ HoldsLawful bytes records)
+        (Leaves-weaken g.moment g.images_since (λ c. HoldsLog c (log_of list)) (λ bytes. g.images old bytes ⊎ HoldsLawful bytes list)
         mid new (λ bytes held. inr (holds-opened bytes held)) moments)
 
     pub count-settled : Costs g 3 (most_calls g old + 3) old new
@@ -124,18 +123,18 @@ module _ {D : Type 0} (g : Ghosts D) (old mid : D) (opened : Recovered) (opens :
     grows-settled grows = GrowsAtMostTo-trans g (opened.tail.at + 1) old mid new (GrowsAtMostTo-same g (opened.tail.at + 1) old mid reads.0) grows
 
     -- the file that a read gave goes on at the tail
-    pub stands-read : g.honest old → g.images mid (g.reads mid) → StandsAt opened.tail (units_of records) (g.reads old)
-    stands-read honest image = subst (StandsAt opened.tail (units_of records)) reads.0 (opens.stand honest (g.reads mid) image)
+    pub stands-read : g.honest old → g.images mid (g.reads mid) → LogStandsAt opened.tail (log_of list) (g.reads old)
+    stands-read honest image = subst (LogStandsAt opened.tail (log_of list)) reads.0 (opens.stand honest (g.reads mid) image)
 
     pub settles : g.honest old → g.images mid (g.reads mid) → GrowsAtMostTo g (opened.tail.at + 1) mid new → (left left_new text : Option (List ℕ))
         → OnlySettles g (outside old left text) (outside new left_new text)
     settles honest image grows left left_new text = record {
       silent = keeps-refl text;
-      images = Leaves-weaken g.moment g.images_since (λ bytes. g.images old bytes ⊎ HoldsLawful bytes records)
+      images = Leaves-weaken g.moment g.images_since (λ bytes. g.images old bytes ⊎ HoldsLawful bytes list)
           (λ bytes. g.images old bytes ⊎ HoldsAsRead g old bytes) old new
-          (λ bytes. ⊎_elim (λ image. inl image) (λ held. inr (records, held-read honest, held))) leaves-settled;
+          (λ bytes. ⊎_elim (λ image. inl image) (λ held. inr (list, held-read honest, held))) leaves-settled;
       count = count-settled;
-      grows = inr (opened.tail, units_of records, stands-read honest image, grows-settled grows);
+      grows = inr (opened.tail, log_of list, stands-read honest image, grows-settled grows);
     }
 
   -- the input gives no transfers that have numbers
@@ -143,13 +142,13 @@ module _ {D : Type 0} (g : Ghosts D) (old mid : D) (opened : Recovered) (opens :
       → HasNoTransfers (length opened.accounts.rows) opened.next_txn left left_new detail
       → AnswersRun g options (outside old left text) (outside mid left_new text) detail
   answers-transfers reads honest options left left_new text detail (inl none) =
-      answers-script g old mid reads left left_new text options records detail (held-read honest)
+      answers-script g old mid reads left left_new text options list detail (held-read honest)
       (subst (λ n. HasNoScript n left left_new detail) opens.recovers.accounts.count none)
   answers-transfers reads honest options left left_new text detail (inr end) =
       subst (AnswersRun g options (outside old left text) (outside mid left_new text)) (sym end.detail_is) (
         only-reads g old mid reads left left_new text,
         record {
-          opened = records;
+          opened = list;
           held = held-read honest;
           jobs = end.jobs;
           script = subst (λ n. IsWholeScript n left left_new end.jobs) opens.recovers.accounts.count end.script;
@@ -161,30 +160,31 @@ module _ {D : Type 0} (g : Ghosts D) (old mid : D) (opened : Recovered) (opens :
 
   module _ (options : RunOptions) (script : List Job) (prepared : Prepared) (is : IsPreparedFor options opened script prepared) where
     pub asked-prepared : (left left_new : Option (List ℕ)) → IsWholeScript (length opened.accounts.rows) left left_new script
-        → opened.next_txn + length script ≤ LAST_TXN → AreAsked records left left_new (jobs_of prepared.jobs.queue)
+        → opened.next_txn + length script ≤ LAST_TXN → AreAsked list left left_new (jobs_of prepared.jobs.queue)
     asked-prepared left left_new whole fits =
-        let same : length opened.accounts.rows ≡ accounts_of records = opens.recovers.accounts.count in
-        let first : prepared.jobs.queue.first ≡ next_txn records = is.first ∙ opens.recovers.next_txn in
+        let same : length opened.accounts.rows ≡ accounts_of list = opens.recovers.accounts.count in
+        let first : prepared.jobs.queue.first ≡ next_txn list = is.first ∙ opens.recovers.next_txn in
         record {
-          script = subst (λ (jobs : List Job). IsWholeScript (accounts_of records) left left_new jobs) (sym is.script_is)
+          script = subst (λ (jobs : List Job). IsWholeScript (accounts_of list) left left_new jobs) (sym is.script_is)
               (subst (λ n. IsWholeScript n left left_new script) same whole);
           first = first;
           numbered = omega (arith, is.first, ap length is.script_is, fits);
         }
 
     pub opened-prepared : (new : D) (tail : Tail) → tail ≡ opened.tail
-        → (g.honest old → AllStand opened.tail (units_of records) (g.images new)) → (g.honest old → IsShut opened.tail.at (g.images new))
-        → (g.honest new → g.honest old) → IsOpened g new tail records prepared.jobs.queue.first (key_of prepared.table)
+        → (g.honest old → LogStands opened.tail (log_of list) (g.images new)) → (g.honest old → IsShut opened.tail.at (g.images new))
+        → (g.honest new → g.honest old) → IsOpened g new tail list prepared.jobs.queue.first (key_of prepared.table)
     opened-prepared new tail same stand shut honest = record {
       spellable = opens.recovers.held.list.each;
       lawful = opens.recovers.held.lawful;
-      some_accounts = some-accounts opens.bytes opened opens.recovers;
+      range = list-range opens.bytes list opens.recovers.held.list.holds;
+      some_accounts = some-accounts opens.bytes list opens.recovers.held;
       below = omega (arith, is.first, opens.recovers.next_txn);
-      stand = λ is_honest. subst (λ t. AllStand t (units_of records) (g.images new)) (sym same) (stand (honest is_honest));
+      stand = λ is_honest. subst (λ t. LogStands t (log_of list) (g.images new)) (sym same) (stand (honest is_honest));
       shut = λ is_honest. subst (λ (t : Tail). IsShut t.at (g.images new)) (sym same) (shut (honest is_honest));
-      next = ap (λ (t : Tail). t.next) same ∙ opens.recovers.next;
+      next = ap (λ (t : Tail). t.next) same ∙ opens.recovers.stands.next;
       place = let at : tail.at ≡ opened.tail.at = ap (λ (t : Tail). t.at) same in omega (arith, at, opens.place);
       start = is.start ∙ opens.recovers.lsn;
-      accounts = subst (λ rows. ShowsAccounts rows (genesis_of (history records)) (history records)) (sym (λ i. (is.accounts i).rows))
+      accounts = subst (λ rows. ShowsAccounts rows (base_in list) (placed list)) (sym (λ i. (is.accounts i).rows))
           opens.recovers.accounts;
     }

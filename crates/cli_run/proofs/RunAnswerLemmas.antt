@@ -14,9 +14,8 @@ use Rattle.log_disk.specs.declared.disk.LogDisk.{Ghosts}
 use Rattle.log_disk.specs.declared.sink.Sink.{Ghosts as SinkGhosts}
 use Rattle.log_record.specs.declared.rec.Rec.{Rec}
 use Rattle.log_record.specs.LogList.{end_of}
-use Rattle.lock_core.specs.History.{history}
-use Rattle.lock_core.specs.Lawful.{genesis_of}
 use Rattle.lock_core.specs.Sums.{balance_of}
+use Rattle.log_recovery.specs.Opened.{OpenedList, list_end, placed, with_records, base_in}
 use Rattle.log_recovery.specs.Text.{account_lines, accounts_text, lsn_line, rows_text}
 use Rattle.log_recovery.proofs.TextLemmas.{AppendsPart-behind, AppendsPrefix-first, AppendsPrefix-behind, lsn_line-some}
 use Rattle.log_table.specs.Seats.{key_of}
@@ -27,7 +26,7 @@ use Rattle.commit_pipeline.specs.EndLines.{end_lines}
 use Rattle.end_lines.specs.declared.voice.Voice.TheVariants.{Lines}
 use Rattle.cli_shared.specs.Opening.{most_calls}
 use Rattle.cli_shared.specs.declared.report.Detail.{Detail}
-use Rattle.cli_shared.specs.declared.report.Detail.TheVariants.{Fine, NoMemory, Usage, Script, Read, Write, Disk, NotALog, BadBatch, BadRec, Unlawful, LogEnd, TxnEnd, Exists}
+use Rattle.cli_shared.specs.declared.report.Detail.TheVariants.{Fine, NoMemory, Usage, Script, Read, Write, Disk, NotALog, BadSnapshot, BadBatch, BadRec, Unlawful, LogEnd, TxnEnd, Exists}
 use Rattle.cli_threads.specs.declared.transfers.ReadyRun.{ReadyRun}
 use Rattle.cli_ending.specs.declared.conclusion.Ended.{Ended}
 use Rattle.cli_ending.specs.Ending.{Concludes, closed_text}
@@ -42,16 +41,15 @@ use Rattle.cli_threads.proofs.EndingLemmas.{by-conclusion, list, sharing, keeps-
 use Rattle.cli_threads.proofs.RunBegun.{images-begun}
 
 -- the accounts text begins with the end of the list
-accounts_text-some : (records : List Rec) → 0 < length (accounts_text records)
-accounts_text-some records =
-    let h = history records in
-    let lines = account_lines (balance_of (genesis_of h) h) (genesis_of h).accounts in
-    omega (arith, length-append (lsn_line (end_of records)) lines, lsn_line-some (end_of records))
+accounts_text-some : (list : OpenedList) → 0 < length (accounts_text list)
+accounts_text-some list =
+    let lines = account_lines (balance_of (base_in list) (placed list)) (base_in list).accounts in
+    omega (arith, length-append (lsn_line (list_end list)) lines, lsn_line-some (list_end list))
 
 module _ {D : Type 0} {K : Type 0} (g : Ghosts D) (h : SinkGhosts K) (options : RunOptions) (ready : ReadyRun) {wait : Bool} (entry disk disk_new : D)
     (left left_new : Option (List ℕ)) (sink sink_mid sink_new : K) (ended : Ended) (is : IsReadyFor g options entry disk left left_new ready)
     (has : HasEnded g h ready.prepared is.opened ready.tail Lines wait disk disk_new sink sink_mid ended) (honest : g.honest entry) (honest_mid : g.honest disk) where
-  abbrev opened : List Rec
+  abbrev opened : OpenedList
   opened = is.opened
 
   abbrev jobs : NumberedJobs
@@ -74,7 +72,7 @@ module _ {D : Type 0} {K : Type 0} (g : Ghosts D) (h : SinkGhosts K) (options : 
   images-ran = images-begun g disk ready.tail opened jobs taken _ is.log records (g.images entry) entry disk_new (is.images honest)
       ((keeps-ended g h ready.prepared opened Lines disk disk_new sink sink_mid ended has).moments honest_mid)
 
-  goes_on-ran : GoesOn opened jobs taken (opened ++ records)
+  goes_on-ran : GoesOn opened jobs taken (with_records opened records)
   goes_on-ran = (keeps-ended g h ready.prepared opened Lines disk disk_new sink sink_mid ended has).goes_on
 
   -- the file was settled first, and then grew as the transfers let it
@@ -116,7 +114,7 @@ module _ {D : Type 0} {K : Type 0} (g : Ghosts D) (h : SinkGhosts K) (options : 
         run = kept.run;
         told = subst (λ text. AppendsPrefix (h.held_bytes sink) text (run_text opened kept.run.front)) (sym (ap h.held_bytes same))
             (AppendsPrefix-first (h.held_bytes sink) (h.held_bytes sink_mid) (run_text opened kept.run.front)
-            (end_lines (end_of opened) kept.run.front) (accounts_text (opened ++ kept.run.front)) kept.text refl);
+            (end_lines (list_end opened) kept.run.front) (accounts_text (with_records opened kept.run.front)) kept.text refl);
         count = Costs-more g _ _ _ _ entry disk_new (omega arith) (omega arith)
             (Costs-then g 3 (4 * length kept.run.front + 4) (most_calls g entry + 3) (4 * length kept.run.front + 4) entry disk disk_new count kept.count);
       })
@@ -124,14 +122,14 @@ module _ {D : Type 0} {K : Type 0} (g : Ghosts D) (h : SinkGhosts K) (options : 
       ((keeps-ended g h ready.prepared opened Lines disk disk_new sink sink_mid ended has).left honest_mid image left_image).grows)
 
   -- the lines of a list are never all of its text
-  lines-short : (texts texts_new : Option (List ℕ)) (list : List Rec) → AppendsPrefix texts texts_new (end_lines (end_of opened) list)
+  lines-short : (texts texts_new : Option (List ℕ)) (list : List Rec) → AppendsPrefix texts texts_new (end_lines (list_end opened) list)
       → AppendsPart texts texts_new (run_text opened list)
   lines-short texts texts_new list written = (
     written.0,
-    written.1 ++ accounts_text (opened ++ list),
-    ap (λ lines. lines ++ accounts_text (opened ++ list)) written.2 ∙ append_assoc written.0 written.1 (accounts_text (opened ++ list)),
+    written.1 ++ accounts_text (with_records opened list),
+    ap (λ lines. lines ++ accounts_text (with_records opened list)) written.2 ∙ append_assoc written.0 written.1 (accounts_text (with_records opened list)),
     written.3,
-    omega (arith, length-append written.1 (accounts_text (opened ++ list)), accounts_text-some (opened ++ list)),
+    omega (arith, length-append written.1 (accounts_text (with_records opened list)), accounts_text-some (with_records opened list)),
   )
 
   -- and not all of its text
@@ -175,14 +173,14 @@ module _ {D : Type 0} {K : Type 0} (g : Ghosts D) (h : SinkGhosts K) (options : 
     told-part : AppendsPart (h.held_bytes sink_mid) (h.held_bytes sink_new) (rows_text ended.closed.tail ended.closed.accounts.rows)
         → AppendsPrefix (h.held_bytes sink) (h.held_bytes sink_new) (run_text opened records)
     told-part text = AppendsPrefix-behind (h.held_bytes sink) (h.held_bytes sink_mid) (h.held_bytes sink_new) (run_text opened records)
-        (end_lines (end_of opened) records) (accounts_text (opened ++ records)) [] drained.text
+        (end_lines (list_end opened) records) (accounts_text (with_records opened records)) [] drained.text
         (rw (← drained.accounts) (AppendsPart-prefix _ _ _ text))
         (sym (append-nil (run_text opened records)))
 
     told-short : AppendsPart (h.held_bytes sink_mid) (h.held_bytes sink_new) (rows_text ended.closed.tail ended.closed.accounts.rows)
         → AppendsPart (h.held_bytes sink) (h.held_bytes sink_new) (run_text opened records)
     told-short text = AppendsPart-behind (h.held_bytes sink) (h.held_bytes sink_mid) (h.held_bytes sink_new) (run_text opened records)
-        (end_lines (end_of opened) records) (accounts_text (opened ++ records)) [] drained.text (rw (← drained.accounts) text)
+        (end_lines (list_end opened) records) (accounts_text (with_records opened records)) [] drained.text (rw (← drained.accounts) text)
         (sym (append-nil (run_text opened records)))
 
     ran-short : AppendsPart (h.held_bytes sink_mid) (h.held_bytes sink_new) (rows_text ended.closed.tail ended.closed.accounts.rows)
@@ -191,11 +189,11 @@ module _ {D : Type 0} {K : Type 0} (g : Ghosts D) (h : SinkGhosts K) (options : 
 
     told-whole : Appends (h.held_bytes sink_mid) (h.held_bytes sink_new) (rows_text ended.closed.tail ended.closed.accounts.rows)
         → Appends (h.held_bytes sink) (h.held_bytes sink_new) (run_text opened records)
-    told-whole text = Appends-trans (h.held_bytes sink) (h.held_bytes sink_mid) (h.held_bytes sink_new) (end_lines (end_of opened) records)
-        (accounts_text (opened ++ records)) drained.text (rw (← drained.accounts) text)
+    told-whole text = Appends-trans (h.held_bytes sink) (h.held_bytes sink_mid) (h.held_bytes sink_new) (end_lines (list_end opened) records)
+        (accounts_text (with_records opened records)) drained.text (rw (← drained.accounts) text)
 
-    told-lines : sink_new ≡ sink_mid → Appends (h.held_bytes sink) (h.held_bytes sink_new) (end_lines (end_of opened) records)
-    told-lines same = subst (λ text. Appends (h.held_bytes sink) text (end_lines (end_of opened) records)) (sym (ap h.held_bytes same)) drained.text
+    told-lines : sink_new ≡ sink_mid → Appends (h.held_bytes sink) (h.held_bytes sink_new) (end_lines (list_end opened) records)
+    told-lines same = subst (λ text. Appends (h.held_bytes sink) text (end_lines (list_end opened) records)) (sym (ap h.held_bytes same)) drained.text
 
   pub answers-concluded : (detail : Detail) → Concludes h ended (closed_text ended) sink_mid sink_new detail → AnswersRun g options old new detail
   answers-concluded = by-conclusion h ended (closed_text ended) sink_mid sink_new (AnswersRun g options old new) (λ said. inr (ran-failed said.1))
@@ -206,7 +204,7 @@ module _ {D : Type 0} {K : Type 0} (g : Ghosts D) (h : SinkGhosts K) (options : 
         text = text;
       })
       (λ tail total said. let text = told-lines said.0.0 said.1 in record {
-        out = out said.0.0 (end_lines (end_of opened) records, accounts_text (opened ++ records), refl, text);
+        out = out said.0.0 (end_lines (list_end opened) records, accounts_text (with_records opened records), refl, text);
         stops = subst (λ (made : ℕ × ℕ). StopsAtLogEnd opened jobs taken records made.0 made.1 tail total) (λ i. (is.ring i, is.slots i))
             (stops-ended g h ready.prepared opened Lines disk disk_new sink sink_mid ended has said.0.0 tail total said.0.1);
         text = text;
@@ -221,6 +219,7 @@ range-before (Script line) before = tt
 range-before Read before = tt
 range-before Disk before = tt
 range-before NotALog before = tt
+range-before BadSnapshot before = tt
 range-before (BadBatch offset) before = tt
 range-before (BadRec lsn) before = tt
 range-before (Unlawful lsn why) before = tt
@@ -237,6 +236,7 @@ silent-before text (Script line) before = keeps-refl text
 silent-before text Read before = keeps-refl text
 silent-before text Disk before = tt
 silent-before text NotALog before = keeps-refl text
+silent-before text BadSnapshot before = keeps-refl text
 silent-before text (BadBatch offset) before = keeps-refl text
 silent-before text (BadRec lsn) before = keeps-refl text
 silent-before text (Unlawful lsn why) before = keeps-refl text

@@ -9,21 +9,20 @@ use Rattle.log_disk.specs.Streams.{AppendsPart, AppendsPrefix}
 use Rattle.log_disk.specs.declared.disk.LogDisk.{Ghosts}
 use Rattle.log_record.specs.declared.limits.TheConstants.{LAST_TXN}
 use Rattle.log_record.specs.declared.rec.Rec.{Rec}
-use Rattle.log_record.specs.LogList.{end_of, units_of}
+use Rattle.log_record.specs.LogList.{end_of}
 use Rattle.segment_file.specs.Lengths.{most_end}
-use Rattle.segment_file.specs.Standing.{StandsAt}
+use Rattle.segment_file.specs.Log.{Log}
+use Rattle.segment_file.specs.Standing.{LogStandsAt}
 use Rattle.segment_file.specs.declared.scan_result.Tail.{Tail}
-use Rattle.lock_core.specs.History.{history}
-use Rattle.lock_core.specs.Lawful.{genesis_of}
-use Rattle.lock_core.specs.Sums.{greatest_txn}
 use Rattle.log_recovery.specs.declared.recovery.RecoverFault.TheVariants as fault
+use Rattle.log_recovery.specs.Opened.{OpenedList, log_of, list_end, with_records, base_in, opening_left}
 use Rattle.log_recovery.specs.Recovery.{HoldsLawful, IsFaultOf}
 use Rattle.log_recovery.specs.Text.{accounts_text}
 use Rattle.commit_pipeline.specs.EndLines.{end_lines}
 use Rattle.txn_jobs.specs.Places.{NumberedJobs}
 use Rattle.lock_core.specs.declared.job.Job.{Job}
 use Rattle.cli_shared.specs.declared.report.Detail.{Detail}
-use Rattle.cli_shared.specs.declared.report.Detail.TheVariants.{Fine, NoMemory, Usage, Script, Read, Write, Disk, NotALog, BadBatch, BadRec, Unlawful, LogEnd, TxnEnd, Exists}
+use Rattle.cli_shared.specs.declared.report.Detail.TheVariants.{Fine, NoMemory, Usage, Script, Read, Write, Disk, NotALog, BadSnapshot, BadBatch, BadRec, Unlawful, LogEnd, TxnEnd, Exists}
 use Rattle.cli_threads.specs.Run.{HoldsRun, GoesOn, RunsWhole}
 use Rattle.cli_threads.specs.RunStops.{StopsAtLogEnd}
 use Rattle.cli_threads.specs.Sharing.{Sharing, IsSharedOut}
@@ -31,16 +30,16 @@ use Rattle.cli_shared.specs.Scripts.{IsWholeScript, HasNoScript}
 use Rattle.cli_shared.specs.Opening.{OnlyLooks, most_calls}
 
 -- the number of accounts of a list
-abbrev pub accounts_of : List Rec → ℕ
-accounts_of records = (genesis_of (history records)).accounts
+abbrev pub accounts_of : OpenedList → ℕ
+accounts_of list = (base_in list).accounts
 
--- the first transaction number that the list leaves
-abbrev pub next_txn : List Rec → ℕ
-next_txn records = greatest_txn (history records) + 1
+-- the first transaction number that the list, with what stands before it, leaves
+abbrev pub next_txn : OpenedList → ℕ
+next_txn list = (opening_left list).txn + 1
 
 -- the lines of all end records behind the opened list, and then the accounts text of the whole list
-abbrev pub run_text : List Rec → List Rec → List ℕ
-run_text opened list = end_lines (end_of opened) list ++ accounts_text (opened ++ list)
+abbrev pub run_text : OpenedList → List Rec → List ℕ
+run_text opened list = end_lines (list_end opened) list ++ accounts_text (with_records opened list)
 
 -- what is outside: the disk, what the input has left, and what is known of the output
 pub record Outside (D : Type 0) : Type 0 where
@@ -58,12 +57,12 @@ pub record OnlyReads {D : Type 0} (g : Ghosts D) (old new : Outside D) : Type 0 
 
 -- the bytes hold the list that a read gave
 abbrev pub HoldsAsRead : {D : Type 0} → Ghosts D → D → List ℕ → Type 0
-HoldsAsRead g disk bytes = (opened : List Rec) × HoldsLawful (g.reads disk) opened × HoldsLawful bytes opened
+HoldsAsRead g disk bytes = (opened : OpenedList) × HoldsLawful (g.reads disk) opened × HoldsLawful bytes opened
 
 -- the file reads as before, or is no longer than before or than up to the gate at the tail of the log that a read gave
 abbrev pub GrowsByGate : {D : Type 0} → Ghosts D → D → D → Type 0
 GrowsByGate g old new = (g.reads new ≡ g.reads old)
-    ⊎ ((tail : Tail) × (units : List ℕ) × StandsAt tail units (g.reads old) × GrowsAtMostTo g (tail.at + 1) old new)
+    ⊎ ((tail : Tail) × (log : Log) × LogStandsAt tail log (g.reads old) × GrowsAtMostTo g (tail.at + 1) old new)
 
 -- no transfer was begun: nothing was written, and each image of a moment is one of before or holds the list that a read gave
 pub record OnlySettles {D : Type 0} (g : Ghosts D) (old new : Outside D) : Type 0 where
@@ -73,7 +72,7 @@ pub record OnlySettles {D : Type 0} (g : Ghosts D) (old new : Outside D) : Type 
   pub grows : GrowsByGate g old.disk new.disk
 
 -- the transfers of the whole input, under the numbers from the first on that the opened list leaves
-pub record AreAsked (opened : List Rec) (left left_new : Option (List ℕ)) (jobs : NumberedJobs) : Type 0 where
+pub record AreAsked (opened : OpenedList) (left left_new : Option (List ℕ)) (jobs : NumberedJobs) : Type 0 where
   pub script : IsWholeScript (accounts_of opened) left left_new jobs.script
   pub first : jobs.first ≡ next_txn opened
   pub numbered : jobs.first + length jobs.script ≤ LAST_TXN
@@ -81,7 +80,7 @@ pub record AreAsked (opened : List Rec) (left left_new : Option (List ℕ)) (job
 -- The image holds the opened list and a front of what the run inserted. What was written is a prefix of the text of the image's list, so
 -- each commit that was told is in it. At most 4 writes and syncs succeeded for each record of the front, and 7 more, and of calls at most as
 -- many beside those that the opening took.
-pub record HoldsTold {D : Type 0} (g : Ghosts D) (opened : List Rec) (jobs : NumberedJobs) (sharing : Sharing) (list : List Rec)
+pub record HoldsTold {D : Type 0} (g : Ghosts D) (opened : OpenedList) (jobs : NumberedJobs) (sharing : Sharing) (list : List Rec)
     (old new : Outside D) (image : List ℕ) : Type 0 where
   pub run : HoldsRun opened jobs sharing list image
   pub told : AppendsPrefix old.text new.text (run_text opened run.front)
@@ -92,16 +91,16 @@ pub record HoldsTold {D : Type 0} (g : Ghosts D) (opened : List Rec) (jobs : Num
 -- prefix of the other. At the exit the file is no longer than before, or ends at most so far behind the tail of the list that was opened:
 -- 13 bytes for each unit of the front that an image holds, and one batch in flight, of 6 bytes and 8 for each unit of the ring.
 pub record Ran {D : Type 0} (g : Ghosts D) (options : RunOptions) (old new : Outside D) : Type 0 where
-  pub opened : List Rec
+  pub opened : OpenedList
   pub held : HoldsLawful (g.reads old.disk) opened
   pub tail : Tail
-  pub stands : StandsAt tail (units_of opened) (g.reads old.disk)
+  pub stands : LogStandsAt tail (log_of opened) (g.reads old.disk)
   pub jobs : NumberedJobs
   pub asked : AreAsked opened old.left new.left jobs
   pub sharing : Sharing
   pub shared : IsSharedOut options.workers jobs sharing
   pub list : List Rec
-  pub goes_on : GoesOn opened jobs sharing (opened ++ list)
+  pub goes_on : GoesOn opened jobs sharing (with_records opened list)
   pub images : Leaves g.moment g.images_since (λ bytes. g.images old.disk bytes ⊎ HoldsRun opened jobs sharing list bytes) old.disk new.disk
   pub kept : (image : List ℕ) → g.images new.disk image → HoldsTold g opened jobs sharing list old new image
   pub grows : (image : List ℕ) (left : g.images new.disk image)
@@ -116,7 +115,7 @@ pub record RanShort {D : Type 0} (g : Ghosts D) (options : RunOptions) (old new 
 -- the log was drained: each image holds the whole list
 pub record RanOut {D : Type 0} (g : Ghosts D) (options : RunOptions) (old new : Outside D) : Type 0 where
   pub ran : Ran g options old new
-  pub all : (image : List ℕ) → g.images new.disk image → HoldsLawful image (ran.opened ++ ran.list)
+  pub all : (image : List ℕ) → g.images new.disk image → HoldsLawful image (with_records ran.opened ran.list)
 
 -- each transfer ran whole, and all of the text was written
 pub record RanWhole {D : Type 0} (g : Ghosts D) (options : RunOptions) (old new : Outside D) : Type 0 where
@@ -128,11 +127,11 @@ pub record RanWhole {D : Type 0} (g : Ghosts D) (options : RunOptions) (old new 
 pub record RanIntoEnd {D : Type 0} (g : Ghosts D) (options : RunOptions) (tail total : ℕ) (old new : Outside D) : Type 0 where
   pub out : RanOut g options old new
   pub stops : StopsAtLogEnd out.ran.opened out.ran.jobs out.ran.sharing out.ran.list options.ring options.slots tail total
-  pub text : Appends old.text new.text (end_lines (end_of out.ran.opened) out.ran.list)
+  pub text : Appends old.text new.text (end_lines (list_end out.ran.opened) out.ran.list)
 
 -- the whole input is a script, but the number that would follow those of its transfers is above the last transaction number
 pub record RunsOutOfNumbers {D : Type 0} (g : Ghosts D) (first count : ℕ) (old new : Outside D) : Type 0 where
-  pub opened : List Rec
+  pub opened : OpenedList
   pub held : HoldsLawful (g.reads old.disk) opened
   pub jobs : List Job
   pub script : IsWholeScript (accounts_of opened) old.left new.left jobs
@@ -143,7 +142,7 @@ pub record RunsOutOfNumbers {D : Type 0} (g : Ghosts D) (first count : ℕ) (old
 -- this line of the input is the first that is neither empty nor a transfer of the log that a read gave
 abbrev pub IsFirstOutside : {D : Type 0} → Ghosts D → ℕ → Outside D → Outside D → Type 0
 IsFirstOutside g line old new =
-    (opened : List Rec) × HoldsLawful (g.reads old.disk) opened × HasNoScript (accounts_of opened) old.left new.left (Script line)
+    (opened : OpenedList) × HoldsLawful (g.reads old.disk) opened × HasNoScript (accounts_of opened) old.left new.left (Script line)
 
 -- `run` with these options, for each detail
 abbrev pub AnswersRun : {D : Type 0} → Ghosts D → RunOptions → Outside D → Outside D → Detail → Type 0
@@ -156,6 +155,7 @@ AnswersRun g options old new (TxnEnd first count) = OnlyReads g old new × RunsO
 AnswersRun g options old new (Script line) = OnlyReads g old new × IsFirstOutside g line old new
 AnswersRun g options old new Read = OnlyReads g old new
 AnswersRun g options old new NotALog = OnlyReads g old new × IsFaultOf (g.reads old.disk) fault.NotALog
+AnswersRun g options old new BadSnapshot = OnlyReads g old new × IsFaultOf (g.reads old.disk) fault.BadSnapshot
 AnswersRun g options old new (BadBatch offset) = OnlyReads g old new × IsFaultOf (g.reads old.disk) (fault.BadBatch offset)
 AnswersRun g options old new (BadRec lsn) = OnlyReads g old new × IsFaultOf (g.reads old.disk) (fault.BadRec lsn)
 AnswersRun g options old new (Unlawful lsn why) = OnlyReads g old new × IsFaultOf (g.reads old.disk) (fault.Unlawful lsn why)
@@ -179,6 +179,7 @@ IsOfRun Read = Unit {0}
 IsOfRun Write = Unit {0}
 IsOfRun Disk = Unit {0}
 IsOfRun NotALog = Unit {0}
+IsOfRun BadSnapshot = Unit {0}
 IsOfRun (BadBatch offset) = Unit {0}
 IsOfRun (BadRec lsn) = Unit {0}
 IsOfRun (Unlawful lsn why) = Unit {0}

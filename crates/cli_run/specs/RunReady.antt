@@ -6,10 +6,9 @@ use Rattle.log_disk.specs.Costs.{Costs}
 use Rattle.log_disk.specs.Disk.{Leaves}
 use Rattle.log_disk.specs.Lengths.{GrowsAtMostTo}
 use Rattle.log_disk.specs.declared.disk.LogDisk.{Ghosts}
-use Rattle.log_record.specs.declared.rec.Rec.{Rec}
-use Rattle.log_record.specs.LogList.{units_of}
-use Rattle.segment_file.specs.Standing.{StandsAt}
+use Rattle.segment_file.specs.Standing.{LogStandsAt}
 use Rattle.log_recovery.specs.declared.recovery.Recovered.{Recovered}
+use Rattle.log_recovery.specs.Opened.{OpenedList, log_of}
 use Rattle.log_recovery.specs.Recovery.{HoldsLawful}
 use Rattle.log_table.specs.Seats.{key_of}
 use Rattle.lock_core.specs.declared.job.Job.{Job}
@@ -39,7 +38,7 @@ pub record IsPreparedFor (options : RunOptions) (opened : Recovered) (script : L
 -- list. The file that a read gave goes on at the tail, and grew by no more than the gate there.
 pub record IsReadyFor {D : Type 0} (g : Ghosts D) (options : RunOptions) (old new : D) (left left_new : Option (List ℕ)) (ready : ReadyRun)
     : Type 0 where
-  pub opened : List Rec
+  pub opened : OpenedList
   pub held : g.honest old → HoldsLawful (g.reads old) opened
   pub log : IsOpened g new ready.tail opened ready.prepared.jobs.queue.first (key_of ready.prepared.table)
   pub asked : AreAsked opened left left_new (jobs_of ready.prepared.jobs.queue)
@@ -49,7 +48,7 @@ pub record IsReadyFor {D : Type 0} (g : Ghosts D) (options : RunOptions) (old ne
   pub prepared : IsPrepared ready.prepared
   pub images : g.honest old → Leaves g.moment g.images_since (λ bytes. g.images old bytes ⊎ HoldsLawful bytes opened) old new
   pub count : g.honest old → Costs g 3 (most_calls g old + 3) old new
-  pub stands : g.honest old → StandsAt ready.tail (units_of opened) (g.reads old)
+  pub stands : g.honest old → LogStandsAt ready.tail (log_of opened) (g.reads old)
   pub grows : g.honest old → GrowsAtMostTo g (ready.tail.at + 1) old new
 
 -- there is no run, which is answered so, whatever is known of the output

@@ -3,7 +3,7 @@ ghost use Rattle.command_line.specs.Ranges.{AreInRange};
 ghost use Rattle.log_disk.specs.Attaching.{existing};
 ghost use Rattle.log_disk.specs.Faults.{CountsWhere};
 ghost use Rattle.log_record.specs.declared.limits.TheConstants.{LAST_TXN};
-ghost use Rattle.log_record.specs.declared.rec.Rec.{Rec};
+ghost use Rattle.log_recovery.specs.Opened.{OpenedList};
 ghost use Rattle.log_recovery.specs.Recovery.{Recovers};
 ghost use Rattle.log_table.specs.Seats.{key_of};
 ghost use Rattle.lock_core.specs.Transfers.{IsAllowedJob};
@@ -76,9 +76,9 @@ fn finish<R: Threads + Wait + Clock + Sync, D: LogDisk, K: Sink, G: Gate + Sync>
     gate: &G,
 ) -> Detail
     requires prepared { IsPrepared ready.prepared }
-    requires opened { (opened : List Rec)
+    requires opened { (opened : OpenedList)
         × IsOpened D.LogDisk disk.old ready.tail opened ready.prepared.jobs.queue.first (key_of ready.prepared.table) }
-    ensures { (opened : List Rec)
+    ensures { (opened : OpenedList)
         → IsOpened D.LogDisk disk.old ready.tail opened ready.prepared.jobs.queue.first (key_of ready.prepared.table)
         → HasFinished D.LogDisk K.Sink ready.prepared opened ready.tail options.now.wait disk.old disk.new out.old out.new result }
 {

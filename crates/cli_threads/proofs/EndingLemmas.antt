@@ -10,9 +10,7 @@ use Rattle.log_disk.specs.declared.sink.Sink.{Ghosts as SinkGhosts}
 use Rattle.log_disk.specs.Faults.{CountsWhere, raised}
 use Rattle.log_disk.specs.Streams.{AppendsPrefix, AppendsPart}
 use Rattle.log_record.specs.declared.rec.Rec.{Rec}
-use Rattle.log_record.specs.LogList.{end_of}
-use Rattle.lock_core.specs.History.{history}
-use Rattle.lock_core.specs.Lawful.{base_state_of}
+use Rattle.log_recovery.specs.Opened.{OpenedList, list_end, base_left}
 use Rattle.lock_core.specs.Serial.{IsPartlySerialAfter, IsSerialAfter}
 use Rattle.lock_core.specs.Settling.{KeepsRows}
 use Rattle.segment_file.specs.declared.scan_result.Tail.{Tail}
@@ -30,7 +28,7 @@ use Rattle.txn_jobs.specs.declared.cause.Cause.TheVariants as cause
 use Rattle.txn_jobs.specs.declared.cause.Worked.{Worked}
 use Rattle.txn_jobs.specs.declared.cause.Worked.TheVariants as worked
 use Rattle.cli_shared.specs.declared.report.Detail.{Detail}
-use Rattle.cli_shared.specs.declared.report.Detail.TheVariants.{Fine, NoMemory, Usage, Script, Read, Write, Disk, NotALog, BadBatch, BadRec, Unlawful, LogEnd, TxnEnd, Exists}
+use Rattle.cli_shared.specs.declared.report.Detail.TheVariants.{Fine, NoMemory, Usage, Script, Read, Write, Disk, NotALog, BadSnapshot, BadBatch, BadRec, Unlawful, LogEnd, TxnEnd, Exists}
 use Rattle.cli_ending.specs.declared.conclusion.Ended.{Ended}
 use Rattle.cli_ending.specs.Ending.{AreWhole, Concludes, NoneStopped, NothingStopped, StoppedAs, IsFirstLogEnd}
 use Rattle.cli_threads.specs.declared.transfers.Prepared.{Prepared}
@@ -88,13 +86,14 @@ module _ {K : Type 0} (h : SinkGhosts K) (ended : Ended) (text : List ℕ) (old 
   by-conclusion (Script line) said = absurd said
   by-conclusion Read said = absurd said
   by-conclusion NotALog said = absurd said
+  by-conclusion BadSnapshot said = absurd said
   by-conclusion (BadBatch offset) said = absurd said
   by-conclusion (BadRec lsn) said = absurd said
   by-conclusion (Unlawful lsn why) said = absurd said
   by-conclusion (TxnEnd first count) said = absurd said
   by-conclusion Exists said = absurd said
 
-module _ {D : Type 0} {K : Type 0} (g : Ghosts D) (h : SinkGhosts K) (prepared : Prepared) (opened : List Rec) (voice : Voice)
+module _ {D : Type 0} {K : Type 0} (g : Ghosts D) (h : SinkGhosts K) (prepared : Prepared) (opened : OpenedList) (voice : Voice)
     {tail : Tail} {wait : Bool} (disk disk_new : D) (sink sink_new : K) (ended : Ended)
     (has : HasEnded g h prepared opened tail voice wait disk disk_new sink sink_new ended) where
   abbrev pub list : List Rec
@@ -121,21 +120,21 @@ module _ {D : Type 0} {K : Type 0} (g : Ghosts D) (h : SinkGhosts K) (prepared :
       ended.closed.accounts.rows has.transferred (all-whole has.shares (subst AreWhole (sym has.ends) all))
 
   -- what was written of the transfers, whatever befell the daemon
-  pub told-ended : (more : List Rec) × AppendsPrefix (h.held_bytes sink) (h.held_bytes sink_new) (text_of voice (end_of opened) more)
+  pub told-ended : (more : List Rec) × AppendsPrefix (h.held_bytes sink) (h.held_bytes sink_new) (text_of voice (list_end opened) more)
   told-ended =
       let sent = sends g h opened jobs has.front has.shares (key_of prepared.table) has.first has.last has.view ended.closed.tail
       ended.closed.accounts.rows has.transferred in
       (sent.more, rw (← has.speaks, ← has.sink_old, ← has.sink_is) sent.text)
 
-  pub serial-ended : IsPartlySerialAfter (base_state_of (history opened)) (tasks_of jobs) (later_of opened list)
+  pub serial-ended : IsPartlySerialAfter (base_left opened) (tasks_of jobs) (later_of opened list)
   serial-ended = serial g h opened jobs has.front has.shares (key_of prepared.table) has.first has.last has.view ended.closed.tail
       ended.closed.accounts.rows has.transferred
 
-  pub kept-ended : KeepsRows ended.closed.accounts.rows (base_state_of (history opened)) (later_of opened list)
+  pub kept-ended : KeepsRows ended.closed.accounts.rows (base_left opened) (later_of opened list)
   kept-ended = kept g h opened jobs has.front has.shares (key_of prepared.table) has.first has.last has.view ended.closed.tail
       ended.closed.accounts.rows has.transferred
 
-  pub whole_after-ended : AreWhole ended.ends.items → IsSerialAfter (base_state_of (history opened)) (tasks_of jobs) (later_of opened list)
+  pub whole_after-ended : AreWhole ended.ends.items → IsSerialAfter (base_left opened) (tasks_of jobs) (later_of opened list)
   whole_after-ended all = whole_after g h opened jobs has.front has.shares (key_of prepared.table) has.first has.last has.view ended.closed.tail
       ended.closed.accounts.rows has.transferred (all-whole has.shares (subst AreWhole (sym has.ends) all))
 

@@ -1,5 +1,5 @@
 -- A run that was begun over the opened list: at first an image holds that list alone.
-use Rattle.std.proofs.Common.{◌≡◌, ◌⊎◌, ⊎_elim, inl, inr, refl, sym, subst, arith, ℕ, ◌+◌, List, [], ◌∷◌, ◌++◌}
+use Rattle.std.proofs.Common.{◌≡◌, ◌⊎◌, ⊎_elim, inl, inr, refl, sym, subst, arith, ℕ, ◌+◌, List, [], ◌∷◌}
 use Rattle.std.proofs.lemmas.List.{append-nil}
 use Rattle.std.specs.List.{AllByRecursion}
 use Rattle.log_disk.specs.Disk.{Leaves}
@@ -7,12 +7,12 @@ use Rattle.log_disk.specs.declared.disk.LogDisk.{Ghosts}
 use Rattle.log_disk.proofs.Moments.{Leaves-trans, Leaves-weaken}
 use Rattle.log_record.specs.declared.rec.Rec.{Rec}
 use Rattle.log_record.specs.Spelling.{IsSpellable}
+use Rattle.log_recovery.specs.Opened.{OpenedList, placed, with_records, with_front}
 use Rattle.log_recovery.specs.Recovery.{HoldsLawful}
 use Rattle.log_rule.specs.declared.start.Start.{Start}
 use Rattle.lock_core.specs.Alone.{PlainTransfer, with_note, leg_updates}
 use Rattle.lock_core.specs.Serial.{numbered, IsRunWhole, IsCutShort}
 use Rattle.lock_core.specs.Sums.{BaseState}
-use Rattle.lock_core.specs.History.{history}
 use Rattle.lock_core.specs.Transactions.{own_records_of}
 use Rattle.segment_file.specs.declared.scan_result.Tail.{Tail}
 use Rattle.cli_threads.specs.Run.{HoldsRun, GoesOn, transfers_of}
@@ -29,14 +29,14 @@ partly-none base first [] = tt
 partly-none base first (job ∷ jobs) =
     (inr (record { rest = with_note first job.note (leg_updates first job.legs); front = refl }), partly-none base (first + 1) jobs)
 
-module _ {D : Type 0} (g : Ghosts D) (disk : D) (tail : Tail) (opened : List Rec) (jobs : NumberedJobs) (sharing : Sharing) (key : Start)
+module _ {D : Type 0} (g : Ghosts D) (disk : D) (tail : Tail) (opened : OpenedList) (jobs : NumberedJobs) (sharing : Sharing) (key : Start)
     (is : IsOpened g disk tail opened jobs.first key) (records : List Rec) where
-  nothing-there : (place : ℕ) → own_records_of (number_at jobs place) (history (opened ++ [])) ≡ []
+  nothing-there : (place : ℕ) → own_records_of (number_at jobs place) (placed (with_records opened [])) ≡ []
   nothing-there place = history-own opened [] (number_at jobs place) (omega (arith, is.below))
 
-  nothing-goes_on : GoesOn opened jobs sharing (opened ++ [])
-  nothing-goes_on = goes-on opened [] jobs is.lawful is.some_accounts is.below
-      (subst (AllByRecursion IsSpellable) (sym (append-nil opened)) is.spellable) tt
+  nothing-goes_on : GoesOn opened jobs sharing (with_records opened [])
+  nothing-goes_on = goes-on opened [] jobs is.lawful is.range is.some_accounts is.below
+      (subst (AllByRecursion IsSpellable) (sym (append-nil opened.records)) is.spellable) tt
       (record { each = partly-none _ jobs.first (transfers_of jobs); others = λ txn apart. refl })
       sharing (λ places i j one first second less recorded. absurd (recorded (nothing-there j))) (λ place behind. nothing-there place)
 
@@ -45,7 +45,7 @@ module _ {D : Type 0} (g : Ghosts D) (disk : D) (tail : Tail) (opened : List Rec
     front = [];
     rest = records;
     whole = refl;
-    holds = subst (HoldsLawful bytes) (sym (append-nil opened)) held;
+    holds = subst (λ records. HoldsLawful bytes (with_front opened records)) (sym (append-nil opened.records)) held;
     goes_on = nothing-goes_on;
   }
 

@@ -13,10 +13,8 @@ use Rattle.log_record.specs.declared.rec.Placed.{Placed}
 use Rattle.log_record.specs.LogList.{size_of, end_of}
 use Rattle.log_record.proofs.LogListLemmas.{front_is_boundary}
 use Rattle.lock_core.specs.Alone.{outcome_alone}
-use Rattle.lock_core.specs.History.{history}
 use Rattle.lock_core.specs.Records.{without_prev}
 use Rattle.lock_core.specs.Serial.{Task}
-use Rattle.lock_core.specs.Sums.{greatest_txn}
 use Rattle.lock_core.specs.Transactions.{own_records_of, has_end, all_without_prev, in_order}
 use Rattle.lock_core.proofs.NextRecords.{own_records_of-own, has_end-own, unended-next, planned-next, size-without_prev}
 use Rattle.log_rule.specs.declared.view.Entry.{Entry}
@@ -38,6 +36,8 @@ use Rattle.cli_threads.specs.RunStops.{EndsAs, FoundNoRoom, WasCutForRoom, IsTot
 use Rattle.cli_threads.specs.Shares.{Share, CameTo, IsGivenUncommitted, AreGivenUncommitted, EndsLogAt, HasGathered, sharing_of}
 use Rattle.cli_threads.proofs.CutPlaces.{HasCuts, cuts-first}
 use Rattle.cli_threads.proofs.PlaceTimes.{contains-times, times-found, times-one}
+use Rattle.log_recovery.specs.Opened.{OpenedList, list_end, placed, with_records, opening_left}
+use Rattle.log_recovery.proofs.OpenedLemmas.{list_end-more}
 use Rattle.cli_threads.proofs.RunHistory.{later_of, end_of-append, history-own}
 use Rattle.cli_threads.proofs.RunRecords.{tiling-end, boundary-front}
 use Rattle.cli_threads.proofs.RunPlaces.{tasks_of, each-numbered, share-at, taken-front, taken-inside}
@@ -49,7 +49,7 @@ contains-record (first ∷ entries) entry (zero, inside, is) = (0, omega arith, 
 contains-record (first ∷ entries) entry (suc i, inside, is) =
     let rest = contains-record entries entry (i, omega arith, is) in (suc rest.0, let more = rest.1 in omega arith, rest.2)
 
-module _ (opened : List Rec) (jobs : NumberedJobs) (view : View) (below : greatest_txn (history opened) < jobs.first) where
+module _ (opened : OpenedList) (jobs : NumberedJobs) (view : View) (below : (opening_left opened).txn < jobs.first) where
   abbrev list : List Rec
   list = records_of view.entries
 
@@ -57,14 +57,14 @@ module _ (opened : List Rec) (jobs : NumberedJobs) (view : View) (below : greate
   later = later_of opened (records_of view.entries)
 
   -- the whole list has of a transfer what follows the opened list
-  own-later : (n : ℕ) → jobs.first ≤ n → own_records_of n (history (opened ++ list)) ≡ own_records_of n later
+  own-later : (n : ℕ) → jobs.first ≤ n → own_records_of n (placed (with_records opened list)) ≡ own_records_of n later
   own-later n high = history-own opened list n (omega (arith, below, high))
 
   has_end-later : (n : ℕ) → HasEnd n view.entries → has_end (own_records_of n later) ≡ true
-  has_end-later n ended = has_end-own n (end_of opened) list ended.end.rec
+  has_end-later n ended = has_end-own n (list_end opened) list ended.end.rec
       (contains-record view.entries ended.end ended.contains) ended.number_is ended.is_end
 
-  ends-as : (place : ℕ) → HasEnd (number_at jobs place) view.entries → EndsAs jobs place (history (opened ++ list)) true
+  ends-as : (place : ℕ) → HasEnd (number_at jobs place) view.entries → EndsAs jobs place (placed (with_records opened list)) true
   ends-as place ended = ap has_end (own-later (number_at jobs place) (omega arith)) ∙ has_end-later (number_at jobs place) ended
 
   -- of places whose transfers all ended each one did
@@ -77,28 +77,28 @@ module _ (opened : List Rec) (jobs : NumberedJobs) (view : View) (below : greate
 
   -- each account that was given back uncommitted had its balance in a front of the list
   abbrev HadIt : Given → Type 0
-  HadIt given = given.committed ≡ false → HadBalance (opened ++ list) given.tail given.account given.balance
+  HadIt given = given.committed ≡ false → HadBalance (with_records opened list) given.tail given.account given.balance
 
   abbrev HadThem : Type 0
   HadThem = AllByRecursion HadIt view.books.given
 
   had-it : HadThem → (number tail balance account : ℕ) → IsGivenUncommitted number tail balance view.books.given account
-      → HadBalance (opened ++ list) tail account balance
+      → HadBalance (with_records opened list) tail account balance
   had-it had number tail balance account is =
-      subst (λ (one : ℕ × ℕ × ℕ). HadBalance (opened ++ list) one.0 one.1 one.2) (λ i. (is.tail_is i, is.account_is i, is.balance_is i))
+      subst (λ (one : ℕ × ℕ × ℕ). HadBalance (with_records opened list) one.0 one.1 one.2) (λ i. (is.tail_is i, is.account_is i, is.balance_is i))
       (All-contains HadIt view.books.given is.back (All-from_recursion HadIt view.books.given had) is.contains is.uncommitted)
 
   -- what comes next of the transfer that was cut off
   next-of : HadThem → (workers place tail total : ℕ) → (ends : EndsLogAt jobs workers place tail total view)
-      → HasNextOf (opened ++ list) jobs place tail (size_of ends.next)
+      → HasNextOf (with_records opened list) jobs place tail (size_of ends.next)
   next-of had workers place tail total ends =
       let n : ℕ = number_at jobs place in
       let transfer = transfer_of (job_at jobs place) in
       let plan : in_order (own_records_of n later) (ends.next ∷ ends.rest) ≡ own_records n view.entries ++ ends.next ∷ ends.rest =
-      own_records_of-own n (end_of opened) [] list (ends.next ∷ ends.rest) in
+      own_records_of-own n (list_end opened) [] list (ends.next ∷ ends.rest) in
       record {
         balances = ends.balances;
-        each = all-weaker (AreGivenUncommitted n tail ends.balances view.books.given) (HadBalances (opened ++ list) tail ends.balances)
+        each = all-weaker (AreGivenUncommitted n tail ends.balances view.books.given) (HadBalances (with_records opened list) tail ends.balances)
             (job_at jobs place).legs
             (λ leg both. (had-it had n tail (ends.balances leg.0) leg.0 both.0, had-it had n tail (ends.balances leg.1) leg.1 both.1))
             ends.gave;
@@ -112,13 +112,13 @@ module _ (opened : List Rec) (jobs : NumberedJobs) (view : View) (below : greate
 
   -- ---- where the log ended
 
-  tail-front : (lsn tail : ℕ) → IsGathered lsn view → view.constants.start ≡ end_of opened → Contains view.seen.lsns tail
-      → (front rest : List Rec) × (list ≡ front ++ rest) × (tail ≡ end_of (opened ++ front))
+  tail-front : (lsn tail : ℕ) → IsGathered lsn view → view.constants.start ≡ list_end opened → Contains view.seen.lsns tail
+      → (front rest : List Rec) × (list ≡ front ++ rest) × (tail ≡ list_end (with_records opened front))
   tail-front lsn tail gathered start seen =
       let found = boundary-front tail view.constants.start view.entries gathered.full gathered.spelled
       (All-contains (IsEntryBoundary view.constants.start view.entries) view.seen.lsns tail
       (All-from_recursion (IsEntryBoundary view.constants.start view.entries) view.seen.lsns gathered.seen) seen) in
-      (found.0, found.1, found.2, omega (arith, found.3, start, end_of-append opened found.0))
+      (found.0, found.1, found.2, omega (arith, found.3, start, list_end-more opened found.0))
 
   -- all entries end at the tail or below it
   tiled-below : (from to tail : ℕ) (entries : List Entry)
@@ -129,12 +129,12 @@ module _ (opened : List Rec) (jobs : NumberedJobs) (view : View) (below : greate
       tiled-below (from + entry.size) to tail entries tiles.1 all.1 (let start = tiles.0 in let end = all.0 in omega arith)
 
   -- of one worker the entries end at that tail
-  alone : (lsn tail : ℕ) → IsGathered lsn view → view.constants.start ≡ end_of opened → lsn ≡ view.constants.start + end_of list
-      → (front rest : List Rec) × (list ≡ front ++ rest) × (tail ≡ end_of (opened ++ front))
-      → AllByRecursion (λ (entry : Entry). entry.start + entry.size ≤ tail) view.entries → tail ≡ end_of (opened ++ list)
+  alone : (lsn tail : ℕ) → IsGathered lsn view → view.constants.start ≡ list_end opened → lsn ≡ view.constants.start + end_of list
+      → (front rest : List Rec) × (list ≡ front ++ rest) × (tail ≡ list_end (with_records opened front))
+      → AllByRecursion (λ (entry : Entry). entry.start + entry.size ≤ tail) view.entries → tail ≡ list_end (with_records opened list)
   alone lsn tail whole start end front all =
-      let whole_size = end_of-append opened list in
-      let front_size = end_of-append opened front.0 in
+      let whole_size = list_end-more opened list in
+      let front_size = list_end-more opened front.0 in
       let list_size = ap end_of front.2 ∙ end_of-append front.0 front.1 in
       let high = tiled-below view.constants.start lsn tail view.entries whole.tiles all (omega (arith, front.3, start, front_size)) in
       omega (arith, front.3, start, end, high, whole_size, front_size, list_size)
@@ -157,15 +157,19 @@ module _ (opened : List Rec) (jobs : NumberedJobs) (view : View) (below : greate
 
   -- what the transfer at this place, which was cut off, found
   no-room : (workers : ℕ) → 1 ≤ workers → HadThem → HeardThem workers → (lsn : ℕ) → IsGathered lsn view
-      → view.constants.start ≡ end_of opened → (place tail total : ℕ) → EndsLogAt jobs workers place tail total view
-      → FoundNoRoom (opened ++ list) jobs workers view.constants.ring view.constants.slots place tail total
+      → view.constants.start ≡ list_end opened → (place tail total : ℕ) → EndsLogAt jobs workers place tail total view
+      → FoundNoRoom (with_records opened list) jobs workers view.constants.ring view.constants.slots place tail total
   no-room workers someone had heard lsn whole start place tail total ends =
       let front = tail-front lsn tail whole start ends.seen in
       let end = tiling-end view.constants.start lsn view.entries whole.full whole.spelled whole.tiles in
       record {
         too_long = ends.too_long;
-        boundary = front_is_boundary (opened ++ list) tail
-            (opened ++ front.0, front.1, ap (λ l. opened ++ l) front.2 ∙ sym (append_assoc opened front.0 front.1), front.3);
+        boundary = (
+          end_of (opened.records ++ front.0),
+          front.3,
+          front_is_boundary (opened.records ++ list) (end_of (opened.records ++ front.0))
+              (opened.records ++ front.0, front.1, ap (λ l. opened.records ++ l) front.2 ∙ sym (append_assoc opened.records front.0 front.1), refl),
+        );
         alone = λ one. alone lsn tail whole start end front (ends.alone one);
         units = size_of ends.next;
         next = next-of had workers place tail total ends;
@@ -204,16 +208,16 @@ module _ (opened : List Rec) (jobs : NumberedJobs) (view : View) (below : greate
         let reason = (came worker share at (Cut (Stop word)) is).4 in reason.0 (sym reason.1 ∙ no_stop)
 
     module _ (had : HadThem) (heard : HeardThem (length shares)) (lsn : ℕ) (whole : IsGathered lsn view)
-        (start : view.constants.start ≡ end_of opened) (no_stop : view.sending.stop ≡ 0) where
+        (start : view.constants.start ≡ list_end opened) (no_stop : view.sending.stop ≡ 0) where
       abbrev FoundNone : ℕ → ℕ → ℕ → ℕ → Type 0
       FoundNone workers tail total place =
-          FoundNoRoom (opened ++ list) jobs workers view.constants.ring view.constants.slots place tail total
+          FoundNoRoom (with_records opened list) jobs workers view.constants.ring view.constants.slots place tail total
 
       abbrev WasCut : ℕ → ℕ → Type 0
-      WasCut workers place = WasCutForRoom (opened ++ list) jobs front workers view.constants.ring view.constants.slots place
+      WasCut workers place = WasCutForRoom (with_records opened list) jobs front workers view.constants.ring view.constants.slots place
 
       abbrev Ends : ℕ → Type 0
-      Ends place = EndsAs jobs place (history (opened ++ list)) true
+      Ends place = EndsAs jobs place (placed (with_records opened list)) true
 
       abbrev IsLeftOver : Type 0
       IsLeftOver = front < length jobs.script
@@ -230,7 +234,7 @@ module _ (opened : List Rec) (jobs : NumberedJobs) (view : View) (below : greate
           record {
             inside = taken-inside jobs front shares gathered.sharing place
                 (omega (arith, has, times-one (λ (share : Share). share.taken) place shares worker share at));
-            unended = unended-next n transfer (outcome_alone transfer found.next.balances) (own_records_of n (history (opened ++ list)))
+            unended = unended-next n transfer (outcome_alone transfer found.next.balances) (own_records_of n (placed (with_records opened list)))
                 found.next.rest found.next.next found.next.plan;
             tail = tail;
             total = total;

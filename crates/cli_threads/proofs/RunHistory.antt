@@ -13,31 +13,30 @@ use Rattle.lock_core.specs.Sums.{greatest_txn}
 use Rattle.lock_core.specs.Transactions.{of_transaction, own_records_of}
 use Rattle.lock_core.proofs.Apart.{own_records_of-left, of_transaction-none, below-greatest}
 use Rattle.lock_core.proofs.OneMore.{of_transaction-other}
-use Rattle.lock_core.specs.History.{end_from, entry_at, history_from, history}
+use Rattle.lock_core.specs.History.{end_from, entry_at, history_from}
 use Rattle.lock_core.proofs.Fronts.{history_from-append, history_from-onto, history_from-apart}
-use Rattle.log_recovery.proofs.ListingLemmas.{end_from-history, units_of-append}
+use Rattle.log_recovery.specs.Opened.{OpenedList, list_end, placed, with_records}
+use Rattle.log_recovery.proofs.ListingLemmas.{units_of-append}
+use Rattle.log_recovery.proofs.OpenedLemmas.{placed-end}
 
 -- what follows the opened list
-abbrev pub later_of : List Rec → List Rec → List Placed
-later_of opened records = history_from (end_of opened) [] records
+abbrev pub later_of : OpenedList → List Rec → List Placed
+later_of opened records = history_from (list_end opened) [] records
 
 pub end_of-append : (xs ys : List Rec) → end_of (xs ++ ys) ≡ end_of xs + end_of ys
 end_of-append xs ys = ap length (units_of-append xs ys) ∙ length-append (units_of xs) (units_of ys)
 
-pub end-opened : (opened : List Rec) → end_from 0 (history opened) ≡ end_of opened
-end-opened opened = end_from-history 0 [] opened ∙ omega arith
-
-pub history-later : (opened records : List Rec) → history (opened ++ records) ≡ later_of opened records ++ history opened
+pub history-later : (opened : OpenedList) (records : List Rec) → placed (with_records opened records) ≡ later_of opened records ++ placed opened
 history-later opened records =
-    history_from-append 0 [] opened records ∙ history_from-apart 0 (history opened) records
-    ∙ ap (λ end. history_from end [] records ++ history opened) (end-opened opened)
+    history_from-append opened.opening.lsn [] opened.records records ∙ history_from-apart opened.opening.lsn (placed opened) records
+    ∙ ap (λ end. history_from end [] records ++ placed opened) (placed-end opened)
 
 -- of a transaction above all of the opened list the whole has what follows that list
-pub history-own : (opened records : List Rec) (n : ℕ) → greatest_txn (history opened) < n
-    → own_records_of n (history (opened ++ records)) ≡ own_records_of n (later_of opened records)
+pub history-own : (opened : OpenedList) (records : List Rec) (n : ℕ) → greatest_txn (placed opened) < n
+    → own_records_of n (placed (with_records opened records)) ≡ own_records_of n (later_of opened records)
 history-own opened records n below = ap (own_records_of n) (history-later opened records)
-    ∙ own_records_of-left n (later_of opened records) (history opened)
-    (of_transaction-none n (history opened) (other (history opened) (below-greatest (history opened) n below)))
+    ∙ own_records_of-left n (later_of opened records) (placed opened)
+    (of_transaction-none n (placed opened) (other (placed opened) (below-greatest (placed opened) n below)))
   where
     other : (h : List Placed) → AllByRecursion (λ (entry : Placed). txn_of entry.rec < n) h
         → AllByRecursion (λ (entry : Placed). n ≢ txn_of entry.rec) h
@@ -53,10 +52,10 @@ history-others n start h (rec ∷ records) others none =
     (of_transaction-other n (entry_at (end_from start h) rec) h others.0 ∙ none)
 
 -- more records stand before
-pub later-append : (opened front rest : List Rec) → (more : List Placed) × (later_of opened (front ++ rest) ≡ more ++ later_of opened front)
+pub later-append : (opened : OpenedList) (front rest : List Rec) → (more : List Placed) × (later_of opened (front ++ rest) ≡ more ++ later_of opened front)
 later-append opened front rest = (
-  history_from (end_from (end_of opened) (later_of opened front)) [] rest,
-  history_from-append (end_of opened) [] front rest ∙ history_from-apart (end_of opened) (later_of opened front) rest,
+  history_from (end_from (list_end opened) (later_of opened front)) [] rest,
+  history_from-append (list_end opened) [] front rest ∙ history_from-apart (list_end opened) (later_of opened front) rest,
 )
 
 -- the entries of spellable records are spellable

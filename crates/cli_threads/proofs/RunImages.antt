@@ -13,10 +13,10 @@ use Rattle.log_disk.specs.declared.disk.LogDisk.{Ghosts}
 use Rattle.log_disk.specs.declared.sink.Sink.{Ghosts as SinkGhosts}
 use Rattle.log_record.specs.declared.rec.Rec.{Rec}
 use Rattle.log_record.specs.LogList.{units_of, end_of}
-use Rattle.segment_file.specs.File.{HoldsUnits}
+use Rattle.segment_file.specs.Log.{Log, with_units, HoldsLog}
 use Rattle.segment_file.specs.Lengths.{most_end}
-use Rattle.segment_file.specs.Standing.{AllStand}
-use Rattle.segment_file.proofs.StandingLemmas.{holds}
+use Rattle.segment_file.specs.Standing.{LogStands}
+use Rattle.log_recovery.specs.Opened.{OpenedList, log_of, list_end, with_records, with_front}
 use Rattle.log_recovery.proofs.ListingLemmas.{units_of-append}
 use Rattle.log_rule.specs.declared.view.View.{View}
 use Rattle.log_table.specs.Seats.{view_of}
@@ -32,16 +32,16 @@ use Rattle.commit_pipeline.proofs.RanLemmas.{none≢some, Ran-text}
 use Rattle.commit_pipeline.proofs.ToldLemmas.{text_of-none}
 
 -- the bytes hold the opened records and these
-abbrev pub HoldsBoth : List Rec → List Rec → List ℕ → Type 0
-HoldsBoth opened records bytes = HoldsUnits bytes (units_of (opened ++ records))
+abbrev pub HoldsBoth : OpenedList → List Rec → List ℕ → Type 0
+HoldsBoth opened records bytes = HoldsLog bytes (log_of (with_records opened records))
 
 -- the bytes hold the opened records and a front of these
-abbrev pub HoldsSome : List Rec → List Rec → List ℕ → Type 0
+abbrev pub HoldsSome : OpenedList → List Rec → List ℕ → Type 0
 HoldsSome opened list bytes = (front rest : List Rec) × (list ≡ front ++ rest) × HoldsBoth opened front bytes
 
 -- What turns do with the records of a run, from the tail at this place on and with a ring of this length: they sent the first of them,
 -- and may have written some more. Of the first, a front of the lines was written.
-pub record RunSends {D : Type 0} (g : Ghosts D) (voice : Voice) (opened list : List Rec) (at ring : ℕ) (before after : D)
+pub record RunSends {D : Type 0} (g : Ghosts D) (voice : Voice) (opened : OpenedList) (list : List Rec) (at ring : ℕ) (before after : D)
     (old new : Option (List ℕ)) : Type 0 where
   pub more : List Rec
   pub cut : List Rec
@@ -49,32 +49,35 @@ pub record RunSends {D : Type 0} (g : Ghosts D) (voice : Voice) (opened list : L
   pub splits : list ≡ (more ++ cut) ++ rest
   pub moments : g.honest before → Leaves g.moment g.images_since (HoldsSome opened list) before after
   pub now : g.honest before → (bytes : List ℕ) → g.images after bytes → HoldsBoth opened more bytes ⊎ HoldsBoth opened (more ++ cut) bytes
-  pub text : AppendsPrefix old new (text_of voice (end_of opened) more)
+  pub text : AppendsPrefix old new (text_of voice (list_end opened) more)
   pub count : g.honest before → Costs g (4 * length more + 4) (4 * length more + 4) before after
   pub grows : g.honest before → GrowsAtMostTo g (most_end at (end_of more) ring) before after
 
 -- and where nothing failed, all lines of the first
-pub record RunSent {D : Type 0} (g : Ghosts D) (voice : Voice) (opened more : List Rec) (at ring : ℕ) (before after : D)
+pub record RunSent {D : Type 0} (g : Ghosts D) (voice : Voice) (opened : OpenedList) (more : List Rec) (at ring : ℕ) (before after : D)
     (old new : Option (List ℕ)) : Type 0 where
   pub now : g.honest before → (bytes : List ℕ) → g.images after bytes → HoldsBoth opened more bytes
-  pub text : Appends old new (text_of voice (end_of opened) more)
+  pub text : Appends old new (text_of voice (list_end opened) more)
   pub count : g.honest before → Costs g (4 * length more) (4 * length more) before after
   pub grows : g.honest before → GrowsAtMostTo g (most_end at (end_of more) ring) before after
 
 -- so turns did from the one daemon to the other
-abbrev pub SendsBy : {D : Type 0} {K : Type 0} → Ghosts D → SinkGhosts K → List Rec → List Rec → Daemon D K → Daemon D K → Type 0
+abbrev pub SendsBy : {D : Type 0} {K : Type 0} → Ghosts D → SinkGhosts K → OpenedList → List Rec → Daemon D K → Daemon D K → Type 0
 SendsBy g h opened list old new = RunSends g old.voice opened list (place_of old) (ring_of old) old.flusher.disk.now new.flusher.disk.now
     (h.held_bytes old.sink.now) (h.held_bytes new.sink.now)
 
-abbrev pub AreSentBy : {D : Type 0} {K : Type 0} → Ghosts D → SinkGhosts K → List Rec → List Rec → Daemon D K → Daemon D K → Type 0
+abbrev pub AreSentBy : {D : Type 0} {K : Type 0} → Ghosts D → SinkGhosts K → OpenedList → List Rec → Daemon D K → Daemon D K → Type 0
 AreSentBy g h opened more old new = RunSent g old.voice opened more (place_of old) (ring_of old) old.flusher.disk.now new.flusher.disk.now
     (h.held_bytes old.sink.now) (h.held_bytes new.sink.now)
 
 -- units sent and read, behind the opened ones, as records
-both-units : (opened records : List Rec) (sent units : List ℕ) → sent ≡ [] → units ≡ units_of records
-    → (units_of opened ++ sent) ++ units ≡ units_of (opened ++ records)
+both-units : (opened : OpenedList) (records : List Rec) (sent units : List ℕ) → sent ≡ [] → units ≡ units_of records
+    → with_units (with_units (log_of opened) sent) units ≡ log_of (with_records opened records)
 both-units opened records sent units none is =
-    ap (λ l. (units_of opened ++ l) ++ units) none ∙ (λ i. append-nil (units_of opened) i ++ is i) ∙ sym (units_of-append opened records)
+    let all : (units_of opened.records ++ sent) ++ units ≡ units_of (opened.records ++ records) =
+    ap (λ l. (units_of opened.records ++ l) ++ units) none ∙ (λ i. append-nil (units_of opened.records) i ++ is i)
+    ∙ sym (units_of-append opened.records records) in
+    λ i. record { opening = opened.opening; units = all i }
 
 in_flight-read : (fault : Option DaemonFault) (view : View) (cut : List Rec) → InFlight fault view cut → view.sending.read ≡ units_of cut
 in_flight-read None view cut flight = flight.1 ∙ ap units_of (sym flight.0)
@@ -86,19 +89,23 @@ extra-few None = omega arith
 extra-few (Some DiskFault) = omega arith
 extra-few (Some WriteFault) = omega arith
 
-module _ {D : Type 0} {K : Type 0} (g : Ghosts D) (h : SinkGhosts K) (opened list : List Rec) (old new : Daemon D K)
-    (stand : g.honest old.flusher.disk.now → AllStand old.flusher.tail (units_of opened) (g.images old.flusher.disk.now))
-    (unsent : sent_of old.flusher ≡ []) (start : durable old ≡ end_of opened) where
+module _ {D : Type 0} {K : Type 0} (g : Ghosts D) (h : SinkGhosts K) (opened : OpenedList) (list : List Rec) (old new : Daemon D K)
+    (stand : g.honest old.flusher.disk.now → LogStands old.flusher.tail (log_of opened) (g.images old.flusher.disk.now))
+    (unsent : sent_of old.flusher ≡ []) (start : durable old ≡ list_end opened) where
   standing : g.honest old.flusher.disk.now → (bytes : List ℕ) → g.images old.flusher.disk.now bytes → HoldsBoth opened [] bytes
   standing honest bytes image =
-      subst (HoldsUnits bytes) (ap units_of (sym (append-nil opened)))
-      (holds old.flusher.tail (units_of opened) bytes (stand honest bytes image))
+      subst (λ records. HoldsLog bytes (log_of (with_front opened records))) (sym (append-nil opened.records)) (stand honest bytes image).held
 
   -- as the turns see it
+  none-sent : with_units (log_of opened) (sent_of old.flusher) ≡ log_of opened
+  none-sent =
+      let all : units_of opened.records ++ sent_of old.flusher ≡ units_of opened.records =
+      ap (λ l. units_of opened.records ++ l) unsent ∙ append-nil (units_of opened.records) in
+      λ i. record { opening = opened.opening; units = all i }
+
   opening : g.honest old.flusher.disk.now
-      → AllStand old.flusher.tail (units_of opened ++ sent_of old.flusher) (g.images old.flusher.disk.now)
-  opening honest = subst (λ (units : List ℕ). AllStand old.flusher.tail units (g.images old.flusher.disk.now))
-      (sym (ap (λ l. units_of opened ++ l) unsent ∙ append-nil (units_of opened))) (stand honest)
+      → LogStands old.flusher.tail (with_units (log_of opened) (sent_of old.flusher)) (g.images old.flusher.disk.now)
+  opening honest = subst (λ (log : Log). LogStands old.flusher.tail log (g.images old.flusher.disk.now)) (sym none-sent) (stand honest)
 
   pub sends-still : SendsBy g h opened list old old
   sends-still = record {
@@ -108,7 +115,7 @@ module _ {D : Type 0} {K : Type 0} (g : Ghosts D) (h : SinkGhosts K) (opened lis
     splits = refl;
     moments = λ honest. Leaves-refl g.moment g.images_since (HoldsSome opened list) old.flusher.disk.now;
     now = λ honest bytes image. inl (standing honest bytes image);
-    text = ([], text_of old.voice (end_of opened) [], refl, Appends-nil (h.held_bytes old.sink.now));
+    text = ([], text_of old.voice (list_end opened) [], refl, Appends-nil (h.held_bytes old.sink.now));
     count = λ honest. Costs-more g 0 _ 0 _ old.flusher.disk.now old.flusher.disk.now (omega arith) (omega arith)
         (Costs-none g old.flusher.disk.now);
     grows = λ honest. GrowsAtMostTo-same g _ old.flusher.disk.now old.flusher.disk.now refl;
@@ -117,7 +124,7 @@ module _ {D : Type 0} {K : Type 0} (g : Ghosts D) (h : SinkGhosts K) (opened lis
   pub sent-still : AreSentBy g h opened [] old old
   sent-still = record {
     now = standing;
-    text = subst (Appends (h.held_bytes old.sink.now) (h.held_bytes old.sink.now)) (text_of-none old.voice (end_of opened))
+    text = subst (Appends (h.held_bytes old.sink.now) (h.held_bytes old.sink.now)) (text_of-none old.voice (list_end opened))
         (Appends-nil (h.held_bytes old.sink.now));
     count = λ honest. Costs-more g 0 _ 0 _ old.flusher.disk.now old.flusher.disk.now (omega arith) (omega arith)
         (Costs-none g old.flusher.disk.now);
@@ -134,17 +141,21 @@ module _ {D : Type 0} {K : Type 0} (g : Ghosts D) (h : SinkGhosts K) (opened lis
     torn-now : g.honest old.flusher.disk.now → (bytes : List ℕ) → g.images new.flusher.disk.now bytes
         → HoldsBoth opened ran.more bytes ⊎ HoldsBoth opened (ran.more ++ ran.cut) bytes
     torn-now honest bytes image =
-        let first : units_of opened ++ sent_of new.flusher ≡ units_of (opened ++ ran.more) =
-        ap (λ l. units_of opened ++ l) sent-now ∙ sym (units_of-append opened ran.more) in
-        let both : (units_of opened ++ sent_of new.flusher) ++ (view_of new.flusher.seat).sending.read
-        ≡ units_of (opened ++ (ran.more ++ ran.cut)) =
-        (λ i. (units_of opened ++ sent-now i) ++ read-now i) ∙ append_assoc (units_of opened) (units_of ran.more) (units_of ran.cut)
-        ∙ ap (λ l. units_of opened ++ l) (sym (units_of-append ran.more ran.cut)) ∙ sym (units_of-append opened (ran.more ++ ran.cut)) in
-        ⊎_elim (λ held. inl (subst (HoldsUnits bytes) first held)) (λ held. inr (subst (HoldsUnits bytes) both held))
-        (ran.torn honest (units_of opened) (opening honest) bytes image)
+        let before = units_of opened.records in
+        let first : with_units (log_of opened) (sent_of new.flusher) ≡ log_of (with_records opened ran.more) =
+        (λ i. record { opening = opened.opening; units = (ap (λ l. before ++ l) sent-now ∙ sym (units_of-append opened.records ran.more)) i }) in
+        let units : (before ++ sent_of new.flusher) ++ (view_of new.flusher.seat).sending.read
+        ≡ units_of (opened.records ++ (ran.more ++ ran.cut)) =
+        (λ i. (before ++ sent-now i) ++ read-now i) ∙ append_assoc before (units_of ran.more) (units_of ran.cut)
+        ∙ ap (λ l. before ++ l) (sym (units_of-append ran.more ran.cut)) ∙ sym (units_of-append opened.records (ran.more ++ ran.cut)) in
+        let both : with_units (with_units (log_of opened) (sent_of new.flusher)) (view_of new.flusher.seat).sending.read
+        ≡ log_of (with_records opened (ran.more ++ ran.cut)) =
+        (λ i. record { opening = opened.opening; units = units i }) in
+        ⊎_elim (λ held. inl (subst (HoldsLog bytes) first held)) (λ held. inr (subst (HoldsLog bytes) both held))
+        (ran.torn honest (log_of opened) (opening honest) bytes image)
 
     -- the text is a front of the lines of what was sent
-    text-front : AppendsPrefix (h.held_bytes old.sink.now) (h.held_bytes new.sink.now) (text_of old.voice (end_of opened) ran.more)
+    text-front : AppendsPrefix (h.held_bytes old.sink.now) (h.held_bytes new.sink.now) (text_of old.voice (list_end opened) ran.more)
     text-front =
         let (rest, lines) = Ran-text g h old new ran in
         (ran.text, rest, ap (λ at. text_of old.voice at ran.more) (sym start) ∙ lines, ran.appended)
@@ -156,15 +167,15 @@ module _ {D : Type 0} {K : Type 0} (g : Ghosts D) (h : SinkGhosts K) (opened lis
       rest = rest;
       splits = splits;
       moments = λ honest. Leaves-weaken g.moment g.images_since
-          (HoldsFront (units_of opened ++ sent_of old.flusher) (ran.more ++ ran.cut)) (HoldsSome opened list)
+          (HoldsFront (with_units (log_of opened) (sent_of old.flusher)) (ran.more ++ ran.cut)) (HoldsSome opened list)
           old.flusher.disk.now new.flusher.disk.now
           (λ bytes held. (
             held.front,
             held.rest ++ rest,
             splits ∙ ap (λ l. l ++ rest) held.whole ∙ append_assoc held.front held.rest rest,
-            subst (HoldsUnits bytes) (both-units opened held.front (sent_of old.flusher) (units_of held.front) unsent refl) held.holds,
+            subst (HoldsLog bytes) (both-units opened held.front (sent_of old.flusher) (units_of held.front) unsent refl) held.holds,
           ))
-          (ran.moments honest (units_of opened) (opening honest));
+          (ran.moments honest (log_of opened) (opening honest));
       now = torn-now;
       text = text-front;
       count = λ honest. let most = extra-few new.fault in

@@ -14,15 +14,17 @@ use Rattle.log_record.specs.declared.rec.Rec.{Rec}
 use Rattle.log_record.specs.LogList.{units_of, end_of}
 use Rattle.log_record.specs.Spelling.{IsSpellable}
 use Rattle.log_record.proofs.SpellingLemmas.{units_of-injective}
-use Rattle.lock_core.specs.History.{history, history_from}
-use Rattle.lock_core.specs.Lawful.{IsLawfulAfter, base_state_of}
+use Rattle.lock_core.specs.History.{history_from}
+use Rattle.lock_core.specs.Lawful.{IsLawful}
 use Rattle.lock_core.specs.Serial.{Task, IsPartlySerialAfter, IsSerialAfter}
 use Rattle.lock_core.specs.Settling.{KeepsRows}
-use Rattle.lock_core.specs.Sums.{BaseState}
+use Rattle.lock_core.specs.Sums.{as_opening, BaseState}
 use Rattle.lock_core.proofs.ListLemmas.{all-append, all-split}
 use Rattle.lock_core.proofs.SerialFronts.{partly-serial}
 use Rattle.lock_core.proofs.SerialTasks.{partly_serial-more}
 use Rattle.log_recovery.proofs.ListingLemmas.{units_of-append}
+use Rattle.log_recovery.specs.Opened.{OpenedList, list_end, placed, with_records, base_left}
+use Rattle.log_recovery.proofs.OpenedLemmas.{list_end-more}
 use Rattle.log_recovery.proofs.TextLemmas.{AppendsPrefix-first}
 use Rattle.segment_file.specs.Lengths.{most_end}
 use Rattle.log_rule.specs.declared.start.Start.{Start}
@@ -64,14 +66,14 @@ use Rattle.cli_threads.proofs.RunRecords.{records-spellable, units_in-records, r
 use Rattle.cli_threads.proofs.RunTurns.{front-in_turn, front-none_behind}
 use Rattle.cli_threads.proofs.RunPlaces.{tasks_of, each-numbered, taken-once, taken-numbered, taken-or_not}
 
-module _ {D : Type 0} {K : Type 0} (g : Ghosts D) (h : SinkGhosts K) (opened : List Rec) (jobs : NumberedJobs) (front : ℕ)
+module _ {D : Type 0} {K : Type 0} (g : Ghosts D) (h : SinkGhosts K) (opened : OpenedList) (jobs : NumberedJobs) (front : ℕ)
     (shares : List Share) (key : Start) (old new : Daemon D K) (view : View) (lsn : ℕ) (rows : List (ℕ × ℕ))
     (known : HasTransferred g h opened jobs front shares key old new view lsn rows) where
   abbrev list : List Rec
   list = records_of view.entries
 
   abbrev base : BaseState
-  base = base_state_of (history opened)
+  base = base_left opened
 
   abbrev taken : List Task
   taken = map task_of (all_taken jobs shares)
@@ -84,8 +86,8 @@ module _ {D : Type 0} {K : Type 0} (g : Ghosts D) (h : SinkGhosts K) (opened : L
   list-spellable : AllByRecursion IsSpellable list
   list-spellable = records-spellable view.entries known.gathered.spelled
 
-  spellable : AllByRecursion IsSpellable (opened ++ list)
-  spellable = all-append IsSpellable opened list known.log.spellable list-spellable
+  spellable : AllByRecursion IsSpellable (opened.records ++ list)
+  spellable = all-append IsSpellable opened.records list known.log.spellable list-spellable
 
   list-units : units_in view.entries ≡ units_of list
   list-units = units_in-records view.entries known.gathered.spelled
@@ -116,23 +118,23 @@ module _ {D : Type 0} {K : Type 0} (g : Ghosts D) (h : SinkGhosts K) (opened : L
       (each-numbered _ jobs.first jobs.script (λ place inside. taken-or_not jobs front shares known.workers.sharing place))
       ledger.serial
 
-  lawful_after : IsLawfulAfter base (later_of opened list)
+  lawful_after : IsLawful (as_opening base) (later_of opened list)
   lawful_after = ledger.lawful
 
   pub kept : KeepsRows rows base (later_of opened list)
   kept = ledger.accounts
 
   -- each worker's transfers come one behind another, in each front
-  in_turn : (records rest : List Rec) → list ≡ records ++ rest → ComeInTurn jobs sharing (history (opened ++ records))
+  in_turn : (records rest : List Rec) → list ≡ records ++ rest → ComeInTurn jobs sharing (placed (with_records opened records))
   in_turn = front-in_turn opened jobs view known.log.below front shares known.workers ledger.serial.others lsn known.gathered
 
   -- and those that no worker took have no record
-  none_behind : (records rest : List Rec) → list ≡ records ++ rest → HasNoneBehind jobs sharing (history (opened ++ records))
+  none_behind : (records rest : List Rec) → list ≡ records ++ rest → HasNoneBehind jobs sharing (placed (with_records opened records))
   none_behind = front-none_behind opened jobs view known.log.below front shares known.workers ledger.serial.others lsn known.gathered
 
   -- ---- the turns
 
-  start-old : durable old ≡ end_of opened
+  start-old : durable old ≡ list_end opened
   start-old =
       let start = ap (λ (c : Constants). c.start) known.fresh.constants in let none = ap length known.fresh.sent in
       omega (arith, start, none, known.log.start)
@@ -147,7 +149,7 @@ module _ {D : Type 0} {K : Type 0} (g : Ghosts D) (h : SinkGhosts K) (opened : L
       kept (inl is) = ap (λ (d : Daemon D K). (view_of d.flusher.seat).constants) is
       kept (inr ran) = ran.constants
 
-  start-view : view.constants.start ≡ end_of opened
+  start-view : view.constants.start ≡ list_end opened
   start-view = ap (λ (c : Constants). c.start) constants-view ∙ known.log.start
 
   pub sends : SendsBy g h opened list old new
@@ -177,21 +179,21 @@ module _ {D : Type 0} {K : Type 0} (g : Ghosts D) (h : SinkGhosts K) (opened : L
     whole = splits;
     holds = record {
       list = record {
-        each = front-spellable opened list jobs known.log.lawful known.log.some_accounts known.log.below spellable lawful_after serial
+        each = front-spellable opened list jobs known.log.lawful known.log.range known.log.some_accounts known.log.below spellable lawful_after serial
             records rest splits;
         holds = held;
       };
-      lawful = front-lawful opened list jobs known.log.lawful known.log.some_accounts known.log.below spellable lawful_after serial
+      lawful = front-lawful opened list jobs known.log.lawful known.log.range known.log.some_accounts known.log.below spellable lawful_after serial
           records rest splits;
     };
-    goes_on = front-goes-on opened list jobs known.log.lawful known.log.some_accounts known.log.below spellable lawful_after serial
+    goes_on = front-goes-on opened list jobs known.log.lawful known.log.range known.log.some_accounts known.log.below spellable lawful_after serial
         records rest splits sharing (in_turn records rest splits) (none_behind records rest splits);
   }
 
   pub keeps : RunKeepsLog g old.voice opened jobs sharing list (place_of old) key.ring old.flusher.disk.now new.flusher.disk.now
       (h.held_bytes old.sink.now) (h.held_bytes new.sink.now)
   keeps = record {
-    goes_on = goes-on opened list jobs known.log.lawful known.log.some_accounts known.log.below spellable lawful_after serial
+    goes_on = goes-on opened list jobs known.log.lawful known.log.range known.log.some_accounts known.log.below spellable lawful_after serial
         sharing (in_turn list [] (sym (append-nil list))) (none_behind list [] (sym (append-nil list)));
     moments = λ honest. Leaves-weaken g.moment g.images_since (HoldsSome opened list) (HoldsRun opened jobs sharing list)
         old.flusher.disk.now new.flusher.disk.now (λ bytes held. image-run held.0 held.1 held.2 bytes held.3) (sends.moments honest);
@@ -215,9 +217,9 @@ module _ {D : Type 0} {K : Type 0} (g : Ghosts D) (h : SinkGhosts K) (opened : L
       left-both honest bytes held = record {
         run = image-run (sends.more ++ sends.cut) sends.rest sends.splits bytes held;
         text = AppendsPrefix-first (h.held_bytes old.sink.now) (h.held_bytes new.sink.now)
-            (text_of old.voice (end_of opened) (sends.more ++ sends.cut)) (text_of old.voice (end_of opened) sends.more)
-            (text_of old.voice (end_of opened + length (units_of sends.more)) sends.cut) sends.text
-            (text_of-append old.voice (end_of opened) sends.more sends.cut);
+            (text_of old.voice (list_end opened) (sends.more ++ sends.cut)) (text_of old.voice (list_end opened) sends.more)
+            (text_of old.voice (list_end opened + length (units_of sends.more)) sends.cut) sends.text
+            (text_of-append old.voice (list_end opened) sends.more sends.cut);
         count = let long = length-append sends.more sends.cut in
             Costs-more g _ _ _ _ old.flusher.disk.now new.flusher.disk.now (omega (arith, long)) (omega (arith, long)) (sends.count honest);
         grows =
@@ -276,29 +278,29 @@ module _ {D : Type 0} {K : Type 0} (g : Ghosts D) (h : SinkGhosts K) (opened : L
     drained = record {
       images = λ honest bytes image. record {
         list = record { each = spellable; holds = sent-all.now honest bytes image };
-        lawful = whole-lawful opened list jobs known.log.lawful known.log.some_accounts known.log.below spellable lawful_after serial;
+        lawful = whole-lawful opened list jobs known.log.lawful known.log.range known.log.some_accounts known.log.below spellable lawful_after serial;
       };
       text = sent-all.text;
       end = end;
-      accounts = text-shown opened list jobs known.log.lawful known.log.some_accounts known.log.below spellable lawful_after serial lsn rows
+      accounts = text-shown opened list jobs known.log.lawful known.log.range known.log.some_accounts known.log.below spellable lawful_after serial lsn rows
           end ledger.accounts;
       count = sent-all.count;
       grows = λ honest. GrowsAtMostTo-more g (most_end (place_of old) (end_of list) (ring_of old)) _ old.flusher.disk.now
           new.flusher.disk.now (omega (arith, ring-is)) (sent-all.grows honest);
     }
       where
-        end : lsn ≡ end_of (opened ++ list)
+        end : lsn ≡ list_end (with_records opened list)
         end =
             let tiles = tiling-end view.constants.start lsn view.entries known.gathered.full known.gathered.spelled known.gathered.tiles in
-            omega (arith, tiles, start-view, end_of-append opened list)
+            omega (arith, tiles, start-view, list_end-more opened list)
 
     stop-none : view.sending.stop ≡ 0
     stop-none = ap (λ (s : Sending). s.stop) known.sending ∙ subst (StopTells old new) fine reason.stop ∙ known.fresh.stop
 
-    had : AllByRecursion (λ (given : Given). given.committed ≡ false → HadBalance (opened ++ list) given.tail given.account given.balance)
+    had : AllByRecursion (λ (given : Given). given.committed ≡ false → HadBalance (with_records opened list) given.tail given.account given.balance)
         view.books.given
-    had = all-weaker (WentBack base (later_of opened list)) _ view.books.given (had-balance opened list known.log.lawful lawful_after
-        (apart opened list jobs known.log.lawful known.log.some_accounts known.log.below spellable lawful_after serial)) went-back
+    had = all-weaker (WentBack base (later_of opened list)) _ view.books.given (had-balance opened list known.log.lawful known.log.some_accounts lawful_after
+        (apart opened list jobs known.log.lawful known.log.range known.log.some_accounts known.log.below spellable lawful_after serial)) went-back
 
     pub stops-at-end : (worker : ℕ) (taken : List ℕ) (tail total : ℕ)
         → get_elem? shares worker ≡ some (record { taken = taken; worked = Cut (LogEnd tail total) })
@@ -320,5 +322,5 @@ module _ {D : Type 0} {K : Type 0} (g : Ghosts D) (h : SinkGhosts K) (opened : L
       (all-ended opened jobs view known.log.below front shares known.workers all) serial
 
   pub whole : AllByRecursion (λ (share : Share). share.worked ≡ All) shares → RunsWhole opened jobs list
-  whole all = runs-whole opened list jobs known.log.lawful known.log.some_accounts known.log.below spellable lawful_after serial
+  whole all = runs-whole opened list jobs known.log.lawful known.log.range known.log.some_accounts known.log.below spellable lawful_after serial
       (all-ended opened jobs view known.log.below front shares known.workers all)

@@ -8,8 +8,6 @@ use native.Mathlib.Decide.{ℕ_discrete}
 use lib.ListN.{get_elem?}
 use Rattle.lsn_space.specs.Tiling.{IsTiling}
 use Rattle.log_record.specs.declared.rec.Rec.{Rec}
-use Rattle.log_record.specs.LogList.{end_of}
-use Rattle.lock_core.specs.History.{history}
 use Rattle.lock_core.specs.Records.{txn_of}
 use Rattle.lock_core.specs.Serial.{HasNoOthers}
 use Rattle.lock_core.specs.Sums.{greatest_txn}
@@ -17,6 +15,7 @@ use Rattle.lock_core.specs.Transactions.{of_transaction, recs_of, own_records_of
 use Rattle.lock_core.proofs.Apart.{of_transaction-older}
 use Rattle.lock_core.proofs.ListLemmas.{all-split}
 use Rattle.lock_core.proofs.NextRecords.{has_end-own}
+use Rattle.log_recovery.specs.Opened.{OpenedList, list_end, placed, with_records, opening_left}
 use Rattle.log_rule.specs.declared.view.Entry.{Entry}
 use Rattle.log_rule.specs.declared.view.View.{View}
 use Rattle.log_rule.specs.Books.{task_of}
@@ -105,7 +104,7 @@ one-of n (entry ∷ entries) = dite (ℕ_discrete (txn_of entry.rec) n)
     (λ other. ⊎_elim (λ found. inl (found.0, Contains-append_right (entry ∷ []) entries found.0 found.1, found.2))
     (λ none. inr (other, none)) (one-of n entries))
 
-module _ (opened : List Rec) (jobs : NumberedJobs) (view : View) (below : greatest_txn (history opened) < jobs.first)
+module _ (opened : OpenedList) (jobs : NumberedJobs) (view : View) (below : (opening_left opened).txn < jobs.first)
     (front : ℕ) (shares : List Share) (gathered : HasGathered jobs front shares view)
     (others : HasNoOthers (map task_of (all_taken jobs shares)) (later_of opened (records_of view.entries)))
     (lsn : ℕ) (whole : IsGathered lsn view) where
@@ -136,11 +135,11 @@ module _ (opened : List Rec) (jobs : NumberedJobs) (view : View) (below : greate
     abbrev parts : AreFirst view.entries records
     parts = are-first view.entries records rest splits
 
-    number-high : (place : ℕ) → greatest_txn (history opened) < number_at jobs place
+    number-high : (place : ℕ) → greatest_txn (placed opened) < number_at jobs place
     number-high place = omega (arith, below)
 
     -- a transfer behind those that were taken has no record
-    pub front-none_behind : HasNoneBehind jobs sharing (history (opened ++ records))
+    pub front-none_behind : HasNoneBehind jobs sharing (placed (with_records opened records))
     front-none_behind place behind =
         history-own opened records (number_at jobs place) (number-high place)
         ∙ ap recs_of (of_transaction-older (number_at jobs place) (later-append opened records rest).0 (later_of opened records)
@@ -149,11 +148,11 @@ module _ (opened : List Rec) (jobs : NumberedJobs) (view : View) (below : greate
         ∙ others (number_at jobs place) (not_taken jobs front shares gathered.sharing place behind)))
 
     -- a transfer with a record has an entry there
-    has-entry : (place : ℕ) → own_records_of (number_at jobs place) (history (opened ++ records)) ≢ []
+    has-entry : (place : ℕ) → own_records_of (number_at jobs place) (placed (with_records opened records)) ≢ []
         → (entry : Entry) × Contains parts.first entry × (txn_of entry.rec ≡ number_at jobs place)
     has-entry place recorded = ⊎_elim (λ found. found)
         (λ none. absurd (recorded (history-own opened records n (number-high place)
-        ∙ ap recs_of (history-others n (end_of opened) [] records
+        ∙ ap recs_of (history-others n (list_end opened) [] records
         (subst (AllByRecursion (λ (rec : Rec). txn_of rec ≢ n)) parts.records none) refl))))
         (one-of n parts.first)
       where
@@ -178,7 +177,7 @@ module _ (opened : List Rec) (jobs : NumberedJobs) (view : View) (below : greate
               (All-from_recursion _ view.entries (sized view.entries whole.full whole.spelled)) has,
         ))
 
-    pub front-in_turn : ComeInTurn jobs sharing (history (opened ++ records))
+    pub front-in_turn : ComeInTurn jobs sharing (placed (with_records opened records))
     front-in_turn places i j is-list has has' less recorded =
         let found = share-of shares places is-list in
         let share : HasShare jobs (length shares) found.1 view = gathered.each found.0 found.1 found.2 in
@@ -191,6 +190,6 @@ module _ (opened : List Rec) (jobs : NumberedJobs) (view : View) (below : greate
         (subst (λ l. Contains l entry.0) (sym parts.whole) (Contains-append_left parts.first parts.others entry.0 entry.1))
         ended.number_is entry.2 in
         ap has_end (history-own opened records (number_at jobs i) (number-high i))
-        ∙ has_end-own (number_at jobs i) (end_of opened) records ended.end.rec
+        ∙ has_end-own (number_at jobs i) (list_end opened) records ended.end.rec
         (subst (λ l. Contains l ended.end.rec) parts.records (contains-record parts.first ended.end
         (in-front ended.end entry.0 ended.contains entry.1 before))) ended.number_is ended.is_end

@@ -4,7 +4,7 @@ use Rattle.std.specs.List.{AllByRecursion, list_any}
 use Rattle.std.proofs.lemmas.List.{length-map}
 use Rattle.log_disk.specs.declared.disk.LogDisk.{Ghosts}
 use Rattle.log_disk.specs.declared.sink.Sink.{Ghosts as SinkGhosts}
-use Rattle.log_record.specs.declared.rec.Rec.{Rec}
+use Rattle.log_recovery.specs.Opened.{OpenedList}
 use Rattle.segment_file.specs.declared.scan_result.Tail.{Tail}
 use Rattle.log_table.specs.declared.table.LogTable.{LogTable}
 use Rattle.log_table.specs.declared.table.Seat.{Seat}
@@ -149,7 +149,7 @@ module _ {D : Type 0} {K : Type 0} (g : Ghosts D) (h : SinkGhosts K) (tail : Tai
 
   -- Once all seats are taken in, a front of the script was taken, and the table is closed, all is known of the run.
   pub HasTransferred-gathered : (key : Start) (table : LogTable) (queue : Queue) (wait : Bool) (crew : ℕ) → KnowsHired key crew (view_of boss)
-      → (opened : List Rec) → IsOpened g disk tail opened queue.first key
+      → (opened : OpenedList) → IsOpened g disk tail opened queue.first key
       → AreDone table queue wait served'.workers.items → length served'.workers.items ≡ crew → 1 ≤ crew
       → (front : AreFront (length queue.script) (all_places served'.workers.items) (all_marks served'.workers.items))
       → AllByRecursion (HasReadStop (view_of served'.boss).sending.stop) (map view_in served'.workers.items)

@@ -4,7 +4,7 @@ use mathlib.Core.Option.{some}
 use lib.ListN.{get_elem?}
 use Rattle.log_disk.specs.declared.disk.LogDisk.{Ghosts}
 use Rattle.log_disk.specs.declared.sink.Sink.{Ghosts as SinkGhosts}
-use Rattle.log_record.specs.declared.rec.Rec.{Rec}
+use Rattle.log_recovery.specs.Opened.{OpenedList}
 use Rattle.segment_file.specs.declared.scan_result.Tail.{Tail}
 use Rattle.log_rule.specs.declared.view.View.{View}
 use Rattle.log_table.specs.Seats.{key_of}
@@ -19,7 +19,7 @@ use Rattle.cli_threads.specs.Waiting.{HaveWaited, made_of}
 
 -- Turns led from a daemon over the one disk and sink, which went on at this tail, to one over the other, and the transfers ended so.
 -- Where workers wait, each transfer that they made, but for one that was cut off, gave its accounts back once its end was durable.
-pub record HasEnded {D : Type 0} {K : Type 0} (g : Ghosts D) (h : SinkGhosts K) (prepared : Prepared) (opened : List Rec) (tail : Tail)
+pub record HasEnded {D : Type 0} {K : Type 0} (g : Ghosts D) (h : SinkGhosts K) (prepared : Prepared) (opened : OpenedList) (tail : Tail)
     (voice : Voice) (wait : Bool) (disk disk_new : D) (sink sink_new : K) (ended : Ended) : Type 0 where
   pub front : ℕ
   pub shares : List Share

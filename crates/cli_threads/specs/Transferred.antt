@@ -3,13 +3,11 @@ use Rattle.std.specs.Prelude.{◌≡◌, ℕ, ◌+◌, ◌*◌, ◌^◌, ◌<◌
 use Rattle.std.specs.List.{AllByRecursion}
 use Rattle.log_disk.specs.declared.disk.LogDisk.{Ghosts}
 use Rattle.log_disk.specs.declared.sink.Sink.{Ghosts as SinkGhosts}
-use Rattle.log_record.specs.declared.rec.Rec.{Rec}
-use Rattle.log_record.specs.LogList.{units_of, end_of}
 use Rattle.log_record.specs.Spelling.{IsSpellable}
-use Rattle.lock_core.specs.History.{history}
-use Rattle.lock_core.specs.Lawful.{IsLawful, genesis_of}
-use Rattle.lock_core.specs.Sums.{ShowsAccounts, greatest_txn}
-use Rattle.segment_file.specs.Standing.{AllStand, IsShut}
+use Rattle.lock_core.specs.Lawful.{IsLawful}
+use Rattle.lock_core.specs.Sums.{BeginsInRange, ShowsAccounts}
+use Rattle.log_recovery.specs.Opened.{OpenedList, log_of, list_end, placed, opening_before, base_in, opening_left}
+use Rattle.segment_file.specs.Standing.{LogStands, IsShut}
 use Rattle.segment_file.specs.declared.scan_result.Tail.{Tail}
 use Rattle.log_rule.specs.declared.start.Start.{Start}
 use Rattle.log_rule.specs.declared.view.View.{View}
@@ -25,19 +23,20 @@ use Rattle.commit_pipeline.specs.Later.{Later}
 use Rattle.txn_jobs.specs.Places.{NumberedJobs}
 use Rattle.cli_threads.specs.Shares.{Share, HasGathered}
 
--- Each image stands at the tail with the opened list, which is lawful and has no transaction from the first number on. The table is made to
--- start at its end, with its accounts.
-pub record IsOpened {D : Type 0} (g : Ghosts D) (disk : D) (tail : Tail) (opened : List Rec) (first : ℕ) (key : Start) : Type 0 where
-  pub spellable : AllByRecursion IsSpellable opened
-  pub lawful : IsLawful (history opened)
-  pub some_accounts : 0 < (genesis_of (history opened)).accounts
-  pub below : greatest_txn (history opened) < first
-  pub stand : g.honest disk → AllStand tail (units_of opened) (g.images disk)
+-- Each image stands at the tail with the opened list, which is lawful and has no transaction from the first number on, and nor has what
+-- stands before it. The table is made to start at its end, with its accounts.
+pub record IsOpened {D : Type 0} (g : Ghosts D) (disk : D) (tail : Tail) (opened : OpenedList) (first : ℕ) (key : Start) : Type 0 where
+  pub spellable : AllByRecursion IsSpellable opened.records
+  pub lawful : IsLawful (opening_before opened) (placed opened)
+  pub range : BeginsInRange (opening_before opened).state
+  pub some_accounts : 0 < (base_in opened).accounts
+  pub below : (opening_left opened).txn < first
+  pub stand : g.honest disk → LogStands tail (log_of opened) (g.images disk)
   pub shut : g.honest disk → IsShut tail.at (g.images disk)
-  pub next : tail.next ≡ end_of opened
+  pub next : tail.next ≡ list_end opened
   pub place : tail.at ≤ 2 ^ 63 + 16 * tail.next
-  pub start : key.start ≡ end_of opened
-  pub accounts : ShowsAccounts key.accounts.rows (genesis_of (history opened)) (history opened)
+  pub start : key.start ≡ list_end opened
+  pub accounts : ShowsAccounts key.accounts.rows (base_in opened) (placed opened)
 
 -- the daemon has sent nothing, and its seat is the first of a table that was made with this key
 pub record IsFresh {D : Type 0} {K : Type 0} (key : Start) (d : Daemon D K) : Type 0 where
@@ -49,7 +48,7 @@ pub record IsFresh {D : Type 0} {K : Type 0} (key : Start) (d : Daemon D K) : Ty
 -- The run went on from the opened log. Turns led from the one daemon to the other, whose seat then took in all workers' seats, which
 -- left it with this view. Then the table was closed, with this end of the log and these rows. A group of whose refusal a worker heard
 -- was one of these workers.
-pub record HasTransferred {D : Type 0} {K : Type 0} (g : Ghosts D) (h : SinkGhosts K) (opened : List Rec) (jobs : NumberedJobs) (front : ℕ)
+pub record HasTransferred {D : Type 0} {K : Type 0} (g : Ghosts D) (h : SinkGhosts K) (opened : OpenedList) (jobs : NumberedJobs) (front : ℕ)
     (shares : List Share) (key : Start) (old new : Daemon D K) (view : View) (lsn : ℕ) (rows : List (ℕ × ℕ)) : Type 0 where
   pub log : IsOpened g old.flusher.disk.now old.flusher.tail opened jobs.first key
   pub fresh : IsFresh key old

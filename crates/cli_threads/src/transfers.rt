@@ -1,8 +1,8 @@
 //! The transfers of a run.
-ghost use Rattle.std.specs.Prelude.{◌≡◌, ◌≤◌, ◌<◌, ◌+◌, ◌*◌, ◌^◌, ℕ, List, All, length, None, IfOk, IfSome, IsSomeAnd};
+ghost use Rattle.std.specs.Prelude.{◌≡◌, ◌≤◌, ◌<◌, ◌+◌, ◌*◌, ◌^◌, ℕ, All, length, None, IfOk, IfSome, IsSomeAnd};
 ghost use Rattle.lsn_space.specs.declared.lsn.TheConstants.{LEAST_RING, GREATEST_RING};
 ghost use Rattle.log_record.specs.declared.limits.TheConstants.{LAST_TXN};
-ghost use Rattle.log_record.specs.declared.rec.Rec.{Rec};
+ghost use Rattle.log_recovery.specs.Opened.{OpenedList};
 ghost use Rattle.log_rule.specs.declared.layout.TheConstants.{MOST_SLOTS};
 ghost use Rattle.log_table.specs.Hiring.{HasHired};
 ghost use Rattle.log_rule.specs.Opening.{HasAccounts};
@@ -211,8 +211,8 @@ pub fn run_transfers<R: Threads + Wait + Clock + Sync, D: LogDisk, K: Sink, G: G
     gate: &G,
 ) -> Ended
     requires prepared { IsPrepared prepared }
-    requires opened { (opened : List Rec) × IsOpened D.LogDisk disk.old tail opened prepared.jobs.queue.first (key_of prepared.table) }
-    ensures ended { (opened : List Rec) → IsOpened D.LogDisk disk.old tail opened prepared.jobs.queue.first (key_of prepared.table)
+    requires opened { (opened : OpenedList) × IsOpened D.LogDisk disk.old tail opened prepared.jobs.queue.first (key_of prepared.table) }
+    ensures ended { (opened : OpenedList) → IsOpened D.LogDisk disk.old tail opened prepared.jobs.queue.first (key_of prepared.table)
         → HasEnded D.LogDisk K.Sink prepared opened tail voice wait disk.old disk.new out.old out.new result }
 {
     let Prepared {
