@@ -3,7 +3,7 @@ use Rattle.std.proofs.Common.{◌≡◌, ◌⊎◌, inl, inr, ◌∙◌, ap, ap�
 use Rattle.clap.specs.Words.{Row, subcommand_of}
 use Rattle.command_line.specs.CommandLine.{aether_command, AreKnown, AreOptions, AreTaken, HasNoDemo, HasNoOptions, IsCommandLine, IsDemo, IsMismatchOf, IsRefusalOf, NamesBadNumbers, NamesSubcommand, log_in}
 use Rattle.command_line.specs.declared.command.Command.{Command}
-use Rattle.command_line.specs.declared.command.Command.TheVariants.{New, Run, Recover, Dump, Demo}
+use Rattle.command_line.specs.declared.command.Command.TheVariants.{New, Run, Recover, Dump, Demo, Cut, Upgrade}
 use Rattle.command_line.specs.declared.command.Refused.{Refused}
 use Rattle.command_line.specs.declared.command.Refused.TheVariants.{NoMemory, Usage}
 use Rattle.command_line.specs.declared.options.RunOptions.{RunOptions}
@@ -51,6 +51,39 @@ module _ (words : List (List ℕ)) where
 
   dump-demo : codes "dump" ≡ codes "demo" → ⊥
   dump-demo same = let letter = letter-at 1 _ _ same in omega arith
+
+  new-cut : codes "new" ≡ codes "cut" → ⊥
+  new-cut same = let letter = letter-at 0 _ _ same in omega arith
+
+  new-upgrade : codes "new" ≡ codes "upgrade" → ⊥
+  new-upgrade same = let letter = letter-at 0 _ _ same in omega arith
+
+  run-cut : codes "run" ≡ codes "cut" → ⊥
+  run-cut same = let letter = letter-at 0 _ _ same in omega arith
+
+  run-upgrade : codes "run" ≡ codes "upgrade" → ⊥
+  run-upgrade same = let letter = letter-at 0 _ _ same in omega arith
+
+  recover-cut : codes "recover" ≡ codes "cut" → ⊥
+  recover-cut same = let letter = letter-at 0 _ _ same in omega arith
+
+  recover-upgrade : codes "recover" ≡ codes "upgrade" → ⊥
+  recover-upgrade same = let letter = letter-at 0 _ _ same in omega arith
+
+  dump-cut : codes "dump" ≡ codes "cut" → ⊥
+  dump-cut same = let letter = letter-at 0 _ _ same in omega arith
+
+  dump-upgrade : codes "dump" ≡ codes "upgrade" → ⊥
+  dump-upgrade same = let letter = letter-at 0 _ _ same in omega arith
+
+  demo-cut : codes "demo" ≡ codes "cut" → ⊥
+  demo-cut same = let letter = letter-at 0 _ _ same in omega arith
+
+  demo-upgrade : codes "demo" ≡ codes "upgrade" → ⊥
+  demo-upgrade same = let letter = letter-at 0 _ _ same in omega arith
+
+  cut-upgrade : codes "cut" ≡ codes "upgrade" → ⊥
+  cut-upgrade same = let letter = letter-at 0 _ _ same in omega arith
 
   apart : {C : Type 0} (name other : List ℕ) (rows more : List Row) → (name ≡ other → ⊥) → NamesSubcommand words name rows
       → NamesSubcommand words other more → C
@@ -102,6 +135,30 @@ module _ (words : List (List ℕ)) where
   asks-one (Demo other n seed more) (Run log options) is also = apart _ _ also.1 is.1 run-demo also.2 is.2
   asks-one (Demo other n seed more) Recover is also = apart _ _ also.1 is.1 recover-demo also.2 is.2
   asks-one (Demo other n seed more) Dump is also = apart _ _ also.1 is.1 dump-demo also.2 is.2
+  asks-one (Cut log) (Cut other) is also = ap Cut (is.3 ∙ ap log_in (one-name _ _ is.1 also.1 is.2 also.2).1 ∙ sym also.3)
+  asks-one (Upgrade log) (Upgrade other) is also = ap Upgrade (is.3 ∙ ap log_in (one-name _ _ is.1 also.1 is.2 also.2).1 ∙ sym also.3)
+  asks-one (New log) (Cut other) is also = apart _ _ is.1 also.1 new-cut is.2 also.2
+  asks-one (Cut log) (New other) is also = apart _ _ also.1 is.1 new-cut also.2 is.2
+  asks-one (New log) (Upgrade other) is also = apart _ _ is.1 also.1 new-upgrade is.2 also.2
+  asks-one (Upgrade log) (New other) is also = apart _ _ also.1 is.1 new-upgrade also.2 is.2
+  asks-one (Run log options) (Cut other) is also = apart _ _ is.1 also.1 run-cut is.2 also.2
+  asks-one (Cut log) (Run other more) is also = apart _ _ also.1 is.1 run-cut also.2 is.2
+  asks-one (Run log options) (Upgrade other) is also = apart _ _ is.1 also.1 run-upgrade is.2 also.2
+  asks-one (Upgrade log) (Run other more) is also = apart _ _ also.1 is.1 run-upgrade also.2 is.2
+  asks-one Recover (Cut other) is also = apart _ _ is.1 also.1 recover-cut is.2 also.2
+  asks-one (Cut log) Recover is also = apart _ _ also.1 is.1 recover-cut also.2 is.2
+  asks-one Recover (Upgrade other) is also = apart _ _ is.1 also.1 recover-upgrade is.2 also.2
+  asks-one (Upgrade log) Recover is also = apart _ _ also.1 is.1 recover-upgrade also.2 is.2
+  asks-one Dump (Cut other) is also = apart _ _ is.1 also.1 dump-cut is.2 also.2
+  asks-one (Cut log) Dump is also = apart _ _ also.1 is.1 dump-cut also.2 is.2
+  asks-one Dump (Upgrade other) is also = apart _ _ is.1 also.1 dump-upgrade is.2 also.2
+  asks-one (Upgrade log) Dump is also = apart _ _ also.1 is.1 dump-upgrade also.2 is.2
+  asks-one (Demo log transfers seed options) (Cut other) is also = apart _ _ is.1 also.1 demo-cut is.2 also.2
+  asks-one (Cut log) (Demo other n seed more) is also = apart _ _ also.1 is.1 demo-cut also.2 is.2
+  asks-one (Demo log transfers seed options) (Upgrade other) is also = apart _ _ is.1 also.1 demo-upgrade is.2 also.2
+  asks-one (Upgrade log) (Demo other n seed more) is also = apart _ _ also.1 is.1 demo-upgrade also.2 is.2
+  asks-one (Cut log) (Upgrade other) is also = apart _ _ is.1 also.1 cut-upgrade is.2 also.2
+  asks-one (Upgrade log) (Cut other) is also = apart _ _ also.1 is.1 cut-upgrade also.2 is.2
 
   -- words that are known ask something, but for `run` and `demo` perhaps
   some-pair : {X : Type 0} (o : Option X) → is_some o ≡ true → (x : X) × (o ≡ Some x)
@@ -117,7 +174,9 @@ module _ (words : List (List ℕ)) where
         | inr (inl run) ↦ inr (found.0.1, inl (rw run at named))
         | inr (inr (inl recover)) ↦ inl (Recover, (known, found.0.1, rw recover at named))
         | inr (inr (inr (inl dump))) ↦ inl (Dump, (known, found.0.1, rw dump at named))
-        | inr (inr (inr (inr demo))) ↦ inr (found.0.1, inr (rw demo at named))
+        | inr (inr (inr (inr (inl demo)))) ↦ inr (found.0.1, inr (rw demo at named))
+        | inr (inr (inr (inr (inr (inl cut))))) ↦ inl (Cut (log_in found.0.1), (known, found.0.1, rw cut at named, refl))
+        | inr (inr (inr (inr (inr (inr upgrade))))) ↦ inl (Upgrade (log_in found.0.1), (known, found.0.1, rw upgrade at named, refl))
       ]
 
   -- words that the command doesn't take ask nothing
@@ -127,17 +186,19 @@ module _ (words : List (List ℕ)) where
   known-taken (Recover, is) = is.0
   known-taken (Dump, is) = is.0
   known-taken (Demo log transfers seed options, is) = is.0
+  known-taken (Cut log, is) = is.0
+  known-taken (Upgrade log, is) = is.0
 
   pub refuses-mismatch : (refused : Refused) → IsMismatchOf words refused → IsRefusalOf words refused
   refuses-mismatch Usage unknown = λ taken. unknown (known-taken taken)
   refuses-mismatch NoMemory any = tt
 
-  -- `new` is answered with the name of its log
-  pub answers-new : (result : Result Command Refused) (log : List ℕ) → IsCommandLine words (New log)
-      → MatchResult result (λ command. command ≡ New log) (λ fault. fault ≡ NoMemory)
+  -- a command that is given a log alone is answered with it
+  pub answers-log : (result : Result Command Refused) (this : Command) → IsCommandLine words this
+      → MatchResult result (λ command. command ≡ this) (λ fault. fault ≡ NoMemory)
       → MatchResult result (IsCommandLine words) (IsRefusalOf words)
-  answers-new (Ok command) log asked is = subst (IsCommandLine words) (sym is) asked
-  answers-new (Err fault) log asked is = subst (IsRefusalOf words) (sym is) tt
+  answers-log (Ok command) this asked is = subst (IsCommandLine words) (sym is) asked
+  answers-log (Err fault) this asked is = subst (IsRefusalOf words) (sym is) tt
 
   module _ (rows : List Row) (known : AreKnown words) (named : NamesSubcommand words (codes "run") rows) where
     abbrev Answers : Result Command Refused → Type 0
@@ -151,6 +212,8 @@ module _ (words : List (List ℕ)) where
     none-asked none (Recover, is) = apart _ _ rows is.1 run-recover named is.2
     none-asked none (Dump, is) = apart _ _ rows is.1 run-dump named is.2
     none-asked none (Demo log transfers seed options, is) = apart _ _ rows is.1 run-demo named is.2
+    none-asked none (Cut log, is) = apart _ _ rows is.1 run-cut named is.2
+    none-asked none (Upgrade log, is) = apart _ _ rows is.1 run-upgrade named is.2
 
     -- and else it is answered with its log and its options
     pub answers-run : (result : Result Command Refused) → Answers result → MatchResult result (IsCommandLine words) (IsRefusalOf words)
@@ -178,6 +241,8 @@ module _ (words : List (List ℕ)) where
     no-demo-asked none (Run log options, is) = apart _ _ is.1 rows run-demo is.2 named
     no-demo-asked none (Recover, is) = apart _ _ is.1 rows recover-demo is.2 named
     no-demo-asked none (Dump, is) = apart _ _ is.1 rows dump-demo is.2 named
+    no-demo-asked none (Cut log, is) = apart _ _ rows is.1 demo-cut named is.2
+    no-demo-asked none (Upgrade log, is) = apart _ _ rows is.1 demo-upgrade named is.2
 
     -- and else it is answered with its log, its numbers and its options
     pub answers-demo : (result : Result Command Refused) → AnswersDemo result → MatchResult result (IsCommandLine words) (IsRefusalOf words)

@@ -8,7 +8,7 @@ use Rattle.command_line.specs.Ranges.{AreInRange}
 use Rattle.command_line.specs.declared.parsing.TheConstants.{GREATEST_SEED}
 use Rattle.command_line.specs.declared.options.RunOptions.{RunOptions}
 use Rattle.command_line.specs.declared.command.Command.{Command}
-use Rattle.command_line.specs.declared.command.Command.TheVariants.{New, Run, Recover, Dump, Demo}
+use Rattle.command_line.specs.declared.command.Command.TheVariants.{New, Run, Recover, Dump, Demo, Cut, Upgrade}
 use Rattle.command_line.specs.declared.command.Subcommand.{Subcommand}
 use Rattle.command_line.specs.declared.command.Subcommand.TheVariants as subcommand
 use Rattle.command_line.specs.declared.command.Refused.{Refused}
@@ -44,6 +44,12 @@ demo_command = with_rule (with_rule (with_rule (with_rule (with_rule (with_rule 
     (required_rule (codes "N"))) (required_rule (codes "SEED"))) (option_rule (codes "workers"))) (option_rule (codes "ring")))
     (option_rule (codes "slots"))
 
+unfoldable pub cut_command : App
+cut_command = with_rule (new_app (codes "cut")) (required_rule (codes "LOG"))
+
+unfoldable pub upgrade_command : App
+upgrade_command = with_rule (new_app (codes "upgrade")) (required_rule (codes "LOG"))
+
 -- the command without its subcommands: one of them is required, and it has no flag or subcommand for help or version
 abbrev pub bare_command : App
 bare_command = record (new_app (codes "aether")) {
@@ -58,8 +64,8 @@ bare_command = record (new_app (codes "aether")) {
 -- the command of the program
 unfoldable pub aether_command : App
 aether_command =
-    with_subcommand (with_subcommand (with_subcommand (with_subcommand (with_subcommand bare_command new_command.top) run_command.top)
-    recover_command.top) dump_command.top) demo_command.top
+    with_subcommand (with_subcommand (with_subcommand (with_subcommand (with_subcommand (with_subcommand (with_subcommand bare_command
+    new_command.top) run_command.top) recover_command.top) dump_command.top) demo_command.top) cut_command.top) upgrade_command.top
 
 -- the command takes the words
 abbrev pub AreKnown : List (List ℕ) → Type 0
@@ -72,7 +78,8 @@ NamesSubcommand words name rows = subcommand_of aether_command words ≡ Some (n
 -- one of the subcommands has this name
 abbrev pub IsSubcommand : List ℕ → Type 0
 IsSubcommand name =
-    (name ≡ codes "new") ⊎ (name ≡ codes "run") ⊎ (name ≡ codes "recover") ⊎ (name ≡ codes "dump") ⊎ (name ≡ codes "demo")
+    (name ≡ codes "new") ⊎ (name ≡ codes "run") ⊎ (name ≡ codes "recover") ⊎ (name ≡ codes "dump") ⊎ (name ≡ codes "demo") ⊎ (name ≡ codes "cut")
+    ⊎ (name ≡ codes "upgrade")
 
 -- the name of a subcommand
 abbrev pub name_of : Subcommand → List ℕ
@@ -81,6 +88,8 @@ name_of subcommand.Run = codes "run"
 name_of subcommand.Recover = codes "recover"
 name_of subcommand.Dump = codes "dump"
 name_of subcommand.Demo = codes "demo"
+name_of subcommand.Cut = codes "cut"
+name_of subcommand.Upgrade = codes "upgrade"
 
 -- the value of LOG, which stands first in its row
 abbrev pub log_in : List Row → List ℕ
@@ -123,6 +132,8 @@ IsCommandLine words Recover = AreKnown words × (rows : List Row) × NamesSubcom
 IsCommandLine words Dump = AreKnown words × (rows : List Row) × NamesSubcommand words (codes "dump") rows
 IsCommandLine words (Demo log transfers seed options) = AreKnown words × (rows : List Row) × NamesSubcommand words (codes "demo") rows
     × (log ≡ log_in rows) × IsDemo rows transfers seed options
+IsCommandLine words (Cut log) = AreKnown words × (rows : List Row) × NamesSubcommand words (codes "cut") rows × (log ≡ log_in rows)
+IsCommandLine words (Upgrade log) = AreKnown words × (rows : List Row) × NamesSubcommand words (codes "upgrade") rows × (log ≡ log_in rows)
 
 -- the words ask something
 abbrev pub AreTaken : List (List ℕ) → Type 0

@@ -28,6 +28,16 @@ pub enum Command {
         seed: u32,
         options: RunOptions,
     },
+
+    /// A log is made at this place, of what the log of the input leaves of its accounts.
+    Cut {
+        log: Word,
+    },
+
+    /// A log is made at this place, of the log of the input, with its Genesis records as what stands before the list.
+    Upgrade {
+        log: Word,
+    },
 }
 
 /// Which subcommand words name.
@@ -38,6 +48,8 @@ pub(crate) enum Subcommand {
     Recover,
     Dump,
     Demo,
+    Cut,
+    Upgrade,
 }
 
 /// Why words ask nothing.

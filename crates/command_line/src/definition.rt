@@ -2,7 +2,7 @@
 ghost use Rattle.std.specs.Prelude.{◌≡◌, IfOk, false};
 ghost use Rattle.clap.specs.Words.{App, Rule, app_of, rule_of, with_rule, with_subcommand};
 ghost use Rattle.command_line.specs.Building.{Builds, log_command};
-ghost use Rattle.command_line.specs.CommandLine.{aether_command, bare_command, demo_command, flag_rule, new_command, option_rule, required_rule, run_command};
+ghost use Rattle.command_line.specs.CommandLine.{aether_command, bare_command, cut_command, demo_command, flag_rule, new_command, option_rule, required_rule, run_command, upgrade_command};
 
 use clap::{Arg, ArgAction, Command};
 use std::alloc::{AllocError, Global};
@@ -97,6 +97,18 @@ fn demo<'a>(alloc: Global) -> Result<Command<'a>, AllocError>
     and_arg(command, option(alloc, "slots"))
 }
 
+fn cut<'a>(alloc: Global) -> Result<Command<'a>, AllocError>
+    ensures { Builds result cut_command }
+{
+    on_log(alloc, "cut")
+}
+
+fn upgrade<'a>(alloc: Global) -> Result<Command<'a>, AllocError>
+    ensures { Builds result upgrade_command }
+{
+    on_log(alloc, "upgrade")
+}
+
 /// A command line that asks for help is a faulty one, so nothing here stands for help or for a version.
 fn bare<'a>(alloc: Global) -> Command<'a>
     ensures { app_of result ≡ bare_command }
@@ -116,5 +128,7 @@ pub(crate) fn aether<'a>(alloc: Global) -> Result<Command<'a>, AllocError>
     let command = and_subcommand(command, run(alloc));
     let command = and_subcommand(command, Ok(Command::new(alloc, "recover")));
     let command = and_subcommand(command, Ok(Command::new(alloc, "dump")));
-    and_subcommand(command, demo(alloc))
+    let command = and_subcommand(command, demo(alloc));
+    let command = and_subcommand(command, cut(alloc));
+    and_subcommand(command, upgrade(alloc))
 }

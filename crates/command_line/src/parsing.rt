@@ -1,7 +1,7 @@
 ghost use Rattle.std.specs.Prelude.{◌≡◌, ◌⊎◌, List, ℕ, IfErr, MatchResult, true};
 ghost use Rattle.clap.specs.Words.{found_of, rows_of, subcommand_of, subcommand_rows_of, takes};
 ghost use Rattle.command_line.specs.CommandLine.{aether_command, log_in, AreKnown, name_of, AreOptions, HasNoDemo, HasNoOptions, IsCommandLine, IsDemo, IsRefusalOf, IsSubcommand, NamesBadNumbers, NamesSubcommand};
-ghost use Rattle.command_line.specs.declared.command.Command.TheVariants.{Demo, New, Run};
+ghost use Rattle.command_line.specs.declared.command.Command.TheVariants.{Cut, Demo, New, Run, Upgrade};
 ghost use Rattle.command_line.specs.declared.options.RunOptions.{RunOptions};
 
 use crate::command::{Command, Refused, Subcommand};
@@ -53,6 +53,8 @@ fn asked(alloc: Global, name: &str, found: &ArgMatches<'_>) -> Result<Command, R
         Subcommand::Recover => Ok(Command::Recover),
         Subcommand::Dump => Ok(Command::Dump),
         Subcommand::Demo => demo(alloc, found),
+        Subcommand::Cut => cut(alloc, found),
+        Subcommand::Upgrade => upgrade(alloc, found),
     }
 }
 
@@ -67,6 +69,8 @@ fn subcommand(name: &str) -> Subcommand
         "recover" => Subcommand::Recover,
         "dump" => Subcommand::Dump,
         "demo" => Subcommand::Demo,
+        "cut" => Subcommand::Cut,
+        "upgrade" => Subcommand::Upgrade,
         _ => unreachable!(),
     }
 }
@@ -113,6 +117,20 @@ fn demo(alloc: Global, found: &ArgMatches<'_>) -> Result<Command, Refused>
         seed,
         options,
     })
+}
+
+fn cut(alloc: Global, found: &ArgMatches<'_>) -> Result<Command, Refused>
+    ensures { MatchResult result (λ c. c ≡ Cut (log_in (rows_of (found_of found.now)))) (λ e. e ≡ Refused.NoMemory) }
+{
+    let log = log_of(alloc, found)?;
+    Ok(Command::Cut { log })
+}
+
+fn upgrade(alloc: Global, found: &ArgMatches<'_>) -> Result<Command, Refused>
+    ensures { MatchResult result (λ c. c ≡ Upgrade (log_in (rows_of (found_of found.now)))) (λ e. e ≡ Refused.NoMemory) }
+{
+    let log = log_of(alloc, found)?;
+    Ok(Command::Upgrade { log })
 }
 
 /// The value of LOG.

@@ -8,4 +8,6 @@ returns c =
     let run = c.and_subcommand-command-2.ensures _ _ new c.run.ensures in
     let recover = c.and_subcommand-command-3.ensures _ _ run (c.new-2.ensures.app, c.new-2.ensures.local) in
     let dump = c.and_subcommand-command-4.ensures _ _ recover (c.new-3.ensures.app, c.new-3.ensures.local) in
-    c.and_subcommand.ensures _ _ dump c.demo.ensures
+    let demo = c.and_subcommand-command-5.ensures _ _ dump c.demo.ensures in
+    let cut = c.and_subcommand-command-6.ensures _ _ demo c.cut.ensures in
+    c.and_subcommand.ensures _ _ cut c.upgrade.ensures

@@ -1,12 +1,12 @@
 use Rattle.std.proofs.Common.{◌∙◌, ap, refl}
 use Rattle.clap.specs.Words.{found_of, rows_of}
 use Rattle.command_line.specs.CommandLine.{name_of}
-use Rattle.command_line.proofs.Asking.{answers-demo, answers-new, answers-run, refuses-demo, refuses-run}
+use Rattle.command_line.proofs.Asking.{answers-demo, answers-log, answers-run, refuses-demo, refuses-run}
 use Rattle.command_line.proofs.parsing.asked.Goals as goal
 
 pub returns-in-New-clause-exact : goal.returns-in-New-clause-exact
 returns-in-New-clause-exact c = λ words known named.
-    answers-new words c.new.result _ (known, rows_of (found_of c.args.found.now), rw (c.subcommand.ensures ∙ ap name_of c.in-New.is) at named, refl) c.new.ensures
+    answers-log words c.new.result _ (known, rows_of (found_of c.args.found.now), rw (c.subcommand.ensures ∙ ap name_of c.in-New.is) at named, refl) c.new.ensures
 
 pub returns-in-Run-clause-exact : goal.returns-in-Run-clause-exact
 returns-in-Run-clause-exact c = λ words known named.
@@ -29,3 +29,11 @@ returns-in-Demo-clause-exact c = λ words known named.
 pub returns-in-Demo-clause-taken : goal.returns-in-Demo-clause-taken
 returns-in-Demo-clause-taken c = λ words known named.
     refuses-demo words (rows_of (found_of c.args.found.now)) known (rw (c.subcommand.ensures ∙ ap name_of c.in-Demo.is) at named) c.demo.result c.demo.ensures
+
+pub returns-in-Cut-clause-exact : goal.returns-in-Cut-clause-exact
+returns-in-Cut-clause-exact c = λ words known named.
+    answers-log words c.cut.result _ (known, rows_of (found_of c.args.found.now), rw (c.subcommand.ensures ∙ ap name_of c.in-Cut.is) at named, refl) c.cut.ensures
+
+pub returns-in-Upgrade-clause-exact : goal.returns-in-Upgrade-clause-exact
+returns-in-Upgrade-clause-exact c = λ words known named.
+    answers-log words c.upgrade.result _ (known, rows_of (found_of c.args.found.now), rw (c.subcommand.ensures ∙ ap name_of c.in-Upgrade.is) at named, refl) c.upgrade.ensures
