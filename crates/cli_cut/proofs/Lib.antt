@@ -1,0 +1,10 @@
+pub mod AnswerLemmas
+pub mod CuttingLemmas
+pub mod FrontLemmas
+pub mod GenesisLemmas
+pub mod PartsLemmas
+pub mod ReadyLemmas
+pub mod SameLemmas
+pub mod UpgradeLemmas
+pub mod UpgradingLemmas
+pub mod WritingLemmas

@@ -1,0 +1,87 @@
+-- What is known of a log before it is upgraded, from what was read and asked for.
+use Rattle.std.proofs.Common.{◌≡◌, ◌≤◌, ◌∙◌, refl, ap, sym, subst, ℕ, ◌+◌, List, [], ◌++◌, length, length-append, Option, arith}
+use Rattle.lsn_space.specs.declared.lsn.TheConstants.{LAST}
+use Rattle.log_record.specs.declared.rec.Rec.{Rec}
+use Rattle.log_record.specs.LogList.{AreUnitsOf, units_of, end_of}
+use Rattle.log_record.specs.Spelling.{IsSpellable}
+use Rattle.lock_core.proofs.ListLemmas.{all-split}
+use Rattle.segment_file.specs.declared.layout.TheConstants.{MOST_UNITS}
+use Rattle.log_recovery.specs.Opened.{OpenedList, list_end, with_front}
+use Rattle.log_recovery.specs.Recovery.{HoldsLawful, ListsBytes, Recovers, list_of}
+use Rattle.log_recovery.specs.declared.list_result.Listed.{Listed}
+use Rattle.log_recovery.proofs.AnswerLemmas.{one-list}
+use Rattle.log_recovery.proofs.ListingLemmas.{units_of-append}
+use Rattle.cli_shared.specs.Answers.{ReadsAll}
+use Rattle.cli_cut.specs.Cutting.{IsCutOf}
+use Rattle.cli_cut.specs.Parts.{ArePartsOf, SplitsGenesis}
+use Rattle.cli_cut.specs.declared.reading.Parts.{Parts}
+use Rattle.cli_cut.proofs.FrontLemmas.{behind-units, front-inside, split-is, split-none}
+
+-- the list that was read is the one that was listed, which is lawful
+module _ (bytes : List ℕ) (listed : Listed) (found : ListsBytes listed bytes) (list : OpenedList) (held : HoldsLawful bytes list) where
+  pub same-listed : list ≡ list_of listed found.records
+  same-listed = one-list bytes list (list_of listed found.records) held.list found.held
+
+  pub listed-lawful : HoldsLawful bytes (list_of listed found.records)
+  listed-lawful = subst (HoldsLawful bytes) same-listed held
+
+-- its front ends where LSNs do, or before
+pub front-fits : (bytes : List ℕ) (listed : Listed) (found : ListsBytes listed bytes) (front : ℕ) → SplitsGenesis listed.units front
+    → listed.opening.lsn + front ≤ LAST
+front-fits bytes listed found front split = omega (
+  arith,
+  found.held.holds.reads.total,
+  front-inside listed.units split.genesis split.later front split.list split.place,
+  ap length found.has.list.units_are,
+)
+
+module _ (left left_new : Option (List ℕ)) (parts : Parts) (bytes : List ℕ) (recovers : Recovers parts.recovered bytes) (found : ListsBytes parts.listed bytes)
+    (split : SplitsGenesis parts.listed.units parts.front)
+    (cut : (genesis later : List Rec) → AreUnitsOf parts.listed.units (genesis ++ later) → parts.front ≡ length (units_of genesis)
+    → IsCutOf (list_of parts.listed genesis) parts.head) where
+  same : recovers.list ≡ list_of parts.listed found.records
+  same = same-listed bytes parts.listed found recovers.list recovers.held
+
+  lawful : HoldsLawful bytes (list_of parts.listed found.records)
+  lawful = listed-lawful bytes parts.listed found recovers.list recovers.held
+
+  abbrev made : OpenedList
+  made = record { opening = parts.head; records = split.later }
+
+  whole : found.records ≡ split.genesis ++ split.later
+  whole = split-is bytes (list_of parts.listed found.records) lawful parts.listed.units found.has.list.units_are parts.front split
+
+  is_cut : IsCutOf (list_of parts.listed split.genesis) parts.head
+  is_cut = cut split.genesis split.later split.list split.place
+
+  made-fits : list_end made ≤ LAST
+  made-fits = omega (
+    arith,
+    is_cut.lsn,
+    found.held.holds.reads.total,
+    ap end_of whole,
+    ap length (units_of-append split.genesis split.later),
+    length-append (units_of split.genesis) (units_of split.later),
+  )
+
+  pub are-parts : ReadsAll left left_new bytes → parts.batch.units ≡ [] → parts.batch.room ≡ MOST_UNITS → ArePartsOf left left_new parts
+  are-parts read none room = record {
+    bytes = bytes;
+    read = read;
+    recovers = recovers;
+    made = made;
+    upgrade = record {
+      genesis = split.genesis;
+      whole = ap (λ (list : OpenedList). list.records) same ∙ whole;
+      all = split.all;
+      none = split-none bytes (list_of parts.listed found.records) lawful parts.listed.units found.has.list.units_are parts.front split;
+      opening = subst (λ (list : OpenedList). IsCutOf (with_front list split.genesis) parts.head) (sym same) is_cut;
+    };
+    spellable = (all-split IsSpellable split.genesis split.later split.list.spellable).1;
+    head = refl;
+    units = behind-units parts.listed.units split.genesis split.later parts.front split.list split.place;
+    within = front-inside parts.listed.units split.genesis split.later parts.front split.list split.place;
+    fits = made-fits;
+    none = none;
+    room = room;
+  }

@@ -1,0 +1,198 @@
+use Rattle.std.proofs.Common.{◌≤◌, ◌<◌, ◌+◌, ◌∙◌, refl, ap, sym, subst, [], length, arith}
+use Rattle.std.proofs.lemmas.Result.{on_ok_weaker}
+use Rattle.log_disk.specs.Faults.{HasCause}
+use Rattle.log_record.specs.LogList.{size_of}
+use Rattle.log_record.proofs.BoundLemmas.{length-spelling}
+use Rattle.log_recovery.specs.Opened.{log_of}
+use Rattle.segment_file.specs.Packing.{BatchState}
+use Rattle.segment_file.specs.declared.layout.TheConstants.{MOST_UNITS}
+use Rattle.cli_cut.specs.Batches.{batches_of}
+use Rattle.cli_cut.proofs.ReadyLemmas.{IsGathered, IsReady, can-add, can-fit, can-open, can-place, failed-count, failed-grows, failed-moments, gathered, gathered-underway, none-there, opened-count, opened-grows, opened-moments, ready-begun, ready-flushed, ready-last, ready-same, ready-taken, some-full}
+use Rattle.cli_cut.proofs.writing.write_log.Goals as goal
+use Rattle.cli_cut.proofs.writing.write_log.Goals.{then-count-size+in_ok-tail-2, else-count-size, then-count-gt0+in_ok-add_cut, else-count-gt0}
+
+-- ---- before each record
+
+pub records-init : goal.records-init
+records-init g c =
+    let begun = c.in_ok-tail.ensures in
+    ready-same g.D.LogDisk c.args.disk.now c.args.head.now c.args.units.now _ _ _ _ _ _ _ _ _ refl refl c.requires.none refl
+    (ready-begun g.D.LogDisk c.args.disk.now c.args.head.now c.args.units.now _ c.in_ok-tail.tail c.args.batch.now.room begun.begun begun.moments begun.place
+    begun.next begun.length begun.count c.requires.room begun.later begun.honest begun.attached begun.cause.fine)
+
+pub overflow_add-count : goal.overflow_add-count
+overflow_add-count g c = omega (arith, c.count.type_inv, c.in-Ok.ensures.found.1, length-spelling _ c.in-Ok.ensures.found.0.0)
+
+-- ---- a batch before a record that doesn't fit
+
+pub add_cut-requires-clause-some : goal.add_cut-requires-clause-some
+add_cut-requires-clause-some g c =
+    some-full _ c.in-Ok.field-0-0 c.in-Ok.ensures.found.0.0 (omega (arith, c.if-count-size.true, c.count.ensures, c.in-Ok.ensures.found.1))
+
+pub add_cut-requires-clause-most : goal.add_cut-requires-clause-most
+add_cut-requires-clause-most g c = (c.records.invariant.writing c.requires.records.0 c.requires.records.1).few
+
+pub add_cut-requires-clause-fits : goal.add_cut-requires-clause-fits
+add_cut-requires-clause-fits g c = can-fit g.D.LogDisk _ c.args.head.now _ _ _ _ _ _ c.records.invariant c.requires.records c.requires.fits
+
+pub add_cut-requires-clause-place : goal.add_cut-requires-clause-place
+add_cut-requires-clause-place g c = can-place g.D.LogDisk _ c.args.head.now _ _ _ _ _ _ c.records.invariant c.requires.records c.in_ok-tail.ensures.held
+
+pub add_cut-requires-clause-underway : goal.add_cut-requires-clause-underway
+add_cut-requires-clause-underway g c = can-add g.D.LogDisk _ c.args.head.now _ _ _ _ _ _ c.records.invariant c.requires.records
+
+pub returns-in_err-tail-2-clause-moments : goal.returns-in_err-tail-2-clause-moments
+returns-in_err-tail-2-clause-moments g c =
+    failed-moments g.D.LogDisk _ c.args.head.now _ _ _ _ _ _ c.records.invariant _ c.add_cut.ensures.moments
+
+pub returns-in_err-tail-2-clause-count : goal.returns-in_err-tail-2-clause-count
+returns-in_err-tail-2-clause-count g c =
+    failed-count g.D.LogDisk _ c.args.head.now _ _ _ _ _ _ c.records.invariant _ c.add_cut.ensures.count
+
+pub returns-in_err-tail-2-clause-grows : goal.returns-in_err-tail-2-clause-grows
+returns-in_err-tail-2-clause-grows g c = λ honest records are.
+    let some = some-full _ c.in-Ok.field-0-0 c.in-Ok.ensures.found.0.0 (omega (arith, c.if-count-size.true, c.count.ensures, c.in-Ok.ensures.found.1)) in
+    failed-grows g.D.LogDisk _ c.args.head.now _ _ _ _ _ _ c.records.invariant (records, are) _ some c.add_cut.ensures.length honest
+
+-- ---- the record waits
+
+pub push_all-requires : goal.push_all-requires
+push_all-requires g c =
+    let small = length-spelling _ c.in-Ok.ensures.found.0.0 in
+    elim c.if-count-size.branch [
+      | then-count-size+in_ok-tail-2 w ↦
+          (let cleared = w.batch-is ∙ w.clear.ensures in
+          omega (
+            arith,
+            ap (λ (b : BatchState). length b.units) cleared,
+            ap (λ (b : BatchState). b.room) (cleared ∙ ap (λ (b : BatchState). record b { units = [] }) w.in_ok-tail-2.ensures.batch),
+            c.records.invariant.room_is,
+            c.split_at.ensures.front_len,
+            c.in-Ok.ensures.found.1,
+            small,
+          ))
+      | else-count-size w ↦
+          omega (
+            arith,
+            ap (λ (b : BatchState). length b.units) w.batch-is,
+            ap (λ (b : BatchState). b.room) w.batch-is,
+            c.records.invariant.room_is,
+            c.split_at.ensures.front_len,
+            c.count.ensures,
+            w.if-count-size.false,
+          )
+    ]
+
+pub records-preserved : goal.records-preserved
+records-preserved g c =
+    let begins = c.in-Ok.ensures.found.0 in
+    let size = c.in-Ok.ensures.found.1 in
+    let small = length-spelling _ begins.0 in
+    let ready : IsReady g.D.LogDisk c.args.disk.now c.args.head.now c.args.units.now c.if-count-size.disk c.if-count-size.tail c.if-count-size.batch.units
+    c.if-count-size.batch.room c.records.rest.now × (length c.if-count-size.batch.units + c.in-Ok.size ≤ MOST_UNITS) =
+    elim c.if-count-size.branch [
+      | then-count-size+in_ok-tail-2 w ↦
+          (let full : MOST_UNITS < length c.records.batch.units + size_of c.in-Ok.field-0-0 = omega (arith, w.if-count-size.true, c.count.ensures, size) in
+          let some = some-full _ c.in-Ok.field-0-0 begins.0 full in
+          let cleared = w.batch-is ∙ w.clear.ensures in
+          let units = ap (λ (b : BatchState). b.units) cleared in
+          let room = ap (λ (b : BatchState). b.room) (cleared ∙ ap (λ (b : BatchState). record b { units = [] }) w.in_ok-tail-2.ensures.batch) in
+          let added = w.in_ok-tail-2.ensures in (
+            ready-same g.D.LogDisk _ c.args.head.now _ _ _ _ _ _ _ _ _ _ w.disk-is w.tail-is units room
+                (ready-flushed g.D.LogDisk _ c.args.head.now _ _ _ _ _ _ c.records.invariant _ w.in_ok-tail-2.tail added.added added.moments added.place added.next
+                added.length added.count added.later added.honest added.attached added.cause.fine some c.in-Ok.field-0-0 begins full),
+            omega (arith, ap length units, size, small),
+          ))
+      | else-count-size w ↦
+          (let units = ap (λ (b : BatchState). b.units) w.batch-is in (
+            ready-same g.D.LogDisk _ c.args.head.now _ _ _ _ _ _ _ _ _ _ w.disk-is w.tail-is units (ap (λ (b : BatchState). b.room) w.batch-is) c.records.invariant,
+            omega (arith, ap length units, c.count.ensures, w.if-count-size.false),
+          ))
+    ] in
+    let pushed = c.push_all.ensures in
+    ready-same g.D.LogDisk _ c.args.head.now _ _ _ _ _ _ _ _ _ _ refl refl (ap (λ (b : BatchState). b.units) pushed) (ap (λ (b : BatchState). b.room) pushed)
+    (ready-taken g.D.LogDisk _ c.args.head.now _ _ _ _ _ _ ready.0 c.in-Ok.field-0-0 _ _ c.in-Ok.size begins size ready.1 c.split_at.ensures.front
+    c.split_at.ensures.back)
+
+-- ---- the last batch
+
+pub add_cut-requires-then-count-gt0-clause-most : goal.add_cut-requires-then-count-gt0-clause-most
+add_cut-requires-then-count-gt0-clause-most g c = (c.records.invariant.writing c.requires.records.0 c.requires.records.1).few
+
+pub add_cut-requires-then-count-gt0-clause-fits : goal.add_cut-requires-then-count-gt0-clause-fits
+add_cut-requires-then-count-gt0-clause-fits g c =
+    can-fit g.D.LogDisk _ c.args.head.now _ _ _ _ _ _ c.records.invariant c.requires.records c.requires.fits
+
+pub add_cut-requires-then-count-gt0-clause-place : goal.add_cut-requires-then-count-gt0-clause-place
+add_cut-requires-then-count-gt0-clause-place g c =
+    can-place g.D.LogDisk _ c.args.head.now _ _ _ _ _ _ c.records.invariant c.requires.records c.in_ok-tail.ensures.held
+
+pub add_cut-requires-then-count-gt0-clause-underway : goal.add_cut-requires-then-count-gt0-clause-underway
+add_cut-requires-then-count-gt0-clause-underway g c = can-add g.D.LogDisk _ c.args.head.now _ _ _ _ _ _ c.records.invariant c.requires.records
+
+pub returns-in_err-add_cut-clause-moments : goal.returns-in_err-add_cut-clause-moments
+returns-in_err-add_cut-clause-moments g c =
+    failed-moments g.D.LogDisk _ c.args.head.now _ _ _ _ _ _ c.records.invariant _ c.add_cut-then-count-gt0.ensures.moments
+
+pub returns-in_err-add_cut-clause-count : goal.returns-in_err-add_cut-clause-count
+returns-in_err-add_cut-clause-count g c =
+    failed-count g.D.LogDisk _ c.args.head.now _ _ _ _ _ _ c.records.invariant _ c.add_cut-then-count-gt0.ensures.count
+
+pub returns-in_err-add_cut-clause-grows : goal.returns-in_err-add_cut-clause-grows
+returns-in_err-add_cut-clause-grows g c = λ honest records are.
+    failed-grows g.D.LogDisk _ c.args.head.now _ _ _ _ _ _ c.records.invariant (records, are) _ (omega (arith, c.if-count-gt0.true, c.count-2.ensures))
+    c.add_cut-then-count-gt0.ensures.length honest
+
+-- ---- the first gate is opened
+
+pub open_cut-requires : goal.open_cut-requires
+open_cut-requires g c =
+    let none = c.in_default.ensures.bad in
+    let all : IsGathered g.D.LogDisk c.args.disk.now c.args.head.now c.args.units.now c.if-count-gt0.disk =
+    elim c.if-count-gt0.branch [
+      | then-count-gt0+in_ok-add_cut w ↦
+          (let added = w.in_ok-add_cut.ensures in
+          subst (IsGathered g.D.LogDisk c.args.disk.now c.args.head.now c.args.units.now) (sym w.disk-is)
+          (gathered g.D.LogDisk _ c.args.head.now _ _ _ _ _
+          (ready-last g.D.LogDisk _ c.args.head.now _ _ _ _ _ _ c.records.invariant _ w.in_ok-add_cut.field-0 added.added added.moments added.place added.next
+          added.length added.count added.later added.honest added.attached added.cause.fine (omega (arith, w.if-count-gt0.true, c.count-2.ensures)) none) none
+          c.requires.records))
+      | else-count-gt0 w ↦
+          subst (IsGathered g.D.LogDisk c.args.disk.now c.args.head.now c.args.units.now) (sym w.disk-is)
+          (gathered g.D.LogDisk _ c.args.head.now _ _ _ _ _
+          (ready-same g.D.LogDisk _ c.args.head.now _ _ _ _ _ _ _ _ _ _ refl refl
+          (sym (none-there c.records.batch.units (omega (arith, w.if-count-gt0.false, c.count-2.ensures)))) refl c.records.invariant) none c.requires.records)
+    ] in
+    record { underway = can-open g.D.LogDisk _ c.args.head.now _ _ all c.requires.records }
+
+pub returns : goal.returns
+returns g c =
+    let none = c.in_default.ensures.bad in
+    let all : IsGathered g.D.LogDisk c.args.disk.now c.args.head.now c.args.units.now c.if-count-gt0.disk =
+    elim c.if-count-gt0.branch [
+      | then-count-gt0+in_ok-add_cut w ↦
+          (let added = w.in_ok-add_cut.ensures in
+          subst (IsGathered g.D.LogDisk c.args.disk.now c.args.head.now c.args.units.now) (sym w.disk-is)
+          (gathered g.D.LogDisk _ c.args.head.now _ _ _ _ _
+          (ready-last g.D.LogDisk _ c.args.head.now _ _ _ _ _ _ c.records.invariant _ w.in_ok-add_cut.field-0 added.added added.moments added.place added.next
+          added.length added.count added.later added.honest added.attached added.cause.fine (omega (arith, w.if-count-gt0.true, c.count-2.ensures)) none) none
+          c.requires.records))
+      | else-count-gt0 w ↦
+          subst (IsGathered g.D.LogDisk c.args.disk.now c.args.head.now c.args.units.now) (sym w.disk-is)
+          (gathered g.D.LogDisk _ c.args.head.now _ _ _ _ _
+          (ready-same g.D.LogDisk _ c.args.head.now _ _ _ _ _ _ _ _ _ _ refl refl
+          (sym (none-there c.records.batch.units (omega (arith, w.if-count-gt0.false, c.count-2.ensures)))) refl c.records.invariant) none c.requires.records)
+    ] in
+    let opened = c.open_cut.ensures in
+    record {
+      moments = opened-moments g.D.LogDisk _ c.args.head.now _ _ all _ opened.moments;
+      made = λ honest. on_ok_weaker c.open_cut.result (λ stands made is are c' left.
+          let held = stands all.tail (log_of made) (batches_of made.records) (gathered-underway g.D.LogDisk _ c.args.head.now _ _ all honest made is are) c' left in
+          (held.0.held, held.1)) (opened.opened (all.honest.0 honest));
+      count = opened-count g.D.LogDisk _ c.args.head.now _ _ all _ opened.count;
+      grows = opened-grows g.D.LogDisk _ c.args.head.now _ _ all _ opened.length;
+      later = omega (arith, all.later, opened.later);
+      honest = (λ first. opened.honest.0 (all.honest.0 first), λ last. all.honest.1 (opened.honest.1 last));
+      attached = opened.attached ∙ all.attached;
+      cause = subst (λ before. HasCause before (g.D.LogDisk.faults c.open_cut.new.disk) c.open_cut.result) all.faults opened.cause;
+    }

@@ -1,0 +1,67 @@
+-- What `cut` answers, and `upgrade`: what they leave of the source and what they write.
+use Rattle.std.specs.Prelude.{◌≡◌, ℕ, List, [], Option, Some}
+use Rattle.std.specs.Io.KnownBytes.{Appends}
+use Rattle.log_disk.specs.Streams.{AppendsPart}
+use Rattle.log_recovery.specs.declared.recovery.RecoverFault.{RecoverFault}
+use Rattle.log_recovery.specs.declared.recovery.RecoverFault.TheVariants as fault
+use Rattle.log_recovery.specs.Opened.{OpenedList}
+use Rattle.log_recovery.specs.Recovery.{HoldsLawful, IsFaultOf}
+use Rattle.log_recovery.specs.Text.{accounts_text}
+use Rattle.cli_shared.specs.Answers.{ReadsAll}
+use Rattle.cli_shared.specs.declared.report.Detail.{Detail}
+use Rattle.cli_shared.specs.declared.report.Detail.TheVariants.{Fine, NoMemory, Usage, Script, Read, Write, Disk, NotALog, BadSnapshot, BadBatch, BadRec, Unlawful, LogEnd, TxnEnd, Exists}
+
+-- the answers that there are to `cut`, and to `upgrade`
+abbrev pub IsOfCut : Detail → Type 0
+IsOfCut Fine = Unit {0}
+IsOfCut NoMemory = Unit {0}
+IsOfCut Read = Unit {0}
+IsOfCut Write = Unit {0}
+IsOfCut Disk = Unit {0}
+IsOfCut NotALog = Unit {0}
+IsOfCut BadSnapshot = Unit {0}
+IsOfCut (BadBatch offset) = Unit {0}
+IsOfCut (BadRec lsn) = Unit {0}
+IsOfCut (Unlawful lsn why) = Unit {0}
+IsOfCut Exists = Unit {0}
+IsOfCut detail = ⊥
+
+-- the source was read to its end, and has this fault
+abbrev pub HasSourceFault : Option (List ℕ) → Option (List ℕ) → RecoverFault → Type 0
+HasSourceFault left left_new fault' = (bytes : List ℕ) × ReadsAll left left_new bytes × IsFaultOf bytes fault'
+
+-- why the source gives no accounts
+abbrev pub IsSourceFault : Option (List ℕ) → Option (List ℕ) → Detail → Type 0
+IsSourceFault left left_new NotALog = HasSourceFault left left_new fault.NotALog
+IsSourceFault left left_new BadSnapshot = HasSourceFault left left_new fault.BadSnapshot
+IsSourceFault left left_new (BadBatch offset) = HasSourceFault left left_new (fault.BadBatch offset)
+IsSourceFault left left_new (BadRec lsn) = HasSourceFault left left_new (fault.BadRec lsn)
+IsSourceFault left left_new (Unlawful lsn why) = HasSourceFault left left_new (fault.Unlawful lsn why)
+IsSourceFault left left_new Read = Unit {0}
+IsSourceFault left left_new NoMemory = Unit {0}
+IsSourceFault left left_new detail = ⊥
+
+-- why no log is made
+abbrev pub IsMakingFault : Option (List ℕ) → Option (List ℕ) → Detail → Type 0
+IsMakingFault left left_new Disk = Unit {0}
+IsMakingFault left left_new Exists = Unit {0}
+IsMakingFault left left_new detail = IsSourceFault left left_new detail
+
+-- `cut` or `upgrade` on these bytes: what is left of them and what is written, for each detail. Where all is fine, or the writing failed, the source was read to
+-- its end, and what is written is the text of its list, or a part of it.
+abbrev pub AnswersCut : List ℕ → Option (List ℕ) → Option (List ℕ) → Option (List ℕ) → Detail → Type 0
+AnswersCut bytes left old new Fine = (left ≡ Some []) × (list : OpenedList) × HoldsLawful bytes list × Appends old new (accounts_text list)
+AnswersCut bytes left old new Write = (left ≡ Some []) × (list : OpenedList) × HoldsLawful bytes list × AppendsPart old new (accounts_text list)
+AnswersCut bytes left old new NotALog = (left ≡ Some []) × IsFaultOf bytes fault.NotALog
+AnswersCut bytes left old new BadSnapshot = (left ≡ Some []) × IsFaultOf bytes fault.BadSnapshot
+AnswersCut bytes left old new (BadBatch offset) = (left ≡ Some []) × IsFaultOf bytes (fault.BadBatch offset)
+AnswersCut bytes left old new (BadRec lsn) = (left ≡ Some []) × IsFaultOf bytes (fault.BadRec lsn)
+AnswersCut bytes left old new (Unlawful lsn why) = (left ≡ Some []) × IsFaultOf bytes (fault.Unlawful lsn why)
+AnswersCut bytes left old new NoMemory = Unit {0}
+AnswersCut bytes left old new Read = Unit {0}
+AnswersCut bytes left old new Disk = Unit {0}
+AnswersCut bytes left old new Exists = Unit {0}
+AnswersCut bytes left old new Usage = ⊥
+AnswersCut bytes left old new (Script line) = ⊥
+AnswersCut bytes left old new (LogEnd tail total) = ⊥
+AnswersCut bytes left old new (TxnEnd first count) = ⊥

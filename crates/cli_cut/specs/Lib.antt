@@ -1,0 +1,5 @@
+pub mod Answers
+pub mod Batches
+pub mod Cutting
+pub mod Parts
+pub mod Upgrading

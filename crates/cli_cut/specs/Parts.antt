@@ -1,0 +1,44 @@
+-- What is known of a log before it is upgraded. `left` and `left_new` are what the source holds before and after.
+use Rattle.std.specs.Prelude.{◌≡◌, ◌≤◌, ℕ, List, [], ◌∷◌, ◌++◌, length, drop, Option}
+use Rattle.std.specs.List.{AllByRecursion}
+use Rattle.lsn_space.specs.declared.lsn.TheConstants.{LAST}
+use Rattle.log_record.specs.declared.rec.Rec.{Rec}
+use Rattle.log_record.specs.LogList.{AreUnitsOf, units_of}
+use Rattle.log_record.specs.Spelling.{IsSpellable}
+use Rattle.lock_core.specs.Tests.{IsGenesis}
+use Rattle.segment_file.specs.declared.layout.TheConstants.{MOST_UNITS}
+use Rattle.log_recovery.specs.Opened.{OpenedList, list_end}
+use Rattle.log_recovery.specs.Recovery.{Recovers}
+use Rattle.log_recovery.specs.declared.recovery.Recovered.{Recovered}
+use Rattle.cli_shared.specs.Answers.{ReadsAll}
+use Rattle.cli_cut.specs.Upgrading.{IsUpgradeOf}
+use Rattle.cli_cut.specs.declared.reading.Parts.{Parts}
+
+-- the units are some Genesis records, and behind so many units the records that are no Genesis, or none
+pub record SplitsGenesis (units : List ℕ) (front : ℕ) : Type 0 where
+  pub genesis : List Rec
+  pub later : List Rec
+  pub list : AreUnitsOf units (genesis ++ later)
+  pub place : front ≡ length (units_of genesis)
+  pub all : AllByRecursion IsGenesis genesis
+  pub first : (rec : Rec) (rest : List Rec) → later ≡ rec ∷ rest → IsGenesis rec → ⊥
+
+-- the list that was read is lawful, and these are its accounts; the head begins with what its Genesis records leave, and the units behind them are those of
+-- the records of the new list, for which the batch has room
+pub record ArePartsOf (left left_new : Option (List ℕ)) (parts : Parts) : Type 0 where
+  pub bytes : List ℕ
+  pub read : ReadsAll left left_new bytes
+  pub recovers : Recovers parts.recovered bytes
+  pub made : OpenedList
+  pub upgrade : IsUpgradeOf recovers.list made
+  pub spellable : AllByRecursion IsSpellable made.records
+  pub head : parts.head ≡ made.opening
+  pub units : drop parts.front parts.listed.units ≡ units_of made.records
+  pub within : parts.front ≤ length parts.listed.units
+  pub fits : list_end made ≤ LAST
+  pub none : parts.batch.units ≡ []
+  pub room : parts.batch.room ≡ MOST_UNITS
+
+-- what was read is a log, and this is what it says
+abbrev pub ReadsLog : Option (List ℕ) → Option (List ℕ) → Recovered → Type 0
+ReadsLog left left_new recovered = (bytes : List ℕ) × ReadsAll left left_new bytes × Recovers recovered bytes

@@ -1,0 +1,116 @@
+ghost use Rattle.std.specs.Prelude.{◌≡◌, ◌≤◌, ◌+◌, ◌↔◌, IfSome, IfOk, IfErr, OnOk, MatchResult, IsErrOf};
+ghost use Rattle.log_disk.specs.Attaching.{existing_or_made};
+ghost use Rattle.log_disk.specs.Costs.{Costs};
+ghost use Rattle.log_disk.specs.Disk.{Leaves};
+ghost use Rattle.log_disk.specs.Faults.{CountsWhere};
+ghost use Rattle.lsn_space.specs.Opening.{IsSnapshot};
+ghost use Rattle.segment_file.specs.File.{BeginsOpen};
+ghost use Rattle.cli_shared.specs.Answers.{StaysSilent};
+ghost use Rattle.cli_shared.specs.Attached.{EndsAttached, LeavesAttached};
+ghost use Rattle.cli_shared.specs.Creation.{TellsWhether};
+ghost use Rattle.cli_cut.specs.Answers.{AnswersCut, IsMakingFault, IsOfCut, IsSourceFault};
+ghost use Rattle.cli_cut.specs.Cutting.{AllHoldCut, FollowsCut, GrowsByCut, MayBeCut, PrecedesCut, ReadsCut};
+
+use cli_shared::{Detail, ReadFault, detail_of, finds_none, read_all};
+use log_disk::{LogDisk, Sink, Source};
+use log_recovery::{put_accounts, recover};
+use lsn_space::{Opening, Word};
+use segment_cut::create_cut;
+use segment_head::Head;
+use std::alloc::Global;
+
+/// Makes a log of what the log that is read leaves of its accounts, and answers their text. What has no end record there is
+/// dropped.
+pub fn cut_command<D: LogDisk, S: Source, K: Sink>(
+    alloc: Global,
+    log: &Word,
+    disk: &mut D,
+    source: &mut S,
+    out: &mut K,
+) -> Detail
+    ensures answer { IfSome (S.left source.old) (λ bytes.
+        AnswersCut bytes (S.left source.new) (K.held_bytes out.old) (K.held_bytes out.new) result) }
+    ensures silent { StaysSilent (K.held_bytes out.old) (K.held_bytes out.new) result }
+    ensures range { IsOfCut result }
+    ensures images { D.honest disk.old
+        → Leaves D.moment D.images_since (MayBeCut (S.left source.old) (D.images disk.old)) disk.old disk.new }
+    ensures made { D.honest disk.old → FollowsCut result → AllHoldCut (S.left source.old) (D.images disk.new) }
+    ensures kept { PrecedesCut result → Leaves D.moment D.images_since (D.images disk.old) disk.old disk.new }
+    ensures unchanged { D.honest disk.old → PrecedesCut result → D.reads disk.new ≡ D.reads disk.old }
+    ensures exists { D.honest disk.old → TellsWhether (BeginsOpen (D.reads disk.old)) result }
+    ensures count { D.honest disk.old → Costs D.LogDisk 7 11 disk.old disk.new }
+    ensures grows { D.honest disk.old → GrowsByCut D.LogDisk (S.left source.old) disk.old disk.new }
+    ensures honest { D.honest disk.old ↔ D.honest disk.new }
+    ensures attached { D.honest disk.old
+        → LeavesAttached (existing_or_made log.now) (D.attached disk.old) (D.attached disk.new) result }
+    ensures read { CountsWhere (result ≡ Detail.Read) (S.faults source.old) (S.faults source.new) }
+    ensures write { CountsWhere (result ≡ Detail.Write) (K.faults out.old) (K.faults out.new) }
+    ensures disk { CountsWhere (result ≡ Detail.Disk) (D.faults disk.old) (D.faults disk.new) }
+{
+    let opening = match make_cut(alloc, log, disk, source) {
+        Ok(opening) => opening,
+        Err(detail) => return detail,
+    };
+    match put_accounts(opening.lsn, &opening.accounts, out) {
+        Ok(()) => Detail::Fine,
+        Err(_) => Detail::Write,
+    }
+}
+
+/// Makes the log, and answers what it begins with. Nothing is written to the disk before all of that is known.
+fn make_cut<D: LogDisk, S: Source>(
+    alloc: Global,
+    log: &Word,
+    disk: &mut D,
+    source: &mut S,
+) -> Result<Opening, Detail>
+    ensures ok { IfOk result (ReadsCut (S.left source.old) (S.left source.new)) }
+    ensures err { IfErr result (IsMakingFault (S.left source.old) (S.left source.new)) }
+    ensures images { D.honest disk.old
+        → Leaves D.moment D.images_since (MayBeCut (S.left source.old) (D.images disk.old)) disk.old disk.new }
+    ensures made { D.honest disk.old → OnOk result (AllHoldCut (S.left source.old) (D.images disk.new)) }
+    ensures kept { IfErr result (λ detail. PrecedesCut detail
+        → Leaves D.moment D.images_since (D.images disk.old) disk.old disk.new) }
+    ensures unchanged { D.honest disk.old → IfErr result (λ detail. PrecedesCut detail → D.reads disk.new ≡ D.reads disk.old) }
+    ensures exists { D.honest disk.old
+        → MatchResult result (λ _. BeginsOpen (D.reads disk.old) → ⊥) (TellsWhether (BeginsOpen (D.reads disk.old))) }
+    ensures count { D.honest disk.old → Costs D.LogDisk 7 11 disk.old disk.new }
+    ensures grows { D.honest disk.old → GrowsByCut D.LogDisk (S.left source.old) disk.old disk.new }
+    ensures honest { D.honest disk.old ↔ D.honest disk.new }
+    ensures attached { D.honest disk.old
+        → EndsAttached (existing_or_made log.now) (D.attached disk.old) (D.attached disk.new) result }
+    ensures read { CountsWhere (IsErrOf result Detail.Read) (S.faults source.old) (S.faults source.new) }
+    ensures disk { CountsWhere (IsErrOf result Detail.Disk) (D.faults disk.old) (D.faults disk.new) }
+{
+    finds_none(disk, log)?;
+    let opening = read_opening(alloc, source)?;
+    let Ok(mut head) = Head::make(alloc, &opening) else {
+        return Err(Detail::NoMemory);
+    };
+    match create_cut(disk, &mut head) {
+        Ok(_) => Ok(opening),
+        Err(_) => Err(Detail::Disk),
+    }
+}
+
+/// What the log that is read leaves before the next list.
+fn read_opening<S: Source>(alloc: Global, source: &mut S) -> Result<Opening, Detail>
+    ensures ok { IfOk result (ReadsCut (S.left source.old) (S.left source.new)) }
+    ensures held { IfOk result IsSnapshot }
+    ensures err { IfErr result (IsSourceFault (S.left source.old) (S.left source.new)) }
+    ensures read { CountsWhere (IsErrOf result Detail.Read) (S.faults source.old) (S.faults source.new) }
+{
+    let bytes = match read_all(alloc, source) {
+        Ok(bytes) => bytes,
+        Err(ReadFault::Failed) => return Err(Detail::Read),
+        Err(ReadFault::NoMemory) => return Err(Detail::NoMemory),
+    };
+    match recover(alloc, bytes.as_slice()) {
+        Ok(recovered) => Ok(Opening {
+            lsn: recovered.lsn,
+            txn: (recovered.next_txn - 1) as u32,
+            accounts: recovered.accounts,
+        }),
+        Err(fault) => Err(detail_of(fault)),
+    }
+}

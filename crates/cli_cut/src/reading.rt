@@ -1,0 +1,137 @@
+//! All that is read and asked for before anything of an upgraded log is written.
+
+ghost use Rattle.std.specs.Prelude.{◌≡◌, ◌≤◌, ◌+◌, ◌++◌, [], ℕ, List, length, IfSome, IfNone, IfOk, IfErr, IsErrOf};
+ghost use Rattle.log_disk.specs.Faults.{CountsWhere};
+ghost use Rattle.lsn_space.specs.Opening.{IsSnapshot};
+ghost use Rattle.lsn_space.specs.declared.lsn.TheConstants.{LAST};
+ghost use Rattle.log_record.specs.declared.rec.Rec.{Rec};
+ghost use Rattle.log_record.specs.declared.rec.Rec.TheVariants.{Genesis};
+ghost use Rattle.log_record.specs.LogList.{AreUnitsOf, units_of};
+ghost use Rattle.log_record.specs.Spelling.{spelling, BeginsWith};
+ghost use Rattle.lock_core.specs.Tests.{IsGenesis};
+ghost use Rattle.log_recovery.specs.Recovery.{HoldsLawful, list_of};
+ghost use Rattle.segment_file.specs.declared.layout.TheConstants.{MOST_UNITS};
+ghost use Rattle.cli_cut.specs.Answers.{IsSourceFault};
+ghost use Rattle.cli_cut.specs.Cutting.{IsCutOf};
+ghost use Rattle.cli_cut.specs.Parts.{ArePartsOf, SplitsGenesis};
+
+use cli_shared::{Detail, ReadFault, detail_of, read_all};
+use log_disk::Source;
+use log_record::{Rec, read};
+use log_recovery::{Listed, Recovered, judge_of_units, recover_list};
+use lsn_space::{Lsn, NoMemory, Opening};
+use segment_file::{Batch, MOST_UNITS};
+use segment_head::Head;
+use std::alloc::Global;
+
+/// All that is asked for before anything of the new log is written.
+#[derive(Drop)]
+pub(crate) struct Parts {
+    /// The accounts of the log that was read.
+    pub recovered: Recovered,
+
+    /// Its list.
+    pub listed: Listed,
+
+    /// How many units its Genesis records have.
+    pub front: usize,
+
+    /// What the new log begins with.
+    pub head: Head,
+
+    /// Room for a batch.
+    pub batch: Batch,
+}
+
+/// Reads the log, and asks for all memory.
+pub(crate) fn read_parts<S: Source>(alloc: Global, source: &mut S) -> Result<Parts, Detail>
+    ensures ok { IfOk result (ArePartsOf (S.left source.old) (S.left source.new)) }
+    ensures err { IfErr result (IsSourceFault (S.left source.old) (S.left source.new)) }
+    ensures read { CountsWhere (IsErrOf result Detail.Read) (S.faults source.old) (S.faults source.new) }
+{
+    let bytes = match read_all(alloc, source) {
+        Ok(bytes) => bytes,
+        Err(ReadFault::Failed) => return Err(Detail::Read),
+        Err(ReadFault::NoMemory) => return Err(Detail::NoMemory),
+    };
+    let (recovered, listed) = match recover_list(alloc, bytes.as_slice()) {
+        Ok(both) => both,
+        Err(fault) => return Err(detail_of(fault)),
+    };
+    let front = genesis_units(listed.units.as_slice());
+    let Ok((head, batch)) = ask(alloc, &listed, front) else {
+        return Err(Detail::NoMemory);
+    };
+    Ok(Parts {
+        recovered,
+        listed,
+        front,
+        head,
+        batch,
+    })
+}
+
+/// How many units the Genesis records have that the units of a list begin with.
+fn genesis_units(units: &[u64]) -> usize
+    requires { (records : List Rec) × AreUnitsOf units.now records }
+    ensures { SplitsGenesis units.now result }
+{
+    let mut rest = units;
+    'records: while let Some(size) = genesis_size(rest) {
+        rest = rest.split_at(size).1;
+    }
+    units.len() - rest.len()
+}
+
+/// How many units the Genesis has that the units begin with, if they begin with one.
+fn genesis_size(units: &[u64]) -> Option<usize>
+    ensures some { IfSome result (λ size. (account balance : ℕ) × BeginsWith units.now (Genesis account balance)
+        × (size ≡ length (spelling (Genesis account balance)))) }
+    ensures none { IfNone result ((rec : Rec) → BeginsWith units.now rec → IsGenesis rec → ⊥) }
+{
+    let Ok((rec, size)) = read(units) else {
+        return None;
+    };
+    match rec {
+        Rec::Genesis { .. } => Some(size),
+        _ => None,
+    }
+}
+
+/// The head of the new log: what the list leaves behind so many units. And room for a batch.
+fn ask(alloc: Global, listed: &Listed, front: usize) -> Result<(Head, Batch), NoMemory>
+    requires lawful { (bytes : List ℕ) × (records : List Rec) × HoldsLawful bytes (list_of listed.now records) × (listed.now.units ≡ units_of records) }
+    requires front { SplitsGenesis listed.now.units front }
+    requires inside { front ≤ length listed.now.units }
+    requires fits { listed.now.opening.lsn + front ≤ LAST }
+    ensures head { IfOk result (λ made. (genesis later : List Rec) → AreUnitsOf listed.now.units (genesis ++ later)
+        → front ≡ length (units_of genesis) → IsCutOf (list_of listed.now genesis) made.0) }
+    ensures batch { IfOk result (λ made. (made.1.units ≡ []) × (made.1.room ≡ MOST_UNITS)) }
+{
+    let opening = opening_behind(alloc, listed, front)?;
+    let head = Head::make(alloc, &opening)?;
+    let batch = Batch::make(alloc, MOST_UNITS)?;
+    Ok((head, batch))
+}
+
+/// What the list leaves behind its first so many units, which are those of its Genesis records.
+fn opening_behind(alloc: Global, listed: &Listed, front: usize) -> Result<Opening, NoMemory>
+    requires lawful { (bytes : List ℕ) × (records : List Rec) × HoldsLawful bytes (list_of listed.now records) × (listed.now.units ≡ units_of records) }
+    requires front { SplitsGenesis listed.now.units front }
+    requires inside { front ≤ length listed.now.units }
+    requires fits { listed.now.opening.lsn + front ≤ LAST }
+    ensures held { IfOk result IsSnapshot }
+    ensures cut { IfOk result (λ opening. (genesis later : List Rec) → AreUnitsOf listed.now.units (genesis ++ later)
+        → front ≡ length (units_of genesis) → IsCutOf (list_of listed.now genesis) opening) }
+{
+    let units = listed.units.as_slice().split_at(front).0;
+    // A front of a lawful list is lawful, so that only memory may be wanting.
+    let Ok(judge) = judge_of_units(alloc, &listed.opening, units) else {
+        return Err(NoMemory);
+    };
+    Ok(Opening {
+        lsn: Lsn::new(listed.opening.lsn.units() + front as u32),
+        txn: judge.greatest_txn(),
+        accounts: judge.into_accounts(),
+    })
+}
