@@ -49,6 +49,7 @@ pub enum End {
     Write,
     Disk,
     NotALog,
+    BadSnapshot,
     BadBatch(u64),
     BadRec(u32),
     Unlawful(u32, Why),
@@ -68,6 +69,7 @@ impl End {
             End::Write => Detail::Write,
             End::Disk => Detail::Disk,
             End::NotALog => Detail::NotALog,
+            End::BadSnapshot => Detail::BadSnapshot,
             End::BadBatch(offset) => Detail::BadBatch { offset },
             End::BadRec(lsn) => Detail::BadRec { lsn: Lsn::new(lsn) },
             End::Unlawful(lsn, why) => Detail::Unlawful {

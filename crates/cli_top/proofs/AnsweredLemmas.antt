@@ -3,7 +3,7 @@ use Rattle.std.proofs.Common.{◌≡◌, ◌⊎◌, inl, inr, ◌∙◌, refl, a
 use Rattle.std.specs.Io.KnownBytes.{Keeps}
 use Rattle.command_line.specs.CommandLine.{AreTaken, IsCommandLine}
 use Rattle.command_line.specs.declared.command.Command.{Command}
-use Rattle.command_line.specs.declared.command.Command.TheVariants.{New, Run, Recover, Dump, Demo}
+use Rattle.command_line.specs.declared.command.Command.TheVariants.{New, Run, Recover, Dump, Demo, Cut, Upgrade}
 use Rattle.command_line.proofs.Asking.{asks-one}
 use Rattle.log_disk.proofs.Counting.{Costs-more, Costs-none}
 use Rattle.log_disk.specs.Costs.{Costs}
@@ -18,13 +18,14 @@ use Rattle.cli_shared.specs.Answers.{StaysSilent}
 use Rattle.cli_shared.proofs.ToldLemmas.{kept-text, nothing-said}
 use Rattle.cli_reports.specs.Answers.{IsOfDump, IsOfRecover}
 use Rattle.cli_new.specs.Answers.{IsOfNew}
+use Rattle.cli_cut.specs.Answers.{IsOfCut}
 use Rattle.cli_run.specs.RunAnswers.{IsOfRun}
 use Rattle.cli_demo.specs.Demo.{IsOfDemo}
 use Rattle.cli_world.specs.World.{TellsFaults, World}
 use Rattle.cli_world.specs.Alone.{AnsweredAlone, DoesAlone}
 use Rattle.cli_world.specs.declared.answer.Answer.TheVariants.{Done}
 use Rattle.cli_top.specs.Answered.{Answered, Does, Obeys}
-use Rattle.cli_top.specs.Asks.{AsksDemo, AsksNew, AsksRun}
+use Rattle.cli_top.specs.Asks.{AsksCut, AsksDemo, AsksNew, AsksRun, AsksUpgrade}
 use Rattle.cli_top.proofs.DemoTold.{silent-told}
 
 -- a detail that names the object of a fault
@@ -38,6 +39,9 @@ module _ {D S K : Type 0} (g : Ghosts D) (h : SourceGhosts S) (i : SinkGhosts K)
   -- nothing costs nothing
   costs-none : (disk : D) → Costs g 7 11 disk disk
   costs-none disk = Costs-more g 0 7 0 11 disk disk (omega arith) (omega arith) (Costs-none g disk)
+
+  costs-found : (disk : D) → Costs g 1 4 disk disk
+  costs-found disk = Costs-more g 0 1 0 4 disk disk (omega arith) (omega arith) (Costs-none g disk)
 
   costs-looks : (disk : D) → Costs g 1 (most_calls g disk) disk disk
   costs-looks disk = Costs-more g 0 1 0 (most_calls g disk) disk disk (omega arith) (omega arith) (Costs-none g disk)
@@ -73,6 +77,32 @@ module _ {D S K : Type 0} (g : Ghosts D) (h : SourceGhosts S) (i : SinkGhosts K)
     unread = refl;
     attached = λ honest. inl refl;
   }
+  nothing-done old (Cut log) = record {
+    answer = nothing-said _;
+    silent = kept-text _;
+    range = tt;
+    images = λ honest. Leaves-refl _ _ _ _;
+    made = λ honest follows. absurd follows;
+    kept = λ precedes. Leaves-refl _ _ _ _;
+    unchanged = λ honest precedes. refl;
+    exists = λ honest. tt;
+    count = λ honest. costs-none old.disk;
+    attached = λ honest. inl refl;
+    grows = λ honest. inl refl;
+  }
+  nothing-done old (Upgrade log) = record {
+    answer = nothing-said _;
+    silent = kept-text _;
+    range = tt;
+    images = λ honest. Leaves-refl _ _ _ _;
+    made = λ honest follows. absurd follows;
+    kept = λ precedes. Leaves-refl _ _ _ _;
+    unchanged = λ honest precedes. refl;
+    exists = λ honest. tt;
+    count = λ honest. inl (costs-found old.disk);
+    attached = λ honest. inl refl;
+    grows = λ honest. inl refl;
+  }
 
   no-faults : (old : World D S K) (detail : Detail) → (IsFault detail → ⊥) → TellsFaults g h i old old detail
   no-faults old detail none = record {
@@ -88,27 +118,34 @@ module _ {D S K : Type 0} (g : Ghosts D) (h : SourceGhosts S) (i : SinkGhosts K)
   not-usage old new detail Recover done usage = subst IsOfRecover usage done.range
   not-usage old new detail Dump done usage = subst IsOfDump usage done.range
   not-usage old new detail (Demo log n seed options) done usage = subst IsOfDemo usage done.range
+  not-usage old new detail (Cut log) done usage = subst IsOfCut usage done.range
+  not-usage old new detail (Upgrade log) done usage = subst IsOfCut usage done.range
 
   done-untouched : (words : List (List ℕ)) (old new : World D S K) (detail : Detail) (command : Command) → IsCommandLine words command
-      → Does g h i command old new detail → (AsksNew words → ⊥) → (AsksRun words → ⊥) → (AsksDemo words → ⊥) → new.disk ≡ old.disk
-  done-untouched words old new detail (New log) asked done not_new not_run not_demo = absurd (not_new (log, asked))
-  done-untouched words old new detail (Run log options) asked done not_new not_run not_demo = absurd (not_run (log, options, asked))
-  done-untouched words old new detail Recover asked done not_new not_run not_demo = done.untouched
-  done-untouched words old new detail Dump asked done not_new not_run not_demo = done.untouched
-  done-untouched words old new detail (Demo log n seed options) asked done not_new not_run not_demo =
+      → Does g h i command old new detail → (AsksNew words → ⊥) → (AsksRun words → ⊥) → (AsksDemo words → ⊥) → (AsksCut words → ⊥)
+      → (AsksUpgrade words → ⊥) → new.disk ≡ old.disk
+  done-untouched words old new detail (New log) asked done not_new not_run not_demo not_cut not_upgrade = absurd (not_new (log, asked))
+  done-untouched words old new detail (Run log options) asked done not_new not_run not_demo not_cut not_upgrade = absurd (not_run (log, options, asked))
+  done-untouched words old new detail Recover asked done not_new not_run not_demo not_cut not_upgrade = done.untouched
+  done-untouched words old new detail Dump asked done not_new not_run not_demo not_cut not_upgrade = done.untouched
+  done-untouched words old new detail (Demo log n seed options) asked done not_new not_run not_demo not_cut not_upgrade =
       absurd (not_demo (log, n, seed, options, asked))
+  done-untouched words old new detail (Cut log) asked done not_new not_run not_demo not_cut not_upgrade = absurd (not_cut (log, asked))
+  done-untouched words old new detail (Upgrade log) asked done not_new not_run not_demo not_cut not_upgrade = absurd (not_upgrade (log, asked))
 
   done-count : (words : List (List ℕ)) (old new : World D S K) (detail : Detail) (command : Command) → IsCommandLine words command
-      → Does g h i command old new detail → (AsksRun words → ⊥) → (AsksDemo words → ⊥) → g.honest old.disk
+      → Does g h i command old new detail → (AsksRun words → ⊥) → (AsksDemo words → ⊥) → (AsksUpgrade words → ⊥) → g.honest old.disk
       → Costs g 7 11 old.disk new.disk
-  done-count words old new detail (New log) asked done not_run not_demo honest = done.count honest
-  done-count words old new detail (Run log options) asked done not_run not_demo honest = absurd (not_run (log, options, asked))
-  done-count words old new detail Recover asked done not_run not_demo honest =
+  done-count words old new detail (New log) asked done not_run not_demo not_upgrade honest = done.count honest
+  done-count words old new detail (Run log options) asked done not_run not_demo not_upgrade honest = absurd (not_run (log, options, asked))
+  done-count words old new detail Recover asked done not_run not_demo not_upgrade honest =
       subst (λ w. Costs g 7 11 old.disk w) (sym done.untouched) (costs-none old.disk)
-  done-count words old new detail Dump asked done not_run not_demo honest =
+  done-count words old new detail Dump asked done not_run not_demo not_upgrade honest =
       subst (λ w. Costs g 7 11 old.disk w) (sym done.untouched) (costs-none old.disk)
-  done-count words old new detail (Demo log n seed options) asked done not_run not_demo honest =
+  done-count words old new detail (Demo log n seed options) asked done not_run not_demo not_upgrade honest =
       absurd (not_demo (log, n, seed, options, asked))
+  done-count words old new detail (Cut log) asked done not_run not_demo not_upgrade honest = done.count honest
+  done-count words old new detail (Upgrade log) asked done not_run not_demo not_upgrade honest = absurd (not_upgrade (log, asked))
 
   done-silent : (words : List (List ℕ)) (old new : World D S K) (detail : Detail) (command : Command) → IsCommandLine words command
       → Does g h i command old new detail → (AsksRun words → ⊥) → StaysSilent (i.held_bytes old.out) (i.held_bytes new.out) detail
@@ -117,6 +154,8 @@ module _ {D S K : Type 0} (g : Ghosts D) (h : SourceGhosts S) (i : SinkGhosts K)
   done-silent words old new detail Recover asked done not_run = done.silent
   done-silent words old new detail Dump asked done not_run = done.silent
   done-silent words old new detail (Demo log n seed options) asked done not_run = silent-told n seed _ _ detail done.text
+  done-silent words old new detail (Cut log) asked done not_run = done.silent
+  done-silent words old new detail (Upgrade log) asked done not_run = done.silent
 
   still-kept : (old new : World D S K) → new ≡ old → Keeps (i.held_bytes old.out) (i.held_bytes new.out)
   still-kept old new same = subst (λ (w : World D S K). Keeps (i.held_bytes old.out) (i.held_bytes w.out)) (sym same) (kept-text _)
@@ -152,17 +191,18 @@ module _ {D S K : Type 0} (g : Ghosts D) (h : SourceGhosts S) (i : SinkGhosts K)
     same-of (inr (inl (usage, _, same))) none = same
     same-of (inr (inr (memory, same))) none = same
 
-    pub untouched-of : Answered g h i words old new detail → (AsksNew words → ⊥) → (AsksRun words → ⊥) → (AsksDemo words → ⊥) → new.disk ≡ old.disk
+    pub untouched-of : Answered g h i words old new detail → (AsksNew words → ⊥) → (AsksRun words → ⊥) → (AsksDemo words → ⊥) → (AsksCut words → ⊥)
+        → (AsksUpgrade words → ⊥) → new.disk ≡ old.disk
     untouched-of (inl has) = done-untouched words old new detail has.command has.asked has.obeys.done
-    untouched-of (inr (inl (usage, _, same))) = λ not_new not_run not_demo. ap (λ (w : World D S K). w.disk) same
-    untouched-of (inr (inr (memory, same))) = λ not_new not_run not_demo. ap (λ (w : World D S K). w.disk) same
+    untouched-of (inr (inl (usage, _, same))) = λ not_new not_run not_demo not_cut not_upgrade. ap (λ (w : World D S K). w.disk) same
+    untouched-of (inr (inr (memory, same))) = λ not_new not_run not_demo not_cut not_upgrade. ap (λ (w : World D S K). w.disk) same
 
-    pub count-of : Answered g h i words old new detail → (AsksRun words → ⊥) → (AsksDemo words → ⊥) → g.honest old.disk
+    pub count-of : Answered g h i words old new detail → (AsksRun words → ⊥) → (AsksDemo words → ⊥) → (AsksUpgrade words → ⊥) → g.honest old.disk
         → Costs g 7 11 old.disk new.disk
     count-of (inl has) = done-count words old new detail has.command has.asked has.obeys.done
-    count-of (inr (inl (usage, _, same))) = λ not_run not_demo honest.
+    count-of (inr (inl (usage, _, same))) = λ not_run not_demo not_upgrade honest.
         subst (λ w. Costs g 7 11 old.disk w) (sym (ap (λ (w : World D S K). w.disk) same)) (costs-none old.disk)
-    count-of (inr (inr (memory, same))) = λ not_run not_demo honest.
+    count-of (inr (inr (memory, same))) = λ not_run not_demo not_upgrade honest.
         subst (λ w. Costs g 7 11 old.disk w) (sym (ap (λ (w : World D S K). w.disk) same)) (costs-none old.disk)
 
     pub silent-of : Answered g h i words old new detail → (AsksRun words → ⊥) → StaysSilent (i.held_bytes old.out) (i.held_bytes new.out) detail
@@ -178,6 +218,8 @@ module _ {D S K : Type 0} (g : Ghosts D) (h : SourceGhosts S) (i : SinkGhosts K)
   does-alone old new detail Recover done = done
   does-alone old new detail Dump done = done
   does-alone old new detail (Demo log n seed options) done = absurd done
+  does-alone old new detail (Cut log) done = done
+  does-alone old new detail (Upgrade log) done = done
 
   -- where no workers were needed
   pub answered-alone : (words : List (List ℕ)) (old new : World D S K) (detail : Detail) → AnsweredAlone g h i words old new (Done detail)

@@ -1,7 +1,7 @@
 -- Where nothing stands in its way, `demo` succeeds.
 use Rattle.std.proofs.Common.{◌≡◌, ◌⊎◌, inl, inr, refl}
 use Rattle.cli_shared.specs.declared.report.Detail.{Detail}
-use Rattle.cli_shared.specs.declared.report.Detail.TheVariants.{Fine, NoMemory, Usage, Script, Read, Write, Disk, NotALog, BadBatch, BadRec, Unlawful, LogEnd, TxnEnd, Exists}
+use Rattle.cli_shared.specs.declared.report.Detail.TheVariants.{Fine, NoMemory, Usage, Script, Read, Write, Disk, NotALog, BadSnapshot, BadBatch, BadRec, Unlawful, LogEnd, TxnEnd, Exists}
 use Rattle.cli_shared.specs.Creation.{TellsWhether}
 use Rattle.cli_demo.specs.Demo.{IsOfDemo}
 
@@ -17,6 +17,7 @@ demo-complete opened W F Usage is tells writes disks closed no_write no_disk = a
 demo-complete opened W F (Script line) is tells writes disks closed no_write no_disk = absurd is
 demo-complete opened W F Read is tells writes disks closed no_write no_disk = absurd is
 demo-complete opened W F NotALog is tells writes disks closed no_write no_disk = absurd is
+demo-complete opened W F BadSnapshot is tells writes disks closed no_write no_disk = absurd is
 demo-complete opened W F (BadBatch offset) is tells writes disks closed no_write no_disk = absurd is
 demo-complete opened W F (BadRec lsn) is tells writes disks closed no_write no_disk = absurd is
 demo-complete opened W F (Unlawful lsn why) is tells writes disks closed no_write no_disk = absurd is

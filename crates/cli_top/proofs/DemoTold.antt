@@ -1,7 +1,7 @@
 -- What is told of `demo`, in the words of all commands.
 use Rattle.std.proofs.Common.{ℕ, List, Option}
 use Rattle.cli_shared.specs.declared.report.Detail.{Detail}
-use Rattle.cli_shared.specs.declared.report.Detail.TheVariants.{Fine, NoMemory, Usage, Script, Read, Write, Disk, NotALog, BadBatch, BadRec, Unlawful, LogEnd, TxnEnd, Exists}
+use Rattle.cli_shared.specs.declared.report.Detail.TheVariants.{Fine, NoMemory, Usage, Script, Read, Write, Disk, NotALog, BadSnapshot, BadBatch, BadRec, Unlawful, LogEnd, TxnEnd, Exists}
 use Rattle.cli_shared.specs.Answers.{StaysSilent}
 use Rattle.cli_demo.specs.Demo.{TellsSummary}
 
@@ -14,6 +14,7 @@ silent-told n seed old new (Script line) told = told
 silent-told n seed old new Read told = told
 silent-told n seed old new Disk told = told
 silent-told n seed old new NotALog told = told
+silent-told n seed old new BadSnapshot told = told
 silent-told n seed old new (BadBatch offset) told = told
 silent-told n seed old new (BadRec lsn) told = told
 silent-told n seed old new (Unlawful lsn why) told = told

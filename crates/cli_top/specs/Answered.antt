@@ -3,7 +3,7 @@
 use Rattle.std.specs.Prelude.{◌≡◌, ◌⊎◌, ℕ, List}
 use Rattle.command_line.specs.CommandLine.{IsCommandLine, AreTaken}
 use Rattle.command_line.specs.declared.command.Command.{Command}
-use Rattle.command_line.specs.declared.command.Command.TheVariants.{New, Run, Recover, Dump, Demo}
+use Rattle.command_line.specs.declared.command.Command.TheVariants.{New, Run, Recover, Dump, Demo, Cut, Upgrade}
 use Rattle.command_line.specs.declared.options.RunOptions.{RunOptions}
 use Rattle.log_disk.specs.Attaching.{existing, existing_or_made}
 use Rattle.log_disk.specs.declared.disk.LogDisk.{Ghosts}
@@ -16,7 +16,7 @@ use Rattle.cli_shared.specs.Attached.{LeavesAttached}
 use Rattle.cli_shared.specs.Creation.{TellsWhether}
 use Rattle.cli_run.specs.RunAnswers.{AnswersRun, IsOfRun, RunStaysSilent, outside}
 use Rattle.cli_demo.specs.Demo.{AnswersDemo, IsOfDemo, TellsSummary}
-use Rattle.cli_world.specs.World.{World, TellsFaults, DoesDump, DoesNew, DoesRecover}
+use Rattle.cli_world.specs.World.{World, TellsFaults, DoesCut, DoesDump, DoesNew, DoesRecover, DoesUpgrade}
 
 pub record DoesRun {D S K : Type 0} (g : Ghosts D) (h : SourceGhosts S) (i : SinkGhosts K) (log : List ℕ) (options : RunOptions)
     (old new : World D S K) (detail : Detail) : Type 0 where
@@ -43,6 +43,8 @@ Does g h i (Run log options) old new detail = DoesRun g h i log options old new 
 Does g h i Recover old new detail = DoesRecover h i old new detail
 Does g h i Dump old new detail = DoesDump h i old new detail
 Does g h i (Demo log n seed options) old new detail = DoesDemo g i log n seed options old new detail
+Does g h i (Cut log) old new detail = DoesCut g h i log old new detail
+Does g h i (Upgrade log) old new detail = DoesUpgrade g h i log old new detail
 
 -- the command did what it promises, and told of faults
 pub record Obeys {D S K : Type 0} (g : Ghosts D) (h : SourceGhosts S) (i : SinkGhosts K) (command : Command) (old new : World D S K)

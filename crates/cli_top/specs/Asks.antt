@@ -1,7 +1,7 @@
 -- What the words ask.
 use Rattle.std.specs.Prelude.{ℕ, List}
 use Rattle.command_line.specs.CommandLine.{IsCommandLine}
-use Rattle.command_line.specs.declared.command.Command.TheVariants.{New, Run}
+use Rattle.command_line.specs.declared.command.Command.TheVariants.{New, Run, Cut, Upgrade}
 use Rattle.command_line.specs.declared.options.RunOptions.{RunOptions}
 use Rattle.command_line.specs.declared.command.Command.TheVariants as command
 
@@ -16,3 +16,11 @@ AsksRun words = (log : List ℕ) × (options : RunOptions) × IsCommandLine word
 -- the words ask `demo`
 abbrev pub AsksDemo : List (List ℕ) → Type 0
 AsksDemo words = (log : List ℕ) × (n seed : ℕ) × (options : RunOptions) × IsCommandLine words (command.Demo log n seed options)
+
+-- the words ask `cut`
+abbrev pub AsksCut : List (List ℕ) → Type 0
+AsksCut words = (log : List ℕ) × IsCommandLine words (Cut log)
+
+-- the words ask `upgrade`
+abbrev pub AsksUpgrade : List (List ℕ) → Type 0
+AsksUpgrade words = (log : List ℕ) × IsCommandLine words (Upgrade log)

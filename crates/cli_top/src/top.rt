@@ -1,13 +1,13 @@
 ghost use Rattle.std.specs.Prelude.{◌≡◌, ◌≤◌, ◌+◌, ◌⊎◌, ◌↔◌, ℕ, List, length, IfSome};
 ghost use Rattle.command_line.specs.CommandLine.{IsCommandLine, AreTaken};
-ghost use Rattle.command_line.specs.declared.command.Command.TheVariants.{New, Run, Recover, Dump, Demo};
+ghost use Rattle.command_line.specs.declared.command.Command.TheVariants.{New, Run, Recover, Dump, Demo, Cut, Upgrade};
 ghost use Rattle.command_line.specs.declared.options.RunOptions.{RunOptions};
 ghost use Rattle.log_disk.specs.Attaching.{existing, existing_or_made};
 ghost use Rattle.log_disk.specs.Costs.{Costs};
 ghost use Rattle.log_disk.specs.Disk.{Leaves};
 ghost use Rattle.log_disk.specs.Faults.{CountsWhere, Rose};
 ghost use Rattle.log_record.specs.declared.limits.TheConstants.{LAST_TXN};
-ghost use Rattle.log_record.specs.declared.rec.Rec.{Rec};
+ghost use Rattle.log_recovery.specs.Opened.{OpenedList};
 ghost use Rattle.log_recovery.specs.Recovery.{HoldsLawful, HoldsList};
 ghost use Rattle.segment_file.specs.File.{BeginsOpen};
 ghost use Rattle.txn_script.specs.Balances.{IsBalancesText};
@@ -17,8 +17,8 @@ ghost use Rattle.cli_reports.specs.Answers.{AnswersRecover, AnswersDump, IsOfDum
 ghost use Rattle.cli_new.specs.Answers.{AnswersNew, IsOfNew};
 ghost use Rattle.cli_top.specs.Answered.{Answered, Obeys};
 ghost use Rattle.cli_world.specs.Alone.{command_of};
-ghost use Rattle.cli_world.specs.World.{world};
-ghost use Rattle.cli_top.specs.Asks.{AsksNew, AsksRun, AsksDemo};
+ghost use Rattle.cli_world.specs.World.{world, DoesCut, DoesUpgrade};
+ghost use Rattle.cli_top.specs.Asks.{AsksNew, AsksRun, AsksDemo, AsksCut, AsksUpgrade};
 ghost use Rattle.cli_demo.specs.Demo.{AnswersDemo, IsOfDemo, TellsSummary};
 ghost use Rattle.cli_new.specs.Creation.{AllHoldNew, FollowsLog, GrowsByNew, MayBeLeft, PrecedesLog};
 ghost use Rattle.cli_shared.specs.Creation.{TellsWhether};
@@ -54,14 +54,15 @@ pub fn aether<R: Threads + Wait + Clock + Sync, D: LogDisk, S: Source, K: Sink, 
     ensures refused { (AreTaken words.now → ⊥) → (result.detail ≡ Detail.Usage) ⊎ (result.detail ≡ Detail.NoMemory) }
     ensures unread { (AreTaken words.now → ⊥) → script.new ≡ script.old }
     ensures unwritten { (AreTaken words.now → ⊥) → out.new ≡ out.old }
-    ensures untouched { (AsksNew words.now → ⊥) → (AsksRun words.now → ⊥) → (AsksDemo words.now → ⊥) → disk.new ≡ disk.old }
+    ensures untouched { (AsksNew words.now → ⊥) → (AsksRun words.now → ⊥) → (AsksDemo words.now → ⊥) → (AsksCut words.now → ⊥)
+        → (AsksUpgrade words.now → ⊥) → disk.new ≡ disk.old }
 
     // `recover`: for the bytes of the input, the text that is written, and what is left of both; and a lawful list is recovered.
     ensures recover { IsCommandLine words.now Recover → IfSome (S.left script.old) (λ bytes.
         AnswersRecover bytes (S.left script.new) (K.held_bytes out.old) (K.held_bytes out.new) result.detail) }
     ensures of_recover { IsCommandLine words.now Recover → IsOfRecover result.detail }
     ensures complete_recover { IsCommandLine words.now Recover
-        → IfSome (S.left script.old) (λ bytes. (records : List Rec) → HoldsLawful bytes records
+        → IfSome (S.left script.old) (λ bytes. (list : OpenedList) → HoldsLawful bytes list
         → (Rose (S.faults script.old) (S.faults script.new) → ⊥) → (Rose (K.faults out.old) (K.faults out.new) → ⊥)
         → (result.detail ≡ Detail.Fine) ⊎ (result.detail ≡ Detail.NoMemory)) }
 
@@ -70,7 +71,7 @@ pub fn aether<R: Threads + Wait + Clock + Sync, D: LogDisk, S: Source, K: Sink, 
         AnswersDump bytes (S.left script.new) (K.held_bytes out.old) (K.held_bytes out.new) result.detail) }
     ensures of_dump { IsCommandLine words.now Dump → IsOfDump result.detail }
     ensures complete_dump { IsCommandLine words.now Dump
-        → IfSome (S.left script.old) (λ bytes. (records : List Rec) → HoldsList bytes records
+        → IfSome (S.left script.old) (λ bytes. (list : OpenedList) → HoldsList bytes list
         → (Rose (S.faults script.old) (S.faults script.new) → ⊥) → (Rose (K.faults out.old) (K.faults out.new) → ⊥)
         → (result.detail ≡ Detail.Fine) ⊎ (result.detail ≡ Detail.NoMemory)) }
 
@@ -86,7 +87,8 @@ pub fn aether<R: Threads + Wait + Clock + Sync, D: LogDisk, S: Source, K: Sink, 
         → Leaves D.moment D.images_since (D.images disk.old) disk.old disk.new }
     ensures unchanged { AsksNew words.now → D.honest disk.old → PrecedesLog result.detail → D.reads disk.new ≡ D.reads disk.old }
     ensures exists { AsksNew words.now → D.honest disk.old → TellsWhether (BeginsOpen (D.reads disk.old)) result.detail }
-    ensures count { (AsksRun words.now → ⊥) → (AsksDemo words.now → ⊥) → D.honest disk.old → Costs D.LogDisk 7 11 disk.old disk.new }
+    ensures count { (AsksRun words.now → ⊥) → (AsksDemo words.now → ⊥) → (AsksUpgrade words.now → ⊥) → D.honest disk.old
+        → Costs D.LogDisk 7 11 disk.old disk.new }
     ensures attached_new { (log : List ℕ) → IsCommandLine words.now (New log) → D.honest disk.old
         → LeavesAttached (existing_or_made log) (D.attached disk.old) (D.attached disk.new) result.detail }
     ensures grows { AsksNew words.now → D.honest disk.old → GrowsByNew D.LogDisk (S.left script.old) disk.old disk.new }
@@ -106,7 +108,7 @@ pub fn aether<R: Threads + Wait + Clock + Sync, D: LogDisk, S: Source, K: Sink, 
     ensures quiet { AsksRun words.now → RunStaysSilent (K.held_bytes out.old) (K.held_bytes out.new) result.detail }
 
     ensures complete_run { AsksRun words.now → D.honest disk.old
-        → IfSome (S.left script.old) (λ bytes. (opened : List Rec) (jobs : List Job) → HoldsLawful (D.reads disk.old) opened
+        → IfSome (S.left script.old) (λ bytes. (opened : OpenedList) (jobs : List Job) → HoldsLawful (D.reads disk.old) opened
         → IsScriptText (accounts_of opened) bytes jobs → next_txn opened + length jobs ≤ LAST_TXN
         → (Rose (S.faults script.old) (S.faults script.new) → ⊥) → (Rose (K.faults out.old) (K.faults out.new) → ⊥)
         → (Rose (D.faults disk.old) (D.faults disk.new) → ⊥) → IsRunDone result.detail) }
@@ -125,6 +127,23 @@ pub fn aether<R: Threads + Wait + Clock + Sync, D: LogDisk, S: Source, K: Sink, 
     ensures complete_demo { AsksDemo words.now → D.honest disk.old → (BeginsOpen (D.reads disk.old) → ⊥)
         → (Rose (K.faults out.old) (K.faults out.new) → ⊥) → (Rose (D.faults disk.old) (D.faults disk.new) → ⊥)
         → (result.detail ≡ Detail.Fine) ⊎ (result.detail ≡ Detail.NoMemory) }
+
+    // `cut` and `upgrade`: for the bytes of the input, which are those of another log, the text that is written, what a crash may leave of the
+    // disk, and how long its file gets.
+    ensures cut { (log : List ℕ) → IsCommandLine words.now (Cut log)
+        → DoesCut D.LogDisk S.Source K.Sink log (world disk.old script.old out.old) (world disk.new script.new out.new) result.detail }
+    ensures complete_cut { AsksCut words.now → D.honest disk.old → (BeginsOpen (D.reads disk.old) → ⊥)
+        → IfSome (S.left script.old) (λ bytes. (list : OpenedList) → HoldsLawful bytes list
+        → (Rose (S.faults script.old) (S.faults script.new) → ⊥) → (Rose (K.faults out.old) (K.faults out.new) → ⊥)
+        → (Rose (D.faults disk.old) (D.faults disk.new) → ⊥)
+        → (result.detail ≡ Detail.Fine) ⊎ (result.detail ≡ Detail.NoMemory)) }
+    ensures upgrade { (log : List ℕ) → IsCommandLine words.now (Upgrade log)
+        → DoesUpgrade D.LogDisk S.Source K.Sink log (world disk.old script.old out.old) (world disk.new script.new out.new) result.detail }
+    ensures complete_upgrade { AsksUpgrade words.now → D.honest disk.old → (BeginsOpen (D.reads disk.old) → ⊥)
+        → IfSome (S.left script.old) (λ bytes. (list : OpenedList) → HoldsLawful bytes list
+        → (Rose (S.faults script.old) (S.faults script.new) → ⊥) → (Rose (K.faults out.old) (K.faults out.new) → ⊥)
+        → (Rose (D.faults disk.old) (D.faults disk.new) → ⊥)
+        → (result.detail ≡ Detail.Fine) ⊎ (result.detail ≡ Detail.NoMemory)) }
 
     // By the commands other than `run` nothing is written but where all is fine or the writing failed.
     ensures silent { (AsksRun words.now → ⊥) → StaysSilent (K.held_bytes out.old) (K.held_bytes out.new) result.detail }

@@ -2,6 +2,8 @@
 #![tactic(auto)]
 
 #[cfg(test)]
+mod cut_tests;
+#[cfg(test)]
 mod demo_tests;
 #[cfg(test)]
 mod dump_tests;

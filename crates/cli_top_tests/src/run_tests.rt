@@ -20,7 +20,7 @@ const BOTH: &[&str] = &["aether", "run", "bank.log", "--workers", "2"];
 const ALONE_WAITING: &[&str] = &["aether", "run", "bank.log", "--workers", "1", "--wait"];
 
 /// A transfer under the greatest number, refused.
-const GREATEST_TRANSACTION: &[u8] = b"O\0\0\0\x01\x04\x01\0\x01\xff\xff\xff\xff\0";
+pub(crate) const GREATEST_TRANSACTION: &[u8] = b"O\0\0\0\x01\x04\x01\0\x01\xff\xff\xff\xff\0";
 
 /// The run of the script over the log ends well, and writes this.
 fn runs<R: Threads + Wait + Clock + Sync + AllocGlobal + Abort>(
@@ -278,7 +278,7 @@ fn is_no_log<R: Threads + Wait + Clock + Sync + AllocGlobal + Abort>(
     leaves(rt, &given, &End::NotALog, b"", bytes)
 }
 
-const NO_LOGS: &[&[u8]] = &[b"", b"text", b"O", b"OAETHER2"];
+const NO_LOGS: &[&[u8]] = &[b"", b"text", b"O", b"OAETHER3"];
 
 #[test]
 fn refuses_what_is_no_log(rt: HostRuntime) -> Result<(), Fail> {

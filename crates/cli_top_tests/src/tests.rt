@@ -283,6 +283,7 @@ const REPORTS: &[(End, u8, &[u8])] = &[
     (End::Write, 5, b"aether: write failed\n"),
     (End::Disk, 6, b"aether: disk failed\n"),
     (End::NotALog, 7, b"aether: not a log\n"),
+    (End::BadSnapshot, 7, b"aether: bad snapshot\n"),
     (
         End::LogEnd(LAST, 26),
         8,

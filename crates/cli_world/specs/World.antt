@@ -17,6 +17,9 @@ use Rattle.cli_shared.specs.Creation.{TellsWhether}
 use Rattle.cli_reports.specs.Answers.{AnswersRecover, AnswersDump, IsOfDump, IsOfRecover}
 use Rattle.cli_new.specs.Answers.{AnswersNew, IsOfNew}
 use Rattle.cli_new.specs.Creation.{AllHoldNew, FollowsLog, GrowsByNew, MayBeLeft, PrecedesLog}
+use Rattle.cli_cut.specs.Answers.{AnswersCut, IsOfCut}
+use Rattle.cli_cut.specs.Cutting.{AllHoldCut, FollowsCut, GrowsByCut, MayBeCut, PrecedesCut}
+use Rattle.cli_cut.specs.Upgrading.{AllHoldUpgrade, CostsUpgrade, GrowsByUpgrade, MayBeUpgraded}
 
 -- what the program works on
 pub record World (D S K : Type 0) : Type 0 where
@@ -49,6 +52,38 @@ pub record DoesNew {D S K : Type 0} (g : Ghosts D) (h : SourceGhosts S) (i : Sin
   pub count : g.honest old.disk → Costs g 7 11 old.disk new.disk
   pub attached : g.honest old.disk → LeavesAttached (existing_or_made log) (g.attached old.disk) (g.attached new.disk) detail
   pub grows : g.honest old.disk → GrowsByNew g (h.left old.script) old.disk new.disk
+
+pub record DoesCut {D S K : Type 0} (g : Ghosts D) (h : SourceGhosts S) (i : SinkGhosts K) (log : List ℕ) (old new : World D S K)
+    (detail : Detail) : Type 0 where
+  pub answer : IfSome (h.left old.script) (λ bytes.
+      AnswersCut bytes (h.left new.script) (i.held_bytes old.out) (i.held_bytes new.out) detail)
+  pub silent : StaysSilent (i.held_bytes old.out) (i.held_bytes new.out) detail
+  pub range : IsOfCut detail
+  pub images : g.honest old.disk
+      → Leaves g.moment g.images_since (MayBeCut (h.left old.script) (g.images old.disk)) old.disk new.disk
+  pub made : g.honest old.disk → FollowsCut detail → AllHoldCut (h.left old.script) (g.images new.disk)
+  pub kept : PrecedesCut detail → Leaves g.moment g.images_since (g.images old.disk) old.disk new.disk
+  pub unchanged : g.honest old.disk → PrecedesCut detail → g.reads new.disk ≡ g.reads old.disk
+  pub exists : g.honest old.disk → TellsWhether (BeginsOpen (g.reads old.disk)) detail
+  pub count : g.honest old.disk → Costs g 7 11 old.disk new.disk
+  pub attached : g.honest old.disk → LeavesAttached (existing_or_made log) (g.attached old.disk) (g.attached new.disk) detail
+  pub grows : g.honest old.disk → GrowsByCut g (h.left old.script) old.disk new.disk
+
+pub record DoesUpgrade {D S K : Type 0} (g : Ghosts D) (h : SourceGhosts S) (i : SinkGhosts K) (log : List ℕ) (old new : World D S K)
+    (detail : Detail) : Type 0 where
+  pub answer : IfSome (h.left old.script) (λ bytes.
+      AnswersCut bytes (h.left new.script) (i.held_bytes old.out) (i.held_bytes new.out) detail)
+  pub silent : StaysSilent (i.held_bytes old.out) (i.held_bytes new.out) detail
+  pub range : IsOfCut detail
+  pub images : g.honest old.disk
+      → Leaves g.moment g.images_since (MayBeUpgraded (h.left old.script) (g.images old.disk)) old.disk new.disk
+  pub made : g.honest old.disk → FollowsCut detail → AllHoldUpgrade (h.left old.script) (g.images new.disk)
+  pub kept : PrecedesCut detail → Leaves g.moment g.images_since (g.images old.disk) old.disk new.disk
+  pub unchanged : g.honest old.disk → PrecedesCut detail → g.reads new.disk ≡ g.reads old.disk
+  pub exists : g.honest old.disk → TellsWhether (BeginsOpen (g.reads old.disk)) detail
+  pub count : g.honest old.disk → CostsUpgrade g (h.left old.script) old.disk new.disk
+  pub attached : g.honest old.disk → LeavesAttached (existing_or_made log) (g.attached old.disk) (g.attached new.disk) detail
+  pub grows : g.honest old.disk → GrowsByUpgrade g (h.left old.script) old.disk new.disk
 
 pub record DoesRecover {D S K : Type 0} (h : SourceGhosts S) (i : SinkGhosts K) (old new : World D S K) (detail : Detail) : Type 0 where
   pub answer : IfSome (h.left old.script) (λ bytes.

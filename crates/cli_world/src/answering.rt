@@ -2,7 +2,7 @@ ghost use Rattle.cli_world.specs.Alone.{AnsweredAlone};
 ghost use Rattle.cli_world.specs.World.{world};
 
 use crate::answer::{Answer, WithWorkers};
-use crate::commands::{obey_dump, obey_new, obey_recover};
+use crate::commands::{obey_cut, obey_dump, obey_new, obey_recover, obey_upgrade};
 use cli_shared::Detail;
 use command_line::{Command, Refused, parse};
 use log_disk::{LogDisk, Sink, Source};
@@ -22,6 +22,8 @@ pub fn answer_alone<D: LogDisk, S: Source, K: Sink>(
     match parse(alloc, words) {
         Ok(Command::New { log }) => Answer::Done(obey_new(alloc, &log, disk, script, out)),
         Ok(Command::Recover) => Answer::Done(obey_recover(alloc, disk, script, out)),
+        Ok(Command::Cut { log }) => Answer::Done(obey_cut(alloc, &log, disk, script, out)),
+        Ok(Command::Upgrade { log }) => Answer::Done(obey_upgrade(alloc, &log, disk, script, out)),
         Ok(Command::Dump) => Answer::Done(obey_dump(alloc, disk, script, out)),
         Ok(Command::Run { log, options }) => Answer::Asked(WithWorkers::Run { log, options }),
         Ok(

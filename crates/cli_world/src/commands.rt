@@ -1,5 +1,7 @@
-ghost use Rattle.cli_world.specs.World.{DoesDump, DoesNew, DoesRecover, TellsFaults, world};
+ghost use Rattle.cli_world.specs.World.{DoesCut, DoesDump, DoesNew, DoesRecover, DoesUpgrade, TellsFaults, world};
 
+use cli_cut::cut_command::cut_command;
+use cli_cut::upgrade_command::upgrade_command;
 use cli_new::new_command::new_command;
 use cli_reports::dump_command::dump_command;
 use cli_reports::recover_command::recover_command;
@@ -46,4 +48,32 @@ pub fn obey_dump<D: LogDisk, S: Source, K: Sink>(
     ensures faults { TellsFaults D.LogDisk S.Source K.Sink (world disk.old script.old out.old) (world disk.new script.new out.new) result }
 {
     dump_command(alloc, script, out)
+}
+
+/// What `cut` answers.
+pub fn obey_cut<D: LogDisk, S: Source, K: Sink>(
+    alloc: Global,
+    log: &Word,
+    disk: &mut D,
+    script: &mut S,
+    out: &mut K,
+) -> Detail
+    ensures done { DoesCut D.LogDisk S.Source K.Sink log.now (world disk.old script.old out.old) (world disk.new script.new out.new) result }
+    ensures faults { TellsFaults D.LogDisk S.Source K.Sink (world disk.old script.old out.old) (world disk.new script.new out.new) result }
+{
+    cut_command(alloc, log, disk, script, out)
+}
+
+/// What `upgrade` answers.
+pub fn obey_upgrade<D: LogDisk, S: Source, K: Sink>(
+    alloc: Global,
+    log: &Word,
+    disk: &mut D,
+    script: &mut S,
+    out: &mut K,
+) -> Detail
+    ensures done { DoesUpgrade D.LogDisk S.Source K.Sink log.now (world disk.old script.old out.old) (world disk.new script.new out.new) result }
+    ensures faults { TellsFaults D.LogDisk S.Source K.Sink (world disk.old script.old out.old) (world disk.new script.new out.new) result }
+{
+    upgrade_command(alloc, log, disk, script, out)
 }

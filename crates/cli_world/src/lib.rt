@@ -7,4 +7,4 @@ mod commands;
 
 pub use answer::{Answer, WithWorkers};
 pub use answering::answer_alone;
-pub use commands::{obey_dump, obey_new, obey_recover};
+pub use commands::{obey_cut, obey_dump, obey_new, obey_recover, obey_upgrade};

@@ -1,10 +1,10 @@
 use Rattle.std.proofs.Common.{◌∙◌, sym, ap, subst}
-use Rattle.command_line.specs.declared.command.Command.TheVariants.{New, Run, Recover, Dump, Demo}
+use Rattle.command_line.specs.declared.command.Command.TheVariants.{New, Run, Recover, Dump, Demo, Cut, Upgrade}
 use Rattle.cli_shared.specs.Answers.{status_of}
 use Rattle.cli_world.specs.World.{World, world}
 use Rattle.cli_top.specs.Answered.{Answered}
 use Rattle.cli_top.proofs.AnsweredLemmas.{count-of, done-of, faults-of, refused-of, same-of, silent-of, untouched-of, usage-of}
-use Rattle.cli_top.proofs.CompletenessLemmas.{dump-complete, new-complete, recover-complete}
+use Rattle.cli_top.proofs.CompletenessLemmas.{cut-complete, dump-complete, new-complete, recover-complete}
 use Rattle.cli_top.proofs.DemoCompleteness.{demo-complete}
 use Rattle.cli_top.proofs.RunCompleteness.{run-complete}
 use Rattle.cli_top.proofs.top.aether.Goals as goal
@@ -58,6 +58,12 @@ returns g c =
       unread_demo = λ asked. (done (Demo asked.0 asked.1 asked.2 asked.3) asked.4).unread;
       complete_demo = λ asked honest. demo-complete _ _ _ detail (done (Demo asked.0 asked.1 asked.2 asked.3) asked.4).range
           ((done (Demo asked.0 asked.1 asked.2 asked.3) asked.4).exists honest) faults.write.counted faults.disk.counted;
+      cut = λ log asked. done (Cut log) asked;
+      complete_cut = λ asked honest closed. cut-complete _ _ _ _ _ _ _ _ detail (done (Cut asked.0) asked.1).answer
+          ((done (Cut asked.0) asked.1).exists honest) faults.read.counted faults.write.counted faults.disk.counted closed;
+      upgrade = λ log asked. done (Upgrade log) asked;
+      complete_upgrade = λ asked honest closed. cut-complete _ _ _ _ _ _ _ _ detail (done (Upgrade asked.0) asked.1).answer
+          ((done (Upgrade asked.0) asked.1).exists honest) faults.read.counted faults.write.counted faults.disk.counted closed;
       silent = silent-of _ _ _ words old new detail came;
       honest = faults.honest;
       read = faults.read;

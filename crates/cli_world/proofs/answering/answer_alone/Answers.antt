@@ -1,6 +1,6 @@
 use Rattle.std.proofs.Common.{inl, inr, refl, subst}
 use Rattle.command_line.specs.CommandLine.{IsCommandLine, IsRefusalOf}
-use Rattle.command_line.specs.declared.command.Command.TheVariants.{New, Recover, Dump}
+use Rattle.command_line.specs.declared.command.Command.TheVariants.{New, Recover, Dump, Cut, Upgrade}
 use Rattle.cli_world.proofs.answering.answer_alone.Goals as goal
 
 pub returns-in-Ok-New : goal.returns-in-Ok-New
@@ -25,6 +25,22 @@ returns-in-Ok-Dump g c = inl (record {
   asked = subst (IsCommandLine c.args.words.now) c.in-Ok-Dump.field-0-is c.in-Ok-Dump.ensures.exact;
   done = c.obey_dump.ensures.done;
   faults = c.obey_dump.ensures.faults;
+})
+
+pub returns-in-Ok-Cut : goal.returns-in-Ok-Cut
+returns-in-Ok-Cut g c = inl (record {
+  command = Cut c.in-Ok-Cut.log;
+  asked = subst (IsCommandLine c.args.words.now) c.in-Ok-Cut.field-0-is c.in-Ok-Cut.ensures.exact;
+  done = c.obey_cut.ensures.done;
+  faults = c.obey_cut.ensures.faults;
+})
+
+pub returns-in-Ok-Upgrade : goal.returns-in-Ok-Upgrade
+returns-in-Ok-Upgrade g c = inl (record {
+  command = Upgrade c.in-Ok-Upgrade.log;
+  asked = subst (IsCommandLine c.args.words.now) c.in-Ok-Upgrade.field-0-is c.in-Ok-Upgrade.ensures.exact;
+  done = c.obey_upgrade.ensures.done;
+  faults = c.obey_upgrade.ensures.faults;
 })
 
 pub returns-in-Ok-Run : goal.returns-in-Ok-Run
