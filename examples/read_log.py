@@ -1,9 +1,9 @@
 #!/usr/bin/env python3
-"""Prints the records of a log, as `aether dump` does: read_log.py < LOG. Written from docs/FORMAT.md alone, as a reader in any other language would
-be. Where the bytes are no log it says what is wrong, and ends with status 7."""
+"""Prints the records of a log of either format, as `aether dump` does: read_log.py < LOG. Written from docs/FORMAT.md alone, as a reader in any other
+language would be. Where the bytes are no log it says what is wrong, and ends with status 7."""
 import sys
 
-OPEN, MAGIC, MOST_UNITS, MOST_LSN = 0x4F, b"AETHER1", 1048576, 4294967295
+OPEN, MOST_UNITS, MOST_LSN, MOST_ACCOUNTS, MOST_BALANCE = 0x4F, 1048576, 4294967295, 4096, 2147483647
 
 
 class Fault(Exception):
@@ -14,30 +14,45 @@ def is_open(data, at):
     return at + 1 < len(data) and data[at] == OPEN
 
 
-def units_of(data):
-    """The units of all batches, joined."""
-    if not is_open(data, 0) or data[1:8] != MAGIC:
-        raise Fault("not a log")
-    units, gate, at = [], 0, 8
+def number(data, at, size):
+    return int.from_bytes(data[at:at + size], "big")
+
+
+def head_of(data):
+    """Of a file of the second format: where its list begins, the lines that the dump has of its head, and where the head ends."""
+    begin, txn, count = (number(data, at, 4) for at in (8, 12, 16))
+    end = 20 + 12 * count
+    if len(data) < 20 or not 1 <= count <= MOST_ACCOUNTS or len(data) < end:
+        raise Fault("bad snapshot")
+    rows = [(number(data, at, 8), number(data, at + 8, 4)) for at in range(20, end, 12)]
+    if any(balance > MOST_BALANCE or mark > begin for balance, mark in rows):
+        raise Fault("bad snapshot")
+    lines = [f"account {account} {balance} {mark}\n" for account, (balance, mark) in enumerate(rows)]
+    return begin, [f"snapshot {begin} {txn}\n", *lines], end
+
+
+def units_of(data, begin, gate, at):
+    """The units of all batches, joined: the first of these gates stands here, and what is behind it there."""
+    units = []
     while is_open(data, gate):
-        count = int.from_bytes(data[at:at + 4], "big")
+        count = number(data, at, 4)
         end = at + 4 + 8 * count
-        if at + 4 > len(data) or not 1 <= count <= MOST_UNITS or end > len(data) or len(units) + count > MOST_LSN:
+        if at + 4 > len(data) or not 1 <= count <= MOST_UNITS or end > len(data) or begin + len(units) + count > MOST_LSN:
             raise Fault(f"bad batch at byte {gate}")
-        units += [int.from_bytes(data[place:place + 8], "big") for place in range(at + 4, end, 8)]
+        units += [number(data, place, 8) for place in range(at + 4, end, 8)]
         gate, at = end, end + 1
     return units
 
 
-def record_at(units, lsn):
+def record_at(units, place):
     """How many units the record there has, and the words that the dump has of it; None where there is no record."""
-    kind, size, field, txn = units[lsn] >> 56, units[lsn] >> 48 & 255, units[lsn] >> 32 & 65535, units[lsn] & 4294967295
-    rest = units[lsn + 1:lsn + size]
+    kind, size, field, txn = units[place] >> 56, units[place] >> 48 & 255, units[place] >> 32 & 65535, units[place] & 4294967295
+    rest = units[place + 1:place + size]
     if size == 0 or len(rest) != size - 1 or (kind == 1) != (txn == 0):
         return None
-    if kind == 1 and size == 2 and field <= 4095 and rest[0] <= 2147483647:
+    if kind == 1 and size == 2 and field < MOST_ACCOUNTS and rest[0] <= MOST_BALANCE:
         return size, f"genesis {field} {rest[0]}"
-    if kind == 2 and size == 2 and field <= 4095:
+    if kind == 2 and size == 2 and field < MOST_ACCOUNTS:
         delta, prev = rest[0] >> 32, rest[0] & 4294967295
         if delta not in (0, 2147483648):
             return size, f"update {txn} {field} {delta - 4294967296 if delta > 2147483648 else delta} {prev}"
@@ -50,19 +65,26 @@ def record_at(units, lsn):
     return None
 
 
-def lines_of(units):
-    lsn = 0
-    while lsn < len(units):
-        found = record_at(units, lsn)
+def lines_of(data):
+    if not is_open(data, 0) or data[1:8] not in (b"AETHER1", b"AETHER2"):
+        raise Fault("not a log")
+    begin, lines, place = 0, [], 0
+    if data[7:8] == b"1":
+        units = units_of(data, begin, 0, 8)
+    else:
+        begin, lines, end = head_of(data)
+        units = units_of(data, begin, end, end + 1)
+    while place < len(units):
+        found = record_at(units, place)
         if found is None:
-            raise Fault(f"bad record at lsn {lsn}")
-        yield f"{lsn} {found[1]}\n"
-        lsn += found[0]
-    yield f"lsn {lsn}\n"
+            raise Fault(f"bad record at lsn {begin + place}")
+        lines.append(f"{begin + place} {found[1]}\n")
+        place += found[0]
+    return [*lines, f"lsn {begin + place}\n"]
 
 
 try:
-    sys.stdout.write("".join(lines_of(units_of(sys.stdin.buffer.read()))))
+    sys.stdout.write("".join(lines_of(sys.stdin.buffer.read())))
 except Fault as fault:
     print(f"aether: {fault}", file=sys.stderr)
     sys.exit(7)
