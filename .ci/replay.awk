@@ -12,6 +12,8 @@ FILENAME == ARGV[1] {
     next
 }
 
+$1 == "account" { balance[$2] = $3 }
+
 $2 == "genesis" { balance[$3] = $4 }
 
 $2 == "update" {
