@@ -34,6 +34,10 @@ abbrev pub has_end : List Rec → Bool
 has_end [] = false
 has_end (rec ∷ records) = ends rec || has_end records
 
+-- the Updates of a transaction that has no end record; of one that has it, none
+abbrev pub open_changes_of : ℕ → List Placed → List Change
+open_changes_of txn h = if has_end (own_records_of txn h) then [] else updates_of txn h
+
 -- whether one of the records commits its transaction
 abbrev pub has_commit : List Rec → Bool
 has_commit [] = false

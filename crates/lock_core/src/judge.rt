@@ -8,10 +8,12 @@ ghost use Rattle.lock_core.specs.Sums.{Opening, no_opening, balance_of, last_com
 ghost use Rattle.lock_core.specs.Lawful.{base_with, opening_after};
 ghost use Rattle.lock_core.specs.Settling.{opening_of};
 ghost use Rattle.lock_core.specs.Taking.{IsTakeFault, HasJudged, count_of};
+ghost use Rattle.lock_core.specs.Transactions.{open_changes_of};
 
 use crate::ledger::Ledger;
 use crate::reason::JudgeFault;
-use crate::update::txn_of;
+use crate::update::{Change, MOST_UPDATES, txn_of};
+use arrayvec::ArrayVec;
 use log_record::Rec;
 use lsn_space::{Balances, Lsn, NoMemory};
 use std::alloc::Global;
@@ -94,6 +96,14 @@ impl Judge {
         ensures { (opening : Opening) (h : List Placed) → HasJudged opening self.now h → result ≡ (opening_after opening h).txn }
     {
         self.greatest
+    }
+
+    /// What the Updates of a transaction say, newest first, as long as it has no end record; then there are none.
+    pub fn changes_of(&self, txn: u32) -> ArrayVec<Change, MOST_UPDATES>
+        requires taken { (opening : Opening) × (h : List Placed) × HasJudged opening self.now h }
+        ensures changes { (opening : Opening) (h : List Placed) → HasJudged opening self.now h → result.items ≡ open_changes_of txn h }
+    {
+        self.ledger.changes_of(txn)
     }
 
     /// The accounts of the list taken: their balances and last Commits.

@@ -6,7 +6,7 @@ ghost use Rattle.lsn_space.specs.declared.lsn.TheConstants.{LAST};
 ghost use Rattle.log_record.specs.declared.limits.TheConstants.{MOST_ACCOUNTS};
 ghost use Rattle.lsn_space.specs.Opening.{IsSnapshot};
 ghost use Rattle.lock_core.specs.Records.{txn_of, ends};
-ghost use Rattle.lock_core.specs.Transactions.{own_records_of, has_end};
+ghost use Rattle.lock_core.specs.Transactions.{own_records_of, has_end, open_changes_of};
 ghost use Rattle.lock_core.specs.Sums.{Opening, no_opening};
 ghost use Rattle.lock_core.specs.Settling.{opening_of};
 ghost use Rattle.lock_core.specs.Keeping.{IsOpenAt, KeepsTransactions, KeepsLedger};
@@ -17,6 +17,7 @@ use crate::reason::{JudgeFault, Why};
 use crate::settling::settle;
 use crate::transactions::Transactions;
 use crate::update::{Change, MOST_UPDATES};
+use arrayvec::ArrayVec;
 use log_record::{MOST_ACCOUNTS, Rec};
 use lsn_space::{Balances, Lsn, NoMemory};
 use std::alloc::Global;
@@ -90,6 +91,14 @@ impl Ledger {
             return None;
         }
         self.txns.place(txn)
+    }
+
+    /// What the Updates of a transaction say, newest first, as long as it has no end record; then there are none.
+    pub fn changes_of(&self, txn: u32) -> ArrayVec<Change, MOST_UPDATES>
+        requires kept { (opening : Opening) × (h : List Placed) × KeepsLedger opening self.now h }
+        ensures { (opening : Opening) (h : List Placed) → KeepsLedger opening self.now h → result.items ≡ open_changes_of txn h }
+    {
+        self.txns.open_changes(txn)
     }
 
     /// Takes the record that starts at `lsn`.

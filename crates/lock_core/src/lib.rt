@@ -10,6 +10,7 @@ mod ledger;
 mod plain;
 mod reason;
 mod settling;
+mod taker;
 mod transactions;
 mod update;
 mod update_links;
@@ -25,4 +26,5 @@ pub use laws::{
 };
 pub use plain::{PlainFault, plain_accounts};
 pub use reason::{JudgeFault, Why};
-pub use update::{Change, txn_of};
+pub use taker::TakesRecords;
+pub use update::{Change, MOST_UPDATES, txn_of};

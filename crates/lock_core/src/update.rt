@@ -5,7 +5,7 @@ use log_record::{MOST_LEGS, Rec};
 use lsn_space::Lsn;
 
 /// The most Updates of a transaction: two for each leg.
-pub(crate) const MOST_UPDATES: usize = 2 * MOST_LEGS as usize;
+pub const MOST_UPDATES: usize = 2 * MOST_LEGS as usize;
 
 /// What an Update says: it changes an account by this delta. `prev` is the end of the account's last
 /// Commit.
