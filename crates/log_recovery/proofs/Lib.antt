@@ -1,4 +1,5 @@
 pub mod AnswerLemmas
+pub mod BoundaryLemmas
 pub mod DumpLemmas
 pub mod ListingLemmas
 pub mod OpenedLemmas

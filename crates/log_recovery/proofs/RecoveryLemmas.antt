@@ -9,15 +9,13 @@ use Rattle.segment_file.specs.Log.{Log, IsFront, first_format, second_format, Ho
 use Rattle.segment_file.specs.Scan.{Scans, scanned_log}
 use Rattle.segment_file.specs.Standing.{LogStandsAt}
 use Rattle.log_recovery.specs.declared.list_result.Listed.{Listed}
-use Rattle.log_recovery.specs.declared.recovery.Recovered.{Recovered}
-use Rattle.lock_core.specs.Sums.{ShowsAccounts}
-use Rattle.lock_core.specs.Lawful.{base_with, opening_after}
-use Rattle.lock_core.specs.Settling.{opening_of}
-use Rattle.lock_core.specs.declared.judge.Judge.{Judge}
+use Rattle.log_record.specs.declared.rec.Placed.{Placed}
+use Rattle.lock_core.specs.Sums as sums
+use Rattle.lock_core.specs.Lawful.{IsLawful}
 use Rattle.log_recovery.specs.Judging.{HasTakenUnits}
-use Rattle.log_recovery.specs.Opened.{OpenedList, log_of, placed}
+use Rattle.log_recovery.specs.Opened.{OpenedList, log_of}
 use Rattle.log_recovery.specs.Listing.{IsRecords}
-use Rattle.log_recovery.specs.Recovery.{HoldsList, Recovers, ListsBytes, list_of}
+use Rattle.log_recovery.specs.Recovery.{HoldsList, ListsBytes, TakesBytes, list_of}
 
 -- what a log begins with has no account, or is a snapshot
 pub log-opening : (bytes : List ℕ) (log : Log) → HoldsLog bytes log → (log.opening.accounts ≡ []) ⊎ IsSnapshot log.opening
@@ -48,24 +46,6 @@ module _ (scan : Scan) (bytes units : List ℕ) (scans : Scans scan bytes) (is :
     pub list-stands : LogStandsAt scan.tail (log_of list) bytes
     list-stands = subst (λ log. LogStandsAt scan.tail log bytes) same-log scans
 
--- the answer for a lawful list
-pub recovers : (recovered : Recovered) (scan : Scan) (bytes units : List ℕ) (judge : Judge) → Scans scan bytes → units ≡ scan.units
-    → (taken : HasTakenUnits scan.opening units judge) → recovered.lsn ≡ scan.tail.next → recovered.tail ≡ scan.tail
-    → recovered.next_txn ≡ (opening_after (opening_of scan.opening) (placed (record { opening = scan.opening; records = taken.records }))).txn + 1
-    → ShowsAccounts recovered.accounts.rows (base_with (opening_of scan.opening) (placed (record { opening = scan.opening; records = taken.records })))
-    (placed (record { opening = scan.opening; records = taken.records })) → Recovers recovered bytes
-recovers recovered scan bytes units judge scans is taken lsn tail next shows =
-    let list : OpenedList = record { opening = scan.opening; records = taken.records } in
-    let stands = list-stands scan bytes units scans is list (λ i. scan.opening) taken.list in
-    record {
-      list = list;
-      held = record { list = list-held scan bytes units scans is list (λ i. scan.opening) taken.list; lawful = taken.taken.ledger.judged.lawful };
-      lsn = lsn ∙ stands.next;
-      stands = subst (λ (t : Tail). LogStandsAt t (log_of list) bytes) (sym tail) stands;
-      next_txn = next;
-      accounts = shows;
-    }
-
 -- the answer for a list that is lawful or not
 pub lists : (listed : Listed) (scan : Scan) (bytes units : List ℕ) (list : IsRecords units) → Scans scan bytes → units ≡ scan.units → listed.opening ≡ scan.opening
     → listed.units ≡ scan.units → listed.tail ≡ scan.tail → ListsBytes listed bytes
@@ -80,4 +60,21 @@ lists listed scan bytes units list scans is opening same tail =
         end = (λ i. (tail i).next) ∙ stands.next;
       };
       stands = subst (λ (t : Tail). LogStandsAt t (log_of (list_of listed list.0)) bytes) (sym tail) stands;
+    }
+
+-- the answer of what has taken it
+pub takes : {T : Type 0} (HasTaken : sums.Opening → T → List Placed → Type 0) (taker : T) (listed : Listed) (scan : Scan) (bytes units : List ℕ)
+    → ((opening : sums.Opening) (taker : T) (h : List Placed) → HasTaken opening taker h → IsLawful opening h) → Scans scan bytes → units ≡ scan.units
+    → listed.opening ≡ scan.opening → listed.units ≡ scan.units → listed.tail ≡ scan.tail → HasTakenUnits HasTaken scan.opening units taker
+    → TakesBytes HasTaken taker listed bytes
+unfolding lists
+takes HasTaken taker listed scan bytes units lawful scans is opening same tail taken =
+    let own = subst (λ (o : Opening). HasTakenUnits HasTaken o units taker) (sym opening) taken in
+    let list = lists listed scan bytes units (own.records, own.list) scans is opening same tail in
+    record {
+      records = own.records;
+      held = record { list = list.held; lawful = lawful _ taker _ own.taken };
+      has = list.has;
+      stands = list.stands;
+      taken = own.taken;
     }

@@ -81,7 +81,7 @@ module _ (old middle new : Option (List ℕ)) (start : List ℕ) (rows : List (�
       rw (split.1, ← append_assoc start lines split.0, line-added) refl in
       AppendsPart-first old new _ _ split.0 (AppendsBut-part old middle new _ waiting before (account_line account row.0) cut) whole
 
-account_lines-same : (one other : ℕ → ℕ) (n : ℕ) → ((account : ℕ) → account < n → one account ≡ other account) → account_lines one n ≡ account_lines other n
+pub account_lines-same : (one other : ℕ → ℕ) (n : ℕ) → ((account : ℕ) → account < n → one account ≡ other account) → account_lines one n ≡ account_lines other n
 account_lines-same one other zero same = refl
 account_lines-same one other (suc n) same =
     rw (

@@ -1,4 +1,4 @@
--- How a judge takes the records of units, one by one.
+-- How the records of units are taken, one by one.
 use Rattle.std.proofs.Common.{◌≡◌, ◌≤◌, ℕ, ◌+◌, List, [], ◌∷◌, ◌++◌, length, drop, refl, ap, ◌∙◌, sym, subst, arith, length-append}
 use Rattle.std.specs.List.{AllByRecursion}
 use Rattle.std.proofs.lemmas.List.{append-nil}
@@ -8,12 +8,11 @@ use Rattle.log_record.specs.LogList.{AreUnitsOf, units_of}
 use Rattle.log_record.specs.Spelling.{spelling, IsSpellable, BeginsWith}
 use Rattle.lsn_space.specs.Opening.{Opening}
 use Rattle.lock_core.specs.Settling.{opening_of}
-use Rattle.lock_core.specs.declared.judge.Judge.{Judge}
 use Rattle.lock_core.specs.declared.reason.Why.{Why}
 use Rattle.lock_core.specs.History.{end_from, entry_at, history_from}
-use Rattle.lock_core.specs.Lawful.{Passes}
+use Rattle.lock_core.specs.Lawful.{Passes, IsLawful}
 use Rattle.lock_core.specs.Faults.{IsFirstFailing, IsUnlawfulAt}
-use Rattle.lock_core.specs.Taking.{HasJudged}
+use Rattle.lock_core.specs.Sums as sums
 use Rattle.lock_core.proofs.Fronts.{history_from-append, history_from-onto}
 use Rattle.log_recovery.specs.Listing.{IsFront, IsRecords}
 use Rattle.log_recovery.specs.Judging.{HasTakenFront, HasTakenUnits, FailsBefore}
@@ -29,14 +28,24 @@ pub front-all : (units rest : List ℕ) → rest ≡ [] → IsFront units rest �
 front-all units rest empty front =
     (front.records, record { spellable = front.each; units_are = front.whole ∙ ap (λ l. units_of front.records ++ l) empty ∙ append-nil (units_of front.records) })
 
-pub taken-none : (opening : Opening) (units : List ℕ) (judge : Judge) → HasJudged (opening_of opening) judge [] → HasTakenFront opening units units judge
-taken-none opening units judge taken = record { records = []; each = tt; whole = refl; taken = taken }
+-- what is taken of the units by what has taken lists so
+module _ {T : Type 0} (HasTaken : sums.Opening → T → List Placed → Type 0) where
+  pub taken-none : (opening : Opening) (units : List ℕ) (taker : T) → HasTaken (opening_of opening) taker [] → HasTakenFront HasTaken opening units units taker
+  taken-none opening units taker taken = record { records = []; each = tt; whole = refl; taken = taken }
 
-pub taken-front : (opening : Opening) (units rest : List ℕ) (judge : Judge) → HasTakenFront opening units rest judge → IsFront units rest
-taken-front opening units rest judge front = record { records = front.records; each = front.each; whole = front.whole }
+  pub taken-front : (opening : Opening) (units rest : List ℕ) (taker : T) → HasTakenFront HasTaken opening units rest taker → IsFront units rest
+  taken-front opening units rest taker front = record { records = front.records; each = front.each; whole = front.whole }
 
-module _ (opening : Opening) (units rest : List ℕ) (judge : Judge) (lsn : ℕ) (before : HasTakenFront opening units rest judge)
-    (place : lsn + length rest ≡ opening.lsn + length units) where
+  pub taken-all : (opening : Opening) (units rest : List ℕ) (taker : T) → rest ≡ [] → HasTakenFront HasTaken opening units rest taker
+      → HasTakenUnits HasTaken opening units taker
+  taken-all opening units rest taker empty front = record {
+    records = front.records;
+    list = record { spellable = front.each; units_are = front.whole ∙ ap (λ l. units_of front.records ++ l) empty ∙ append-nil (units_of front.records) };
+    taken = front.taken;
+  }
+
+module _ {T : Type 0} (HasTaken : sums.Opening → T → List Placed → Type 0) (opening : Opening) (units rest : List ℕ) (taker : T) (lsn : ℕ)
+    (before : HasTakenFront HasTaken opening units rest taker) (place : lsn + length rest ≡ opening.lsn + length units) where
   -- the records so far, in their places
   abbrev pub so_far : List Placed
   so_far = history_from opening.lsn [] before.records
@@ -54,31 +63,25 @@ module _ (opening : Opening) (units rest : List ℕ) (judge : Judge) (lsn : ℕ)
     history-next : history_from opening.lsn [] (before.records ++ rec ∷ []) ≡ entry_at lsn rec ∷ so_far
     history-next = history_from-append opening.lsn [] before.records (rec ∷ []) ∙ ap (λ start. entry_at start rec ∷ so_far) (sym taken-place)
 
-    pub taken-next : (later : Judge) → HasJudged (opening_of opening) later (entry_at lsn rec ∷ so_far) → HasTakenFront opening units after later
+    pub taken-next : (later : T) → HasTaken (opening_of opening) later (entry_at lsn rec ∷ so_far) → HasTakenFront HasTaken opening units after later
     taken-next later taken = record {
       records = before.records ++ rec ∷ [];
       each = next.0;
       whole = next.1;
-      taken = subst (HasJudged (opening_of opening) later) (sym history-next) taken;
+      taken = subst (HasTaken (opening_of opening) later) (sym history-next) taken;
     }
 
-    pub fails-next : (why : Why) → IsFirstFailing (Passes (opening_of opening) so_far (entry_at lsn rec)) why → FailsBefore opening units after lsn why
-    fails-next why first = record {
+    pub fails-next : (why : Why) → IsLawful (opening_of opening) so_far → IsFirstFailing (Passes (opening_of opening) so_far (entry_at lsn rec)) why
+        → FailsBefore opening units after lsn why
+    fails-next why lawful first = record {
       front = before.records;
       rec = rec;
       each = next.0;
       whole = next.1;
-      lawful = before.taken.ledger.judged.lawful;
+      lawful = lawful;
       place = taken-place;
       first = first;
     }
-
-pub taken-all : (opening : Opening) (units rest : List ℕ) (judge : Judge) → rest ≡ [] → HasTakenFront opening units rest judge → HasTakenUnits opening units judge
-taken-all opening units rest judge empty front = record {
-  records = front.records;
-  list = record { spellable = front.each; units_are = front.whole ∙ ap (λ l. units_of front.records ++ l) empty ∙ append-nil (units_of front.records) };
-  taken = front.taken;
-}
 
 -- a record that fails, and then the rest of a list
 pub unlawful-list : (opening : Opening) (units rest : List ℕ) (lsn : ℕ) (why : Why) → FailsBefore opening units rest lsn why → IsRecords rest

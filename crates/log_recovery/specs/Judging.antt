@@ -1,33 +1,33 @@
--- What a judge takes of the records that units spell, behind what stands before them.
+-- What is taken of the records that units spell, behind what stands before them.
 use Rattle.std.specs.Prelude.{◌≡◌, ℕ, List, [], ◌∷◌, ◌++◌}
 use Rattle.std.specs.List.{AllByRecursion}
 use Rattle.lsn_space.specs.Opening.{Opening}
 use Rattle.log_record.specs.declared.rec.Rec.{Rec}
+use Rattle.log_record.specs.declared.rec.Placed.{Placed}
 use Rattle.log_record.specs.LogList.{AreUnitsOf, units_of}
 use Rattle.log_record.specs.Spelling.{IsSpellable}
-use Rattle.lock_core.specs.declared.judge.Judge.{Judge}
 use Rattle.lock_core.specs.declared.reason.Why.{Why}
 use Rattle.lock_core.specs.History.{end_from, entry_at, history_from}
 use Rattle.lock_core.specs.Lawful.{Passes, IsLawful}
 use Rattle.lock_core.specs.Faults.{IsFirstFailing, IsUnlawfulAt}
 use Rattle.lock_core.specs.Settling.{opening_of}
-use Rattle.lock_core.specs.Taking.{HasJudged}
+use Rattle.lock_core.specs.Sums as sums
 use Rattle.log_recovery.specs.declared.judging.UnitsFault.{UnitsFault}
 use Rattle.log_recovery.specs.declared.judging.UnitsFault.TheVariants as fault
 use Rattle.log_recovery.specs.Listing.{IsBadRecAt}
 
--- the judge has taken the records before this rest of the units
-pub record HasTakenFront (opening : Opening) (units rest : List ℕ) (judge : Judge) : Type 0 where
+-- the records before this rest of the units are taken
+pub record HasTakenFront {T : Type 0} (HasTaken : sums.Opening → T → List Placed → Type 0) (opening : Opening) (units rest : List ℕ) (taker : T) : Type 0 where
   pub records : List Rec
   pub each : AllByRecursion IsSpellable records
   pub whole : units ≡ units_of records ++ rest
-  pub taken : HasJudged (opening_of opening) judge (history_from opening.lsn [] records)
+  pub taken : HasTaken (opening_of opening) taker (history_from opening.lsn [] records)
 
--- the judge has taken the records of the units
-pub record HasTakenUnits (opening : Opening) (units : List ℕ) (judge : Judge) : Type 0 where
+-- the records of the units are taken
+pub record HasTakenUnits {T : Type 0} (HasTaken : sums.Opening → T → List Placed → Type 0) (opening : Opening) (units : List ℕ) (taker : T) : Type 0 where
   pub records : List Rec
   pub list : AreUnitsOf units records
-  pub taken : HasJudged (opening_of opening) judge (history_from opening.lsn [] records)
+  pub taken : HasTaken (opening_of opening) taker (history_from opening.lsn [] records)
 
 -- of the records before this rest of the units the last starts at this address, and is the first that fails a test
 pub record FailsBefore (opening : Opening) (units rest : List ℕ) (lsn : ℕ) (test : Why) : Type 0 where
@@ -39,7 +39,7 @@ pub record FailsBefore (opening : Opening) (units rest : List ℕ) (lsn : ℕ) (
   pub place : lsn ≡ end_from opening.lsn (history_from opening.lsn [] front)
   pub first : IsFirstFailing (Passes (opening_of opening) (history_from opening.lsn [] front) (entry_at lsn rec)) test
 
--- why no judge takes the units; want of memory says nothing of them
+-- why the units aren't taken; want of memory says nothing of them
 abbrev pub IsUnitsFaultOf : Opening → List ℕ → UnitsFault → Type 0
 IsUnitsFaultOf opening units (fault.BadRec lsn) = IsBadRecAt opening.lsn units lsn
 IsUnitsFaultOf opening units (fault.Unlawful lsn why) =

@@ -1,3 +1,4 @@
+pub mod Boundaries
 pub mod Dump
 pub mod Judging
 pub mod Listing

@@ -2,19 +2,23 @@
 use Rattle.std.specs.Prelude.{◌≡◌, ℕ, ◌+◌, List}
 use Rattle.std.specs.List.{AllByRecursion}
 use Rattle.log_record.specs.declared.rec.Rec.{Rec}
+use Rattle.log_record.specs.declared.rec.Placed.{Placed}
 use Rattle.log_record.specs.Spelling.{IsSpellable}
 use Rattle.log_record.specs.LogList.{AreUnitsOf}
 use Rattle.segment_file.specs.File.{BeginsAsLog}
 use Rattle.segment_file.specs.Log.{Log, HoldsLog, IsBadSnapshot, IsBadBatch}
 use Rattle.segment_file.specs.Standing.{LogStandsAt}
+use Rattle.segment_file.specs.declared.scan_result.Tail.{Tail}
 use Rattle.log_recovery.specs.declared.list_result.Listed.{Listed}
 use Rattle.log_recovery.specs.declared.recovery.Recovered.{Recovered}
 use Rattle.log_recovery.specs.declared.recovery.RecoverFault.{RecoverFault}
 use Rattle.log_recovery.specs.declared.recovery.RecoverFault.TheVariants as fault
-use Rattle.lock_core.specs.Sums.{ShowsAccounts}
+use Rattle.lock_core.specs.declared.judge.Judge.{Judge}
+use Rattle.lock_core.specs.Sums.{Opening, ShowsAccounts}
 use Rattle.lock_core.specs.Lawful.{IsLawful, base_with, opening_after}
 use Rattle.lock_core.specs.Faults.{IsUnlawfulAt}
 use Rattle.lock_core.specs.Settling.{opening_of}
+use Rattle.lock_core.specs.Taking.{HasJudged}
 use Rattle.log_recovery.specs.Listing.{IsBadRecAt}
 use Rattle.log_recovery.specs.Opened.{OpenedList, log_of, list_end, placed}
 
@@ -36,6 +40,13 @@ pub record Recovers (recovered : Recovered) (bytes : List ℕ) : Type 0 where
   pub stands : LogStandsAt recovered.tail (log_of list) bytes
   pub next_txn : recovered.next_txn ≡ (opening_after (opening_of list.opening) (placed list)).txn + 1
   pub accounts : ShowsAccounts recovered.accounts.rows (base_with (opening_of list.opening) (placed list)) (placed list)
+
+-- the judge has taken the lawful list that the bytes hold, and they end at this tail
+pub record JudgesBytes (judge : Judge) (tail : Tail) (bytes : List ℕ) : Type 0 where
+  pub list : OpenedList
+  pub held : HoldsLawful bytes list
+  pub stands : LogStandsAt tail (log_of list) bytes
+  pub taken : HasJudged (opening_of list.opening) judge (placed list)
 
 -- why nothing is recovered from the bytes; want of memory says nothing of them
 abbrev pub IsFaultOf : List ℕ → RecoverFault → Type 0
@@ -61,6 +72,14 @@ pub record ListsBytes (listed : Listed) (bytes : List ℕ) : Type 0 where
   pub held : HoldsList bytes (list_of listed records)
   pub has : HasRecords listed records
   pub stands : LogStandsAt listed.tail (log_of (list_of listed records)) bytes
+
+-- this lawful list, which the bytes hold, is taken behind its opening
+pub record TakesBytes {T : Type 0} (HasTaken : Opening → T → List Placed → Type 0) (taker : T) (listed : Listed) (bytes : List ℕ) : Type 0 where
+  pub records : List Rec
+  pub held : HoldsLawful bytes (list_of listed records)
+  pub has : HasRecords listed records
+  pub stands : LogStandsAt listed.tail (log_of (list_of listed records)) bytes
+  pub taken : HasTaken (opening_of listed.opening) taker (placed (list_of listed records))
 
 -- why no list is read from the bytes: a fault of recovery, but for the test of records
 abbrev pub IsListedFaultOf : List ℕ → RecoverFault → Type 0

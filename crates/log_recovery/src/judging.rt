@@ -1,12 +1,13 @@
-//! The records that units spell, judged one by one as they are read.
+//! The records that units spell, taken one by one as they are read.
 
 ghost use Rattle.std.specs.Prelude.{◌≡◌, ◌⊎◌, ◌+◌, ◌≤◌, [], length, IfOk, IfErr};
 ghost use Rattle.lsn_space.specs.Opening.{IsSnapshot};
 ghost use Rattle.lsn_space.specs.declared.lsn.TheConstants.{LAST};
+ghost use Rattle.lock_core.specs.Taking.{HasJudged};
 ghost use Rattle.log_recovery.specs.Judging.{FailsBefore, HasTakenUnits, IsUnitsFaultOf};
 
 use crate::places::{begin_of, first_bad, place_of};
-use lock_core::{Judge, JudgeFault, Why};
+use lock_core::{Judge, JudgeFault, TakesRecords, Why};
 use log_record::read;
 use lsn_space::{Lsn, Opening};
 use std::alloc::Global;
@@ -36,15 +37,19 @@ fn unlawful(opening: &Opening, units: &[u64], rest: &[u64], lsn: Lsn, why: Why) 
     }
 }
 
-/// A judge that has taken the records which the units spell, behind this opening. A place at which no record begins hides a
-/// record that fails a test, wherever it is.
-pub fn judge_of_units(alloc: Global, opening: &Opening, units: &[u64]) -> Result<Judge, UnitsFault>
+/// What has taken the records that the units spell, behind this opening. A place at which no record begins hides a record that fails a
+/// test, wherever it is.
+pub fn taken_units<T: TakesRecords>(
+    alloc: Global,
+    opening: &Opening,
+    units: &[u64],
+) -> Result<T, UnitsFault>
     requires opening { (opening.now.accounts ≡ []) ⊎ IsSnapshot opening.now }
     requires fits { opening.now.lsn + length units.now ≤ LAST }
-    ensures found { IfOk result (HasTakenUnits opening.now units.now) }
+    ensures found { IfOk result (HasTakenUnits T.has_taken opening.now units.now) }
     ensures fault { IfErr result (IsUnitsFaultOf opening.now units.now) }
 {
-    let Ok(mut judge) = Judge::after(alloc, opening) else {
+    let Ok(mut taker) = T::after(alloc, opening) else {
         return Err(UnitsFault::NoMemory);
     };
     let begin = begin_of(opening);
@@ -55,11 +60,21 @@ pub fn judge_of_units(alloc: Global, opening: &Opening, units: &[u64]) -> Result
             return Err(UnitsFault::BadRec { lsn });
         };
         rest = rest.split_at(size).1;
-        match judge.take(lsn, &rec) {
+        match taker.take(lsn, &rec) {
             Ok(()) => {}
             Err(JudgeFault::NoMemory) => return Err(UnitsFault::NoMemory),
             Err(JudgeFault::Why(why)) => return Err(unlawful(opening, units, rest, lsn, why)),
         }
     }
-    Ok(judge)
+    Ok(taker)
+}
+
+/// A judge that has taken the records that the units spell, behind this opening.
+pub fn judge_of_units(alloc: Global, opening: &Opening, units: &[u64]) -> Result<Judge, UnitsFault>
+    requires opening { (opening.now.accounts ≡ []) ⊎ IsSnapshot opening.now }
+    requires fits { opening.now.lsn + length units.now ≤ LAST }
+    ensures found { IfOk result (HasTakenUnits HasJudged opening.now units.now) }
+    ensures fault { IfErr result (IsUnitsFaultOf opening.now units.now) }
+{
+    taken_units(alloc, opening, units)
 }

@@ -2,6 +2,7 @@
 //! wrong with them.
 #![tactic(auto)]
 
+mod boundaries;
 mod dump;
 mod judging;
 mod line;
@@ -11,10 +12,12 @@ mod places;
 mod recovery;
 mod texts;
 
+pub use boundaries::units_from;
 pub use dump::put_dump;
-pub use judging::{UnitsFault, judge_of_units};
+pub use judging::{UnitsFault, judge_of_units, taken_units};
+pub use line::{LINE_BYTES, Line};
 pub use list_result::Listed;
 pub use listing::listed;
 pub use lock_core::Why;
-pub use recovery::{RecoverFault, Recovered, one_answer, recover, recover_list};
-pub use texts::put_accounts;
+pub use recovery::{RecoverFault, Recovered, judged, one_answer, recover, recover_list, taken};
+pub use texts::{put_accounts, put_end};

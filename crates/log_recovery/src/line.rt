@@ -8,11 +8,11 @@ use itoa::write_digits;
 use std::marker::Model;
 
 /// The most bytes of a line: a note has up to 200.
-pub(crate) const LINE_BYTES: usize = 256;
+pub const LINE_BYTES: usize = 256;
 
 /// A line that grows at its front, at most `LINE_BYTES` bytes. Contracts see the bytes.
 #[derive(Drop)]
-pub(crate) struct Line {
+pub struct Line {
     bytes: [u8; LINE_BYTES],
     start: usize,
 }
@@ -30,7 +30,7 @@ impl Model for Line {
 
 impl Line {
     /// A line of no byte.
-    pub(crate) fn new() -> Line
+    pub fn new() -> Line
         ensures { result ≡ [] }
     {
         Line {
@@ -40,7 +40,7 @@ impl Line {
     }
 
     /// Drops all bytes.
-    pub(crate) fn clear(&mut self)
+    pub fn clear(&mut self)
         ensures { self.new ≡ [] }
     {
         self.start = LINE_BYTES;
@@ -48,7 +48,7 @@ impl Line {
 
     /// Puts a byte before the others.
     #[inline(always)]
-    pub(crate) fn put_byte(&mut self, byte: u8)
+    pub fn put_byte(&mut self, byte: u8)
         requires { length self.old < LINE_BYTES }
         ensures { self.new ≡ byte ∷ self.old }
     {
@@ -58,7 +58,7 @@ impl Line {
 
     /// Puts a piece before the others.
     #[inline(always)]
-    pub(crate) fn put_piece(&mut self, piece: &[u8])
+    pub fn put_piece(&mut self, piece: &[u8])
         requires { length self.old + length piece.now ≤ LINE_BYTES }
         ensures { self.new ≡ piece.now ++ self.old }
     {
@@ -69,7 +69,7 @@ impl Line {
     }
 
     /// Puts the text of a number before the others.
-    pub(crate) fn put_number(&mut self, n: u32)
+    pub fn put_number(&mut self, n: u32)
         requires { length self.old + 10 ≤ LINE_BYTES }
         ensures text { self.new ≡ number_text n ++ self.old }
         ensures short { length self.new ≤ length self.old + 10 }
@@ -78,7 +78,7 @@ impl Line {
     }
 
     /// The bytes.
-    pub(crate) fn as_slice(&self) -> &[u8]
+    pub fn as_slice(&self) -> &[u8]
         ensures bytes { result.now ≡ self.now }
         ensures short { length self.now ≤ LINE_BYTES }
     {

@@ -1,18 +1,16 @@
 ghost use Rattle.std.specs.Prelude.{◌≡◌, ◌⊎◌, ◌≤◌, ◌^◌, List, ℕ, IfOk, IfErr};
 ghost use Rattle.log_recovery.specs.declared.recovery.RecoverFault.{RecoverFault};
 ghost use Rattle.segment_file.specs.Log.{Log, HoldsLog};
-ghost use Rattle.segment_file.specs.Scan.{IsScanFaultOf, Scans};
-ghost use Rattle.log_record.specs.declared.rec.Rec.{Rec};
-ghost use Rattle.log_record.specs.LogList.{AreUnitsOf};
+ghost use Rattle.segment_file.specs.Scan.{IsScanFaultOf};
 ghost use Rattle.log_recovery.specs.Judging.{IsUnitsFaultOf};
 ghost use Rattle.log_recovery.specs.Opened.{OpenedList};
-ghost use Rattle.log_recovery.specs.Recovery.{HoldsList, HoldsLawful, ListsBytes, Recovers, IsFaultOf, IsListedFaultOf};
+ghost use Rattle.log_recovery.specs.Recovery.{HoldsList, HoldsLawful, JudgesBytes, ListsBytes, TakesBytes, Recovers, IsFaultOf, IsListedFaultOf};
 
-use crate::judging::{UnitsFault, judge_of_units};
+use crate::judging::{UnitsFault, taken_units};
 use crate::list_result::Listed;
-use lock_core::Why;
+use lock_core::{Judge, TakesRecords, Why};
 use lsn_space::{Balances, Lsn};
-use segment_file::{Scan, ScanFault, Tail, scan};
+use segment_file::{ScanFault, Tail, scan};
 use std::alloc::Global;
 
 /// What the bytes of a log say.
@@ -74,14 +72,47 @@ fn units_fault(fault: UnitsFault) -> RecoverFault
     }
 }
 
+/// What has taken the lawful list that the bytes hold, and the list.
+pub fn taken<T: TakesRecords>(alloc: Global, bytes: &[u8]) -> Result<(T, Listed), RecoverFault>
+    ensures found { IfOk result (λ both. TakesBytes T.has_taken both.0 both.1 bytes.now) }
+    ensures fault { IfErr result (IsFaultOf bytes.now) }
+{
+    let scan = match scan(alloc, bytes) {
+        Ok(scan) => scan,
+        Err(fault) => return Err(scan_fault(fault)),
+    };
+    match taken_units(alloc, &scan.opening, scan.units.as_slice()) {
+        Ok(taker) => Ok((
+            taker,
+            Listed {
+                opening: scan.opening,
+                units: scan.units,
+                tail: scan.tail,
+            },
+        )),
+        Err(fault) => Err(units_fault(fault)),
+    }
+}
+
+/// A judge that has taken the lawful list that the bytes hold, and where the file goes on.
+pub fn judged(alloc: Global, bytes: &[u8]) -> Result<(Judge, Tail), RecoverFault>
+    ensures found { IfOk result (λ both. JudgesBytes both.0 both.1 bytes.now) }
+    ensures fault { IfErr result (IsFaultOf bytes.now) }
+{
+    match taken(alloc, bytes) {
+        Ok((judge, listed)) => Ok((judge, listed.tail)),
+        Err(fault) => Err(fault),
+    }
+}
+
 /// The accounts of the lawful list that the bytes hold.
 pub fn recover(alloc: Global, bytes: &[u8]) -> Result<Recovered, RecoverFault>
     ensures found { IfOk result (λ recovered. Recovers recovered bytes.now) }
     ensures number { IfOk result (λ recovered. recovered.next_txn ≤ 2 ^ 32) }
     ensures fault { IfErr result (IsFaultOf bytes.now) }
 {
-    match recover_list(alloc, bytes) {
-        Ok((recovered, _)) => Ok(recovered),
+    match judged(alloc, bytes) {
+        Ok((judge, tail)) => Ok(recovered_of(judge, tail)),
         Err(fault) => Err(fault),
     }
 }
@@ -93,41 +124,23 @@ pub fn recover_list(alloc: Global, bytes: &[u8]) -> Result<(Recovered, Listed), 
     ensures number { IfOk result (λ both. both.0.next_txn ≤ 2 ^ 32) }
     ensures fault { IfErr result (IsFaultOf bytes.now) }
 {
-    let scan = match scan(alloc, bytes) {
-        Ok(scan) => scan,
-        Err(fault) => return Err(scan_fault(fault)),
-    };
-    match recovered_of(alloc, &scan) {
-        Ok(recovered) => Ok((
-            recovered,
-            Listed {
-                opening: scan.opening,
-                units: scan.units,
-                tail: scan.tail,
-            },
-        )),
+    match taken(alloc, bytes) {
+        Ok((judge, listed)) => Ok((recovered_of(judge, listed.tail), listed)),
         Err(fault) => Err(fault),
     }
 }
 
-/// The accounts of the lawful list that was scanned.
-fn recovered_of(alloc: Global, scan: &Scan) -> Result<Recovered, RecoverFault>
-    requires { (bytes : List ℕ) × Scans scan.now bytes }
-    ensures found { IfOk result (λ recovered. (bytes : List ℕ) → Scans scan.now bytes → Recovers recovered bytes) }
-    ensures list { IfOk result (λ _. (records : List Rec) × AreUnitsOf scan.now.units records) }
-    ensures number { IfOk result (λ recovered. recovered.next_txn ≤ 2 ^ 32) }
-    ensures fault { IfErr result (λ fault. (bytes : List ℕ) → Scans scan.now bytes → IsFaultOf bytes fault) }
+/// What a judge tells of the list that it has taken, and where the file goes on.
+fn recovered_of(judge: Judge, tail: Tail) -> Recovered
+    ensures found { (bytes : List ℕ) → JudgesBytes judge tail bytes → Recovers result bytes }
+    ensures number { result.next_txn ≤ 2 ^ 32 }
 {
-    let judge = match judge_of_units(alloc, &scan.opening, scan.units.as_slice()) {
-        Ok(judge) => judge,
-        Err(fault) => return Err(units_fault(fault)),
-    };
-    Ok(Recovered {
-        lsn: scan.tail.next,
-        tail: scan.tail,
+    Recovered {
+        lsn: tail.next,
+        tail,
         next_txn: u64::from(judge.greatest_txn()) + 1,
         accounts: judge.into_accounts(),
-    })
+    }
 }
 
 /// A law: what `recover` answers is a function of the bytes, but for want of memory. They hold one opening with one list at most; where

@@ -37,11 +37,8 @@ fn balance_line(account: u32, balance: u32) -> Line
     line
 }
 
-pub(crate) fn put_end<K: Sink>(
-    lsn: Lsn,
-    block: &mut OutputBlock,
-    sink: &mut K,
-) -> Result<(), WriteFault>
+/// Puts the line with the end of a list.
+pub fn put_end<K: Sink>(lsn: Lsn, block: &mut OutputBlock, sink: &mut K) -> Result<(), WriteFault>
     ensures all { OnOk result (AppendsBut (K.held_bytes sink.old) (K.held_bytes sink.new) (block.old ++ lsn_line lsn) block.new) }
     ensures prefix { OnErr result (AppendsPart (K.held_bytes sink.old) (K.held_bytes sink.new) (block.old ++ lsn_line lsn)) }
     ensures cause { HasCause (K.faults sink.old) (K.faults sink.new) result }

@@ -1,7 +1,7 @@
 //! What `recover` answers of an image, beside what is wanted.
 
 use crate::plainly::is_same;
-use log_recovery::{RecoverFault, Why, recover};
+use log_recovery::{RecoverFault, Why, listed, recover};
 use lsn_space::Lsn;
 use std::alloc::AllocGlobal;
 use std::process::Abort;
@@ -47,10 +47,30 @@ pub(crate) fn has_same_answers<R: AllocGlobal + Abort>(rt: &R, name: &str, bytes
     assert!(rt; is_same(rt.alloc(), bytes), "{name} {bytes:?}");
 }
 
+/// The image is no list, for this fault; one that is unlawful is a list.
+fn is_listed<R: AllocGlobal + Abort>(rt: &R, name: &str, bytes: &[u8], fault: &Fault) {
+    let found = listed(rt.alloc(), bytes).err();
+    let wanted = match fault {
+        Fault::Unlawful(..) => None,
+        _ => Some(fault.wanted()),
+    };
+    assert_eq!(rt; found, wanted, "{name} {bytes:?}");
+}
+
 /// The image is refused so.
 pub(crate) fn is_refused<R: AllocGlobal + Abort>(rt: &R, name: &str, bytes: &[u8], fault: &Fault) {
     is_fault(rt, name, bytes, recover(rt.alloc(), bytes).err(), fault);
+    is_listed(rt, name, bytes, fault);
     has_same_answers(rt, name, bytes);
+}
+
+/// The list of the image ends here.
+fn is_list_to<R: AllocGlobal + Abort>(rt: &R, name: &str, bytes: &[u8], end: u32) {
+    let found = match listed(rt.alloc(), bytes) {
+        Ok(list) => Some(list.tail.next.units()),
+        Err(_) => None,
+    };
+    assert_eq!(rt; found, Some(end), "{name} {bytes:?}");
 }
 
 /// These rows, each an account's balance and last Commit, were recovered.
@@ -79,6 +99,7 @@ pub(crate) fn is_recovered<R: AllocGlobal + Abort>(
         found.push(recovered.accounts.at(account))?;
     }
     is_end(rt, name, (recovered.lsn.units(), recovered.next_txn), end);
+    is_list_to(rt, name, bytes, end.0);
     are_rows(rt, name, found.as_slice(), rows);
     Ok(())
 }

@@ -26,7 +26,7 @@ const BACK: [u64; 5] = [
 ];
 
 /// The file with these batches behind its head.
-fn cut_and(alloc: Global, batches: &[&[u64]]) -> Result<Vec<u8>, AllocError> {
+pub(crate) fn cut_and(alloc: Global, batches: &[&[u64]]) -> Result<Vec<u8>, AllocError> {
     let mut bytes = Vec::from_slice(alloc, &CUT)?;
     for units in batches {
         bytes.push(b'O')?;

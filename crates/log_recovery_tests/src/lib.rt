@@ -12,6 +12,8 @@ mod hostile;
 #[cfg(test)]
 mod images;
 #[cfg(test)]
+mod judged;
+#[cfg(test)]
 mod judging;
 #[cfg(test)]
 mod openings;

@@ -1,9 +1,9 @@
 use Rattle.std.proofs.Common.{length}
 use Rattle.log_recovery.specs.Judging.{HasTakenFront}
-use Rattle.log_recovery.proofs.judging.judge_of_units.Given as goal
+use Rattle.log_recovery.proofs.judging.taken_units.Given as goal
 
 abbrev pub invariant-records : goal.invariant-records
-invariant-records l = HasTakenFront l.opening l.units l.rest l.judge
+invariant-records g l = HasTakenFront g.T.TakesRecords.has_taken l.opening l.units l.rest l.taker
 
 abbrev pub decreases-records : goal.decreases-records
-decreases-records l = length l.rest
+decreases-records g l = length l.rest

@@ -1,0 +1,139 @@
+-- How a boundary of a list is sought, record by record.
+use Rattle.std.proofs.Common.{◌≡◌, ◌<◌, ◌≤◌, ◌⊎◌, inl, inr, ℕ, ◌+◌, List, [], ◌∷◌, ◌++◌, length, drop, refl, ap, ◌∙◌, sym, subst, arith, length-append, append_assoc, append-nil}
+use Rattle.std.specs.List.{AllByRecursion}
+use Rattle.std.proofs.lemmas.List.Elements.{All-from_recursion}
+use Rattle.log_record.specs.declared.rec.Rec.{Rec}
+use Rattle.log_record.specs.LogList.{AreUnitsOf, units_of, end_of, size_of, IsBoundary}
+use Rattle.log_record.specs.Spelling.{spelling, IsSpellable, BeginsWith}
+use Rattle.log_record.proofs.LogListLemmas.{end_of-cons, boundary_is_front}
+use Rattle.log_record.proofs.SpellingLemmas.{spelling-append-injective, units_of-injective}
+use Rattle.lock_core.proofs.ListLemmas.{all-split}
+use Rattle.log_recovery.specs.Boundaries.{GoesOnAt}
+use Rattle.log_recovery.proofs.AnswerLemmas.{some_unit}
+use Rattle.log_recovery.proofs.ListingLemmas.{units_of-append}
+
+-- a front of a list ends no later than a record in it starts, or no sooner than it ends
+front-beside : (done : List Rec) (rec : Rec) (rest f g : List Rec) → done ++ rec ∷ rest ≡ f ++ g
+    → (end_of f ≤ end_of done) ⊎ (end_of done + size_of rec ≤ end_of f)
+front-beside done rec rest [] g same = inl (omega arith)
+front-beside [] rec rest (x ∷ f) g same = let head : rec ≡ x = cc in inr (omega (arith, end_of-cons x f, ap size_of head))
+front-beside (d ∷ done) rec rest (x ∷ f) g same =
+    let head : d ≡ x = cc in
+    let tail : done ++ rec ∷ rest ≡ f ++ g = cc in
+    elim (front-beside done rec rest f g tail) [
+      | inl before ↦ inl (omega (arith, before, end_of-cons d done, end_of-cons x f, ap size_of head))
+      | inr behind ↦ inr (omega (arith, behind, end_of-cons d done, end_of-cons x f, ap size_of head))
+    ]
+
+-- The records before this rest of the units are passed, of a list that begins at that LSN: the rest is at this one, and every boundary that
+-- was passed is below the one that is sought.
+pub record Seeks (begin : ℕ) (units rest : List ℕ) (at lsn : ℕ) : Type 0 where
+  pub done : List Rec
+  pub more : List Rec
+  pub list : AreUnitsOf units (done ++ more)
+  pub left : rest ≡ units_of more
+  pub place : at ≡ begin + end_of done
+  pub below : (f g : List Rec) → done ++ more ≡ f ++ g → end_of f < end_of done → begin + end_of f < lsn
+
+pub seeks-begun : (begin : ℕ) (units : List ℕ) (lsn : ℕ) (records : List Rec) → AreUnitsOf units records → Seeks begin units units begin lsn
+seeks-begun begin units lsn records list = record {
+  done = [];
+  more = records;
+  list = list;
+  left = list.units_are;
+  place = omega arith;
+  below = λ f g whole less. absurd (omega (arith, less));
+}
+
+one-list : (units : List ℕ) (xs ys : List Rec) → AreUnitsOf units xs → AreUnitsOf units ys → xs ≡ ys
+one-list units xs ys first second =
+    units_of-injective xs ys (All-from_recursion IsSpellable xs first.spellable) (All-from_recursion IsSpellable ys second.spellable) (sym first.units_are ∙ second.units_are)
+
+module _ (begin : ℕ) (units rest : List ℕ) (at lsn : ℕ) (seeks : Seeks begin units rest at lsn) where
+  left-length : end_of seeks.done + length rest ≡ length units
+  left-length =
+      let parts = ap length (units_of-append seeks.done seeks.more) ∙ length-append (units_of seeks.done) (units_of seeks.more) in
+      omega (arith, ap length seeks.list.units_are, parts, ap length seeks.left)
+
+  -- the rest lies within the units
+  pub seeks-within : at + length rest ≡ begin + length units
+  seeks-within = omega (arith, left-length, seeks.place)
+
+  spellable-left : AllByRecursion IsSpellable seeks.more
+  spellable-left = (all-split IsSpellable seeks.done seeks.more seeks.list.spellable).1
+
+  -- where no record begins, the list ends
+  ended : (more : List Rec) → seeks.more ≡ more → ((rec : Rec) → BeginsWith rest rec → ⊥) → seeks.more ≡ []
+  ended [] is none = is
+  ended (rec ∷ more) is none =
+      absurd (none rec ((subst (AllByRecursion IsSpellable) is spellable-left).0, units_of more, seeks.left ∙ ap units_of is))
+
+  -- beyond the LSN that is sought there is no boundary at it
+  pub seeks-beyond : lsn < at → (records : List Rec) → AreUnitsOf units records → (there : ℕ) → lsn ≡ begin + there → IsBoundary records there → ⊥
+  seeks-beyond beyond records list there place is =
+      let found = boundary_is_front records there is in
+      let whole = one-list units (seeks.done ++ seeks.more) records seeks.list list ∙ found.2 in
+      let below = seeks.below found.0 found.1 whole (omega (arith, place, found.3, seeks.place, beyond)) in
+      omega (arith, below, place, found.3)
+
+  -- before it, at the list's end, neither
+  pub seeks-ended : at < lsn → ((rec : Rec) → BeginsWith rest rec → ⊥) → (records : List Rec) → AreUnitsOf units records
+      → (there : ℕ) → lsn ≡ begin + there → IsBoundary records there → ⊥
+  seeks-ended before none records list there place is =
+      let found = boundary_is_front records there is in
+      let done : seeks.done ≡ found.0 ++ found.1 =
+      sym (append-nil seeks.done) ∙ ap (λ l. seeks.done ++ l) (sym (ended seeks.more refl none))
+      ∙ one-list units (seeks.done ++ seeks.more) records seeks.list list ∙ found.2 in
+      let longer = ap end_of done ∙ ap length (units_of-append found.0 found.1) ∙ length-append (units_of found.0) (units_of found.1) in
+      omega (arith, longer, place, found.3, seeks.place, before)
+
+  -- at it the list goes on
+  pub seeks-found : at ≡ lsn → (records : List Rec) → AreUnitsOf units records → GoesOnAt begin records lsn rest
+  seeks-found here records list = record {
+    front = seeks.done;
+    later = seeks.more;
+    whole = sym (one-list units (seeks.done ++ seeks.more) records seeks.list list);
+    place = sym here ∙ seeks.place;
+    units = seeks.left;
+  }
+
+  -- the next record is passed
+  module _ (rec : Rec) (begun : BeginsWith rest rec) (before : at < lsn) where
+    parted : (more : List Rec) → seeks.more ≡ more → (later : List Rec) × (seeks.more ≡ rec ∷ later) × (begun.1 ≡ units_of later)
+    parted [] is = absurd (some_unit rec begun.1 (sym begun.2 ∙ seeks.left ∙ ap units_of is))
+    parted (first ∷ later) is =
+        let same = spelling-append-injective rec first begun.1 (units_of later) begun.0 (subst (AllByRecursion IsSpellable) is spellable-left).0
+        (sym begun.2 ∙ seeks.left ∙ ap units_of is) in
+        (later, is ∙ ap (λ r. r ∷ later) (sym same.0), same.1)
+
+    abbrev later : List Rec
+    later = (parted seeks.more refl).0
+
+    whole : seeks.done ++ seeks.more ≡ (seeks.done ++ rec ∷ []) ++ later
+    whole = ap (λ l. seeks.done ++ l) (parted seeks.more refl).1 ∙ sym (append_assoc seeks.done (rec ∷ []) later)
+
+    longer : end_of (seeks.done ++ rec ∷ []) ≡ end_of seeks.done + size_of rec
+    longer = ap length (units_of-append seeks.done (rec ∷ [])) ∙ length-append (units_of seeks.done) (units_of (rec ∷ []))
+        ∙ ap (λ l. end_of seeks.done + length l) (append-nil (spelling rec))
+
+    passed : (f g : List Rec) → (seeks.done ++ rec ∷ []) ++ later ≡ f ++ g → end_of f < end_of (seeks.done ++ rec ∷ []) → begin + end_of f < lsn
+    passed f g same less =
+        let within : seeks.done ++ rec ∷ later ≡ f ++ g = sym (append_assoc seeks.done (rec ∷ []) later) ∙ same in
+        elim (front-beside seeks.done rec later f g within) [
+          | inl no_later ↦ omega (arith, no_later, seeks.place, before)
+          | inr behind ↦ absurd (omega (arith, behind, less, longer))
+        ]
+
+    pub seeks-next : (after : List ℕ) (at' : ℕ) → after ≡ drop (length (spelling rec)) rest → at' ≡ at + length (spelling rec) → Seeks begin units after at' lsn
+    seeks-next after at' dropped on = record {
+      done = seeks.done ++ rec ∷ [];
+      more = later;
+      list = subst (AreUnitsOf units) whole seeks.list;
+      left = dropped ∙ ap (drop (length (spelling rec))) begun.2 ∙ drop-front (spelling rec) begun.1 ∙ (parted seeks.more refl).2;
+      place = omega (arith, on, seeks.place, longer);
+      below = passed;
+    }
+      where
+        drop-front : (xs ys : List ℕ) → drop (length xs) (xs ++ ys) ≡ ys
+        drop-front [] ys = refl
+        drop-front (x ∷ xs) ys = drop-front xs ys

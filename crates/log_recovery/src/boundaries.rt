@@ -1,0 +1,34 @@
+//! The boundaries of a list: where a record starts, and where the list ends.
+
+ghost use Rattle.std.specs.Prelude.{◌≡◌, ◌+◌, ◌≤◌, List, length, IfSome, IfNone};
+ghost use Rattle.log_record.specs.LogList.{AreUnitsOf};
+ghost use Rattle.log_record.specs.declared.rec.Rec.{Rec};
+ghost use Rattle.lsn_space.specs.declared.lsn.TheConstants.{LAST};
+ghost use Rattle.log_recovery.specs.Boundaries.{GoesOnAt};
+ghost use Rattle.log_recovery.specs.Listing.{IsRecords};
+ghost use Rattle.log_recovery.specs.Opened.{IsListBoundary};
+
+use log_record::read;
+use lsn_space::{Lsn, Opening};
+
+/// The units from this LSN on of a list whose records these units spell, where the LSN is a boundary of the list: the start of
+/// a record, or the end, behind which there are none.
+pub fn units_from<'a>(opening: &Opening, units: &'a [u64], lsn: Lsn) -> Option<&'a [u64]>
+    requires records { IsRecords units.now }
+    requires fits { opening.now.lsn + length units.now ≤ LAST }
+    ensures some { IfSome result (λ rest. (records : List Rec) → AreUnitsOf units.now records → GoesOnAt opening.now.lsn records lsn rest.now) }
+    ensures none { IfNone result ((records : List Rec) → AreUnitsOf units.now records
+        → IsListBoundary (record { opening = opening.now; records = records }) lsn → ⊥) }
+{
+    let goal = lsn.units();
+    let mut at = opening.lsn.units();
+    let mut rest = units;
+    'records: while at < goal {
+        let Ok((_, size)) = read(rest) else {
+            return None;
+        };
+        at += size as u32;
+        rest = rest.split_at(size).1;
+    }
+    if at == goal { Some(rest) } else { None }
+}
