@@ -1,4 +1,4 @@
-ghost use Rattle.std.specs.Prelude.{◌≡◌, ◌≤◌, ◌<◌, ◌+◌, ◌++◌, ◌↔◌, List, ℕ, length, take, IfOk, OnOk, IsErrOf};
+ghost use Rattle.std.specs.Prelude.{◌≡◌, ◌≤◌, ◌<◌, ◌+◌, ◌++◌, ◌↔◌, [], List, ℕ, length, take, IfOk, OnOk, IsErrOf};
 ghost use Rattle.log_disk.specs.Costs.{Costs};
 ghost use Rattle.log_disk.specs.Faults.{CountsWhere, HasCause};
 ghost use Rattle.log_disk.specs.Disk.{IsOnlyImage, Keeps, Leaves};
@@ -56,6 +56,20 @@ fn synced_len<D: LogDisk>(disk: &mut D) -> Result<u64, Failed>
     disk.len()
 }
 
+/// No byte, with room for so many.
+fn with_room(alloc: Global, len: u64) -> Result<Vec<u8>, OpenFault>
+    ensures empty { IfOk result (λ bytes. bytes.items ≡ []) }
+    ensures memory { IsErrOf result OpenFault.DiskFault → ⊥ }
+{
+    let Ok(room) = usize::try_from(len) else {
+        return Err(OpenFault::NoMemory);
+    };
+    match Vec::with_capacity(alloc, room) {
+        Ok(bytes) => Ok(bytes),
+        Err(_) => Err(OpenFault::NoMemory),
+    }
+}
+
 /// The bytes up to this length, or up to where a read gives none.
 fn read_up_to<D: LogDisk>(alloc: Global, disk: &mut D, len: u64) -> Result<Vec<u8>, OpenFault>
     ensures bytes { D.honest disk.old → len ≡ length (D.reads disk.old) → IfOk result (λ bytes. bytes.items ≡ D.reads disk.old) }
@@ -67,7 +81,8 @@ fn read_up_to<D: LogDisk>(alloc: Global, disk: &mut D, len: u64) -> Result<Vec<u
     ensures attached { D.attached disk.new ≡ D.attached disk.old }
     ensures faults { CountsWhere (IsErrOf result OpenFault.DiskFault) (D.faults disk.old) (D.faults disk.new) }
 {
-    let mut bytes = Vec::new(alloc);
+    // All room at once, before a read: no memory is had for the hole of a file that tells too great a length.
+    let mut bytes = with_room(alloc, len)?;
     let mut buffer = [0; 4096];
     'reading: while (bytes.len() as u64) < len {
         let count = match disk.read_at(bytes.len() as u64, &mut buffer) {
