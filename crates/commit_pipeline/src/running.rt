@@ -28,12 +28,14 @@ impl<'a, D: LogDisk, K: Sink> Daemon<'a, D, K> {
         ensures fault { IfErr result (λ fault. self.new.fault ≡ Some fault) }
         ensures later { Later D.LogDisk K.Sink self.old self.new }
     {
+        let mut batch = 0;
         for _ in rt.forever() {
+            let from = self.flusher.tail.next;
             let turn = self.turn()?;
             if let Some(lsn) = self.end() {
                 return Ok(lsn);
             }
-            rest_behind(turn, rt);
+            batch = rest_behind(turn, from, batch, rt);
         }
         unreachable!()
     }
@@ -66,11 +68,14 @@ impl<'a, D: LogDisk, K: Sink> Daemon<'a, D, K> {
     }
 }
 
-/// What comes between two turns. Behind one that sent something the next comes at once; where nothing comes, the daemon
-/// leaves the processor to the workers.
-fn rest_behind(turn: Turn, clock: &impl Clock) {
+/// What comes between two turns. It answers how many units the last batch has; that was `batch` before the last turn, which began at
+/// `from`. Behind a turn that sent something the next comes at once; where nothing comes, the daemon leaves the processor to the workers.
+fn rest_behind(turn: Turn, from: Lsn, batch: u32, clock: &impl Clock) -> u32 {
     match turn {
-        Turn::Sent { .. } => {}
-        Turn::Idle => doze(clock),
+        Turn::Sent { to, .. } => to.units().saturating_sub(from.units()),
+        Turn::Idle => {
+            doze(clock, batch);
+            batch
+        }
     }
 }

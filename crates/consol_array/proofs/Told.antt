@@ -1,5 +1,5 @@
 -- A member looks at its slot, and sees whether its group is told.
-use Rattle.std.proofs.Common.{arith, ◌≡◌, ◌∙◌, ◌⊎◌, ⊎_elim, ℕ, ◌+◌, ◌*◌, ◌/◌, ◌^◌, ◌<◌, ◌≤◌, nat_lt, nat_eq, cond, Bool, true, false, ap, sym, refl, ltb-true, eq-eqb}
+use Rattle.std.proofs.Common.{arith, ◌≡◌, ◌∙◌, ⊎_elim, ℕ, ◌+◌, ◌*◌, ◌/◌, ◌^◌, ◌<◌, ◌≤◌, nat_lt, nat_eq, cond, Bool, true, false, ap, sym, refl, ltb-true, eq-eqb}
 use Rattle.slot_word.specs.declared.phase.Phase.TheVariants.{Published, Refused}
 use Rattle.slot_word.specs.declared.slot_word.SlotWord.{SlotWord}
 use Rattle.slot_word.specs.SlotWord.{packed, total_in, word_of}

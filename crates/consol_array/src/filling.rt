@@ -10,6 +10,7 @@ use log_table::{LogTable, Seat};
 use lsn_space::Lsn;
 
 /// Copies the units of the record for which the seat joined into its piece of the group's range.
+#[inline(always)]
 pub fn fill_member(table: &LogTable, seat: &mut Seat, member: Member, units: &Units) -> FilledMember
     requires seat { IsOf table.now seat.old }
     requires piece { HasPiece table.now member units.now (view_of seat.old) }

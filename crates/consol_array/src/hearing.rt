@@ -16,6 +16,7 @@ use std::sync::Wait;
 
 /// Waits until the group of the seat is told, and hears what became of it. Between two looks it lets other
 /// threads run, after a few looks that are spun.
+#[inline(always)]
 pub fn hear<R: Wait>(rt: &R, table: &LogTable, seat: &mut Seat, joined: Joined) -> Heard
     requires seat { IsOf table.now seat.old }
     requires waits { IsMember table.now joined.slot joined.offset joined.n Waits (view_of seat.old) }
@@ -32,6 +33,7 @@ pub fn hear<R: Wait>(rt: &R, table: &LogTable, seat: &mut Seat, joined: Joined) 
 }
 
 /// Looks once at the slot's state. Some: the group of the seat is told, by this state.
+#[inline(always)]
 pub fn look_told(table: &LogTable, seat: &mut Seat, joined: &Joined) -> Option<SlotWord>
     requires seat { IsOf table.now seat.old }
     requires waits { IsMember table.now joined.now.slot joined.now.offset joined.now.n Waits (view_of seat.old) }
@@ -46,6 +48,7 @@ pub fn look_told(table: &LogTable, seat: &mut Seat, joined: &Joined) -> Option<S
 }
 
 /// Hears what became of the group, which this state tells.
+#[inline(always)]
 fn hear_told(table: &LogTable, seat: &mut Seat, joined: Joined, state: SlotWord) -> Heard
     requires seat { IsOf table.now seat.old }
     requires hears { IsToHear table.now joined state (view_of seat.old) }

@@ -38,6 +38,7 @@ pub(crate) enum Way {
 /// reserved, and answers its LSN once it is released. It goes alone first; after an exchange of the tail that
 /// was lost, in a table with slots, it joins the group at its slot where that takes it, and waits for its
 /// leader. A group that is refused is refused to all its members, with the group's numbers.
+#[inline(always)]
 pub fn insert<R: Wait, G: Gate>(
     rt: &R,
     table: &LogTable,
@@ -79,6 +80,7 @@ pub fn insert<R: Wait, G: Gate>(
 
 /// Reserves for the next record of the seat's last job alone, or joins a group for it, in as many rounds as it
 /// takes. It returns: each round shows a greater tail.
+#[inline(always)]
 fn place_or_join<G: Gate>(
     table: &LogTable,
     seat: &mut Seat,
@@ -102,6 +104,7 @@ fn place_or_join<G: Gate>(
 
 /// Looks and reserves alone; where another worker was faster, and the table has slots, tries to join the
 /// group at the seat's slot. None: neither gave a place.
+#[inline(always)]
 fn try_round<G: Gate>(
     table: &LogTable,
     seat: &mut Seat,
@@ -133,6 +136,7 @@ fn try_round<G: Gate>(
 
 /// Copies the record into the range that was reserved for it alone, releases it and exposes. Answers where it
 /// begins.
+#[inline(always)]
 fn put_alone<G: Gate>(
     table: &LogTable,
     seat: &mut Seat,
@@ -159,6 +163,7 @@ fn put_alone<G: Gate>(
 }
 
 /// Who joined first leads its group; all pass the hook where they have joined.
+#[inline(always)]
 fn lead_first<G: Gate>(table: &LogTable, seat: &mut Seat, joined: &Joined, gate: &G)
     requires seat { IsOf table.now seat.old }
     requires joined { IsMember table.now joined.now.slot joined.now.offset joined.now.n (step_joining joined.now.offset) (view_of seat.old) }

@@ -12,6 +12,7 @@ use slot_word::{Phase, SlotWord};
 
 /// The slot's state once a worker has joined with `n` units, where the group there gathers and has room for
 /// them: a group gets at most a quarter of the ring.
+#[inline(always)]
 fn state_joined(state: SlotWord, ring: u32, n: u32) -> Option<SlotWord>
     requires ring { ring ≤ GREATEST_RING }
     ensures room { IfSome result (IsStateJoined ring n state) }
@@ -29,6 +30,7 @@ fn state_joined(state: SlotWord, ring: u32, n: u32) -> Option<SlotWord>
 /// Joins the group at the seat's slot for the next record of the seat's last job, which has `n` units: by one
 /// load of the slot's state and, where the group gathers and has room, one exchange. The seat isn't contended then,
 /// whether it has joined or not.
+#[inline(always)]
 pub fn try_join(table: &LogTable, seat: &mut Seat, n: u32) -> Result<Joined, NotJoined>
     requires seat { IsOf table.now seat.old }
     requires slots { 1 ≤ table.now.slots }

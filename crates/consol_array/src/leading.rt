@@ -15,6 +15,7 @@ use slot_word::SlotWord;
 /// Closes the group that the seat leads, so that nobody joins it any more; reserves for it by one exchange of
 /// the tail, looking again after each that was lost, or refuses it where by the last look there is no room;
 /// and tells its members. It returns: each exchange that is lost shows a greater tail.
+#[inline(always)]
 pub fn lead(table: &LogTable, seat: &mut Seat, joined: &Joined)
     requires seat { IsOf table.now seat.old }
     requires leads { IsMember table.now joined.now.slot joined.now.offset joined.now.n Closes (view_of seat.old) }
@@ -29,6 +30,7 @@ pub fn lead(table: &LogTable, seat: &mut Seat, joined: &Joined)
 
 /// Looks and reserves the units of the closed group until no other worker is faster, or refuses it; stores
 /// what its members are to hear, and answers the state that tells them.
+#[inline(always)]
 fn place_group(table: &LogTable, seat: &mut Seat, slot: u32, total: u32) -> SlotWord
     requires seat { IsOf table.now seat.old }
     requires closed { HasClosed table.now slot total (view_of seat.old) }
@@ -44,6 +46,7 @@ fn place_group(table: &LogTable, seat: &mut Seat, slot: u32, total: u32) -> Slot
 
 /// Looks, and reserves the units of the closed group where there is room, or refuses it. None: another worker
 /// has reserved meanwhile.
+#[inline(always)]
 fn try_place_group(table: &LogTable, seat: &mut Seat, slot: u32, total: u32) -> Option<SlotWord>
     requires seat { IsOf table.now seat.old }
     requires closed { HasClosed table.now slot total (view_of seat.old) }

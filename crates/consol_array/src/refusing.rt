@@ -10,6 +10,7 @@ use ring_buffer::{Look, Refused};
 const HALF: u64 = 0x1_0000_0000;
 
 /// The word that tells by which look the group was refused.
+#[inline(always)]
 pub(crate) fn refusal_word(look: &Look) -> u64
     ensures { result ≡ look.now.tail * 2 ^ 32 + look.now.durable }
 {
@@ -17,6 +18,7 @@ pub(crate) fn refusal_word(look: &Look) -> u64
 }
 
 /// The refusal of a group of this total that the word tells.
+#[inline(always)]
 pub(crate) fn refusal_of(word: u64, total: u32, ring: u32) -> Refused
     requires lacks { LacksRoom ring total (word / 2 ^ 32) (word % 2 ^ 32) }
     ensures { Refuses ring (word / 2 ^ 32) (word % 2 ^ 32) total result }

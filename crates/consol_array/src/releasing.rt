@@ -15,6 +15,7 @@ use ring_buffer::expose;
 
 /// Releases the seat's piece. Who is the last of its group to do so marks the group's range as released, whatever
 /// stands before it, raises exposed as `expose` does, and opens the slot again.
+#[inline(always)]
 pub fn release(table: &LogTable, seat: &mut Seat, filled: FilledMember) -> Released
     requires seat { IsOf table.now seat.old }
     requires filled { HasFilledPiece table.now filled (view_of seat.old) }
@@ -39,6 +40,7 @@ pub fn release(table: &LogTable, seat: &mut Seat, filled: FilledMember) -> Relea
 }
 
 /// Marks the range of a group all of whose pieces are released, exposes, and opens the slot again.
+#[inline(always)]
 fn empty(table: &LogTable, seat: &mut Seat, slot: u32, base: Lsn, total: u32)
     requires seat { IsOf table.now seat.old }
     requires slot { slot < table.now.slots }
@@ -56,6 +58,7 @@ fn empty(table: &LogTable, seat: &mut Seat, slot: u32, base: Lsn, total: u32)
 
 /// Releases the piece that the seat wanted of a group that was refused. Answers whether it was the last of its
 /// group to do so, which opens the slot again.
+#[inline(always)]
 pub fn leave_group(table: &LogTable, seat: &mut Seat, leaver: Leaver) -> bool
     requires seat { IsOf table.now seat.old }
     requires leaves { MayLeaveGroup table.now leaver (view_of seat.old) }

@@ -26,6 +26,7 @@ pub struct Held {
 
 /// Takes the account, where no worker holds it. A worker takes its accounts in ascending order, so it holds neither this one nor
 /// one above it.
+#[inline(always)]
 pub fn try_take(table: &LogTable, seat: &mut Seat, account: u32) -> Result<Taken, Held>
     requires seat { IsOf table.now seat.old }
     requires account { account < table.now.accounts }

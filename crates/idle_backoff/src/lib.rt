@@ -25,6 +25,12 @@ const LATE_SLEEP: u64 = 20;
 /// How long a doze is, in microseconds: short beside a flush, and so long that other threads get on where processors are scarce.
 const DOZE: u64 = 10;
 
+/// How long it is where there was much to do: what comes meanwhile makes a batch that is worth a flush.
+const LONG_DOZE: u64 = 60;
+
+/// So many units are much. Workers that wait for the disk have less for a batch, and are not to wait longer.
+const MANY: u32 = 256;
+
 /// The rests of a thread that waits again and again. In each wait it takes one nap, which is to end shortly before the wait does: the
 /// next one is shorter where the wait was over by its end, and longer where the thread had to stay awake for long behind it.
 #[derive(Drop)]
@@ -63,15 +69,18 @@ impl IdleBackoff {
 
     /// What was waited for has come, and the next wait begins.
     pub fn reset(&self) {
+        if self.rests.get() == 0 {
+            return;
+        }
         self.nap.set(next_nap(self.nap.get(), self.rests.get()));
         self.rests.set(0);
         self.backoff.reset();
     }
 }
 
-/// Sleeps for a moment.
-pub fn doze(clock: &impl Clock) {
-    sleep_for(clock, DOZE);
+/// Sleeps for a moment, which is longer where the last batch had many units.
+pub fn doze(clock: &impl Clock, batch: u32) {
+    sleep_for(clock, if batch < MANY { DOZE } else { LONG_DOZE });
 }
 
 fn sleep_for(clock: &impl Clock, micros: u64) {

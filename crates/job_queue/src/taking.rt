@@ -14,6 +14,7 @@ use std::sync::Wait;
 impl Queue {
     /// Takes the next place for the rows' pass: makes this the transfer there, and answers its number. None: the pass took its
     /// mark, so no place is left, and none ever will be.
+    #[inline(always)]
     pub fn take_next<R: Wait>(&self, rt: &R, rows: &mut Rows, job: &mut Job) -> Option<u32>
         requires pass { HasPassOf self.now rows.old }
         requires mark { marks_in rows.old ≡ [] }
@@ -34,6 +35,7 @@ impl Queue {
     }
 
     /// The next number of the queue, a place or a mark. There always is one for a pass that may take a mark.
+    #[inline(always)]
     fn pop<R: Wait>(&self, rt: &R, pass: &mut Pass<u64, Takings>) -> u64
         requires pass { IsWorkersPass self.now pass.old }
         requires mark { (view pass.old).own_marks ≡ [] }

@@ -9,6 +9,7 @@ use log_table::{LogTable, Seat};
 use lsn_space::Lsn;
 
 /// Copies the units of the record for which the range was reserved into the ring.
+#[inline(always)]
 pub fn fill(table: &LogTable, seat: &mut Seat, range: Range, units: &Units) -> Filled
     requires seat { IsOf table.now seat.old }
     requires range { HasReserved range units.now (view_of seat.old) }

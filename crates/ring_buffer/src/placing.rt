@@ -11,6 +11,7 @@ use log_table::{LogTable, Seat};
 use lsn_space::Lsn;
 
 /// Loads the tail, and then durable.
+#[inline(always)]
 pub fn look(table: &LogTable, seat: &mut Seat) -> Look
     requires seat { IsOf table.now seat.old }
     ensures becomes { Becomes seat.old seat.new (looked result.tail result.durable (view_of seat.old)) }
@@ -25,6 +26,7 @@ pub fn look(table: &LogTable, seat: &mut Seat) -> Look
 }
 
 /// The end of `n` units behind the tail that was looked at, or why there is no room for them.
+#[inline(always)]
 pub fn end_of(look: &Look, ring: u32, n: u32) -> Result<Lsn, Refused>
     requires ring { ring ≤ GREATEST_RING }
     ensures end { IfOk result (λ to. (to ≡ look.now.tail + n) × HasRoom ring look.now.tail look.now.durable n) }
@@ -48,6 +50,7 @@ pub fn end_of(look: &Look, ring: u32, n: u32) -> Result<Lsn, Refused>
 
 /// Reserves the `n` units of the next record of the seat's last job by what was looked at. None:
 /// another worker has reserved meanwhile, and in a table with slots the seat is contended now.
+#[inline(always)]
 pub fn try_place(
     table: &LogTable,
     seat: &mut Seat,

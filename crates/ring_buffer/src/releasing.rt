@@ -11,6 +11,7 @@ use lsn_space::Lsn;
 
 /// Marks the range as released, whether or not all before it is. It waits for nobody: whoever releases
 /// what stands before it takes it along.
+#[inline(always)]
 pub fn finish(table: &LogTable, seat: &mut Seat, filled: Filled)
     requires seat { IsOf table.now seat.old }
     requires filled { HasFilled filled.range (view_of seat.old) }
@@ -22,6 +23,7 @@ pub fn finish(table: &LogTable, seat: &mut Seat, filled: Filled)
 /// Raises exposed past each released range that it has come to, this worker's or another's, and answers
 /// where it saw exposed last; no released range began there. Who marked a group's range has the slot still
 /// to open again. It returns: each exchange, made or lost, shows a greater LSN.
+#[inline(always)]
 pub fn expose(table: &LogTable, seat: &mut Seat) -> Lsn
     requires seat { IsOf table.now seat.old }
     requires marked { HasMarked (view_of seat.old) }
@@ -40,6 +42,7 @@ pub fn expose(table: &LogTable, seat: &mut Seat) -> Lsn
 
 /// Raises exposed past the released range that begins at the LSN in hand, unless exposed has moved, and
 /// answers where it is then. None: no released range begins there, and nothing is left to expose.
+#[inline(always)]
 fn raise(table: &LogTable, seat: &mut Seat, at: Lsn) -> Option<Lsn>
     requires seat { IsOf table.now seat.old }
     requires hand { HasInHand at (view_of seat.old) }

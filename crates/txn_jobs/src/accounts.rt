@@ -13,6 +13,7 @@ use log_record::MOST_LEGS;
 pub const MOST_PARTIES: usize = 2 * MOST_LEGS as usize;
 
 /// Puts the accounts of the transfer into the list, in ascending order, none of them twice. What the list held is lost.
+#[inline(always)]
 pub fn list_accounts(job: &Job, accounts: &mut ArrayVec<u32, MOST_PARTIES>)
     ensures rising { IsStrictlyIncreasing accounts.new.items }
     ensures all { All (HasAccountsOf accounts.new.items) job.now.legs }

@@ -21,6 +21,7 @@ pub enum Worked {
 }
 
 /// A worker goes on where the stop word is 0. Err: the daemon has stopped.
+#[inline(always)]
 pub fn unless_stopped(word: u64) -> Result<(), Cause>
     ensures runs { OnOk result (word ≡ 0) }
     ensures stopped { IfErr result (λ cause. (cause ≡ Cause.Stop word) × (word ≢ 0)) }

@@ -17,6 +17,7 @@ use txn_parts::{Relief, may_come, pause};
 
 /// Inserts the next record of the seat's last job, of which these are the units, and answers where it ends. While the ring is full
 /// it waits.
+#[inline(always)]
 pub fn insert_units<R: Wait, Q: Relief, G: Gate>(
     rt: &R,
     table: &LogTable,

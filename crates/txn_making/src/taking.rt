@@ -65,6 +65,7 @@ pub fn take_all<R: Wait, Q: Relief, G: Gate>(
     Ok(())
 }
 
+#[inline(always)]
 fn take_one<R: Wait, Q: Relief>(
     rt: &R,
     table: &LogTable,

@@ -1,4 +1,7 @@
 //! What a worker does while it waits.
+
+ghost use Rattle.std.specs.Prelude.{◌≡◌};
+
 use idle_backoff::IdleBackoff;
 use std::time::Clock;
 
@@ -35,7 +38,10 @@ pub struct YieldRelief<'a, C> {
 }
 
 impl<'a, C> YieldRelief<'a, C> {
-    pub fn new(clock: &'a C) -> YieldRelief<'a, C> {
+    /// Reads this clock, and has not rested yet.
+    pub fn new(clock: &'a C) -> YieldRelief<'a, C>
+        ensures { result.clock.now ≡ clock.now }
+    {
         YieldRelief {
             clock,
             backoff: IdleBackoff::new(),

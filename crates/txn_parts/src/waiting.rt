@@ -12,6 +12,7 @@ use std::sync::Wait;
 use txn_jobs::Cause;
 
 /// What a worker does between two attempts. Ok: the log had not stopped. Err: it has.
+#[inline(always)]
 pub fn pause<Q: Relief>(table: &LogTable, seat: &mut Seat, relief: &mut Q) -> Result<(), Cause>
     requires seat { IsOf table.now seat.old }
     requires ready { IsReady (view_of seat.old) }
@@ -31,6 +32,7 @@ pub fn pause<Q: Relief>(table: &LogTable, seat: &mut Seat, relief: &mut Q) -> Re
 }
 
 /// The durable LSN as the worker sees it now; where it is to `wait`, once that is at or above the end.
+#[inline(always)]
 pub fn see_durable<R: Wait, Q: Relief>(
     rt: &R,
     table: &LogTable,
@@ -60,6 +62,7 @@ pub fn see_durable<R: Wait, Q: Relief>(
 }
 
 /// The durable LSN as the worker sees it now. None: exactly where the worker is to wait, and that is below the end.
+#[inline(always)]
 fn look_at_durable(table: &LogTable, seat: &mut Seat, end: Lsn, wait: bool) -> Option<Lsn>
     requires seat { IsOf table.now seat.old }
     requires ready { IsReady (view_of seat.old) }
@@ -76,6 +79,7 @@ fn look_at_durable(table: &LogTable, seat: &mut Seat, end: Lsn, wait: bool) -> O
 }
 
 /// Whether the worker has seen what it is to see: exactly where it isn't to wait, or the end is durable.
+#[inline(always)]
 fn is_seen(end: Lsn, seen: Lsn, wait: bool) -> bool
     ensures seen { result ≡ true → wait ≡ true → end ≤ seen }
     ensures waits { result ≡ false → (wait ≡ true) × (seen < end) }
@@ -84,6 +88,7 @@ fn is_seen(end: Lsn, seen: Lsn, wait: bool) -> bool
 }
 
 /// Whether there may be room once more is on the disk: exactly where the ring is full. Err: there is no use in another attempt.
+#[inline(always)]
 pub fn may_come(refused: Refused) -> Result<(), Cause>
     ensures comes { OnOk result (IsRingFull refused) }
     ensures ends { IfErr result (IsLogEnd refused) }

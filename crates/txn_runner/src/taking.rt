@@ -21,6 +21,7 @@ pub(crate) struct Begun {
 }
 
 /// Takes the next transfer (`take_as_job`), and tells the gate.
+#[inline(always)]
 pub(crate) fn begin_job<R: Wait, G: Gate>(
     rt: &R,
     table: &LogTable,
