@@ -10,16 +10,17 @@ use Rattle.clap.specs.Kinds.{Kinds, or_else}
 use Rattle.clap.specs.Simple.{entered, rows_at, names_of, argument_words}
 use Rattle.clap.specs.Walk.{Names, Held, Text, finished, nothing_held, settled, stop_after, walk, walk_from}
 use Rattle.clap.specs.Words.{App, Row, Shape, is_simple, is_simple_and_free, subcommand_of, fault_of, built}
-use Rattle.command_line.specs.CommandLine.{aether_command, cut_command, demo_command, new_command, run_command, upgrade_command, AreKnown, IsMismatchOf, IsSubcommand, NamesSubcommand}
+use Rattle.command_line.specs.CommandLine.{aether_command, demo_command, run_command, AreKnown, IsMismatchOf, IsSubcommand, NamesSubcommand}
+use Rattle.command_line.specs.declared.command.Subcommand.TheVariants as subcommand
 use Rattle.command_line.specs.declared.command.Refused.{Refused}
 use Rattle.command_line.specs.declared.command.Refused.TheVariants.{NoMemory, Usage}
 
 pub is_simple-aether : is_simple aether_command ≡ true
-unfolding aether_command new_command run_command demo_command cut_command upgrade_command
+unfolding aether_command run_command demo_command
 is_simple-aether = refl
 
 pub is_free-aether : is_simple_and_free aether_command ≡ true
-unfolding aether_command new_command run_command demo_command cut_command upgrade_command
+unfolding aether_command run_command demo_command
 is_free-aether = refl
 
 pub both_false : (a b x : Bool) → x ≡ (a || b) → a ≡ false → b ≡ false → x ≡ false
@@ -78,22 +79,26 @@ entered-name a None name rows found = cc
 entered-name a (Some p) name rows found = found-one (λ s. rows_at s p.1) a.subs _ (name, rows) found
 
 pub named_some : (words : List Text) → AreKnown words → is_some (subcommand_of aether_command words) ≡ true
-unfolding aether_command new_command run_command demo_command cut_command upgrade_command
+unfolding aether_command run_command demo_command
 named_some words known = names_some aether_command words refl known
 
 pub named-one : (words : List Text) (name : Text) (rows : List Row) → NamesSubcommand words name rows → IsSubcommand name
-unfolding aether_command new_command run_command demo_command cut_command upgrade_command
+unfolding aether_command run_command demo_command
 named-one words name rows named =
     let a = built aether_command in
     elim (entered-name a (stop_after a.top.rules (names_of a) (argument_words aether_command words)) name rows named) [
-      | inl new ↦ inl new
-      | inr (inl run) ↦ inr (inl run)
-      | inr (inr (inl recover)) ↦ inr (inr (inl recover))
-      | inr (inr (inr (inl dump))) ↦ inr (inr (inr (inl dump)))
-      | inr (inr (inr (inr (inl demo)))) ↦ inr (inr (inr (inr (inl demo))))
-      | inr (inr (inr (inr (inr (inl cut))))) ↦ inr (inr (inr (inr (inr (inl cut)))))
-      | inr (inr (inr (inr (inr (inr (inl upgrade)))))) ↦ inr (inr (inr (inr (inr (inr upgrade)))))
-      | inr (inr (inr (inr (inr (inr (inr none)))))) ↦ elim none [ ]
+      | inl new ↦ (subcommand.New, new)
+      | inr (inl run) ↦ (subcommand.Run, run)
+      | inr (inr (inl recover)) ↦ (subcommand.Recover, recover)
+      | inr (inr (inr (inl dump))) ↦ (subcommand.Dump, dump)
+      | inr (inr (inr (inr (inl demo)))) ↦ (subcommand.Demo, demo)
+      | inr (inr (inr (inr (inr (inl cut))))) ↦ (subcommand.Cut, cut)
+      | inr (inr (inr (inr (inr (inr (inl upgrade)))))) ↦ (subcommand.Upgrade, upgrade)
+      | inr (inr (inr (inr (inr (inr (inr (inl ship))))))) ↦ (subcommand.Ship, ship)
+      | inr (inr (inr (inr (inr (inr (inr (inr (inl follow)))))))) ↦ (subcommand.Follow, follow)
+      | inr (inr (inr (inr (inr (inr (inr (inr (inr (inl asof))))))))) ↦ (subcommand.AsOf, asof)
+      | inr (inr (inr (inr (inr (inr (inr (inr (inr (inr (inl statement)))))))))) ↦ (subcommand.Statement, statement)
+      | inr (inr (inr (inr (inr (inr (inr (inr (inr (inr (inr none)))))))))) ↦ elim none [ ]
     ]
 
 -- the text behind a reference that may be missing

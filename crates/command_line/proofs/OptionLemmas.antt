@@ -1,9 +1,9 @@
 -- Numbers of options.
-use Rattle.std.proofs.Common.{◌≡◌, ◌↔◌, ◌≤◌, ◌<◌, ◌^◌, ◌∙◌, sym, refl, ap, is_some, unwrap_or, [], IsTrue, Bool, true, false, ℕ, List, Option, Some, None, IfSome, IfNone, codes, arith}
+use Rattle.std.proofs.Common.{◌≡◌, ◌↔◌, ◌≤◌, ◌<◌, ◌^◌, ◌∙◌, sym, refl, ap, is_some, unwrap_or, [], IsTrue, Bool, true, false, ℕ, List, Option, Some, None, codes, arith}
 use Rattle.std.proofs.lemmas.Fmt.{decimal_injective}
 use Rattle.clap.specs.Words.{Row, first_of}
 use Rattle.lsn_space.specs.Number.{number_text}
-use Rattle.command_line.specs.CommandLine.{AreOptions, IsNumberOf}
+use Rattle.command_line.specs.CommandLine.{AreOptions, IsGiven, IsNumberOf}
 use Rattle.command_line.specs.declared.options.RunOptions.{RunOptions}
 
 pub one-number : (value : Option (List ℕ)) (default m n : ℕ) → m < 2 ^ 32 → n < 2 ^ 32 → IsNumberOf value default m → IsNumberOf value default n → m ≡ n
@@ -11,10 +11,9 @@ one-number None default m n small_m small_n is also = is ∙ sym also
 one-number (Some text) default m n small_m small_n is also = decimal_injective m n (omega arith) (omega arith) (sym is ∙ also)
 
 -- the text of one number at most is given
-pub one-given : (value : Option (List ℕ)) (m n : ℕ) → m < 2 ^ 32 → n < 2 ^ 32 → value ≡ Some (number_text m)
-    → value ≡ Some (number_text n) → m ≡ n
-one-given value m n small_m small_n is also =
-    decimal_injective m n (omega arith) (omega arith) (ap (λ (o : Option (List ℕ)). unwrap_or o []) (sym is ∙ also))
+pub one-given : (rows : List Row) (argument : List ℕ) (most m n : ℕ) → most < 2 ^ 32 → IsGiven rows argument most m → IsGiven rows argument most n → m ≡ n
+one-given rows argument most m n small is also =
+    decimal_injective m n (omega (arith, is.0)) (omega (arith, also.0)) (ap (λ (o : Option (List ℕ)). unwrap_or o []) (sym is.1 ∙ also.1))
 
 -- a text behind an option is another
 pub flag-some : (result : Bool) (text word : List ℕ) → (IsTrue result ↔ (text ≡ word)) → IsTrue result ↔ (Some text ≡ Some word)
@@ -23,20 +22,13 @@ flag-some result text word same = ((λ is. ap Some (same.0 is)), (λ equal. same
 pub flag-none : (word : List ℕ) → IsTrue false ↔ (None ≡ Some word)
 flag-none word = ((λ is. cc), (λ equal. ap (λ (o : Option (List ℕ)). is_some o) equal))
 
--- the number of a value that was given
-pub given-some : (text : List ℕ) (result : Option ℕ) → IfSome result (λ n. text ≡ number_text n)
-    → IfSome result (λ n. Some text ≡ Some (number_text n))
-given-some text None is = tt
-given-some text (Some n) is = ap (λ (t : List ℕ). Some t) is
+-- a text that is given is of no number, where it is the text of none
+pub given-not : (text : List ℕ) (most : ℕ) → ((n : ℕ) → 0 ≤ n → n ≤ most → text ≡ number_text n → ⊥)
+    → (n : ℕ) → n ≤ most → Some text ≡ Some (number_text n) → ⊥
+given-not text most not n below is = not n (omega arith) below (ap (λ (o : Option (List ℕ)). unwrap_or o text) is)
 
-pub given-not : (text : List ℕ) (most : ℕ) (result : Option ℕ)
-    → IfNone result ((n : ℕ) → 0 ≤ n → n ≤ most → text ≡ number_text n → ⊥)
-    → IfNone result ((n : ℕ) → n ≤ most → Some text ≡ Some (number_text n) → ⊥)
-given-not text most None not = λ n below is. not n (omega arith) below (ap (λ (o : Option (List ℕ)). unwrap_or o text) is)
-given-not text most (Some n) not = tt
-
-pub given-none : (most : ℕ) (n : ℕ) → n ≤ most → None ≡ Some (number_text n) → ⊥
-given-none most n below equal = let some : false ≡ true = ap (λ (o : Option (List ℕ)). is_some o) equal in cc
+pub given-none : (n : ℕ) → None ≡ Some (number_text n) → ⊥
+given-none n equal = let some : false ≡ true = ap (λ (o : Option (List ℕ)). is_some o) equal in cc
 
 same-bool : (a b : Bool) → (IsTrue a ↔ IsTrue b) → a ≡ b
 same-bool true true both = refl

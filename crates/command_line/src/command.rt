@@ -38,6 +38,26 @@ pub enum Command {
     Upgrade {
         log: Word,
     },
+
+    /// The records of the input's log are written as a stream, from this LSN on.
+    Ship {
+        from: u32,
+    },
+
+    /// The stream of the input is taken into the log at this place.
+    Follow {
+        log: Word,
+    },
+
+    /// The accounts are shown as they stood at this LSN of the input's log.
+    AsOf {
+        lsn: u32,
+    },
+
+    /// What the log of the input did to this account, from 0 to 4095, is shown.
+    Statement {
+        account: u32,
+    },
 }
 
 /// Which subcommand words name.
@@ -50,6 +70,10 @@ pub(crate) enum Subcommand {
     Demo,
     Cut,
     Upgrade,
+    Ship,
+    Follow,
+    AsOf,
+    Statement,
 }
 
 /// Why words ask nothing.

@@ -1,8 +1,8 @@
 //! The command of the program, as `clap` builds it. `specs/CommandLine.antt` has it as one term.
 ghost use Rattle.std.specs.Prelude.{◌≡◌, IfOk, false};
 ghost use Rattle.clap.specs.Words.{App, Rule, app_of, rule_of, with_rule, with_subcommand};
-ghost use Rattle.command_line.specs.Building.{Builds, log_command};
-ghost use Rattle.command_line.specs.CommandLine.{aether_command, bare_command, cut_command, demo_command, flag_rule, new_command, option_rule, required_rule, run_command, upgrade_command};
+ghost use Rattle.command_line.specs.Building.{Builds};
+ghost use Rattle.command_line.specs.CommandLine.{aether_command, bare_command, demo_command, flag_rule, option_rule, required_rule, run_command, value_command};
 
 use clap::{Arg, ArgAction, Command};
 use std::alloc::{AllocError, Global};
@@ -63,23 +63,17 @@ fn and_subcommand<'a>(
     with_subcommand(command?, subcommand)
 }
 
-/// A command that is given a log.
-fn on_log<'a>(alloc: Global, name: &'a str) -> Result<Command<'a>, AllocError>
-    ensures { Builds result (log_command name.entry.now) }
+/// A command that is given one value.
+fn on_value<'a>(alloc: Global, name: &'a str, value: &'a str) -> Result<Command<'a>, AllocError>
+    ensures { Builds result (value_command name.entry.now value.entry.now) }
 {
-    and_arg(Ok(Command::new(alloc, name)), required(alloc, "LOG"))
-}
-
-fn new<'a>(alloc: Global) -> Result<Command<'a>, AllocError>
-    ensures { Builds result new_command }
-{
-    on_log(alloc, "new")
+    and_arg(Ok(Command::new(alloc, name)), required(alloc, value))
 }
 
 fn run<'a>(alloc: Global) -> Result<Command<'a>, AllocError>
     ensures { Builds result run_command }
 {
-    let command = on_log(alloc, "run");
+    let command = on_value(alloc, "run", "LOG");
     let command = and_arg(command, option(alloc, "workers"));
     let command = and_arg(command, option(alloc, "ring"));
     let command = and_arg(command, option(alloc, "slots"));
@@ -89,24 +83,12 @@ fn run<'a>(alloc: Global) -> Result<Command<'a>, AllocError>
 fn demo<'a>(alloc: Global) -> Result<Command<'a>, AllocError>
     ensures { Builds result demo_command }
 {
-    let command = on_log(alloc, "demo");
+    let command = on_value(alloc, "demo", "LOG");
     let command = and_arg(command, required(alloc, "N"));
     let command = and_arg(command, required(alloc, "SEED"));
     let command = and_arg(command, option(alloc, "workers"));
     let command = and_arg(command, option(alloc, "ring"));
     and_arg(command, option(alloc, "slots"))
-}
-
-fn cut<'a>(alloc: Global) -> Result<Command<'a>, AllocError>
-    ensures { Builds result cut_command }
-{
-    on_log(alloc, "cut")
-}
-
-fn upgrade<'a>(alloc: Global) -> Result<Command<'a>, AllocError>
-    ensures { Builds result upgrade_command }
-{
-    on_log(alloc, "upgrade")
 }
 
 /// A command line that asks for help is a faulty one, so nothing here stands for help or for a version.
@@ -124,11 +106,15 @@ fn bare<'a>(alloc: Global) -> Command<'a>
 pub(crate) fn aether<'a>(alloc: Global) -> Result<Command<'a>, AllocError>
     ensures { IfOk result (λ r. app_of r ≡ aether_command) }
 {
-    let command = and_subcommand(Ok(bare(alloc)), new(alloc));
+    let command = and_subcommand(Ok(bare(alloc)), on_value(alloc, "new", "LOG"));
     let command = and_subcommand(command, run(alloc));
     let command = and_subcommand(command, Ok(Command::new(alloc, "recover")));
     let command = and_subcommand(command, Ok(Command::new(alloc, "dump")));
     let command = and_subcommand(command, demo(alloc));
-    let command = and_subcommand(command, cut(alloc));
-    and_subcommand(command, upgrade(alloc))
+    let command = and_subcommand(command, on_value(alloc, "cut", "LOG"));
+    let command = and_subcommand(command, on_value(alloc, "upgrade", "LOG"));
+    let command = and_subcommand(command, on_value(alloc, "ship", "FROM"));
+    let command = and_subcommand(command, on_value(alloc, "follow", "LOG"));
+    let command = and_subcommand(command, on_value(alloc, "asof", "LSN"));
+    and_subcommand(command, on_value(alloc, "statement", "ACCOUNT"))
 }

@@ -1,20 +1,22 @@
 //! Laws of the definitions. The functions do nothing.
 
-ghost use Rattle.std.specs.Prelude.{◌≡◌, ◌⊎◌, ℕ, List, codes};
-ghost use Rattle.clap.specs.Words.{Row};
-ghost use Rattle.command_line.specs.CommandLine.{AreKnown, AreTaken, IsCommandLine, NamesSubcommand};
+ghost use Rattle.std.specs.Prelude.{◌≡◌, ◌⊎◌, ◌+◌, ℕ, List};
+ghost use Rattle.lsn_space.specs.declared.opening.TheConstants.{MOST_ACCOUNTS};
+ghost use Rattle.command_line.specs.CommandLine.{AreKnown, AreTaken, IsCommandLine, NamesNumbers};
 ghost use Rattle.command_line.specs.declared.command.Command.{Command};
-ghost use Rattle.command_line.specs.declared.parsing.TheConstants.{GREATEST_SEED};
+ghost use Rattle.command_line.specs.declared.parsing.TheConstants.{GREATEST_ACCOUNT, GREATEST_SEED};
 
-/// A law: words ask one thing at most. Those that the command takes ask something, but for `run` and `demo` with numbers that
-/// they don't take.
+/// A law: words ask one thing at most. Those that the command takes ask something, but for subcommands with numbers that they
+/// don't take.
 pub fn one_command()
     ensures one { (words : List (List ℕ)) (one other : Command) → IsCommandLine words one → IsCommandLine words other → one ≡ other }
-    ensures some { (words : List (List ℕ)) → AreKnown words
-        → AreTaken words ⊎ (rows : List Row) × (NamesSubcommand words (codes "run") rows ⊎ NamesSubcommand words (codes "demo") rows) }
+    ensures some { (words : List (List ℕ)) → AreKnown words → AreTaken words ⊎ NamesNumbers words }
 {}
 
-/// A law: the greatest seed, which the definitions take from the code, is 65536.
+/// A law: the greatest seed and the greatest account, which the definitions take from the code, are 65536 and 4095, one below the
+/// most accounts of a log.
 pub fn format_numbers()
     ensures seed { GREATEST_SEED ≡ 65536 }
+    ensures account { GREATEST_ACCOUNT ≡ 4095 }
+    ensures accounts { GREATEST_ACCOUNT + 1 ≡ MOST_ACCOUNTS }
 {}

@@ -11,4 +11,4 @@ mod parsing;
 pub use command::{Command, Refused};
 pub use laws::{format_numbers, one_command};
 pub use options::RunOptions;
-pub use parsing::{GREATEST_SEED, parse};
+pub use parsing::{GREATEST_ACCOUNT, GREATEST_SEED, parse};

@@ -1,8 +1,8 @@
-ghost use Rattle.std.specs.Prelude.{◌≡◌, ◌≤◌, ◌↔◌, ℕ, Some, IsTrue, IfSome, IfNone, codes};
+ghost use Rattle.std.specs.Prelude.{◌≡◌, ◌≤◌, ◌↔◌, ℕ, Some, IsTrue, IfSome, IfNone, IfOk, IfErr, codes};
 ghost use Rattle.clap.specs.Words.{found_of, rows_of, first_of};
-ghost use Rattle.lsn_space.specs.Number.{number_text};
-ghost use Rattle.command_line.specs.CommandLine.{AreOptions, HasNoOptions, IsNumberOf};
+ghost use Rattle.command_line.specs.CommandLine.{AreOptions, HasNoOptions, IsGiven, IsNumberOf};
 
+use crate::command::Refused;
 use clap::ArgMatches;
 use lsn_space::{GREATEST_RING, LEAST_RING, number};
 
@@ -63,16 +63,17 @@ fn number_in(
     }
 }
 
-/// The number up to `most` that is given by its place.
-pub(crate) fn given_in(found: &ArgMatches<'_>, name: &str, most: u32) -> Option<u32>
-    ensures most { IfSome result (λ n. n ≤ most) }
-    ensures some { IfSome result (λ n. first_of name.now (rows_of (found_of found.now)) ≡ Some (number_text n)) }
-    ensures none { IfNone result ((n : ℕ) → n ≤ most
-        → first_of name.now (rows_of (found_of found.now)) ≡ Some (number_text n) → ⊥) }
+/// The number up to `most` that this argument gives.
+pub(crate) fn given_in(found: &ArgMatches<'_>, argument: &str, most: u32) -> Result<u32, Refused>
+    ensures ok { IfOk result (IsGiven (rows_of (found_of found.now)) argument.now most) }
+    ensures err { IfErr result (λ e. (e ≡ Refused.Usage) × ((n : ℕ) → IsGiven (rows_of (found_of found.now)) argument.now most n → ⊥)) }
 {
-    match found.get_str(name) {
-        Some(text) => number(text.as_bytes(), 0, most),
-        None => None,
+    let Some(text) = found.get_str(argument) else {
+        return Err(Refused::Usage);
+    };
+    match number(text.as_bytes(), 0, most) {
+        Some(n) => Ok(n),
+        None => Err(Refused::Usage),
     }
 }
 

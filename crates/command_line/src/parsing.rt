@@ -1,18 +1,19 @@
 ghost use Rattle.std.specs.Prelude.{◌≡◌, ◌⊎◌, List, ℕ, IfErr, MatchResult, true};
 ghost use Rattle.clap.specs.Words.{found_of, rows_of, subcommand_of, subcommand_rows_of, takes};
-ghost use Rattle.command_line.specs.CommandLine.{aether_command, log_in, AreKnown, name_of, AreOptions, HasNoDemo, HasNoOptions, IsCommandLine, IsDemo, IsRefusalOf, IsSubcommand, NamesBadNumbers, NamesSubcommand};
-ghost use Rattle.command_line.specs.declared.command.Command.TheVariants.{Cut, Demo, New, Run, Upgrade};
-ghost use Rattle.command_line.specs.declared.options.RunOptions.{RunOptions};
+ghost use Rattle.command_line.specs.CommandLine.{aether_command, Answers, AreKnown, IsCommandLine, IsRefusalOf, IsSubcommand, NamesBadNumbers, NamesSubcommand, log_in, name_of};
 
 use crate::command::{Command, Refused, Subcommand};
 use crate::matching::matches_of;
 use crate::options::{given_in, options_in};
 use clap::ArgMatches;
-use lsn_space::{MOST_GENERATED, Word};
+use lsn_space::{LAST, MOST_ACCOUNTS, MOST_GENERATED, Word};
 use std::alloc::Global;
 
 /// The greatest seed of generated transfers.
 pub const GREATEST_SEED: u32 = 65536;
+
+/// The greatest account.
+pub const GREATEST_ACCOUNT: u32 = MOST_ACCOUNTS - 1;
 
 /// What the words ask.
 pub fn parse(alloc: Global, words: &[Word]) -> Result<Command, Refused>
@@ -47,15 +48,7 @@ fn asked(alloc: Global, name: &str, found: &ArgMatches<'_>) -> Result<Command, R
     ensures taken { (words : List (List ℕ)) → AreKnown words → NamesSubcommand words name.now (rows_of (found_of found.now))
         → IfErr result (λ e. (e ≡ Refused.NoMemory) ⊎ NamesBadNumbers words) }
 {
-    match subcommand(name) {
-        Subcommand::New => new(alloc, found),
-        Subcommand::Run => run(alloc, found),
-        Subcommand::Recover => Ok(Command::Recover),
-        Subcommand::Dump => Ok(Command::Dump),
-        Subcommand::Demo => demo(alloc, found),
-        Subcommand::Cut => cut(alloc, found),
-        Subcommand::Upgrade => upgrade(alloc, found),
-    }
+    answer(alloc, subcommand(name), found)
 }
 
 /// The subcommand of this name.
@@ -71,22 +64,49 @@ fn subcommand(name: &str) -> Subcommand
         "demo" => Subcommand::Demo,
         "cut" => Subcommand::Cut,
         "upgrade" => Subcommand::Upgrade,
+        "ship" => Subcommand::Ship,
+        "follow" => Subcommand::Follow,
+        "asof" => Subcommand::AsOf,
+        "statement" => Subcommand::Statement,
         _ => unreachable!(),
     }
 }
 
-fn new(alloc: Global, found: &ArgMatches<'_>) -> Result<Command, Refused>
-    ensures { MatchResult result (λ c. c ≡ New (log_in (rows_of (found_of found.now)))) (λ e. e ≡ Refused.NoMemory) }
+/// What this subcommand asks, with what is found of it.
+fn answer(alloc: Global, subcommand: Subcommand, found: &ArgMatches<'_>) -> Result<Command, Refused>
+    ensures { Answers subcommand (rows_of (found_of found.now)) result }
 {
-    let log = log_of(alloc, found)?;
-    Ok(Command::New { log })
+    match subcommand {
+        Subcommand::New => Ok(Command::New {
+            log: log_of(alloc, found)?,
+        }),
+        Subcommand::Run => run(alloc, found),
+        Subcommand::Recover => Ok(Command::Recover),
+        Subcommand::Dump => Ok(Command::Dump),
+        Subcommand::Demo => demo(alloc, found),
+        Subcommand::Cut => Ok(Command::Cut {
+            log: log_of(alloc, found)?,
+        }),
+        Subcommand::Upgrade => Ok(Command::Upgrade {
+            log: log_of(alloc, found)?,
+        }),
+        Subcommand::Ship => Ok(Command::Ship {
+            from: given_in(found, "FROM", LAST)?,
+        }),
+        Subcommand::Follow => Ok(Command::Follow {
+            log: log_of(alloc, found)?,
+        }),
+        Subcommand::AsOf => Ok(Command::AsOf {
+            lsn: given_in(found, "LSN", LAST)?,
+        }),
+        Subcommand::Statement => Ok(Command::Statement {
+            account: given_in(found, "ACCOUNT", GREATEST_ACCOUNT)?,
+        }),
+    }
 }
 
 fn run(alloc: Global, found: &ArgMatches<'_>) -> Result<Command, Refused>
-    ensures { MatchResult result
-        (λ c. (options : RunOptions) × AreOptions (rows_of (found_of found.now)) options
-        × (c ≡ Run (log_in (rows_of (found_of found.now))) options))
-        (λ e. (e ≡ Refused.NoMemory) ⊎ ((e ≡ Refused.Usage) × HasNoOptions (rows_of (found_of found.now)))) }
+    ensures { Answers Subcommand.Run (rows_of (found_of found.now)) result }
 {
     let Some(options) = options_in(found) else {
         return Err(Refused::Usage);
@@ -96,17 +116,10 @@ fn run(alloc: Global, found: &ArgMatches<'_>) -> Result<Command, Refused>
 }
 
 fn demo(alloc: Global, found: &ArgMatches<'_>) -> Result<Command, Refused>
-    ensures { MatchResult result
-        (λ c. (transfers seed : ℕ) × (options : RunOptions) × IsDemo (rows_of (found_of found.now)) transfers seed options
-        × (c ≡ Demo (log_in (rows_of (found_of found.now))) transfers seed options))
-        (λ e. (e ≡ Refused.NoMemory) ⊎ ((e ≡ Refused.Usage) × HasNoDemo (rows_of (found_of found.now)))) }
+    ensures { Answers Subcommand.Demo (rows_of (found_of found.now)) result }
 {
-    let Some(transfers) = given_in(found, "N", MOST_GENERATED) else {
-        return Err(Refused::Usage);
-    };
-    let Some(seed) = given_in(found, "SEED", GREATEST_SEED) else {
-        return Err(Refused::Usage);
-    };
+    let transfers = given_in(found, "N", MOST_GENERATED)?;
+    let seed = given_in(found, "SEED", GREATEST_SEED)?;
     let Some(options) = options_in(found) else {
         return Err(Refused::Usage);
     };
@@ -117,20 +130,6 @@ fn demo(alloc: Global, found: &ArgMatches<'_>) -> Result<Command, Refused>
         seed,
         options,
     })
-}
-
-fn cut(alloc: Global, found: &ArgMatches<'_>) -> Result<Command, Refused>
-    ensures { MatchResult result (λ c. c ≡ Cut (log_in (rows_of (found_of found.now)))) (λ e. e ≡ Refused.NoMemory) }
-{
-    let log = log_of(alloc, found)?;
-    Ok(Command::Cut { log })
-}
-
-fn upgrade(alloc: Global, found: &ArgMatches<'_>) -> Result<Command, Refused>
-    ensures { MatchResult result (λ c. c ≡ Upgrade (log_in (rows_of (found_of found.now)))) (λ e. e ≡ Refused.NoMemory) }
-{
-    let log = log_of(alloc, found)?;
-    Ok(Command::Upgrade { log })
 }
 
 /// The value of LOG.

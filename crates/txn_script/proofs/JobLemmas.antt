@@ -1,5 +1,5 @@
 -- A line is one transfer at most.
-use Rattle.std.proofs.Common.{◌≡◌, ◌<◌, ◌^◌, ap, refl, ℕ, List, [], length, drop, arith, Option, Some, None}
+use Rattle.std.proofs.Common.{◌≡◌, ◌<◌, ◌^◌, ap, refl, ℕ, List, length, drop, arith, Option, Some, None}
 use Rattle.lock_core.specs.declared.job.Job.{Job}
 use Rattle.txn_script.specs.Reading.{EndsLegs}
 use Rattle.txn_script.specs.Script.{note_text, job_text, IsAllowedJob}

@@ -22,14 +22,25 @@ fn is_as_wanted(rt: &impl Abort, words: &[&str], as_wanted: bool) {
     assert!(rt; as_wanted, "{words:?}");
 }
 
-fn is_new(found: &Result<Command, Refused>, place: &str) -> bool {
-    matches!(found, Ok(Command::New { log }) if log.text() == place)
+fn is_on_log(found: &Result<Command, Refused>, name: &str, place: &str) -> bool {
+    match found {
+        Ok(Command::New { log }) => name == "new" && log.text() == place,
+        Ok(Command::Cut { log }) => name == "cut" && log.text() == place,
+        Ok(Command::Upgrade { log }) => name == "upgrade" && log.text() == place,
+        Ok(Command::Follow { log }) => name == "follow" && log.text() == place,
+        _ => false,
+    }
 }
 
-/// These words ask for a new log at this place.
-fn takes_new<R: AllocGlobal + Abort>(rt: &R, words: &[&str], want: &str) -> Result<(), Fail> {
+/// These words ask for the command of this name on the log at this place.
+fn takes_on_log<R: AllocGlobal + Abort>(
+    rt: &R,
+    words: &[&str],
+    name: &str,
+    place: &str,
+) -> Result<(), Fail> {
     let command = parsed(rt, words)?;
-    is_as_wanted(rt, words, is_new(&command, want));
+    is_as_wanted(rt, words, is_on_log(&command, name, place));
     Ok(())
 }
 
@@ -45,26 +56,75 @@ fn takes_dump<R: AllocGlobal + Abort>(rt: &R, words: &[&str]) -> Result<(), Fail
     Ok(())
 }
 
-const NEW: &[(&[&str], &str)] = &[
-    (&["aether", "new", "bank.log"], "bank.log"),
-    (&["", "new", "bank.log"], "bank.log"),
-    (&["aether", "new", ""], ""),
-    (&["aether", "new", "-"], "-"),
-    (&["aether", "new", "--", "-x"], "-x"),
-    (&["aether", "new", "--", "--help"], "--help"),
-    (&["aether", "new", "help"], "help"),
-    (&["aether", "new", "new"], "new"),
+/// Words, the command that they name, and its log.
+const ON_LOGS: &[(&[&str], &str, &str)] = &[
+    (&["aether", "new", "bank.log"], "new", "bank.log"),
+    (&["", "new", "bank.log"], "new", "bank.log"),
+    (&["aether", "new", ""], "new", ""),
+    (&["aether", "new", "-"], "new", "-"),
+    (&["aether", "new", "--", "-x"], "new", "-x"),
+    (&["aether", "new", "--", "--help"], "new", "--help"),
+    (&["aether", "new", "help"], "new", "help"),
+    (&["aether", "new", "new"], "new", "new"),
+    (&["aether", "cut", "bank.log"], "cut", "bank.log"),
+    (&["aether", "upgrade", "bank.log"], "upgrade", "bank.log"),
+    (&["aether", "follow", "bank.log"], "follow", "bank.log"),
+    (&["aether", "follow", ""], "follow", ""),
+    (&["aether", "follow", "--", "-x"], "follow", "-x"),
+    (&["aether", "follow", "ship"], "follow", "ship"),
 ];
 
 #[test]
 fn takes_commands(rt: HostRuntime) -> Result<(), Fail> {
-    for (words, log) in NEW {
-        takes_new(&rt, words, log)?;
+    for (words, name, log) in ON_LOGS {
+        takes_on_log(&rt, words, name, log)?;
     }
     takes_recover(&rt, &["aether", "recover"])?;
     takes_recover(&rt, &["", "recover"])?;
     takes_dump(&rt, &["aether", "dump"])?;
     takes_dump(&rt, &["", "dump"])
+}
+
+fn is_with_number(found: &Result<Command, Refused>, name: &str, number: u32) -> bool {
+    match found {
+        Ok(Command::Ship { from }) => name == "ship" && *from == number,
+        Ok(Command::AsOf { lsn }) => name == "asof" && *lsn == number,
+        Ok(Command::Statement { account }) => name == "statement" && *account == number,
+        _ => false,
+    }
+}
+
+/// These words ask for the command of this name with this number.
+fn takes_with_number<R: AllocGlobal + Abort>(
+    rt: &R,
+    words: &[&str],
+    name: &str,
+    number: u32,
+) -> Result<(), Fail> {
+    let command = parsed(rt, words)?;
+    is_as_wanted(rt, words, is_with_number(&command, name, number));
+    Ok(())
+}
+
+/// Words, the command that they name, and its number.
+const WITH_NUMBERS: &[(&[&str], &str, u32)] = &[
+    (&["aether", "ship", "0"], "ship", 0),
+    (&["", "ship", "5"], "ship", 5),
+    (&["aether", "ship", "--", "5"], "ship", 5),
+    (&["aether", "ship", "4294967295"], "ship", 4294967295),
+    (&["aether", "asof", "0"], "asof", 0),
+    (&["aether", "asof", "12"], "asof", 12),
+    (&["aether", "asof", "4294967295"], "asof", 4294967295),
+    (&["aether", "statement", "0"], "statement", 0),
+    (&["aether", "statement", "4095"], "statement", 4095),
+];
+
+#[test]
+fn takes_numbers(rt: HostRuntime) -> Result<(), Fail> {
+    for (words, name, number) in WITH_NUMBERS {
+        takes_with_number(&rt, words, name, *number)?;
+    }
+    Ok(())
 }
 
 /// A case of `run`: the words, its workers, ring and slots, and whether it waits.
@@ -291,6 +351,47 @@ const NO_DEMOS: &[&[&str]] = &[
 #[test]
 fn refuses_other_words_of_demo(rt: HostRuntime) -> Result<(), Fail> {
     for words in NO_DEMOS {
+        refuses(&rt, words)?;
+    }
+    Ok(())
+}
+
+const NO_NUMBERS: &[&[&str]] = &[
+    &["aether", "ship"],
+    &["aether", "ship", "log"],
+    &["aether", "ship", "0", "log"],
+    &["aether", "ship", "4294967296"],
+    &["aether", "ship", "18446744073709551616"],
+    &["aether", "ship", "00"],
+    &["aether", "ship", "05"],
+    &["aether", "ship", "+5"],
+    &["aether", "ship", "-5"],
+    &["aether", "ship", "--", "-5"],
+    &["aether", "ship", ""],
+    &["aether", "ship", " 5"],
+    &["aether", "ship", "--from", "5"],
+    &["aether", "ship", "--help"],
+    &["aether", "asof"],
+    &["aether", "asof", "12", "13"],
+    &["aether", "asof", "4294967296"],
+    &["aether", "asof", "012"],
+    &["aether", "asof", "0x12"],
+    &["aether", "asof", "12 "],
+    &["aether", "statement"],
+    &["aether", "statement", "0", "1"],
+    &["aether", "statement", "4096"],
+    &["aether", "statement", "4294967296"],
+    &["aether", "statement", "01"],
+    &["aether", "statement", "one"],
+    &["aether", "follow"],
+    &["aether", "follow", "a.log", "b.log"],
+    &["aether", "follow", "-x"],
+    &["aether", "follow", "--help"],
+];
+
+#[test]
+fn refuses_other_numbers(rt: HostRuntime) -> Result<(), Fail> {
+    for words in NO_NUMBERS {
         refuses(&rt, words)?;
     }
     Ok(())

@@ -8,7 +8,7 @@ unfolding demo_command
 returns c =
     let n : rule_of c.required.result ≡ required_rule (codes "N") = c.required.ensures.rule in
     let last : rule_of c.required-2.result ≡ required_rule (codes "SEED") = c.required-2.ensures.rule in
-    let transfers = c.and_arg-command.ensures _ _ c.on_log-command.ensures n c.required.ensures.local in
+    let transfers = c.and_arg-command.ensures _ _ c.on_value-command.ensures n c.required.ensures.local in
     let seed = c.and_arg-command-2.ensures _ _ transfers last c.required-2.ensures.local in
     let workers = c.and_arg-command-3.ensures _ _ seed c.option.ensures.rule c.option.ensures.local in
     let ring = c.and_arg-command-4.ensures _ _ workers c.option-2.ensures.rule c.option-2.ensures.local in
