@@ -1,0 +1,73 @@
+-- A Commit's entries, change by change.
+use Rattle.std.proofs.Common.{◌≡◌, ◌≢◌, ◌<◌, ◌==◌, ◌||◌, ℕ, Bool, true, false, true≢false, List, [], ◌∷◌, ◌++◌, length, set, refl, ap, ◌∙◌, sym, subst, arith, eq-eqb, eqb-true, get_or-set_same, get_or-set_other, length-set}
+use mathlib.Core.Logic.{dite}
+use native.Mathlib.Decide.{ℕ_discrete}
+use Rattle.log_record.specs.declared.rec.Placed.{Placed}
+use Rattle.lock_core.specs.declared.update.Change.{Change}
+use Rattle.lock_core.specs.Transactions.{touches}
+use Rattle.lock_core.specs.Sums.{Opening}
+use Rattle.lock_core.proofs.OneMore.{neither, or-false}
+use Rattle.ledger_view.specs.declared.entries.Entry.{Entry}
+use Rattle.ledger_view.specs.declared.accounts.Account.{Account}
+use Rattle.ledger_view.specs.Entries.{net_of, balance_after}
+use Rattle.ledger_view.specs.Viewing.{untouched, account_at}
+use Rattle.ledger_view.specs.Entering.{with_entry, Enters}
+
+touches-more : (account : ℕ) (changes : List Change) (change : Change) → touches account (changes ++ change ∷ []) ≡ (touches account changes || (change.account == account))
+touches-more account [] change = or-false (change.account == account)
+touches-more account (first ∷ changes) change = by_case (first.account == account) (touches-more account changes change)
+  where
+    by_case : (b : Bool) → touches account (changes ++ change ∷ []) ≡ (touches account changes || (change.account == account))
+        → (b || touches account (changes ++ change ∷ [])) ≡ ((b || touches account changes) || (change.account == account))
+    by_case true rest = refl
+    by_case false rest = rest
+
+module _ (opening : Opening) (h : List Placed) (txn end : ℕ) (changes : List Change) where
+  pub enters-none : (old : List Account) → Enters opening h txn end changes [] old old
+  enters-none old = record { count = refl; done = λ account on. absurd (true≢false (sym on)); left = λ account off. refl }
+
+  -- the entry of an account
+  abbrev own_entry : ℕ → Entry
+  own_entry account = record { end = end; txn = txn; net = net_of account changes; balance = balance_after opening h account }
+
+  module _ (some : List Change) (change : Change) (old new : List Account) (before : Enters opening h txn end changes some old new) where
+    -- an account other than the change's is touched by those before it
+    by_other : (account : ℕ) → account ≢ change.account → touches account (some ++ change ∷ []) ≡ true → touches account some ≡ true
+    by_other account other touched = by_case (touches account some) refl (sym (touches-more account some change) ∙ touched)
+      where
+        by_case : (b : Bool) → touches account some ≡ b → (touches account some || (change.account == account)) ≡ true → touches account some ≡ true
+        by_case true is either = is
+        by_case false is either = absurd (other (sym (eqb-true change.account account (sym (ap (λ b. b || (change.account == account)) is) ∙ either))))
+
+    -- a change on an account that has its entry
+    pub enters-again : touches change.account some ≡ true → Enters opening h txn end changes (some ++ change ∷ []) old new
+    enters-again on = record {
+      count = before.count;
+      done = λ account touched. dite (ℕ_discrete account change.account)
+          (λ same. before.done account (ap (λ a. touches a some) same ∙ on))
+          (λ other. before.done account (by_other account other touched));
+      left = λ account untouched. before.left account (neither (touches account some) (change.account == account) (sym (touches-more account some change) ∙ untouched)).0;
+    }
+
+    -- a change on another account gives that one its entry
+    pub enters-more : (newer : List Account) (entry : Entry) → touches change.account some ≡ false → change.account < length old
+        → newer ≡ set new change.account (with_entry (account_at new change.account) entry) → entry ≡ own_entry change.account
+        → Enters opening h txn end changes (some ++ change ∷ []) old newer
+    enters-more newer entry off inside is made = let counted = before.count in record {
+      count = ap length is ∙ length-set new change.account (with_entry (account_at new change.account) entry) ∙ before.count;
+      done = λ account touched. dite (ℕ_discrete account change.account)
+          (λ same. subst (λ a. account_at newer a ≡ with_entry (account_at old a) (own_entry a)) (sym same) own)
+          (λ other. row-other account other ∙ before.done account (by_other account other touched));
+      left = λ account untouched.
+          let parts = neither (touches account some) (change.account == account) (sym (touches-more account some change) ∙ untouched) in
+          row-other account (λ same. true≢false (sym (eq-eqb change.account account (sym same)) ∙ parts.1)) ∙ before.left account parts.0;
+    }
+      where
+        row-other : (account : ℕ) → account ≢ change.account → account_at newer account ≡ account_at new account
+        row-other account other = ap (λ accounts. account_at accounts account) is
+            ∙ get_or-set_other new change.account account (with_entry (account_at new change.account) entry) untouched other
+
+        own : account_at newer change.account ≡ with_entry (account_at old change.account) (own_entry change.account)
+        own = let counted = before.count in ap (λ accounts. account_at accounts change.account) is
+            ∙ get_or-set_same new change.account (with_entry (account_at new change.account) entry) untouched (omega arith)
+            ∙ (λ i. with_entry (before.left change.account off i) (made i))

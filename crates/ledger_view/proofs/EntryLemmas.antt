@@ -1,0 +1,100 @@
+-- What the entries of an account lead to, with one entry more and up to an LSN.
+use Rattle.std.proofs.Common.{◌≡◌, ◌≤◌, ◌<◌, ℕ, zero, suc, pos, ◌+ℤ◌, cond, List, [], ◌∷◌, ◌++◌, length, get_or, nat_le, refl, ap, ◌∙◌, sym, subst, arith, le_refl, le_trans, le-leb}
+use Rattle.std.proofs.lemmas.Bool.{lt-leb}
+use Rattle.std.specs.List.{AllByRecursion}
+use Rattle.std.specs.List.Sorted.{IsNonDecreasingBy}
+use Rattle.log_record.specs.Spelling.{IsBalance}
+use Rattle.ledger_view.specs.declared.entries.Entry.{Entry}
+use Rattle.ledger_view.specs.Viewing.{last_balance, balance_to, AddUp}
+
+pub last_balance-append : (first : ℕ) (entries : List Entry) (entry : Entry) → last_balance first (entries ++ entry ∷ []) ≡ entry.balance
+last_balance-append first [] entry = refl
+last_balance-append first (x ∷ entries) entry = last_balance-append x.balance entries entry
+
+-- an entry that ends behind the LSN
+balance_to-past : (first : ℕ) (entry : Entry) (entries : List Entry) (lsn : ℕ) → lsn < entry.end → balance_to first (entry ∷ entries) lsn ≡ first
+balance_to-past first entry entries lsn past = ap (λ b. cond b (balance_to entry.balance entries lsn) first) (lt-leb entry.end lsn past)
+
+-- an entry that ends at or below it
+balance_to-below : (first : ℕ) (entry : Entry) (entries : List Entry) (lsn : ℕ) → entry.end ≤ lsn
+    → balance_to first (entry ∷ entries) lsn ≡ balance_to entry.balance entries lsn
+balance_to-below first entry entries lsn below = ap (λ b. cond b (balance_to entry.balance entries lsn) first) (le-leb entry.end lsn below)
+
+-- one entry more changes nothing before its end
+pub balance_to-append : (first : ℕ) (entries : List Entry) (entry : Entry) (lsn : ℕ) → lsn < entry.end
+    → balance_to first (entries ++ entry ∷ []) lsn ≡ balance_to first entries lsn
+balance_to-append first [] entry lsn past = balance_to-past first entry [] lsn past
+balance_to-append first (x ∷ entries) entry lsn past = ap (λ n. cond (nat_le x.end lsn) n first) (balance_to-append x.balance entries entry lsn past)
+
+-- where all end at or below the LSN
+pub balance_to-all : (first : ℕ) (entries : List Entry) (lsn : ℕ) → AllByRecursion (λ (entry : Entry). entry.end ≤ lsn) entries
+    → balance_to first entries lsn ≡ last_balance first entries
+balance_to-all first [] lsn all = refl
+balance_to-all first (entry ∷ entries) lsn all = balance_to-below first entry entries lsn all.0 ∙ balance_to-all entry.balance entries lsn all.1
+
+pub all-higher : (entries : List Entry) (low high : ℕ) → low ≤ high → AllByRecursion (λ (entry : Entry). entry.end ≤ low) entries
+    → AllByRecursion (λ (entry : Entry). entry.end ≤ high) entries
+all-higher [] low high more all = tt
+all-higher (entry ∷ entries) low high more all = (le_trans all.0 more, all-higher entries low high more all.1)
+
+pub add_up-append : (least first : ℕ) (entries : List Entry) (entry : Entry) → least ≤ entry.end
+    → AllByRecursion (λ (x : Entry). x.end ≤ entry.end) entries → IsBalance (last_balance first entries)
+    → pos entry.balance ≡ pos (last_balance first entries) +ℤ entry.net → AddUp least first entries → AddUp least first (entries ++ entry ∷ [])
+add_up-append least first [] entry above all range net sums = (above, range, net, tt)
+add_up-append least first (x ∷ entries) entry above all range net sums =
+    (sums.0, sums.1, sums.2, add_up-append x.end x.balance entries entry all.0 all.1 range net sums.3)
+
+least-below : (least first : ℕ) (entries : List Entry) (i : ℕ) (d : Entry) → AddUp least first entries → i < length entries → least ≤ (get_or entries i d).end
+least-below least first [] i d sums inside = absurd (omega arith)
+least-below least first (entry ∷ entries) zero d sums inside = sums.0
+least-below least first (entry ∷ entries) (suc i) d sums inside =
+    le_trans sums.0 (least-below entry.end entry.balance entries i d sums.3 (omega arith))
+
+-- the ends don't fall
+pub add_up-rises : (least first : ℕ) (entries : List Entry) → AddUp least first entries → IsNonDecreasingBy (λ (entry : Entry). entry.end) entries
+add_up-rises least first [] sums i j d before inside = absurd (omega arith)
+add_up-rises least first (entry ∷ entries) sums zero zero d before inside = le_refl entry.end
+add_up-rises least first (entry ∷ entries) sums zero (suc j) d before inside = least-below entry.end entry.balance entries j d sums.3 (omega arith)
+add_up-rises least first (entry ∷ entries) sums (suc i) zero d before inside = absurd (omega arith)
+add_up-rises least first (entry ∷ entries) sums (suc i) (suc j) d before inside =
+    add_up-rises entry.end entry.balance entries sums.3 i j d (omega arith) (omega arith)
+
+-- the first entry that ends behind an LSN adds its net to the balance up to there
+pub next-adds : (least first : ℕ) (entries : List Entry) (i lsn : ℕ) (d : Entry) → AddUp least first entries → i < length entries
+    → ((k : ℕ) → k < i → (get_or entries k d).end ≤ lsn) → lsn < (get_or entries i d).end
+    → IsBalance (balance_to first entries lsn)
+    × (pos (get_or entries i d).balance ≡ pos (balance_to first entries lsn) +ℤ (get_or entries i d).net)
+next-adds least first [] i lsn d sums inside below past = absurd (omega arith)
+next-adds least first (entry ∷ entries) zero lsn d sums inside below past =
+    subst (λ n. IsBalance n × (pos entry.balance ≡ pos n +ℤ entry.net)) (sym (balance_to-past first entry entries lsn past)) (sums.1, sums.2)
+next-adds least first (entry ∷ entries) (suc i) lsn d sums inside below past =
+    subst (λ n. IsBalance n × (pos (get_or entries i d).balance ≡ pos n +ℤ (get_or entries i d).net))
+    (sym (balance_to-below first entry entries lsn (below 0 (omega arith))))
+    (next-adds entry.end entry.balance entries i lsn d sums.3 (omega arith) (λ k before. below (suc k) (omega arith)) past)
+
+-- where none ends behind it, the balance is the last
+pub none-behind : (first : ℕ) (entries : List Entry) (lsn : ℕ) (d : Entry) → ((k : ℕ) → k < length entries → (get_or entries k d).end ≤ lsn)
+    → balance_to first entries lsn ≡ last_balance first entries
+none-behind first [] lsn d below = refl
+none-behind first (entry ∷ entries) lsn d below =
+    balance_to-below first entry entries lsn (below 0 (omega arith))
+    ∙ none-behind entry.balance entries lsn d (λ k before. below (suc k) (omega arith))
+
+-- the same of an entry that is read
+pub next-entry : (first : ℕ) (entries : List Entry) (i lsn : ℕ) (entry : Entry) → AddUp 0 first entries → i < length entries → entry ≡ get_or entries i entry
+    → ((k : ℕ) (d : Entry) → k < i → (get_or entries k d).end ≤ lsn)
+    → ((k : ℕ) (d : Entry) → i ≤ k → k < length entries → lsn < (get_or entries k d).end)
+    → IsBalance (balance_to first entries lsn) × (pos entry.balance ≡ pos (balance_to first entries lsn) +ℤ entry.net)
+next-entry first entries i lsn entry sums inside is below behind =
+    subst (λ (e : Entry). IsBalance (balance_to first entries lsn) × (pos e.balance ≡ pos (balance_to first entries lsn) +ℤ e.net)) (sym is)
+    (next-adds 0 first entries i lsn entry sums inside (λ k before. below k entry before) (behind i entry (le_refl i) inside))
+
+pub first-entry : (first : ℕ) (entries : List Entry) (entry : Entry) → AddUp 0 first entries → 0 < length entries → entry ≡ get_or entries 0 entry
+    → IsBalance first × (pos entry.balance ≡ pos first +ℤ entry.net)
+first-entry first [] entry sums inside is = absurd (omega arith)
+first-entry first (x ∷ entries) entry sums inside is =
+    subst (λ (e : Entry). IsBalance first × (pos e.balance ≡ pos first +ℤ e.net)) (sym is) (sums.1, sums.2)
+
+pub no-entry : (first : ℕ) (entries : List Entry) → length entries ≡ 0 → last_balance first entries ≡ first
+no-entry first [] none = refl
+no-entry first (x ∷ entries) none = absurd (omega arith)

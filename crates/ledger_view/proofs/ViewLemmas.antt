@@ -1,0 +1,194 @@
+-- How what a view keeps goes on by one record.
+use Rattle.std.proofs.Common.{◌≡◌, ◌≤◌, ◌<◌, ℕ, ◌+◌, ◌&&◌, Bool, cond, None, true, false, List, [], ◌∷◌, ◌++◌, length, replicate, refl, ap, ◌∙◌, sym, subst, arith, length-append}
+use Rattle.std.proofs.lemmas.List.{length-replicate, get_or-replicate, get_or_append_left, get_or_at}
+use mathlib.Core.Logic.{dite}
+use native.Mathlib.Decide.{ℕ_discrete}
+use Rattle.std.specs.List.{AllByRecursion}
+use Rattle.log_record.specs.declared.rec.Rec.{Rec}
+use Rattle.log_record.specs.declared.rec.Placed.{Placed}
+use Rattle.log_record.specs.declared.rec.Rec.TheVariants.{Genesis, Update, Commit, Short, Over, Note}
+use Rattle.log_record.specs.Spelling.{IsBalance}
+use Rattle.lock_core.specs.declared.judge.Judge.{Judge}
+use Rattle.lock_core.specs.declared.update.Change.{Change}
+use Rattle.lock_core.specs.History.{entry_at}
+use Rattle.lock_core.specs.Records.{txn_of, commits}
+use Rattle.lock_core.specs.Transactions.{updates_of, open_changes_of, touches}
+use Rattle.lock_core.specs.Sums.{Opening}
+use Rattle.lock_core.specs.Tests.{IsGenesis}
+use Rattle.lock_core.specs.Lawful.{base_with, with_genesis}
+use Rattle.lock_core.specs.Taking.{HasJudged}
+use Rattle.lock_core.proofs.Meeting.{meets-passes, met-lawful}
+use Rattle.lock_core.proofs.Pairing.{updates_of-fits}
+use Rattle.ledger_view.specs.declared.accounts.Account.{Account}
+use Rattle.ledger_view.specs.declared.view.View.{View}
+use Rattle.ledger_view.specs.Entries.{balance_after, is_commit_on, entry_of, front_to, balance_up_to}
+use Rattle.ledger_view.specs.Viewing.{untouched, account_at, KeepsAccount, HasViewed}
+use Rattle.ledger_view.specs.Entering.{with_entry, Enters, CanAdd}
+use Rattle.ledger_view.proofs.HistoryLemmas.{accounts-front, unknown, judged-balance, balance-adds}
+use Rattle.ledger_view.proofs.KeepingLemmas.{StandsBelow, stands-higher, keeps-first, keeps-opened, keeps-same, keeps-entered}
+
+-- what is kept stands at or below the record to come
+pub stands-below : (view : View) (lsn : ℕ) (rec : Rec) → CanAdd view lsn rec → (account : ℕ) → account < length view.accounts
+    → StandsBelow lsn (account_at view.accounts account)
+stands-below view lsn rec can account inside =
+    let given = can.given in let kept = given.2.each account inside in
+    subst (λ end. StandsBelow end (account_at view.accounts account)) (sym given.3) (record { begun = kept.begun; past = kept.past })
+
+-- a record that is neither a Genesis nor a Commit
+pub other-kinds : (rec : Rec) → ((account balance : ℕ) → rec ≡ Genesis account balance → ⊥) → ((txn legs : ℕ) → rec ≡ Commit txn legs → ⊥)
+    → (IsGenesis rec → ⊥) × (commits rec ≡ false)
+other-kinds (Genesis account balance) no_genesis no_commit = absurd (no_genesis account balance refl)
+other-kinds (Update txn account delta prev) no_genesis no_commit = (λ is. is, refl)
+other-kinds (Commit txn legs) no_genesis no_commit = absurd (no_commit txn legs refl)
+other-kinds (Short txn leg) no_genesis no_commit = (λ is. is, refl)
+other-kinds (Over txn leg) no_genesis no_commit = (λ is. is, refl)
+other-kinds (Note txn text) no_genesis no_commit = (λ is. is, refl)
+
+-- an account that a view doesn't keep is known nowhere
+pub unknown-up_to : (opening : Opening) (view : View) (h : List Placed) (account lsn : ℕ) → HasViewed opening view h → length view.accounts ≤ account
+    → balance_up_to opening h account lsn ≡ None
+unknown-up_to opening view h account lsn viewed past =
+    let counted = viewed.count in let front = accounts-front opening h lsn in unknown opening (front_to h lsn) account (omega arith)
+
+-- the last balance of an account that it keeps
+pub last-in-range : (opening : Opening) (view : View) (h : List Placed) (account : ℕ) → HasViewed opening view h → account < length view.accounts
+    → IsBalance (balance_after opening h account)
+last-in-range opening view h account viewed inside =
+    let counted = viewed.count in (judged-balance opening view.judge h account viewed.judged (omega arith)).0
+
+module _ (opening : Opening) where
+  -- behind an opening
+  pub views-none : (judge : Judge) (count : ℕ) (accounts : List Account) → HasJudged opening judge [] → count ≡ (base_with opening []).accounts
+      → accounts ≡ replicate count untouched → HasViewed opening (record { judge = judge; accounts = accounts }) []
+  views-none judge count accounts judged counted is =
+      let long : length accounts ≡ count = ap length is ∙ length-replicate count untouched in record {
+        judged = judged;
+        count = long ∙ counted;
+        each = λ account inside.
+            let within : account < count = omega arith in
+            subst (KeepsAccount opening [] account) (sym (ap (λ l. account_at l account) is ∙ get_or-replicate count account untouched untouched within))
+            (keeps-first opening account (omega arith));
+      }
+
+  module _ (old : View) (lsn : ℕ) (judge : Judge) (h : List Placed) (viewed : HasViewed opening old h) where
+    -- an account on which the record is no Commit
+    stays : (rec : Rec) → CanAdd old lsn rec → HasJudged opening judge (entry_at lsn rec ∷ h) → (account : ℕ) → account < length old.accounts
+        → is_commit_on account (entry_at lsn rec) h ≡ false → KeepsAccount opening (entry_at lsn rec ∷ h) account (account_at old.accounts account)
+    stays rec can judged account inside off =
+        let counted = viewed.count in
+        let kept = account_at old.accounts account in
+        keeps-same opening (entry_at lsn rec) h account kept
+        (stands-higher lsn (entry_at lsn rec).end kept (omega arith) (stands-below old lsn rec can account inside))
+        judged.ledger.judged.lawful.0 (omega arith) (viewed.each account inside) off
+
+    -- a record that neither opens an account nor commits
+    pub views-plain : (rec : Rec) → (IsGenesis rec → ⊥) → commits rec ≡ false → CanAdd old lsn rec → HasJudged opening judge (entry_at lsn rec ∷ h)
+        → HasViewed opening (record { judge = judge; accounts = old.accounts }) (entry_at lsn rec ∷ h)
+    views-plain rec other plain can judged = record {
+      judged = judged;
+      count = viewed.count ∙ same rec other;
+      each = λ account inside. stays rec can judged account inside (ap (λ b. b && touches account (updates_of (txn_of rec) h)) plain);
+    }
+      where
+        same : (rec : Rec) → (IsGenesis rec → ⊥) → (base_with opening h).accounts ≡ (with_genesis rec (base_with opening h)).accounts
+        same (Genesis account balance) other = absurd (other tt)
+        same (Update txn account delta prev) other = refl
+        same (Commit txn legs) other = refl
+        same (Short txn leg) other = refl
+        same (Over txn leg) other = refl
+        same (Note txn text) other = refl
+
+    -- a Genesis
+    module _ (own balance : ℕ) (can : CanAdd old lsn (Genesis own balance)) (judged : HasJudged opening judge (entry_at lsn (Genesis own balance) ∷ h)) where
+      abbrev genesis : Placed
+      genesis = entry_at lsn (Genesis own balance)
+
+      abbrev opened : Account
+      opened = record { since = lsn + 2; entries = [] }
+
+      abbrev more : List Account
+      more = old.accounts ++ opened ∷ []
+
+      all : AllByRecursion (λ (e : Placed). IsGenesis e.rec) (genesis ∷ h)
+      all = (tt, judged.ledger.judged.lawful.0.0.1)
+
+      pub views-genesis : HasViewed opening (record { judge = judge; accounts = more }) (genesis ∷ h)
+      views-genesis = let counted = viewed.count in let long = length-append old.accounts (opened ∷ []) in record {
+        judged = judged;
+        count = omega arith;
+        each = λ account inside. dite (ℕ_discrete account (length old.accounts))
+            (λ new. subst (KeepsAccount opening (genesis ∷ h) account) (sym (get_or_at old.accounts opened [] untouched account (sym new)))
+            (keeps-opened opening genesis h account all (omega arith) (omega arith)))
+            (λ not_new. let within : account < length old.accounts = omega arith in
+            subst (KeepsAccount opening (genesis ∷ h) account) (sym (get_or_append_left old.accounts (opened ∷ []) untouched account within))
+            (stays (Genesis own balance) can judged account within refl));
+      }
+
+    -- a Commit
+    module _ (txn legs : ℕ) (can : CanAdd old lsn (Commit txn legs)) (judged : HasJudged opening judge (entry_at lsn (Commit txn legs) ∷ h)) where
+      abbrev commit : Placed
+      commit = entry_at lsn (Commit txn legs)
+
+      entered : (account : ℕ) → account < length old.accounts → touches account (updates_of txn h) ≡ true
+          → KeepsAccount opening (commit ∷ h) account (with_entry (account_at old.accounts account) (entry_of opening commit h account))
+      entered account inside on =
+          let counted = viewed.count in
+          let kept = account_at old.accounts account in
+          let within : account < (base_with opening h).accounts = omega arith in
+          let passes = judged.ledger.judged.lawful.0 in
+          let before = judged-balance opening old.judge h account viewed.judged within in
+          let after = judged-balance opening judge (commit ∷ h) account judged within in
+          keeps-entered opening commit h account kept
+          (stands-higher lsn commit.end kept (omega arith) (stands-below old lsn (Commit txn legs) can account inside))
+          passes within (viewed.each account inside) on before.0
+          (balance-adds opening txn legs commit.end h account (balance_after opening h account) (balance_after opening (commit ∷ h) account)
+          (meets-passes opening h commit passes).ended before.1 after.1)
+
+      pub views-commit : (new : List Account) → Enters opening (commit ∷ h) txn (lsn + 1) (updates_of txn h) (updates_of txn h) old.accounts new
+          → HasViewed opening (record { judge = judge; accounts = new }) (commit ∷ h)
+      views-commit new enters = record {
+        judged = judged;
+        count = enters.count ∙ viewed.count;
+        each = λ account inside. let counted = enters.count in by_case account (omega arith) (touches account (updates_of txn h)) refl;
+      }
+        where
+          by_case : (account : ℕ) → account < length old.accounts → (b : Bool) → touches account (updates_of txn h) ≡ b
+              → KeepsAccount opening (commit ∷ h) account (account_at new account)
+          by_case account inside true on = subst (KeepsAccount opening (commit ∷ h) account) (sym (enters.done account on)) (entered account inside on)
+          by_case account inside false off =
+              subst (KeepsAccount opening (commit ∷ h) account) (sym (enters.left account off)) (stays (Commit txn legs) can judged account inside off)
+
+    -- a record that is a Genesis
+    pub views-opened : (rec : Rec) (own balance since : ℕ) (accounts : List Account) → rec ≡ Genesis own balance → since ≡ lsn + 2
+        → accounts ≡ old.accounts ++ record { since = since; entries = [] } ∷ [] → CanAdd old lsn rec → HasJudged opening judge (entry_at lsn rec ∷ h)
+        → HasViewed opening (record { judge = judge; accounts = accounts }) (entry_at lsn rec ∷ h)
+    views-opened rec own balance since accounts is from grown can judged =
+        subst (λ (l : List Account). HasViewed opening (record { judge = judge; accounts = l }) (entry_at lsn rec ∷ h))
+        (sym (grown ∙ ap (λ s. old.accounts ++ record { since = s; entries = [] } ∷ []) from))
+        (subst (λ r. HasViewed opening (record { judge = judge; accounts = old.accounts ++ record { since = lsn + 2; entries = [] } ∷ [] }) (entry_at lsn r ∷ h)) (sym is)
+        (views-genesis own balance (subst (CanAdd old lsn) is can) (subst (λ r. HasJudged opening judge (entry_at lsn r ∷ h)) is judged)))
+
+    -- what a Commit commits
+    pub commit-changes : (rec : Rec) (txn legs : ℕ) → rec ≡ Commit txn legs → HasJudged opening judge (entry_at lsn rec ∷ h) → open_changes_of txn h ≡ updates_of txn h
+    commit-changes rec txn legs is judged =
+        let own = subst (λ r. HasJudged opening judge (entry_at lsn r ∷ h)) is judged in
+        ap (λ b. cond b [] (updates_of txn h)) (meets-passes opening h (entry_at lsn (Commit txn legs)) own.ledger.judged.lawful.0).ended
+
+    -- its accounts are kept
+    pub commit-known : (txn : ℕ) (changes : List Change) → changes ≡ updates_of txn h
+        → AllByRecursion (λ (change : Change). change.account < length old.accounts) changes
+    commit-known txn changes are =
+        subst (λ count. AllByRecursion (λ (change : Change). change.account < count) changes) (sym viewed.count)
+        (subst (AllByRecursion (λ (change : Change). change.account < (base_with opening h).accounts)) (sym are)
+        (updates_of-fits (base_with opening h) h txn (met-lawful opening h viewed.judged.ledger.judged.lawful)).known)
+
+    -- a record that is a Commit
+    pub views-committed : (rec : Rec) (txn legs end : ℕ) (changes : List Change) (new : List Account) → rec ≡ Commit txn legs → end ≡ lsn + 1
+        → changes ≡ open_changes_of txn h → Enters opening (entry_at lsn rec ∷ h) txn end changes changes old.accounts new
+        → CanAdd old lsn rec → HasJudged opening judge (entry_at lsn rec ∷ h) → HasViewed opening (record { judge = judge; accounts = new }) (entry_at lsn rec ∷ h)
+    views-committed rec txn legs end changes new is at are enters can judged =
+        let own = subst (λ (l : List Change). Enters opening (entry_at lsn rec ∷ h) txn end l l old.accounts new) (are ∙ commit-changes rec txn legs is judged) enters in
+        subst (λ r. HasViewed opening (record { judge = judge; accounts = new }) (entry_at lsn r ∷ h)) (sym is)
+        (views-commit txn legs (subst (CanAdd old lsn) is can) (subst (λ r. HasJudged opening judge (entry_at lsn r ∷ h)) is judged) new
+        (subst (λ e. Enters opening (entry_at lsn (Commit txn legs) ∷ h) txn e (updates_of txn h) (updates_of txn h) old.accounts new) at
+        (subst (λ r. Enters opening (entry_at lsn r ∷ h) txn end (updates_of txn h) (updates_of txn h) old.accounts new) is own)))

@@ -1,0 +1,24 @@
+use Rattle.std.proofs.Common.{List}
+use Rattle.std.proofs.lemmas.Result.{on_ok_weaker, IfErr-weaker}
+use Rattle.log_record.specs.declared.rec.Placed.{Placed}
+use Rattle.lock_core.specs.History.{entry_at}
+use Rattle.lock_core.specs.Sums.{Opening}
+use Rattle.lock_core.specs.Taking.{HasJudged, IsTakeFault}
+use Rattle.ledger_view.specs.Viewing.{HasViewed}
+use Rattle.ledger_view.proofs.ViewLemmas.{other-kinds, views-plain}
+use Rattle.ledger_view.proofs.view.View.add.Goals as goal
+
+pub returns-in_default : goal.returns-in_default
+returns-in_default c =
+    let old = c.args.self.now in let rec' = c.args.rec.now in
+    let other = other-kinds rec' c.in_default.not-Genesis c.in_default.not-Commit in
+    record {
+      taken = on_ok_weaker c.take.result
+          (λ taken opening h viewed. views-plain opening old c.args.lsn c.take.new.self h viewed rec' other.0 other.1
+          (record { given = c.requires.taken; spellable = c.requires.spellable; fits = c.requires.fits }) (taken opening h viewed.judged))
+          c.take.ensures.taken;
+      fault = IfErr-weaker c.take.result
+          (λ fault. (opening : Opening) (h : List Placed) → HasJudged opening old.judge h → IsTakeFault opening h (entry_at c.args.lsn rec') fault)
+          (λ fault. (opening : Opening) (h : List Placed) → HasViewed opening old h → IsTakeFault opening h (entry_at c.args.lsn rec') fault)
+          (λ fault told opening h viewed. told opening h viewed.judged) c.take.ensures.fault;
+    }

@@ -1,0 +1,57 @@
+use Rattle.std.proofs.Common.{◌≡◌, ◌<◌, ◌+◌, ◌∷◌, [], ◌++◌, ◌∙◌, List, take, length, length-set, refl, ap, sym, subst, arith, rules, w64, SFits, to_z, of_z}
+use Rattle.std.proofs.lemmas.Int.{to_z-of_z}
+use Rattle.std.proofs.lemmas.Grind.{common_steps}
+use Rattle.std.proofs.lemmas.List.{take_more}
+use Rattle.lock_core.specs.declared.update.Change.{Change}
+use Rattle.lock_core.proofs.ListLemmas.{all-at}
+use Rattle.ledger_view.specs.declared.entries.Entry.{Entry}
+use Rattle.ledger_view.specs.declared.accounts.Account.{Account}
+use Rattle.ledger_view.specs.Viewing.{account_at}
+use Rattle.ledger_view.specs.Entering.{with_entry, Enters}
+use Rattle.ledger_view.proofs.EnteringLemmas.{enters-none, enters-again, enters-more}
+use Rattle.ledger_view.proofs.view.enter_commit.Goals as goal
+use Rattle.ledger_view.proofs.view.enter_commit.Goals.{then-not-touches+in_ok-enter, else-not-touches}
+
+pub loop-i-init : goal.loop-i-init
+loop-i-init c = record {
+  count = refl;
+  enters = λ opening h judged. enters-none opening h c.args.txn c.args.end c.args.changes.now c.args.accounts.now;
+}
+
+pub enter-requires : goal.enter-requires
+enter-requires c =
+    let known = all-at (λ (change : Change). change.account < length c.args.accounts.now) c.args.changes.now c.loop-i.i c.index-changes-i.result c.requires.known c.loop-i-test.true c.index-changes-i.is in
+    let count = c.loop-i.invariant.count in omega arith
+
+pub loop-i-preserved : goal.loop-i-preserved
+loop-i-preserved c =
+    let changes = c.args.changes.now in let change = c.index-changes-i.result in let old = c.args.accounts.now in let some = take c.loop-i.i changes in
+    let grown : take (c.loop-i.i + 1) changes ≡ some ++ change ∷ [] =
+    take_more changes c.loop-i.i change c.loop-i-test.true ∙ ap (λ (last : Change). some ++ last ∷ []) (sym c.index-changes-i.is) in
+    let inside = all-at (λ (each : Change). each.account < length old) changes c.loop-i.i change c.requires.known c.loop-i-test.true c.index-changes-i.is in
+    elim c.if-not-touches.branch [
+      | then-not-touches+in_ok-enter w ↦
+          let fits : SFits w64 w.net_of.result = search rules in
+          let net : to_z w64 (of_z w64 w.net_of.result) ≡ w.net_of.result = to_z-of_z w64 w.net_of.result fits in
+          let entry : Entry = record { end = c.args.end; txn = c.args.txn; net = to_z w64 (of_z w64 w.net_of.result); balance = w.balance.result } in
+          record {
+            count = ap length (w.accounts-is ∙ w.in_ok-enter.ensures)
+                ∙ length-set c.loop-i.accounts change.account (with_entry (account_at c.loop-i.accounts change.account) entry) ∙ c.loop-i.invariant.count;
+            enters = λ opening h judged. subst (λ (a : List Account). Enters opening h c.args.txn c.args.end changes (take (c.loop-i.i + 1) changes) old a) (sym w.accounts-is)
+                (subst (λ (l : List Change). Enters opening h c.args.txn c.args.end changes l old w.enter.new.self) (sym grown)
+                (enters-more opening h c.args.txn c.args.end changes some change old c.loop-i.accounts (c.loop-i.invariant.enters opening h judged)
+                w.enter.new.self entry (sym c.touches.ensures ∙ w.if-not-touches.true) inside w.in_ok-enter.ensures
+                (λ i. record { end = c.args.end; txn = c.args.txn; net = (net ∙ w.net_of.ensures) i; balance = w.balance.ensures opening h judged i })));
+          }
+      | else-not-touches w ↦ record {
+        count = ap length w.accounts-is ∙ c.loop-i.invariant.count;
+        enters = λ opening h judged. subst (λ (a : List Account). Enters opening h c.args.txn c.args.end changes (take (c.loop-i.i + 1) changes) old a) (sym w.accounts-is)
+            (subst (λ (l : List Change). Enters opening h c.args.txn c.args.end changes l old c.loop-i.accounts) (sym grown)
+            (enters-again opening h c.args.txn c.args.end changes some change old c.loop-i.accounts (c.loop-i.invariant.enters opening h judged) (sym c.touches.ensures ∙ w.if-not-touches.false)));
+      }
+    ]
+
+pub returns : goal.returns
+returns c = λ opening h judged.
+    let whole : take c.loop-i.i c.args.changes.now ≡ c.args.changes.now = grind (arith, common_steps) in
+    subst (λ (some : List Change). Enters opening h c.args.txn c.args.end c.args.changes.now some c.args.accounts.now c.loop-i.accounts) whole (c.loop-i.invariant.enters opening h judged)

@@ -1,0 +1,4 @@
+pub mod Entering
+pub mod Entries
+pub mod Plain
+pub mod Viewing

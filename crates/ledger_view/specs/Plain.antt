@@ -1,0 +1,24 @@
+-- What the plain program reads of one record.
+use Rattle.std.specs.Prelude.{◌≡◌, ◌==◌, ℕ, ℤ, true, false, if◌then◌else◌, Option, MatchOption, List, [], ◌∷◌, ◌++◌}
+use Rattle.log_record.specs.declared.rec.Rec.{Rec}
+use Rattle.log_record.specs.declared.rec.Placed.{Placed}
+use Rattle.lock_core.specs.declared.update.Change.{Change}
+use Rattle.lock_core.specs.Records.{txn_of, changes_of}
+use Rattle.lock_core.specs.Transactions.{updates_of, touches}
+use Rattle.lock_core.specs.Sums.{no_opening}
+use Rattle.ledger_view.specs.declared.entries.Entry.{Entry}
+use Rattle.ledger_view.specs.Entries.{net_of, entries_of}
+
+-- what the record changes for this transaction
+abbrev pub own_changes : ℕ → Rec → List Change
+own_changes txn rec = if txn_of rec == txn then changes_of rec else []
+
+-- the net of a transaction on an account, if it has an Update of it in the history
+abbrev pub IsNetOf : List Placed → ℕ → ℕ → Option ℤ → Type 0
+IsNetOf h txn account net = MatchOption net (touches account (updates_of txn h) ≡ false)
+    (λ net. (touches account (updates_of txn h) ≡ true) × (net ≡ net_of account (updates_of txn h)))
+
+-- this is the entry of the account that the newest entry of a whole log makes, if it makes one
+abbrev pub IsEntryOf : Placed → List Placed → ℕ → Option Entry → Type 0
+IsEntryOf entry h account found = MatchOption found (entries_of no_opening (entry ∷ h) account ≡ entries_of no_opening h account)
+    (λ own. entries_of no_opening (entry ∷ h) account ≡ entries_of no_opening h account ++ own ∷ [])

@@ -1,0 +1,85 @@
+//! What is kept of each account.
+ghost use Rattle.std.specs.Prelude.{◌≡◌, ◌<◌, ◌++◌, ◌∷◌, [], replicate, length, slice_set, IfOk, OnOk};
+ghost use Rattle.ledger_view.specs.Viewing.{untouched, account_at};
+
+use crate::entries::{Entries, Entry};
+use lsn_space::{Lsn, NoMemory};
+use std::alloc::Global;
+use std::marker::Model;
+
+/// What is kept of an account: its entries, and where its Genesis ends, 0 where it was there before the list.
+#[derive(Debug, Drop)]
+pub struct Account {
+    pub since: Lsn,
+    pub entries: Entries,
+}
+
+/// What is kept of each account, from account 0 on. Contracts see the list of them.
+#[derive(Drop)]
+pub struct Accounts {
+    rows: Vec<Account>,
+    alloc: Global,
+}
+
+impl Model for Accounts {
+    ghost use Rattle.std.specs.Prelude.{List};
+    ghost use Rattle.ledger_view.specs.declared.accounts.Account.{Account};
+
+    ghost Value = { List Account };
+
+    ghost view = { λ accounts. accounts.rows.items };
+}
+
+impl Accounts {
+    /// So many accounts that were there before the list.
+    pub fn make(alloc: Global, count: u32) -> Result<Accounts, NoMemory>
+        ensures { IfOk result (λ accounts. accounts ≡ replicate count untouched) }
+    {
+        let mut accounts = Accounts {
+            rows: Vec::new(alloc),
+            alloc,
+        };
+        'accounts: for _ in 0..count {
+            accounts.push(Lsn::new(0))?;
+        }
+        Ok(accounts)
+    }
+
+    /// Appends the next account, which is there from this LSN on.
+    pub fn push(&mut self, since: Lsn) -> Result<(), NoMemory>
+        ensures { OnOk result (self.new ≡ self.old ++ record { since = since; entries = [] } ∷ []) }
+    {
+        let account = Account {
+            since,
+            entries: Entries::new(self.alloc),
+        };
+        match self.rows.push(account) {
+            Ok(()) => Ok(()),
+            Err(_) => Err(NoMemory),
+        }
+    }
+
+    /// Appends an entry to those of an account.
+    pub fn enter(&mut self, account: u32, entry: Entry) -> Result<(), NoMemory>
+        requires { account < length self.old }
+        ensures { OnOk result (self.new ≡ slice_set self.old account
+            (record (account_at self.old account) { entries = (account_at self.old account).entries ++ entry ∷ [] })) }
+    {
+        self.rows[account as usize].entries.push(entry)
+    }
+
+    /// What is kept of the account.
+    pub fn at(&self, account: u32) -> &Account
+        requires { account < length self.now }
+        ensures { result.now ≡ account_at self.now account }
+    {
+        &self.rows[account as usize]
+    }
+
+    /// The number of accounts.
+    pub fn count(&self) -> usize
+        ensures { result ≡ length self.now }
+    {
+        self.rows.len()
+    }
+}

@@ -1,0 +1,14 @@
+//! An index of a log's Commits, account by account: what each did to the account, and the balance behind it.
+#![tactic(auto)]
+
+mod accounts;
+mod entries;
+mod laws;
+mod net;
+mod plain;
+mod view;
+
+pub use entries::{Entries, Entry};
+pub use laws::fronts_are_prefixes;
+pub use plain::{plain_balance_at, plain_entries};
+pub use view::View;
