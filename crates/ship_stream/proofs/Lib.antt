@@ -1,0 +1,4 @@
+pub mod FrameLemmas
+pub mod PackingLemmas
+pub mod ShippingLemmas
+pub mod StreamLemmas

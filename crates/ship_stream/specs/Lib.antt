@@ -1,0 +1,4 @@
+pub mod Came
+pub mod Packing
+pub mod Shipping
+pub mod Stream

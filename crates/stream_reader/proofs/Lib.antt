@@ -1,0 +1,4 @@
+pub mod ReaderLemmas
+pub mod RecordLemmas
+pub mod TakingLemmas
+pub mod UnitLemmas

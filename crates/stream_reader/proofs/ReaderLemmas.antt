@@ -1,0 +1,376 @@
+-- How what is read of a stream goes on, stage by stage.
+use Rattle.std.proofs.Common.{◌≡◌, ◌<◌, ◌≤◌, ◌∙◌, sym, ap, subst, refl, ℕ, ◌+◌, ◌*◌, ◌^◌, List, [], ◌∷◌, ◌++◌, length, take, drop, arith, length-append, append_assoc, append-nil}
+use Rattle.std.specs.List.{flat_map, AllByRecursion}
+use Rattle.std.specs.Int.{w32, to_be_bytes}
+use Rattle.std.proofs.Math.Seq.{take-append_seam}
+use Rattle.std.proofs.lemmas.List.Concat.{flat_map-append}
+use Rattle.std.proofs.lemmas.List.Elements.{All-from_recursion}
+use Rattle.lsn_space.specs.Unit.{unit_bytes}
+use Rattle.lsn_space.specs.declared.lsn.TheConstants.{LAST}
+use Rattle.lsn_space.proofs.TilingLemmas.{all-push}
+use Rattle.log_record.specs.declared.rec.Rec.{Rec}
+use Rattle.log_record.specs.LogList.{units_of, end_of, AreUnitsOf}
+use Rattle.log_record.specs.Spelling.{spelling}
+use Rattle.ship_stream.specs.Came.{Came, HasCome, IsBegun, count_begun, units_begun, IsBadBehind, IsWhole}
+use Rattle.ship_stream.specs.Came.Came.{NoHead, Open, Whole}
+use Rattle.ship_stream.specs.Stream.{stream_magic, head_bytes, counted_bytes, frame_bytes, end_bytes, records_of, frames_end, IsFrame, HasFrames, HasNoHead, HasNoFrame, HasNoEnd}
+use Rattle.ship_stream.specs.declared.layout.TheConstants.{MOST_FRAME_UNITS}
+use Rattle.ship_stream.proofs.FrameLemmas.{end_of-append, same_number, same_units, spellings-fit, length-head, length-unit_bytes, length-frame}
+use Rattle.ship_stream.proofs.StreamLemmas.{begun-no_frame, begun-no_end}
+use Rattle.segment_file.specs.File.{AreUnits}
+use Rattle.stream_reader.specs.Reader.{units_bytes, part_bytes, IsFrameBegun, IsAtStage, ReadsTo, ReadsAt}
+use Rattle.stream_reader.specs.declared.reader.Stage.{Stage}
+use Rattle.stream_reader.specs.declared.reader.Stage.TheVariants.{Head, Count, Units, End}
+
+abbrev IsUnit : ℕ → Type 0
+IsUnit unit = unit < 2 ^ 64
+
+-- ---- frames in front of more
+
+pub frames-more : (bytes : List ℕ) (first : ℕ) (frames : List (List Rec)) (rest more : List ℕ) → HasFrames bytes first frames rest
+    → HasFrames (bytes ++ more) first frames (rest ++ more)
+frames-more bytes first frames rest more reads = record {
+  each = reads.each;
+  total = reads.total;
+  whole = ap (λ list. list ++ more) reads.whole ∙ append_assoc (head_bytes first ++ flat_map frame_bytes frames) rest more;
+}
+
+pub frames-same : (bytes : List ℕ) (first : ℕ) (frames : List (List Rec)) (rest other : List ℕ) → rest ≡ other
+    → HasFrames bytes first frames rest
+    → HasFrames bytes first frames other
+frames-same bytes first frames rest other same reads = subst (HasFrames bytes first frames) same reads
+
+-- the end with one frame more
+pub ends-more : (first : ℕ) (frames : List (List Rec)) (records : List Rec)
+    → frames_end first (frames ++ records ∷ []) ≡ frames_end first frames + end_of records
+ends-more first frames records =
+    omega (
+      arith,
+      ap end_of (flat_map-append (λ (list : List Rec). list) frames (records ∷ [])),
+      end_of-append (records_of frames) (records ++ []),
+      ap end_of (append-nil records),
+    )
+
+-- one frame more
+pub frames-next : (bytes : List ℕ) (first : ℕ) (frames : List (List Rec)) (records : List Rec)
+    → HasFrames bytes first frames (frame_bytes records)
+    → IsFrame records → frames_end first frames + end_of records ≤ LAST → HasFrames bytes first (frames ++ records ∷ []) []
+frames-next bytes first frames records reads frame fits = record {
+  each = all-push IsFrame frames records reads.each frame;
+  total = omega (arith, fits, ends-more first frames records);
+  whole = reads.whole ∙ append_assoc (head_bytes first) (flat_map frame_bytes frames) (frame_bytes records)
+      ∙ ap (λ list. head_bytes first ++ list) (ap (λ list. flat_map frame_bytes frames ++ list) (sym (append-nil (frame_bytes records)))
+      ∙ sym (flat_map-append frame_bytes frames (records ∷ [])))
+      ∙ sym (append-nil (head_bytes first ++ flat_map frame_bytes (frames ++ records ∷ [])));
+}
+
+-- frames have 12 bytes at most for each unit
+frames-small : (frames : List (List Rec)) → AllByRecursion IsFrame frames
+    → length (flat_map frame_bytes frames) ≤ 12 * end_of (records_of frames)
+frames-small [] each = omega arith
+frames-small (records ∷ frames) each =
+    omega (arith, frames-small frames each.1, each.0.some, length-frame records (flat_map frame_bytes frames), end_of-append records (records_of frames))
+
+-- the place of what is behind the frames
+frames-place : (bytes : List ℕ) (first : ℕ) (frames : List (List Rec)) (rest : List ℕ) → HasFrames bytes first frames rest
+    → length bytes ≡ 11 + length (flat_map frame_bytes frames) + length rest
+frames-place bytes first frames rest reads =
+    omega (
+      arith,
+      ap length reads.whole,
+      length-append (head_bytes first ++ flat_map frame_bytes frames) rest,
+      length-head first (flat_map frame_bytes frames),
+    )
+
+small-at : (bytes : List ℕ) (first at : ℕ) (frames : List (List Rec)) (rest : List ℕ) → HasFrames bytes first frames rest
+    → at + length rest ≡ length bytes
+    → at ≤ 11 + 12 * LAST
+small-at bytes first at frames rest reads place =
+    omega (arith, place, frames-place bytes first frames rest reads, frames-small frames reads.each, reads.total)
+
+-- ---- what is begun
+
+pub length-units_bytes : (units begun : List ℕ) → length (units_bytes units begun) ≡ 8 * length units + length begun
+length-units_bytes units begun = omega (arith, length-append (flat_map unit_bytes units) begun, length-unit_bytes units)
+
+is-begun : (stage : Stage) (first next : ℕ) (frames : List (List Rec)) (units begun : List ℕ)
+    → IsAtStage stage (Open first frames) next units begun
+    → IsBegun (frames_end first frames) (part_bytes stage units begun)
+is-begun Head first next frames units begun is = absurd is
+is-begun Count first next frames units begun is = count_begun is.1
+is-begun (Units count) first next frames units begun is =
+    units_begun count (units_bytes units begun) (omega (arith, is.1.under)) is.1.most (omega (arith, is.0, is.1.fits)) refl
+    (omega (arith, is.1.under, is.1.short, length-units_bytes units begun))
+is-begun End first next frames units begun is = absurd is
+
+module _ (at next room : ℕ) (units begun past : List ℕ) where
+  pub has-come : (stage : Stage) (came : Came) → ReadsAt stage at next room units begun past came → HasCome past came
+  has-come Head NoHead r = omega (arith, ap length r.reads, r.stage_is)
+  has-come Count NoHead r = absurd r.stage_is
+  has-come (Units count) NoHead r = absurd r.stage_is
+  has-come End NoHead r = absurd r.stage_is
+  has-come stage (Open first frames) r = (part_bytes stage units begun, r.reads, is-begun stage first next frames units begun r.stage_is)
+  has-come Head (Whole first frames) r = absurd r.stage_is
+  has-come Count (Whole first frames) r = absurd r.stage_is
+  has-come (Units count) (Whole first frames) r = absurd r.stage_is
+  has-come End (Whole first frames) r = r.reads
+
+  pub place-small : (stage : Stage) (came : Came) → ReadsAt stage at next room units begun past came → at ≤ 11 + 12 * LAST
+  place-small Head NoHead r = omega (arith, r.place, ap length r.reads)
+  place-small Count NoHead r = absurd r.stage_is
+  place-small (Units count) NoHead r = absurd r.stage_is
+  place-small End NoHead r = absurd r.stage_is
+  place-small stage (Open first frames) r = small-at past first at frames (part_bytes stage units begun) r.reads r.place
+  place-small stage (Whole first frames) r = small-at past first at frames (part_bytes stage units begun) r.reads r.place
+
+  -- where nothing more comes, the part under way is bad, unless the end has come
+  pub unfinished : (stage : Stage) (came : Came) → (stage ≡ End → ⊥) → ReadsAt stage at next room units begun past came
+      → IsBadBehind came past at
+  unfinished Head NoHead going r = (
+    (λ first rest fits is. omega (arith, ap length r.reads, r.stage_is, ap length is, length-head first rest)),
+    omega (arith, r.place, ap length r.reads),
+  )
+  unfinished Count NoHead going r = absurd r.stage_is
+  unfinished (Units count) NoHead going r = absurd r.stage_is
+  unfinished End NoHead going r = absurd r.stage_is
+  unfinished stage (Open first frames) going r =
+      let begun_is = is-begun stage first next frames units begun r.stage_is in
+      (part_bytes stage units begun, r.reads, begun-no_frame _ _ begun_is, begun-no_end _ _ begun_is, r.place)
+  unfinished Head (Whole first frames) going r = absurd r.stage_is
+  unfinished Count (Whole first frames) going r = absurd r.stage_is
+  unfinished (Units count) (Whole first frames) going r = absurd r.stage_is
+  unfinished End (Whole first frames) going r = absurd (going refl)
+
+  pub finished : (came : Came) → ReadsAt End at next room units begun past came → IsWhole came
+  finished NoHead r = absurd r.stage_is
+  finished (Open first frames) r = absurd r.stage_is
+  finished (Whole first frames) r = tt
+
+-- behind the end nothing may follow
+pub nothing-more : (at next room : ℕ) (units begun past piece after : List ℕ) (came : Came)
+    → ReadsAt End at next room units begun past came → 0 < length piece
+    → IsBadBehind came (past ++ piece ++ after) (at + 4)
+nothing-more at next room units begun past piece after NoHead r some = absurd r.stage_is
+nothing-more at next room units begun past piece after (Open first frames) r some = absurd r.stage_is
+nothing-more at next room units begun past piece after (Whole first frames) r some = (
+  piece ++ after,
+  subst (λ list. HasFrames list first frames (end_bytes ++ (piece ++ after))) (sym (append_assoc past piece after))
+      (frames-more past first frames end_bytes (piece ++ after) r.reads),
+  omega (arith, some, length-append piece after),
+  omega (arith, r.place, length-append past (piece ++ after), ap length (append_assoc past piece after)),
+)
+
+-- ---- more bytes
+
+module _ (at next room : ℕ) (units begun past more : List ℕ) where
+  pub head-more : (came : Came) → ReadsAt Head at next room units begun past came → length (begun ++ more) < 11
+      → ReadsAt Head at next room units (begun ++ more) (past ++ more) came
+  head-more NoHead r short = record {
+    stage_is = short;
+    reads = ap (λ list. list ++ more) r.reads;
+    place = omega (arith, r.place, length-append begun more, length-append past more);
+    room_is = r.room_is;
+  }
+  head-more (Open first frames) r short = absurd r.stage_is
+  head-more (Whole first frames) r short = absurd r.stage_is
+
+  pub head-whole : (came : Came) (first : ℕ) → ReadsAt Head at next room units begun past came → first ≤ LAST
+      → begun ++ more ≡ stream_magic ++ to_be_bytes w32 first
+      → (came ≡ NoHead) × ReadsAt Count 11 first room units [] (past ++ more) (Open first [])
+  unfolding head_bytes
+  head-whole NoHead first r fits is =
+      let bytes : past ++ more ≡ head_bytes first = ap (λ list. list ++ more) r.reads ∙ is in (
+        refl,
+        record {
+          stage_is = (omega arith, omega arith);
+          reads = record {
+            each = tt;
+            total = omega (arith, fits);
+            whole = bytes ∙ sym (append-nil (head_bytes first)) ∙ sym (append-nil (head_bytes first ++ []));
+          };
+          place = omega (arith, ap length bytes);
+          room_is = r.room_is;
+        },
+      )
+  head-whole (Open one frames) first r fits is = absurd r.stage_is
+  head-whole (Whole one frames) first r fits is = absurd r.stage_is
+
+  pub head-bad : (came : Came) (piece rest after : List ℕ) → ReadsAt Head at next room units begun past came → length (begun ++ more) ≡ 11
+      → ((first : ℕ) → begun ++ more ≡ stream_magic ++ to_be_bytes w32 first → ⊥) → piece ≡ more ++ rest
+      → IsBadBehind came (past ++ piece ++ after) 0
+  unfolding head_bytes
+  head-bad NoHead piece rest after r long none split = (
+    (λ first behind fits is.
+        let whole : past ++ piece ++ after ≡ (begun ++ more) ++ (rest ++ after) =
+        ap (λ list. list ++ after) ((λ i. r.reads i ++ split i) ∙ sym (append_assoc begun more rest))
+        ∙ append_assoc (begun ++ more) rest after in
+        none first (sym (take-append_seam (begun ++ more) (rest ++ after)) ∙ ap (λ n. take n ((begun ++ more) ++ (rest ++ after))) long
+        ∙ ap (take 11) (sym whole ∙ is))),
+    refl,
+  )
+  head-bad (Open one frames) piece rest after r long none split = absurd r.stage_is
+  head-bad (Whole one frames) piece rest after r long none split = absurd r.stage_is
+
+  pub head-begun : (came : Came) → ReadsAt Head at next room units begun past came → length begun < 11
+  head-begun NoHead r = r.stage_is
+  head-begun (Open first frames) r = absurd r.stage_is
+  head-begun (Whole first frames) r = absurd r.stage_is
+
+  pub count-more : (came : Came) → ReadsAt Count at next room units begun past came → length (begun ++ more) < 4
+      → ReadsAt Count at next room units (begun ++ more) (past ++ more) came
+  count-more NoHead r short = absurd r.stage_is
+  count-more (Open first frames) r short = record {
+    stage_is = (r.stage_is.0, short);
+    reads = frames-more past first frames begun more r.reads;
+    place = omega (arith, r.place, length-append begun more, length-append past more);
+    room_is = r.room_is;
+  }
+  count-more (Whole first frames) r short = absurd r.stage_is
+
+  -- the end has come
+  pub count-end : (came : Came) (other : List ℕ) → ReadsAt Count at next room units begun past came → begun ++ more ≡ end_bytes
+      → (first : ℕ) × (frames : List (List Rec)) × (came ≡ Open first frames) × ReadsAt End at next room units other (past ++ more) (Whole first frames)
+  count-end NoHead other r is = absurd r.stage_is
+  count-end (Open first frames) other r is = (
+    first,
+    frames,
+    refl,
+    record {
+      stage_is = tt;
+      reads = frames-same (past ++ more) first frames (begun ++ more) end_bytes is (frames-more past first frames begun more r.reads);
+      place = omega (arith, r.place, ap length is, length-append begun more, length-append past more);
+      room_is = r.room_is;
+    },
+  )
+  count-end (Whole first frames) other r is = absurd r.stage_is
+
+  -- the count of a frame has come
+  pub count-units : (came : Came) (count : ℕ) → ReadsAt Count at next room units begun past came → begun ++ more ≡ to_be_bytes w32 count
+      → 0 < count
+      → count ≤ MOST_FRAME_UNITS → next + count ≤ LAST → ReadsAt (Units count) at next room [] [] (past ++ more) came
+  count-units NoHead count r is some most fits = absurd r.stage_is
+  count-units (Open first frames) count r is some most fits = record {
+    stage_is = (r.stage_is.0, record { under = some; most = most; fits = fits; short = omega arith; each = tt });
+    reads = frames-same (past ++ more) first frames (begun ++ more) (to_be_bytes w32 count ++ units_bytes [] [])
+        (is ∙ sym (append-nil (to_be_bytes w32 count))) (frames-more past first frames begun more r.reads);
+    place = omega (arith, r.place, ap length is, length-append begun more, length-append past more);
+    room_is = r.room_is;
+  }
+  count-units (Whole first frames) count r is some most fits = absurd r.stage_is
+
+  -- a count that no frame has here
+  pub count-bad : (came : Came) (count : ℕ) (piece rest after : List ℕ) → ReadsAt Count at next room units begun past came
+      → begun ++ more ≡ to_be_bytes w32 count
+      → 0 < count → count < 4294967296 → (count ≤ MOST_FRAME_UNITS → next + count ≤ LAST → ⊥) → piece ≡ more ++ rest
+      → IsBadBehind came (past ++ piece ++ after) at
+  unfolding counted_bytes
+  count-bad NoHead count piece rest after r is some fits none split = absurd r.stage_is
+  count-bad (Open first frames) count piece rest after r is some fits none split =
+      let behind : begun ++ (piece ++ after) ≡ to_be_bytes w32 count ++ (rest ++ after) =
+      ap (λ list. begun ++ (list ++ after)) split ∙ ap (λ list. begun ++ list) (append_assoc more rest after)
+      ∙ sym (append_assoc begun more (rest ++ after))
+      ∙ ap (λ list. list ++ (rest ++ after)) is in (
+        to_be_bytes w32 count ++ (rest ++ after),
+        subst (λ list. HasFrames list first frames (to_be_bytes w32 count ++ (rest ++ after))) (sym (append_assoc past piece after))
+            (frames-same (past ++ (piece ++ after)) first frames (begun ++ (piece ++ after)) _ behind (frames-more past first frames begun (piece ++ after) r.reads)),
+        (λ records other frame room whole.
+            let number =
+            same_number count (end_of records) (rest ++ after) (flat_map unit_bytes (units_of records) ++ other) fits (omega (arith, frame.most)) whole in
+            none (omega (arith, frame.most, number.0)) (omega (arith, room, number.0, r.stage_is.0))),
+        (λ other whole. let number = same_number count 0 (rest ++ after) other fits (omega arith) whole in omega (arith, some, number.0)),
+        omega (arith, r.place, ap length behind, length-append begun (piece ++ after), length-append past (piece ++ after), ap length (append_assoc past piece after)),
+      )
+  count-bad (Whole first frames) count piece rest after r is some fits none split = absurd r.stage_is
+
+  pub units-fit : (came : Came) (count : ℕ) → ReadsAt (Units count) at next room units begun past came → AreUnits units
+  units-fit NoHead count r = absurd r.stage_is
+  units-fit (Open first frames) count r = r.stage_is.1.each
+  units-fit (Whole first frames) count r = absurd r.stage_is
+
+  -- units have come, and not yet all
+  pub units-more : (came : Came) (count : ℕ) (new left : List ℕ) → ReadsAt (Units count) at next room units begun past came
+      → units_bytes new left ≡ units_bytes units begun ++ more → length new < count → length left < 8 → AreUnits new
+      → ReadsAt (Units count) at next room new left (past ++ more) came
+  units-more NoHead count new left r is under short fit = absurd r.stage_is
+  units-more (Open first frames) count new left r is under short fit = record {
+    stage_is = (r.stage_is.0, record { under = under; most = r.stage_is.1.most; fits = r.stage_is.1.fits; short = short; each = fit });
+    reads = frames-same (past ++ more) first frames _ (to_be_bytes w32 count ++ units_bytes new left) (ap (λ list. to_be_bytes w32 count ++ list) (sym is))
+        (frames-more past first frames (to_be_bytes w32 count ++ units_bytes units begun) more r.reads);
+    place = omega (arith, r.place, ap length is, length-append (units_bytes units begun) more, length-append past more);
+    room_is = r.room_is;
+  }
+  units-more (Whole first frames) count new left r is under short fit = absurd r.stage_is
+
+  module _ (count : ℕ) (new : List ℕ) (is : units_bytes new [] ≡ units_bytes units begun ++ more) (all : length new ≡ count) where
+    -- what follows the count
+    spelled : to_be_bytes w32 count ++ units_bytes units begun ++ more ≡ counted_bytes count new
+    unfolding counted_bytes
+    spelled = ap (λ list. to_be_bytes w32 count ++ list) (sym is ∙ append-nil (flat_map unit_bytes new))
+
+    -- some bytes were taken
+    pub units-some : (came : Came) → ReadsAt (Units count) at next room units begun past came → 0 < length more
+    units-some NoHead r = absurd r.stage_is
+    units-some (Open first frames) r =
+        omega (arith, ap length is, length-append (units_bytes units begun) more, length-units_bytes units begun, length-units_bytes new [], all, r.stage_is.1.under, r.stage_is.1.short)
+    units-some (Whole first frames) r = absurd r.stage_is
+
+    -- the frame is whole
+    pub units-frame : (came : Came) (records : List Rec) → ReadsAt (Units count) at next room units begun past came → AreUnitsOf new records
+        → (first : ℕ) × (frames : List (List Rec)) × (came ≡ Open first frames) × IsFrame records
+        × ReadsAt Count (at + 4 + 8 * count) (next + count) room new [] (past ++ more) (Open first (frames ++ records ∷ []))
+    units-frame NoHead records r are = absurd r.stage_is
+    units-frame (Open first frames) records r are =
+        let count_is : count ≡ end_of records = sym all ∙ ap length are.units_are in
+        let frame : IsFrame records =
+        record {
+          some = omega (arith, count_is, r.stage_is.1.under);
+          most = omega (arith, count_is, r.stage_is.1.most);
+          spellable =
+              are.spellable;
+        } in
+        let bytes : counted_bytes count new ≡ frame_bytes records = (λ i. counted_bytes (count_is i) (are.units_are i)) in
+        let reads = frames-same (past ++ more) first frames _ (frame_bytes records) (spelled ∙ bytes)
+        (frames-more past first frames (to_be_bytes w32 count ++ units_bytes units begun) more r.reads) in (
+          first,
+          frames,
+          refl,
+          frame,
+          record {
+            stage_is = (omega (arith, r.stage_is.0, count_is, ends-more first frames records), omega arith);
+            reads = frames-next (past ++ more) first frames records reads frame (omega (arith, r.stage_is.0, r.stage_is.1.fits, count_is));
+            place = omega (arith, r.place, ap length is, length-append (units_bytes units begun) more, length-append past more, length-units_bytes new [], all);
+            room_is = r.room_is;
+          },
+        )
+    units-frame (Whole first frames) records r are = absurd r.stage_is
+
+    -- the units are no whole spellings
+    pub units-bad : (came : Came) (piece rest after : List ℕ) → ReadsAt (Units count) at next room units begun past came
+        → ((records : List Rec) → AreUnitsOf new records → ⊥) → AreUnits new → piece ≡ more ++ rest
+        → IsBadBehind came (past ++ piece ++ after) at
+    unfolding counted_bytes
+    units-bad NoHead piece rest after r none fit split = absurd r.stage_is
+    units-bad (Open first frames) piece rest after r none fit split =
+        let body : List ℕ = units_bytes units begun in
+        let behind : (to_be_bytes w32 count ++ body) ++ (piece ++ after) ≡ to_be_bytes w32 count ++ (flat_map unit_bytes new ++ (rest ++ after)) =
+        ap (λ list. to_be_bytes w32 count ++ (body ++ (list ++ after))) split
+        ∙ ap (λ list. to_be_bytes w32 count ++ (body ++ list)) (append_assoc more rest after)
+        ∙ ap (λ list. to_be_bytes w32 count ++ list) (sym (append_assoc body more (rest ++ after))
+        ∙ ap (λ list. list ++ (rest ++ after)) (sym is ∙ append-nil (flat_map unit_bytes new))) in (
+          to_be_bytes w32 count ++ (flat_map unit_bytes new ++ (rest ++ after)),
+          subst (λ list. HasFrames list first frames (to_be_bytes w32 count ++ (flat_map unit_bytes new ++ (rest ++ after)))) (sym (append_assoc past piece after))
+              (frames-same (past ++ (piece ++ after)) first frames _ _ behind (frames-more past first frames (to_be_bytes w32 count ++ body) (piece ++ after) r.reads)),
+          (λ records other frame room whole.
+              let number =
+              same_number count (end_of records) _ (flat_map unit_bytes (units_of records) ++ other) (omega (arith, r.stage_is.1.most)) (omega (arith, frame.most)) whole in
+              none records (record {
+                spellable = frame.spellable;
+                units_are =
+                    same_units new (units_of records) (rest ++ after) other (All-from_recursion IsUnit new fit) (spellings-fit records frame.spellable)
+                    (omega (arith, all, number.0)) number.1;
+              })),
+          (λ other whole. let number = same_number count 0 _ other (omega (arith, r.stage_is.1.most)) (omega arith) whole in
+              omega (arith, r.stage_is.1.under, number.0)),
+          omega (arith, r.place, ap length behind, length-append (to_be_bytes w32 count ++ body) (piece ++ after), length-append past (piece ++ after), ap length (append_assoc past piece after)),
+        )
+    units-bad (Whole first frames) piece rest after r none fit split = absurd r.stage_is

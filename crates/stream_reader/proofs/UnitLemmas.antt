@@ -1,0 +1,76 @@
+-- How the units of a frame are taken from bytes.
+use Rattle.std.proofs.Common.{◌≡◌, ◌<◌, ◌≤◌, ◌∙◌, sym, ap, subst, refl, ℕ, ◌+◌, ◌-◌, ◌*◌, ◌^◌, List, [], ◌∷◌, ◌++◌, length, take, drop, arith, length-append, append_assoc, append-nil}
+use Rattle.std.specs.List.{flat_map, AllByRecursion}
+use Rattle.std.proofs.Math.Seq.{take-add, take-append_seam}
+use Rattle.std.proofs.lemmas.List.Concat.{flat_map-append}
+use Rattle.lsn_space.specs.Unit.{unit_bytes}
+use Rattle.lsn_space.proofs.TilingLemmas.{all-push}
+use Rattle.segment_file.specs.File.{AreUnits}
+use Rattle.stream_reader.specs.Reader.{units_bytes}
+
+-- what was taken of a piece of which this rest is left
+pub taken-front : (piece taken rest : List ℕ) → piece ≡ taken ++ rest → take (length piece - length rest) piece ≡ taken
+taken-front piece taken rest is =
+    let count : length piece - length rest ≡ length taken = omega (arith, ap length is, length-append taken rest) in
+    ap (λ n. take n piece) count ∙ ap (take (length taken)) is ∙ take-append_seam taken rest
+
+-- one unit more
+pub unit-bytes-more : (units : List ℕ) (unit : ℕ) → flat_map unit_bytes (units ++ unit ∷ []) ≡ flat_map unit_bytes units ++ unit_bytes unit
+unit-bytes-more units unit = flat_map-append unit_bytes units (unit ∷ [])
+    ∙ ap (λ list. flat_map unit_bytes units ++ list) (append-nil (unit_bytes unit))
+
+-- units of a front of the piece were pushed behind the old ones
+pub record IsPushing (old new piece rest : List ℕ) : Type 0 where
+  pub taken : List ℕ
+  pub split : piece ≡ taken ++ rest
+  pub bytes : flat_map unit_bytes new ≡ flat_map unit_bytes old ++ taken
+  pub fit : AreUnits old → AreUnits new
+
+pub pushing-none : (units piece : List ℕ) → IsPushing units units piece piece
+pushing-none units piece = record { taken = []; split = refl; bytes = sym (append-nil (flat_map unit_bytes units)); fit = λ fit. fit }
+
+pub pushing-more : (old new piece rest after after_units : List ℕ) (unit : ℕ) → IsPushing old new piece rest → unit < 2 ^ 64
+    → rest ≡ unit_bytes unit ++ after
+    → after_units ≡ new ++ unit ∷ [] → IsPushing old after_units piece after
+pushing-more old new piece rest after after_units unit before fits front pushed = record {
+  taken = before.taken ++ unit_bytes unit;
+  split = before.split ∙ ap (λ list. before.taken ++ list) front ∙ sym (append_assoc before.taken (unit_bytes unit) after);
+  bytes = ap (flat_map unit_bytes) pushed ∙ unit-bytes-more new unit ∙ ap (λ list. list ++ unit_bytes unit) before.bytes
+      ∙ append_assoc (flat_map unit_bytes old) before.taken (unit_bytes unit);
+  fit = λ fit. subst AreUnits (sym pushed) (all-push (λ unit. unit < 2 ^ 64) new unit (before.fit fit) fits);
+}
+
+pub pushing-bytes : (old new piece rest : List ℕ) → IsPushing old new piece rest
+    → units_bytes new [] ≡ units_bytes old [] ++ take (length piece - length rest) piece
+pushing-bytes old new piece rest pushing =
+    append-nil (flat_map unit_bytes new) ∙ pushing.bytes
+    ∙ ap (λ list. flat_map unit_bytes old ++ list) (sym (taken-front piece pushing.taken rest pushing.split))
+    ∙ ap (λ list. list ++ take (length piece - length rest) piece) (sym (append-nil (flat_map unit_bytes old)))
+
+pub pushing-length : (old new piece rest : List ℕ) → IsPushing old new piece rest → length rest ≤ length piece
+pushing-length old new piece rest pushing = omega (arith, ap length pushing.split, length-append pushing.taken rest)
+
+-- two fronts, one behind the other
+pub bytes-two : (x y z piece : List ℕ) (a b : ℕ) → y ≡ x ++ take a piece → z ≡ y ++ take b (drop a piece) → z ≡ x ++ take (a + b) piece
+bytes-two x y z piece a b first second =
+    second ∙ ap (λ list. list ++ take b (drop a piece)) first ∙ append_assoc x (take a piece) (take b (drop a piece))
+    ∙ ap (λ list. x ++ list) (sym (take-add a b piece))
+
+-- first the unit under way, and then whole ones
+module _ (old begun mid after new piece rest : List ℕ) (a b : ℕ) (rest_is : rest ≡ drop a piece) (empty : after ≡ [])
+    (first : units_bytes mid after ≡ units_bytes old begun ++ take a piece) (second : units_bytes new [] ≡ units_bytes mid [] ++ take b rest) where
+  pushed : units_bytes new [] ≡ units_bytes old begun ++ take (a + b) piece
+  pushed = bytes-two (units_bytes old begun) (units_bytes mid []) (units_bytes new []) piece a b
+      (subst (λ list. units_bytes mid list ≡ units_bytes old begun ++ take a piece) empty first) (second
+      ∙ ap (λ list. units_bytes mid [] ++ take b list) rest_is)
+
+  pub bytes-pushed : units_bytes new after ≡ units_bytes old begun ++ take (a + b) piece
+  bytes-pushed = ap (λ list. units_bytes new list) empty ∙ pushed
+
+  -- and the bytes of one that isn't whole
+  pub bytes-left : (left behind : List ℕ) (c : ℕ) → behind ≡ drop (a + b) piece → left ≡ after ++ take c behind
+      → units_bytes new left ≡ units_bytes old begun ++ take (a + b + c) piece
+  bytes-left left behind c behind_is left_is =
+      bytes-two (units_bytes old begun) (units_bytes new []) (units_bytes new left) piece (a + b) c pushed
+      (ap (λ list. units_bytes new list) (left_is ∙ ap (λ list. list ++ take c behind) empty ∙ ap (take c) behind_is)
+      ∙ ap (λ list. list ++ take c (drop (a + b) piece)) (sym (append-nil (flat_map unit_bytes new))))
