@@ -1,0 +1,105 @@
+-- Lists with the records of frames behind their own.
+use Rattle.std.proofs.Common.{◌≡◌, ◌∙◌, sym, ap, refl, subst, inl, inr, ℕ, ◌+◌, ◌*◌, ◌≤◌, List, [], ◌∷◌, ◌++◌, length, length-append, append_assoc, append-nil, arith}
+use Rattle.std.specs.List.{AllByRecursion}
+use Rattle.log_record.specs.declared.rec.Rec.{Rec}
+use Rattle.log_record.specs.LogList.{AreUnitsOf, units_of, end_of}
+use Rattle.log_record.specs.Spelling.{IsSpellable}
+use Rattle.lock_core.specs.Lawful.{IsLawful}
+use Rattle.lock_core.proofs.ListLemmas.{all-append, all-split}
+use Rattle.log_recovery.specs.Opened.{OpenedList, log_of, list_end, opening_before, placed, with_records}
+use Rattle.log_recovery.specs.Recovery.{HoldsLawful}
+use Rattle.log_recovery.proofs.ListingLemmas.{units_of-append}
+use Rattle.log_recovery.proofs.OpenedLemmas.{list_end-more}
+use Rattle.segment_file.specs.Log.{with_units, HoldsLog}
+use Rattle.segment_file.specs.Standing.{HoldsLogOrMore}
+use Rattle.ship_stream.specs.Stream.{records_of, IsFrame}
+use Rattle.standby.specs.Applying.{with_frames, place_behind, HoldsFront}
+use Rattle.standby.proofs.JudgedFrames.{with_records-append, with_records-none}
+
+-- ---- the records of frames
+
+pub records_of-append : (xs ys : List (List Rec)) → records_of (xs ++ ys) ≡ records_of xs ++ records_of ys
+records_of-append [] ys = refl
+records_of-append (x ∷ xs) ys = ap (λ rs. x ++ rs) (records_of-append xs ys) ∙ sym (append_assoc x (records_of xs) (records_of ys))
+
+pub records_of-next : (frames : List (List Rec)) (records : List Rec) → records_of (frames ++ records ∷ []) ≡ records_of frames ++ records
+records_of-next frames records = records_of-append frames (records ∷ []) ∙ ap (λ rs. records_of frames ++ rs) (append-nil records)
+
+pub end_of-next : (frames : List (List Rec)) (records : List Rec) → end_of (records_of (frames ++ records ∷ [])) ≡ end_of (records_of frames) + end_of records
+end_of-next frames records =
+    ap end_of (records_of-next frames records) ∙ ap length (units_of-append (records_of frames) records)
+    ∙ length-append (units_of (records_of frames)) (units_of records)
+
+pub frames-spellable : (frames : List (List Rec)) → AllByRecursion IsFrame frames → AllByRecursion IsSpellable (records_of frames)
+frames-spellable [] each = tt
+frames-spellable (frame ∷ frames) each = all-append IsSpellable frame (records_of frames) each.0.spellable (frames-spellable frames each.1)
+
+pub last-frame : (frames : List (List Rec)) (records : List Rec) → AllByRecursion IsFrame (frames ++ records ∷ []) → IsFrame records
+last-frame frames records each = (all-split IsFrame frames (records ∷ []) each).1.0
+
+-- ---- the list with them
+
+pub with_frames-next : (list : OpenedList) (frames : List (List Rec)) (records : List Rec)
+    → with_records (with_frames list frames) records ≡ with_frames list (frames ++ records ∷ [])
+with_frames-next list frames records =
+    with_records-append list (records_of frames) records ∙ ap (with_records list) (sym (records_of-next frames records))
+
+pub list_end-frames : (list : OpenedList) (frames : List (List Rec)) → list_end (with_frames list frames) ≡ list_end list + end_of (records_of frames)
+list_end-frames list frames = list_end-more list (records_of frames)
+
+pub place_behind-next : (at : ℕ) (frames : List (List Rec)) (records : List Rec)
+    → place_behind at (frames ++ records ∷ []) ≡ place_behind at frames + (5 + 8 * end_of records)
+place_behind-next at frames records = omega (arith, end_of-next frames records, length-append frames (records ∷ []))
+
+pub log_of-more : (list : OpenedList) (records : List Rec) → with_units (log_of list) (units_of records) ≡ log_of (with_records list records)
+log_of-more list records = λ i. record { opening = list.opening; units = sym (units_of-append list.records records) i }
+
+-- ---- what an image holds
+
+module _ (list : OpenedList) (bytes : List ℕ) where
+  pub holds-front-all : (frames : List (List Rec)) → HoldsLawful bytes (with_frames list frames) → HoldsFront list frames bytes
+  holds-front-all frames holds = record { front = frames; rest = []; whole = sym (append-nil frames); holds = holds }
+
+  pub holds-front-more : (frames more : List (List Rec)) → HoldsFront list frames bytes → HoldsFront list (frames ++ more) bytes
+  holds-front-more frames more held = record {
+    front = held.front;
+    rest = held.rest ++ more;
+    whole = ap (λ fs. fs ++ more) held.whole ∙ append_assoc held.front held.rest more;
+    holds = held.holds;
+  }
+
+  pub holds-front-none : HoldsLawful bytes list → HoldsFront list [] bytes
+  holds-front-none holds = holds-front-all [] (subst (HoldsLawful bytes) (sym (with_records-none list)) holds)
+
+  pub holds-lawful : AllByRecursion IsSpellable list.records → IsLawful (opening_before list) (placed list) → HoldsLog bytes (log_of list)
+      → HoldsLawful bytes list
+  holds-lawful each lawful held = record { list = record { each = each; holds = held }; lawful = lawful }
+
+  -- the log before a frame, or with all of it
+  pub holds-front-either : (records : List Rec) (units : List ℕ) → units ≡ units_of records
+      → AllByRecursion IsSpellable list.records → IsLawful (opening_before list) (placed list)
+      → AllByRecursion IsSpellable records → IsLawful (opening_before list) (placed (with_records list records))
+      → HoldsLogOrMore (log_of list) units bytes → HoldsFront list (records ∷ []) bytes
+  holds-front-either records units same each lawful more after (inl held) =
+      holds-front-more [] (records ∷ []) (holds-front-none (holds-lawful each lawful held))
+  holds-front-either records units same each lawful more after (inr held) =
+      let one : with_records list records ≡ with_frames list (records ∷ []) = ap (with_records list) (sym (append-nil records)) in
+      holds-front-all (records ∷ []) (subst (HoldsLawful bytes) one (record {
+        list = record {
+          each = all-append IsSpellable list.records records each more;
+          holds = subst (HoldsLog bytes) (ap (with_units (log_of list)) same ∙ log_of-more list records) held;
+        };
+        lawful = after;
+      }))
+
+-- behind frames that were applied already
+pub holds-front-behind : (list : OpenedList) (bytes : List ℕ) (frames cut : List (List Rec)) → HoldsFront (with_frames list frames) cut bytes
+    → HoldsFront list (frames ++ cut) bytes
+holds-front-behind list bytes frames cut held = record {
+  front = frames ++ held.front;
+  rest = held.rest;
+  whole = ap (λ fs. frames ++ fs) held.whole ∙ sym (append_assoc frames held.front held.rest);
+  holds = subst (HoldsLawful bytes)
+      (with_records-append list (records_of frames) (records_of held.front) ∙ ap (with_records list) (sym (records_of-append frames held.front)))
+      held.holds;
+}

@@ -1,0 +1,3 @@
+pub mod Applying
+pub mod Following
+pub mod Keeping

@@ -1,0 +1,70 @@
+ghost use Rattle.std.specs.Prelude.{◌≡◌, [], IfOk};
+ghost use Rattle.log_recovery.specs.Opened.{OpenedList};
+ghost use Rattle.ship_stream.specs.Came.Came.{NoHead};
+ghost use Rattle.stream_reader.specs.Reader.{HasRead};
+ghost use Rattle.standby.specs.Keeping.{KeepsList};
+ghost use Rattle.standby.specs.Following.{Follows};
+
+use lock_core::Judge;
+use log_disk::LogDisk;
+use lsn_space::NoMemory;
+use segment_file::Tail;
+use std::alloc::Global;
+use stream_reader::StreamReader;
+
+/// A log that follows a stream: its disk, where it goes on in the file, what was judged of its list, and what was read of the stream.
+#[derive(Drop)]
+pub struct Standby<'a, D> {
+    pub disk: &'a mut D,
+    pub tail: Tail,
+    pub judge: Judge,
+    pub reader: StreamReader,
+}
+
+/// How far a stream has come.
+#[derive(Clone, Copy, Debug, PartialEq, Eq)]
+pub enum Fed {
+    /// The end of the stream hasn't come.
+    More,
+
+    /// The stream has ended, and nothing may follow.
+    Ended,
+}
+
+impl<'a, D: LogDisk> Standby<'a, D> {
+    /// A standby that no byte has come to. The tail is as `settle` or `append` leaves it, and the judge has taken the list that each image
+    /// holds. It asks for room for the longest frame.
+    pub fn make(
+        alloc: Global,
+        disk: &'a mut D,
+        tail: Tail,
+        judge: Judge,
+    ) -> Result<Standby<'a, D>, NoMemory>
+        ensures disk { IfOk result (λ s. s.disk ≡ disk.entry) }
+        ensures follows { IfOk result (λ s. (list : OpenedList) → KeepsList D.LogDisk list judge tail disk.old
+            → Follows D.LogDisk (record { list = list; at = tail.at; disk = disk.old }) [] s) }
+    {
+        let reader = StreamReader::make(alloc)?;
+        Ok(Standby::with_reader(reader, disk, tail, judge))
+    }
+
+    /// The same, with a reader that has read nothing. It takes no memory.
+    pub fn with_reader(
+        reader: StreamReader,
+        disk: &'a mut D,
+        tail: Tail,
+        judge: Judge,
+    ) -> Standby<'a, D>
+        ensures disk { result.disk ≡ disk.entry }
+        ensures same { result.disk.ghost_name ≡ disk.entry.ghost_name }
+        ensures follows { (list : OpenedList) → HasRead reader [] NoHead → KeepsList D.LogDisk list judge tail disk.old
+            → Follows D.LogDisk (record { list = list; at = tail.at; disk = disk.old }) [] result }
+    {
+        Standby {
+            disk,
+            tail,
+            judge,
+            reader,
+        }
+    }
+}

@@ -1,0 +1,9 @@
+//! Tests of `standby`.
+#![tactic(auto)]
+
+#[cfg(test)]
+mod crashes;
+#[cfg(test)]
+mod following;
+#[cfg(test)]
+mod rig;
