@@ -3,16 +3,16 @@ use Rattle.std.proofs.Common.{◌≡◌, ℕ, List, Option, Some, None, IfSome, 
 use Rattle.std.specs.Io.KnownBytes.{Appends}
 use Rattle.log_disk.specs.Streams.{AppendsPart}
 use Rattle.lsn_space.specs.Opening.{Opening}
-use Rattle.log_recovery.specs.declared.recovery.RecoverFault.{RecoverFault}
 use Rattle.log_recovery.specs.declared.recovery.RecoverFault.TheVariants as fault
-use Rattle.log_recovery.specs.Recovery.{HoldsLawful, IsFaultOf}
+use Rattle.log_recovery.specs.Recovery.{HoldsLawful}
 use Rattle.log_recovery.specs.Text.{rows_text}
 use Rattle.log_recovery.proofs.TextLemmas.{rows_text-shown}
-use Rattle.cli_shared.specs.Answers.{StaysSilent, recover_detail}
+use Rattle.cli_shared.specs.Answers.{StaysSilent}
 use Rattle.cli_shared.specs.declared.report.Detail.{Detail}
-use Rattle.cli_shared.specs.declared.report.Detail.TheVariants.{Fine, NoMemory, Usage, Script, Read, Write, Disk, NotALog, BadSnapshot, BadBatch, BadRec, Unlawful, LogEnd, TxnEnd, Exists}
+use Rattle.cli_shared.specs.declared.report.Detail.TheVariants.{Fine, NoMemory, Usage, Script, Read, Write, Disk, NotALog, BadSnapshot, BadBatch, BadRec, Unlawful, LogEnd, TxnEnd, Exists, NoSuchLsn, BadStream, Gap, StreamUnlawful, NoAccount}
 use Rattle.cli_shared.proofs.ToldLemmas.{TellsWrite, kept-text, nothing-said}
-use Rattle.cli_cut.specs.Answers.{AnswersCut, HasSourceFault, IsMakingFault, IsOfCut, IsSourceFault}
+use Rattle.cli_cut.specs.Answers.{AnswersCut, IsMakingFault, IsOfCut}
+use Rattle.cli_shared.proofs.SourceLemmas.{source-told}
 use Rattle.cli_cut.specs.Cutting.{FollowsCut, ReadsCut}
 
 pub answers_cut-fine : (left left_new old new : Option (List ℕ)) (opening : Opening) → ReadsCut left left_new opening
@@ -34,21 +34,6 @@ answers_cut-write (Some bytes) left_new old new opening reads written = (
   subst (λ b. HoldsLawful b reads.1) reads.2.0 reads.3,
   rw (rows_text-shown opening.lsn opening.accounts reads.1 reads.4.lsn reads.4.accounts) at written,
 )
-
--- the fault that a source has, of all its bytes
-source-told : (left left_new : Option (List ℕ)) (f : RecoverFault) → HasSourceFault left left_new f
-    → IfSome left (λ bytes. (left_new ≡ Some []) × IsFaultOf bytes f)
-source-told None left_new f is = tt
-source-told (Some all) left_new f is = (is.1.1, subst (λ b. IsFaultOf b f) is.1.0 is.2)
-
--- why nothing is recovered is why `cut` has no source
-pub source-fault : (left left_new : Option (List ℕ)) (f : RecoverFault) → HasSourceFault left left_new f → IsSourceFault left left_new (recover_detail f)
-source-fault left left_new fault.NotALog is = is
-source-fault left left_new fault.BadSnapshot is = is
-source-fault left left_new (fault.BadBatch offset) is = is
-source-fault left left_new (fault.BadRec lsn) is = is
-source-fault left left_new (fault.Unlawful lsn why) is = is
-source-fault left left_new fault.NoMemory is = tt
 
 -- what the answer says where no log was made: it is one of `cut`, nothing was written, and it doesn't follow a log
 pub record IsUnmade (left left_new text : Option (List ℕ)) (detail : Detail) : Type 0 where
@@ -103,6 +88,11 @@ unmade-fault left left_new text Disk is =
     record { answer = nothing-said left; range = tt; silent = kept-text text; write = λ tells. tells; follows = λ follows. follows }
 unmade-fault left left_new text Exists is =
     record { answer = nothing-said left; range = tt; silent = kept-text text; write = λ tells. tells; follows = λ follows. follows }
+unmade-fault left left_new text (NoSuchLsn lsn) is = absurd is
+unmade-fault left left_new text (BadStream offset) is = absurd is
+unmade-fault left left_new text (Gap have from) is = absurd is
+unmade-fault left left_new text (StreamUnlawful lsn why) is = absurd is
+unmade-fault left left_new text (NoAccount account) is = absurd is
 unmade-fault left left_new text Usage is = absurd is
 unmade-fault left left_new text (Script line) is = absurd is
 unmade-fault left left_new text (LogEnd tail total) is = absurd is

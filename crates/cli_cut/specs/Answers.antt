@@ -2,14 +2,13 @@
 use Rattle.std.specs.Prelude.{◌≡◌, ℕ, List, [], Option, Some}
 use Rattle.std.specs.Io.KnownBytes.{Appends}
 use Rattle.log_disk.specs.Streams.{AppendsPart}
-use Rattle.log_recovery.specs.declared.recovery.RecoverFault.{RecoverFault}
 use Rattle.log_recovery.specs.declared.recovery.RecoverFault.TheVariants as fault
 use Rattle.log_recovery.specs.Opened.{OpenedList}
 use Rattle.log_recovery.specs.Recovery.{HoldsLawful, IsFaultOf}
 use Rattle.log_recovery.specs.Text.{accounts_text}
-use Rattle.cli_shared.specs.Answers.{ReadsAll}
+use Rattle.cli_shared.specs.Answers.{IsSourceFault}
 use Rattle.cli_shared.specs.declared.report.Detail.{Detail}
-use Rattle.cli_shared.specs.declared.report.Detail.TheVariants.{Fine, NoMemory, Usage, Script, Read, Write, Disk, NotALog, BadSnapshot, BadBatch, BadRec, Unlawful, LogEnd, TxnEnd, Exists}
+use Rattle.cli_shared.specs.declared.report.Detail.TheVariants.{Fine, NoMemory, Read, Write, Disk, NotALog, BadSnapshot, BadBatch, BadRec, Unlawful, Exists}
 
 -- the answers that there are to `cut`, and to `upgrade`
 abbrev pub IsOfCut : Detail → Type 0
@@ -25,21 +24,6 @@ IsOfCut (BadRec lsn) = Unit {0}
 IsOfCut (Unlawful lsn why) = Unit {0}
 IsOfCut Exists = Unit {0}
 IsOfCut detail = ⊥
-
--- the source was read to its end, and has this fault
-abbrev pub HasSourceFault : Option (List ℕ) → Option (List ℕ) → RecoverFault → Type 0
-HasSourceFault left left_new fault' = (bytes : List ℕ) × ReadsAll left left_new bytes × IsFaultOf bytes fault'
-
--- why the source gives no accounts
-abbrev pub IsSourceFault : Option (List ℕ) → Option (List ℕ) → Detail → Type 0
-IsSourceFault left left_new NotALog = HasSourceFault left left_new fault.NotALog
-IsSourceFault left left_new BadSnapshot = HasSourceFault left left_new fault.BadSnapshot
-IsSourceFault left left_new (BadBatch offset) = HasSourceFault left left_new (fault.BadBatch offset)
-IsSourceFault left left_new (BadRec lsn) = HasSourceFault left left_new (fault.BadRec lsn)
-IsSourceFault left left_new (Unlawful lsn why) = HasSourceFault left left_new (fault.Unlawful lsn why)
-IsSourceFault left left_new Read = Unit {0}
-IsSourceFault left left_new NoMemory = Unit {0}
-IsSourceFault left left_new detail = ⊥
 
 -- why no log is made
 abbrev pub IsMakingFault : Option (List ℕ) → Option (List ℕ) → Detail → Type 0
@@ -61,7 +45,4 @@ AnswersCut bytes left old new NoMemory = Unit {0}
 AnswersCut bytes left old new Read = Unit {0}
 AnswersCut bytes left old new Disk = Unit {0}
 AnswersCut bytes left old new Exists = Unit {0}
-AnswersCut bytes left old new Usage = ⊥
-AnswersCut bytes left old new (Script line) = ⊥
-AnswersCut bytes left old new (LogEnd tail total) = ⊥
-AnswersCut bytes left old new (TxnEnd first count) = ⊥
+AnswersCut bytes left old new detail = ⊥

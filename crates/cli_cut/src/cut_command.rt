@@ -5,10 +5,10 @@ ghost use Rattle.log_disk.specs.Disk.{Leaves};
 ghost use Rattle.log_disk.specs.Faults.{CountsWhere};
 ghost use Rattle.lsn_space.specs.Opening.{IsSnapshot};
 ghost use Rattle.segment_file.specs.File.{BeginsOpen};
-ghost use Rattle.cli_shared.specs.Answers.{StaysSilent};
+ghost use Rattle.cli_shared.specs.Answers.{IsSourceFault, StaysSilent};
 ghost use Rattle.cli_shared.specs.Attached.{EndsAttached, LeavesAttached};
 ghost use Rattle.cli_shared.specs.Creation.{TellsWhether};
-ghost use Rattle.cli_cut.specs.Answers.{AnswersCut, IsMakingFault, IsOfCut, IsSourceFault};
+ghost use Rattle.cli_cut.specs.Answers.{AnswersCut, IsMakingFault, IsOfCut};
 ghost use Rattle.cli_cut.specs.Cutting.{AllHoldCut, FollowsCut, GrowsByCut, MayBeCut, PrecedesCut, ReadsCut};
 
 use cli_shared::{Detail, ReadFault, detail_of, finds_none, read_all};

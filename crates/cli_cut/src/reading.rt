@@ -11,7 +11,7 @@ ghost use Rattle.log_record.specs.Spelling.{spelling, BeginsWith};
 ghost use Rattle.lock_core.specs.Tests.{IsGenesis};
 ghost use Rattle.log_recovery.specs.Recovery.{HoldsLawful, list_of};
 ghost use Rattle.segment_file.specs.declared.layout.TheConstants.{MOST_UNITS};
-ghost use Rattle.cli_cut.specs.Answers.{IsSourceFault};
+ghost use Rattle.cli_shared.specs.Answers.{IsSourceFault};
 ghost use Rattle.cli_cut.specs.Cutting.{IsCutOf};
 ghost use Rattle.cli_cut.specs.Parts.{ArePartsOf, SplitsGenesis};
 

@@ -40,7 +40,7 @@ use Rattle.txn_jobs.specs.Places.{NumberedJobs}
 use Rattle.txn_script.specs.Generator.{generated_transfers}
 use Rattle.lock_core.specs.Transfers.{transfer_of}
 use Rattle.cli_shared.specs.declared.report.Detail.{Detail}
-use Rattle.cli_shared.specs.declared.report.Detail.TheVariants.{Fine, NoMemory, Usage, Script, Read, Write, Disk, NotALog, BadSnapshot, BadBatch, BadRec, Unlawful, LogEnd, TxnEnd, Exists}
+use Rattle.cli_shared.specs.declared.report.Detail.TheVariants.{Fine, NoMemory, Usage, Script, Read, Write, Disk, NotALog, BadSnapshot, BadBatch, BadRec, Unlawful, LogEnd, TxnEnd, Exists, NoSuchLsn, BadStream, Gap, StreamUnlawful, NoAccount}
 use Rattle.cli_threads.specs.declared.transfers.ReadyRun.{ReadyRun}
 use Rattle.cli_ending.specs.declared.conclusion.Ended.{Ended}
 use Rattle.cli_threads.specs.declared.transfers.Prepared.{Prepared}
@@ -149,6 +149,11 @@ pub fault-found : {D : Type 0} (g : Ghosts D) (n seed : ℕ) (options : RunOptio
     → AnswersDemo g n seed options old new detail
 fault-found g n seed options old new Disk is looks few = inl (only-finds g old new looks.images few looks.reads)
 fault-found g n seed options old new Exists is looks few = looks
+fault-found g n seed options old new (NoSuchLsn lsn) is looks few = absurd is
+fault-found g n seed options old new (BadStream offset) is looks few = absurd is
+fault-found g n seed options old new (Gap have from) is looks few = absurd is
+fault-found g n seed options old new (StreamUnlawful lsn why) is looks few = absurd is
+fault-found g n seed options old new (NoAccount account) is looks few = absurd is
 fault-found g n seed options old new Fine is looks few = absurd is
 fault-found g n seed options old new NoMemory is looks few = absurd is
 fault-found g n seed options old new Usage is looks few = absurd is

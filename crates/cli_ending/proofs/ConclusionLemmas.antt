@@ -6,7 +6,7 @@ use Rattle.log_disk.specs.declared.sink.Sink.{Ghosts as SinkGhosts}
 use Rattle.log_disk.specs.Streams.{AppendsPart}
 use Rattle.log_recovery.specs.Text.{rows_text}
 use Rattle.cli_shared.specs.declared.report.Detail.{Detail}
-use Rattle.cli_shared.specs.declared.report.Detail.TheVariants.{Fine, NoMemory, Usage, Script, Read, Write, Disk, NotALog, BadSnapshot, BadBatch, BadRec, Unlawful, LogEnd, TxnEnd, Exists}
+use Rattle.cli_shared.specs.declared.report.Detail.TheVariants.{Fine, NoMemory, Usage, Script, Read, Write, Disk, NotALog, BadSnapshot, BadBatch, BadRec, Unlawful, LogEnd, TxnEnd, Exists, NoSuchLsn, BadStream, Gap, StreamUnlawful, NoAccount}
 use Rattle.cli_ending.specs.declared.conclusion.Ended.{Ended}
 use Rattle.cli_ending.specs.Ending.{Concludes, NothingStopped, StoppedAs, closed_text}
 
@@ -28,6 +28,11 @@ concludes-stopped h ended text sink (BadRec lsn) is = absurd is
 concludes-stopped h ended text sink (Unlawful lsn why) is = absurd is
 concludes-stopped h ended text sink (TxnEnd first count) is = absurd is
 concludes-stopped h ended text sink Exists is = absurd is
+concludes-stopped h ended text sink (NoSuchLsn lsn) is = absurd is
+concludes-stopped h ended text sink (BadStream offset) is = absurd is
+concludes-stopped h ended text sink (Gap have from) is = absurd is
+concludes-stopped h ended text sink (StreamUnlawful lsn why) is = absurd is
+concludes-stopped h ended text sink (NoAccount account) is = absurd is
 
 -- where nothing stopped them it writes the text that ends where the table was closed, or a part of it
 pub concludes-fine : {K : Type 0} (h : SinkGhosts K) (ended : Ended) (old new : K) (lsn : ℕ) (accounts : Accounts) → accounts ≡ ended.closed.accounts

@@ -7,7 +7,7 @@ use Rattle.log_recovery.specs.Recovery.{HoldsLawful}
 use Rattle.log_recovery.specs.Text.{accounts_text}
 use Rattle.log_recovery.proofs.AnswerLemmas.{lawful-fault, one-list}
 use Rattle.cli_shared.specs.declared.report.Detail.{Detail}
-use Rattle.cli_shared.specs.declared.report.Detail.TheVariants.{Fine, NoMemory, Usage, Script, Read, Write, Disk, NotALog, BadSnapshot, BadBatch, BadRec, Unlawful, LogEnd, TxnEnd, Exists}
+use Rattle.cli_shared.specs.declared.report.Detail.TheVariants.{Fine, NoMemory, Usage, Script, Read, Write, Disk, NotALog, BadSnapshot, BadBatch, BadRec, Unlawful, LogEnd, TxnEnd, Exists, NoSuchLsn, BadStream, Gap, StreamUnlawful, NoAccount}
 use Rattle.cli_reports.specs.Answers.{AnswersRecover}
 use Rattle.cli_shared.specs.Answers.{status_of}
 
@@ -32,6 +32,11 @@ lawful-status bytes list left old new Usage held answers = absurd answers
 lawful-status bytes list left old new (Script line) held answers = absurd answers
 lawful-status bytes list left old new Disk held answers = absurd answers
 lawful-status bytes list left old new Exists held answers = absurd answers
+lawful-status bytes list left old new (NoSuchLsn lsn) held answers = absurd answers
+lawful-status bytes list left old new (BadStream offset) held answers = absurd answers
+lawful-status bytes list left old new (Gap have from) held answers = absurd answers
+lawful-status bytes list left old new (StreamUnlawful lsn why) held answers = absurd answers
+lawful-status bytes list left old new (NoAccount account) held answers = absurd answers
 lawful-status bytes list left old new (LogEnd tail total) held answers = absurd answers
 lawful-status bytes list left old new (TxnEnd first count) held answers = absurd answers
 

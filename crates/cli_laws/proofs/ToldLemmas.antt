@@ -18,7 +18,8 @@ use Rattle.log_recovery.proofs.OpenedLemmas.{list_end-more}
 use Rattle.commit_pipeline.specs.EndLines.{done_line, short_line, over_line, end_line, end_lines}
 use Rattle.txn_jobs.specs.Places.{NumberedJobs}
 use Rattle.cli_threads.specs.Sharing.{Sharing}
-use Rattle.cli_run.specs.RunAnswers.{Outside, HoldsTold, run_text}
+use Rattle.cli_run.specs.RunAnswers.{HoldsTold, run_text}
+use Rattle.cli_shared.specs.Outside.{Outside}
 use Rattle.cli_laws.specs.Told.{HasLine, HasCommitAt}
 use Rattle.cli_laws.proofs.WholeLines.{HasLine-nil, HasLine-append, HasLine-first}
 use Rattle.cli_laws.proofs.DoneLines.{done-whole, short-whole, over-whole, lsn-whole, account-whole, done-short, done-over, done-lsn, done-account, done-injective}

@@ -7,7 +7,8 @@ use Rattle.lock_core.specs.Witness.{genesis_log, transfer_records}
 use Rattle.log_recovery.specs.Opened.{whole_list}
 use Rattle.commit_pipeline.specs.EndLines.{done_line}
 use Rattle.txn_jobs.specs.Places.{NumberedJobs}
-use Rattle.cli_run.specs.RunAnswers.{HoldsTold, outside}
+use Rattle.cli_run.specs.RunAnswers.{HoldsTold}
+use Rattle.cli_shared.specs.Outside.{outside}
 use Rattle.cli_threads.specs.Sharing.{Sharing}
 use Rattle.cli_laws.specs.RunWitness.{plain_disk, file_at}
 

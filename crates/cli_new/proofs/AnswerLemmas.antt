@@ -7,7 +7,7 @@ use Rattle.log_recovery.specs.Text.{rows_text, accounts_text}
 use Rattle.lsn_space.specs.Accounts.{Accounts}
 use Rattle.txn_script.specs.Balances.{IsBalancesText, IsFirstBadBalance}
 use Rattle.cli_shared.specs.declared.report.Detail.{Detail}
-use Rattle.cli_shared.specs.declared.report.Detail.TheVariants.{Fine, NoMemory, Usage, Script, Read, Write, Disk, NotALog, BadSnapshot, BadBatch, BadRec, Unlawful, LogEnd, TxnEnd, Exists}
+use Rattle.cli_shared.specs.declared.report.Detail.TheVariants.{Fine, NoMemory, Usage, Script, Read, Write, Disk, NotALog, BadSnapshot, BadBatch, BadRec, Unlawful, LogEnd, TxnEnd, Exists, NoSuchLsn, BadStream, Gap, StreamUnlawful, NoAccount}
 use Rattle.cli_new.specs.Answers.{AnswersNew, AreOpening, IsMakingFault, IsOfNew}
 use Rattle.cli_new.specs.Creation.{FollowsLog}
 use Rattle.cli_shared.specs.Answers.{StaysSilent}
@@ -71,6 +71,11 @@ unmade-fault left left_new text Disk is =
     record { answer = nothing-said left; range = tt; silent = kept-text text; write = λ tells. tells; follows = λ follows. follows }
 unmade-fault left left_new text Exists is =
     record { answer = nothing-said left; range = tt; silent = kept-text text; write = λ tells. tells; follows = λ follows. follows }
+unmade-fault left left_new text (NoSuchLsn lsn) is = absurd is
+unmade-fault left left_new text (BadStream offset) is = absurd is
+unmade-fault left left_new text (Gap have from) is = absurd is
+unmade-fault left left_new text (StreamUnlawful lsn why) is = absurd is
+unmade-fault left left_new text (NoAccount account) is = absurd is
 unmade-fault left left_new text Usage is = absurd is
 unmade-fault left left_new text NotALog is = absurd is
 unmade-fault left left_new text BadSnapshot is = absurd is

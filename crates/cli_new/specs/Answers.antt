@@ -6,7 +6,7 @@ use Rattle.log_recovery.specs.Text.{accounts_text}
 use Rattle.txn_script.specs.Balances.{IsBalancesText, IsFirstBadBalance, ReadsBalances}
 use Rattle.lsn_space.specs.Accounts.{Accounts}
 use Rattle.cli_shared.specs.declared.report.Detail.{Detail}
-use Rattle.cli_shared.specs.declared.report.Detail.TheVariants.{Fine, NoMemory, Usage, Script, Read, Write, Disk, NotALog, BadSnapshot, BadBatch, BadRec, Unlawful, LogEnd, TxnEnd, Exists}
+use Rattle.cli_shared.specs.declared.report.Detail.TheVariants.{Fine, NoMemory, Script, Read, Write, Disk, Exists}
 use Rattle.cli_shared.specs.Creation.{new_list}
 use Rattle.cli_shared.specs.Answers.{ReadsAll}
 
@@ -50,11 +50,4 @@ AnswersNew bytes left old new NoMemory = Unit {0}
 AnswersNew bytes left old new Read = Unit {0}
 AnswersNew bytes left old new Disk = Unit {0}
 AnswersNew bytes left old new Exists = Unit {0}
-AnswersNew bytes left old new Usage = ⊥
-AnswersNew bytes left old new NotALog = ⊥
-AnswersNew bytes left old new BadSnapshot = ⊥
-AnswersNew bytes left old new (BadBatch offset) = ⊥
-AnswersNew bytes left old new (BadRec lsn) = ⊥
-AnswersNew bytes left old new (Unlawful lsn why) = ⊥
-AnswersNew bytes left old new (LogEnd tail total) = ⊥
-AnswersNew bytes left old new (TxnEnd first count) = ⊥
+AnswersNew bytes left old new detail = ⊥

@@ -9,7 +9,7 @@ use Rattle.log_recovery.specs.Recovery.{HoldsList, HoldsLawful, IsFaultOf}
 use Rattle.log_recovery.specs.Dump.{dump_text}
 use Rattle.log_recovery.specs.Text.{accounts_text}
 use Rattle.cli_shared.specs.declared.report.Detail.{Detail}
-use Rattle.cli_shared.specs.declared.report.Detail.TheVariants.{Fine, NoMemory, Usage, Script, Read, Write, Disk, NotALog, BadSnapshot, BadBatch, BadRec, Unlawful, LogEnd, TxnEnd, Exists}
+use Rattle.cli_shared.specs.declared.report.Detail.TheVariants.{Fine, NoMemory, Read, Write, NotALog, BadSnapshot, BadBatch, BadRec, Unlawful}
 
 -- the answers that there are to `recover`
 abbrev pub IsOfRecover : Detail → Type 0
@@ -54,12 +54,7 @@ AnswersRecover bytes left old new (BadRec lsn) = HasFault bytes left (fault.BadR
 AnswersRecover bytes left old new (Unlawful lsn why) = HasFault bytes left (fault.Unlawful lsn why)
 AnswersRecover bytes left old new Read = Unit {0}
 AnswersRecover bytes left old new NoMemory = Unit {0}
-AnswersRecover bytes left old new Usage = ⊥
-AnswersRecover bytes left old new (Script line) = ⊥
-AnswersRecover bytes left old new Disk = ⊥
-AnswersRecover bytes left old new (LogEnd tail total) = ⊥
-AnswersRecover bytes left old new (TxnEnd first count) = ⊥
-AnswersRecover bytes left old new Exists = ⊥
+AnswersRecover bytes left old new detail = ⊥
 
 -- `dump` on these bytes: the same, but the list need not be lawful, and what is written is its dump, or a part of it
 abbrev pub AnswersDump : List ℕ → Option (List ℕ) → Option (List ℕ) → Option (List ℕ) → Detail → Type 0
@@ -73,10 +68,4 @@ AnswersDump bytes left old new (BadBatch offset) = HasFault bytes left (fault.Ba
 AnswersDump bytes left old new (BadRec lsn) = HasFault bytes left (fault.BadRec lsn)
 AnswersDump bytes left old new Read = Unit {0}
 AnswersDump bytes left old new NoMemory = Unit {0}
-AnswersDump bytes left old new Usage = ⊥
-AnswersDump bytes left old new (Unlawful lsn why) = ⊥
-AnswersDump bytes left old new (LogEnd tail total) = ⊥
-AnswersDump bytes left old new (TxnEnd first count) = ⊥
-AnswersDump bytes left old new (Script line) = ⊥
-AnswersDump bytes left old new Disk = ⊥
-AnswersDump bytes left old new Exists = ⊥
+AnswersDump bytes left old new detail = ⊥

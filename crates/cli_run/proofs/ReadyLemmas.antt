@@ -17,7 +17,7 @@ use Rattle.log_recovery.specs.Recovery.{HoldsLawful, IsFaultOf}
 use Rattle.log_recovery.proofs.OpenedLemmas.{list-range, some-accounts}
 use Rattle.cli_shared.specs.Opening.{most_calls}
 use Rattle.cli_shared.specs.declared.report.Detail.{Detail}
-use Rattle.cli_shared.specs.declared.report.Detail.TheVariants.{Fine, NoMemory, Usage, Script, Read, Write, Disk, NotALog, BadSnapshot, BadBatch, BadRec, Unlawful, LogEnd, TxnEnd, Exists}
+use Rattle.cli_shared.specs.declared.report.Detail.TheVariants.{Fine, NoMemory, Usage, Script, Read, Write, Disk, NotALog, BadSnapshot, BadBatch, BadRec, Unlawful, LogEnd, TxnEnd, Exists, NoSuchLsn, BadStream, Gap, StreamUnlawful, NoAccount}
 use Rattle.log_recovery.specs.declared.recovery.Recovered.{Recovered}
 use Rattle.log_table.specs.Seats.{key_of}
 use Rattle.segment_file.specs.declared.scan_result.Tail.{Tail}
@@ -27,7 +27,8 @@ use Rattle.lock_core.specs.declared.job.Job.{Job}
 use Rattle.job_queue.specs.Passes.{jobs_of}
 use Rattle.cli_threads.specs.declared.transfers.Prepared.{Prepared}
 use Rattle.cli_shared.specs.Opening.{Opens, HasOpeningFault}
-use Rattle.cli_run.specs.RunAnswers.{AnswersRun, AreAsked, OnlyReads, OnlySettles, HoldsAsRead, accounts_of, next_txn, outside}
+use Rattle.cli_run.specs.RunAnswers.{AnswersRun, AreAsked, accounts_of, next_txn}
+use Rattle.cli_shared.specs.Outside.{OnlyReads, OnlySettles, HoldsAsRead, outside}
 use Rattle.cli_run.specs.RunReady.{IsPreparedFor}
 use Rattle.cli_shared.specs.Scripts.{HasNoScript, HasNoTransfers, IsWholeScript}
 use Rattle.cli_threads.specs.Transferred.{IsOpened}
@@ -74,6 +75,11 @@ module _ {D : Type 0} (g : Ghosts D) (old mid : D) where
       answers-opening (LogEnd tail total) has honest = absurd has.2
       answers-opening (TxnEnd first count) has honest = absurd has.2
       answers-opening Exists has honest = absurd has.2
+      answers-opening (NoSuchLsn lsn) has honest = absurd has.2
+      answers-opening (BadStream offset) has honest = absurd has.2
+      answers-opening (Gap have from) has honest = absurd has.2
+      answers-opening (StreamUnlawful lsn why) has honest = absurd has.2
+      answers-opening (NoAccount account) has honest = absurd has.2
 
       -- the input is no script
       pub answers-script : (opened : OpenedList) (detail : Detail) → HoldsLawful (g.reads old) opened
@@ -93,6 +99,11 @@ module _ {D : Type 0} (g : Ghosts D) (old mid : D) where
       answers-script opened (LogEnd tail total) held has = absurd has
       answers-script opened (TxnEnd first count) held has = absurd has
       answers-script opened Exists held has = absurd has
+      answers-script opened (NoSuchLsn lsn) held has = absurd has
+      answers-script opened (BadStream offset) held has = absurd has
+      answers-script opened (Gap have from) held has = absurd has
+      answers-script opened (StreamUnlawful lsn why) held has = absurd has
+      answers-script opened (NoAccount account) held has = absurd has
 
 module _ {D : Type 0} (g : Ghosts D) (old mid : D) (opened : Recovered) (opens : Opens g opened old mid) where
   abbrev pub list : OpenedList

@@ -26,7 +26,7 @@ use Rattle.commit_pipeline.specs.EndLines.{end_lines}
 use Rattle.end_lines.specs.declared.voice.Voice.TheVariants.{Lines}
 use Rattle.cli_shared.specs.Opening.{most_calls}
 use Rattle.cli_shared.specs.declared.report.Detail.{Detail}
-use Rattle.cli_shared.specs.declared.report.Detail.TheVariants.{Fine, NoMemory, Usage, Script, Read, Write, Disk, NotALog, BadSnapshot, BadBatch, BadRec, Unlawful, LogEnd, TxnEnd, Exists}
+use Rattle.cli_shared.specs.declared.report.Detail.TheVariants.{Fine, NoMemory, Usage, Script, Read, Write, Disk, NotALog, BadSnapshot, BadBatch, BadRec, Unlawful, LogEnd, TxnEnd, Exists, NoSuchLsn, BadStream, Gap, StreamUnlawful, NoAccount}
 use Rattle.cli_threads.specs.declared.transfers.ReadyRun.{ReadyRun}
 use Rattle.cli_ending.specs.declared.conclusion.Ended.{Ended}
 use Rattle.cli_ending.specs.Ending.{Concludes, closed_text}
@@ -34,7 +34,8 @@ use Rattle.cli_threads.specs.Ending.{HasEnded}
 use Rattle.cli_threads.specs.Run.{GoesOn, HoldsRun, RunIsDrained}
 use Rattle.cli_threads.specs.RunStops.{StopsAtLogEnd}
 use Rattle.cli_threads.specs.Sharing.{IsSharedOut, Sharing}
-use Rattle.cli_run.specs.RunAnswers.{AnswersRun, HoldsTold, IsOfRun, Ran, RanOut, RanShort, RunStaysSilent, Outside, outside, run_text}
+use Rattle.cli_run.specs.RunAnswers.{AnswersRun, HoldsTold, IsOfRun, Ran, RanOut, RanShort, RunStaysSilent, run_text}
+use Rattle.cli_shared.specs.Outside.{Outside, outside}
 use Rattle.cli_run.specs.RunReady.{IsBeforeRun, IsReadyFor}
 use Rattle.cli_run.proofs.ReadyLemmas.{keeps-refl}
 use Rattle.cli_threads.proofs.EndingLemmas.{by-conclusion, list, sharing, keeps-ended, shared-ended, whole-ended, drained-ended, stops-ended}
@@ -229,6 +230,11 @@ range-before Usage before = absurd before
 range-before Write before = absurd before
 range-before (LogEnd tail total) before = absurd before
 range-before Exists before = absurd before
+range-before (NoSuchLsn lsn) before = absurd before
+range-before (BadStream offset) before = absurd before
+range-before (Gap have from) before = absurd before
+range-before (StreamUnlawful lsn why) before = absurd before
+range-before (NoAccount account) before = absurd before
 
 pub silent-before : (text : Option (List ℕ)) (detail : Detail) → IsBeforeRun detail → RunStaysSilent text text detail
 silent-before text NoMemory before = keeps-refl text
@@ -246,6 +252,11 @@ silent-before text Usage before = absurd before
 silent-before text Write before = absurd before
 silent-before text (LogEnd tail total) before = absurd before
 silent-before text Exists before = absurd before
+silent-before text (NoSuchLsn lsn) before = absurd before
+silent-before text (BadStream offset) before = absurd before
+silent-before text (Gap have from) before = absurd before
+silent-before text (StreamUnlawful lsn why) before = absurd before
+silent-before text (NoAccount account) before = absurd before
 
 -- none of them is a fault of the output
 pub write-before : (detail : Detail) → IsBeforeRun detail → detail ≡ Write → ⊥

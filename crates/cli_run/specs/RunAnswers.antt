@@ -11,7 +11,6 @@ use Rattle.log_record.specs.declared.limits.TheConstants.{LAST_TXN}
 use Rattle.log_record.specs.declared.rec.Rec.{Rec}
 use Rattle.log_record.specs.LogList.{end_of}
 use Rattle.segment_file.specs.Lengths.{most_end}
-use Rattle.segment_file.specs.Log.{Log}
 use Rattle.segment_file.specs.Standing.{LogStandsAt}
 use Rattle.segment_file.specs.declared.scan_result.Tail.{Tail}
 use Rattle.log_recovery.specs.declared.recovery.RecoverFault.TheVariants as fault
@@ -21,13 +20,14 @@ use Rattle.log_recovery.specs.Text.{accounts_text}
 use Rattle.commit_pipeline.specs.EndLines.{end_lines}
 use Rattle.txn_jobs.specs.Places.{NumberedJobs}
 use Rattle.lock_core.specs.declared.job.Job.{Job}
+use Rattle.cli_shared.specs.Outside.{Outside, OnlyReads, OnlySettles}
 use Rattle.cli_shared.specs.declared.report.Detail.{Detail}
-use Rattle.cli_shared.specs.declared.report.Detail.TheVariants.{Fine, NoMemory, Usage, Script, Read, Write, Disk, NotALog, BadSnapshot, BadBatch, BadRec, Unlawful, LogEnd, TxnEnd, Exists}
+use Rattle.cli_shared.specs.declared.report.Detail.TheVariants.{Fine, NoMemory, Script, Read, Write, Disk, NotALog, BadSnapshot, BadBatch, BadRec, Unlawful, LogEnd, TxnEnd}
 use Rattle.cli_threads.specs.Run.{HoldsRun, GoesOn, RunsWhole}
 use Rattle.cli_threads.specs.RunStops.{StopsAtLogEnd}
 use Rattle.cli_threads.specs.Sharing.{Sharing, IsSharedOut}
 use Rattle.cli_shared.specs.Scripts.{IsWholeScript, HasNoScript}
-use Rattle.cli_shared.specs.Opening.{OnlyLooks, most_calls}
+use Rattle.cli_shared.specs.Opening.{most_calls}
 
 -- the number of accounts of a list
 abbrev pub accounts_of : OpenedList → ℕ
@@ -40,36 +40,6 @@ next_txn list = (opening_left list).txn + 1
 -- the lines of all end records behind the opened list, and then the accounts text of the whole list
 abbrev pub run_text : OpenedList → List Rec → List ℕ
 run_text opened list = end_lines (list_end opened) list ++ accounts_text (with_records opened list)
-
--- what is outside: the disk, what the input has left, and what is known of the output
-pub record Outside (D : Type 0) : Type 0 where
-  pub disk : D
-  pub left : Option (List ℕ)
-  pub text : Option (List ℕ)
-
-abbrev pub outside : {D : Type 0} → D → Option (List ℕ) → Option (List ℕ) → Outside D
-outside disk left text = record { disk = disk; left = left; text = text }
-
--- and nothing was written
-pub record OnlyReads {D : Type 0} (g : Ghosts D) (old new : Outside D) : Type 0 where
-  pub silent : Keeps old.text new.text
-  pub disk : OnlyLooks g old.disk new.disk
-
--- the bytes hold the list that a read gave
-abbrev pub HoldsAsRead : {D : Type 0} → Ghosts D → D → List ℕ → Type 0
-HoldsAsRead g disk bytes = (opened : OpenedList) × HoldsLawful (g.reads disk) opened × HoldsLawful bytes opened
-
--- the file reads as before, or is no longer than before or than up to the gate at the tail of the log that a read gave
-abbrev pub GrowsByGate : {D : Type 0} → Ghosts D → D → D → Type 0
-GrowsByGate g old new = (g.reads new ≡ g.reads old)
-    ⊎ ((tail : Tail) × (log : Log) × LogStandsAt tail log (g.reads old) × GrowsAtMostTo g (tail.at + 1) old new)
-
--- no transfer was begun: nothing was written, and each image of a moment is one of before or holds the list that a read gave
-pub record OnlySettles {D : Type 0} (g : Ghosts D) (old new : Outside D) : Type 0 where
-  pub silent : Keeps old.text new.text
-  pub images : Leaves g.moment g.images_since (λ bytes. g.images old.disk bytes ⊎ HoldsAsRead g old.disk bytes) old.disk new.disk
-  pub count : Costs g 3 (most_calls g old.disk + 3) old.disk new.disk
-  pub grows : GrowsByGate g old.disk new.disk
 
 -- the transfers of the whole input, under the numbers from the first on that the opened list leaves
 pub record AreAsked (opened : OpenedList) (left left_new : Option (List ℕ)) (jobs : NumberedJobs) : Type 0 where
@@ -159,8 +129,7 @@ AnswersRun g options old new BadSnapshot = OnlyReads g old new × IsFaultOf (g.r
 AnswersRun g options old new (BadBatch offset) = OnlyReads g old new × IsFaultOf (g.reads old.disk) (fault.BadBatch offset)
 AnswersRun g options old new (BadRec lsn) = OnlyReads g old new × IsFaultOf (g.reads old.disk) (fault.BadRec lsn)
 AnswersRun g options old new (Unlawful lsn why) = OnlyReads g old new × IsFaultOf (g.reads old.disk) (fault.Unlawful lsn why)
-AnswersRun g options old new Usage = ⊥
-AnswersRun g options old new Exists = ⊥
+AnswersRun g options old new detail = ⊥
 
 -- where nothing is written, whatever the disk tells
 abbrev pub RunStaysSilent : Option (List ℕ) → Option (List ℕ) → Detail → Type 0

@@ -14,12 +14,13 @@ use Rattle.log_table.specs.Seats.{key_of}
 use Rattle.lock_core.specs.declared.job.Job.{Job}
 use Rattle.cli_shared.specs.Opening.{most_calls}
 use Rattle.cli_shared.specs.declared.report.Detail.{Detail}
-use Rattle.cli_shared.specs.declared.report.Detail.TheVariants.{Fine, Usage, Write, LogEnd, Exists}
+use Rattle.cli_shared.specs.declared.report.Detail.TheVariants.{NoMemory, Script, Read, Disk, NotALog, BadSnapshot, BadBatch, BadRec, Unlawful, TxnEnd}
 use Rattle.job_queue.specs.Passes.{jobs_of, workers_of}
 use Rattle.cli_threads.specs.declared.transfers.ReadyRun.{ReadyRun}
 use Rattle.cli_threads.specs.declared.transfers.Prepared.{Prepared}
 use Rattle.cli_threads.specs.Prepared.{IsPrepared}
-use Rattle.cli_run.specs.RunAnswers.{AnswersRun, AreAsked, outside}
+use Rattle.cli_run.specs.RunAnswers.{AnswersRun, AreAsked}
+use Rattle.cli_shared.specs.Outside.{outside}
 use Rattle.cli_threads.specs.Transferred.{IsOpened}
 
 -- the table starts where the opened log ends, with its accounts, a ring and slots as was asked, and these are the transfers, for as many
@@ -58,9 +59,14 @@ HasNoRun g options old new left left_new detail = (text : Option (List ℕ))
 
 -- the answers that come before any transfer
 abbrev pub IsBeforeRun : Detail → Type 0
-IsBeforeRun Fine = ⊥
-IsBeforeRun Usage = ⊥
-IsBeforeRun Write = ⊥
-IsBeforeRun (LogEnd tail total) = ⊥
-IsBeforeRun Exists = ⊥
-IsBeforeRun detail = Unit {0}
+IsBeforeRun NoMemory = Unit {0}
+IsBeforeRun (Script line) = Unit {0}
+IsBeforeRun Read = Unit {0}
+IsBeforeRun Disk = Unit {0}
+IsBeforeRun NotALog = Unit {0}
+IsBeforeRun BadSnapshot = Unit {0}
+IsBeforeRun (BadBatch offset) = Unit {0}
+IsBeforeRun (BadRec lsn) = Unit {0}
+IsBeforeRun (Unlawful lsn why) = Unit {0}
+IsBeforeRun (TxnEnd first count) = Unit {0}
+IsBeforeRun detail = ⊥

@@ -2,7 +2,7 @@
 use Rattle.std.proofs.Common.{◌≡◌, ◌∙◌, inr, Option, Some, Result, Ok, Err, MatchResult}
 use Rattle.log_disk.specs.Attaching.{Attached, MayAttach}
 use Rattle.cli_shared.specs.declared.report.Detail.{Detail}
-use Rattle.cli_shared.specs.declared.report.Detail.TheVariants.{Fine, NoMemory, Usage, Script, Read, Write, Disk, NotALog, BadSnapshot, BadBatch, BadRec, Unlawful, LogEnd, TxnEnd, Exists}
+use Rattle.cli_shared.specs.declared.report.Detail.TheVariants.{Fine, NoMemory, Usage, Script, Read, Write, Disk, NotALog, BadSnapshot, BadBatch, BadRec, Unlawful, LogEnd, TxnEnd, Exists, NoSuchLsn, BadStream, Gap, StreamUnlawful, NoAccount}
 use Rattle.cli_shared.specs.Attached.{LeavesAttached}
 
 -- where this file is attached, it is so whatever is answered
@@ -22,6 +22,11 @@ leaves-attached file before now (Unlawful lsn why) is = is
 leaves-attached file before now (LogEnd tail total) is = is
 leaves-attached file before now (TxnEnd first count) is = is
 leaves-attached file before now Exists is = is
+leaves-attached file before now (NoSuchLsn lsn) is = is
+leaves-attached file before now (BadStream offset) is = is
+leaves-attached file before now (Gap have from) is = is
+leaves-attached file before now (StreamUnlawful lsn why) is = is
+leaves-attached file before now (NoAccount account) is = is
 
 -- what came behind the call that attached it attached no other, whether it succeeded or failed
 pub attached-then : {T E : Type 0} (file : Attached) (before mid now : Option Attached) (result : Result T E) → mid ≡ Some file → now ≡ mid

@@ -2,4 +2,5 @@ pub mod AttachedLemmas
 pub mod FindingLemmas
 pub mod GenesisLemmas
 pub mod OpeningLemmas
+pub mod SourceLemmas
 pub mod ToldLemmas

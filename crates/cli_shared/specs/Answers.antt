@@ -3,8 +3,9 @@ use Rattle.std.specs.Prelude.{◌≡◌, ℕ, List, [], Option, Some, IfSome}
 use Rattle.std.specs.Io.KnownBytes.{Keeps}
 use Rattle.log_recovery.specs.declared.recovery.RecoverFault.{RecoverFault}
 use Rattle.log_recovery.specs.declared.recovery.RecoverFault.TheVariants as fault
+use Rattle.log_recovery.specs.Recovery.{IsFaultOf}
 use Rattle.cli_shared.specs.declared.report.Detail.{Detail}
-use Rattle.cli_shared.specs.declared.report.Detail.TheVariants.{Fine, NoMemory, Usage, Script, Read, Write, Disk, NotALog, BadSnapshot, BadBatch, BadRec, Unlawful, LogEnd, TxnEnd, Exists}
+use Rattle.cli_shared.specs.declared.report.Detail.TheVariants.{Fine, NoMemory, Usage, Script, Read, Write, Disk, NotALog, BadSnapshot, BadBatch, BadRec, Unlawful, LogEnd, TxnEnd, Exists, BadStream, Gap, NoSuchLsn, StreamUnlawful, NoAccount}
 
 abbrev pub status_of : Detail → ℕ
 status_of Fine = 0
@@ -22,24 +23,17 @@ status_of (Unlawful lsn why) = 7
 status_of (LogEnd tail total) = 8
 status_of (TxnEnd first count) = 9
 status_of Exists = 10
+status_of (BadStream offset) = 11
+status_of (Gap have from) = 12
+status_of (NoSuchLsn lsn) = 13
+status_of (StreamUnlawful lsn why) = 14
+status_of (NoAccount account) = 15
 
 -- nothing is written, but where all is fine or the writing failed
 abbrev pub StaysSilent : Option (List ℕ) → Option (List ℕ) → Detail → Type 0
 StaysSilent old new Fine = Unit {0}
 StaysSilent old new Write = Unit {0}
-StaysSilent old new NoMemory = Keeps old new
-StaysSilent old new Usage = Keeps old new
-StaysSilent old new (Script line) = Keeps old new
-StaysSilent old new Read = Keeps old new
-StaysSilent old new Disk = Keeps old new
-StaysSilent old new Exists = Keeps old new
-StaysSilent old new NotALog = Keeps old new
-StaysSilent old new BadSnapshot = Keeps old new
-StaysSilent old new (BadBatch offset) = Keeps old new
-StaysSilent old new (BadRec lsn) = Keeps old new
-StaysSilent old new (Unlawful lsn why) = Keeps old new
-StaysSilent old new (LogEnd tail total) = Keeps old new
-StaysSilent old new (TxnEnd first count) = Keeps old new
+StaysSilent old new detail = Keeps old new
 
 -- what was read is all that was left
 abbrev pub ReadsAll : Option (List ℕ) → Option (List ℕ) → List ℕ → Type 0
@@ -53,3 +47,18 @@ recover_detail (fault.BadBatch offset) = BadBatch offset
 recover_detail (fault.BadRec lsn) = BadRec lsn
 recover_detail (fault.Unlawful lsn why) = Unlawful lsn why
 recover_detail fault.NoMemory = NoMemory
+
+-- a source was read to its end, and has this fault of a log
+abbrev pub HasSourceFault : Option (List ℕ) → Option (List ℕ) → RecoverFault → Type 0
+HasSourceFault left left_new fault' = (bytes : List ℕ) × ReadsAll left left_new bytes × IsFaultOf bytes fault'
+
+-- why a source gives no log
+abbrev pub IsSourceFault : Option (List ℕ) → Option (List ℕ) → Detail → Type 0
+IsSourceFault left left_new NotALog = HasSourceFault left left_new fault.NotALog
+IsSourceFault left left_new BadSnapshot = HasSourceFault left left_new fault.BadSnapshot
+IsSourceFault left left_new (BadBatch offset) = HasSourceFault left left_new (fault.BadBatch offset)
+IsSourceFault left left_new (BadRec lsn) = HasSourceFault left left_new (fault.BadRec lsn)
+IsSourceFault left left_new (Unlawful lsn why) = HasSourceFault left left_new (fault.Unlawful lsn why)
+IsSourceFault left left_new Read = Unit {0}
+IsSourceFault left left_new NoMemory = Unit {0}
+IsSourceFault left left_new detail = ⊥

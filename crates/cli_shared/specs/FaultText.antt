@@ -4,10 +4,10 @@ use Rattle.lsn_space.specs.Number.{number_text}
 use Rattle.lock_core.specs.declared.reason.Why.{Why}
 use Rattle.lock_core.specs.declared.reason.Why.TheVariants as why
 use Rattle.cli_shared.specs.declared.report.Detail.{Detail}
-use Rattle.cli_shared.specs.declared.report.Detail.TheVariants.{Fine, NoMemory, Usage, Script, Read, Write, Disk, NotALog, BadSnapshot, BadBatch, BadRec, Unlawful, LogEnd, TxnEnd, Exists}
+use Rattle.cli_shared.specs.declared.report.Detail.TheVariants.{Fine, NoMemory, Usage, Script, Read, Write, Disk, NotALog, BadSnapshot, BadBatch, BadRec, Unlawful, LogEnd, TxnEnd, Exists, BadStream, Gap, NoSuchLsn, StreamUnlawful, NoAccount}
 
 abbrev pub usage_line : List ℕ
-usage_line = codes "usage: aether new LOG | run LOG [--workers N] [--ring R] [--slots K] [--wait] | recover | dump | demo LOG N SEED [--workers N] [--ring R] [--slots K] | cut LOG | upgrade LOG\n"
+usage_line = codes "usage: aether new LOG | run LOG [--workers N] [--ring R] [--slots K] [--wait] | recover | dump | demo LOG N SEED [--workers N] [--ring R] [--slots K] | cut LOG | upgrade LOG | ship FROM | follow LOG | asof LSN | statement ACCOUNT\n"
 
 -- the word for the test that a record failed
 abbrev pub why_text : Why → List ℕ
@@ -38,3 +38,10 @@ fault_line (LogEnd tail total) =
 fault_line (TxnEnd first count) =
     codes "aether: transaction numbers end: first " ++ number_text first ++ (codes ", count " ++ number_text count ++ codes "\n")
 fault_line Exists = codes "aether: log exists\n"
+fault_line (BadStream offset) = codes "aether: bad stream at byte " ++ number_text offset ++ codes "\n"
+fault_line (Gap have from) =
+    codes "aether: stream from lsn " ++ number_text from ++ (codes ", log ends at " ++ number_text have ++ codes "\n")
+fault_line (NoSuchLsn lsn) = codes "aether: no record boundary at lsn " ++ number_text lsn ++ codes "\n"
+fault_line (StreamUnlawful lsn test) =
+    codes "aether: unlawful stream record at lsn " ++ number_text lsn ++ (codes ": " ++ why_text test ++ codes "\n")
+fault_line (NoAccount account) = codes "aether: no account " ++ number_text account ++ codes "\n"

@@ -12,13 +12,13 @@ use log_recovery::Why;
 use lsn_space::decimal;
 
 /// Room for the longest line, which is the usage line.
-type Line = ArrayVec<u8, 192>;
+type Line = ArrayVec<u8, 256>;
 
 const USAGE: &[u8] =
-    b"usage: aether new LOG | run LOG [--workers N] [--ring R] [--slots K] [--wait] | recover | dump | demo LOG N SEED [--workers N] [--ring R] [--slots K] | cut LOG | upgrade LOG\n";
+    b"usage: aether new LOG | run LOG [--workers N] [--ring R] [--slots K] [--wait] | recover | dump | demo LOG N SEED [--workers N] [--ring R] [--slots K] | cut LOG | upgrade LOG | ship FROM | follow LOG | asof LSN | statement ACCOUNT\n";
 
 fn text(bytes: &[u8]) -> Line
-    requires { length bytes.now ≤ 192 }
+    requires { length bytes.now ≤ 256 }
     ensures { result.items ≡ bytes.now }
 {
     let mut line = ArrayVec::new();
@@ -105,6 +105,25 @@ fn line_of(detail: Detail) -> Line
             two_numbered(before, first, b", count ", count)
         }
         Detail::Exists => text(b"aether: log exists\n"),
+        Detail::BadStream { offset } => numbered(b"aether: bad stream at byte ", offset, b"\n"),
+        Detail::Gap { have, from } => {
+            let before = b"aether: stream from lsn ";
+            two_numbered(
+                before,
+                from.units() as u64,
+                b", log ends at ",
+                have.units() as u64,
+            )
+        }
+        Detail::NoSuchLsn { lsn } => {
+            let before = b"aether: no record boundary at lsn ";
+            numbered(before, lsn.units() as u64, b"\n")
+        }
+        Detail::StreamUnlawful { lsn, why } => {
+            let before = b"aether: unlawful stream record at lsn ";
+            numbered(before, lsn.units() as u64, reason(why))
+        }
+        Detail::NoAccount { account } => { numbered(b"aether: no account ", account as u64, b"\n") }
     }
 }
 

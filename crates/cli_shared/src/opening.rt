@@ -36,8 +36,8 @@ pub fn open_log<D: LogDisk>(alloc: Global, log: &Word, disk: &mut D) -> Result<R
     }
 }
 
-/// All bytes of the file of that name, after a sync that makes them stable.
-fn image_of<D: LogDisk>(alloc: Global, log: &Word, disk: &mut D) -> Result<Vec<u8>, OpenFault>
+/// All bytes of the file of that name, which has to be there, after a sync that makes them stable.
+pub fn image_of<D: LogDisk>(alloc: Global, log: &Word, disk: &mut D) -> Result<Vec<u8>, OpenFault>
     ensures bytes { IfOk result (λ bytes. MayHold D.LogDisk disk.old bytes.items) }
     ensures settled { D.honest disk.old → OnOk result (IsOnlyImage (D.reads disk.new) (D.images disk.new)) }
     ensures reads { D.honest disk.old → D.reads disk.new ≡ D.reads disk.old }

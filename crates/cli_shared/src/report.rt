@@ -50,6 +50,21 @@ pub enum Detail {
 
     /// A log is there already: the file begins with an open gate.
     Exists,
+
+    /// The part of the stream that begins at this byte, the first of those that do, is cut or outside the grammar.
+    BadStream { offset: u64 },
+
+    /// The log ends at `have`, and the stream begins at another LSN, `from`.
+    Gap { have: Lsn, from: Lsn },
+
+    /// At this LSN no record of the list begins, and the list doesn't end there.
+    NoSuchLsn { lsn: Lsn },
+
+    /// The record that would stand at this LSN is the first of the stream that fails a test, and this is the first that it fails.
+    StreamUnlawful { lsn: Lsn, why: Why },
+
+    /// The list has no such account.
+    NoAccount { account: u32 },
 }
 
 impl Detail {
@@ -73,6 +88,11 @@ impl Detail {
             Detail::LogEnd { .. } => 8,
             Detail::TxnEnd { .. } => 9,
             Detail::Exists => 10,
+            Detail::BadStream { .. } => 11,
+            Detail::Gap { .. } => 12,
+            Detail::NoSuchLsn { .. } => 13,
+            Detail::StreamUnlawful { .. } => 14,
+            Detail::NoAccount { .. } => 15,
         }
     }
 }

@@ -28,7 +28,7 @@ use Rattle.txn_jobs.specs.declared.cause.Cause.TheVariants as cause
 use Rattle.txn_jobs.specs.declared.cause.Worked.{Worked}
 use Rattle.txn_jobs.specs.declared.cause.Worked.TheVariants as worked
 use Rattle.cli_shared.specs.declared.report.Detail.{Detail}
-use Rattle.cli_shared.specs.declared.report.Detail.TheVariants.{Fine, NoMemory, Usage, Script, Read, Write, Disk, NotALog, BadSnapshot, BadBatch, BadRec, Unlawful, LogEnd, TxnEnd, Exists}
+use Rattle.cli_shared.specs.declared.report.Detail.TheVariants.{Fine, NoMemory, Usage, Script, Read, Write, Disk, NotALog, BadSnapshot, BadBatch, BadRec, Unlawful, LogEnd, TxnEnd, Exists, NoSuchLsn, BadStream, Gap, StreamUnlawful, NoAccount}
 use Rattle.cli_ending.specs.declared.conclusion.Ended.{Ended}
 use Rattle.cli_ending.specs.Ending.{AreWhole, Concludes, NoneStopped, NothingStopped, StoppedAs, IsFirstLogEnd}
 use Rattle.cli_threads.specs.declared.transfers.Prepared.{Prepared}
@@ -92,6 +92,11 @@ module _ {K : Type 0} (h : SinkGhosts K) (ended : Ended) (text : List ℕ) (old 
   by-conclusion (Unlawful lsn why) said = absurd said
   by-conclusion (TxnEnd first count) said = absurd said
   by-conclusion Exists said = absurd said
+  by-conclusion (NoSuchLsn lsn) said = absurd said
+  by-conclusion (BadStream offset) said = absurd said
+  by-conclusion (Gap have from) said = absurd said
+  by-conclusion (StreamUnlawful lsn why) said = absurd said
+  by-conclusion (NoAccount account) said = absurd said
 
 module _ {D : Type 0} {K : Type 0} (g : Ghosts D) (h : SinkGhosts K) (prepared : Prepared) (opened : OpenedList) (voice : Voice)
     {tail : Tail} {wait : Bool} (disk disk_new : D) (sink sink_new : K) (ended : Ended)

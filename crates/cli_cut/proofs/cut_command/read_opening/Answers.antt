@@ -1,6 +1,6 @@
 use Rattle.std.proofs.Common.{arith}
 use Rattle.log_recovery.proofs.OpenedLemmas.{held-snapshot}
-use Rattle.cli_cut.proofs.AnswerLemmas.{source-fault}
+use Rattle.cli_shared.proofs.SourceLemmas.{source-fault}
 use Rattle.cli_cut.proofs.cut_command.read_opening.Goals as goal
 
 pub returns-in-Ok-recover-clause-ok : goal.returns-in-Ok-recover-clause-ok

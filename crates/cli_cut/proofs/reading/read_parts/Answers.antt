@@ -1,6 +1,6 @@
 use Rattle.std.proofs.Common.{sym, subst}
 use Rattle.log_record.specs.LogList.{AreUnitsOf}
-use Rattle.cli_cut.proofs.AnswerLemmas.{source-fault}
+use Rattle.cli_shared.proofs.SourceLemmas.{source-fault}
 use Rattle.cli_cut.proofs.FrontLemmas.{front-inside}
 use Rattle.cli_cut.proofs.PartsLemmas.{are-parts, front-fits, listed-lawful}
 use Rattle.cli_cut.proofs.reading.read_parts.Goals as goal
