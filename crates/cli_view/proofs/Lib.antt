@@ -1,0 +1,3 @@
+pub mod BalanceLemmas
+pub mod ReadLemmas
+pub mod StatementLemmas

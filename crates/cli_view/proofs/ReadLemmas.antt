@@ -1,0 +1,105 @@
+-- What is known of a log that was read, and of the view that was given its list.
+use Rattle.std.proofs.Common.{◌≡◌, ◌<◌, ◌≤◌, ℕ, ◌+◌, List, length, Option, IfSome, refl, ap, ◌∙◌, arith}
+use Rattle.std.specs.Io.KnownBytes.{Appends}
+use Rattle.lsn_space.specs.declared.lsn.TheConstants.{LAST}
+use Rattle.log_disk.specs.Streams.{AppendsPart}
+use Rattle.log_record.specs.declared.rec.Placed.{Placed}
+use Rattle.log_record.specs.declared.rec.Rec.{Rec}
+use Rattle.log_record.specs.LogList.{AreUnitsOf, end_of}
+use Rattle.log_record.proofs.LogListLemmas.{front_is_boundary}
+use Rattle.lock_core.specs.Lawful.{base_with}
+use Rattle.lock_core.specs.Sums.{Opening}
+use Rattle.log_recovery.specs.declared.list_result.Listed.{Listed}
+use Rattle.log_recovery.specs.Boundaries.{GoesOnAt}
+use Rattle.log_recovery.specs.Listing.{IsRecords}
+use Rattle.log_recovery.specs.Opened.{OpenedList, IsListBoundary, base_in, opening_before, placed}
+use Rattle.log_recovery.specs.Recovery.{list_of}
+use Rattle.log_recovery.specs.Text.{rows_text}
+use Rattle.ledger_view.specs.declared.entries.Entry.{Entry}
+use Rattle.ledger_view.specs.declared.view.View.{View}
+use Rattle.ledger_view.specs.Entries.{entries_of}
+use Rattle.ledger_view.specs.Viewing.{HasViewed}
+use Rattle.cli_shared.specs.LogInput.{ReadsTaken}
+use Rattle.cli_shared.specs.declared.report.Detail.TheVariants.{Fine, Write, NoSuchLsn, NoAccount}
+use Rattle.cli_reports.specs.Reports.{AnswersReport, OfList, RefusesLsn}
+use Rattle.cli_reports.proofs.ReportLemmas.{of-list}
+use Rattle.cli_view.specs.Balances.{HasBalances}
+use Rattle.cli_view.specs.Reports.{RefusesAccount, SaysAccounts, SaysStatement, statement_lines}
+use Rattle.cli_view.proofs.BalanceLemmas.{accounts-text}
+
+module _ (left left_new : Option (List ℕ)) (view : View) (listed : Listed) (read : ReadsTaken HasViewed left left_new view listed) where
+  abbrev pub list_read : OpenedList
+  list_read = list_of listed read.2.records
+
+  pub viewed : HasViewed (opening_before list_read) view (placed list_read)
+  viewed = read.2.taken
+
+  pub units-read : IsRecords listed.units
+  units-read = (read.2.records, read.2.has.list)
+
+  pub fits-read : listed.opening.lsn + length listed.units ≤ LAST
+  fits-read = omega (arith, read.2.held.list.holds.reads.total, ap length read.2.has.list.units_are)
+
+  pub boundary-read : (lsn : ℕ) (rest : List ℕ)
+      → ((records : List Rec) → AreUnitsOf listed.units records → GoesOnAt listed.opening.lsn records lsn rest) → IsListBoundary list_read lsn
+  boundary-read lsn rest goes_on =
+      let found = goes_on read.2.records read.2.has.list in
+      (end_of found.front, found.place, front_is_boundary read.2.records (end_of found.front) (found.front, found.later, found.whole, refl))
+
+  -- what is said of the list that was read is said of that of the input
+  pub said : (Said : OpenedList → Type 0) → Said list_read → IfSome left (λ all. OfList all left_new Said)
+  said Said is = of-list left left_new read.0 list_read Said read.1 read.2.held is
+
+  -- nothing is said at an LSN that is no boundary
+  pub asof-refused : (lsn : ℕ) (old new : Option (List ℕ)) → (IsListBoundary list_read lsn → ⊥)
+      → IfSome left (λ all. AnswersReport (SaysAccounts lsn) (RefusesLsn lsn) all left_new old new (NoSuchLsn lsn))
+  asof-refused lsn old new none = said (λ list. RefusesLsn lsn list (NoSuchLsn lsn)) (refl, none)
+
+  module _ (lsn : ℕ) (rows : List (ℕ × ℕ)) (boundary : IsListBoundary list_read lsn)
+      (has : (opening : Opening) (h : List Placed) → HasViewed opening view h → HasBalances opening h lsn rows) where
+    says-accounts : SaysAccounts lsn list_read (rows_text lsn rows)
+    says-accounts = (boundary, accounts-text list_read lsn rows boundary (has _ _ viewed))
+
+    pub asof-fine : (old new : Option (List ℕ)) → Appends old new (rows_text lsn rows)
+        → IfSome left (λ all. AnswersReport (SaysAccounts lsn) (RefusesLsn lsn) all left_new old new Fine)
+    asof-fine old new written =
+        said (λ list. (text : List ℕ) × SaysAccounts lsn list text × Appends old new text) (rows_text lsn rows, says-accounts, written)
+
+    pub asof-cut : (old new : Option (List ℕ)) → AppendsPart old new (rows_text lsn rows)
+        → IfSome left (λ all. AnswersReport (SaysAccounts lsn) (RefusesLsn lsn) all left_new old new Write)
+    asof-cut old new written =
+        said (λ list. (text : List ℕ) × SaysAccounts lsn list text × AppendsPart old new text) (rows_text lsn rows, says-accounts, written)
+
+  module _ (account : ℕ) where
+    -- nothing is said of an account that isn't there
+    pub statement-refused : (old new : Option (List ℕ))
+        → ((opening : Opening) (h : List Placed) → HasViewed opening view h → (base_with opening h).accounts ≤ account)
+        → IfSome left (λ all. AnswersReport (SaysStatement account) (RefusesAccount account) all left_new old new (NoAccount account))
+    statement-refused old new none =
+        said (λ list. RefusesAccount account list (NoAccount account)) (refl, λ inside. omega (arith, inside, none _ _ viewed))
+
+    module _ (balance : ℕ) (entries : List Entry)
+        (first : (opening : Opening) (h : List Placed) → HasViewed opening view h
+        → (account < (base_with opening h).accounts) × (balance ≡ (base_with opening h).balance account))
+        (each : (opening : Opening) (h : List Placed) → HasViewed opening view h
+        → (account < (base_with opening h).accounts) × (entries ≡ entries_of opening h account)) where
+      abbrev pub text_written : List ℕ
+      text_written = statement_lines balance entries listed.tail.next
+
+      says-statement : SaysStatement account list_read text_written
+      says-statement = (
+        (first _ _ viewed).0,
+        ap (λ (n : ℕ). statement_lines n entries listed.tail.next) (first _ _ viewed).1
+            ∙ ap (λ es. statement_lines ((base_in list_read).balance account) es listed.tail.next) (each _ _ viewed).1
+            ∙ ap (λ (n : ℕ). statement_lines ((base_in list_read).balance account) (entries_of (opening_before list_read) (placed list_read) account) n) read.2.has.end,
+      )
+
+      pub statement-fine : (old new : Option (List ℕ)) → Appends old new text_written
+          → IfSome left (λ all. AnswersReport (SaysStatement account) (RefusesAccount account) all left_new old new Fine)
+      statement-fine old new written =
+          said (λ list. (text : List ℕ) × SaysStatement account list text × Appends old new text) (text_written, says-statement, written)
+
+      pub statement-cut : (old new : Option (List ℕ)) → AppendsPart old new text_written
+          → IfSome left (λ all. AnswersReport (SaysStatement account) (RefusesAccount account) all left_new old new Write)
+      statement-cut old new written =
+          said (λ list. (text : List ℕ) × SaysStatement account list text × AppendsPart old new text) (text_written, says-statement, written)

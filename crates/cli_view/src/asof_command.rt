@@ -1,0 +1,62 @@
+ghost use Rattle.std.specs.Prelude.{◌≡◌, ◌≤◌, ℕ, List, IfOk, IfSome};
+ghost use Rattle.log_disk.specs.Faults.{CountsWhere};
+ghost use Rattle.log_record.specs.declared.rec.Placed.{Placed};
+ghost use Rattle.lock_core.specs.Sums.{Opening};
+ghost use Rattle.ledger_view.specs.Viewing.{HasViewed};
+ghost use Rattle.cli_shared.specs.Answers.{StaysSilent};
+ghost use Rattle.cli_reports.specs.Reports.{AnswersReport, IsOfReportAt, RefusesLsn};
+ghost use Rattle.cli_view.specs.Reports.{SaysAccounts};
+ghost use Rattle.cli_view.specs.Balances.{HasBalances};
+
+use cli_shared::{Detail, read_log};
+use ledger_view::View;
+use log_disk::{Sink, Source};
+use log_recovery::{put_accounts, units_from};
+use lsn_space::{Balances, Lsn, NoMemory};
+use std::alloc::Global;
+
+/// Answers the bytes of a log by the accounts text of its list up to a boundary.
+pub fn asof_command<S: Source, K: Sink>(
+    alloc: Global,
+    lsn: Lsn,
+    script: &mut S,
+    out: &mut K,
+) -> Detail
+    ensures answer { IfSome (S.left script.old) (λ bytes. AnswersReport (SaysAccounts lsn) (RefusesLsn lsn)
+        bytes (S.left script.new) (K.held_bytes out.old) (K.held_bytes out.new) result) }
+    ensures silent { StaysSilent (K.held_bytes out.old) (K.held_bytes out.new) result }
+    ensures range { IsOfReportAt result }
+    ensures read { CountsWhere (result ≡ Detail.Read) (S.faults script.old) (S.faults script.new) }
+    ensures write { CountsWhere (result ≡ Detail.Write) (K.faults out.old) (K.faults out.new) }
+{
+    let (view, listed) = match read_log::<View, S>(alloc, script) {
+        Ok(both) => both,
+        Err(detail) => return detail,
+    };
+    let Some(_) = units_from(&listed.opening, listed.units.as_slice(), lsn) else {
+        return Detail::NoSuchLsn { lsn };
+    };
+    let accounts = match accounts_at(alloc, &view, lsn) {
+        Ok(accounts) => accounts,
+        Err(NoMemory) => return Detail::NoMemory,
+    };
+    match put_accounts(lsn, &accounts, out) {
+        Ok(()) => Detail::Fine,
+        Err(_) => Detail::Write,
+    }
+}
+
+/// The accounts that there are at an LSN, with the balances that they have there.
+fn accounts_at(alloc: Global, view: &View, lsn: Lsn) -> Result<Balances, NoMemory>
+    requires viewed { (opening : Opening) × (h : List Placed) × HasViewed opening view.now h }
+    ensures { IfOk result (λ accounts. (opening : Opening) (h : List Placed) → HasViewed opening view.now h
+        → HasBalances opening h lsn accounts.rows) }
+{
+    let mut rows = Balances::make(alloc, view.accounts())?;
+    let mut account = 0;
+    'accounts: while let Some(balance) = view.balance_at(account, lsn) {
+        rows.push(balance as u32, 0);
+        account += 1;
+    }
+    Ok(rows)
+}

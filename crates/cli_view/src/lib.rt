@@ -1,0 +1,7 @@
+//! The commands `asof` and `statement`: they read the bytes of a log, and write how its accounts stood at an LSN, and what
+//! happened to one of them.
+#![tactic(auto)]
+
+pub mod asof_command;
+pub mod statement_command;
+mod statement_text;

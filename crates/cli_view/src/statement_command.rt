@@ -1,0 +1,41 @@
+ghost use Rattle.std.specs.Prelude.{◌≡◌, ◌≤◌, IfSome};
+ghost use Rattle.log_disk.specs.Faults.{CountsWhere};
+ghost use Rattle.cli_shared.specs.Answers.{StaysSilent};
+ghost use Rattle.cli_reports.specs.Reports.{AnswersReport, IsOfAccountReport};
+ghost use Rattle.cli_view.specs.Reports.{RefusesAccount, SaysStatement};
+
+use crate::statement_text::put_statement;
+use cli_shared::{Detail, read_log};
+use ledger_view::View;
+use log_disk::{Sink, Source};
+use std::alloc::Global;
+
+/// Answers the bytes of a log by the statement of an account of its list.
+pub fn statement_command<S: Source, K: Sink>(
+    alloc: Global,
+    account: u32,
+    script: &mut S,
+    out: &mut K,
+) -> Detail
+    ensures answer { IfSome (S.left script.old) (λ bytes. AnswersReport (SaysStatement account) (RefusesAccount account)
+        bytes (S.left script.new) (K.held_bytes out.old) (K.held_bytes out.new) result) }
+    ensures silent { StaysSilent (K.held_bytes out.old) (K.held_bytes out.new) result }
+    ensures range { IsOfAccountReport result }
+    ensures read { CountsWhere (result ≡ Detail.Read) (S.faults script.old) (S.faults script.new) }
+    ensures write { CountsWhere (result ≡ Detail.Write) (K.faults out.old) (K.faults out.new) }
+{
+    let (view, listed) = match read_log::<View, S>(alloc, script) {
+        Ok(both) => both,
+        Err(detail) => return detail,
+    };
+    let Some(balance) = view.first_balance(account) else {
+        return Detail::NoAccount { account };
+    };
+    let Some(entries) = view.entries(account) else {
+        unreachable!()
+    };
+    match put_statement(balance, entries.as_slice(), listed.tail.next, out) {
+        Ok(()) => Detail::Fine,
+        Err(_) => Detail::Write,
+    }
+}
