@@ -1,0 +1,193 @@
+-- What a standby has made of the bytes that were read, said of the whole input.
+use Rattle.std.proofs.Common.{◌≡◌, ◌∙◌, refl, sym, ap, subst, ℕ, List, [], ◌∷◌, ◌++◌, append-nil, take, Option, Some, None, IfSome}
+use Rattle.std.specs.Io.KnownBytes.{Consumes, IsAtEnd, Keeps}
+use Rattle.std.proofs.KnownBytes.{Consumes-kept, Consumes-trans}
+use Rattle.log_disk.specs.Faults.{CountsWhere}
+use Rattle.log_disk.specs.declared.disk.LogDisk.{Ghosts}
+use Rattle.log_record.specs.declared.rec.Rec.{Rec}
+use Rattle.log_recovery.specs.Opened.{OpenedList, list_end}
+use Rattle.ship_stream.specs.Came.{IsBadBehind}
+use Rattle.ship_stream.specs.Stream.{HasFrames}
+use Rattle.standby.specs.Applying.{Base, HoldsFront, Wrote, with_frames}
+use Rattle.standby.specs.Following.{BeginsWithFrames, Follows, IsReason, Stops, frames_of}
+use Rattle.standby.specs.declared.fault.StandbyFault.{StandbyFault}
+use Rattle.standby.specs.declared.fault.StandbyFault.TheVariants as stream
+use Rattle.standby.specs.declared.standby.Standby.{Standby}
+use Rattle.standby.proofs.FollowedParts.{begins-followed, begins-longer}
+use Rattle.standby.proofs.FrameLists.{holds-front-none, holds-lawful}
+use Rattle.standby.proofs.StoppedStreams.{has-longer}
+use Rattle.cli_shared.specs.declared.report.Detail.{Detail}
+use Rattle.cli_shared.specs.declared.report.Detail.TheVariants.{Disk, Read}
+use Rattle.cli_standby.specs.Feeding.{HasFed, HasFedAll, IsFeedingFault, StopsFeeding, stream_detail}
+use Rattle.cli_standby.specs.Following.{IsCause}
+
+-- ---- the input and the bytes that were read of it
+
+-- what is said of the bytes that were read, whatever follows
+pub of-input : (P : List ℕ → Type 0) (left left_new : Option (List ℕ)) (fed : List ℕ) → Consumes left left_new fed
+    → ((more : List ℕ) → P (fed ++ more)) → IfSome left P
+of-input P None left_new fed taken all = tt
+of-input P (Some bytes) None fed taken all = absurd taken
+of-input P (Some bytes) (Some rest) fed taken all = subst P (sym taken) (all rest)
+
+-- what is said of all bytes
+pub of-all : (P : List ℕ → Type 0) (left left_new : Option (List ℕ)) (fed : List ℕ) → Consumes left left_new fed
+    → IfSome left (λ bytes. left_new ≡ Some []) → P fed → IfSome left P
+of-all P None left_new fed taken end all = tt
+of-all P (Some bytes) None fed taken end all = absurd taken
+of-all P (Some bytes) (Some rest) fed taken end all =
+    let none : rest ≡ [] = subst (λ left. IfSome left (λ bytes. bytes ≡ [])) (sym end) refl in
+    subst P (sym (taken ∙ ap (λ b. fed ++ b) none ∙ append-nil fed)) all
+
+pub at-end : (left left_new : Option (List ℕ)) (fed : List ℕ) → Consumes left left_new fed → IsAtEnd left_new → IfSome left (λ bytes. left_new ≡ Some [])
+at-end None left_new fed taken end = tt
+at-end (Some bytes) None fed taken end = absurd taken
+at-end (Some bytes) (Some rest) fed taken end = ap Some end
+
+pub begins-input : (left left_new : Option (List ℕ)) (fed : List ℕ) (list : OpenedList) (frames : List (List Rec)) → Consumes left left_new fed
+    → BeginsWithFrames fed list frames → IfSome left (λ bytes. BeginsWithFrames bytes list frames)
+begins-input left left_new fed list frames taken begins =
+    of-input (λ bytes. BeginsWithFrames bytes list frames) left left_new fed taken (λ more. begins-longer fed more list frames begins)
+
+-- ---- the fault of a standby
+
+cause-stopped : (list : OpenedList) (left left_new : Option (List ℕ)) (fed : List ℕ) → Consumes left left_new fed → (frames cut : List (List Rec))
+    (fault : StandbyFault) → IsReason list fed frames cut fault → IsCause list left frames cut (stream_detail fault)
+cause-stopped list left left_new fed taken frames cut (stream.BadStream offset) is =
+    (is.0, (is.1.0, is.1.1, is.1.2, of-input (λ bytes. IsBadBehind is.1.0 bytes offset) left left_new fed taken is.1.3))
+cause-stopped list left left_new fed taken frames cut (stream.Gap have from) is = (
+  is.0,
+  is.1,
+  is.2,
+  is.3,
+  of-input (λ bytes. (rest : List ℕ) × HasFrames bytes from [] rest) left left_new fed taken
+      (λ more. (is.4.0 ++ more, has-longer fed from [] is.4.0 more is.4.1)),
+)
+cause-stopped list left left_new fed taken frames cut (stream.StreamUnlawful lsn why) is = (
+  is.0,
+  (
+    is.1.0,
+    of-input (λ bytes. (rest : List ℕ) × HasFrames bytes (list_end list) (frames ++ is.1.0 ∷ []) rest) left left_new fed taken
+        (λ more. (is.1.1 ++ more, has-longer fed _ _ is.1.1 more is.1.2)),
+    is.1.3,
+  ),
+)
+cause-stopped list left left_new fed taken frames cut stream.DiskFault is = (is.0, is.2)
+cause-stopped list left left_new fed taken frames cut stream.NoMemory is = is
+
+counts-stopped : (fault : StandbyFault) (before now : ℕ) → CountsWhere (fault ≡ stream.DiskFault) before now
+    → CountsWhere (stream_detail fault ≡ Disk) before now
+counts-stopped (stream.BadStream offset) before now counts = record { counted = λ is. absurd cc; fine = λ other. counts.fine (λ is. cc) }
+counts-stopped (stream.Gap have from) before now counts = record { counted = λ is. absurd cc; fine = λ other. counts.fine (λ is. cc) }
+counts-stopped (stream.StreamUnlawful lsn why) before now counts = record { counted = λ is. absurd cc; fine = λ other. counts.fine (λ is. cc) }
+counts-stopped stream.DiskFault before now counts = record { counted = λ is. counts.counted refl; fine = λ other. absurd (other refl) }
+counts-stopped stream.NoMemory before now counts = record { counted = λ is. absurd cc; fine = λ other. counts.fine (λ is. cc) }
+
+pub range-stopped : (fault : StandbyFault) → IsFeedingFault (stream_detail fault)
+range-stopped (stream.BadStream offset) = tt
+range-stopped (stream.Gap have from) = tt
+range-stopped (stream.StreamUnlawful lsn why) = tt
+range-stopped stream.DiskFault = tt
+range-stopped stream.NoMemory = tt
+
+-- it is no fault of the input or of the output
+pub read-stopped : (fault : StandbyFault) → stream_detail fault ≡ Read → ⊥
+read-stopped (stream.BadStream offset) is = cc
+read-stopped (stream.Gap have from) is = cc
+read-stopped (stream.StreamUnlawful lsn why) is = cc
+read-stopped stream.DiskFault is = cc
+read-stopped stream.NoMemory is = cc
+
+module _ {D : Type 0} (g : Ghosts D) (base : Base D) (left left_new : Option (List ℕ)) where
+  pub stops-fed : (fed : List ℕ) → Consumes left left_new fed → (fault : StandbyFault) (disk : D) → Stops g base fed fault disk
+      → StopsFeeding g base left left_new (stream_detail fault) disk
+  stops-fed fed taken fault disk stops = record {
+    frames = stops.frames;
+    cut = stops.cut;
+    cause = cause-stopped base.list left left_new fed taken stops.frames stops.cut fault stops.reason;
+    begins = begins-input left left_new fed base.list (stops.frames ++ stops.cut) taken stops.begins;
+    images = stops.images;
+    wrote = stops.wrote;
+    faults = counts-stopped fault _ _ stops.faults;
+  }
+
+  -- with no frame in flight, and no fault of the disk
+  module _ (s : Standby D) (has : HasFed g base left left_new s) where
+    abbrev frames : List (List Rec)
+    frames = frames_of has.follows.came
+
+    abbrev list : OpenedList
+    list = with_frames base.list frames
+
+    images-between : g.honest base.disk → (image : List ℕ) → g.images s.disk.now image → HoldsFront list [] image
+    images-between honest image left_image =
+        let kept = has.follows.applied.kept in
+        holds-front-none list image (holds-lawful list image kept.each kept.taken.ledger.judged.lawful
+        (kept.stands (has.follows.applied.wrote.honest.0 honest) image left_image).held)
+
+    stops-between : (detail : Detail) → (detail ≡ Disk → ⊥) → IsCause base.list left frames [] detail
+        → StopsFeeding g base left left_new detail s.disk.now
+    stops-between detail other cause = record {
+      frames = frames;
+      cut = [];
+      cause = cause;
+      begins = subst (λ fs. IfSome left (λ bytes. BeginsWithFrames bytes base.list fs)) (sym (append-nil frames))
+          (begins-input left left_new has.fed base.list frames has.taken (begins-followed g base has.fed s has.follows));
+      images = images-between;
+      wrote = subst (λ fs. Wrote g base fs s.disk.now) (sym (append-nil frames)) has.follows.applied.wrote;
+      faults = record { counted = λ is. absurd (other is); fine = λ no. has.follows.applied.fine };
+    }
+
+    -- the input could not be read
+    pub stops-unread : StopsFeeding g base left left_new Read s.disk.now
+    stops-unread = stops-between Read (λ is. cc) refl
+
+    -- it ended within the stream
+    pub stops-early : IfSome left (λ bytes. left_new ≡ Some []) → (fault : StandbyFault) → (offset : ℕ) × (fault ≡ stream.BadStream offset)
+        × IsBadBehind has.follows.came has.fed offset → StopsFeeding g base left left_new (stream_detail fault) s.disk.now
+    stops-early end fault bad =
+        subst (λ f. StopsFeeding g base left left_new (stream_detail f) s.disk.now) (sym bad.1)
+        (stops-between (stream_detail (stream.BadStream bad.0)) (λ is. cc) (
+          refl,
+          (
+            has.follows.came,
+            refl,
+            has.follows.goes_on,
+            of-all (λ bytes. IsBadBehind has.follows.came bytes bad.0) left left_new has.fed has.taken end bad.2,
+          ),
+        ))
+
+-- ---- the input, piece by piece
+
+pub fed-none : {D : Type 0} (g : Ghosts D) (base : Base D) (left left_new : Option (List ℕ)) (s : Standby D) → Consumes left left_new []
+    → Follows g base [] s → HasFed g base left left_new s
+fed-none g base left left_new s taken follows = record { fed = []; taken = taken; follows = follows }
+
+-- a read that failed takes nothing
+pub fed-kept : {D : Type 0} (g : Ghosts D) (base : Base D) (left mid left_new : Option (List ℕ)) (s : Standby D) → HasFed g base left mid s
+    → Keeps mid left_new → HasFed g base left left_new s
+fed-kept g base left mid left_new s has kept =
+    record { fed = has.fed; taken = Consumes-kept left mid left_new has.fed has.taken kept; follows = has.follows }
+
+pub fed-more : {D : Type 0} (g : Ghosts D) (base : Base D) (left mid left_new : Option (List ℕ)) (s t : Standby D) (piece : List ℕ)
+    (has : HasFed g base left mid s) → Consumes mid left_new piece → Follows g base (has.fed ++ piece) t → HasFed g base left left_new t
+fed-more g base left mid left_new s t piece has taken follows = record {
+  fed = has.fed ++ piece;
+  taken = Consumes-trans left mid left_new has.fed piece has.taken taken;
+  follows = follows;
+}
+
+-- at the end of the input
+pub fed-end : {D : Type 0} (g : Ghosts D) (base : Base D) (left mid left_new : Option (List ℕ)) (s : Standby D) (n : ℕ) (buf : List ℕ)
+    → HasFed g base left mid s → n ≡ 0 → Consumes mid left_new (take n buf) → IsAtEnd left_new → HasFedAll g base left left_new s
+fed-end g base left mid left_new s n buf has none taken end =
+    let all = subst (Consumes left left_new) (append-nil has.fed) (Consumes-trans left mid left_new has.fed [] has.taken
+    (subst (λ k. Consumes mid left_new (take k buf)) none taken)) in
+    record { has = record { fed = has.fed; taken = all; follows = has.follows }; all = at-end left left_new has.fed all end }
+
+-- a piece at which the standby stopped
+pub fed-stopped : {D : Type 0} (g : Ghosts D) (base : Base D) (left mid left_new : Option (List ℕ)) (s : Standby D) (piece : List ℕ)
+    (has : HasFed g base left mid s) → Consumes mid left_new piece → (fault : StandbyFault) (disk : D) → Stops g base (has.fed ++ piece) fault disk
+    → StopsFeeding g base left left_new (stream_detail fault) disk
+fed-stopped g base left mid left_new s piece has taken fault disk stops =
+    stops-fed g base left left_new (has.fed ++ piece) (Consumes-trans left mid left_new has.fed piece has.taken taken) fault disk stops

@@ -1,0 +1,6 @@
+pub mod Completeness
+pub mod FedLemmas
+pub mod FollowLemmas
+pub mod SettledLemmas
+pub mod ShipLemmas
+pub mod ShippedLemmas

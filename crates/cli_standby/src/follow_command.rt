@@ -1,0 +1,188 @@
+ghost use Rattle.std.specs.Prelude.{◌≡◌, ◌≤◌, ◌+◌, ◌↔◌, [], List, ℕ, IfOk, IfErr, OnOk, IsErrOf};
+ghost use Rattle.log_disk.specs.Attaching.{existing};
+ghost use Rattle.log_disk.specs.Faults.{CountsWhere};
+ghost use Rattle.standby.specs.Applying.{Base};
+ghost use Rattle.standby.specs.Following.{Follows};
+ghost use Rattle.standby.specs.Keeping.{KeepsList};
+ghost use Rattle.log_recovery.specs.Opened.{OpenedList};
+ghost use Rattle.ship_stream.specs.Came.Came.{NoHead};
+ghost use Rattle.stream_reader.specs.Reader.{HasRead};
+ghost use Rattle.cli_shared.specs.Answers.{StaysSilent};
+ghost use Rattle.cli_shared.specs.Attached.{EndsAttached, LeavesAttached};
+ghost use Rattle.cli_shared.specs.Outside.{outside};
+ghost use Rattle.cli_standby.specs.Feeding.{AnswersUnsaid, begun, HasFedAll, HasFedEnd, HasFedWhole, HasFollowedInput, IsFeedingFault, IsUnsaid, StopsFeeding, stream_detail};
+ghost use Rattle.cli_standby.specs.Following.{AnswersFollow, IsOfFollow};
+
+use crate::opening::open_standby;
+use cli_shared::Detail;
+use lock_core::Judge;
+use log_disk::{LogDisk, Sink, Source};
+use log_recovery::put_accounts;
+use lsn_space::{Balances, Lsn, Word};
+use segment_file::Tail;
+use standby::{Standby, StandbyFault};
+use std::alloc::Global;
+use stream_reader::StreamReader;
+
+/// How many bytes are read at a time.
+const PIECE: usize = 4096;
+
+/// The disk of a standby.
+#[derive(Drop)]
+struct Kept<'a, D> {
+    disk: &'a mut D,
+}
+
+/// Appends the frames of the stream that is read to a log, each once it is whole and lawful, and then answers the accounts. It waits for the
+/// input.
+pub fn follow_command<D: LogDisk, S: Source, K: Sink>(
+    alloc: Global,
+    log: &Word,
+    disk: &mut D,
+    script: &mut S,
+    out: &mut K,
+) -> Detail
+    ensures answer { D.honest disk.old
+        → AnswersFollow D.LogDisk (outside disk.old (S.left script.old) (K.held_bytes out.old))
+        (outside disk.new (S.left script.new) (K.held_bytes out.new)) result }
+    ensures silent { StaysSilent (K.held_bytes out.old) (K.held_bytes out.new) result }
+    ensures range { IsOfFollow result }
+    ensures honest { D.honest disk.old ↔ D.honest disk.new }
+    ensures attached { D.honest disk.old → LeavesAttached (existing log.now) (D.attached disk.old) (D.attached disk.new) result }
+    ensures read { CountsWhere (result ≡ Detail.Read) (S.faults script.old) (S.faults script.new) }
+    ensures write { CountsWhere (result ≡ Detail.Write) (K.faults out.old) (K.faults out.new) }
+    ensures disk { CountsWhere (result ≡ Detail.Disk) (D.faults disk.old) (D.faults disk.new) }
+{
+    let (lsn, accounts) = match follow(alloc, log, disk, script) {
+        Ok(both) => both,
+        Err(detail) => return detail,
+    };
+    match put_accounts(lsn, &accounts, out) {
+        Ok(()) => Detail::Fine,
+        Err(_) => Detail::Write,
+    }
+}
+
+/// Opens the log, and follows the stream to its end. It answers where the log ends then, and its accounts.
+fn follow<D: LogDisk, S: Source>(
+    alloc: Global,
+    log: &Word,
+    disk: &mut D,
+    script: &mut S,
+) -> Result<(Lsn, Balances), Detail>
+    ensures ok { D.honest disk.old → IfOk result (λ both.
+        HasFollowedInput D.LogDisk disk.old disk.new (S.left script.old) (S.left script.new) both.0 both.1.rows) }
+    ensures none { D.honest disk.old → IfErr result (AnswersUnsaid D.LogDisk disk.old disk.new (S.left script.old) (S.left script.new)) }
+    ensures range { IfErr result IsUnsaid }
+    ensures honest { D.honest disk.old ↔ D.honest disk.new }
+    ensures attached { D.honest disk.old → EndsAttached (existing log.now) (D.attached disk.old) (D.attached disk.new) result }
+    ensures read { CountsWhere (IsErrOf result Detail.Read) (S.faults script.old) (S.faults script.new) }
+    ensures disk { CountsWhere (IsErrOf result Detail.Disk) (D.faults disk.old) (D.faults disk.new) }
+{
+    let (tail, judge) = open_standby(alloc, log, disk)?;
+    let Ok(reader) = StreamReader::make(alloc) else {
+        return Err(Detail::NoMemory);
+    };
+    let mut followed = Err(Detail::NoMemory);
+    let _kept = follow_stream(reader, Kept { disk }, tail, judge, script, &mut followed);
+    followed
+}
+
+/// Follows the stream from the tail on, and tells where the log ends then, and its accounts.
+fn follow_stream<'a, D: LogDisk, S: Source>(
+    reader: StreamReader,
+    kept: Kept<'a, D>,
+    tail: Tail,
+    judge: Judge,
+    script: &mut S,
+    followed: &mut Result<(Lsn, Balances), Detail>,
+) -> Kept<'a, D>
+    requires reader { HasRead reader [] NoHead }
+    requires kept { (list : OpenedList) × KeepsList D.LogDisk list judge tail kept.disk.now }
+    ensures ok { IfOk followed.new (λ both. (list : OpenedList) → KeepsList D.LogDisk list judge tail kept.entry.disk.now
+        → HasFedWhole D.LogDisk (begun list tail kept.entry.disk.now) (S.left script.old) (S.left script.new) both.0 both.1.rows result.disk.now) }
+    ensures stops { IfErr followed.new (λ detail. (list : OpenedList) → KeepsList D.LogDisk list judge tail kept.entry.disk.now
+        → StopsFeeding D.LogDisk (begun list tail kept.entry.disk.now) (S.left script.old) (S.left script.new) detail result.disk.now) }
+    ensures range { IfErr followed.new IsFeedingFault }
+    ensures read { CountsWhere (IsErrOf followed.new Detail.Read) (S.faults script.old) (S.faults script.new) }
+    ensures same { result.disk.ghost_name ≡ kept.entry.disk.ghost_name }
+{
+    let Kept { disk } = kept;
+    let mut standby = Standby::with_reader(reader, disk, tail, judge);
+    let ended = end_stream(&mut standby, script);
+    let Standby { disk, judge, .. } = standby;
+    match ended {
+        Ok(lsn) => {
+            *followed = Ok((lsn, judge.into_accounts()));
+            Kept { disk }
+        }
+        Err(detail) => {
+            *followed = Err(detail);
+            Kept { disk }
+        }
+    }
+}
+
+/// Feeds a standby, to which no byte has come, the whole input, and answers where the log ends then.
+fn end_stream<D: LogDisk, S: Source>(
+    standby: &mut Standby<'_, D>,
+    script: &mut S,
+) -> Result<Lsn, Detail>
+    requires ready { (base : Base D) × Follows D.LogDisk base [] standby.old }
+    ensures ended { IfOk result (λ lsn. (base : Base D) → Follows D.LogDisk base [] standby.old
+        → HasFedEnd D.LogDisk base (S.left script.old) (S.left script.new) lsn standby.new) }
+    ensures stops { IfErr result (λ detail. (base : Base D) → Follows D.LogDisk base [] standby.old
+        → StopsFeeding D.LogDisk base (S.left script.old) (S.left script.new) detail standby.new.disk.now) }
+    ensures range { IfErr result IsFeedingFault }
+    ensures read { CountsWhere (IsErrOf result Detail.Read) (S.faults script.old) (S.faults script.new) }
+    ensures same { standby.new.disk.ghost_name ≡ standby.old.disk.ghost_name }
+{
+    if let Err(detail) = feed_all(standby, script) {
+        return Err(detail);
+    }
+    match standby.end() {
+        Ok(lsn) => Ok(lsn),
+        Err(fault) => Err(detail_of_stream(fault)),
+    }
+}
+
+/// Feeds a standby, to which no byte has come, the whole input, piece by piece.
+fn feed_all<D: LogDisk, S: Source>(
+    standby: &mut Standby<'_, D>,
+    script: &mut S,
+) -> Result<(), Detail>
+    requires ready { (base : Base D) × Follows D.LogDisk base [] standby.old }
+    ensures all { OnOk result ((base : Base D) → Follows D.LogDisk base [] standby.old
+        → HasFedAll D.LogDisk base (S.left script.old) (S.left script.new) standby.new) }
+    ensures stops { IfErr result (λ detail. (base : Base D) → Follows D.LogDisk base [] standby.old
+        → StopsFeeding D.LogDisk base (S.left script.old) (S.left script.new) detail standby.new.disk.now) }
+    ensures range { IfErr result IsFeedingFault }
+    ensures read { CountsWhere (IsErrOf result Detail.Read) (S.faults script.old) (S.faults script.new) }
+    ensures same { standby.new.disk.ghost_name ≡ standby.old.disk.ghost_name }
+{
+    let mut buf = [0; PIECE];
+    'pieces: loop {
+        let count = match script.read(&mut buf) {
+            Ok(0) => return Ok(()),
+            Ok(count) => count,
+            Err(_) => return Err(Detail::Read),
+        };
+        match standby.feed(&buf[..count]) {
+            Ok(_) => {}
+            Err(fault) => return Err(detail_of_stream(fault)),
+        }
+    }
+}
+
+/// How the program ends where a standby goes no further.
+fn detail_of_stream(fault: StandbyFault) -> Detail
+    ensures { result ≡ stream_detail fault }
+{
+    match fault {
+        StandbyFault::BadStream { offset } => Detail::BadStream { offset },
+        StandbyFault::Gap { have, from } => Detail::Gap { have, from },
+        StandbyFault::StreamUnlawful { lsn, why } => Detail::StreamUnlawful { lsn, why },
+        StandbyFault::DiskFault => Detail::Disk,
+        StandbyFault::NoMemory => Detail::NoMemory,
+    }
+}

@@ -1,0 +1,40 @@
+ghost use Rattle.std.specs.Prelude.{◌≡◌, ◌≤◌, IfSome};
+ghost use Rattle.log_disk.specs.Faults.{CountsWhere};
+ghost use Rattle.cli_shared.specs.Answers.{StaysSilent};
+ghost use Rattle.cli_reports.specs.Reports.{AnswersReport, IsOfReportAt, RefusesLsn};
+ghost use Rattle.cli_standby.specs.Shipping.{SaysStream};
+
+use cli_shared::{Detail, read_log};
+use lock_core::Judge;
+use log_disk::{Sink, Source};
+use log_recovery::units_from;
+use lsn_space::Lsn;
+use ship_stream::put_stream;
+use std::alloc::Global;
+
+/// Answers the bytes of a log by the stream of its records from a boundary on.
+pub fn ship_command<S: Source, K: Sink>(
+    alloc: Global,
+    from: Lsn,
+    script: &mut S,
+    out: &mut K,
+) -> Detail
+    ensures answer { IfSome (S.left script.old) (λ bytes. AnswersReport (SaysStream from) (RefusesLsn from)
+        bytes (S.left script.new) (K.held_bytes out.old) (K.held_bytes out.new) result) }
+    ensures silent { StaysSilent (K.held_bytes out.old) (K.held_bytes out.new) result }
+    ensures range { IsOfReportAt result }
+    ensures read { CountsWhere (result ≡ Detail.Read) (S.faults script.old) (S.faults script.new) }
+    ensures write { CountsWhere (result ≡ Detail.Write) (K.faults out.old) (K.faults out.new) }
+{
+    let (_, listed) = match read_log::<Judge, S>(alloc, script) {
+        Ok(both) => both,
+        Err(detail) => return detail,
+    };
+    let Some(units) = units_from(&listed.opening, listed.units.as_slice(), from) else {
+        return Detail::NoSuchLsn { lsn: from };
+    };
+    match put_stream(from, units, out) {
+        Ok(()) => Detail::Fine,
+        Err(_) => Detail::Write,
+    }
+}
