@@ -1,22 +1,25 @@
 -- What a call came to says, of each command, what it promises where the words ask it; and what is so whatever they ask.
-use Rattle.std.proofs.Common.{◌≡◌, ◌⊎◌, inl, inr, ◌∙◌, refl, ap, sym, subst, ℕ, List, arith}
+use Rattle.std.proofs.Common.{◌≡◌, ◌+◌, ◌⊎◌, inl, inr, ◌∙◌, refl, ap, sym, subst, ℕ, List, arith}
 use Rattle.std.specs.Io.KnownBytes.{Keeps}
 use Rattle.command_line.specs.CommandLine.{AreTaken, IsCommandLine}
 use Rattle.command_line.specs.declared.command.Command.{Command}
-use Rattle.command_line.specs.declared.command.Command.TheVariants.{New, Run, Recover, Dump, Demo, Cut, Upgrade}
+use Rattle.command_line.specs.declared.command.Command.TheVariants.{New, Run, Recover, Dump, Demo, Cut, Upgrade, Ship, Follow, AsOf, Statement}
 use Rattle.command_line.proofs.Asking.{asks-one}
 use Rattle.log_disk.proofs.Counting.{Costs-more, Costs-none}
 use Rattle.log_disk.specs.Costs.{Costs}
 use Rattle.log_disk.specs.declared.disk.LogDisk.{Ghosts}
 use Rattle.log_disk.specs.declared.source.Source.{Ghosts as SourceGhosts}
 use Rattle.log_disk.specs.declared.sink.Sink.{Ghosts as SinkGhosts}
-use Rattle.log_disk.proofs.Moments.{Leaves-refl}
+use Rattle.log_disk.proofs.Moments.{Leaves-refl, Leaves-weaken}
 use Rattle.cli_shared.specs.Opening.{most_calls}
+use Rattle.cli_shared.specs.Outside.{HoldsAsRead}
 use Rattle.cli_shared.specs.declared.report.Detail.{Detail}
 use Rattle.cli_shared.specs.declared.report.Detail.TheVariants.{NoMemory, Usage, Read, Write, Disk}
 use Rattle.cli_shared.specs.Answers.{StaysSilent}
 use Rattle.cli_shared.proofs.ToldLemmas.{kept-text, nothing-said}
 use Rattle.cli_reports.specs.Answers.{IsOfDump, IsOfRecover}
+use Rattle.cli_reports.specs.Reports.{IsOfAccountReport, IsOfReportAt}
+use Rattle.cli_standby.specs.Following.{IsOfFollow}
 use Rattle.cli_new.specs.Answers.{IsOfNew}
 use Rattle.cli_cut.specs.Answers.{IsOfCut}
 use Rattle.cli_run.specs.RunAnswers.{IsOfRun}
@@ -25,7 +28,7 @@ use Rattle.cli_world.specs.World.{TellsFaults, World}
 use Rattle.cli_world.specs.Alone.{AnsweredAlone, DoesAlone}
 use Rattle.cli_world.specs.declared.answer.Answer.TheVariants.{Done}
 use Rattle.cli_top.specs.Answered.{Answered, Does, Obeys}
-use Rattle.cli_top.specs.Asks.{AsksCut, AsksDemo, AsksNew, AsksRun, AsksUpgrade}
+use Rattle.cli_top.specs.Asks.{AsksCut, AsksDemo, AsksFollow, AsksNew, AsksRun, AsksUpgrade}
 use Rattle.cli_top.proofs.DemoTold.{silent-told}
 
 -- a detail that names the object of a fault
@@ -45,6 +48,9 @@ module _ {D S K : Type 0} (g : Ghosts D) (h : SourceGhosts S) (i : SinkGhosts K)
 
   costs-looks : (disk : D) → Costs g 1 (most_calls g disk) disk disk
   costs-looks disk = Costs-more g 0 1 0 (most_calls g disk) disk disk (omega arith) (omega arith) (Costs-none g disk)
+
+  costs-settles : (disk : D) → Costs g 3 (most_calls g disk + 3) disk disk
+  costs-settles disk = Costs-more g 0 3 0 (most_calls g disk + 3) disk disk (omega arith) (omega arith) (Costs-none g disk)
 
   -- a call that did nothing has done what a command without memory does
   nothing-done : (old : World D S K) (command : Command) → Does g h i command old old NoMemory
@@ -103,6 +109,21 @@ module _ {D S K : Type 0} (g : Ghosts D) (h : SourceGhosts S) (i : SinkGhosts K)
     attached = λ honest. inl refl;
     grows = λ honest. inl refl;
   }
+  nothing-done old (Ship from) = record { answer = nothing-said _; silent = kept-text _; range = tt; untouched = refl }
+  nothing-done old (AsOf lsn) = record { answer = nothing-said _; silent = kept-text _; range = tt; untouched = refl }
+  nothing-done old (Statement account) = record { answer = nothing-said _; silent = kept-text _; range = tt; untouched = refl }
+  nothing-done old (Follow log) = record {
+    answer = λ honest. inl (record {
+      silent = kept-text _;
+      images = Leaves-weaken g.moment g.images_since (g.images old.disk) (λ bytes. g.images old.disk bytes ⊎ HoldsAsRead g old.disk bytes) old.disk old.disk
+          (λ bytes image. inl image) (Leaves-refl _ _ _ _);
+      count = costs-settles old.disk;
+      grows = inl refl;
+    });
+    silent = kept-text _;
+    range = tt;
+    attached = λ honest. inl refl;
+  }
 
   no-faults : (old : World D S K) (detail : Detail) → (IsFault detail → ⊥) → TellsFaults g h i old old detail
   no-faults old detail none = record {
@@ -120,32 +141,48 @@ module _ {D S K : Type 0} (g : Ghosts D) (h : SourceGhosts S) (i : SinkGhosts K)
   not-usage old new detail (Demo log n seed options) done usage = subst IsOfDemo usage done.range
   not-usage old new detail (Cut log) done usage = subst IsOfCut usage done.range
   not-usage old new detail (Upgrade log) done usage = subst IsOfCut usage done.range
+  not-usage old new detail (Ship from) done usage = subst IsOfReportAt usage done.range
+  not-usage old new detail (Follow log) done usage = subst IsOfFollow usage done.range
+  not-usage old new detail (AsOf lsn) done usage = subst IsOfReportAt usage done.range
+  not-usage old new detail (Statement account) done usage = subst IsOfAccountReport usage done.range
 
   done-untouched : (words : List (List ℕ)) (old new : World D S K) (detail : Detail) (command : Command) → IsCommandLine words command
       → Does g h i command old new detail → (AsksNew words → ⊥) → (AsksRun words → ⊥) → (AsksDemo words → ⊥) → (AsksCut words → ⊥)
-      → (AsksUpgrade words → ⊥) → new.disk ≡ old.disk
-  done-untouched words old new detail (New log) asked done not_new not_run not_demo not_cut not_upgrade = absurd (not_new (log, asked))
-  done-untouched words old new detail (Run log options) asked done not_new not_run not_demo not_cut not_upgrade = absurd (not_run (log, options, asked))
-  done-untouched words old new detail Recover asked done not_new not_run not_demo not_cut not_upgrade = done.untouched
-  done-untouched words old new detail Dump asked done not_new not_run not_demo not_cut not_upgrade = done.untouched
-  done-untouched words old new detail (Demo log n seed options) asked done not_new not_run not_demo not_cut not_upgrade =
+      → (AsksUpgrade words → ⊥) → (AsksFollow words → ⊥) → new.disk ≡ old.disk
+  done-untouched words old new detail (New log) asked done not_new not_run not_demo not_cut not_upgrade not_follow = absurd (not_new (log, asked))
+  done-untouched words old new detail (Run log options) asked done not_new not_run not_demo not_cut not_upgrade not_follow = absurd (not_run (log, options, asked))
+  done-untouched words old new detail Recover asked done not_new not_run not_demo not_cut not_upgrade not_follow = done.untouched
+  done-untouched words old new detail Dump asked done not_new not_run not_demo not_cut not_upgrade not_follow = done.untouched
+  done-untouched words old new detail (Demo log n seed options) asked done not_new not_run not_demo not_cut not_upgrade not_follow =
       absurd (not_demo (log, n, seed, options, asked))
-  done-untouched words old new detail (Cut log) asked done not_new not_run not_demo not_cut not_upgrade = absurd (not_cut (log, asked))
-  done-untouched words old new detail (Upgrade log) asked done not_new not_run not_demo not_cut not_upgrade = absurd (not_upgrade (log, asked))
+  done-untouched words old new detail (Cut log) asked done not_new not_run not_demo not_cut not_upgrade not_follow = absurd (not_cut (log, asked))
+  done-untouched words old new detail (Upgrade log) asked done not_new not_run not_demo not_cut not_upgrade not_follow = absurd (not_upgrade (log, asked))
+  done-untouched words old new detail (Ship from) asked done not_new not_run not_demo not_cut not_upgrade not_follow = done.untouched
+  done-untouched words old new detail (Follow log) asked done not_new not_run not_demo not_cut not_upgrade not_follow = absurd (not_follow (log, asked))
+  done-untouched words old new detail (AsOf lsn) asked done not_new not_run not_demo not_cut not_upgrade not_follow = done.untouched
+  done-untouched words old new detail (Statement account) asked done not_new not_run not_demo not_cut not_upgrade not_follow = done.untouched
 
   done-count : (words : List (List ℕ)) (old new : World D S K) (detail : Detail) (command : Command) → IsCommandLine words command
-      → Does g h i command old new detail → (AsksRun words → ⊥) → (AsksDemo words → ⊥) → (AsksUpgrade words → ⊥) → g.honest old.disk
+      → Does g h i command old new detail → (AsksRun words → ⊥) → (AsksDemo words → ⊥) → (AsksUpgrade words → ⊥)
+      → (AsksFollow words → ⊥) → g.honest old.disk
       → Costs g 7 11 old.disk new.disk
-  done-count words old new detail (New log) asked done not_run not_demo not_upgrade honest = done.count honest
-  done-count words old new detail (Run log options) asked done not_run not_demo not_upgrade honest = absurd (not_run (log, options, asked))
-  done-count words old new detail Recover asked done not_run not_demo not_upgrade honest =
+  done-count words old new detail (New log) asked done not_run not_demo not_upgrade not_follow honest = done.count honest
+  done-count words old new detail (Run log options) asked done not_run not_demo not_upgrade not_follow honest = absurd (not_run (log, options, asked))
+  done-count words old new detail Recover asked done not_run not_demo not_upgrade not_follow honest =
       subst (λ w. Costs g 7 11 old.disk w) (sym done.untouched) (costs-none old.disk)
-  done-count words old new detail Dump asked done not_run not_demo not_upgrade honest =
+  done-count words old new detail Dump asked done not_run not_demo not_upgrade not_follow honest =
       subst (λ w. Costs g 7 11 old.disk w) (sym done.untouched) (costs-none old.disk)
-  done-count words old new detail (Demo log n seed options) asked done not_run not_demo not_upgrade honest =
+  done-count words old new detail (Demo log n seed options) asked done not_run not_demo not_upgrade not_follow honest =
       absurd (not_demo (log, n, seed, options, asked))
-  done-count words old new detail (Cut log) asked done not_run not_demo not_upgrade honest = done.count honest
-  done-count words old new detail (Upgrade log) asked done not_run not_demo not_upgrade honest = absurd (not_upgrade (log, asked))
+  done-count words old new detail (Cut log) asked done not_run not_demo not_upgrade not_follow honest = done.count honest
+  done-count words old new detail (Upgrade log) asked done not_run not_demo not_upgrade not_follow honest = absurd (not_upgrade (log, asked))
+  done-count words old new detail (Ship from) asked done not_run not_demo not_upgrade not_follow honest =
+      subst (λ w. Costs g 7 11 old.disk w) (sym done.untouched) (costs-none old.disk)
+  done-count words old new detail (AsOf lsn) asked done not_run not_demo not_upgrade not_follow honest =
+      subst (λ w. Costs g 7 11 old.disk w) (sym done.untouched) (costs-none old.disk)
+  done-count words old new detail (Statement account) asked done not_run not_demo not_upgrade not_follow honest =
+      subst (λ w. Costs g 7 11 old.disk w) (sym done.untouched) (costs-none old.disk)
+  done-count words old new detail (Follow log) asked done not_run not_demo not_upgrade not_follow honest = absurd (not_follow (log, asked))
 
   done-silent : (words : List (List ℕ)) (old new : World D S K) (detail : Detail) (command : Command) → IsCommandLine words command
       → Does g h i command old new detail → (AsksRun words → ⊥) → StaysSilent (i.held_bytes old.out) (i.held_bytes new.out) detail
@@ -156,6 +193,10 @@ module _ {D S K : Type 0} (g : Ghosts D) (h : SourceGhosts S) (i : SinkGhosts K)
   done-silent words old new detail (Demo log n seed options) asked done not_run = silent-told n seed _ _ detail done.text
   done-silent words old new detail (Cut log) asked done not_run = done.silent
   done-silent words old new detail (Upgrade log) asked done not_run = done.silent
+  done-silent words old new detail (Ship from) asked done not_run = done.silent
+  done-silent words old new detail (Follow log) asked done not_run = done.silent
+  done-silent words old new detail (AsOf lsn) asked done not_run = done.silent
+  done-silent words old new detail (Statement account) asked done not_run = done.silent
 
   still-kept : (old new : World D S K) → new ≡ old → Keeps (i.held_bytes old.out) (i.held_bytes new.out)
   still-kept old new same = subst (λ (w : World D S K). Keeps (i.held_bytes old.out) (i.held_bytes w.out)) (sym same) (kept-text _)
@@ -192,17 +233,18 @@ module _ {D S K : Type 0} (g : Ghosts D) (h : SourceGhosts S) (i : SinkGhosts K)
     same-of (inr (inr (memory, same))) none = same
 
     pub untouched-of : Answered g h i words old new detail → (AsksNew words → ⊥) → (AsksRun words → ⊥) → (AsksDemo words → ⊥) → (AsksCut words → ⊥)
-        → (AsksUpgrade words → ⊥) → new.disk ≡ old.disk
+        → (AsksUpgrade words → ⊥) → (AsksFollow words → ⊥) → new.disk ≡ old.disk
     untouched-of (inl has) = done-untouched words old new detail has.command has.asked has.obeys.done
-    untouched-of (inr (inl (usage, _, same))) = λ not_new not_run not_demo not_cut not_upgrade. ap (λ (w : World D S K). w.disk) same
-    untouched-of (inr (inr (memory, same))) = λ not_new not_run not_demo not_cut not_upgrade. ap (λ (w : World D S K). w.disk) same
+    untouched-of (inr (inl (usage, _, same))) = λ not_new not_run not_demo not_cut not_upgrade not_follow. ap (λ (w : World D S K). w.disk) same
+    untouched-of (inr (inr (memory, same))) = λ not_new not_run not_demo not_cut not_upgrade not_follow. ap (λ (w : World D S K). w.disk) same
 
-    pub count-of : Answered g h i words old new detail → (AsksRun words → ⊥) → (AsksDemo words → ⊥) → (AsksUpgrade words → ⊥) → g.honest old.disk
+    pub count-of : Answered g h i words old new detail → (AsksRun words → ⊥) → (AsksDemo words → ⊥) → (AsksUpgrade words → ⊥)
+        → (AsksFollow words → ⊥) → g.honest old.disk
         → Costs g 7 11 old.disk new.disk
     count-of (inl has) = done-count words old new detail has.command has.asked has.obeys.done
-    count-of (inr (inl (usage, _, same))) = λ not_run not_demo not_upgrade honest.
+    count-of (inr (inl (usage, _, same))) = λ not_run not_demo not_upgrade not_follow honest.
         subst (λ w. Costs g 7 11 old.disk w) (sym (ap (λ (w : World D S K). w.disk) same)) (costs-none old.disk)
-    count-of (inr (inr (memory, same))) = λ not_run not_demo not_upgrade honest.
+    count-of (inr (inr (memory, same))) = λ not_run not_demo not_upgrade not_follow honest.
         subst (λ w. Costs g 7 11 old.disk w) (sym (ap (λ (w : World D S K). w.disk) same)) (costs-none old.disk)
 
     pub silent-of : Answered g h i words old new detail → (AsksRun words → ⊥) → StaysSilent (i.held_bytes old.out) (i.held_bytes new.out) detail
@@ -220,6 +262,10 @@ module _ {D S K : Type 0} (g : Ghosts D) (h : SourceGhosts S) (i : SinkGhosts K)
   does-alone old new detail (Demo log n seed options) done = absurd done
   does-alone old new detail (Cut log) done = done
   does-alone old new detail (Upgrade log) done = done
+  does-alone old new detail (Ship from) done = done
+  does-alone old new detail (Follow log) done = done
+  does-alone old new detail (AsOf lsn) done = done
+  does-alone old new detail (Statement account) done = done
 
   -- where no workers were needed
   pub answered-alone : (words : List (List ℕ)) (old new : World D S K) (detail : Detail) → AnsweredAlone g h i words old new (Done detail)

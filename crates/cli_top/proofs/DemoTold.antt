@@ -1,7 +1,7 @@
 -- What is told of `demo`, in the words of all commands.
 use Rattle.std.proofs.Common.{ℕ, List, Option}
 use Rattle.cli_shared.specs.declared.report.Detail.{Detail}
-use Rattle.cli_shared.specs.declared.report.Detail.TheVariants.{Fine, NoMemory, Usage, Script, Read, Write, Disk, NotALog, BadSnapshot, BadBatch, BadRec, Unlawful, LogEnd, TxnEnd, Exists}
+use Rattle.cli_shared.specs.declared.report.Detail.TheVariants.{Fine, NoMemory, Usage, Script, Read, Write, Disk, NotALog, BadSnapshot, BadBatch, BadRec, Unlawful, LogEnd, TxnEnd, Exists, NoSuchLsn, BadStream, Gap, StreamUnlawful, NoAccount}
 use Rattle.cli_shared.specs.Answers.{StaysSilent}
 use Rattle.cli_demo.specs.Demo.{TellsSummary}
 
@@ -21,3 +21,8 @@ silent-told n seed old new (Unlawful lsn why) told = told
 silent-told n seed old new (LogEnd tail total) told = told
 silent-told n seed old new (TxnEnd first count) told = told
 silent-told n seed old new Exists told = told
+silent-told n seed old new (NoSuchLsn lsn) told = told
+silent-told n seed old new (BadStream offset) told = told
+silent-told n seed old new (Gap have from) told = told
+silent-told n seed old new (StreamUnlawful lsn why) told = told
+silent-told n seed old new (NoAccount account) told = told

@@ -12,8 +12,9 @@ use Rattle.lock_core.specs.declared.job.Job.{Job}
 use Rattle.txn_script.specs.Script.{IsScriptText, IsFirstBadLine}
 use Rattle.txn_script.proofs.ScriptLemmas.{jobs-same, jobs-or_bad}
 use Rattle.cli_shared.specs.declared.report.Detail.{Detail}
-use Rattle.cli_shared.specs.declared.report.Detail.TheVariants.{Fine, NoMemory, Usage, Script, Read, Write, Disk, NotALog, BadSnapshot, BadBatch, BadRec, Unlawful, LogEnd, TxnEnd, Exists}
-use Rattle.cli_run.specs.RunAnswers.{AnswersRun, IsRunDone, Outside, accounts_of, next_txn, outside}
+use Rattle.cli_shared.specs.declared.report.Detail.TheVariants.{Fine, NoMemory, Usage, Script, Read, Write, Disk, NotALog, BadSnapshot, BadBatch, BadRec, Unlawful, LogEnd, TxnEnd, Exists, NoSuchLsn, BadStream, Gap, StreamUnlawful, NoAccount}
+use Rattle.cli_run.specs.RunAnswers.{AnswersRun, IsRunDone, accounts_of, next_txn}
+use Rattle.cli_shared.specs.Outside.{Outside, outside}
 use Rattle.log_recovery.proofs.OpenedLemmas.{few-held}
 
 -- no fault of a lawful log but want of memory
@@ -72,6 +73,11 @@ module _ {D : Type 0} (g : Ghosts D) (options : RunOptions) (disk disk_new : D) 
   run-done (Unlawful lsn why) answers reads writes disks = no-fault (g.reads disk) opened (fault.Unlawful lsn why) held answers.1
   run-done Usage answers reads writes disks = absurd answers
   run-done Exists answers reads writes disks = absurd answers
+  run-done (NoSuchLsn lsn) answers reads writes disks = absurd answers
+  run-done (BadStream offset) answers reads writes disks = absurd answers
+  run-done (Gap have from) answers reads writes disks = absurd answers
+  run-done (StreamUnlawful lsn why) answers reads writes disks = absurd answers
+  run-done (NoAccount account) answers reads writes disks = absurd answers
 
 pub run-complete : {D : Type 0} (g : Ghosts D) (options : RunOptions) (disk disk_new : D) (left left_new text text_new : Option (List ℕ))
     (ReadFails WriteFails DiskFails : Type 0) (detail : Detail) → AnswersRun g options (outside disk left text) (outside disk_new left_new text_new) detail

@@ -3,7 +3,7 @@
 use Rattle.std.specs.Prelude.{◌≡◌, ◌⊎◌, ℕ, List}
 use Rattle.command_line.specs.CommandLine.{IsCommandLine, AreTaken}
 use Rattle.command_line.specs.declared.command.Command.{Command}
-use Rattle.command_line.specs.declared.command.Command.TheVariants.{New, Run, Recover, Dump, Demo, Cut, Upgrade}
+use Rattle.command_line.specs.declared.command.Command.TheVariants.{New, Run, Recover, Dump, Demo, Cut, Upgrade, Ship, Follow, AsOf, Statement}
 use Rattle.command_line.specs.declared.options.RunOptions.{RunOptions}
 use Rattle.log_disk.specs.Attaching.{existing, existing_or_made}
 use Rattle.log_disk.specs.declared.disk.LogDisk.{Ghosts}
@@ -14,9 +14,10 @@ use Rattle.cli_shared.specs.declared.report.Detail.{Detail}
 use Rattle.cli_shared.specs.declared.report.Detail.TheVariants.{NoMemory, Usage}
 use Rattle.cli_shared.specs.Attached.{LeavesAttached}
 use Rattle.cli_shared.specs.Creation.{TellsWhether}
-use Rattle.cli_run.specs.RunAnswers.{AnswersRun, IsOfRun, RunStaysSilent, outside}
+use Rattle.cli_run.specs.RunAnswers.{AnswersRun, IsOfRun, RunStaysSilent}
+use Rattle.cli_shared.specs.Outside.{outside}
 use Rattle.cli_demo.specs.Demo.{AnswersDemo, IsOfDemo, TellsSummary}
-use Rattle.cli_world.specs.World.{World, TellsFaults, DoesCut, DoesDump, DoesNew, DoesRecover, DoesUpgrade}
+use Rattle.cli_world.specs.World.{World, TellsFaults, DoesAsOf, DoesCut, DoesDump, DoesFollow, DoesNew, DoesRecover, DoesShip, DoesStatement, DoesUpgrade}
 
 pub record DoesRun {D S K : Type 0} (g : Ghosts D) (h : SourceGhosts S) (i : SinkGhosts K) (log : List ℕ) (options : RunOptions)
     (old new : World D S K) (detail : Detail) : Type 0 where
@@ -45,6 +46,10 @@ Does g h i Dump old new detail = DoesDump h i old new detail
 Does g h i (Demo log n seed options) old new detail = DoesDemo g i log n seed options old new detail
 Does g h i (Cut log) old new detail = DoesCut g h i log old new detail
 Does g h i (Upgrade log) old new detail = DoesUpgrade g h i log old new detail
+Does g h i (Ship from) old new detail = DoesShip h i from old new detail
+Does g h i (Follow log) old new detail = DoesFollow g h i log old new detail
+Does g h i (AsOf lsn) old new detail = DoesAsOf h i lsn old new detail
+Does g h i (Statement account) old new detail = DoesStatement h i account old new detail
 
 -- the command did what it promises, and told of faults
 pub record Obeys {D S K : Type 0} (g : Ghosts D) (h : SourceGhosts S) (i : SinkGhosts K) (command : Command) (old new : World D S K)

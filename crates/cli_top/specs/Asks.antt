@@ -1,7 +1,7 @@
 -- What the words ask.
 use Rattle.std.specs.Prelude.{ℕ, List}
 use Rattle.command_line.specs.CommandLine.{IsCommandLine}
-use Rattle.command_line.specs.declared.command.Command.TheVariants.{New, Run, Cut, Upgrade}
+use Rattle.command_line.specs.declared.command.Command.TheVariants.{New, Run, Cut, Upgrade, Follow}
 use Rattle.command_line.specs.declared.options.RunOptions.{RunOptions}
 use Rattle.command_line.specs.declared.command.Command.TheVariants as command
 
@@ -24,3 +24,7 @@ AsksCut words = (log : List ℕ) × IsCommandLine words (Cut log)
 -- the words ask `upgrade`
 abbrev pub AsksUpgrade : List (List ℕ) → Type 0
 AsksUpgrade words = (log : List ℕ) × IsCommandLine words (Upgrade log)
+
+-- the words ask `follow`
+abbrev pub AsksFollow : List (List ℕ) → Type 0
+AsksFollow words = (log : List ℕ) × IsCommandLine words (Follow log)

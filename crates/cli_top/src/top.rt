@@ -1,28 +1,30 @@
-ghost use Rattle.std.specs.Prelude.{◌≡◌, ◌≤◌, ◌+◌, ◌⊎◌, ◌↔◌, ℕ, List, length, IfSome};
+ghost use Rattle.std.specs.Prelude.{◌≡◌, ◌≤◌, ◌<◌, ◌+◌, ◌⊎◌, ◌↔◌, ℕ, List, length, IfSome};
 ghost use Rattle.command_line.specs.CommandLine.{IsCommandLine, AreTaken};
-ghost use Rattle.command_line.specs.declared.command.Command.TheVariants.{New, Run, Recover, Dump, Demo, Cut, Upgrade};
+ghost use Rattle.command_line.specs.declared.command.Command.TheVariants.{New, Run, Recover, Dump, Demo, Cut, Upgrade, Ship, Follow, AsOf, Statement};
 ghost use Rattle.command_line.specs.declared.options.RunOptions.{RunOptions};
 ghost use Rattle.log_disk.specs.Attaching.{existing, existing_or_made};
 ghost use Rattle.log_disk.specs.Costs.{Costs};
 ghost use Rattle.log_disk.specs.Disk.{Leaves};
 ghost use Rattle.log_disk.specs.Faults.{CountsWhere, Rose};
 ghost use Rattle.log_record.specs.declared.limits.TheConstants.{LAST_TXN};
-ghost use Rattle.log_recovery.specs.Opened.{OpenedList};
+ghost use Rattle.log_recovery.specs.Opened.{OpenedList, IsListBoundary, base_in};
 ghost use Rattle.log_recovery.specs.Recovery.{HoldsLawful, HoldsList};
 ghost use Rattle.segment_file.specs.File.{BeginsOpen};
 ghost use Rattle.txn_script.specs.Balances.{IsBalancesText};
 ghost use Rattle.cli_shared.specs.Answers.{status_of, StaysSilent};
 ghost use Rattle.cli_shared.specs.Attached.{LeavesAttached};
+ghost use Rattle.cli_standby.specs.Following.{IsFollowDone, IsLawfulStream};
 ghost use Rattle.cli_reports.specs.Answers.{AnswersRecover, AnswersDump, IsOfDump, IsOfRecover};
 ghost use Rattle.cli_new.specs.Answers.{AnswersNew, IsOfNew};
 ghost use Rattle.cli_top.specs.Answered.{Answered, Obeys};
 ghost use Rattle.cli_world.specs.Alone.{command_of};
-ghost use Rattle.cli_world.specs.World.{world, DoesCut, DoesUpgrade};
-ghost use Rattle.cli_top.specs.Asks.{AsksNew, AsksRun, AsksDemo, AsksCut, AsksUpgrade};
+ghost use Rattle.cli_world.specs.World.{world, DoesAsOf, DoesCut, DoesFollow, DoesShip, DoesStatement, DoesUpgrade};
+ghost use Rattle.cli_top.specs.Asks.{AsksNew, AsksRun, AsksDemo, AsksCut, AsksUpgrade, AsksFollow};
 ghost use Rattle.cli_demo.specs.Demo.{AnswersDemo, IsOfDemo, TellsSummary};
 ghost use Rattle.cli_new.specs.Creation.{AllHoldNew, FollowsLog, GrowsByNew, MayBeLeft, PrecedesLog};
 ghost use Rattle.cli_shared.specs.Creation.{TellsWhether};
-ghost use Rattle.cli_run.specs.RunAnswers.{AnswersRun, IsOfRun, IsRunDone, RunStaysSilent, accounts_of, next_txn, outside};
+ghost use Rattle.cli_run.specs.RunAnswers.{AnswersRun, IsOfRun, IsRunDone, RunStaysSilent, accounts_of, next_txn};
+ghost use Rattle.cli_shared.specs.Outside.{outside};
 ghost use Rattle.lock_core.specs.declared.job.Job.{Job};
 ghost use Rattle.txn_script.specs.Script.{IsScriptText};
 
@@ -55,7 +57,7 @@ pub fn aether<R: Threads + Wait + Clock + Sync, D: LogDisk, S: Source, K: Sink, 
     ensures unread { (AreTaken words.now → ⊥) → script.new ≡ script.old }
     ensures unwritten { (AreTaken words.now → ⊥) → out.new ≡ out.old }
     ensures untouched { (AsksNew words.now → ⊥) → (AsksRun words.now → ⊥) → (AsksDemo words.now → ⊥) → (AsksCut words.now → ⊥)
-        → (AsksUpgrade words.now → ⊥) → disk.new ≡ disk.old }
+        → (AsksUpgrade words.now → ⊥) → (AsksFollow words.now → ⊥) → disk.new ≡ disk.old }
 
     // `recover`: for the bytes of the input, the text that is written, and what is left of both; and a lawful list is recovered.
     ensures recover { IsCommandLine words.now Recover → IfSome (S.left script.old) (λ bytes.
@@ -87,8 +89,8 @@ pub fn aether<R: Threads + Wait + Clock + Sync, D: LogDisk, S: Source, K: Sink, 
         → Leaves D.moment D.images_since (D.images disk.old) disk.old disk.new }
     ensures unchanged { AsksNew words.now → D.honest disk.old → PrecedesLog result.detail → D.reads disk.new ≡ D.reads disk.old }
     ensures exists { AsksNew words.now → D.honest disk.old → TellsWhether (BeginsOpen (D.reads disk.old)) result.detail }
-    ensures count { (AsksRun words.now → ⊥) → (AsksDemo words.now → ⊥) → (AsksUpgrade words.now → ⊥) → D.honest disk.old
-        → Costs D.LogDisk 7 11 disk.old disk.new }
+    ensures count { (AsksRun words.now → ⊥) → (AsksDemo words.now → ⊥) → (AsksUpgrade words.now → ⊥) → (AsksFollow words.now → ⊥)
+        → D.honest disk.old → Costs D.LogDisk 7 11 disk.old disk.new }
     ensures attached_new { (log : List ℕ) → IsCommandLine words.now (New log) → D.honest disk.old
         → LeavesAttached (existing_or_made log) (D.attached disk.old) (D.attached disk.new) result.detail }
     ensures grows { AsksNew words.now → D.honest disk.old → GrowsByNew D.LogDisk (S.left script.old) disk.old disk.new }
@@ -144,6 +146,35 @@ pub fn aether<R: Threads + Wait + Clock + Sync, D: LogDisk, S: Source, K: Sink, 
         → (Rose (S.faults script.old) (S.faults script.new) → ⊥) → (Rose (K.faults out.old) (K.faults out.new) → ⊥)
         → (Rose (D.faults disk.old) (D.faults disk.new) → ⊥)
         → (result.detail ≡ Detail.Fine) ⊎ (result.detail ≡ Detail.NoMemory)) }
+
+    // `ship`, `asof` and `statement`: for the bytes of the input, what is written of the lawful list that they hold, or why nothing is. The disk is
+    // left alone.
+    ensures ship { (from : ℕ) → IsCommandLine words.now (Ship from)
+        → DoesShip S.Source K.Sink from (world disk.old script.old out.old) (world disk.new script.new out.new) result.detail }
+    ensures complete_ship { (from : ℕ) → IsCommandLine words.now (Ship from)
+        → IfSome (S.left script.old) (λ bytes. (list : OpenedList) → HoldsLawful bytes list → IsListBoundary list from
+        → (Rose (S.faults script.old) (S.faults script.new) → ⊥) → (Rose (K.faults out.old) (K.faults out.new) → ⊥)
+        → (result.detail ≡ Detail.Fine) ⊎ (result.detail ≡ Detail.NoMemory)) }
+    ensures asof { (lsn : ℕ) → IsCommandLine words.now (AsOf lsn)
+        → DoesAsOf S.Source K.Sink lsn (world disk.old script.old out.old) (world disk.new script.new out.new) result.detail }
+    ensures complete_asof { (lsn : ℕ) → IsCommandLine words.now (AsOf lsn)
+        → IfSome (S.left script.old) (λ bytes. (list : OpenedList) → HoldsLawful bytes list → IsListBoundary list lsn
+        → (Rose (S.faults script.old) (S.faults script.new) → ⊥) → (Rose (K.faults out.old) (K.faults out.new) → ⊥)
+        → (result.detail ≡ Detail.Fine) ⊎ (result.detail ≡ Detail.NoMemory)) }
+    ensures statement { (account : ℕ) → IsCommandLine words.now (Statement account)
+        → DoesStatement S.Source K.Sink account (world disk.old script.old out.old) (world disk.new script.new out.new) result.detail }
+    ensures complete_statement { (account : ℕ) → IsCommandLine words.now (Statement account)
+        → IfSome (S.left script.old) (λ bytes. (list : OpenedList) → HoldsLawful bytes list → account < (base_in list).accounts
+        → (Rose (S.faults script.old) (S.faults script.new) → ⊥) → (Rose (K.faults out.old) (K.faults out.new) → ⊥)
+        → (result.detail ≡ Detail.Fine) ⊎ (result.detail ≡ Detail.NoMemory)) }
+
+    // `follow`: what a crash may leave of the disk at each moment, for any stream, how long its file gets, and the text that is written.
+    ensures follow { (log : List ℕ) → IsCommandLine words.now (Follow log)
+        → DoesFollow D.LogDisk S.Source K.Sink log (world disk.old script.old out.old) (world disk.new script.new out.new) result.detail }
+    ensures complete_follow { AsksFollow words.now → D.honest disk.old
+        → IfSome (S.left script.old) (λ bytes. (list : OpenedList) → HoldsLawful (D.reads disk.old) list → IsLawfulStream bytes list
+        → (Rose (S.faults script.old) (S.faults script.new) → ⊥) → (Rose (K.faults out.old) (K.faults out.new) → ⊥)
+        → (Rose (D.faults disk.old) (D.faults disk.new) → ⊥) → IsFollowDone result.detail) }
 
     // By the commands other than `run` nothing is written but where all is fine or the writing failed.
     ensures silent { (AsksRun words.now → ⊥) → StaysSilent (K.held_bytes out.old) (K.held_bytes out.new) result.detail }

@@ -2,7 +2,7 @@
 use Rattle.std.specs.Prelude.{◌≡◌, ◌⊎◌, ℕ, List}
 use Rattle.command_line.specs.CommandLine.{IsCommandLine, AreTaken}
 use Rattle.command_line.specs.declared.command.Command.{Command}
-use Rattle.command_line.specs.declared.command.Command.TheVariants.{New, Run, Recover, Dump, Demo, Cut, Upgrade}
+use Rattle.command_line.specs.declared.command.Command.TheVariants.{New, Run, Recover, Dump, Demo, Cut, Upgrade, Ship, Follow, AsOf, Statement}
 use Rattle.log_disk.specs.declared.disk.LogDisk.{Ghosts}
 use Rattle.log_disk.specs.declared.source.Source.{Ghosts as SourceGhosts}
 use Rattle.log_disk.specs.declared.sink.Sink.{Ghosts as SinkGhosts}
@@ -12,7 +12,7 @@ use Rattle.cli_world.specs.declared.answer.Answer.{Answer}
 use Rattle.cli_world.specs.declared.answer.Answer.TheVariants.{Done, Asked}
 use Rattle.cli_world.specs.declared.answer.WithWorkers.{WithWorkers}
 use Rattle.cli_world.specs.declared.answer.WithWorkers.TheVariants as with_workers
-use Rattle.cli_world.specs.World.{World, TellsFaults, DoesCut, DoesDump, DoesNew, DoesRecover, DoesUpgrade}
+use Rattle.cli_world.specs.World.{World, TellsFaults, DoesAsOf, DoesCut, DoesDump, DoesFollow, DoesNew, DoesRecover, DoesShip, DoesStatement, DoesUpgrade}
 
 -- the command is one that needs no workers, and did what it promises
 abbrev pub DoesAlone : {D S K : Type 0} → Ghosts D → SourceGhosts S → SinkGhosts K → Command → World D S K → World D S K → Detail → Type 0
@@ -23,6 +23,10 @@ DoesAlone g h i Dump old new detail = DoesDump h i old new detail
 DoesAlone g h i (Demo log n seed options) old new detail = ⊥
 DoesAlone g h i (Cut log) old new detail = DoesCut g h i log old new detail
 DoesAlone g h i (Upgrade log) old new detail = DoesUpgrade g h i log old new detail
+DoesAlone g h i (Ship from) old new detail = DoesShip h i from old new detail
+DoesAlone g h i (Follow log) old new detail = DoesFollow g h i log old new detail
+DoesAlone g h i (AsOf lsn) old new detail = DoesAsOf h i lsn old new detail
+DoesAlone g h i (Statement account) old new detail = DoesStatement h i account old new detail
 
 -- the words ask such a command, it did what it promises, and told of faults
 pub record HasObeyedAlone {D S K : Type 0} (g : Ghosts D) (h : SourceGhosts S) (i : SinkGhosts K) (words : List (List ℕ)) (old new : World D S K)

@@ -1,7 +1,7 @@
 -- What a command works on, and what those do to it that need no workers. `g`, `h` and `i` are what the disk, the input and the output show; `old`
 -- and `new` are the three of them before and after. The fields are the clauses of the commands.
 use Rattle.std.specs.Prelude.{◌≡◌, ◌↔◌, ℕ, List, IfSome}
-use Rattle.log_disk.specs.Attaching.{existing_or_made}
+use Rattle.log_disk.specs.Attaching.{existing, existing_or_made}
 use Rattle.log_disk.specs.Costs.{Costs}
 use Rattle.log_disk.specs.Disk.{Leaves}
 use Rattle.log_disk.specs.Faults.{CountsWhere}
@@ -14,7 +14,13 @@ use Rattle.cli_shared.specs.declared.report.Detail.TheVariants.{Read, Write, Dis
 use Rattle.cli_shared.specs.Answers.{StaysSilent}
 use Rattle.cli_shared.specs.Attached.{LeavesAttached}
 use Rattle.cli_shared.specs.Creation.{TellsWhether}
+use Rattle.log_recovery.specs.Opened.{OpenedList}
 use Rattle.cli_reports.specs.Answers.{AnswersRecover, AnswersDump, IsOfDump, IsOfRecover}
+use Rattle.cli_reports.specs.Reports.{AnswersReport, IsOfAccountReport, IsOfReportAt, RefusesLsn}
+use Rattle.cli_shared.specs.Outside.{outside}
+use Rattle.cli_standby.specs.Following.{AnswersFollow, IsOfFollow}
+use Rattle.cli_standby.specs.Shipping.{SaysStream}
+use Rattle.cli_view.specs.Reports.{RefusesAccount, SaysAccounts, SaysStatement}
 use Rattle.cli_new.specs.Answers.{AnswersNew, IsOfNew}
 use Rattle.cli_new.specs.Creation.{AllHoldNew, FollowsLog, GrowsByNew, MayBeLeft, PrecedesLog}
 use Rattle.cli_cut.specs.Answers.{AnswersCut, IsOfCut}
@@ -98,3 +104,29 @@ pub record DoesDump {D S K : Type 0} (h : SourceGhosts S) (i : SinkGhosts K) (ol
   pub silent : StaysSilent (i.held_bytes old.out) (i.held_bytes new.out) detail
   pub range : IsOfDump detail
   pub untouched : new.disk ≡ old.disk
+
+-- a report of the log that is read, with what it says and refuses, and its answers
+pub record DoesReport {D S K : Type 0} (h : SourceGhosts S) (i : SinkGhosts K) (Says : OpenedList → List ℕ → Type 0)
+    (Refuses : OpenedList → Detail → Type 0) (IsOf : Detail → Type 0) (old new : World D S K) (detail : Detail) : Type 0 where
+  pub answer : IfSome (h.left old.script) (λ bytes.
+      AnswersReport Says Refuses bytes (h.left new.script) (i.held_bytes old.out) (i.held_bytes new.out) detail)
+  pub silent : StaysSilent (i.held_bytes old.out) (i.held_bytes new.out) detail
+  pub range : IsOf detail
+  pub untouched : new.disk ≡ old.disk
+
+abbrev pub DoesShip : {D S K : Type 0} → SourceGhosts S → SinkGhosts K → ℕ → World D S K → World D S K → Detail → Type 0
+DoesShip h i from old new detail = DoesReport h i (SaysStream from) (RefusesLsn from) IsOfReportAt old new detail
+
+abbrev pub DoesAsOf : {D S K : Type 0} → SourceGhosts S → SinkGhosts K → ℕ → World D S K → World D S K → Detail → Type 0
+DoesAsOf h i lsn old new detail = DoesReport h i (SaysAccounts lsn) (RefusesLsn lsn) IsOfReportAt old new detail
+
+abbrev pub DoesStatement : {D S K : Type 0} → SourceGhosts S → SinkGhosts K → ℕ → World D S K → World D S K → Detail → Type 0
+DoesStatement h i account old new detail = DoesReport h i (SaysStatement account) (RefusesAccount account) IsOfAccountReport old new detail
+
+pub record DoesFollow {D S K : Type 0} (g : Ghosts D) (h : SourceGhosts S) (i : SinkGhosts K) (log : List ℕ) (old new : World D S K)
+    (detail : Detail) : Type 0 where
+  pub answer : g.honest old.disk → AnswersFollow g (outside old.disk (h.left old.script) (i.held_bytes old.out))
+      (outside new.disk (h.left new.script) (i.held_bytes new.out)) detail
+  pub silent : StaysSilent (i.held_bytes old.out) (i.held_bytes new.out) detail
+  pub range : IsOfFollow detail
+  pub attached : g.honest old.disk → LeavesAttached (existing log) (g.attached old.disk) (g.attached new.disk) detail

@@ -3,6 +3,8 @@ ghost use Rattle.cli_world.specs.World.{world};
 
 use crate::answer::{Answer, WithWorkers};
 use crate::commands::{obey_cut, obey_dump, obey_new, obey_recover, obey_upgrade};
+use crate::standby_commands::{obey_follow, obey_ship};
+use crate::view_commands::{obey_asof, obey_statement};
 use cli_shared::Detail;
 use command_line::{Command, Refused, parse};
 use log_disk::{LogDisk, Sink, Source};
@@ -24,6 +26,12 @@ pub fn answer_alone<D: LogDisk, S: Source, K: Sink>(
         Ok(Command::Recover) => Answer::Done(obey_recover(alloc, disk, script, out)),
         Ok(Command::Cut { log }) => Answer::Done(obey_cut(alloc, &log, disk, script, out)),
         Ok(Command::Upgrade { log }) => Answer::Done(obey_upgrade(alloc, &log, disk, script, out)),
+        Ok(Command::Ship { from }) => Answer::Done(obey_ship(alloc, from, disk, script, out)),
+        Ok(Command::Follow { log }) => Answer::Done(obey_follow(alloc, &log, disk, script, out)),
+        Ok(Command::AsOf { lsn }) => Answer::Done(obey_asof(alloc, lsn, disk, script, out)),
+        Ok(Command::Statement { account }) => {
+            Answer::Done(obey_statement(alloc, account, disk, script, out))
+        }
         Ok(Command::Dump) => Answer::Done(obey_dump(alloc, disk, script, out)),
         Ok(Command::Run { log, options }) => Answer::Asked(WithWorkers::Run { log, options }),
         Ok(

@@ -4,7 +4,11 @@
 mod answer;
 mod answering;
 mod commands;
+mod standby_commands;
+mod view_commands;
 
 pub use answer::{Answer, WithWorkers};
 pub use answering::answer_alone;
 pub use commands::{obey_cut, obey_dump, obey_new, obey_recover, obey_upgrade};
+pub use standby_commands::{obey_follow, obey_ship};
+pub use view_commands::{obey_asof, obey_statement};

@@ -1,10 +1,11 @@
 use Rattle.std.proofs.Common.{◌∙◌, sym, ap, subst}
-use Rattle.command_line.specs.declared.command.Command.TheVariants.{New, Run, Recover, Dump, Demo, Cut, Upgrade}
+use Rattle.command_line.specs.declared.command.Command.TheVariants.{New, Run, Recover, Dump, Demo, Cut, Upgrade, Ship, Follow, AsOf, Statement}
 use Rattle.cli_shared.specs.Answers.{status_of}
 use Rattle.cli_world.specs.World.{World, world}
 use Rattle.cli_top.specs.Answered.{Answered}
+use Rattle.cli_standby.proofs.Completeness.{follow-complete}
 use Rattle.cli_top.proofs.AnsweredLemmas.{count-of, done-of, faults-of, refused-of, same-of, silent-of, untouched-of, usage-of}
-use Rattle.cli_top.proofs.CompletenessLemmas.{cut-complete, dump-complete, new-complete, recover-complete}
+use Rattle.cli_top.proofs.CompletenessLemmas.{account-complete, boundary-complete, cut-complete, dump-complete, new-complete, recover-complete}
 use Rattle.cli_top.proofs.DemoCompleteness.{demo-complete}
 use Rattle.cli_top.proofs.RunCompleteness.{run-complete}
 use Rattle.cli_top.proofs.top.aether.Goals as goal
@@ -64,6 +65,18 @@ returns g c =
       upgrade = λ log asked. done (Upgrade log) asked;
       complete_upgrade = λ asked honest closed. cut-complete _ _ _ _ _ _ _ _ detail (done (Upgrade asked.0) asked.1).answer
           ((done (Upgrade asked.0) asked.1).exists honest) faults.read.counted faults.write.counted faults.disk.counted closed;
+      ship = λ from asked. done (Ship from) asked;
+      complete_ship = λ from asked.
+          boundary-complete _ from _ _ _ _ _ _ detail (done (Ship from) asked).answer faults.read.counted faults.write.counted;
+      asof = λ lsn asked. done (AsOf lsn) asked;
+      complete_asof = λ lsn asked.
+          boundary-complete _ lsn _ _ _ _ _ _ detail (done (AsOf lsn) asked).answer faults.read.counted faults.write.counted;
+      statement = λ account asked. done (Statement account) asked;
+      complete_statement = λ account asked.
+          account-complete _ account _ _ _ _ _ _ detail (done (Statement account) asked).answer faults.read.counted faults.write.counted;
+      follow = λ log asked. done (Follow log) asked;
+      complete_follow = λ asked honest. follow-complete g.D.LogDisk _ _ _ _ _ _ _ _ _ detail ((done (Follow asked.0) asked.1).answer honest)
+          faults.read.counted faults.write.counted faults.disk.counted;
       silent = silent-of _ _ _ words old new detail came;
       honest = faults.honest;
       read = faults.read;

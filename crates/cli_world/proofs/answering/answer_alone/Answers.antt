@@ -1,6 +1,6 @@
 use Rattle.std.proofs.Common.{inl, inr, refl, subst}
 use Rattle.command_line.specs.CommandLine.{IsCommandLine, IsRefusalOf}
-use Rattle.command_line.specs.declared.command.Command.TheVariants.{New, Recover, Dump, Cut, Upgrade}
+use Rattle.command_line.specs.declared.command.Command.TheVariants.{New, Recover, Dump, Cut, Upgrade, Ship, Follow, AsOf, Statement}
 use Rattle.cli_world.proofs.answering.answer_alone.Goals as goal
 
 pub returns-in-Ok-New : goal.returns-in-Ok-New
@@ -54,3 +54,35 @@ returns-in-Err-Usage g c = inr (inl (refl, subst (IsRefusalOf c.args.words.now) 
 
 pub returns-in-Err-NoMemory : goal.returns-in-Err-NoMemory
 returns-in-Err-NoMemory g c = inr (inr (refl, refl))
+
+pub returns-in-Ok-Ship : goal.returns-in-Ok-Ship
+returns-in-Ok-Ship g c = inl (record {
+  command = Ship c.in-Ok-Ship.from;
+  asked = subst (IsCommandLine c.args.words.now) c.in-Ok-Ship.field-0-is c.in-Ok-Ship.ensures.exact;
+  done = c.obey_ship.ensures.done;
+  faults = c.obey_ship.ensures.faults;
+})
+
+pub returns-in-Ok-Follow : goal.returns-in-Ok-Follow
+returns-in-Ok-Follow g c = inl (record {
+  command = Follow c.in-Ok-Follow.log;
+  asked = subst (IsCommandLine c.args.words.now) c.in-Ok-Follow.field-0-is c.in-Ok-Follow.ensures.exact;
+  done = c.obey_follow.ensures.done;
+  faults = c.obey_follow.ensures.faults;
+})
+
+pub returns-in-Ok-AsOf : goal.returns-in-Ok-AsOf
+returns-in-Ok-AsOf g c = inl (record {
+  command = AsOf c.in-Ok-AsOf.lsn;
+  asked = subst (IsCommandLine c.args.words.now) c.in-Ok-AsOf.field-0-is c.in-Ok-AsOf.ensures.exact;
+  done = c.obey_asof.ensures.done;
+  faults = c.obey_asof.ensures.faults;
+})
+
+pub returns-in-Ok-Statement : goal.returns-in-Ok-Statement
+returns-in-Ok-Statement g c = inl (record {
+  command = Statement c.in-Ok-Statement.account;
+  asked = subst (IsCommandLine c.args.words.now) c.in-Ok-Statement.field-0-is c.in-Ok-Statement.ensures.exact;
+  done = c.obey_statement.ensures.done;
+  faults = c.obey_statement.ensures.faults;
+})
