@@ -10,7 +10,8 @@ ghost use Rattle.consol_array_tests.specs.Shares.{GoesOn, HasShare};
 ghost use Rattle.test_rig.specs.NotedJobs.{AreNoteUnits, IsNotedJob, MayInsert};
 
 use consol_array::{
-    Heard, Joined, Leaver, Member, NotJoined, Released, fill_member, hear, lead, release, try_join,
+    Heard, Joined, Leaver, Member, NotJoined, Released, fill_member, hear, lead, leave_group,
+    release, try_join,
 };
 use lock_core::Job;
 use log_record::Units;
@@ -67,6 +68,7 @@ pub(crate) fn hear_piece<R: Wait>(
     ensures piece { IfOk result (λ member. HasPiece table.now member _units.now (view_of seat.new)) }
     ensures goes_on { IfOk result (λ member. (next : ℕ) → GoesOn next (view_of seat.old) → GoesOn next (view_of seat.new)) }
     ensures leaves { IfErr result (λ refused. MayLeaveGroup table.now refused.1 (view_of seat.new)) }
+    ensures refused_goes_on { IfErr result (λ refused. (next : ℕ) → GoesOn next (view_of seat.old) → GoesOn next (view_of seat.new)) }
 {
     match hear(rt, table, seat, joined) {
         Heard::Base(member) => Ok(member),
@@ -88,4 +90,13 @@ pub(crate) fn put_piece(
 {
     let filled = fill_member(table, seat, member, units);
     release(table, seat, filled)
+}
+
+/// Releases the piece that the seat wanted of a group that was refused. Answers whether it was the last of its group to do so.
+pub(crate) fn leave_refused(table: &LogTable, seat: &mut Seat, leaver: Leaver) -> bool
+    requires own { IsOf table.now seat.old }
+    requires leaves { MayLeaveGroup table.now leaver (view_of seat.old) }
+    ensures may { (next : ℕ) → IsTxn next → GoesOn next (view_of seat.old) → MayInsert table.now next seat.new }
+{
+    leave_group(table, seat, leaver)
 }

@@ -9,8 +9,8 @@ ghost use Rattle.consol_array_tests.specs.Shares.{GoesOn, HasShare};
 ghost use Rattle.test_rig.specs.NotedJobs.{IsNotedJob, MayInsert};
 
 use crate::found::{is_at, is_number, is_so};
-use crate::group::{hear_piece, join_for, lead_if_first, put_piece};
-use consol_array::{Joined, Member, leave_group};
+use crate::group::{hear_piece, join_for, lead_if_first, leave_refused, put_piece};
+use consol_array::{Joined, Member};
 use lock_core::Job;
 use log_record::Units;
 use log_table::{LogTable, Seat};
@@ -238,15 +238,17 @@ fn fill_ring<R: Abort>(rt: &R, table: &LogTable, boss: &mut Seat, job: &Job) -> 
     Ok(())
 }
 
-/// The member hears that its group of five units was refused, and leaves, as the last one or not.
+/// The member hears that its group was refused so, and leaves, as the last one or not. Answers its seat.
 fn is_turned_away<R: Abort + Wait>(
     rt: &R,
     table: &LogTable,
     sharer: Sharer,
+    wanted: &Refused,
     last: bool,
-) -> Result<(), Fail>
+) -> Result<Seat, Fail>
     requires own { IsOf table.now sharer.seat }
     requires share { HasShare table.now sharer.joined sharer.units (step_joining sharer.joined.offset) sharer.seat }
+    ensures may { IfOk result (λ seat. (next : ℕ) → IsTxn next → GoesOn next (view_of sharer.seat) → MayInsert table.now next seat) }
 {
     let Sharer {
         mut seat,
@@ -257,19 +259,14 @@ fn is_turned_away<R: Abort + Wait>(
     let Err((refused, leaver)) = hear_piece(rt, table, &mut seat, joined, &units) else {
         return Err(Fail::new("the group has room"));
     };
-    let full = Refused::RingFull {
-        tail: Lsn::new(1028),
-        durable: Lsn::new(4),
-        total: 5,
-    };
-    assert_eq!(rt; refused, full);
+    assert!(rt; refused == *wanted, "{refused:?}");
     is_so(
         rt,
         "the last to leave",
-        leave_group(table, &mut seat, leaver),
+        leave_refused(table, &mut seat, leaver),
         last,
     );
-    Ok(())
+    Ok(seat)
 }
 
 #[test]
@@ -281,8 +278,57 @@ fn a_group_is_refused_with_its_own_numbers(rt: HostRuntime) -> Result<(), Fail> 
     fill_ring(&rt, &table, &mut boss, &job)?;
     let first = joins(&rt, &table, &mut boss, 256, b"aaaaaaaa", 0)?;
     let second = joins(&rt, &table, &mut boss, 257, b"bbbbbbbbb", 2)?;
-    is_turned_away(&rt, &table, first, false)?;
-    is_turned_away(&rt, &table, second, true)?;
+    let full = Refused::RingFull {
+        tail: Lsn::new(1028),
+        durable: Lsn::new(4),
+        total: 5,
+    };
+    is_turned_away(&rt, &table, first, &full, false)?;
+    is_turned_away(&rt, &table, second, &full, true)?;
     joins(&rt, &table, &mut boss, 258, b"aaaaaaaa", 0)?;
     Ok(())
+}
+
+/// Three units before the last LSN.
+const NEAR_THE_END: u32 = 4294967292;
+
+/// Two workers share a group of five units, for which the log has no LSNs left; once both have left, the first inserts a note of two
+/// units alone.
+fn first_goes_on_alone<R: Abort + Wait>(
+    rt: &R,
+    table: &LogTable,
+    boss: &mut Seat,
+    job: &Job,
+) -> Result<(), Fail>
+    requires boss { HasHired table.now 0 boss.old }
+    requires slots { 1 ≤ table.now.slots }
+    requires accounts { table.now.accounts ≡ 2 }
+    requires job { IsNotedJob job.now }
+{
+    let first = joins(rt, table, boss, 0, b"aaaaaaaa", 0)?;
+    let second = joins(rt, table, boss, 1, b"bbbbbbbbb", 2)?;
+    let end = Refused::LogEnd {
+        tail: Lsn::new(NEAR_THE_END),
+        total: 5,
+    };
+    let mut alone = is_turned_away(rt, table, first, &end, false)?;
+    is_turned_away(rt, table, second, &end, true)?;
+    inserts_alone(rt, table, &mut alone, 3, job, NEAR_THE_END)?;
+    is_at(rt, "tail", table.load_tail(&mut alone), NEAR_THE_END + 2);
+    is_at(
+        rt,
+        "exposed",
+        table.load_exposed(&mut alone),
+        NEAR_THE_END + 2,
+    );
+    Ok(())
+}
+
+#[test]
+fn a_group_is_refused_at_the_end_of_the_log(rt: HostRuntime) -> Result<(), Fail> {
+    let (table, mut boss) = table_with_slots(rt.alloc(), (100, 0), NEAR_THE_END, 1)?;
+    let Some(job) = noted_job(b"cccccccc") else {
+        return Err(Fail::new("no job"));
+    };
+    first_goes_on_alone(&rt, &table, &mut boss, &job)
 }
