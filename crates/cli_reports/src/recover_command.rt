@@ -5,7 +5,7 @@ ghost use Rattle.cli_shared.specs.Answers.{StaysSilent};
 
 use cli_shared::{Detail, ReadFault, detail_of, read_all};
 use log_disk::{Sink, Source};
-use log_recovery::{put_accounts, recover};
+use log_recovery::{put_accounts, recover_owned};
 use std::alloc::Global;
 
 /// Answers the bytes of a log by its accounts text.
@@ -22,7 +22,7 @@ pub fn recover_command<S: Source, K: Sink>(alloc: Global, script: &mut S, out: &
         Err(ReadFault::Failed) => return Detail::Read,
         Err(ReadFault::NoMemory) => return Detail::NoMemory,
     };
-    let recovered = match recover(alloc, bytes.as_slice()) {
+    let recovered = match recover_owned(alloc, bytes) {
         Ok(recovered) => recovered,
         Err(fault) => return detail_of(fault),
     };

@@ -9,7 +9,7 @@ use crate::input::{ReadFault, read_all};
 use crate::report::{Detail, detail_of};
 use lock_core::TakesRecords;
 use log_disk::Source;
-use log_recovery::{Listed, taken};
+use log_recovery::{Listed, taken_owned};
 use std::alloc::Global;
 
 /// Reads the input to its end, and answers what has taken the list of the log that it is, and the list.
@@ -26,7 +26,7 @@ pub fn read_log<T: TakesRecords, S: Source>(
         Err(ReadFault::Failed) => return Err(Detail::Read),
         Err(ReadFault::NoMemory) => return Err(Detail::NoMemory),
     };
-    match taken(alloc, bytes.as_slice()) {
+    match taken_owned(alloc, bytes) {
         Ok(both) => Ok(both),
         Err(fault) => Err(detail_of(fault)),
     }

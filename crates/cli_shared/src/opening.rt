@@ -8,7 +8,7 @@ ghost use Rattle.cli_shared.specs.Opening.{Opens, HasOpeningFault, MayHold, most
 
 use crate::report::{Detail, detail_of};
 use log_disk::LogDisk;
-use log_recovery::{Recovered, recover};
+use log_recovery::{Recovered, recover_owned};
 use lsn_space::Word;
 use segment_file::{OpenFault, open_image};
 use std::alloc::Global;
@@ -30,7 +30,7 @@ pub fn open_log<D: LogDisk>(alloc: Global, log: &Word, disk: &mut D) -> Result<R
         Err(OpenFault::DiskFault) => return Err(Detail::Disk),
         Err(OpenFault::NoMemory) => return Err(Detail::NoMemory),
     };
-    match recover(alloc, bytes.as_slice()) {
+    match recover_owned(alloc, bytes) {
         Ok(opened) => Ok(opened),
         Err(fault) => Err(detail_of(fault)),
     }

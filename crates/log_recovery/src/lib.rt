@@ -19,5 +19,8 @@ pub use line::{LINE_BYTES, Line};
 pub use list_result::Listed;
 pub use listing::listed;
 pub use lock_core::Why;
-pub use recovery::{RecoverFault, Recovered, judged, one_answer, recover, recover_list, taken};
+pub use recovery::{
+    RecoverFault, Recovered, judged, one_answer, recover, recover_list, recover_owned, taken,
+    taken_owned,
+};
 pub use texts::{put_accounts, put_end};

@@ -1,7 +1,7 @@
 ghost use Rattle.std.specs.Prelude.{◌≡◌, ◌⊎◌, ◌≤◌, ◌^◌, List, ℕ, IfOk, IfErr};
 ghost use Rattle.log_recovery.specs.declared.recovery.RecoverFault.{RecoverFault};
 ghost use Rattle.segment_file.specs.Log.{Log, HoldsLog};
-ghost use Rattle.segment_file.specs.Scan.{IsScanFaultOf};
+ghost use Rattle.segment_file.specs.Scan.{IsScanFaultOf, Scans};
 ghost use Rattle.log_recovery.specs.Judging.{IsUnitsFaultOf};
 ghost use Rattle.log_recovery.specs.Opened.{OpenedList};
 ghost use Rattle.log_recovery.specs.Recovery.{HoldsList, HoldsLawful, JudgesBytes, ListsBytes, TakesBytes, Recovers, IsFaultOf, IsListedFaultOf};
@@ -10,7 +10,7 @@ use crate::judging::{UnitsFault, taken_units};
 use crate::list_result::Listed;
 use lock_core::{Judge, TakesRecords, Why};
 use lsn_space::{Balances, Lsn};
-use segment_file::{ScanFault, Tail, scan};
+use segment_file::{Scan, ScanFault, Tail, scan};
 use std::alloc::Global;
 
 /// What the bytes of a log say.
@@ -72,15 +72,23 @@ fn units_fault(fault: UnitsFault) -> RecoverFault
     }
 }
 
-/// What has taken the lawful list that the bytes hold, and the list.
-pub fn taken<T: TakesRecords>(alloc: Global, bytes: &[u8]) -> Result<(T, Listed), RecoverFault>
-    ensures found { IfOk result (λ both. TakesBytes T.has_taken both.0 both.1 bytes.now) }
+/// What the bytes hold, in units.
+fn scanned(alloc: Global, bytes: &[u8]) -> Result<Scan, RecoverFault>
+    ensures found { IfOk result (λ scan. Scans scan bytes.now) }
     ensures fault { IfErr result (IsFaultOf bytes.now) }
 {
-    let scan = match scan(alloc, bytes) {
-        Ok(scan) => scan,
-        Err(fault) => return Err(scan_fault(fault)),
-    };
+    match scan(alloc, bytes) {
+        Ok(scan) => Ok(scan),
+        Err(fault) => Err(scan_fault(fault)),
+    }
+}
+
+/// What has taken the lawful list that was scanned, and the list.
+fn taken_scan<T: TakesRecords>(alloc: Global, scan: Scan) -> Result<(T, Listed), RecoverFault>
+    requires scanned { (bytes : List ℕ) × Scans scan bytes }
+    ensures found { (bytes : List ℕ) → Scans scan bytes → IfOk result (λ both. TakesBytes T.has_taken both.0 both.1 bytes) }
+    ensures fault { (bytes : List ℕ) → Scans scan bytes → IfErr result (IsFaultOf bytes) }
+{
     match taken_units(alloc, &scan.opening, scan.units.as_slice()) {
         Ok(taker) => Ok((
             taker,
@@ -91,6 +99,34 @@ pub fn taken<T: TakesRecords>(alloc: Global, bytes: &[u8]) -> Result<(T, Listed)
             },
         )),
         Err(fault) => Err(units_fault(fault)),
+    }
+}
+
+/// What has taken the lawful list that the bytes hold, and the list.
+pub fn taken<T: TakesRecords>(alloc: Global, bytes: &[u8]) -> Result<(T, Listed), RecoverFault>
+    ensures found { IfOk result (λ both. TakesBytes T.has_taken both.0 both.1 bytes.now) }
+    ensures fault { IfErr result (IsFaultOf bytes.now) }
+{
+    match scanned(alloc, bytes) {
+        Ok(scan) => taken_scan(alloc, scan),
+        Err(fault) => Err(fault),
+    }
+}
+
+/// The same of bytes that nobody reads behind this call. Their memory goes before the records are taken, which may want as much.
+pub fn taken_owned<T: TakesRecords>(
+    alloc: Global,
+    bytes: Vec<u8>,
+) -> Result<(T, Listed), RecoverFault>
+    ensures found { IfOk result (λ both. TakesBytes T.has_taken both.0 both.1 bytes.items) }
+    ensures fault { IfErr result (IsFaultOf bytes.items) }
+{
+    match scanned(alloc, bytes.as_slice()) {
+        Ok(scan) => {
+            drop(bytes);
+            taken_scan(alloc, scan)
+        }
+        Err(fault) => Err(fault),
     }
 }
 
@@ -117,14 +153,26 @@ pub fn recover(alloc: Global, bytes: &[u8]) -> Result<Recovered, RecoverFault>
     }
 }
 
-/// The accounts of the lawful list that the bytes hold, and the list, for which they are read once.
-pub fn recover_list(alloc: Global, bytes: &[u8]) -> Result<(Recovered, Listed), RecoverFault>
-    ensures found { IfOk result (λ both. Recovers both.0 bytes.now) }
-    ensures listed { IfOk result (λ both. ListsBytes both.1 bytes.now) }
-    ensures number { IfOk result (λ both. both.0.next_txn ≤ 2 ^ 32) }
-    ensures fault { IfErr result (IsFaultOf bytes.now) }
+/// The same of bytes that nobody reads behind this call.
+pub fn recover_owned(alloc: Global, bytes: Vec<u8>) -> Result<Recovered, RecoverFault>
+    ensures found { IfOk result (λ recovered. Recovers recovered bytes.items) }
+    ensures number { IfOk result (λ recovered. recovered.next_txn ≤ 2 ^ 32) }
+    ensures fault { IfErr result (IsFaultOf bytes.items) }
 {
-    match taken(alloc, bytes) {
+    match recover_list(alloc, bytes) {
+        Ok((recovered, _)) => Ok(recovered),
+        Err(fault) => Err(fault),
+    }
+}
+
+/// The accounts of the lawful list that the bytes hold, and the list, for which they are read once.
+pub fn recover_list(alloc: Global, bytes: Vec<u8>) -> Result<(Recovered, Listed), RecoverFault>
+    ensures found { IfOk result (λ both. Recovers both.0 bytes.items) }
+    ensures listed { IfOk result (λ both. ListsBytes both.1 bytes.items) }
+    ensures number { IfOk result (λ both. both.0.next_txn ≤ 2 ^ 32) }
+    ensures fault { IfErr result (IsFaultOf bytes.items) }
+{
+    match taken_owned(alloc, bytes) {
         Ok((judge, listed)) => Ok((recovered_of(judge, listed.tail), listed)),
         Err(fault) => Err(fault),
     }

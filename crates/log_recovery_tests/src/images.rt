@@ -106,86 +106,18 @@ fn recovers_lawful_lists(rt: HostRuntime) -> Result<(), Fail> {
     recovers(&rt, &batches, (9, 2), &[(70, 9), (30, 9)])
 }
 
+/// What the table of hostile images hasn't.
 const FAULTY: &[(&[&[u64]], Fault)] = &[
-    (
-        &[&[0x0102_0000_0000_0000, 100, 0x0102_0001_0000_0000]],
-        Fault::BadRec(2),
-    ),
-    (
-        &[&[
-            0x0102_0000_0000_0000,
-            0x8000_0000_0000_0000,
-            0x0102_0001_0000_0000,
-            0,
-        ]],
-        Fault::BadRec(0),
-    ),
-    (&[&GENESIS, &[0x0202_0000_0000_0001, 0]], Fault::BadRec(4)),
-    (
-        &[&GENESIS, &[0x0602_0002_0000_0001, 0x6869_0000_0000_0001]],
-        Fault::BadRec(4),
-    ),
     // A bad record hides an unlawful one before it.
     (&[&[0x0102_0001_0000_0000, 0, 0]], Fault::BadRec(2)),
-    (
-        &[&[0x0102_0001_0000_0000, 0]],
-        Fault::Unlawful(0, Why::Genesis),
-    ),
     (&[&TRANSFER], Fault::Unlawful(0, Why::Genesis)),
-    (
-        &[&GENESIS, &[0x0202_0002_0000_0001, 0xffff_ffe2_0000_0000]],
-        Fault::Unlawful(4, Why::Account),
-    ),
-    (
-        &[&GENESIS, &[0x0401_0001_0000_0001, 0x0401_0001_0000_0001]],
-        Fault::Unlawful(5, Why::Ended),
-    ),
-    (
-        &[&GENESIS, &[0x0301_0001_0000_0001]],
-        Fault::Unlawful(4, Why::Legs),
-    ),
     (
         &[&GENESIS, &[0x0501_0002_0000_0001]],
         Fault::Unlawful(4, Why::Legs),
     ),
     (
-        &[&GENESIS, &[0x0202_0000_0000_0001, 0x0000_001e_0000_0000]],
-        Fault::Unlawful(4, Why::Pair),
-    ),
-    (
         &[&GENESIS, &[0x0202_0000_0000_0001, 0xffff_ffe2_0000_0004]],
         Fault::Unlawful(4, Why::Prev),
-    ),
-    (
-        &[
-            &GENESIS,
-            &[
-                0x0202_0000_0000_0001,
-                0xffff_ffe2_0000_0000,
-                0x0202_0001_0000_0001,
-                0x0000_001e_0000_0000,
-                0x0202_0000_0000_0002,
-                0xffff_ffe2_0000_0000,
-                0x0202_0001_0000_0002,
-                0x0000_001e_0000_0000,
-                0x0301_0001_0000_0002,
-                0x0301_0001_0000_0001,
-            ],
-        ],
-        Fault::Unlawful(13, Why::Stale),
-    ),
-    (
-        &[
-            &GENESIS,
-            &[
-                0x0202_0000_0000_0001,
-                0xffff_fe0c_0000_0000,
-                0x0202_0001_0000_0001,
-                0x0000_01f4_0000_0000,
-                0x0301_0001_0000_0001,
-            ],
-        ],
-        Fault::Unlawful(8, Why::Balance),
     ),
 ];
 

@@ -6,8 +6,8 @@ use Rattle.cli_reports.proofs.recover_command.recover_command.Goals as goal
 -- the text is written
 pub returns-in-Ok-put_accounts-clause-answer : goal.returns-in-Ok-put_accounts-clause-answer
 returns-in-Ok-put_accounts-clause-answer g c =
-    let found = rw c.as_slice.ensures.value at c.in-Ok-recover.ensures.found in
-    answers-fine _ _ _ _ _ c.in-Ok-recover.recovered c.in-Ok.ensures.all found c.in-Ok-put_accounts.ensures.all
+    let found = c.in-Ok-recover_owned.ensures.found in
+    answers-fine _ _ _ _ _ c.in-Ok-recover_owned.recovered c.in-Ok.ensures.all found c.in-Ok-put_accounts.ensures.all
 
 pub returns-in-Ok-put_accounts-clause-silent : goal.returns-in-Ok-put_accounts-clause-silent
 returns-in-Ok-put_accounts-clause-silent g c = tt
@@ -30,8 +30,8 @@ returns-in-Ok-put_accounts-clause-write g c = record {
 -- the writing failed
 pub returns-clause-answer : goal.returns-clause-answer
 returns-clause-answer g c =
-    let found = rw c.as_slice.ensures.value at c.in-Ok-recover.ensures.found in
-    answers-write _ _ _ _ _ c.in-Ok-recover.recovered c.in-Ok.ensures.all found c.in-Err-put_accounts.ensures.prefix
+    let found = c.in-Ok-recover_owned.ensures.found in
+    answers-write _ _ _ _ _ c.in-Ok-recover_owned.recovered c.in-Ok.ensures.all found c.in-Err-put_accounts.ensures.prefix
 
 pub returns-clause-silent : goal.returns-clause-silent
 returns-clause-silent g c = tt
@@ -55,7 +55,7 @@ returns-clause-write g c = record {
 pub returns-in-Err : goal.returns-in-Err
 returns-in-Err g c =
     let detail = c.detail_of.ensures in
-    let fault = rw c.as_slice.ensures.value at c.in-Err.ensures.fault in
+    let fault = c.in-Err.ensures.fault in
     record {
       answer = rw detail (answers-fault _ _ _ _ _ c.in-Err.fault c.in-Ok.ensures.all fault);
       silent = rw detail (silent-fault _ c.in-Err.fault);

@@ -8,8 +8,8 @@ returns-in-Err-DiskFault-clause-fault g c = (g.D.LogDisk.reads c.args.disk.now, 
 pub returns-in-Err-NoMemory-clause-fault : goal.returns-in-Err-NoMemory-clause-fault
 returns-in-Err-NoMemory-clause-fault g c = (g.D.LogDisk.reads c.args.disk.now, λ honest. refl, tt)
 
-pub returns-in-Ok-recover-clause-opened : goal.returns-in-Ok-recover-clause-opened
-returns-in-Ok-recover-clause-opened g c =
-    let recovers = rw c.as_slice.ensures.value at c.in-Ok-recover.ensures.found in
-    opens g.D.LogDisk c.in-Ok-recover.opened c.args.disk.now c.image_of.new.disk c.in-Ok.bytes.items (omega arith)
+pub returns-in-Ok-recover_owned-clause-opened : goal.returns-in-Ok-recover_owned-clause-opened
+returns-in-Ok-recover_owned-clause-opened g c =
+    let recovers = c.in-Ok-recover_owned.ensures.found in
+    opens g.D.LogDisk c.in-Ok-recover_owned.opened c.args.disk.now c.image_of.new.disk c.in-Ok.bytes.items (omega arith)
     c.in-Ok.ensures.bytes recovers c.in-Ok.ensures.reads c.in-Ok.ensures.settled
