@@ -21,7 +21,8 @@ use Rattle.segment_file.specs.declared.scan_result.Tail.{Tail}
 use Rattle.segment_file.specs.File.{BeginsAsLog, joined}
 use Rattle.segment_file.specs.Log.{Log, cut_log, with_units}
 use Rattle.segment_cut.specs.Underway.{HoldsNoneOrBatches, IsUnderway}
-use Rattle.cli_cut.specs.Batches.{packed_behind, batches_of}
+use Rattle.ship_stream.specs.Packing.{packed_behind}
+use Rattle.cli_cut.specs.Batches.{batches_of}
 use Rattle.cli_cut.proofs.WritingLemmas.{IsWriting, writing-begun, writing-flushed, writing-full, writing-taken}
 
 -- before a record, whatever records the units spell
@@ -62,19 +63,19 @@ none-waits [] is = refl
 none-waits (rec ∷ waits) is = absurd (some_unit rec (units_of waits) (sym is))
 
 -- records with units are the last batch
-last-waits : (waiting : List ℕ) (waits : List Rec) → waiting ≡ units_of waits → 0 < length waiting → packed_behind waits [] ≡ waits ∷ packed_behind [] []
+last-waits : (waiting : List ℕ) (waits : List Rec) → waiting ≡ units_of waits → 0 < length waiting → packed_behind MOST_UNITS waits [] ≡ waits ∷ packed_behind MOST_UNITS [] []
 last-waits waiting [] is some = absurd (omega (arith, some, ap length is))
 last-waits waiting (rec ∷ waits) is some = refl
 
 -- records that wait are a batch or more, with those behind them
-some-packed : (rec : Rec) (waits left : List Rec) → 0 < length (map units_of (packed_behind (rec ∷ waits) left))
+some-packed : (rec : Rec) (waits left : List Rec) → 0 < length (map units_of (packed_behind MOST_UNITS (rec ∷ waits) left))
 some-packed rec waits [] = omega arith
 some-packed rec waits (next ∷ left) =
     elim (nat_le (end_of (rec ∷ waits) + size_of next) MOST_UNITS)
-    as (λ b. 0 < length (map units_of (if b then packed_behind ((rec ∷ waits) ++ next ∷ []) left else (rec ∷ waits) ∷ packed_behind (next ∷ []) left)))
+    as (λ b. 0 < length (map units_of (if b then packed_behind MOST_UNITS ((rec ∷ waits) ++ next ∷ []) left else (rec ∷ waits) ∷ packed_behind MOST_UNITS (next ∷ []) left)))
     [ true ↦ some-packed rec (waits ++ next ∷ []) left | false ↦ omega arith ]
 
-some-batch : (waiting : List ℕ) (waits left : List Rec) → waiting ≡ units_of waits → 0 < length waiting → 0 < length (map units_of (packed_behind waits left))
+some-batch : (waiting : List ℕ) (waits left : List Rec) → waiting ≡ units_of waits → 0 < length waiting → 0 < length (map units_of (packed_behind MOST_UNITS waits left))
 some-batch waiting [] left is some = absurd (omega (arith, some, ap length is))
 some-batch waiting (rec ∷ waits) left is some = some-packed rec waits left
 
@@ -155,7 +156,7 @@ module _ {D : Type 0} (g : Ghosts D) (begun : D) (opening : Opening) (units : Li
       pub failed-grows : (new : D) → 0 < length waiting → (g.honest now → GrowsAtMostTo g (tail.at + 6 + 8 * length waiting) now new) → g.honest begun
           → GrowsAtMostTo g (21 + 12 * length opening.accounts + 5 * length (batches_of some.0) + 8 * length units) begun new
       failed-grows new more grows honest =
-          let packed : List (List ℕ) = map units_of (packed_behind writing.waits writing.left) in
+          let packed : List (List ℕ) = map units_of (packed_behind MOST_UNITS writing.waits writing.left) in
           let batches : length writing.done + 1 ≤ length (batches_of some.0) = omega (
             arith,
             ap length writing.batches,
@@ -179,7 +180,7 @@ module _ {D : Type 0} (g : Ghosts D) (begun : D) (opening : Opening) (units : Li
         let before = written.count honest in
         let behind = count (ready.honest.0 honest) in
         let more : length written.done ≤ length (batches_of records) =
-        omega (arith, ap length written.batches, length-append written.done (map units_of (packed_behind written.waits written.left))) in
+        omega (arith, ap length written.batches, length-append written.done (map units_of (packed_behind MOST_UNITS written.waits written.left))) in
         record { successes = omega (arith, before.successes, behind.successes, more); calls = omega (arith, before.calls, behind.calls, more) }
 
     -- ---- a batch is written
@@ -193,7 +194,7 @@ module _ {D : Type 0} (g : Ghosts D) (begun : D) (opening : Opening) (units : Li
         (honest : (g.honest now → g.honest new) × (g.honest new → g.honest now)) (attached : g.attached new ≡ g.attached now)
         (faults : g.faults new ≡ g.faults now) (more : 0 < length waiting) where
       flushed : ((records : List Rec) (are : AreUnitsOf units records)
-          → packed_behind (ready.writing records are).waits (ready.writing records are).left ≡ (ready.writing records are).waits ∷ packed_behind [] (ready.writing records are).left)
+          → packed_behind MOST_UNITS (ready.writing records are).waits (ready.writing records are).left ≡ (ready.writing records are).waits ∷ packed_behind MOST_UNITS [] (ready.writing records are).left)
           → IsReady g begun opening units new after [] room rest
       flushed one = record {
         writing = λ records are. writing-flushed g opening records begun now new tail after waiting rest (ready.writing records are)
@@ -216,8 +217,8 @@ module _ {D : Type 0} (g : Ghosts D) (begun : D) (opening : Opening) (units : Li
       ready-last none = flushed (λ records are.
           let writing = ready.writing records are in
           let left = none-left rest writing.left writing.spellable writing.rest_is none in
-          ap (packed_behind writing.waits) left ∙ last-waits waiting writing.waits writing.waiting_is more
-          ∙ ap (λ left. writing.waits ∷ packed_behind [] left) (sym left))
+          ap (packed_behind MOST_UNITS writing.waits) left ∙ last-waits waiting writing.waits writing.waiting_is more
+          ∙ ap (λ left. writing.waits ∷ packed_behind MOST_UNITS [] left) (sym left))
 
   -- ---- all batches
 
@@ -232,7 +233,7 @@ module _ {D : Type 0} (g : Ghosts D) (begun : D) (opening : Opening) (units : Li
 
     all-batches : batches_of records ≡ last.done
     all-batches = last.batches
-        ∙ (λ i. last.done ++ map units_of (packed_behind (none-waits last.waits last.waiting_is i) (left-none i))) ∙ append-nil last.done
+        ∙ (λ i. last.done ++ map units_of (packed_behind MOST_UNITS (none-waits last.waits last.waiting_is i) (left-none i))) ∙ append-nil last.done
 
     all-joined : units ≡ joined last.done
     all-joined = are.units_are ∙ last.whole

@@ -1,7 +1,6 @@
 -- How the records of a list go into batches of as many whole records as fit, and the log with them.
-use Rattle.std.proofs.Common.{◌≡◌, ◌≤◌, ◌<◌, ◌∙◌, refl, ap, sym, subst, ℕ, ◌+◌, ◌*◌, true, false, if◌then◌else◌, nat_le, List, [], ◌∷◌, ◌++◌, append_assoc, append-nil, length, length-append, map, drop, arith}
+use Rattle.std.proofs.Common.{◌≡◌, ◌≤◌, ◌<◌, ◌∙◌, refl, ap, sym, subst, ℕ, ◌+◌, ◌*◌, List, [], ◌∷◌, ◌++◌, append_assoc, append-nil, length, length-append, map, drop, arith}
 use Rattle.std.specs.List.{AllByRecursion}
-use Rattle.std.proofs.lemmas.Bool.{le-leb, leb-true}
 use Rattle.log_disk.specs.Costs.{Costs}
 use Rattle.log_disk.specs.Disk.{Leaves}
 use Rattle.log_disk.specs.Lengths.{GrowsAtMostTo}
@@ -9,7 +8,7 @@ use Rattle.log_disk.specs.declared.disk.LogDisk.{Ghosts}
 use Rattle.log_disk.proofs.Moments.{Leaves-trans}
 use Rattle.lsn_space.specs.Opening.{Opening}
 use Rattle.log_record.specs.declared.rec.Rec.{Rec}
-use Rattle.log_record.specs.LogList.{AreUnitsOf, units_of, end_of, size_of}
+use Rattle.log_record.specs.LogList.{AreUnitsOf, units_of, size_of}
 use Rattle.log_record.specs.Spelling.{spelling, IsSpellable, BeginsWith}
 use Rattle.log_record.proofs.BoundLemmas.{length-spelling}
 use Rattle.segment_file.specs.declared.layout.TheConstants.{MOST_UNITS}
@@ -18,33 +17,11 @@ use Rattle.segment_file.specs.File.{BeginsAsLog, joined}
 use Rattle.segment_file.specs.Log.{Log, cut_log, with_units}
 use Rattle.segment_file.proofs.FileLemmas.{joined-more}
 use Rattle.segment_cut.specs.Underway.{IsUnderway}
-use Rattle.cli_cut.specs.Batches.{packed_behind, batches_of}
+use Rattle.ship_stream.specs.Packing.{packed_behind}
+use Rattle.ship_stream.proofs.PackingLemmas.{fits-behind, flushed-behind}
+use Rattle.cli_cut.specs.Batches.{batches_of}
 use Rattle.cli_cut.proofs.GenesisLemmas.{first-left}
 use Rattle.log_recovery.proofs.ListingLemmas.{units_of-append}
-
--- ---- the batches
-
--- a record more that fits waits too
-fits-behind : (waits : List Rec) (rec : Rec) (left : List Rec) → end_of waits + size_of rec ≤ MOST_UNITS
-    → packed_behind waits (rec ∷ left) ≡ packed_behind (waits ++ rec ∷ []) left
-fits-behind waits rec left fits =
-    ap (λ b. if b then packed_behind (waits ++ rec ∷ []) left else waits ∷ packed_behind (rec ∷ []) left) (le-leb (end_of waits + size_of rec) MOST_UNITS fits)
-
--- before one that doesn't fit those that wait are a batch
-full-behind : (waits : List Rec) (rec : Rec) (left : List Rec) → MOST_UNITS < end_of waits + size_of rec
-    → packed_behind waits (rec ∷ left) ≡ waits ∷ packed_behind (rec ∷ []) left
-full-behind waits rec left full =
-    elim (nat_le (end_of waits + size_of rec) MOST_UNITS)
-    as (λ b. nat_le (end_of waits + size_of rec) MOST_UNITS ≡ b
-    → (if b then packed_behind (waits ++ rec ∷ []) left else waits ∷ packed_behind (rec ∷ []) left) ≡ waits ∷ packed_behind (rec ∷ []) left)
-    [ true ↦ (λ is. absurd (omega (arith, full, leb-true (end_of waits + size_of rec) MOST_UNITS is))) | false ↦ (λ is. refl) ]
-    refl
-
--- and it begins the next
-flushed-behind : (waits : List Rec) (rec : Rec) (left : List Rec) → IsSpellable rec → MOST_UNITS < end_of waits + size_of rec
-    → packed_behind waits (rec ∷ left) ≡ waits ∷ packed_behind [] (rec ∷ left)
-flushed-behind waits rec left spellable full = full-behind waits rec left full
-    ∙ ap (λ batches. waits ∷ batches) (sym (fits-behind [] rec left (omega (arith, length-spelling rec spellable))))
 
 -- ---- what stands between two records
 
@@ -58,7 +35,7 @@ pub record IsWriting {D : Type 0} (g : Ghosts D) (opening : Opening) (records : 
   pub waiting_is : waiting ≡ units_of waits
   pub rest_is : rest ≡ units_of left
   pub whole : units_of records ≡ (joined done ++ waiting) ++ rest
-  pub batches : batches_of records ≡ done ++ map units_of (packed_behind waits left)
+  pub batches : batches_of records ≡ done ++ map units_of (packed_behind MOST_UNITS waits left)
   pub underway : g.honest begun → IsUnderway tail (with_units (cut_log opening) (joined done)) done (g.reads now) (g.images now)
   pub moments : g.honest begun → Leaves g.moment g.images_since (λ c. BeginsAsLog c → ⊥) begun now
   pub at : tail.at ≡ 20 + 12 * length opening.accounts + 5 * length done + 8 * length (joined done)
@@ -101,7 +78,7 @@ module _ {D : Type 0} (g : Ghosts D) (opening : Opening) (records : List Rec) (b
       → (g.honest begun → Leaves g.moment g.images_since (λ c. BeginsAsLog c → ⊥) now new) → after.at ≡ tail.at + 5 + 8 * length waiting
       → after.next ≡ tail.next + length waiting → (g.honest begun → GrowsAtMostTo g (tail.at + 6 + 8 * length waiting) now new)
       → (g.honest begun → Costs g 1 1 now new) → 0 < length waiting
-      → packed_behind writing.waits writing.left ≡ writing.waits ∷ packed_behind [] writing.left → IsWriting g opening records begun new after [] rest
+      → packed_behind MOST_UNITS writing.waits writing.left ≡ writing.waits ∷ packed_behind MOST_UNITS [] writing.left → IsWriting g opening records begun new after [] rest
   writing-flushed now new tail after waiting rest writing underway moments at next grows count some one =
       let done : List (List ℕ) = writing.done ++ waiting ∷ [] in
       let units : joined done ≡ joined writing.done ++ waiting = joined-more writing.done waiting in
@@ -117,8 +94,8 @@ module _ {D : Type 0} (g : Ghosts D) (opening : Opening) (records : List Rec) (b
         rest_is = writing.rest_is;
         whole = writing.whole ∙ ap (λ front. front ++ rest) (sym units ∙ sym (append-nil (joined done)));
         batches = writing.batches ∙ ap (λ packed. writing.done ++ map units_of packed) one
-            ∙ sym (append_assoc writing.done (units_of writing.waits ∷ []) (map units_of (packed_behind [] writing.left)))
-            ∙ ap (λ batch. (writing.done ++ batch ∷ []) ++ map units_of (packed_behind [] writing.left)) (sym writing.waiting_is);
+            ∙ sym (append_assoc writing.done (units_of writing.waits ∷ []) (map units_of (packed_behind MOST_UNITS [] writing.left)))
+            ∙ ap (λ batch. (writing.done ++ batch ∷ []) ++ map units_of (packed_behind MOST_UNITS [] writing.left)) (sym writing.waiting_is);
         underway = λ honest. subst (λ units. IsUnderway after (with_units (cut_log opening) units) done (g.reads new) (g.images new)) (sym units)
             (underway honest (with_units (cut_log opening) (joined writing.done)) writing.done (writing.underway honest));
         moments = λ honest. Leaves-trans g.moment g.images_since (λ c. BeginsAsLog c → ⊥) begun now new (writing.moments honest) (moments honest);
@@ -155,8 +132,8 @@ module _ {D : Type 0} (g : Ghosts D) (opening : Opening) (records : List Rec) (b
             ∙ sym (append_assoc (joined writing.done ++ waiting) own behind) ∙ ap (λ front. front ++ behind) (append_assoc (joined writing.done) waiting own);
         batches = writing.batches
             ∙ ap (λ packed. writing.done ++ map units_of packed)
-            (ap (packed_behind writing.waits) found.1
-            ∙ fits-behind writing.waits rec found.0 (omega (arith, fits, ap length writing.waiting_is)));
+            (ap (packed_behind MOST_UNITS writing.waits) found.1
+            ∙ fits-behind MOST_UNITS writing.waits rec found.0 (omega (arith, fits, ap length writing.waiting_is)));
         underway = writing.underway;
         moments = writing.moments;
         at = writing.at;
@@ -170,9 +147,9 @@ module _ {D : Type 0} (g : Ghosts D) (opening : Opening) (records : List Rec) (b
   -- a record that doesn't fit ends the batch
   pub writing-full : (now : D) (tail : Tail) (waiting rest : List ℕ) (rec : Rec) (writing : IsWriting g opening records begun now tail waiting rest)
       → BeginsWith rest rec → MOST_UNITS < length waiting + size_of rec
-      → packed_behind writing.waits writing.left ≡ writing.waits ∷ packed_behind [] writing.left
+      → packed_behind MOST_UNITS writing.waits writing.left ≡ writing.waits ∷ packed_behind MOST_UNITS [] writing.left
   writing-full now tail waiting rest rec writing begins full =
       let found = first-left rest writing.left rec writing.spellable writing.rest_is begins in
-      ap (packed_behind writing.waits) found.1
-      ∙ flushed-behind writing.waits rec found.0 begins.0 (omega (arith, full, ap length writing.waiting_is))
-      ∙ ap (λ left. writing.waits ∷ packed_behind [] left) (sym found.1)
+      ap (packed_behind MOST_UNITS writing.waits) found.1
+      ∙ flushed-behind MOST_UNITS writing.waits rec found.0 (omega (arith, length-spelling rec begins.0)) (omega (arith, full, ap length writing.waiting_is))
+      ∙ ap (λ left. writing.waits ∷ packed_behind MOST_UNITS [] left) (sym found.1)

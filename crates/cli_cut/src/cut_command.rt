@@ -13,7 +13,7 @@ ghost use Rattle.cli_cut.specs.Cutting.{AllHoldCut, FollowsCut, GrowsByCut, MayB
 
 use cli_shared::{Detail, ReadFault, detail_of, finds_none, read_all};
 use log_disk::{LogDisk, Sink, Source};
-use log_recovery::{put_accounts, recover};
+use log_recovery::{put_accounts, recover_owned};
 use lsn_space::{Opening, Word};
 use segment_cut::create_cut;
 use segment_head::Head;
@@ -105,7 +105,7 @@ fn read_opening<S: Source>(alloc: Global, source: &mut S) -> Result<Opening, Det
         Err(ReadFault::Failed) => return Err(Detail::Read),
         Err(ReadFault::NoMemory) => return Err(Detail::NoMemory),
     };
-    match recover(alloc, bytes.as_slice()) {
+    match recover_owned(alloc, bytes) {
         Ok(recovered) => Ok(Opening {
             lsn: recovered.lsn,
             txn: (recovered.next_txn - 1) as u32,

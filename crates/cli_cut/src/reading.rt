@@ -54,7 +54,7 @@ pub(crate) fn read_parts<S: Source>(alloc: Global, source: &mut S) -> Result<Par
         Err(ReadFault::Failed) => return Err(Detail::Read),
         Err(ReadFault::NoMemory) => return Err(Detail::NoMemory),
     };
-    let (recovered, listed) = match recover_list(alloc, bytes.as_slice()) {
+    let (recovered, listed) = match recover_list(alloc, bytes) {
         Ok(both) => both,
         Err(fault) => return Err(detail_of(fault)),
     };

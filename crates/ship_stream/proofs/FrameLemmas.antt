@@ -70,7 +70,8 @@ same_units (u ∷ us) (v ∷ vs) x y is_us is_vs long same =
     let back : flat_map unit_bytes us ++ x ≡ flat_map unit_bytes vs ++ y = ap (drop 8) same in
     let head : u ≡ v = sym (from_be_bytes-to_be_bytes_8 u (is_us 0 u (omega arith))) ∙ ap unit_value front
     ∙ from_be_bytes-to_be_bytes_8 v (is_vs 0 v (omega arith)) in
-    let tail = same_units us vs x y (All-drop (λ n. n < 2 ^ 64) 1 (u ∷ us) is_us) (All-drop (λ n. n < 2 ^ 64) 1 (v ∷ vs) is_vs) (omega arith) back in
+    let tail = same_units us vs x y (All-drop (λ n. n < 2 ^ 64) 1 (u ∷ us) is_us) (All-drop (λ n. n < 2 ^ 64) 1 (v ∷ vs) is_vs)
+    (omega arith) back in
     rw (head, tail) refl
 
 pub spellings-fit : (records : List Rec) → AllByRecursion IsSpellable records → All (λ u. u < 2 ^ 64) (units_of records)
@@ -87,8 +88,10 @@ same_frame rs ss x y is_rs is_ss same =
     (omega (arith, is_rs.most)) (omega (arith, is_ss.most)) same in
     let units =
     same_units (units_of rs) (units_of ss) x y (spellings-fit rs is_rs.spellable) (spellings-fit ss is_ss.spellable) number.0 number.1 in (
-      units_of-injective rs ss (All-from_recursion IsSpellable rs is_rs.spellable) (All-from_recursion IsSpellable ss is_ss.spellable) units,
-      append-cancel_left (flat_map unit_bytes (units_of ss)) x y (subst (λ us. flat_map unit_bytes us ++ x ≡ flat_map unit_bytes (units_of ss) ++ y) units number.1),
+      units_of-injective rs ss (All-from_recursion IsSpellable rs is_rs.spellable) (All-from_recursion IsSpellable ss is_ss.spellable)
+          units,
+      append-cancel_left (flat_map unit_bytes (units_of ss)) x y
+          (subst (λ us. flat_map unit_bytes us ++ x ≡ flat_map unit_bytes (units_of ss) ++ y) units number.1),
     )
 
 -- the end is no frame

@@ -17,7 +17,8 @@ use Rattle.ship_stream.proofs.FrameLemmas.{end_of-append, some_units}
 pub fits-behind : (limit : ℕ) (waits : List Rec) (rec : Rec) (left : List Rec) → end_of waits + size_of rec ≤ limit
     → packed_behind limit waits (rec ∷ left) ≡ packed_behind limit (waits ++ rec ∷ []) left
 fits-behind limit waits rec left fits =
-    ap (λ b. if b then packed_behind limit (waits ++ rec ∷ []) left else waits ∷ packed_behind limit (rec ∷ []) left) (le-leb (end_of waits + size_of rec) limit fits)
+    ap (λ b. if b then packed_behind limit (waits ++ rec ∷ []) left else waits ∷ packed_behind limit (rec ∷ []) left)
+    (le-leb (end_of waits + size_of rec) limit fits)
 
 -- before one that doesn't fit those that wait are a group
 pub full-behind : (limit : ℕ) (waits : List Rec) (rec : Rec) (left : List Rec) → limit < end_of waits + size_of rec
@@ -25,7 +26,8 @@ pub full-behind : (limit : ℕ) (waits : List Rec) (rec : Rec) (left : List Rec)
 full-behind limit waits rec left full =
     elim (nat_le (end_of waits + size_of rec) limit)
     as (λ b. nat_le (end_of waits + size_of rec) limit ≡ b
-    → (if b then packed_behind limit (waits ++ rec ∷ []) left else waits ∷ packed_behind limit (rec ∷ []) left) ≡ waits ∷ packed_behind limit (rec ∷ []) left)
+    → (if b then packed_behind limit (waits ++ rec ∷ []) left else waits ∷ packed_behind limit (rec ∷ []) left)
+    ≡ waits ∷ packed_behind limit (rec ∷ []) left)
     [ true ↦ (λ is. absurd (omega (arith, full, leb-true (end_of waits + size_of rec) limit is))) | false ↦ (λ is. refl) ]
     refl
 
@@ -79,7 +81,8 @@ packed-each limit waits (rec ∷ left) long most waiting each =
     let one : end_of (rec ∷ []) ≡ size_of rec = ap length (append-nil (spelling rec)) in
     by_fit limit waits rec
     (λ fits. subst (AllByRecursion (IsGroup limit)) (sym (fits-behind limit waits rec left fits))
-    (packed-each limit (waits ++ rec ∷ []) left long (omega (arith, fits, one, end_of-append waits (rec ∷ []))) (all-push IsSpellable waits rec waiting each.0) each.1))
+    (packed-each limit (waits ++ rec ∷ []) left long (omega (arith, fits, one, end_of-append waits (rec ∷ [])))
+    (all-push IsSpellable waits rec waiting each.0) each.1))
     (λ full. subst (AllByRecursion (IsGroup limit)) (sym (full-behind limit waits rec left full)) (
       record { some = omega (arith, full, length-spelling rec each.0, long); most = most; spellable = waiting },
       packed-each limit (rec ∷ []) left long (omega (arith, one, length-spelling rec each.0, long)) (each.0, tt) each.1,
@@ -93,7 +96,8 @@ shipped-each records each = packed-each SHIPPED_UNITS [] records (omega arith) (
 pub shipped-short : (records : List Rec) → AllByRecursion IsSpellable records
     → AllByRecursion (λ frame. end_of frame ≤ SHIPPED_UNITS) (frames_of records)
 shipped-short records each =
-    all-weaker (IsGroup SHIPPED_UNITS) (λ frame. end_of frame ≤ SHIPPED_UNITS) (frames_of records) (λ frame is. is.most) (shipped-each records each)
+    all-weaker (IsGroup SHIPPED_UNITS) (λ frame. end_of frame ≤ SHIPPED_UNITS) (frames_of records) (λ frame is. is.most)
+    (shipped-each records each)
 
 pub shipped-stream : (first : ℕ) (records : List Rec) → AllByRecursion IsSpellable records → first + end_of records ≤ LAST
     → IsStream (stream_of first records) first (frames_of records)

@@ -104,7 +104,13 @@ module _ (units : List ℕ) (len : ℕ) (rest : List ℕ) (gathering : IsGatheri
           whole = gathering.whole ∙ ap units_of regrouped;
           rest_is = dropped ∙ ap (λ n. drop n rest) size-is ∙ ap (drop (size_of parts.0)) rest-split
               ∙ drop-append_seam (spelling parts.0) (units_of parts.1);
-          count = omega (arith, size-is, gathering.count, end_of-append gathering.waits (parts.0 ∷ []), ap length (append-nil (spelling parts.0)));
+          count = omega (
+            arith,
+            size-is,
+            gathering.count,
+            end_of-append gathering.waits (parts.0 ∷ []),
+            ap length (append-nil (spelling parts.0)),
+          );
           most = fits;
           packed = ap frames_of (sym regrouped) ∙ gathering.packed ∙ ap (packed_behind SHIPPED_UNITS gathering.waits) parts.2
               ∙ fits-behind SHIPPED_UNITS gathering.waits parts.0 parts.1 (omega (arith, fits, size-is, gathering.count));
@@ -117,7 +123,8 @@ module _ (units : List ℕ) (len : ℕ) (rest : List ℕ) (gathering : IsGatheri
       left = gathering.left;
       list = record { spellable = all-append gathering.waits gathering.left gathering.waiting gathering.each; units_are = gathering.whole };
       first = gathering.packed ∙ ap (packed_behind SHIPPED_UNITS gathering.waits) parts.2
-          ∙ flushed-behind SHIPPED_UNITS gathering.waits parts.0 parts.1 (omega (arith, length-spelling parts.0 spellable.0)) (omega (arith, full, size-is, gathering.count))
+          ∙ flushed-behind SHIPPED_UNITS gathering.waits parts.0 parts.1 (omega (arith, length-spelling parts.0 spellable.0))
+          (omega (arith, full, size-is, gathering.count))
           ∙ ap (λ left. gathering.waits ∷ frames_of left) (sym parts.2);
       count = gathering.count;
       some = omega (arith, full, size-bounds.1);
@@ -129,7 +136,14 @@ module _ (units : List ℕ) (len : ℕ) (rest : List ℕ) (gathering : IsGatheri
   none-left : (left : List Rec) → gathering.left ≡ left → length rest ≡ 0 → left ≡ []
   none-left [] is empty = refl
   none-left (rec ∷ later) is empty =
-      absurd (omega (arith, empty, ap length gathering.rest_is, ap end_of is, some_units rec, length-append (spelling rec) (units_of later)))
+      absurd (omega (
+        arith,
+        empty,
+        ap length gathering.rest_is,
+        ap end_of is,
+        some_units rec,
+        length-append (spelling rec) (units_of later),
+      ))
 
   last-one : (waits : List Rec) → gathering.waits ≡ waits → 0 < length units → length rest ≡ 0
       → packed_behind SHIPPED_UNITS waits [] ≡ waits ∷ []
@@ -169,7 +183,8 @@ pub record IsShipping (from : ℕ) (units rest waiting : List ℕ) (old new : Op
 
 pub one-list : (units : List ℕ) (xs ys : List Rec) → AreUnitsOf units xs → AreUnitsOf units ys → xs ≡ ys
 one-list units xs ys first second =
-    units_of-injective xs ys (All-from_recursion IsSpellable xs first.spellable) (All-from_recursion IsSpellable ys second.spellable) (sym first.units_are ∙ second.units_are)
+    units_of-injective xs ys (All-from_recursion IsSpellable xs first.spellable) (All-from_recursion IsSpellable ys second.spellable)
+    (sym first.units_are ∙ second.units_are)
 
 pub shipping-none : (from : ℕ) (units waiting : List ℕ) (records : List Rec) (old new : Option (List ℕ)) → AreUnitsOf units records
     → AppendsBut old new (head_bytes from) waiting → IsShipping from units units waiting old new
@@ -212,7 +227,8 @@ module _ (from : ℕ) (units rest waiting : List ℕ) (old mid : Option (List �
         → AppendsBut mid new (waiting ++ counted_bytes (length own) own) waiting' → IsShipping from units behind waiting' old new
     shipping-more new behind waiting' dropped put =
         let parts = spellable-split first.frame first.left first.list.spellable in
-        let bytes : written-to ++ counted_bytes (length own) own ≡ head_bytes from ++ flat_map frame_bytes (before.done ++ first.frame ∷ []) =
+        let bytes : written-to ++ counted_bytes (length own) own
+        ≡ head_bytes from ++ flat_map frame_bytes (before.done ++ first.frame ∷ []) =
         ap (λ list. written-to ++ list) frame-is ∙ flat_map_more frame_bytes (head_bytes from) before.done first.frame in
         record {
           records = before.records;
@@ -230,7 +246,8 @@ module _ (from : ℕ) (units rest waiting : List ℕ) (old mid : Option (List �
         }
 
     whole-stream : (records : List Rec) → AreUnitsOf units records
-        → stream_of from records ≡ (written-to ++ counted_bytes (length own) own) ++ (flat_map frame_bytes (frames_of first.left) ++ end_bytes)
+        → stream_of from records ≡ (written-to ++ counted_bytes (length own) own) ++
+        (flat_map frame_bytes (frames_of first.left) ++ end_bytes)
     whole-stream records are =
         let later : List ℕ = flat_map frame_bytes (frames_of first.left) in
         let done : List ℕ = flat_map frame_bytes before.done in
@@ -247,14 +264,22 @@ module _ (from : ℕ) (units rest waiting : List ℕ) (old mid : Option (List �
         → AppendsPart mid new (waiting ++ counted_bytes (length own) own)
         → AppendsPart old new (stream_of from records)
     shipping-cut new records are cut =
-        AppendsPart-first old new _ _ _ (AppendsBut-part old mid new written-to waiting before.written (counted_bytes (length own) own) cut) (whole-stream records are)
+        AppendsPart-first old new _ _ _ (AppendsBut-part old mid new written-to waiting before.written (counted_bytes (length own) own)
+        cut) (whole-stream records are)
 
   -- all frames are written
   module _ (empty : length rest ≡ 0) (records : List Rec) (are : AreUnitsOf units records) where
     none-shipped : (left : List Rec) → before.left ≡ left → left ≡ []
     none-shipped [] is = refl
     none-shipped (rec ∷ later) is =
-        absurd (omega (arith, empty, ap length before.rest_is.units_are, ap end_of is, some_units rec, length-append (spelling rec) (units_of later)))
+        absurd (omega (
+          arith,
+          empty,
+          ap length before.rest_is.units_are,
+          ap end_of is,
+          some_units rec,
+          length-append (spelling rec) (units_of later),
+        ))
 
     ended-stream : stream_of from records ≡ written-to ++ end_bytes
     ended-stream = ap (λ list. head_bytes from ++ flat_map frame_bytes list ++ end_bytes)
@@ -286,7 +311,8 @@ module _ (block units waiting : List ℕ) (i unit : ℕ) (old mid : Option (List
   pub units-more : (new : Option (List ℕ)) (waiting' : List ℕ) → AppendsBut mid new (waiting ++ unit_bytes unit) waiting'
       → AppendsBut old new (block ++ flat_map unit_bytes (take (i + 1) units)) waiting'
   units-more new waiting' put =
-      subst (λ list. AppendsBut old new list waiting') one-more (AppendsBut-more old mid new _ waiting before (unit_bytes unit) waiting' put)
+      subst (λ list. AppendsBut old new list waiting') one-more
+      (AppendsBut-more old mid new _ waiting before (unit_bytes unit) waiting' put)
 
   pub units-cut : (new : Option (List ℕ)) → AppendsPart mid new (waiting ++ unit_bytes unit)
       → AppendsPart old new (block ++ flat_map unit_bytes units)

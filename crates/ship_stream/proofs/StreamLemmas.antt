@@ -36,8 +36,15 @@ unfolding counted_bytes
 begun-no_frame lsn rest (count_begun short) = λ records more frame fits is. omega (arith, ap length is, length-frame records more)
 begun-no_frame lsn rest (units_begun count body some most fits is short) = λ records more frame room are.
     let number =
-    units_begun-number lsn count (end_of records) rest body (flat_map unit_bytes (units_of records) ++ more) (omega arith) (omega (arith, frame.most)) is are in
-    omega (arith, number.0, ap length number.1, length-append (flat_map unit_bytes (units_of records)) more, length-unit_bytes (units_of records))
+    units_begun-number lsn count (end_of records) rest body (flat_map unit_bytes (units_of records) ++ more) (omega arith)
+    (omega (arith, frame.most)) is are in
+    omega (
+      arith,
+      number.0,
+      ap length number.1,
+      length-append (flat_map unit_bytes (units_of records)) more,
+      length-unit_bytes (units_of records),
+    )
 
 pub begun-no_end : (lsn : ℕ) (rest : List ℕ) → IsBegun lsn rest → HasNoEnd rest
 begun-no_end lsn rest (count_begun short) = λ more is. omega (arith, ap length is)
@@ -60,7 +67,8 @@ records_of-append fs gs = flat_map-append (λ records. records) fs gs
 rest-next : (fs gs later : List (List Rec)) (c : List Rec) (x y : List ℕ) → gs ≡ fs ++ c ∷ later
     → flat_map frame_bytes fs ++ x ≡ flat_map frame_bytes gs ++ y → x ≡ frame_bytes c ++ (flat_map frame_bytes later ++ y)
 rest-next fs gs later c x y is whole =
-    let split : flat_map frame_bytes (fs ++ c ∷ later) ++ y ≡ flat_map frame_bytes fs ++ (frame_bytes c ++ (flat_map frame_bytes later ++ y)) =
+    let split : flat_map frame_bytes (fs ++ c ∷ later) ++ y
+    ≡ flat_map frame_bytes fs ++ (frame_bytes c ++ (flat_map frame_bytes later ++ y)) =
     ap (λ bytes. bytes ++ y) (flat_map-append frame_bytes fs (c ∷ later))
     ∙ append_assoc (flat_map frame_bytes fs) (frame_bytes c ++ flat_map frame_bytes later) y
     ∙ ap (λ bytes. flat_map frame_bytes fs ++ bytes) (append_assoc (frame_bytes c) (flat_map frame_bytes later) y) in
@@ -149,12 +157,14 @@ one_stream-front bytes first other frames begun rest stream reads =
 bad-none : (bytes : List ℕ) (first : ℕ) (frames : List (List Rec)) (came : Came) (offset : ℕ) → HasFrames bytes first frames end_bytes
     → IsBadBehind came bytes offset → ⊥
 bad-none bytes first frames NoHead offset stream bad =
-    bad.0 first (flat_map frame_bytes frames ++ end_bytes) (first-fits bytes first frames end_bytes stream) (behind-head bytes first frames end_bytes stream)
+    bad.0 first (flat_map frame_bytes frames ++ end_bytes) (first-fits bytes first frames end_bytes stream)
+    (behind-head bytes first frames end_bytes stream)
 bad-none bytes first frames (Open b gs) offset stream bad =
     let one = one-reading bytes first b frames gs end_bytes bad.0 stream bad.1 (end-has_no_frame _ []) bad.2 in
     bad.3 [] (sym one.rest)
 bad-none bytes first frames (Whole b gs) offset stream bad =
-    let one = one-reading bytes first b frames gs end_bytes (end_bytes ++ bad.0) stream bad.1 (end-has_no_frame _ []) (end-has_no_frame _ bad.0) in
+    let one = one-reading bytes first b frames gs end_bytes (end_bytes ++ bad.0) stream bad.1 (end-has_no_frame _ [])
+    (end-has_no_frame _ bad.0) in
     omega (arith, bad.2, ap length one.rest)
 
 pub one_stream-fine : (bytes : List ℕ) (first : ℕ) (frames : List (List Rec)) (offset : ℕ) → IsStream bytes first frames
@@ -180,7 +190,8 @@ one-bad bytes (Whole l ls) (Open m ms) a b bad also =
     let one = one-reading bytes l m ls ms (end_bytes ++ bad.0) also.0 bad.1 also.1 (end-has_no_frame _ bad.0) also.2 in
     absurd (also.3 bad.0 (sym one.rest))
 one-bad bytes (Whole l ls) (Whole m ms) a b bad also =
-    let one = one-reading bytes l m ls ms (end_bytes ++ bad.0) (end_bytes ++ also.0) bad.1 also.1 (end-has_no_frame _ bad.0) (end-has_no_frame _ also.0) in
+    let one = one-reading bytes l m ls ms (end_bytes ++ bad.0) (end_bytes ++ also.0) bad.1 also.1 (end-has_no_frame _ bad.0)
+    (end-has_no_frame _ also.0) in
     omega (arith, ap length one.rest, bad.3, also.3)
 
 pub one_stream-place : (bytes : List ℕ) (a b : ℕ) → IsBadStream bytes a → IsBadStream bytes b → a ≡ b

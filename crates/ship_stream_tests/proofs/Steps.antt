@@ -7,7 +7,8 @@ use Rattle.stream_reader.specs.declared.reader.Part.{Part}
 use Rattle.stream_reader.specs.declared.reader.Part.TheVariants as part
 use Rattle.stream_reader.specs.declared.reader.StreamReader.{StreamReader}
 
-pub advances-can_read : (answer : Part) (came : Came) (reader : StreamReader) (bytes : List ℕ) → Advances answer came reader bytes → CanRead reader
+pub advances-can_read : (answer : Part) (came : Came) (reader : StreamReader) (bytes : List ℕ) → Advances answer came reader bytes
+    → CanRead reader
 advances-can_read part.More came reader bytes goes = (bytes, came, goes)
 advances-can_read (part.Head first) came reader bytes goes = (bytes, Open first [], goes.1)
 advances-can_read part.Frame came reader bytes goes = (bytes, Open goes.first (goes.frames ++ goes.records ∷ []), goes.read)

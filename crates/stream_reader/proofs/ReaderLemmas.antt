@@ -69,7 +69,13 @@ frames-small : (frames : List (List Rec)) → AllByRecursion IsFrame frames
     → length (flat_map frame_bytes frames) ≤ 12 * end_of (records_of frames)
 frames-small [] each = omega arith
 frames-small (records ∷ frames) each =
-    omega (arith, frames-small frames each.1, each.0.some, length-frame records (flat_map frame_bytes frames), end_of-append records (records_of frames))
+    omega (
+      arith,
+      frames-small frames each.1,
+      each.0.some,
+      length-frame records (flat_map frame_bytes frames),
+      end_of-append records (records_of frames),
+    )
 
 -- the place of what is behind the frames
 frames-place : (bytes : List ℕ) (first : ℕ) (frames : List (List Rec)) (rest : List ℕ) → HasFrames bytes first frames rest
@@ -229,7 +235,8 @@ module _ (at next room : ℕ) (units begun past more : List ℕ) where
 
   -- the end has come
   pub count-end : (came : Came) (other : List ℕ) → ReadsAt Count at next room units begun past came → begun ++ more ≡ end_bytes
-      → (first : ℕ) × (frames : List (List Rec)) × (came ≡ Open first frames) × ReadsAt End at next room units other (past ++ more) (Whole first frames)
+      → (first : ℕ) × (frames : List (List Rec)) × (came ≡ Open first frames)
+      × ReadsAt End at next room units other (past ++ more) (Whole first frames)
   count-end NoHead other r is = absurd r.stage_is
   count-end (Open first frames) other r is = (
     first,
@@ -272,13 +279,22 @@ module _ (at next room : ℕ) (units begun past more : List ℕ) where
       ∙ ap (λ list. list ++ (rest ++ after)) is in (
         to_be_bytes w32 count ++ (rest ++ after),
         subst (λ list. HasFrames list first frames (to_be_bytes w32 count ++ (rest ++ after))) (sym (append_assoc past piece after))
-            (frames-same (past ++ (piece ++ after)) first frames (begun ++ (piece ++ after)) _ behind (frames-more past first frames begun (piece ++ after) r.reads)),
+            (frames-same (past ++ (piece ++ after)) first frames (begun ++ (piece ++ after)) _ behind
+            (frames-more past first frames begun (piece ++ after) r.reads)),
         (λ records other frame room whole.
             let number =
-            same_number count (end_of records) (rest ++ after) (flat_map unit_bytes (units_of records) ++ other) fits (omega (arith, frame.most)) whole in
+            same_number count (end_of records) (rest ++ after) (flat_map unit_bytes (units_of records) ++ other) fits
+            (omega (arith, frame.most)) whole in
             none (omega (arith, frame.most, number.0)) (omega (arith, room, number.0, r.stage_is.0))),
         (λ other whole. let number = same_number count 0 (rest ++ after) other fits (omega arith) whole in omega (arith, some, number.0)),
-        omega (arith, r.place, ap length behind, length-append begun (piece ++ after), length-append past (piece ++ after), ap length (append_assoc past piece after)),
+        omega (
+          arith,
+          r.place,
+          ap length behind,
+          length-append begun (piece ++ after),
+          length-append past (piece ++ after),
+          ap length (append_assoc past piece after),
+        ),
       )
   count-bad (Whole first frames) count piece rest after r is some fits none split = absurd r.stage_is
 
@@ -294,7 +310,8 @@ module _ (at next room : ℕ) (units begun past more : List ℕ) where
   units-more NoHead count new left r is under short fit = absurd r.stage_is
   units-more (Open first frames) count new left r is under short fit = record {
     stage_is = (r.stage_is.0, record { under = under; most = r.stage_is.1.most; fits = r.stage_is.1.fits; short = short; each = fit });
-    reads = frames-same (past ++ more) first frames _ (to_be_bytes w32 count ++ units_bytes new left) (ap (λ list. to_be_bytes w32 count ++ list) (sym is))
+    reads = frames-same (past ++ more) first frames _ (to_be_bytes w32 count ++ units_bytes new left)
+        (ap (λ list. to_be_bytes w32 count ++ list) (sym is))
         (frames-more past first frames (to_be_bytes w32 count ++ units_bytes units begun) more r.reads);
     place = omega (arith, r.place, ap length is, length-append (units_bytes units begun) more, length-append past more);
     room_is = r.room_is;
@@ -311,7 +328,16 @@ module _ (at next room : ℕ) (units begun past more : List ℕ) where
     pub units-some : (came : Came) → ReadsAt (Units count) at next room units begun past came → 0 < length more
     units-some NoHead r = absurd r.stage_is
     units-some (Open first frames) r =
-        omega (arith, ap length is, length-append (units_bytes units begun) more, length-units_bytes units begun, length-units_bytes new [], all, r.stage_is.1.under, r.stage_is.1.short)
+        omega (
+          arith,
+          ap length is,
+          length-append (units_bytes units begun) more,
+          length-units_bytes units begun,
+          length-units_bytes new [],
+          all,
+          r.stage_is.1.under,
+          r.stage_is.1.short,
+        )
     units-some (Whole first frames) r = absurd r.stage_is
 
     -- the frame is whole
@@ -338,7 +364,15 @@ module _ (at next room : ℕ) (units begun past more : List ℕ) where
           record {
             stage_is = (omega (arith, r.stage_is.0, count_is, ends-more first frames records), omega arith);
             reads = frames-next (past ++ more) first frames records reads frame (omega (arith, r.stage_is.0, r.stage_is.1.fits, count_is));
-            place = omega (arith, r.place, ap length is, length-append (units_bytes units begun) more, length-append past more, length-units_bytes new [], all);
+            place = omega (
+              arith,
+              r.place,
+              ap length is,
+              length-append (units_bytes units begun) more,
+              length-append past more,
+              length-units_bytes new [],
+              all,
+            );
             room_is = r.room_is;
           },
         )
@@ -352,25 +386,37 @@ module _ (at next room : ℕ) (units begun past more : List ℕ) where
     units-bad NoHead piece rest after r none fit split = absurd r.stage_is
     units-bad (Open first frames) piece rest after r none fit split =
         let body : List ℕ = units_bytes units begun in
-        let behind : (to_be_bytes w32 count ++ body) ++ (piece ++ after) ≡ to_be_bytes w32 count ++ (flat_map unit_bytes new ++ (rest ++ after)) =
+        let behind : (to_be_bytes w32 count ++ body) ++ (piece ++ after)
+        ≡ to_be_bytes w32 count ++ (flat_map unit_bytes new ++ (rest ++ after)) =
         ap (λ list. to_be_bytes w32 count ++ (body ++ (list ++ after))) split
         ∙ ap (λ list. to_be_bytes w32 count ++ (body ++ list)) (append_assoc more rest after)
         ∙ ap (λ list. to_be_bytes w32 count ++ list) (sym (append_assoc body more (rest ++ after))
         ∙ ap (λ list. list ++ (rest ++ after)) (sym is ∙ append-nil (flat_map unit_bytes new))) in (
           to_be_bytes w32 count ++ (flat_map unit_bytes new ++ (rest ++ after)),
-          subst (λ list. HasFrames list first frames (to_be_bytes w32 count ++ (flat_map unit_bytes new ++ (rest ++ after)))) (sym (append_assoc past piece after))
-              (frames-same (past ++ (piece ++ after)) first frames _ _ behind (frames-more past first frames (to_be_bytes w32 count ++ body) (piece ++ after) r.reads)),
+          subst (λ list. HasFrames list first frames (to_be_bytes w32 count ++ (flat_map unit_bytes new ++ (rest ++ after))))
+              (sym (append_assoc past piece after))
+              (frames-same (past ++ (piece ++ after)) first frames _ _ behind
+              (frames-more past first frames (to_be_bytes w32 count ++ body) (piece ++ after) r.reads)),
           (λ records other frame room whole.
               let number =
-              same_number count (end_of records) _ (flat_map unit_bytes (units_of records) ++ other) (omega (arith, r.stage_is.1.most)) (omega (arith, frame.most)) whole in
+              same_number count (end_of records) _ (flat_map unit_bytes (units_of records) ++ other) (omega (arith, r.stage_is.1.most))
+              (omega (arith, frame.most)) whole in
               none records (record {
                 spellable = frame.spellable;
                 units_are =
-                    same_units new (units_of records) (rest ++ after) other (All-from_recursion IsUnit new fit) (spellings-fit records frame.spellable)
+                    same_units new (units_of records) (rest ++ after) other (All-from_recursion IsUnit new fit)
+                    (spellings-fit records frame.spellable)
                     (omega (arith, all, number.0)) number.1;
               })),
           (λ other whole. let number = same_number count 0 _ other (omega (arith, r.stage_is.1.most)) (omega arith) whole in
               omega (arith, r.stage_is.1.under, number.0)),
-          omega (arith, r.place, ap length behind, length-append (to_be_bytes w32 count ++ body) (piece ++ after), length-append past (piece ++ after), ap length (append_assoc past piece after)),
+          omega (
+            arith,
+            r.place,
+            ap length behind,
+            length-append (to_be_bytes w32 count ++ body) (piece ++ after),
+            length-append past (piece ++ after),
+            ap length (append_assoc past piece after),
+          ),
         )
     units-bad (Whole first frames) piece rest after r none fit split = absurd r.stage_is

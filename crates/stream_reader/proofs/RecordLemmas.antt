@@ -94,7 +94,13 @@ next-begins : (front records : List Rec) (rest : List ℕ) → AllByRecursion Is
 next-begins [] [] rest fits each is some = absurd (omega (arith, some, ap length is))
 next-begins [] (rec ∷ records) rest fits each is some = (rec, (each.0, units_of records, sym is))
 next-begins (first ∷ front) [] rest fits each is some =
-    absurd (omega (arith, ap length is, some_units first, length-append (units_of (first ∷ front)) rest, length-append (spelling first) (units_of front)))
+    absurd (omega (
+      arith,
+      ap length is,
+      some_units first,
+      length-append (units_of (first ∷ front)) rest,
+      length-append (spelling first) (units_of front),
+    ))
 next-begins (first ∷ front) (rec ∷ records) rest fits each is some =
     let same = spelling-append-injective rec first (units_of records) (units_of front ++ rest) each.0 fits.0
     (is ∙ append_assoc (spelling first) (units_of front) rest) in
@@ -122,4 +128,5 @@ pub size-at : (units : List ℕ) (at kind count field txn : ℕ) (rec : Rec) →
     → get_or units at 0 ≡ header kind count field txn
     → count < 256 → field < 2 ^ 16 → txn < 2 ^ 32 → BeginsWith (drop at units) rec → size_of rec ≡ count
 size-at units at kind count field txn rec inside parts count_fits field_fits txn_fits begins =
-    size-says (drop at units) (drop (suc at) units) (get_or units at 0) kind count field txn rec (drop-cons units at 0 inside) parts count_fits field_fits txn_fits begins
+    size-says (drop at units) (drop (suc at) units) (get_or units at 0) kind count field txn rec (drop-cons units at 0 inside) parts
+    count_fits field_fits txn_fits begins

@@ -58,7 +58,8 @@ pub counted : (old mid : StreamReader) (taken : List ℕ) (count : ℕ) → old.
     → (past : List ℕ) (came : Came) → HasRead old past came → HasRead mid (past ++ taken) came
 counted old mid taken count at_count is some room stage empty rest past came read =
     as-read mid (Units count) old.at old.next old.batch.room [] [] (past ++ taken) came stage rest.0 rest.1 rest.2 empty.0 empty.1
-    (count-units old.at old.next old.batch.room old.batch.units old.begun past taken came count (at-stage old Count past came at_count read) is some room.0 room.1)
+    (count-units old.at old.next old.batch.room old.batch.units old.begun past taken came count
+    (at-stage old Count past came at_count read) is some room.0 room.1)
 
 module _ (old mid new : StreamReader) (piece rest : List ℕ) (used : ℕ) (within : used ≤ length piece) (rest_is : rest ≡ drop used piece)
     (goes : (past : List ℕ) (came : Came) → HasRead old past came → HasRead mid (past ++ take used piece) came) where

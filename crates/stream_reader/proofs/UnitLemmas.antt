@@ -58,7 +58,8 @@ bytes-two x y z piece a b first second =
 
 -- first the unit under way, and then whole ones
 module _ (old begun mid after new piece rest : List ℕ) (a b : ℕ) (rest_is : rest ≡ drop a piece) (empty : after ≡ [])
-    (first : units_bytes mid after ≡ units_bytes old begun ++ take a piece) (second : units_bytes new [] ≡ units_bytes mid [] ++ take b rest) where
+    (first : units_bytes mid after ≡ units_bytes old begun ++ take a piece)
+    (second : units_bytes new [] ≡ units_bytes mid [] ++ take b rest) where
   pushed : units_bytes new [] ≡ units_bytes old begun ++ take (a + b) piece
   pushed = bytes-two (units_bytes old begun) (units_bytes mid []) (units_bytes new []) piece a b
       (subst (λ list. units_bytes mid list ≡ units_bytes old begun ++ take a piece) empty first) (second

@@ -3,9 +3,9 @@ use Rattle.log_recovery.proofs.OpenedLemmas.{held-snapshot}
 use Rattle.cli_shared.proofs.SourceLemmas.{source-fault}
 use Rattle.cli_cut.proofs.cut_command.read_opening.Goals as goal
 
-pub returns-in-Ok-recover-clause-ok : goal.returns-in-Ok-recover-clause-ok
-returns-in-Ok-recover-clause-ok g c =
-    let found = rw c.as_slice.ensures.value at c.in-Ok-recover.ensures.found in (
+pub returns-in-Ok-recover_owned-clause-ok : goal.returns-in-Ok-recover_owned-clause-ok
+returns-in-Ok-recover_owned-clause-ok g c =
+    let found = c.in-Ok-recover_owned.ensures.found in (
       c.in-Ok.bytes.items,
       found.list,
       c.in-Ok.ensures.all,
@@ -13,12 +13,10 @@ returns-in-Ok-recover-clause-ok g c =
       record { lsn = found.lsn; txn = omega (arith, found.next_txn); accounts = found.accounts },
     )
 
-pub returns-in-Ok-recover-clause-held : goal.returns-in-Ok-recover-clause-held
-returns-in-Ok-recover-clause-held g c =
-    let found = c.in-Ok-recover.ensures.found in
-    held-snapshot c.as_slice.result.now found.list found.held _ _ _ found.accounts found.lsn (omega (arith, found.next_txn, c.in-Ok-recover.ensures.number))
+pub returns-in-Ok-recover_owned-clause-held : goal.returns-in-Ok-recover_owned-clause-held
+returns-in-Ok-recover_owned-clause-held g c =
+    let found = c.in-Ok-recover_owned.ensures.found in
+    held-snapshot c.in-Ok.bytes.items found.list found.held _ _ _ found.accounts found.lsn (omega (arith, found.next_txn, c.in-Ok-recover_owned.ensures.number))
 
-pub returns-clause-err : goal.returns-clause-err
-returns-clause-err g c =
-    let fault = rw c.as_slice.ensures.value at c.in-Err.ensures.fault in
-    rw c.detail_of.ensures (source-fault _ _ c.in-Err.fault (c.in-Ok.bytes.items, c.in-Ok.ensures.all, fault))
+pub returns-in-Err-clause-err : goal.returns-in-Err-clause-err
+returns-in-Err-clause-err g c = rw c.detail_of.ensures (source-fault _ _ c.in-Err.fault (c.in-Ok.bytes.items, c.in-Ok.ensures.all, c.in-Err.ensures.fault))

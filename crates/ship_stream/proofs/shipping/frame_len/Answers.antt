@@ -25,7 +25,8 @@ records-preserved c =
 
 pub returns-then-len-size-gt-SHIPPED_UNITS : goal.returns-then-len-size-gt-SHIPPED_UNITS
 returns-then-len-size-gt-SHIPPED_UNITS c =
-    gathering-full _ _ _ c.records.invariant _ _ c.in-Some.ensures.cases.0 _ c.record_len-size.ensures (omega (arith, c.if-len-size-gt-SHIPPED_UNITS.true))
+    gathering-full _ _ _ c.records.invariant _ _ c.in-Some.ensures.cases.0 _ c.record_len-size.ensures
+    (omega (arith, c.if-len-size-gt-SHIPPED_UNITS.true))
 
 pub returns-in_default : goal.returns-in_default
 returns-in_default c = gathering-last _ _ _ c.records.invariant c.requires.some (c.in_default.ensures.cases)

@@ -16,7 +16,8 @@ returns-in_err-put_number-clause-prefix g c =
 pub returns-clause-all : goal.returns-clause-all
 returns-clause-all g c =
     on_ok_weaker c.put_units.result
-    (λ put. subst (λ bytes. AppendsBut (g.K.Sink.held_bytes c.args.sink.now) (g.K.Sink.held_bytes c.put_units.new.sink) bytes c.put_units.new.block)
+    (λ put. subst (λ bytes. AppendsBut (g.K.Sink.held_bytes c.args.sink.now) (g.K.Sink.held_bytes c.put_units.new.sink) bytes
+    c.put_units.new.block)
     (counted-is c.args.block.now (length c.args.units.now) c.args.units.now)
     (AppendsBut-more _ _ _ _ _ c.in_ok-put_number.ensures.all (flat_map unit_bytes c.args.units.now) _ put))
     c.put_units.ensures.all

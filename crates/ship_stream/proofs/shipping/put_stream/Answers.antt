@@ -10,14 +10,16 @@ use Rattle.ship_stream.proofs.shipping.put_stream.Goals as goal
 pub returns-in_err-put_head-clause-prefix : goal.returns-in_err-put_head-clause-prefix
 returns-in_err-put_head-clause-prefix g c = λ records are.
     let failed = err_from_is_err_and c.from_residual.result c.from_residual.ensures.1 in
-    let cut = subst (λ waiting. AppendsPart (g.K.Sink.held_bytes c.args.sink.now) (g.K.Sink.held_bytes c.put_head.new.sink) (waiting ++ head_bytes c.args.from))
+    let cut = subst (λ waiting. AppendsPart (g.K.Sink.held_bytes c.args.sink.now) (g.K.Sink.held_bytes c.put_head.new.sink)
+    (waiting ++ head_bytes c.args.from))
     c.new-block.ensures c.in_err-put_head.ensures.prefix in
     rw failed.1 (AppendsPart-first _ _ _ _ _ cut (append_assoc (head_bytes c.args.from) _ end_bytes))
 
 pub frames-init : goal.frames-init
 frames-init g c = record {
   shipping = shipping-none c.args.from c.args.units.now _ c.requires.0 _ _ c.requires.1
-      (subst (λ waiting. AppendsBut (g.K.Sink.held_bytes c.args.sink.now) (g.K.Sink.held_bytes c.put_head.new.sink) (waiting ++ head_bytes c.args.from) c.put_head.new.block)
+      (subst (λ waiting. AppendsBut (g.K.Sink.held_bytes c.args.sink.now) (g.K.Sink.held_bytes c.put_head.new.sink)
+      (waiting ++ head_bytes c.args.from) c.put_head.new.block)
       c.new-block.ensures c.in_ok-put_head.ensures.all);
   same = c.in_ok-put_head.ensures.cause.fine;
 }
@@ -33,14 +35,16 @@ frames-smaller g c = omega (arith, c.frame_len.ensures.some, c.split_at.ensures.
 
 pub frames-preserved : goal.frames-preserved
 frames-preserved g c = record {
-  shipping = shipping-more _ _ _ _ _ _ c.frames.invariant.shipping _ c.frame_len.ensures _ c.split_at.ensures.front _ _ _ c.split_at.ensures.back c.in_ok-put_counted.ensures.all;
+  shipping = shipping-more _ _ _ _ _ _ c.frames.invariant.shipping _ c.frame_len.ensures _ c.split_at.ensures.front _ _ _
+      c.split_at.ensures.back c.in_ok-put_counted.ensures.all;
   same = c.in_ok-put_counted.ensures.cause.fine ∙ c.frames.invariant.same;
 }
 
 pub returns-in_err-put_counted-clause-prefix : goal.returns-in_err-put_counted-clause-prefix
 returns-in_err-put_counted-clause-prefix g c = λ records are.
     let failed = err_from_is_err_and c.from_residual-in_err-put_counted.result c.from_residual-in_err-put_counted.ensures.1 in
-    rw failed.1 (shipping-cut _ _ _ _ _ _ c.frames.invariant.shipping _ c.frame_len.ensures _ c.split_at.ensures.front _ records are c.in_err-put_counted.ensures.prefix)
+    rw failed.1 (shipping-cut _ _ _ _ _ _ c.frames.invariant.shipping _ c.frame_len.ensures _ c.split_at.ensures.front _ records are
+    c.in_err-put_counted.ensures.prefix)
 
 pub returns-in_err-put_counted-clause-cause : goal.returns-in_err-put_counted-clause-cause
 returns-in_err-put_counted-clause-cause g c =

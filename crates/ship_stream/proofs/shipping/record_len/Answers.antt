@@ -5,4 +5,5 @@ use Rattle.ship_stream.proofs.shipping.record_len.Goals as goal
 pub returns : goal.returns
 returns c = λ rec rest more spellable is.
     let h = c.of.result in
-    sym (parts_of-front rec h.kind h.units h.field h.txn c.args.first rest more spellable (search rules) (search rules) (search rules) c.of.ensures is).1
+    sym (parts_of-front rec h.kind h.units h.field h.txn c.args.first rest more spellable (search rules) (search rules) (search rules)
+    c.of.ensures is).1

@@ -6,7 +6,8 @@ pub returns-in_default : goal.returns-in_default
 returns-in_default c = (
   λ never. absurd (true≢false (sym never)),
   λ all.
-      absurd (passed-bad c.args.batch.now.units c.records.at c.records.invariant (omega (arith, c.records-test.true, c.count.ensures)) c.in_default.ensures.bad all.0 all.1),
+      absurd (passed-bad c.args.batch.now.units c.records.at c.records.invariant (omega (arith, c.records-test.true, c.count.ensures))
+      c.in_default.ensures.bad all.0 all.1),
 )
 
 pub records-preserved : goal.records-preserved

@@ -5,7 +5,8 @@ use Rattle.stream_reader.proofs.units.push_whole.Goals as goal
 
 pub units-preserved : goal.units-preserved
 units-preserved c = record {
-  pushing = pushing-more _ _ _ _ _ _ c.in-Some.unit c.units.invariant.pushing (search rules) c.in-Some.ensures.some (ap (λ (b : BatchState). b.units) c.push.ensures);
+  pushing = pushing-more _ _ _ _ _ _ c.in-Some.unit c.units.invariant.pushing (search rules) c.in-Some.ensures.some
+      (ap (λ (b : BatchState). b.units) c.push.ensures);
   most = omega (
     arith,
     ap (λ (b : BatchState). length b.units) c.push.ensures,

@@ -12,7 +12,8 @@ returns-then-not-has_room c =
     let piece = c.args.piece.now in
     let used = c.fill-used.result in
     takes-bad self _ piece self.at (λ past came read more.
-    count-bad self.at self.next self.batch.room self.batch.units self.begun past (take used piece) came c.in-Some.count piece (drop used piece) more
+    count-bad self.at self.next self.batch.room self.batch.units self.begun past (take used piece) came c.in-Some.count piece
+    (drop used piece) more
     (at-stage self Count past came c.requires.stage read)
     (sym c.fill-used.ensures.added ∙ sym c.as_slice.ensures ∙ c.in-Some.ensures.some) (omega arith) (omega arith)
     (λ most fits. true≢false (sym (c.if-not-has_room.ensures.1 (most, fits))))
@@ -25,7 +26,8 @@ take_units-requires-clause-read c =
     let is = sym c.fill-used.ensures.added ∙ sym c.as_slice.ensures ∙ c.in-Some.ensures.some in (
       c.requires.read.0 ++ taken,
       c.requires.read.1,
-      counted c.args.self.now c.begin_frame.new.self taken c.in-Some.count c.requires.stage is (omega arith) (c.if-not-has_room.ensures.0 refl) set.stage set.empty
+      counted c.args.self.now c.begin_frame.new.self taken c.in-Some.count c.requires.stage is (omega arith)
+          (c.if-not-has_room.ensures.0 refl) set.stage set.empty
           set.rest c.requires.read.0 c.requires.read.1 c.requires.read.2,
     )
 
@@ -35,9 +37,11 @@ returns-in_err-more c =
     let taken = take c.fill-used.result c.args.piece.now in
     let set = c.begin_frame.ensures in
     let is = sym c.fill-used.ensures.added ∙ sym c.as_slice.ensures ∙ c.in-Some.ensures.some in
-    rw (failed.1, failed.2) (both-bad c.args.self.now c.begin_frame.new.self c.take_units.new.self c.args.piece.now c.split_at.result.1.now c.fill-used.result
+    rw (failed.1, failed.2) (both-bad c.args.self.now c.begin_frame.new.self c.take_units.new.self c.args.piece.now
+    c.split_at.result.1.now c.fill-used.result
     c.fill-used.ensures.within c.split_at.ensures.back
-    (counted c.args.self.now c.begin_frame.new.self taken c.in-Some.count c.requires.stage is (omega arith) (c.if-not-has_room.ensures.0 refl) set.stage set.empty
+    (counted c.args.self.now c.begin_frame.new.self taken c.in-Some.count c.requires.stage is (omega arith)
+    (c.if-not-has_room.ensures.0 refl) set.stage set.empty
     set.rest)
     _ c.in_err-more.ensures)
 
@@ -48,6 +52,7 @@ returns c =
     let is = sym c.fill-used.ensures.added ∙ sym c.as_slice.ensures ∙ c.in-Some.ensures.some in
     both-part c.args.self.now c.begin_frame.new.self c.take_units.new.self c.args.piece.now c.split_at.result.1.now c.fill-used.result
     c.fill-used.ensures.within c.split_at.ensures.back
-    (counted c.args.self.now c.begin_frame.new.self taken c.in-Some.count c.requires.stage is (omega arith) (c.if-not-has_room.ensures.0 refl) set.stage set.empty
+    (counted c.args.self.now c.begin_frame.new.self taken c.in-Some.count c.requires.stage is (omega arith)
+    (c.if-not-has_room.ensures.0 refl) set.stage set.empty
     set.rest)
     c.in_ok-more.more c.in_ok-more.part c.in_ok-more.ensures

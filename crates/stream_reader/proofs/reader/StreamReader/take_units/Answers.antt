@@ -15,12 +15,15 @@ returns-then-not-is_whole c =
     let new = c.push_bytes-used.new.batch.units in
     let all = c.push_bytes-used.ensures.whole (omega (arith, c.if-count.false, c.count.ensures)) in
     let bytes =
-    subst (λ begun. units_bytes new begun ≡ units_bytes self.batch.units self.begun ++ take used piece) all.1 c.push_bytes-used.ensures.bytes in
+    subst (λ begun. units_bytes new begun ≡ units_bytes self.batch.units self.begun ++ take used piece) all.1
+    c.push_bytes-used.ensures.bytes in
     takes-bad self _ piece self.at (λ past came read more.
     let reads = at-stage self (Units c.args.count) past came c.requires.stage read in
-    units-bad self.at self.next self.batch.room self.batch.units self.begun past (take used piece) c.args.count new bytes all.0 came piece (drop used piece) more reads
+    units-bad self.at self.next self.batch.room self.batch.units self.begun past (take used piece) c.args.count new bytes all.0 came piece
+    (drop used piece) more reads
     (λ records are. true≢false (sym (c.if-not-is_whole.ensures.1 (records, are))))
-    (c.push_bytes-used.ensures.fit (units-fit self.at self.next self.batch.room self.batch.units self.begun past [] came c.args.count reads))
+    (c.push_bytes-used.ensures.fit (units-fit self.at self.next self.batch.room self.batch.units self.begun past [] came c.args.count
+    reads))
     (sym (take-append-drop used piece)))
 
 pub overflow_add-self-2 : goal.overflow_add-self-2
@@ -36,15 +39,18 @@ returns c =
     let new = c.push_bytes-used.new.batch.units in
     let all = c.push_bytes-used.ensures.whole (omega (arith, c.if-count.false, c.count.ensures)) in
     let bytes =
-    subst (λ begun. units_bytes new begun ≡ units_bytes self.batch.units self.begun ++ take used piece) all.1 c.push_bytes-used.ensures.bytes in
+    subst (λ begun. units_bytes new begun ≡ units_bytes self.batch.units self.begun ++ take used piece) all.1
+    c.push_bytes-used.ensures.bytes in
     let records = c.if-not-is_whole.ensures.0 refl in
-    let some = units-some self.at self.next self.batch.room self.batch.units self.begun c.requires.read.0 (take used piece) c.args.count new bytes all.0 c.requires.read.1
+    let some = units-some self.at self.next self.batch.room self.batch.units self.begun c.requires.read.0 (take used piece) c.args.count
+    new bytes all.0 c.requires.read.1
     (at-stage self (Units c.args.count) c.requires.read.0 c.requires.read.1 c.requires.stage c.requires.read.2) in
     takes-part self _ piece used part.Frame c.push_bytes-used.ensures.within
     (omega (arith, some, length-take-le used piece c.push_bytes-used.ensures.within))
     (λ past came read.
     let whole =
-    units-frame self.at self.next self.batch.room self.batch.units self.begun past (take used piece) c.args.count new bytes all.0 came records.0
+    units-frame self.at self.next self.batch.room self.batch.units self.begun past (take used piece) c.args.count new bytes all.0 came
+    records.0
     (at-stage self (Units c.args.count) past came c.requires.stage read) records.1 in
     record {
       first = whole.0;
