@@ -24,7 +24,8 @@ use Rattle.standby.proofs.FrameLists.{with_frames-next, place_behind-next, log_o
 
 -- what `append` says of one frame and the disk before and after
 pub record WroteFrame {D : Type 0} (g : Ghosts D) (tail : Tail) (units : List ℕ) (old new : D) : Type 0 where
-  pub moments : g.honest old → (log : Log) → LogStands tail log (g.images old) → Leaves g.moment g.images_since (HoldsLogOrMore log units) old new
+  pub moments : g.honest old → (log : Log) → LogStands tail log (g.images old)
+      → Leaves g.moment g.images_since (HoldsLogOrMore log units) old new
   pub count : g.honest old → Costs g 4 4 old new
   pub grows : g.honest old → GrowsAtMostTo g (tail.at + 6 + 8 * length units) old new
   pub later : g.moment old ≤ g.moment new

@@ -19,14 +19,15 @@ use Rattle.standby.specs.declared.standby.Standby.{Standby}
 use Rattle.standby.specs.declared.fault.StandbyFault.{StandbyFault}
 use Rattle.standby.specs.declared.fault.StandbyFault.TheVariants.{BadStream, Gap, StreamUnlawful, DiskFault, NoMemory}
 use Rattle.standby.specs.Applying.{Base, with_frames, HoldsFront, Wrote, HasApplied}
-use Rattle.standby.specs.Following.{BeginsWithFrames, Follows, GoesOn, HasEnded, HasFollowed, HasFrame, HoldsFollowed, IsReason, Stops, TellsEnd, frames_of}
+use Rattle.standby.specs.Following.{BeginsWithFrames, Follows, GoesOn, HasEnded, HasFollowed, HasFrame, HoldsFollowed, IsReason, Stops, TellsEnd, whole_frames}
 use Rattle.standby.proofs.FrameLists.{holds-front-none, holds-lawful}
 use Rattle.standby.proofs.JudgedFrames.{with_records-none}
 use Rattle.standby.proofs.StoppedStreams.{begins-none, has-fewer, has-longer, read-come}
 
 -- ---- the frames that have come
 
-begins-come : (list : OpenedList) (fed : List ℕ) (came : Came) → GoesOn list came → HasCome fed came → BeginsWithFrames fed list (frames_of came)
+begins-come : (list : OpenedList) (fed : List ℕ) (came : Came) → GoesOn list came → HasCome fed came
+    → BeginsWithFrames fed list (whole_frames came)
 begins-come list fed NoHead goes come = inl refl
 begins-come list fed (Open first frames) goes come = inr (come.0, subst (λ n. HasFrames fed n frames come.0) goes come.1)
 begins-come list fed (Whole first frames) goes come = inr (end_bytes, subst (λ n. HasFrames fed n frames end_bytes) goes come)
@@ -39,26 +40,28 @@ begins-longer fed more list frames (inr has) = inr (has.0 ++ more, has-longer fe
 -- ---- a stop in whole parts
 
 module _ {D : Type 0} (g : Ghosts D) (base : Base D) (fed : List ℕ) (s : Standby D) (follows : Follows g base fed s) where
-  pub begins-followed : BeginsWithFrames fed base.list (frames_of follows.came)
+  pub begins-followed : BeginsWithFrames fed base.list (whole_frames follows.came)
   begins-followed = begins-come base.list fed follows.came follows.goes_on (read-come s.reader fed follows.came follows.read)
 
-  images-followed : g.honest base.disk → (c : List ℕ) → g.images s.disk.now c → HoldsFront (with_frames base.list (frames_of follows.came)) [] c
+  images-followed : g.honest base.disk → (c : List ℕ) → g.images s.disk.now c
+      → HoldsFront (with_frames base.list (whole_frames follows.came)) [] c
   images-followed honest c image =
       let kept = follows.applied.kept in
-      let list : OpenedList = with_frames base.list (frames_of follows.came) in
+      let list : OpenedList = with_frames base.list (whole_frames follows.came) in
       holds-front-none list c
       (holds-lawful list c kept.each kept.taken.ledger.judged.lawful (kept.stands (follows.applied.wrote.honest.0 honest) c image).held)
 
   -- with no frame in flight
-  pub stops-here : (more : List ℕ) (fault : StandbyFault) → (fault ≡ DiskFault → ⊥) → IsReason base.list (fed ++ more) (frames_of follows.came) [] fault
+  pub stops-here : (more : List ℕ) (fault : StandbyFault) → (fault ≡ DiskFault → ⊥)
+      → IsReason base.list (fed ++ more) (whole_frames follows.came) [] fault
       → Stops g base (fed ++ more) fault s.disk.now
   stops-here more fault other reason = record {
-    frames = frames_of follows.came;
+    frames = whole_frames follows.came;
     cut = [];
     reason = reason;
     begins = begins-none (fed ++ more) base.list _ (begins-longer fed more base.list _ begins-followed);
     images = images-followed;
-    wrote = subst (λ fs. Wrote g base fs s.disk.now) (sym (append-nil (frames_of follows.came))) follows.applied.wrote;
+    wrote = subst (λ fs. Wrote g base fs s.disk.now) (sym (append-nil (whole_frames follows.came))) follows.applied.wrote;
     faults = record { counted = λ is. absurd (other is); fine = λ no. follows.applied.fine };
   }
 
@@ -76,9 +79,10 @@ module _ {D : Type 0} (g : Ghosts D) (base : Base D) (fed : List ℕ) (s : Stand
     follows-more read = record { came = follows.came; read = read; goes_on = follows.goes_on; applied = follows.applied }
 
     -- the head
-    pub follows-head : (first : ℕ) → follows.came ≡ NoHead → HasRead reader longer (Open first []) → first ≡ s.tail.next → Follows g base longer later
+    pub follows-head : (first : ℕ) → follows.came ≡ NoHead → HasRead reader longer (Open first []) → first ≡ s.tail.next
+        → Follows g base longer later
     follows-head first none read same =
-        let applied = subst (λ c. HasApplied g base (frames_of c) s.judge s.tail s.disk.now) none follows.applied in record {
+        let applied = subst (λ c. HasApplied g base (whole_frames c) s.judge s.tail s.disk.now) none follows.applied in record {
           came = Open first [];
           read = read;
           goes_on = same ∙ applied.kept.next ∙ ap list_end (with_records-none base.list);
@@ -91,7 +95,7 @@ module _ {D : Type 0} (g : Ghosts D) (base : Base D) (fed : List ℕ) (s : Stand
       came = Whole ends.first ends.frames;
       read = ends.read;
       goes_on = subst (GoesOn base.list) ends.before follows.goes_on;
-      applied = subst (λ c. HasApplied g base (frames_of c) s.judge s.tail s.disk.now) ends.before follows.applied;
+      applied = subst (λ c. HasApplied g base (whole_frames c) s.judge s.tail s.disk.now) ends.before follows.applied;
     }
 
     -- a frame
@@ -100,7 +104,7 @@ module _ {D : Type 0} (g : Ghosts D) (base : Base D) (fed : List ℕ) (s : Stand
         let goes : adds.first ≡ list_end base.list = subst (GoesOn base.list) adds.before follows.goes_on in record {
           read = subst (λ n. HasRead reader longer (Open n (adds.frames ++ adds.records ∷ []))) goes adds.read;
           holds = adds.units;
-          applied = subst (λ c. HasApplied g base (frames_of c) s.judge s.tail s.disk.now) adds.before follows.applied;
+          applied = subst (λ c. HasApplied g base (whole_frames c) s.judge s.tail s.disk.now) adds.before follows.applied;
         }
 
 -- a head that doesn't go on where the list ends
@@ -109,7 +113,7 @@ pub stops-gap : {D : Type 0} (g : Ghosts D) (base : Base D) (fed piece rest : Li
     → Stops g base (fed ++ (piece ++ rest)) (Gap s.tail.next first) s.disk.now
 stops-gap g base fed piece rest s reader first follows none read other =
     let come = read-come reader (fed ++ piece) (Open first []) read in
-    let frames : frames_of follows.came ≡ [] = ap frames_of none in
+    let frames : whole_frames follows.came ≡ [] = ap whole_frames none in
     let next : s.tail.next ≡ list_end base.list =
     follows.applied.kept.next ∙ ap (λ fs. list_end (with_frames base.list fs)) frames ∙ ap list_end (with_records-none base.list) in
     stops-here g base fed s follows (piece ++ rest) (Gap s.tail.next first) (λ is. cc) (
@@ -119,16 +123,26 @@ stops-gap g base fed piece rest s reader first follows none read other =
       other,
       (
         come.0 ++ rest,
-        subst (λ b. HasFrames b first [] (come.0 ++ rest)) (append_assoc fed piece rest) (has-longer (fed ++ piece) first [] come.0 rest come.1),
+        subst (λ b. HasFrames b first [] (come.0 ++ rest)) (append_assoc fed piece rest)
+            (has-longer (fed ++ piece) first [] come.0 rest come.1),
       ),
     )
 
 -- ---- what more bytes leave of a stop
 
-reason-longer : (list : OpenedList) (fed more : List ℕ) (frames cut : List (List Rec)) (fault : StandbyFault) → IsReason list fed frames cut fault
+reason-longer : (list : OpenedList) (fed more : List ℕ) (frames cut : List (List Rec)) (fault : StandbyFault)
+    → IsReason list fed frames cut fault
     → IsReason list (fed ++ more) frames cut fault
-reason-longer list fed more frames cut (BadStream offset) is =
-    (is.0, (is.1.0, is.1.1, is.1.2, λ last. subst (λ b. IsBadBehind is.1.0 b offset) (sym (append_assoc fed more last)) (is.1.3 (more ++ last))))
+reason-longer list fed more frames cut (BadStream offset) is = (
+  is.0,
+  (
+    is.1.0,
+    is.1.1,
+    is.1.2,
+    λ last. subst (λ b. IsBadBehind is.1.0 b offset) (sym (append_assoc fed more last))
+        (is.1.3 (more ++ last)),
+  ),
+)
 reason-longer list fed more frames cut (Gap have from) is =
     (is.0, is.1, is.2, is.3, (is.4.0 ++ more, has-longer fed from [] is.4.0 more is.4.1))
 reason-longer list fed more frames cut (StreamUnlawful lsn why) is =
@@ -136,7 +150,8 @@ reason-longer list fed more frames cut (StreamUnlawful lsn why) is =
 reason-longer list fed more frames cut DiskFault is = (is.0, is.1 ++ more, is.2, has-longer fed _ _ is.1 more is.3)
 reason-longer list fed more frames cut NoMemory is = is
 
-pub stops-longer : {D : Type 0} (g : Ghosts D) (base : Base D) (fed more : List ℕ) (fault : StandbyFault) (disk : D) → Stops g base fed fault disk
+pub stops-longer : {D : Type 0} (g : Ghosts D) (base : Base D) (fed more : List ℕ) (fault : StandbyFault) (disk : D)
+    → Stops g base fed fault disk
     → Stops g base (fed ++ more) fault disk
 stops-longer g base fed more fault disk stops = record {
   frames = stops.frames;
@@ -154,27 +169,30 @@ no-front : {T : Type 0} (xs ys : List T) → [] ≡ xs ++ ys → xs ≡ []
 no-front [] ys none = refl
 no-front (x ∷ xs) ys none = absurd cc
 
-followed-front : (list : OpenedList) (fed : List ℕ) (frames : List (List Rec)) → BeginsWithFrames fed list frames → (c : List ℕ) → HoldsFront list frames c
+pub holds-followed : (list : OpenedList) (fed : List ℕ) (frames : List (List Rec)) → BeginsWithFrames fed list frames → (c : List ℕ)
+    → HoldsFront list frames c
     → HoldsFollowed list fed c
-followed-front list fed frames (inl none) c held =
+holds-followed list fed frames (inl none) c held =
     record { frames = held.front; begins = inl (no-front held.front held.rest (sym none ∙ held.whole)); holds = held.holds }
-followed-front list fed frames (inr has) c held = record {
+holds-followed list fed frames (inr has) c held = record {
   frames = held.front;
   begins = inr (_, has-fewer fed _ held.front held.rest has.0 (subst (λ fs. HasFrames fed (list_end list) fs has.0) held.whole has.1));
   holds = held.holds;
 }
 
-wrote-followed : {D : Type 0} (g : Ghosts D) (base : Base D) (fed : List ℕ) (frames : List (List Rec)) (disk : D) → BeginsWithFrames fed base.list frames
+wrote-followed : {D : Type 0} (g : Ghosts D) (base : Base D) (fed : List ℕ) (frames : List (List Rec)) (disk : D)
+    → BeginsWithFrames fed base.list frames
     → Wrote g base frames disk → g.honest base.disk → Leaves g.moment g.images_since (HoldsFollowed base.list fed) base.disk disk
 wrote-followed g base fed frames disk begins wrote honest =
-    Leaves-weaken g.moment g.images_since _ _ base.disk disk (followed-front base.list fed frames begins) (wrote.moments honest)
+    Leaves-weaken g.moment g.images_since _ _ base.disk disk (holds-followed base.list fed frames begins) (wrote.moments honest)
 
 pub images-follows : {D : Type 0} (g : Ghosts D) (base : Base D) (fed : List ℕ) (s : Standby D) → Follows g base fed s → g.honest base.disk
     → Leaves g.moment g.images_since (HoldsFollowed base.list fed) base.disk s.disk.now
 images-follows g base fed s follows =
-    wrote-followed g base fed (frames_of follows.came) s.disk.now (begins-followed g base fed s follows) follows.applied.wrote
+    wrote-followed g base fed (whole_frames follows.came) s.disk.now (begins-followed g base fed s follows) follows.applied.wrote
 
-pub images-stops : {D : Type 0} (g : Ghosts D) (base : Base D) (fed : List ℕ) (fault : StandbyFault) (disk : D) → Stops g base fed fault disk
+pub images-stops : {D : Type 0} (g : Ghosts D) (base : Base D) (fed : List ℕ) (fault : StandbyFault) (disk : D)
+    → Stops g base fed fault disk
     → g.honest base.disk → Leaves g.moment g.images_since (HoldsFollowed base.list fed) base.disk disk
 images-stops g base fed fault disk stops = wrote-followed g base fed (stops.frames ++ stops.cut) disk stops.begins stops.wrote
 
@@ -185,7 +203,8 @@ whole-ended fed NoHead come whole = absurd whole
 whole-ended fed (Open first frames) come whole = absurd whole
 whole-ended fed (Whole first frames) come whole = (first, frames, come)
 
-pub tells-ended : {D : Type 0} (g : Ghosts D) (base : Base D) (fed : List ℕ) (s : Standby D) (follows : Follows g base fed s) → IsWhole follows.came
+pub tells-ended : {D : Type 0} (g : Ghosts D) (base : Base D) (fed : List ℕ) (s : Standby D) (follows : Follows g base fed s)
+    → IsWhole follows.came
     → TellsEnd fed Ended
 tells-ended g base fed s follows whole = whole-ended fed follows.came (read-come s.reader fed follows.came follows.read) whole
 
@@ -195,8 +214,9 @@ tells-more g base fed s follows part ended =
     let same = one_stream-come fed follows.came (Whole ended.0 ended.1) (read-come s.reader fed follows.came follows.read) ended.2 in
     part (subst IsWhole (sym same) tt)
 
-followed-by : {D : Type 0} (g : Ghosts D) (base : Base D) (fed : List ℕ) (s : Standby D) (came : Came) → GoesOn base.list came → HasCome fed came
-    → HasApplied g base (frames_of came) s.judge s.tail s.disk.now → IsWhole came → HasFollowed g base fed s.tail.next s
+followed-by : {D : Type 0} (g : Ghosts D) (base : Base D) (fed : List ℕ) (s : Standby D) (came : Came) → GoesOn base.list came
+    → HasCome fed came
+    → HasApplied g base (whole_frames came) s.judge s.tail s.disk.now → IsWhole came → HasFollowed g base fed s.tail.next s
 followed-by g base fed s NoHead goes come applied whole = absurd whole
 followed-by g base fed s (Open first frames) goes come applied whole = absurd whole
 followed-by g base fed s (Whole first frames) goes come applied whole = record {
@@ -208,7 +228,8 @@ followed-by g base fed s (Whole first frames) goes come applied whole = record {
   lsn_is = applied.kept.next;
 }
 
-pub has-followed : {D : Type 0} (g : Ghosts D) (base : Base D) (fed : List ℕ) (s : Standby D) (follows : Follows g base fed s) → IsWhole follows.came
+pub has-followed : {D : Type 0} (g : Ghosts D) (base : Base D) (fed : List ℕ) (s : Standby D) (follows : Follows g base fed s)
+    → IsWhole follows.came
     → HasFollowed g base fed s.tail.next s
 has-followed g base fed s follows whole =
     followed-by g base fed s follows.came follows.goes_on (read-come s.reader fed follows.came follows.read) follows.applied whole
@@ -228,7 +249,8 @@ passed-none g s bytes = record {
   follows = λ base fed follows. subst (λ b. Follows g base b s) (sym (append-nil fed)) follows;
 }
 
-pub passed-more : {D : Type 0} (g : Ghosts D) (old new later : Standby D) (bytes rest after : List ℕ) (used : ℕ) → HasPassed g old new bytes rest
+pub passed-more : {D : Type 0} (g : Ghosts D) (old new later : Standby D) (bytes rest after : List ℕ) (used : ℕ)
+    → HasPassed g old new bytes rest
     → after ≡ drop used rest → ((base : Base D) (fed : List ℕ) → Follows g base fed new → Follows g base (fed ++ take used rest) later)
     → HasPassed g old later bytes after
 passed-more g old new later bytes rest after used passed dropped step = record {

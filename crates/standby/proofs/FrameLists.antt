@@ -25,7 +25,8 @@ records_of-append (x ∷ xs) ys = ap (λ rs. x ++ rs) (records_of-append xs ys) 
 pub records_of-next : (frames : List (List Rec)) (records : List Rec) → records_of (frames ++ records ∷ []) ≡ records_of frames ++ records
 records_of-next frames records = records_of-append frames (records ∷ []) ∙ ap (λ rs. records_of frames ++ rs) (append-nil records)
 
-pub end_of-next : (frames : List (List Rec)) (records : List Rec) → end_of (records_of (frames ++ records ∷ [])) ≡ end_of (records_of frames) + end_of records
+pub end_of-next : (frames : List (List Rec)) (records : List Rec)
+    → end_of (records_of (frames ++ records ∷ [])) ≡ end_of (records_of frames) + end_of records
 end_of-next frames records =
     ap end_of (records_of-next frames records) ∙ ap length (units_of-append (records_of frames) records)
     ∙ length-append (units_of (records_of frames)) (units_of records)
@@ -44,14 +45,16 @@ pub with_frames-next : (list : OpenedList) (frames : List (List Rec)) (records :
 with_frames-next list frames records =
     with_records-append list (records_of frames) records ∙ ap (with_records list) (sym (records_of-next frames records))
 
-pub list_end-frames : (list : OpenedList) (frames : List (List Rec)) → list_end (with_frames list frames) ≡ list_end list + end_of (records_of frames)
+pub list_end-frames : (list : OpenedList) (frames : List (List Rec))
+    → list_end (with_frames list frames) ≡ list_end list + end_of (records_of frames)
 list_end-frames list frames = list_end-more list (records_of frames)
 
 pub place_behind-next : (at : ℕ) (frames : List (List Rec)) (records : List Rec)
     → place_behind at (frames ++ records ∷ []) ≡ place_behind at frames + (5 + 8 * end_of records)
 place_behind-next at frames records = omega (arith, end_of-next frames records, length-append frames (records ∷ []))
 
-pub log_of-more : (list : OpenedList) (records : List Rec) → with_units (log_of list) (units_of records) ≡ log_of (with_records list records)
+pub log_of-more : (list : OpenedList) (records : List Rec)
+    → with_units (log_of list) (units_of records) ≡ log_of (with_records list records)
 log_of-more list records = λ i. record { opening = list.opening; units = sym (units_of-append list.records records) i }
 
 -- ---- what an image holds
@@ -93,13 +96,15 @@ module _ (list : OpenedList) (bytes : List ℕ) where
       }))
 
 -- behind frames that were applied already
-pub holds-front-behind : (list : OpenedList) (bytes : List ℕ) (frames cut : List (List Rec)) → HoldsFront (with_frames list frames) cut bytes
+pub holds-front-behind : (list : OpenedList) (bytes : List ℕ) (frames cut : List (List Rec))
+    → HoldsFront (with_frames list frames) cut bytes
     → HoldsFront list (frames ++ cut) bytes
 holds-front-behind list bytes frames cut held = record {
   front = frames ++ held.front;
   rest = held.rest;
   whole = ap (λ fs. frames ++ fs) held.whole ∙ sym (append_assoc frames held.front held.rest);
   holds = subst (HoldsLawful bytes)
-      (with_records-append list (records_of frames) (records_of held.front) ∙ ap (with_records list) (sym (records_of-append frames held.front)))
+      (with_records-append list (records_of frames) (records_of held.front)
+      ∙ ap (with_records list) (sym (records_of-append frames held.front)))
       held.holds;
 }

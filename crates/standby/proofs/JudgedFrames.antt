@@ -31,7 +31,8 @@ size_of-begins : (units : List ℕ) (rec : Rec) → BeginsWith units rec → siz
 size_of-begins units rec begins = omega (arith, ap length begins.2, length-append (spelling rec) begins.1)
 
 -- the record ends within the units
-pub ends-within : (units : List ℕ) (at : ℕ) (rec : Rec) → at ≤ length units → BeginsWith (drop at units) rec → at + size_of rec ≤ length units
+pub ends-within : (units : List ℕ) (at : ℕ) (rec : Rec) → at ≤ length units → BeginsWith (drop at units) rec
+    → at + size_of rec ≤ length units
 ends-within units at rec within begins = omega (arith, within, size_of-begins _ rec begins, length-drop at units)
 
 all-behind : (xs ys : List Rec) → AllByRecursion IsSpellable (xs ++ ys) → AllByRecursion IsSpellable ys
@@ -51,12 +52,15 @@ no-records (rec ∷ records) none = absurd (omega (arith, none, size_of-some rec
 
 -- ---- the list with one record more
 
-pub placed-next : (list : OpenedList) (rec : Rec) (lsn : ℕ) → lsn ≡ list_end list → placed (with_records list (rec ∷ [])) ≡ entry_at lsn rec ∷ placed list
+pub placed-next : (list : OpenedList) (rec : Rec) (lsn : ℕ) → lsn ≡ list_end list
+    → placed (with_records list (rec ∷ [])) ≡ entry_at lsn rec ∷ placed list
 placed-next list rec lsn place =
-    history_from-append list.opening.lsn [] list.records (rec ∷ []) ∙ ap (λ start. entry_at start rec ∷ placed list) (placed-end list ∙ sym place)
+    history_from-append list.opening.lsn [] list.records (rec ∷ [])
+    ∙ ap (λ start. entry_at start rec ∷ placed list) (placed-end list ∙ sym place)
 
 -- records behind others
-pub with_records-append : (list : OpenedList) (front rest : List Rec) → with_records (with_records list front) rest ≡ with_records list (front ++ rest)
+pub with_records-append : (list : OpenedList) (front rest : List Rec)
+    → with_records (with_records list front) rest ≡ with_records list (front ++ rest)
 with_records-append list front rest = λ i. record { opening = list.opening; records = append_assoc list.records front rest i }
 
 pub with_records-none : (list : OpenedList) → with_records list [] ≡ list
@@ -73,7 +77,8 @@ pub record HasTakenTo (list : OpenedList) (records : List Rec) (at : ℕ) (units
   pub place : at ≡ end_of seen
   pub taken : HasTakenList (with_records list seen) judge
 
-pub taken-none : (list : OpenedList) (records : List Rec) (units : List ℕ) (judge : Judge) → HasTakenList list judge → AreUnitsOf units records
+pub taken-none : (list : OpenedList) (records : List Rec) (units : List ℕ) (judge : Judge) → HasTakenList list judge
+    → AreUnitsOf units records
     → HasTakenTo list records 0 units judge
 taken-none list records units judge taken spells = record {
   seen = [];
@@ -93,7 +98,8 @@ module _ (list : OpenedList) (records : List Rec) (at : ℕ) (units : List ℕ) 
   pub taken-begins : at < length units → (rec : Rec) × BeginsWith (drop at units) rec
   taken-begins within = by-unseen to.unseen unseen-spellable to.left
     where
-      by-unseen : (unseen : List Rec) → AllByRecursion IsSpellable unseen → drop at units ≡ units_of unseen → (rec : Rec) × BeginsWith (drop at units) rec
+      by-unseen : (unseen : List Rec) → AllByRecursion IsSpellable unseen → drop at units ≡ units_of unseen → (rec : Rec)
+          × BeginsWith (drop at units) rec
       by-unseen [] all left = absurd (omega (arith, within, length-drop at units, ap length left))
       by-unseen (rec ∷ unseen) all left = (rec, (all.0, units_of unseen, left))
 
@@ -127,11 +133,14 @@ module _ (list : OpenedList) (records : List Rec) (at : ℕ) (units : List ℕ) 
 
     placed-more : (lsn : ℕ) → lsn ≡ list_end (with_records list to.seen)
         → placed (with_records list (to.seen ++ rec ∷ [])) ≡ entry_at lsn rec ∷ placed (with_records list to.seen)
-    placed-more lsn place = ap placed (sym (with_records-append list to.seen (rec ∷ []))) ∙ placed-next (with_records list to.seen) rec lsn place
+    placed-more lsn place =
+        ap placed (sym (with_records-append list to.seen (rec ∷ [])))
+        ∙ placed-next (with_records list to.seen) rec lsn place
 
     -- it is taken
     pub taken-next : (lsn size : ℕ) (later : Judge) → lsn ≡ list_end (with_records list to.seen) → size ≡ size_of rec
-        → HasJudged (opening_before list) later (entry_at lsn rec ∷ placed (with_records list to.seen)) → HasTakenTo list records (at + size) units later
+        → HasJudged (opening_before list) later (entry_at lsn rec ∷ placed (with_records list to.seen))
+        → HasTakenTo list records (at + size) units later
     taken-next lsn size later place size_is taken = record {
       seen = to.seen ++ rec ∷ [];
       unseen = goes.unseen;

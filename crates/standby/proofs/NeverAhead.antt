@@ -18,7 +18,8 @@ use Rattle.standby.specs.Following.{BeginsWithFrames, HoldsFollowed}
 use Rattle.standby.proofs.FrameLists.{records_of-append}
 use Rattle.standby.proofs.StoppedStreams.{has-longer}
 
-module _ (list : OpenedList) (before later : List Rec) (log fed more : List ℕ) (held : HoldsLawful log list) (whole : list.records ≡ before ++ later)
+module _ (list : OpenedList) (before later : List Rec) (log fed more : List ℕ) (held : HoldsLawful log list)
+    (whole : list.records ≡ before ++ later)
     (shipped : fed ++ more ≡ stream_of (list_end (with_front list before)) later) where
   abbrev first : ℕ
   first = list_end (with_front list before)
@@ -34,10 +35,12 @@ module _ (list : OpenedList) (before later : List Rec) (log fed more : List ℕ)
       (omega (arith, end-is, held.list.holds.reads.total)))
 
   -- the frames that came hold a front of what was shipped
-  pub shipped-front : (frames : List (List Rec)) → BeginsWithFrames fed (with_front list before) frames → (rest : List Rec) × (later ≡ records_of frames ++ rest)
+  pub shipped-front : (frames : List (List Rec)) → BeginsWithFrames fed (with_front list before) frames → (rest : List Rec)
+      × (later ≡ records_of frames ++ rest)
   shipped-front frames (inl none) = (later, sym (ap (λ fs. records_of fs ++ later) none))
   shipped-front frames (inr has) =
-      let found = one_stream-front (fed ++ more) first first (frames_of later) frames (has.0 ++ more) stream (has-longer fed first frames has.0 more has.1) in (
+      let found = one_stream-front (fed ++ more) first first (frames_of later) frames (has.0 ++ more) stream
+      (has-longer fed first frames has.0 more has.1) in (
         records_of found.1,
         sym (records_of-packed SHIPPED_UNITS [] later) ∙ ap records_of found.2 ∙ records_of-append frames found.1,
       )
@@ -45,5 +48,10 @@ module _ (list : OpenedList) (before later : List Rec) (log fed more : List ℕ)
   pub followed-front : (bytes : List ℕ) → HoldsFollowed (with_front list before) fed bytes
       → (front rest : List Rec) × (list.records ≡ before ++ front ++ rest) × HoldsLawful bytes (with_front list (before ++ front))
   followed-front bytes holds =
-      let front = shipped-front holds.frames holds.begins in
-      (records_of holds.frames, front.0, whole ∙ ap (λ rs. before ++ rs) front.1 ∙ sym (append_assoc before (records_of holds.frames) front.0), holds.holds)
+      let front = shipped-front holds.frames holds.begins in (
+        records_of holds.frames,
+        front.0,
+        whole ∙ ap (λ rs. before ++ rs) front.1
+            ∙ sym (append_assoc before (records_of holds.frames) front.0),
+        holds.holds,
+      )

@@ -34,7 +34,8 @@ use Rattle.standby.proofs.JudgedFrames.{end_of-append}
 bytes-append : (xs ys : List (List Rec)) → flat_map frame_bytes (xs ++ ys) ≡ flat_map frame_bytes xs ++ flat_map frame_bytes ys
 bytes-append [] ys = refl
 bytes-append (x ∷ xs) ys =
-    ap (λ bytes. frame_bytes x ++ bytes) (bytes-append xs ys) ∙ sym (append_assoc (frame_bytes x) (flat_map frame_bytes xs) (flat_map frame_bytes ys))
+    ap (λ bytes. frame_bytes x ++ bytes) (bytes-append xs ys)
+    ∙ sym (append_assoc (frame_bytes x) (flat_map frame_bytes xs) (flat_map frame_bytes ys))
 
 -- the first of some frames are the first of the stream
 pub has-fewer : (bytes : List ℕ) (first : ℕ) (frames more : List (List Rec)) (rest : List ℕ) → HasFrames bytes first (frames ++ more) rest
@@ -46,7 +47,8 @@ has-fewer bytes first frames more rest has =
     record {
       each = (all-split IsFrame frames more has.each).0;
       total = omega (arith, has.total, ap end_of (records_of-append frames more), end_of-append (records_of frames) (records_of more));
-      whole = has.whole ∙ ap (λ b. (head ++ b) ++ rest) (bytes-append frames more) ∙ ap (λ b. b ++ rest) (sym (append_assoc head these those))
+      whole = has.whole ∙ ap (λ b. (head ++ b) ++ rest) (bytes-append frames more)
+          ∙ ap (λ b. b ++ rest) (sym (append_assoc head these those))
           ∙ append_assoc (head ++ these) those rest;
     }
 
@@ -59,7 +61,8 @@ has-longer bytes first frames rest more has = record {
   whole = ap (λ b. b ++ more) has.whole ∙ append_assoc (head_bytes first ++ flat_map frame_bytes frames) rest more;
 }
 
-pub begins-none : (fed : List ℕ) (list : OpenedList) (frames : List (List Rec)) → BeginsWithFrames fed list frames → BeginsWithFrames fed list (frames ++ [])
+pub begins-none : (fed : List ℕ) (list : OpenedList) (frames : List (List Rec)) → BeginsWithFrames fed list frames
+    → BeginsWithFrames fed list (frames ++ [])
 begins-none fed list frames begins = subst (BeginsWithFrames fed list) (sym (append-nil frames)) begins
 
 -- ---- what was read
@@ -147,8 +150,10 @@ module _ {D : Type 0} (g : Ghosts D) (base : Base D) (fed : List ℕ) (frames : 
       images = λ honest.
           Leaves-now g.moment g.images_since g.images counts_now _ s.disk.now disk only_now
           (λ c image. holds-front-more before c [] (records ∷ []) (images-before honest c image))
-          (frame-moments g base frames s.judge s.tail s.disk.now h.applied records s.reader.batch.units h.holds frame-is.spellable later taken disk wrote
+          (frame-moments g base frames s.judge s.tail s.disk.now h.applied records s.reader.batch.units h.holds frame-is.spellable later
+          taken disk wrote
           (h.applied.wrote.honest.0 honest));
-      wrote = wrote-next g base frames s.judge s.tail s.disk.now h.applied records s.reader.batch.units h.holds frame-is.spellable later taken disk wrote;
+      wrote = wrote-next g base frames s.judge s.tail s.disk.now h.applied records s.reader.batch.units h.holds frame-is.spellable later
+          taken disk wrote;
       faults = record { counted = λ is. subst (λ n. Rose n (g.faults disk)) h.applied.fine rose; fine = λ no. absurd (no refl) };
     }

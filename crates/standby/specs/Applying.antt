@@ -1,5 +1,5 @@
--- What the frames of a stream do to a log and its disk. A frame is a list of records. `g` is what a disk shows, and `base` is what a standby
--- begins with.
+-- What the frames of a stream do to a log and its disk. A frame is a list of records. `g` is what a disk shows, and `base` is what a
+-- standby begins with.
 use Rattle.std.specs.Prelude.{◌≡◌, ℕ, ◌+◌, ◌*◌, ◌≤◌, ◌↔◌, List, ◌++◌, length}
 use Rattle.log_disk.specs.Costs.{Costs}
 use Rattle.log_disk.specs.Disk.{Leaves}
@@ -35,8 +35,8 @@ pub record HoldsFront (list : OpenedList) (frames : List (List Rec)) (bytes : Li
   pub whole : frames ≡ front ++ rest
   pub holds : HoldsLawful bytes (with_frames list front)
 
--- Only these frames came to the disk, each as one batch: at every moment each image holds the list with a front of them. At most 4 calls were made
--- for each, and the file ends at most behind them and the next gate, where it wasn't longer before.
+-- Only these frames came to the disk, each as one batch: at every moment each image holds the list with a front of them. At most 4 calls
+-- were made for each, and the file ends at most behind them and the next gate, where it wasn't longer before.
 pub record Wrote {D : Type 0} (g : Ghosts D) (base : Base D) (frames : List (List Rec)) (disk : D) : Type 0 where
   pub moments : g.honest base.disk → Leaves g.moment g.images_since (HoldsFront base.list frames) base.disk disk
   pub count : g.honest base.disk → Costs g (4 * length frames) (4 * length frames) base.disk disk
@@ -46,7 +46,8 @@ pub record Wrote {D : Type 0} (g : Ghosts D) (base : Base D) (frames : List (Lis
   pub attached : g.attached disk ≡ g.attached base.disk
 
 -- these frames were judged and applied: each image holds the list with all of them
-pub record HasApplied {D : Type 0} (g : Ghosts D) (base : Base D) (frames : List (List Rec)) (judge : Judge) (tail : Tail) (disk : D) : Type 0 where
+pub record HasApplied {D : Type 0} (g : Ghosts D) (base : Base D) (frames : List (List Rec)) (judge : Judge) (tail : Tail) (disk : D) :
+    Type 0 where
   pub kept : KeepsList g (with_frames base.list frames) judge tail disk
   pub at : tail.at ≡ place_behind base.at frames
   pub wrote : Wrote g base frames disk

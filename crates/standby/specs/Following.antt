@@ -1,5 +1,5 @@
--- What a standby has made of the bytes of a stream that came so far, in whatever pieces. `g` is what a disk shows, `base` is what the standby begins
--- with, and `fed` are the bytes.
+-- What a standby has made of the bytes of a stream that came so far, in whatever pieces. `g` is what a disk shows, `base` is what the
+-- standby begins with, and `fed` are the bytes.
 use Rattle.std.specs.Prelude.{◌≡◌, ◌≢◌, ◌⊎◌, ℕ, List, [], ◌∷◌, ◌++◌}
 use Rattle.log_disk.specs.Faults.{CountsWhere}
 use Rattle.log_disk.specs.declared.disk.LogDisk.{Ghosts}
@@ -20,10 +20,10 @@ use Rattle.standby.specs.declared.fault.StandbyFault.{StandbyFault}
 use Rattle.standby.specs.declared.fault.StandbyFault.TheVariants.{BadStream, Gap, StreamUnlawful, DiskFault, NoMemory}
 
 -- the whole frames that have come
-abbrev pub frames_of : Came → List (List Rec)
-frames_of NoHead = []
-frames_of (Open first frames) = frames
-frames_of (Whole first frames) = frames
+abbrev pub whole_frames : Came → List (List Rec)
+whole_frames NoHead = []
+whole_frames (Open first frames) = frames
+whole_frames (Whole first frames) = frames
 
 -- the stream, as far as it has come, goes on where the list ends
 abbrev pub GoesOn : OpenedList → Came → Type 0
@@ -45,10 +45,11 @@ pub record Follows {D : Type 0} (g : Ghosts D) (base : Base D) (fed : List ℕ) 
   pub came : Came
   pub read : HasRead s.reader fed came
   pub goes_on : GoesOn base.list came
-  pub applied : HasApplied g base (frames_of came) s.judge s.tail s.disk.now
+  pub applied : HasApplied g base (whole_frames came) s.judge s.tail s.disk.now
 
 -- The reader holds this frame, the last of the whole ones that have come. Those before it were judged and applied.
-pub record HasFrame {D : Type 0} (g : Ghosts D) (base : Base D) (fed : List ℕ) (frames : List (List Rec)) (records : List Rec) (s : Standby D)
+pub record HasFrame {D : Type 0} (g : Ghosts D) (base : Base D) (fed : List ℕ) (frames : List (List Rec)) (records : List Rec)
+    (s : Standby D)
     : Type 0 where
   pub read : HasRead s.reader fed (Open (list_end base.list) (frames ++ records ∷ []))
   pub holds : s.reader.batch.units ≡ units_of records
@@ -64,22 +65,23 @@ pub record HoldsFollowed (list : OpenedList) (fed bytes : List ℕ) : Type 0 whe
   pub begins : BeginsWithFrames fed list frames
   pub holds : HoldsLawful bytes (with_frames list frames)
 
--- Why the standby stopped behind these frames, which it applied, with this one, or none, in flight. A part that is cut or outside the grammar comes
--- right behind the frames, whatever follows; a stream that doesn't go on where the list ends is told of before its first frame; of the next frame the
--- record at this LSN is the first that fails a test.
+-- Why the standby stopped behind these frames, which it applied, with this one, or none, in flight. A part that is cut or outside the
+-- grammar comes right behind the frames, whatever follows; a stream that doesn't go on where the list ends is told of before its first
+-- frame; of the next frame the record at this LSN is the first that fails a test.
 abbrev pub IsReason : OpenedList → List ℕ → List (List Rec) → List (List Rec) → StandbyFault → Type 0
 IsReason list fed frames cut (BadStream offset) = (cut ≡ [])
-    × ((came : Came) × (frames_of came ≡ frames) × GoesOn list came × ((more : List ℕ) → IsBadBehind came (fed ++ more) offset))
+    × ((came : Came) × (whole_frames came ≡ frames) × GoesOn list came × ((more : List ℕ) → IsBadBehind came (fed ++ more) offset))
 IsReason list fed frames cut (Gap have from) = (cut ≡ []) × (frames ≡ []) × (have ≡ list_end list) × (from ≢ have)
     × ((rest : List ℕ) × HasFrames fed from [] rest)
 IsReason list fed frames cut (StreamUnlawful lsn why) = (cut ≡ [])
     × ((frame : List Rec) × (rest : List ℕ) × HasFrames fed (list_end list) (frames ++ frame ∷ []) rest
     × IsUnlawfulAt (opening_before list) (placed (with_frames list (frames ++ frame ∷ []))) lsn why)
-IsReason list fed frames cut DiskFault = (frame : List Rec) × (rest : List ℕ) × (cut ≡ frame ∷ []) × HasFrames fed (list_end list) (frames ++ cut) rest
+IsReason list fed frames cut DiskFault = (frame : List Rec) × (rest : List ℕ) × (cut ≡ frame ∷ [])
+    × HasFrames fed (list_end list) (frames ++ cut) rest
 IsReason list fed frames cut NoMemory = cut ≡ []
 
--- At the fault the frames before were applied, and stay. Each image holds them, and one that the disk failed to take whole or not at all. One fault
--- is counted where the disk failed, and else none.
+-- At the fault the frames before were applied, and stay. Each image holds them, and one that the disk failed to take whole or not at all.
+-- One fault is counted where the disk failed, and else none.
 pub record Stops {D : Type 0} (g : Ghosts D) (base : Base D) (fed : List ℕ) (fault : StandbyFault) (disk : D) : Type 0 where
   pub frames : List (List Rec)
   pub cut : List (List Rec)

@@ -12,8 +12,8 @@ use lsn_space::Lsn;
 use stream_reader::Part;
 
 impl<'a, D: LogDisk> Standby<'a, D> {
-    /// Takes the next bytes of the stream, which may be none. Each frame that is whole now is judged and then appended as one batch. After a
-    /// fault the standby is spent.
+    /// Takes the next bytes of the stream, which may be none. Each frame that is whole now is judged and then appended as one batch. After
+    /// a fault the standby is spent.
     pub fn feed(&mut self, bytes: &[u8]) -> Result<Fed, StandbyFault>
         requires ready { (base : Base D) × (fed : List ℕ) × Follows D.LogDisk base fed self.old }
         ensures follows { IfOk result (λ _. (base : Base D) (fed : List ℕ) → Follows D.LogDisk base fed self.old

@@ -12,4 +12,4 @@ mod standby;
 
 pub use fault::StandbyFault;
 pub use laws::never_ahead;
-pub use standby::{Fed, Standby};
+pub use standby::{Fed, Standby, Unmade};

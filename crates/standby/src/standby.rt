@@ -1,13 +1,10 @@
-ghost use Rattle.std.specs.Prelude.{◌≡◌, [], IfOk};
+ghost use Rattle.std.specs.Prelude.{◌≡◌, [], IfOk, MatchResult};
 ghost use Rattle.log_recovery.specs.Opened.{OpenedList};
-ghost use Rattle.ship_stream.specs.Came.Came.{NoHead};
-ghost use Rattle.stream_reader.specs.Reader.{HasRead};
 ghost use Rattle.standby.specs.Keeping.{KeepsList};
 ghost use Rattle.standby.specs.Following.{Follows};
 
 use lock_core::Judge;
 use log_disk::LogDisk;
-use lsn_space::NoMemory;
 use segment_file::Tail;
 use std::alloc::Global;
 use stream_reader::StreamReader;
@@ -31,6 +28,12 @@ pub enum Fed {
     Ended,
 }
 
+/// No memory was left for a standby. Its disk comes back, and no call of it was made.
+#[derive(Drop)]
+pub struct Unmade<'a, D> {
+    pub disk: &'a mut D,
+}
+
 impl<'a, D: LogDisk> Standby<'a, D> {
     /// A standby that no byte has come to. The tail is as `settle` or `append` leaves it, and the judge has taken the list that each image
     /// holds. It asks for room for the longest frame.
@@ -39,32 +42,21 @@ impl<'a, D: LogDisk> Standby<'a, D> {
         disk: &'a mut D,
         tail: Tail,
         judge: Judge,
-    ) -> Result<Standby<'a, D>, NoMemory>
-        ensures disk { IfOk result (λ s. s.disk ≡ disk.entry) }
+    ) -> Result<Standby<'a, D>, Unmade<'a, D>>
+        ensures disk { MatchResult result (λ s. s.disk ≡ disk.entry) (λ unmade. unmade.disk ≡ disk.entry) }
+        ensures same { MatchResult result (λ s. s.disk.ghost_name ≡ disk.entry.ghost_name)
+            (λ unmade. unmade.disk.ghost_name ≡ disk.entry.ghost_name) }
         ensures follows { IfOk result (λ s. (list : OpenedList) → KeepsList D.LogDisk list judge tail disk.old
             → Follows D.LogDisk (record { list = list; at = tail.at; disk = disk.old }) [] s) }
     {
-        let reader = StreamReader::make(alloc)?;
-        Ok(Standby::with_reader(reader, disk, tail, judge))
-    }
-
-    /// The same, with a reader that has read nothing. It takes no memory.
-    pub fn with_reader(
-        reader: StreamReader,
-        disk: &'a mut D,
-        tail: Tail,
-        judge: Judge,
-    ) -> Standby<'a, D>
-        ensures disk { result.disk ≡ disk.entry }
-        ensures same { result.disk.ghost_name ≡ disk.entry.ghost_name }
-        ensures follows { (list : OpenedList) → HasRead reader [] NoHead → KeepsList D.LogDisk list judge tail disk.old
-            → Follows D.LogDisk (record { list = list; at = tail.at; disk = disk.old }) [] result }
-    {
-        Standby {
-            disk,
-            tail,
-            judge,
-            reader,
+        match StreamReader::make(alloc) {
+            Ok(reader) => Ok(Standby {
+                disk,
+                tail,
+                judge,
+                reader,
+            }),
+            Err(_) => Err(Unmade { disk }),
         }
     }
 }

@@ -95,8 +95,8 @@ fn feed_all<D: LogDisk>(
     feed_piece(standby, &[])
 }
 
-/// What a standby answers, on the log of this disk, to these bytes in pieces of this length: where it ends, or the fault; None where it isn't
-/// opened.
+/// What a standby answers, on the log of this disk, to these bytes in pieces of this length: where it ends, or the fault; None where it
+/// isn't opened.
 pub fn follow<D: LogDisk>(
     alloc: Global,
     disk: &mut D,

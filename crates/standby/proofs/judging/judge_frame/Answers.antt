@@ -42,7 +42,8 @@ records-preserved c = record {
       let to = c.records.invariant.taken list records taken start spells in
       let place = taken-place list records _ _ _ to spells.spellable c.args.from c.new-lsn.result start
       (c.new-lsn.ensures ∙ ap (λ n. n + c.records.at) c.units.ensures) in
-      taken-next list records _ _ _ to spells.spellable c.in-Ok.rec c.in-Ok.ensures.found.0 c.new-lsn.result c.in-Ok.size c.take.new.self place
+      taken-next list records _ _ _ to spells.spellable c.in-Ok.rec c.in-Ok.ensures.found.0 c.new-lsn.result c.in-Ok.size c.take.new.self
+      place
       c.in-Ok.ensures.found.1 (c.in-Ok-take.ensures.taken (opening_before list) _ to.taken);
 }
 
@@ -53,7 +54,8 @@ returns-in-Err-Why-clause-fault c = λ list records taken start spells.
     (c.new-lsn.ensures ∙ ap (λ n. n + c.records.at) c.units.ensures) in
     rw c.in-Err-Why.field-0-is
     (fails-next list records _ _ _ to spells.spellable c.in-Ok.rec c.in-Ok.ensures.found.0 c.new-lsn.result c.in-Err-Why.why place
-    (subst (IsTakeFault (opening_before list) (placed (with_records list to.seen)) (entry_at c.new-lsn.result c.in-Ok.rec)) c.in-Err-Why.field-0-is
+    (subst (IsTakeFault (opening_before list) (placed (with_records list to.seen)) (entry_at c.new-lsn.result c.in-Ok.rec))
+    c.in-Err-Why.field-0-is
     (c.in-Err-Why.ensures.fault (opening_before list) _ to.taken)))
 
 pub returns-clause-taken : goal.returns-clause-taken

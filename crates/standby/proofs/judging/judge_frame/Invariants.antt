@@ -9,7 +9,8 @@ use Rattle.standby.proofs.judging.judge_frame.Given as goal
 abbrev pub invariant-records : goal.invariant-records
 invariant-records l = record {
   within : l.at ≤ length l.batch.units;
-  taken : (list : OpenedList) (records : List Rec) → HasTakenList list l.fn.judge → l.from ≡ list_end list → AreUnitsOf l.batch.units records
+  taken : (list : OpenedList) (records : List Rec) → HasTakenList list l.fn.judge → l.from ≡ list_end list
+      → AreUnitsOf l.batch.units records
       → HasTakenTo list records l.at l.batch.units l.judge;
 }
 

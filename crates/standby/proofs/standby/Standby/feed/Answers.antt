@@ -11,7 +11,8 @@ take_part-requires-clause-ready g c =
 
 pub parts-preserved : goal.parts-preserved
 parts-preserved g c = record {
-  passed = passed-more g.D.LogDisk c.args.self.now c.parts.self c.take_part.new.self c.args.bytes.now c.parts.rest.now c.split_at.result.1.now
+  passed = passed-more g.D.LogDisk c.args.self.now c.parts.self c.take_part.new.self c.args.bytes.now c.parts.rest.now
+      c.split_at.result.1.now
       c.in-Ok.used c.parts.invariant.passed c.split_at.ensures.back c.in-Ok.ensures.follows;
   same = c.take_part.ensures.same ∙ c.parts.invariant.same;
 }
@@ -23,7 +24,8 @@ returns-in-Err-clause-stops g c =
 
 pub returns-in-Err-clause-images : goal.returns-in-Err-clause-images
 returns-in-Err-clause-images g c = λ base fed follows.
-    images-stops g.D.LogDisk base (fed ++ c.args.bytes.now) c.in-Err.fault c.take_part.new.self.disk.now (returns-in-Err-clause-stops g c base fed follows)
+    images-stops g.D.LogDisk base (fed ++ c.args.bytes.now) c.in-Err.fault c.take_part.new.self.disk.now
+    (returns-in-Err-clause-stops g c base fed follows)
 
 pub returns-clause-follows : goal.returns-clause-follows
 returns-clause-follows g c =
