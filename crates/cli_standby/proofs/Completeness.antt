@@ -28,15 +28,18 @@ no-fault : (bytes : List ℕ) (list : OpenedList) (found : RecoverFault) → Hol
 no-fault bytes list found held is = subst IsMemory (sym (lawful-fault bytes list found held is)) tt
 
 -- the list with the first of some frames is lawful where it is with all
-lawful-frames : (list : OpenedList) (frames later : List (List Rec)) → IsLawful (opening_before list) (placed (with_frames list (frames ++ later)))
+lawful-frames : (list : OpenedList) (frames later : List (List Rec))
+    → IsLawful (opening_before list) (placed (with_frames list (frames ++ later)))
     → IsLawful (opening_before list) (placed (with_frames list frames))
 lawful-frames list frames later lawful =
     lawful-records (opening_before list) list.opening.lsn (list.records ++ records_of frames) (records_of later)
     (subst (λ records. IsLawful (opening_before list) (history_from list.opening.lsn [] records))
-    (ap (λ rs. list.records ++ rs) (records_of-append frames later) ∙ sym (append_assoc list.records (records_of frames) (records_of later))) lawful)
+    (ap (λ rs. list.records ++ rs) (records_of-append frames later)
+    ∙ sym (append_assoc list.records (records_of frames) (records_of later))) lawful)
 
 module _ {D : Type 0} (g : Ghosts D) (disk disk_new : D) (bytes : List ℕ) (left_new text text_new : Option (List ℕ))
-    (ReadFails WriteFails DiskFails : Type 0) (opened : OpenedList) (held : HoldsLawful (g.reads disk) opened) (asked : IsLawfulStream bytes opened)
+    (ReadFails WriteFails DiskFails : Type 0) (opened : OpenedList) (held : HoldsLawful (g.reads disk) opened)
+    (asked : IsLawfulStream bytes opened)
     (no_read : ReadFails → ⊥) (no_write : WriteFails → ⊥) (no_disk : DiskFails → ⊥) where
   abbrev old : Outside D
   old = outside disk (Some bytes) text
@@ -82,7 +85,8 @@ module _ {D : Type 0} (g : Ghosts D) (disk disk_new : D) (bytes : List ℕ) (lef
   follow-done BadSnapshot answers reads writes disks = absurd (no-fault (g.reads disk) opened fault.BadSnapshot held answers.1)
   follow-done (BadBatch offset) answers reads writes disks = absurd (no-fault (g.reads disk) opened (fault.BadBatch offset) held answers.1)
   follow-done (BadRec lsn) answers reads writes disks = absurd (no-fault (g.reads disk) opened (fault.BadRec lsn) held answers.1)
-  follow-done (Unlawful lsn why) answers reads writes disks = absurd (no-fault (g.reads disk) opened (fault.Unlawful lsn why) held answers.1)
+  follow-done (Unlawful lsn why) answers reads writes disks =
+      absurd (no-fault (g.reads disk) opened (fault.Unlawful lsn why) held answers.1)
   follow-done Usage answers reads writes disks = absurd answers.cause
   follow-done (Script line) answers reads writes disks = absurd answers.cause
   follow-done (LogEnd tail total) answers reads writes disks = absurd answers.cause
@@ -92,11 +96,13 @@ module _ {D : Type 0} (g : Ghosts D) (disk disk_new : D) (bytes : List ℕ) (lef
   follow-done (NoAccount account) answers reads writes disks = absurd answers.cause
 
 pub follow-complete : {D : Type 0} (g : Ghosts D) (disk disk_new : D) (left left_new text text_new : Option (List ℕ))
-    (ReadFails WriteFails DiskFails : Type 0) (detail : Detail) → AnswersFollow g (outside disk left text) (outside disk_new left_new text_new) detail
+    (ReadFails WriteFails DiskFails : Type 0) (detail : Detail)
+    → AnswersFollow g (outside disk left text) (outside disk_new left_new text_new) detail
     → (detail ≡ Read → ReadFails) → (detail ≡ Write → WriteFails) → (detail ≡ Disk → DiskFails)
     → IfSome left (λ bytes. (opened : OpenedList) → HoldsLawful (g.reads disk) opened → IsLawfulStream bytes opened
     → (ReadFails → ⊥) → (WriteFails → ⊥) → (DiskFails → ⊥) → IsFollowDone detail)
 follow-complete g disk disk_new None left_new text text_new R W F detail answers reads writes disks = tt
 follow-complete g disk disk_new (Some bytes) left_new text text_new R W F detail answers reads writes disks =
     λ opened held asked no_read no_write no_disk.
-    follow-done g disk disk_new bytes left_new text text_new R W F opened held asked no_read no_write no_disk detail answers reads writes disks
+    follow-done g disk disk_new bytes left_new text text_new R W F opened held asked no_read no_write no_disk detail answers reads writes
+    disks

@@ -1,24 +1,30 @@
 -- What a standby has made of the bytes that were read, said of the whole input.
-use Rattle.std.proofs.Common.{◌≡◌, ◌∙◌, refl, sym, ap, subst, ℕ, List, [], ◌∷◌, ◌++◌, append-nil, take, Option, Some, None, IfSome}
+use Rattle.std.proofs.Common.{◌≡◌, ◌∙◌, inl, inr, refl, sym, ap, subst, ℕ, List, [], ◌∷◌, ◌++◌, append-nil, take, Option, Some, None, IfSome, arith}
 use Rattle.std.specs.Io.KnownBytes.{Consumes, IsAtEnd, Keeps}
 use Rattle.std.proofs.KnownBytes.{Consumes-kept, Consumes-trans}
+use Rattle.log_disk.proofs.Moments.{Leaves-refl}
 use Rattle.log_disk.specs.Faults.{CountsWhere}
 use Rattle.log_disk.specs.declared.disk.LogDisk.{Ghosts}
 use Rattle.log_record.specs.declared.rec.Rec.{Rec}
+use Rattle.lock_core.specs.declared.judge.Judge.{Judge}
 use Rattle.log_recovery.specs.Opened.{OpenedList, list_end}
+use Rattle.log_recovery.specs.Recovery.{HoldsLawful}
+use Rattle.segment_file.specs.declared.scan_result.Tail.{Tail}
 use Rattle.ship_stream.specs.Came.{IsBadBehind}
 use Rattle.ship_stream.specs.Stream.{HasFrames}
 use Rattle.standby.specs.Applying.{Base, HoldsFront, Wrote, with_frames}
-use Rattle.standby.specs.Following.{BeginsWithFrames, Follows, IsReason, Stops, frames_of}
+use Rattle.standby.specs.Following.{BeginsWithFrames, Follows, IsReason, Stops, whole_frames}
+use Rattle.standby.specs.Keeping.{KeepsList}
 use Rattle.standby.specs.declared.fault.StandbyFault.{StandbyFault}
 use Rattle.standby.specs.declared.fault.StandbyFault.TheVariants as stream
 use Rattle.standby.specs.declared.standby.Standby.{Standby}
 use Rattle.standby.proofs.FollowedParts.{begins-followed, begins-longer}
 use Rattle.standby.proofs.FrameLists.{holds-front-none, holds-lawful}
+use Rattle.standby.proofs.JudgedFrames.{with_records-none}
 use Rattle.standby.proofs.StoppedStreams.{has-longer}
 use Rattle.cli_shared.specs.declared.report.Detail.{Detail}
-use Rattle.cli_shared.specs.declared.report.Detail.TheVariants.{Disk, Read}
-use Rattle.cli_standby.specs.Feeding.{HasFed, HasFedAll, IsFeedingFault, StopsFeeding, stream_detail}
+use Rattle.cli_shared.specs.declared.report.Detail.TheVariants.{Disk, NoMemory, Read}
+use Rattle.cli_standby.specs.Feeding.{begun, HasFed, HasFedAll, IsFeedingFault, StopsFeeding, stream_detail}
 use Rattle.cli_standby.specs.Following.{IsCause}
 
 -- ---- the input and the bytes that were read of it
@@ -39,19 +45,30 @@ of-all P (Some bytes) (Some rest) fed taken end all =
     let none : rest ≡ [] = subst (λ left. IfSome left (λ bytes. bytes ≡ [])) (sym end) refl in
     subst P (sym (taken ∙ ap (λ b. fed ++ b) none ∙ append-nil fed)) all
 
-pub at-end : (left left_new : Option (List ℕ)) (fed : List ℕ) → Consumes left left_new fed → IsAtEnd left_new → IfSome left (λ bytes. left_new ≡ Some [])
+pub at-end : (left left_new : Option (List ℕ)) (fed : List ℕ) → Consumes left left_new fed → IsAtEnd left_new
+    → IfSome left (λ bytes. left_new ≡ Some [])
 at-end None left_new fed taken end = tt
 at-end (Some bytes) None fed taken end = absurd taken
 at-end (Some bytes) (Some rest) fed taken end = ap Some end
 
-pub begins-input : (left left_new : Option (List ℕ)) (fed : List ℕ) (list : OpenedList) (frames : List (List Rec)) → Consumes left left_new fed
+pub begins-input : (left left_new : Option (List ℕ)) (fed : List ℕ) (list : OpenedList) (frames : List (List Rec))
+    → Consumes left left_new fed
     → BeginsWithFrames fed list frames → IfSome left (λ bytes. BeginsWithFrames bytes list frames)
 begins-input left left_new fed list frames taken begins =
     of-input (λ bytes. BeginsWithFrames bytes list frames) left left_new fed taken (λ more. begins-longer fed more list frames begins)
 
+-- before any byte
+pub begins-unread : (left : Option (List ℕ)) (list : OpenedList) → IfSome left (λ bytes. BeginsWithFrames bytes list [])
+begins-unread None list = tt
+begins-unread (Some bytes) list = inl refl
+
+pub holds-unread : (list : OpenedList) (c : List ℕ) → HoldsLawful c list → HoldsFront (with_frames list []) [] c
+holds-unread list c held = holds-front-none (with_frames list []) c (subst (HoldsLawful c) (sym (with_records-none list)) held)
+
 -- ---- the fault of a standby
 
-cause-stopped : (list : OpenedList) (left left_new : Option (List ℕ)) (fed : List ℕ) → Consumes left left_new fed → (frames cut : List (List Rec))
+cause-stopped : (list : OpenedList) (left left_new : Option (List ℕ)) (fed : List ℕ) → Consumes left left_new fed
+    → (frames cut : List (List Rec))
     (fault : StandbyFault) → IsReason list fed frames cut fault → IsCause list left frames cut (stream_detail fault)
 cause-stopped list left left_new fed taken frames cut (stream.BadStream offset) is =
     (is.0, (is.1.0, is.1.1, is.1.2, of-input (λ bytes. IsBadBehind is.1.0 bytes offset) left left_new fed taken is.1.3))
@@ -72,14 +89,15 @@ cause-stopped list left left_new fed taken frames cut (stream.StreamUnlawful lsn
     is.1.3,
   ),
 )
-cause-stopped list left left_new fed taken frames cut stream.DiskFault is = (is.0, is.2)
+cause-stopped list left left_new fed taken frames cut stream.DiskFault is = inr (is.0, is.2)
 cause-stopped list left left_new fed taken frames cut stream.NoMemory is = is
 
 counts-stopped : (fault : StandbyFault) (before now : ℕ) → CountsWhere (fault ≡ stream.DiskFault) before now
     → CountsWhere (stream_detail fault ≡ Disk) before now
 counts-stopped (stream.BadStream offset) before now counts = record { counted = λ is. absurd cc; fine = λ other. counts.fine (λ is. cc) }
 counts-stopped (stream.Gap have from) before now counts = record { counted = λ is. absurd cc; fine = λ other. counts.fine (λ is. cc) }
-counts-stopped (stream.StreamUnlawful lsn why) before now counts = record { counted = λ is. absurd cc; fine = λ other. counts.fine (λ is. cc) }
+counts-stopped (stream.StreamUnlawful lsn why) before now counts =
+    record { counted = λ is. absurd cc; fine = λ other. counts.fine (λ is. cc) }
 counts-stopped stream.DiskFault before now counts = record { counted = λ is. counts.counted refl; fine = λ other. absurd (other refl) }
 counts-stopped stream.NoMemory before now counts = record { counted = λ is. absurd cc; fine = λ other. counts.fine (λ is. cc) }
 
@@ -98,6 +116,28 @@ read-stopped (stream.StreamUnlawful lsn why) is = cc
 read-stopped stream.DiskFault is = cc
 read-stopped stream.NoMemory is = cc
 
+-- there was no memory for a standby
+pub stops-unmade : {D : Type 0} (g : Ghosts D) (list : OpenedList) (judge : Judge) (tail : Tail) (disk : D)
+    (left left_new : Option (List ℕ))
+    → KeepsList g list judge tail disk → StopsFeeding g (begun list tail disk) left left_new NoMemory disk
+stops-unmade g list judge tail disk left left_new kept = record {
+  frames = [];
+  cut = [];
+  cause = refl;
+  begins = begins-unread left list;
+  images = λ honest c image.
+      holds-unread list c (holds-lawful list c kept.each kept.taken.ledger.judged.lawful (kept.stands honest c image).held);
+  wrote = record {
+    moments = λ honest. Leaves-refl g.moment g.images_since (HoldsFront list []) disk;
+    count = λ honest. record { successes = omega arith; calls = omega arith };
+    grows = λ honest. omega arith;
+    later = omega arith;
+    honest = (λ is. is, λ is. is);
+    attached = refl;
+  };
+  faults = record { counted = λ is. absurd cc; fine = λ no. refl };
+}
+
 module _ {D : Type 0} (g : Ghosts D) (base : Base D) (left left_new : Option (List ℕ)) where
   pub stops-fed : (fed : List ℕ) → Consumes left left_new fed → (fault : StandbyFault) (disk : D) → Stops g base fed fault disk
       → StopsFeeding g base left left_new (stream_detail fault) disk
@@ -114,7 +154,7 @@ module _ {D : Type 0} (g : Ghosts D) (base : Base D) (left left_new : Option (Li
   -- with no frame in flight, and no fault of the disk
   module _ (s : Standby D) (has : HasFed g base left left_new s) where
     abbrev frames : List (List Rec)
-    frames = frames_of has.follows.came
+    frames = whole_frames has.follows.came
 
     abbrev list : OpenedList
     list = with_frames base.list frames
@@ -187,7 +227,8 @@ fed-end g base left mid left_new s n buf has none taken end =
 
 -- a piece at which the standby stopped
 pub fed-stopped : {D : Type 0} (g : Ghosts D) (base : Base D) (left mid left_new : Option (List ℕ)) (s : Standby D) (piece : List ℕ)
-    (has : HasFed g base left mid s) → Consumes mid left_new piece → (fault : StandbyFault) (disk : D) → Stops g base (has.fed ++ piece) fault disk
+    (has : HasFed g base left mid s) → Consumes mid left_new piece → (fault : StandbyFault) (disk : D)
+    → Stops g base (has.fed ++ piece) fault disk
     → StopsFeeding g base left left_new (stream_detail fault) disk
 fed-stopped g base left mid left_new s piece has taken fault disk stops =
     stops-fed g base left left_new (has.fed ++ piece) (Consumes-trans left mid left_new has.fed piece has.taken taken) fault disk stops

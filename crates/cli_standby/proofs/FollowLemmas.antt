@@ -23,10 +23,9 @@ use Rattle.standby.specs.Applying.{Base, HoldsFront, Wrote, place_behind, with_f
 use Rattle.standby.specs.Following.{BeginsWithFrames}
 use Rattle.standby.specs.Keeping.{KeepsList}
 use Rattle.standby.specs.declared.standby.Standby.{Standby}
-use Rattle.standby.proofs.FrameLists.{holds-lawful}
-use Rattle.standby.proofs.JudgedFrames.{with_records-none}
+use Rattle.standby.proofs.FrameLists.{holds-front-more, holds-lawful}
 use Rattle.cli_shared.specs.Opening.{most_calls}
-use Rattle.cli_shared.specs.Outside.{HoldsAsRead, Outside, OnlySettles, outside}
+use Rattle.cli_shared.specs.Outside.{Outside, outside}
 use Rattle.cli_shared.specs.declared.report.Detail.{Detail}
 use Rattle.cli_shared.specs.declared.report.Detail.TheVariants.{Fine, NoMemory, Usage, Script, Read, Write, Disk, NotALog, BadSnapshot, BadBatch, BadRec, Unlawful, LogEnd, TxnEnd, Exists, NoSuchLsn, BadStream, Gap, StreamUnlawful, NoAccount}
 use Rattle.cli_shared.specs.Answers.{StaysSilent}
@@ -35,10 +34,6 @@ use Rattle.cli_shared.proofs.ToldLemmas.{kept-text}
 use Rattle.cli_standby.specs.Feeding.{AnswersUnsaid, begun, FollowEnds, HasFedEnd, HasFedWhole, HasFollowedInput, IsFeedingFault, IsOpened, IsUnopened, IsUnsaid, StopsFeeding}
 use Rattle.cli_standby.specs.Following.{AnswersFollow, Followed, FollowedWhole, IsOfFollow, Stopped}
 use Rattle.cli_standby.proofs.FedLemmas.{of-all}
-
-holds-none : (list : OpenedList) (frames : List (List Rec)) (c : List ℕ) → HoldsLawful c list → HoldsFront list frames c
-holds-none list frames c held =
-    record { front = []; rest = frames; whole = refl; holds = subst (HoldsLawful c) (sym (with_records-none list)) held }
 
 whole-input : (left left_new : Option (List ℕ)) → IfSome left (λ bytes. left_new ≡ Some []) → (P : List ℕ → Type 0) → IfSome left P
     → IfSome left (λ bytes. (left_new ≡ Some []) × P bytes)
@@ -81,35 +76,29 @@ module _ {D : Type 0} (g : Ghosts D) (old mid : D) (tail : Tail) (judge : Judge)
   base = record { list = opened.list; at = tail.at; disk = mid }
 
   module _ (honest : g.honest old) (left left_new : Option (List ℕ)) where
-    -- nothing came to it
-    pub only-opened : (text : Option (List ℕ)) → OnlySettles g (outside old left text) (outside mid left_new text)
-    only-opened text = record {
-      silent = kept-text text;
-      images = Leaves-weaken g.moment g.images_since (λ c. g.images old c ⊎ HoldsLawful c opened.list)
-          (λ c. g.images old c ⊎ HoldsAsRead g old c) old mid
-          (λ c either. ⊎_elim (λ image. inl image) (λ held. inr (opened.list, opened.held honest, held)) either) (opened.images honest);
-      count = opened.count honest;
-      grows = inr (tail, _, opened.stands honest, opened.grows honest);
-    }
-
     module _ (honest_mid : g.honest mid) (new : D) where
       followed : (frames : List (List Rec)) → Wrote g base frames new → IfSome left (λ bytes. BeginsWithFrames bytes opened.list frames)
           → (text text_new : Option (List ℕ)) → Followed g opened.list frames (outside old left text) (outside new left_new text_new)
-      followed frames wrote begins text text_new = record {
+      followed frames wrote begins text text_new = let first = opened.moments honest in record {
         held = opened.held honest;
         begins = begins;
-        moments = Leaves-trans g.moment g.images_since (λ c. g.images old c ⊎ HoldsFront opened.list frames c) old mid new
-            (Leaves-weaken g.moment g.images_since (λ c. g.images old c ⊎ HoldsLawful c opened.list)
-            (λ c. g.images old c ⊎ HoldsFront opened.list frames c) old mid
-            (λ c either. ⊎_elim (λ image. inl image) (λ held. inr (holds-none opened.list frames c held)) either) (opened.images honest))
-            (Leaves-weaken g.moment g.images_since (HoldsFront opened.list frames) (λ c. g.images old c ⊎ HoldsFront opened.list frames c) mid new
-            (λ c held. inr held) (wrote.moments honest_mid));
+        moments = record {
+          disk = first.disk;
+          looks = first.looks;
+          each = first.each;
+          moments = Leaves-trans g.moment g.images_since (HoldsFront opened.list frames) first.disk mid new
+              (Leaves-weaken g.moment g.images_since (HoldsFront opened.list []) (HoldsFront opened.list frames) first.disk mid
+              (λ c held. holds-front-more opened.list c [] frames held) first.moments)
+              (wrote.moments honest_mid);
+        };
         count = Costs-more g _ _ _ _ old new (omega arith) (omega arith)
-            (Costs-then g 3 (4 * length frames) (most_calls g old + 3) (4 * length frames) old mid new (opened.count honest) (wrote.count honest_mid));
+            (Costs-then g 3 (4 * length frames) (most_calls g old + 3) (4 * length frames) old mid new (opened.count honest)
+            (wrote.count honest_mid));
         tail = tail;
         stands = opened.stands honest;
         grows = GrowsAtMostTo-trans g (place_behind tail.at frames + 1) old mid new
-            (GrowsAtMostTo-more g (tail.at + 1) (place_behind tail.at frames + 1) old mid (omega arith) (opened.grows honest)) (wrote.grows honest_mid);
+            (GrowsAtMostTo-more g (tail.at + 1) (place_behind tail.at frames + 1) old mid (omega arith) (opened.grows honest))
+            (wrote.grows honest_mid);
       }
 
       pub unsaid-stopped : (detail : Detail) → IsFeedingFault detail → StopsFeeding g base left left_new detail new
@@ -138,8 +127,10 @@ module _ {D : Type 0} (g : Ghosts D) (old mid : D) (tail : Tail) (judge : Judge)
 
   -- the clauses, once the stream was followed as far as it goes
   pub follow-ends : (file : Attached) (left left_new : Option (List ℕ)) (new : D) (result : Result (ℕ × Accounts) Detail)
-      → IfOk result (λ both. (l : OpenedList) → KeepsList g l judge tail mid → HasFedWhole g (begun l tail mid) left left_new both.0 both.1.rows new)
-      → IfErr result (λ detail. (l : OpenedList) → KeepsList g l judge tail mid → StopsFeeding g (begun l tail mid) left left_new detail new) → IfErr result IsFeedingFault
+      → IfOk result (λ both. (l : OpenedList) → KeepsList g l judge tail mid
+      → HasFedWhole g (begun l tail mid) left left_new both.0 both.1.rows new)
+      → IfErr result (λ detail. (l : OpenedList) → KeepsList g l judge tail mid
+      → StopsFeeding g (begun l tail mid) left left_new detail new) → IfErr result IsFeedingFault
       → (g.honest old ↔ g.honest mid) → (g.honest old → g.attached mid ≡ Some file) → g.faults mid ≡ g.faults old
       → FollowEnds g file old new left left_new result
   follow-ends file left left_new new (Ok both) whole stops range honest attached fine =

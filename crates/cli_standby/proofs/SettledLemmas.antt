@@ -1,8 +1,8 @@
 -- A log that was opened, and perhaps settled, to follow a stream; or why it wasn't.
-use Rattle.std.proofs.Common.{◌≡◌, ◌≤◌, ◌^◌, ◌⊎◌, ⊎_elim, ◌∙◌, inl, inr, sym, subst, ℕ, ◌+◌, List, length, Option, arith}
+use Rattle.std.proofs.Common.{◌≡◌, ◌≤◌, ◌^◌, ◌∙◌, inl, inr, refl, sym, subst, ℕ, ◌+◌, List, [], length, Option, arith}
 use Rattle.log_disk.proofs.Counting.{Costs-more, Costs-then}
-use Rattle.log_disk.proofs.Lengths.{GrowsAtMostTo-same, GrowsAtMostTo-trans}
-use Rattle.log_disk.proofs.Moments.{Leaves-trans, Leaves-weaken}
+use Rattle.log_disk.proofs.Lengths.{GrowsAtMostTo-more, GrowsAtMostTo-same, GrowsAtMostTo-trans}
+use Rattle.log_disk.proofs.Moments.{Leaves-weaken}
 use Rattle.log_disk.specs.Costs.{Costs}
 use Rattle.log_disk.specs.Disk.{IsOnlyImage, Leaves}
 use Rattle.log_disk.specs.Lengths.{GrowsAtMostTo}
@@ -17,38 +17,28 @@ use Rattle.segment_file.specs.Standing.{IsShut, IsStableGate, LogStands, LogStan
 use Rattle.segment_file.specs.declared.scan_result.Tail.{Tail}
 use Rattle.segment_file.proofs.Scanned.{all-stands, stands-stable, stands-within}
 use Rattle.cli_shared.specs.Answers.{recover_detail}
-use Rattle.cli_shared.specs.Opening.{MayHold, most_calls}
-use Rattle.cli_shared.specs.Outside.{HoldsAsRead, OnlyReads, OnlySettles, outside}
+use Rattle.cli_shared.specs.Opening.{MayHold, OnlyLooks, most_calls}
+use Rattle.cli_shared.specs.Outside.{OnlyReads, outside}
+use Rattle.cli_shared.specs.declared.report.Detail.TheVariants.{Disk}
 use Rattle.cli_shared.proofs.ToldLemmas.{kept-text}
+use Rattle.standby.specs.Applying.{HoldsFront}
+use Rattle.standby.proofs.FrameLists.{holds-front-none}
 use Rattle.cli_standby.specs.Feeding.{AnswersUnsaid, IsOpened, IsUnopened}
+use Rattle.cli_standby.specs.Leaving.{LeavesFronts}
+use Rattle.cli_standby.proofs.FedLemmas.{begins-unread, holds-unread}
 
 -- a disk that was attached, synced and read
-module _ {D : Type 0} (g : Ghosts D) (old mid : D) where
-  -- the file is as it was, each image of a moment is one of before, and so many calls were made
-  abbrev pub Looks : Type 0
-  Looks = (g.reads mid ≡ g.reads old) × Leaves g.moment g.images_since (g.images old) old mid × Costs g 1 (most_calls g old) old mid
+module _ {D : Type 0} (g : Ghosts D) (old mid : D) (looks : OnlyLooks g old mid) (left left_new : Option (List ℕ)) where
+  pub only-reads : (text : Option (List ℕ)) → OnlyReads g (outside old left text) (outside mid left_new text)
+  only-reads text = record { silent = kept-text text; disk = looks }
 
-  module _ (looks : Looks) (left left_new text : Option (List ℕ)) where
-    only-reads : OnlyReads g (outside old left text) (outside mid left_new text)
-    only-reads = record { silent = kept-text text; disk = record { images = looks.1; reads = looks.0; count = looks.2 } }
-
-    pub only-settles : OnlySettles g (outside old left text) (outside mid left_new text)
-    only-settles = record {
-      silent = kept-text text;
-      images = Leaves-weaken g.moment g.images_since (g.images old) (λ bytes. g.images old bytes ⊎ HoldsAsRead g old bytes) old mid
-          (λ bytes image. inl image) looks.1;
-      count = Costs-more g 1 3 (most_calls g old) (most_calls g old + 3) old mid (omega arith) (omega arith) looks.2;
-      grows = inl looks.0;
-    }
-
-  pub unsaid-fault : Looks → (left left_new : Option (List ℕ)) (f : RecoverFault) → IsFaultOf (g.reads old) f
-      → AnswersUnsaid g old mid left left_new (recover_detail f)
-  unsaid-fault looks left left_new fault.NotALog is text = (only-reads looks left left_new text, is)
-  unsaid-fault looks left left_new fault.BadSnapshot is text = (only-reads looks left left_new text, is)
-  unsaid-fault looks left left_new (fault.BadBatch offset) is text = (only-reads looks left left_new text, is)
-  unsaid-fault looks left left_new (fault.BadRec lsn) is text = (only-reads looks left left_new text, is)
-  unsaid-fault looks left left_new (fault.Unlawful lsn why) is text = (only-reads looks left left_new text, is)
-  unsaid-fault looks left left_new fault.NoMemory is text = inl (only-settles looks left left_new text)
+  pub unsaid-fault : (f : RecoverFault) → IsFaultOf (g.reads old) f → AnswersUnsaid g old mid left left_new (recover_detail f)
+  unsaid-fault fault.NotALog is text = (only-reads text, is)
+  unsaid-fault fault.BadSnapshot is text = (only-reads text, is)
+  unsaid-fault (fault.BadBatch offset) is text = (only-reads text, is)
+  unsaid-fault (fault.BadRec lsn) is text = (only-reads text, is)
+  unsaid-fault (fault.Unlawful lsn why) is text = (only-reads text, is)
+  unsaid-fault fault.NoMemory is text = inl (only-reads text)
 
 pub range-fault : (f : RecoverFault) → IsUnopened (recover_detail f)
 range-fault fault.NotALog = tt
@@ -91,27 +81,32 @@ module _ {D : Type 0} (g : Ghosts D) (old mid : D) (bytes : List ℕ) (read : Ma
   holds-opened c held = record { list = record { each = judges.held.list.each; holds = held }; lawful = judges.held.lawful }
 
   -- and the disk as it was settled, or where that failed
-  module _ (new : D) (looks : g.honest old → Looks g old mid) (moments : g.honest old → Leaves g.moment g.images_since (λ c. HoldsLog c (log_of list)) mid new)
-      (count : g.honest old → Costs g 2 3 mid new) (grows : g.honest old → GrowsAtMostTo g (tail.at + 1) mid new) where
-    leaves-settled : g.honest old → Leaves g.moment g.images_since (λ c. g.images old c ⊎ HoldsLawful c list) old new
-    leaves-settled honest = Leaves-trans g.moment g.images_since (λ c. g.images old c ⊎ HoldsLawful c list) old mid new
-        (Leaves-weaken g.moment g.images_since (g.images old) (λ c. g.images old c ⊎ HoldsLawful c list) old mid (λ c image. inl image) (looks honest).1)
-        (Leaves-weaken g.moment g.images_since (λ c. HoldsLog c (log_of list)) (λ c. g.images old c ⊎ HoldsLawful c list) mid new
-        (λ c held. inr (holds-opened c held)) (moments honest))
+  module _ (new : D) (looks : g.honest old → OnlyLooks g old mid)
+      (moments : g.honest old → Leaves g.moment g.images_since (λ c. HoldsLog c (log_of list)) mid new)
+      (count : g.honest old → Costs g 2 3 mid new) (grows : g.honest old → GrowsAtMostTo g (tail.at + 1) mid new)
+      (stand : g.honest old → LogStands tail (log_of list) (g.images new)) where
+    moments-settled : g.honest old → LeavesFronts g list [] old new
+    moments-settled honest = record {
+      disk = mid;
+      looks = looks honest;
+      each = λ c image. holds-opened c (stand-read honest c image).held;
+      moments = Leaves-weaken g.moment g.images_since (λ c. HoldsLog c (log_of list)) (HoldsFront list []) mid new
+          (λ c held. holds-front-none list c (holds-opened c held)) (moments honest);
+    }
 
     count-settled : g.honest old → Costs g 3 (most_calls g old + 3) old new
-    count-settled honest = Costs-then g 1 2 (most_calls g old) 3 old mid new (looks honest).2 (count honest)
+    count-settled honest = Costs-then g 1 2 (most_calls g old) 3 old mid new (looks honest).count (count honest)
 
     stands-read : g.honest old → LogStandsAt tail (log_of list) (g.reads old)
     stands-read honest = subst (LogStandsAt tail (log_of list)) (read honest) judges.stands
 
     grows-settled : g.honest old → GrowsAtMostTo g (tail.at + 1) old new
     grows-settled honest =
-        GrowsAtMostTo-trans g (tail.at + 1) old mid new (GrowsAtMostTo-same g (tail.at + 1) old mid (looks honest).0) (grows honest)
+        GrowsAtMostTo-trans g (tail.at + 1) old mid new (GrowsAtMostTo-same g (tail.at + 1) old mid (looks honest).reads) (grows honest)
 
-    pub is-opened : (t : Tail) → t ≡ tail → tail.at ≤ 2 ^ 63 → (g.honest new → g.honest old) → (g.honest old → LogStands tail (log_of list) (g.images new))
+    pub is-opened : (t : Tail) → t ≡ tail → tail.at ≤ 2 ^ 63 → (g.honest new → g.honest old)
         → (g.honest old → IsShut tail.at (g.images new)) → IsOpened g old new t judge
-    is-opened t t_is place was stand shut = subst (λ t. IsOpened g old new t judge) (sym t_is) (record {
+    is-opened t t_is place was shut = subst (λ t. IsOpened g old new t judge) (sym t_is) (record {
       list = list;
       kept = record {
         each = judges.held.list.each;
@@ -123,17 +118,27 @@ module _ {D : Type 0} (g : Ghosts D) (old mid : D) (bytes : List ℕ) (read : Ma
       };
       held = held-read;
       stands = stands-read;
-      images = leaves-settled;
+      moments = moments-settled;
       count = count-settled;
       grows = grows-settled;
     })
 
     -- the settling failed
-    pub unsettled : g.honest old → (left left_new text : Option (List ℕ)) → OnlySettles g (outside old left text) (outside new left_new text)
-    unsettled honest left left_new text = record {
+    pub unsettled : g.honest old → (left left_new : Option (List ℕ)) → AnswersUnsaid g old new left left_new Disk
+    unsettled honest left left_new text = inr (record {
+      opened = list;
+      frames = [];
+      cut = [];
+      followed = record {
+        held = held-read honest;
+        begins = begins-unread left list;
+        moments = moments-settled honest;
+        count = Costs-more g 3 _ (most_calls g old + 3) _ old new (omega arith) (omega arith) (count-settled honest);
+        tail = tail;
+        stands = stands-read honest;
+        grows = GrowsAtMostTo-more g (tail.at + 1) _ old new (omega arith) (grows-settled honest);
+      };
+      images = λ c image. holds-unread list c (holds-opened c (stand honest c image).held);
+      cause = inl (refl, refl);
       silent = kept-text text;
-      images = Leaves-weaken g.moment g.images_since (λ c. g.images old c ⊎ HoldsLawful c list) (λ c. g.images old c ⊎ HoldsAsRead g old c) old new
-          (λ c either. ⊎_elim (λ image. inl image) (λ held. inr (list, held-read honest, held)) either) (leaves-settled honest);
-      count = count-settled honest;
-      grows = inr (tail, log_of list, stands-read honest, grows-settled honest);
-    }
+    })

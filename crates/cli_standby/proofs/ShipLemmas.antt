@@ -20,7 +20,8 @@ use Rattle.cli_reports.specs.Reports.{AnswersReport, OfList, RefusesLsn}
 use Rattle.cli_reports.proofs.ReportLemmas.{of-list}
 use Rattle.cli_standby.specs.Shipping.{SaysStream}
 
-module _ (left left_new : Option (List ℕ)) (judge : Judge) (listed : Listed) (read : ReadsTaken HasJudged left left_new judge listed) (from : ℕ)
+module _ (left left_new : Option (List ℕ)) (judge : Judge) (listed : Listed) (read : ReadsTaken HasJudged left left_new judge listed)
+    (from : ℕ)
     (units : List ℕ) (same : units ≡ listed.units) where
   abbrev list_read : OpenedList
   list_read = list_of listed read.2.records

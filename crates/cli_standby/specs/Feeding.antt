@@ -1,10 +1,9 @@
--- How `follow` comes to its answer. `g` is what a disk shows; `old` and `new` are the disk before and after, `left` and `left_new` what the input has
--- left.
+-- How `follow` comes to its answer. `g` is what a disk shows; `old` and `new` are the disk before and after, `left` and `left_new` what the
+-- input has left.
 use Rattle.std.specs.Prelude.{◌≡◌, ◌⊎◌, ◌↔◌, ℕ, ◌+◌, List, [], ◌++◌, Option, Some, IfSome, Result, IfOk, IfErr, IsErrOf}
 use Rattle.std.specs.Io.KnownBytes.{Consumes}
 use Rattle.log_disk.specs.Attaching.{Attached}
 use Rattle.log_disk.specs.Costs.{Costs}
-use Rattle.log_disk.specs.Disk.{Leaves}
 use Rattle.log_disk.specs.Faults.{CountsWhere}
 use Rattle.log_disk.specs.Lengths.{GrowsAtMostTo}
 use Rattle.log_disk.specs.declared.disk.LogDisk.{Ghosts}
@@ -29,6 +28,7 @@ use Rattle.cli_shared.specs.Outside.{outside}
 use Rattle.cli_shared.specs.declared.report.Detail.{Detail}
 use Rattle.cli_shared.specs.declared.report.Detail.TheVariants.{NoMemory, Read, Disk, NotALog, BadSnapshot, BadBatch, BadRec, Unlawful, BadStream, Gap, StreamUnlawful}
 use Rattle.cli_standby.specs.Following.{AnswersFollow, Followed, IsCause}
+use Rattle.cli_standby.specs.Leaving.{LeavesFronts}
 
 -- how the program ends where a standby goes no further
 abbrev pub stream_detail : StandbyFault → Detail
@@ -44,7 +44,7 @@ pub record IsOpened {D : Type 0} (g : Ghosts D) (old new : D) (tail : Tail) (jud
   pub kept : KeepsList g list judge tail new
   pub held : g.honest old → HoldsLawful (g.reads old) list
   pub stands : g.honest old → LogStandsAt tail (log_of list) (g.reads old)
-  pub images : g.honest old → Leaves g.moment g.images_since (λ bytes. g.images old bytes ⊎ HoldsLawful bytes list) old new
+  pub moments : g.honest old → LeavesFronts g list [] old new
   pub count : g.honest old → Costs g 3 (most_calls g old + 3) old new
   pub grows : g.honest old → GrowsAtMostTo g (tail.at + 1) old new
 
@@ -71,8 +71,8 @@ pub record HasFedEnd {D : Type 0} (g : Ghosts D) (base : Base D) (left left_new 
   pub followed : HasFollowed g base fed lsn s
 
 -- The whole input is a stream, all of its frames were applied, and the accounts of the list that there is now are in these rows.
-pub record HasFedWhole {D : Type 0} (g : Ghosts D) (base : Base D) (left left_new : Option (List ℕ)) (lsn : ℕ) (rows : List (ℕ × ℕ)) (disk : D)
-    : Type 0 where
+pub record HasFedWhole {D : Type 0} (g : Ghosts D) (base : Base D) (left left_new : Option (List ℕ)) (lsn : ℕ) (rows : List (ℕ × ℕ))
+    (disk : D) : Type 0 where
   pub frames : List (List Rec)
   pub whole : IfSome left (λ bytes. (left_new ≡ Some []) × IsStream bytes (list_end base.list) frames)
   pub begins : IfSome left (λ bytes. BeginsWithFrames bytes base.list frames)
@@ -82,7 +82,8 @@ pub record HasFedWhole {D : Type 0} (g : Ghosts D) (base : Base D) (left left_ne
   pub text : rows_text lsn rows ≡ accounts_text (with_frames base.list frames)
 
 -- Behind these frames, which were applied, the standby went no further, with this one, or none, in flight.
-pub record StopsFeeding {D : Type 0} (g : Ghosts D) (base : Base D) (left left_new : Option (List ℕ)) (detail : Detail) (disk : D) : Type 0 where
+pub record StopsFeeding {D : Type 0} (g : Ghosts D) (base : Base D) (left left_new : Option (List ℕ)) (detail : Detail) (disk : D)
+    : Type 0 where
   pub frames : List (List Rec)
   pub cut : List (List Rec)
   pub cause : IsCause base.list left frames cut detail
@@ -103,7 +104,8 @@ IsFeedingFault detail = ⊥
 
 -- what `follow` answers where nothing is written
 abbrev pub AnswersUnsaid : {D : Type 0} → Ghosts D → D → D → Option (List ℕ) → Option (List ℕ) → Detail → Type 0
-AnswersUnsaid g old new left left_new detail = (text : Option (List ℕ)) → AnswersFollow g (outside old left text) (outside new left_new text) detail
+AnswersUnsaid g old new left left_new detail = (text : Option (List ℕ))
+    → AnswersFollow g (outside old left text) (outside new left_new text) detail
 
 -- why the log isn't opened, or not settled
 abbrev pub IsUnopened : Detail → Type 0
@@ -121,7 +123,8 @@ abbrev pub IsUnsaid : Detail → Type 0
 IsUnsaid detail = IsUnopened detail ⊎ IsFeedingFault detail
 
 -- the whole input was followed, and the accounts of the list that there is now are in these rows
-pub record HasFollowedInput {D : Type 0} (g : Ghosts D) (old new : D) (left left_new : Option (List ℕ)) (lsn : ℕ) (rows : List (ℕ × ℕ)) : Type 0 where
+pub record HasFollowedInput {D : Type 0} (g : Ghosts D) (old new : D) (left left_new : Option (List ℕ)) (lsn : ℕ) (rows : List (ℕ × ℕ))
+    : Type 0 where
   pub opened : OpenedList
   pub frames : List (List Rec)
   pub followed : (text text_new : Option (List ℕ)) → Followed g opened frames (outside old left text) (outside new left_new text_new)

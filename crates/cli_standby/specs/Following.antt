@@ -2,7 +2,6 @@
 use Rattle.std.specs.Prelude.{◌≡◌, ◌≢◌, ◌⊎◌, ℕ, ◌+◌, ◌*◌, List, [], ◌∷◌, ◌++◌, length, Option, Some, IfSome}
 use Rattle.std.specs.Io.KnownBytes.{Keeps, Appends}
 use Rattle.log_disk.specs.Costs.{Costs}
-use Rattle.log_disk.specs.Disk.{Leaves}
 use Rattle.log_disk.specs.Lengths.{GrowsAtMostTo}
 use Rattle.log_disk.specs.Streams.{AppendsPart}
 use Rattle.log_disk.specs.declared.disk.LogDisk.{Ghosts}
@@ -18,40 +17,42 @@ use Rattle.segment_file.specs.declared.scan_result.Tail.{Tail}
 use Rattle.ship_stream.specs.Came.{Came, IsBadBehind}
 use Rattle.ship_stream.specs.Stream.{HasFrames, IsStream}
 use Rattle.standby.specs.Applying.{HoldsFront, place_behind, with_frames}
-use Rattle.standby.specs.Following.{BeginsWithFrames, GoesOn, frames_of}
+use Rattle.standby.specs.Following.{BeginsWithFrames, GoesOn, whole_frames}
 use Rattle.cli_shared.specs.Opening.{most_calls}
-use Rattle.cli_shared.specs.Outside.{Outside, OnlyReads, OnlySettles}
+use Rattle.cli_shared.specs.Outside.{Outside, OnlyReads}
 use Rattle.cli_shared.specs.declared.report.Detail.{Detail}
 use Rattle.cli_shared.specs.declared.report.Detail.TheVariants.{Fine, NoMemory, Read, Write, Disk, NotALog, BadSnapshot, BadBatch, BadRec, Unlawful, BadStream, Gap, StreamUnlawful}
+use Rattle.cli_standby.specs.Leaving.{LeavesFronts}
 
--- The log that a read gave was opened, and no more than these frames came to it, the first of the input, where that is known. Each image of a
--- moment is one of before, or holds the opened list with a front of them. At most 4 writes and syncs succeeded for each, and 3 more.
+-- The log that a read gave was opened, and no more than these frames came to it, the first of the input, where that is known. At most 4
+-- writes and syncs succeeded for each, and 3 more.
 pub record Followed {D : Type 0} (g : Ghosts D) (opened : OpenedList) (frames : List (List Rec)) (old new : Outside D) : Type 0 where
   pub held : HoldsLawful (g.reads old.disk) opened
   pub begins : IfSome old.left (λ bytes. BeginsWithFrames bytes opened frames)
-  pub moments : Leaves g.moment g.images_since (λ bytes. g.images old.disk bytes ⊎ HoldsFront opened frames bytes) old.disk new.disk
+  pub moments : LeavesFronts g opened frames old.disk new.disk
   pub count : Costs g (4 * length frames + 3) (most_calls g old.disk + 4 * length frames + 3) old.disk new.disk
   pub tail : Tail
   pub stands : LogStandsAt tail (log_of opened) (g.reads old.disk)
   pub grows : GrowsAtMostTo g (place_behind tail.at frames + 1) old.disk new.disk
 
--- Why nothing comes behind these frames, with this one, or none, in flight. Of all bytes of the input, where they are known: the first part that is
--- cut or outside the grammar comes right behind the frames; the stream begins at another LSN than the list's end; or the record at this LSN is the
--- first of the next frame that fails a test.
+-- Why nothing comes behind these frames, with this one, or none, in flight. Of all bytes of the input, where they are known: the first part
+-- that is cut or outside the grammar comes right behind the frames; the stream begins at another LSN than the list's end; or the record at
+-- this LSN is the first of the next frame that fails a test. The disk failed before the first frame, or at the one in flight.
 abbrev pub IsCause : OpenedList → Option (List ℕ) → List (List Rec) → List (List Rec) → Detail → Type 0
 IsCause opened left frames cut (BadStream offset) = (cut ≡ [])
-    × ((came : Came) × (frames_of came ≡ frames) × GoesOn opened came × IfSome left (λ bytes. IsBadBehind came bytes offset))
+    × ((came : Came) × (whole_frames came ≡ frames) × GoesOn opened came × IfSome left (λ bytes. IsBadBehind came bytes offset))
 IsCause opened left frames cut (Gap have from) = (cut ≡ []) × (frames ≡ []) × (have ≡ list_end opened) × (from ≢ have)
     × IfSome left (λ bytes. (rest : List ℕ) × HasFrames bytes from [] rest)
 IsCause opened left frames cut (StreamUnlawful lsn why) = (cut ≡ [])
     × ((frame : List Rec) × IfSome left (λ bytes. (rest : List ℕ) × HasFrames bytes (list_end opened) (frames ++ frame ∷ []) rest)
     × IsUnlawfulAt (opening_before opened) (placed (with_frames opened (frames ++ frame ∷ []))) lsn why)
-IsCause opened left frames cut Disk = (frame : List Rec) × (cut ≡ frame ∷ [])
+IsCause opened left frames cut Disk = ((frames ≡ []) × (cut ≡ [])) ⊎ ((frame : List Rec) × (cut ≡ frame ∷ []))
 IsCause opened left frames cut Read = cut ≡ []
 IsCause opened left frames cut NoMemory = cut ≡ []
 IsCause opened left frames cut detail = ⊥
 
--- It stopped behind these frames, which stay: each image holds the list with them, and the one in flight whole or not at all. Nothing was written.
+-- It stopped behind these frames, which stay: each image holds the list with them, and the one in flight whole or not at all. Nothing was
+-- written.
 pub record Stopped {D : Type 0} (g : Ghosts D) (detail : Detail) (old new : Outside D) : Type 0 where
   pub opened : OpenedList
   pub frames : List (List Rec)
@@ -61,9 +62,10 @@ pub record Stopped {D : Type 0} (g : Ghosts D) (detail : Detail) (old new : Outs
   pub cause : IsCause opened old.left frames cut detail
   pub silent : Keeps old.text new.text
 
--- The whole input is a stream from the end of the opened list on, each image holds that with all of its frames, and of the accounts of this list
--- that is said.
-pub record FollowedWhole {D : Type 0} (g : Ghosts D) (Says : Option (List ℕ) → Option (List ℕ) → List ℕ → Type 0) (old new : Outside D) : Type 0 where
+-- The whole input is a stream from the end of the opened list on, each image holds that with all of its frames, and of the accounts of this
+-- list that is said.
+pub record FollowedWhole {D : Type 0} (g : Ghosts D) (Says : Option (List ℕ) → Option (List ℕ) → List ℕ → Type 0) (old new : Outside D)
+    : Type 0 where
   pub opened : OpenedList
   pub frames : List (List Rec)
   pub followed : Followed g opened frames old new
@@ -75,8 +77,8 @@ pub record FollowedWhole {D : Type 0} (g : Ghosts D) (Says : Option (List ℕ) �
 abbrev pub AnswersFollow : {D : Type 0} → Ghosts D → Outside D → Outside D → Detail → Type 0
 AnswersFollow g old new Fine = FollowedWhole g Appends old new
 AnswersFollow g old new Write = FollowedWhole g AppendsPart old new
-AnswersFollow g old new NoMemory = OnlySettles g old new ⊎ Stopped g NoMemory old new
-AnswersFollow g old new Disk = OnlySettles g old new ⊎ Stopped g Disk old new
+AnswersFollow g old new NoMemory = OnlyReads g old new ⊎ Stopped g NoMemory old new
+AnswersFollow g old new Disk = OnlyReads g old new ⊎ Stopped g Disk old new
 AnswersFollow g old new NotALog = OnlyReads g old new × IsFaultOf (g.reads old.disk) fault.NotALog
 AnswersFollow g old new BadSnapshot = OnlyReads g old new × IsFaultOf (g.reads old.disk) fault.BadSnapshot
 AnswersFollow g old new (BadBatch offset) = OnlyReads g old new × IsFaultOf (g.reads old.disk) (fault.BadBatch offset)

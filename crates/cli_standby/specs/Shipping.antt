@@ -6,4 +6,5 @@ use Rattle.ship_stream.specs.Packing.{stream_of}
 
 -- from a boundary on: the stream of the records there
 abbrev pub SaysStream : ℕ → OpenedList → List ℕ → Type 0
-SaysStream from list text = (units : List ℕ) × (goes : GoesOnAt list.opening.lsn list.records from units) × (text ≡ stream_of from goes.later)
+SaysStream from list text = (units : List ℕ) × (goes : GoesOnAt list.opening.lsn list.records from units)
+    × (text ≡ stream_of from goes.later)

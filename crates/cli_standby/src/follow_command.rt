@@ -5,8 +5,6 @@ ghost use Rattle.standby.specs.Applying.{Base};
 ghost use Rattle.standby.specs.Following.{Follows};
 ghost use Rattle.standby.specs.Keeping.{KeepsList};
 ghost use Rattle.log_recovery.specs.Opened.{OpenedList};
-ghost use Rattle.ship_stream.specs.Came.Came.{NoHead};
-ghost use Rattle.stream_reader.specs.Reader.{HasRead};
 ghost use Rattle.cli_shared.specs.Answers.{StaysSilent};
 ghost use Rattle.cli_shared.specs.Attached.{EndsAttached, LeavesAttached};
 ghost use Rattle.cli_shared.specs.Outside.{outside};
@@ -22,7 +20,6 @@ use lsn_space::{Balances, Lsn, Word};
 use segment_file::Tail;
 use standby::{Standby, StandbyFault};
 use std::alloc::Global;
-use stream_reader::StreamReader;
 
 /// How many bytes are read at a time.
 const PIECE: usize = 4096;
@@ -33,8 +30,8 @@ struct Kept<'a, D> {
     disk: &'a mut D,
 }
 
-/// Appends the frames of the stream that is read to a log, each once it is whole and lawful, and then answers the accounts. It waits for the
-/// input.
+/// Appends the frames of the stream that is read to a log, each once it is whole and lawful, and then answers the accounts. It waits for
+/// the input.
 pub fn follow_command<D: LogDisk, S: Source, K: Sink>(
     alloc: Global,
     log: &Word,
@@ -80,27 +77,24 @@ fn follow<D: LogDisk, S: Source>(
     ensures disk { CountsWhere (IsErrOf result Detail.Disk) (D.faults disk.old) (D.faults disk.new) }
 {
     let (tail, judge) = open_standby(alloc, log, disk)?;
-    let Ok(reader) = StreamReader::make(alloc) else {
-        return Err(Detail::NoMemory);
-    };
     let mut followed = Err(Detail::NoMemory);
-    let _kept = follow_stream(reader, Kept { disk }, tail, judge, script, &mut followed);
+    let _kept = follow_stream(alloc, Kept { disk }, tail, judge, script, &mut followed);
     followed
 }
 
 /// Follows the stream from the tail on, and tells where the log ends then, and its accounts.
 fn follow_stream<'a, D: LogDisk, S: Source>(
-    reader: StreamReader,
+    alloc: Global,
     kept: Kept<'a, D>,
     tail: Tail,
     judge: Judge,
     script: &mut S,
     followed: &mut Result<(Lsn, Balances), Detail>,
 ) -> Kept<'a, D>
-    requires reader { HasRead reader [] NoHead }
-    requires kept { (list : OpenedList) × KeepsList D.LogDisk list judge tail kept.disk.now }
+    requires { (list : OpenedList) × KeepsList D.LogDisk list judge tail kept.disk.now }
     ensures ok { IfOk followed.new (λ both. (list : OpenedList) → KeepsList D.LogDisk list judge tail kept.entry.disk.now
-        → HasFedWhole D.LogDisk (begun list tail kept.entry.disk.now) (S.left script.old) (S.left script.new) both.0 both.1.rows result.disk.now) }
+        → HasFedWhole D.LogDisk (begun list tail kept.entry.disk.now) (S.left script.old) (S.left script.new) both.0 both.1.rows
+        result.disk.now) }
     ensures stops { IfErr followed.new (λ detail. (list : OpenedList) → KeepsList D.LogDisk list judge tail kept.entry.disk.now
         → StopsFeeding D.LogDisk (begun list tail kept.entry.disk.now) (S.left script.old) (S.left script.new) detail result.disk.now) }
     ensures range { IfErr followed.new IsFeedingFault }
@@ -108,7 +102,13 @@ fn follow_stream<'a, D: LogDisk, S: Source>(
     ensures same { result.disk.ghost_name ≡ kept.entry.disk.ghost_name }
 {
     let Kept { disk } = kept;
-    let mut standby = Standby::with_reader(reader, disk, tail, judge);
+    let mut standby = match Standby::make(alloc, disk, tail, judge) {
+        Ok(standby) => standby,
+        Err(unmade) => {
+            *followed = Err(Detail::NoMemory);
+            return Kept { disk: unmade.disk };
+        }
+    };
     let ended = end_stream(&mut standby, script);
     let Standby { disk, judge, .. } = standby;
     match ended {

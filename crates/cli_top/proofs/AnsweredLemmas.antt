@@ -1,5 +1,5 @@
 -- What a call came to says, of each command, what it promises where the words ask it; and what is so whatever they ask.
-use Rattle.std.proofs.Common.{◌≡◌, ◌+◌, ◌⊎◌, inl, inr, ◌∙◌, refl, ap, sym, subst, ℕ, List, arith}
+use Rattle.std.proofs.Common.{◌≡◌, ◌⊎◌, inl, inr, ◌∙◌, refl, ap, sym, subst, ℕ, List, arith}
 use Rattle.std.specs.Io.KnownBytes.{Keeps}
 use Rattle.command_line.specs.CommandLine.{AreTaken, IsCommandLine}
 use Rattle.command_line.specs.declared.command.Command.{Command}
@@ -10,9 +10,8 @@ use Rattle.log_disk.specs.Costs.{Costs}
 use Rattle.log_disk.specs.declared.disk.LogDisk.{Ghosts}
 use Rattle.log_disk.specs.declared.source.Source.{Ghosts as SourceGhosts}
 use Rattle.log_disk.specs.declared.sink.Sink.{Ghosts as SinkGhosts}
-use Rattle.log_disk.proofs.Moments.{Leaves-refl, Leaves-weaken}
+use Rattle.log_disk.proofs.Moments.{Leaves-refl}
 use Rattle.cli_shared.specs.Opening.{most_calls}
-use Rattle.cli_shared.specs.Outside.{HoldsAsRead}
 use Rattle.cli_shared.specs.declared.report.Detail.{Detail}
 use Rattle.cli_shared.specs.declared.report.Detail.TheVariants.{NoMemory, Usage, Read, Write, Disk}
 use Rattle.cli_shared.specs.Answers.{StaysSilent}
@@ -48,9 +47,6 @@ module _ {D S K : Type 0} (g : Ghosts D) (h : SourceGhosts S) (i : SinkGhosts K)
 
   costs-looks : (disk : D) → Costs g 1 (most_calls g disk) disk disk
   costs-looks disk = Costs-more g 0 1 0 (most_calls g disk) disk disk (omega arith) (omega arith) (Costs-none g disk)
-
-  costs-settles : (disk : D) → Costs g 3 (most_calls g disk + 3) disk disk
-  costs-settles disk = Costs-more g 0 3 0 (most_calls g disk + 3) disk disk (omega arith) (omega arith) (Costs-none g disk)
 
   -- a call that did nothing has done what a command without memory does
   nothing-done : (old : World D S K) (command : Command) → Does g h i command old old NoMemory
@@ -113,13 +109,7 @@ module _ {D S K : Type 0} (g : Ghosts D) (h : SourceGhosts S) (i : SinkGhosts K)
   nothing-done old (AsOf lsn) = record { answer = nothing-said _; silent = kept-text _; range = tt; untouched = refl }
   nothing-done old (Statement account) = record { answer = nothing-said _; silent = kept-text _; range = tt; untouched = refl }
   nothing-done old (Follow log) = record {
-    answer = λ honest. inl (record {
-      silent = kept-text _;
-      images = Leaves-weaken g.moment g.images_since (g.images old.disk) (λ bytes. g.images old.disk bytes ⊎ HoldsAsRead g old.disk bytes) old.disk old.disk
-          (λ bytes image. inl image) (Leaves-refl _ _ _ _);
-      count = costs-settles old.disk;
-      grows = inl refl;
-    });
+    answer = λ honest. inl (record { silent = kept-text _; disk = record { images = Leaves-refl _ _ _ _; reads = refl; count = costs-looks old.disk } });
     silent = kept-text _;
     range = tt;
     attached = λ honest. inl refl;

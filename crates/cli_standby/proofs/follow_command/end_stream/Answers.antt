@@ -22,6 +22,8 @@ returns-in-Ok-clause-ended g c = λ base follows.
 pub returns-in-Err-end-clause-stops : goal.returns-in-Err-end-clause-stops
 returns-in-Err-end-clause-stops g c = λ base follows.
     let all = c.in_default.ensures.all base follows in
-    rw c.detail_of_stream.ensures (subst (StopsFeeding g.D.LogDisk base _ _ _) (ap (λ (s : Standby _). s.disk.now) (sym c.end.ensures.unchanged))
-    (stops-early g.D.LogDisk base (g.S.Source.left c.args.script.now) (g.S.Source.left c.feed_all.new.script) c.feed_all.new.standby all.has all.all
+    rw c.detail_of_stream.ensures (subst (StopsFeeding g.D.LogDisk base _ _ _)
+    (ap (λ (s : Standby _). s.disk.now) (sym c.end.ensures.unchanged))
+    (stops-early g.D.LogDisk base (g.S.Source.left c.args.script.now) (g.S.Source.left c.feed_all.new.script) c.feed_all.new.standby
+    all.has all.all
     c.in-Err-end.fault (c.in-Err-end.ensures.bad base all.has.fed all.has.follows)))

@@ -15,7 +15,8 @@ pieces-init g c = record {
 -- the end of the input
 pub returns-in-Ok-eq0-clause-all : goal.returns-in-Ok-eq0-clause-all
 returns-in-Ok-eq0-clause-all g c = λ base follows.
-    fed-end g.D.LogDisk base (g.S.Source.left c.args.script.now) (g.S.Source.left c.pieces.script) (g.S.Source.left c.read.new.self) c.pieces.standby
+    fed-end g.D.LogDisk base (g.S.Source.left c.args.script.now) (g.S.Source.left c.pieces.script) (g.S.Source.left c.read.new.self)
+    c.pieces.standby
     c.in-Ok-eq0.field-0 c.read.new.buf (c.pieces.invariant.fed base follows) (search rules) c.in-Ok-eq0.ensures.bytes.0
     (c.in-Ok-eq0.ensures.bytes.1 (search rules) (search rules))
 
@@ -29,7 +30,12 @@ returns-in-Err-clause-stops g c = λ base follows.
 
 pub pieces-preserved : goal.pieces-preserved
 pieces-preserved g c = record {
-  ready = (c.pieces.invariant.ready.0, _, c.in-Ok-feed.ensures.follows c.pieces.invariant.ready.0 c.pieces.invariant.ready.1 c.pieces.invariant.ready.2);
+  ready = (
+    c.pieces.invariant.ready.0,
+    _,
+    c.in-Ok-feed.ensures.follows c.pieces.invariant.ready.0 c.pieces.invariant.ready.1
+        c.pieces.invariant.ready.2,
+  );
   fed = λ base follows.
       let has = c.pieces.invariant.fed base follows in
       fed-more g.D.LogDisk base (g.S.Source.left c.args.script.now) (g.S.Source.left c.pieces.script) (g.S.Source.left c.read.new.self)
