@@ -98,3 +98,14 @@ first-entry first (x ∷ entries) entry sums inside is =
 pub no-entry : (first : ℕ) (entries : List Entry) → length entries ≡ 0 → last_balance first entries ≡ first
 no-entry first [] none = refl
 no-entry first (x ∷ entries) none = absurd (omega arith)
+
+-- where they lead to a balance in its range, each balance on the way is in it
+pub first-range : (least first : ℕ) (entries : List Entry) → AddUp least first entries → IsBalance (last_balance first entries) → IsBalance first
+first-range least first [] sums last = last
+first-range least first (entry ∷ entries) sums last = sums.1
+
+pub add_up-range : (least first : ℕ) (entries : List Entry) → AddUp least first entries → IsBalance (last_balance first entries)
+    → AllByRecursion (λ (entry : Entry). IsBalance entry.balance) entries
+add_up-range least first [] sums last = tt
+add_up-range least first (entry ∷ entries) sums last =
+    (first-range entry.end entry.balance entries sums.3 last, add_up-range entry.end entry.balance entries sums.3 last)

@@ -1,26 +1,29 @@
 -- The plain program, entry by entry.
-use Rattle.std.proofs.Common.{◌≡◌, ◌<◌, ◌==◌, ◌||◌, ℕ, zero, suc, ◌+ℤ◌, Bool, true, false, true≢false, cond, None, List, [], ◌∷◌, ◌++◌, length, take, drop, reverse, get_or, is_some, refl, ap, ◌∙◌, sym, subst, arith, eq-eqb, ne_eqb, eqb-true, append_assoc, lt_of_lt_of_le}
+use Rattle.std.proofs.Common.{◌≡◌, ◌≤◌, ◌<◌, ◌==◌, ◌&&◌, ◌||◌, ℕ, zero, suc, ◌+ℤ◌, Bool, true, false, true≢false, cond, None, Some, List, [], ◌∷◌, ◌++◌, length, take, drop, reverse, get_or, refl, ap, ◌∙◌, sym, subst, arith, eq-eqb, ne_eqb, eqb-true, le_trans, lt-ltb, le-ltb}
 use Rattle.std.proofs.lemmas.List.{reverse-append, take-append-drop}
 use mathlib.Core.Logic.{dite}
-use native.Mathlib.Decide.{ℕ_discrete}
+use native.Mathlib.Decide.{ℕ_discrete, dec_lt}
 use Rattle.std.specs.List.{AllByRecursion}
-use Rattle.log_record.specs.declared.rec.Rec.TheVariants.{Genesis}
+use Rattle.log_record.specs.declared.rec.Rec.TheVariants.{Genesis, Commit}
 use Rattle.log_record.specs.declared.rec.Placed.{Placed}
+use Rattle.log_record.specs.Spelling.{IsBalance}
 use Rattle.lock_core.specs.declared.update.Change.{Change}
-use Rattle.lock_core.specs.declared.plain.judging.PlainFault.{PlainFault}
-use Rattle.lock_core.specs.declared.plain.judging.PlainFault.TheVariants as plain
-use Rattle.lock_core.specs.Records.{txn_of, changes_of}
-use Rattle.lock_core.specs.Transactions.{updates_of, touches}
-use Rattle.lock_core.specs.Sums.{no_opening}
+use Rattle.lock_core.specs.Records.{txn_of, commits, changes_of}
+use Rattle.lock_core.specs.Transactions.{of_transaction, recs_of, updates_of, has_commit, touches, is_committed}
+use Rattle.lock_core.specs.Sums.{Opening}
 use Rattle.lock_core.specs.Lawful.{IsLawful, base_with}
-use Rattle.lock_core.specs.Judging.{IsPlainFaultOf}
 use Rattle.lock_core.proofs.OneMore.{updates_of-same, updates_of-other}
 use Rattle.lock_core.proofs.Meeting.{met-lawful}
 use Rattle.lock_core.proofs.Pairing.{updates_of-fits}
-use Rattle.ledger_view.specs.Entries.{net_of, balance_if_known}
-use Rattle.ledger_view.specs.Plain.{own_changes}
-use Rattle.ledger_view.proofs.HistoryLemmas.{accounts-grow, known}
+use Rattle.ledger_view.specs.declared.entries.Entry.{Entry}
+use Rattle.ledger_view.specs.declared.view.View.{View}
+use Rattle.ledger_view.specs.Entries.{net_of, balance_after, is_commit_on, entry_of, entries_of, entries_if_known}
+use Rattle.ledger_view.specs.Plain.{own_changes, KeepsRange}
+use Rattle.ledger_view.specs.Viewing.{account_at, HasViewed}
+use Rattle.ledger_view.proofs.EntryLemmas.{add_up-range}
+use Rattle.ledger_view.proofs.HistoryLemmas.{accounts-grow}
 use Rattle.ledger_view.proofs.NetLemmas.{net_of-append}
+use Rattle.ledger_view.proofs.ViewLemmas.{last-in-range}
 
 -- the Updates of a transaction with one entry more
 updates-more : (txn : ℕ) (entry : Placed) (h : List Placed) → updates_of txn (entry ∷ h) ≡ own_changes txn entry.rec ++ updates_of txn h
@@ -57,37 +60,98 @@ touches-known account count (change ∷ changes) all on = by_case (change.accoun
     by_case true is on rest = subst (λ a. a < count) (eqb-true change.account account is) all.0
     by_case false is on rest = rest on
 
--- a fault of a front is one of the list
-pub fault-longer : (later h : List Placed) (fault : PlainFault) → IsPlainFaultOf h fault → IsPlainFaultOf (later ++ h) fault
-fault-longer later h (plain.Unlawful lsn why) is = record {
-  later = later ++ is.later;
-  entry = is.entry;
-  front = is.front;
-  whole = ap (λ l. later ++ l) is.whole ∙ sym (append_assoc later is.later (is.entry ∷ is.front));
-  lawful = is.lawful;
-  place = is.place;
-  first = is.first;
-}
-fault-longer later h plain.NoMemory is = tt
+and-true : (x : Bool) → (x && true) ≡ x
+and-true true = refl
+and-true false = refl
 
-pub all-take : (entries : List Placed) (n : ℕ) (P : Placed → Type 0) → AllByRecursion P entries → AllByRecursion P (take n entries)
-all-take entries zero P all = tt
-all-take [] (suc n) P all = tt
-all-take (entry ∷ entries) (suc n) P all = (all.0, all-take entries n P all.1)
+and-false : (x : Bool) → (x && false) ≡ false
+and-false true = refl
+and-false false = refl
 
--- and so is one of a front that is given in the order of the log
-pub fault-front : (entries : List Placed) (n : ℕ) (fault : PlainFault) → IsPlainFaultOf (reverse (take n entries)) fault → IsPlainFaultOf (reverse entries) fault
-fault-front entries n fault is =
-    subst (λ h. IsPlainFaultOf h fault) (sym (ap reverse (sym (take-append-drop n entries)) ∙ reverse-append (take n entries) (drop n entries)))
-    (fault-longer (reverse (drop n entries)) (reverse (take n entries)) fault is)
+-- the Commits of a transaction with one entry more
+pub committed-more : (txn : ℕ) (entry : Placed) (h : List Placed)
+    → is_committed txn (entry ∷ h) ≡ ((commits entry.rec && (txn_of entry.rec == txn)) || is_committed txn h)
+committed-more txn entry h = by_case (txn_of entry.rec == txn)
+  where
+    by_case : (b : Bool) → has_commit (recs_of (cond b (entry ∷ of_transaction txn h) (of_transaction txn h))) ≡ ((commits entry.rec && b) || is_committed txn h)
+    by_case true = ap (λ c. c || is_committed txn h) (sym (and-true (commits entry.rec)))
+    by_case false = ap (λ c. c || is_committed txn h) (sym (and-false (commits entry.rec)))
 
--- an account that the transaction of a record in a lawful log touches is known
-pub known-there : (entry : Placed) (h : List Placed) (txn account : ℕ) → IsLawful no_opening (entry ∷ h) → touches account (updates_of txn h) ≡ true
-    → balance_if_known no_opening (entry ∷ h) account ≡ None → ⊥
-known-there entry h txn account lawful on none =
-    let inside = touches-known account (base_with no_opening h).accounts (updates_of txn h)
-    (updates_of-fits (base_with no_opening h) h txn (met-lawful no_opening h lawful.1)).known on in
-    true≢false (ap is_some (sym (known no_opening (entry ∷ h) account (lt_of_lt_of_le inside (accounts-grow no_opening h entry.rec))) ∙ none))
+both-true : (x y : Bool) → (x && y) ≡ true → (x ≡ true) × (y ≡ true)
+both-true true y is = (refl, is)
+both-true false y is = absurd (true≢false (sym is))
+
+-- no Commit of a lawful list is on an account that it doesn't have
+entries-unknown : (opening : Opening) (h : List Placed) (account : ℕ) → IsLawful opening h → (base_with opening h).accounts ≤ account
+    → entries_of opening h account ≡ []
+entries-unknown opening [] account lawful past = refl
+entries-unknown opening (entry ∷ h) account lawful past =
+    by_case (is_commit_on account entry h) refl (entries-unknown opening h account lawful.1 before)
+  where
+    before : (base_with opening h).accounts ≤ account
+    before = le_trans (accounts-grow opening h entry.rec) past
+
+    by_case : (b : Bool) → is_commit_on account entry h ≡ b → entries_of opening h account ≡ []
+        → cond b (entries_of opening h account ++ entry_of opening entry h account ∷ []) (entries_of opening h account) ≡ []
+    by_case true on rest =
+        let touched = (both-true (commits entry.rec) (touches account (updates_of (txn_of entry.rec) h)) on).1 in
+        let inside = touches-known account (base_with opening h).accounts (updates_of (txn_of entry.rec) h)
+        (updates_of-fits (base_with opening h) h (txn_of entry.rec) (met-lawful opening h lawful.1)).known touched in
+        absurd (omega (arith, inside, before))
+    by_case false off rest = rest
+
+abbrev in_range : Entry → Type 0
+in_range entry = IsBalance entry.balance
+
+all-parts : (xs ys : List Entry) → AllByRecursion in_range (xs ++ ys) → AllByRecursion in_range xs × AllByRecursion in_range ys
+all-parts [] ys all = (tt, all)
+all-parts (x ∷ xs) ys all = let rest = all-parts xs ys all.1 in ((all.0, rest.0), rest.1)
+
+module _ (opening : Opening) (account : ℕ) where
+  -- a front of a list whose Commits keep the range is one too
+  keeps_range-less : (entry : Placed) (h : List Placed) → KeepsRange opening (entry ∷ h) account → KeepsRange opening h account
+  keeps_range-less entry h = by_case (is_commit_on account entry h)
+    where
+      by_case : (b : Bool) → AllByRecursion in_range (cond b (entries_of opening h account ++ entry_of opening entry h account ∷ []) (entries_of opening h account))
+          → AllByRecursion in_range (entries_of opening h account)
+      by_case true all = (all-parts (entries_of opening h account) (entry_of opening entry h account ∷ []) all).0
+      by_case false all = all
+
+  keeps_range-later : (later h : List Placed) → KeepsRange opening (later ++ h) account → KeepsRange opening h account
+  keeps_range-later [] h all = all
+  keeps_range-later (entry ∷ later) h all = keeps_range-later later h (keeps_range-less entry (later ++ h) all)
+
+  pub keeps_range-front : (entries : List Placed) (n : ℕ) → KeepsRange opening (reverse entries) account → KeepsRange opening (reverse (take n entries)) account
+  keeps_range-front entries n all =
+      keeps_range-later (reverse (drop n entries)) (reverse (take n entries))
+      (subst (λ h. KeepsRange opening h account) (ap reverse (sym (take-append-drop n entries)) ∙ reverse-append (take n entries) (drop n entries)) all)
+
+  -- the balance behind such a Commit
+  keeps_range-own : (entry : Placed) (h : List Placed) → is_commit_on account entry h ≡ true → KeepsRange opening (entry ∷ h) account
+      → IsBalance (balance_after opening (entry ∷ h) account)
+  keeps_range-own entry h on all =
+      (all-parts (entries_of opening h account) (entry_of opening entry h account ∷ [])
+      (subst (λ b. AllByRecursion in_range (cond b (entries_of opening h account ++ entry_of opening entry h account ∷ []) (entries_of opening h account))) on all)).1.0
+
+  pub commit-in_range : (entry : Placed) (h : List Placed) (txn legs : ℕ) → entry.rec ≡ Commit txn legs → touches account (updates_of txn h) ≡ true
+      → KeepsRange opening (entry ∷ h) account → IsBalance (balance_after opening (entry ∷ h) account)
+  commit-in_range entry h txn legs is on =
+      keeps_range-own entry h (ap (λ rec. commits rec && touches account (updates_of (txn_of rec) h)) is ∙ on)
+
+  -- a list that a view was given is one
+  pub keeps_range-viewed : (view : View) (h : List Placed) → HasViewed opening view h → KeepsRange opening h account
+  keeps_range-viewed view h viewed = let counted = viewed.count in dite (dec_lt account (length view.accounts))
+      (λ inside. let kept = viewed.each account inside in
+      subst (AllByRecursion in_range) kept.entries
+      (add_up-range 0 kept.first (account_at view.accounts account).entries kept.sums
+      (subst IsBalance (sym kept.last) (last-in-range opening view h account viewed inside))))
+      (λ past. subst (AllByRecursion in_range) (sym (entries-unknown opening h account viewed.judged.ledger.judged.lawful (omega arith))) tt)
+
+  pub entries-if_known : (h : List Placed) → account < (base_with opening h).accounts → entries_if_known opening h account ≡ Some (entries_of opening h account)
+  entries-if_known h inside = ap (λ b. cond b (Some (entries_of opening h account)) None) (lt-ltb account (base_with opening h).accounts inside)
+
+  pub entries-if_unknown : (h : List Placed) → (base_with opening h).accounts ≤ account → entries_if_known opening h account ≡ None
+  entries-if_unknown h past = ap (λ b. cond b (Some (entries_of opening h account)) None) (le-ltb account (base_with opening h).accounts past)
 
 get_or-again : (entries : List Placed) (i : ℕ) (d : Placed) → i < length entries → get_or entries i (get_or entries i d) ≡ get_or entries i d
 get_or-again [] i d inside = absurd (omega arith)

@@ -48,3 +48,7 @@ balance_if_known opening h account = if nat_lt account (base_with opening h).acc
 -- what the account held at an LSN: its balance after the history up to there, if it is known there
 abbrev pub balance_up_to : Opening → List Placed → ℕ → ℕ → Option ℕ
 balance_up_to opening h account lsn = balance_if_known opening (front_to h lsn) account
+
+-- the entries of the account, if the opening and the history have it
+abbrev pub entries_if_known : Opening → List Placed → ℕ → Option (List Entry)
+entries_if_known opening h account = if nat_lt account (base_with opening h).accounts then Some (entries_of opening h account) else None

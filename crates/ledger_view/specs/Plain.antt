@@ -1,11 +1,13 @@
--- What the plain program reads of one record.
+-- What the plain program reads of one record, and of which lists it answers.
 use Rattle.std.specs.Prelude.{◌≡◌, ◌==◌, ℕ, ℤ, true, false, if◌then◌else◌, Option, MatchOption, List, [], ◌∷◌, ◌++◌}
+use Rattle.std.specs.List.{AllByRecursion}
 use Rattle.log_record.specs.declared.rec.Rec.{Rec}
 use Rattle.log_record.specs.declared.rec.Placed.{Placed}
+use Rattle.log_record.specs.Spelling.{IsBalance}
 use Rattle.lock_core.specs.declared.update.Change.{Change}
 use Rattle.lock_core.specs.Records.{txn_of, changes_of}
 use Rattle.lock_core.specs.Transactions.{updates_of, touches}
-use Rattle.lock_core.specs.Sums.{no_opening}
+use Rattle.lock_core.specs.Sums.{Opening}
 use Rattle.ledger_view.specs.declared.entries.Entry.{Entry}
 use Rattle.ledger_view.specs.Entries.{net_of, entries_of}
 
@@ -18,7 +20,11 @@ abbrev pub IsNetOf : List Placed → ℕ → ℕ → Option ℤ → Type 0
 IsNetOf h txn account net = MatchOption net (touches account (updates_of txn h) ≡ false)
     (λ net. (touches account (updates_of txn h) ≡ true) × (net ≡ net_of account (updates_of txn h)))
 
--- this is the entry of the account that the newest entry of a whole log makes, if it makes one
-abbrev pub IsEntryOf : Placed → List Placed → ℕ → Option Entry → Type 0
-IsEntryOf entry h account found = MatchOption found (entries_of no_opening (entry ∷ h) account ≡ entries_of no_opening h account)
-    (λ own. entries_of no_opening (entry ∷ h) account ≡ entries_of no_opening h account ++ own ∷ [])
+-- this is the entry of the account that the newest entry of a list makes, if it makes one
+abbrev pub IsEntryOf : Opening → Placed → List Placed → ℕ → Option Entry → Type 0
+IsEntryOf opening entry h account found = MatchOption found (entries_of opening (entry ∷ h) account ≡ entries_of opening h account)
+    (λ own. entries_of opening (entry ∷ h) account ≡ entries_of opening h account ++ own ∷ [])
+
+-- each Commit on the account leaves it a balance in its range
+abbrev pub KeepsRange : Opening → List Placed → ℕ → Type 0
+KeepsRange opening h account = AllByRecursion (λ entry. IsBalance entry.balance) (entries_of opening h account)

@@ -9,6 +9,6 @@ mod plain;
 mod view;
 
 pub use entries::{Entries, Entry};
-pub use laws::fronts_are_prefixes;
+pub use laws::{balances_are_plain, entries_are_plain, fronts_are_prefixes};
 pub use plain::{plain_balance_at, plain_entries};
 pub use view::View;

@@ -1,86 +1,101 @@
-//! A view beside the definitions' plain program: on the same logs they answer the same.
+//! A view beside the definitions' plain program: of the same lists they answer the same.
 
-ghost use Rattle.std.specs.Prelude.{◌≤◌, List, length, IfSome};
-ghost use Rattle.std.specs.List.{AllByRecursion};
+ghost use Rattle.std.specs.Prelude.{◌≡◌, ◌≤◌, ◌+◌, ◌⊎◌, [], length, reverse, IfSome};
 ghost use Rattle.lsn_space.specs.declared.lsn.TheConstants.{LAST};
-ghost use Rattle.log_record.specs.declared.rec.Placed.{Placed};
-ghost use Rattle.log_record.specs.Spelling.{IsSpellable};
-ghost use Rattle.lock_core.specs.Sums.{Opening};
+ghost use Rattle.lsn_space.specs.Opening.{IsSnapshot};
+ghost use Rattle.lock_core.specs.Settling.{opening_of};
 ghost use Rattle.ledger_view.specs.Viewing.{HasViewed};
 
-use ledger_view::{View, plain_balance_at, plain_entries};
+use ledger_view::{View, balances_are_plain, entries_are_plain};
 use log_record::{Placed, read};
 use log_recovery::taken;
-use lsn_space::{LAST, Lsn};
+use lsn_space::{Lsn, Opening};
 use std::alloc::Global;
 
-/// The records that the units of a log spell, each with its end, in the order of the log.
-fn entries_of(alloc: Global, units: &[u64]) -> Option<Vec<Placed>>
-    requires { length units.now ≤ LAST }
-    ensures few { IfSome result (λ entries. length entries.items ≤ LAST) }
-    ensures spellable { IfSome result (λ entries. AllByRecursion (λ entry. IsSpellable entry.rec) entries.items) }
+/// A view that was given the records which the units spell, and those records as entries, in the order of the log.
+fn viewed(alloc: Global, opening: &Opening, units: &[u64]) -> Option<(View, Vec<Placed>)>
+    requires opening { (opening.now.accounts ≡ []) ⊎ IsSnapshot opening.now }
+    requires fits { opening.now.lsn + length units.now ≤ LAST }
+    ensures few { IfSome result (λ both. length both.1.items ≤ LAST) }
+    ensures viewed { IfSome result (λ both. HasViewed (opening_of opening.now) both.0 (reverse both.1.items)) }
 {
+    let Ok(mut view) = View::make(alloc, opening) else {
+        return None;
+    };
     let mut entries = Vec::new(alloc);
     let mut rest = units;
+    let mut lsn = opening.lsn;
     'records: while !rest.is_empty() {
         let Ok((rec, size)) = read(rest) else {
             return None;
         };
+        let Ok(()) = view.add(lsn, &rec) else {
+            return None;
+        };
         rest = rest.split_at(size).1;
-        let end = Lsn::new((units.len() - rest.len()) as u32);
-        let Ok(()) = entries.push(Placed { end, rec }) else {
+        lsn = Lsn::new(lsn.units() + size as u32);
+        let Ok(()) = entries.push(Placed { end: lsn, rec }) else {
             return None;
         };
     }
-    Some(entries)
+    Some((view, entries))
 }
 
 /// Whether both have the same entries of the account.
-fn has_same_entries(alloc: Global, view: &View, entries: &[Placed], account: u32) -> bool
-    requires spellable { AllByRecursion (λ entry. IsSpellable entry.rec) entries.now }
+fn has_same_entries(
+    alloc: Global,
+    view: &View,
+    opening: &Opening,
+    entries: &[Placed],
+    account: u32,
+) -> bool
     requires few { length entries.now ≤ LAST }
+    requires viewed { HasViewed (opening_of opening.now) view.now (reverse entries.now) }
 {
-    let Ok(plain) = plain_entries(alloc, entries, account) else {
+    let Ok((viewed, plain)) = entries_are_plain(alloc, view, opening, entries, account) else {
         return false;
     };
-    match view.entries(account) {
-        Some(found) => found.as_slice() == plain.as_slice(),
-        None => plain.as_slice().is_empty(),
+    match (viewed, &plain) {
+        (Some(viewed), Some(plain)) => viewed.as_slice() == plain.as_slice(),
+        (None, None) => true,
+        _ => false,
     }
 }
 
-/// Whether both have the same balance of the account at each LSN up to the one behind the log.
-fn has_same_balances(alloc: Global, view: &View, entries: &[Placed], account: u32, end: u32) -> bool
-    requires viewed { (opening : Opening) × (h : List Placed) × HasViewed opening view.now h }
-    requires spellable { AllByRecursion (λ entry. IsSpellable entry.rec) entries.now }
+/// Whether both have the same balance of the account at each LSN up to this one.
+fn has_same_balances(
+    view: &View,
+    opening: &Opening,
+    entries: &[Placed],
+    account: u32,
+    last: Lsn,
+) -> bool
+    requires few { length entries.now ≤ LAST }
+    requires viewed { HasViewed (opening_of opening.now) view.now (reverse entries.now) }
 {
-    for lsn in 0..=end {
-        let Ok(plain) = plain_balance_at(alloc, entries, account, Lsn::new(lsn)) else {
-            return false;
-        };
-        if view.balance_at(account, Lsn::new(lsn)) != plain.map(u64::from) {
+    for lsn in 0..=last.units() {
+        let (viewed, plain) = balances_are_plain(view, opening, entries, account, Lsn::new(lsn));
+        if viewed != plain {
             return false;
         }
     }
     true
 }
 
-/// Whether both answer the same of accounts 0 to 2 of a log of the first format.
+/// Whether both answer the same of accounts 0 to 2 of the log that the bytes are.
 pub fn is_same(alloc: Global, bytes: &[u8]) -> bool {
     let Ok(both) = taken::<View>(alloc, bytes) else {
         return false;
     };
-    let units = both.1.units.as_slice();
-    if units.len() > LAST as usize {
-        return false;
-    }
-    let Some(entries) = entries_of(alloc, units) else {
+    let listed = both.1;
+    let opening = &listed.opening;
+    let Some((view, entries)) = viewed(alloc, opening, listed.units.as_slice()) else {
         return false;
     };
     let entries = entries.as_slice();
     'accounts: for account in 0..3 {
-        if !has_same_entries(alloc, &both.0, entries, account)
-            || !has_same_balances(alloc, &both.0, entries, account, units.len() as u32)
+        if !has_same_entries(alloc, &view, opening, entries, account)
+            || !has_same_balances(&view, opening, entries, account, listed.tail.next)
         {
             return false;
         }

@@ -193,6 +193,7 @@ fn cut_logs(rt: HostRuntime) -> Result<(), Fail> {
     for row in BEHIND {
         let bytes = cut_image(rt.alloc(), row.0)?;
         is_answered(&rt, bytes.as_slice(), row);
+        assert!(rt; is_same(rt.alloc(), bytes.as_slice()), "{}", row.1);
     }
     Ok(())
 }
