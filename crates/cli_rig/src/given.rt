@@ -56,6 +56,11 @@ pub enum End {
     LogEnd(u32, u32),
     TxnEnd(u64, u64),
     Exists,
+    BadStream(u64),
+    Gap(u32, u32),
+    NoSuchLsn(u32),
+    StreamUnlawful(u32, Why),
+    NoAccount(u32),
 }
 
 impl End {
@@ -82,6 +87,17 @@ impl End {
             },
             End::TxnEnd(first, count) => Detail::TxnEnd { first, count },
             End::Exists => Detail::Exists,
+            End::BadStream(offset) => Detail::BadStream { offset },
+            End::Gap(have, from) => Detail::Gap {
+                have: Lsn::new(have),
+                from: Lsn::new(from),
+            },
+            End::NoSuchLsn(lsn) => Detail::NoSuchLsn { lsn: Lsn::new(lsn) },
+            End::StreamUnlawful(lsn, why) => Detail::StreamUnlawful {
+                lsn: Lsn::new(lsn),
+                why,
+            },
+            End::NoAccount(account) => Detail::NoAccount { account },
         }
     }
 }

@@ -1,0 +1,16 @@
+//! Tests of `ship` and `follow`, by their calls and by the top call, and of `asof` and `statement` by the top call, over a disk, a source and a
+//! sink in memory.
+#![tactic(auto)]
+
+#[cfg(test)]
+mod calls;
+#[cfg(test)]
+mod follow_tests;
+#[cfg(test)]
+mod logs;
+#[cfg(test)]
+mod long_tests;
+#[cfg(test)]
+mod ship_tests;
+#[cfg(test)]
+mod view_tests;
