@@ -6,7 +6,8 @@ usage: .ci/stream_reader.py [--env NAME=VALUE].. PROGRAM GROUP..
 
   --env    the program runs with this in its environment
   GROUP    bits: each bit of a stream flipped, and each front of it; hostile: streams that a stranger might make; lots: streams changed by lot;
-           logs: `ship` and `asof` at each LSN, and `statement` of each account, of the examples and of logs made by lot
+           demos: `ship` of demo logs, and `follow` of fronts of that; logs: `ship` and `asof` at each LSN, and `statement` of each account, of the examples
+           and of logs made by lot
 """
 import argparse, os, random, struct, subprocess, sys, tempfile
 from collections import namedtuple
@@ -496,6 +497,30 @@ def lots(trial):
             trial.followed(f"bank {seed} from {at}, {length} bytes", front, stream[:length])
 
 
+def demo(trial, transfers):
+    """The bytes of a demo log, which the program makes."""
+    log = f"{trial.log}.demo"
+    if os.path.exists(log):
+        os.remove(log)
+    status, _, err = trial.call(["demo", log, str(transfers), "32", "--workers", "1"], b"")
+    if status != 0:
+        sys.exit(f"demo: status {status}, {err}")
+    with open(log, "rb") as file:
+        return file.read()
+
+
+def demos(trial):
+    lot = random.Random(33)
+    front, whole = demo(trial, 0), demo(trial, 1500)
+    end = log_of(front).end
+    stream = ship(whole, end)
+    starts = [start for start, _ in log_of(whole).records if start >= end]
+    for lsn in [end, *lot.sample(starts, 20)]:
+        trial.reported("a demo log", whole, "ship", ship, lsn)
+    for length in [len(stream), *(lot.randrange(len(stream)) for _ in range(20))]:
+        trial.followed(f"a demo log, {length} bytes", front, stream[:length])
+
+
 def logs(trial):
     names = ("genesis", "one_transfer", "unfinished_transfer", "wrong_predecessor", "greatest_transaction", "cut", "upgraded")
     made = {name: example(name) for name in names}
@@ -513,16 +538,19 @@ def logs(trial):
             trial.reported(f"the first {length} bytes of an upgraded log", example("upgraded")[:length], word, make, value)
 
 
+GROUPS = {"bits": bits, "hostile": hostile, "lots": lots, "demos": demos, "logs": logs}
+
+
 def main():
     words = argparse.ArgumentParser(description=__doc__, formatter_class=argparse.RawDescriptionHelpFormatter)
     words.add_argument("program")
-    words.add_argument("groups", nargs="+", choices=("bits", "hostile", "lots", "logs"))
+    words.add_argument("groups", nargs="+", choices=sorted(GROUPS))
     words.add_argument("--env", action="append", default=[])
     given = words.parse_args()
     with tempfile.TemporaryDirectory() as folder:
         trial = Trial(os.path.realpath(given.program), dict(it.split("=", 1) for it in given.env), folder)
         for group in given.groups:
-            {"bits": bits, "hostile": hostile, "lots": lots, "logs": logs}[group](trial)
+            GROUPS[group](trial)
         print(trial.right, trial.wrong)
     return 1 if trial.wrong else 0
 
