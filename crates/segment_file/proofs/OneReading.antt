@@ -1,16 +1,20 @@
 -- Bytes hold one log at most, or have one fault.
 use Rattle.std.proofs.Common.{◌≡◌, ◌≤◌, inl, inr, ◌∙◌, sym, ap, refl, ℕ, ◌+◌, List, [], ◌∷◌, ◌++◌, length, get_or, take, drop, arith, append_assoc, length-append, subst}
 use Rattle.std.specs.List.{flat_map, AllByRecursion}
+use Rattle.std.proofs.Props.{props}
+use mathlib.Core.HLevel.{is_prop→PathP, ×_prop}
 use Rattle.std.proofs.lemmas.List.Concat.{flat_map-append}
 use Rattle.std.proofs.lemmas.Nat.{from_be_bytes-to_be_bytes_8}
 use Rattle.lsn_space.specs.declared.lsn.TheConstants.{LAST}
-use Rattle.lsn_space.specs.Opening.{Opening}
+use Rattle.lsn_space.specs.Opening.{Opening, no_opening, IsSnapshot}
 use Rattle.lsn_space.specs.Unit.{unit_bytes, unit_value}
 use Rattle.segment_head.specs.Head.{head_magic}
 use Rattle.segment_head.proofs.HeadLemmas.{one_head}
 use Rattle.segment_file.specs.declared.layout.TheConstants.{OPEN}
 use Rattle.segment_file.specs.File.{magic, batch, gated, joined, IsCountedBatch, AreUnits, BeginsOpen, BeginsAsLog, HasNoBatch, HoldsUnits}
 use Rattle.segment_file.specs.Log.{Log, whole_log, log_end, IsFront, first_format, second_format, ReadsTo, HoldsLog, IsBadSnapshot, IsBadBatchBehind, IsBadBatch, first_batch, later_batch}
+use Rattle.segment_file.specs.Standing.{LogStandsAt}
+use Rattle.segment_file.specs.declared.scan_result.Tail.{Tail}
 use Rattle.segment_file.proofs.BatchLemmas.{count_at-batch}
 use Rattle.segment_file.proofs.FirstFormat.{units-log}
 use Rattle.segment_file.proofs.FileLemmas.{append-cancel_left, begins_open}
@@ -237,3 +241,81 @@ one_reading-place bytes a b (first_batch body begins none place) (later_batch q 
 one_reading-place bytes a b (later_batch p bad) (first_batch body begins none place) =
     absurd (reads-first bytes p (OPEN ∷ bad.body) bad.reads bad.reads.begins body begins none)
 one_reading-place bytes a b (later_batch p bad) (later_batch q also) = later-place bytes p q a b bad also
+
+-- ---- that bytes hold a log is one fact
+
+list-set : IsSet (List ℕ)
+list-set = hlevel props
+
+units-prop : (units : List ℕ) → IsProp (AreUnits units)
+units-prop units = hlevel props
+
+counted-prop : (units : List ℕ) → IsProp (IsCountedBatch units)
+counted-prop units = hlevel (props, units-prop)
+
+all_counted-prop : (batches : List (List ℕ)) → IsProp (AllByRecursion IsCountedBatch batches)
+all_counted-prop [] = hlevel props
+all_counted-prop (units ∷ batches) = ×_prop (counted-prop units) (all_counted-prop batches)
+
+opening-set : IsSet Opening
+opening-set = hlevel props
+
+snapshot-prop : (opening : Opening) → IsProp (IsSnapshot opening)
+snapshot-prop opening = hlevel props
+
+-- an opening that has accounts is some opening
+no-snapshot : (opening : Opening) → opening ≡ no_opening → IsSnapshot opening → ⊥
+no-snapshot opening none held = omega (arith, held.some, ap (λ (o : Opening). length o.accounts) none)
+
+front-prop : (front : List ℕ) (opening : Opening) (units : List ℕ) → IsProp (IsFront front opening units)
+front-prop front opening units (first_format none counted is) (first_format also held are) =
+    λ i. first_format (opening-set _ _ none also i) (counted-prop units counted held i) (list-set _ _ is are i)
+front-prop front opening units (second_format held none is) (second_format also nothing are) =
+    λ i. second_format (snapshot-prop opening held also i) (list-set _ _ none nothing i) (list-set _ _ is are i)
+front-prop front opening units (first_format none counted is) (second_format held nothing are) = absurd (no-snapshot opening none held)
+front-prop front opening units (second_format held nothing is) (first_format none counted are) = absurd (no-snapshot opening none held)
+
+one-front : (f g : List ℕ) (opening : Opening) (us vs : List ℕ) → IsFront f opening us → IsFront g opening vs → us ≡ vs → f ≡ g
+one-front f g opening us vs (first_format none counted is) (first_format also held are) level = is ∙ ap (λ ws. OPEN ∷ magic ++ batch ws) level ∙ sym are
+one-front f g opening us vs (second_format held none is) (second_format also nothing are) level = is ∙ sym are
+one-front f g opening us vs (first_format none counted is) (second_format held nothing are) level = absurd (no-snapshot opening none held)
+one-front f g opening us vs (second_format held nothing is) (first_format none counted are) level = absurd (no-snapshot opening none held)
+
+module _ (bytes : List ℕ) (log : Log) (a b : HoldsLog bytes log) where
+  same-batches : (a.reads.batches ≡ b.reads.batches) × (a.rest ≡ b.rest)
+  same-batches = by_sides (sides bytes log log a.rest b.rest a.reads b.reads)
+    where
+      by_sides : Aligned a.reads.batches b.reads.batches a.rest b.rest → (a.reads.batches ≡ b.reads.batches) × (a.rest ≡ b.rest)
+      by_sides (same batches rest) = (batches, rest)
+      by_sides (longer c later is) = absurd (a.closed (next-open log a.rest (longer-next bytes log log a.rest b.rest a.reads b.reads c later is)))
+      by_sides (shorter c later is) = absurd (b.closed (next-open log b.rest (longer-next bytes log log b.rest a.rest b.reads a.reads c later is)))
+
+  pub HoldsLog-prop : a ≡ b
+  HoldsLog-prop =
+      let batches = same-batches.0 in
+      let rest = same-batches.1 in
+      let first = (fronts bytes log log a.rest b.rest a.reads b.reads).units in
+      let front = one-front a.reads.front b.reads.front log.opening a.reads.first b.reads.first a.reads.begins b.reads.begins first in
+      λ i. record {
+        rest = rest i;
+        reads = record {
+          front = front i;
+          first = first i;
+          begins = is_prop→PathP (λ j. IsFront (front j) log.opening (first j)) (λ j. front-prop (front j) log.opening (first j)) a.reads.begins b.reads.begins i;
+          batches = batches i;
+          each = is_prop→PathP (λ j. AllByRecursion IsCountedBatch (batches j)) (λ j. all_counted-prop (batches j)) a.reads.each b.reads.each i;
+          units = is_prop→PathP (λ j. log.units ≡ first j ++ joined (batches j)) (λ j. list-set _ _) a.reads.units b.reads.units i;
+          total = total-prop a.reads.total b.reads.total i;
+          whole = is_prop→PathP (λ j. bytes ≡ front j ++ flat_map gated (batches j) ++ rest j) (λ j. list-set _ _) a.reads.whole b.reads.whole i;
+        };
+        closed = is_prop→PathP (λ j. BeginsOpen (rest j) → ⊥) (λ j. closed-prop (rest j)) a.closed b.closed i;
+      }
+    where
+      total-prop : IsProp (log_end log ≤ LAST)
+      total-prop = hlevel props
+
+      closed-prop : (rest : List ℕ) → IsProp (BeginsOpen rest → ⊥)
+      closed-prop rest = hlevel
+
+pub LogStandsAt-prop : (tail : Tail) (log : Log) (bytes : List ℕ) → IsProp (LogStandsAt tail log bytes)
+LogStandsAt-prop tail log bytes = hlevel (props, HoldsLog-prop)
