@@ -1,11 +1,10 @@
 -- What the steps of a flush come to.
-use Rattle.std.proofs.Common.{◌≡◌, ◌≤◌, ◌<◌, ◌+◌, ◌*◌, ◌^◌, ◌∙◌, sym, ap, refl, subst, inl, ℕ, List, [], ◌∷◌, ◌++◌, length, length-append, arith}
+use Rattle.std.proofs.Common.{◌≡◌, ◌≤◌, ◌<◌, ◌+◌, ◌*◌, ◌^◌, ◌∙◌, sym, ap, refl, subst, ℕ, List, [], ◌∷◌, ◌++◌, length, length-append, arith}
 use Rattle.std.specs.List.{AllByRecursion, Contains}
 use Rattle.std.proofs.lemmas.List.Elements.{Contains-append_left, Contains-append_right, Contains-push}
 use Rattle.log_disk.specs.Disk.{Leaves}
 use Rattle.log_disk.specs.Lengths.{GrowsAtMostTo}
 use Rattle.log_disk.specs.declared.disk.LogDisk.{Ghosts}
-use Rattle.log_disk.proofs.Moments.{Leaves-now}
 use Rattle.log_record.specs.declared.rec.Rec.{Rec}
 use Rattle.log_table.specs.declared.table.Seat.{Seat}
 use Rattle.log_rule.specs.declared.view.Entry.{Entry}
@@ -15,14 +14,14 @@ use Rattle.log_rule.specs.declared.view.View.{View}
 use Rattle.log_table.specs.Seats.{Becomes, view_of}
 use Rattle.segment_file.specs.Log.{Log, with_units}
 use Rattle.segment_file.specs.Standing.{LogStands, HoldsLogOrMore, tail_after}
-use Rattle.segment_file.proofs.LogLemmas.{with_units-append}
 use Rattle.segment_file.specs.declared.scan_result.Tail.{Tail}
 use Rattle.flusher.specs.declared.flusher.Flusher.{Flusher}
 use Rattle.log_rule.specs.Sends.{AreEntries, ReadsWholeEntries}
 use Rattle.log_rule.specs.Views.{sent_to, read_to}
 use Rattle.log_record.specs.LogList.{AreUnitsOf}
 use Rattle.flusher.specs.Sending.{gathered, flushed}
-use Rattle.flusher.specs.Flushing.{MayFlush, IsSameSeat, HoldsDurablePrefix, sent_of, lsns_of}
+use Rattle.flusher.specs.Keeping.{KeepsLog, sent_by, read_by}
+use Rattle.flusher.specs.Flushing.{MayFlush, IsSameSeat, sent_of, lsns_of}
 
 -- one step after another
 pub Becomes-then : (a b c : Seat) (view : View) (f : View → View) → Becomes a b view → Becomes b c (f (view_of b)) → Becomes a c (f view)
@@ -44,46 +43,27 @@ IsSameSeat-becomes old new view becomes constants entries books = record {
   books = ap (λ m. m.0.books) becomes.me ∙ books;
 }
 
--- what an append says of every log, said of the one that was opened with the units sent
-pub Leaves-append : {D : Type 0} (g : Ghosts D) (old : Flusher D) (disk : D) (batch units : List ℕ) → batch ≡ units
-    → ((log : Log) → LogStands old.tail log (g.images old.disk.now) → Leaves g.moment g.images_since (HoldsLogOrMore log batch) old.disk.now disk)
-    → (opened : Log) → HoldsDurablePrefix g old opened
-    → Leaves g.moment g.images_since (HoldsLogOrMore (with_units opened (sent_of old)) units) old.disk.now disk
-Leaves-append g old disk batch units same moments opened stand =
-    subst (λ us. Leaves g.moment g.images_since (HoldsLogOrMore (with_units opened (sent_of old)) us) old.disk.now disk) same
-    (moments (with_units opened (sent_of old)) stand)
+-- what an append says of the batch, said of the units that it was gathered from
+pub Leaves-append : {D : Type 0} (g : Ghosts D) (old : Flusher D g) (disk : D) (batch units : List ℕ) → batch ≡ units
+    → ((log : Log) → LogStands old.tail log (g.images old.disk.now)
+    → Leaves g.moment g.images_since (HoldsLogOrMore log batch) old.disk.now disk)
+    → (log : Log) → LogStands old.tail log (g.images old.disk.now)
+    → Leaves g.moment g.images_since (HoldsLogOrMore log units) old.disk.now disk
+Leaves-append g old disk batch units same moments log stand =
+    subst (λ us. Leaves g.moment g.images_since (HoldsLogOrMore log us) old.disk.now disk) same (moments log stand)
+
+pub LogStands-append : {D : Type 0} (g : Ghosts D) (old : Flusher D g) (tail : Tail) (disk : D) (batch units : List ℕ) → batch ≡ units
+    → ((log : Log) → LogStands old.tail log (g.images old.disk.now) → LogStands tail (with_units log batch) (g.images disk))
+    → (log : Log) → LogStands old.tail log (g.images old.disk.now) → LogStands tail (with_units log units) (g.images disk)
+LogStands-append g old tail disk batch units same appended log stand =
+    subst (λ us. LogStands tail (with_units log us) (g.images disk)) same (appended log stand)
 
 -- what it says of the file's length, said of the units that the batch was gathered from
-pub GrowsAtMostTo-append : {D : Type 0} (g : Ghosts D) (old : Flusher D) (disk : D) (batch units : List ℕ) → batch ≡ units
-    → GrowsAtMostTo g (old.tail.at + 6 + 8 * length batch) old.disk.now disk → GrowsAtMostTo g (old.tail.at + 6 + 8 * length units) old.disk.now disk
+pub GrowsAtMostTo-append : {D : Type 0} (g : Ghosts D) (old : Flusher D g) (disk : D) (batch units : List ℕ) → batch ≡ units
+    → GrowsAtMostTo g (old.tail.at + 6 + 8 * length batch) old.disk.now disk
+    → GrowsAtMostTo g (old.tail.at + 6 + 8 * length units) old.disk.now disk
 GrowsAtMostTo-append g old disk batch units same grows =
     subst (λ us. GrowsAtMostTo g (old.tail.at + 6 + 8 * length us) old.disk.now disk) same grows
-
--- after an append the images hold what the view then says was sent
-pub HoldsDurablePrefix-append : {D : Type 0} (g : Ghosts D) (old : Flusher D) (tail : Tail) (disk : D) (batch units sent : List ℕ) → batch ≡ units
-    → ((log : Log) → LogStands old.tail log (g.images old.disk.now) → LogStands tail (with_units log batch) (g.images disk))
-    → sent ≡ sent_of old ++ units → (opened : Log) → HoldsDurablePrefix g old opened
-    → LogStands tail (with_units opened sent) (g.images disk)
-HoldsDurablePrefix-append g old tail disk batch units sent same appended sent_is opened stand =
-    subst (λ log. LogStands tail log (g.images disk))
-    (ap (λ us. with_units (with_units opened (sent_of old)) us) same ∙ with_units-append opened (sent_of old) units
-    ∙ ap (λ us. with_units opened us) (sym sent_is))
-    (appended (with_units opened (sent_of old)) stand)
-
--- after an append that failed they hold that, or with it what the view says was read
-pub MayHoldBatchInFlight-append : {D : Type 0} (g : Ghosts D)
-    → ((disk : D) (t : ℕ) (c : List ℕ) → t ≤ g.moment disk → g.images disk c → g.images_since disk t c)
-    → ((disk : D) (c : List ℕ) → g.images_since disk (g.moment disk) c → g.images disk c)
-    → (old : Flusher D) (disk : D) (units sent read : List ℕ)
-    → ((opened : Log) → HoldsDurablePrefix g old opened
-    → Leaves g.moment g.images_since (HoldsLogOrMore (with_units opened (sent_of old)) units) old.disk.now disk)
-    → sent ≡ sent_of old → read ≡ units
-    → (opened : Log) → HoldsDurablePrefix g old opened → (c : List ℕ) → g.images disk c → HoldsLogOrMore (with_units opened sent) read c
-MayHoldBatchInFlight-append g counts_now only_now old disk units sent read moments sent_is read_is opened stand =
-    subst (λ us. (c : List ℕ) → g.images disk c → HoldsLogOrMore (with_units opened us) read c) (sym sent_is)
-    (subst (λ us. (c : List ℕ) → g.images disk c → HoldsLogOrMore (with_units opened (sent_of old)) us c) (sym read_is)
-    (Leaves-now g.moment g.images_since g.images counts_now _ old.disk.now disk only_now
-    (λ c image. inl (stand c image).held) (moments opened stand)))
 
 -- entries whose units are the spellings of their records spell those
 spelled-records : (entries : List Entry) → AllByRecursion IsSpelled entries → AreUnitsOf (units_in entries) (records_of entries)
@@ -112,11 +92,12 @@ Reads-gathered view now from to units is unread start whole entries =
     }
 
 -- a step of the seat alone, which leaves what was sent and read as it was, leaves the flusher ready
-pub MayFlush-step : {D : Type 0} (g : Ghosts D) (f : Flusher D) (seat : Seat) (view : View) → MayFlush g f → Becomes f.seat seat view
-    → view.constants ≡ (view_of f.seat).constants → view.standing ≡ (view_of f.seat).standing → view.sending.sent ≡ sent_of f
+pub MayFlush-step : {D : Type 0} (g : Ghosts D) (f : Flusher D g) (seat : Seat) (view : View)
+    (keeps : g.honest f.disk.now → ∥ KeepsLog g f.first.value f.disk.now f.tail (sent_by seat) (read_by seat) ∥₁)
+    → MayFlush g f → Becomes f.seat seat view → view.constants ≡ (view_of f.seat).constants → view.standing ≡ (view_of f.seat).standing → view.sending.sent ≡ sent_of f
     → view.sending.read ≡ (view_of f.seat).sending.read → ((x : ℕ) → Contains (lsns_of f) x → Contains view.seen.lsns x)
-    → MayFlush g (record f { seat = seat })
-MayFlush-step g f seat view ready becomes constants standing sent read seen =
+    → MayFlush g (record f { seat = seat; keeps = keeps })
+MayFlush-step g f seat view keeps ready becomes constants standing sent read seen =
     let view_is : view_of seat ≡ view = ap (λ m. m.0) becomes.me in
     let constants_are : (view_of seat).constants ≡ (view_of f.seat).constants = ap (λ v. v.constants) view_is ∙ constants in
     let durable_is : sent_to (view_of seat) ≡ sent_to (view_of f.seat) =

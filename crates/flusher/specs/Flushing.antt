@@ -21,15 +21,15 @@ use Rattle.log_record.specs.LogList.{AreUnitsOf}
 use Rattle.flusher.specs.Sending.{gathered, flushed, asked}
 
 -- what the flusher's seat sent, and the LSNs that it saw
-abbrev pub sent_of : {D : Type 0} → Flusher D → List ℕ
+abbrev pub sent_of : {D : Type 0} → {g : Ghosts D} → Flusher D g → List ℕ
 sent_of f = (view_of f.seat).sending.sent
 
-abbrev pub lsns_of : {D : Type 0} → Flusher D → List ℕ
+abbrev pub lsns_of : {D : Type 0} → {g : Ghosts D} → Flusher D g → List ℕ
 lsns_of f = (view_of f.seat).seen.lsns
 
 -- a flush may be made: the seat is the table's first and saw durable, its last flush did not fail, the log goes on at durable
 -- behind a gate that stays shut, and the batch has room for the ring
-pub record MayFlush {D : Type 0} (g : Ghosts D) (f : Flusher D) : Type 0 where
+pub record MayFlush {D : Type 0} (g : Ghosts D) (f : Flusher D g) : Type 0 where
   pub seat : IsOf f.table.now f.seat
   pub flusher : (view_of f.seat).standing.role ≡ FlusherRole
   pub unread : (view_of f.seat).sending.read ≡ []
@@ -47,8 +47,9 @@ pub record IsSameSeat (old new : Seat) : Type 0 where
   pub entries : (view_of new).entries ≡ (view_of old).entries
   pub books : (view_of new).books ≡ (view_of old).books
 
--- it is the same table and seat, with the same workers, and the same disk with the same file, whose time went on
-pub record IsSame {D : Type 0} (g : Ghosts D) (old new : Flusher D) : Type 0 where
+-- it is the same table and seat, with the same workers, and the same disk with the same file, whose time went on; the flusher was made
+-- when it was
+pub record IsSame {D : Type 0} (g : Ghosts D) (old new : Flusher D g) : Type 0 where
   pub table : new.table ≡ old.table
   pub seat : IsSameSeat old.seat new.seat
   pub workers : (view_of new.seat).standing ≡ (view_of old.seat).standing
@@ -56,33 +57,29 @@ pub record IsSame {D : Type 0} (g : Ghosts D) (old new : Flusher D) : Type 0 whe
   pub honest : g.honest old.disk.now ↔ g.honest new.disk.now
   pub attached : g.attached new.disk.now ≡ g.attached old.disk.now
   pub later : g.moment old.disk.now ≤ g.moment new.disk.now
+  pub first : new.first.value ≡ old.first.value
 
--- each image holds the log that was opened, and then the units sent, which reach up to durable; it goes on at the tail
-abbrev pub HoldsDurablePrefix : {D : Type 0} → Ghosts D → Flusher D → Log → Type 0
-HoldsDurablePrefix g f opened = LogStands f.tail (with_units opened (sent_of f)) (g.images f.disk.now)
-
--- each image holds the log that was opened and the units sent, or these and the whole batch that was read
-abbrev pub MayHoldBatchInFlight : {D : Type 0} → Ghosts D → Flusher D → Log → Type 0
-MayHoldBatchInFlight g f opened = (c : List ℕ) → g.images f.disk.now c
-    → HoldsLogOrMore (with_units opened (sent_of f)) (view_of f.seat).sending.read c
-
--- At each moment an image holds what was sent before, or that and the whole batch; whatever log was opened. The file ends at most
--- behind the batch and the next gate.
-pub record WritesWhole {D : Type 0} (g : Ghosts D) (units : List ℕ) (old new : Flusher D) : Type 0 where
-  pub moments : g.honest old.disk.now → (opened : Log) → HoldsDurablePrefix g old opened
-      → Leaves g.moment g.images_since (HoldsLogOrMore (with_units opened (sent_of old)) units) old.disk.now new.disk.now
+-- At each moment an image holds the log that stood at the tail, or it and the whole batch. The file ends at most behind the batch and the
+-- next gate.
+pub record WritesWhole {D : Type 0} (g : Ghosts D) (units : List ℕ) (old new : Flusher D g) : Type 0 where
+  pub moments : g.honest old.disk.now → (log : Log) → LogStands old.tail log (g.images old.disk.now)
+      → Leaves g.moment g.images_since (HoldsLogOrMore log units) old.disk.now new.disk.now
   pub count : g.honest old.disk.now → Costs g 4 4 old.disk.now new.disk.now
   pub grows : g.honest old.disk.now → GrowsAtMostTo g (old.tail.at + 6 + 8 * length units) old.disk.now new.disk.now
 
+-- the seat may be another, and nothing else is
+abbrev pub ChangesSeat : {D : Type 0} → {g : Ghosts D} → Flusher D g → Flusher D g → Type 0
+ChangesSeat old new = (keeps : _) × (new ≡ record old { seat = new.seat; keeps = keeps })
+
 -- exposed, as loaded, is durable, and nothing else was done
-pub record FindsNothing {D : Type 0} (old new : Flusher D) (at : ℕ) : Type 0 where
+pub record FindsNothing {D : Type 0} {g : Ghosts D} (old new : Flusher D g) (at : ℕ) : Type 0 where
   pub durable : at ≡ sent_to (view_of old.seat)
   pub seat : Becomes old.seat new.seat (saw_exposed at (view_of old.seat))
-  pub rest : new ≡ record old { seat = new.seat }
+  pub rest : ChangesSeat old new
 
 -- the units from durable to exposed, as loaded, which spell records, are written behind the tail, and then durable is raised to
 -- their end
-pub record Sends {D : Type 0} (g : Ghosts D) (old new : Flusher D) (from to : ℕ) : Type 0 where
+pub record Sends {D : Type 0} (g : Ghosts D) (old new : Flusher D g) (from to : ℕ) : Type 0 where
   pub units : List ℕ
   pub durable : from ≡ sent_to (view_of old.seat)
   pub some : from < to
@@ -93,12 +90,13 @@ pub record Sends {D : Type 0} (g : Ghosts D) (old new : Flusher D) (from to : �
   pub batch : new.batch ≡ record old.batch { units = units }
   pub tail : new.tail ≡ tail_after old.tail units
   pub writes : WritesWhole g units old new
-  pub prefix : g.honest old.disk.now → (opened : Log) → HoldsDurablePrefix g old opened → HoldsDurablePrefix g new opened
+  pub stands : g.honest old.disk.now → (log : Log) → LogStands old.tail log (g.images old.disk.now)
+      → LogStands new.tail (with_units log units) (g.images new.disk.now)
   pub settled : g.honest old.disk.now → IsOnlyImage (g.reads new.disk.now) (g.images new.disk.now)
 
 -- the units up to exposed, as loaded, were read, no more than the ring has, which spell records, and the disk failed to take them; durable
 -- stands, and the seat keeps what it read
-pub record Loses {D : Type 0} (g : Ghosts D) (old new : Flusher D) : Type 0 where
+pub record Loses {D : Type 0} (g : Ghosts D) (old new : Flusher D g) : Type 0 where
   pub to : ℕ
   pub units : List ℕ
   pub some : 0 < length units
@@ -110,15 +108,14 @@ pub record Loses {D : Type 0} (g : Ghosts D) (old new : Flusher D) : Type 0 wher
   pub batch : new.batch ≡ record old.batch { units = units }
   pub tail : new.tail ≡ old.tail
   pub writes : WritesWhole g units old new
-  pub prefix : g.honest old.disk.now → (opened : Log) → HoldsDurablePrefix g old opened → MayHoldBatchInFlight g new opened
 
 -- a flush, by its answer
-abbrev pub Flushes : {D : Type 0} → Ghosts D → Flusher D → Flusher D → Flushed → Type 0
+abbrev pub Flushes : {D : Type 0} → (g : Ghosts D) → Flusher D g → Flusher D g → Flushed → Type 0
 Flushes g old new (Nothing at) = FindsNothing old new at
 Flushes g old new (To from to) = Sends g old new from to
 
 -- what crew held, and where that was 0, how exposed, loaded after it, stands to durable
-abbrev pub Asks : {D : Type 0} → Flusher D → Flusher D → Drained → Type 0
+abbrev pub Asks : {D : Type 0} → {g : Ghosts D} → Flusher D g → Flusher D g → Drained → Type 0
 Asks old new (At lsn) = (lsn ≡ sent_to (view_of old.seat)) × IsDrained (view_of new.seat)
     × Becomes old.seat new.seat (asked lsn (view_of old.seat))
 Asks old new (Active n) = (0 < n) × Becomes old.seat new.seat (saw_crew n (view_of old.seat))

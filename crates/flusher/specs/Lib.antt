@@ -1,3 +1,4 @@
 pub mod Flushing
 pub mod Gathering
+pub mod Keeping
 pub mod Sending

@@ -5,4 +5,4 @@ mod draining;
 mod flusher;
 mod flushing;
 
-pub use flusher::{Drained, Flushed, Flusher};
+pub use flusher::{Drained, Flushed, Flusher, FlusherParts};

@@ -9,7 +9,7 @@ pub returns-else-eq-clause-ready : goal.returns-else-eq-clause-ready
 returns-else-eq-clause-ready g c =
     let seat = Becomes-then _ _ _ _
     (saw_exposed c.load_exposed-exposed.result) c.load_crew-active.ensures.view c.load_exposed-exposed.ensures.view in
-    MayFlush-step g.D.LogDisk c.args.self.now c.load_exposed-exposed.new.seat _ c.requires.ready seat refl refl refl refl (seen-newer _ _)
+    MayFlush-step g.D.LogDisk c.args.self.now c.load_exposed-exposed.new.seat _ _ c.requires.ready seat refl refl refl refl (seen-newer _ _)
 
 pub returns-then-eq-clause-asks : goal.returns-then-eq-clause-asks
 returns-then-eq-clause-asks g c =
@@ -44,11 +44,20 @@ pub returns-then-eq-clause-ready : goal.returns-then-eq-clause-ready
 returns-then-eq-clause-ready g c =
     let seat = Becomes-then _ _ _ _
     (saw_exposed c.load_exposed-exposed.result) c.load_crew-active.ensures.view c.load_exposed-exposed.ensures.view in
-    MayFlush-step g.D.LogDisk c.args.self.now c.load_exposed-exposed.new.seat _ c.requires.ready seat refl refl refl refl (seen-newer _ _)
+    MayFlush-step g.D.LogDisk c.args.self.now c.load_exposed-exposed.new.seat _ _ c.requires.ready seat refl refl refl refl (seen-newer _ _)
 
 pub returns-then-active-gt0-clause-asks : goal.returns-then-active-gt0-clause-asks
 returns-then-active-gt0-clause-asks g c = (omega arith, c.load_crew-active.ensures.view)
 
 pub returns-then-active-gt0-clause-ready : goal.returns-then-active-gt0-clause-ready
 returns-then-active-gt0-clause-ready g c =
-    MayFlush-step g.D.LogDisk c.args.self.now c.load_crew-active.new.seat _ c.requires.ready c.load_crew-active.ensures.view refl refl refl refl (λ x seen. seen)
+    MayFlush-step g.D.LogDisk c.args.self.now c.load_crew-active.new.seat _ _ c.requires.ready c.load_crew-active.ensures.view refl refl refl refl (λ x seen. seen)
+
+pub returns-then-active-gt0-clause-rest : goal.returns-then-active-gt0-clause-rest
+returns-then-active-gt0-clause-rest g c = (_, refl)
+
+pub returns-then-eq-clause-rest : goal.returns-then-eq-clause-rest
+returns-then-eq-clause-rest g c = (_, refl)
+
+pub returns-else-eq-clause-rest : goal.returns-else-eq-clause-rest
+returns-else-eq-clause-rest g c = (_, refl)

@@ -5,8 +5,63 @@ use Rattle.log_rule.specs.declared.view.View.{View}
 use Rattle.log_table.specs.Seats.{view_of}
 use Rattle.log_rule.specs.Views.{has_sent}
 use Rattle.flusher.specs.Sending.{read_units, gathered}
-use Rattle.flusher.proofs.Flushes.{Becomes-then, GrowsAtMostTo-append, IsSameSeat-becomes, Leaves-append, Reads-gathered, sent_to-flushed, seen-flushed, HoldsDurablePrefix-append, MayHoldBatchInFlight-append, MayFlush-step, seen-newer, tail-appended, tail-place}
+use Rattle.flusher.proofs.Flushes.{Becomes-then, GrowsAtMostTo-append, IsSameSeat-becomes, Leaves-append, Reads-gathered, sent_to-flushed, seen-flushed, LogStands-append, MayFlush-step, seen-newer, tail-appended, tail-place}
+use Rattle.flusher.proofs.Keeps.{KeepsLog-same, KeepsLog-in_flight, KeepsLog-flushed}
+use mathlib.Core.Logic.{∥∥₁_map}
 use Rattle.flusher.proofs.flusher.Flusher.flush.Goals as goal
+
+-- nothing is written
+pub invariant_of-self : goal.invariant_of-self
+invariant_of-self g c =
+    let is = ap (λ m. m.0) c.load_exposed-to.ensures.view.me in
+    record {
+      keeps = λ honest.
+          ∥∥₁_map (c.args.self.now.keeps honest) (λ keeps.
+          KeepsLog-same g.D.LogDisk _ _ _ _ _ keeps _ _ (ap (λ (view : View). view.sending.sent) is) (ap (λ (view : View). view.sending.read) is));
+    }
+
+-- the batch is written, whole or not at all
+pub invariant_of-self-in-Break-1 : goal.invariant_of-self-in-Break-1
+invariant_of-self-in-Break-1 g c =
+    let apart : c.load_exposed-to.result ≢ c.args.self.now.tail.next = eqb-false _ _ (sym c.eq.ensures ∙ c.if-eq.false) in
+    let below : c.args.self.now.tail.next < c.load_exposed-to.result =
+    omega (arith, (c.load_exposed-to.ensures.flusher c.requires.ready.flusher).read, c.requires.ready.next, apart) in
+    let some : 0 < length c.gather.ensures.units = omega (arith, c.gather.ensures.whole, below) in
+    let seat = Becomes-then _ _ _ _ (read_units c.gather.ensures.units) c.load_exposed-to.ensures.view c.gather.ensures.seat in
+    let is = ap (λ m. m.0) seat.me in
+    record {
+      keeps = λ honest.
+          let before = c.append.ensures.honest.1 honest in
+          ∥∥₁_map (c.args.self.now.keeps before) (λ keeps.
+          KeepsLog-in_flight g.D.LogDisk g.met.D.LogDisk.counts_now g.met.D.LogDisk.only_now _ _ _ _ _ c.requires.ready.unread
+          _ _ _ (ap (λ batch. batch.units) c.gather.ensures.batch) some (c.append.ensures.moments before) keeps _ _ _
+          (ap (λ (view : View). view.sending.sent) is)
+          (ap (λ (view : View). view.sending.read) is ∙ ap (λ us. us ++ c.gather.ensures.units) c.requires.ready.unread));
+    }
+
+-- it is written, and counts as sent
+pub invariant_of-self-2 : goal.invariant_of-self-2
+invariant_of-self-2 g c =
+    let apart : c.load_exposed-to.result ≢ c.args.self.now.tail.next = eqb-false _ _ (sym c.eq.ensures ∙ c.if-eq.false) in
+    let below : c.args.self.now.tail.next < c.load_exposed-to.result =
+    omega (arith, (c.load_exposed-to.ensures.flusher c.requires.ready.flusher).read, c.requires.ready.next, apart) in
+    let some : 0 < length c.gather.ensures.units = omega (arith, c.gather.ensures.whole, below) in
+    let read = Becomes-then _ _ _ _ (read_units c.gather.ensures.units) c.load_exposed-to.ensures.view c.gather.ensures.seat in
+    let read_up = Reads-gathered (view_of c.args.self.now.seat) _ _ _ _ (ap (λ m. m.0) read.me) c.requires.ready.unread c.requires.ready.next
+    c.gather.ensures.whole (c.gather.ensures.entries below) in
+    let seat = Becomes-then _ _ _ _ (has_sent c.load_exposed-to.result) read c.store_durable.ensures.view in
+    let is = ap (λ m. m.0) seat.me in
+    record {
+      keeps = λ honest.
+          let before = c.append.ensures.honest.1 honest in
+          ∥∥₁_map (c.args.self.now.keeps before) (λ keeps.
+          KeepsLog-flushed g.D.LogDisk g.met.D.LogDisk.counts_now g.met.D.LogDisk.only_now _ _ _ _ _ c.requires.ready.unread
+          _ _ _ (ap (λ batch. batch.units) c.gather.ensures.batch) some (c.append.ensures.moments before) keeps _ read_up.records read_up.spelled
+          (c.in_ok-self.ensures.appended before) _ _
+          (ap (λ (view : View). view.sending.sent) is
+          ∙ ap (λ us. (view_of c.args.self.now.seat).sending.sent ++ (us ++ c.gather.ensures.units)) c.requires.ready.unread)
+          (ap (λ (view : View). view.sending.read) is));
+    }
 
 pub returns-in_err-self-clause-lost : goal.returns-in_err-self-clause-lost
 returns-in_err-self-clause-lost g c =
@@ -40,11 +95,6 @@ returns-in_err-self-clause-lost g c =
         count = c.append.ensures.count;
         grows = λ honest. GrowsAtMostTo-append g.D.LogDisk c.args.self.now _ _ _ units (c.append.ensures.length honest);
       };
-      prefix = λ honest. MayHoldBatchInFlight-append g.D.LogDisk g.met.D.LogDisk.counts_now g.met.D.LogDisk.only_now c.args.self.now _
-          c.gather.ensures.units _ _
-          (Leaves-append g.D.LogDisk c.args.self.now _ _ _ units (c.append.ensures.moments honest))
-          (ap (λ (view : View). view.sending.sent) is)
-          (ap (λ (view : View). view.sending.read) is ∙ ap (λ us. us ++ c.gather.ensures.units) c.requires.ready.unread);
     }
 
 pub returns-clause-flushed : goal.returns-clause-flushed
@@ -72,9 +122,7 @@ returns-clause-flushed g c =
         moments = λ honest. Leaves-append g.D.LogDisk c.args.self.now _ _ _ units (c.append.ensures.moments honest);
         count = c.append.ensures.count;
       };
-      prefix = λ honest. HoldsDurablePrefix-append g.D.LogDisk c.args.self.now _ _ _ _ _ units (c.in_ok-self.ensures.appended honest)
-          (ap (λ m. m.0.sending.sent) seat.me
-          ∙ ap (λ us. (view_of c.args.self.now.seat).sending.sent ++ (us ++ c.gather.ensures.units)) c.requires.ready.unread);
+      stands = λ honest. LogStands-append g.D.LogDisk c.args.self.now _ _ _ _ units (c.in_ok-self.ensures.appended honest);
       settled = λ honest. c.in_ok-self.ensures.settled honest;
     }
 
@@ -103,11 +151,11 @@ returns-clause-ready g c =
     }
 
 pub returns-then-eq-clause-flushed : goal.returns-then-eq-clause-flushed
-returns-then-eq-clause-flushed g c = record { durable = eqb-true _ _ (sym c.eq.ensures ∙ c.if-eq.true) ∙ c.requires.ready.next; seat = c.load_exposed-to.ensures.view; rest = refl }
+returns-then-eq-clause-flushed g c = record { durable = eqb-true _ _ (sym c.eq.ensures ∙ c.if-eq.true) ∙ c.requires.ready.next; seat = c.load_exposed-to.ensures.view; rest = (_, refl) }
 
 pub returns-then-eq-clause-ready : goal.returns-then-eq-clause-ready
 returns-then-eq-clause-ready g c =
-    MayFlush-step g.D.LogDisk c.args.self.now c.load_exposed-to.new.seat _ c.requires.ready c.load_exposed-to.ensures.view refl refl refl refl (seen-newer _ _)
+    MayFlush-step g.D.LogDisk c.args.self.now c.load_exposed-to.new.seat _ _ c.requires.ready c.load_exposed-to.ensures.view refl refl refl refl (seen-newer _ _)
 
 pub returns-in_err-self-clause-cause : goal.returns-in_err-self-clause-cause
 returns-in_err-self-clause-cause g c =
@@ -134,6 +182,7 @@ returns-then-eq-clause-same g c = record {
   seat = IsSameSeat-becomes _ _ _ c.load_exposed-to.ensures.view refl refl refl;
   workers = ap (λ m. m.0.standing) c.load_exposed-to.ensures.view.me;
   disk = refl;
+  first = refl;
   honest = (λ honest. honest, λ honest. honest);
   attached = refl;
   later = omega arith;
@@ -147,6 +196,7 @@ returns-in_err-self-clause-same g c =
       seat = IsSameSeat-becomes _ _ _ seat refl refl refl;
       workers = ap (λ m. m.0.standing) seat.me;
       disk = refl;
+      first = refl;
       honest = c.append.ensures.honest;
       attached = c.append.ensures.attached;
       later = c.append.ensures.later;
@@ -161,6 +211,7 @@ returns-clause-same g c =
       seat = IsSameSeat-becomes _ _ _ seat refl refl refl;
       workers = ap (λ m. m.0.standing) seat.me;
       disk = refl;
+      first = refl;
       honest = c.append.ensures.honest;
       attached = c.append.ensures.attached;
       later = c.append.ensures.later;

@@ -1,0 +1,198 @@
+-- What a crash may leave as long as a flusher has the disk, from its making on.
+use Rattle.std.proofs.Common.{◌≡◌, ◌≤◌, ◌<◌, ◌∙◌, sym, ap, subst, inl, inr, ⊎_elim, ℕ, ◌+◌, List, [], ◌∷◌, ◌++◌, length, length-append, append_assoc, append-nil, arith}
+use Rattle.std.specs.List.{AllByRecursion}
+use Rattle.std.proofs.lemmas.List.Concat.{flat_map-append}
+use Rattle.log_disk.specs.Disk.{Leaves}
+use Rattle.log_disk.specs.declared.disk.LogDisk.{Ghosts}
+use Rattle.log_disk.proofs.Moments.{Leaves-now}
+use Rattle.log_record.specs.declared.rec.Rec.{Rec}
+use Rattle.log_record.specs.LogList.{AreUnitsOf, units_of}
+use Rattle.log_record.specs.Spelling.{spelling, IsSpellable}
+use Rattle.segment_file.specs.Log.{Log, with_units, HoldsLog}
+use Rattle.segment_file.specs.Standing.{LogStands, HoldsLogOrMore}
+use Rattle.segment_file.specs.declared.scan_result.Tail.{Tail}
+use Rattle.segment_file.proofs.LogLemmas.{with_units-append, with_units-nil}
+use Rattle.flusher.specs.Keeping.{HoldsFront, HoldsSome, KeepsLog, StandsFrom}
+
+-- the records of both parts are spellable
+pub spellable-append : (xs ys : List Rec) → AllByRecursion IsSpellable xs → AllByRecursion IsSpellable ys
+    → AllByRecursion IsSpellable (xs ++ ys)
+spellable-append [] ys first second = second
+spellable-append (x ∷ xs) ys first second = (first.0, spellable-append xs ys first.1 second)
+
+-- units of records, one list behind another
+pub AreUnitsOf-append : (us vs : List ℕ) (xs ys : List Rec) → AreUnitsOf us xs → AreUnitsOf vs ys → AreUnitsOf (us ++ vs) (xs ++ ys)
+AreUnitsOf-append us vs xs ys first second = record {
+  spellable = spellable-append xs ys first.spellable second.spellable;
+  units_are = (λ i. first.units_are i ++ second.units_are i) ∙ sym (flat_map-append spelling xs ys);
+}
+
+-- all the records are a front of them
+HoldsFront-all : (opened : Log) (records : List Rec) (c : List ℕ) → HoldsLog c (with_units opened (units_of records))
+    → HoldsFront opened records c
+HoldsFront-all opened records c held = record { front = records; rest = []; whole = sym (append-nil records); holds = held }
+
+-- a front of the first few is a front of all
+pub HoldsFront-more : (opened : Log) (records more : List Rec) (c : List ℕ) → HoldsFront opened records c
+    → HoldsFront opened (records ++ more) c
+HoldsFront-more opened records more c held = record {
+  front = held.front;
+  rest = held.rest ++ more;
+  whole = ap (λ rs. rs ++ more) held.whole ∙ append_assoc held.front held.rest more;
+  holds = held.holds;
+}
+
+-- where no batch is in flight a front of the records sent is held
+HoldsSome-front : (opened : Log) (records : List Rec) (c : List ℕ) → HoldsSome opened records [] c → HoldsFront opened records c
+HoldsSome-front opened records c held = ⊎_elim (λ front. front)
+    (λ all. HoldsFront-all opened records c (subst (HoldsLog c) (with_units-nil (with_units opened (units_of records))) all)) held
+
+module _ {D : Type 0} (g : Ghosts D) where
+  -- a flusher is made, which has sent nothing
+  pub KeepsLog-first : ((disk : D) (c : List ℕ) → g.images_since disk (g.moment disk) c → g.images disk c)
+      → (disk : D) (tail : Tail) (sent read : List ℕ) → sent ≡ [] → read ≡ [] → g.images disk (g.reads disk) → (opened : Log)
+      → LogStands tail opened (g.images disk)
+      → KeepsLog g disk disk tail sent read
+  KeepsLog-first only_now disk tail sent read unsent unread shown opened stands =
+      let none : with_units opened sent ≡ opened = ap (with_units opened) unsent ∙ with_units-nil opened in
+      let held : (c : List ℕ) → g.images disk c → HoldsLog c (with_units opened sent) =
+      λ c image. subst (HoldsLog c) (sym none) (stands c image).held in
+      record {
+        opened = opened;
+        began = λ c image. (stands c image).held;
+        shown = shown;
+        records = [];
+        spelled = record { spellable = tt; units_are = unsent };
+        later = omega arith;
+        moments = λ c since.
+            inl (HoldsFront-all opened [] c (subst (λ us. HoldsLog c (with_units opened us)) unsent (held c (only_now disk c since))));
+        now = λ c image. inl (held c image);
+        goes_on = λ _. subst (λ log. LogStands tail log (g.images disk)) (sym none) stands;
+      }
+
+  module _ (first disk : D) (tail : Tail) (sent read : List ℕ) (keeps : KeepsLog g first disk tail sent read) where
+    -- steps of the seat alone, which leave what it sent and read as it was
+    pub KeepsLog-same : (sent' read' : List ℕ) → sent' ≡ sent → read' ≡ read → KeepsLog g first disk tail sent' read'
+    KeepsLog-same sent' read' sent_is read_is =
+        subst (λ us. KeepsLog g first disk tail us read') (sym sent_is) (subst (λ us. KeepsLog g first disk tail sent us) (sym read_is) keeps)
+
+    module _ (unread : read ≡ []) where
+      -- the log that goes on at the tail
+      abbrev pub sent_log : Log
+      sent_log = with_units keeps.opened sent
+
+      stood : LogStands tail sent_log (g.images disk)
+      stood = keeps.goes_on unread
+
+      module _ (counts_now : (disk : D) (t : ℕ) (c : List ℕ) → t ≤ g.moment disk → g.images disk c → g.images_since disk t c)
+          (only_now : (disk : D) (c : List ℕ) → g.images_since disk (g.moment disk) c → g.images disk c)
+          (disk' : D) (batch : List ℕ) (some : 0 < length batch)
+          (writes : Leaves g.moment g.images_since (HoldsLogOrMore sent_log batch) disk disk') where
+        front-before : (c : List ℕ) → g.images_since disk (g.moment first) c → HoldsFront keeps.opened keeps.records c
+        front-before c was = HoldsSome-front keeps.opened keeps.records c
+            (subst (λ us. HoldsSome keeps.opened keeps.records us c) unread (keeps.moments c was))
+
+        some-written : (c : List ℕ) → HoldsLogOrMore sent_log batch c → HoldsSome keeps.opened keeps.records batch c
+        some-written c held =
+            let log_is : sent_log ≡ with_units keeps.opened (units_of keeps.records) = ap (with_units keeps.opened) keeps.spelled.units_are in
+            ⊎_elim (λ (was : HoldsLog c sent_log). inl (HoldsFront-all keeps.opened keeps.records c (subst (HoldsLog c) log_is was)))
+            (λ (all : HoldsLog c (with_units sent_log batch)). inr (subst (λ log. HoldsLog c (with_units log batch)) log_is all)) held
+
+        -- the units that were read are written, whole or not at all
+        pub KeepsLog-written : (tail' : Tail) → KeepsLog g first disk' tail' sent batch
+        KeepsLog-written tail' = record {
+          opened = keeps.opened;
+          began = keeps.began;
+          shown = keeps.shown;
+          records = keeps.records;
+          spelled = keeps.spelled;
+          later = omega (arith, keeps.later, writes.later);
+          moments = λ c since.
+              ⊎_elim (λ was. inl (front-before c was)) (λ held. some-written c held) (writes.each (g.moment first) c keeps.later since);
+          now = λ c image. Leaves-now g.moment g.images_since g.images counts_now (HoldsLogOrMore sent_log batch) disk disk' only_now
+              (λ b here. inl (stood b here).held) writes c image;
+          goes_on = λ none. absurd (omega (arith, some, ap length none));
+        }
+
+        -- they are written, and then count as sent
+        pub KeepsLog-sent : (tail' : Tail) (more : List Rec) → AreUnitsOf batch more
+            → LogStands tail' (with_units sent_log batch) (g.images disk') → KeepsLog g first disk' tail' (sent ++ batch) []
+        KeepsLog-sent tail' more spelled stands =
+            let all = keeps.records ++ more in
+            let both : AreUnitsOf (sent ++ batch) all = AreUnitsOf-append sent batch keeps.records more keeps.spelled spelled in
+            let log_is : with_units sent_log batch ≡ with_units keeps.opened (sent ++ batch) = with_units-append keeps.opened sent batch in
+            let held : (c : List ℕ) → HoldsLog c (with_units sent_log batch) → HoldsLog c (with_units keeps.opened (sent ++ batch)) =
+            λ c is. subst (HoldsLog c) log_is is in
+            let front : (c : List ℕ) → HoldsLogOrMore sent_log batch c → HoldsFront keeps.opened all c =
+            λ c is. ⊎_elim
+            (λ (was : HoldsLog c sent_log). HoldsFront-more keeps.opened keeps.records more c
+            (HoldsFront-all keeps.opened keeps.records c (subst (λ us. HoldsLog c (with_units keeps.opened us)) keeps.spelled.units_are was)))
+            (λ (now : HoldsLog c (with_units sent_log batch)). HoldsFront-all keeps.opened all c
+            (subst (λ us. HoldsLog c (with_units keeps.opened us)) both.units_are (held c now))) is in
+            record {
+              opened = keeps.opened;
+              began = keeps.began;
+              shown = keeps.shown;
+              records = all;
+              spelled = both;
+              later = omega (arith, keeps.later, writes.later);
+              moments = λ c since. inl (⊎_elim (λ was. HoldsFront-more keeps.opened keeps.records more c (front-before c was)) (λ is. front c is)
+                  (writes.each (g.moment first) c keeps.later since));
+              now = λ c image. inl (held c (stands c image).held);
+              goes_on = λ _. subst (λ log. LogStands tail' log (g.images disk')) log_is stands;
+            }
+
+module _ {D : Type 0} (g : Ghosts D)
+    (counts_now : (disk : D) (t : ℕ) (c : List ℕ) → t ≤ g.moment disk → g.images disk c → g.images_since disk t c)
+    (only_now : (disk : D) (c : List ℕ) → g.images_since disk (g.moment disk) c → g.images disk c)
+    (first disk : D) (tail : Tail) (sent read : List ℕ) (unread : read ≡ [])
+    (disk' : D) (batch units : List ℕ) (same : batch ≡ units) (some : 0 < length units)
+    (moments : (log : Log) → LogStands tail log (g.images disk) → Leaves g.moment g.images_since (HoldsLogOrMore log batch) disk disk')
+    (keeps : KeepsLog g first disk tail sent read) where
+  -- an append of the units, said of the log that was opened and what was sent
+  wrote : Leaves g.moment g.images_since (HoldsLogOrMore (with_units keeps.opened sent) units) disk disk'
+  wrote = subst (λ us. Leaves g.moment g.images_since (HoldsLogOrMore (with_units keeps.opened sent) us) disk disk') same
+      (moments (with_units keeps.opened sent) (keeps.goes_on unread))
+
+  -- the units were read, and are being written
+  pub KeepsLog-in_flight : (tail' : Tail) (sent' read' : List ℕ) → sent' ≡ sent → read' ≡ units → KeepsLog g first disk' tail' sent' read'
+  KeepsLog-in_flight tail' sent' read' sent_is read_is =
+      KeepsLog-same g first disk' tail' sent units
+      (KeepsLog-written g first disk tail sent read keeps unread counts_now only_now disk' units some wrote tail')
+      sent' read' sent_is read_is
+
+  -- they were written, and count as sent
+  pub KeepsLog-flushed : (tail' : Tail) (more : List Rec) → AreUnitsOf units more
+      → ((log : Log) → LogStands tail log (g.images disk) → LogStands tail' (with_units log batch) (g.images disk'))
+      → (sent' read' : List ℕ) → sent' ≡ sent ++ units → read' ≡ [] → KeepsLog g first disk' tail' sent' read'
+  KeepsLog-flushed tail' more spelled appended sent' read' sent_is read_is =
+      let stands = subst (λ us. LogStands tail' (with_units (with_units keeps.opened sent) us) (g.images disk')) same
+      (appended (with_units keeps.opened sent) (keeps.goes_on unread)) in
+      KeepsLog-same g first disk' tail' (sent ++ units) []
+      (KeepsLog-sent g first disk tail sent read keeps unread counts_now only_now disk' units some wrote tail' more spelled stands)
+      sent' read' sent_is read_is
+
+-- the last units that were sent stand in each image, behind those before them
+pub StandsFrom-last : {D : Type 0} (g : Ghosts D) (first disk : D) (tail : Tail) (sent read : List ℕ)
+    → KeepsLog g first disk tail sent read → read ≡ [] → (before units : List ℕ) → sent ≡ before ++ units → (from : ℕ) → tail.next ≡ from + length units
+    → (c : List ℕ) → g.images disk c → StandsFrom from units c
+StandsFrom-last g first disk tail sent read keeps unread before units split from end c image =
+    let stands = keeps.goes_on unread c image in
+    let units_are : keeps.opened.units ++ sent ≡ (keeps.opened.units ++ before) ++ (units ++ []) =
+    ap (λ us. keeps.opened.units ++ us) split ∙ sym (append_assoc keeps.opened.units before units)
+    ∙ ap (λ us. (keeps.opened.units ++ before) ++ us) (sym (append-nil units)) in
+    record {
+      log = with_units keeps.opened sent;
+      before = keeps.opened.units ++ before;
+      after = [];
+      holds = stands.held;
+      whole = units_are;
+      from_is = omega (
+        arith,
+        stands.next,
+        end,
+        ap length units_are,
+        length-append (keeps.opened.units ++ before) (units ++ []),
+        ap length (append-nil units),
+      );
+    }
