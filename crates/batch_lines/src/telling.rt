@@ -7,16 +7,41 @@ ghost use Rattle.log_record.specs.declared.rec.Rec.{Rec};
 ghost use Rattle.log_record.specs.Spelling.{header, spelling, IsSpellable, BeginsWith};
 ghost use Rattle.log_record.specs.LogList.{AreUnitsOf};
 ghost use Rattle.end_lines.specs.Telling.{TellsAll, TellsFront, ended};
+ghost use Rattle.flusher.specs.Keeping.{StandsInAll};
 
 use end_lines::{Tally, Voice, tell_record};
-use log_disk::{OutputBlock, Sink, WriteFault};
+use flusher::Flusher;
+use log_disk::{LogDisk, OutputBlock, Sink, WriteFault};
 use log_record::{COMMIT, Header, OVER, Rec, SHORT};
 use lsn_space::Lsn;
 use segment_file::Batch;
 
-/// Counts the end records of the batch, whose first unit is at this LSN, and writes a line for each. The lines go to the
+/// Counts the end records of the flusher's batch, whose first unit is at this LSN, and writes a line for each. The lines go to the
 /// sink in blocks; where a write fails, more records may have been counted than have their line.
-pub fn tell<K: Sink>(
+pub fn tell<D: LogDisk, K: Sink>(
+    flusher: &Flusher<D>,
+    from: Lsn,
+    voice: Voice,
+    sink: &mut K,
+    tally: &mut Tally,
+) -> Result<u32, WriteFault>
+    // No line is written before each image holds the record that it tells of.
+    requires held { StandsInAll D.LogDisk flusher.now.disk.now from flusher.now.batch.units }
+    requires spelled { (records : List Rec) × AreUnitsOf flusher.now.batch.units records }
+    requires end { from + length flusher.now.batch.units ≤ LAST }
+    requires few { tally.old.done + tally.old.refused + length flusher.now.batch.units ≤ LAST }
+    ensures told { IfOk result (λ lines. (text : List ℕ) × Appends (K.held_bytes sink.old) (K.held_bytes sink.new) text
+        × ((records : List Rec) → AreUnitsOf flusher.now.batch.units records → TellsAll voice from records text lines tally.old tally.new)) }
+    ensures front { OnErr result ((text : List ℕ) × Appends (K.held_bytes sink.old) (K.held_bytes sink.new) text
+        × ((records : List Rec) → AreUnitsOf flusher.now.batch.units records → TellsFront voice from records text tally.old tally.new)) }
+    ensures few { tally.new.done + tally.new.refused ≤ tally.old.done + tally.old.refused + length flusher.now.batch.units }
+    ensures cause { HasCause (K.faults sink.old) (K.faults sink.new) result }
+{
+    tell_batch(&flusher.batch, from, voice, sink, tally)
+}
+
+/// Counts the end records of these units, the first of which is at this LSN, and writes a line for each.
+fn tell_batch<K: Sink>(
     batch: &Batch,
     from: Lsn,
     voice: Voice,

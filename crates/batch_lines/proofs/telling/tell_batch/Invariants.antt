@@ -3,7 +3,7 @@ use Rattle.log_disk.specs.Streams.{AppendsBut}
 use Rattle.log_record.specs.declared.rec.Rec.{Rec}
 use Rattle.log_record.specs.LogList.{AreUnitsOf}
 use Rattle.batch_lines.proofs.ToldLemmas.{ToldUpTo}
-use Rattle.batch_lines.proofs.telling.tell.Given as goal
+use Rattle.batch_lines.proofs.telling.tell_batch.Given as goal
 
 abbrev pub invariant-records : goal.invariant-records
 invariant-records g l = record {

@@ -6,7 +6,7 @@ use Rattle.log_record.specs.Spelling.{spelling, BeginsWith}
 use Rattle.end_lines.specs.EndLines.{count_said}
 use Rattle.batch_lines.proofs.ToldLemmas.{size_of-some, window-within, ends-few, count_said-few, told-begins, told-none, told-more, told-still, told-part, told-all}
 use Rattle.batch_lines.proofs.HeadLemmas.{ended-silent, ended-same}
-use Rattle.batch_lines.proofs.telling.tell.Goals as goal
+use Rattle.batch_lines.proofs.telling.tell_batch.Goals as goal
 
 pub records-init : goal.records-init
 records-init g c = record {
