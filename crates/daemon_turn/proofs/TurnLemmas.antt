@@ -7,17 +7,22 @@ use Rattle.log_disk.specs.Faults.{Rose}
 use Rattle.log_record.specs.LogList.{AreUnitsOf}
 use Rattle.log_record.specs.declared.rec.Rec.{Rec}
 use Rattle.log_rule.specs.declared.view.View.{View}
-use Rattle.log_table.specs.Seats.{view_of}
+use Rattle.log_rule.specs.Views.{has_stopped}
+use Rattle.log_table.specs.declared.table.Seat.{Seat}
+use Rattle.log_table.specs.Seats.{Becomes, view_of}
 use Rattle.end_lines.specs.declared.tally.Tally.{Tally}
 use Rattle.end_lines.specs.declared.voice.Voice.{Voice}
 use Rattle.end_lines.specs.Telling.{TellsAll, TellsFront}
+use mathlib.Core.Logic.{∥∥₁_map}
 use Rattle.flusher.specs.declared.flusher.Flusher.{Flusher}
+use Rattle.flusher.specs.Keeping.{KeepsLog, StandsInAll, read_by, sent_by}
+use Rattle.flusher.proofs.Keeps.{KeepsLog-same, StandsFrom-last}
 use Rattle.flusher.specs.Flushing.{MayFlush, IsSame, FindsNothing, Sends, Loses, sent_of}
 use Rattle.daemon_turn.specs.OneTurn.{MayGoOn, Stops, FindsAll, SendsAndTells, CannotSend, CannotTell}
 
-module _ {D : Type 0} {K : Type 0} (g : Ghosts D) (h : SinkGhosts K) (voice : Voice) (old : Flusher D) (sink : K) (tally : Tally) where
+module _ {D : Type 0} {K : Type 0} (g : Ghosts D) (h : SinkGhosts K) (voice : Voice) (old : Flusher D g) (sink : K) (tally : Tally) where
   -- the flush found nothing to send
-  pub FindsAll-found : (new : Flusher D) (at : ℕ) → FindsNothing old new at → FindsAll g h voice old new sink sink tally tally
+  pub FindsAll-found : (new : Flusher D g) (at : ℕ) → FindsNothing old new at → FindsAll g h voice old new sink sink tally tally
   FindsAll-found new at finds = record {
     flush = subst (λ n. FindsNothing old new n) finds.durable finds;
     sink_is = refl;
@@ -25,7 +30,7 @@ module _ {D : Type 0} {K : Type 0} (g : Ghosts D) (h : SinkGhosts K) (voice : Vo
   }
 
   -- the lines of the batch are those of the records sent
-  pub SendsAndTells-told : (new : Flusher D) (sink' : K) (tally' : Tally) (from to lines : ℕ) → Sends g old new from to
+  pub SendsAndTells-told : (new : Flusher D g) (sink' : K) (tally' : Tally) (from to lines : ℕ) → Sends g old new from to
       → (text : List ℕ) × Appends (h.held_bytes sink) (h.held_bytes sink') text
       × ((records : List Rec) → AreUnitsOf new.batch.units records → TellsAll voice from records text lines tally tally')
       → g.faults new.disk.now ≡ g.faults old.disk.now → h.faults sink' ≡ h.faults sink
@@ -43,7 +48,7 @@ module _ {D : Type 0} {K : Type 0} (g : Ghosts D) (h : SinkGhosts K) (voice : Vo
       }
 
   -- the disk failed, and then the stop word was stored
-  pub CannotSend-stop : (lost new : Flusher D) → Loses g old lost → Stops 1 lost new
+  pub CannotSend-stop : (lost new : Flusher D g) → Loses g old lost → Stops 1 lost new
       → Rose (g.faults old.disk.now) (g.faults lost.disk.now) → CannotSend g h voice old new sink sink tally tally
   CannotSend-stop lost new flush stops rose = record {
     lost = lost;
@@ -51,11 +56,11 @@ module _ {D : Type 0} {K : Type 0} (g : Ghosts D) (h : SinkGhosts K) (voice : Vo
     stops = stops;
     sink_is = refl;
     tally_is = refl;
-    rose = ap (λ f. g.faults f.disk.now) stops.rest ∙ rose;
+    rose = ap (λ f. g.faults f.disk.now) stops.rest.1 ∙ rose;
   }
 
   -- the sink failed, and then the stop word was stored
-  pub CannotTell-stop : (sent new : Flusher D) (sink' : K) (tally' : Tally) (from to : ℕ) → Sends g old sent from to
+  pub CannotTell-stop : (sent new : Flusher D g) (sink' : K) (tally' : Tally) (from to : ℕ) → Sends g old sent from to
       → (text : List ℕ) × Appends (h.held_bytes sink) (h.held_bytes sink') text
       × ((records : List Rec) → AreUnitsOf sent.batch.units records → TellsFront voice from records text tally tally')
       → Rose (h.faults sink) (h.faults sink') → Stops 2 sent new
@@ -72,11 +77,11 @@ module _ {D : Type 0} {K : Type 0} (g : Ghosts D) (h : SinkGhosts K) (voice : Vo
         tells = subst (λ n. TellsFront voice n flush.records told.0 tally tally') sends.durable
             (told.2 flush.records (subst (λ us. AreUnitsOf us flush.records) (sym (ap (λ b. b.units) flush.batch)) flush.spelled));
         rose = rose;
-        disk_fine = ap (λ f. g.faults f.disk.now) stops.rest ∙ disk_fine;
+        disk_fine = ap (λ f. g.faults f.disk.now) stops.rest.1 ∙ disk_fine;
       }
 
 -- a further turn may be made: nothing was sent
-pub MayGoOn-found : {D : Type 0} (g : Ghosts D) (old new : Flusher D) (tally : Tally) (at : ℕ) → FindsNothing old new at → MayGoOn g old tally
+pub MayGoOn-found : {D : Type 0} (g : Ghosts D) (old new : Flusher D g) (tally : Tally) (at : ℕ) → FindsNothing old new at → MayGoOn g old tally
     → MayFlush g new → MayGoOn g new tally
 MayGoOn-found g old new tally at finds ready may =
     let is = ap (λ m. m.0) finds.seat.me in
@@ -87,7 +92,7 @@ MayGoOn-found g old new tally at finds ready may =
     }
 
 -- records were sent, and no more end records counted than they have units
-pub counted-sent : {D : Type 0} (g : Ghosts D) (old new : Flusher D) (tally tally' : Tally) (from to : ℕ) → Sends g old new from to
+pub counted-sent : {D : Type 0} (g : Ghosts D) (old new : Flusher D g) (tally tally' : Tally) (from to : ℕ) → Sends g old new from to
     → tally.done + tally.refused ≤ length (sent_of old) → tally'.done + tally'.refused ≤ (tally.done + tally.refused) + length new.batch.units
     → tally'.done + tally'.refused ≤ length (sent_of new)
 counted-sent g old new tally tally' from to sends counted few =
@@ -104,15 +109,15 @@ counted-sent g old new tally tally' from to sends counted few =
     )
 
 -- what a flush lost was not sent
-pub sent-lost : {D : Type 0} (g : Ghosts D) (old lost : Flusher D) → Loses g old lost → length (sent_of lost) ≡ length (sent_of old)
+pub sent-lost : {D : Type 0} (g : Ghosts D) (old lost : Flusher D g) → Loses g old lost → length (sent_of lost) ≡ length (sent_of old)
 sent-lost g old lost loses = ap (λ (v : View). length v.sending.sent) (ap (λ m. m.0) loses.seat.me)
 
 -- the stop word adds nothing to what was sent
-pub sent-stop : {D : Type 0} (mid new : Flusher D) (word : ℕ) → Stops word mid new → length (sent_of new) ≡ length (sent_of mid)
-sent-stop mid new word stops = ap (λ (v : View). length v.sending.sent) (ap (λ m. m.0) stops.seat.me)
+pub sent-stop : (old new : Seat) (word : ℕ) → Becomes old new (has_stopped word (view_of old)) → length (sent_by new) ≡ length (sent_by old)
+sent-stop old new word becomes = ap (λ (v : View). length v.sending.sent) (ap (λ m. m.0) becomes.me)
 
 -- or records were sent, and no more end records counted than they have units
-pub MayGoOn-sent : {D : Type 0} (g : Ghosts D) (old new : Flusher D) (tally tally' : Tally) (from to : ℕ) → Sends g old new from to → MayGoOn g old tally
+pub MayGoOn-sent : {D : Type 0} (g : Ghosts D) (old new : Flusher D g) (tally tally' : Tally) (from to : ℕ) → Sends g old new from to → MayGoOn g old tally
     → MayFlush g new → tally'.done + tally'.refused ≤ (tally.done + tally.refused) + length new.batch.units → MayGoOn g new tally'
 MayGoOn-sent g old new tally tally' from to sends ready may few =
     let is = ap (λ m. m.0) sends.seat.me in
@@ -122,13 +127,25 @@ MayGoOn-sent g old new tally tally' from to sends ready may few =
       counted = counted-sent g old new tally tally' from to sends ready.counted few;
     }
 
+-- steps of the seat alone that send and read nothing leave what the disk keeps as it was
+pub keeps-step : {D : Type 0} {g : Ghosts D} (f : Flusher D g) (seat : Seat) → sent_by seat ≡ sent_by f.seat → read_by seat ≡ read_by f.seat
+    → g.honest f.disk.now → ∥ KeepsLog g f.first.value f.disk.now f.tail (sent_by seat) (read_by seat) ∥₁
+keeps-step {g = g} f seat sent read honest =
+    ∥∥₁_map (f.keeps honest) (λ keeps. KeepsLog-same g f.first.value f.disk.now f.tail _ _ keeps _ _ sent read)
+
+pub keeps-stop : {D : Type 0} {g : Ghosts D} (f : Flusher D g) (seat : Seat) (word : ℕ) → Becomes f.seat seat (has_stopped word (view_of f.seat))
+    → g.honest f.disk.now → ∥ KeepsLog g f.first.value f.disk.now f.tail (sent_by seat) (read_by seat) ∥₁
+keeps-stop f seat word becomes =
+    let is = ap (λ m. m.0) becomes.me in
+    keeps-step f seat (ap (λ (v : View). v.sending.sent) is) (ap (λ (v : View). v.sending.read) is)
+
 -- the stop word was stored: it is the same flusher
-module _ {D : Type 0} (g : Ghosts D) (old mid new : Flusher D) (word : ℕ) (same : IsSame g old mid) (stops : Stops word mid new) where
+module _ {D : Type 0} (g : Ghosts D) (old mid new : Flusher D g) (word : ℕ) (same : IsSame g old mid) (stops : Stops word mid new) where
   pub IsSame-stop : IsSame g old new
   IsSame-stop =
       let is = ap (λ m. m.0) stops.seat.me in
       record {
-        table = ap (λ (f : Flusher D). f.table) stops.rest ∙ same.table;
+        table = ap (λ (f : Flusher D g). f.table) stops.rest.1 ∙ same.table;
         seat = record {
           table_is = stops.seat.table_is ∙ same.seat.table_is;
           slots = ap (λ m. m.1) stops.seat.me ∙ same.seat.slots;
@@ -137,8 +154,30 @@ module _ {D : Type 0} (g : Ghosts D) (old mid new : Flusher D) (word : ℕ) (sam
           books = ap (λ (v : View). v.books) is ∙ same.seat.books;
         };
         workers = ap (λ (v : View). v.standing) is ∙ same.workers;
-        disk = ap (λ (f : Flusher D). f.disk.ghost_name) stops.rest ∙ same.disk;
-        honest = subst (λ (f : Flusher D). g.honest old.disk.now ↔ g.honest f.disk.now) (sym stops.rest) same.honest;
-        attached = ap (λ (f : Flusher D). g.attached f.disk.now) stops.rest ∙ same.attached;
-        later = omega (arith, same.later, ap (λ (f : Flusher D). g.moment f.disk.now) stops.rest);
+        disk = ap (λ (f : Flusher D g). f.disk.ghost_name) stops.rest.1 ∙ same.disk;
+        honest = subst (λ (f : Flusher D g). g.honest old.disk.now ↔ g.honest f.disk.now) (sym stops.rest.1) same.honest;
+        attached = ap (λ (f : Flusher D g). g.attached f.disk.now) stops.rest.1 ∙ same.attached;
+        later = omega (arith, same.later, ap (λ (f : Flusher D g). g.moment f.disk.now) stops.rest.1);
+        first = ap (λ (f : Flusher D g). f.first.value) stops.rest.1 ∙ same.first;
       }
+
+-- what a flush sent stands in each image
+pub StandsInAll-sent : {D : Type 0} (g : Ghosts D) (old new : Flusher D g) (from to : ℕ) → MayFlush g old → MayFlush g new → Sends g old new from to
+    → StandsInAll g new.disk.now from new.batch.units
+StandsInAll-sent g old new from to was may sends honest c image =
+    let is = ap (λ m. m.0) sends.seat.me in
+    let split : sent_of new ≡ sent_of old ++ new.batch.units =
+    ap (λ (v : View). v.sending.sent) is ∙ ap (λ us. sent_of old ++ (us ++ sends.units)) was.unread
+    ∙ ap (λ us. sent_of old ++ us) (sym (ap (λ b. b.units) sends.batch)) in
+    ∥∥₁_map (new.keeps honest) (λ keeps.
+    StandsFrom-last g new.first.value new.disk.now new.tail (sent_of new) (view_of new.seat).sending.read keeps (ap (λ (v : View). v.sending.read) is)
+    (sent_of old) new.batch.units split from
+    (omega (
+      arith,
+      may.next,
+      sends.durable,
+      ap (λ (v : View). v.constants.start) is,
+      ap length split,
+      length-append (sent_of old) new.batch.units,
+    ))
+    c image)

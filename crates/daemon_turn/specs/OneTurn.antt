@@ -14,22 +14,22 @@ use Rattle.stop_word.specs.declared.fault.DaemonFault.{DaemonFault}
 use Rattle.stop_word.specs.declared.fault.DaemonFault.TheVariants.{DiskFault, WriteFault}
 use Rattle.stop_word.specs.Stopping.{stop_word}
 use Rattle.flusher.specs.declared.flusher.Flusher.{Flusher}
-use Rattle.flusher.specs.Flushing.{MayFlush, FindsNothing, Sends, Loses, sent_of}
+use Rattle.flusher.specs.Flushing.{ChangesSeat, MayFlush, FindsNothing, Sends, Loses, sent_of}
 use Rattle.daemon_turn.specs.declared.one_turn.Turn.{Turn}
 use Rattle.daemon_turn.specs.declared.one_turn.Turn.TheVariants.{Idle, Sent}
 
 -- a flush may be made, the log was not stopped, and no more end records were counted than units sent
-pub record MayGoOn {D : Type 0} (g : Ghosts D) (f : Flusher D) (tally : Tally) : Type 0 where
+pub record MayGoOn {D : Type 0} (g : Ghosts D) (f : Flusher D g) (tally : Tally) : Type 0 where
   pub flusher : MayFlush g f
   pub running : (view_of f.seat).sending.stop ≡ 0
   pub counted : tally.done + tally.refused ≤ length (sent_of f)
 
 -- the stop word was stored, and nothing else was done
-pub record Stops {D : Type 0} (word : ℕ) (old new : Flusher D) : Type 0 where
+pub record Stops {D : Type 0} {g : Ghosts D} (word : ℕ) (old new : Flusher D g) : Type 0 where
   pub seat : Becomes old.seat new.seat (has_stopped word (view_of old.seat))
-  pub rest : new ≡ record old { seat = new.seat }
+  pub rest : ChangesSeat old new
 
-module _ {D : Type 0} {K : Type 0} (g : Ghosts D) (h : SinkGhosts K) (voice : Voice) (old new : Flusher D) (sink sink' : K) (tally tally' : Tally) where
+module _ {D : Type 0} {K : Type 0} (g : Ghosts D) (h : SinkGhosts K) (voice : Voice) (old new : Flusher D g) (sink sink' : K) (tally tally' : Tally) where
   -- exposed, as loaded, is durable, and nothing else was done
   pub record FindsAll : Type 0 where
     pub flush : FindsNothing old new (sent_to (view_of old.seat))
@@ -47,7 +47,7 @@ module _ {D : Type 0} {K : Type 0} (g : Ghosts D) (h : SinkGhosts K) (voice : Vo
 
   -- the disk failed to take the records, and counted that; no line was written, and the stop word tells it
   pub record CannotSend : Type 0 where
-    pub lost : Flusher D
+    pub lost : Flusher D g
     pub flush : Loses g old lost
     pub stops : Stops (stop_word DiskFault) lost new
     pub sink_is : sink' ≡ sink
@@ -57,7 +57,7 @@ module _ {D : Type 0} {K : Type 0} (g : Ghosts D) (h : SinkGhosts K) (voice : Vo
   -- the records were sent, and then the sink failed to take the lines, and counted that; the stop word tells it
   pub record CannotTell : Type 0 where
     pub to : ℕ
-    pub sent : Flusher D
+    pub sent : Flusher D g
     pub flush : Sends g old sent (sent_to (view_of old.seat)) to
     pub stops : Stops (stop_word WriteFault) sent new
     pub text : List ℕ

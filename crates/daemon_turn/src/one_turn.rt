@@ -42,7 +42,7 @@ pub fn make_turn<D: LogDisk, K: Sink>(
     let Flushed::To { from, to } = flushed else {
         return Ok(Turn::Idle);
     };
-    let told = tell(&flusher.batch, from, voice, sink, tally);
+    let told = tell(flusher, from, voice, sink, tally);
     match told {
         Ok(lines) => Ok(Turn::Sent { lines, to }),
         Err(_) => Err(tell_fault(flusher.table, &mut flusher.seat, DaemonFault::WriteFault)),

@@ -1,23 +1,36 @@
 use Rattle.std.proofs.Common.{refl, subst, arith}
 use Rattle.flusher.specs.Flushing.{Flushes}
-use Rattle.daemon_turn.proofs.TurnLemmas.{FindsAll-found, SendsAndTells-told, CannotSend-stop, CannotTell-stop, MayGoOn-found, MayGoOn-sent, IsSame-stop, counted-sent, sent-lost, sent-stop}
+use Rattle.daemon_turn.proofs.TurnLemmas.{FindsAll-found, SendsAndTells-told, CannotSend-stop, CannotTell-stop, MayGoOn-found, MayGoOn-sent, IsSame-stop, counted-sent, sent-lost, sent-stop, keeps-stop, StandsInAll-sent}
 use Rattle.daemon_turn.proofs.one_turn.make_turn.Goals as goal
+
+pub invariant_of-flusher : goal.invariant_of-flusher
+invariant_of-flusher g c = record { keeps = keeps-stop c.flush.new.self c.tell_fault.new.seat _ c.tell_fault.ensures.stops }
+
+pub invariant_of-flusher-in-Err : goal.invariant_of-flusher-in-Err
+invariant_of-flusher-in-Err g c = record { keeps = keeps-stop c.flush.new.self c.tell_fault-in-Err.new.seat _ c.tell_fault-in-Err.ensures.stops }
+
+-- each image holds the batch before a line of it is written
+pub tell-told-requires-clause-held : goal.tell-told-requires-clause-held
+tell-told-requires-clause-held g c =
+    let sends = subst (Flushes g.D.LogDisk c.args.flusher.now c.flush.new.self) c.in-To.is c.in-Ok.ensures.flushed in
+    StandsInAll-sent g.D.LogDisk c.args.flusher.now c.flush.new.self c.in-To.from c.in-To.to c.requires.ready.flusher
+    c.in-Ok.ensures.ready sends
 
 pub returns-in_default-clause-failed : goal.returns-in_default-clause-failed
 returns-in_default-clause-failed g c =
     rw c.tell_fault.ensures.fault (CannotSend-stop g.D.LogDisk g.K.Sink c.args.voice c.args.flusher.now c.args.sink.now c.args.tally.now
-    c.flush.new.self _ c.in_default.ensures.lost record { seat = c.tell_fault.ensures.stops; rest = refl } c.in_default.ensures.cause.failed)
+    c.flush.new.self _ c.in_default.ensures.lost record { seat = c.tell_fault.ensures.stops; rest = (_, refl) } c.in_default.ensures.cause.failed)
 
 pub returns-in_default-clause-same : goal.returns-in_default-clause-same
 returns-in_default-clause-same g c =
-    IsSame-stop g.D.LogDisk c.args.flusher.now c.flush.new.self _ 1 c.flush.ensures.same record { seat = c.tell_fault.ensures.stops; rest = refl }
+    IsSame-stop g.D.LogDisk c.args.flusher.now c.flush.new.self _ 1 c.flush.ensures.same record { seat = c.tell_fault.ensures.stops; rest = (_, refl) }
 
 pub returns-in_default-clause-counted : goal.returns-in_default-clause-counted
 returns-in_default-clause-counted g c = omega (
   arith,
   c.requires.ready.counted,
   sent-lost g.D.LogDisk c.args.flusher.now c.flush.new.self c.in_default.ensures.lost,
-  sent-stop c.flush.new.self _ 1 (record { seat = c.tell_fault.ensures.stops; rest = refl }),
+  sent-stop c.flush.new.self.seat c.tell_fault.new.seat 1 c.tell_fault.ensures.stops,
 )
 
 pub returns-in_default-flushed-clause-made : goal.returns-in_default-flushed-clause-made
@@ -60,7 +73,7 @@ returns-in-Err-clause-counted g c =
     let sends = subst (Flushes g.D.LogDisk c.args.flusher.now c.flush.new.self) c.in-To.is c.in-Ok.ensures.flushed in
     let sent = counted-sent g.D.LogDisk c.args.flusher.now c.flush.new.self c.args.tally.now c.tell-told.new.tally c.in-To.from c.in-To.to sends
     c.requires.ready.counted c.tell-told.ensures.few in
-    omega (arith, sent, sent-stop c.flush.new.self _ 2 (record { seat = c.tell_fault-in-Err.ensures.stops; rest = refl }))
+    omega (arith, sent, sent-stop c.flush.new.self.seat c.tell_fault-in-Err.new.seat 2 c.tell_fault-in-Err.ensures.stops)
 
 pub returns-in-Err-clause-failed : goal.returns-in-Err-clause-failed
 returns-in-Err-clause-failed g c =
@@ -68,8 +81,8 @@ returns-in-Err-clause-failed g c =
     rw c.tell_fault-in-Err.ensures.fault
     (CannotTell-stop g.D.LogDisk g.K.Sink c.args.voice c.args.flusher.now c.args.sink.now c.args.tally.now
     c.flush.new.self _ c.tell-told.new.sink c.tell-told.new.tally c.in-To.from c.in-To.to sends c.in-Err.ensures.front c.in-Err.ensures.cause.failed
-    record { seat = c.tell_fault-in-Err.ensures.stops; rest = refl } c.in-Ok.ensures.cause.fine)
+    record { seat = c.tell_fault-in-Err.ensures.stops; rest = (_, refl) } c.in-Ok.ensures.cause.fine)
 
 pub returns-in-Err-clause-same : goal.returns-in-Err-clause-same
 returns-in-Err-clause-same g c =
-    IsSame-stop g.D.LogDisk c.args.flusher.now c.flush.new.self _ 2 c.flush.ensures.same record { seat = c.tell_fault-in-Err.ensures.stops; rest = refl }
+    IsSame-stop g.D.LogDisk c.args.flusher.now c.flush.new.self _ 2 c.flush.ensures.same record { seat = c.tell_fault-in-Err.ensures.stops; rest = (_, refl) }
