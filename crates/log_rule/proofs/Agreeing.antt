@@ -43,7 +43,7 @@ agrees-push base units unit p old last i lt lo hi =
     none at e = omega arith
 
 -- the first part's units are the first of the list
-first-units : (base : ℕ) (units : List ℕ) (p : Part) → AgreesFrom base units p → IsFull p.entry → p.entry.start ≡ base
+pub first-units : (base : ℕ) (units : List ℕ) (p : Part) → AgreesFrom base units p → IsFull p.entry → p.entry.start ≡ base
     → p.entry.size ≤ length units → take p.entry.size units ≡ p.entry.units
 first-units base units p agrees full here fits =
     ext_get_or 0 (take p.entry.size units) p.entry.units (length-take-le p.entry.size units fits ∙ sym full)
@@ -55,7 +55,7 @@ first-units base units p agrees full here fits =
     at-here i = omega (arith, here)
 
 -- the others agree with what is left of it
-rest-agrees : (base n : ℕ) (units : List ℕ) (q : Part) → n ≤ length units → AgreesFrom base units q → AgreesFrom (base + n) (drop n units) q
+pub rest-agrees : (base n : ℕ) (units : List ℕ) (q : Part) → n ≤ length units → AgreesFrom base units q → AgreesFrom (base + n) (drop n units) q
 rest-agrees base n units q fits agrees i lt lo hi =
     get_or-drop n units (q.entry.start + i - (base + n)) 0
     ∙ (ap (λ k. get_or units k 0) (there (q.entry.start + i) lo)

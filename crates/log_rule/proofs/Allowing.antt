@@ -1,7 +1,8 @@
 -- Each kind of step is one that the base crate allows.
-use Rattle.std.proofs.Common.{◌≡◌, ◌≢◌, ⊎_elim, ◌==◌, cond, ℕ, ◌+◌, ◌-◌, ◌*◌, ◌%◌, ◌^◌, ◌≤◌, ◌<◌, eqb, length, subst, sym, ap, ◌∙◌}
+use Rattle.std.proofs.Common.{◌≡◌, ◌≢◌, ⊎_elim, ◌==◌, cond, ℕ, ◌+◌, ◌-◌, ◌*◌, ◌%◌, ◌^◌, ◌≤◌, ◌<◌, eqb, length, set, subst, sym, ap, ◌∙◌}
 use prog.Atomic.{either}
 use Rattle.atomic_table.specs.Table.{Me, Allows}
+use Rattle.atomic_table.proofs.Lists.{set_here}
 use Rattle.lsn_space.specs.declared.lsn.TheConstants.{LAST}
 use Rattle.log_rule.specs.Events.{fills, flushes, look_event, looks_mark, marks, none, raises, reserves, places, Event, IsStep}
 use Rattle.log_rule.specs.declared.layout.TheConstants.{STRIDE, TAIL, EXPOSED, DURABLE, STOP, CREW, RING}
@@ -14,17 +15,20 @@ use Rattle.slot_word.specs.declared.account_word.AccountWord.{AccountWord}
 use Rattle.slot_word.specs.AccountWord.{word_of}
 use Rattle.lock_core.specs.declared.job.Job.{Job}
 use Rattle.log_rule.specs.Sends.{IsExposedToFlusher, IsDurableToFlusher, ReadsWholeEntries}
+use Rattle.log_rule.specs.Moments.{HoldsAtOnce}
+use Rattle.log_rule.specs.Opening.{HasAccounts}
 use Rattle.log_rule.specs.Sound.{HasReadStop, Ruled}
 use Rattle.log_rule.specs.Views.{saw_tail, saw_exposed, saw_durable, filled, has_read, has_sent, has_stopped, saw_stop, saw_crew}
 use Rattle.log_rule.specs.SlotViews.{after_exchange}
 use Rattle.log_rule.specs.MarkViews.{marked, saw_mark, after_raise}
 use Rattle.log_rule.specs.AccountViews.{took_job, saw_account, after_account, gave_account}
 use Rattle.log_rule.specs.CrewViews.{enrolled, retired}
+use Rattle.log_rule.specs.Words.{with_word}
 use Rattle.log_rule.proofs.Crewing.{enroll-adds, leave-subtracts}
 use Rattle.log_rule.proofs.Exposing.{exposed-looks, look-step, mark-tells}
 use Rattle.log_rule.proofs.LeaderPlacing.{place-exchange}
 use Rattle.log_rule.proofs.PieceFilling.{fill-step}
-use Rattle.log_rule.proofs.Lifting.{allowed-if_step}
+use Rattle.log_rule.proofs.Lifting.{allowed-if_step, allowed-if_told}
 use Rattle.log_rule.proofs.Looking.{tail-looks, durable-looks, stop-looks, stop-keeps, tail-tells, exposed-tells, durable-tells}
 use Rattle.log_rule.proofs.Flushing.{send-step}
 use Rattle.log_rule.proofs.Reading.{read-step, read-tells}
@@ -33,6 +37,7 @@ use Rattle.log_rule.proofs.Raising.{raise-step, raise-tells}
 use Rattle.log_rule.proofs.Stopping.{stop-stays, stop-tells, stop-step, crew-looks}
 use Rattle.log_rule.proofs.Reserving.{reserve-exchange}
 use Rattle.log_rule.proofs.Wording.{Fits, shared_tail, shared_exposed, shared_durable, shared_stop, shared_crew, in_ring, in_marks, of_account}
+use Rattle.log_rule.proofs.Viewing.{at_below}
 use Rattle.log_rule.proofs.Owing.{FitsWord, job-step, account-looks, account-tells, account-step, give-step}
 
 module _ (key : Start) (slots seat : ℕ) (me : Me (Unit {0}) View) where
@@ -119,11 +124,19 @@ module _ (key : Start) (slots seat : ℕ) (me : Me (Unit {0}) View) where
       (λ n. has_read n me.0) (λ _. none) (λ n. ReadsWholeEntries (has_read n me.0)) (read-tells key seat me.0 at ring same may)
       (λ n _. read-step key seat me.0 at ring same may n)
 
-  pub store_durable-allowed : (to : ℕ) → MaySend to me.0
-      → Allows (Ruled key) slots seat me DURABLE (λ _. to) (λ _ new. (new ≡ (has_sent to me.0, me.1)) × Unit {0})
-  store_durable-allowed to may =
-      allowed-if_step key slots seat me Durable shared_durable (λ _. to) (λ _. has_sent to me.0) (λ _. flushes to) (λ _. Unit {0})
-      (λ _ _ _ _ _. tt) (λ n _. send-step key seat me.0 to may n)
+  pub store_durable-allowed : (to : ℕ) → MaySend to me.0 → HasAccounts key
+      → Allows (Ruled key) slots seat me DURABLE (λ _. to) (λ _ new. (new ≡ (has_sent to me.0, me.1)) × HoldsAtOnce key seat (has_sent to me.0))
+  store_durable-allowed to may accounts =
+      allowed-if_told key slots seat me Durable shared_durable (λ _. to) (λ _. has_sent to me.0) (λ _. flushes to) (λ _. HoldsAtOnce key seat (has_sent to me.0))
+      (λ words views log s here n is led. record {
+        accounts = accounts;
+        words = with_word words Durable to;
+        views = set views seat (has_sent to me.0);
+        log = led.after;
+        rule = led.sound;
+        own = set_here views seat (has_sent to me.0) (at_below views seat me.0 here);
+      })
+      (λ n _. send-step key seat me.0 to may n)
 
   pub store_stop-allowed : (word : ℕ) → MayStop word me.0
       → Allows (Ruled key) slots seat me STOP (λ _. word) (λ _ new. (new ≡ (has_stopped word me.0, me.1)) × Unit {0})

@@ -1,5 +1,5 @@
 -- Seats are added and joined, and what is known where one seat has all jobs.
-use Rattle.std.proofs.Common.{◌≡◌, ◌≢◌, ◌⊎◌, ℕ, ◌+◌, ◌≤◌, ◌<◌, cond, Bool, false, List, [], ◌∷◌, ◌++◌, set, sym, refl, ap, ◌∙◌, subst, arith}
+use Rattle.std.proofs.Common.{◌≡◌, ◌≢◌, ◌⊎◌, ℕ, ◌+◌, ◌≤◌, ◌<◌, cond, Bool, false, List, [], ◌∷◌, ◌++◌, map, set, sym, refl, ap, ◌∙◌, subst, arith}
 use Rattle.std.specs.List.{AllByRecursion}
 use mathlib.Core.Option.{some}
 use lib.ListN.{get_elem?}
@@ -9,7 +9,7 @@ use Rattle.log_record.specs.declared.limits.TheConstants.{MOST_ACCOUNTS}
 use Rattle.log_record.specs.declared.rec.Placed.{Placed}
 use Rattle.log_record.specs.Spelling.{IsBalance}
 use Rattle.lock_core.specs.Sums.{BaseState}
-use Rattle.lock_core.specs.Serial.{Task, HasNoOthers, IsPartlySerialAfter}
+use Rattle.lock_core.specs.Serial.{Task, IsRunWhole, IsCutShort, HasNoOthers, IsPartlySerialAfter}
 use Rattle.log_rule.specs.declared.view.TakenJob.{TakenJob}
 use Rattle.log_rule.specs.declared.view.Books.{Books}
 use Rattle.log_rule.specs.Books.{no_books, task_of, times_held, times_taken, merging}
@@ -119,20 +119,21 @@ starts-free base words few first = record {
   };
 }
 
--- Where all jobs are one seat's, its jobs are all that the list has, each run whole or cut short.
-pub gathered : (base : BaseState) (words : ℕ → ℕ) (h : List Placed) (all : List Books) (i : ℕ) (x : Books) → get_elem? all i ≡ some x
-    → ((number : ℕ) → takers number all ≡ times_taken number x.jobs) → AccountsFollowList base words h all
-    → IsPartlySerialAfter base (Rattle.std.proofs.Common.map task_of x.jobs) h
-gathered base words h all i x here whole s = record {
-  each = along x.jobs (s.runs i x here);
-  others = λ txn none. s.others txn (whole txn ∙ untaken txn x.jobs none);
+-- Where these are all jobs that seats took, they are all that the list has, each run whole or cut short.
+pub all-jobs_run : (base : BaseState) (words : ℕ → ℕ) (h : List Placed) (all : List Books) (jobs : List TakenJob)
+    → AllByRecursion (λ (taken : TakenJob). IsRunWhole base h (task_of taken) ⊎ IsCutShort h (task_of taken)) jobs
+    → ((number : ℕ) → takers number all ≡ times_taken number jobs) → AccountsFollowList base words h all
+    → IsPartlySerialAfter base (map task_of jobs) h
+all-jobs_run base words h all jobs runs whole s = record {
+  each = along jobs runs;
+  others = λ txn none. s.others txn (whole txn ∙ untaken txn jobs none);
 }
   where
-    along : (jobs : List TakenJob) → AllByRecursion (λ (taken : TakenJob). Rattle.lock_core.specs.Serial.IsRunWhole base h (task_of taken) ⊎ Rattle.lock_core.specs.Serial.IsCutShort h (task_of taken)) jobs
-        → AllByRecursion (λ (task : Task). Rattle.lock_core.specs.Serial.IsRunWhole base h task ⊎ Rattle.lock_core.specs.Serial.IsCutShort h task) (Rattle.std.proofs.Common.map task_of jobs)
+    along : (jobs : List TakenJob) → AllByRecursion (λ (taken : TakenJob). IsRunWhole base h (task_of taken) ⊎ IsCutShort h (task_of taken)) jobs
+        → AllByRecursion (λ (task : Task). IsRunWhole base h task ⊎ IsCutShort h task) (map task_of jobs)
     along [] runs = tt
     along (job ∷ jobs) runs = (runs.0, along jobs runs.1)
 
-    untaken : (txn : ℕ) (jobs : List TakenJob) → AllByRecursion (λ (task : Task). task.number ≢ txn) (Rattle.std.proofs.Common.map task_of jobs) → times_taken txn jobs ≡ 0
+    untaken : (txn : ℕ) (jobs : List TakenJob) → AllByRecursion (λ (task : Task). task.number ≢ txn) (map task_of jobs) → times_taken txn jobs ≡ 0
     untaken txn [] none = refl
     untaken txn (job ∷ jobs) none = let zero' = none-if job.number txn none.0 in let more = untaken txn jobs none.1 in omega arith

@@ -28,7 +28,7 @@ use Rattle.log_rule.specs.Accounts.{summed, holders, takers, HasDistinctJobs, We
 use Rattle.log_rule.specs.Books.{task_of, times_held, times_taken}
 use Rattle.log_rule.specs.Closing.{HasHeardOfWorkers, IsGathered, IsLedger, IsSettled, ReadsRows, records_of, history_of, in_use}
 use Rattle.log_rule.specs.Layout.{Account, Slot, index_of}
-use Rattle.log_rule.proofs.Gathered.{gathered}
+use Rattle.log_rule.proofs.Gathered.{all-jobs_run}
 use Rattle.log_rule.specs.Log.{Part, Log, own, part_of, parts_of, IsSpelled, ranges_of, Laid, IsFull, IsFullIfReleased, AgreesFrom, IsRangeBoundary, IsEntryBoundary, SpellsRecord, records_in}
 use Rattle.log_rule.specs.Sends.{IsDrained}
 use Rattle.log_rule.specs.May.{MayClose}
@@ -258,7 +258,7 @@ module _ (key : Start) (words : Words) (views : List View) (me : ℕ) (v : View)
     ledger = λ distinct. let f = s.accounts.follows (no-job-twice distinct) in
         subst (λ h. IsLedger (base_of key) h (map task_of v.books.jobs) rows) records-are record {
           lawful = f.lawful;
-          serial = gathered (base_of key) words.account (history_in key log.parts) bs me v.books mine-shown all-jobs f;
+          serial = all-jobs_run (base_of key) words.account (history_in key log.parts) bs v.books.jobs (f.runs me v.books mine-shown) all-jobs f;
           accounts = record {
             count = reads.count ∙ same;
             range = λ account below. let up = up-to-date f account (omega (arith, reads.count, same)) in

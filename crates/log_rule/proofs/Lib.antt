@@ -48,6 +48,7 @@ pub mod Reserving
 mod Resting
 mod Roles
 mod Rows
+pub mod SentRecords
 mod Sharing
 mod Showing
 pub mod SlotAllowing

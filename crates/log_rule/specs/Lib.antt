@@ -12,6 +12,7 @@ pub mod MarkViews
 pub mod Marks
 pub mod May
 pub mod Members
+pub mod Moments
 pub mod Opening
 pub mod Roles
 pub mod Sends
