@@ -112,13 +112,35 @@ impl Play<(), View> for LoadRing {
     ghost then = { λ st old n new. (new ≡ (has_read n old.0, old.1)) × ReadsWholeEntries (has_read n old.0) };
 }
 
-pub(crate) struct StoreDurable;
+/// Who steps: the number of the seat, and what its table was made with.
+pub trait Stepper {
+    ghost use Rattle.std.specs.Prelude.{ℕ};
+    ghost use Rattle.log_rule.specs.declared.start.Start.{Start};
 
-impl Play<(), View> for StoreDurable {
+    ghost key: { Start };
+
+    ghost seat: { ℕ };
+}
+
+impl Stepper for Brand {
+    ghost use Rattle.std.specs.Prelude.{[]};
+
+    ghost key = { record { start = 0; ring = 0; slots = 0; accounts = record { rows = []; room = 0 } } };
+
+    ghost seat = { 0 };
+}
+
+/// Tells besides that the rule holds of this moment, behind the step.
+pub(crate) struct StoreDurable<S> {
+    stepper: PhantomData<S>,
+}
+
+impl<S: Stepper> Play<(), View> for StoreDurable<S> {
     ghost use Rattle.std.specs.Prelude.{◌≡◌};
+    ghost use Rattle.log_rule.specs.Moments.{HoldsAtOnce};
     ghost use Rattle.log_rule.specs.Views.{has_sent};
 
-    ghost then = { λ st old n new. (new ≡ (has_sent st.first old.0, old.1)) × Unit {0} };
+    ghost then = { λ st old n new. (new ≡ (has_sent st.first old.0, old.1)) × HoldsAtOnce S.key S.seat (has_sent st.first old.0) };
 }
 
 pub(crate) struct StoreStop;

@@ -3,14 +3,30 @@ ghost use Rattle.std.specs.Prelude.{◌≡◌, ◌≤◌, ℕ};
 ghost use Rattle.log_rule.specs.Events.{IsStep, flushes, none};
 ghost use Rattle.log_rule.specs.Layout.{Durable};
 ghost use Rattle.log_rule.specs.May.{MaySend};
+ghost use Rattle.log_rule.specs.Moments.{HoldsAtOnce};
 ghost use Rattle.log_table.specs.Seats.{IsOf, Becomes, view_of, number_of, key_of};
 ghost use Rattle.log_rule.specs.Sends.{IsDurableToFlusher};
 ghost use Rattle.log_rule.specs.Views.{saw_durable, has_sent};
 
-use crate::plays::{LoadDurable, StoreDurable};
+use crate::plays::{LoadDurable, Stepper, StoreDurable};
 use crate::table::{LogTable, Seat};
 use log_rule::DURABLE;
 use lsn_space::Lsn;
+use std::marker::Brand;
+
+/// The seat's number and what the table was made with, which a step can't see, come by the type.
+fn store_durable_as<S: Stepper>(table: &LogTable, seat: &mut Seat, to: Lsn)
+    requires seat { IsOf table.now seat.old }
+    requires next { MaySend to (view_of seat.old) }
+    requires named { (S.key ≡ key_of table.now) × (S.seat ≡ number_of seat.old) }
+    ensures view { Becomes seat.old seat.new (has_sent to (view_of seat.old)) }
+    ensures at_once { HoldsAtOnce (key_of table.now) (number_of seat.old) (has_sent to (view_of seat.old)) }
+{
+    table
+        .table
+        .shared
+        .store::<StoreDurable<S>>(&mut seat.base, DURABLE, to.units() as u64);
+}
 
 impl LogTable {
     pub fn load_durable(&self, seat: &mut Seat) -> Lsn
@@ -28,15 +44,15 @@ impl LogTable {
     }
 
     /// Tells that all units read are on the disk, which are all up to exposed as the flusher's seat
-    /// loaded it last.
+    /// loaded it last. As durable is stored the rule holds of all seats' views, with this one's as it is
+    /// then.
     pub fn store_durable(&self, seat: &mut Seat, to: Lsn)
         requires seat { IsOf self.now seat.old }
         requires next { MaySend to (view_of seat.old) }
         ensures view { Becomes seat.old seat.new (has_sent to (view_of seat.old)) }
+        ensures at_once { HoldsAtOnce (key_of self.now) (number_of seat.new) (view_of seat.new) }
         ensures event { (found : ℕ) → IsStep (key_of self.now) (number_of seat.old) Durable found to (view_of seat.old) (has_sent to (view_of seat.old)) (flushes to) }
     {
-        self.table
-            .shared
-            .store::<StoreDurable>(&mut seat.base, DURABLE, to.units() as u64);
+        store_durable_as::<Brand>(self, seat, to);
     }
 }
