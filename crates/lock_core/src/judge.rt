@@ -98,12 +98,13 @@ impl Judge {
         self.greatest
     }
 
-    /// What the Updates of a transaction say, newest first, as long as it has no end record; then there are none.
-    pub fn changes_of(&self, txn: u32) -> ArrayVec<Change, MOST_UPDATES>
+    /// What the Updates of a transaction say, newest first, as long as it has no end record; then there are none. The list is lent: what it
+    /// held is lost.
+    pub fn changes_of(&self, txn: u32, changes: &mut ArrayVec<Change, MOST_UPDATES>)
         requires taken { (opening : Opening) × (h : List Placed) × HasJudged opening self.now h }
-        ensures changes { (opening : Opening) (h : List Placed) → HasJudged opening self.now h → result.items ≡ open_changes_of txn h }
+        ensures changes { (opening : Opening) (h : List Placed) → HasJudged opening self.now h → changes.new.items ≡ open_changes_of txn h }
     {
-        self.ledger.changes_of(txn)
+        self.ledger.changes_of(txn, changes);
     }
 
     /// The accounts of the list taken: their balances and last Commits.

@@ -93,12 +93,12 @@ impl Ledger {
         self.txns.place(txn)
     }
 
-    /// What the Updates of a transaction say, newest first, as long as it has no end record; then there are none.
-    pub fn changes_of(&self, txn: u32) -> ArrayVec<Change, MOST_UPDATES>
+    /// What the Updates of a transaction say, newest first, as long as it has no end record; then there are none. The list is lent.
+    pub fn changes_of(&self, txn: u32, changes: &mut ArrayVec<Change, MOST_UPDATES>)
         requires kept { (opening : Opening) × (h : List Placed) × KeepsLedger opening self.now h }
-        ensures { (opening : Opening) (h : List Placed) → KeepsLedger opening self.now h → result.items ≡ open_changes_of txn h }
+        ensures { (opening : Opening) (h : List Placed) → KeepsLedger opening self.now h → changes.new.items ≡ open_changes_of txn h }
     {
-        self.txns.open_changes(txn)
+        self.txns.open_changes(txn, changes);
     }
 
     /// Takes the record that starts at `lsn`.
@@ -191,7 +191,8 @@ impl Ledger {
         if self.txns.update(place).count != 2 * legs {
             return Err(JudgeFault::Why(Why::Legs));
         }
-        let changes = self.txns.changes(place);
+        let mut changes = ArrayVec::new();
+        self.txns.changes(place, &mut changes);
         let changes = changes.as_slice();
         if !are_current(&self.accounts, changes) {
             return Err(JudgeFault::Why(Why::Stale));

@@ -53,24 +53,24 @@ impl Transactions {
         self.updates.at(place)
     }
 
-    /// What the Updates of a transaction say, newest first; the newest stands at this place.
-    pub fn changes(&self, place: u32) -> ArrayVec<Change, MOST_UPDATES>
+    /// What the Updates of a transaction say, newest first; the newest stands at this place. The list is lent: what it held is lost.
+    pub fn changes(&self, place: u32, changes: &mut ArrayVec<Change, MOST_UPDATES>)
         requires { (txn : ℕ) × (h : List Placed) × IsOpenAt self.now.updates place (own_records_of txn h)
             × (length (updates_of txn h) ≤ MOST_UPDATES) }
         ensures { (txn : ℕ) (h : List Placed) → IsOpenAt self.now.updates place (own_records_of txn h)
-            → result.items ≡ updates_of txn h }
+            → changes.new.items ≡ updates_of txn h }
     {
-        self.updates.chain(place)
+        self.updates.chain(place, changes);
     }
 
-    /// What the Updates of a transaction say, newest first, as long as it has no end record; then there are none.
-    pub fn open_changes(&self, txn: u32) -> ArrayVec<Change, MOST_UPDATES>
+    /// What the Updates of a transaction say, newest first, as long as it has no end record; then there are none. The list is lent.
+    pub fn open_changes(&self, txn: u32, changes: &mut ArrayVec<Change, MOST_UPDATES>)
         requires { (h : List Placed) × KeepsTransactions self.now h × (length (updates_of txn h) ≤ MOST_UPDATES) }
-        ensures { (h : List Placed) → KeepsTransactions self.now h → result.items ≡ open_changes_of txn h }
+        ensures { (h : List Placed) → KeepsTransactions self.now h → changes.new.items ≡ open_changes_of txn h }
     {
         match self.place(txn) {
-            Some(place) => self.changes(place),
-            None => ArrayVec::new(),
+            Some(place) => self.changes(place, changes),
+            None => changes.clear(),
         }
     }
 

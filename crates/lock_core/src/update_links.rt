@@ -146,18 +146,17 @@ impl UpdateLinks {
         }
     }
 
-    /// What the Updates of a transaction say, the newest of which stands at this place, newest first.
-    pub fn chain(&self, place: u32) -> ArrayVec<Change, MOST_UPDATES>
-        requires { (changes : List Change) × HasChain self.now place changes × (length changes ≤ MOST_UPDATES) }
-        ensures { HasChain self.now place result.items }
+    /// What the Updates of a transaction say, the newest of which stands at this place, newest first. The list is lent: what it held is lost.
+    pub fn chain(&self, place: u32, changes: &mut ArrayVec<Change, MOST_UPDATES>)
+        requires { (found : List Change) × HasChain self.now place found × (length found ≤ MOST_UPDATES) }
+        ensures { HasChain self.now place changes.new.items }
     {
-        let mut changes = ArrayVec::new();
+        changes.clear();
         let mut at = place;
         'links: while at != 0 {
             let link = self.at(at);
             changes.push(link.change);
             at = link.older;
         }
-        changes
     }
 }

@@ -21,8 +21,8 @@ returns-then-update-legs c = λ opening h kept. let counted = c.count.ensures in
     let some = some-taken opening c.args.self.now h kept (λ none. omega arith) in
     record { passes = (some, (tt, (fresh opening c.args.self.now h kept c.args.txn c.in-Some.ensures.above place.unended, tt))); fails = λ legs. let other = c.if-update-legs.true in absurd (omega arith) }
 
-pub changes-changes-requires : goal.changes-changes-requires
-changes-changes-requires c =
+pub changes-requires : goal.changes-requires
+changes-requires c =
     let opening = c.requires.kept.0 in let h = c.requires.kept.1 in let kept = c.requires.kept.2 in
     (c.args.txn, h, c.in-Some.ensures.unended h kept.transactions, few_updates opening h c.args.txn kept.judged.lawful)
 
@@ -30,18 +30,18 @@ pub are_current-requires : goal.are_current-requires
 are_current-requires c =
     let opening = c.requires.kept.0 in let h = c.requires.kept.1 in let kept = c.requires.kept.2 in
     updates-known opening c.args.self.now.accounts.rows h c.args.txn c.as_slice-changes.result.now kept.judged.lawful kept.judged.rows
-    (c.as_slice-changes.ensures.value ∙ c.changes-changes.ensures c.args.txn h (c.in-Some.ensures.unended h kept.transactions))
+    (c.as_slice-changes.ensures.value ∙ c.changes.ensures c.args.txn h (c.in-Some.ensures.unended h kept.transactions))
 
 pub settle-requires-clause-known : goal.settle-requires-clause-known
 settle-requires-clause-known c =
     let opening = c.requires.kept.0 in let h = c.requires.kept.1 in let kept = c.requires.kept.2 in
     updates-known opening c.args.self.now.accounts.rows h c.args.txn c.as_slice-changes.result.now kept.judged.lawful kept.judged.rows
-    (c.as_slice-changes.ensures.value ∙ c.changes-changes.ensures c.args.txn h (c.in-Some.ensures.unended h kept.transactions))
+    (c.as_slice-changes.ensures.value ∙ c.changes.ensures c.args.txn h (c.in-Some.ensures.unended h kept.transactions))
 
 pub returns-then-not-are_current : goal.returns-then-not-are_current
 returns-then-not-are_current c = λ opening h kept. let counted = c.count.ensures in let place = c.in-Some.ensures.unended h kept.transactions in
     let same = ap (λ (l : UpdateLink). l.count) c.update.ensures ∙ chain-count c.args.self.now.txns.updates kept.transactions.first c.in-Some.place (updates_of c.args.txn h) place.chain in
-    let changes = c.as_slice-changes.result.now in let are = c.as_slice-changes.ensures.value ∙ c.changes-changes.ensures c.args.txn h place in
+    let changes = c.as_slice-changes.result.now in let are = c.as_slice-changes.ensures.value ∙ c.changes.ensures c.args.txn h place in
     let long = ap length are in
     let on : IsCommitting opening h c.args.txn c.args.legs changes =
     record { some = some-taken opening c.args.self.now h kept (λ none. omega arith); above = let least = kept.least in let low = c.in-Some.ensures.above in omega arith; unended = place.unended; are = are; legs_are = omega arith } in
@@ -50,7 +50,7 @@ returns-then-not-are_current c = λ opening h kept. let counted = c.count.ensure
 pub returns-then-not-settle : goal.returns-then-not-settle
 returns-then-not-settle c = λ opening h kept. let counted = c.count.ensures in let place = c.in-Some.ensures.unended h kept.transactions in
     let same = ap (λ (l : UpdateLink). l.count) c.update.ensures ∙ chain-count c.args.self.now.txns.updates kept.transactions.first c.in-Some.place (updates_of c.args.txn h) place.chain in
-    let changes = c.as_slice-changes.result.now in let are = c.as_slice-changes.ensures.value ∙ c.changes-changes.ensures c.args.txn h place in
+    let changes = c.as_slice-changes.result.now in let are = c.as_slice-changes.ensures.value ∙ c.changes.ensures c.args.txn h place in
     let long = ap length are in
     let on : IsCommitting opening h c.args.txn c.args.legs changes =
     record { some = some-taken opening c.args.self.now h kept (λ none. omega arith); above = let least = kept.least in let low = c.in-Some.ensures.above in omega arith; unended = place.unended; are = are; legs_are = omega arith } in
@@ -59,7 +59,7 @@ returns-then-not-settle c = λ opening h kept. let counted = c.count.ensures in 
 pub returns : goal.returns
 returns c = λ opening h kept. let counted = c.count.ensures in let place = c.in-Some.ensures.unended h kept.transactions in
     let same = ap (λ (l : UpdateLink). l.count) c.update.ensures ∙ chain-count c.args.self.now.txns.updates kept.transactions.first c.in-Some.place (updates_of c.args.txn h) place.chain in
-    let changes = c.as_slice-changes.result.now in let are = c.as_slice-changes.ensures.value ∙ c.changes-changes.ensures c.args.txn h place in
+    let changes = c.as_slice-changes.result.now in let are = c.as_slice-changes.ensures.value ∙ c.changes.ensures c.args.txn h place in
     let long = ap length are in
     let on : IsCommitting opening h c.args.txn c.args.legs changes =
     record { some = some-taken opening c.args.self.now h kept (λ none. omega arith); above = let least = kept.least in let low = c.in-Some.ensures.above in omega arith; unended = place.unended; are = are; legs_are = omega arith } in

@@ -11,4 +11,4 @@ returns-in-Some c = λ h kept. let place = c.in-Some.ensures.unended h kept in
     c.changes.ensures c.args.txn h place ∙ sym (ap (λ b. cond b [] (updates_of c.args.txn h)) place.unended)
 
 pub returns-in-None : goal.returns-in-None
-returns-in-None c = λ h kept. c.new.ensures ∙ sym (ap (λ b. cond b [] (updates_of c.args.txn h)) (c.in-None.ensures.ended h kept))
+returns-in-None c = λ h kept. c.clear.ensures ∙ sym (ap (λ b. cond b [] (updates_of c.args.txn h)) (c.in-None.ensures.ended h kept))
