@@ -1,6 +1,9 @@
 pub mod FlewLemmas
+pub mod Promised
 pub mod RanLemmas
 pub mod RanTurns
+pub mod ToldSoFar
+pub mod ToldTurns
 pub mod TurnLemmas
 pub use Rattle.end_lines.proofs.LineLemmas
 pub use Rattle.batch_lines.proofs.ToldLemmas

@@ -1,6 +1,5 @@
 -- Turns one after another.
 use Rattle.std.proofs.Common.{◌≡◌, ◌≢◌, ◌∙◌, sym, ap, refl, subst, inl, inr, ℕ, ◌+◌, ◌*◌, List, [], ◌∷◌, ◌++◌, length, length-append, append_assoc, append-nil, arith, Option, Some, None}
-use Rattle.std.proofs.KnownBytes.{Appends-trans}
 use Rattle.std.proofs.lemmas.List.Concat.{flat_map-append}
 use Rattle.std.specs.List.{AllByRecursion}
 use Rattle.log_disk.specs.declared.disk.LogDisk.{Ghosts}
@@ -17,6 +16,7 @@ use Rattle.log_rule.specs.declared.view.View.{View}
 use Rattle.segment_file.specs.Log.{Log, with_units, HoldsLog}
 use Rattle.segment_file.proofs.LogLemmas.{with_units-append}
 use Rattle.segment_file.specs.Lengths.{most_end}
+use Rattle.segment_file.specs.Standing.{LogStands}
 use Rattle.flusher.specs.Flushing.{sent_of}
 use Rattle.commit_pipeline.specs.declared.daemon.Daemon.{Daemon}
 use Rattle.stop_word.specs.declared.fault.DaemonFault.{DaemonFault}
@@ -25,12 +25,14 @@ use Rattle.end_lines.specs.declared.tally.Tally.{Tally}
 use Rattle.end_lines.specs.declared.voice.Voice.{Voice}
 use Rattle.end_lines.specs.declared.voice.Voice.TheVariants.{Lines, Count}
 use Rattle.end_lines.specs.EndLines.{text_of}
-use Rattle.commit_pipeline.specs.Later.{HoldsFront, InFlight, HasReason, StopTells, extra, place_of, ring_of, Ran, Later}
+use Rattle.flusher.specs.Keeping.{HoldsFront}
+use Rattle.flusher.proofs.Keeps.{HoldsFront-more, spellable-append}
+use Rattle.commit_pipeline.specs.Later.{InFlight, HasReason, StopTells, extra, place_of, ring_of, Ran, Later}
 use Rattle.end_lines.specs.Telling.{TellsFront, counted}
-use Rattle.commit_pipeline.specs.Turning.{IsSameDaemon, durable}
+use Rattle.commit_pipeline.specs.Turning.{IsSameDaemon}
 use Rattle.end_lines.proofs.LineLemmas.{text_of-append, counted-append}
 
-pub IsSameDaemon-trans : {D : Type 0} {K : Type 0} (g : Ghosts D) (a b c : Daemon D K)
+pub IsSameDaemon-trans : {D : Type 0} {K : Type 0} {h : SinkGhosts K} (g : Ghosts D) (a b c : Daemon D K g h)
     → IsSameDaemon g a b → IsSameDaemon g b c → IsSameDaemon g a c
 IsSameDaemon-trans g a b c first second = record {
   flusher = record {
@@ -47,22 +49,15 @@ IsSameDaemon-trans g a b c first second = record {
     honest = (λ honest. second.flusher.honest.0 (first.flusher.honest.0 honest), λ honest. first.flusher.honest.1 (second.flusher.honest.1 honest));
     attached = second.flusher.attached ∙ first.flusher.attached;
     later = omega (arith, first.flusher.later, second.flusher.later);
+    first = second.flusher.first ∙ first.flusher.first;
   };
   sink = second.sink ∙ first.sink;
   voice = second.voice ∙ first.voice;
+  first = second.first ∙ first.first;
+  begun = second.begun ∙ first.begun;
 }
 
--- a front of the first few is a front of all
-HoldsFront-more : (before : Log) (more rest : List Rec) (bytes : List ℕ) → HoldsFront before more bytes
-    → HoldsFront before (more ++ rest) bytes
-HoldsFront-more before more rest bytes some = record {
-  front = some.front;
-  rest = some.rest ++ rest;
-  whole = ap (λ rs. rs ++ rest) some.whole ∙ append_assoc some.front some.rest rest;
-  holds = some.holds;
-}
-
--- so is a front of what follows the first few, with these
+-- a front of what follows the first few is, behind these, a front of all
 HoldsFront-behind : (before : Log) (done more : List Rec) (bytes : List ℕ) → HoldsFront (with_units before (units_of done)) more bytes
     → HoldsFront before (done ++ more) bytes
 HoldsFront-behind before done more bytes some = record {
@@ -73,28 +68,8 @@ HoldsFront-behind before done more bytes some = record {
       ∙ ap (λ us. with_units before us) (sym (flat_map-append spelling done some.front))) some.holds;
 }
 
--- the records of both parts are spellable
-spellable-append : (xs ys : List Rec) → AllByRecursion IsSpellable xs → AllByRecursion IsSpellable ys → AllByRecursion IsSpellable (xs ++ ys)
-spellable-append [] ys first second = second
-spellable-append (x ∷ xs) ys first second = (first.0, spellable-append xs ys first.1 second)
-
--- what is told of a front of later records, told with all before them
-TellsFront-behind : (voice : Voice) (at : ℕ) (before after : List Rec) (text more : List ℕ) (old mid new : Tally)
-    → text ≡ text_of voice at before → mid ≡ counted old before → TellsFront voice (at + length (units_of before)) after more mid new
-    → TellsFront voice at (before ++ after) (text ++ more) old new
-TellsFront-behind voice at before after text more old mid new told counts front = record {
-  told = before ++ front.told;
-  untold = front.untold;
-  whole = ap (λ rs. before ++ rs) front.whole ∙ sym (append_assoc before front.told front.untold);
-  unwritten = front.unwritten;
-  lines = text_of-append voice at before front.told ∙ ap (λ us. us ++ text_of voice (at + length (units_of before)) front.told) (sym told)
-      ∙ ap (λ us. text ++ us) front.lines ∙ sym (append_assoc text more front.unwritten);
-  some = front.some;
-  counts = front.counts ∙ ap (λ t. counted t front.told) counts ∙ sym (counted-append old before front.told);
-}
-
 -- what was written then is a front of the lines of all the records
-TellsFront-text : (voice : Voice) (at : ℕ) (records : List Rec) (text : List ℕ) (before after : Tally) → TellsFront voice at records text before after
+pub TellsFront-text : (voice : Voice) (at : ℕ) (records : List Rec) (text : List ℕ) (before after : Tally) → TellsFront voice at records text before after
     → (rest : List ℕ) × (text_of voice at records ≡ text ++ rest)
 TellsFront-text voice at records text before after front =
     let later : List ℕ = text_of voice (at + length (units_of front.told)) front.untold in (
@@ -124,7 +99,7 @@ none-in_flight fault view cut fine flight = (subst (λ f. InFlight f view cut) f
 extra-fine : (fault : Option DaemonFault) → fault ≡ None → extra fault ≡ 0
 extra-fine fault fine = ap extra fine
 
-module _ {D : Type 0} {K : Type 0} (g : Ghosts D) (h : SinkGhosts K) (a b c : Daemon D K) (first : Ran g h a b) (second : Ran g h b c) where
+module _ {D : Type 0} {K : Type 0} (g : Ghosts D) (h : SinkGhosts K) (a b c : Daemon D K g h) (first : Ran g h a b) (second : Ran g h b c) where
   fine : b.fault ≡ None
   fine = second.was_fine
 
@@ -134,55 +109,25 @@ module _ {D : Type 0} {K : Type 0} (g : Ghosts D) (h : SinkGhosts K) (a b c : Da
   no_cut : first.more ++ first.cut ≡ first.more
   no_cut = ap (λ rs. first.more ++ rs) (none-in_flight b.fault _ first.cut fine first.in_flight) ∙ append-nil first.more
 
-  place : durable b ≡ durable a + length (units_of first.more)
-  place = omega (
-    arith,
-    ap (λ (k : Constants). k.start) first.constants,
-    ap length first.sent,
-    length-append (sent_of a.flusher) (units_of first.more),
-  )
-
-  moved : (opened : Log) → with_units (with_units opened (sent_of a.flusher)) (units_of first.more) ≡ with_units opened (sent_of b.flusher)
-  moved opened = with_units-append opened (sent_of a.flusher) (units_of first.more) ∙ ap (λ us. with_units opened us) (sym first.sent)
-
   ends : end_of (first.more ++ second.more) ≡ end_of first.more + end_of second.more
   ends = ap length (flat_map-append spelling first.more second.more) ∙ length-append (units_of first.more) (units_of second.more)
 
   records : (first.more ++ second.more) ++ second.cut ≡ first.more ++ (second.more ++ second.cut)
   records = append_assoc first.more second.more second.cut
 
-  HoldsFront-first : (opened : Log) (c' : List ℕ) → HoldsFront (with_units opened (sent_of a.flusher)) (first.more ++ first.cut) c'
-      → HoldsFront (with_units opened (sent_of a.flusher)) ((first.more ++ second.more) ++ second.cut) c'
-  HoldsFront-first opened c' some =
-      subst (λ rs. HoldsFront (with_units opened (sent_of a.flusher)) rs c') (sym records)
-      (HoldsFront-more (with_units opened (sent_of a.flusher)) first.more (second.more ++ second.cut) c'
-      (subst (λ rs. HoldsFront (with_units opened (sent_of a.flusher)) rs c') no_cut some))
+  HoldsFront-first : (log : Log) (c' : List ℕ) → HoldsFront log (first.more ++ first.cut) c' → HoldsFront log ((first.more ++ second.more) ++ second.cut) c'
+  HoldsFront-first log c' some =
+      subst (λ rs. HoldsFront log rs c') (sym records)
+      (HoldsFront-more log first.more (second.more ++ second.cut) c' (subst (λ rs. HoldsFront log rs c') no_cut some))
 
-  HoldsFront-second : (opened : Log) (c' : List ℕ) → HoldsFront (with_units opened (sent_of b.flusher)) (second.more ++ second.cut) c'
-      → HoldsFront (with_units opened (sent_of a.flusher)) ((first.more ++ second.more) ++ second.cut) c'
-  HoldsFront-second opened c' some =
-      subst (λ rs. HoldsFront (with_units opened (sent_of a.flusher)) rs c') (sym records)
-      (HoldsFront-behind (with_units opened (sent_of a.flusher)) first.more (second.more ++ second.cut) c'
-      (subst (λ log. HoldsFront log (second.more ++ second.cut) c') (sym (moved opened)) some))
+  HoldsFront-second : (log : Log) (c' : List ℕ) → HoldsFront (with_units log (units_of first.more)) (second.more ++ second.cut) c'
+      → HoldsFront log ((first.more ++ second.more) ++ second.cut) c'
+  HoldsFront-second log c' some =
+      subst (λ rs. HoldsFront log rs c') (sym records) (HoldsFront-behind log first.more (second.more ++ second.cut) c' some)
 
-  told : (first.text ≡ text_of a.voice (durable a) first.more) × (b.tally ≡ counted a.tally first.more)
-  told = first.all (kept WriteFault)
-
-  front : c.fault ≡ Some WriteFault → TellsFront a.voice (durable a) (first.more ++ second.more) (first.text ++ second.text) a.tally c.tally
-  front failed =
-      TellsFront-behind a.voice (durable a) first.more second.more first.text second.text a.tally b.tally c.tally told.0 told.1
-      (subst (λ n. TellsFront a.voice n second.more second.text b.tally c.tally) place
-      (subst (λ v. TellsFront v (durable b) second.more second.text b.tally c.tally) first.same.voice (second.front failed)))
-
-  all : c.fault ≢ Some WriteFault → (first.text ++ second.text ≡ text_of a.voice (durable a) (first.more ++ second.more))
-      × (c.tally ≡ counted a.tally (first.more ++ second.more))
-  all written =
-      let more = second.all written in (
-        (λ i. told.0 i ++ (more.0 ∙ ap (λ v. text_of v (durable b) second.more) first.same.voice
-            ∙ ap (λ n. text_of a.voice n second.more) place) i)
-            ∙ sym (text_of-append a.voice (durable a) first.more second.more),
-        more.1 ∙ ap (λ t. counted t second.more) told.1 ∙ sym (counted-append a.tally first.more second.more),
-      )
+  both : (log : Log) → with_units (with_units log (units_of first.more)) (units_of second.more) ≡ with_units log (units_of (first.more ++ second.more))
+  both log = with_units-append log (units_of first.more) (units_of second.more)
+      ∙ ap (λ us. with_units log us) (sym (flat_map-append spelling first.more second.more))
 
   stop : (fault : Option DaemonFault) → StopTells b c fault → StopTells a c fault
   stop None kept_stop = kept_stop ∙ (subst (StopTells a b) fine first.reason.stop)
@@ -201,7 +146,6 @@ module _ {D : Type 0} {K : Type 0} (g : Ghosts D) (h : SinkGhosts K) (a b c : Da
     was_fine = first.was_fine;
     more = first.more ++ second.more;
     cut = second.cut;
-    text = first.text ++ second.text;
     spellable = subst (AllByRecursion IsSpellable) (sym records)
         (spellable-append first.more (second.more ++ second.cut) (subst (AllByRecursion IsSpellable) no_cut first.spellable) second.spellable);
     same = IsSameDaemon-trans g a b c first.same second.same;
@@ -211,18 +155,16 @@ module _ {D : Type 0} {K : Type 0} (g : Ghosts D) (h : SinkGhosts K) (a b c : Da
         ∙ ap (λ us. sent_of a.flusher ++ us) (sym (flat_map-append spelling first.more second.more));
     in_flight = second.in_flight;
     may_turn = second.may_turn;
-    moments = λ honest opened stand.
+    moments = λ honest log stood.
         Leaves-trans g.moment g.images_since _ a.flusher.disk.now b.flusher.disk.now c.flusher.disk.now
-        (Leaves-weaken g.moment g.images_since _ _ a.flusher.disk.now b.flusher.disk.now (HoldsFront-first opened)
-        (first.moments honest opened stand))
-        (Leaves-weaken g.moment g.images_since _ _ b.flusher.disk.now c.flusher.disk.now (HoldsFront-second opened)
-        (second.moments (first.same.flusher.honest.0 honest) opened (first.prefix (kept DiskFault) honest opened stand)));
-    prefix = λ sent honest opened stand. second.prefix sent (first.same.flusher.honest.0 honest) opened
-        (first.prefix (kept DiskFault) honest opened stand);
-    torn = λ honest opened stand. second.torn (first.same.flusher.honest.0 honest) opened (first.prefix (kept DiskFault) honest opened stand);
-    appended = Appends-trans _ _ _ first.text second.text first.appended second.appended;
-    front = front;
-    all = all;
+        (Leaves-weaken g.moment g.images_since _ _ a.flusher.disk.now b.flusher.disk.now (HoldsFront-first log) (first.moments honest log stood))
+        (Leaves-weaken g.moment g.images_since _ _ b.flusher.disk.now c.flusher.disk.now (HoldsFront-second log)
+        (second.moments (first.same.flusher.honest.0 honest) _ (first.stands (kept DiskFault) honest log stood)));
+    stands = λ sent honest log stood.
+        subst (λ l. LogStands c.flusher.tail l (g.images c.flusher.disk.now)) (both log)
+        (second.stands sent (first.same.flusher.honest.0 honest) _ (first.stands (kept DiskFault) honest log stood));
+    tallied = λ written.
+        second.tallied written ∙ ap (λ t. counted t second.more) (first.tallied (kept WriteFault)) ∙ sym (counted-append a.tally first.more second.more);
     reason = reason;
     count = λ honest.
         let extra_none = extra-fine b.fault fine in
@@ -241,35 +183,22 @@ module _ {D : Type 0} {K : Type 0} (g : Ghosts D) (h : SinkGhosts K) (a b c : Da
         (omega (arith, ends, first.tail, same_ring)) (second.grows (first.same.flusher.honest.0 honest)));
   }
 
--- what turns wrote is a front of the lines of the records that they sent
-pub Ran-text : {D : Type 0} {K : Type 0} (g : Ghosts D) (h : SinkGhosts K) (old new : Daemon D K) (ran : Ran g h old new)
-    → (rest : List ℕ) × (text_of old.voice (durable old) ran.more ≡ ran.text ++ rest)
-Ran-text g h old new ran = by-fault new.fault refl
-  where
-    whole : new.fault ≢ Some WriteFault → (rest : List ℕ) × (text_of old.voice (durable old) ran.more ≡ ran.text ++ rest)
-    whole written = ([], sym (ran.all written).0 ∙ sym (append-nil ran.text))
-
-    by-fault : (fault : Option DaemonFault) → new.fault ≡ fault → (rest : List ℕ) × (text_of old.voice (durable old) ran.more ≡ ran.text ++ rest)
-    by-fault None is = whole (λ failed. absurd cc)
-    by-fault (Some DiskFault) is = whole (λ failed. absurd cc)
-    by-fault (Some WriteFault) is = TellsFront-text old.voice (durable old) ran.more ran.text old.tally new.tally (ran.front is)
-
-pub Later-refl : {D : Type 0} {K : Type 0} (g : Ghosts D) (h : SinkGhosts K) (d : Daemon D K) → Later g h d d
+pub Later-refl : {D : Type 0} {K : Type 0} (g : Ghosts D) (h : SinkGhosts K) (d : Daemon D K g h) → Later g h d d
 Later-refl g h d = inl refl
 
-pub Later-trans : {D : Type 0} {K : Type 0} (g : Ghosts D) (h : SinkGhosts K) (a b c : Daemon D K) → Later g h a b → Later g h b c → Later g h a c
+pub Later-trans : {D : Type 0} {K : Type 0} (g : Ghosts D) (h : SinkGhosts K) (a b c : Daemon D K g h) → Later g h a b → Later g h b c → Later g h a c
 Later-trans g h a b c (inl same) second = subst (λ d. Later g h d c) same second
 Later-trans g h a b c (inr first) (inl same) = inr (subst (λ d. Ran g h a d) (sym same) first)
 Later-trans g h a b c (inr first) (inr second) = inr (Ran-trans g h a b c first second)
 
 -- turns leave the numbers of workers as they were
-pub Later-standing : {D : Type 0} {K : Type 0} (g : Ghosts D) (h : SinkGhosts K) (a b : Daemon D K) → Later g h a b
+pub Later-standing : {D : Type 0} {K : Type 0} (g : Ghosts D) (h : SinkGhosts K) (a b : Daemon D K g h) → Later g h a b
     → (view_of b.flusher.seat).standing ≡ (view_of a.flusher.seat).standing
 Later-standing g h a b (inl same) = ap (λ d. (view_of d.flusher.seat).standing) same
 Later-standing g h a b (inr ran) = ran.same.flusher.workers
 
 -- it is the same daemon
-pub Later-same : {D : Type 0} {K : Type 0} (g : Ghosts D) (h : SinkGhosts K) (a b : Daemon D K) → Later g h a b → IsSameDaemon g a b
+pub Later-same : {D : Type 0} {K : Type 0} (g : Ghosts D) (h : SinkGhosts K) (a b : Daemon D K g h) → Later g h a b → IsSameDaemon g a b
 Later-same g h a b (inl same) = subst (IsSameDaemon g a) (sym same) (record {
   flusher = record {
     table = refl;
@@ -279,14 +208,17 @@ Later-same g h a b (inl same) = subst (IsSameDaemon g a) (sym same) (record {
     honest = (λ honest. honest, λ honest. honest);
     attached = refl;
     later = omega arith;
+    first = refl;
   };
   sink = refl;
   voice = refl;
+  first = refl;
+  begun = refl;
 })
 Later-same g h a b (inr ran) = ran.same
 
 -- what befell it since nothing had, has its reason
-pub Later-reason : {D : Type 0} {K : Type 0} (g : Ghosts D) (h : SinkGhosts K) (a b : Daemon D K) → Later g h a b → a.fault ≡ None
+pub Later-reason : {D : Type 0} {K : Type 0} (g : Ghosts D) (h : SinkGhosts K) (a b : Daemon D K g h) → Later g h a b → a.fault ≡ None
     → HasReason g h a b
 Later-reason g h a b (inl same) was_fine = subst (λ d. HasReason g h a d) (sym same) (record {
   stop = subst (StopTells a a) (sym was_fine) refl;

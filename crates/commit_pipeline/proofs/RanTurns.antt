@@ -1,7 +1,5 @@
 -- One turn, and one question whether the log is drained, as what turns leave.
 use Rattle.std.proofs.Common.{◌≡◌, ◌≢◌, ◌↔◌, ◌∙◌, sym, ap, refl, subst, ℕ, ◌+◌, ◌*◌, ◌≤◌, ◌<◌, List, [], ◌∷◌, ◌++◌, length, append-nil, arith, Some, None}
-use Rattle.std.specs.Io.KnownBytes.{Appends}
-use Rattle.std.proofs.KnownBytes.{Appends-nil}
 use Rattle.log_disk.proofs.Counting.{Costs-more}
 use Rattle.log_disk.specs.declared.disk.LogDisk.{Ghosts}
 use Rattle.log_disk.specs.declared.sink.Sink.{Ghosts as SinkGhosts}
@@ -13,7 +11,7 @@ use Rattle.log_table.specs.Seats.{Becomes, view_of}
 use Rattle.flusher.specs.declared.flusher.Drained.{Drained}
 use Rattle.flusher.specs.declared.flusher.Drained.TheVariants.{At, Active, Behind}
 use Rattle.flusher.specs.declared.flusher.Flusher.{Flusher}
-use Rattle.flusher.specs.Flushing.{Asks, IsSameSeat, sent_of}
+use Rattle.flusher.specs.Flushing.{Asks, ChangesSeat, IsSameSeat, sent_of}
 use Rattle.log_record.specs.LogList.{AreUnitsOf}
 use Rattle.flusher.proofs.Flushes.{IsSameSeat-becomes}
 use Rattle.commit_pipeline.specs.declared.daemon.Daemon.{Daemon}
@@ -21,27 +19,23 @@ use Rattle.daemon_turn.specs.declared.one_turn.Turn.{Turn}
 use Rattle.daemon_turn.specs.declared.one_turn.Turn.TheVariants.{Idle, Sent}
 use Rattle.stop_word.specs.declared.fault.DaemonFault.{DaemonFault}
 use Rattle.stop_word.specs.declared.fault.DaemonFault.TheVariants.{DiskFault, WriteFault}
-use Rattle.end_lines.specs.EndLines.{text_of}
 use Rattle.commit_pipeline.specs.Later.{InFlight, HasReason, StopTells, extra, Ran}
-use Rattle.end_lines.specs.Telling.{TellsFront, counted}
-use Rattle.commit_pipeline.specs.Turning.{MayTurn, IsSameDaemon, Idles, SendsLines, LosesUnits, LosesLines, Turns, Fails, durable}
+use Rattle.end_lines.specs.Telling.{counted}
+use Rattle.commit_pipeline.specs.Turning.{ChangesFlusher, MayTurn, IsSameDaemon, Idles, SendsLines, LosesUnits, LosesLines, Turns, Fails, durable}
 use Rattle.commit_pipeline.proofs.FlewLemmas.{Flew, Flew-step, Flew-sends, Flew-loses, Flew-stop}
 use Rattle.commit_pipeline.proofs.RanLemmas.{none≢some, TellsFront-speaks}
-use Rattle.batch_lines.proofs.ToldLemmas.{text_of-none, counted-none}
+use Rattle.batch_lines.proofs.ToldLemmas.{counted-none}
 
-module _ {D : Type 0} {K : Type 0} (g : Ghosts D) (h : SinkGhosts K) (old new : Daemon D K) where
-  Ran-of : (more cut : List Rec) (text : List ℕ) (most : ℕ) → old.fault ≡ None → AllByRecursion IsSpellable (more ++ cut)
+module _ {D : Type 0} {K : Type 0} (g : Ghosts D) (h : SinkGhosts K) (old new : Daemon D K g h) where
+  Ran-of : (more cut : List Rec) (most : ℕ) → old.fault ≡ None → AllByRecursion IsSpellable (more ++ cut)
       → Flew g more cut most old.flusher new.flusher
       → IsSameDaemon g old new → InFlight new.fault (view_of new.flusher.seat) cut → (new.fault ≡ None → MayTurn g new)
-      → (new.fault ≢ Some DiskFault → cut ≡ []) → Appends (h.held_bytes old.sink.now) (h.held_bytes new.sink.now) text
-      → (new.fault ≡ Some WriteFault → TellsFront old.voice (durable old) more text old.tally new.tally)
-      → (new.fault ≢ Some WriteFault → (text ≡ text_of old.voice (durable old) more) × (new.tally ≡ counted old.tally more))
+      → (new.fault ≢ Some DiskFault → cut ≡ []) → (new.fault ≢ Some WriteFault → new.tally ≡ counted old.tally more)
       → HasReason g h old new → most ≤ 4 * length more + extra new.fault → Ran g h old new
-  Ran-of more cut text most fine spellable flew same in_flight may_turn cuts appended front all reason count = record {
+  Ran-of more cut most fine spellable flew same in_flight may_turn cuts tallied reason count = record {
     was_fine = fine;
     more = more;
     cut = cut;
-    text = text;
     spellable = spellable;
     same = same;
     constants = flew.constants;
@@ -49,24 +43,13 @@ module _ {D : Type 0} {K : Type 0} (g : Ghosts D) (h : SinkGhosts K) (old new : 
     in_flight = in_flight;
     may_turn = may_turn;
     moments = flew.moments;
-    prefix = λ sent. flew.prefix (cuts sent);
-    torn = flew.torn;
-    appended = appended;
-    front = front;
-    all = all;
+    stands = λ sent. flew.stands (cuts sent);
+    tallied = tallied;
     reason = reason;
     count = λ honest. Costs-more g most _ most _ old.flusher.disk.now new.flusher.disk.now count count (flew.count honest);
     tail = flew.tail;
     grows = flew.grows;
   }
-
-  -- of no records nothing is told
-  nothing-all : new.tally ≡ old.tally → ([] ≡ text_of old.voice (durable old) []) × (new.tally ≡ counted old.tally [])
-  nothing-all same = (text_of-none old.voice (durable old), same ∙ counted-none old.tally)
-
-  -- without a fault no line failed
-  fine-front : {T : Type 0} → new.fault ≡ None → new.fault ≡ Some WriteFault → T
-  fine-front fine failed = absurd (none≢some WriteFault (sym fine ∙ failed))
 
   -- and no fault was counted
   fine-reason : new.fault ≡ None → (view_of new.flusher.seat).sending.stop ≡ (view_of old.flusher.seat).sending.stop
@@ -82,15 +65,13 @@ module _ {D : Type 0} {K : Type 0} (g : Ghosts D) (h : SinkGhosts K) (old new : 
 
   -- the seat made steps, and nothing was sent
   Ran-quiet : MayTurn g old → Flew g [] [] 0 old.flusher new.flusher → IsSameDaemon g old new → MayTurn g new
-      → new ≡ record old { flusher = new.flusher }
+      → ChangesFlusher old.fault old new
       → (view_of new.flusher.seat).sending.stop ≡ (view_of old.flusher.seat).sending.stop
       → g.faults new.flusher.disk.now ≡ g.faults old.flusher.disk.now → Ran g h old new
   Ran-quiet ready flew same may rest stop disk_fine =
-      Ran-of [] [] [] 0 ready.fine tt flew same (fine-flight may.fine flew.read) (λ fine. may) (λ sent. refl)
-      (subst (λ (d : Daemon D K). Appends (h.held_bytes old.sink.now) (h.held_bytes d.sink.now) []) (sym rest)
-      (Appends-nil (h.held_bytes old.sink.now)))
-      (fine-front may.fine) (λ written. nothing-all (ap (λ (d : Daemon D K). d.tally) rest))
-      (fine-reason may.fine stop disk_fine (ap (λ (d : Daemon D K). h.faults d.sink.now) rest)) (omega (arith, ap extra may.fine))
+      Ran-of [] [] 0 ready.fine tt flew same (fine-flight may.fine flew.read) (λ fine. may) (λ sent. refl)
+      (λ written. ap (λ (d : Daemon D K g h). d.tally) rest.1 ∙ counted-none old.tally)
+      (fine-reason may.fine stop disk_fine (ap (λ (d : Daemon D K g h). h.faults d.sink.now) rest.1)) (omega (arith, ap extra may.fine))
 
   -- what some units spell is some record
   some-records : (units : List ℕ) (records : List Rec) → AreUnitsOf units records → 0 < length units → 1 ≤ length records
@@ -102,30 +83,27 @@ module _ {D : Type 0} {K : Type 0} (g : Ghosts D) (h : SinkGhosts K) (old new : 
       let is = ap (λ m. m.0) sent.flush.seat.me in
       let flew = Flew-sends g old.flusher new.flusher (durable old) to ready.flusher sent.flush in
       let some = some-records sent.flush.units sent.flush.records sent.flush.spelled (omega (arith, sent.flush.some, sent.flush.whole)) in
-      Ran-of sent.flush.records [] sent.text 4 ready.fine
+      Ran-of sent.flush.records [] 4 ready.fine
       (subst (AllByRecursion IsSpellable) (sym (append-nil sent.flush.records)) sent.flush.spelled.spellable) flew same
-      (fine-flight may.fine flew.read) (λ fine. may) (λ disk. refl) sent.appended
-      (fine-front may.fine) (λ written. (sent.tells.text_is, sent.tells.counts))
+      (fine-flight may.fine flew.read) (λ fine. may) (λ disk. refl) (λ written. sent.tells.counts)
       (fine-reason may.fine (ap (λ (v : View). v.sending.stop) is) sent.disk_fine sent.sink_fine)
       (omega (arith, some, ap extra may.fine))
 
   -- the disk failed
   Ran-lost : MayTurn g old → LosesUnits g old new → IsSameDaemon g old new → Ran g h old new
   Ran-lost ready lost same =
-      let fault : new.fault ≡ Some DiskFault = ap (λ (d : Daemon D K). d.fault) lost.rest in
+      let fault : new.fault ≡ Some DiskFault = ap (λ (d : Daemon D K g h). d.fault) lost.rest.1 in
       let is = ap (λ m. m.0) lost.stops.seat.me in
       let flew = Flew-stop g [] lost.flush.records 4 1 old.flusher lost.lost new.flusher
       (Flew-loses g old.flusher lost.lost ready.flusher lost.flush) lost.stops in
-      Ran-of [] lost.flush.records [] 4 ready.fine lost.flush.spelled.spellable flew same
+      Ran-of [] lost.flush.records 4 ready.fine lost.flush.spelled.spellable flew same
       (subst (λ f. InFlight f (view_of new.flusher.seat) lost.flush.records) (sym fault) flew.read)
       (λ fine. absurd (none≢some DiskFault (sym fine ∙ fault))) (λ sent. absurd (sent fault))
-      (subst (λ (d : Daemon D K). Appends (h.held_bytes old.sink.now) (h.held_bytes d.sink.now) []) (sym lost.rest)
-      (Appends-nil (h.held_bytes old.sink.now)))
-      (λ failed. absurd cc) (λ written. nothing-all (ap (λ (d : Daemon D K). d.tally) lost.rest))
+      (λ written. ap (λ (d : Daemon D K g h). d.tally) lost.rest.1 ∙ counted-none old.tally)
       (record {
         stop = subst (StopTells old new) (sym fault) (ap (λ (v : View). v.sending.stop) is);
         disk = record { counted = λ failed. lost.rose; fine = λ sent. absurd (sent fault) };
-        sink = record { counted = λ failed. absurd cc; fine = λ written. ap (λ (d : Daemon D K). h.faults d.sink.now) lost.rest };
+        sink = record { counted = λ failed. absurd cc; fine = λ written. ap (λ (d : Daemon D K g h). h.faults d.sink.now) lost.rest.1 };
       })
       (omega (arith, ap extra fault))
 
@@ -136,11 +114,10 @@ module _ {D : Type 0} {K : Type 0} (g : Ghosts D) (h : SinkGhosts K) (old new : 
       let flew = Flew-stop g lost.flush.records [] 4 2 old.flusher lost.sent new.flusher
       (Flew-sends g old.flusher lost.sent (durable old) lost.to ready.flusher lost.flush) lost.stops in
       let some = some-records lost.flush.units lost.flush.records lost.flush.spelled (omega (arith, lost.flush.some, lost.flush.whole)) in
-      Ran-of lost.flush.records [] lost.text 4 ready.fine
+      Ran-of lost.flush.records [] 4 ready.fine
       (subst (AllByRecursion IsSpellable) (sym (append-nil lost.flush.records)) lost.flush.spelled.spellable) flew same
       (subst (λ f. InFlight f (view_of new.flusher.seat) []) (sym lost.fault) (refl, flew.read))
-      (λ fine. absurd (none≢some WriteFault (sym fine ∙ lost.fault))) (λ sent. refl) lost.appended
-      (λ failed. lost.tells) (λ written. absurd (written lost.fault))
+      (λ fine. absurd (none≢some WriteFault (sym fine ∙ lost.fault))) (λ sent. refl) (λ written. absurd (written lost.fault))
       (record {
         stop = subst (StopTells old new) (sym lost.fault) (
           ap (λ (v : View). v.sending.stop) is,
@@ -151,23 +128,26 @@ module _ {D : Type 0} {K : Type 0} (g : Ghosts D) (h : SinkGhosts K) (old new : 
       })
       (omega (arith, some, ap extra lost.fault))
 
-  module _ (rest : new ≡ record old { flusher = new.flusher }) (seat_alone : new.flusher ≡ record old.flusher { seat = new.flusher.seat }) where
+  module _ (rest : ChangesFlusher old.fault old new) (seat_alone : ChangesSeat old.flusher new.flusher) where
     -- where the seat alone made steps, it is the same daemon
     IsSameDaemon-step : IsSameSeat old.flusher.seat new.flusher.seat → (view_of new.flusher.seat).standing ≡ (view_of old.flusher.seat).standing
         → IsSameDaemon g old new
     IsSameDaemon-step seat workers = record {
       flusher = record {
-        table = ap (λ (f : Flusher D). f.table) seat_alone;
+        table = ap (λ (f : Flusher D g). f.table) seat_alone.1;
         seat = seat;
         workers = workers;
-        disk = ap (λ (f : Flusher D). f.disk.ghost_name) seat_alone;
-        honest = subst (λ (f : Flusher D). g.honest old.flusher.disk.now ↔ g.honest f.disk.now) (sym seat_alone)
+        disk = ap (λ (f : Flusher D g). f.disk.ghost_name) seat_alone.1;
+        honest = subst (λ (f : Flusher D g). g.honest old.flusher.disk.now ↔ g.honest f.disk.now) (sym seat_alone.1)
             (λ honest. honest, λ honest. honest);
-        attached = ap (λ (f : Flusher D). g.attached f.disk.now) seat_alone;
-        later = omega (arith, ap (λ (f : Flusher D). g.moment f.disk.now) seat_alone);
+        attached = ap (λ (f : Flusher D g). g.attached f.disk.now) seat_alone.1;
+        later = omega (arith, ap (λ (f : Flusher D g). g.moment f.disk.now) seat_alone.1);
+        first = ap (λ (f : Flusher D g). f.first.value) seat_alone.1;
       };
-      sink = ap (λ (d : Daemon D K). d.sink.ghost_name) rest;
-      voice = ap (λ (d : Daemon D K). d.voice) rest;
+      sink = ap (λ (d : Daemon D K g h). d.sink.ghost_name) rest.1;
+      voice = ap (λ (d : Daemon D K g h). d.voice) rest.1;
+      first = ap (λ (d : Daemon D K g h). d.first.value) rest.1;
+      begun = ap (λ (d : Daemon D K g h). d.begun.value) rest.1;
     }
 
     -- the view after steps that change nothing but what was seen
@@ -184,7 +164,7 @@ module _ {D : Type 0} {K : Type 0} (g : Ghosts D) (h : SinkGhosts K) (old new : 
         (ap (λ (v : View). v.sending.sent) is ∙ sent)
         (ap (λ (v : View). v.sending.read) is ∙ read ∙ ready.flusher.unread))
         (IsSameDaemon-step (IsSameSeat-becomes _ _ view becomes constants entries books) (ap (λ (v : View). v.standing) is ∙ standing)) may rest (ap (λ (v : View). v.sending.stop) is ∙ stop)
-        (ap (λ (f : Flusher D). g.faults f.disk.now) seat_alone)
+        (ap (λ (f : Flusher D g). g.faults f.disk.now) seat_alone.1)
 
     pub Ran-asked : (answer : Drained) → Asks old.flusher new.flusher answer → MayTurn g old → MayTurn g new → Ran g h old new
     Ran-asked (At lsn) asks ready may = Ran-steps _ asks.2 ready may refl refl refl refl refl refl refl

@@ -1,7 +1,10 @@
 -- What a turn's parts come to, said of the daemon.
-use Rattle.std.proofs.Common.{◌≡◌, refl, Option, Some, None}
+use Rattle.std.proofs.Common.{◌≡◌, refl, subst, Option, Some, None}
+use mathlib.Core.Logic.{∥∥₁_prop}
+use mathlib.Core.HLevel.{is_prop→PathP}
 use Rattle.log_disk.specs.declared.disk.LogDisk.{Ghosts}
 use Rattle.log_disk.specs.declared.sink.Sink.{Ghosts as SinkGhosts}
+use Rattle.log_table.specs.Seats.{view_of}
 use Rattle.end_lines.specs.declared.tally.Tally.{Tally}
 use Rattle.stop_word.specs.declared.fault.DaemonFault.{DaemonFault}
 use Rattle.stop_word.specs.declared.fault.DaemonFault.TheVariants.{DiskFault, WriteFault}
@@ -11,19 +14,33 @@ use Rattle.daemon_turn.specs.declared.one_turn.Turn.{Turn}
 use Rattle.daemon_turn.specs.declared.one_turn.Turn.TheVariants.{Idle, Sent}
 use Rattle.daemon_turn.specs.OneTurn.{MayGoOn, Made, Failed}
 use Rattle.commit_pipeline.specs.declared.daemon.Daemon.{Daemon}
-use Rattle.commit_pipeline.specs.Turning.{MayTurn, IsSameDaemon, Turns, Fails}
+use Rattle.commit_pipeline.specs.Told.{HasTold, HasToldAll}
+use Rattle.commit_pipeline.specs.Turning.{ChangesFlusher, MayTurn, IsSameDaemon, Turns, Fails}
 
-pub MayGoOn-turn : {D : Type 0} {K : Type 0} (g : Ghosts D) (d : Daemon D K) → MayTurn g d → MayGoOn g d.flusher d.tally
+pub MayGoOn-turn : {D : Type 0} {K : Type 0} {h : SinkGhosts K} (g : Ghosts D) (d : Daemon D K g h) → MayTurn g d → MayGoOn g d.flusher d.tally
 MayGoOn-turn g d ready = record { flusher = ready.flusher; running = ready.running; counted = ready.counted }
 
-module _ {D : Type 0} {K : Type 0} (g : Ghosts D) (h : SinkGhosts K) (old : Daemon D K) (f : Flusher D) (sink : K) (tally : Tally) where
+module _ {D : Type 0} {K : Type 0} (g : Ghosts D) (h : SinkGhosts K) (old : Daemon D K g h) (f : Flusher D g) (sink : K) (tally : Tally)
+    (told : ∥ HasTold h old.first.value sink old.voice (view_of old.begun.value) (view_of f.seat) ∥₁) where
   -- the daemon with these parts, and what befell it
-  abbrev pub next : Option DaemonFault → Daemon D K
-  next fault = record old { flusher = f; sink = record old.sink { now = sink }; tally = tally; fault = fault }
+  abbrev pub next : Option DaemonFault → Daemon D K g h
+  next fault = record old { flusher = f; sink = record old.sink { now = sink }; tally = tally; fault = fault; told = told }
 
   -- where sink and tally are as they were
-  next-rest : (fault : Option DaemonFault) → sink ≡ old.sink.now → tally ≡ old.tally → next fault ≡ record old { flusher = f; fault = fault }
-  next-rest fault sink_is tally_is i = record old { flusher = f; sink = record old.sink { now = sink_is i }; tally = tally_is i; fault = fault }
+  next-rest : (fault : Option DaemonFault) → sink ≡ old.sink.now → tally ≡ old.tally → ChangesFlusher fault old (next fault)
+  next-rest fault sink_is tally_is =
+      let before = subst (λ s. ∥ HasTold h old.first.value s old.voice (view_of old.begun.value) (view_of f.seat) ∥₁) sink_is told in (
+        before,
+        λ i.
+            record old {
+              flusher = f;
+              sink = record old.sink { now = sink_is i };
+              tally = tally_is i;
+              fault = fault;
+              told = is_prop→PathP (λ j. ∥ HasTold h old.first.value (sink_is j) old.voice (view_of old.begun.value) (view_of f.seat) ∥₁)
+                  (λ j. ∥∥₁_prop) told before i;
+            },
+      )
 
   pub Turns-made : (turn : Turn) → Made g h old.voice old.flusher f old.sink.now sink old.tally tally turn → old.fault ≡ None
       → Turns g h old (next old.fault) turn
@@ -60,8 +77,9 @@ module _ {D : Type 0} {K : Type 0} (g : Ghosts D) (h : SinkGhosts K) (old : Daem
     disk_fine = lost.disk_fine;
   }
 
-  pub MayTurn-made : MayGoOn g f tally → old.fault ≡ None → MayTurn g (next old.fault)
-  MayTurn-made may fine = record { flusher = may.flusher; fine = fine; running = may.running; counted = may.counted }
+  pub MayTurn-made : MayGoOn g f tally → old.fault ≡ None
+      → HasToldAll h old.first.value sink old.voice (view_of old.begun.value) (view_of f.seat) → MayTurn g (next old.fault)
+  MayTurn-made may fine all = record { flusher = may.flusher; fine = fine; running = may.running; counted = may.counted; all_told = all }
 
   pub IsSameDaemon-made : (fault : Option DaemonFault) → IsSame g old.flusher f → IsSameDaemon g old (next fault)
-  IsSameDaemon-made fault same = record { flusher = same; sink = refl; voice = refl }
+  IsSameDaemon-made fault same = record { flusher = same; sink = refl; voice = refl; first = refl; begun = refl }

@@ -1,6 +1,6 @@
 -- What a turn of a daemon asks for, and what it leaves. `g` is what a disk shows and `h` what a sink shows; `old` and `new` are
 -- the daemon before and after.
-use Rattle.std.specs.Prelude.{◌≡◌, ℕ, ◌+◌, ◌≤◌, List, length, Some, None, ⊤}
+use Rattle.std.specs.Prelude.{◌≡◌, ℕ, ◌+◌, ◌≤◌, List, [], length, Option, Some, None, ⊤}
 use Rattle.std.specs.Io.KnownBytes.{Appends}
 use Rattle.log_disk.specs.declared.disk.LogDisk.{Ghosts}
 use Rattle.log_disk.specs.declared.sink.Sink.{Ghosts as SinkGhosts}
@@ -19,9 +19,10 @@ use Rattle.stop_word.specs.declared.fault.DaemonFault.{DaemonFault}
 use Rattle.stop_word.specs.declared.fault.DaemonFault.TheVariants.{DiskFault, WriteFault}
 use Rattle.stop_word.specs.Stopping.{stop_word}
 use Rattle.end_lines.specs.Telling.{TellsAll, TellsFront}
+use Rattle.commit_pipeline.specs.Told.{HasToldAll}
 
 -- where the next units go
-abbrev pub durable : {D : Type 0} → {K : Type 0} → Daemon D K → ℕ
+abbrev pub durable : {D : Type 0} → {K : Type 0} → {g : Ghosts D} → {h : SinkGhosts K} → Daemon D K g h → ℕ
 durable d = sent_to (view_of d.flusher.seat)
 
 -- the log has not come to its end: workers are active, or units are exposed beyond durable
@@ -31,30 +32,45 @@ GoesOn (Active n) = ⊤
 GoesOn (Behind exposed durable) = ⊤
 
 -- it has counted no more end records than units were sent
-abbrev pub HasCounted : {D : Type 0} → {K : Type 0} → Daemon D K → Type 0
+abbrev pub HasCounted : {D : Type 0} → {K : Type 0} → {g : Ghosts D} → {h : SinkGhosts K} → Daemon D K g h → Type 0
 HasCounted d = d.tally.done + d.tally.refused ≤ length (sent_of d.flusher)
 
--- a turn may be made: nothing has befallen the daemon, it has not stopped the log, and it has counted no more end records than units
--- were sent
-pub record MayTurn {D : Type 0} {K : Type 0} (g : Ghosts D) (d : Daemon D K) : Type 0 where
+-- a turn may be made: nothing has befallen the daemon, it has not stopped the log, it has counted no more end records than units were
+-- sent, and the lines of all that was sent are written
+pub record MayTurn {D : Type 0} {K : Type 0} {h : SinkGhosts K} (g : Ghosts D) (d : Daemon D K g h) : Type 0 where
   pub flusher : MayFlush g d.flusher
   pub fine : d.fault ≡ None
   pub running : (view_of d.flusher.seat).sending.stop ≡ 0
   pub counted : HasCounted d
+  pub all_told : HasToldAll h d.first.value d.sink.now d.voice (view_of d.begun.value) (view_of d.flusher.seat)
 
--- it is the same daemon, with the same disk and sink
-pub record IsSameDaemon {D : Type 0} {K : Type 0} (g : Ghosts D) (old new : Daemon D K) : Type 0 where
+-- the daemon was made just now, over a flusher that was, and nothing was sent
+pub record IsMade {D : Type 0} {K : Type 0} {g : Ghosts D} {h : SinkGhosts K} (d : Daemon D K g h) : Type 0 where
+  pub disk : d.flusher.first.value ≡ d.flusher.disk.now
+  pub sink : d.first.value ≡ d.sink.now
+  pub seat : d.begun.value ≡ d.flusher.seat
+  pub unsent : sent_of d.flusher ≡ []
+
+-- it is the same daemon, with the same disk and sink, made when it was
+pub record IsSameDaemon {D : Type 0} {K : Type 0} {h : SinkGhosts K} (g : Ghosts D) (old new : Daemon D K g h) : Type 0 where
   pub flusher : IsSame g old.flusher new.flusher
   pub sink : new.sink.ghost_name ≡ old.sink.ghost_name
   pub voice : new.voice ≡ old.voice
+  pub first : new.first.value ≡ old.first.value
+  pub begun : new.begun.value ≡ old.begun.value
+
+-- the flusher, and what befell the daemon, may be others, and nothing else is
+abbrev pub ChangesFlusher : {D : Type 0} → {K : Type 0} → {g : Ghosts D} → {h : SinkGhosts K} → Option DaemonFault → Daemon D K g h
+    → Daemon D K g h → Type 0
+ChangesFlusher fault old new = (told : _) × (new ≡ record old { flusher = new.flusher; fault = fault; told = told })
 
 -- exposed, as loaded, is durable, and nothing else was done
-pub record Idles {D : Type 0} {K : Type 0} (old new : Daemon D K) : Type 0 where
+pub record Idles {D : Type 0} {g : Ghosts D} {K : Type 0} {h : SinkGhosts K} (old new : Daemon D K g h) : Type 0 where
   pub flush : FindsNothing old.flusher new.flusher (durable old)
-  pub rest : new ≡ record old { flusher = new.flusher }
+  pub rest : ChangesFlusher old.fault old new
 
 -- records were sent, and then their lines were written; no fault was counted
-pub record SendsLines {D : Type 0} {K : Type 0} (g : Ghosts D) (h : SinkGhosts K) (old new : Daemon D K) (lines to : ℕ)
+pub record SendsLines {D : Type 0} {K : Type 0} (g : Ghosts D) (h : SinkGhosts K) (old new : Daemon D K g h) (lines to : ℕ)
     : Type 0 where
   pub flush : Sends g old.flusher new.flusher (durable old) to
   pub text : List ℕ
@@ -65,17 +81,17 @@ pub record SendsLines {D : Type 0} {K : Type 0} (g : Ghosts D) (h : SinkGhosts K
   pub sink_fine : h.faults new.sink.now ≡ h.faults old.sink.now
 
 -- the disk failed to take the records, and counted that; no line was written, and the stop word tells it
-pub record LosesUnits {D : Type 0} {K : Type 0} (g : Ghosts D) (old new : Daemon D K) : Type 0 where
-  pub lost : Flusher D
+pub record LosesUnits {D : Type 0} {K : Type 0} {h : SinkGhosts K} (g : Ghosts D) (old new : Daemon D K g h) : Type 0 where
+  pub lost : Flusher D g
   pub flush : Loses g old.flusher lost
   pub stops : Stops (stop_word DiskFault) lost new.flusher
-  pub rest : new ≡ record old { flusher = new.flusher; fault = Some DiskFault }
+  pub rest : ChangesFlusher (Some DiskFault) old new
   pub rose : Rose (g.faults old.flusher.disk.now) (g.faults new.flusher.disk.now)
 
 -- the records were sent, and then the sink failed to take the lines, and counted that; the stop word tells it
-pub record LosesLines {D : Type 0} {K : Type 0} (g : Ghosts D) (h : SinkGhosts K) (old new : Daemon D K) : Type 0 where
+pub record LosesLines {D : Type 0} {K : Type 0} (g : Ghosts D) (h : SinkGhosts K) (old new : Daemon D K g h) : Type 0 where
   pub to : ℕ
-  pub sent : Flusher D
+  pub sent : Flusher D g
   pub flush : Sends g old.flusher sent (durable old) to
   pub stops : Stops (stop_word WriteFault) sent new.flusher
   pub text : List ℕ
@@ -86,11 +102,12 @@ pub record LosesLines {D : Type 0} {K : Type 0} (g : Ghosts D) (h : SinkGhosts K
   pub disk_fine : g.faults new.flusher.disk.now ≡ g.faults old.flusher.disk.now
 
 -- a turn, by its answer
-abbrev pub Turns : {D : Type 0} → {K : Type 0} → Ghosts D → SinkGhosts K → Daemon D K → Daemon D K → Turn → Type 0
+abbrev pub Turns : {D : Type 0} → {K : Type 0} → (g : Ghosts D) → (h : SinkGhosts K) → Daemon D K g h → Daemon D K g h → Turn → Type 0
 Turns g h old new Idle = Idles old new
 Turns g h old new (Sent lines to) = SendsLines g h old new lines to
 
 -- a turn that failed, by the fault
-abbrev pub Fails : {D : Type 0} → {K : Type 0} → Ghosts D → SinkGhosts K → Daemon D K → Daemon D K → DaemonFault → Type 0
+abbrev pub Fails : {D : Type 0} → {K : Type 0} → (g : Ghosts D) → (h : SinkGhosts K) → Daemon D K g h → Daemon D K g h → DaemonFault
+    → Type 0
 Fails g h old new DiskFault = LosesUnits g old new
 Fails g h old new WriteFault = LosesLines g h old new

@@ -1,22 +1,37 @@
 ghost use Rattle.std.specs.Prelude.{◌≡◌, ◌≤◌, ◌+◌, None};
-ghost use Rattle.commit_pipeline.specs.Turning.{HasCounted, durable};
+ghost use Rattle.log_rule.specs.May.{MayClose, MayMerge};
+ghost use Rattle.log_rule.specs.CrewViews.{takes_in};
+ghost use Rattle.log_rule.specs.Sound.{HasReadStop};
+ghost use Rattle.log_table.specs.Seats.{Becomes, IsOf, view_of};
+ghost use Rattle.flusher.specs.Flushing.{ChangesSeat};
+ghost use Rattle.commit_pipeline.specs.Told.{HasTold, HasToldAll};
 
 use end_lines::{Tally, Voice};
 use flusher::Flusher;
+use log_disk::{LogDisk, Sink};
+use log_table::Seat;
+use std::snapshot::Snapshot;
 use stop_word::DaemonFault;
 
-/// A flusher, and the sink that the lines of ended transactions go to.
+/// A flusher, and the sink that the lines of ended transactions go to. As long as it is there nothing else reaches the sink.
 #[derive(Drop)]
-pub struct Daemon<'a, D, K> {
+pub struct Daemon<'a, D: LogDisk, K: Sink> {
     pub flusher: Flusher<'a, D>,
-    pub sink: &'a mut K,
+    pub(crate) sink: &'a mut K,
     pub voice: Voice,
     pub(crate) tally: Tally,
     pub(crate) fault: Option<DaemonFault>,
+    /// The sink as it was when the daemon was made.
+    first: Snapshot<K>,
+    /// The flusher's seat as it was then.
+    begun: Snapshot<Seat>,
+    ghost told: { ∥ HasTold K.Sink first.value sink.now voice (view_of begun.value) (view_of flusher.seat) ∥₁ },
 }
 
-impl<'a, D, K> Daemon<'a, D, K> {
-    /// A daemon to which nothing has befallen, and which has counted nothing.
+impl<'a, D: LogDisk, K: Sink> Daemon<'a, D, K> {
+    ghost use Rattle.commit_pipeline.specs.Turning.{ChangesFlusher, HasCounted, durable};
+
+    /// A daemon to which nothing has befallen, and which has counted and written nothing.
     pub fn make(flusher: Flusher<'a, D>, sink: &'a mut K, voice: Voice) -> Daemon<'a, D, K>
         ensures flusher { result.flusher ≡ flusher.entry }
         ensures sink { result.sink ≡ sink.entry }
@@ -24,18 +39,50 @@ impl<'a, D, K> Daemon<'a, D, K> {
         ensures done { result.tally.done ≡ 0 }
         ensures refused { result.tally.refused ≡ 0 }
         ensures fine { result.fault ≡ None }
+        ensures first { result.first.value ≡ sink.old }
+        ensures begun { result.begun.value ≡ flusher.entry.seat }
+        ensures told { HasToldAll K.Sink result.first.value result.sink.now result.voice (view_of result.begun.value)
+            (view_of result.flusher.seat) }
     {
         let tally = Tally {
             done: 0,
             refused: 0,
         };
+        let first = Snapshot::of(sink);
+        let begun = Snapshot::of(&flusher.seat);
         Daemon {
             flusher,
             sink,
             voice,
             tally,
             fault: None,
+            first,
+            begun,
         }
+    }
+
+    /// The flusher's seat takes in the seat of a worker that has ended.
+    pub fn take_in(&mut self, other: Seat)
+        requires seat { IsOf self.old.flusher.table.now self.old.flusher.seat }
+        requires other { IsOf self.old.flusher.table.now other }
+        requires may { MayMerge (view_of self.old.flusher.seat) (view_of other) }
+        ensures view { Becomes self.old.flusher.seat self.new.flusher.seat (takes_in (view_of self.old.flusher.seat) (view_of other)) }
+        ensures stops { HasReadStop (view_of self.old.flusher.seat).sending.stop (view_of other) }
+        ensures flusher { ChangesSeat self.old.flusher self.new.flusher }
+        ensures rest { ChangesFlusher self.old.fault self.old self.new }
+    {
+        let flusher = &mut self.flusher;
+        flusher.table.merge(&mut flusher.seat, other);
+    }
+
+    /// The sink goes back to whoever lent it. All workers' seats were taken in before, so nothing more will come.
+    pub fn into_parts(self) -> DaemonParts<'a, D, K>
+        requires over { MayClose (view_of self.flusher.seat) }
+        ensures flusher { result.flusher ≡ self.entry.flusher }
+        ensures sink { result.sink ≡ self.entry.sink }
+    {
+        let Daemon { flusher, sink, .. } = self;
+        DaemonParts { flusher, sink }
     }
 
     /// How many transactions are done, by the end records that were sent. With those that were refused they are at most the end of what
@@ -61,4 +108,11 @@ impl<'a, D, K> Daemon<'a, D, K> {
     {
         self.fault
     }
+}
+
+/// What is left of a daemon.
+#[derive(Drop)]
+pub struct DaemonParts<'a, D: LogDisk, K> {
+    pub flusher: Flusher<'a, D>,
+    pub sink: &'a mut K,
 }

@@ -5,7 +5,7 @@ mod daemon;
 mod running;
 mod turning;
 
-pub use daemon::Daemon;
+pub use daemon::{Daemon, DaemonParts};
 pub use daemon_turn::Turn;
 pub use end_lines::Voice;
 pub use stop_word::DaemonFault;

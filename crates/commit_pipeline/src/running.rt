@@ -56,8 +56,8 @@ impl<'a, D: LogDisk, K: Sink> Daemon<'a, D, K> {
         }
     }
 
-    /// Whether the log has come to its end.
-    fn ask(&mut self) -> Drained
+    /// Whether workers are active, and where none is, whether all that is exposed is on the disk.
+    pub fn ask(&mut self) -> Drained
         requires ready { MayTurn D.LogDisk self.old }
         requires told { knows_all_enrolled (view_of self.old.flusher.seat).standing ≡ true }
         ensures asks { Asks self.old.flusher self.new.flusher result }

@@ -1,7 +1,7 @@
 //! A turn, and what is kept of one that failed.
 ghost use Rattle.std.specs.Prelude.{IfOk, IfErr, OnOk};
 ghost use Rattle.commit_pipeline.specs.Later.{Later};
-ghost use Rattle.commit_pipeline.specs.Turning.{HasCounted, MayTurn, IsSameDaemon, Turns, Fails};
+ghost use Rattle.commit_pipeline.specs.Turning.{HasCounted, MayTurn, Turns, Fails};
 
 use crate::daemon::Daemon;
 use daemon_turn::{Turn, make_turn};
@@ -17,7 +17,6 @@ impl<'a, D: LogDisk, K: Sink> Daemon<'a, D, K> {
         ensures failed { IfErr result (Fails D.LogDisk K.Sink self.old self.new) }
         ensures ready { OnOk result (MayTurn D.LogDisk self.new) }
         ensures counted { HasCounted self.new }
-        ensures same { IsSameDaemon D.LogDisk self.old self.new }
         ensures later { Later D.LogDisk K.Sink self.old self.new }
     {
         let made = make_turn(&mut self.flusher, self.voice, self.sink, &mut self.tally);
