@@ -5,7 +5,7 @@ use txn_runner::Relief;
 
 /// A daemon that makes a turn at each rest, until something befalls it. The daemon keeps what befell it.
 #[derive(Drop)]
-pub struct FlushingRelief<'a, D, K> {
+pub struct FlushingRelief<'a, D: LogDisk, K: Sink> {
     pub daemon: Daemon<'a, D, K>,
 }
 
