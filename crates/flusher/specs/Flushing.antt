@@ -7,8 +7,10 @@ use Rattle.log_disk.specs.declared.disk.LogDisk.{Ghosts}
 use Rattle.log_record.specs.declared.rec.Rec.{Rec}
 use Rattle.log_table.specs.declared.table.Seat.{Seat}
 use Rattle.log_rule.specs.declared.view.Role.TheVariants.{Flusher as FlusherRole}
-use Rattle.log_table.specs.Seats.{IsOf, Becomes, view_of}
+use Rattle.log_table.specs.Seats.{IsOf, Becomes, key_of, number_of, view_of}
+use Rattle.log_rule.specs.Moments.{HoldsAtOnce, HasSentLawfully}
 use Rattle.log_rule.specs.Sends.{IsDrained}
+use Rattle.log_rule.specs.Sound.{base_of}
 use Rattle.log_rule.specs.Views.{saw_exposed, saw_crew, sent_to}
 use Rattle.segment_file.specs.Log.{Log, with_units}
 use Rattle.segment_file.specs.Standing.{tail_after, LogStands, IsShut, HoldsLogOrMore}
@@ -77,8 +79,9 @@ pub record FindsNothing {D : Type 0} {g : Ghosts D} (old new : Flusher D g) (at 
   pub seat : Becomes old.seat new.seat (saw_exposed at (view_of old.seat))
   pub rest : ChangesSeat old new
 
--- the units from durable to exposed, as loaded, which spell records, are written behind the tail, and then durable is raised to
--- their end
+-- The units from durable to exposed, as loaded, which spell records, are written behind the tail, and then durable is raised to their end.
+-- As it is raised the rule of the table holds of all seats' views, this seat's among them; so what was sent is lawful and serial where no
+-- job number stands twice in these views.
 pub record Sends {D : Type 0} (g : Ghosts D) (old new : Flusher D g) (from to : ℕ) : Type 0 where
   pub units : List ℕ
   pub durable : from ≡ sent_to (view_of old.seat)
@@ -93,6 +96,8 @@ pub record Sends {D : Type 0} (g : Ghosts D) (old new : Flusher D g) (from to : 
   pub stands : g.honest old.disk.now → (log : Log) → LogStands old.tail log (g.images old.disk.now)
       → LogStands new.tail (with_units log units) (g.images new.disk.now)
   pub settled : g.honest old.disk.now → IsOnlyImage (g.reads new.disk.now) (g.images new.disk.now)
+  pub at_once : HoldsAtOnce (key_of old.table.now) (number_of new.seat) (view_of new.seat)
+  pub lawful : HasSentLawfully (base_of (key_of old.table.now)) at_once.views (sent_of new)
 
 -- the units up to exposed, as loaded, were read, no more than the ring has, which spell records, and the disk failed to take them; durable
 -- stands, and the seat keeps what it read

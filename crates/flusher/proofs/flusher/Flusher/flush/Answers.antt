@@ -4,6 +4,7 @@ use Rattle.std.proofs.lemmas.Result.{err_from_is_err_and}
 use Rattle.log_rule.specs.declared.view.View.{View}
 use Rattle.log_table.specs.Seats.{view_of}
 use Rattle.log_rule.specs.Views.{has_sent}
+use Rattle.log_rule.proofs.SentRecords.{sent-lawfully}
 use Rattle.flusher.specs.Sending.{read_units, gathered}
 use Rattle.flusher.proofs.Flushes.{Becomes-then, GrowsAtMostTo-append, IsSameSeat-becomes, Leaves-append, Reads-gathered, sent_to-flushed, seen-flushed, LogStands-append, MayFlush-step, seen-newer, tail-appended, tail-place}
 use Rattle.flusher.proofs.Keeps.{KeepsLog-same, KeepsLog-in_flight, KeepsLog-flushed}
@@ -124,6 +125,8 @@ returns-clause-flushed g c =
       };
       stands = λ honest. LogStands-append g.D.LogDisk c.args.self.now _ _ _ _ units (c.in_ok-self.ensures.appended honest);
       settled = λ honest. c.in_ok-self.ensures.settled honest;
+      at_once = c.store_durable.ensures.at_once;
+      lawful = sent-lawfully _ _ _ c.store_durable.ensures.at_once (ap (λ m. m.0.standing.role) seat.me ∙ c.requires.ready.flusher);
     }
 
 pub returns-clause-ready : goal.returns-clause-ready
