@@ -5,4 +5,5 @@ pub mod PlanLemmas
 pub mod ProgressLemmas
 pub mod RowLemmas
 pub mod StageLemmas
+pub mod TyingLemmas
 pub mod WorkLemmas

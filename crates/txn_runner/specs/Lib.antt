@@ -1,4 +1,5 @@
 pub mod Places
 pub mod Running
 pub mod Stages
+pub mod Tying
 pub mod Working

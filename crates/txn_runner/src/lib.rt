@@ -3,10 +3,12 @@
 #![tactic(auto)]
 
 mod job;
+mod laws;
 mod taking;
 mod worker;
 
 pub use job_queue::{Jobs, Queue, Rows};
+pub use laws::no_job_twice;
 pub use txn_jobs::{Answer, Cause, MOST_PARTIES, Row, Worked, list_accounts};
 pub use txn_parts::{Relief, YieldRelief};
 pub use worker::work;
