@@ -5,7 +5,7 @@ use Rattle.std.proofs.lemmas.List.Elements.{All-from_recursion}
 use Rattle.log_record.specs.declared.rec.Rec.{Rec}
 use Rattle.log_record.specs.LogList.{AreUnitsOf, units_of, end_of, size_of, IsBoundary}
 use Rattle.log_record.specs.Spelling.{spelling, IsSpellable, BeginsWith}
-use Rattle.log_record.proofs.LogListLemmas.{end_of-cons, boundary_is_front}
+use Rattle.log_record.proofs.LogListLemmas.{end_of-cons, boundary_is_front, front_is_boundary}
 use Rattle.log_record.proofs.SpellingLemmas.{spelling-append-injective, units_of-injective}
 use Rattle.lock_core.proofs.ListLemmas.{all-split}
 use Rattle.log_recovery.specs.Boundaries.{GoesOnAt}
@@ -35,15 +35,37 @@ pub record Seeks (begin : ℕ) (units rest : List ℕ) (at lsn : ℕ) : Type 0 w
   pub place : at ≡ begin + end_of done
   pub below : (f g : List Rec) → done ++ more ≡ f ++ g → end_of f < end_of done → begin + end_of f < lsn
 
-pub seeks-begun : (begin : ℕ) (units : List ℕ) (lsn : ℕ) (records : List Rec) → AreUnitsOf units records → Seeks begin units units begin lsn
-seeks-begun begin units lsn records list = record {
-  done = [];
-  more = records;
-  list = list;
-  left = list.units_are;
-  place = omega arith;
-  below = λ f g whole less. absurd (omega (arith, less));
-}
+drop-front : (xs ys : List ℕ) → drop (length xs) (xs ++ ys) ≡ ys
+drop-front [] ys = refl
+drop-front (x ∷ xs) ys = drop-front xs ys
+
+-- from the list's beginning on, or from a boundary that isn't behind what is sought
+pub seeks-begun : (begin : ℕ) (units : List ℕ) (known lsn : ℕ) (records : List Rec) → AreUnitsOf units records → (passed : ℕ) → known ≡ begin + passed
+    → IsBoundary records passed → (known ≡ begin) ⊎ (known ≤ lsn) → Seeks begin units (drop passed units) known lsn
+seeks-begun begin units known lsn records list passed place is below =
+    let found = boundary_is_front records passed is in
+    let parts = list.units_are ∙ ap units_of found.2 ∙ units_of-append found.0 found.1 in record {
+      done = found.0;
+      more = found.1;
+      list = subst (AreUnitsOf units) found.2 list;
+      left = ap (λ n. drop n units) found.3 ∙ ap (drop (end_of found.0)) parts ∙ drop-front (units_of found.0) (units_of found.1);
+      place = omega (arith, place, found.3);
+      below = λ f g whole less. elim below [
+        | inl first ↦ absurd (omega (arith, first, place, found.3, less))
+        | inr before ↦ omega (arith, before, place, found.3, less)
+      ];
+    }
+
+-- a boundary lies within the units
+pub passed-within : (units : List ℕ) (records : List Rec) (passed : ℕ) → AreUnitsOf units records → IsBoundary records passed → passed ≤ length units
+passed-within units records passed list is =
+    let found = boundary_is_front records passed is in
+    let parts = ap length (list.units_are ∙ ap units_of found.2 ∙ units_of-append found.0 found.1) ∙ length-append (units_of found.0) (units_of found.1) in
+    omega (arith, parts, found.3)
+
+-- a list begins at a boundary
+pub begins-at-boundary : (records : List Rec) → IsBoundary records 0
+begins-at-boundary records = front_is_boundary records 0 ([], records, refl, refl)
 
 one-list : (units : List ℕ) (xs ys : List Rec) → AreUnitsOf units xs → AreUnitsOf units ys → xs ≡ ys
 one-list units xs ys first second =
@@ -133,7 +155,3 @@ module _ (begin : ℕ) (units rest : List ℕ) (at lsn : ℕ) (seeks : Seeks beg
       place = omega (arith, on, seeks.place, longer);
       below = passed;
     }
-      where
-        drop-front : (xs ys : List ℕ) → drop (length xs) (xs ++ ys) ≡ ys
-        drop-front [] ys = refl
-        drop-front (x ∷ xs) ys = drop-front xs ys

@@ -1,6 +1,6 @@
 //! The boundaries of a list: where a record starts, and where the list ends.
 
-ghost use Rattle.std.specs.Prelude.{◌≡◌, ◌+◌, ◌≤◌, List, length, IfSome, IfNone};
+ghost use Rattle.std.specs.Prelude.{◌≡◌, ◌⊎◌, ◌+◌, ◌≤◌, List, length, IfSome, IfNone};
 ghost use Rattle.log_record.specs.LogList.{AreUnitsOf};
 ghost use Rattle.log_record.specs.declared.rec.Rec.{Rec};
 ghost use Rattle.lsn_space.specs.declared.lsn.TheConstants.{LAST};
@@ -8,6 +8,7 @@ ghost use Rattle.log_recovery.specs.Boundaries.{GoesOnAt};
 ghost use Rattle.log_recovery.specs.Listing.{IsRecords};
 ghost use Rattle.log_recovery.specs.Opened.{IsListBoundary};
 
+use crate::places::begin_of;
 use log_record::read;
 use lsn_space::{Lsn, Opening};
 
@@ -20,9 +21,29 @@ pub fn units_from<'a>(opening: &Opening, units: &'a [u64], lsn: Lsn) -> Option<&
     ensures none { IfNone result ((records : List Rec) → AreUnitsOf units.now records
         → IsListBoundary (record { opening = opening.now; records = records }) lsn → ⊥) }
 {
+    units_behind(opening, units, begin_of(opening), lsn)
+}
+
+/// The same, where a boundary is known from which on the LSN is sought: where the list begins, or one at or below the LSN.
+pub fn units_behind<'a>(
+    opening: &Opening,
+    units: &'a [u64],
+    known: Lsn,
+    lsn: Lsn,
+) -> Option<&'a [u64]>
+    requires records { IsRecords units.now }
+    requires fits { opening.now.lsn + length units.now ≤ LAST }
+    requires known { (records : List Rec) → AreUnitsOf units.now records
+        → IsListBoundary (record { opening = opening.now; records = records }) known }
+    requires below { (known ≡ opening.now.lsn) ⊎ (known ≤ lsn) }
+    ensures some { IfSome result (λ rest. (records : List Rec) → AreUnitsOf units.now records → GoesOnAt opening.now.lsn records lsn rest.now) }
+    ensures none { IfNone result ((records : List Rec) → AreUnitsOf units.now records
+        → IsListBoundary (record { opening = opening.now; records = records }) lsn → ⊥) }
+{
     let goal = lsn.units();
-    let mut at = opening.lsn.units();
-    let mut rest = units;
+    let mut at = known.units();
+    let passed = at - begin_of(opening).units();
+    let mut rest = units.split_at(passed as usize).1;
     'records: while at < goal {
         let Ok((_, size)) = read(rest) else {
             return None;

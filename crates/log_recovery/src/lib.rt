@@ -12,7 +12,7 @@ mod places;
 mod recovery;
 mod texts;
 
-pub use boundaries::units_from;
+pub use boundaries::{units_behind, units_from};
 pub use dump::put_dump;
 pub use judging::{UnitsFault, judge_of_units, taken_units};
 pub use line::{LINE_BYTES, Line};

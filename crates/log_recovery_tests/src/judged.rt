@@ -8,6 +8,7 @@ ghost use Rattle.lock_core.specs.Taking.{HasJudged};
 use crate::answers::{Fault, is_fault};
 use crate::cut::cut_and;
 use crate::images::{GENESIS, TRANSFER, image};
+use arrayvec::ArrayVec;
 use lock_core::Judge;
 use log_recovery::{Why, judged};
 use segment_file::Tail;
@@ -38,8 +39,11 @@ fn has_end(rt: &impl Abort, name: &str, judge: &Judge, tail: Tail, end: End) {
 fn has_changes(rt: &impl Abort, judge: &Judge, count: usize)
     requires { (opening : Opening) × (h : List Placed) × HasJudged opening judge.now h }
 {
-    let found = (judge.changes_of(7).len(), judge.changes_of(1).len());
-    assert_eq!(rt; found, (count, 0));
+    let mut changes = ArrayVec::new();
+    judge.changes_of(7, &mut changes);
+    let open = changes.len();
+    judge.changes_of(1, &mut changes);
+    assert_eq!(rt; (open, changes.len()), (count, 0));
 }
 
 /// A judge is answered that has taken a list with that end, and Updates of transaction 7 as many as said.

@@ -1,6 +1,6 @@
 use Rattle.std.proofs.Common.{length}
 use Rattle.log_recovery.proofs.BoundaryLemmas.{Seeks}
-use Rattle.log_recovery.proofs.boundaries.units_from.Given as goal
+use Rattle.log_recovery.proofs.boundaries.units_behind.Given as goal
 
 abbrev pub invariant-records : goal.invariant-records
 invariant-records l = Seeks l.opening.lsn l.units l.rest l.at l.goal

@@ -1,0 +1,44 @@
+use Rattle.std.proofs.Common.{◌≡◌, ◌∙◌, ◌+◌, ◌-◌, ap, arith, drop, subst, sym}
+use Rattle.log_recovery.specs.Boundaries.{GoesOnAt}
+use Rattle.log_recovery.proofs.BoundaryLemmas.{Seeks, passed-within, seeks-begun, seeks-beyond, seeks-ended, seeks-found, seeks-next}
+use Rattle.log_recovery.proofs.boundaries.units_behind.Goals as goal
+
+pub overflow_sub-passed : goal.overflow_sub-passed
+overflow_sub-passed c =
+    let known = c.requires.known c.requires.records.0 c.requires.records.1 in
+    omega (arith, known.1, c.units-at.ensures, c.units.ensures, c.begin_of.ensures)
+
+pub split_at-requires : goal.split_at-requires
+split_at-requires c =
+    let known = c.requires.known c.requires.records.0 c.requires.records.1 in
+    let within = passed-within _ _ known.0 c.requires.records.1 known.2 in
+    omega (arith, within, known.1, c.units-at.ensures, c.units.ensures, c.begin_of.ensures)
+
+pub records-init : goal.records-init
+records-init c =
+    let begin = c.args.opening.now.lsn in let units = c.args.units.now in
+    let known = c.requires.known c.requires.records.0 c.requires.records.1 in
+    let passed : c.units-at.result - c.units.result ≡ known.0 = omega (arith, known.1, c.units-at.ensures, c.units.ensures, c.begin_of.ensures) in
+    let begun = seeks-begun begin units c.args.known c.args.lsn c.requires.records.0 c.requires.records.1 known.0 known.1 known.2 c.requires.below in
+    subst (λ rest. Seeks begin units rest c.units-at.result c.units-goal.result) (sym (c.split_at.ensures.back ∙ ap (λ n. drop n units) passed))
+    (subst (λ at. Seeks begin units (drop known.0 units) at c.units-goal.result) (sym c.units-at.ensures)
+    (subst (λ goal. Seeks begin units (drop known.0 units) c.args.known goal) (sym c.units-goal.ensures) begun))
+
+pub records-preserved : goal.records-preserved
+records-preserved c =
+    let dropped = c.split_at-in-records.ensures.back ∙ ap (λ n. drop n c.records.rest.now) c.in-Ok.ensures.found.1 in
+    seeks-next _ _ _ _ _ c.records.invariant c.in-Ok.field-0-0 c.in-Ok.ensures.found.0 (omega (arith, c.records-test.true)) _ _ dropped
+    (ap (λ n. c.records.at + n) c.in-Ok.ensures.found.1)
+
+pub returns-in_default-clause-none : goal.returns-in_default-clause-none
+returns-in_default-clause-none c = λ records list is.
+    seeks-ended _ _ _ _ _ c.records.invariant (omega (arith, c.records-test.true)) c.in_default.ensures.bad records list is.0 (c.units-goal.ensures ∙ is.1) is.2
+
+pub returns-then-at-goal-clause-some : goal.returns-then-at-goal-clause-some
+returns-then-at-goal-clause-some c = λ records list.
+    subst (λ lsn. GoesOnAt c.args.opening.now.lsn records lsn c.records.rest.now) c.units-goal.ensures
+    (seeks-found _ _ _ _ _ c.records.invariant (omega (arith, c.if-at-goal.true)) records list)
+
+pub returns-else-at-goal-clause-none : goal.returns-else-at-goal-clause-none
+returns-else-at-goal-clause-none c = λ records list is.
+    seeks-beyond _ _ _ _ _ c.records.invariant (omega (arith, c.records-test.false, c.if-at-goal.false)) records list is.0 (c.units-goal.ensures ∙ is.1) is.2
