@@ -1,6 +1,6 @@
 -- What a ledger answers on one record more: the first test that fails, or what it keeps then.
-use Rattle.std.proofs.Common.{◌≡◌, ◌<◌, ◌≤◌, ◌⊎◌, inl, inr, ℕ, zero, suc, ◌+◌, ◌-◌, ◌*◌, true, false, true≢false, List, [], ◌∷◌, ◌++◌, length, Result, Ok, Err, refl, ap, ◌∙◌, sym, subst, arith}
-use Rattle.std.specs.Prelude.{OnOk, IfErr, MatchResult, IsTrue, ◌↔◌}
+use Rattle.std.proofs.Common.{◌≡◌, ◌<◌, ◌≤◌, ◌⊎◌, ⊎_elim, inl, inr, ℕ, zero, suc, ◌+◌, ◌-◌, ◌*◌, true, false, true≢false, List, [], ◌∷◌, ◌++◌, length, refl, ap, ◌∙◌, sym, subst, arith}
+use Rattle.std.specs.Prelude.{IsTrue, ◌↔◌}
 use Rattle.std.specs.List.{AllByRecursion}
 use Rattle.log_record.specs.declared.limits.TheConstants.{MOST_LEGS, MOST_ACCOUNTS}
 use Rattle.log_record.specs.declared.rec.Rec.{Rec}
@@ -24,16 +24,14 @@ use Rattle.lock_core.specs.Lawful.{tests, Passes, IsLawful, base_with, with_gene
 use Rattle.lock_core.specs.Faults.{IsFirstFailing}
 use Rattle.lock_core.specs.Settling.{row, opening_of, Settles, LeavesSome, KeepsRows, AreRowsInRange}
 use Rattle.lock_core.specs.Judging.{IsCommitting}
-use Rattle.lock_core.specs.Keeping.{KeepsTransactions, KeepsLedger}
+use Rattle.lock_core.specs.Keeping.{IsEndFault, KeepsTransactions, KeepsLedger}
 use Rattle.lock_core.proofs.KindLemmas.{accounts-genesis, accounts-most, keeps-genesis, passes-genesis, fails-stale, fails-balance, keeps-settled, passes-commit}
 use Rattle.lock_core.proofs.JudgingLemmas.{judged-plain}
 use Rattle.lock_core.proofs.KeepingLemmas.{keeps-idle}
 
--- an answer that is Ok, or else for want of memory
-pub match-ended : {A X Y : Type 0} (F : JudgeFault → Type 0) (result : Result A JudgeFault) → OnOk result X → IfErr result (λ f. f ≡ fault.NoMemory)
-    → (X → Y) → F fault.NoMemory → MatchResult result (λ _. Y) F
-match-ended F (Ok x) ok memory f none = f ok
-match-ended F (Err e) ok memory f none = subst F (sym memory) none
+-- a fault of an end: want of memory, or the test of the end
+pub end-fault : {X : Type 0} (F : JudgeFault → Type 0) (f : JudgeFault) → IsEndFault X f → F fault.NoMemory → (X → F (fault.Why why.Ended)) → F f
+end-fault F f is none ended = ⊎_elim (λ same. subst F (sym same) none) (λ both. subst F (sym both.0) (ended both.1)) is
 
 -- ---- no record yet
 
@@ -265,6 +263,11 @@ module _ (opening : Opening) where
       least = kept.least;
       blank = kept.blank;
     }
+
+  -- a ledger with the same accounts
+  pub keeps-accounts : (ledger : Ledger) (accounts : Accounts) (h : List Placed) → accounts ≡ ledger.accounts → KeepsLedger opening ledger h
+      → KeepsLedger opening (record ledger { accounts = accounts }) h
+  keeps-accounts ledger accounts h same kept = subst (λ (a : Accounts). KeepsLedger opening (record ledger { accounts = a }) h) (sym same) kept
 
   -- a ledger with these parts
   pub keeps-parts : (new old : Ledger) (accounts : Accounts) (h : List Placed) → new.accounts ≡ accounts → new.is_opening ≡ false → new.least ≡ old.least

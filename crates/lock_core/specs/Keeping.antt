@@ -1,10 +1,13 @@
 -- What a judge keeps of the history that it took.
-use Rattle.std.specs.Prelude.{◌≡◌, ◌≢◌, ◌<◌, ℕ, ◌+◌, pos, true, false, List, [], ◌∷◌, length, slice_index_or, IsTrue, ◌↔◌}
+use Rattle.std.specs.Prelude.{◌≡◌, ◌≢◌, ◌<◌, ◌⊎◌, ℕ, ◌+◌, pos, true, false, List, [], ◌∷◌, length, slice_index_or, IsTrue, ◌↔◌}
 use Rattle.std.specs.List.{AllByRecursion}
 use Rattle.log_record.specs.declared.rec.Rec.{Rec}
 use Rattle.log_record.specs.declared.rec.Rec.TheVariants.{Update}
 use Rattle.log_record.specs.declared.rec.Placed.{Placed}
 use Rattle.txn_tables.specs.Values.{value_at}
+use Rattle.lock_core.specs.declared.reason.JudgeFault.{JudgeFault}
+use Rattle.lock_core.specs.declared.reason.JudgeFault.TheVariants as fault
+use Rattle.lock_core.specs.declared.reason.Why.TheVariants as why
 use Rattle.lock_core.specs.declared.update_links.TheConstants.{ENDED}
 use Rattle.lock_core.specs.declared.update.Change.{Change}
 use Rattle.lock_core.specs.declared.update_links.UpdateLink.{UpdateLink}
@@ -49,6 +52,10 @@ pub record KeepsTransactions (txns : Transactions) (h : List Placed) : Type 0 wh
   pub some : 0 < length txns.updates
   pub first : link_at txns.updates 0 ≡ no_link
   pub each : (txn : ℕ) → KeepsRecords txns.updates (value_at txns.newest txn) (own_records_of txn h)
+
+-- why a transaction takes no end record: it has one, which is told by this, or memory is wanting
+abbrev pub IsEndFault : Type 0 → JudgeFault → Type 0
+IsEndFault ended f = (f ≡ fault.NoMemory) ⊎ ((f ≡ fault.Why why.Ended) × ended)
 
 -- What is kept of a lawful history behind an opening. Where that has no account, no Commit was on any.
 pub record KeepsLedger (opening : Opening) (ledger : Ledger) (h : List Placed) : Type 0 where

@@ -1,4 +1,4 @@
-ghost use Rattle.std.specs.Prelude.{◌≡◌, ◌<◌, ◌≤◌, ◌+◌, ◌∷◌, ◌⊎◌, [], true, false, ℕ, List, length, IfOk, IfErr, IfSome, IfNone, OnOk};
+ghost use Rattle.std.specs.Prelude.{◌≡◌, ◌<◌, ◌≤◌, ◌+◌, ◌∷◌, ◌⊎◌, ◌↔◌, [], true, false, ℕ, List, length, IfOk, IfErr, IfSome, IfNone, IsTrue, OnOk};
 ghost use Rattle.log_record.specs.declared.rec.Rec.{Rec};
 ghost use Rattle.log_record.specs.declared.rec.Placed.{Placed};
 ghost use Rattle.log_record.specs.Spelling.{spelling, IsAccount, IsBalance, IsLeg, IsSpellable};
@@ -9,7 +9,7 @@ ghost use Rattle.lock_core.specs.Records.{txn_of, ends};
 ghost use Rattle.lock_core.specs.Transactions.{own_records_of, has_end, open_changes_of};
 ghost use Rattle.lock_core.specs.Sums.{Opening, no_opening};
 ghost use Rattle.lock_core.specs.Settling.{opening_of};
-ghost use Rattle.lock_core.specs.Keeping.{IsOpenAt, KeepsTransactions, KeepsLedger};
+ghost use Rattle.lock_core.specs.Keeping.{IsOpenAt, IsEndFault, KeepsTransactions, KeepsLedger};
 ghost use Rattle.lock_core.specs.Taking.{TakesEntry};
 
 use crate::checks::{are_current, is_current, is_paired};
@@ -77,6 +77,13 @@ impl Ledger {
         })
     }
 
+    /// Whether the number is above the opening's.
+    fn is_behind(&self, txn: u32) -> bool
+        ensures { IsTrue result ↔ (self.now.least < txn) }
+    {
+        txn > self.least
+    }
+
     /// The place of the newest Update of a transaction, or `None` where its number isn't above the opening's, or it is ended.
     fn place(&self, txn: u32) -> Option<u32>
         requires kept { (opening : Opening) × (h : List Placed) × KeepsLedger opening self.now h }
@@ -87,7 +94,7 @@ impl Ledger {
             → IsOpenAt self.now.txns.updates place (own_records_of txn h)) }
         ensures inside { IfSome result (λ place. place < length self.now.txns.updates) }
     {
-        if txn <= self.least {
+        if !self.is_behind(txn) {
             return None;
         }
         self.txns.place(txn)
@@ -185,9 +192,7 @@ impl Ledger {
         if self.accounts.count() == 0 {
             return Err(JudgeFault::Why(Why::Genesis));
         }
-        let Some(place) = self.place(txn) else {
-            return Err(JudgeFault::Why(Why::Ended));
-        };
+        let place = self.end(txn)?;
         if self.txns.update(place).count != 2 * legs {
             return Err(JudgeFault::Why(Why::Legs));
         }
@@ -200,7 +205,7 @@ impl Ledger {
         if !settle(&mut self.accounts, changes, end) {
             return Err(JudgeFault::Why(Why::Balance));
         }
-        self.end(txn)
+        Ok(())
     }
 
     /// Takes a Short or an Over.
@@ -213,13 +218,11 @@ impl Ledger {
         if self.accounts.count() == 0 {
             return Err(JudgeFault::Why(Why::Genesis));
         }
-        let Some(place) = self.place(txn) else {
-            return Err(JudgeFault::Why(Why::Ended));
-        };
+        let place = self.end(txn)?;
         if self.txns.update(place).count != 2 * (leg - 1) {
             return Err(JudgeFault::Why(Why::Legs));
         }
-        self.end(txn)
+        Ok(())
     }
 
     fn take_note(&mut self, txn: u32) -> Result<(), JudgeFault>
@@ -238,19 +241,27 @@ impl Ledger {
         }
     }
 
-    /// Ends a transaction.
-    fn end(&mut self, txn: u32) -> Result<(), JudgeFault>
+    /// Ends a transaction, and answers the place of its newest Update. It is searched for once, so its end is put before the other tests
+    /// are made: where one fails the ledger is spent.
+    fn end(&mut self, txn: u32) -> Result<u32, JudgeFault>
+        requires kept { (opening : Opening) × (h : List Placed) × KeepsLedger opening self.old h }
         ensures accounts { self.new.accounts ≡ self.old.accounts }
         ensures opening { self.new.is_opening ≡ false }
         ensures least { self.new.least ≡ self.old.least }
-        ensures ended { OnOk result ((entry : Placed) (h : List Placed) → KeepsTransactions self.old.txns h → txn_of entry.rec ≡ txn
+        ensures updates { self.new.txns.updates ≡ self.old.txns.updates }
+        ensures above { OnOk result (self.old.least < txn) }
+        ensures unended { IfOk result (λ place. (h : List Placed) → KeepsTransactions self.old.txns h
+            → IsOpenAt self.new.txns.updates place (own_records_of txn h)) }
+        ensures inside { IfOk result (λ place. place < length self.new.txns.updates) }
+        ensures taken { OnOk result ((entry : Placed) (h : List Placed) → KeepsTransactions self.old.txns h → txn_of entry.rec ≡ txn
             → ends entry.rec ≡ true → KeepsTransactions self.new.txns (entry ∷ h)) }
-        ensures memory { IfErr result (λ fault. fault ≡ JudgeFault.NoMemory) }
+        ensures fault { IfErr result (IsEndFault ((opening : Opening) (h : List Placed) → KeepsLedger opening self.old h → opening.txn < txn
+            → has_end (own_records_of txn h) ≡ false → ⊥)) }
     {
         self.is_opening = false;
-        match self.txns.end(txn) {
-            Ok(()) => Ok(()),
-            Err(NoMemory) => Err(JudgeFault::NoMemory),
+        if !self.is_behind(txn) {
+            return Err(JudgeFault::Why(Why::Ended));
         }
+        self.txns.end(txn)
     }
 }

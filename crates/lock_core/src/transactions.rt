@@ -1,11 +1,12 @@
-ghost use Rattle.std.specs.Prelude.{◌≡◌, ◌<◌, ◌≤◌, ◌+◌, ◌∷◌, [], true, ℕ, List, length, IfSome, IfNone, IfOk, OnOk};
+ghost use Rattle.std.specs.Prelude.{◌≡◌, ◌<◌, ◌≤◌, ◌+◌, ◌∷◌, [], true, ℕ, List, length, IfSome, IfNone, IfOk, IfErr, OnOk};
 ghost use Rattle.log_record.specs.declared.rec.Placed.{Placed};
 ghost use Rattle.log_record.specs.Spelling.{IsAccount};
 ghost use Rattle.lock_core.specs.declared.update.TheConstants.{MOST_UPDATES};
 ghost use Rattle.lock_core.specs.Records.{txn_of, ends};
 ghost use Rattle.lock_core.specs.Transactions.{own_records_of, updates_of, has_end, open_changes_of};
-ghost use Rattle.lock_core.specs.Keeping.{update_at, link_at, IsOpenAt, KeepsTransactions};
+ghost use Rattle.lock_core.specs.Keeping.{update_at, link_at, IsOpenAt, IsEndFault, KeepsTransactions};
 
+use crate::reason::{JudgeFault, Why};
 use crate::update::{Change, MOST_UPDATES};
 use crate::update_links::{ENDED, UpdateLink, UpdateLinks};
 use arrayvec::ArrayVec;
@@ -88,14 +89,29 @@ impl Transactions {
             older: place,
         };
         let place = self.updates.push(link)?;
-        self.newest.put(txn, place)
+        match self.newest.put(txn, place) {
+            Ok(_) => Ok(()),
+            Err(NoMemory) => Err(NoMemory),
+        }
     }
 
-    /// Takes the end record of a transaction.
-    pub fn end(&mut self, txn: u32) -> Result<(), NoMemory>
-        ensures { OnOk result ((entry : Placed) (h : List Placed) → KeepsTransactions self.old h → txn_of entry.rec ≡ txn
+    /// Takes the end record of a transaction, and answers the place of its newest Update. One that is ended has no further end record.
+    pub fn end(&mut self, txn: u32) -> Result<u32, JudgeFault>
+        requires kept { (h : List Placed) × KeepsTransactions self.old h }
+        ensures updates { self.new.updates ≡ self.old.updates }
+        ensures unended { IfOk result (λ place. (h : List Placed) → KeepsTransactions self.old h
+            → IsOpenAt self.new.updates place (own_records_of txn h)) }
+        ensures inside { IfOk result (λ place. place < length self.new.updates) }
+        ensures taken { OnOk result ((entry : Placed) (h : List Placed) → KeepsTransactions self.old h → txn_of entry.rec ≡ txn
             → ends entry.rec ≡ true → KeepsTransactions self.new (entry ∷ h)) }
+        ensures fault { IfErr result (IsEndFault ((h : List Placed) → KeepsTransactions self.old h → has_end (own_records_of txn h) ≡ true)) }
     {
-        self.newest.put(txn, ENDED)
+        let Ok(place) = self.newest.put(txn, ENDED) else {
+            return Err(JudgeFault::NoMemory);
+        };
+        if place == ENDED {
+            return Err(JudgeFault::Why(Why::Ended));
+        }
+        Ok(place)
     }
 }

@@ -1,4 +1,4 @@
-ghost use Rattle.std.specs.Prelude.{◌≡◌, ◌≢◌, ◌<◌, ◌≤◌, ◌^◌, ◌-◌, ℕ, None, length, slice_index_or, OnOk, MatchOption};
+ghost use Rattle.std.specs.Prelude.{◌≡◌, ◌≢◌, ◌<◌, ◌≤◌, ◌^◌, ◌-◌, ℕ, None, length, slice_index_or, IfOk, OnOk, MatchOption};
 ghost use Rattle.txn_tables.specs.Nodes.{no_node, LeadInside};
 
 use crate::node::{Node, WAYS};
@@ -64,18 +64,23 @@ impl Scattered {
         }
     }
 
-    pub fn put(&mut self, txn: u32, value: u32) -> Result<(), NoMemory>
-        ensures { OnOk result (PutsScattered self.old self.new txn value) }
+    /// Puts a value, and answers the one before it. The transaction is searched for once.
+    pub fn put(&mut self, txn: u32, value: u32) -> Result<Option<u32>, NoMemory>
+        ensures put { OnOk result (PutsScattered self.old self.new txn value) }
+        ensures before { IfOk result (λ before. before ≡ scattered_value self.old txn) }
     {
         if self.nodes.is_empty() {
-            return self.put_first(txn, value);
+            self.put_first(txn, value)?;
+            return Ok(None);
         }
         let end = self.search(txn);
-        if self.nodes[end.at].txn == txn {
+        let found = self.nodes[end.at];
+        if found.txn == txn {
             self.nodes[end.at].value = value;
-            return Ok(());
+            return Ok(Some(found.value));
         }
-        self.append(end, txn, value)
+        self.append(end, txn, value)?;
+        Ok(None)
     }
 
     fn put_first(&mut self, txn: u32, value: u32) -> Result<(), NoMemory>

@@ -1,4 +1,4 @@
-ghost use Rattle.std.specs.Prelude.{◌≡◌, ◌<◌, ◌≤◌, ◌+◌, ◌*◌, ◌↔◌, ℕ, None, length, IsTrue, OnOk};
+ghost use Rattle.std.specs.Prelude.{◌≡◌, ◌<◌, ◌≤◌, ◌+◌, ◌*◌, ◌↔◌, ℕ, None, length, IsTrue, slice_index_or, IfOk, OnOk};
 ghost use Rattle.txn_tables.specs.declared.txn_table.TheConstants.{FIRST_PLACES};
 
 use crate::scattered::Scattered;
@@ -36,23 +36,32 @@ impl TxnTable {
     pub fn value(&self, txn: u32) -> u32
         ensures { result ≡ value_at self.now txn }
     {
-        if let Some(value) = self.scattered.value(txn) {
-            return value;
+        match self.scattered.value(txn) {
+            Some(value) => value,
+            None => self.in_row(txn),
         }
+    }
+
+    /// What stands in the row for a transaction, 0 where it has no place there.
+    fn in_row(&self, txn: u32) -> u32
+        ensures { result ≡ slice_index_or self.now.dense.items txn 0 }
+    {
         match self.dense.get(txn as usize) {
             Some(value) => *value,
             None => 0,
         }
     }
 
-    pub fn put(&mut self, txn: u32, value: u32) -> Result<(), NoMemory>
-        ensures { OnOk result (PutsValue self.old self.new txn value) }
+    /// Puts a number, and answers the one before it.
+    pub fn put(&mut self, txn: u32, value: u32) -> Result<u32, NoMemory>
+        ensures put { OnOk result (PutsValue self.old self.new txn value) }
+        ensures before { IfOk result (λ before. before ≡ value_at self.old txn) }
     {
         self.puts = self.puts.saturating_add(1);
         if self.has_place(txn) && self.scattered.value(txn).is_none() {
             self.put_in_place(txn, value)
         } else {
-            self.scattered.put(txn, value)
+            self.put_scattered(txn, value)
         }
     }
 
@@ -63,11 +72,13 @@ impl TxnTable {
         u64::from(txn) < FIRST_PLACES + 2 * u64::from(self.puts)
     }
 
-    fn put_in_place(&mut self, txn: u32, value: u32) -> Result<(), NoMemory>
+    fn put_in_place(&mut self, txn: u32, value: u32) -> Result<u32, NoMemory>
         requires bounded { txn < FIRST_PLACES + 2 * self.old.puts }
         requires alone { scattered_value self.old.scattered txn ≡ None }
-        ensures { OnOk result (PutsValue self.old self.new txn value) }
+        ensures put { OnOk result (PutsValue self.old self.new txn value) }
+        ensures before { IfOk result (λ before. before ≡ value_at self.old txn) }
     {
+        let before = self.in_row(txn);
         let place = txn as usize;
         if place >= self.dense.len() {
             let Ok(()) = self.dense.resize(place + 1, 0) else {
@@ -75,6 +86,17 @@ impl TxnTable {
             };
         }
         self.dense[place] = value;
-        Ok(())
+        Ok(before)
+    }
+
+    fn put_scattered(&mut self, txn: u32, value: u32) -> Result<u32, NoMemory>
+        ensures put { OnOk result (PutsValue self.old self.new txn value) }
+        ensures before { IfOk result (λ before. before ≡ value_at self.old txn) }
+    {
+        match self.scattered.put(txn, value) {
+            Ok(Some(before)) => Ok(before),
+            Ok(None) => Ok(self.in_row(txn)),
+            Err(NoMemory) => Err(NoMemory),
+        }
     }
 }

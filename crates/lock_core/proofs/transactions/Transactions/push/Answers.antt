@@ -1,9 +1,7 @@
-use Rattle.std.proofs.lemmas.Result.{on_ok_weaker}
 use Rattle.lock_core.proofs.KeepingLemmas.{keeps-pushed}
 use Rattle.lock_core.proofs.transactions.Transactions.push.Goals as goal
 
-pub returns : goal.returns
-returns c = on_ok_weaker c.put.result
-    (λ puts end h kept open' count. keeps-pushed c.args.self.now.newest c.put.new.self c.args.self.now.updates c.push.new.self c.args.txn c.in_ok-place.place end
+pub returns-in-Ok : goal.returns-in-Ok
+returns-in-Ok c = λ end h kept open' count. keeps-pushed c.args.self.now.newest c.put.new.self c.args.self.now.updates c.push.new.self c.args.txn c.in_ok-place.place end
     (record { change = c.args.change; count = c.args.count; older = c.args.place }) h c.in_ok-place.ensures.links c.in_ok-place.ensures.place c.in_ok-place.ensures.fits
-    puts open' count kept) c.put.ensures
+    c.in-Ok.ensures.put open' count kept
