@@ -1,8 +1,10 @@
 pub mod EntryLemmas
+pub mod EndLemmas
 pub mod EnteringLemmas
 pub mod FrontLemmas
 pub mod HistoryLemmas
 pub mod KeepingLemmas
+pub mod MarkLemmas
 pub mod NetLemmas
 pub mod PlainLemmas
 pub mod ViewLemmas

@@ -1,4 +1,5 @@
 pub mod Entering
 pub mod Entries
+pub mod Marks
 pub mod Plain
 pub mod Viewing

@@ -12,13 +12,14 @@ ghost use Rattle.lock_core.specs.Sums.{Opening};
 ghost use Rattle.lock_core.specs.Lawful.{base_with};
 ghost use Rattle.lock_core.specs.Settling.{opening_of};
 ghost use Rattle.lock_core.specs.Taking.{IsTakeFault, HasJudged, count_of};
-ghost use Rattle.ledger_view.specs.Entries.{entries_of, balance_up_to};
+ghost use Rattle.ledger_view.specs.Entries.{entries_of, balance_up_to, EndsAt};
 ghost use Rattle.ledger_view.specs.Viewing.{account_at, HasViewed};
 ghost use Rattle.ledger_view.specs.Entering.{Enters, CanAdd, AddsEntry};
 
 use crate::accounts::{Account, Accounts};
 use crate::entries::{Entries, Entry};
 use crate::net::{net_of, touches};
+use arrayvec::ArrayVec;
 use lock_core::{Change, Judge, JudgeFault, TakesRecords};
 use log_record::Rec;
 use lsn_space::{Lsn, NoMemory};
@@ -116,7 +117,8 @@ impl View {
         requires is { rec.now ≡ Rec.Commit txn legs }
         ensures { AddsEntry self.old self.new (entry_at lsn rec.now) result }
     {
-        let changes = self.judge.changes_of(txn);
+        let mut changes = ArrayVec::new();
+        self.judge.changes_of(txn, &mut changes);
         self.judge.take(lsn, rec)?;
         let end = Lsn::new(lsn.units() + COMMIT_UNITS);
         match enter_commit(
@@ -171,6 +173,19 @@ impl View {
             Some(kept) => Some(kept.entries.first_balance(self.judge.balance(account))),
             None => None,
         }
+    }
+
+    /// Where the last Commit ends that made an entry and ends at or below this LSN: a boundary, from which on others can be sought. Where none
+    /// does, this beginning.
+    pub fn last_commit(&self, begin: Lsn, lsn: Lsn) -> Lsn
+        requires viewed { (opening : Opening) × (h : List Placed) × HasViewed opening self.now h }
+        ensures { (result ≡ begin) ⊎ ((result ≤ lsn) × ((opening : Opening) (h : List Placed) → HasViewed opening self.now h → EndsAt h result)) }
+    {
+        let mut last = begin;
+        'accounts: for account in 0..self.judge.accounts() {
+            last = self.accounts.at(account).entries.last_end(lsn, last);
+        }
+        last
     }
 
     /// The number of accounts.

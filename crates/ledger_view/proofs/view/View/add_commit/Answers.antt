@@ -8,7 +8,7 @@ enter_commit-requires-clause-known c =
     let old = c.args.self.now in let opening = c.requires.can.given.0 in let h = c.requires.can.given.1 in let viewed = c.requires.can.given.2 in
     let judged = c.in_ok-take.ensures.taken opening h viewed.judged in
     commit-known opening old c.args.lsn c.take.new.self h viewed c.args.txn c.as_slice.result.now
-    (c.as_slice.ensures.value ∙ c.changes_of-changes.ensures.changes opening h viewed.judged
+    (c.as_slice.ensures.value ∙ c.changes_of.ensures.changes opening h viewed.judged
     ∙ commit-changes opening old c.args.lsn c.take.new.self h viewed c.args.rec.now c.args.txn c.args.legs c.requires.is judged)
 
 pub returns-in-Ok : goal.returns-in-Ok
@@ -16,5 +16,5 @@ returns-in-Ok c = λ opening h viewed.
     let judged = c.in_ok-take.ensures.taken opening h viewed.judged in
     views-committed opening c.args.self.now c.args.lsn c.take.new.self h viewed c.args.rec.now c.args.txn c.args.legs c.new-end.result c.as_slice.result.now
     c.enter_commit.new.accounts c.requires.is (c.new-end.ensures ∙ ap (λ n. n + 1) c.units.ensures)
-    (c.as_slice.ensures.value ∙ c.changes_of-changes.ensures.changes opening h viewed.judged)
+    (c.as_slice.ensures.value ∙ c.changes_of.ensures.changes opening h viewed.judged)
     (c.in-Ok.ensures opening (entry_at c.args.lsn c.args.rec.now ∷ h) judged) c.requires.can judged
