@@ -1,3 +1,4 @@
+pub mod Desk
 pub mod Holdings
 pub mod Leg
 pub mod Note

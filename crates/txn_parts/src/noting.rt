@@ -2,17 +2,17 @@
 ghost use Rattle.std.specs.Prelude.{◌≡◌, true, false, None};
 ghost use Rattle.txn_parts.specs.Note.{SpellsNote};
 
-use lock_core::Job;
+use crate::numbered::Numbered;
 use log_record::{Units, spell_note};
 
 /// Spells the Note of this transfer. False: it has none.
-pub fn spell_job_note(units: &mut Units, number: u32, job: &Job) -> bool
-    ensures noted { result ≡ true → SpellsNote number job.now units.new }
-    ensures none { result ≡ false → job.now.note ≡ None }
+pub fn spell_job_note(units: &mut Units, numbered: &Numbered) -> bool
+    ensures noted { result ≡ true → SpellsNote numbered.now.number numbered.now.job units.new }
+    ensures none { result ≡ false → numbered.now.job.note ≡ None }
 {
-    let Some(remark) = &job.note else {
+    let Some(remark) = &numbered.job.note else {
         return false;
     };
-    spell_note(units, number, remark.as_slice());
+    spell_note(units, numbered.number, remark.as_slice());
     true
 }

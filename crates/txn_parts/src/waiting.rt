@@ -1,9 +1,11 @@
 //! A worker waits: between two attempts it looks whether the log has stopped, and rests.
-ghost use Rattle.std.specs.Prelude.{◌≡◌, ◌<◌, ◌≤◌, [], true, false, IfOk, IfErr, IfSome, IfNone, OnOk, OnErr};
+ghost use Rattle.std.specs.Prelude.{◌≡◌, ◌<◌, ◌≤◌, true, false, IfOk, IfErr, IfSome, IfNone, OnOk, OnErr};
 ghost use Rattle.log_table.specs.Seats.{IsOf, view_of};
 ghost use Rattle.ring_buffer.specs.Calls.{IsReady, HasEntries};
-ghost use Rattle.txn_parts.specs.Stops.{StopsFor, IsLogEnd, IsRingFull};
+ghost use Rattle.txn_parts.specs.Desk.{IsAtWork, WorksOn, HasOnlyLooked, view_at};
+ghost use Rattle.txn_parts.specs.Stops.{HasStopped, HasSeen, IsLogEnd, IsRingFull};
 
+use crate::desk::Desk;
 use crate::relief::Relief;
 use log_table::{LogTable, Seat};
 use lsn_space::Lsn;
@@ -13,50 +15,40 @@ use txn_jobs::Cause;
 
 /// What a worker does between two attempts. Ok: the log had not stopped. Err: it has.
 #[inline(always)]
-pub fn pause<Q: Relief>(table: &LogTable, seat: &mut Seat, relief: &mut Q) -> Result<(), Cause>
-    requires seat { IsOf table.now seat.old }
-    requires ready { IsReady (view_of seat.old) }
-    requires relief { Q.ready relief.old }
-    ensures kept { HasEntries seat.old seat.new (view_of seat.old).entries (view_of seat.old).books }
-    ensures runs { OnOk result ((view_of seat.new).seen.stop ≡ 0) }
-    ensures stopped { IfErr result (λ cause. StopsFor cause [] (view_of seat.new)) }
-    ensures relief { Q.ready relief.new }
-    ensures later { Q.later relief.old relief.new }
+pub fn pause<R, Q: Relief, G>(desk: &mut Desk<'_, R, Q, G>) -> Result<(), Cause>
+    requires work { IsAtWork Q.Relief desk.old }
+    ensures work { WorksOn Q.Relief desk.old desk.new }
+    ensures kept { HasOnlyLooked desk.old desk.new }
+    ensures runs { OnOk result ((view_at desk.new).seen.stop ≡ 0) }
+    ensures stopped { IfErr result (HasStopped desk.new) }
 {
-    let word = table.load_stop(seat);
+    let word = desk.table.load_stop(desk.seat);
     if word != 0 {
         return Err(Cause::Stop(word));
     }
-    relief.rest();
+    desk.relief.rest();
     Ok(())
 }
 
 /// The durable LSN as the worker sees it now; where it is to `wait`, once that is at or above the end.
 #[inline(always)]
-pub fn see_durable<R: Wait, Q: Relief>(
-    rt: &R,
-    table: &LogTable,
-    seat: &mut Seat,
+pub fn see_durable<R: Wait, Q: Relief, G>(
+    desk: &mut Desk<'_, R, Q, G>,
     end: Lsn,
-    relief: &mut Q,
     wait: bool,
 ) -> Result<Lsn, Cause>
-    requires seat { IsOf table.now seat.old }
-    requires ready { IsReady (view_of seat.old) }
-    requires relief { Q.ready relief.old }
-    ensures kept { HasEntries seat.old seat.new (view_of seat.old).entries (view_of seat.old).books }
-    ensures seen { IfOk result (λ seen. seen ≡ (view_of seat.new).seen.durable) }
-    ensures waited { IfOk result (λ seen. wait ≡ true → end ≤ seen) }
+    requires work { IsAtWork Q.Relief desk.old }
+    ensures work { WorksOn Q.Relief desk.old desk.new }
+    ensures kept { HasOnlyLooked desk.old desk.new }
+    ensures seen { IfOk result (HasSeen end wait (view_at desk.new)) }
     ensures waits { OnErr result (wait ≡ true) }
-    ensures stopped { IfErr result (λ cause. StopsFor cause [] (view_of seat.new)) }
-    ensures relief { Q.ready relief.new }
-    ensures later { Q.later relief.old relief.new }
+    ensures stopped { IfErr result (HasStopped desk.new) }
 {
-    for _ in rt.forever() {
-        if let Some(seen) = look_at_durable(table, seat, end, wait) {
+    for _ in desk.rt.forever() {
+        if let Some(seen) = look_at_durable(desk.table, desk.seat, end, wait) {
             return Ok(seen);
         }
-        pause(table, seat, relief)?;
+        pause(desk)?;
     }
     unreachable!()
 }
@@ -67,8 +59,7 @@ fn look_at_durable(table: &LogTable, seat: &mut Seat, end: Lsn, wait: bool) -> O
     requires seat { IsOf table.now seat.old }
     requires ready { IsReady (view_of seat.old) }
     ensures kept { HasEntries seat.old seat.new (view_of seat.old).entries (view_of seat.old).books }
-    ensures seen { IfSome result (λ seen. seen ≡ (view_of seat.new).seen.durable) }
-    ensures waited { IfSome result (λ seen. wait ≡ true → end ≤ seen) }
+    ensures seen { IfSome result (HasSeen end wait (view_of seat.new)) }
     ensures waits { IfNone result ((wait ≡ true) × ((view_of seat.new).seen.durable < end)) }
 {
     let seen = table.load_durable(seat);

@@ -2,10 +2,10 @@ use Rattle.std.proofs.Common.{◌<◌, ap, subst, sym}
 use Rattle.txn_parts.proofs.waiting.look_at_durable.Goals as goal
 
 pub returns-then-is_seen-clause-seen : goal.returns-then-is_seen-clause-seen
-returns-then-is_seen-clause-seen c = sym (ap (λ m. m.0.seen.durable) c.load_durable-seen.ensures.view.me)
-
-pub returns-then-is_seen-clause-waited : goal.returns-then-is_seen-clause-waited
-returns-then-is_seen-clause-waited c = c.is_seen.ensures.seen c.if-is_seen.true
+returns-then-is_seen-clause-seen c = record {
+  durable = sym (ap (λ m. m.0.seen.durable) c.load_durable-seen.ensures.view.me);
+  waited = c.is_seen.ensures.seen c.if-is_seen.true;
+}
 
 pub returns-clause-waits : goal.returns-clause-waits
 returns-clause-waits c = let waits = c.is_seen.ensures.waits c.if-is_seen.false in

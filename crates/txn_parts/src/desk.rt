@@ -1,0 +1,12 @@
+//! What a worker works with.
+use log_table::{LogTable, Seat};
+
+/// A worker's desk: the table, the worker's seat there, what it does while it waits, and the gate that it tells of its places.
+#[derive(Drop)]
+pub struct Desk<'a, R, Q, G> {
+    pub rt: &'a R,
+    pub table: &'a LogTable,
+    pub seat: &'a mut Seat,
+    pub relief: &'a mut Q,
+    pub gate: &'a G,
+}
