@@ -89,7 +89,7 @@ uncommitted-behind entries books books' is none before = ap (λ (b : Books). has
 -- the next record was not inserted
 pub cut-off : (rec : Rec) (rest : List Rec) (cause : Cause) (old new : Seat) → IsLeft (rec ∷ rest) (view_of old).books
     → has_commit (recs_of (view_of old).books.placed) ≡ false
-    → (view_of new).books ≡ (view_of old).books → StopsFor cause (rec ∷ []) (view_of new) → IsCutOff cause (view_of new)
+    → (view_of new).books ≡ (view_of old).books → StopsFor cause (rec ∷ []) (view_of new) → IsCutOff (view_of new) cause
 cut-off rec rest cause old new left uncommitted same stops = record {
   rest = rec ∷ rest;
   left = subst (IsLeft (rec ∷ rest)) (sym same) left;

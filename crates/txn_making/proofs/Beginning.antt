@@ -42,7 +42,7 @@ module _ (number : ℕ) (job : Job) (text : List ℕ) (old : Seat)
   spells-note = spells-next (Note number text) old next
 
   pub cut-note : (cause : Cause) (new : Seat) → (view_of new).books ≡ (view_of old).books
-      → StopsFor cause (next_of (view_of old).books ∷ []) (view_of new) → IsCutOff cause (view_of new)
+      → StopsFor cause (next_of (view_of old).books ∷ []) (view_of new) → IsCutOff (view_of new) cause
   cut-note cause new same stops = cut-off (Note number text) next.rest cause old new next.plan
       (ap (λ placed. has_commit (recs_of placed)) none) same (stops-it (Note number text) old next cause (view_of new) stops)
 

@@ -82,7 +82,7 @@ spells-last number job answer holdings between reaches = spells-next (last_recor
 pub cut-last : (number : ℕ) (job : Job) (answer : Answer) (holdings : List Holding) (between : Seat)
     → ReachesEnd answer number job holdings (view_of between).books → (cause : Cause) (new : Seat)
     → (view_of new).books ≡ (view_of between).books → StopsFor cause (next_of (view_of between).books ∷ []) (view_of new)
-    → IsCutOff cause (view_of new)
+    → IsCutOff (view_of new) cause
 cut-last number job answer holdings between reaches cause new same stops =
     cut-off (last_record number job answer) [] cause between new reaches.left reaches.uncommitted same
     (stops-it (last_record number job answer) between (next-last number job answer holdings (view_of between).books reaches) cause (view_of new) stops)

@@ -67,12 +67,13 @@ module _ (accounts : List ℕ) (holdings : List Holding) (first second third : S
       → more ≡ accounts ++ holding.taken.account ∷ []
       → holding.balance ≡ holding.taken.balance
       → HasEntries second third (view_of second).entries (taking (held_of holding.taken) (view_of second).books)
-      → TakesAll more all first third
-  takes-more more holding all pushed is unchanged after = subst (λ list. TakesAll more list first third) (sym pushed) record {
+      → (view_of third).seen.stop ≡ 0 → TakesAll more all first third
+  takes-more more holding all pushed is unchanged after runs = subst (λ list. TakesAll more list first third) (sym pushed) record {
     accounts_are = map-append account_of holdings (holding ∷ []) ∙ (λ i. before.accounts_are i ++ holding.taken.account ∷ []) ∙ sym is;
     unchanged = All-push (λ (holding : Holding). holding.balance ≡ holding.taken.balance) holdings holding before.unchanged unchanged;
     entries = subst (λ (p : List Entry × Books). HasEntries first third p.0 p.1) (λ i. (before.entries.entries_are i, books i))
         (HasEntries-trans _ _ _ _ _ _ _ before.entries after);
+    runs = runs;
   }
     where
       books : taking (held_of holding.taken) (view_of second).books ≡ holding_all (holdings ++ holding ∷ []) (view_of first).books

@@ -56,7 +56,7 @@ module _ (accounts number : ℕ) (leg : ℕ × ℕ × ℕ) (holdings : List Hold
   spells-first units payer is has same = spells-next less old next-less units (marked units (neg_ℤ (pos leg.2)) leg.0 payer is has same)
 
   pub cut-first : (cause : Cause) (new : Seat) → (view_of new).books ≡ books → StopsFor cause (next_of books ∷ []) (view_of new)
-      → IsCutOff cause (view_of new)
+      → IsCutOff (view_of new) cause
   cut-first cause new same stops = cut-off less (more ∷ may.rest) cause old new may.left may.uncommitted same
       (stops-it less old next-less cause (view_of new) stops)
 
@@ -83,7 +83,7 @@ module _ (accounts number : ℕ) (leg : ℕ × ℕ × ℕ) (holdings : List Hold
     spells-second units payee is has same = spells-next more between next-more units (marked units (pos leg.2) leg.1 payee is has same)
 
     pub cut-second : (cause : Cause) (new : Seat) → (view_of new).books ≡ (view_of between).books
-        → StopsFor cause (next_of (view_of between).books ∷ []) (view_of new) → IsCutOff cause (view_of new)
+        → StopsFor cause (next_of (view_of between).books ∷ []) (view_of new) → IsCutOff (view_of new) cause
     cut-second cause new same stops = cut-off more may.rest cause between new left-second
         (uncommitted-behind (entry_of put-less.start less ∷ []) books (view_of between).books placed refl may.uncommitted) same
         (stops-it more between next-more cause (view_of new) stops)

@@ -27,7 +27,7 @@ stays first second third entries books before after = record {
 }
 
 -- the seat saw more, and its books are these
-changes : (old new : Seat) (seen : Seen) (books : Books) → (view_of old).call ≡ Idle
+pub changes : (old new : Seat) (seen : Seen) (books : Books) → (view_of old).call ≡ Idle
     → Becomes old new (record (view_of old) { seen = seen; books = books })
     → (view_of old).seen.tail ≤ seen.tail → (view_of old).seen.exposed ≤ seen.exposed → (view_of old).seen.durable ≤ seen.durable
     → (view_of old).seen.steps ≤ seen.steps → HasEntries old new (view_of old).entries books

@@ -19,8 +19,8 @@ use Rattle.txn_making.specs.Inserts.{Adds, IsLeft}
 use Rattle.txn_making.specs.Legs.{last_record}
 use Rattle.txn_jobs.specs.Rows.{outcome_of}
 
--- The seat inserted records of the transfer, its end record last, and none is left. The answer is the outcome of the transfer run alone on the
--- balances as taken, and the holdings have the values with which they go back.
+-- The seat inserted records of the transfer, its end record last, and none is left. The answer is the outcome of the transfer run alone on
+-- the balances as taken, and the holdings have the values with which they go back.
 pub record EndsTransfer (number : ℕ) (job : Job) (ended : Ended) (holdings : List Holding) (old new : Seat) : Type 0 where
   pub before : List Entry
   pub start : ℕ

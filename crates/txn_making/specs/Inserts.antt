@@ -8,10 +8,11 @@ use Rattle.log_table.specs.declared.table.Seat.{Seat}
 use Rattle.log_rule.specs.declared.view.Books.{Books}
 use Rattle.log_rule.specs.declared.view.Entry.{Entry}
 use Rattle.log_rule.specs.declared.view.View.{View}
-use Rattle.log_rule.specs.Books.{plan_of}
+use Rattle.log_rule.specs.Books.{next_of, plan_of}
 use Rattle.log_table.specs.Seats.{view_of}
 use Rattle.ring_buffer.specs.Calls.{HasEntries, entry_of}
 use Rattle.txn_jobs.specs.declared.cause.Cause.{Cause}
+use Rattle.txn_parts.specs.declared.desk.Desk.{Desk}
 pub use Rattle.txn_parts.specs.Stops.{StopsFor, IsLogEnd}
 
 -- the entries lie one behind another, from the one LSN up to the other
@@ -33,9 +34,9 @@ pub record Adds (added : List Entry) (old new : Seat) : Type 0 where
   pub entries : HasEntries old new ((view_of old).entries ++ added) (placing_all added (view_of old).books)
   pub within : LieInOrder (view_of old).seen.tail (view_of new).seen.tail added
 
--- the seat inserted some entries so
-abbrev pub HasAdded : Seat → Seat → Type 0
-HasAdded old new = (added : List Entry) × Adds added old new
+-- the worker's seat inserted some entries so
+abbrev pub HasAdded : {R Q G : Type 0} → Desk R Q G → Desk R Q G → Type 0
+HasAdded old new = (added : List Entry) × Adds added old.seat.now new.seat.now
 
 -- the seat inserted this record alone, which ends there
 pub record Puts (rec : Rec) (end : ℕ) (old new : Seat) : Type 0 where
@@ -43,12 +44,16 @@ pub record Puts (rec : Rec) (end : ℕ) (old new : Seat) : Type 0 where
   pub ends : end ≡ start + size_of rec
   pub adds : Adds (entry_of start rec ∷ []) old new
 
+-- the next record of the worker's last job
+abbrev pub next_at : {R Q G : Type 0} → Desk R Q G → Rec
+next_at desk = next_of (view_of desk.seat.now).books
+
 -- these records of the seat's last job are left: with those in the log before them they are all
 abbrev pub IsLeft : List Rec → Books → Type 0
 IsLeft rest books = in_order (recs_of books.placed) rest ≡ plan_of books
 
 -- the seat's last job has no Commit, and for that cause these records of it are left, one at least
-pub record IsCutOff (cause : Cause) (view : View) : Type 0 where
+pub record IsCutOff (view : View) (cause : Cause) : Type 0 where
   pub rest : List Rec
   pub left : IsLeft rest view.books
   pub some : rest ≢ []

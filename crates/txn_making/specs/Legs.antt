@@ -11,8 +11,10 @@ use Rattle.lock_core.specs.Transactions.{recs_of, changes_in, has_commit, touche
 use Rattle.lock_core.specs.declared.job.Job.{Job}
 use Rattle.early_locks.specs.Locks.{HoldsTaken}
 use Rattle.log_table.specs.declared.table.Seat.{Seat}
+use Rattle.log_table.specs.Seats.{view_of}
 use Rattle.log_rule.specs.declared.view.Books.{Books}
 use Rattle.log_rule.specs.declared.view.Entry.{Entry}
+use Rattle.log_rule.specs.declared.view.View.{View}
 use Rattle.log_rule.specs.Accounts.{MayBeTaken}
 use Rattle.log_rule.specs.Books.{balance_taken, mark_taken, HoldsAccounts}
 use Rattle.lock_core.specs.Transfers.{transfer_of}
@@ -22,7 +24,7 @@ pub use Rattle.txn_parts.specs.Leg.{HasBalance, IsRefused, CanMake, CanBear, IsA
 use Rattle.txn_jobs.specs.declared.rows.Answer.{Answer}
 use Rattle.txn_jobs.specs.declared.rows.Answer.TheVariants.{Done}
 use Rattle.txn_jobs.specs.Accounts.{HasAccountsOf, IsAccountOf}
-use Rattle.txn_making.specs.Holdings.{account_of}
+use Rattle.txn_making.specs.Holdings.{account_of, IsUnchanged}
 use Rattle.txn_making.specs.Inserts.{Adds, IsLeft}
 use Rattle.txn_jobs.specs.Rows.{outcome_of}
 
@@ -42,6 +44,14 @@ pub record HoldsJob (accounts number : ℕ) (job : Job) (holdings : List Holding
   pub only : All (IsAccountOf job.legs) (map account_of holdings)
   pub taken : AreHeld holdings books
 
+-- The seat's last job is this one: its accounts are held as they were taken, nothing of it is in the log, and that had not stopped when
+-- it was seen last.
+pub record MayInsertTransfer (accounts number : ℕ) (job : Job) (holdings : List Holding) (view : View) : Type 0 where
+  pub holds : HoldsJob accounts number job holdings view.books
+  pub unchanged : All IsUnchanged holdings
+  pub begins : view.books.placed ≡ []
+  pub runs : view.seen.stop ≡ 0
+
 -- the Updates of a leg's two accounts, each with the last Commit as it was taken
 abbrev pub leg_records : ℕ → (ℕ → ℕ) → ℕ × ℕ × ℕ → List Rec
 leg_records number mark leg = Update number leg.0 (neg_ℤ (pos leg.2)) (mark leg.0) ∷ Update number leg.1 (pos leg.2) (mark leg.1) ∷ []
@@ -51,6 +61,10 @@ pub record AddsRecords (records : List Rec) (old new : Seat) : Type 0 where
   pub added : List Entry
   pub adds : Adds added old new
   pub records_are : records_of added ≡ records
+
+-- the seat inserted these of the leg, with the marks as its accounts were taken
+abbrev pub AddsLeg : ℕ → ℕ × ℕ × ℕ → Seat → Seat → Type 0
+AddsLeg number leg old new = AddsRecords (leg_records number (mark_taken (view_of old).books.held) leg) old new
 
 -- The leg may be made: its accounts are among these holdings, of which each is held, and its Updates come next.
 pub record MayMakeLeg (accounts number : ℕ) (leg : ℕ × ℕ × ℕ) (holdings : List Holding) (books : Books) : Type 0 where

@@ -1,12 +1,12 @@
 //! A transfer gives its accounts back.
-ghost use Rattle.std.specs.Prelude.{◌≡◌, ◌<◌, ◌≤◌, [], true, false, All};
+ghost use Rattle.std.specs.Prelude.{◌≡◌, ◌<◌, ◌≤◌, false, All};
 ghost use Rattle.log_record.specs.declared.limits.TheConstants.{MOST_BALANCE};
 ghost use Rattle.lock_core.specs.Transactions.{recs_of, has_commit};
 ghost use Rattle.log_table.specs.Seats.{IsOf, Becomes, view_of};
 ghost use Rattle.log_rule.specs.AccountViews.{gave_account};
 ghost use Rattle.ring_buffer.specs.Calls.{IsReady};
-ghost use Rattle.early_locks.specs.Locks.{HoldsTaken, GivesBack, HasSeenDurable};
-ghost use Rattle.txn_making.specs.Holdings.{HoldsAll, IsKnown, GoesBack, with_held};
+ghost use Rattle.early_locks.specs.Locks.{HoldsTaken, GivesBack};
+ghost use Rattle.txn_making.specs.Holdings.{HoldsKnown, GoesBack, MayGiveAs, ReturnsAll};
 
 use arrayvec::ArrayVec;
 use early_locks::{Taken, give, give_durable};
@@ -25,11 +25,10 @@ pub fn give_all(
 )
     requires seat { IsOf table.now seat.old }
     requires ready { IsReady (view_of seat.old) }
-    requires holds { HoldsAll holdings.old.items (view_of seat.old).books }
-    requires known { All (IsKnown table.now.accounts) holdings.old.items }
+    requires holds { HoldsKnown table.now.accounts holdings.old.items (view_of seat.old).books }
     requires values { All (GoesBack release (view_of seat.old).books) holdings.old.items }
-    requires durable { durable ≡ true → HasSeenDurable (view_of seat.old) }
-    ensures { Becomes seat.old seat.new (with_held [] holdings.old.items (view_of seat.old)) }
+    requires durable { MayGiveAs durable (view_of seat.old) }
+    ensures { ReturnsAll holdings.old.items seat.old seat.new }
 {
     'holdings: for holding in holdings.drain(..) {
         let (balance, mark) = release.values(&holding);
@@ -45,10 +44,9 @@ pub fn give_unchanged(
 )
     requires seat { IsOf table.now seat.old }
     requires ready { IsReady (view_of seat.old) }
-    requires holds { HoldsAll holdings.old.items (view_of seat.old).books }
-    requires known { All (IsKnown table.now.accounts) holdings.old.items }
+    requires holds { HoldsKnown table.now.accounts holdings.old.items (view_of seat.old).books }
     requires uncommitted { has_commit (recs_of (view_of seat.old).books.placed) ≡ false }
-    ensures { Becomes seat.old seat.new (with_held [] holdings.old.items (view_of seat.old)) }
+    ensures { ReturnsAll holdings.old.items seat.old seat.new }
 {
     give_all(table, seat, holdings, Release::Unchanged, false);
 }
@@ -60,7 +58,7 @@ fn give_one(table: &LogTable, seat: &mut Seat, taken: Taken, balance: u32, mark:
     requires known { taken.account < table.now.accounts }
     requires balance { balance ≤ MOST_BALANCE }
     requires values { GivesBack taken balance mark (view_of seat.old).books }
-    requires durable { durable ≡ true → HasSeenDurable (view_of seat.old) }
+    requires durable { MayGiveAs durable (view_of seat.old) }
     ensures { Becomes seat.old seat.new (gave_account taken.account (view_of seat.old)) }
 {
     if durable {

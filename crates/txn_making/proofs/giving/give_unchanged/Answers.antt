@@ -5,9 +5,6 @@ use Rattle.txn_making.proofs.giving.give_unchanged.Goals as goal
 pub give_all-requires-clause-holds : goal.give_all-requires-clause-holds
 give_all-requires-clause-holds c = c.requires.holds
 
-pub give_all-requires-clause-known : goal.give_all-requires-clause-known
-give_all-requires-clause-known c = c.requires.known
-
 pub give_all-requires-clause-values : goal.give_all-requires-clause-values
 give_all-requires-clause-values c = all-unchanged (view_of c.args.seat.now).books c.requires.uncommitted _
 

@@ -8,16 +8,16 @@ use Rattle.txn_making.proofs.Putting.{may-place, puts}
 use Rattle.txn_making.proofs.inserting.insert_units.Goals as goal
 
 pub insert-requires-clause-next : goal.insert-requires-clause-next
-insert-requires-clause-next g c = subst (MayPlace (length c.args.units.now)) (sym c.loop.invariant.0.books_are)
-    (may-place c.args.units.now (view_of c.args.seat.now).books c.requires.spelled c.requires.next)
+insert-requires-clause-next g c = subst (MayPlace (length c.args.units.now)) (sym c.loop.invariant.1.books_are)
+    (may-place c.args.units.now (view_of c.args.desk.now.seat.now).books c.requires.spelled c.requires.next)
 
 pub insert-requires-clause-units : goal.insert-requires-clause-units
 insert-requires-clause-units g c = c.requires.spelled
-    ∙ ap (λ (books : Books). spelling (next_of books)) (sym c.loop.invariant.0.books_are)
+    ∙ ap (λ (books : Books). spelling (next_of books)) (sym c.loop.invariant.1.books_are)
 
 pub returns-in-Ok-clause-put : goal.returns-in-Ok-clause-put
 returns-in-Ok-clause-put g c =
     let end : c.new.result ≡ c.in-Ok.at + length c.args.units.now = search rules in
-    puts (length c.args.units.now) c.in-Ok.at c.new.result c.args.seat.now c.loop.seat
+    puts (length c.args.units.now) c.in-Ok.at c.new.result c.args.desk.now.seat.now c.loop.desk.seat.now
     c.insert.new.seat (ap length c.requires.spelled) end
-    c.loop.invariant.0 c.in-Ok.ensures.inserted c.in-Ok.ensures.behind c.in-Ok.ensures.seen
+    c.loop.invariant.1 c.in-Ok.ensures.inserted c.in-Ok.ensures.behind c.in-Ok.ensures.seen

@@ -1,42 +1,46 @@
 use Rattle.std.proofs.lemmas.Result.{err_from_is_err_and}
+use Rattle.txn_parts.proofs.DeskLemmas.{WorksOn-trans}
 use Rattle.txn_making.proofs.Making.{enters-first, spells-first, cut-first, enters-second, spells-second, cut-second, leg-made}
 use Rattle.txn_making.proofs.legs.make_leg.Goals as goal
 
 pub insert_units-requires-clause-next : goal.insert_units-requires-clause-next
-insert_units-requires-clause-next g c = enters-first _ _ _ _ c.args.seat.now c.requires.leg
+insert_units-requires-clause-next g c = enters-first _ _ _ _ c.args.desk.now.seat.now c.requires.leg
 
 pub insert_units-requires-clause-spelled : goal.insert_units-requires-clause-spelled
 insert_units-requires-clause-spelled g c =
     let payer = c.holding_of.ensures in
-    spells-first _ _ _ _ c.args.seat.now c.requires.leg _ _ c.spell_debit.ensures payer.found payer.account
+    spells-first _ _ _ _ c.args.desk.now.seat.now c.requires.leg _ _ c.spell_debit.ensures payer.found payer.account
 
 pub returns-in_err-insert_units-clause-cut : goal.returns-in_err-insert_units-clause-cut
 returns-in_err-insert_units-clause-cut g c =
     let failed = err_from_is_err_and c.from_residual.result c.from_residual.ensures.1 in
     let err = c.in_err-insert_units.ensures in
-    rw (failed.1, failed.2) (cut-first _ _ _ _ c.args.seat.now c.requires.leg _ c.insert_units.new.seat err.kept.books_are err.stopped)
+    rw (failed.1, failed.2) (cut-first _ _ _ _ c.args.desk.now.seat.now c.requires.leg _ c.insert_units.new.desk.seat.now
+    err.kept.books_are err.stopped)
 
 pub insert_units-requires-2-clause-next : goal.insert_units-requires-2-clause-next
 insert_units-requires-2-clause-next g c =
-    enters-second _ _ _ _ c.args.seat.now c.requires.leg c.insert_units.new.seat _ c.in_ok-insert_units.ensures.put
+    enters-second _ _ _ _ c.args.desk.now.seat.now c.requires.leg c.insert_units.new.desk.seat.now _ c.in_ok-insert_units.ensures.put
 
 pub insert_units-requires-2-clause-spelled : goal.insert_units-requires-2-clause-spelled
 insert_units-requires-2-clause-spelled g c =
     let payee = c.holding_of-2.ensures in
-    spells-second _ _ _ _ c.args.seat.now c.requires.leg c.insert_units.new.seat _ c.in_ok-insert_units.ensures.put _ _
+    spells-second _ _ _ _ c.args.desk.now.seat.now c.requires.leg c.insert_units.new.desk.seat.now _ c.in_ok-insert_units.ensures.put _ _
     c.spell_credit.ensures payee.found payee.account
 
 pub returns-in_err-insert_units-2-clause-cut : goal.returns-in_err-insert_units-2-clause-cut
 returns-in_err-insert_units-2-clause-cut g c =
     let failed = err_from_is_err_and c.from_residual-in_err-insert_units-2.result c.from_residual-in_err-insert_units-2.ensures.1 in
     let err = c.in_err-insert_units-2.ensures in
-    rw (failed.1, failed.2) (cut-second _ _ _ _ c.args.seat.now c.requires.leg c.insert_units.new.seat _ c.in_ok-insert_units.ensures.put
-    _ c.insert_units-2.new.seat err.kept.books_are err.stopped)
+    rw (failed.1, failed.2) (cut-second _ _ _ _ c.args.desk.now.seat.now c.requires.leg c.insert_units.new.desk.seat.now _
+    c.in_ok-insert_units.ensures.put
+    _ c.insert_units-2.new.desk.seat.now err.kept.books_are err.stopped)
 
 pub returns-clause-made : goal.returns-clause-made
 returns-clause-made g c =
-    leg-made _ _ _ _ c.args.seat.now c.requires.leg c.insert_units.new.seat _ c.in_ok-insert_units.ensures.put
-    c.insert_units-2.new.seat _ c.in_ok-insert_units-2.ensures.put
+    leg-made _ _ _ _ c.args.desk.now.seat.now c.requires.leg c.insert_units.new.desk.seat.now _ c.in_ok-insert_units.ensures.put
+    c.insert_units-2.new.desk.seat.now _ c.in_ok-insert_units-2.ensures.put
 
-pub returns-clause-later : goal.returns-clause-later
-returns-clause-later g c = g.met.Q.Relief.later_trans _ _ _ c.in_ok-insert_units.ensures.later c.in_ok-insert_units-2.ensures.later
+pub returns-clause-work : goal.returns-clause-work
+returns-clause-work g c =
+    WorksOn-trans g.Q.Relief g.met.Q.Relief.later_trans _ _ _ c.in_ok-insert_units.ensures.work c.in_ok-insert_units-2.ensures.work

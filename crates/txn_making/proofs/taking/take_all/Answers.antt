@@ -1,8 +1,11 @@
-use Rattle.std.proofs.Common.{◌≡◌, ◌<◌, ◌∷◌, ◌++◌, [], get_or, take, ap, sym, refl, ◌∙◌}
+use Rattle.std.proofs.Common.{◌<◌, ◌∷◌, ◌++◌, [], get_or, take, All, ap, sym, refl, ◌∙◌}
 use Rattle.lock_core.specs.Transactions.{recs_of, has_commit}
 use Rattle.log_rule.specs.declared.view.Books.{Books}
 use Rattle.std.proofs.lemmas.List.{take_more}
 use Rattle.std.proofs.lemmas.List.Elements.{All-take}
+use Rattle.txn_parts.specs.Desk.{accounts_at}
+use Rattle.txn_parts.proofs.DeskLemmas.{WorksOn-accounts, WorksOn-trans}
+use Rattle.txn_making.specs.Holdings.{IsKnown}
 use Rattle.txn_making.proofs.Backing.{notes-uncommitted}
 use Rattle.txn_making.proofs.Gaining.{all-known, next-ascends, holds-all, takes-more}
 use Rattle.txn_making.proofs.Held.{given-held}
@@ -12,36 +15,38 @@ use Rattle.txn_making.proofs.taking.take_all.Goals as goal
 
 pub take_one-requires-clause-ascends : goal.take_one-requires-clause-ascends
 take_one-requires-clause-ascends g c =
-    next-ascends _ _ _ _ _ c.accounts.invariant.0 c.requires.rising c.accounts-test.true
+    next-ascends _ _ _ _ _ c.accounts.invariant.1 c.requires.accounts.rising c.accounts-test.true
 
 pub take_one-requires-clause-known : goal.take_one-requires-clause-known
-take_one-requires-clause-known g c = c.requires.known c.accounts.account-index 0 c.accounts-test.true
+take_one-requires-clause-known g c = WorksOn-accounts g.Q.Relief _ _ c.accounts.invariant.0
+    (λ accounts. get_or c.args.accounts.now c.accounts.account-index 0 < accounts)
+    (c.requires.accounts.known c.accounts.account-index 0 c.accounts-test.true)
 
 pub give_unchanged-requires-clause-holds : goal.give_unchanged-requires-clause-holds
-give_unchanged-requires-clause-holds g c = holds-all _ _ _ _ _ c.accounts.invariant.0 (rising-take _ _ c.requires.rising) c.in-Err.ensures.kept
-
-pub give_unchanged-requires-clause-known : goal.give_unchanged-requires-clause-known
-give_unchanged-requires-clause-known g c = all-known _ _ _ c.accounts.invariant.0.accounts_are
-    (All-take (λ account. account < c.args.table.now.accounts) _ _ c.requires.known)
+give_unchanged-requires-clause-holds g c = record {
+  holds = holds-all _ _ _ _ _ c.accounts.invariant.1 (rising-take _ _ c.requires.accounts.rising) c.in-Err.ensures.kept;
+  known = WorksOn-accounts g.Q.Relief _ _
+      (WorksOn-trans g.Q.Relief g.met.Q.Relief.later_trans _ _ _ c.accounts.invariant.0 c.take_one.ensures.work)
+      (λ accounts. All (IsKnown accounts) c.accounts.holdings.items)
+      (all-known _ _ _ c.accounts.invariant.1.accounts_are
+      (All-take (λ account. account < accounts_at c.args.desk.now) _ _ c.requires.accounts.known));
+}
 
 pub give_unchanged-requires-clause-uncommitted : goal.give_unchanged-requires-clause-uncommitted
 give_unchanged-requires-clause-uncommitted g c =
-    ap (λ (books : Books). has_commit (recs_of books.placed)) (c.in-Err.ensures.kept.books_are ∙ c.accounts.invariant.0.entries.books_are)
-    ∙ notes-uncommitted _ c.requires.begins.only_note
+    ap (λ (books : Books). has_commit (recs_of books.placed)) (c.in-Err.ensures.kept.books_are ∙ c.accounts.invariant.1.entries.books_are)
+    ∙ notes-uncommitted _ c.requires.may.begins.only_note
 
 pub returns-in-Err-clause-given : goal.returns-in-Err-clause-given
 returns-in-Err-clause-given g c = given-trans _ _ _
-    (given-same _ _ (ap (λ (books : Books). books.given) (c.in-Err.ensures.kept.books_are ∙ c.accounts.invariant.0.entries.books_are)))
+    (given-same _ _ (ap (λ (books : Books). books.given) (c.in-Err.ensures.kept.books_are ∙ c.accounts.invariant.1.entries.books_are)))
     (given-held _ _ _ _ c.give_unchanged.ensures)
 
 pub accounts-preserved : goal.accounts-preserved
-accounts-preserved g c =
-    let account : c.in-Ok.taken.account ≡ get_or c.args.accounts.now c.accounts.account-index 0 = c.in-Ok.ensures.account in (
-      takes-more _ _ _ _ _ c.accounts.invariant.0 _ _ _ c.push.ensures.items
-          (take_more c.args.accounts.now c.accounts.account-index 0 c.accounts-test.true
-          ∙ (λ i. take c.accounts.account-index c.args.accounts.now ++ sym account i ∷ []))
-          refl c.in-Ok.ensures.taken,
-      c.in-Ok.ensures.relief,
-      g.met.Q.Relief.later_trans _ _ _ c.accounts.invariant.2 c.in-Ok.ensures.later,
-      c.in-Ok.ensures.runs,
-    )
+accounts-preserved g c = (
+  WorksOn-trans g.Q.Relief g.met.Q.Relief.later_trans _ _ _ c.accounts.invariant.0 c.take_one.ensures.work,
+  takes-more _ _ _ _ _ c.accounts.invariant.1 _ _ _ c.push.ensures.items
+      (take_more c.args.accounts.now c.accounts.account-index 0 c.accounts-test.true
+      ∙ (λ i. take c.accounts.account-index c.args.accounts.now ++ sym c.in-Ok.ensures.taken.account_is i ∷ []))
+      refl c.in-Ok.ensures.taken.entries c.in-Ok.ensures.runs,
+)

@@ -1,8 +1,8 @@
-use Rattle.std.proofs.Common.{◌≡◌, take}
-use Rattle.log_table.specs.Seats.{view_of}
+use Rattle.std.proofs.Common.{take}
+use Rattle.txn_parts.specs.Desk.{WorksOn}
 use Rattle.txn_making.specs.Holdings.{TakesAll}
 use Rattle.txn_making.proofs.taking.take_all.Given as goal
 
 abbrev pub invariant-accounts : goal.invariant-accounts
-invariant-accounts g l = TakesAll (take l.account-index l.fn.accounts) l.holdings.items l.fn.seat l.seat
-    × g.Q.Relief.ready l.relief × g.Q.Relief.later l.fn.relief l.relief × ((view_of l.seat).seen.stop ≡ 0)
+invariant-accounts g l = WorksOn g.Q.Relief l.fn.desk l.desk
+    × TakesAll (take l.account-index l.fn.accounts) l.holdings.items l.fn.desk.seat.now l.desk.seat.now
