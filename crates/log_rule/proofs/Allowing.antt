@@ -149,6 +149,11 @@ module _ (key : Start) (slots seat : ℕ) (me : Me (Unit {0}) View) where
   tell_stop-allowed = allowed-if_step key slots seat me Stop shared_stop (λ n. n) (λ _. me.0) (λ _. none)
       (λ _. me.0.standing.role ≡ Flusher → HasReadStop me.0.sending.stop me.0) (stop-tells key seat me.0) (λ n _. stop-stays key seat me.0 n)
 
+  pub look-allowed : HasAccounts key → Allows (Ruled key) slots seat me STOP (λ n. n) (λ n new. (new ≡ (me.0, me.1)) × HoldsAtOnce key seat me.0)
+  look-allowed accounts = allowed-if_told key slots seat me Stop shared_stop (λ n. n) (λ _. me.0) (λ _. none) (λ _. HoldsAtOnce key seat me.0)
+      (λ words views log s here n is led. record { accounts = accounts; words = words; views = views; log = log; rule = s; own = here })
+      (λ n _. stop-stays key seat me.0 n)
+
   pub load_stop-allowed : Allows (Ruled key) slots seat me STOP (λ n. n) (λ n new. (new ≡ (saw_stop n me.0, me.1)) × (me.0.seen.stop ≢ 0 → n ≡ me.0.seen.stop))
   load_stop-allowed = allowed-if_step key slots seat me Stop shared_stop (λ n. n) (λ n. saw_stop n me.0) (λ _. none)
       (λ n. me.0.seen.stop ≢ 0 → n ≡ me.0.seen.stop) (stop-keeps key seat me.0) (λ n _. stop-looks key seat me.0 n)

@@ -1,5 +1,6 @@
--- The units sent are whole records, a front of the list that was inserted; so they run all jobs lawfully where no number was taken twice.
-use Rattle.std.proofs.Common.{◌≡◌, ⊎_elim, ℕ, zero, suc, ◌+◌, ◌<◌, ◌≤◌, List, [], ◌∷◌, ◌++◌, map, length, drop, take, take-append-drop, length-drop, sym, refl, ap, ◌∙◌, subst, append-nil, arith}
+-- The units sent, and with them those read, are whole records, a front of the list that was inserted; so they run all jobs lawfully where no
+-- number was taken twice.
+use Rattle.std.proofs.Common.{◌≡◌, ⊎_elim, ℕ, zero, suc, ◌+◌, ◌<◌, ◌≤◌, List, [], ◌∷◌, ◌++◌, map, length, drop, take-append-drop, length-drop, length-append, sym, refl, ap, ◌∙◌, subst, append-nil, arith}
 use Rattle.std.specs.List.{AllByRecursion}
 use Rattle.std.proofs.lemmas.List.{nil_from_length}
 use Rattle.lsn_space.specs.Tiling.{IsTilingBoundary}
@@ -9,7 +10,7 @@ use Rattle.log_record.specs.LogList.{AreUnitsOf}
 use Rattle.log_record.specs.Spelling.{IsSpellable}
 use Rattle.lock_core.specs.History.{end_from, entry_at, history_from}
 use Rattle.lock_core.specs.Lawful.{IsLawful}
-use Rattle.lock_core.specs.Serial.{IsRunWhole, IsCutShort, IsPartlySerialAfter}
+use Rattle.lock_core.specs.Serial.{IsPartlySerialAfter}
 use Rattle.lock_core.specs.Soundness.{IsSoundAfter}
 use Rattle.lock_core.specs.Sums.{as_opening}
 use Rattle.lock_core.proofs.Appending.{none-genesis}
@@ -18,16 +19,19 @@ use Rattle.lock_core.proofs.SerialFronts.{partly_serial-front}
 use Rattle.lock_core.proofs.SoundLemmas.{sound-lawful}
 use Rattle.log_rule.specs.declared.start.Start.{Start}
 use Rattle.log_rule.specs.declared.view.Books.{Books}
+use Rattle.log_rule.specs.declared.view.Constants.{Constants}
 use Rattle.log_rule.specs.declared.view.Role.TheVariants.{Flusher}
 use Rattle.log_rule.specs.declared.view.TakenJob.{TakenJob}
 use Rattle.log_rule.specs.declared.view.View.{View}
 use Rattle.log_rule.specs.Accounts.{Everywhere, takers, HasDistinctJobs, AccountsFollowList}
 use Rattle.log_rule.specs.Books.{task_of, times_taken}
 use Rattle.log_rule.specs.Groups.{Group}
-use Rattle.log_rule.specs.Log.{Part, Laid, IsFull, IsFullIfReleased, IsReleasedBelow, IsSpelled, SpellsRecord, AgreesFrom, records_in}
-use Rattle.log_rule.specs.Moments.{HoldsAtOnce, books_of_all, jobs_of_all, RunsLawfully, HasSentLawfully}
+use Rattle.log_rule.specs.Log.{Part, Laid, IsRangeBoundary, ranges_of, IsFull, IsFullIfReleased, IsReleasedBelow, IsSpelled, SpellsRecord, AgreesFrom, records_in}
+use Rattle.log_rule.specs.Moments.{HoldsAtOnce, books_of_all, jobs_of_all, RunsLawfully, SpellLawfully}
+use Rattle.log_rule.specs.Roles.{is_spent}
+use Rattle.log_rule.specs.Views.{read_to}
 use Rattle.log_rule.specs.Sound.{SendsInsertedUnits, IsSound, base_of, history_in, books_of}
-use Rattle.log_rule.proofs.Agreeing.{joined, whole-record, first-units, rest-agrees}
+use Rattle.log_rule.proofs.Agreeing.{agrees-append, joined, whole-record, first-units, rest-agrees}
 use Rattle.log_rule.proofs.Bookings.{times_taken-append}
 use Rattle.log_rule.proofs.Boundaries.{part_size, boundary-least}
 use Rattle.log_rule.proofs.Gathered.{all-jobs_run}
@@ -111,29 +115,28 @@ all-jobs P groups (v ∷ vs) each = all-append P v.books.jobs (jobs_of_all vs)
 
 -- ---- what was sent
 
-module _ (key : Start) (seat : ℕ) (view : View) (once : HoldsAtOnce key seat view) (flusher : view.standing.role ≡ Flusher) where
+-- units that agree with the log up to a boundary which is exposed
+module _ (key : Start) (seat : ℕ) (view : View) (once : HoldsAtOnce key seat view) (units : List ℕ) (until : ℕ)
+    (boundary : IsRangeBoundary key.start (ranges_of once.log) until) (size : key.start + length units ≡ until) (below : until ≤ once.words.exposed)
+    (agrees : AllByRecursion (AgreesFrom key.start units) once.log.parts) where
   s : IsSound key once.words once.views once.log
   s = once.rule
 
-  sends : SendsInsertedUnits key.start once.words.exposed once.words.durable once.log view.sending.exposed view.sending.sent view.sending.read
-  sends = s.sends seat view once.own flusher
+  full : AllByRecursion (λ (p : Part). p.entry.start < until → IsFull p.entry) once.log.parts
+  full = all-both IsFullIfReleased (IsReleasedBelow once.words.exposed) (λ (p : Part). p.entry.start < until → IsFull p.entry) once.log.parts
+      (λ p is_full released low. is_full (released (omega (arith, low, below)))) s.below.full s.below.below
 
-  full : AllByRecursion (λ (p : Part). p.entry.start < once.words.durable → IsFull p.entry) once.log.parts
-  full = all-both IsFullIfReleased (IsReleasedBelow once.words.exposed) (λ (p : Part). p.entry.start < once.words.durable → IsFull p.entry) once.log.parts
-      (λ p is_full below low. is_full (below (omega (arith, low, sends.read_to, sends.loaded_seen)))) s.below.full s.below.below
-
-  sent : SentParts once.log.parts view.sending.sent
-  sent = sent-parts key.start once.words.tail once.words.durable once.log.parts view.sending.sent s.contiguous.parts
-      (part-boundary _ _ _ _ _ once.log s.contiguous once.words.durable (durable-boundary _ _ _ _ _ once.log s.contiguous))
-      sends.sent_to full s.filled.spelled sends.sent_agrees
+  sent : SentParts once.log.parts units
+  sent = sent-parts key.start once.words.tail until once.log.parts units s.contiguous.parts
+      (part-boundary _ _ _ _ _ once.log s.contiguous until boundary) size full s.filled.spelled agrees
 
   abbrev records : List Rec
   unfolding sent
   records = records_in sent.before
 
-  spelled : AreUnitsOf view.sending.sent records
+  spelled : AreUnitsOf units records
   unfolding sent
-  spelled = subst (λ units. AreUnitsOf units records) (sym sent.units_are) (spelled-parts sent.before sent.spelled)
+  spelled = subst (λ us. AreUnitsOf us records) (sym sent.units_are) (spelled-parts sent.before sent.spelled)
 
   whole : history_in key once.log.parts ≡ history_from key.start [] (records ++ records_in sent.behind)
   unfolding sent
@@ -176,5 +179,24 @@ module _ (key : Start) (seat : ℕ) (view : View) (once : HoldsAtOnce key seat v
           (subst (AllByRecursion (λ (entry : Placed). IsSpellable entry.rec)) (sym (append-nil list))
           (spellable-history key.start [] records tt spelled.spellable)))
 
-  pub sent-lawfully : HasSentLawfully (base_of key) once.views view.sending.sent
-  sent-lawfully = record { records = records; spelled = spelled; lawful = runs-lawfully }
+  spells-lawfully : SpellLawfully (base_of key) once.views units
+  spells-lawfully = record { records = records; spelled = spelled; lawful = runs-lawfully }
+
+module _ (key : Start) (seat : ℕ) (view : View) (once : HoldsAtOnce key seat view) (flusher : view.standing.role ≡ Flusher) where
+  sends : SendsInsertedUnits key.start once.words.exposed once.words.durable once.log view.sending.exposed view.sending.sent view.sending.read
+  sends = once.rule.sends seat view once.own flusher
+
+  pub sent-lawfully : SpellLawfully (base_of key) once.views view.sending.sent
+  sent-lawfully = spells-lawfully key seat view once view.sending.sent once.words.durable
+      (durable-boundary _ _ _ _ _ once.log once.rule.contiguous) sends.sent_to (omega (arith, sends.read_to, sends.loaded_seen)) sends.sent_agrees
+
+  -- once all up to exposed, as the seat loaded it, are read
+  pub read-lawfully : read_to view ≡ view.sending.exposed → SpellLawfully (base_of key) once.views (view.sending.sent ++ view.sending.read)
+  read-lawfully all =
+      let start : view.constants.start ≡ key.start = ap (λ (c : Constants). c.start) (once.rule.constants seat view once.own (ap is_spent flusher)) in
+      spells-lawfully key seat view once (view.sending.sent ++ view.sending.read) view.sending.exposed sends.boundary
+      (omega (arith, length-append view.sending.sent view.sending.read, all, start)) sends.loaded_seen
+      (all-both (AgreesFrom key.start view.sending.sent) (AgreesFrom once.words.durable view.sending.read)
+      (AgreesFrom key.start (view.sending.sent ++ view.sending.read)) once.log.parts
+      (λ p first second. agrees-append key.start view.sending.sent view.sending.read p first
+      (subst (λ n. AgreesFrom n view.sending.read p) (sym sends.sent_to) second)) sends.sent_agrees sends.read_agrees)

@@ -1,4 +1,4 @@
--- What the rule says of one moment, and what follows for the records that were sent by then.
+-- What the rule says of one moment, and what follows for the records that were sent by then, or read to be sent.
 use Rattle.std.specs.Prelude.{◌≡◌, ℕ, List, [], ◌∷◌, ◌++◌, map}
 use mathlib.Core.Option.{some}
 use lib.ListN.{get_elem?}
@@ -46,8 +46,8 @@ pub record RunsLawfully (base : BaseState) (jobs : List TakenJob) (h : List Plac
   pub sound : IsSoundAfter (as_opening base) [] h
   pub serial : IsPartlySerialAfter base (map task_of jobs) h
 
--- The units sent spell these records. Where no job number stands twice in the books of these seats, their list runs the jobs lawfully.
-pub record HasSentLawfully (base : BaseState) (views : List View) (sent : List ℕ) : Type 0 where
+-- The units spell these records. Where no job number stands twice in the books of these seats, their list runs the jobs lawfully.
+pub record SpellLawfully (base : BaseState) (views : List View) (units : List ℕ) : Type 0 where
   pub records : List Rec
-  pub spelled : AreUnitsOf sent records
+  pub spelled : AreUnitsOf units records
   pub lawful : HasDistinctJobs (books_of_all views) → RunsLawfully base (jobs_of_all views) (history_from base.end [] records)
