@@ -173,6 +173,18 @@ impl Play<(), View> for TellStop {
     ghost then = { λ st old n new. (new ≡ (old.0, old.1)) × (old.0.standing.role ≡ Flusher → HasReadStop old.0.sending.stop old.0) };
 }
 
+/// A load that changes nothing, and tells that the rule holds of this moment.
+pub(crate) struct Look<S> {
+    stepper: PhantomData<S>,
+}
+
+impl<S: Stepper> Play<(), View> for Look<S> {
+    ghost use Rattle.std.specs.Prelude.{◌≡◌};
+    ghost use Rattle.log_rule.specs.Moments.{HoldsAtOnce};
+
+    ghost then = { λ st old n new. (new ≡ (old.0, old.1)) × HoldsAtOnce S.key S.seat old.0 };
+}
+
 pub(crate) struct LoadCrew;
 
 impl Play<(), View> for LoadCrew {

@@ -4,6 +4,7 @@ mod crew;
 mod durable;
 mod exposed;
 mod jobs;
+mod look;
 mod mark;
 mod ring;
 mod slots;
