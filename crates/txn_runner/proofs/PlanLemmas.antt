@@ -54,6 +54,7 @@ planned_from-last txn mark balance k [] = tt
 planned_from-last txn mark balance k (leg ∷ legs) =
     by_case (lacks leg balance) (overfills leg balance) (planned_from-last txn mark (after_leg leg balance) (k + 1) legs)
   where
+    -- by whether the leg is refused, and why
     by_case : (short over : Bool) → EndsOnlyLast (planned_from txn mark (after_leg leg balance) (k + 1) legs)
         → EndsOnlyLast (cond short (Short txn (k + 1) ∷ []) (cond over (Over txn (k + 1) ∷ [])
         (Update txn leg.0 (neg_ℤ (pos leg.2)) (mark leg.0) ∷ Update txn leg.1 (pos leg.2) (mark leg.1) ∷ planned_from txn mark (after_leg leg balance) (k + 1) legs)))

@@ -76,9 +76,10 @@ module _ (jobs : NumberedJobs) (wait : Bool) (old new : View) (goes : Goes old n
   AreRowsOf-longer (place ∷ places) last above since (row ∷ rows) tell =
       (tell.0, tell.1, tell.2, AreRowsOf-longer places last row.end row.seen rows tell.3)
 
-  -- a row behind the others, of a transfer that was run behind theirs
+  -- a transfer was run behind those before
   module _ (order : LieInOrder 0 old.seen.tail old.entries) (row : Row) (above_tail : old.seen.tail < row.end)
       (since_durable : old.seen.durable ≤ row.seen) where
+    -- its row stands behind theirs
     AreRowsOf-push : (last above since : ℕ) (places : List ℕ) (rows : List Row) → length rows ≡ length places → above ≤ old.seen.tail
         → since ≤ old.seen.durable → TellsEnd jobs last wait new row → AreRowsOf jobs places wait old above since rows
         → AreRowsOf jobs (places ++ last ∷ []) wait new above since (rows ++ row ∷ [])

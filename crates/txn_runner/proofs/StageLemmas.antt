@@ -6,18 +6,15 @@ use Rattle.std.proofs.lemmas.Result.{IfOk-weaker, IfErr-weaker}
 use Rattle.log_record.specs.declared.rec.Placed.{Placed}
 use Rattle.lock_core.specs.Transactions.{recs_of, has_commit}
 use Rattle.lock_core.specs.declared.job.Job.{Job}
-use Rattle.log_table.specs.declared.table.LogTable.{LogTable}
 use Rattle.log_table.specs.declared.table.Seat.{Seat}
 use Rattle.log_rule.specs.declared.view.Books.{Books}
-use Rattle.log_rule.specs.declared.view.Call.TheVariants.{Idle}
-use Rattle.log_rule.specs.declared.view.Constants.{Constants}
 use Rattle.log_rule.specs.declared.view.Entry.{Entry}
 use Rattle.log_rule.specs.declared.view.TakenJob.{TakenJob}
 use Rattle.log_rule.specs.declared.view.View.{View}
 use Rattle.log_rule.specs.AccountViews.{took_job}
 use Rattle.log_rule.specs.Books.{balance_taken, taking_job, IsNote}
 use Rattle.log_rule.specs.May.{HasBegunNothing, MayTakeJob}
-use Rattle.log_table.specs.Seats.{IsOf, Becomes, view_of}
+use Rattle.log_table.specs.Seats.{Becomes, view_of}
 use Rattle.ring_buffer.specs.Calls.{IsReady, IsSameWorker, HasEntries}
 use Rattle.ring_buffer.proofs.TwoCalls.{IsSameWorker-trans}
 use Rattle.txn_jobs.specs.declared.cause.Cause.{Cause}
@@ -26,60 +23,16 @@ use Rattle.txn_jobs.specs.declared.rows.Row.{Row}
 use Rattle.txn_parts.specs.declared.ended.Ended.{Ended}
 use Rattle.txn_jobs.specs.Accounts.{HasAccountsOf, IsAccountOf}
 use Rattle.txn_making.specs.Endings.{EndsTransfer}
-use Rattle.txn_making.specs.Holdings.{taken_of, given_behind, with_held, HoldsAll, KeepsBooks, KeepsGiven, TakesAll}
-use Rattle.txn_making.specs.Inserts.{Adds, HasAdded, IsCutOff, StopsFor}
+use Rattle.txn_making.specs.Holdings.{taken_of, given_behind, holding_all, with_held, HoldsAll, KeepsBooks, KeepsGiven, ReturnsAll, TakesAll}
+use Rattle.txn_making.specs.Inserts.{Adds, IsCutOff, StopsFor}
 use Rattle.txn_runner.specs.Running.{GaveBack, HasRun, HasCut}
-use Rattle.txn_runner.specs.Stages.{HasTakenJob, HasNextJob, MayMakeTransfer, TakesAccounts, MayEndTransfer, GivesAll, LetsGo, HasRunTaken, HasCutTaken}
+use Rattle.txn_runner.specs.Stages.{HasTakenJob, HasNextJob, MayMakeTransfer, TakesAccounts, MayEndTransfer, GivesAll, LetsGo, IsRowOf, HasRunTaken, HasCutTaken, MakesTaken, IsCutEarly}
 use Rattle.txn_runner.proofs.Composing.{Keeps, IsGivenFrom, may-make, still-known, still-held, gave-back, has-inserted, uncommitted-at, has-cut, has-stopped, cut-early, has-run, still-stops}
+use Rattle.txn_parts.specs.Stops.{HasSeen}
+use Rattle.txn_parts.proofs.DeskLemmas.{IsSameWorker-refl}
+use Rattle.txn_making.proofs.Trying.{changes}
 use Rattle.txn_making.proofs.GivenLemmas.{given-same, given-trans}
 use Rattle.txn_making.proofs.Held.{given-front}
-
-pub IsSameWorker-refl : (seat : Seat) → IsSameWorker seat seat
-IsSameWorker-refl seat = record {
-  table_is = refl;
-  number = refl;
-  slots = refl;
-  worker = refl;
-  constants = refl;
-  standing = refl;
-  grows = omega arith;
-  exposed = omega arith;
-  durable = omega arith;
-  steps = omega arith;
-}
-
--- the same worker's seat is the table's still, and ready where nothing is under way and it is as contended as before
-pub IsOf-same : (table : LogTable) (first second : Seat) → IsOf table first → IsSameWorker first second → IsOf table second
-IsOf-same table first second of same = record {
-  table_is = same.table_is ∙ of.table_is;
-  no_slots = same.slots ∙ of.no_slots;
-  ring = ap (λ (constants : Constants). constants.ring) same.constants ∙ of.ring;
-  slots = ap (λ (constants : Constants). constants.slots) same.constants ∙ of.slots;
-}
-
-pub IsReady-same : (first second : Seat) → IsReady (view_of first) → IsSameWorker first second → (view_of second).call ≡ Idle
-    → (view_of second).contended ≡ (view_of first).contended → IsReady (view_of second)
-IsReady-same first second ready same idle contended = record {
-  rests = record { active = ap (λ standing. standing.role) same.standing ∙ ready.rests.active; idle = idle };
-  alone = contended ∙ ready.alone;
-}
-
--- steps that change the books alone, beside what was seen of the stop word
-same-worker : (first second : Seat) (steps stop : ℕ) (books : Books) → (view_of first).seen.steps ≤ steps
-    → Becomes first second (record (view_of first) { seen = record (view_of first).seen { steps = steps; stop = stop }; books = books })
-    → IsSameWorker first second
-same-worker first second steps stop books more becomes = record {
-  table_is = becomes.table_is;
-  number = becomes.number;
-  slots = ap (λ m. m.1) becomes.me;
-  worker = becomes.worker;
-  constants = ap (λ m. m.0.constants) becomes.me;
-  standing = ap (λ m. m.0.standing) becomes.me;
-  grows = omega (arith, ap (λ m. m.0.seen.tail) becomes.me);
-  exposed = omega (arith, ap (λ m. m.0.seen.exposed) becomes.me);
-  durable = omega (arith, ap (λ m. m.0.seen.durable) becomes.me);
-  steps = omega (arith, more, ap (λ m. m.0.seen.steps) becomes.me);
-}
 
 -- the job is taken
 module _ (number : ℕ) (job : Job) (first second : Seat) where
@@ -87,13 +40,8 @@ module _ (number : ℕ) (job : Job) (first second : Seat) where
   IsTaken = HasEntries first second (view_of first).entries (taking_job (record { number = number; job = job }) (view_of first).books)
 
   pub takes-job : (word : ℕ) → IsReady (view_of first) → Becomes first second (took_job number job word (view_of first)) → IsTaken
-  takes-job word ready becomes = record {
-    same = same-worker first second _ word _ (omega arith) becomes;
-    idle = ap (λ m. m.0.call) becomes.me ∙ ready.rests.idle;
-    contended = ap (λ m. m.0.contended) becomes.me;
-    entries_are = ap (λ m. m.0.entries) becomes.me;
-    books_are = ap (λ m. m.0.books) becomes.me;
-  }
+  takes-job word ready becomes =
+      changes first second _ _ ready.rests.idle becomes (omega arith) (omega arith) (omega arith) (omega arith)
 
   pub took : IsTaken → HasTakenJob number job (view_of first) (view_of second)
   took taken = record {
@@ -130,14 +78,14 @@ module _ (number : ℕ) (job : Job) (first second third : Seat) (taken : IsTaken
   lets-go-taken = lets-go-since first second third taken.same taken.contended (took number job first second taken).given
 
   module _ (wait : Bool) (result : Result Row Cause) where
-    pub run-taken : IfOk result (λ row. HasRunTaken number job wait row (view_of second) (view_of third))
+    pub run-taken : IfOk result (HasRunTaken number job wait (view_of second) (view_of third))
         → IfOk result (λ row. HasRun number job wait row (view_of first) (view_of third))
-    run-taken = IfOk-weaker result (λ row. HasRunTaken number job wait row (view_of second) (view_of third))
+    run-taken = IfOk-weaker result (HasRunTaken number job wait (view_of second) (view_of third))
         (λ row. HasRun number job wait row (view_of first) (view_of third)) (λ row run. run (view_of first) (took number job first second taken))
 
-    pub cut-taken : IfErr result (λ cause. HasCutTaken number job wait cause (view_of second) (view_of third))
+    pub cut-taken : IfErr result (HasCutTaken number job wait (view_of second) (view_of third))
         → IfErr result (λ cause. HasCut number job wait cause (view_of first) (view_of third))
-    cut-taken = IfErr-weaker result (λ cause. HasCutTaken number job wait cause (view_of second) (view_of third))
+    cut-taken = IfErr-weaker result (HasCutTaken number job wait (view_of second) (view_of third))
         (λ cause. HasCut number job wait cause (view_of first) (view_of third)) (λ cause cut. cut (view_of first) (took number job first second taken))
 
 -- The job is the seat's next. Its accounts are taken then, but for a cut.
@@ -158,7 +106,7 @@ module _ (accounts number : ℕ) (job : Job) (first : Seat) (next : HasNextJob a
   }
 
   pub cut-first : (cause : Cause) → StopsFor cause [] (view_of first) → (wait : Bool)
-      → HasCutTaken number job wait cause (view_of first) (view_of first)
+      → HasCutTaken number job wait (view_of first) (view_of first) cause
   cut-first cause stops wait origin taken = cut-early number job wait cause origin (view_of first) (view_of first) taken
       record { entries = refl; grows = omega arith; jobs = refl } stops
 
@@ -176,12 +124,25 @@ module _ (accounts number : ℕ) (job : Job) (first : Seat) (next : HasNextJob a
 
     pub cut-untaken : (result : Result T Cause) → OnErr result (KeepsBooks first second)
         → IfErr result (λ cause. StopsFor cause [] (view_of second))
-        → IfErr result (λ cause. (wait : Bool) → HasCutTaken number job wait cause (view_of first) (view_of second))
+        → IfErr result (IsCutEarly number job (view_of first) (view_of second))
     cut-untaken (Ok done) kept stops = tt
     cut-untaken (Err cause) kept stops = λ wait origin taken. cut-early number job wait cause origin (view_of first) (view_of second) taken
         record { entries = kept.entries; grows = kept.same.grows; jobs = ap (λ (books : Books). books.jobs) kept.books } stops
 
-  -- they are held then
+  -- the job is the seat's last still
+  still-taken : (holdings : List Holding) (second : Seat)
+      → HasEntries first second (view_of first).entries (holding_all holdings (view_of first).books)
+      → (origin : View) → HasTakenJob number job origin (view_of first) → HasTakenJob number job origin (view_of second)
+  still-taken holdings second kept origin taken = record {
+    entries = kept.entries_are ∙ taken.entries;
+    grows = omega (arith, taken.grows, kept.same.grows);
+    jobs = ap (λ (books : Books). books.jobs) kept.books_are ∙ taken.jobs;
+    last = ap (λ (books : Books). books.last) kept.books_are ∙ taken.last;
+    given = ap (λ (books : Books). books.given) kept.books_are ∙ taken.given;
+    none = ap (λ (books : Books). books.placed) kept.books_are ∙ taken.none;
+  }
+
+  -- the accounts are held then
   pub takes-accounts : (list slice : List ℕ) (holdings : List Holding) (second : Seat) → slice ≡ list → IsStrictlyIncreasing list
       → All (IsAccountOf job.legs) list → All (HasAccountsOf list) job.legs → TakesAll slice holdings first second
       → TakesAccounts accounts number job holdings first second
@@ -190,15 +151,9 @@ module _ (accounts number : ℕ) (job : Job) (first : Seat) (next : HasNextJob a
     idle = takes.entries.idle;
     contended = takes.entries.contended;
     given = ap (λ (books : Books). books.given) takes.entries.books_are;
-    taken = λ origin taken. record {
-      entries = takes.entries.entries_are ∙ taken.entries;
-      grows = omega (arith, taken.grows, takes.entries.same.grows);
-      jobs = ap (λ (books : Books). books.jobs) takes.entries.books_are ∙ taken.jobs;
-      last = ap (λ (books : Books). books.last) takes.entries.books_are ∙ taken.last;
-      given = ap (λ (books : Books). books.given) takes.entries.books_are ∙ taken.given;
-      none = ap (λ (books : Books). books.placed) takes.entries.books_are ∙ taken.none;
-    };
+    taken = still-taken holdings second takes.entries;
     may = may-make accounts number job list slice holdings first second same rising only next.allowed takes all next.last next.none;
+    runs = takes.runs;
   }
 
 -- The transfer was made from `second` to `third`, as far as it came: all its accounts are held still.
@@ -218,19 +173,20 @@ module _ (accounts number : ℕ) (job : Job) (holdings paid : List Holding) (sec
   }
 
 -- the accounts went back
-pub gives-all : (back : List Holding) (first second : Seat) → IsReady (view_of first)
-    → Becomes first second (with_held [] back (view_of first)) → GivesAll back first second
-gives-all back first second ready becomes = record {
-  same = same-worker first second _ _ _ (omega arith) becomes;
-  idle = ap (λ m. m.0.call) becomes.me ∙ ready.rests.idle;
-  contended = ap (λ m. m.0.contended) becomes.me;
-  entries = ap (λ m. m.0.entries) becomes.me;
-  from = view_of first;
-  from_books = refl;
-  from_tail = sym (ap (λ m. m.0.seen.tail) becomes.me);
-  from_durable = sym (ap (λ m. m.0.seen.durable) becomes.me);
-  books = ap (λ m. m.0.books) becomes.me;
-}
+pub gives-all : (back : List Holding) (first second : Seat) → IsReady (view_of first) → ReturnsAll back first second
+    → GivesAll back first second
+gives-all back first second ready becomes =
+    let kept = changes first second _ _ ready.rests.idle becomes (omega arith) (omega arith) (omega arith) (omega arith) in record {
+      same = kept.same;
+      idle = kept.idle;
+      contended = kept.contended;
+      entries = kept.entries_are;
+      from = view_of first;
+      from_books = refl;
+      from_tail = sym (ap (λ m. m.0.seen.tail) becomes.me);
+      from_durable = sym (ap (λ m. m.0.seen.durable) becomes.me);
+      books = kept.books_are;
+    }
 
 -- after a call that left the entries and the books as they were
 pub gives-then : (back : List Holding) (first second third : Seat) → HasEntries first second (view_of first).entries (view_of first).books
@@ -241,24 +197,22 @@ gives-then back first second third kept gives = record {
   contended = gives.contended ∙ kept.contended;
   entries = gives.entries ∙ kept.entries_are;
   from = gives.from;
-  from_books = gives.from_books ∙ kept.books_are;
   from_tail = gives.from_tail;
   from_durable = gives.from_durable;
+  from_books = gives.from_books ∙ kept.books_are;
   books = gives.books ∙ ap (λ (books : Books). record books { held = []; given = given_behind gives.from back books.given }) kept.books_are;
 }
 
 -- what was seen just before is seen still
 module _ (wait : Bool) (end : ℕ) (back : List Holding) (first second : Seat) (becomes : Becomes first second (with_held [] back (view_of first))) where
-  pub still-seen : (result : Result ℕ Cause) → IfOk result (λ seen. seen ≡ (view_of first).seen.durable)
-      → IfOk result (λ seen. wait ≡ true → end ≤ seen)
-      → IfOk result (λ seen. (seen ≡ (view_of second).seen.durable) × (wait ≡ true → end ≤ seen))
-  still-seen (Ok seen) saw waited = (saw ∙ sym (ap (λ m. m.0.seen.durable) becomes.me), waited)
-  still-seen (Err cause) saw waited = tt
+  pub still-seen : (result : Result ℕ Cause) → IfOk result (HasSeen end wait (view_of first)) → IfOk result (HasSeen end wait (view_of second))
+  still-seen (Ok seen) saw = record { durable = saw.durable ∙ sym (ap (λ m. m.0.seen.durable) becomes.me); waited = saw.waited }
+  still-seen (Err cause) saw = tt
 
-  pub still-stopped : (result : Result ℕ Cause) → OnErr result (wait ≡ true) → IfErr result (λ cause. StopsFor cause [] (view_of first))
-      → IfErr result (λ cause. (wait ≡ true) × StopsFor cause [] (view_of second))
-  still-stopped (Ok seen) waits stopped = tt
-  still-stopped (Err cause) waits stopped = (waits, still-stops cause [] [] back first second becomes stopped)
+  pub still-stopped : (result : Result ℕ Cause) → IfErr result (λ cause. StopsFor cause [] (view_of first))
+      → IfErr result (λ cause. StopsFor cause [] (view_of second))
+  still-stopped (Ok seen) stopped = tt
+  still-stopped (Err cause) stopped = still-stops cause [] [] back first second becomes stopped
 
 -- Its accounts went back then.
 module _ (accounts number : ℕ) (job : Job) (wait : Bool) (holdings paid : List Holding) (second third fourth : Seat)
@@ -267,18 +221,21 @@ module _ (accounts number : ℕ) (job : Job) (wait : Bool) (holdings paid : List
   keeps : Keeps (view_of third) (view_of fourth)
   keeps = record { entries = gives.entries; grows = gives.same.grows; jobs = ap (λ (books : Books). books.jobs) gives.books }
 
+  given-since : (added : List Entry) → Adds added second third → KeepsGiven (view_of second) (view_of fourth)
+  given-since added adds = record {
+    back = given_behind gives.from paid [];
+    given_are = ap (λ (books : Books). books.given) gives.books
+        ∙ ap (λ (books : Books). given_behind gives.from paid books.given) adds.entries.books_are
+        ∙ given-front gives.from paid (view_of second).books.given;
+  }
+
   pub lets-go : (added : List Entry) → Adds added second third → LetsGo second fourth
   lets-go added adds = record {
     same = IsSameWorker-trans second third fourth adds.entries.same gives.same;
     idle = gives.idle;
     contended = gives.contended ∙ adds.entries.contended;
     none_held = ap (λ (books : Books). books.held) gives.books;
-    given = record {
-      back = given_behind gives.from paid [];
-      given_are = ap (λ (books : Books). books.given) gives.books
-          ∙ ap (λ (books : Books). given_behind gives.from paid books.given) adds.entries.books_are
-          ∙ given-front gives.from paid (view_of second).books.given;
-    };
+    given = given-since added adds;
   }
 
   went-back : (added : List Entry) → Adds added second third → (first : View) → HasTakenJob number job first (view_of second)
@@ -291,50 +248,43 @@ module _ (accounts number : ℕ) (job : Job) (wait : Bool) (holdings paid : List
       ∙ ap (given_behind gives.from paid) (ap (λ (books : Books). books.given) adds.entries.books_are ∙ taken.given))
 
   -- it was cut off
-  pub cut-made : (cause : Cause) → HasAdded second third → (cut : IsCutOff cause (view_of third)) → StopsFor cause cut.rest (view_of fourth)
-      → HasCutTaken number job wait cause (view_of second) (view_of fourth)
-  cut-made cause added cut stops first taken =
-      let gave = went-back added.0 added.1 first taken in
+  pub cut-made : (cause : Cause) (added : List Entry) → Adds added second third → (cut : IsCutOff (view_of third) cause) → StopsFor cause cut.rest (view_of fourth)
+      → HasCutTaken number job wait (view_of second) (view_of fourth) cause
+  cut-made cause added adds cut stops first taken =
+      let gave = went-back added adds first taken in
       has-cut number job wait cause cut.rest first (view_of fourth)
-      (has-inserted number job cut.rest first (view_of fourth) second third added.0 taken added.1 cut.left keeps) gave.0
+      (has-inserted number job cut.rest first (view_of fourth) second third added taken adds cut.left keeps) gave.0
       (uncommitted-at gives.from (view_of fourth) gave.0.back gave.1 gives.from_tail
       (ap (λ (books : Books). has_commit (recs_of books.placed)) gives.from_books ∙ cut.uncommitted))
       cut.some stops
 
   module _ (ended : Ended) (ends : EndsTransfer number job ended paid second third) where
     -- it ran
-    pub run-made : (result : Result Row Cause)
-        → IfOk result (λ row. (row ≡ record { txn = number; answer = ended.answer; end = ended.end; seen = (view_of fourth).seen.durable })
-        × (wait ≡ true → ended.end ≤ row.seen))
-        → IfOk result (λ row. HasRunTaken number job wait row (view_of second) (view_of fourth))
+    pub run-made : (result : Result Row Cause) → IfOk result (IsRowOf number ended wait (view_of fourth))
+        → IfOk result (HasRunTaken number job wait (view_of second) (view_of fourth))
     run-made (Ok row) told = λ first taken.
         let gave = went-back _ ends.adds first taken in
-        subst (λ row. HasRun number job wait row first (view_of fourth)) (sym told.0)
+        subst (λ row. HasRun number job wait row first (view_of fourth)) (sym told.row_is)
         (has-run number job wait ended (view_of fourth).seen.durable paid first (view_of fourth) second third taken ends keeps refl
-        (λ on. subst (λ row. ended.end ≤ row.seen) told.0 (told.1 on)) gave.0
+        (λ on. subst (λ row. ended.end ≤ row.seen) told.row_is (told.waited on)) gave.0
         (λ k d within. (gave.1 k d within).durable ∙ gives.from_durable))
     run-made (Err cause) told = tt
 
     -- the worker waited for the disk, and was stopped
-    pub stop-made : (result : Result Row Cause) → IfErr result (λ cause. (wait ≡ true) × StopsFor cause [] (view_of fourth))
-        → IfErr result (λ cause. HasCutTaken number job wait cause (view_of second) (view_of fourth))
-    stop-made (Ok row) cut = tt
-    stop-made (Err cause) cut = λ first taken. has-stopped number job wait cause first (view_of fourth)
-        (has-inserted number job [] first (view_of fourth) second third _ taken ends.adds ends.left keeps) cut.0 cut.1
+    pub stop-made : (result : Result Row Cause) → OnErr result (wait ≡ true) → IfErr result (λ cause. StopsFor cause [] (view_of fourth))
+        → IfErr result (HasCutTaken number job wait (view_of second) (view_of fourth))
+    stop-made (Ok row) waits cut = tt
+    stop-made (Err cause) waits cut = λ first taken. has-stopped number job wait cause first (view_of fourth)
+        (has-inserted number job [] first (view_of fourth) second third _ taken ends.adds ends.left keeps) waits cut
 
 -- its accounts were taken, and it is made or cut off
-module _ (accounts number : ℕ) (job : Job) (holdings : List Holding) (first second third : Seat)
-    (takes : TakesAccounts accounts number job holdings first second) where
-  pub lets-go-made : LetsGo second third → LetsGo first third
-  lets-go-made = lets-go-since first second third takes.same takes.contended takes.given
-
-  module _ (wait : Bool) (result : Result Row Cause) where
-    pub run-behind : IfOk result (λ row. HasRunTaken number job wait row (view_of second) (view_of third))
-        → IfOk result (λ row. HasRunTaken number job wait row (view_of first) (view_of third))
-    run-behind = IfOk-weaker result (λ row. HasRunTaken number job wait row (view_of second) (view_of third))
-        (λ row. HasRunTaken number job wait row (view_of first) (view_of third)) (λ row run origin taken. run origin (takes.taken origin taken))
-
-    pub cut-behind : IfErr result (λ cause. HasCutTaken number job wait cause (view_of second) (view_of third))
-        → IfErr result (λ cause. HasCutTaken number job wait cause (view_of first) (view_of third))
-    cut-behind = IfErr-weaker result (λ cause. HasCutTaken number job wait cause (view_of second) (view_of third))
-        (λ cause. HasCutTaken number job wait cause (view_of first) (view_of third)) (λ cause cut origin taken. cut origin (takes.taken origin taken))
+pub makes-behind : (accounts number : ℕ) (job : Job) (holdings : List Holding) (first second third : Seat)
+    → TakesAccounts accounts number job holdings first second → (wait : Bool) (result : Result Row Cause)
+    → MakesTaken number job wait result second third → MakesTaken number job wait result first third
+makes-behind accounts number job holdings first second third takes wait result made = record {
+  let_go = lets-go-since first second third takes.same takes.contended takes.given made.let_go;
+  run = IfOk-weaker result (HasRunTaken number job wait (view_of second) (view_of third))
+      (HasRunTaken number job wait (view_of first) (view_of third)) (λ row run origin taken. run origin (takes.taken origin taken)) made.run;
+  cut = IfErr-weaker result (HasCutTaken number job wait (view_of second) (view_of third))
+      (HasCutTaken number job wait (view_of first) (view_of third)) (λ cause cut origin taken. cut origin (takes.taken origin taken)) made.cut;
+}

@@ -183,16 +183,20 @@ module _ (jobs : NumberedJobs) (taken : List ℕ) (place : ℕ) (above : AllByRe
       ∙ (λ i. own_records-none (number_at jobs place) old.entries (before-other worked) i
       ++ own_records-all (number_at jobs place) inserted.added added-own i)
 
-  -- where a record of it is left, its end record isn't there
+  -- where a record of it is left, none that was inserted is an end record
+  no-end-added : rest ≢ [] → AllByRecursion (λ (entry : Entry). ends entry.rec ≡ false) inserted.added
+  no-end-added some = all-records (λ rec. ends rec ≡ false) inserted.added
+      (planned_records-front (number_at jobs place) (transfer_of (job_at jobs place)) inserted.marks inserted.balances
+      (records_of inserted.added) rest inserted.plan some)
+
+  -- and so its end record isn't there
   unended-next : HasWorked jobs taken old → rest ≢ [] → HasEnd (number_at jobs place) new.entries → ⊥
   unended-next worked some ended = All-contains IsNoEnd (old.entries ++ inserted.added) ended.end
       (All-from_recursion IsNoEnd (old.entries ++ inserted.added) (all-append IsNoEnd old.entries inserted.added
       (all-weaker (λ (entry : Entry). txn_of entry.rec ≢ number_at jobs place) IsNoEnd old.entries (λ entry other is on. other is)
       (before-other worked))
       (all-weaker (λ (entry : Entry). ends entry.rec ≡ false) IsNoEnd inserted.added (λ entry off is on. true≢false (sym on ∙ off))
-      (all-records (λ rec. ends rec ≡ false) inserted.added
-      (planned_records-front (number_at jobs place) (transfer_of (job_at jobs place)) inserted.marks inserted.balances
-      (records_of inserted.added) rest inserted.plan some)))))
+      (no-end-added some))))
       (subst (λ l. Contains l ended.end) inserted.entries ended.contains) ended.number_is ended.is_end
     where
       IsNoEnd : Entry → Type 0

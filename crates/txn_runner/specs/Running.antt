@@ -30,8 +30,8 @@ pub record HasInserted (number : ℕ) (job : Job) (rest : List Rec) (old new : V
   pub plan : records_of added ++ rest ≡ planned_records number (transfer_of job) marks balances
   pub jobs : new.books.jobs ≡ record { number = number; job = job } ∷ old.books.jobs
 
--- The seat gave each account of this job back behind those that it gave back before, each under this number, and with this balance as it was
--- taken.
+-- The seat gave each account of this job back behind those that it gave back before, each under this number, and with this balance as it
+-- was taken.
 pub record GaveBack (number : ℕ) (job : Job) (balances : ℕ → ℕ) (before : List Given) (view : View) : Type 0 where
   pub back : List Given
   pub given_are : view.books.given ≡ back ++ before
@@ -61,9 +61,9 @@ pub record HasRun (number : ℕ) (job : Job) (wait : Bool) (row : Row) (old new 
 abbrev pub IsUncommittedAt : ℕ → Given → Type 0
 IsUncommittedAt tail given = (given.committed ≡ false) × (given.tail ≡ tail)
 
--- Why the transfer was cut off: the seat read a stop word that isn't 0, where records are left or the worker waits; or for its next
--- record so many units were asked for, its own or those of a group, and by the tail as the seat saw it last they do not fit in the log; each account
--- went back then, uncommitted, at that tail, so that its balance as it was taken tells which record that is.
+-- Why the transfer was cut off: the seat read a stop word that isn't 0, where records are left or the worker waits; or for its next record
+-- so many units were asked for, its own or those of a group, and by the tail as the seat saw it last they do not fit in the log; each
+-- account went back then, uncommitted, at that tail, so that its balance as it was taken tells which record that is.
 abbrev pub HasCut : ℕ → Job → Bool → Cause → View → View → Type 0
 HasCut number job wait (Stop word) old new =
     (rest : List Rec) × HasInserted number job rest old new × (rest ≡ [] → wait ≡ true) × (word ≢ 0) × (new.seen.stop ≡ word)

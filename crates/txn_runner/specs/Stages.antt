@@ -1,7 +1,8 @@
 -- The stages of one transfer: the seat takes the job, takes its accounts, inserts its records, and gives the accounts back.
-use Rattle.std.specs.Prelude.{◌≡◌, ℕ, ◌≤◌, Bool, true, List, [], ◌∷◌, All}
+use Rattle.std.specs.Prelude.{◌≡◌, ℕ, ◌≤◌, Bool, true, List, [], ◌∷◌, Result, IfOk, IfErr, All}
 use Rattle.lock_core.specs.History.{end_from}
 use Rattle.lock_core.specs.Transactions.{recs_of, has_end}
+use Rattle.lock_core.specs.Transfers.{IsAllowedJob}
 use Rattle.lock_core.specs.declared.job.Job.{Job}
 use Rattle.log_table.specs.declared.table.Seat.{Seat}
 use Rattle.log_rule.specs.declared.view.Books.{Books}
@@ -13,8 +14,9 @@ use Rattle.log_table.specs.Seats.{view_of}
 use Rattle.ring_buffer.specs.Calls.{IsSameWorker, HasEntries}
 use Rattle.job_queue.specs.declared.queue.Queue.{Queue}
 use Rattle.job_queue.specs.declared.rows.Rows.{Rows}
-use Rattle.job_queue.specs.Passes.{TakesPlace, TakesMark}
+use Rattle.job_queue.specs.Passes.{HasPassOf, TakesPlace, TakesMark, jobs_of, marks_in, places_in}
 use Rattle.txn_jobs.specs.declared.cause.Cause.{Cause}
+use Rattle.txn_parts.specs.declared.desk.Desk.{Desk}
 use Rattle.txn_parts.specs.declared.holding.Holding.{Holding}
 use Rattle.txn_jobs.specs.declared.rows.Row.{Row}
 use Rattle.txn_parts.specs.declared.ended.Ended.{Ended}
@@ -22,6 +24,21 @@ use Rattle.txn_making.specs.Endings.{release_at}
 use Rattle.txn_making.specs.Holdings.{IsKnown, IsUnchanged, GoesBack, HoldsAll, KeepsGiven, given_behind}
 use Rattle.txn_making.specs.Legs.{HoldsJob}
 use Rattle.txn_runner.specs.Running.{HasRun, HasCut}
+use Rattle.txn_runner.specs.Working.{HasRoomForRows, HasWorked}
+
+-- The next transfer may be taken: no account is held, the table allows each transfer of the queue, the rows' pass is of this queue and may
+-- take a place or its mark, and the seat has worked the places that it took.
+pub record MayTakeNext (accounts : ℕ) (queue : Queue) (rows : Rows) (view : View) : Type 0 where
+  pub none_held : view.books.held ≡ []
+  pub allowed : All (IsAllowedJob accounts) queue.script
+  pub pass : HasPassOf queue rows
+  pub mark : marks_in rows ≡ []
+  pub worked : HasWorked (jobs_of queue) (places_in rows) view
+
+-- and the rows have room for all that are left
+pub record MayWork (accounts : ℕ) (queue : Queue) (rows : Rows) (view : View) : Type 0 where
+  pub next : MayTakeNext accounts queue rows view
+  pub room : HasRoomForRows (jobs_of queue) rows
 
 -- The rows' pass took a place, and the jobs of the seat grew by exactly the one there, under its number. Its other books, its entries and
 -- what it has under way are as they were.
@@ -50,6 +67,11 @@ pub record HasNextJob (accounts number : ℕ) (job : Job) (books : Books) : Type
   pub none_held : books.held ≡ []
   pub none : books.placed ≡ []
 
+-- and the seat saw this stop word as it took the job
+pub record HasBegun (accounts number : ℕ) (job : Job) (view : View) (stop : ℕ) : Type 0 where
+  pub next : HasNextJob accounts number job view.books
+  pub stop_is : view.seen.stop ≡ stop
+
 -- The seat's last job may be made: nothing of it is in the log, and its accounts are held as they were taken, each once, and no other.
 pub record MayMakeTransfer (accounts number : ℕ) (job : Job) (holdings : List Holding) (books : Books) : Type 0 where
   pub holds : HoldsJob accounts number job holdings books
@@ -58,7 +80,8 @@ pub record MayMakeTransfer (accounts number : ℕ) (job : Job) (holdings : List 
   pub unchanged : All IsUnchanged holdings
   pub none : books.placed ≡ []
 
--- the seat had taken the job, and took its accounts, has nothing under way, and is as contended as before
+-- The seat had taken the job, and took its accounts, has nothing under way, and is as contended as before. The log had not stopped when
+-- that was seen last.
 pub record TakesAccounts (accounts number : ℕ) (job : Job) (holdings : List Holding) (old new : Seat) : Type 0 where
   pub same : IsSameWorker old new
   pub idle : (view_of new).call ≡ Idle
@@ -66,6 +89,7 @@ pub record TakesAccounts (accounts number : ℕ) (job : Job) (holdings : List Ho
   pub given : (view_of new).books.given ≡ (view_of old).books.given
   pub taken : (first : View) → HasTakenJob number job first (view_of old) → HasTakenJob number job first (view_of new)
   pub may : MayMakeTransfer accounts number job holdings (view_of new).books
+  pub runs : (view_of new).seen.stop ≡ 0
 
 -- The transfer's end record is in the log and ends there, and its accounts are held, and no other, with the values with which they go back.
 pub record MayEndTransfer (accounts : ℕ) (ended : Ended) (holdings : List Holding) (books : Books) : Type 0 where
@@ -89,6 +113,10 @@ pub record GivesAll (holdings : List Holding) (old new : Seat) : Type 0 where
   pub books : (view_of new).books
       ≡ record (view_of old).books { held = []; given = given_behind from holdings (view_of old).books.given }
 
+-- the worker's seat gave them back so
+abbrev pub Gives : {R Q G : Type 0} → List Holding → Desk R Q G → Desk R Q G → Type 0
+Gives holdings old new = GivesAll holdings old.seat.now new.seat.now
+
 -- The seat has nothing under way, is as contended as before, holds no account, and what it gave back before stands behind what it gave
 -- back since.
 pub record LetsGo (old new : Seat) : Type 0 where
@@ -98,9 +126,24 @@ pub record LetsGo (old new : Seat) : Type 0 where
   pub none_held : (view_of new).books.held ≡ []
   pub given : KeepsGiven (view_of old) (view_of new)
 
--- The seat had taken the job at `old`. From whichever view it took it, it has run the transfer since, or was cut off.
-abbrev pub HasRunTaken : ℕ → Job → Bool → Row → View → View → Type 0
-HasRunTaken number job wait row old new = (first : View) → HasTakenJob number job first old → HasRun number job wait row first new
+-- the row tells how the transfer ended, and what was durable as the seat saw it last; that is at or above the end where it was waited for
+pub record IsRowOf (number : ℕ) (ended : Ended) (wait : Bool) (view : View) (row : Row) : Type 0 where
+  pub row_is : row ≡ record { txn = number; answer = ended.answer; end = ended.end; seen = view.seen.durable }
+  pub waited : wait ≡ true → ended.end ≤ row.seen
 
-abbrev pub HasCutTaken : ℕ → Job → Bool → Cause → View → View → Type 0
-HasCutTaken number job wait cause old new = (first : View) → HasTakenJob number job first old → HasCut number job wait cause first new
+-- The seat had taken the job at `old`. From whichever view it took it, it has run the transfer since, or was cut off.
+abbrev pub HasRunTaken : ℕ → Job → Bool → View → View → Row → Type 0
+HasRunTaken number job wait old new row = (first : View) → HasTakenJob number job first old → HasRun number job wait row first new
+
+abbrev pub HasCutTaken : ℕ → Job → Bool → View → View → Cause → Type 0
+HasCutTaken number job wait old new cause = (first : View) → HasTakenJob number job first old → HasCut number job wait cause first new
+
+-- and so it made the transfer, as far as it came, and let its accounts go
+pub record MakesTaken (number : ℕ) (job : Job) (wait : Bool) (result : Result Row Cause) (old new : Seat) : Type 0 where
+  pub let_go : LetsGo old new
+  pub run : IfOk result (HasRunTaken number job wait (view_of old) (view_of new))
+  pub cut : IfErr result (HasCutTaken number job wait (view_of old) (view_of new))
+
+-- it was cut off before its first record, whether it was to wait or not
+abbrev pub IsCutEarly : ℕ → Job → View → View → Cause → Type 0
+IsCutEarly number job old new cause = (wait : Bool) → HasCutTaken number job wait old new cause

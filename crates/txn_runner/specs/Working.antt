@@ -19,6 +19,9 @@ use Rattle.txn_jobs.specs.declared.cause.Worked.{Worked}
 use Rattle.txn_jobs.specs.declared.cause.Worked.TheVariants.{All, Cut}
 use Rattle.txn_jobs.specs.declared.rows.Row.{Row}
 use Rattle.job_queue.specs.declared.rows.Rows.{Rows}
+use Rattle.job_queue.specs.declared.queue.Queue.{Queue}
+use Rattle.job_queue.specs.Passes.{HasPassOf}
+use Rattle.txn_making.specs.Holdings.{KeepsGiven}
 pub use Rattle.job_queue.specs.Passes.{jobs_of, rows_in, room_of, places_in, marks_in}
 use Rattle.txn_runner.specs.Running.{outcome_of, LieInOrder, GaveBack, IsTotalOfSeat, IsUncommittedAt}
 use Rattle.txn_runner.specs.Places.{NumberedJobs, number_at, job_at, jobs_taken, IsOneOf, Rises, AreOfScript}
@@ -38,8 +41,8 @@ LieInTurn jobs taken entries = (i j : ℕ) (before after : Entry) → i < j → 
     → Contains entries after → txn_of before.rec ≡ number_at jobs i → txn_of after.rec ≡ number_at jobs j
     → before.start + before.size ≤ after.start
 
--- The seat took the transfers at these places of the script, which rise, after others with numbers below the first. Its records are of these,
--- and lie one behind another below the tail as it saw it last, in the order of the places.
+-- The seat took the transfers at these places of the script, which rise, after others with numbers below the first. Its records are of
+-- these, and lie one behind another below the tail as it saw it last, in the order of the places.
 pub record HasWorked (jobs : NumberedJobs) (taken : List ℕ) (view : View) : Type 0 where
   pub places : AreOfScript jobs taken
   pub rising : Rises taken
@@ -76,8 +79,9 @@ HaveEnded jobs places view = AllByRecursion (λ place. HasEnd (number_at jobs pl
 abbrev pub own_records : ℕ → List Entry → List Rec
 own_records number entries = filter (λ rec. txn_of rec == number) (records_of entries)
 
--- For the transfer's next record, by the balances as its accounts were taken, so many units were asked for, its own or those of a group, and they
--- do not fit between this tail, which the seat saw last, and the last LSN. The accounts all went back under its number, uncommitted, where the seat had seen tail there.
+-- For the transfer's next record, by the balances as its accounts were taken, so many units were asked for, its own or those of a group,
+-- and they do not fit between this tail, which the seat saw last, and the last LSN. The accounts all went back under its number,
+-- uncommitted, where the seat had seen tail there.
 pub record EndsLog (jobs : NumberedJobs) (place tail total : ℕ) (view : View) : Type 0 where
   pub balances : ℕ → ℕ
   pub marks : ℕ → ℕ
@@ -152,3 +156,15 @@ pub record AddsRows (jobs : NumberedJobs) (before after : List ℕ) (wait : Bool
   pub room : room_of rows_new ≡ room_of rows_old
   pub tell : AreRowsOf jobs taken wait new old.seen.tail old.seen.durable added
   pub each : EachHasRow taken worked added
+
+-- What the work of a worker comes to, by its rows before and after.
+pub record HasDone (queue : Queue) (wait : Bool) (worked : Worked) (rows_old rows_new : Rows) (old new : View) : Type 0 where
+  pub none_held : new.books.held ≡ []
+  pub pass : HasPassOf queue rows_new
+  pub has_worked : HasWorked (jobs_of queue) (places_in rows_new) new
+  pub kept : KeepsEntries old new
+  pub given : KeepsGiven old new
+  pub jobs : TakesJobs (jobs_of queue) (places_in rows_old) (places_in rows_new) old new
+  pub works : Works (jobs_of queue) (places_in rows_old) (places_in rows_new) wait worked new
+  pub all : EndsByMark worked rows_new
+  pub rows : AddsRows (jobs_of queue) (places_in rows_old) (places_in rows_new) wait worked rows_old rows_new old new

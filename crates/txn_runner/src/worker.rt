@@ -5,7 +5,9 @@ ghost use Rattle.log_table.specs.Seats.{IsOf, view_of};
 ghost use Rattle.ring_buffer.specs.Calls.{IsReady, IsSameWorker};
 ghost use Rattle.txn_making.specs.Holdings.{KeepsGiven};
 ghost use Rattle.job_queue.specs.Passes.{HasPassOf, jobs_of, marks_in, places_in};
-ghost use Rattle.txn_runner.specs.Working.{AddsRows, EndsByMark, HasRoomForRows, HasWorked, KeepsEntries, TakesJobs, Works};
+ghost use Rattle.txn_parts.specs.Desk.{IsAtWork, WorksOn, view_at, accounts_at};
+ghost use Rattle.txn_runner.specs.Stages.{MayWork};
+ghost use Rattle.txn_runner.specs.Working.{AddsRows, EndsByMark, HasDone, HasRoomForRows, HasWorked, KeepsEntries, TakesJobs, Works};
 
 use crate::job::run_job;
 use crate::taking::begin_job;
@@ -17,21 +19,21 @@ use log_table::{LogTable, Seat};
 use schedule_hook::Gate;
 use std::sync::Wait;
 use txn_jobs::Worked;
-use txn_parts::Relief;
+use txn_parts::{Desk, Numbered, Relief};
 
 /// Takes one transfer after another of the queue, each the next one, and makes it, until the rows' pass takes its mark: then no transfer is
 /// left for anyone. For each that ended there is a row, but for the last one where the worker waits and the log stops before it saw
 /// that end durable. Behind a transfer that was cut off the worker takes no other, nor its mark. It waits: for other workers in the
 /// queue, for accounts that they hold, for room in the ring, and, where asked, for the disk.
-pub fn work<R: Wait, Q: Relief, G: Gate>(
-    rt: &R,
-    table: &LogTable,
-    seat: &mut Seat,
+pub fn work<'a, R: Wait, Q: Relief, G: Gate>(
+    rt: &'a R,
+    table: &'a LogTable,
+    seat: &'a mut Seat,
     queue: &Queue,
     rows: &mut Rows,
-    relief: &mut Q,
+    relief: &'a mut Q,
     wait: bool,
-    gate: &G,
+    gate: &'a G,
 ) -> Worked
     requires seat { IsOf table.now seat.old }
     requires ready { IsReady (view_of seat.old) }
@@ -60,24 +62,46 @@ pub fn work<R: Wait, Q: Relief, G: Gate>(
     ensures relief { Q.ready relief.new }
     ensures later { Q.later relief.old relief.new }
 {
+    let mut desk = Desk {
+        rt,
+        table,
+        seat,
+        relief,
+        gate,
+    };
+    work_at(&mut desk, queue, rows, wait)
+}
+
+/// The work at this desk (`work`).
+#[inline(always)]
+fn work_at<R: Wait, Q: Relief, G: Gate>(
+    desk: &mut Desk<'_, R, Q, G>,
+    queue: &Queue,
+    rows: &mut Rows,
+    wait: bool,
+) -> Worked
+    requires work { IsAtWork Q.Relief desk.old }
+    requires may { MayWork (accounts_at desk.old) queue.now rows.old (view_at desk.old) }
+    ensures work { WorksOn Q.Relief desk.old desk.new }
+    ensures done { HasDone queue.now wait result rows.old rows.new (view_at desk.old) (view_at desk.new) }
+{
     // One place for all transfers, for the accounts of each, and for the units of each record, so that none is copied.
-    let mut job = Job::new();
+    let mut numbered = Numbered {
+        number: 0,
+        job: Job::new(),
+    };
     let mut accounts = ArrayVec::new();
     let mut holdings = ArrayVec::new();
     let mut units = Units::new();
-    'jobs: while let Some(begun) = begin_job(rt, table, seat, queue, rows, &mut job, gate) {
+    'jobs: while let Some(stop) = begin_job(desk, queue, rows, &mut numbered) {
         let made = run_job(
-            rt,
-            table,
-            seat,
-            begun,
-            &job,
+            desk,
+            stop,
+            &numbered,
             &mut accounts,
             &mut holdings,
             &mut units,
-            relief,
             wait,
-            gate,
         );
         if let Some(worked) = rows.tell(made) {
             return worked;

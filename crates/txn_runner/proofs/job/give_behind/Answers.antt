@@ -4,51 +4,44 @@ use Rattle.lock_core.specs.History.{end_from}
 use Rattle.lock_core.specs.Transactions.{recs_of, has_end}
 use Rattle.log_rule.specs.declared.view.Books.{Books}
 use Rattle.log_table.specs.Seats.{view_of}
-use Rattle.txn_making.specs.Holdings.{HoldsAll, GoesBack}
-use Rattle.txn_runner.proofs.StageLemmas.{IsOf-same, IsReady-same, gives-all, gives-then, still-seen, still-stopped}
+use Rattle.txn_parts.proofs.DeskLemmas.{WorksOn-accounts}
+use Rattle.txn_making.specs.Holdings.{HoldsAll, GoesBack, IsKnown}
+use Rattle.txn_runner.proofs.StageLemmas.{gives-all, gives-then, still-seen, still-stopped}
 use Rattle.txn_runner.proofs.job.give_behind.Goals as goal
 
-pub give_all-requires-clause-seat : goal.give_all-requires-clause-seat
-give_all-requires-clause-seat g c = IsOf-same _ _ _ c.requires.seat c.see_durable-seen.ensures.kept.same
-
-pub give_all-requires-clause-ready : goal.give_all-requires-clause-ready
-give_all-requires-clause-ready g c =
-    let kept = c.see_durable-seen.ensures.kept in
-    IsReady-same _ _ c.requires.ready kept.same kept.idle kept.contended
-
 pub give_all-requires-clause-holds : goal.give_all-requires-clause-holds
-give_all-requires-clause-holds g c = subst (HoldsAll c.args.holdings.now.items) (sym c.see_durable-seen.ensures.kept.books_are) c.requires.may.all
-
-pub give_all-requires-clause-known : goal.give_all-requires-clause-known
-give_all-requires-clause-known g c = c.requires.may.known
+give_all-requires-clause-holds g c =
+    let seen = c.see_durable-seen.ensures in record {
+      holds = subst (HoldsAll c.args.holdings.now.items) (sym seen.kept.books_are) c.requires.may.all;
+      known = WorksOn-accounts g.Q.Relief _ _ seen.work (λ accounts. All (IsKnown accounts) c.args.holdings.now.items) c.requires.may.known;
+    }
 
 pub give_all-requires-clause-values : goal.give_all-requires-clause-values
 give_all-requires-clause-values g c =
     let paid = c.args.holdings.now.items in
     subst (λ (books : Books). All (GoesBack c.release.result books) paid) (sym c.see_durable-seen.ensures.kept.books_are)
-    (subst (λ release. All (GoesBack release (view_of c.args.seat.now).books) paid) (sym c.release.ensures) c.requires.may.values)
+    (subst (λ release. All (GoesBack release (view_of c.args.desk.now.seat.now).books) paid) (sym c.release.ensures) c.requires.may.values)
 
 pub give_all-requires-clause-durable : goal.give_all-requires-clause-durable
 give_all-requires-clause-durable g c = λ on.
     let kept = c.see_durable-seen.ensures.kept in
     record {
       ended = subst (λ (books : Books). has_end (recs_of books.placed) ≡ true) (sym kept.books_are) c.requires.may.has_ended;
-      durable = subst (λ (books : Books). end_from 0 books.placed ≤ (view_of c.see_durable-seen.new.seat).seen.durable) (sym kept.books_are)
-          (subst (λ end. end ≤ (view_of c.see_durable-seen.new.seat).seen.durable) (sym c.requires.may.is_last)
+      durable = subst (λ (books : Books). end_from 0 books.placed ≤ (view_of c.see_durable-seen.new.desk.seat.now).seen.durable) (sym kept.books_are)
+          (subst (λ end. end ≤ (view_of c.see_durable-seen.new.desk.seat.now).seen.durable) (sym c.requires.may.is_last)
           (grind (arith, common_steps)));
     }
 
 pub returns-clause-gives : goal.returns-clause-gives
 returns-clause-gives g c =
-    let kept = c.see_durable-seen.ensures.kept in
-    gives-then c.args.holdings.now.items c.args.seat.now c.see_durable-seen.new.seat c.give_all.new.seat kept
-    (gives-all c.args.holdings.now.items c.see_durable-seen.new.seat c.give_all.new.seat
-    (IsReady-same c.args.seat.now c.see_durable-seen.new.seat c.requires.ready kept.same kept.idle kept.contended) c.give_all.ensures)
+    let seen = c.see_durable-seen.ensures in
+    gives-then c.args.holdings.now.items c.args.desk.now.seat.now c.see_durable-seen.new.desk.seat.now c.give_all.new.seat seen.kept
+    (gives-all c.args.holdings.now.items c.see_durable-seen.new.desk.seat.now c.give_all.new.seat seen.work.at_work.ready c.give_all.ensures)
 
 pub returns-clause-seen : goal.returns-clause-seen
-returns-clause-seen g c = still-seen c.args.wait c.args.ended.now.end c.args.holdings.now.items c.see_durable-seen.new.seat c.give_all.new.seat c.give_all.ensures
-    c.see_durable-seen.result c.see_durable-seen.ensures.seen c.see_durable-seen.ensures.waited
+returns-clause-seen g c = still-seen c.args.wait c.args.ended.now.end c.args.holdings.now.items c.see_durable-seen.new.desk.seat.now
+    c.give_all.new.seat c.give_all.ensures c.see_durable-seen.result c.see_durable-seen.ensures.seen
 
-pub returns-clause-cut : goal.returns-clause-cut
-returns-clause-cut g c = still-stopped c.args.wait c.args.ended.now.end c.args.holdings.now.items c.see_durable-seen.new.seat c.give_all.new.seat c.give_all.ensures
-    c.see_durable-seen.result c.see_durable-seen.ensures.waits c.see_durable-seen.ensures.stopped
+pub returns-clause-stopped : goal.returns-clause-stopped
+returns-clause-stopped g c = still-stopped c.args.wait c.args.ended.now.end c.args.holdings.now.items c.see_durable-seen.new.desk.seat.now
+    c.give_all.new.seat c.give_all.ensures c.see_durable-seen.result c.see_durable-seen.ensures.stopped
