@@ -1,8 +1,9 @@
 //! What `recover` answers of an image, beside what is wanted.
 
 use crate::plainly::is_same;
-use log_recovery::{RecoverFault, Why, listed, recover};
+use log_recovery::{RecoverFault, Why, listed, put_dump, recover};
 use lsn_space::Lsn;
+use memory_disk::MemorySink;
 use std::alloc::AllocGlobal;
 use std::process::Abort;
 use std::test::Fail;
@@ -47,7 +48,7 @@ pub(crate) fn has_same_answers<R: AllocGlobal + Abort>(rt: &R, name: &str, bytes
     assert!(rt; is_same(rt.alloc(), bytes), "{name} {bytes:?}");
 }
 
-/// The image is no list, for this fault; one that is unlawful is a list.
+/// The image is no list, for this fault, and so has no dump; one that is unlawful is a list.
 fn is_listed<R: AllocGlobal + Abort>(rt: &R, name: &str, bytes: &[u8], fault: &Fault) {
     let found = listed(rt.alloc(), bytes).err();
     let wanted = match fault {
@@ -101,5 +102,25 @@ pub(crate) fn is_recovered<R: AllocGlobal + Abort>(
     is_end(rt, name, (recovered.lsn.units(), recovered.next_txn), end);
     is_list_to(rt, name, bytes, end.0);
     are_rows(rt, name, found.as_slice(), rows);
+    Ok(())
+}
+
+/// The dump of the image is this text.
+pub(crate) fn is_dumped<R: AllocGlobal + Abort>(
+    rt: &R,
+    name: &str,
+    bytes: &[u8],
+    text: &[u8],
+) -> Result<(), Fail> {
+    let Ok(list) = listed(rt.alloc(), bytes) else {
+        return Err(Fail::new("no list"));
+    };
+    let Ok(mut out) = MemorySink::make(rt.alloc(), 300, &[]) else {
+        return Err(Fail::new("no memory"));
+    };
+    let Ok(()) = put_dump(&list, &mut out) else {
+        return Err(Fail::new("not dumped"));
+    };
+    assert_eq!(rt; out.bytes(), text, "{name}");
     Ok(())
 }

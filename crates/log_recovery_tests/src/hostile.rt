@@ -1,6 +1,6 @@
-//! Images that somebody might hand in, each with the one answer that it gets.
+//! Images that somebody might hand in, each with the one answer that it gets, and its dump where it holds a list.
 
-use crate::answers::{Fault, has_same_answers, is_recovered, is_refused};
+use crate::answers::{Fault, has_same_answers, is_dumped, is_recovered, is_refused};
 use log_recovery::Why;
 use std::alloc::{AllocError, AllocGlobal, Global};
 use std::process::Abort;
@@ -117,7 +117,10 @@ fn units_that_are_no_record(rt: HostRuntime) -> Result<(), Fail> {
     Ok(())
 }
 
-const UNLAWFUL: &[Refused] = &[
+/// An image of a list that is unlawful: its name, its parts, the fault, and its dump.
+type Unlawful = (&'static str, &'static [&'static [u8]], Fault, &'static [u8]);
+
+const UNLAWFUL: &[Unlawful] = &[
     (
         "account 1 first",
         &[
@@ -125,6 +128,7 @@ const UNLAWFUL: &[Refused] = &[
             CLOSED,
         ],
         Fault::Unlawful(0, Why::Genesis),
+        b"0 genesis 1 100\n2 genesis 1 0\nlsn 4\n",
     ),
     (
         "an account that isn't there",
@@ -135,16 +139,19 @@ const UNLAWFUL: &[Refused] = &[
             CLOSED,
         ],
         Fault::Unlawful(4, Why::Account),
+        b"0 genesis 0 100\n2 genesis 1 0\n4 update 1 2 -30 0\nlsn 6\n",
     ),
     (
         "a gain first",
         &[FRONT, b"O\0\0\0\x02\x02\x02\0\0\0\0\0\x01", ADD_30, CLOSED],
         Fault::Unlawful(4, Why::Pair),
+        b"0 genesis 0 100\n2 genesis 1 0\n4 update 1 0 30 0\nlsn 6\n",
     ),
     (
         "a commit without updates",
         &[FRONT, b"O\0\0\0\x01\x03\x01\0\x01\0\0\0\x01", CLOSED],
         Fault::Unlawful(4, Why::Legs),
+        b"0 genesis 0 100\n2 genesis 1 0\n4 commit 1 1\nlsn 5\n",
     ),
     (
         "a second end",
@@ -154,6 +161,7 @@ const UNLAWFUL: &[Refused] = &[
             CLOSED,
         ],
         Fault::Unlawful(5, Why::Ended),
+        b"0 genesis 0 100\n2 genesis 1 0\n4 short 1 1\n5 short 1 1\nlsn 6\n",
     ),
     (
         "a balance below 0",
@@ -164,6 +172,7 @@ const UNLAWFUL: &[Refused] = &[
             CLOSED,
         ],
         Fault::Unlawful(8, Why::Balance),
+        b"0 genesis 0 100\n2 genesis 1 0\n4 update 1 0 -500 0\n6 update 1 1 500 0\n8 commit 1 1\nlsn 9\n",
     ),
     (
         "an account committed on by another",
@@ -181,23 +190,26 @@ const UNLAWFUL: &[Refused] = &[
             CLOSED,
         ],
         Fault::Unlawful(13, Why::Stale),
+        b"0 genesis 0 100\n2 genesis 1 0\n4 update 1 0 -30 0\n6 update 1 1 30 0\n8 update 2 0 -30 0\n10 update 2 1 30 0\n12 commit 2 1\n13 commit 1 1\nlsn 14\n",
     ),
 ];
 
 #[test]
 fn records_that_are_unlawful(rt: HostRuntime) -> Result<(), Fail> {
-    for (name, parts, fault) in UNLAWFUL {
+    for (name, parts, fault, text) in UNLAWFUL {
         refuses(&rt, name, parts, fault)?;
+        is_dumped(&rt, name, joined(rt.alloc(), parts)?.as_slice(), text)?;
     }
     Ok(())
 }
 
-/// A lawful image: its name, its parts, the end of its list with the next transaction number, and the rows of its accounts.
+/// A lawful image: its name, its parts, the end of its list with the next transaction number, the rows of its accounts, and its dump.
 type Lawful = (
     &'static str,
     &'static [&'static [u8]],
     (u32, u64),
     &'static [(u32, u32)],
+    &'static [u8],
 );
 
 const ODD: &[Lawful] = &[
@@ -214,6 +226,7 @@ const ODD: &[Lawful] = &[
         ],
         (8, 8),
         &[(100, 0), (0, 0)],
+        b"0 genesis 0 100\n2 genesis 1 0\n4 update 7 0 -30 0\n6 update 7 1 30 0\nlsn 8\n",
     ),
     (
         "an account in a later batch",
@@ -224,6 +237,7 @@ const ODD: &[Lawful] = &[
         ],
         (6, 1),
         &[(100, 0), (0, 0), (7, 0)],
+        b"0 genesis 0 100\n2 genesis 1 0\n4 genesis 2 7\nlsn 6\n",
     ),
 ];
 
@@ -243,8 +257,9 @@ fn recovers<R: AllocGlobal + Abort>(
 
 #[test]
 fn odd_logs_that_are_lawful(rt: HostRuntime) -> Result<(), Fail> {
-    for (name, parts, end, rows) in ODD {
+    for (name, parts, end, rows, text) in ODD {
         recovers(&rt, name, parts, *end, rows)?;
+        is_dumped(&rt, name, joined(rt.alloc(), parts)?.as_slice(), text)?;
     }
     Ok(())
 }
