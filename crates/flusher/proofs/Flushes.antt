@@ -79,12 +79,21 @@ pub record Reads (units : List ℕ) : Type 0 where
   pub records : List Rec
   pub spelled : AreUnitsOf units records
 
--- the units read up to exposed spell records
+-- all units up to exposed were read
+pub all-gathered : (view now : View) (from to : ℕ) (units : List ℕ) → now ≡ gathered to units view → view.sending.read ≡ []
+    → from ≡ sent_to view → to ≡ from + length units → read_to now ≡ now.sending.exposed
+all-gathered view now from to units is unread start whole =
+    let read : view.sending.read ++ units ≡ units = ap (λ us. us ++ units) unread in
+    let all : read_to (gathered to units view) ≡ to = omega (arith, start, whole, ap length read) in
+    subst (λ (v : View). read_to v ≡ v.sending.exposed) (sym is) all
+
+-- so they spell records
 pub Reads-gathered : (view now : View) (from to : ℕ) (units : List ℕ) → now ≡ gathered to units view → view.sending.read ≡ []
     → from ≡ sent_to view → to ≡ from + length units → ReadsWholeEntries now → Reads units
 Reads-gathered view now from to units is unread start whole entries =
     let read : view.sending.read ++ units ≡ units = ap (λ us. us ++ units) unread in
-    let all : read_to (gathered to units view) ≡ to = omega (arith, start, whole, ap length read) in
+    let all : read_to (gathered to units view) ≡ to =
+    subst (λ (v : View). read_to v ≡ v.sending.exposed) is (all-gathered view now from to units is unread start whole) in
     let found : AreEntries (sent_to view) to (view.sending.read ++ units) = subst ReadsWholeEntries is entries all in
     record {
       records = records_of found.entries;

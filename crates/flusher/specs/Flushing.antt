@@ -1,5 +1,5 @@
 -- What a flush asks for, and what it leaves. `g` is what a disk shows; `old` and `new` are the flusher before and after.
-use Rattle.std.specs.Prelude.{◌≡◌, ◌↔◌, ℕ, ◌+◌, ◌*◌, ◌^◌, ◌<◌, ◌≤◌, List, [], length, Contains}
+use Rattle.std.specs.Prelude.{◌≡◌, ◌↔◌, ℕ, ◌+◌, ◌*◌, ◌^◌, ◌<◌, ◌≤◌, List, [], ◌++◌, length, Contains}
 use Rattle.log_disk.specs.Costs.{Costs}
 use Rattle.log_disk.specs.Disk.{IsOnlyImage, Leaves}
 use Rattle.log_disk.specs.Lengths.{GrowsAtMostTo}
@@ -8,7 +8,7 @@ use Rattle.log_record.specs.declared.rec.Rec.{Rec}
 use Rattle.log_table.specs.declared.table.Seat.{Seat}
 use Rattle.log_rule.specs.declared.view.Role.TheVariants.{Flusher as FlusherRole}
 use Rattle.log_table.specs.Seats.{IsOf, Becomes, key_of, number_of, view_of}
-use Rattle.log_rule.specs.Moments.{HoldsAtOnce, HasSentLawfully}
+use Rattle.log_rule.specs.Moments.{HoldsAtOnce, SpellLawfully}
 use Rattle.log_rule.specs.Sends.{IsDrained}
 use Rattle.log_rule.specs.Sound.{base_of}
 use Rattle.log_rule.specs.Views.{saw_exposed, saw_crew, sent_to}
@@ -97,10 +97,11 @@ pub record Sends {D : Type 0} (g : Ghosts D) (old new : Flusher D g) (from to : 
       → LogStands new.tail (with_units log units) (g.images new.disk.now)
   pub settled : g.honest old.disk.now → IsOnlyImage (g.reads new.disk.now) (g.images new.disk.now)
   pub at_once : HoldsAtOnce (key_of old.table.now) (number_of new.seat) (view_of new.seat)
-  pub lawful : HasSentLawfully (base_of (key_of old.table.now)) at_once.views (sent_of new)
+  pub lawful : SpellLawfully (base_of (key_of old.table.now)) at_once.views (sent_of new)
 
--- the units up to exposed, as loaded, were read, no more than the ring has, which spell records, and the disk failed to take them; durable
--- stands, and the seat keeps what it read
+-- The units up to exposed, as loaded, were read, no more than the ring has, which spell records, and the disk failed to take them; durable
+-- stands, and the seat keeps what it read. As the last was read the rule of the table held of all seats' views, this seat's among them; so
+-- what was sent and read is lawful and serial where no job number stands twice in these views.
 pub record Loses {D : Type 0} (g : Ghosts D) (old new : Flusher D g) : Type 0 where
   pub to : ℕ
   pub units : List ℕ
@@ -113,6 +114,8 @@ pub record Loses {D : Type 0} (g : Ghosts D) (old new : Flusher D g) : Type 0 wh
   pub batch : new.batch ≡ record old.batch { units = units }
   pub tail : new.tail ≡ old.tail
   pub writes : WritesWhole g units old new
+  pub at_once : HoldsAtOnce (key_of old.table.now) (number_of new.seat) (view_of new.seat)
+  pub lawful : SpellLawfully (base_of (key_of old.table.now)) at_once.views (sent_of new ++ (view_of new.seat).sending.read)
 
 -- a flush, by its answer
 abbrev pub Flushes : {D : Type 0} → (g : Ghosts D) → Flusher D g → Flusher D g → Flushed → Type 0

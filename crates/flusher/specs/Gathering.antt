@@ -1,9 +1,11 @@
 -- How units go from the ring into a batch.
 use Rattle.std.specs.Prelude.{◌≡◌, ℕ, ◌+◌, ◌<◌, ◌≤◌, List, length}
 use Rattle.log_table.specs.declared.table.Seat.{Seat}
+use Rattle.log_rule.specs.declared.start.Start.{Start}
 use Rattle.log_rule.specs.declared.view.Role.TheVariants.{Flusher}
 use Rattle.log_rule.specs.declared.view.View.{View}
-use Rattle.log_table.specs.Seats.{Becomes, view_of}
+use Rattle.log_table.specs.Seats.{Becomes, number_of, view_of}
+use Rattle.log_rule.specs.Moments.{HoldsAtOnce}
 use Rattle.log_rule.specs.Sends.{ReadsWholeEntries}
 use Rattle.log_rule.specs.Views.{read_to}
 use Rattle.segment_file.specs.Packing.{BatchState}
@@ -16,10 +18,12 @@ pub record MayGather (from to : ℕ) (view : View) : Type 0 where
   pub forward : from ≤ to
   pub released : to ≤ view.sending.exposed
 
--- they were read, and are the units of the batch; once they end at exposed they are whole entries
-pub record Gathers (from to : ℕ) (old new : Seat) (before after : BatchState) : Type 0 where
+-- They were read, and are the units of the batch; once they end at exposed they are whole entries. Then the rule of the table, which was
+-- made with this key, holds of all seats' views, this seat's among them.
+pub record Gathers (key : Start) (from to : ℕ) (old new : Seat) (before after : BatchState) : Type 0 where
   pub units : List ℕ
   pub whole : to ≡ from + length units
   pub seat : Becomes old new (read_units units (view_of old))
   pub batch : after ≡ record before { units = units }
   pub entries : from < to → ReadsWholeEntries (view_of new)
+  pub at_once : HoldsAtOnce key (number_of new) (view_of new)

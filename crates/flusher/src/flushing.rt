@@ -1,7 +1,7 @@
 //! A flush: the units from durable to exposed go from the ring to the disk.
 ghost use Rattle.std.specs.Prelude.{◌≡◌, ◌≤◌, ◌<◌, ◌+◌, ◌-◌, ◌++◌, [], List, ℕ, length, IfOk, OnOk, OnErr};
 ghost use Rattle.log_disk.specs.Faults.{HasCause};
-ghost use Rattle.log_table.specs.Seats.{IsOf, Becomes, view_of};
+ghost use Rattle.log_table.specs.Seats.{IsOf, Becomes, key_of, view_of};
 ghost use Rattle.log_rule.specs.Views.{sent_to};
 ghost use Rattle.flusher.specs.Flushing.{MayFlush, IsSame, Flushes, Loses};
 ghost use Rattle.flusher.specs.Gathering.{MayGather, Gathers};
@@ -35,16 +35,18 @@ impl<'a, D: LogDisk> Flusher<'a, D> {
     }
 }
 
-/// Reads the units from the one LSN to the other into the batch.
+/// Reads the units from the one LSN to the other into the batch, and looks at the table then.
 fn gather(table: &LogTable, seat: &mut Seat, batch: &mut Batch, from: Lsn, to: Lsn)
     requires seat { IsOf table.now seat.old }
     requires may { MayGather from to (view_of seat.old) }
     requires room { to ≤ from + batch.old.room }
-    ensures { Gathers from to seat.old seat.new batch.old batch.new }
+    ensures { Gathers (key_of table.now) from to seat.old seat.new batch.old batch.new }
 {
     batch.clear();
     for at in from.units()..to.units() {
         let unit = table.load_ring(seat, Lsn::new(at));
         batch.push(unit);
     }
+    // What the batch holds is a lawful list before it goes to the disk.
+    table.look(seat);
 }

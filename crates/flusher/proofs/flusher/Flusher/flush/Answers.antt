@@ -4,9 +4,9 @@ use Rattle.std.proofs.lemmas.Result.{err_from_is_err_and}
 use Rattle.log_rule.specs.declared.view.View.{View}
 use Rattle.log_table.specs.Seats.{view_of}
 use Rattle.log_rule.specs.Views.{has_sent}
-use Rattle.log_rule.proofs.SentRecords.{sent-lawfully}
+use Rattle.log_rule.proofs.SentRecords.{sent-lawfully, read-lawfully}
 use Rattle.flusher.specs.Sending.{read_units, gathered}
-use Rattle.flusher.proofs.Flushes.{Becomes-then, GrowsAtMostTo-append, IsSameSeat-becomes, Leaves-append, Reads-gathered, sent_to-flushed, seen-flushed, LogStands-append, MayFlush-step, seen-newer, tail-appended, tail-place}
+use Rattle.flusher.proofs.Flushes.{all-gathered, Becomes-then, GrowsAtMostTo-append, IsSameSeat-becomes, Leaves-append, Reads-gathered, sent_to-flushed, seen-flushed, LogStands-append, MayFlush-step, seen-newer, tail-appended, tail-place}
 use Rattle.flusher.proofs.Keeps.{KeepsLog-same, KeepsLog-in_flight, KeepsLog-flushed}
 use mathlib.Core.Logic.{∥∥₁_map}
 use Rattle.flusher.proofs.flusher.Flusher.flush.Goals as goal
@@ -96,6 +96,9 @@ returns-in_err-self-clause-lost g c =
         count = c.append.ensures.count;
         grows = λ honest. GrowsAtMostTo-append g.D.LogDisk c.args.self.now _ _ _ units (c.append.ensures.length honest);
       };
+      at_once = c.gather.ensures.at_once;
+      lawful = read-lawfully _ _ _ c.gather.ensures.at_once (ap (λ m. m.0.standing.role) seat.me ∙ c.requires.ready.flusher)
+          (all-gathered (view_of c.args.self.now.seat) _ _ _ _ is c.requires.ready.unread c.requires.ready.next c.gather.ensures.whole);
     }
 
 pub returns-clause-flushed : goal.returns-clause-flushed
