@@ -1,12 +1,17 @@
 -- What is known of a log that was read, and of the view that was given its list.
-use Rattle.std.proofs.Common.{◌≡◌, ◌<◌, ◌≤◌, ℕ, ◌+◌, List, length, Option, IfSome, refl, ap, ◌∙◌, arith}
+use Rattle.std.proofs.Common.{◌≡◌, ◌<◌, ◌≤◌, ◌⊎◌, inl, inr, ℕ, ◌+◌, List, [], ◌∷◌, ◌++◌, length, Option, IfSome, refl, ap, ◌∙◌, sym, arith}
 use Rattle.std.specs.Io.KnownBytes.{Appends}
 use Rattle.lsn_space.specs.declared.lsn.TheConstants.{LAST}
 use Rattle.log_disk.specs.Streams.{AppendsPart}
 use Rattle.log_record.specs.declared.rec.Placed.{Placed}
 use Rattle.log_record.specs.declared.rec.Rec.{Rec}
 use Rattle.log_record.specs.LogList.{AreUnitsOf, end_of}
-use Rattle.log_record.proofs.LogListLemmas.{front_is_boundary}
+use Rattle.log_record.proofs.LogListLemmas.{end_of-cons, front_is_boundary}
+use Rattle.log_record.proofs.SpellingLemmas.{units_of-injective}
+use Rattle.log_record.specs.Spelling.{IsSpellable}
+use Rattle.std.proofs.lemmas.List.Elements.{All-from_recursion}
+use Rattle.lock_core.specs.History.{end_from, entry_at, history_from}
+use Rattle.log_recovery.proofs.BoundaryLemmas.{begins-at-boundary}
 use Rattle.lock_core.specs.Lawful.{base_with}
 use Rattle.lock_core.specs.Sums.{Opening}
 use Rattle.log_recovery.specs.declared.list_result.Listed.{Listed}
@@ -17,7 +22,7 @@ use Rattle.log_recovery.specs.Recovery.{list_of}
 use Rattle.log_recovery.specs.Text.{rows_text}
 use Rattle.ledger_view.specs.declared.entries.Entry.{Entry}
 use Rattle.ledger_view.specs.declared.view.View.{View}
-use Rattle.ledger_view.specs.Entries.{entries_of}
+use Rattle.ledger_view.specs.Entries.{entries_of, EndsAt}
 use Rattle.ledger_view.specs.Viewing.{HasViewed}
 use Rattle.cli_shared.specs.LogInput.{ReadsTaken}
 use Rattle.cli_shared.specs.declared.report.Detail.TheVariants.{Fine, Write, NoSuchLsn, NoAccount}
@@ -26,6 +31,23 @@ use Rattle.cli_reports.proofs.ReportLemmas.{of-list}
 use Rattle.cli_view.specs.Balances.{HasBalances}
 use Rattle.cli_view.specs.Reports.{RefusesAccount, SaysAccounts, SaysStatement, statement_lines}
 use Rattle.cli_view.proofs.BalanceLemmas.{accounts-text}
+
+one-list : (units : List ℕ) (xs ys : List Rec) → AreUnitsOf units xs → AreUnitsOf units ys → xs ≡ ys
+one-list units xs ys first second =
+    units_of-injective xs ys (All-from_recursion IsSpellable xs first.spellable) (All-from_recursion IsSpellable ys second.spellable) (sym first.units_are ∙ second.units_are)
+
+-- where an entry ends of a history with more records behind it: before them, or with a front of them
+ends-within : (start : ℕ) (h : List Placed) (records : List Rec) (end : ℕ) → EndsAt (history_from start h records) end
+    → EndsAt h end ⊎ ((front later : List Rec) × (records ≡ front ++ later) × (end ≡ end_from start h + end_of front))
+ends-within start h [] end is = inl is
+ends-within start h (rec ∷ records) end is =
+    elim (ends-within start (entry_at (end_from start h) rec ∷ h) records end is) [
+      | inl here ↦ elim here [
+        | inl last ↦ inr (rec ∷ [], records, refl, omega (arith, last, end_of-cons rec []))
+        | inr before ↦ inl before
+      ]
+      | inr found ↦ inr (rec ∷ found.0, found.1, ap (λ rs. rec ∷ rs) found.2, omega (arith, found.3, end_of-cons rec found.0))
+    ]
 
 module _ (left left_new : Option (List ℕ)) (view : View) (listed : Listed) (read : ReadsTaken HasViewed left left_new view listed) where
   abbrev pub list_read : OpenedList
@@ -45,6 +67,30 @@ module _ (left left_new : Option (List ℕ)) (view : View) (listed : Listed) (re
   boundary-read lsn rest goes_on =
       let found = goes_on read.2.records read.2.has.list in
       (end_of found.front, found.place, front_is_boundary read.2.records (end_of found.front) (found.front, found.later, found.whole, refl))
+
+  -- where an entry of its history ends there is a boundary, whatever list the units are read as
+  pub known-boundary : (known : ℕ) (records : List Rec) → AreUnitsOf listed.units records
+      → (known ≡ listed.opening.lsn) ⊎ EndsAt (placed list_read) known
+      → IsListBoundary (record { opening = listed.opening; records = records }) known
+  known-boundary known records list (inl begins) = (0, omega (arith, begins), begins-at-boundary records)
+  known-boundary known records list (inr ends) =
+      let found = ends-within listed.opening.lsn [] read.2.records known ends in
+      elim found [
+        | inl never ↦ absurd never
+        | inr front ↦ (
+          end_of front.0,
+          front.3,
+          front_is_boundary records (end_of front.0)
+              (front.0, front.1, one-list listed.units records read.2.records list read.2.has.list ∙ front.2, refl),
+        )
+      ]
+
+  -- the last Commit ends at a boundary
+  pub commit-ends : (begin lsn known : ℕ) → begin ≡ listed.opening.lsn
+      → (known ≡ begin) ⊎ ((known ≤ lsn) × ((opening : Opening) (h : List Placed) → HasViewed opening view h → EndsAt h known))
+      → (known ≡ listed.opening.lsn) ⊎ EndsAt (placed list_read) known
+  commit-ends begin lsn known is (inl begins) = inl (begins ∙ is)
+  commit-ends begin lsn known is (inr ends) = inr (ends.1 _ _ viewed)
 
   -- what is said of the list that was read is said of that of the input
   pub said : (Said : OpenedList → Type 0) → Said list_read → IfSome left (λ all. OfList all left_new Said)

@@ -11,7 +11,7 @@ ghost use Rattle.cli_view.specs.Balances.{HasBalances};
 use cli_shared::{Detail, read_log};
 use ledger_view::View;
 use log_disk::{Sink, Source};
-use log_recovery::{put_accounts, units_from};
+use log_recovery::{put_accounts, units_behind};
 use lsn_space::{Balances, Lsn, NoMemory};
 use std::alloc::Global;
 
@@ -33,7 +33,9 @@ pub fn asof_command<S: Source, K: Sink>(
         Ok(both) => both,
         Err(detail) => return detail,
     };
-    let Some(_) = units_from(&listed.opening, listed.units.as_slice(), lsn) else {
+    let begin = begin_of(&listed.opening);
+    let known = view.last_commit(begin, lsn);
+    let Some(_) = units_behind(&listed.opening, listed.units.as_slice(), known, lsn) else {
         return Detail::NoSuchLsn { lsn };
     };
     let accounts = match accounts_at(alloc, &view, lsn) {
@@ -44,6 +46,13 @@ pub fn asof_command<S: Source, K: Sink>(
         Ok(()) => Detail::Fine,
         Err(_) => Detail::Write,
     }
+}
+
+/// Where a list behind this opening begins.
+fn begin_of(opening: &lsn_space::Opening) -> Lsn
+    ensures { result ≡ opening.now.lsn }
+{
+    opening.lsn
 }
 
 /// The accounts that there are at an LSN, with the balances that they have there.

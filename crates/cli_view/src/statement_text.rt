@@ -1,63 +1,51 @@
 //! The statement of an account as text.
-ghost use Rattle.std.specs.Prelude.{◌≡◌, ◌≤◌, ◌++◌, length, OnOk, OnErr};
+ghost use Rattle.std.specs.Prelude.{◌≡◌, ◌≤◌, ◌+◌, ◌++◌, length, OnOk, OnErr};
 ghost use Rattle.std.specs.Io.KnownBytes.{Appends};
 ghost use Rattle.log_disk.specs.Faults.{HasCause};
 ghost use Rattle.log_disk.specs.Streams.{AppendsPart, AppendsBut};
 ghost use Rattle.log_recovery.specs.Dump.{signed_text};
 ghost use Rattle.cli_view.specs.Reports.{entry_line, open_line, statement_lines};
 
-use arrayvec::ArrayVec;
 use ledger_view::Entry;
 use log_disk::{OutputBlock, Sink, WriteFault};
-use log_recovery::put_end;
+use log_recovery::{Line, put_end};
 use lsn_space::{Lsn, decimal};
 
-/// Room for a line of the statement.
-type Line = ArrayVec<u8, 96>;
-
 #[tactic(auto, unfolding(crate::specs::Reports::open_line))]
-fn first_line(balance: u32) -> Line
-    ensures { result.items ≡ open_line balance }
+fn first_line(balance: u32, line: &mut Line)
+    ensures { line.new ≡ open_line balance }
 {
-    let mut line = ArrayVec::new();
-    line.try_extend_from_slice(b"open ").unwrap();
-    line.try_extend_from_slice(decimal(balance as u64).as_slice())
-        .unwrap();
-    line.push(b'\n');
-    line
+    line.clear();
+    line.put_byte(b'\n');
+    line.put_number(balance);
+    line.put_piece(b"open ");
 }
 
-/// A number that may be below 0.
-fn signed(n: i64) -> ArrayVec<u8, 21>
-    ensures { result.items ≡ signed_text n }
+/// Puts a number that may be below 0.
+fn put_signed(n: i64, line: &mut Line)
+    requires { length line.old ≤ 100 }
+    ensures text { line.new ≡ signed_text n ++ line.old }
+    ensures short { length line.new ≤ length line.old + 21 }
 {
-    let mut text = ArrayVec::new();
+    line.put_piece(decimal(n.unsigned_abs()).as_slice());
     if n < 0 {
-        text.push(b'-');
+        line.put_byte(b'-');
     }
-    text.try_extend_from_slice(decimal(n.unsigned_abs()).as_slice())
-        .unwrap();
-    text
 }
 
 #[tactic(auto, unfolding(crate::specs::Reports::entry_line))]
-fn line_of(entry: &Entry) -> Line
-    ensures { result.items ≡ entry_line entry.now }
+fn line_of(entry: &Entry, line: &mut Line)
+    ensures { line.new ≡ entry_line entry.now }
 {
-    let mut line = ArrayVec::new();
-    line.try_extend_from_slice(decimal(entry.end.units() as u64).as_slice())
-        .unwrap();
-    line.push(b' ');
-    line.try_extend_from_slice(decimal(entry.txn as u64).as_slice())
-        .unwrap();
-    line.push(b' ');
-    line.try_extend_from_slice(signed(entry.net).as_slice())
-        .unwrap();
-    line.push(b' ');
-    line.try_extend_from_slice(decimal(entry.balance as u64).as_slice())
-        .unwrap();
-    line.push(b'\n');
-    line
+    line.clear();
+    line.put_byte(b'\n');
+    line.put_number(entry.balance);
+    line.put_byte(b' ');
+    put_signed(entry.net, line);
+    line.put_byte(b' ');
+    line.put_number(entry.txn);
+    line.put_byte(b' ');
+    line.put_number(entry.end.units());
 }
 
 /// Writes the statement of an account that begins with this balance, of a list that ends here, or a part of it at a fault.
@@ -72,9 +60,12 @@ pub fn put_statement<K: Sink>(
     ensures cause { HasCause (K.faults sink.old) (K.faults sink.new) result }
 {
     let mut block = OutputBlock::new();
-    block.put(sink, first_line(balance).as_slice())?;
+    let mut line = Line::new();
+    first_line(balance, &mut line);
+    block.put(sink, line.as_slice())?;
     'entries: for entry in entries {
-        block.put(sink, line_of(entry).as_slice())?;
+        line_of(entry, &mut line);
+        block.put(sink, line.as_slice())?;
     }
     put_end(end, &mut block, sink)?;
     block.write_out(sink)

@@ -1,15 +1,27 @@
-use Rattle.std.proofs.Common.{sym, subst}
+use Rattle.std.proofs.Common.{◌∙◌, inl, inr, arith, sym, subst}
 use Rattle.log_record.specs.LogList.{AreUnitsOf}
 use Rattle.cli_reports.specs.Reports.{RefusesLsn}
 use Rattle.cli_reports.proofs.ReportLemmas.{report-fault}
 use Rattle.cli_view.specs.Reports.{SaysAccounts}
-use Rattle.cli_view.proofs.ReadLemmas.{asof-cut, asof-fine, asof-refused, boundary-read}
+use Rattle.cli_view.proofs.ReadLemmas.{asof-cut, asof-fine, asof-refused, boundary-read, known-boundary, commit-ends}
 use Rattle.cli_view.proofs.asof_command.asof_command.Goals as goal
 
 -- the input is no log, or could not be read
 pub returns-in-Err-clause-answer : goal.returns-in-Err-clause-answer
 returns-in-Err-clause-answer g c =
     (report-fault (SaysAccounts c.args.lsn) (RefusesLsn c.args.lsn) _ _ (g.K.Sink.held_bytes c.args.out.now) c.in-Err.detail c.in-Err.ensures.err).answer
+
+-- the last Commit up to there ends at a boundary
+pub units_behind-requires-clause-known : goal.units_behind-requires-clause-known
+units_behind-requires-clause-known g c = λ records list.
+    known-boundary _ _ _ _ c.in-Ok.ensures.ok c.last_commit-known.result records (subst (λ units. AreUnitsOf units records) c.as_slice.ensures list)
+    (commit-ends _ _ _ _ c.in-Ok.ensures.ok c.begin_of-begin.result c.args.lsn c.last_commit-known.result c.begin_of-begin.ensures c.last_commit-known.ensures)
+
+pub units_behind-requires-clause-below : goal.units_behind-requires-clause-below
+units_behind-requires-clause-below g c = elim c.last_commit-known.ensures [
+  | inl begins ↦ inl (begins ∙ c.begin_of-begin.ensures)
+  | inr ends ↦ inr (omega (arith, ends.0))
+]
 
 -- the LSN is no boundary
 pub returns-in_default-clause-answer : goal.returns-in_default-clause-answer

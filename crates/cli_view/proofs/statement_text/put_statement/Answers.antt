@@ -8,20 +8,20 @@ use Rattle.cli_view.proofs.statement_text.put_statement.Goals as goal
 pub returns-in_err-put-clause-prefix : goal.returns-in_err-put-clause-prefix
 returns-in_err-put-clause-prefix g c =
     let failed = err_from_is_err_and c.from_residual.result c.from_residual.ensures.1 in
-    rw failed.1 (first-cut _ _ _ _ _ _ _ c.new-block.ensures (c.as_slice.ensures.value ∙ c.first_line.ensures) c.in_err-put.ensures.prefix)
+    rw failed.1 (first-cut _ _ _ _ _ _ _ c.new-block.ensures (c.as_slice.ensures.bytes ∙ c.first_line.ensures) c.in_err-put.ensures.prefix)
 
 pub returns-in_err-put-2-clause-prefix : goal.returns-in_err-put-2-clause-prefix
 returns-in_err-put-2-clause-prefix g c =
     let failed = err_from_is_err_and c.from_residual-in_err-put-2.result c.from_residual-in_err-put-2.ensures.1 in
     let cut = subst (λ line. AppendsPart (g.K.Sink.held_bytes c.entries.sink) (g.K.Sink.held_bytes c.put-in-entries.new.sink) (c.entries.block ++ line))
-    (c.as_slice-in-entries.ensures.value ∙ c.line_of.ensures) c.in_err-put-2.ensures.prefix in
+    (c.as_slice-in-entries.ensures.bytes ∙ c.line_of.ensures) c.in_err-put-2.ensures.prefix in
     rw failed.1 (line-cut _ _ _ _ _ _ _ c.entries.entry-index c.entry-item.result c.entries-test.true c.entry-item.is c.entries.invariant.written cut)
 
 pub entries-preserved : goal.entries-preserved
 entries-preserved g c =
     let put = subst
     (λ line. AppendsBut (g.K.Sink.held_bytes c.entries.sink) (g.K.Sink.held_bytes c.put-in-entries.new.sink) (c.entries.block ++ line) c.put-in-entries.new.self)
-    (c.as_slice-in-entries.ensures.value ∙ c.line_of.ensures) c.in_ok-put-2.ensures.all in
+    (c.as_slice-in-entries.ensures.bytes ∙ c.line_of.ensures) c.in_ok-put-2.ensures.all in
     record {
       written = line-more _ _ c.args.end _ _ _ _ c.entries.entry-index c.entry-item.result c.entries-test.true c.entry-item.is c.entries.invariant.written _ put;
       same = c.in_ok-put-2.ensures.cause.fine ∙ c.entries.invariant.same;
