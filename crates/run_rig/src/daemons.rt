@@ -54,13 +54,7 @@ pub fn flusher_on<'a, D: LogDisk>(
     let Ok(tail) = create(disk, &mut genesis) else {
         return None;
     };
-    Some(Flusher {
-        table,
-        disk,
-        seat,
-        batch,
-        tail,
-    })
+    Some(Flusher::make(table, disk, seat, batch, tail))
 }
 
 /// A daemon over such a flusher.

@@ -1,0 +1,31 @@
+-- A flusher that was made over these parts.
+use Rattle.std.proofs.Common.{◌≡◌, ◌≤◌, ◌+◌, ◌*◌, ◌^◌, ◌∙◌, ap, sym, subst, []}
+use Rattle.std.specs.List.{Contains}
+use Rattle.log_disk.specs.declared.disk.LogDisk.{Ghosts}
+use Rattle.log_table.specs.declared.table.LogTable.{LogTable}
+use Rattle.log_table.specs.declared.table.Seat.{Seat}
+use Rattle.log_table.specs.Seats.{IsOf, view_of}
+use Rattle.log_rule.specs.declared.view.Role.TheVariants.{Flusher as FlusherRole}
+use Rattle.log_rule.specs.Views.{sent_to}
+use Rattle.segment_file.specs.Packing.{BatchState}
+use Rattle.segment_file.specs.Standing.{IsShut}
+use Rattle.segment_file.specs.declared.scan_result.Tail.{Tail}
+use Rattle.flusher.specs.declared.flusher.Flusher.{Flusher}
+use Rattle.flusher.specs.Flushing.{MayFlush}
+
+pub MayFlush-over : {D : Type 0} (g : Ghosts D) (f : Flusher D g) (table : LogTable) (seat : Seat) (batch : BatchState) (tail : Tail) (disk : D)
+    → f.table.now ≡ table → f.seat ≡ seat → f.batch ≡ batch → f.tail ≡ tail → f.disk.now ≡ disk
+    → IsOf table seat → (view_of seat).standing.role ≡ FlusherRole → (view_of seat).sending.read ≡ []
+    → Contains (view_of seat).seen.lsns (sent_to (view_of seat)) → tail.next ≡ sent_to (view_of seat) → tail.at ≤ 2 ^ 63 + 16 * tail.next
+    → (g.honest disk → IsShut tail.at (g.images disk)) → table.ring ≤ batch.room → MayFlush g f
+MayFlush-over g f table seat batch tail disk table_is seat_is batch_is tail_is disk_is of_table role unread seen next place shut room = record {
+  seat = subst (λ t. IsOf t f.seat) (sym table_is) (subst (IsOf table) (sym seat_is) of_table);
+  flusher = ap (λ s. (view_of s).standing.role) seat_is ∙ role;
+  unread = ap (λ s. (view_of s).sending.read) seat_is ∙ unread;
+  seen = subst (λ s. Contains (view_of s).seen.lsns (sent_to (view_of s))) (sym seat_is) seen;
+  next = ap (λ (t : Tail). t.next) tail_is ∙ next ∙ sym (ap (λ s. sent_to (view_of s)) seat_is);
+  place = subst (λ (t : Tail). t.at ≤ 2 ^ 63 + 16 * t.next) (sym tail_is) place;
+  shut = subst (λ d. g.honest d → IsShut f.tail.at (g.images d)) (sym disk_is)
+      (subst (λ (t : Tail). g.honest disk → IsShut t.at (g.images disk)) (sym tail_is) shut);
+  room = subst (λ (t : LogTable). t.ring ≤ f.batch.room) (sym table_is) (subst (λ (b : BatchState). table.ring ≤ b.room) (sym batch_is) room);
+}
