@@ -1,5 +1,5 @@
 -- Turns one after another.
-use Rattle.std.proofs.Common.{◌≡◌, ◌≢◌, ◌∙◌, sym, ap, refl, subst, inl, inr, ℕ, ◌+◌, ◌*◌, List, [], ◌∷◌, ◌++◌, length, length-append, append_assoc, append-nil, arith, Option, Some, None}
+use Rattle.std.proofs.Common.{◌≡◌, ◌≢◌, ◌<◌, ◌∙◌, sym, ap, refl, subst, inl, inr, ℕ, ◌+◌, ◌*◌, List, [], ◌++◌, length, length-append, append_assoc, append-nil, arith, Option, Some, None}
 use Rattle.std.proofs.lemmas.List.Concat.{flat_map-append}
 use Rattle.std.specs.List.{AllByRecursion}
 use Rattle.log_disk.specs.declared.disk.LogDisk.{Ghosts}
@@ -68,15 +68,21 @@ HoldsFront-behind before done more bytes some = record {
       ∙ ap (λ us. with_units before us) (sym (flat_map-append spelling done some.front))) some.holds;
 }
 
--- what was written then is a front of the lines of all the records
-pub TellsFront-text : (voice : Voice) (at : ℕ) (records : List Rec) (text : List ℕ) (before after : Tally) → TellsFront voice at records text before after
-    → (rest : List ℕ) × (text_of voice at records ≡ text ++ rest)
-TellsFront-text voice at records text before after front =
+-- what was written then is a front of the lines of all the records, and not all
+pub TellsFront-part : (voice : Voice) (at : ℕ) (records : List Rec) (text : List ℕ) (before after : Tally) → TellsFront voice at records text before after
+    → (rest : List ℕ) × (0 < length rest) × (text_of voice at records ≡ text ++ rest)
+TellsFront-part voice at records text before after front =
     let later : List ℕ = text_of voice (at + length (units_of front.told)) front.untold in (
       front.unwritten ++ later,
+      omega (arith, front.some, length-append front.unwritten later),
       ap (text_of voice at) front.whole ∙ text_of-append voice at front.told front.untold ∙ ap (λ us. us ++ later) front.lines
           ∙ append_assoc text front.unwritten later,
     )
+
+pub TellsFront-text : (voice : Voice) (at : ℕ) (records : List Rec) (text : List ℕ) (before after : Tally) → TellsFront voice at records text before after
+    → (rest : List ℕ) × (text_of voice at records ≡ text ++ rest)
+TellsFront-text voice at records text before after front =
+    let part = TellsFront-part voice at records text before after front in (part.0, part.2)
 
 -- a daemon that only counts has no line to fail at
 pub TellsFront-speaks : (voice : Voice) (at : ℕ) (records : List Rec) (text : List ℕ) (before after : Tally)
@@ -129,6 +135,14 @@ module _ {D : Type 0} {K : Type 0} (g : Ghosts D) (h : SinkGhosts K) (a b c : Da
   both log = with_units-append log (units_of first.more) (units_of second.more)
       ∙ ap (λ us. with_units log us) (sym (flat_map-append spelling first.more second.more))
 
+  counted-both : (first.more ++ second.more ≡ (first.more ++ second.counts.0) ++ second.counts.1)
+      × (c.tally ≡ counted a.tally (first.more ++ second.counts.0))
+  counted-both = (
+    ap (λ rs. first.more ++ rs) second.counts.2 ∙ sym (append_assoc first.more second.counts.0 second.counts.1),
+    second.counts.3 ∙ ap (λ t. counted t second.counts.0) (first.tallied (kept WriteFault))
+        ∙ sym (counted-append a.tally first.more second.counts.0),
+  )
+
   stop : (fault : Option DaemonFault) → StopTells b c fault → StopTells a c fault
   stop None kept_stop = kept_stop ∙ (subst (StopTells a b) fine first.reason.stop)
   stop (Some DiskFault) told_stop = told_stop
@@ -165,6 +179,8 @@ module _ {D : Type 0} {K : Type 0} (g : Ghosts D) (h : SinkGhosts K) (a b c : Da
         (second.stands sent (first.same.flusher.honest.0 honest) _ (first.stands (kept DiskFault) honest log stood));
     tallied = λ written.
         second.tallied written ∙ ap (λ t. counted t second.more) (first.tallied (kept WriteFault)) ∙ sym (counted-append a.tally first.more second.more);
+    counts = (first.more ++ second.counts.0, second.counts.1, counted-both.0, counted-both.1);
+    part = second.part;
     reason = reason;
     count = λ honest.
         let extra_none = extra-fine b.fault fine in

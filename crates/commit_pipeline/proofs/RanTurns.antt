@@ -7,6 +7,7 @@ use Rattle.std.specs.List.{AllByRecursion}
 use Rattle.log_record.specs.declared.rec.Rec.{Rec}
 use Rattle.log_record.specs.Spelling.{IsSpellable}
 use Rattle.log_rule.specs.declared.view.View.{View}
+use Rattle.log_table.specs.declared.table.Seat.{Seat}
 use Rattle.log_table.specs.Seats.{Becomes, view_of}
 use Rattle.flusher.specs.declared.flusher.Drained.{Drained}
 use Rattle.flusher.specs.declared.flusher.Drained.TheVariants.{At, Active, Behind}
@@ -19,11 +20,14 @@ use Rattle.daemon_turn.specs.declared.one_turn.Turn.{Turn}
 use Rattle.daemon_turn.specs.declared.one_turn.Turn.TheVariants.{Idle, Sent}
 use Rattle.stop_word.specs.declared.fault.DaemonFault.{DaemonFault}
 use Rattle.stop_word.specs.declared.fault.DaemonFault.TheVariants.{DiskFault, WriteFault}
+use Rattle.commit_pipeline.specs.Told.{HasToldPart}
 use Rattle.commit_pipeline.specs.Later.{InFlight, HasReason, StopTells, extra, Ran}
+use Rattle.end_lines.specs.declared.voice.Voice.{Voice}
 use Rattle.end_lines.specs.Telling.{counted}
 use Rattle.commit_pipeline.specs.Turning.{ChangesFlusher, MayTurn, IsSameDaemon, Idles, SendsLines, LosesUnits, LosesLines, Turns, Fails, durable}
 use Rattle.commit_pipeline.proofs.FlewLemmas.{Flew, Flew-step, Flew-sends, Flew-loses, Flew-stop}
-use Rattle.commit_pipeline.proofs.RanLemmas.{none≢some, TellsFront-speaks}
+use Rattle.commit_pipeline.proofs.RanLemmas.{none≢some, TellsFront-part, TellsFront-speaks}
+use Rattle.commit_pipeline.proofs.ToldSoFar.{HasToldPart-more}
 use Rattle.batch_lines.proofs.ToldLemmas.{counted-none}
 
 module _ {D : Type 0} {K : Type 0} (g : Ghosts D) (h : SinkGhosts K) (old new : Daemon D K g h) where
@@ -31,8 +35,11 @@ module _ {D : Type 0} {K : Type 0} (g : Ghosts D) (h : SinkGhosts K) (old new : 
       → Flew g more cut most old.flusher new.flusher
       → IsSameDaemon g old new → InFlight new.fault (view_of new.flusher.seat) cut → (new.fault ≡ None → MayTurn g new)
       → (new.fault ≢ Some DiskFault → cut ≡ []) → (new.fault ≢ Some WriteFault → new.tally ≡ counted old.tally more)
+      → (told untold : List Rec) × (more ≡ told ++ untold) × (new.tally ≡ counted old.tally told)
+      → (new.fault ≡ Some WriteFault
+      → HasToldPart h new.first.value new.sink.now new.voice (view_of new.begun.value) (view_of new.flusher.seat))
       → HasReason g h old new → most ≤ 4 * length more + extra new.fault → Ran g h old new
-  Ran-of more cut most fine spellable flew same in_flight may_turn cuts tallied reason count = record {
+  Ran-of more cut most fine spellable flew same in_flight may_turn cuts tallied counts part reason count = record {
     was_fine = fine;
     more = more;
     cut = cut;
@@ -45,6 +52,8 @@ module _ {D : Type 0} {K : Type 0} (g : Ghosts D) (h : SinkGhosts K) (old new : 
     moments = flew.moments;
     stands = λ sent. flew.stands (cuts sent);
     tallied = tallied;
+    counts = counts;
+    part = part;
     reason = reason;
     count = λ honest. Costs-more g most _ most _ old.flusher.disk.now new.flusher.disk.now count count (flew.count honest);
     tail = flew.tail;
@@ -71,6 +80,8 @@ module _ {D : Type 0} {K : Type 0} (g : Ghosts D) (h : SinkGhosts K) (old new : 
   Ran-quiet ready flew same may rest stop disk_fine =
       Ran-of [] [] 0 ready.fine tt flew same (fine-flight may.fine flew.read) (λ fine. may) (λ sent. refl)
       (λ written. ap (λ (d : Daemon D K g h). d.tally) rest.1 ∙ counted-none old.tally)
+      ([], [], refl, ap (λ (d : Daemon D K g h). d.tally) rest.1 ∙ counted-none old.tally)
+      (λ failed. absurd (none≢some WriteFault (sym may.fine ∙ failed)))
       (fine-reason may.fine stop disk_fine (ap (λ (d : Daemon D K g h). h.faults d.sink.now) rest.1)) (omega (arith, ap extra may.fine))
 
   -- what some units spell is some record
@@ -86,6 +97,8 @@ module _ {D : Type 0} {K : Type 0} (g : Ghosts D) (h : SinkGhosts K) (old new : 
       Ran-of sent.flush.records [] 4 ready.fine
       (subst (AllByRecursion IsSpellable) (sym (append-nil sent.flush.records)) sent.flush.spelled.spellable) flew same
       (fine-flight may.fine flew.read) (λ fine. may) (λ disk. refl) (λ written. sent.tells.counts)
+      (sent.flush.records, [], sym (append-nil sent.flush.records), sent.tells.counts)
+      (λ failed. absurd (none≢some WriteFault (sym may.fine ∙ failed)))
       (fine-reason may.fine (ap (λ (v : View). v.sending.stop) is) sent.disk_fine sent.sink_fine)
       (omega (arith, some, ap extra may.fine))
 
@@ -100,12 +113,29 @@ module _ {D : Type 0} {K : Type 0} (g : Ghosts D) (h : SinkGhosts K) (old new : 
       (subst (λ f. InFlight f (view_of new.flusher.seat) lost.flush.records) (sym fault) flew.read)
       (λ fine. absurd (none≢some DiskFault (sym fine ∙ fault))) (λ sent. absurd (sent fault))
       (λ written. ap (λ (d : Daemon D K g h). d.tally) lost.rest.1 ∙ counted-none old.tally)
+      ([], [], refl, ap (λ (d : Daemon D K g h). d.tally) lost.rest.1 ∙ counted-none old.tally) (λ failed. absurd cc)
       (record {
         stop = subst (StopTells old new) (sym fault) (ap (λ (v : View). v.sending.stop) is);
         disk = record { counted = λ failed. lost.rose; fine = λ sent. absurd (sent fault) };
         sink = record { counted = λ failed. absurd cc; fine = λ written. ap (λ (d : Daemon D K g h). h.faults d.sink.now) lost.rest.1 };
       })
       (omega (arith, ap extra fault))
+
+  -- a part of the lines was written, of a daemon that had told all it sent before
+  told-unwritten : MayTurn g old → LosesLines g h old new → IsSameDaemon g old new
+      → HasToldPart h new.first.value new.sink.now new.voice (view_of new.begun.value) (view_of new.flusher.seat)
+  told-unwritten ready lost same =
+      let stopped = ap (λ m. m.0) lost.stops.seat.me in
+      let flushed = ap (λ m. m.0) lost.flush.seat.me in
+      let (rest, some, lines) = TellsFront-part old.voice (durable old) lost.flush.records lost.text old.tally new.tally lost.tells in
+      subst (λ (p : K × Voice × Seat). HasToldPart h p.0 new.sink.now p.1 (view_of p.2) (view_of new.flusher.seat))
+      (λ i. (sym same.first i, sym same.voice i, sym same.begun i))
+      (HasToldPart-more h old.first.value old.voice (view_of old.begun.value) old.sink.now (view_of old.flusher.seat) (view_of new.flusher.seat)
+      (ap (λ (v : View). v.constants) stopped ∙ ap (λ (v : View). v.constants) flushed) ready.all_told lost.flush.units lost.flush.records
+      lost.flush.spelled
+      (ap (λ (v : View). v.sending.sent) stopped ∙ ap (λ (v : View). v.sending.sent) flushed
+      ∙ ap (λ us. sent_of old.flusher ++ (us ++ lost.flush.units)) ready.flusher.unread)
+      new.sink.now lost.text lost.appended rest some lines)
 
   -- the sink failed
   Ran-unwritten : MayTurn g old → LosesLines g h old new → IsSameDaemon g old new → Ran g h old new
@@ -118,6 +148,7 @@ module _ {D : Type 0} {K : Type 0} (g : Ghosts D) (h : SinkGhosts K) (old new : 
       (subst (AllByRecursion IsSpellable) (sym (append-nil lost.flush.records)) lost.flush.spelled.spellable) flew same
       (subst (λ f. InFlight f (view_of new.flusher.seat) []) (sym lost.fault) (refl, flew.read))
       (λ fine. absurd (none≢some WriteFault (sym fine ∙ lost.fault))) (λ sent. refl) (λ written. absurd (written lost.fault))
+      (lost.tells.told, lost.tells.untold, lost.tells.whole, lost.tells.counts) (λ failed. told-unwritten ready lost same)
       (record {
         stop = subst (StopTells old new) (sym lost.fault) (
           ap (λ (v : View). v.sending.stop) is,

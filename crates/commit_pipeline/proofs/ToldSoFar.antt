@@ -1,5 +1,5 @@
 -- What was told since a daemon was made, one turn after another.
-use Rattle.std.proofs.Common.{◌≡◌, ◌∙◌, sym, ap, refl, subst, ℕ, ◌+◌, List, [], ◌++◌, length, length-append, append_assoc, append-nil, arith}
+use Rattle.std.proofs.Common.{◌≡◌, ◌<◌, ◌∙◌, sym, ap, refl, subst, ℕ, ◌+◌, List, [], ◌++◌, length, length-append, append_assoc, append-nil, arith}
 use Rattle.std.specs.Io.KnownBytes.{Appends}
 use Rattle.std.proofs.KnownBytes.{Appends-nil, Appends-trans}
 use Rattle.std.proofs.lemmas.List.Concat.{flat_map-append}
@@ -17,7 +17,7 @@ use Rattle.end_lines.specs.EndLines.{text_of}
 use Rattle.end_lines.proofs.LineLemmas.{text_of-append}
 use Rattle.batch_lines.proofs.ToldLemmas.{text_of-none}
 use Rattle.flusher.proofs.Keeps.{spellable-append}
-use Rattle.commit_pipeline.specs.Told.{SentSince, HasTold, HasToldAll}
+use Rattle.commit_pipeline.specs.Told.{SentSince, HasTold, HasToldAll, HasToldPart}
 
 -- nothing was sent yet
 abbrev pub SentSince-none : (view : View) → SentSince view view
@@ -105,6 +105,14 @@ module _ {K : Type 0} (h : SinkGhosts K) (first : K) (voice : Voice) (begun : Vi
           Appends-trans _ _ _ before text all.told appended,
         );
       }
+
+      -- and not all of them
+      pub HasToldPart-more : (rest : List ℕ) → 0 < length rest → text_of voice (sent_to now) records ≡ text ++ rest
+          → HasToldPart h first sink' voice begun later
+      unfolding HasTold-more
+      HasToldPart-more rest some lines =
+          let has = HasTold-more rest lines in
+          record { since = has.since; told = (has.told.0, has.told.1, has.told.2, has.told.3, some) }
 
 -- when a daemon is made, with the sink and the seat as they are then
 pub HasToldAll-made : {K : Type 0} (h : SinkGhosts K) (first sink : K) (voice : Voice) (begun seat : Seat) → first ≡ sink → begun ≡ seat

@@ -23,6 +23,7 @@ use Rattle.stop_word.specs.declared.fault.DaemonFault.TheVariants.{DiskFault, Wr
 use Rattle.end_lines.specs.declared.voice.Voice.TheVariants.{Lines}
 use Rattle.stop_word.specs.Stopping.{stop_word}
 use Rattle.end_lines.specs.Telling.{counted}
+use Rattle.commit_pipeline.specs.Told.{HasToldPart}
 use Rattle.commit_pipeline.specs.Turning.{MayTurn, IsSameDaemon}
 
 -- the records in flight: those that were read when the disk failed, and else none
@@ -58,8 +59,9 @@ abbrev pub ring_of : {D : Type 0} → {K : Type 0} → {g : Ghosts D} → {h : S
 ring_of d = (view_of d.flusher.seat).constants.ring
 
 -- Turns of a daemon to which nothing had befallen. `more` are the records that they sent, and `cut` those in flight at a fault of the
--- disk. At each moment an image holds the log that stood at the tail and a front of them. No call that failed was made again. The tail
--- moved, and the file grew, by at most 13 bytes for each unit sent, and the file by one batch in flight more.
+-- disk. At each moment an image holds the log that stood at the tail and a front of them. At a fault of the sink the end records of a front
+-- of them were counted, and a part of the lines is written, not all. No call that failed was made again. The tail moved, and the file grew,
+-- by at most 13 bytes for each unit sent, and the file by one batch in flight more.
 pub record Ran {D : Type 0} {K : Type 0} (g : Ghosts D) (h : SinkGhosts K) (old new : Daemon D K g h) : Type 0 where
   pub was_fine : old.fault ≡ None
   pub more : List Rec
@@ -76,6 +78,9 @@ pub record Ran {D : Type 0} {K : Type 0} (g : Ghosts D) (h : SinkGhosts K) (old 
       → LogStands old.flusher.tail log (g.images old.flusher.disk.now)
       → LogStands new.flusher.tail (with_units log (units_of more)) (g.images new.flusher.disk.now)
   pub tallied : new.fault ≢ Some WriteFault → new.tally ≡ counted old.tally more
+  pub counts : (told untold : List Rec) × (more ≡ told ++ untold) × (new.tally ≡ counted old.tally told)
+  pub part : new.fault ≡ Some WriteFault
+      → HasToldPart h new.first.value new.sink.now new.voice (view_of new.begun.value) (view_of new.flusher.seat)
   pub reason : HasReason g h old new
   pub count : g.honest old.flusher.disk.now
       → Costs g (4 * length more + extra new.fault) (4 * length more + extra new.fault) old.flusher.disk.now new.flusher.disk.now

@@ -4,7 +4,7 @@ use Rattle.std.specs.Prelude.{◌≡◌, List, ◌++◌}
 use Rattle.std.specs.List.{AllByRecursion}
 use Rattle.std.specs.Io.KnownBytes.{Appends}
 use Rattle.log_disk.specs.declared.sink.Sink.{Ghosts as SinkGhosts}
-use Rattle.log_disk.specs.Streams.{AppendsPrefix}
+use Rattle.log_disk.specs.Streams.{AppendsPart, AppendsPrefix}
 use Rattle.log_record.specs.declared.rec.Rec.{Rec}
 use Rattle.log_record.specs.LogList.{units_of}
 use Rattle.log_record.specs.Spelling.{IsSpellable}
@@ -29,3 +29,8 @@ pub record HasToldAll {K : Type 0} (h : SinkGhosts K) (first sink : K) (voice : 
 pub record HasTold {K : Type 0} (h : SinkGhosts K) (first sink : K) (voice : Voice) (begun now : View) : Type 0 where
   pub since : SentSince begun now
   pub told : AppendsPrefix (h.held_bytes first) (h.held_bytes sink) (text_of voice (sent_to begun) since.more)
+
+-- a part of these lines was written, and not all
+pub record HasToldPart {K : Type 0} (h : SinkGhosts K) (first sink : K) (voice : Voice) (begun now : View) : Type 0 where
+  pub since : SentSince begun now
+  pub told : AppendsPart (h.held_bytes first) (h.held_bytes sink) (text_of voice (sent_to begun) since.more)

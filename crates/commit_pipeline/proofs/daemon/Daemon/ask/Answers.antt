@@ -1,4 +1,4 @@
-use Rattle.std.proofs.Common.{rules, refl, inr, ap, ◌∙◌, length, arith}
+use Rattle.std.proofs.Common.{refl, inr, ap, ◌∙◌, length, arith}
 use mathlib.Core.Logic.{∥∥₁_map}
 use Rattle.log_table.specs.Seats.{view_of}
 use Rattle.commit_pipeline.proofs.RanTurns.{Ran-asked}
