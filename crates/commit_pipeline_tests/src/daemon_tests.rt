@@ -75,7 +75,7 @@ fn ask(daemon: &mut Daemon<MemoryDisk, MemorySink>) -> Drained
     ensures ready { MayTurn ⟦<MemoryDisk as LogDisk>⟧ daemon.new }
     ensures told { knows_all_enrolled (view_of daemon.new.flusher.seat).standing ≡ true }
 {
-    daemon.flusher.drained()
+    daemon.ask()
 }
 
 /// One turn, which is one of several.

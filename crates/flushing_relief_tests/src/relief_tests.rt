@@ -25,7 +25,7 @@ use txn_runner::{Answer, Cause, Queue, Relief, Row, Rows, Worked};
 
 /// A relief that flushes, and first looks whether account 0 is held.
 #[derive(Drop)]
-struct Looking<'a, D, K> {
+struct Looking<'a, D: LogDisk, K: Sink> {
     flushing: FlushingRelief<'a, D, K>,
     table: &'a LogTable,
     seat: Seat,
