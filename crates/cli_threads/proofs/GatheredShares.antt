@@ -30,12 +30,12 @@ use Rattle.txn_runner.proofs.EntryLemmas.{LieInOrder-ends}
 use Rattle.txn_making.proofs.Held.{account-given}
 use Rattle.txn_runner.proofs.WorkLemmas.{IsOwnEntry}
 use Rattle.cli_workers.specs.declared.workers.Worker.{Worker}
-use Rattle.cli_threads.specs.Gathering.{all_marks, all_places, share_of, takes_all, view_in, worked_of}
+use Rattle.cli_threads.specs.Gathering.{AreFront, all_marks, all_places, share_of, takes_all, view_in, worked_of}
 use Rattle.cli_threads.specs.Shares.{Share, all_taken, IsGivenUncommitted, AreGivenUncommitted, CameTo, HasGathered, HasShare, WasCutBy}
 use Rattle.cli_workers.specs.Workers.{Numbered}
 use Rattle.cli_threads.specs.Workers.{AreDone, HasServed, IsDoneAs}
 use Rattle.cli_threads.proofs.ServedLemmas.{served}
-use Rattle.cli_threads.proofs.TakenPlaces.{Apart, AreFront, AreOnce, all-shared, front-once, once-apart, once-second, shared-out}
+use Rattle.cli_threads.proofs.TakenPlaces.{Apart, AreOnce, all-shared, front-once, once-apart, once-second, shared-out}
 use Rattle.cli_threads.proofs.MergedEntries.{all-merged, merged-all, contains-first, contains-second, contains-merged, Rises-in_order, merged-others, merged-own}
 
 -- what was asked for, by a seat that another takes in, whose table has such a ring and so many slots too

@@ -1,3 +1,4 @@
+pub mod BegunLemmas
 pub mod CutPlaces
 pub mod EndingLemmas
 pub mod GatheredShares

@@ -18,7 +18,6 @@ use Rattle.segment_file.specs.Lengths.{most_end}
 use Rattle.segment_file.specs.Standing.{LogStands}
 use Rattle.log_recovery.specs.Opened.{OpenedList, log_of, list_end, with_records, with_front}
 use Rattle.log_recovery.proofs.ListingLemmas.{units_of-append}
-use Rattle.log_rule.specs.declared.view.View.{View}
 use Rattle.log_table.specs.Seats.{view_of}
 use Rattle.flusher.specs.Flushing.{sent_of}
 use Rattle.commit_pipeline.specs.declared.daemon.Daemon.{Daemon}
@@ -26,9 +25,10 @@ use Rattle.stop_word.specs.declared.fault.DaemonFault.{DaemonFault}
 use Rattle.stop_word.specs.declared.fault.DaemonFault.TheVariants.{DiskFault, WriteFault}
 use Rattle.end_lines.specs.declared.voice.Voice.{Voice}
 use Rattle.commit_pipeline.specs.EndLines.{text_of}
-use Rattle.commit_pipeline.specs.Later.{Ran, HoldsFront, InFlight, extra, place_of, ring_of}
-use Rattle.commit_pipeline.specs.Turning.{durable}
-use Rattle.commit_pipeline.proofs.RanLemmas.{none≢some, Ran-text}
+use Rattle.flusher.specs.Keeping.{HoldsFront}
+use Rattle.commit_pipeline.specs.Later.{Ran, InFlight, extra, place_of, ring_of}
+use Rattle.commit_pipeline.specs.Turning.{IsMade, durable}
+use Rattle.commit_pipeline.proofs.Promised.{Ran-now, Ran-told, Ran-told_all, in_flight-read}
 use Rattle.commit_pipeline.proofs.ToldLemmas.{text_of-none}
 
 -- the bytes hold the opened records and these
@@ -62,50 +62,37 @@ pub record RunSent {D : Type 0} (g : Ghosts D) (voice : Voice) (opened : OpenedL
   pub grows : g.honest before → GrowsAtMostTo g (most_end at (end_of more) ring) before after
 
 -- so turns did from the one daemon to the other
-abbrev pub SendsBy : {D : Type 0} {K : Type 0} → Ghosts D → SinkGhosts K → OpenedList → List Rec → Daemon D K → Daemon D K → Type 0
+abbrev pub SendsBy : {D : Type 0} {K : Type 0} → (g : Ghosts D) → (h : SinkGhosts K) → OpenedList → List Rec → Daemon D K g h → Daemon D K g h → Type 0
 SendsBy g h opened list old new = RunSends g old.voice opened list (place_of old) (ring_of old) old.flusher.disk.now new.flusher.disk.now
     (h.held_bytes old.sink.now) (h.held_bytes new.sink.now)
 
-abbrev pub AreSentBy : {D : Type 0} {K : Type 0} → Ghosts D → SinkGhosts K → OpenedList → List Rec → Daemon D K → Daemon D K → Type 0
+abbrev pub AreSentBy : {D : Type 0} {K : Type 0} → (g : Ghosts D) → (h : SinkGhosts K) → OpenedList → List Rec → Daemon D K g h → Daemon D K g h → Type 0
 AreSentBy g h opened more old new = RunSent g old.voice opened more (place_of old) (ring_of old) old.flusher.disk.now new.flusher.disk.now
     (h.held_bytes old.sink.now) (h.held_bytes new.sink.now)
 
--- units sent and read, behind the opened ones, as records
-both-units : (opened : OpenedList) (records : List Rec) (sent units : List ℕ) → sent ≡ [] → units ≡ units_of records
-    → with_units (with_units (log_of opened) sent) units ≡ log_of (with_records opened records)
-both-units opened records sent units none is =
-    let all : (units_of opened.records ++ sent) ++ units ≡ units_of (opened.records ++ records) =
-    ap (λ l. (units_of opened.records ++ l) ++ units) none ∙ (λ i. append-nil (units_of opened.records) i ++ is i)
-    ∙ sym (units_of-append opened.records records) in
-    λ i. record { opening = opened.opening; units = all i }
+-- units behind the opened ones, as records
+with-records : (opened : OpenedList) (records : List Rec) → with_units (log_of opened) (units_of records) ≡ log_of (with_records opened records)
+with-records opened records =
+    let units = sym (units_of-append opened.records records) in λ i. record { opening = opened.opening; units = units i }
 
-in_flight-read : (fault : Option DaemonFault) (view : View) (cut : List Rec) → InFlight fault view cut → view.sending.read ≡ units_of cut
-in_flight-read None view cut flight = flight.1 ∙ ap units_of (sym flight.0)
-in_flight-read (Some DiskFault) view cut flight = flight
-in_flight-read (Some WriteFault) view cut flight = flight.1 ∙ ap units_of (sym flight.0)
+with-both : (opened : OpenedList) (records more : List Rec) → with_units (with_units (log_of opened) (units_of records)) (units_of more)
+    ≡ log_of (with_records opened (records ++ more))
+with-both opened records more =
+    ap (λ (log : Log). with_units log (units_of more)) (with-records opened records)
+    ∙ with-records (with_front opened (opened.records ++ records)) more
+    ∙ ap (λ (records : List Rec). log_of (with_front opened records)) (append_assoc opened.records records more)
 
 extra-few : (fault : Option DaemonFault) → extra fault ≤ 4
 extra-few None = omega arith
 extra-few (Some DiskFault) = omega arith
 extra-few (Some WriteFault) = omega arith
 
-module _ {D : Type 0} {K : Type 0} (g : Ghosts D) (h : SinkGhosts K) (opened : OpenedList) (list : List Rec) (old new : Daemon D K)
+module _ {D : Type 0} {K : Type 0} (g : Ghosts D) (h : SinkGhosts K) (opened : OpenedList) (list : List Rec) (old new : Daemon D K g h)
     (stand : g.honest old.flusher.disk.now → LogStands old.flusher.tail (log_of opened) (g.images old.flusher.disk.now))
-    (unsent : sent_of old.flusher ≡ []) (start : durable old ≡ list_end opened) where
+    (made : IsMade old) (start : durable old ≡ list_end opened) where
   standing : g.honest old.flusher.disk.now → (bytes : List ℕ) → g.images old.flusher.disk.now bytes → HoldsBoth opened [] bytes
   standing honest bytes image =
       subst (λ records. HoldsLog bytes (log_of (with_front opened records))) (sym (append-nil opened.records)) (stand honest bytes image).held
-
-  -- as the turns see it
-  none-sent : with_units (log_of opened) (sent_of old.flusher) ≡ log_of opened
-  none-sent =
-      let all : units_of opened.records ++ sent_of old.flusher ≡ units_of opened.records =
-      ap (λ l. units_of opened.records ++ l) unsent ∙ append-nil (units_of opened.records) in
-      λ i. record { opening = opened.opening; units = all i }
-
-  opening : g.honest old.flusher.disk.now
-      → LogStands old.flusher.tail (with_units (log_of opened) (sent_of old.flusher)) (g.images old.flusher.disk.now)
-  opening honest = subst (λ (log : Log). LogStands old.flusher.tail log (g.images old.flusher.disk.now)) (sym none-sent) (stand honest)
 
   pub sends-still : SendsBy g h opened list old old
   sends-still = record {
@@ -133,7 +120,7 @@ module _ {D : Type 0} {K : Type 0} (g : Ghosts D) (h : SinkGhosts K) (opened : O
 
   module _ (ran : Ran g h old new) where
     pub sent-now : sent_of new.flusher ≡ units_of ran.more
-    sent-now = ran.sent ∙ ap (λ l. l ++ units_of ran.more) unsent
+    sent-now = ran.sent ∙ ap (λ l. l ++ units_of ran.more) made.unsent
 
     pub read-now : (view_of new.flusher.seat).sending.read ≡ units_of ran.cut
     read-now = in_flight-read new.fault (view_of new.flusher.seat) ran.cut ran.in_flight
@@ -141,24 +128,14 @@ module _ {D : Type 0} {K : Type 0} (g : Ghosts D) (h : SinkGhosts K) (opened : O
     torn-now : g.honest old.flusher.disk.now → (bytes : List ℕ) → g.images new.flusher.disk.now bytes
         → HoldsBoth opened ran.more bytes ⊎ HoldsBoth opened (ran.more ++ ran.cut) bytes
     torn-now honest bytes image =
-        let before = units_of opened.records in
-        let first : with_units (log_of opened) (sent_of new.flusher) ≡ log_of (with_records opened ran.more) =
-        (λ i. record { opening = opened.opening; units = (ap (λ l. before ++ l) sent-now ∙ sym (units_of-append opened.records ran.more)) i }) in
-        let units : (before ++ sent_of new.flusher) ++ (view_of new.flusher.seat).sending.read
-        ≡ units_of (opened.records ++ (ran.more ++ ran.cut)) =
-        (λ i. (before ++ sent-now i) ++ read-now i) ∙ append_assoc before (units_of ran.more) (units_of ran.cut)
-        ∙ ap (λ l. before ++ l) (sym (units_of-append ran.more ran.cut)) ∙ sym (units_of-append opened.records (ran.more ++ ran.cut)) in
-        let both : with_units (with_units (log_of opened) (sent_of new.flusher)) (view_of new.flusher.seat).sending.read
-        ≡ log_of (with_records opened (ran.more ++ ran.cut)) =
-        (λ i. record { opening = opened.opening; units = units i }) in
-        ⊎_elim (λ held. inl (subst (HoldsLog bytes) first held)) (λ held. inr (subst (HoldsLog bytes) both held))
-        (ran.torn honest (log_of opened) (opening honest) bytes image)
+        ⊎_elim (λ held. inl (subst (HoldsLog bytes) (with-records opened ran.more) held))
+        (λ held. inr (subst (HoldsLog bytes) (with-both opened ran.more ran.cut) held))
+        (Ran-now g h old new made ran honest (log_of opened) (stand honest) bytes image)
 
     -- the text is a front of the lines of what was sent
     text-front : AppendsPrefix (h.held_bytes old.sink.now) (h.held_bytes new.sink.now) (text_of old.voice (list_end opened) ran.more)
-    text-front =
-        let (rest, lines) = Ran-text g h old new ran in
-        (ran.text, rest, ap (λ at. text_of old.voice at ran.more) (sym start) ∙ lines, ran.appended)
+    text-front = subst (λ at. AppendsPrefix (h.held_bytes old.sink.now) (h.held_bytes new.sink.now) (text_of old.voice at ran.more)) start
+        (Ran-told g h old new made ran)
 
     pub sends-ran : (rest : List Rec) → list ≡ (ran.more ++ ran.cut) ++ rest → SendsBy g h opened list old new
     sends-ran rest splits = record {
@@ -167,15 +144,15 @@ module _ {D : Type 0} {K : Type 0} (g : Ghosts D) (h : SinkGhosts K) (opened : O
       rest = rest;
       splits = splits;
       moments = λ honest. Leaves-weaken g.moment g.images_since
-          (HoldsFront (with_units (log_of opened) (sent_of old.flusher)) (ran.more ++ ran.cut)) (HoldsSome opened list)
+          (HoldsFront (log_of opened) (ran.more ++ ran.cut)) (HoldsSome opened list)
           old.flusher.disk.now new.flusher.disk.now
           (λ bytes held. (
             held.front,
             held.rest ++ rest,
             splits ∙ ap (λ l. l ++ rest) held.whole ∙ append_assoc held.front held.rest rest,
-            subst (HoldsLog bytes) (both-units opened held.front (sent_of old.flusher) (units_of held.front) unsent refl) held.holds,
+            subst (HoldsLog bytes) (with-records opened held.front) held.holds,
           ))
-          (ran.moments honest (log_of opened) (opening honest));
+          (ran.moments honest (log_of opened) (stand honest));
       now = torn-now;
       text = text-front;
       count = λ honest. let most = extra-few new.fault in
@@ -186,15 +163,14 @@ module _ {D : Type 0} {K : Type 0} (g : Ghosts D) (h : SinkGhosts K) (opened : O
     pub sent-ran : new.fault ≡ None → AreSentBy g h opened ran.more old new
     sent-ran fine =
         let none : ran.cut ≡ [] = (subst (λ fault. InFlight fault (view_of new.flusher.seat) ran.cut) fine ran.in_flight).0 in
-        let all = ran.all (λ is. none≢some WriteFault (sym fine ∙ is)) in
         let extra_none : extra new.fault ≡ 0 = ap extra fine in
         record {
           now = λ honest bytes image. ⊎_elim (λ held. held)
               (λ held. subst (λ (records : List Rec). HoldsBoth opened records bytes)
               (ap (λ l. ran.more ++ l) none ∙ append-nil ran.more) held)
               (torn-now honest bytes image);
-          text = subst (Appends (h.held_bytes old.sink.now) (h.held_bytes new.sink.now))
-              (all.0 ∙ ap (λ at. text_of old.voice at ran.more) start) ran.appended;
+          text = subst (λ at. Appends (h.held_bytes old.sink.now) (h.held_bytes new.sink.now) (text_of old.voice at ran.more)) start
+              (Ran-told_all g h old new made ran fine);
           count = λ honest. Costs-more g _ _ _ _ old.flusher.disk.now new.flusher.disk.now (omega (arith, extra_none))
               (omega (arith, extra_none)) (ran.count honest);
           grows = ran.grows;

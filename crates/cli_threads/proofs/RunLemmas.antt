@@ -67,7 +67,7 @@ use Rattle.cli_threads.proofs.RunTurns.{front-in_turn, front-none_behind}
 use Rattle.cli_threads.proofs.RunPlaces.{tasks_of, each-numbered, taken-once, taken-numbered, taken-or_not}
 
 module _ {D : Type 0} {K : Type 0} (g : Ghosts D) (h : SinkGhosts K) (opened : OpenedList) (jobs : NumberedJobs) (front : ℕ)
-    (shares : List Share) (key : Start) (old new : Daemon D K) (view : View) (lsn : ℕ) (rows : List (ℕ × ℕ))
+    (shares : List Share) (key : Start) (old new : Daemon D K g h) (view : View) (lsn : ℕ) (rows : List (ℕ × ℕ))
     (known : HasTransferred g h opened jobs front shares key old new view lsn rows) where
   abbrev list : List Rec
   list = records_of view.entries
@@ -136,7 +136,7 @@ module _ {D : Type 0} {K : Type 0} (g : Ghosts D) (h : SinkGhosts K) (opened : O
 
   start-old : durable old ≡ list_end opened
   start-old =
-      let start = ap (λ (c : Constants). c.start) known.fresh.constants in let none = ap length known.fresh.sent in
+      let start = ap (λ (c : Constants). c.start) known.fresh.constants in let none = ap length known.fresh.made.unsent in
       omega (arith, start, none, known.log.start)
 
   ring-is : ring_of old ≡ key.ring
@@ -146,7 +146,7 @@ module _ {D : Type 0} {K : Type 0} (g : Ghosts D) (h : SinkGhosts K) (opened : O
   constants-view = known.constants ∙ kept known.later ∙ known.fresh.constants
     where
       kept : Later g h old new → (view_of new.flusher.seat).constants ≡ (view_of old.flusher.seat).constants
-      kept (inl is) = ap (λ (d : Daemon D K). (view_of d.flusher.seat).constants) is
+      kept (inl is) = ap (λ (d : Daemon D K g h). (view_of d.flusher.seat).constants) is
       kept (inr ran) = ran.constants
 
   start-view : view.constants.start ≡ list_end opened
@@ -157,17 +157,17 @@ module _ {D : Type 0} {K : Type 0} (g : Ghosts D) (h : SinkGhosts K) (opened : O
     where
       by_later : Later g h old new → SendsBy g h opened list old new
       by_later (inl same) = subst (SendsBy g h opened list old) (sym same)
-          (sends-still g h opened list old old known.log.stand known.fresh.sent start-old)
+          (sends-still g h opened list old old known.log.stand known.fresh.made start-old)
       by_later (inr ran) =
           let sent : view.sending.sent ≡ units_of ran.more =
-          ap (λ (s : Sending). s.sent) known.sending ∙ sent-now g h opened list old new known.log.stand known.fresh.sent start-old ran in
+          ap (λ (s : Sending). s.sent) known.sending ∙ sent-now g h opened list old new known.log.stand known.fresh.made start-old ran in
           let read : view.sending.read ≡ units_of ran.cut =
-          ap (λ (s : Sending). s.read) known.sending ∙ read-now g h opened list old new known.log.stand known.fresh.sent start-old ran in
+          ap (λ (s : Sending). s.read) known.sending ∙ read-now g h opened list old new known.log.stand known.fresh.made start-old ran in
           let whole : units_of list ≡ units_of (ran.more ++ ran.cut) ++ known.gathered.unsent =
           sym list-units ∙ known.gathered.sent ∙ (λ i. (sent i ++ read i) ++ known.gathered.unsent)
           ∙ ap (λ l. l ++ known.gathered.unsent) (sym (units_of-append ran.more ran.cut)) in
           let front = records-front list (ran.more ++ ran.cut) known.gathered.unsent list-spellable ran.spellable whole in
-          sends-ran g h opened list old new known.log.stand known.fresh.sent start-old ran front.0 front.1
+          sends-ran g h opened list old new known.log.stand known.fresh.made start-old ran front.0 front.1
 
   -- ---- what each image holds
 
@@ -246,11 +246,11 @@ module _ {D : Type 0} {K : Type 0} (g : Ghosts D) (h : SinkGhosts K) (opened : O
 
     list-none : new ≡ old → [] ≡ list
     list-none same = list-is [] tt
-        (ap (λ (s : Sending). s.sent) known.sending ∙ ap (λ (d : Daemon D K). sent_of d.flusher) same ∙ known.fresh.sent)
+        (ap (λ (s : Sending). s.sent) known.sending ∙ ap (λ (d : Daemon D K g h). sent_of d.flusher) same ∙ known.fresh.made.unsent)
 
     list-more : (ran : Ran g h old new) → ran.more ≡ list
     list-more ran = list-is ran.more (all-split IsSpellable ran.more ran.cut ran.spellable).0
-        (ap (λ (s : Sending). s.sent) known.sending ∙ sent-now g h opened list old new known.log.stand known.fresh.sent start-old ran)
+        (ap (λ (s : Sending). s.sent) known.sending ∙ sent-now g h opened list old new known.log.stand known.fresh.made start-old ran)
 
     sent-all : AreSentBy g h opened list old new
     sent-all = by_later known.later
@@ -258,9 +258,9 @@ module _ {D : Type 0} {K : Type 0} (g : Ghosts D) (h : SinkGhosts K) (opened : O
         by_later : Later g h old new → AreSentBy g h opened list old new
         by_later (inl same) = subst (AreSentBy g h opened list old) (sym same)
             (subst (λ (records : List Rec). AreSentBy g h opened records old old) (list-none same)
-            (sent-still g h opened list old old known.log.stand known.fresh.sent start-old))
+            (sent-still g h opened list old old known.log.stand known.fresh.made start-old))
         by_later (inr ran) = subst (λ (records : List Rec). AreSentBy g h opened records old new) (list-more ran)
-            (sent-ran g h opened list old new known.log.stand known.fresh.sent start-old ran fine)
+            (sent-ran g h opened list old new known.log.stand known.fresh.made start-old ran fine)
 
     -- and the end record of each was counted
     pub tally-all : new.tally ≡ counted old.tally list
@@ -270,8 +270,8 @@ module _ {D : Type 0} {K : Type 0} (g : Ghosts D) (h : SinkGhosts K) (opened : O
         counted-none tally = λ i. record { done = sym (add-zero tally.done) i; refused = sym (add-zero tally.refused) i }
 
         by_later : Later g h old new → new.tally ≡ counted old.tally list
-        by_later (inl still) = ap (λ (d : Daemon D K). d.tally) still ∙ counted-none old.tally ∙ ap (counted old.tally) (list-none still)
-        by_later (inr ran) = (ran.all (λ failed. none≢some WriteFault (sym fine ∙ failed))).1 ∙ ap (counted old.tally) (list-more ran)
+        by_later (inl still) = ap (λ (d : Daemon D K g h). d.tally) still ∙ counted-none old.tally ∙ ap (counted old.tally) (list-none still)
+        by_later (inr ran) = ran.tallied (λ failed. none≢some WriteFault (sym fine ∙ failed)) ∙ ap (counted old.tally) (list-more ran)
 
     pub drained : RunIsDrained g old.voice opened list (place_of old) key.ring old.flusher.disk.now new.flusher.disk.now
         (h.held_bytes old.sink.now) (h.held_bytes new.sink.now) lsn rows

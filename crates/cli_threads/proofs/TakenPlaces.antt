@@ -18,7 +18,7 @@ use Rattle.job_queue.proofs.Counting.{once-most, times-append}
 use Rattle.txn_runner.specs.Working.{EndsByMark, jobs_of, marks_in, places_in}
 use Rattle.cli_workers.specs.declared.workers.Worker.{Worker}
 use Rattle.cli_workers.specs.Workers.{Numbered}
-use Rattle.cli_threads.specs.Gathering.{all_marks, all_places, share_of, worked_of}
+use Rattle.cli_threads.specs.Gathering.{AreFront, all_marks, all_places, share_of, worked_of}
 use Rattle.cli_threads.specs.Shares.{Share, sharing_of}
 use Rattle.cli_threads.specs.Sharing.{IsSharedOut}
 use Rattle.cli_threads.specs.Workers.{IsDoneAs}
@@ -52,13 +52,6 @@ pub once-second : (xs ys : List ℕ) → AreOnce (xs ++ ys) → AreOnce ys
 once-second xs ys once x = omega (arith, once x, times-append x xs ys)
 
 -- ---- the front of the script that was taken
-
--- The places taken are the front of the script of so many, each once; and it is all of it where a mark was taken.
-pub record AreFront (count : ℕ) (places marks : List ℕ) : Type 0 where
-  pub front : ℕ
-  pub within : front ≤ count
-  pub once : (x : ℕ) → times x places ≡ once_below x front
-  pub all : 1 ≤ length marks → front ≡ count
 
 module _ (count : ℕ) (places marks : List ℕ) (are : ArePlaces count places) (behind : AreMarks count marks)
     (taken : AreAllTaken count places marks) where

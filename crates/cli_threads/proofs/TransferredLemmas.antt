@@ -26,15 +26,16 @@ use Rattle.log_rule.specs.Roles.{is_worker}
 use Rattle.log_rule.specs.Views.{constants_of, sent_to}
 use Rattle.log_rule.specs.CrewViews.{takes_in}
 use Rattle.end_lines.specs.declared.voice.Voice.{Voice}
+use Rattle.commit_pipeline.specs.declared.daemon.Daemon.{Daemon}
+use Rattle.commit_pipeline.specs.Later.{Later}
 use Rattle.commit_pipeline.specs.Turning.{IsSameDaemon}
 use Rattle.commit_pipeline.proofs.RanLemmas.{Later-same}
 use Rattle.txn_jobs.specs.declared.cause.Worked.{Worked}
 use Rattle.job_queue.specs.declared.queue.Queue.{Queue}
 use Rattle.txn_runner.specs.Working.{jobs_of}
-use Rattle.cli_threads.specs.declared.transfers.Served.{Served}
 use Rattle.cli_workers.specs.declared.workers.Worker.{Worker}
-use Rattle.cli_threads.specs.Gathering.{HasLeft, all_marks, all_places, share_of, takes_all, view_in, worked_of}
-use Rattle.cli_threads.specs.Prepared.{HasTurned, IsServed}
+use Rattle.cli_threads.specs.Gathering.{AreFront, HasLeft, all_marks, all_places, share_of, takes_all, view_in, worked_of}
+use Rattle.cli_threads.specs.Prepared.{IsBegun}
 use Rattle.cli_threads.specs.Shares.{Share, HasGathered}
 use Rattle.cli_threads.specs.Transferred.{HasTransferred, IsFresh, IsOpened}
 use Rattle.log_table.specs.Hiring.{KnowsHired, hired_numbers}
@@ -42,7 +43,6 @@ use Rattle.cli_workers.specs.Workers.{Numbered}
 use Rattle.cli_threads.specs.Workers.{AreDone, HasServed, IsDone, IsDoneAs}
 use Rattle.cli_threads.proofs.GatheredShares.{HasGathered-all}
 use Rattle.cli_threads.proofs.ServedLemmas.{served}
-use Rattle.cli_threads.proofs.TakenPlaces.{AreFront}
 
 -- a worker that is done has left
 HasLeft-done : (table : LogTable) (queue : Queue) (wait : Bool) (worker : Worker) → IsDone table queue wait worker → HasLeft table queue worker
@@ -61,11 +61,11 @@ HasLeft-all table queue wait number (worker ∷ workers) done =
     (HasLeft-done table queue wait worker done.0.1, HasLeft-all table queue wait (number + 1) workers done.1)
 
 -- what the flusher's seat keeps as it is, while it takes in others
-takes_all-constants : (view : View) (others : List View) → (takes_all view others).constants ≡ view.constants
+pub takes_all-constants : (view : View) (others : List View) → (takes_all view others).constants ≡ view.constants
 takes_all-constants view [] = refl
 takes_all-constants view (other ∷ others) = takes_all-constants (takes_in view other) others
 
-takes_all-sending : (view : View) (others : List View) → (takes_all view others).sending ≡ view.sending
+pub takes_all-sending : (view : View) (others : List View) → (takes_all view others).sending ≡ view.sending
 takes_all-sending view [] = refl
 takes_all-sending view (other ∷ others) = takes_all-sending (takes_in view other) others
 
@@ -115,85 +115,6 @@ pub record HasTaken (key : Start) (workers : ℕ) (view : View) : Type 0 where
   pub entries : view.entries ≡ []
   pub jobs : view.books.jobs ≡ []
 
-module _ {D : Type 0} {K : Type 0} (g : Ghosts D) (h : SinkGhosts K) (tail : Tail) (voice : Voice) (boss : Seat) (disk disk_new : D)
-    (sink sink_new : K) (served' : Served) (turned : HasTurned g h tail voice boss disk disk_new sink sink_new served') where
-  same : IsSameDaemon g turned.first turned.last
-  same = Later-same g h turned.first turned.last turned.later
-
-  standing : (view_of served'.boss).standing ≡ (view_of boss).standing
-  standing = ap (λ (s : Seat). (view_of s).standing) (sym turned.seat_is)
-      ∙ (same.flusher.workers ∙ ap (λ (s : Seat). (view_of s).standing) turned.seat_old)
-
-  pub HasTaken-turned : (key : Start) (workers : ℕ) → KnowsHired key workers (view_of boss) → HasTaken key workers (view_of served'.boss)
-  HasTaken-turned key workers knows = record {
-    flusher = ap (λ (s : Standing). s.role) standing ∙ knows.flusher;
-    made = ap (λ (s : Standing). s.made) standing ∙ knows.made;
-    merged = ap (λ (s : Standing). s.merged) standing ∙ knows.merged;
-    constants = ap (λ (s : Seat). (view_of s).constants) (sym turned.seat_is)
-        ∙ (same.flusher.seat.constants ∙ (ap (λ (s : Seat). (view_of s).constants) turned.seat_old ∙ knows.constants));
-    entries = ap (λ (s : Seat). (view_of s).entries) (sym turned.seat_is)
-        ∙ (same.flusher.seat.entries ∙ (ap (λ (s : Seat). (view_of s).entries) turned.seat_old ∙ knows.entries));
-    jobs = ap (λ (s : Seat). (view_of s).books.jobs) (sym turned.seat_is)
-        ∙ (ap (λ (books : Books). books.jobs) same.flusher.seat.books
-        ∙ (ap (λ (s : Seat). (view_of s).books.jobs) turned.seat_old ∙ ap (λ (books : Books). books.jobs) knows.books));
-  }
-
-  -- the first daemon had sent nothing
-  IsFresh-turned : (key : Start) (workers : ℕ) → KnowsHired key workers (view_of boss) → IsFresh key turned.first
-  IsFresh-turned key workers knows = record {
-    constants = ap (λ (s : Seat). (view_of s).constants) turned.seat_old ∙ knows.constants;
-    sent = ap (λ (s : Seat). (view_of s).sending.sent) turned.seat_old ∙ ap (λ (s : Sending). s.sent) knows.sending;
-    stop = ap (λ (s : Seat). (view_of s).sending.stop) turned.seat_old ∙ ap (λ (s : Sending). s.stop) knows.sending;
-    fine = turned.fine;
-  }
-
-  -- Once all seats are taken in, a front of the script was taken, and the table is closed, all is known of the run.
-  pub HasTransferred-gathered : (key : Start) (table : LogTable) (queue : Queue) (wait : Bool) (crew : ℕ) → KnowsHired key crew (view_of boss)
-      → (opened : OpenedList) → IsOpened g disk tail opened queue.first key
-      → AreDone table queue wait served'.workers.items → length served'.workers.items ≡ crew → 1 ≤ crew
-      → (front : AreFront (length queue.script) (all_places served'.workers.items) (all_marks served'.workers.items))
-      → AllByRecursion (HasReadStop (view_of served'.boss).sending.stop) (map view_in served'.workers.items)
-      → (view : View) → view ≡ takes_all (view_of served'.boss) (map view_in served'.workers.items)
-      → view.constants.ring ≡ table.ring → view.constants.slots ≡ table.slots
-      → (lsn : ℕ) (rows : List (ℕ × ℕ)) → IsGathered lsn view → IsSettled (base_of key) view rows → HasHeardOfWorkers view
-      → HasTransferred g h opened (jobs_of queue) front.front (map share_of served'.workers.items) key turned.first turned.last view lsn rows
-  HasTransferred-gathered key table queue wait crew knows opened log done count someone front stops view is ring slots lsn rows gathered settled
-      heard =
-      let workers = served'.workers.items in
-      let others = map view_in workers in
-      let shares = map share_of workers in
-      let taken = HasTaken-turned key crew knows in
-      let sending = ap (λ (v : View). v.sending) is ∙ takes_all-sending (view_of served'.boss) others in
-      let constants = ap (λ (v : View). v.constants) is ∙ takes_all-constants (view_of served'.boss) others in
-      let has = HasGathered-all table queue wait workers done (omega (arith, count, someone)) front (view_of served'.boss) taken.entries taken.jobs stops
-      (ap (λ (c : Constants). c.ring) (sym constants) ∙ ring) (ap (λ (c : Constants). c.slots) (sym constants) ∙ slots) lsn
-      (subst (IsGathered lsn) is gathered) in
-      let made = ap (λ (v : View). v.standing.made) is ∙ takes_all-made (view_of served'.boss) others ∙ taken.made in
-      let as_many : length view.standing.made ≡ length shares =
-      ap length made ∙ (length-hired crew ∙ (sym count ∙ sym (length-map workers share_of))) in
-      record {
-        log = subst (λ d. IsOpened g d turned.first.flusher.tail opened queue.first key) (sym turned.disk_old)
-            (subst (λ t. IsOpened g disk t opened queue.first key) (sym turned.tail_is) log);
-        fresh = IsFresh-turned key crew knows;
-        later = turned.later;
-        sending = sending ∙ ap (λ (s : Seat). (view_of s).sending) (sym turned.seat_is);
-        constants = constants ∙ ap (λ (s : Seat). (view_of s).constants) (sym turned.seat_is);
-        drained = λ fine. IsDrained-same view (view_of served'.boss) sending constants (turned.drained (sym turned.fault_is ∙ fine));
-        workers = subst (HasGathered (jobs_of queue) front.front shares) (sym is) has;
-        gathered = gathered;
-        settled = settled;
-        heard = subst (λ (n : ℕ). AllByRecursion (IsRefusalOf n) view.seen.refusals) as_many heard;
-      }
-
--- What was left in the place for it, said of what the run was made of.
-pub IsServed-here : {table table' : LogTable} {queue queue' : Queue} {crew crew' : ℕ} {wait wait' : Bool} {place : Option Served}
-    (served' : Served) → table' ≡ table → queue' ≡ queue → crew' ≡ crew → wait' ≡ wait → place ≡ Some served'
-    → IsSomeAnd place (IsServed table' queue' crew' wait') → IsServed table queue crew wait served'
-IsServed-here {table' = table'} {queue' = queue'} {crew' = crew'} {wait' = wait'} served' same_table same_queue same_crew same_wait is left =
-    subst (λ (run : LogTable × Queue × ℕ × Bool). IsServed run.0 run.1 run.2 run.3 served')
-    (λ i. (same_table i, same_queue i, same_crew i, same_wait i))
-    (subst (λ found. IsSomeAnd found (IsServed table' queue' crew' wait')) is left)
-
 -- Once the seats of all workers are taken in, the table may be closed.
 pub MayClose-all : (table : LogTable) (queue : Queue) (wait : Bool) (key : Start) (workers : List Worker) → AreDone table queue wait workers
     → (view : View) → HasTaken key (length workers) view → MayClose (takes_all view (map view_in workers))
@@ -206,6 +127,84 @@ MayClose-all table queue wait key workers done view taken =
       flusher = takes_all-role view (map view_in workers) ∙ taken.flusher;
       all_merged = λ worker known. subst (λ l. list_any (eqb worker) l ≡ true) (made ∙ sym (merged ∙ ap hired_numbers count)) known;
     }
+
+module _ {D : Type 0} {K : Type 0} (g : Ghosts D) (h : SinkGhosts K) {tail : Tail} {voice : Voice} {boss : Seat} {disk : D} {sink : K}
+    (first last : Daemon D K g h) (begun : IsBegun g h tail voice boss disk sink first) (later : Later g h first last) where
+  same : IsSameDaemon g first last
+  same = Later-same g h first last later
+
+  standing : (view_of last.flusher.seat).standing ≡ (view_of boss).standing
+  standing = same.flusher.workers ∙ ap (λ (s : Seat). (view_of s).standing) begun.seat_is
+
+  pub HasTaken-turned : (key : Start) (workers : ℕ) → KnowsHired key workers (view_of boss) → HasTaken key workers (view_of last.flusher.seat)
+  HasTaken-turned key workers knows = record {
+    flusher = ap (λ (s : Standing). s.role) standing ∙ knows.flusher;
+    made = ap (λ (s : Standing). s.made) standing ∙ knows.made;
+    merged = ap (λ (s : Standing). s.merged) standing ∙ knows.merged;
+    constants = same.flusher.seat.constants ∙ (ap (λ (s : Seat). (view_of s).constants) begun.seat_is ∙ knows.constants);
+    entries = same.flusher.seat.entries ∙ (ap (λ (s : Seat). (view_of s).entries) begun.seat_is ∙ knows.entries);
+    jobs = ap (λ (books : Books). books.jobs) same.flusher.seat.books
+        ∙ (ap (λ (s : Seat). (view_of s).books.jobs) begun.seat_is ∙ ap (λ (books : Books). books.jobs) knows.books);
+  }
+
+  -- the first daemon had sent nothing
+  IsFresh-begun : (key : Start) (workers : ℕ) → KnowsHired key workers (view_of boss) → IsFresh key first
+  IsFresh-begun key workers knows = record {
+    constants = ap (λ (s : Seat). (view_of s).constants) begun.seat_is ∙ knows.constants;
+    made = begun.made;
+    stop = ap (λ (s : Seat). (view_of s).sending.stop) begun.seat_is ∙ ap (λ (s : Sending). s.stop) knows.sending;
+    fine = begun.fine;
+  }
+
+  pub MayClose-gathered : (key : Start) (table : LogTable) (queue : Queue) (wait : Bool) (workers : List Worker)
+      → KnowsHired key (length workers) (view_of boss) → AreDone table queue wait workers
+      → (view : View) → view ≡ takes_all (view_of last.flusher.seat) (map view_in workers) → MayClose view
+  MayClose-gathered key table queue wait workers knows done view is = subst MayClose (sym is)
+      (MayClose-all table queue wait key workers done (view_of last.flusher.seat) (HasTaken-turned key (length workers) knows))
+
+  -- Once all seats are taken in, a front of the script was taken, and the table is closed, all is known of the run.
+  pub HasTransferred-gathered : (key : Start) (table : LogTable) (queue : Queue) (wait : Bool) (workers : List Worker)
+      → KnowsHired key (length workers) (view_of boss) → (opened : OpenedList) → IsOpened g disk tail opened queue.first key
+      → AreDone table queue wait workers → 1 ≤ length workers
+      → (front : AreFront (length queue.script) (all_places workers) (all_marks workers))
+      → AllByRecursion (HasReadStop (view_of last.flusher.seat).sending.stop) (map view_in workers)
+      → (last.fault ≡ None → IsDrained (view_of last.flusher.seat))
+      → (view : View) → view ≡ takes_all (view_of last.flusher.seat) (map view_in workers)
+      → view.constants.ring ≡ table.ring → view.constants.slots ≡ table.slots
+      → (lsn : ℕ) (rows : List (ℕ × ℕ)) → IsGathered lsn view → IsSettled (base_of key) view rows → HasHeardOfWorkers view
+      → HasTransferred g h opened (jobs_of queue) front.front (map share_of workers) key first last view lsn rows
+  HasTransferred-gathered key table queue wait workers knows opened log done someone front stops drained view is ring slots lsn rows gathered
+      settled heard =
+      let others = map view_in workers in
+      let shares = map share_of workers in
+      let taken = HasTaken-turned key (length workers) knows in
+      let sending = ap (λ (v : View). v.sending) is ∙ takes_all-sending (view_of last.flusher.seat) others in
+      let constants = ap (λ (v : View). v.constants) is ∙ takes_all-constants (view_of last.flusher.seat) others in
+      let has = HasGathered-all table queue wait workers done someone front (view_of last.flusher.seat) taken.entries taken.jobs stops
+      (ap (λ (c : Constants). c.ring) (sym constants) ∙ ring) (ap (λ (c : Constants). c.slots) (sym constants) ∙ slots) lsn
+      (subst (IsGathered lsn) is gathered) in
+      let made = ap (λ (v : View). v.standing.made) is ∙ takes_all-made (view_of last.flusher.seat) others ∙ taken.made in
+      let as_many : length view.standing.made ≡ length shares =
+      ap length made ∙ (length-hired (length workers) ∙ sym (length-map workers share_of)) in
+      record {
+        log = subst (λ d. IsOpened g d first.flusher.tail opened queue.first key) (sym begun.disk_is)
+            (subst (λ t. IsOpened g disk t opened queue.first key) (sym begun.tail_is) log);
+        fresh = IsFresh-begun key (length workers) knows;
+        later = later;
+        sending = sending;
+        constants = constants;
+        drained = λ fine. IsDrained-same view (view_of last.flusher.seat) sending constants (drained fine);
+        workers = subst (HasGathered (jobs_of queue) front.front shares) (sym is) has;
+        gathered = gathered;
+        settled = settled;
+        heard = subst (λ (n : ℕ). AllByRecursion (IsRefusalOf n) view.seen.refusals) as_many heard;
+      }
+
+-- Workers that are done with what a run was made of.
+pub AreDone-here : {table table' : LogTable} {queue queue' : Queue} {wait wait' : Bool} (workers : List Worker) → table' ≡ table → queue' ≡ queue
+    → wait' ≡ wait → AreDone table' queue' wait' workers → AreDone table queue wait workers
+AreDone-here workers same_table same_queue same_wait done =
+    subst (λ (run : LogTable × Queue × Bool). AreDone run.0 run.1 run.2 workers) (λ i. (same_table i, same_queue i, same_wait i)) done
 
 -- the shares are those of what the works came to
 pub ends-of_shares : (workers : List Worker) → map (λ (share : Share). share.worked) (map share_of workers) ≡ map worked_of workers

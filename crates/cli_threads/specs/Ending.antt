@@ -24,8 +24,8 @@ pub record HasEnded {D : Type 0} {K : Type 0} (g : Ghosts D) (h : SinkGhosts K) 
   pub front : ℕ
   pub shares : List Share
   pub count : length shares ≡ workers_of prepared.jobs
-  pub first : Daemon D K
-  pub last : Daemon D K
+  pub first : Daemon D K g h
+  pub last : Daemon D K g h
   pub view : View
   pub transferred : HasTransferred g h opened (jobs_of prepared.jobs.queue) front shares (key_of prepared.table) first last view
       ended.closed.tail ended.closed.accounts.rows

@@ -1,5 +1,5 @@
 -- The flusher's seat takes in the workers' seats, one after another.
-use Rattle.std.specs.Prelude.{◌≡◌, ℕ, List, [], ◌∷◌, map, IsSome}
+use Rattle.std.specs.Prelude.{◌≡◌, ◌≤◌, ℕ, List, [], ◌∷◌, length, map, IsSome}
 use Rattle.std.specs.List.{concat}
 use Rattle.std.specs.Option.{unwrap_or}
 use Rattle.log_table.specs.declared.table.LogTable.{LogTable}
@@ -11,6 +11,7 @@ use Rattle.txn_jobs.specs.declared.cause.Worked.{Worked}
 use Rattle.txn_jobs.specs.declared.cause.Worked.TheVariants.{All}
 use Rattle.job_queue.specs.declared.queue.Queue.{Queue}
 use Rattle.job_queue.specs.Passes.{HasPassOf}
+use Rattle.job_queue.specs.Takings.{once_below, times}
 use Rattle.txn_runner.specs.Working.{marks_in, places_in}
 use Rattle.cli_workers.specs.declared.workers.Worker.{Worker}
 use Rattle.cli_threads.specs.Shares.{Share}
@@ -43,3 +44,10 @@ all_marks workers = concat (map (λ (worker : Worker). marks_in worker.rows) wor
 abbrev pub takes_all : View → List View → View
 takes_all view [] = view
 takes_all view (other ∷ others) = takes_all (takes_in view other) others
+
+-- The places taken are the front of the script of so many, each once; and it is all of it where a mark was taken.
+pub record AreFront (count : ℕ) (places marks : List ℕ) : Type 0 where
+  pub front : ℕ
+  pub within : front ≤ count
+  pub once : (x : ℕ) → times x places ≡ once_below x front
+  pub all : 1 ≤ length marks → front ≡ count

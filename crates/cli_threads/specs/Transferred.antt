@@ -1,5 +1,5 @@
 -- What a run goes on from, and what is known of it once all seats are gathered: from that follows all that a run promises.
-use Rattle.std.specs.Prelude.{◌≡◌, ℕ, ◌+◌, ◌*◌, ◌^◌, ◌<◌, ◌≤◌, List, [], length, None}
+use Rattle.std.specs.Prelude.{◌≡◌, ℕ, ◌+◌, ◌*◌, ◌^◌, ◌<◌, ◌≤◌, List, length, None}
 use Rattle.std.specs.List.{AllByRecursion}
 use Rattle.log_disk.specs.declared.disk.LogDisk.{Ghosts}
 use Rattle.log_disk.specs.declared.sink.Sink.{Ghosts as SinkGhosts}
@@ -17,9 +17,9 @@ use Rattle.log_table.specs.Seats.{view_of}
 use Rattle.log_rule.specs.Sends.{IsDrained}
 use Rattle.log_rule.specs.Sound.{base_of}
 use Rattle.log_rule.specs.Views.{constants_of}
-use Rattle.flusher.specs.Flushing.{sent_of}
 use Rattle.commit_pipeline.specs.declared.daemon.Daemon.{Daemon}
 use Rattle.commit_pipeline.specs.Later.{Later}
+use Rattle.commit_pipeline.specs.Turning.{IsMade}
 use Rattle.txn_jobs.specs.Places.{NumberedJobs}
 use Rattle.cli_threads.specs.Shares.{Share, HasGathered}
 
@@ -38,10 +38,10 @@ pub record IsOpened {D : Type 0} (g : Ghosts D) (disk : D) (tail : Tail) (opened
   pub start : key.start ≡ list_end opened
   pub accounts : ShowsAccounts key.accounts.rows (base_in opened) (placed opened)
 
--- the daemon has sent nothing, and its seat is the first of a table that was made with this key
-pub record IsFresh {D : Type 0} {K : Type 0} (key : Start) (d : Daemon D K) : Type 0 where
+-- the daemon was made just now, and its seat is the first of a table that was made with this key
+pub record IsFresh {D : Type 0} {g : Ghosts D} {K : Type 0} {h : SinkGhosts K} (key : Start) (d : Daemon D K g h) : Type 0 where
   pub constants : (view_of d.flusher.seat).constants ≡ constants_of key
-  pub sent : sent_of d.flusher ≡ []
+  pub made : IsMade d
   pub stop : (view_of d.flusher.seat).sending.stop ≡ 0
   pub fine : d.fault ≡ None
 
@@ -49,7 +49,7 @@ pub record IsFresh {D : Type 0} {K : Type 0} (key : Start) (d : Daemon D K) : Ty
 -- left it with this view. Then the table was closed, with this end of the log and these rows. A group of whose refusal a worker heard
 -- was one of these workers.
 pub record HasTransferred {D : Type 0} {K : Type 0} (g : Ghosts D) (h : SinkGhosts K) (opened : OpenedList) (jobs : NumberedJobs) (front : ℕ)
-    (shares : List Share) (key : Start) (old new : Daemon D K) (view : View) (lsn : ℕ) (rows : List (ℕ × ℕ)) : Type 0 where
+    (shares : List Share) (key : Start) (old new : Daemon D K g h) (view : View) (lsn : ℕ) (rows : List (ℕ × ℕ)) : Type 0 where
   pub log : IsOpened g old.flusher.disk.now old.flusher.tail opened jobs.first key
   pub fresh : IsFresh key old
   pub later : Later g h old new

@@ -32,8 +32,15 @@ fn drain<'a, R: Wait + Clock, D: LogDisk, K: Sink>(rt: &R, daemon: &mut Daemon<'
 }
 
 /// Starts all workers, and is the daemon until all of them have served.
-pub(crate) fn serve_all<'a, R: Threads + Wait + Clock + Sync, D: LogDisk, K: Sink, G: Gate + Sync>(
-    run: Run<'a, R, G>,
+pub(crate) fn serve_all<
+    'a,
+    'b,
+    R: Threads + Wait + Clock + Sync,
+    D: LogDisk,
+    K: Sink,
+    G: Gate + Sync,
+>(
+    run: Run<'b, R, G>,
     workers: Vec<Worker>,
     started: Vec<Started>,
     back: Vec<Worker>,

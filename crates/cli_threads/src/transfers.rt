@@ -1,5 +1,5 @@
 //! The transfers of a run.
-ghost use Rattle.std.specs.Prelude.{◌≡◌, ◌≤◌, ◌<◌, ◌+◌, ◌*◌, ◌^◌, ℕ, All, length, None, IfOk, IfSome, IsSomeAnd};
+ghost use Rattle.std.specs.Prelude.{◌≡◌, ◌≤◌, ◌<◌, ◌+◌, ◌*◌, ◌^◌, ℕ, All, length, IfOk, IsSomeAnd};
 ghost use Rattle.lsn_space.specs.declared.lsn.TheConstants.{LEAST_RING, GREATEST_RING};
 ghost use Rattle.log_record.specs.declared.limits.TheConstants.{LAST_TXN};
 ghost use Rattle.log_recovery.specs.Opened.{OpenedList};
@@ -7,21 +7,22 @@ ghost use Rattle.log_rule.specs.declared.layout.TheConstants.{MOST_SLOTS};
 ghost use Rattle.log_table.specs.Hiring.{HasHired};
 ghost use Rattle.log_rule.specs.Opening.{HasAccounts};
 ghost use Rattle.log_table.specs.Seats.{key_of};
-ghost use Rattle.segment_file.specs.Standing.{IsShut};
+ghost use Rattle.segment_file.specs.Standing.{IsShut, LogStands};
 ghost use Rattle.lock_core.specs.Transfers.{IsAllowedJob};
 ghost use Rattle.job_queue.specs.Passes.{workers_of};
 ghost use Rattle.cli_threads.specs.Ending.{HasEnded};
-ghost use Rattle.cli_threads.specs.Prepared.{IsCrew, IsPrepared, IsServed, HasTurned};
+ghost use Rattle.cli_threads.specs.Prepared.{AreEnlisted, HasTurned, IsBegun, IsCrew, IsPrepared};
 ghost use Rattle.cli_threads.specs.Transferred.{IsOpened};
 ghost use Rattle.commit_pipeline.specs.Turning.{MayTurn};
+ghost use Rattle.segment_file.specs.Log.{Log};
 
 use crate::gathering::gather;
 use crate::room::{Room, flags};
 use crate::scope::serve_all;
 use cli_ending::Ended;
 use cli_workers::{Run, Worker, hire_all};
-use commit_pipeline::{Daemon, DaemonFault, Voice};
-use flusher::Flusher;
+use commit_pipeline::{Daemon, DaemonFault, DaemonParts, Voice};
+use flusher::{Flusher, FlusherParts};
 use flushing_relief::FlushingRelief;
 use log_disk::{Gate, LogDisk, Sink};
 use log_table::{LogTable, Seat, Start};
@@ -69,15 +70,14 @@ struct Outside<'a, D, K> {
     out: &'a mut K,
 }
 
-/// What befell the daemon, what it counted, the table's first seat, the workers, and room for what the work of each came to.
+/// What befell the daemon, what it counted, what the work of each worker came to, and the table's first seat.
 #[derive(Drop)]
 struct Served {
     fault: Option<DaemonFault>,
     done: u64,
     refused: u64,
-    boss: Seat,
-    workers: Vec<Worker>,
     ends: Vec<Worked>,
+    boss: Seat,
 }
 
 /// Makes the table, and all that workers and the daemon need. The transfers are put into a queue, of which each worker has its pass.
@@ -123,45 +123,60 @@ pub fn prepare<R: Wait>(
     })
 }
 
-/// A daemon over the table's first seat, which a waiting worker may keep at work.
+/// A daemon over the table's first seat, which a waiting worker may keep at work. From now on the disk and the sink are its own.
 fn relief_of<'a, D: LogDisk, K: Sink>(
-    flusher: Flusher<'a, D>,
+    table: &'a LogTable,
+    seat: Seat,
+    batch: Batch,
+    disk: &'a mut D,
+    tail: Tail,
     out: &'a mut K,
     voice: Voice,
 ) -> FlushingRelief<'a, D, K>
-    requires boss { (n : ℕ) × HasHired flusher.table.now n flusher.seat }
-    requires batch { flusher.table.now.ring ≤ flusher.batch.room }
-    requires shut { D.honest flusher.disk.now → IsShut flusher.tail.at (D.images flusher.disk.now) }
-    requires next { flusher.tail.next ≡ (key_of flusher.table.now).start }
-    requires place { flusher.tail.at ≤ 2 ^ 63 + 16 * flusher.tail.next }
+    requires seat { (n : ℕ) × HasHired table.now n seat }
+    requires batch { table.now.ring ≤ batch.room }
+    requires stand { D.honest disk.old → (opened : Log) × LogStands tail opened (D.images disk.old) }
+    requires shut { D.honest disk.old → IsShut tail.at (D.images disk.old) }
+    requires next { tail.next ≡ (key_of table.now).start }
+    requires place { tail.at ≤ 2 ^ 63 + 16 * tail.next }
     ensures ready { MayTurn D.LogDisk result.daemon }
-    ensures fine { result.daemon.fault ≡ None }
-    ensures voice { result.daemon.voice ≡ voice }
-    ensures none { (result.daemon.tally.done ≡ 0) × (result.daemon.tally.refused ≡ 0) }
-    ensures flusher { result.daemon.flusher ≡ flusher.entry }
+    ensures begun { IsBegun D.LogDisk K.Sink tail voice seat disk.old out.old result.daemon }
+    ensures table { result.daemon.flusher.table ≡ table.entry }
+    ensures disk { result.daemon.flusher.disk ≡ disk.entry }
     ensures sink { result.daemon.sink ≡ out.entry }
 {
+    let flusher = Flusher::make(table, disk, seat, batch, tail);
     FlushingRelief {
         daemon: Daemon::make(flusher, out, voice),
     }
 }
 
-/// Makes the transfers, by workers in threads, while this thread is the daemon. What it leaves is put into a place, and not
-/// answered beside the disk and the sink, so that contracts follow these two to the caller.
+/// Makes the transfers, by workers in threads, while this thread is the daemon. Then the flusher's seat takes in all workers' seats,
+/// and the queue's first pass all passes. From `relief_of` to `into_parts` the disk and the sink are the daemon's. What is left besides is
+/// put into a place, and not answered beside these two, so that contracts follow them to the caller.
 fn serve_crew<'a, R: Threads + Wait + Clock + Sync, D: LogDisk, K: Sink, G: Gate + Sync>(
-    run: Run<'a, R, G>,
+    rt: &'a R,
+    table: &'a LogTable,
+    jobs: &'a mut Jobs,
+    refused: &'a [AtomicBool],
+    wait: bool,
+    gate: &'a G,
     crew: Crew,
     tail: Tail,
     voice: Voice,
     outside: Outside<'a, D, K>,
     served: &mut Option<Served>,
 ) -> Outside<'a, D, K>
-    requires crew { IsCrew run.table.now run.queue.now (length run.refused.now) crew }
+    requires crew { IsCrew table.now jobs.old.queue (length refused.now) crew }
+    requires allowed { All (IsAllowedJob table.now.accounts) jobs.old.queue.script }
+    requires enlisted { AreEnlisted jobs.old }
+    requires flags { length refused.now ≡ workers_of jobs.old }
+    requires stand { D.honest outside.disk.now → (opened : Log) × LogStands tail opened (D.images outside.disk.now) }
     requires shut { D.honest outside.disk.now → IsShut tail.at (D.images outside.disk.now) }
-    requires next { tail.next ≡ (key_of run.table.now).start }
+    requires next { tail.next ≡ (key_of table.now).start }
     requires place { tail.at ≤ 2 ^ 63 + 16 * tail.next }
-    ensures served { IsSomeAnd served.new (IsServed run.entry.table.now run.entry.queue.now (length run.entry.refused.now) run.entry.wait) }
-    ensures turned { IfSome served.new (HasTurned D.LogDisk K.Sink tail voice crew.boss outside.entry.disk.now result.disk.now outside.entry.out.now result.out.now) }
+    ensures turned { IsSomeAnd served.new (HasTurned D.LogDisk K.Sink table.now jobs.old.queue (length refused.now) wait tail voice crew.boss
+        outside.entry.disk.now result.disk.now outside.entry.out.now result.out.now) }
     ensures disk { result.disk.ghost_name ≡ outside.entry.disk.ghost_name }
     ensures out { result.out.ghost_name ≡ outside.entry.out.ghost_name }
 {
@@ -172,34 +187,30 @@ fn serve_crew<'a, R: Threads + Wait + Clock + Sync, D: LogDisk, K: Sink, G: Gate
         room,
     } = crew;
     let Outside { disk, out } = outside;
-    let flusher = Flusher {
-        table: run.table,
-        disk,
-        seat: boss,
-        batch,
-        tail,
-    };
-    let relief = relief_of(flusher, out, voice);
-    let (relief, workers) = serve_all(run, workers, room.started, room.back, relief);
-    let FlushingRelief { daemon } = relief;
-    let fault = daemon.fault();
-    let done = daemon.done();
-    let refused = daemon.refused();
-    let Daemon { flusher, sink, .. } = daemon;
-    let Flusher { seat, disk, .. } = flusher;
+    let relief = relief_of(table, boss, batch, disk, tail, out, voice);
+    let queue = jobs.queue();
+    let run = Run::make(rt, table, queue, refused, wait, gate);
+    let (mut relief, workers) = serve_all(run, workers, room.started, room.back, relief);
+    let daemon = &mut relief.daemon;
+    let flusher = &mut daemon.flusher;
+    let ends = gather(table, &mut flusher.seat, jobs, workers, room.ends);
+    jobs.count_taken();
+    let fault = relief.daemon.fault();
+    let done = relief.daemon.done();
+    let refused = relief.daemon.refused();
+    let DaemonParts { flusher, sink } = relief.daemon.into_parts();
+    let FlusherParts { seat, disk } = flusher.into_parts();
     *served = Some(Served {
         fault,
         done,
         refused,
+        ends,
         boss: seat,
-        workers,
-        ends: room.ends,
     });
     Outside { disk, out: sink }
 }
 
-/// Makes the transfers, by workers in threads, while this thread is the daemon. Then the flusher's seat takes in all workers' seats,
-/// and the queue's first pass all passes, so that it knows which transfers were taken.
+/// Makes the transfers, and closes the table once all seats were taken in, so that it is known which transfers were taken.
 pub fn run_transfers<R: Threads + Wait + Clock + Sync, D: LogDisk, K: Sink, G: Gate + Sync>(
     rt: &R,
     prepared: Prepared,
@@ -221,19 +232,28 @@ pub fn run_transfers<R: Threads + Wait + Clock + Sync, D: LogDisk, K: Sink, G: G
         refused,
         crew,
     } = prepared;
-    let queue = jobs.queue();
-    let run = Run::make(rt, &table, queue, refused.as_slice(), wait, gate);
     let mut served = None;
-    let _outside = serve_crew(run, crew, tail, voice, Outside { disk, out }, &mut served);
+    let outside = Outside { disk, out };
+    let flags = refused.as_slice();
+    let _outside = serve_crew(
+        rt,
+        &table,
+        &mut jobs,
+        flags,
+        wait,
+        gate,
+        crew,
+        tail,
+        voice,
+        outside,
+        &mut served,
+    );
     let Some(served) = served else { unreachable!() };
-    let mut boss = served.boss;
-    let ends = gather(&table, &mut boss, &mut jobs, served.workers, served.ends);
-    jobs.count_taken();
     Ended {
         fault: served.fault,
         done: served.done,
         refused: served.refused,
-        ends,
-        closed: table.close(boss),
+        ends: served.ends,
+        closed: table.close(served.boss),
     }
 }
