@@ -29,7 +29,7 @@ use Rattle.segment_file.specs.declared.layout.TheConstants.{CLOSED}
 use Rattle.segment_file.specs.declared.scan_result.Tail.{Tail}
 use Rattle.segment_file.proofs.BatchLemmas.{length-batch}
 use Rattle.segment_file.proofs.FirstFormat.{stands-log}
-use Rattle.log_recovery.specs.Opened.{OpenedList, whole_list, list_end, placed}
+use Rattle.log_recovery.specs.Opened.{OpenedList, whole_list, list_end, log_of, placed}
 use Rattle.log_rule.specs.declared.start.Start.{Start}
 use Rattle.log_rule.specs.declared.view.Given.{Given}
 use Rattle.log_rule.specs.declared.view.View.{View}
@@ -37,18 +37,23 @@ use Rattle.log_rule.specs.Accounts.{IsOfFront}
 use Rattle.log_rule.specs.Closing.{IsGathered, IsSettled}
 use Rattle.log_rule.specs.Sound.{base_of}
 use Rattle.log_rule.specs.Views.{flusher}
+use Rattle.log_table.specs.declared.table.Seat.{Seat}
+use Rattle.flusher.specs.Keeping.{KeepsLog}
+use Rattle.flusher.proofs.Keeps.{KeepsLog-first}
 use Rattle.commit_pipeline.specs.declared.daemon.Daemon.{Daemon}
+use Rattle.commit_pipeline.specs.Told.{HasTold}
+use Rattle.commit_pipeline.proofs.ToldSoFar.{HasTold-all, HasToldAll-none}
 use Rattle.end_lines.specs.declared.voice.Voice.TheVariants.{Lines}
 use Rattle.txn_jobs.specs.declared.cause.Cause.TheVariants.{LogEnd}
 use Rattle.txn_jobs.specs.declared.cause.Worked.TheVariants as worked
 use Rattle.txn_jobs.specs.declared.cause.Worked.TheVariants.{Cut}
 use Rattle.txn_jobs.specs.Places.{NumberedJobs, number_at, job_at}
 use Rattle.job_queue.specs.Takings.{times, once_below}
-use Rattle.cli_laws.specs.RunWitness.{payment, plain_disk, HasHitLogEnd}
+use Rattle.cli_laws.specs.RunWitness.{payment, file_at, plain_disk, plain_sink, HasHitLogEnd}
 use Rattle.cli_threads.specs.Shares.{Share, IsGivenUncommitted, AreGivenUncommitted, EndsLogAt, HasShare, HasGathered, sharing_of}
 use Rattle.cli_threads.specs.Sharing.{IsSharedOut}
 use Rattle.cli_threads.specs.Transferred.{IsOpened}
-use Rattle.cli_laws.proofs.RunWitness.{genesis-counted, genesis-spellable, genesis-lawful, shut-at}
+use Rattle.cli_laws.proofs.RunWitness.{genesis-counted, genesis-spellable, genesis-lawful, plain-now, shut-at}
 
 -- ---- the log
 
@@ -351,18 +356,35 @@ module _ (n slots : ℕ) (full : 4 + 2 * n ≤ LAST) (near : LAST < 4 + 2 * n + 
     all = λ worker share at all. absurd (none-whole worker share at all);
   }
 
-  module _ (d : Daemon ℕ (List ℕ)) where
-    abbrev daemon : Daemon ℕ (List ℕ)
+  module _ (d : Daemon ℕ (List ℕ) (plain_disk file_at) plain_sink) where
+    abbrev seat : Seat
+    seat = record { base = record d.flusher.seat.base { me = (view_old, []) }; worker = 0; named = refl }
+
+    keeps-still : KeepsLog (plain_disk (λ moment. file)) 0 0 tail [] []
+    keeps-still = KeepsLog-first (plain_disk (λ moment. file)) (plain-now (λ moment. file)) 0 tail [] [] refl refl refl (log_of opened)
+        (is-opened.stand tt)
+
+    told-none : HasTold plain_sink [] [] Lines view_old view_old
+    told-none = HasTold-all plain_sink [] Lines view_old [] view_old (HasToldAll-none plain_sink [] Lines view_old)
+
+    abbrev daemon : Daemon ℕ (List ℕ) (plain_disk (λ moment. file)) plain_sink
     daemon = record {
-      flusher = record d.flusher {
+      flusher = record {
+        table = d.flusher.table;
         disk = record d.flusher.disk { now = 0 };
-        seat = record { base = record d.flusher.seat.base { me = (view_old, []) }; worker = 0; named = refl };
+        seat = seat;
+        batch = d.flusher.batch;
         tail = tail;
+        first = record d.flusher.first { value = 0 };
+        keeps = λ honest. ∣ keeps-still ∣₁;
       };
       sink = record d.sink { now = [] };
       voice = Lines;
       tally = record { done = 0; refused = 0 };
       fault = None;
+      first = record d.first { value = [] };
+      begun = record d.begun { value = seat };
+      told = ∣ told-none ∣₁;
     }
 
     hit : HasHitLogEnd slots
@@ -380,7 +402,12 @@ module _ (n slots : ℕ) (full : 4 + 2 * n ≤ LAST) (near : LAST < 4 + 2 * n + 
       rows = key.accounts.rows;
       known = record {
         log = is-opened;
-        fresh = record { constants = refl; sent = refl; stop = refl; fine = refl };
+        fresh = record {
+          constants = refl;
+          made = record { disk = refl; sink = refl; seat = refl; unsent = refl };
+          stop = refl;
+          fine = refl;
+        };
         later = inl refl;
         sending = refl;
         constants = refl;
@@ -398,5 +425,5 @@ module _ (n slots : ℕ) (full : 4 + 2 * n ≤ LAST) (near : LAST < 4 + 2 * n + 
     }
 
 -- 2147483645 notes of 2 units each behind two Genesis records leave one unit
-pub log-end-hit : (slots : ℕ) → Daemon ℕ (List ℕ) → HasHitLogEnd slots
+pub log-end-hit : (slots : ℕ) → Daemon ℕ (List ℕ) (plain_disk file_at) plain_sink → HasHitLogEnd slots
 log-end-hit slots d = hit 2147483645 slots (omega arith) (omega arith) d

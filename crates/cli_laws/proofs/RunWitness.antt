@@ -21,11 +21,12 @@ use Rattle.lock_core.proofs.SerialFronts.{serial-partly}
 use Rattle.lock_core.proofs.Witnessing.{transfer-lawful, transfer-serial}
 use Rattle.segment_file.specs.File.{written, batch, IsCountedBatch}
 use Rattle.segment_file.specs.Log.{Log, with_units, HoldsLog}
-use Rattle.segment_file.specs.Standing.{StandsAt, LogStandsAt, IsShut}
+use Rattle.segment_file.specs.Standing.{StandsAt, LogStands, LogStandsAt, IsShut}
 use Rattle.segment_file.specs.declared.layout.TheConstants.{OPEN, CLOSED}
 use Rattle.segment_file.specs.declared.scan_result.Tail.{Tail}
 use Rattle.segment_file.proofs.BatchLemmas.{length-batch}
 use Rattle.segment_file.proofs.FirstFormat.{stands-log}
+use Rattle.segment_file.proofs.LogLemmas.{with_units-nil}
 use Rattle.segment_file.proofs.OneReading.{one_reading-log}
 use Rattle.log_table.specs.declared.table.Seat.{Seat}
 use Rattle.log_rule.specs.declared.start.Start.{Start}
@@ -40,9 +41,13 @@ use Rattle.commit_pipeline.specs.declared.daemon.Daemon.{Daemon}
 use Rattle.stop_word.specs.declared.fault.DaemonFault.TheVariants.{DiskFault, WriteFault}
 use Rattle.end_lines.specs.declared.voice.Voice.TheVariants.{Lines}
 use Rattle.commit_pipeline.specs.EndLines.{done_line, end_lines}
-use Rattle.commit_pipeline.specs.Later.{Ran, HoldsFront}
+use Rattle.commit_pipeline.specs.Later.{Ran}
+use Rattle.commit_pipeline.specs.Told.{HasTold, HasToldAll}
 use Rattle.commit_pipeline.specs.Turning.{MayTurn}
 use Rattle.commit_pipeline.proofs.RanLemmas.{none≢some}
+use Rattle.commit_pipeline.proofs.ToldSoFar.{HasTold-all, HasToldAll-none}
+use Rattle.flusher.specs.Keeping.{HoldsFront, KeepsLog}
+use Rattle.flusher.proofs.Keeps.{KeepsLog-first}
 use Rattle.txn_jobs.specs.declared.cause.Worked.TheVariants.{All}
 use Rattle.txn_jobs.specs.Places.{NumberedJobs}
 use Rattle.cli_laws.specs.RunWitness.{payment, file_at, plain_disk, plain_sink, HasMadePayment}
@@ -126,6 +131,11 @@ shut-at file moment at xs whole place = record {
   stable = λ bytes is. ap (λ b. slice_get b at) (is ∙ whole) ∙ ap (slice_get (xs ++ CLOSED ∷ [])) place ∙ at-length xs CLOSED;
 }
 
+-- what such a disk may leave at its moment alone is what it holds
+pub plain-now : (file : ℕ → List ℕ) (now : ℕ) (bytes : List ℕ) → (plain_disk file).images_since now now bytes
+    → (plain_disk file).images now bytes
+plain-now file now bytes (moment, after, before, is) = is ∙ ap file (omega (arith, after, before))
+
 -- ---- the opened log
 
 pub genesis-spellable : AllByRecursion IsSpellable genesis_log
@@ -182,9 +192,46 @@ once (suc place) = refl
 shared : IsSharedOut 2 jobs (sharing_of 1 shares)
 shared = record { count = refl; rise = ((tt, tt), (tt, tt)); once = once; within = omega arith }
 
+-- ---- what the disk keeps
+
+-- at each moment the disk holds the opened list, and from moment 1 on the transfer's records behind it
+abbrev stands-first : LogStands tail_old (log_of first_list) ((plain_disk file_at).images 0)
+stands-first bytes is =
+    stands-log tail_old (units_of genesis_log) bytes (subst (StandsAt tail_old (units_of genesis_log)) (sym is) stands-old)
+
+abbrev stands-all : LogStands tail_new (with_units (log_of first_list) (units_of transfer_records)) ((plain_disk file_at).images 1)
+stands-all bytes is = stands-log tail_new (units_of genesis_log ++ units_of transfer_records) bytes
+    (subst (StandsAt tail_new (units_of genesis_log ++ units_of transfer_records)) (sym is) stands-new)
+
+front-at : (moment : ℕ) (bytes : List ℕ) → bytes ≡ file_at moment → HoldsFront (log_of first_list) transfer_records bytes
+front-at zero bytes is = record {
+  front = [];
+  rest = transfer_records;
+  whole = refl;
+  holds = subst (HoldsLog bytes) (sym (with_units-nil (log_of first_list))) (stands-first bytes is).held;
+}
+front-at (suc moment) bytes is =
+    record { front = transfer_records; rest = []; whole = sym (append-nil transfer_records); holds = (stands-all bytes is).held }
+
+keeps-old : KeepsLog (plain_disk file_at) 0 0 tail_old [] []
+keeps-old = KeepsLog-first (plain_disk file_at) (plain-now file_at) 0 tail_old [] [] refl refl refl (log_of first_list) stands-first
+
+keeps-new : KeepsLog (plain_disk file_at) 0 1 tail_new (units_of transfer_records) []
+keeps-new = record {
+  opened = log_of first_list;
+  began = λ bytes is. (stands-first bytes is).held;
+  shown = refl;
+  records = transfer_records;
+  spelled = record { spellable = transfer-spellable; units_are = refl };
+  later = omega arith;
+  moments = λ bytes since. inl (front-at since.0 bytes since.3);
+  now = λ bytes is. inl (stands-all bytes is).held;
+  goes_on = λ none. stands-all;
+}
+
 -- ---- the run over a daemon's table
 
-module _ (d : Daemon ℕ (List ℕ)) (of : IsOf d.flusher.table.now d.flusher.seat) where
+module _ (d : Daemon ℕ (List ℕ) (plain_disk file_at) plain_sink) (of : IsOf d.flusher.table.now d.flusher.seat) where
   abbrev ring : ℕ
   ring = d.flusher.table.now.ring
 
@@ -216,7 +263,7 @@ module _ (d : Daemon ℕ (List ℕ)) (of : IsOf d.flusher.table.now d.flusher.se
     range = genesis-range;
     some_accounts = omega arith;
     below = omega arith;
-    stand = λ honest bytes is. stands-log tail_old (units_of genesis_log) bytes (subst (StandsAt tail_old (units_of genesis_log)) (sym is) stands-old);
+    stand = λ honest. stands-first;
     shut = λ honest. shut-at file_at 0 tail_old.at (written (units_of genesis_log ∷ [])) refl refl;
     next = refl;
     place = omega (arith, length-batch (batch (units_of genesis_log) ++ []) (units_of genesis_log) [] refl, length-append (batch (units_of genesis_log)) []);
@@ -293,22 +340,53 @@ module _ (d : Daemon ℕ (List ℕ)) (of : IsOf d.flusher.table.now d.flusher.se
   abbrev seat_with : (v : View) → v.standing.worker ≡ 0 → Seat
   seat_with v is = record { base = record d.flusher.seat.base { me = (v, []) }; worker = 0; named = sym is }
 
-  abbrev old : Daemon ℕ (List ℕ)
+  told-old : HasTold plain_sink [] [] Lines view_old view_old
+  told-old = HasTold-all plain_sink [] Lines view_old [] view_old (HasToldAll-none plain_sink [] Lines view_old)
+
+  told-new : HasToldAll plain_sink [] (end_lines 4 transfer_records) Lines view_old view_new
+  told-new = record {
+    since = record { more = transfer_records; spellable = transfer-spellable; constants = refl; sent = refl };
+    told = refl;
+  }
+
+  abbrev old : Daemon ℕ (List ℕ) (plain_disk file_at) plain_sink
   old = record {
-    flusher = record d.flusher { disk = record d.flusher.disk { now = 0 }; seat = seat_with view_old refl; batch = record { units = []; room = ring }; tail = tail_old };
+    flusher = record {
+      table = d.flusher.table;
+      disk = record d.flusher.disk { now = 0 };
+      seat = seat_with view_old refl;
+      batch = record { units = []; room = ring };
+      tail = tail_old;
+      first = record d.flusher.first { value = 0 };
+      keeps = λ honest. ∣ keeps-old ∣₁;
+    };
     sink = record d.sink { now = [] };
     voice = Lines;
     tally = record { done = 0; refused = 0 };
     fault = None;
+    first = record d.first { value = [] };
+    begun = record d.begun { value = seat_with view_old refl };
+    told = ∣ told-old ∣₁;
   }
 
-  abbrev new : Daemon ℕ (List ℕ)
+  abbrev new : Daemon ℕ (List ℕ) (plain_disk file_at) plain_sink
   new = record {
-    flusher = record d.flusher { disk = record d.flusher.disk { now = 1 }; seat = seat_with view_new refl; batch = record { units = []; room = ring }; tail = tail_new };
+    flusher = record {
+      table = d.flusher.table;
+      disk = record d.flusher.disk { now = 1 };
+      seat = seat_with view_new refl;
+      batch = record { units = []; room = ring };
+      tail = tail_new;
+      first = record d.flusher.first { value = 0 };
+      keeps = λ honest. ∣ keeps-new ∣₁;
+    };
     sink = record d.sink { now = end_lines 4 transfer_records };
     voice = Lines;
     tally = record { done = 1; refused = 0 };
     fault = None;
+    first = record d.first { value = [] };
+    begun = record d.begun { value = seat_with view_old refl };
+    told = ∣ HasTold-all plain_sink [] Lines view_old (end_lines 4 transfer_records) view_new told-new ∣₁;
   }
 
   may-turn : MayTurn (plain_disk file_at) new
@@ -332,35 +410,32 @@ module _ (d : Daemon ℕ (List ℕ)) (of : IsOf d.flusher.table.now d.flusher.se
     fine = refl;
     running = refl;
     counted = omega arith;
+    all_told = told-new;
   }
 
   -- what all images held at first is the opened list
-  opening-is : (log : Log) → ((bytes : List ℕ) → bytes ≡ file_at 0 → LogStandsAt tail_old (with_units log []) bytes) → log ≡ log_of first_list
+  opening-is : (log : Log) → LogStands tail_old log ((plain_disk file_at).images 0) → log ≡ log_of first_list
   opening-is log stand =
-      let same : log ≡ with_units log [] = λ i. record { opening = log.opening; units = sym (append-nil log.units) i } in
-      same ∙ one_reading-log (file_at 0) (with_units log []) (log_of first_list) (stand (file_at 0) refl).held
-      (stands-log tail_old (units_of genesis_log) (file_at 0) stands-old).held
+      one_reading-log (file_at 0) log (log_of first_list) (stand (file_at 0) refl).held (stands-first (file_at 0) refl).held
 
-  stands-later : (log : Log) → ((bytes : List ℕ) → bytes ≡ file_at 0 → LogStandsAt tail_old (with_units log []) bytes)
-      → (bytes : List ℕ) → bytes ≡ file_at 1 → LogStandsAt tail_new (with_units log (units_of transfer_records)) bytes
+  stands-later : (log : Log) → LogStands tail_old log ((plain_disk file_at).images 0)
+      → LogStands tail_new (with_units log (units_of transfer_records)) ((plain_disk file_at).images 1)
   stands-later log stand bytes is =
       subst (λ (first : Log). LogStandsAt tail_new (with_units first (units_of transfer_records)) bytes) (sym (opening-is log stand))
-      (stands-log tail_new (units_of genesis_log ++ units_of transfer_records) bytes
-      (subst (StandsAt tail_new (units_of genesis_log ++ units_of transfer_records)) (sym is) stands-new))
+      (stands-all bytes is)
 
-  moments : (log : Log) → ((bytes : List ℕ) → bytes ≡ file_at 0 → LogStandsAt tail_old (with_units log []) bytes)
-      → Leaves (plain_disk file_at).moment (plain_disk file_at).images_since (HoldsFront (with_units log []) (transfer_records ++ [])) 0 1
+  moments : (log : Log) → LogStands tail_old log ((plain_disk file_at).images 0)
+      → Leaves (plain_disk file_at).moment (plain_disk file_at).images_since (HoldsFront log (transfer_records ++ [])) 0 1
   moments log stand = record { later = omega arith; each = each }
     where
       each : (from : ℕ) (bytes : List ℕ) → from ≤ 0 → (moment : ℕ) × (from ≤ moment) × (moment ≤ 1) × (bytes ≡ file_at moment)
-          → ((moment : ℕ) × (from ≤ moment) × (moment ≤ 0) × (bytes ≡ file_at moment)) ⊎ HoldsFront (with_units log []) (transfer_records ++ []) bytes
+          → ((moment : ℕ) × (from ≤ moment) × (moment ≤ 0) × (bytes ≡ file_at moment)) ⊎ HoldsFront log (transfer_records ++ []) bytes
       each from bytes early (zero, after, before, is) = inl (0, after, omega arith, is)
       each from bytes early (suc moment, after, before, is) = inr (record {
         front = transfer_records;
         rest = [];
         whole = refl;
-        holds = subst (λ (first : List ℕ). HoldsLog bytes (record { opening = log.opening; units = first ++ units_of transfer_records })) (sym (append-nil log.units))
-            (stands-later log stand bytes is).held;
+        holds = (stands-later log stand bytes is).held;
       })
 
   -- the batch of the transfer takes 45 bytes, for five units
@@ -378,7 +453,6 @@ module _ (d : Daemon ℕ (List ℕ)) (of : IsOf d.flusher.table.now d.flusher.se
     was_fine = refl;
     more = transfer_records;
     cut = [];
-    text = end_lines 4 transfer_records;
     spellable = transfer-spellable;
     same = record {
       flusher = record {
@@ -389,20 +463,22 @@ module _ (d : Daemon ℕ (List ℕ)) (of : IsOf d.flusher.table.now d.flusher.se
         honest = (λ honest. honest, λ honest. honest);
         attached = refl;
         later = omega arith;
+        first = refl;
       };
       sink = refl;
       voice = refl;
+      first = refl;
+      begun = refl;
     };
     constants = refl;
     sent = refl;
     in_flight = (refl, refl);
     may_turn = λ fine. may-turn;
-    moments = λ honest opening stand. moments opening stand;
-    prefix = λ fault honest opening stand. stands-later opening stand;
-    torn = λ honest opening stand bytes is. inl (stands-later opening stand bytes is).held;
-    appended = refl;
-    front = λ failed. absurd (none≢some WriteFault failed);
-    all = λ fault. (refl, refl);
+    moments = λ honest. moments;
+    stands = λ fault honest. stands-later;
+    tallied = λ fault. refl;
+    counts = (transfer_records, [], sym (append-nil transfer_records), refl);
+    part = λ failed. absurd (none≢some WriteFault failed);
     reason = record {
       stop = refl;
       disk = record { counted = λ failed. absurd (none≢some DiskFault failed); fine = λ sent. refl };
@@ -429,7 +505,12 @@ module _ (d : Daemon ℕ (List ℕ)) (of : IsOf d.flusher.table.now d.flusher.se
     rows = rows;
     known = record {
       log = opened;
-      fresh = record { constants = refl; sent = refl; stop = refl; fine = refl };
+      fresh = record {
+        constants = refl;
+        made = record { disk = refl; sink = refl; seat = refl; unsent = refl };
+        stop = refl;
+        fine = refl;
+      };
       later = inr ran;
       sending = refl;
       constants = refl;

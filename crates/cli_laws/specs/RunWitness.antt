@@ -47,13 +47,13 @@ abbrev pub plain_sink : SinkGhosts (List ℕ)
 plain_sink = record { held_bytes = λ bytes. Some bytes; faults = λ bytes. 0 }
 
 -- The run was made and told, over the table of this daemon, by two workers: the first made the transfer, and the second found none left.
-pub record HasMadePayment (d : Daemon ℕ (List ℕ)) : Type 0 where
+pub record HasMadePayment (d : Daemon ℕ (List ℕ) (plain_disk file_at) plain_sink) : Type 0 where
   pub jobs : NumberedJobs
   pub front : ℕ
   pub shares : List Share
   pub key : Start
-  pub old : Daemon ℕ (List ℕ)
-  pub new : Daemon ℕ (List ℕ)
+  pub old : Daemon ℕ (List ℕ) (plain_disk file_at) plain_sink
+  pub new : Daemon ℕ (List ℕ) (plain_disk file_at) plain_sink
   pub view : View
   pub rows : List (ℕ × ℕ)
   pub known : HasTransferred (plain_disk file_at) plain_sink (whole_list genesis_log) jobs front shares key old new view 9 rows
@@ -74,8 +74,8 @@ pub record HasHitLogEnd (slots : ℕ) : Type 0 where
   pub front : ℕ
   pub shares : List Share
   pub key : Start
-  pub old : Daemon ℕ (List ℕ)
-  pub new : Daemon ℕ (List ℕ)
+  pub old : Daemon ℕ (List ℕ) (plain_disk (λ moment. file)) plain_sink
+  pub new : Daemon ℕ (List ℕ) (plain_disk (λ moment. file)) plain_sink
   pub view : View
   pub lsn : ℕ
   pub rows : List (ℕ × ℕ)

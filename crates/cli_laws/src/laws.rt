@@ -38,7 +38,7 @@ ghost use Rattle.cli_run.specs.RunAnswers.{HoldsTold, run_text};
 ghost use Rattle.cli_shared.specs.Outside.{Outside};
 ghost use Rattle.cli_threads.specs.RunStops.{EndsAs, IsTotalAmong, StopsAtLogEnd};
 ghost use Rattle.cli_laws.specs.InTurn.{IsUnended};
-ghost use Rattle.cli_laws.specs.RunWitness.{HasMadePayment, HasHitLogEnd};
+ghost use Rattle.cli_laws.specs.RunWitness.{HasMadePayment, HasHitLogEnd, file_at, plain_disk, plain_sink};
 ghost use Rattle.cli_threads.specs.Shares.{Share, sharing_of};
 ghost use Rattle.cli_threads.specs.Sharing.{IsSharedOut, Sharing};
 ghost use Rattle.cli_laws.specs.Told.{HasLine, HasCommitAt, HasToldPayment};
@@ -71,36 +71,43 @@ pub fn run_is_recovered()
 /// each image holds a front behind the opened list, and all of them where the log was drained. A stop word that a worker
 /// read is the fault's, and a fault has its reason.
 pub fn run_keeps_log<D: LogDisk, K: Sink>()
-    ensures keeps { (opened : OpenedList) (jobs : NumberedJobs) (front : ℕ) (shares : List Share) (key : Start) (old new : Daemon D K)
-        (view : View) (lsn : ℕ) (rows : List (ℕ × ℕ)) → HasTransferred D.LogDisk K.Sink opened jobs front shares key old new view lsn rows
+    ensures keeps { (opened : OpenedList) (jobs : NumberedJobs) (front : ℕ) (shares : List Share) (key : Start)
+        (old new : Daemon D K D.LogDisk K.Sink) (view : View) (lsn : ℕ) (rows : List (ℕ × ℕ))
+        → HasTransferred D.LogDisk K.Sink opened jobs front shares key old new view lsn rows
         → RunKeepsLog D.LogDisk old.voice opened jobs (sharing_of front shares) (records_of view.entries) old.flusher.tail.at key.ring
         old.flusher.disk.now new.flusher.disk.now
         (K.held_bytes old.sink.now) (K.held_bytes new.sink.now) }
-    ensures drained { (opened : OpenedList) (jobs : NumberedJobs) (front : ℕ) (shares : List Share) (key : Start) (old new : Daemon D K)
-        (view : View) (lsn : ℕ) (rows : List (ℕ × ℕ)) → HasTransferred D.LogDisk K.Sink opened jobs front shares key old new view lsn rows
+    ensures drained { (opened : OpenedList) (jobs : NumberedJobs) (front : ℕ) (shares : List Share) (key : Start)
+        (old new : Daemon D K D.LogDisk K.Sink) (view : View) (lsn : ℕ) (rows : List (ℕ × ℕ))
+        → HasTransferred D.LogDisk K.Sink opened jobs front shares key old new view lsn rows
         → new.fault ≡ None
         → RunIsDrained D.LogDisk old.voice opened (records_of view.entries) old.flusher.tail.at key.ring
         old.flusher.disk.now new.flusher.disk.now
         (K.held_bytes old.sink.now) (K.held_bytes new.sink.now) lsn rows }
-    ensures whole { (opened : OpenedList) (jobs : NumberedJobs) (front : ℕ) (shares : List Share) (key : Start) (old new : Daemon D K)
-        (view : View) (lsn : ℕ) (rows : List (ℕ × ℕ)) → HasTransferred D.LogDisk K.Sink opened jobs front shares key old new view lsn rows
+    ensures whole { (opened : OpenedList) (jobs : NumberedJobs) (front : ℕ) (shares : List Share) (key : Start)
+        (old new : Daemon D K D.LogDisk K.Sink) (view : View) (lsn : ℕ) (rows : List (ℕ × ℕ))
+        → HasTransferred D.LogDisk K.Sink opened jobs front shares key old new view lsn rows
         → AllByRecursion (λ (share : Share). share.worked ≡ Worked.All) shares → RunsWhole opened jobs (records_of view.entries) }
-    ensures log_end { (opened : OpenedList) (jobs : NumberedJobs) (front : ℕ) (shares : List Share) (key : Start) (old new : Daemon D K)
-        (view : View) (lsn : ℕ) (rows : List (ℕ × ℕ)) → HasTransferred D.LogDisk K.Sink opened jobs front shares key old new view lsn rows
+    ensures log_end { (opened : OpenedList) (jobs : NumberedJobs) (front : ℕ) (shares : List Share) (key : Start)
+        (old new : Daemon D K D.LogDisk K.Sink) (view : View) (lsn : ℕ) (rows : List (ℕ × ℕ))
+        → HasTransferred D.LogDisk K.Sink opened jobs front shares key old new view lsn rows
         → new.fault ≡ None
         → (worker : ℕ) (taken : List ℕ) (tail total : ℕ)
         → get_elem? shares worker ≡ some (record { taken = taken; worked = Worked.Cut (Cause.LogEnd tail total) })
         → StopsAtLogEnd opened jobs (sharing_of front shares) (records_of view.entries) key.ring key.slots tail total }
-    ensures stop { (opened : OpenedList) (jobs : NumberedJobs) (front : ℕ) (shares : List Share) (key : Start) (old new : Daemon D K)
-        (view : View) (lsn : ℕ) (rows : List (ℕ × ℕ)) → HasTransferred D.LogDisk K.Sink opened jobs front shares key old new view lsn rows
+    ensures stop { (opened : OpenedList) (jobs : NumberedJobs) (front : ℕ) (shares : List Share) (key : Start)
+        (old new : Daemon D K D.LogDisk K.Sink) (view : View) (lsn : ℕ) (rows : List (ℕ × ℕ))
+        → HasTransferred D.LogDisk K.Sink opened jobs front shares key old new view lsn rows
         → new.fault ≡ None
         → (worker : ℕ) (taken : List ℕ) (word : ℕ)
         → get_elem? shares worker ≡ some (record { taken = taken; worked = Worked.Cut (Cause.Stop word) }) → ⊥ }
-    ensures reason { (opened : OpenedList) (jobs : NumberedJobs) (front : ℕ) (shares : List Share) (key : Start) (old new : Daemon D K)
-        (view : View) (lsn : ℕ) (rows : List (ℕ × ℕ)) → HasTransferred D.LogDisk K.Sink opened jobs front shares key old new view lsn rows
+    ensures reason { (opened : OpenedList) (jobs : NumberedJobs) (front : ℕ) (shares : List Share) (key : Start)
+        (old new : Daemon D K D.LogDisk K.Sink) (view : View) (lsn : ℕ) (rows : List (ℕ × ℕ))
+        → HasTransferred D.LogDisk K.Sink opened jobs front shares key old new view lsn rows
         → HasReason D.LogDisk K.Sink old new }
-    ensures same { (opened : OpenedList) (jobs : NumberedJobs) (front : ℕ) (shares : List Share) (key : Start) (old new : Daemon D K)
-        (view : View) (lsn : ℕ) (rows : List (ℕ × ℕ)) → HasTransferred D.LogDisk K.Sink opened jobs front shares key old new view lsn rows
+    ensures same { (opened : OpenedList) (jobs : NumberedJobs) (front : ℕ) (shares : List Share) (key : Start)
+        (old new : Daemon D K D.LogDisk K.Sink) (view : View) (lsn : ℕ) (rows : List (ℕ × ℕ))
+        → HasTransferred D.LogDisk K.Sink opened jobs front shares key old new view lsn rows
         → IsSameDaemon D.LogDisk old new }
 {}
 
@@ -143,8 +150,8 @@ pub fn told_commits_are_held<D: LogDisk>()
 /// A witness that the premises of the law on runs can be met, all at once: over the table of any daemon whose seat is of it two workers
 /// make one transfer; and with any number of slots two workers find no room for theirs at the end of the log, and leave a third.
 pub fn one_payment_is_made()
-    ensures made { (d : Daemon ℕ (List ℕ)) → IsOf d.flusher.table.now d.flusher.seat → HasMadePayment d }
-    ensures log_end { (slots : ℕ) → Daemon ℕ (List ℕ) → HasHitLogEnd slots }
+    ensures made { (d : Daemon ℕ (List ℕ) (plain_disk file_at) plain_sink) → IsOf d.flusher.table.now d.flusher.seat → HasMadePayment d }
+    ensures log_end { (slots : ℕ) → Daemon ℕ (List ℕ) (plain_disk file_at) plain_sink → HasHitLogEnd slots }
 {}
 
 /// A law: the summary of generated transfers is told by their number and seed, in whatever order they ran. The list of their
