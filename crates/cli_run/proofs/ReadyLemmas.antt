@@ -1,5 +1,5 @@
 -- From the opened log to what is ready before the first transfer of a run, or to the answer that there is no run.
-use Rattle.std.proofs.Common.{◌≡◌, ◌≤◌, ◌⊎◌, ⊎_elim, inl, inr, refl, ap, sym, ◌∙◌, subst, ℕ, ◌+◌, List, length, Option, Some, None, arith}
+use Rattle.std.proofs.Common.{◌≡◌, ◌≤◌, ◌⊎◌, ⊎_elim, inl, inr, refl, ap, sym, ◌∙◌, subst, ℕ, ◌+◌, List, length, Option, Some, None, Result, Ok, Err, IfOk, arith}
 use Rattle.std.specs.Io.KnownBytes.{Keeps}
 use Rattle.command_line.specs.declared.options.RunOptions.{RunOptions}
 use Rattle.log_disk.proofs.Counting.{Costs-more, Costs-then}
@@ -19,17 +19,21 @@ use Rattle.cli_shared.specs.Opening.{most_calls}
 use Rattle.cli_shared.specs.declared.report.Detail.{Detail}
 use Rattle.cli_shared.specs.declared.report.Detail.TheVariants.{Fine, NoMemory, Usage, Script, Read, Write, Disk, NotALog, BadSnapshot, BadBatch, BadRec, Unlawful, LogEnd, TxnEnd, Exists, NoSuchLsn, BadStream, Gap, StreamUnlawful, NoAccount}
 use Rattle.log_recovery.specs.declared.recovery.Recovered.{Recovered}
+use Rattle.log_rule.specs.declared.start.Start.{Start}
 use Rattle.log_table.specs.Seats.{key_of}
+use Rattle.lsn_space.specs.declared.memory.NoMemory.{NoMemory as Wanting}
 use Rattle.segment_file.specs.declared.scan_result.Tail.{Tail}
 use Rattle.segment_file.specs.Log.{HoldsLog}
 use Rattle.segment_file.specs.Standing.{LogStands, IsShut, LogStandsAt}
 use Rattle.lock_core.specs.declared.job.Job.{Job}
-use Rattle.job_queue.specs.Passes.{jobs_of}
+use Rattle.job_queue.specs.Passes.{jobs_of, workers_of}
 use Rattle.cli_threads.specs.declared.transfers.Prepared.{Prepared}
-use Rattle.cli_shared.specs.Opening.{Opens, HasOpeningFault}
+use Rattle.cli_threads.specs.Prepared.{IsPrepared}
+use Rattle.cli_threads.specs.declared.transfers.ReadyRun.{ReadyRun}
+use Rattle.cli_shared.specs.Opening.{HasOpeningFault, OnlyLooks, Opens}
 use Rattle.cli_run.specs.RunAnswers.{AnswersRun, AreAsked, accounts_of, next_txn}
 use Rattle.cli_shared.specs.Outside.{OnlyReads, OnlySettles, HoldsAsRead, outside}
-use Rattle.cli_run.specs.RunReady.{IsPreparedFor}
+use Rattle.cli_run.specs.RunReady.{HasRead, IsPreparedFor, IsReadyFor}
 use Rattle.cli_shared.specs.Scripts.{HasNoScript, HasNoTransfers, IsWholeScript}
 use Rattle.cli_threads.specs.Transferred.{IsOpened}
 
@@ -39,21 +43,17 @@ keeps-refl (Some bytes) = refl
 
 -- a disk that was attached, synced and read, and then perhaps settled
 module _ {D : Type 0} (g : Ghosts D) (old mid : D) where
-  -- the one moment and the images of it
-  abbrev pub Reads : Type 0
-  Reads = (g.reads mid ≡ g.reads old) × Leaves g.moment g.images_since (g.images old) old mid × Costs g 1 (most_calls g old) old mid
-
-  module _ (reads : Reads) (left left_new text : Option (List ℕ)) where
+  module _ (looks : OnlyLooks g old mid) (left left_new text : Option (List ℕ)) where
     pub only-reads : OnlyReads g (outside old left text) (outside mid left_new text)
-    only-reads = record { silent = keeps-refl text; disk = record { images = reads.1; reads = reads.0; count = reads.2 } }
+    only-reads = record { silent = keeps-refl text; disk = looks }
 
     pub only-settles : OnlySettles g (outside old left text) (outside mid left_new text)
     only-settles = record {
       silent = keeps-refl text;
       images = Leaves-weaken g.moment g.images_since (g.images old) (λ bytes. g.images old bytes ⊎ HoldsAsRead g old bytes) old mid
-          (λ bytes image. inl image) reads.1;
-      count = Costs-more g 1 3 (most_calls g old) (most_calls g old + 3) old mid (omega arith) (omega arith) reads.2;
-      grows = inl reads.0;
+          (λ bytes image. inl image) looks.images;
+      count = Costs-more g 1 3 (most_calls g old) (most_calls g old + 3) old mid (omega arith) (omega arith) looks.count;
+      grows = inl looks.reads;
     }
 
     module _ (options : RunOptions) where
@@ -118,24 +118,24 @@ module _ {D : Type 0} (g : Ghosts D) (old mid : D) (opened : Recovered) (opens :
       record { list = record { each = opens.recovers.held.list.each; holds = held }; lawful = opens.recovers.held.lawful }
 
   -- and the disk as it was settled
-  module _ (new : D) (reads : Reads g old mid) (moments : Leaves g.moment g.images_since (λ c. HoldsLog c (log_of list)) mid new)
+  module _ (new : D) (looks : OnlyLooks g old mid) (moments : Leaves g.moment g.images_since (λ c. HoldsLog c (log_of list)) mid new)
       (count : Costs g 2 3 mid new) where
     pub leaves-settled : Leaves g.moment g.images_since (λ bytes. g.images old bytes ⊎ HoldsLawful bytes list) old new
     leaves-settled = Leaves-trans g.moment g.images_since (λ bytes. g.images old bytes ⊎ HoldsLawful bytes list) old mid new
         (Leaves-weaken g.moment g.images_since (g.images old) (λ bytes. g.images old bytes ⊎ HoldsLawful bytes list) old mid
-        (λ bytes image. inl image) reads.1)
+        (λ bytes image. inl image) looks.images)
         (Leaves-weaken g.moment g.images_since (λ c. HoldsLog c (log_of list)) (λ bytes. g.images old bytes ⊎ HoldsLawful bytes list)
         mid new (λ bytes held. inr (holds-opened bytes held)) moments)
 
     pub count-settled : Costs g 3 (most_calls g old + 3) old new
-    count-settled = Costs-then g 1 2 (most_calls g old) 3 old mid new reads.2 count
+    count-settled = Costs-then g 1 2 (most_calls g old) 3 old mid new looks.count count
 
     pub grows-settled : GrowsAtMostTo g (opened.tail.at + 1) mid new → GrowsAtMostTo g (opened.tail.at + 1) old new
-    grows-settled grows = GrowsAtMostTo-trans g (opened.tail.at + 1) old mid new (GrowsAtMostTo-same g (opened.tail.at + 1) old mid reads.0) grows
+    grows-settled grows = GrowsAtMostTo-trans g (opened.tail.at + 1) old mid new (GrowsAtMostTo-same g (opened.tail.at + 1) old mid looks.reads) grows
 
     -- the file that a read gave goes on at the tail
     pub stands-read : g.honest old → g.images mid (g.reads mid) → LogStandsAt opened.tail (log_of list) (g.reads old)
-    stands-read honest image = subst (LogStandsAt opened.tail (log_of list)) reads.0 (opens.stand honest (g.reads mid) image)
+    stands-read honest image = subst (LogStandsAt opened.tail (log_of list)) looks.reads (opens.stand honest (g.reads mid) image)
 
     pub settles : g.honest old → g.images mid (g.reads mid) → GrowsAtMostTo g (opened.tail.at + 1) mid new → (left left_new text : Option (List ℕ))
         → OnlySettles g (outside old left text) (outside new left_new text)
@@ -149,15 +149,15 @@ module _ {D : Type 0} (g : Ghosts D) (old mid : D) (opened : Recovered) (opens :
     }
 
   -- the input gives no transfers that have numbers
-  pub answers-transfers : Reads g old mid → g.honest old → (options : RunOptions) (left left_new text : Option (List ℕ)) (detail : Detail)
+  pub answers-transfers : OnlyLooks g old mid → g.honest old → (options : RunOptions) (left left_new text : Option (List ℕ)) (detail : Detail)
       → HasNoTransfers (length opened.accounts.rows) opened.next_txn left left_new detail
       → AnswersRun g options (outside old left text) (outside mid left_new text) detail
-  answers-transfers reads honest options left left_new text detail (inl none) =
-      answers-script g old mid reads left left_new text options list detail (held-read honest)
+  answers-transfers looks honest options left left_new text detail (inl none) =
+      answers-script g old mid looks left left_new text options list detail (held-read honest)
       (subst (λ n. HasNoScript n left left_new detail) opens.recovers.accounts.count none)
-  answers-transfers reads honest options left left_new text detail (inr end) =
+  answers-transfers looks honest options left left_new text detail (inr end) =
       subst (AnswersRun g options (outside old left text) (outside mid left_new text)) (sym end.detail_is) (
-        only-reads g old mid reads left left_new text,
+        only-reads g old mid looks left left_new text,
         record {
           opened = list;
           held = held-read honest;
@@ -199,3 +199,49 @@ module _ {D : Type 0} (g : Ghosts D) (old mid : D) (opened : Recovered) (opens :
       accounts = subst (λ rows. ShowsAccounts rows (base_in list) (placed list)) (sym (λ i. (is.accounts i).rows))
           opens.recovers.accounts;
     }
+
+-- the transfers of a script are ready, over the log as it was settled
+module _ {D : Type 0} (g : Ghosts D) (old mid new : D) (opened : Recovered) (script : List Job) (left left_new : Option (List ℕ))
+    (has : HasRead g opened script old mid left left_new) (ready : ReadyRun) (options : RunOptions)
+    (prepared : IsPreparedFor options opened script ready.prepared) (tail : ready.tail ≡ opened.tail) where
+  abbrev list-read : OpenedList
+  list-read = has.opens.recovers.list
+
+  pub ready-settled : (g.honest old → Leaves g.moment g.images_since (λ c. HoldsLog c (log_of list-read)) mid new)
+      → (g.honest old → LogStands opened.tail (log_of list-read) (g.images new)) → (g.honest old → IsShut opened.tail.at (g.images new))
+      → (g.honest old → GrowsAtMostTo g (opened.tail.at + 1) mid new) → (g.honest old → Costs g 2 3 mid new)
+      → (g.honest old → g.images mid (g.reads mid)) → (g.honest new → g.honest old) → IsReadyFor g options old new left left_new ready
+  ready-settled moments stand shut grows count image honest_new = record {
+    opened = list-read;
+    held = held-read g old mid opened has.opens;
+    log = opened-prepared g old mid opened has.opens options script ready.prepared prepared new ready.tail tail stand shut honest_new;
+    asked = asked-prepared g old mid opened has.opens options script ready.prepared prepared left left_new has.whole has.numbered;
+    workers_are = prepared.workers_are;
+    ring = prepared.ring;
+    slots = prepared.slots;
+    prepared = prepared.ready;
+    images = λ honest. leaves-settled g old mid opened has.opens new (has.looks honest) (moments honest) (count honest);
+    count = λ honest. count-settled g old mid opened has.opens new (has.looks honest) (moments honest) (count honest);
+    stands = λ honest. subst (λ (t : Tail). LogStandsAt t (log_of list-read) (g.reads old)) (sym tail)
+        (stands-read g old mid opened has.opens new (has.looks honest) (moments honest) (count honest) honest (image honest));
+    grows = λ honest. subst (λ (t : Tail). GrowsAtMostTo g (t.at + 1) old new) (sym tail)
+        (grows-settled g old mid opened has.opens new (has.looks honest) (moments honest) (count honest) (grows honest));
+  }
+
+-- what was asked for, if there was memory for it
+pub prepared-of : (options : RunOptions) (opened : Recovered) (script : List Job) (start : Start) {workers : ℕ} (made : Result Prepared Wanting)
+    → start.start ≡ opened.lsn → start.accounts ≡ opened.accounts → start.ring ≡ options.ring → start.slots ≡ options.slots → workers ≡ options.workers
+    → IfOk made (λ p. p.jobs.queue.script ≡ script) → IfOk made (λ p. p.jobs.queue.first ≡ opened.next_txn)
+    → IfOk made (λ p. workers_of p.jobs ≡ workers) → IfOk made (λ p. key_of p.table ≡ start) → IfOk made IsPrepared
+    → IfOk made (IsPreparedFor options opened script)
+prepared-of options opened script start (Err none) from accounts ring slots workers script_is first workers_are key ready = tt
+prepared-of options opened script start (Ok prepared) from accounts ring slots workers script_is first workers_are key ready = record {
+  start = ap (λ (k : Start). k.start) key ∙ from;
+  accounts = ap (λ (k : Start). k.accounts) key ∙ accounts;
+  ring = ap (λ (k : Start). k.ring) key ∙ ring;
+  slots = ap (λ (k : Start). k.slots) key ∙ slots;
+  script_is = script_is;
+  first = first;
+  workers_are = workers_are ∙ workers;
+  ready = ready;
+}

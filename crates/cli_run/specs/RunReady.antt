@@ -1,18 +1,20 @@
 -- What stands before the first transfer of a run, and why there may be none. `g` is what a disk shows; `old` and `new` are the disk before
 -- and after, `left` and `left_new` what the input has left.
-use Rattle.std.specs.Prelude.{◌≡◌, ◌⊎◌, ℕ, ◌+◌, List, Option}
+use Rattle.std.specs.Prelude.{◌≡◌, ◌≤◌, ◌⊎◌, ℕ, ◌+◌, List, length, Option}
 use Rattle.command_line.specs.declared.options.RunOptions.{RunOptions}
 use Rattle.log_disk.specs.Costs.{Costs}
 use Rattle.log_disk.specs.Disk.{Leaves}
 use Rattle.log_disk.specs.Lengths.{GrowsAtMostTo}
 use Rattle.log_disk.specs.declared.disk.LogDisk.{Ghosts}
 use Rattle.segment_file.specs.Standing.{LogStandsAt}
+use Rattle.log_record.specs.declared.limits.TheConstants.{LAST_TXN}
 use Rattle.log_recovery.specs.declared.recovery.Recovered.{Recovered}
 use Rattle.log_recovery.specs.Opened.{OpenedList, log_of}
 use Rattle.log_recovery.specs.Recovery.{HoldsLawful}
 use Rattle.log_table.specs.Seats.{key_of}
 use Rattle.lock_core.specs.declared.job.Job.{Job}
-use Rattle.cli_shared.specs.Opening.{most_calls}
+use Rattle.cli_shared.specs.Opening.{OnlyLooks, Opens, most_calls}
+use Rattle.cli_shared.specs.Scripts.{IsWholeScript}
 use Rattle.cli_shared.specs.declared.report.Detail.{Detail}
 use Rattle.cli_shared.specs.declared.report.Detail.TheVariants.{NoMemory, Script, Read, Disk, NotALog, BadSnapshot, BadBatch, BadRec, Unlawful, TxnEnd}
 use Rattle.job_queue.specs.Passes.{jobs_of, workers_of}
@@ -35,6 +37,14 @@ pub record IsPreparedFor (options : RunOptions) (opened : Recovered) (script : L
   pub workers_are : workers_of prepared.jobs ≡ options.workers
   pub ready : IsPrepared prepared
 
+-- The log was opened, the disk only looked at, and the whole input is a script of transfers over the log, which have numbers.
+pub record HasRead {D : Type 0} (g : Ghosts D) (opened : Recovered) (script : List Job) (old new : D) (left left_new : Option (List ℕ))
+    : Type 0 where
+  pub opens : Opens g opened old new
+  pub looks : g.honest old → OnlyLooks g old new
+  pub whole : IsWholeScript (length opened.accounts.rows) left left_new script
+  pub numbered : opened.next_txn + length script ≤ LAST_TXN
+
 -- The transfers that are asked are ready to be made over the log that was opened. Each image of a moment is one of before or holds its
 -- list. The file that a read gave goes on at the tail, and grew by no more than the gate there.
 pub record IsReadyFor {D : Type 0} (g : Ghosts D) (options : RunOptions) (old new : D) (left left_new : Option (List ℕ)) (ready : ReadyRun)
@@ -52,9 +62,9 @@ pub record IsReadyFor {D : Type 0} (g : Ghosts D) (options : RunOptions) (old ne
   pub stands : g.honest old → LogStandsAt ready.tail (log_of opened) (g.reads old)
   pub grows : g.honest old → GrowsAtMostTo g (ready.tail.at + 1) old new
 
--- there is no run, which is answered so, whatever is known of the output
-abbrev pub HasNoRun : {D : Type 0} → Ghosts D → RunOptions → D → D → Option (List ℕ) → Option (List ℕ) → Detail → Type 0
-HasNoRun g options old new left left_new detail = (text : Option (List ℕ))
+-- there is no run, which is answered so, whatever the options are and whatever is known of the output
+abbrev pub HasNoRun : {D : Type 0} → Ghosts D → D → D → Option (List ℕ) → Option (List ℕ) → Detail → Type 0
+HasNoRun g old new left left_new detail = (options : RunOptions) (text : Option (List ℕ))
     → AnswersRun g options (outside old left text) (outside new left_new text) detail
 
 -- the answers that come before any transfer

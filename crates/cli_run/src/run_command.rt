@@ -10,7 +10,7 @@ ghost use Rattle.lock_core.specs.Transfers.{IsAllowedJob};
 ghost use Rattle.cli_shared.specs.Attached.{EndsAttached, LeavesAttached};
 ghost use Rattle.cli_run.specs.RunAnswers.{AnswersRun, IsOfRun, RunStaysSilent};
 ghost use Rattle.cli_shared.specs.Outside.{outside};
-ghost use Rattle.cli_run.specs.RunReady.{IsReadyFor, IsPreparedFor, HasNoRun, IsBeforeRun};
+ghost use Rattle.cli_run.specs.RunReady.{HasRead, IsPreparedFor, HasNoRun, IsBeforeRun};
 ghost use Rattle.cli_run.specs.RunFinished.{HasFinished};
 ghost use Rattle.cli_threads.specs.Prepared.{IsPrepared};
 ghost use Rattle.cli_threads.specs.Transferred.{IsOpened};
@@ -22,7 +22,7 @@ use command_line::RunOptions;
 use log_disk::{Gate, LogDisk, Sink, Source};
 use log_recovery::Recovered;
 use log_table::Start;
-use lsn_space::Word;
+use lsn_space::{NoMemory, Word};
 use run_plan::plan_of_run;
 use segment_file::settle;
 use std::alloc::Global;
@@ -61,10 +61,19 @@ pub fn run_command<
     ensures write { CountsWhere (result ≡ Detail.Write) (K.faults out.old) (K.faults out.new) }
     ensures disk { CountsWhere (result ≡ Detail.Disk) (D.faults disk.old) (D.faults disk.new) }
 {
-    match make_ready(rt, alloc, log, options, disk, script) {
-        Ok(ready) => finish(rt, ready, options, disk, out, gate),
-        Err(detail) => detail,
-    }
+    let (opened, transfers) = match open_and_read(alloc, log, disk, script) {
+        Ok(read) => read,
+        Err(detail) => return detail,
+    };
+    let tail = opened.tail;
+    let Ok(prepared) = prepare_run(rt, alloc, opened, transfers, options) else {
+        return Detail::NoMemory;
+    };
+    let Ok(tail) = settle(disk, tail.at, tail.next) else {
+        return Detail::Disk;
+    };
+    let ready = ReadyRun { prepared, tail };
+    finish(rt, ready, options, disk, out, gate)
 }
 
 /// Makes the transfers that are ready, tells each that is durable, and then answers the accounts.
@@ -89,19 +98,16 @@ fn finish<R: Threads + Wait + Clock + Sync, D: LogDisk, K: Sink, G: Gate + Sync>
     conclude(&ended, out)
 }
 
-/// Opens the log, reads the script, and asks for all memory. Nothing is written to the disk before all of it is there.
-fn make_ready<R: Wait, D: LogDisk, S: Source>(
-    rt: &R,
+/// Opens the log, and reads the transfers that are asked of it. Nothing is written to the disk.
+fn open_and_read<D: LogDisk, S: Source>(
     alloc: Global,
     log: &Word,
-    options: &RunOptions,
     disk: &mut D,
     script: &mut S,
-) -> Result<ReadyRun, Detail>
-    requires { AreInRange options.now }
-    ensures ready { IfOk result (IsReadyFor D.LogDisk options.now disk.old disk.new (S.left script.old) (S.left script.new)) }
+) -> Result<(Recovered, Script), Detail>
+    ensures opened { IfOk result (λ read. HasRead D.LogDisk read.0 read.1 disk.old disk.new (S.left script.old) (S.left script.new)) }
     ensures none { D.honest disk.old → IfErr result
-        (HasNoRun D.LogDisk options.now disk.old disk.new (S.left script.old) (S.left script.new)) }
+        (HasNoRun D.LogDisk disk.old disk.new (S.left script.old) (S.left script.new)) }
     ensures range { IfErr result IsBeforeRun }
     ensures honest { D.honest disk.old ↔ D.honest disk.new }
     ensures attached { D.honest disk.old → EndsAttached (existing log.now) (D.attached disk.old) (D.attached disk.new) result }
@@ -110,12 +116,7 @@ fn make_ready<R: Wait, D: LogDisk, S: Source>(
 {
     let opened = open_log(alloc, log, disk)?;
     let transfers = read_transfers(alloc, &opened, script)?;
-    let tail = opened.tail;
-    let prepared = prepare_run(rt, alloc, opened, transfers, options)?;
-    match settle(disk, tail.at, tail.next) {
-        Ok(tail) => Ok(ReadyRun { prepared, tail }),
-        Err(_) => Err(Detail::Disk),
-    }
+    Ok((opened, transfers))
 }
 
 /// Asks for the memory of a run that goes on from the opened log.
@@ -125,13 +126,12 @@ fn prepare_run<R: Wait>(
     opened: Recovered,
     script: Script,
     options: &RunOptions,
-) -> Result<Prepared, Detail>
+) -> Result<Prepared, NoMemory>
     requires options { AreInRange options.now }
     requires opened { (bytes : List ℕ) × Recovers opened bytes }
     requires numbered { opened.next_txn + length script ≤ LAST_TXN }
     requires allowed { All (IsAllowedJob (length opened.accounts.rows)) script }
-    ensures prepared { IfOk result (IsPreparedFor options.now opened script) }
-    ensures memory { IfErr result (λ detail. detail ≡ Detail.NoMemory) }
+    ensures { IfOk result (IsPreparedFor options.now opened script) }
 {
     let plan = plan_of_run(options);
     let start = Start {
@@ -140,8 +140,5 @@ fn prepare_run<R: Wait>(
         slots: plan.slots,
         accounts: opened.accounts,
     };
-    match prepare(rt, alloc, start, script, opened.next_txn, plan.workers) {
-        Ok(prepared) => Ok(prepared),
-        Err(_) => Err(Detail::NoMemory),
-    }
+    prepare(rt, alloc, start, script, opened.next_txn, plan.workers)
 }

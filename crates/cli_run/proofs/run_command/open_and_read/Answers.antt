@@ -1,0 +1,38 @@
+use Rattle.std.proofs.Common.{rules, ◌≡◌}
+use Rattle.std.proofs.lemmas.Result.{err_from_is_err_and}
+use Rattle.cli_shared.proofs.AttachedLemmas.{leaves-attached}
+use Rattle.cli_run.proofs.ReadyLemmas.{answers-opening, answers-transfers}
+use Rattle.cli_run.proofs.run_command.open_and_read.Goals as goal
+
+pub returns-in_err-opened-clause-none : goal.returns-in_err-opened-clause-none
+returns-in_err-opened-clause-none g c = λ honest.
+    let said = c.in_err-opened.ensures in
+    let failed = err_from_is_err_and c.from_residual.result c.from_residual.ensures.1 in
+    let same : failed.0 ≡ c.in_err-opened.field-0.0 = search rules in
+    rw (failed.1, same) (λ options text. answers-opening g.D.LogDisk c.args.disk.now c.open_log.new.disk
+    (record { images = said.moments; reads = said.reads honest; count = said.count honest }) _ _ text options c.in_err-opened.field-0.0
+    said.fault honest)
+
+pub returns-in_err-transfers-clause-none : goal.returns-in_err-transfers-clause-none
+returns-in_err-transfers-clause-none g c = λ honest.
+    let said = c.in_ok-opened.ensures in
+    let failed = err_from_is_err_and c.from_residual-in_err-transfers.result c.from_residual-in_err-transfers.ensures.1 in
+    let same : failed.0 ≡ c.in_err-transfers.field-0.0 = search rules in
+    rw (failed.1, same) (λ options text. answers-transfers g.D.LogDisk c.args.disk.now c.open_log.new.disk _ said.opened
+    (record { images = said.moments; reads = said.reads honest; count = said.count honest }) honest options _ _ text
+    c.in_err-transfers.field-0.0 c.in_err-transfers.ensures.err)
+
+pub returns-in_err-transfers-clause-attached : goal.returns-in_err-transfers-clause-attached
+returns-in_err-transfers-clause-attached g c = λ honest.
+    let failed = err_from_is_err_and c.from_residual-in_err-transfers.result c.from_residual-in_err-transfers.ensures.1 in
+    rw failed.1 (leaves-attached _ _ _ failed.0 (c.in_ok-opened.ensures.attached honest))
+
+pub returns-clause-opened : goal.returns-clause-opened
+returns-clause-opened g c =
+    let said = c.in_ok-opened.ensures in
+    record {
+      opens = said.opened;
+      looks = λ honest. record { images = said.moments; reads = said.reads honest; count = said.count honest };
+      whole = c.in_ok-transfers.ensures.ok;
+      numbered = c.in_ok-transfers.ensures.fit;
+    }
