@@ -29,7 +29,7 @@ use Rattle.log_rule.specs.declared.start.Start.{Start}
 use Rattle.log_rule.specs.Opening.{HasAccounts}
 use Rattle.log_table.specs.Seats.{key_of}
 use Rattle.segment_file.specs.File.{HoldsUnits}
-use Rattle.segment_file.specs.Lengths.{most_end}
+use Rattle.segment_file.specs.Lengths.{most_end, new_end}
 use Rattle.segment_file.specs.Standing.{AllStand, HoldsNoneOr, IsShut}
 use Rattle.segment_file.specs.declared.scan_result.Tail.{Tail}
 use Rattle.stop_word.specs.declared.fault.DaemonFault.TheVariants.{WriteFault}
@@ -168,6 +168,12 @@ fault-found g n seed options old new (Unlawful lsn why) is looks few = absurd is
 fault-found g n seed options old new (LogEnd tail total) is looks few = absurd is
 fault-found g n seed options old new (TxnEnd first count) is looks few = absurd is
 
+-- so the disk was only looked at, and nothing was written
+pub looks-finding : {D : Type 0} (g : Ghosts D) (old new : D) → Leaves g.moment g.images_since (g.images old) old new → g.reads new ≡ g.reads old
+    → Costs g 1 4 old new → OnlyLooks g old new
+looks-finding g old new found read one =
+    record { images = found; reads = read; count = Costs-more g 1 1 4 _ old new (omega arith) (omega arith) one }
+
 module _ {D : Type 0} (g : Ghosts D) (n seed : ℕ) (options : RunOptions) (prepared : Prepared) (is : IsPreparedDemo n seed options prepared) (disk : D) (tail : Tail)
     (units : List ℕ) (made : units ≡ units_of generated_opening.records) where
   pub opened-generated : (g.honest disk → AllStand tail units (g.images disk)) → (g.honest disk → IsShut tail.at (g.images disk))
@@ -188,6 +194,22 @@ module _ {D : Type 0} (g : Ghosts D) (n seed : ℕ) (options : RunOptions) (prep
         start = omega (arith, is.start, end-opening);
         accounts = shows-kept _ _ _ (kept-opening _ is.accounts);
       }
+
+-- the log was made of what was prepared, and the transfers are ready to be run over it
+module _ {D : Type 0} (g : Ghosts D) (n seed : ℕ) (options : RunOptions) (ready : ReadyRun) (is : IsPreparedDemo n seed options ready.prepared)
+    (old mid new : D) (units : List ℕ) (made : units ≡ units_of generated_opening.records) where
+  pub ready-created : (g.honest new → AllStand ready.tail units (g.images new)) → (g.honest new → IsShut ready.tail.at (g.images new))
+      → ready.tail.at ≡ 12 + 8 * length units → ready.tail.next ≡ length units → (g.honest old → OnlyMakes g old new)
+      → IsReadyDemo g n seed options old new ready
+  ready-created stand shut place next makes = record {
+    log = opened-generated g n seed options ready.prepared is new ready.tail units made stand shut place next;
+    place = place ∙ ap (λ (us : List ℕ). new_end (length us)) made;
+    ring = is.ring;
+    generated = is.generated;
+    workers_are = is.workers_are;
+    prepared = is.ready;
+    made = makes;
+  }
 
 -- ---- the transfers have ended
 

@@ -104,13 +104,6 @@ IsOfDemo Disk = Unit {0}
 IsOfDemo Exists = Unit {0}
 IsOfDemo detail = ⊥
 
--- why no log was made to run transfers over
-abbrev pub IsBeforeDemo : Detail → Type 0
-IsBeforeDemo NoMemory = Unit {0}
-IsBeforeDemo Disk = Unit {0}
-IsBeforeDemo Exists = Unit {0}
-IsBeforeDemo detail = ⊥
-
 -- the table starts where the new log ends, with its accounts, a ring and slots as was asked, and the transfers are the generated ones
 pub record IsPreparedDemo (n seed : ℕ) (options : RunOptions) (prepared : Prepared) : Type 0 where
   pub start : (key_of prepared.table).start ≡ 2 * GENERATED_ACCOUNTS

@@ -1,5 +1,5 @@
 //! A log of generated accounts, and generated transfers over it.
-ghost use Rattle.std.specs.Prelude.{◌≡◌, ◌≤◌, ◌+◌, ◌↔◌, OnOk, IfOk, IfErr, IsErrOf};
+ghost use Rattle.std.specs.Prelude.{◌≡◌, ◌≤◌, ◌+◌, ◌↔◌, IfOk};
 ghost use Rattle.command_line.specs.Ranges.{AreInRange};
 ghost use Rattle.log_disk.specs.Attaching.{existing_or_made};
 ghost use Rattle.log_disk.specs.Faults.{CountsWhere};
@@ -7,9 +7,9 @@ ghost use Rattle.log_record.specs.LogList.{units_of};
 ghost use Rattle.log_table.specs.Seats.{key_of};
 ghost use Rattle.segment_file.specs.File.{BeginsOpen};
 ghost use Rattle.lsn_space.specs.declared.numerals.TheConstants.{MOST_GENERATED};
-ghost use Rattle.cli_shared.specs.Attached.{EndsAttached, LeavesAttached};
+ghost use Rattle.cli_shared.specs.Attached.{LeavesAttached};
 ghost use Rattle.cli_shared.specs.Creation.{TellsWhether};
-ghost use Rattle.cli_demo.specs.Demo.{AnswersDemo, IsBeforeDemo, IsOfDemo, IsPreparedDemo, IsReadyDemo, TellsSummary};
+ghost use Rattle.cli_demo.specs.Demo.{AnswersDemo, IsOfDemo, IsPreparedDemo, TellsSummary};
 ghost use Rattle.cli_demo.specs.Finished.{HasFinished};
 ghost use Rattle.cli_demo.specs.Summary.{generated_opening};
 ghost use Rattle.cli_threads.specs.Prepared.{IsPrepared};
@@ -56,10 +56,17 @@ pub fn demo_command<R: Threads + Wait + Clock + Sync, D: LogDisk, K: Sink, G: Ga
     ensures write { CountsWhere (result ≡ Detail.Write) (K.faults out.old) (K.faults out.new) }
     ensures disk { CountsWhere (result ≡ Detail.Disk) (D.faults disk.old) (D.faults disk.new) }
 {
-    match make_ready(rt, alloc, log, transfers, seed, options, disk) {
-        Ok(ready) => finish(rt, ready, transfers, options, disk, out, gate),
-        Err(detail) => detail,
+    if let Err(detail) = finds_none(disk, log) {
+        return detail;
     }
+    let Ok((prepared, mut batch)) = prepare_demo(rt, alloc, transfers, seed, options) else {
+        return Detail::NoMemory;
+    };
+    let Ok(tail) = create(disk, &mut batch) else {
+        return Detail::Disk;
+    };
+    let ready = ReadyRun { prepared, tail };
+    finish(rt, ready, transfers, options, disk, out, gate)
 }
 
 /// Makes the transfers that are ready, which are counted and not told, and then answers the summary of so many.
@@ -81,38 +88,6 @@ fn finish<R: Threads + Wait + Clock + Sync, D: LogDisk, K: Sink, G: Gate + Sync>
     let plan = plan_of_demo(options);
     let ended = run_transfers(rt, prepared, disk, tail, out, plan.voice, plan.wait, gate);
     conclude_counted(&ended, transfers, out)
-}
-
-/// Finds that no log is there, asks for all memory, and makes the log.
-fn make_ready<R: Wait, D: LogDisk>(
-    rt: &R,
-    alloc: Global,
-    log: &Word,
-    transfers: u32,
-    seed: u32,
-    options: &RunOptions,
-    disk: &mut D,
-) -> Result<ReadyRun, Detail>
-    requires options { AreInRange options.now }
-    requires few { transfers ≤ MOST_GENERATED }
-    ensures ready { IfOk result (IsReadyDemo D.LogDisk transfers seed options.now disk.old disk.new) }
-    ensures closed { D.honest disk.old → OnOk result (BeginsOpen (D.reads disk.old) → ⊥) }
-    ensures none { D.honest disk.old → IfErr result (AnswersDemo D.LogDisk transfers seed options.now disk.old disk.new) }
-    ensures exists { D.honest disk.old → IfErr result (TellsWhether (BeginsOpen (D.reads disk.old))) }
-    ensures range { IfErr result IsBeforeDemo }
-    ensures honest { D.honest disk.old ↔ D.honest disk.new }
-    ensures attached { D.honest disk.old
-        → EndsAttached (existing_or_made log.now) (D.attached disk.old) (D.attached disk.new) result }
-    ensures disk { CountsWhere (IsErrOf result Detail.Disk) (D.faults disk.old) (D.faults disk.new) }
-{
-    finds_none(disk, log)?;
-    let Ok((prepared, mut batch)) = prepare_demo(rt, alloc, transfers, seed, options) else {
-        return Err(Detail::NoMemory);
-    };
-    match create(disk, &mut batch) {
-        Ok(tail) => Ok(ReadyRun { prepared, tail }),
-        Err(_) => Err(Detail::Disk),
-    }
 }
 
 /// Asks for the memory of the run, and spells the list of the log that it runs over.

@@ -1,43 +1,60 @@
-use Rattle.std.proofs.Common.{◌∙◌}
+use Rattle.std.proofs.Common.{rules, ◌∙◌, inl}
 use Rattle.log_disk.proofs.Counting.{CountsWhere-after}
 use Rattle.cli_shared.proofs.AttachedLemmas.{leaves-attached}
 use Rattle.cli_threads.proofs.EndingLemmas.{attached-ended, disk-concluded, honest-ended, write-concluded}
-use Rattle.cli_demo.proofs.DemoLemmas.{answers-demo, range-concluded, tells-concluded, text-concluded}
+use Rattle.cli_demo.specs.Demo.{IsReadyDemo}
+use Rattle.cli_demo.proofs.DemoLemmas.{answers-demo, fault-found, looks-finding, only-makes, range-concluded, ready-created, tells-concluded, text-concluded}
 use Rattle.cli_demo.proofs.demo_command.demo_command.Goals as goal
+use Rattle.cli_demo.proofs.demo_command.demo_command.Goals.{In-Ok-create}
 
-pub returns-in-Ok-clause-answer : goal.returns-in-Ok-clause-answer
-returns-in-Ok-clause-answer g c = λ honest.
-    answers-demo g.D.LogDisk g.K.Sink _ _ _ c.requires.options c.requires.few c.in-Ok.ready _ _ _ _ _ _ _ c.in-Ok.ensures.ready c.finish.ensures.has honest
-    (c.in-Ok.ensures.honest.0 honest) c.finish.result c.finish.ensures.concludes
+pub returns-in-Err-clause-answer : goal.returns-in-Err-clause-answer
+returns-in-Err-clause-answer g c = λ honest.
+    let said = c.in-Err.ensures in
+    fault-found g.D.LogDisk _ _ _ c.args.disk.now c.finds_none.new.disk c.in-Err.detail said.fault
+    (looks-finding g.D.LogDisk c.args.disk.now c.finds_none.new.disk said.moments (said.reads honest) (said.count honest)) (said.count honest)
 
-pub returns-in-Ok-clause-text : goal.returns-in-Ok-clause-text
-returns-in-Ok-clause-text g c =
-    text-concluded g.D.LogDisk g.K.Sink _ _ _ c.requires.options c.requires.few c.in-Ok.ready _ _ _ _ _ _ _ c.in-Ok.ensures.ready c.finish.ensures.has
-    c.finish.result c.finish.ensures.concludes
+pub returns-in_default-create-clause-answer : goal.returns-in_default-create-clause-answer
+returns-in_default-create-clause-answer g c = λ honest.
+    let found = c.finds_none.ensures in
+    let failed = c.create.ensures in
+    inl (only-makes g.D.LogDisk c.args.disk.now c.finds_none.new.disk c.create.new.disk c.in-Ok.batch.units c.in-Ok.ensures.batch
+    found.moments (found.count honest) (found.reads honest) (failed.moments (found.honest.0 honest)) (failed.count (found.honest.0 honest))
+    (failed.length (found.honest.0 honest)))
 
-pub returns-in-Ok-clause-range : goal.returns-in-Ok-clause-range
-returns-in-Ok-clause-range g c =
-    range-concluded g.D.LogDisk g.K.Sink _ _ _ c.requires.options c.requires.few c.in-Ok.ready _ _ _ _ _ _ _ c.in-Ok.ensures.ready c.finish.ensures.has
-    c.finish.result c.finish.ensures.concludes
+-- the log is made, and the transfers are ready to be made over it
+ready : (g : _) (c : In-Ok-create g) → IsReadyDemo g.D.LogDisk c.args.transfers c.args.seed c.args.options.now c.args.disk.now c.create.new.disk
+    (record { prepared = c.in-Ok.prepared; tail = c.in-Ok-create.tail })
+ready g c =
+    let found = c.finds_none.ensures in
+    let created = c.in-Ok-create.ensures in
+    ready-created g.D.LogDisk _ _ _ (record { prepared = c.in-Ok.prepared; tail = c.in-Ok-create.tail }) c.in-Ok.ensures.prepared c.args.disk.now
+    c.finds_none.new.disk c.create.new.disk c.in-Ok.batch.units c.in-Ok.ensures.batch (λ honest. created.created (created.honest.1 honest))
+    (λ honest. created.shut (created.honest.1 honest)) created.place created.next
+    (λ honest. only-makes g.D.LogDisk c.args.disk.now c.finds_none.new.disk c.create.new.disk c.in-Ok.batch.units c.in-Ok.ensures.batch
+    found.moments (found.count honest) (found.reads honest) (created.moments (found.honest.0 honest)) (created.count (found.honest.0 honest))
+    (created.length (found.honest.0 honest)))
 
-pub returns-in-Ok-clause-exists : goal.returns-in-Ok-clause-exists
-returns-in-Ok-clause-exists g c = λ honest.
-    tells-concluded g.D.LogDisk g.K.Sink _ _ _ c.requires.options c.requires.few c.in-Ok.ready _ _ _ _ _ _ _ c.in-Ok.ensures.ready c.finish.ensures.has _
-    (c.in-Ok.ensures.closed honest) c.finish.result c.finish.ensures.concludes
+pub finish-requires-clause-opened : goal.finish-requires-clause-opened
+finish-requires-clause-opened g c = λ κs within. (ready g (goal.at.finish-requires-clause-opened g c).In-Ok-create).log
 
-pub returns-in-Ok-clause-honest : goal.returns-in-Ok-clause-honest
-returns-in-Ok-clause-honest g c =
-    let same = honest-ended g.D.LogDisk g.K.Sink _ _ _ _ _ _ _ _ c.finish.ensures.has in
-    (λ honest. same.0 (c.in-Ok.ensures.honest.0 honest), λ honest. c.in-Ok.ensures.honest.1 (same.1 honest))
-
-pub returns-in-Ok-clause-attached : goal.returns-in-Ok-clause-attached
-returns-in-Ok-clause-attached g c = λ honest. leaves-attached _ _ _ c.finish.result
-    (attached-ended g.D.LogDisk g.K.Sink _ _ _ _ _ _ _ _ c.finish.ensures.has ∙ c.in-Ok.ensures.attached honest)
-
-pub returns-in-Ok-clause-write : goal.returns-in-Ok-clause-write
-returns-in-Ok-clause-write g c =
-    write-concluded g.D.LogDisk g.K.Sink _ _ _ _ _ _ _ _ c.finish.ensures.has _ _ c.finish.result c.finish.ensures.concludes c.finish.ensures.write
-
-pub returns-in-Ok-clause-disk : goal.returns-in-Ok-clause-disk
-returns-in-Ok-clause-disk g c = CountsWhere-after _ _ _ _ (c.in-Ok.ensures.disk.fine (λ is. cc))
-    (disk-concluded g.D.LogDisk g.K.Sink _ _ _ _ _ _ _ _ c.finish.ensures.has _ _ c.finish.result c.finish.ensures.concludes)
+pub returns : goal.returns
+returns g c =
+    let found = c.finds_none.ensures in
+    let created = c.in-Ok-create.ensures in
+    let is = ready g (goal.at.returns g c).In-Ok-create in
+    let done = c.finish.ensures in
+    record {
+      answer = λ honest. answers-demo g.D.LogDisk g.K.Sink _ _ _ c.requires.options c.requires.few _ _ _ _ _ _ _ _ is done.has honest
+          (created.honest.0 (found.honest.0 honest)) c.finish.result done.concludes;
+      text = text-concluded g.D.LogDisk g.K.Sink _ _ _ c.requires.options c.requires.few _ _ _ _ _ _ _ _ is done.has c.finish.result done.concludes;
+      range = range-concluded g.D.LogDisk g.K.Sink _ _ _ c.requires.options c.requires.few _ _ _ _ _ _ _ _ is done.has c.finish.result done.concludes;
+      honest = let same = honest-ended g.D.LogDisk g.K.Sink _ _ _ _ _ _ _ _ done.has in
+          (λ honest. same.0 (created.honest.0 (found.honest.0 honest)), λ honest. found.honest.1 (created.honest.1 (same.1 honest)));
+      attached = λ honest. leaves-attached _ _ _ c.finish.result
+          (attached-ended g.D.LogDisk g.K.Sink _ _ _ _ _ _ _ _ done.has ∙ (created.attached ∙ rw c.in_default.is at (found.attached honest)));
+      exists = λ honest. tells-concluded g.D.LogDisk g.K.Sink _ _ _ c.requires.options c.requires.few _ _ _ _ _ _ _ _ is done.has _
+          (rw c.in_default.is at (found.closed honest)) c.finish.result done.concludes;
+      write = write-concluded g.D.LogDisk g.K.Sink _ _ _ _ _ _ _ _ done.has _ _ c.finish.result done.concludes done.write;
+      disk = CountsWhere-after _ _ _ _ (search rules)
+          (disk-concluded g.D.LogDisk g.K.Sink _ _ _ _ _ _ _ _ done.has _ _ c.finish.result done.concludes);
+    }
