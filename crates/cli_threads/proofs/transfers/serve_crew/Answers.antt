@@ -72,9 +72,11 @@ into_parts-flusher-requires g c =
     c.serve_all-relief.ensures.done in
     let count : length c.args.refused.now ≡ length workers.items =
     sym c.requires.crew.count ∙ sym c.serve_all-relief.ensures.count ∙ workers.ok.0 in
-    record { over = MayClose-gathered g.D.LogDisk g.K.Sink _ _ c.relief_of-relief.ensures.begun c.serve_all-relief.ensures.later (key_of c.args.table.now)
-    c.args.table.now c.args.jobs.now.queue c.args.wait workers.items
-    (subst (λ n. KnowsHired (key_of c.args.table.now) n (view_of c.args.crew.boss)) count c.requires.crew.boss.knows) done _ c.gather-ends.ensures.view }
+    record {
+      over = MayClose-gathered g.D.LogDisk g.K.Sink _ _ c.relief_of-relief.ensures.begun c.serve_all-relief.ensures.later (key_of c.args.table.now)
+          c.args.table.now c.args.jobs.now.queue c.args.wait workers.items
+          (subst (λ n. KnowsHired (key_of c.args.table.now) n (view_of c.args.crew.boss)) count c.requires.crew.boss.knows) done _ c.gather-ends.ensures.view;
+    }
 
 pub into_parts-seat-requires : goal.into_parts-seat-requires
 into_parts-seat-requires g c =
@@ -83,10 +85,12 @@ into_parts-seat-requires g c =
     c.serve_all-relief.ensures.done in
     let count : length c.args.refused.now ≡ length workers.items =
     sym c.requires.crew.count ∙ sym c.serve_all-relief.ensures.count ∙ workers.ok.0 in
-    record { over = MayClose-gathered g.D.LogDisk g.K.Sink _ _ c.relief_of-relief.ensures.begun c.serve_all-relief.ensures.later (key_of c.args.table.now)
-    c.args.table.now c.args.jobs.now.queue c.args.wait workers.items
-    (subst (λ n. KnowsHired (key_of c.args.table.now) n (view_of c.args.crew.boss)) count c.requires.crew.boss.knows) done _
-    (ap (λ (f : Flusher _ _). view_of f.seat) c.into_parts-flusher.ensures.flusher ∙ c.gather-ends.ensures.view) }
+    record {
+      over = MayClose-gathered g.D.LogDisk g.K.Sink _ _ c.relief_of-relief.ensures.begun c.serve_all-relief.ensures.later (key_of c.args.table.now)
+          c.args.table.now c.args.jobs.now.queue c.args.wait workers.items
+          (subst (λ n. KnowsHired (key_of c.args.table.now) n (view_of c.args.crew.boss)) count c.requires.crew.boss.knows) done _
+          (ap (λ (f : Flusher _ _). view_of f.seat) c.into_parts-flusher.ensures.flusher ∙ c.gather-ends.ensures.view);
+    }
 
 pub returns-clause-turned : goal.returns-clause-turned
 returns-clause-turned g c =

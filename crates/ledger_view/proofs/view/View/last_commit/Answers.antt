@@ -27,6 +27,9 @@ pub accounts-preserved : goal.accounts-preserved
 accounts-preserved c = elim c.last_end-last.ensures [
   | inl same ↦ subst (λ last. (last ≡ c.args.begin) ⊎ ((last ≤ c.args.lsn)
       × ((opening : Opening) (h : List Placed) → HasViewed opening c.args.self.now h → EndsAt h last))) (sym same) c.accounts.invariant
-  | inr found ↦ inr (found.0, λ opening h viewed. end-viewed opening c.args.self.now h c.accounts.account c.last_end-last.result viewed (inside c.before opening h viewed)
-      (subst (λ (a : Account). IsEndIn a.entries c.last_end-last.result) c.at.ensures found.1))
+  | inr found ↦ inr (
+    found.0,
+    λ opening h viewed. end-viewed opening c.args.self.now h c.accounts.account c.last_end-last.result viewed (inside c.before opening h viewed)
+        (subst (λ (a : Account). IsEndIn a.entries c.last_end-last.result) c.at.ensures found.1),
+  )
 ]
